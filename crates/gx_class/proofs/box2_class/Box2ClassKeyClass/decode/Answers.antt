@@ -1,0 +1,36 @@
+use Rattle.std.proofs.Common.{◌≡◌, ◌++◌, length, drop, ◌≤ℤ◌, FitsSigned, Some, rules, subst, ap, sym, ◌∙◌}
+use Rattle.std.specs.Int.{w32}
+use Rattle.std.proofs.lemmas.Int.{to_z-of_z}
+use Rattle.std.proofs.lemmas.List.{take-append-drop}
+use Rattle.gx_geom.specs.Corners.{corners_of}
+use Rattle.gx_class.specs.Boxes.{number_bytes, spelling}
+use Rattle.gx_class.specs.BoxKeyLaws.{length-spelling, same_spelling, answer_is}
+use Rattle.gx_class.proofs.box2_class.Box2ClassKeyClass.decode.Goals as goal
+
+pub returns-then-bytes-ne-KEY-clause-back : goal.returns-then-bytes-ne-KEY-clause-back
+returns-then-bytes-ne-KEY-clause-back c key is e =
+    let long = ap length e ∙ length-spelling key in
+    absurd (c.if-bytes-ne-KEY.true long)
+
+pub returns-clause-back : goal.returns-clause-back
+returns-clause-back c key is e =
+    let x1 = c.numbers-x1.result.0 in
+    let y1 = c.numbers-x1.result.1 in
+    let x2 = c.numbers-x2.result.0 in
+    let y2 = c.numbers-x2.result.1 in
+    let bytes = c.args.bytes.now in
+    let x1_fits : FitsSigned w32 x1 = search rules in
+    let y1_fits : FitsSigned w32 y1 = search rules in
+    let x2_fits : FitsSigned w32 x2 = search rules in
+    let y2_fits : FitsSigned w32 y2 = search rules in
+    let a = corners_of x1 y1 x2 y2 in
+    let read : bytes ≡ spelling a =
+    sym (take-append-drop 8 bytes) ∙ ap (λ l. l ++ drop 8 bytes) (sym c.split_at.ensures.front ∙ c.numbers-x1.ensures)
+    ∙ ap (λ l. (number_bytes x1 ++ number_bytes y1) ++ l) (sym c.split_at.ensures.back ∙ c.numbers-x2.ensures)
+    in
+    let same : a ≡ key = same_spelling a key x1_fits y1_fits x2_fits y2_fits is (sym read ∙ e) in
+    let x_in_order : x1 ≤ℤ x2 = subst (λ b. b.x1 ≤ℤ b.x2) (sym same) is.x_in_order in
+    let y_in_order : y1 ≤ℤ y2 = subst (λ b. b.y1 ≤ℤ b.y2) (sym same) is.y_in_order in
+    let ok = simp to_z-of_z at c.new.ensures.ok in
+    let corners = simp to_z-of_z at c.new.ensures.corners in
+    c.ok.ensures.value ∙ answer_is c.new.result a (ok.1 (x_in_order, y_in_order)) corners ∙ ap Some same

@@ -1,0 +1,25 @@
+use Rattle.std.proofs.Common.{◌≡◌, ℕ, ℤ, ◌+◌, List, ◌++◌, to_z, of_z, take, drop, ap, ◌∙◌, FitsSigned}
+use Rattle.std.specs.Int.{w32}
+use Rattle.std.proofs.lemmas.Int.{to_z-of_z}
+use Rattle.gx_class.specs.Boxes.{number_bytes}
+use Rattle.gx_class.specs.BoxKeyLaws.{length-number_bytes, put_all}
+use Rattle.gx_class.proofs.box2_class.Box2ClassKeyClass.encode.Goals as goal
+
+-- a number that was passed has its own bytes
+same_bytes : (z k : ℤ) → FitsSigned w32 k → z ≡ k → number_bytes (to_z w32 (of_z w32 z)) ≡ number_bytes k
+same_bytes z k fits e = ap (λ y. number_bytes (to_z w32 (of_z w32 y))) e ∙ ap number_bytes (to_z-of_z w32 k fits)
+
+abbrev placed : ℕ → List ℕ → List ℕ → List ℕ
+placed at now bytes = take at now ++ (bytes ++ drop (at + 4) now)
+
+pub returns : goal.returns
+returns c =
+    let is = c.x1.ensures.in_order in
+    let key = c.args.key in
+    let out = c.args.out.now in
+    put_all out c.put.new.out c.put-2.new.out c.put-3.new.out c.put-4.new.out (number_bytes key.x1) (number_bytes key.y1) (number_bytes key.x2) (number_bytes key.y2)
+    c.requires (length-number_bytes key.x1) (length-number_bytes key.y1) (length-number_bytes key.x2) (length-number_bytes key.y2)
+    (c.put.ensures ∙ ap (placed 0 out) (same_bytes c.x1.result key.x1 is.x1_fits c.x1.ensures.value))
+    (c.put-2.ensures ∙ ap (placed 4 c.put.new.out) (same_bytes c.y1.result key.y1 is.y1_fits c.y1.ensures.value))
+    (c.put-3.ensures ∙ ap (placed 8 c.put-2.new.out) (same_bytes c.x2.result key.x2 is.x2_fits c.x2.ensures.value))
+    (c.put-4.ensures ∙ ap (placed 12 c.put-3.new.out) (same_bytes c.y2.result key.y2 is.y2_fits c.y2.ensures.value))

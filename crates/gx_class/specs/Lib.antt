@@ -1,0 +1,4 @@
+pub mod BoxKeyLaws
+pub mod Boxes
+pub mod Halves
+pub mod Sides

@@ -1,0 +1,227 @@
+ghost use Rattle.std.specs.Prelude.{◌≡◌, length};
+
+use crate::reaches::{Reach, ReachClass};
+use crate::{Box2Class, KeyClass};
+use gx_geom::Box2;
+use gx_machine::Query;
+use std::process::Abort;
+use std::test::Fail;
+
+type Corners = (i32, i32, i32, i32);
+
+fn make_box(rt: &impl Abort, (x1, y1, x2, y2): Corners) -> Box2 {
+    Box2::new(x1, y1, x2, y2).ok().expect(rt, "a box")
+}
+
+// The groups of a split, as `1` and `2`.
+fn check_split(rt: &impl Abort, boxes: &[Corners], least: usize, groups: &[u8]) {
+    let n = boxes.len();
+    assert!(rt; n <= 16);
+    let mut keys = [Box2::point(0, 0); 16];
+    for k in 0..n {
+        keys[k] = make_box(rt, boxes[k]);
+    }
+    let mut sides = [true; 16];
+    assert!(rt; 1 <= least && least <= 8);
+    assert!(rt; 2 * least <= n);
+    Box2Class::pick_split(&keys[..n], least, &mut sides[..n]);
+    assert_eq!(rt; groups.len(), n);
+    for k in 0..n {
+        assert_eq!(rt; sides[k], groups[k] == b'2', "slot {k}");
+    }
+}
+
+#[test]
+fn splits(rt: HostRuntime) {
+    let unit = (0, 0, 1, 1);
+    check_split(&rt, &[unit, unit, unit, unit], 2, b"1212");
+    check_split(
+        &rt,
+        &[(100, 4, 101, 5), unit, (100, 2, 101, 3), (100, 0, 101, 1)],
+        2,
+        b"1212",
+    );
+    check_split(
+        &rt,
+        &[
+            unit,
+            (0, 2, 1, 3),
+            (10, 0, 11, 1),
+            (10, 2, 11, 3),
+            (0, 4, 1, 5),
+        ],
+        2,
+        b"22112",
+    );
+    check_split(&rt, &[(-5, -5, -5, -5), (7, 7, 7, 7)], 1, b"12");
+}
+
+// Each of these turns on one rule: the seeds' tie, the next key's, the smaller area, the fewer keys, the first
+// group, and a group that needs all that are left.
+#[test]
+fn ties(rt: HostRuntime) {
+    check_split(
+        &rt,
+        &[(0, 0, 1, 1), (1, -2, 1, -1), (0, 0, 2, 1), (0, -2, 0, -2)],
+        1,
+        b"2121",
+    );
+    check_split(
+        &rt,
+        &[(0, 0, 0, 2), (0, 0, 2, 0), (1, 2, 2, 3), (1, 1, 1, 1)],
+        1,
+        b"1121",
+    );
+    check_split(
+        &rt,
+        &[
+            (-2, 0, -1, 2),
+            (-2, -3, 1, -2),
+            (-2, 0, -1, 2),
+            (2, -1, 4, 2),
+        ],
+        1,
+        b"1112",
+    );
+    check_split(
+        &rt,
+        &[
+            (2, -1, 3, -1),
+            (-1, -1, -1, 1),
+            (-1, 1, -1, 2),
+            (0, -1, 0, 0),
+        ],
+        1,
+        b"1221",
+    );
+    check_split(
+        &rt,
+        &[(-3, 2, 1, 6), (-2, 4, 1, 7), (-2, 5, -2, 6), (-2, 4, 1, 4)],
+        1,
+        b"1112",
+    );
+    check_split(
+        &rt,
+        &[(-5, -5, -4, -5), (2, 2, 3, 4), (-5, 5, 0, 6), (0, 2, 1, 6)],
+        2,
+        b"1212",
+    );
+}
+
+#[test]
+fn larger_splits(rt: HostRuntime) {
+    check_split(
+        &rt,
+        &[
+            (-11, -10, -10, -5),
+            (-7, 11, 5, 21),
+            (-3, -4, 6, -1),
+            (7, -11, 16, -1),
+            (-7, 1, 3, 7),
+            (11, 4, 16, 12),
+            (2, 4, 6, 4),
+            (-12, -1, -5, 4),
+        ],
+        3,
+        b"11121221",
+    );
+    check_split(
+        &rt,
+        &[
+            (-3, 3, 1, 4),
+            (-1, 3, 2, 8),
+            (3, -5, 7, -5),
+            (1, -2, 5, -1),
+            (-3, 5, 0, 9),
+            (2, 1, 5, 6),
+            (-4, -3, 1, -2),
+            (2, 0, 7, 0),
+            (4, 6, 4, 7),
+        ],
+        4,
+        b"221122112",
+    );
+    check_split(
+        &rt,
+        &[
+            (i32::MIN, i32::MIN, i32::MAX, i32::MAX),
+            (0, 0, 0, 0),
+            (i32::MIN, i32::MIN, i32::MIN, i32::MIN),
+            (i32::MAX, i32::MAX, i32::MAX, i32::MAX),
+            (-5, -5, 5, 5),
+            (i32::MIN, 0, 0, i32::MAX),
+        ],
+        2,
+        b"211222",
+    );
+}
+
+#[test]
+fn bytes(rt: HostRuntime) {
+    let key = make_box(&rt, (-1, -2147483648, 5, 258));
+    let written = [
+        0xff, 0xff, 0xff, 0xff, 0x80, 0, 0, 0, 0, 0, 0, 5, 0, 0, 1, 2,
+    ];
+    let mut out = [7; 16];
+    Box2Class::encode(key, &mut out);
+    assert_eq!(rt; out, written);
+    assert_eq!(rt; Box2Class::decode(&written), Some(key));
+    assert_eq!(rt; Box2Class::decode(&written[..15]), None);
+    assert_eq!(rt; Box2Class::decode(&[0; 17]), None);
+    let reversed = [0, 0, 0, 1, 0, 0, 0, 0, 0, 0, 0, 0, 0, 0, 0, 0];
+    assert_eq!(rt; Box2Class::decode(&reversed), None);
+}
+
+#[test]
+fn calls(rt: HostRuntime) {
+    let start = Box2Class::start();
+    assert_eq!(rt; start, Box2::point(0, 0));
+    let bound = make_box(&rt, (0, 0, 10, 10));
+    let key = make_box(&rt, (2, 2, 20, 3));
+    assert_eq!(rt; Box2Class::penalty(&bound, &key), (100, 100));
+    assert_eq!(rt; Box2Class::union(bound, key), make_box(&rt, (0, 0, 20, 10)));
+    for (query, may, does) in [
+        (Query::Overlap(key), true, true),
+        (Query::Within(key), true, false),
+        (Query::Equal(key), false, false),
+        (Query::Equal(bound), true, true),
+        (Query::Within(make_box(&rt, (-1, -1, 11, 11))), true, true),
+        (Query::Overlap(make_box(&rt, (11, 0, 12, 1))), false, false),
+    ] {
+        assert_eq!(rt; Box2Class::consistent(&query, &bound), may);
+        assert_eq!(rt; Box2Class::matches(&query, &bound), does);
+    }
+    assert_eq!(rt; Box2Class::CLASS, 1);
+    assert_eq!(rt; Box2Class::KEY, 16);
+}
+
+// What code that knows only the trait can do: the union of two keys is written, read again and looked for.
+fn union_through_bytes<K: KeyClass>(first: K::Key, second: K::Key, out: &mut [u8]) -> bool
+    requires { length out.old ≡ K.KEY }
+{
+    let union = K::union(first, second);
+    K::encode(union, out);
+    match K::decode(out) {
+        Some(read) => {
+            K::consistent(&Query::Equal(first), &read) && K::matches(&Query::Within(union), &second)
+        }
+        None => false,
+    }
+}
+
+#[test]
+fn classes_by_their_bound(rt: HostRuntime) {
+    let a = make_box(&rt, (0, 0, 1, 1));
+    let b = make_box(&rt, (5, -5, 6, 6));
+    assert!(rt; union_through_bytes::<Box2Class>(a, b, &mut [0; 16]));
+    assert!(rt; union_through_bytes::<ReachClass>(Reach(9), Reach(4), &mut [0; 1]));
+    assert_eq!(rt; ReachClass::start(), Reach(0));
+    assert_eq!(rt; ReachClass::penalty(&Reach(3), &Reach(9)), (6, 3));
+    let mut sides = [true; 5];
+    ReachClass::pick_split(
+        &[Reach(1), Reach(2), Reach(3), Reach(4), Reach(5)],
+        2,
+        &mut sides,
+    );
+    assert_eq!(rt; sides, [false, false, false, true, true]);
+}

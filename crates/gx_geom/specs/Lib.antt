@@ -1,0 +1,4 @@
+pub mod BoxLaws
+pub mod Corners
+pub mod Points
+pub mod Refusals

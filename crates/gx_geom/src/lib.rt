@@ -1,0 +1,13 @@
+//! Boxes, the relations between them, and the refusals that calls answer.
+#![tactic(auto)]
+
+mod box2;
+pub mod laws;
+mod refusal;
+mod shape;
+#[cfg(test)]
+mod tests;
+
+pub use box2::Box2;
+pub use refusal::Refusal;
+pub use shape::Shape;

@@ -1,0 +1,7 @@
+use Rattle.std.proofs.Common.{sym, subst}
+use Rattle.gx_machine.specs.Invariants.{SessionsHold}
+use Rattle.gx_machine.proofs.StepsKeep.{run_holds, idle_hold}
+use Rattle.gx_machine.proofs.laws.sessions_never_conflict.Goals as goal
+
+pub returns : goal.returns
+returns g c = λ k l start new events idle run. run_holds k l events start new run (subst (SessionsHold k) (sym idle) (idle_hold k l))

@@ -1,0 +1,44 @@
+//! Entries, and lists of them.
+ghost use Rattle.std.specs.Prelude.{◌≡◌};
+
+use std::marker::Model;
+
+/// A row and the key that it has. One row may have several keys, each an entry of its own.
+#[derive(Clone, Copy, Debug, PartialEq, Eq, PartialOrd, Ord)]
+pub struct Entry<B> {
+    /// The row's number.
+    pub row: u64,
+    /// The key.
+    pub key: B,
+}
+
+/// The entries of an answer, in order by row and then by key.
+#[derive(Debug, Drop)]
+pub struct Entries<B> {
+    entries: Vec<Entry<B>>,
+}
+
+impl<B> Model for Entries<B> {
+    ghost use Rattle.std.specs.Prelude.{List};
+    ghost use Rattle.gx_machine.specs.declared.entry.Entry.{Entry};
+
+    ghost Value = { List (Entry B) };
+
+    ghost view = { λ e. e.entries.items };
+}
+
+impl<B> Entries<B> {
+    /// The entries of a vector, in its order. Takes no memory.
+    pub fn new(entries: Vec<Entry<B>>) -> Self
+        ensures { result ≡ entries.items }
+    {
+        Entries { entries }
+    }
+
+    /// The entries, lent.
+    pub fn as_slice(&self) -> &[Entry<B>]
+        ensures { result.now ≡ self.now }
+    {
+        self.entries.as_slice()
+    }
+}

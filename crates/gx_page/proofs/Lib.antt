@@ -1,0 +1,9 @@
+pub mod Changes
+pub mod Faultless
+pub mod Images
+pub mod Memory
+pub mod Moves
+pub mod Parts
+pub mod Pieces
+pub mod Slots
+pub mod Steps

@@ -1,0 +1,10 @@
+pub mod Bytes
+pub mod Contents
+pub mod Edits
+pub mod Faults
+pub mod Format
+pub mod Laws
+pub mod Lending
+pub mod Ownership
+pub mod Reading
+pub mod Texts

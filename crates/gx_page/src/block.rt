@@ -1,0 +1,163 @@
+//! The block of a page: 4,096 bytes of the heap behind one raw pointer.
+//!
+//! The pointer is followed in `bytes` and `bytes_mut` alone, and changes hands in `of_box` and `into_box`. These four, and
+//! that a block may be lent and sent, are proved by hand; the rest is safe code over them.
+ghost use Rattle.std.specs.Prelude.{◌≡◌, ℕ, ◌+◌, ◌-◌, ◌<◌, ◌≤◌, List, length, IfOk, slice_index, slice_range, slice_set};
+ghost use Rattle.std.specs.Borrow.{sem};
+ghost use Rattle.std.specs.List.{copy_within};
+ghost use Rattle.gx_page.specs.Bytes.{zeros, spell_16, number_16_at, overwrite};
+ghost use Rattle.gx_page.specs.Ownership.{block_owns, block_lends};
+
+use std::alloc::{AllocError, Global};
+use std::marker::Model;
+
+/// How many bytes a page has.
+pub const PAGE_SIZE: usize = 4096;
+
+/// The owner of a page's bytes.
+pub(crate) struct Block {
+    at: *mut [u8; PAGE_SIZE],
+    alloc: Global,
+    pub(crate) ghost bytes: { List ℕ },
+}
+
+impl Model for Block {
+    ghost also_owns = { λ b. block_owns b.alloc b.at b.bytes };
+
+    ghost also_shares = { λ b _ κ. block_lends b.at b.bytes κ };
+}
+
+unsafe impl Send for Block {}
+
+impl Drop for Block {
+    fn drop(self) {
+        drop(self.into_box());
+    }
+}
+
+// Zeros, as an array of any length.
+#[tactic(auto, unfolding(crate::specs::Bytes::zeros))]
+fn zeroed<const N: usize>() -> [u8; N]
+    ensures { result ≡ zeros N }
+{
+    [0; N]
+}
+
+impl Block {
+    ghost use Rattle.gx_page.specs.Lending.{LendsBytes};
+
+    /// The block of a box.
+    fn of_box(bytes: Box<[u8; PAGE_SIZE]>) -> Block
+        ensures { result.bytes ≡ bytes.value }
+    {
+        let (at, alloc) = Box::into_raw_with_allocator(bytes);
+        Block { at, alloc }
+    }
+
+    /// The box of a block.
+    fn into_box(self) -> Box<[u8; PAGE_SIZE]>
+        ensures { result.value ≡ self.bytes }
+    {
+        let Block { at, alloc } = self;
+        unsafe { Box::from_raw(alloc, at) }
+    }
+
+    /// The bytes, to read in place.
+    pub(crate) fn bytes(&self) -> &[u8; PAGE_SIZE]
+        ensures { result.now ≡ self.now.bytes }
+    {
+        unsafe { &*self.at }
+    }
+
+    /// The bytes, to change in place.
+    fn bytes_mut(&mut self) -> &mut [u8; PAGE_SIZE]
+        ensures* writes_back { sem 𝓛 (LendsBytes self.entry result) }
+        ensures value { (result.now ≡ self.old.bytes) × (length self.old.bytes ≡ PAGE_SIZE) }
+    {
+        unsafe { &mut *self.at }
+    }
+
+    /// A block of zeros, or `AllocError` where there is no memory for it.
+    pub(crate) fn fresh(alloc: Global) -> Result<Block, AllocError>
+        ensures { IfOk result (λ b. b.bytes ≡ zeros PAGE_SIZE) }
+    {
+        Ok(Block::of_box(Box::new(alloc, zeroed::<PAGE_SIZE>())?))
+    }
+
+    /// The byte at a place.
+    pub(crate) fn byte(&self, at: usize) -> u8
+        requires { at < PAGE_SIZE }
+        ensures value { result ≡ slice_index self.now.bytes at }
+        ensures size { length self.now.bytes ≡ PAGE_SIZE }
+    {
+        self.bytes()[at]
+    }
+
+    /// Writes the byte at a place.
+    pub(crate) fn set_byte(&mut self, at: usize, byte: u8)
+        requires { at < PAGE_SIZE }
+        ensures { self.new.bytes ≡ slice_set self.old.bytes at byte }
+    {
+        self.bytes_mut()[at] = byte;
+    }
+
+    /// The bytes between two places.
+    pub(crate) fn slice(&self, from: usize, to: usize) -> &[u8]
+        requires { (from ≤ to) × (to ≤ PAGE_SIZE) }
+        ensures value { result.now ≡ slice_range self.now.bytes from to }
+        ensures size { length self.now.bytes ≡ PAGE_SIZE }
+    {
+        &self.bytes()[from..to]
+    }
+
+    /// The N bytes from a place on.
+    pub(crate) fn array<const N: usize>(&self, at: usize) -> [u8; N]
+        requires { at + N ≤ PAGE_SIZE }
+        ensures { result ≡ slice_range self.now.bytes at (at + N) }
+    {
+        *self.slice(at, at + N).first_chunk::<N>().unwrap()
+    }
+
+    /// The number that two bytes spell, the greater first.
+    #[tactic(auto, using(crate::proofs::Pieces::number_at))]
+    pub(crate) fn u16_at(&self, at: usize) -> u16
+        requires { at + 2 ≤ PAGE_SIZE }
+        ensures { result ≡ number_16_at self.now.bytes at }
+    {
+        u16::from_be_bytes([self.byte(at), self.byte(at + 1)])
+    }
+
+    /// Writes bytes over those from a place on.
+    pub(crate) fn write(&mut self, at: usize, bytes: &[u8])
+        requires { at + length bytes.now ≤ PAGE_SIZE }
+        ensures { self.new.bytes ≡ overwrite self.old.bytes at bytes.now }
+    {
+        let end = at + bytes.len();
+        self.bytes_mut()[at..end].copy_from_slice(bytes);
+    }
+
+    /// Spells a number in two bytes, the greater first.
+    pub(crate) fn set_u16(&mut self, at: usize, value: u16)
+        requires { at + 2 ≤ PAGE_SIZE }
+        ensures { self.new.bytes ≡ overwrite self.old.bytes at (spell_16 value) }
+    {
+        self.write(at, &value.to_be_bytes());
+    }
+
+    /// Writes zeros between two places.
+    pub(crate) fn clear(&mut self, from: usize, to: usize)
+        requires { (from ≤ to) × (to ≤ PAGE_SIZE) }
+        ensures { self.new.bytes ≡ overwrite self.old.bytes from (zeros (to - from)) }
+    {
+        self.bytes_mut()[from..to].fill(0);
+    }
+
+    /// Copies the bytes between two places to another one; the two parts may overlap.
+    pub(crate) fn copy_within(&mut self, from: usize, to: usize, dest: usize)
+        requires source { (from ≤ to) × (to ≤ PAGE_SIZE) }
+        requires room { dest + (to - from) ≤ PAGE_SIZE }
+        ensures { self.new.bytes ≡ copy_within self.old.bytes from to dest }
+    {
+        self.bytes_mut().copy_within(from..to, dest);
+    }
+}

@@ -1,0 +1,47 @@
+//! Edits of a block that is an image. Each leaves the image of the edited contents.
+ghost use Rattle.std.specs.Prelude.{◌≡◌, ℕ, ◌+◌, ◌*◌, ◌<◌, ◌≤◌, length};
+ghost use Rattle.std.specs.List.{insert, remove};
+ghost use Rattle.gx_page.specs.Edits.{with_items};
+ghost use Rattle.gx_page.specs.Format.{image_of, total};
+ghost use Rattle.gx_page.specs.Reading.{IsImage, read_of};
+
+use crate::block::Block;
+use crate::directory::{close_slot, count_of, end_of, open_slot, size_of, start_of};
+use crate::layout::{COUNT, START};
+
+/// Puts an item in front of a slot, where it fits. The items from that slot on move down by one copy.
+pub(crate) fn insert(block: &mut Block, slot: usize, bytes: &[u8])
+    requires image { IsImage block.old.bytes }
+    requires slot { slot ≤ length (read_of block.old.bytes).items }
+    requires fits { 36 + 4 * length (read_of block.old.bytes).items + total (read_of block.old.bytes).items + length bytes.now ≤ 4096 }
+    ensures { block.new.bytes ≡ image_of (with_items (read_of block.old.bytes) (insert (read_of block.old.bytes).items slot bytes.now)) }
+{
+    let count = count_of(block);
+    let start = start_of(block);
+    let end = end_of(block, slot);
+    let size = bytes.len() as u16;
+    let (from, to) = (usize::from(start), usize::from(end));
+    block.copy_within(from, to, from - bytes.len());
+    block.write(to - bytes.len(), bytes);
+    open_slot(block, slot, usize::from(count), end, size);
+    block.set_u16(COUNT, count + 1);
+    block.set_u16(START, start - size);
+}
+
+/// Takes a slot's item out. The items behind it move up by one copy, and the bytes that it leaves are zero.
+pub(crate) fn remove(block: &mut Block, slot: usize)
+    requires image { IsImage block.old.bytes }
+    requires slot { slot < length (read_of block.old.bytes).items }
+    ensures { block.new.bytes ≡ image_of (with_items (read_of block.old.bytes) (remove (read_of block.old.bytes).items slot)) }
+{
+    let count = count_of(block);
+    let start = start_of(block);
+    let end = end_of(block, slot);
+    let size = size_of(block, slot);
+    let (from, to, gap) = (usize::from(start), usize::from(end), usize::from(size));
+    block.copy_within(from, to - gap, from + gap);
+    block.clear(from, from + gap);
+    close_slot(block, slot, usize::from(count), end);
+    block.set_u16(COUNT, count - 1);
+    block.set_u16(START, start + size);
+}

@@ -1,0 +1,228 @@
+//! The slotted page: its calls, over a block that is always an image.
+ghost use Rattle.std.specs.Prelude.{◌≡◌, ◌↔◌, ◌⊎◌, ℕ, ◌+◌, ◌<◌, ◌≤◌, List, [], length, IfOk, IfErr, IsTrue, None, Some, MatchResult, slice_index_or, slice_set};
+ghost use Rattle.std.specs.Bool.{OnTrue, OnFalse};
+ghost use Rattle.std.specs.List.{insert, remove};
+ghost use Rattle.gx_page.specs.Contents.{Contents};
+ghost use Rattle.gx_page.specs.Edits.{with_items};
+ghost use Rattle.gx_page.specs.Faults.{fault_of};
+ghost use Rattle.gx_page.specs.Format.{Fits, image_of, IsWellFormed};
+ghost use Rattle.gx_page.specs.Reading.{IsImage, read_of};
+
+use crate::block::{Block, PAGE_SIZE};
+use crate::directory::{count_of, place_of, size_of, start_of};
+use crate::fault::PageFault;
+use crate::layout::{DIRECTORY, NSN, NUMBER, RIGHT, SLOT, START};
+use crate::{check, edits};
+use std::alloc::Global;
+use std::marker::Model;
+
+/// A header and a list of byte strings in a block of 4,096 bytes.
+#[derive(Drop)]
+pub struct Page {
+    block: Block,
+}
+
+impl Model for Page {
+    ghost use Rattle.gx_page.specs.Contents.{Contents};
+    ghost use Rattle.gx_page.specs.Reading.{IsImage, read_of};
+
+    ghost Value = { Contents };
+
+    ghost view = { λ p. read_of p.block.bytes };
+
+    ghost invariant = { λ p. IsImage p.block.bytes };
+}
+
+impl Page {
+    /// A page of a level and a number with no items, with sequence number 0 and no page to the right.
+    /// Refused with `Memory` where there is none for the block.
+    pub fn fresh(alloc: Global, level: u16, number: u32) -> Result<Page, PageFault>
+        ensures page { IfOk result (λ page. page ≡ record { level = level; nsn = 0; right = 0; number = number; items = [] }) }
+        ensures fault { IfErr result (λ fault. fault ≡ PageFault.Memory) }
+    {
+        let Ok(mut block) = Block::fresh(alloc) else {
+            return Err(PageFault::Memory);
+        };
+        block.set_u16(0, level);
+        block.set_u16(START, 4096);
+        block.write(NUMBER, &number.to_be_bytes());
+        Ok(Page { block })
+    }
+
+    /// The page whose image the bytes are.
+    /// Refused with the first fault of the bytes, and after all tests with `Memory` where there is none for the block.
+    pub fn from_image(alloc: Global, bytes: &[u8]) -> Result<Page, PageFault>
+        ensures page { IfOk result (λ page. (fault_of bytes.now ≡ None) × (image_of page ≡ bytes.now) × IsWellFormed page) }
+        ensures fault { IfErr result (λ fault. (fault_of bytes.now ≡ Some fault) ⊎ ((fault_of bytes.now ≡ None) × (fault ≡ PageFault.Memory))) }
+    {
+        Page::check(bytes)?;
+        let Ok(mut block) = Block::fresh(alloc) else {
+            return Err(PageFault::Memory);
+        };
+        block.write(0, bytes);
+        Ok(Page { block })
+    }
+
+    /// Becomes the page whose image the bytes are, with no memory taken.
+    /// Refused with the first fault of the bytes, and the page is then as it was.
+    pub fn load(&mut self, bytes: &[u8]) -> Result<(), PageFault>
+        ensures loaded { IfOk result (λ _. (fault_of bytes.now ≡ None) × (image_of self.new ≡ bytes.now) × IsWellFormed self.new) }
+        ensures fault { IfErr result (λ fault. (fault_of bytes.now ≡ Some fault) × (self.new ≡ self.old)) }
+    {
+        check::check(bytes)?;
+        self.block.write(0, bytes);
+        Ok(())
+    }
+
+    /// The own number of the page whose image the bytes are, with no memory taken.
+    /// Refused with the first fault of the bytes.
+    pub fn check(bytes: &[u8]) -> Result<u32, PageFault>
+        ensures page { IfOk result (λ number. (fault_of bytes.now ≡ None) × IsImage bytes.now × (number ≡ (read_of bytes.now).number)) }
+        ensures fault { IfErr result (λ fault. fault_of bytes.now ≡ Some fault) }
+    {
+        check::check(bytes)
+    }
+
+    /// The page's 4,096 bytes, in place.
+    pub fn image(&self) -> &[u8]
+        ensures image { result.now ≡ image_of self.now }
+        ensures size { length result.now ≡ PAGE_SIZE }
+        ensures well_formed { IsWellFormed self.now }
+    {
+        self.block.slice(0, PAGE_SIZE)
+    }
+
+    /// How many items the page has, 812 at most.
+    #[tactic(auto, using(crate::proofs::Parts::image_bound))]
+    pub fn count(&self) -> usize
+        ensures count { result ≡ length self.now.items }
+        ensures bound { result ≤ 812 }
+        ensures well_formed { IsWellFormed self.now }
+    {
+        usize::from(count_of(&self.block))
+    }
+
+    /// A slot's item, in place.
+    pub fn get(&self, slot: usize) -> &[u8]
+        requires { slot < length self.now.items }
+        ensures item { result.now ≡ slice_index_or self.now.items slot [] }
+        ensures some { 1 ≤ length result.now }
+    {
+        let from = usize::from(place_of(&self.block, slot));
+        let size = usize::from(size_of(&self.block, slot));
+        self.block.slice(from, from + size)
+    }
+
+    /// Puts an item of 1 to 4,060 bytes in front of a slot, or behind the last.
+    /// False where the page has no room for it and its slot, and the page is then as it was.
+    pub fn insert(&mut self, slot: usize, bytes: &[u8]) -> bool
+        requires slot { slot ≤ length self.old.items }
+        requires item { (1 ≤ length bytes.now) × (length bytes.now ≤ 4060) }
+        ensures fits { IsTrue result ↔ Fits (insert self.old.items slot bytes.now) }
+        ensures inserted { OnTrue result (self.new ≡ with_items self.old (insert self.old.items slot bytes.now)) }
+        ensures unchanged { OnFalse result (self.new ≡ self.old) }
+    {
+        let end = DIRECTORY + SLOT * usize::from(count_of(&self.block));
+        let start = usize::from(start_of(&self.block));
+        if start < end + SLOT + bytes.len() {
+            return false;
+        }
+        edits::insert(&mut self.block, slot, bytes);
+        true
+    }
+
+    /// Takes a slot's item out.
+    pub fn remove(&mut self, slot: usize)
+        requires { slot < length self.old.items }
+        ensures { self.new ≡ with_items self.old (remove self.old.items slot) }
+    {
+        edits::remove(&mut self.block, slot);
+    }
+
+    /// Writes one byte of a slot's item.
+    pub fn set_byte(&mut self, slot: usize, index: usize, byte: u8)
+        requires slot { slot < length self.old.items }
+        requires index { index < length (slice_index_or self.old.items slot []) }
+        ensures { self.new ≡ with_items self.old (slice_set self.old.items slot (slice_set (slice_index_or self.old.items slot []) index byte)) }
+    {
+        let from = usize::from(place_of(&self.block, slot));
+        self.block.set_byte(from + index, byte);
+    }
+
+    /// Puts bytes in the place of a slot's item, which has as many.
+    pub fn replace(&mut self, slot: usize, bytes: &[u8])
+        requires slot { slot < length self.old.items }
+        requires size { length bytes.now ≡ length (slice_index_or self.old.items slot []) }
+        ensures { self.new ≡ with_items self.old (slice_set self.old.items slot bytes.now) }
+    {
+        let from = usize::from(place_of(&self.block, slot));
+        self.block.write(from, bytes);
+    }
+
+    /// The level, 0 for a leaf.
+    #[tactic(auto, unfolding(crate::specs::Reading::read_of))]
+    pub fn level(&self) -> u16
+        ensures { result ≡ self.now.level }
+    {
+        self.block.u16_at(0)
+    }
+
+    /// The sequence number of the page's last split.
+    #[tactic(auto, unfolding(crate::specs::Reading::read_of))]
+    pub fn nsn(&self) -> u64
+        ensures { result ≡ self.now.nsn }
+    {
+        u64::from_be_bytes(self.block.array(NSN))
+    }
+
+    /// The number of the page to the right, 0 for none.
+    #[tactic(auto, unfolding(crate::specs::Reading::read_of))]
+    pub fn right(&self) -> u32
+        ensures { result ≡ self.now.right }
+    {
+        u32::from_be_bytes(self.block.array(RIGHT))
+    }
+
+    /// The page's own number.
+    #[tactic(auto, unfolding(crate::specs::Reading::read_of))]
+    pub fn number(&self) -> u32
+        ensures { result ≡ self.now.number }
+    {
+        u32::from_be_bytes(self.block.array(NUMBER))
+    }
+
+    /// Sets the level.
+    pub fn set_level(&mut self, level: u16)
+        ensures { self.new ≡ record self.old { level = level } }
+    {
+        self.block.set_u16(0, level);
+    }
+
+    /// Sets the sequence number.
+    pub fn set_nsn(&mut self, nsn: u64)
+        ensures { self.new ≡ record self.old { nsn = nsn } }
+    {
+        self.block.write(NSN, &nsn.to_be_bytes());
+    }
+
+    /// Sets the number of the page to the right, 0 for none.
+    pub fn set_right(&mut self, right: u32)
+        ensures { self.new ≡ record self.old { right = right } }
+    {
+        self.block.write(RIGHT, &right.to_be_bytes());
+    }
+
+    /// Sets the page's own number.
+    pub fn set_number(&mut self, number: u32)
+        ensures { self.new ≡ record self.old { number = number } }
+    {
+        self.block.write(NUMBER, &number.to_be_bytes());
+    }
+
+    /// Becomes what the other page is, with no memory taken.
+    pub fn copy_from(&mut self, other: &Page)
+        ensures { self.new ≡ other.now }
+    {
+        self.block.write(0, other.block.bytes());
+    }
+}

@@ -1,0 +1,4 @@
+pub mod SetLemmas
+pub mod SlotLaws
+pub mod IndexLaws
+pub mod AnswerLaws

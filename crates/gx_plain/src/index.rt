@@ -1,0 +1,236 @@
+//! The plain index.
+ghost use Rattle.std.specs.Prelude.{vec_len, vec_capacity, nat_le, ◌||◌, not, ◌&&◌, ◌==◌, ◌≡◌, ◌<◌, ◌≤◌, ◌+◌, ◌-◌, Some, IfOk, MatchOption, IsTrue, ⊤, false, true, ◌^◌, length, sum_by, slice_set, replicate};
+ghost use Rattle.std.specs.List.{slice_index_or};
+ghost use Rattle.gx_machine.specs.Keys.{keys};
+ghost use Rattle.gx_machine.specs.Machine.{is_session, least_barring, claims_held};
+ghost use Rattle.gx_machine.specs.Sessions.{Idle, claims_of, session_bars, ask_session};
+ghost use Rattle.gx_machine.specs.Sets.{InOrder};
+ghost use Rattle.gx_plain.specs.Slots.{added_by, opened_by, begins, CanAnswer, SlotAnswers};
+
+use crate::slot::Slot;
+use gx_geom::{Refusal, Shape};
+use gx_machine::{Asked, Call, Entry, Reply};
+use std::alloc::{AllocError, Global};
+use std::marker::Model;
+
+/// How many sessions there are.
+const SESSIONS: usize = 8;
+
+/// From this number on, of the last commit or of the next transaction, no transaction begins: the numbers left
+/// are those of the transactions that are open.
+const NUMBERS_END: u64 = u64::MAX - 8;
+
+/// Whether a transaction would begin, and the numbers are used up.
+fn lacks_numbers(begins: bool, commits: u64, next: u64) -> bool
+    ensures { result ≡ (begins && (nat_le 18446744073709551607 commits || nat_le 18446744073709551607 next)) }
+{
+    begins && (commits >= NUMBERS_END || next >= NUMBERS_END)
+}
+
+/// The place of a session in the list, where there is one of that number.
+fn place_of(session: u8) -> Option<usize>
+    ensures place { MatchOption result (is_session session ≡ false) (λ place. (is_session session ≡ true) × (place ≡ session - 1)) }
+    ensures within { MatchOption result ⊤ (λ place. place < 8) }
+{
+    let place = usize::from(session).checked_sub(1)?;
+    if place < SESSIONS { Some(place) } else { None }
+}
+
+/// All sessions, with no transaction.
+fn idle_slots<B: Shape>(alloc: Global) -> Result<Vec<Slot<B>>, AllocError>
+    ensures { IfOk result (λ slots. slots.items ≡ replicate 8 Idle) }
+{
+    let mut slots = Vec::with_capacity(alloc, SESSIONS)?;
+    for _ in 0..SESSIONS {
+        slots.push(Slot::new(alloc)?)?;
+    }
+    Ok(slots)
+}
+
+/// Whether the session of this number is another one than `session` and conflicts with its call.
+fn conflicts<B: Shape>(slot: &Slot<B>, number: u8, call: &Call<B>, session: u8) -> bool
+    ensures { result ≡ (not (number == session) && session_bars (keys B.cmp B.overlap B.inside) call.now slot.now) }
+{
+    number != session && slot.bars(call)
+}
+
+/// The least other session that conflicts with a call of `session`.
+fn least_barring<B: Shape>(slots: &[Slot<B>], call: &Call<B>, session: u8) -> Option<u8>
+    requires { length slots.now ≤ 8 }
+    ensures { result ≡ least_barring (keys B.cmp B.overlap B.inside) call.now session 1 slots.now }
+{
+    let mut number = 1;
+    for slot in slots {
+        if conflicts(slot, number, call, session) {
+            return Some(number);
+        }
+        number += 1;
+    }
+    None
+}
+
+/// The claims held in all.
+fn claims_held<B: Shape>(slots: &[Slot<B>]) -> usize
+    requires { claims_held slots.now ≤ 512 }
+    ensures { result ≡ claims_held slots.now }
+{
+    slots.iter().map(|slot| slot.claims()).sum()
+}
+
+/// The entries that open transactions have added, in all.
+fn added<B: Shape>(slots: &[Slot<B>]) -> usize
+    requires { sum_by added_by slots.now < 2 ^ 64 }
+    ensures { result ≡ sum_by added_by slots.now }
+{
+    slots.iter().map(|slot| slot.added()).sum()
+}
+
+/// Whether the call begins a transaction of the session at a place.
+fn begins_at<B: Shape>(slots: &[Slot<B>], place: usize, call: &Call<B>) -> bool
+    requires { place < length slots.now }
+    ensures { result ≡ begins call.now (slice_index_or slots.now place Idle) }
+{
+    slots[place].begins(call)
+}
+
+/// Asks a call of the session at a place.
+fn ask_at<B: Shape>(
+    slots: &mut Vec<Slot<B>>,
+    place: usize,
+    call: Call<B>,
+    barred: Option<u8>,
+    spent: usize,
+) -> Asked<B>
+    requires within { place < length slots.old.items }
+    requires spent { claims_of (slice_index_or slots.old.items place Idle) ≤ spent }
+    ensures asked { result ≡ (ask_session (keys B.cmp B.overlap B.inside) call barred spent (slice_index_or slots.old.items place Idle)).0 }
+    ensures session { slots.new.items ≡ slice_set slots.old.items place (ask_session (keys B.cmp B.overlap B.inside) call barred spent (slice_index_or slots.old.items place Idle)).1 }
+{
+    slots[place].ask(call, barred, spent)
+}
+
+/// Answers the session at a place.
+fn answer_at<B: Shape>(
+    slots: &mut Vec<Slot<B>>,
+    place: usize,
+    latest: &mut Vec<Entry<B>>,
+    commits: &mut u64,
+    added: usize,
+) -> Reply<B>
+    requires within { place < length slots.old.items }
+    requires can_answer { CanAnswer (slice_index_or slots.old.items place Idle) }
+    requires in_order { InOrder (keys B.cmp B.overlap B.inside) latest.old.items }
+    requires room { vec_len latest.old + added ≤ vec_capacity latest.old }
+    requires counted { added_by (slice_index_or slots.old.items place Idle) ≤ added }
+    requires more { commits.old + 1 < 2 ^ 64 }
+    ensures answers { SlotAnswers (keys B.cmp B.overlap B.inside) (slice_index_or slots.old.items place Idle) latest.old.items commits.old result
+        (slice_index_or slots.new.items place Idle) latest.new.items commits.new }
+    ensures others { slots.new.items ≡ slice_set slots.old.items place (slice_index_or slots.new.items place Idle) }
+    ensures room { vec_len latest.new + added + added_by (slice_index_or slots.new.items place Idle) ≤ vec_capacity latest.new + added_by (slice_index_or slots.old.items place Idle) }
+    ensures opened { commits.new + opened_by (slice_index_or slots.new.items place Idle) ≤ commits.old + opened_by (slice_index_or slots.old.items place Idle) }
+    ensures claims { claims_of (slice_index_or slots.new.items place Idle) ≤ claims_of (slice_index_or slots.old.items place Idle) }
+    ensures can_answer { CanAnswer (slice_index_or slots.new.items place Idle) }
+    ensures in_order { InOrder (keys B.cmp B.overlap B.inside) latest.new.items }
+{
+    slots[place].answer(latest, commits, added)
+}
+
+/// An index of entries as a set machine over a sorted list: for up to eight sessions, in memory.
+///
+/// It is the plain program of the definitions, slow and exact, which other indexes are compared with.
+#[derive(Drop)]
+pub struct PlainIndex<B: Shape> {
+    committed: Vec<Entry<B>>,
+    commits: u64,
+    next: u64,
+    slots: Vec<Slot<B>>,
+}
+
+impl<B: Shape> Model for PlainIndex<B> {
+    ghost use Rattle.std.specs.Prelude.{false, [], vec_capacity};
+    ghost use Rattle.gx_machine.specs.Keys.{keys};
+    ghost use Rattle.gx_plain.specs.Index.{Index};
+
+    ghost Value = { Index B };
+
+    ghost use Rattle.gx_plain.specs.Slots.{IsKept};
+
+    ghost view = { λ i. record {
+      machine = record { older = []; latest = i.committed.items; first = i.commits; sessions = i.slots.items; ended = false };
+      next = i.next;
+    } };
+
+    ghost invariant = { λ i. IsKept (keys B.cmp B.overlap B.inside) i.committed.items (vec_capacity i.committed) i.commits i.next i.slots.items };
+}
+
+impl<B: Shape> PlainIndex<B> {
+    ghost use Rattle.gx_plain.specs.Index.{fresh_index, ask_index, AnswersIndex, CallsIndex};
+
+    /// An index with nothing committed. It takes the room for all claims and predicates.
+    pub fn new(alloc: Global) -> Result<Self, AllocError>
+        ensures { IfOk result (λ index. index ≡ fresh_index) }
+    {
+        Ok(PlainIndex {
+            committed: Vec::new(alloc),
+            commits: 0,
+            next: 1,
+            slots: idle_slots(alloc)?,
+        })
+    }
+
+    /// Asks a call of a session, from 1 to 8. It takes no memory.
+    ///
+    /// The reply comes at once where the call is refused and for a Begin; else the call is open until it is
+    /// answered. Refusals, the first that holds: `BadSession` for another number; `CallOpen` where the session has
+    /// a call open or has asked for its abort; `InTransaction` for a Begin in a transaction, `NoTransaction` for
+    /// another call outside of one; `HistoryFull` for a Begin where the number of the last commit or of the next
+    /// transaction is 2^64 - 9 or more; `Busy` with the least other session that conflicts; `ClaimsFull` and
+    /// `PredicatesFull` where the places are taken. A refused call changes nothing.
+    pub fn ask(&mut self, session: u8, call: Call<B>) -> Asked<B>
+        ensures asked { result ≡ (ask_index (keys B.cmp B.overlap B.inside) session call self.old).0 }
+        ensures index { self.new ≡ (ask_index (keys B.cmp B.overlap B.inside) session call self.old).1 }
+    {
+        let Some(place) = place_of(session) else {
+            return Asked::Now(Reply::Refused(Refusal::BadSession));
+        };
+        let begins = begins_at(&self.slots, place, &call);
+        if lacks_numbers(begins, self.commits, self.next) {
+            return Asked::Now(Reply::Refused(Refusal::HistoryFull));
+        }
+        let barred = least_barring(&self.slots, &call, session);
+        let spent = claims_held(&self.slots);
+        self.next += u64::from(begins);
+        ask_at(&mut self.slots, place, call, barred, spent)
+    }
+
+    /// Answers the open call of a session, or its abort. A commit is sealed, durable and answered in one.
+    ///
+    /// Refusals: `BadSession` for a number outside of 1 to 8; `NoCall` where nothing is open; `Present` for an insert
+    /// of an entry that the session sees; `Absent` for a delete of one that it doesn't; `Memory` for an insert,
+    /// a delete or a search that needs memory and is refused it. The call is then closed, and may be asked again.
+    pub fn answer(&mut self, session: u8) -> Reply<B>
+        ensures { AnswersIndex (keys B.cmp B.overlap B.inside) session self.old result self.new }
+    {
+        let Some(place) = place_of(session) else {
+            return Reply::Refused(Refusal::BadSession);
+        };
+        let added = added(&self.slots);
+        answer_at(
+            &mut self.slots,
+            place,
+            &mut self.committed,
+            &mut self.commits,
+            added,
+        )
+    }
+
+    /// Asks a call and, where it is then open, answers it. The refusals are those of `ask` and of `answer`.
+    pub fn call(&mut self, session: u8, call: Call<B>) -> Reply<B>
+        ensures { CallsIndex (keys B.cmp B.overlap B.inside) self.old session call result self.new }
+    {
+        match self.ask(session, call) {
+            Asked::Now(reply) => reply,
+            Asked::Open => self.answer(session),
+        }
+    }
+}

@@ -1,0 +1,39 @@
+//! Scripts for the plain index.
+ghost use Rattle.std.specs.Prelude.{OnOk, IfErr};
+ghost use Rattle.gx_geom.specs.Corners.{corners_cmp, overlaps, within};
+ghost use Rattle.gx_machine.specs.Keys.{keys};
+ghost use Rattle.gx_script.specs.Scripts.{IsDone, IsStopped};
+ghost use Rattle.gx_plain.specs.Index.{CallsIndex};
+
+use crate::PlainIndex;
+use gx_geom::Box2;
+use gx_machine::{Call, Reply};
+use gx_script::{Answers, ScriptFault};
+use std::io::{Read, Write};
+
+impl Answers for PlainIndex<Box2> {
+    ghost answered = { CallsIndex (keys corners_cmp overlaps within) };
+
+    fn call(&mut self, session: u8, call: Call<Box2>) -> Reply<Box2> {
+        self.call(session, call)
+    }
+}
+
+/// Reads a script of boxes to its end, asks the index for the calls of its lines, and writes the replies.
+///
+/// All lines of a reply are written before the next line's call is asked. A line that isn't one of a script's is
+/// answered by its number, and the script goes on. Faults: `Read` where the reader fails, or was read 2^32
+/// times; `Write` where the writer fails, or takes nothing. What was written then is a beginning of the text, and
+/// replies given before stand. An interrupted read or write is made again.
+pub fn run_plain<R: Read, W: Write>(
+    reader: &mut R,
+    writer: &mut W,
+    index: &mut PlainIndex<Box2>,
+) -> Result<(), ScriptFault>
+    ensures done { OnOk result (IsDone (CallsIndex (keys corners_cmp overlaps within)) (R.remaining reader.old) (R.remaining reader.new)
+        (W.contents writer.old) (W.contents writer.new) index.old index.new) }
+    ensures stopped { IfErr result (IsStopped (CallsIndex (keys corners_cmp overlaps within)) (R.remaining reader.old) (R.remaining reader.new)
+        (W.contents writer.old) (W.contents writer.new) index.old index.new) }
+{
+    gx_script::run(reader, writer, index)
+}

@@ -1,0 +1,88 @@
+//! Sets of entries as sorted vectors.
+ghost use Rattle.std.specs.Prelude.{insert, ◌≡◌, ◌+◌, ◌<◌, ◌≤◌, MatchOption, OnOk, OnErr, IsOk, vec_len, vec_capacity, length, ⊤};
+ghost use Rattle.gx_machine.specs.Keys.{keys, same_entry, matches};
+ghost use Rattle.gx_machine.specs.Sets.{has, including, excluding, including_all, excluding_all};
+
+use gx_geom::Shape;
+use gx_machine::Entry;
+use std::alloc::AllocError;
+use std::cmp::Ordering;
+
+/// Whether two entries are the same.
+pub fn is_same<B: Shape>(a: &Entry<B>, b: &Entry<B>) -> bool
+    ensures { result ≡ same_entry (keys B.cmp B.overlap B.inside) a.now b.now }
+{
+    a.cmp(b) == Ordering::Equal
+}
+
+/// Whether the entry is in the set.
+pub fn has<B: Shape>(e: &Entry<B>, set: &[Entry<B>]) -> bool
+    ensures { result ≡ has (keys B.cmp B.overlap B.inside) e.now set.now }
+{
+    set.iter().any(|x| is_same(e, x))
+}
+
+/// Where the entry goes in the set, or nothing where it is there.
+fn place<B: Shape>(e: &Entry<B>, set: &[Entry<B>]) -> Option<usize>
+    ensures within { MatchOption result ⊤ (λ i. i ≤ length set.now) }
+    ensures place { MatchOption result
+        (including (keys B.cmp B.overlap B.inside) e.now set.now ≡ set.now)
+        (λ i. including (keys B.cmp B.overlap B.inside) e.now set.now ≡ insert set.now i e.now) }
+{
+    for (i, x) in set.iter().enumerate() {
+        match e.cmp(x) {
+            Ordering::Less => return Some(i),
+            Ordering::Equal => return None,
+            Ordering::Greater => {}
+        }
+    }
+    Some(set.len())
+}
+
+/// Puts the entry in its place, unless it is there. An `Err` changes nothing, and comes only where the vector is full.
+pub fn include<B: Shape>(e: Entry<B>, set: &mut Vec<Entry<B>>) -> Result<(), AllocError>
+    ensures ok { OnOk result (set.new.items ≡ including (keys B.cmp B.overlap B.inside) e set.old.items) }
+    ensures err { OnErr result (set.new.items ≡ set.old.items) }
+    ensures full { OnErr result (vec_capacity set.old ≤ vec_len set.old) }
+    ensures capacity { vec_capacity set.old ≤ vec_capacity set.new }
+    ensures placed { vec_len set.old < vec_capacity set.old → set.new.items ≡ including (keys B.cmp B.overlap B.inside) e set.old.items }
+    ensures one_more { vec_len set.new ≤ vec_len set.old + 1 }
+{
+    match place(&e, set) {
+        None => Ok(()),
+        Some(i) => {
+            set.insert(i, e)?;
+            Ok(())
+        }
+    }
+}
+
+/// Takes the entry out of the set.
+pub fn exclude<B: Shape>(e: &Entry<B>, set: &mut Vec<Entry<B>>)
+    ensures items { set.new.items ≡ excluding (keys B.cmp B.overlap B.inside) e.now set.old.items }
+    ensures capacity { vec_capacity set.old ≤ vec_capacity set.new }
+    ensures no_more { vec_len set.new ≤ vec_len set.old }
+{
+    set.retain(|x| !is_same(e, x));
+}
+
+/// Takes each of these entries out of the set.
+pub fn exclude_all<B: Shape>(gone: &[Entry<B>], set: &mut Vec<Entry<B>>)
+    ensures items { set.new.items ≡ excluding_all (keys B.cmp B.overlap B.inside) gone.now set.old.items }
+    ensures capacity { vec_capacity set.old ≤ vec_capacity set.new }
+    ensures no_more { vec_len set.new ≤ vec_len set.old }
+{
+    set.retain(|x| !has(x, gone));
+}
+
+/// Puts each of these entries in its place. There is room for them all.
+pub fn include_all<B: Shape>(more: &[Entry<B>], set: &mut Vec<Entry<B>>)
+    requires { vec_len set.old + length more.now ≤ vec_capacity set.old }
+    ensures items { set.new.items ≡ including_all (keys B.cmp B.overlap B.inside) more.now set.old.items }
+    ensures capacity { vec_capacity set.old ≤ vec_capacity set.new }
+    ensures grown { vec_len set.new ≤ vec_len set.old + length more.now }
+{
+    for e in more {
+        let _ = include(*e, set);
+    }
+}

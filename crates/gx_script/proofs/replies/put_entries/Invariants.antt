@@ -1,0 +1,10 @@
+use Rattle.std.proofs.Common.{take}
+use Rattle.std.specs.List.{flat_map}
+use Rattle.gx_script.specs.Replies.{entry_line}
+use Rattle.gx_script.specs.Writes.{IsPut}
+use Rattle.gx_script.proofs.replies.put_entries.Given as goal
+
+abbrev pub invariant-loop-entry : goal.invariant-loop-entry
+invariant-loop-entry g l =
+    IsPut (g.W.Write.contents l.initial.writer) (g.W.Write.contents l.writer) l.initial.output
+    (flat_map (entry_line l.session) (take l.entry-index l.entries)) l.output

@@ -1,0 +1,9 @@
+pub mod Lines
+pub mod Words
+pub mod Numbers
+pub mod Requests
+pub mod Replies
+pub mod Table
+pub mod Writes
+pub mod Scripts
+pub mod Steps

@@ -1,0 +1,75 @@
+//! What the grammar of scripts means.
+ghost use Rattle.std.specs.Prelude.{◌≡◌, ◌≢◌, ◌+◌, ◌<◌, ◌^◌, ℕ, ℤ, List, [], ◌∷◌, ◌++◌, true, length, codes, decimal, Some, FitsSigned};
+ghost use Rattle.std.specs.Int.{w32};
+ghost use Rattle.std.specs.Fmt.{signed_decimal};
+ghost use Rattle.gx_geom.specs.Corners.{Corners, IsBox};
+ghost use Rattle.gx_machine.specs.declared.call.Call.TheVariants as call;
+ghost use Rattle.gx_machine.specs.declared.query.Query.TheVariants as query;
+ghost use Rattle.gx_machine.specs.declared.entry.Entry.{Entry};
+ghost use Rattle.gx_script.specs.declared.line.Line.TheVariants as line;
+ghost use Rattle.gx_script.specs.Lines.{lines, without_cr};
+ghost use Rattle.gx_script.specs.Words.{words, is_separator, IsWord};
+ghost use Rattle.gx_script.specs.Numbers.{number_of, corner_of};
+ghost use Rattle.gx_script.specs.Requests.{line_of, words_line};
+ghost use Rattle.gx_script.specs.Scripts.{IsUnended};
+ghost use Rattle.gx_machine.specs.declared.reply.Reply.{Reply};
+ghost use Rattle.gx_script.specs.Replies.{reply_text, reply_lines, bad_line};
+ghost use Rattle.gx_script.specs.Table.{corner_words};
+
+/// A line ends at its line feed, and the last one at the end if it has a byte.
+pub fn lines_end_at_line_feeds()
+    ensures none { lines [] ≡ [] }
+    ensures ended { (bytes more : List ℕ) → IsUnended bytes → lines (bytes ++ (10 ∷ more)) ≡ bytes ∷ lines more }
+    ensures last { (bytes : List ℕ) → IsUnended bytes → 0 < length bytes → lines bytes ≡ bytes ∷ [] }
+{}
+
+/// One carriage return at the end of a line goes, and no other byte.
+pub fn one_carriage_return_goes()
+    ensures none { without_cr [] ≡ [] }
+    ensures goes { (front : List ℕ) → without_cr (front ++ (13 ∷ [])) ≡ front }
+    ensures stays { (front : List ℕ) (b : ℕ) → b ≢ 13 → without_cr (front ++ (b ∷ [])) ≡ front ++ (b ∷ []) }
+{}
+
+/// Words stand between separators, of which there may be several.
+pub fn words_stand_between_separators()
+    ensures none { words [] ≡ [] }
+    ensures skipped { (b : ℕ) (more : List ℕ) → is_separator b ≡ true → words (b ∷ more) ≡ words more }
+    ensures ended { (w more : List ℕ) (b : ℕ) → IsWord w → is_separator b ≡ true → words (w ++ (b ∷ more)) ≡ w ∷ words more }
+    ensures last { (w : List ℕ) → IsWord w → words w ≡ w ∷ [] }
+{}
+
+/// A line of more bytes than it may have is bad, whatever they are.
+pub fn long_lines_are_bad()
+    ensures { (bytes : List ℕ) → 1025 < length bytes → line_of bytes ≡ line.Bad }
+{}
+
+/// A number is read as it is printed.
+pub fn printed_numbers_are_read()
+    ensures number { (n : ℕ) → n < 2 ^ 64 → number_of (decimal n) ≡ Some n }
+    ensures corner { (z : ℤ) → FitsSigned w32 z → corner_of (signed_decimal z) ≡ Some z }
+{}
+
+/// Each line of the table asks for its call.
+pub fn each_command_asks_its_call()
+    ensures blank { words_line [] ≡ line.Blank }
+    ensures begin { (s : ℕ) → s < 2 ^ 64 → words_line (decimal s ∷ (codes "BEGIN" ∷ [])) ≡ line.Asks s call.Begin }
+    ensures insert { (s : ℕ) (e : Entry Corners) → s < 2 ^ 64 → e.row < 2 ^ 64 → IsBox e.key →
+        words_line (decimal s ∷ (codes "INSERT" ∷ (decimal e.row ∷ corner_words e.key))) ≡ line.Asks s (call.Insert e) }
+    ensures delete { (s : ℕ) (e : Entry Corners) → s < 2 ^ 64 → e.row < 2 ^ 64 → IsBox e.key →
+        words_line (decimal s ∷ (codes "DELETE" ∷ (decimal e.row ∷ corner_words e.key))) ≡ line.Asks s (call.Delete e) }
+    ensures overlap { (s : ℕ) (b : Corners) → s < 2 ^ 64 → IsBox b →
+        words_line (decimal s ∷ (codes "OVERLAP" ∷ corner_words b)) ≡ line.Asks s (call.Search (query.Overlap b)) }
+    ensures within { (s : ℕ) (b : Corners) → s < 2 ^ 64 → IsBox b →
+        words_line (decimal s ∷ (codes "WITHIN" ∷ corner_words b)) ≡ line.Asks s (call.Search (query.Within b)) }
+    ensures equal { (s : ℕ) (b : Corners) → s < 2 ^ 64 → IsBox b →
+        words_line (decimal s ∷ (codes "EQUAL" ∷ corner_words b)) ≡ line.Asks s (call.Search (query.Equal b)) }
+    ensures commit { (s : ℕ) → s < 2 ^ 64 → words_line (decimal s ∷ (codes "COMMIT" ∷ [])) ≡ line.Asks s call.Commit }
+    ensures abort { (s : ℕ) → s < 2 ^ 64 → words_line (decimal s ∷ (codes "ABORT" ∷ [])) ≡ line.Asks s call.Abort }
+{}
+
+/// The text of a reply is whole lines, one and one more for each entry that was found.
+pub fn replies_are_whole_lines()
+    ensures reply { (s : ℕ) (reply : Reply Corners) (more : List ℕ) →
+        length (lines (reply_text s reply ++ more)) ≡ reply_lines reply + length (lines more) }
+    ensures bad { (number : ℕ) (more : List ℕ) → length (lines (bad_line number ++ more)) ≡ 1 + length (lines more) }
+{}

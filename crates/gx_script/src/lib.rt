@@ -1,0 +1,24 @@
+//! Scripts: lines of bytes that ask an index for calls, and the text of its replies.
+#![tactic(auto)]
+
+mod answers;
+mod command;
+mod fault;
+pub mod laws;
+mod line;
+mod line_buffer;
+mod numbers;
+mod output;
+mod replies;
+mod requests;
+mod runner;
+#[cfg(test)]
+mod tests;
+mod words;
+
+pub use answers::Answers;
+pub use fault::ScriptFault;
+pub use line::Line;
+pub use output::write_whole;
+pub use requests::parse;
+pub use runner::run;

@@ -1,0 +1,57 @@
+//! The text of a reply.
+ghost use Rattle.std.specs.Prelude.{◌≡◌, ◌+◌, ◌≤◌, ◌++◌, length, decimal, codes, OnOk, IfErr};
+ghost use Rattle.std.specs.List.{flat_map};
+ghost use Rattle.gx_script.specs.Replies.{reply_text, told_line, entry_line};
+ghost use Rattle.gx_script.specs.Writes.{IsPut, IsCut};
+
+use crate::ScriptFault;
+use crate::output::{LONGEST, Output, WAITING};
+use gx_geom::Box2;
+use gx_machine::{Entry, Reply};
+use std::io::Write;
+
+/// Adds the lines of a reply, and writes what there is no room for.
+pub(crate) fn put_reply<W: Write>(
+    writer: &mut W,
+    output: &mut Output,
+    session: u64,
+    reply: &Reply<Box2>,
+) -> Result<(), ScriptFault>
+    ensures ok { OnOk result (IsPut (W.contents writer.old) (W.contents writer.new) output.old (reply_text session reply.now) output.new) }
+    ensures cut { IfErr result (λ e. (e ≡ ScriptFault.Write)
+        × IsCut (W.contents writer.old) (W.contents writer.new) (output.old ++ reply_text session reply.now)) }
+{
+    output.make_room(writer)?;
+    match reply {
+        Reply::Found(entries) => {
+            let found = entries.as_slice();
+            output.put_counted(session, b"found ", found.len() as u64);
+            return put_entries(writer, output, session, found);
+        }
+        Reply::Ok => output.put_told(session, b"ok"),
+        Reply::Inserted => output.put_told(session, b"inserted"),
+        Reply::Deleted => output.put_told(session, b"deleted"),
+        Reply::Aborted => output.put_told(session, b"aborted"),
+        Reply::Committed(number) => output.put_counted(session, b"committed ", *number),
+        Reply::Refused(why) => output.put_refusal(session, *why),
+    }
+    Ok(())
+}
+
+fn put_entries<W: Write>(
+    writer: &mut W,
+    output: &mut Output,
+    session: u64,
+    entries: &[Entry<Box2>],
+) -> Result<(), ScriptFault>
+    ensures ok { OnOk result (IsPut (W.contents writer.old) (W.contents writer.new) output.old
+        (flat_map (entry_line session) entries.now) output.new) }
+    ensures cut { IfErr result (λ e. (e ≡ ScriptFault.Write)
+        × IsCut (W.contents writer.old) (W.contents writer.new) (output.old ++ flat_map (entry_line session) entries.now)) }
+{
+    for entry in entries {
+        output.make_room(writer)?;
+        output.put_entry(session, entry);
+    }
+    Ok(())
+}

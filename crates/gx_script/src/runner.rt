@@ -1,0 +1,252 @@
+//! Scripts from a reader to a writer.
+ghost use Rattle.std.specs.Prelude.{◌≡◌, ◌≢◌, ◌+◌, ◌^◌, ◌<◌, ◌≤◌, ◌==◌, position, ℕ, List, [], ◌∷◌, ◌++◌, length, take, MatchOption, OnOk, IfOk, IfErr, OnErr};
+ghost use Rattle.std.specs.List.{position_or_len};
+ghost use Rattle.std.specs.Io.KnownBytes.{Keeps, Consumes, IsAtEnd};
+ghost use Rattle.gx_script.specs.Requests.{line_of};
+ghost use Rattle.gx_script.specs.Scripts.{asked_as, IsDone, IsStopped, IsUnended, IsTold};
+ghost use Rattle.gx_script.specs.Steps.{IsGiven, IsToldWhole, IsToldPart, IsFed, IsFedPart, IsEnded, IsEndedPart, Feeds};
+
+use crate::line_buffer::LineBuffer;
+use crate::output::Output;
+use crate::replies::put_reply;
+use crate::{Answers, Line, ScriptFault, parse};
+use gx_geom::{Box2, Refusal};
+use gx_machine::{Call, Reply};
+use std::io::{ErrorKind, Read, Write};
+
+/// How often a reader is read.
+const READS: u64 = 1 << 32;
+
+/// How many bytes a read may give.
+const PIECE: usize = 16384;
+
+/// Reads a script to its end, asks the index for the calls of its lines, and writes the replies.
+///
+/// Each reply is written before the next call is asked. An interrupted read or write is made again. The script
+/// ends with `Read` where the reader fails or was read 2^32 times, and with `Write` where the writer fails or
+/// takes nothing.
+pub fn run<R: Read, W: Write, I: Answers>(
+    reader: &mut R,
+    writer: &mut W,
+    index: &mut I,
+) -> Result<(), ScriptFault>
+    ensures done { OnOk result (IsDone I.answered (R.remaining reader.old) (R.remaining reader.new)
+        (W.contents writer.old) (W.contents writer.new) index.old index.new) }
+    ensures stopped { IfErr result (IsStopped I.answered (R.remaining reader.old) (R.remaining reader.new)
+        (W.contents writer.old) (W.contents writer.new) index.old index.new) }
+{
+    let mut buffer = blank::<PIECE>();
+    let mut script = Script::new();
+    for _turn in 0..READS {
+        match read_piece(reader, &mut buffer)? {
+            Piece::Interrupted => {}
+            Piece::End => return script.finish(writer, index),
+            Piece::Bytes(count) => script.feed(writer, index, buffer.split_at(count).0)?,
+        }
+    }
+    Err(ScriptFault::Read)
+}
+
+/// What a read gave.
+#[derive(Clone, Copy)]
+enum Piece {
+    /// Nothing, and it is to be made again.
+    Interrupted,
+    /// The end.
+    End,
+    /// So many bytes, at the front of the buffer.
+    Bytes(usize),
+}
+
+fn blank<const N: usize>() -> [u8; N]
+    ensures { length result ≡ N }
+{
+    [0; N]
+}
+
+fn read_piece<R: Read>(reader: &mut R, buffer: &mut [u8]) -> Result<Piece, ScriptFault>
+    requires { 0 < length buffer.old }
+    ensures given { IfOk result (IsGiven (R.remaining reader.old) (R.remaining reader.new) buffer.new) }
+    ensures failed { IfErr result (λ e. (e ≡ ScriptFault.Read) × Keeps (R.remaining reader.old) (R.remaining reader.new)) }
+{
+    match reader.read(buffer) {
+        Ok(0) => Ok(Piece::End),
+        Ok(count) => Ok(Piece::Bytes(count)),
+        Err(e) if e.kind() == ErrorKind::Interrupted => Ok(Piece::Interrupted),
+        Err(_) => Err(ScriptFault::Read),
+    }
+}
+
+/// A script as far as it was read.
+#[derive(Drop)]
+struct Script {
+    // the line that was begun
+    line: LineBuffer,
+    // its number
+    number: u64,
+    // the text that waits
+    output: Output,
+}
+
+impl Script {
+    fn new() -> Self
+        ensures line { result.line ≡ [] }
+        ensures number { result.number ≡ 1 }
+        ensures output { result.output ≡ [] }
+    {
+        Script {
+            line: LineBuffer::new(),
+            number: 1,
+            output: Output::new(),
+        }
+    }
+
+    // Does all lines that end in these bytes, and keeps what stands after them. Then nothing waits.
+    fn feed<W: Write, I: Answers>(
+        &mut self,
+        writer: &mut W,
+        index: &mut I,
+        bytes: &[u8],
+    ) -> Result<(), ScriptFault>
+        requires { self.old.number + length bytes.now < 2 ^ 64 }
+        ensures ok { OnOk result (IsUnended self.old.line → Feeds I.answered self.old.number index.old self.old.output (λ number done start written.
+            (fed : IsFed I.answered number done start written (self.old.line ++ bytes.now) self.new.line
+            (W.contents writer.old) (W.contents writer.new) self.new.output index.new)
+            × (self.new.number ≡ number + length (done ++ fed.more)))) }
+        ensures unended { OnOk result (IsUnended self.old.line → IsUnended self.new.line) }
+        ensures waits { OnOk result (self.new.output ≡ []) }
+        ensures bound { OnOk result (self.new.number ≤ self.old.number + length bytes.now) }
+        ensures cut { IfErr result (λ e. (e ≡ ScriptFault.Write) × (IsUnended self.old.line → Feeds I.answered self.old.number index.old self.old.output (λ number done start written.
+            IsFedPart I.answered number done start written (self.old.line ++ bytes.now)
+            (W.contents writer.old) (W.contents writer.new) index.new))) }
+    {
+        let mut rest = bytes;
+        while let Some((line, more)) = next_line(rest) {
+            self.line.keep(line);
+            self.end_line(writer, index)?;
+            rest = more;
+        }
+        self.line.keep(rest);
+        self.output.flush(writer)
+    }
+
+    // Does the line that was begun, if it has a byte, and writes all that waits.
+    fn finish<W: Write, I: Answers>(
+        &mut self,
+        writer: &mut W,
+        index: &mut I,
+    ) -> Result<(), ScriptFault>
+        requires { self.old.number + 1 < 2 ^ 64 }
+        ensures ok { OnOk result (IsUnended self.old.line → Feeds I.answered self.old.number index.old self.old.output (λ number done start written.
+            IsEnded I.answered number done start written self.old.line (W.contents writer.old) (W.contents writer.new) index.new)) }
+        ensures cut { IfErr result (λ e. (e ≡ ScriptFault.Write) × (IsUnended self.old.line → Feeds I.answered self.old.number index.old self.old.output (λ number done start written.
+            IsEndedPart I.answered number done start written self.old.line (W.contents writer.old) (W.contents writer.new) index.new))) }
+    {
+        if self.line.is_empty() {
+            return self.output.flush(writer);
+        }
+        self.end_line(writer, index)?;
+        self.output.flush(writer)
+    }
+
+    // Does the line that was begun, and begins the next.
+    fn end_line<W: Write, I: Answers>(
+        &mut self,
+        writer: &mut W,
+        index: &mut I,
+    ) -> Result<(), ScriptFault>
+        requires { self.old.number + 1 < 2 ^ 64 }
+        ensures ok { OnOk result (IsToldWhole I.answered self.old.number (line_of self.old.line) index.old index.new
+            (W.contents writer.old) (W.contents writer.new) self.old.output self.new.output) }
+        ensures line { OnOk result (self.new.line ≡ []) }
+        ensures number { OnOk result (self.new.number ≡ self.old.number + 1) }
+        ensures cut { IfErr result (λ e. (e ≡ ScriptFault.Write) × IsToldPart I.answered self.old.number (line_of self.old.line) index.old index.new
+            (W.contents writer.old) (W.contents writer.new) self.old.output) }
+    {
+        let line = parse(self.line.as_slice());
+        tell(writer, index, &mut self.output, self.number, line)?;
+        self.line.clear();
+        self.number += 1;
+        Ok(())
+    }
+}
+
+// the first line that ends in these bytes, and what stands after its line feed
+fn next_line(bytes: &[u8]) -> Option<(&[u8], &[u8])>
+    ensures { MatchOption result (IsUnended bytes.now) (λ p. IsUnended p.0.now × (bytes.now ≡ p.0.now ++ (10 ∷ p.1.now))) }
+{
+    let (line, rest) = bytes.split_at(line_end(bytes));
+    match rest.split_first() {
+        None => None,
+        Some((_, more)) => Some((line, more)),
+    }
+}
+
+// how many bytes stand before the first line feed
+fn line_end(bytes: &[u8]) -> usize
+    ensures value { result ≡ position_or_len (λ b. b == 10) bytes.now }
+    ensures bound { result ≤ length bytes.now }
+{
+    match first_feed(bytes) {
+        Some(end) => end,
+        None => bytes.len(),
+    }
+}
+
+fn first_feed(bytes: &[u8]) -> Option<usize>
+    ensures { result ≡ position (λ b. b == 10) bytes.now }
+{
+    bytes.iter().position(|b| *b == b'\n')
+}
+
+// Does one line.
+fn tell<W: Write, I: Answers>(
+    writer: &mut W,
+    index: &mut I,
+    output: &mut Output,
+    number: u64,
+    line: Line,
+) -> Result<(), ScriptFault>
+    ensures ok { OnOk result (IsToldWhole I.answered number line index.old index.new
+        (W.contents writer.old) (W.contents writer.new) output.old output.new) }
+    ensures cut { IfErr result (λ e. (e ≡ ScriptFault.Write) × IsToldPart I.answered number line index.old index.new
+        (W.contents writer.old) (W.contents writer.new) output.old) }
+{
+    match line {
+        Line::Blank => Ok(()),
+        Line::Bad => {
+            output.make_room(writer)?;
+            output.put_bad(number);
+            Ok(())
+        }
+        Line::Reversed(session) => {
+            put_reply(writer, output, session, &Reply::Refused(Refusal::BadBox))
+        }
+        Line::Asks(session, call) => answer(writer, index, output, session, call),
+    }
+}
+
+// Writes what waits, then asks the index.
+fn answer<W: Write, I: Answers>(
+    writer: &mut W,
+    index: &mut I,
+    output: &mut Output,
+    session: u64,
+    call: Call<Box2>,
+) -> Result<(), ScriptFault>
+    ensures ok { (number : ℕ) → OnOk result (IsToldWhole I.answered number (Line.Asks session call) index.old index.new
+        (W.contents writer.old) (W.contents writer.new) output.old output.new) }
+    ensures cut { IfErr result (λ e. (e ≡ ScriptFault.Write) × ((number : ℕ) → IsToldPart I.answered number (Line.Asks session call) index.old index.new
+        (W.contents writer.old) (W.contents writer.new) output.old)) }
+{
+    output.flush(writer)?;
+    let reply = index.call(index_session(session), call);
+    put_reply(writer, output, session, &reply)
+}
+
+// the number under which the index is asked
+fn index_session(session: u64) -> u8
+    ensures { result ≡ asked_as session }
+{
+    if session < 256 { session as u8 } else { 0 }
+}

@@ -1,0 +1,394 @@
+//! Scripts against an index that answers from a list, in pieces of any size.
+ghost use Rattle.std.specs.Prelude.{◌≤◌, ◌+◌, ◌<◌, length};
+
+use super::*;
+use gx_geom::{Box2, Refusal};
+use gx_machine::{Call, Entries, Entry, Query, Reply};
+use std::alloc::{AllocError, Global};
+use std::io::{self, ErrorKind, Read, Write};
+use std::process::Abort;
+use std::test::Fail;
+
+// It keeps what was inserted. An overlap finds all of it and a search within nothing; an equal search is busy.
+#[derive(Drop)]
+struct List {
+    alloc: Global,
+    entries: Vec<Entry<Box2>>,
+    calls: u64,
+}
+
+impl List {
+    fn new(alloc: Global) -> List {
+        List {
+            alloc,
+            entries: Vec::new(alloc),
+            calls: 0,
+        }
+    }
+
+    fn search(&self, query: Query<Box2>) -> Result<Reply<Box2>, AllocError> {
+        Ok(match query {
+            Query::Overlap(_) => {
+                Reply::Found(Entries::new(Vec::from_slice(self.alloc, self.entries.as_slice())?))
+            }
+            Query::Within(_) => Reply::Found(Entries::new(Vec::new(self.alloc))),
+            Query::Equal(_) => Reply::Refused(Refusal::Busy(3)),
+        })
+    }
+}
+
+impl Answers for List {
+    ghost answered = { λ old session call reply new. Unit {0} };
+
+    fn call(&mut self, session: u8, call: Call<Box2>) -> Reply<Box2> {
+        self.calls = self.calls.wrapping_add(1);
+        if session == 0 || session > 8 {
+            return Reply::Refused(Refusal::BadSession);
+        }
+        match call {
+            Call::Begin => Reply::Ok,
+            Call::Insert(entry) => match self.entries.push(entry) {
+                Ok(()) => Reply::Inserted,
+                Err(_) => Reply::Refused(Refusal::Memory),
+            },
+            Call::Delete(_) => Reply::Deleted,
+            Call::Search(query) => match self.search(query) {
+                Ok(reply) => reply,
+                Err(_) => Reply::Refused(Refusal::Memory),
+            },
+            Call::Commit => Reply::Committed(u64::MAX),
+            Call::Abort => Reply::Aborted,
+        }
+    }
+}
+
+// Gives so many bytes a read, each time after an interrupted read, and fails after the last where it is told to.
+#[derive(Drop)]
+struct Drip<'a> {
+    rest: &'a [u8],
+    size: usize,
+    interrupts: bool,
+    fails: bool,
+}
+
+impl Read for Drip<'_> {
+    fn read(&mut self, buffer: &mut [u8]) -> io::Result<usize> {
+        self.interrupts = !self.interrupts;
+        if !self.interrupts {
+            return Err(io::Error::from(ErrorKind::Interrupted));
+        }
+        if self.rest.is_empty() && self.fails {
+            return Err(io::Error::from(ErrorKind::Other));
+        }
+        let count = self.size.min(buffer.len()).min(self.rest.len());
+        let (piece, rest) = self.rest.split_at(count);
+        self.rest = rest;
+        for (to, from) in buffer.iter_mut().zip(piece) {
+            *to = *from;
+        }
+        Ok(count)
+    }
+}
+
+// Takes so many bytes a write, each time after an interrupted write, and fails once it has taken so many in all.
+#[derive(Drop)]
+struct Sip {
+    taken: Vec<u8>,
+    size: usize,
+    interrupts: bool,
+    most: usize,
+}
+
+impl Write for Sip {
+    fn write(&mut self, bytes: &[u8]) -> io::Result<usize> {
+        self.interrupts = !self.interrupts;
+        if !self.interrupts {
+            return Err(io::Error::from(ErrorKind::Interrupted));
+        }
+        let room = self.most.saturating_sub(self.taken.len());
+        let count = self.size.min(bytes.len()).min(room);
+        if count == 0 {
+            return Err(io::Error::from(ErrorKind::Other));
+        }
+        self.taken.extend_from_slice(bytes.split_at(count).0)?;
+        Ok(count)
+    }
+
+    fn flush(&mut self) -> io::Result<()> {
+        Ok(())
+    }
+}
+
+// A script gives this text, whatever pieces it comes in and goes out in.
+fn gives<R: Abort + AllocGlobal>(rt: &R, script: &[u8], text: &[u8]) -> Result<(), Fail> {
+    let mut reader = script;
+    let mut writer = Vec::new(rt.alloc());
+    let result = run(&mut reader, &mut writer, &mut List::new(rt.alloc()));
+    assert!(rt; result == Ok(()));
+    assert!(rt; writer.as_slice() == text, "{writer:?}");
+    for size in [1, 2, 3, 7, 1000] {
+        let mut reader = Drip {
+            rest: script,
+            size,
+            interrupts: false,
+            fails: false,
+        };
+        let mut writer = Sip {
+            taken: Vec::new(rt.alloc()),
+            size,
+            interrupts: false,
+            most: usize::MAX,
+        };
+        let result = run(&mut reader, &mut writer, &mut List::new(rt.alloc()));
+        assert!(rt; result == Ok(()));
+        assert!(rt; writer.taken.as_slice() == text);
+    }
+    Ok(())
+}
+
+#[test]
+fn ends_of_lines(rt: HostRuntime) -> Result<(), Fail> {
+    gives(&rt, b"", b"")?;
+    gives(&rt, b"1 BEGIN", b"1 ok\n")?;
+    gives(
+        &rt,
+        b"1 BEGIN\r\n1 COMMIT\r\n",
+        b"1 ok\n1 committed 18446744073709551615\n",
+    )?;
+    gives(&rt, b"1 BEGIN\r\r\n", b"line 1 bad\n")?;
+    gives(&rt, b"\r", b"")?;
+    gives(&rt, b"\r\n \t\nx\r", b"line 3 bad\n")?;
+    gives(&rt, b"\n\n1 ABORT", b"1 aborted\n")
+}
+
+#[test]
+fn words_of_lines(rt: HostRuntime) -> Result<(), Fail> {
+    gives(&rt, b"\t1\t \tBEGIN\t \n", b"1 ok\n")?;
+    gives(
+        &rt,
+        b"1 begin\n1 Begin\n1 HELLO\n1BEGIN\n",
+        b"line 1 bad\nline 2 bad\nline 3 bad\nline 4 bad\n",
+    )?;
+    gives(
+        &rt,
+        b"1\n1 BEGIN 1\n1 COMMIT now\n1 ABORT -\n",
+        b"line 1 bad\nline 2 bad\nline 3 bad\nline 4 bad\n",
+    )?;
+    gives(
+        &rt,
+        b"1 INSERT 7 0 0 1\n1 INSERT 7 0 0 1 1 1\n",
+        b"line 1 bad\nline 2 bad\n",
+    )?;
+    gives(
+        &rt,
+        b"1 OVERLAP 0 0 1\n1 WITHIN 0 0 1 1 1\n1 EQUAL\n",
+        b"line 1 bad\nline 2 bad\nline 3 bad\n",
+    )?;
+    gives(
+        &rt,
+        b"1 BEGIN\0\n\0\n1 BEGIN\xff\n\x80\n1\x0bBEGIN\n",
+        b"line 1 bad\nline 2 bad\nline 3 bad\nline 4 bad\nline 5 bad\n",
+    )
+}
+
+#[test]
+fn numbers_in_lines(rt: HostRuntime) -> Result<(), Fail> {
+    gives(
+        &rt,
+        b"0001 INSERT 007 -00 0000 01 2\n1 OVERLAP 0 0 1 1\n",
+        b"1 inserted\n1 found 1\n1 entry 7 0 0 1 2\n",
+    )?;
+    gives(
+        &rt,
+        b"+1 BEGIN\n-1 BEGIN\n1 INSERT +7 0 0 1 1\n1 INSERT -7 0 0 1 1\n",
+        b"line 1 bad\nline 2 bad\nline 3 bad\nline 4 bad\n",
+    )?;
+    gives(
+        &rt,
+        b"1 INSERT 7 - 0 1 1\n1 INSERT 7 --1 0 1 1\n1 DELETE 7 -0 0 +1 1\n1 DELETE 7 0x0 0 1 1\n",
+        b"line 1 bad\nline 2 bad\nline 3 bad\nline 4 bad\n",
+    )?;
+    gives(
+        &rt,
+        b"1 INSERT 18446744073709551615 0 0 1 1\n1 OVERLAP 0 0 0 0\n",
+        b"1 inserted\n1 found 1\n1 entry 18446744073709551615 0 0 1 1\n",
+    )?;
+    gives(
+        &rt,
+        b"1 INSERT 18446744073709551616 0 0 1 1\n1 DELETE 99999999999999999999 0 0 1 1\n",
+        b"line 1 bad\nline 2 bad\n",
+    )?;
+    gives(
+        &rt,
+        b"1 INSERT 1 -2147483648 -2147483648 2147483647 2147483647\n1 OVERLAP 0 0 0 0\n",
+        b"1 inserted\n1 found 1\n1 entry 1 -2147483648 -2147483648 2147483647 2147483647\n",
+    )?;
+    gives(
+        &rt,
+        b"1 OVERLAP 0 0 2147483648 0\n1 OVERLAP -2147483649 0 0 0\n",
+        b"line 1 bad\nline 2 bad\n",
+    )
+}
+
+#[test]
+fn sessions(rt: HostRuntime) -> Result<(), Fail> {
+    gives(
+        &rt,
+        b"0 BEGIN\n9 BEGIN\n257 BEGIN\n",
+        b"0 refused 15 bad session\n9 refused 15 bad session\n257 refused 15 bad session\n",
+    )?;
+    gives(
+        &rt,
+        b"18446744073709551615 COMMIT\n",
+        b"18446744073709551615 refused 15 bad session\n",
+    )?;
+    gives(&rt, b"18446744073709551616 BEGIN\n", b"line 1 bad\n")?;
+    gives(
+        &rt,
+        b"9 INSERT 7 5 0 4 9\n18446744073709551615 OVERLAP 0 1 0 0\n",
+        b"9 refused 6 bad box\n18446744073709551615 refused 6 bad box\n",
+    )?;
+    gives(
+        &rt,
+        b"1 OVERLAP 3000000000 0 0 0\n1 WITHIN 1 1 0 -3000000000\n",
+        b"line 1 bad\nline 2 bad\n",
+    )
+}
+
+#[test]
+fn replies(rt: HostRuntime) -> Result<(), Fail> {
+    gives(
+        &rt,
+        b"8 DELETE 1 0 0 0 0\n8 EQUAL 0 0 0 0\n8 WITHIN -1 -1 1 1\n",
+        b"8 deleted\n8 refused 5 busy 3\n8 found 0\n",
+    )?;
+    gives(
+        &rt,
+        b"1 INSERT 9 1 2 3 4\n2 INSERT 8 -4 -3 -2 -1\n3 OVERLAP 0 0 0 0\n",
+        b"1 inserted\n2 inserted\n3 found 2\n3 entry 9 1 2 3 4\n3 entry 8 -4 -3 -2 -1\n",
+    )
+}
+
+// A line of so many bytes, spaces but for what it begins with, and then its end.
+fn padded(alloc: Global, begin: &[u8], size: usize, end: &[u8]) -> Result<Vec<u8>, AllocError> {
+    let mut line = Vec::from_slice(alloc, begin)?;
+    for _ in begin.len()..size {
+        line.push(b' ')?;
+    }
+    line.extend_from_slice(end)?;
+    Ok(line)
+}
+
+#[test]
+fn long_lines(rt: HostRuntime) -> Result<(), Fail> {
+    gives(&rt, padded(rt.alloc(), b"", 1024, b"\n")?.as_slice(), b"")?;
+    gives(
+        &rt,
+        padded(rt.alloc(), b"", 1025, b"\n")?.as_slice(),
+        b"line 1 bad\n",
+    )?;
+    gives(&rt, padded(rt.alloc(), b"", 1024, b"\r\n")?.as_slice(), b"")?;
+    gives(
+        &rt,
+        padded(rt.alloc(), b"", 1024, b"\r\r\n")?.as_slice(),
+        b"line 1 bad\n",
+    )?;
+    gives(
+        &rt,
+        padded(rt.alloc(), b"", 1025, b"\r\n")?.as_slice(),
+        b"line 1 bad\n",
+    )?;
+    gives(
+        &rt,
+        padded(rt.alloc(), b"1 BEGIN", 1024, b"\r\n1 ABORT\n")?.as_slice(),
+        b"1 ok\n1 aborted\n",
+    )?;
+    gives(
+        &rt,
+        padded(rt.alloc(), b"1 BEGIN", 1025, b"")?.as_slice(),
+        b"line 1 bad\n",
+    )?;
+    gives(
+        &rt,
+        padded(rt.alloc(), b"1 BEGIN", 3000, b"\n1 ABORT\n")?.as_slice(),
+        b"line 1 bad\n1 aborted\n",
+    )
+}
+
+// More text than waits at once.
+#[test]
+fn long_replies(rt: HostRuntime) -> Result<(), Fail> {
+    let mut script = Vec::new(rt.alloc());
+    let mut text = Vec::new(rt.alloc());
+    for _ in 0..200u8 {
+        script.extend_from_slice(
+            b"1 INSERT 18446744073709551615 -2147483648 -2147483648 2147483647 2147483647\n",
+        )?;
+        text.extend_from_slice(b"1 inserted\n")?;
+    }
+    script.extend_from_slice(b"1 OVERLAP 0 0 0 0\n1 ABORT\n")?;
+    text.extend_from_slice(b"1 found 200\n")?;
+    for _ in 0..200u8 {
+        text.extend_from_slice(
+            b"1 entry 18446744073709551615 -2147483648 -2147483648 2147483647 2147483647\n",
+        )?;
+    }
+    text.extend_from_slice(b"1 aborted\n")?;
+    gives(&rt, script.as_slice(), text.as_slice())
+}
+
+#[test]
+fn a_reader_that_fails(rt: HostRuntime) -> Result<(), Fail> {
+    let mut reader = Drip {
+        rest: b"1 BEGIN\nx\n1 ABORT\n1 COM",
+        size: 5,
+        interrupts: false,
+        fails: true,
+    };
+    let mut writer = Vec::new(rt.alloc());
+    let mut index = List::new(rt.alloc());
+    let result = run(&mut reader, &mut writer, &mut index);
+    assert!(rt; result == Err(ScriptFault::Read));
+    assert!(rt; writer.as_slice() == b"1 ok\nline 2 bad\n1 aborted\n".as_slice());
+    assert_eq!(rt; index.calls, 2);
+    Ok(())
+}
+
+// However much the writer takes, that is the front of the text, and no call is asked past the first reply that is cut.
+#[test]
+fn a_writer_that_fails(rt: HostRuntime) -> Result<(), Fail> {
+    let text = b"1 ok\n1 inserted\n1 found 1\n1 entry 7 0 0 1 1\n1 aborted\n".as_slice();
+    for most in 0..text.len() {
+        let mut reader = b"1 BEGIN\n1 INSERT 7 0 0 1 1\n1 OVERLAP 0 0 1 1\n1 ABORT\n".as_slice();
+        let mut writer = Sip {
+            taken: Vec::new(rt.alloc()),
+            size: 3,
+            interrupts: false,
+            most,
+        };
+        let mut index = List::new(rt.alloc());
+        let result = run(&mut reader, &mut writer, &mut index);
+        assert!(rt; result == Err(ScriptFault::Write));
+        assert!(rt; writer.taken.as_slice() == text.split_at(most).0);
+        let asked = if most < 5 {
+            1
+        } else if most < 16 {
+            2
+        } else if most < 44 {
+            3
+        } else {
+            4
+        };
+        assert_eq!(rt; index.calls, asked);
+    }
+    Ok(())
+}
+
+#[test]
+fn lines_by_themselves(rt: HostRuntime) -> Result<(), Fail> {
+    assert!(rt; parse(b" \t\r") == Line::Blank);
+    assert!(rt; parse(b"2 ABORT") == Line::Asks(2, Call::Abort));
+    assert!(rt; parse(b"300 EQUAL 1 0 0 0") == Line::Reversed(300));
+    assert!(rt; parse(b"2 ABORT\n") == Line::Bad);
+    Ok(())
+}

@@ -1,0 +1,5 @@
+pub mod Begun
+pub mod Fairness
+pub mod Placing
+pub mod Steps
+pub mod Wastes
