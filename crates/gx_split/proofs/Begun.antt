@@ -1,14 +1,13 @@
--- The slots that wait at the beginning.
-use Rattle.std.proofs.Common.{◌≡◌, ℕ, zero, suc, ◌+◌, ◌-◌, ◌<◌, Bool, true, false, cond, refl, ap, sym, ◌∙◌, subst, arith, add-one, List, length, [], ◌∷◌, ◌++◌, map, All, Some, slice_get, slice_set, replicate}
+-- The keys that wait at the beginning.
+use Rattle.std.proofs.Common.{◌≡◌, ℕ, zero, suc, ◌+◌, ◌-◌, ◌<◌, Bool, true, false, cond, refl, ap, sym, ◌∙◌, arith, add-one, List, length, [], ◌∷◌, ◌++◌, map, All, Some, slice_get, slice_set, replicate}
 use Rattle.std.specs.Prelude.{nat_eq, nat_lt, ◌||◌}
 use Rattle.std.proofs.lemmas.Bool.Decides.{nat_tests}
-use Rattle.std.proofs.lemmas.List.{length-map, length-append, map-append, map-id}
-use Rattle.std.proofs.lemmas.List.Elements.{All-nil, All-push, All-map}
-use Rattle.std.proofs.lemmas.Simd.{map-map}
+use Rattle.std.proofs.lemmas.List.{length-map, length-append, map-append}
+use Rattle.std.proofs.lemmas.List.Elements.{All-nil, All-push}
 use Rattle.gx_split.specs.declared.waiting.Waiting.{Waiting}
 use Rattle.gx_split.specs.declared.waiting.Covers.{Covers}
 use Rattle.gx_split.specs.Split.{Measure, Groups, Pair, others, seeds, placed, split_sides}
-use Rattle.gx_split.specs.Waiting.{slot_of, waiting_of, groups_of, IsKept}
+use Rattle.gx_split.specs.Waiting.{slot_of, groups_of, IsFresh, IsKept}
 
 abbrev pub is_seed : Pair → ℕ → Bool
 is_seed p k = nat_eq k p.lower || nat_eq k p.higher
@@ -27,15 +26,15 @@ others_skips p k h = others-more p k ∙ ap (λ t. cond t (others p k) (others p
 pub others_takes : (p : Pair) (k : ℕ) → is_seed p k ≡ false → others p (k + 1) ≡ others p k ++ k ∷ []
 others_takes p k h = others-more p k ∙ ap (λ t. cond t (others p k) (others p k ++ k ∷ [])) h
 
--- the loop that lists the slots
-pub listed_skips : (p : Pair) (k : ℕ) (f : ℕ → Waiting) (ws : List Waiting) → is_seed p k ≡ true → ws ≡ map f (others p k) → ws ≡ map f (others p (k + 1))
-listed_skips p k f ws h is = is ∙ ap (map f) (sym (others_skips p k h))
+-- the loop that lists the keys beside the seeds
+pub listed_skips : {K : Type 0} (p : Pair) (k : ℕ) (ws : List (Waiting K)) → is_seed p k ≡ true → map slot_of ws ≡ others p k → map slot_of ws ≡ others p (k + 1)
+listed_skips p k ws h is = is ∙ sym (others_skips p k h)
 
-pub listed_takes : (p : Pair) (k : ℕ) (f : ℕ → Waiting) (ws ws' : List Waiting) (w : Waiting) → is_seed p k ≡ false → ws ≡ map f (others p k) → w ≡ f k
-    → ws' ≡ ws ++ w ∷ [] → ws' ≡ map f (others p (k + 1))
-listed_takes p k f ws ws' w h is made pushed =
-    pushed ∙ ap (λ l. l ++ w ∷ []) is ∙ ap (λ x. map f (others p k) ++ x ∷ []) made
-    ∙ sym (map-append f (others p k) (k ∷ [])) ∙ ap (map f) (sym (others_takes p k h))
+pub listed_takes : {K : Type 0} (p : Pair) (k : ℕ) (ws ws' : List (Waiting K)) (w : Waiting K) → is_seed p k ≡ false → map slot_of ws ≡ others p k → w.slot ≡ k
+    → ws' ≡ ws ++ w ∷ [] → map slot_of ws' ≡ others p (k + 1)
+listed_takes p k ws ws' w h is at pushed =
+    ap (map slot_of) pushed ∙ map-append slot_of ws (w ∷ []) ∙ ap (λ l. l ++ w.slot ∷ []) is ∙ ap (λ z. others p k ++ z ∷ []) at
+    ∙ sym (others_takes p k h)
 
 all_more : (P : ℕ → Type 0) (p : Pair) (k : ℕ) → All P (others p k) → (is_seed p k ≡ false → P k) → (t : Bool) → is_seed p k ≡ t
     → All P (cond t (others p k) (others p k ++ k ∷ []))
@@ -74,24 +73,12 @@ pub length-others : (p : Pair) (n : ℕ) → p.lower < p.higher → p.higher < n
 length-others p n order within = let h = length-others_by p n order in grind (arith, nat_tests)
 
 -- what is kept at the beginning
-pub kept_begun : {K : Type 0} (m : Measure K) (keys : List K) (p : Pair) (c : Covers K) (ws : List Waiting) → p.lower < p.higher → p.higher < length keys
-    → c.in_first ≡ 1 → c.in_second ≡ 1 → ws ≡ map (waiting_of m keys c.first c.second) (others p (length keys))
-    → (map slot_of ws ≡ others p (length keys)) × IsKept m keys c ws
-kept_begun m keys p c ws order within one one' is =
-    let slots : map slot_of ws ≡ others p (length keys) =
-    ap (map slot_of) is ∙ map-map slot_of (waiting_of m keys c.first c.second) (others p (length keys)) ∙ map-id (others p (length keys))
-    in
-    let count : length ws ≡ length (others p (length keys)) = ap length is ∙ length-map (others p (length keys)) (waiting_of m keys c.first c.second) in
-    let all : All (λ s. s < length keys) (others p (length keys)) = All-others (λ s. s < length keys) p (length keys) (λ s h _. h) in (
-      slots,
-      record {
-        fresh = is ∙ ap (map (waiting_of m keys c.first c.second)) (sym slots);
-        within =
-            subst (All (λ w. w.slot < length keys)) (sym is)
-            (All-map (λ w. w.slot < length keys) (waiting_of m keys c.first c.second) (others p (length keys)) all);
-        counted = let n = length-others p (length keys) order within in omega arith;
-      },
-    )
+pub kept_begun : {K : Type 0} (m : Measure K) (keys : List K) (p : Pair) (c : Covers K) (ws : List (Waiting K)) → p.lower < p.higher → p.higher < length keys
+    → c.in_first ≡ 1 → c.in_second ≡ 1 → map slot_of ws ≡ others p (length keys) → All (IsFresh m keys c) ws → IsKept m keys c ws
+kept_begun m keys p c ws order within one one' slots fresh =
+    let count : length ws ≡ length (others p (length keys)) = sym (length-map ws slot_of) ∙ ap length slots in
+    let all = length-others p (length keys) order within in
+    record { fresh = fresh; counted = omega arith }
 
 abbrev groups : {K : Type 0} → K → K → List ℕ → List Bool → Groups K
 groups a b rest sides = record { first = a; second = b; in_first = 1; in_second = 1; rest = rest; sides = sides }
@@ -100,7 +87,7 @@ abbrev pub seeded : {K : Type 0} → K → K → Covers K
 seeded a b = record { first = a; second = b; in_first = 1; in_second = 1 }
 
 -- the sides after all placements are the split's
-pub split_is : {K : Type 0} (m : Measure K) (keys : List K) (least : ℕ) (p : Pair) (a b : K) (ws ws' : List Waiting) (start sides : List Bool) (c : Covers K) → p ≡ seeds m keys
+pub split_is : {K : Type 0} (m : Measure K) (keys : List K) (least : ℕ) (p : Pair) (a b : K) (ws ws' : List (Waiting K)) (start sides : List Bool) (c : Covers K) → p ≡ seeds m keys
     → slice_get keys p.lower ≡ Some a → slice_get keys p.higher ≡ Some b → map slot_of ws ≡ others p (length keys)
     → start ≡ slice_set (replicate (length keys) false) p.higher true
     → groups_of c ws' sides ≡ placed m keys least (groups_of (seeded a b) ws start) (length keys - 2)

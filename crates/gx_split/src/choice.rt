@@ -1,29 +1,27 @@
-//! Which slot is placed next, and on which side.
-ghost use Rattle.std.specs.Prelude.{◌≡◌, ◌≤◌, ◌<◌, ◌+◌, ◌-◌, ◌^◌, ℕ, [], length, map, nat_lt};
-ghost use Rattle.gx_split.specs.Split.{measure, growth_at, second_less, first_greatest, goes_second};
+//! Which key is placed next, and on which side.
+ghost use Rattle.std.specs.Prelude.{◌≡◌, ◌≤◌, ◌<◌, ◌+◌, ◌-◌, ◌^◌, ℕ, [], length, map, nat_lt, Some};
+ghost use Rattle.gx_split.specs.Split.{measure, growth, second_less, first_greatest, goes_second};
 ghost use Rattle.gx_split.specs.Waiting.{gap_of, groups_of};
 
 use crate::Measure;
-use crate::seeds::key_at;
 use crate::waiting::{Covers, Waiting};
 
-/// How much a cover grows by the key at a slot.
-pub fn growth<M: Measure>(keys: &[M], cover: &M, slot: usize) -> u128
-    requires { slot < length keys.now }
-    ensures { result ≡ growth_at (measure M.joined M.extent) keys.now cover.now slot }
+/// How much a cover grows by a key.
+pub fn growth<M: Measure>(cover: &M, key: &M) -> u128
+    ensures { result ≡ growth (measure M.joined M.extent) cover.now (Some key.now) }
 {
-    cover.join(&key_at(keys, slot)).size() - cover.size()
+    cover.join(key).size() - cover.size()
 }
 
 /// How far apart the growths of the two groups are.
-fn gap(waiting: &Waiting) -> u128
+fn gap<M: Measure>(waiting: &Waiting<'_, M>) -> u128
     ensures { result ≡ gap_of waiting.now }
 {
     waiting.first.abs_diff(waiting.second)
 }
 
-/// The place of the first slot at which the growths are farthest apart.
-pub fn farthest(waiting: &[Waiting]) -> usize
+/// The place of the first key at which the growths are farthest apart.
+pub fn farthest<M: Measure>(waiting: &[Waiting<'_, M>]) -> usize
     requires { 0 < length waiting.now }
     ensures place { result ≡ first_greatest (map gap_of waiting.now) }
     ensures within { result < length waiting.now }
@@ -47,12 +45,12 @@ fn prefers_second(first: (u128, u128, usize), second: (u128, u128, usize)) -> bo
     second < first
 }
 
-/// Whether the next slot goes to the second group. A group that needs all that wait gets them.
+/// Whether the next key goes to the second group. A group that needs all that wait gets them.
 pub fn goes_second<M: Measure>(
     covers: &Covers<M>,
-    waiting: &[Waiting],
+    waiting: &[Waiting<'_, M>],
     least: usize,
-    next: &Waiting,
+    next: &Waiting<'_, M>,
 ) -> bool
     requires first { covers.now.in_first + length waiting.now < 2 ^ 64 }
     requires second { covers.now.in_second + length waiting.now < 2 ^ 64 }

@@ -1,8 +1,8 @@
 //! The split of a list of keys.
-ghost use Rattle.std.specs.Prelude.{◌≡◌, ◌≤◌, ◌<◌, ◌+◌, ◌*◌, ◌||◌, nat_eq, length, map, replicate, false};
+ghost use Rattle.std.specs.Prelude.{◌≡◌, ◌≤◌, ◌<◌, ◌+◌, ◌*◌, ◌||◌, nat_eq, All, length, map, replicate, false};
 ghost use Rattle.gx_split.specs.Split.{measure, pair, others, seeds, split_sides, waste_at};
 ghost use Rattle.gx_split.specs.Fair.{IsFairSplit, IsFirstWorst};
-ghost use Rattle.gx_split.specs.Waiting.{waiting_of};
+ghost use Rattle.gx_split.specs.Waiting.{slot_of, IsFresh};
 
 use crate::Measure;
 use crate::choice::growth;
@@ -18,26 +18,25 @@ fn is_seed(seeds: &Candidate, slot: usize) -> bool
     slot == seeds.lower || slot == seeds.higher
 }
 
-/// The slots beside the seeds, in order, with their growths.
-fn waiting_beside<M: Measure>(
-    keys: &[M],
+/// The keys beside the seeds, in order, with their growths.
+fn waiting_beside<'a, M: Measure>(
+    keys: &'a [M],
     seeds: &Candidate,
     covers: &Covers<M>,
-) -> ArrayVec<Waiting, 101>
-    requires { length keys.now ≤ 101 }
-    ensures { result.items
-        ≡ map (waiting_of (measure M.joined M.extent) keys.now covers.now.first covers.now.second)
-        (others (pair seeds.now.lower seeds.now.higher) (length keys.now)) }
+) -> ArrayVec<Waiting<'a, M>, 101, &'a M>
+    requires some { 1 ≤ length keys.now }
+    requires few { length keys.now ≤ 101 }
+    ensures slots { map slot_of result.items ≡ others (pair seeds.now.lower seeds.now.higher) (length keys.now) }
+    ensures fresh { All (IsFresh (measure M.joined M.extent) keys.now covers.now) result.items }
 {
-    let mut waiting = ArrayVec::new();
-    for slot in 0..keys.len() {
+    let mut waiting = ArrayVec::new_in(&keys[0]);
+    for (slot, key) in keys.iter().enumerate() {
         if !is_seed(seeds, slot) {
-            let first = growth(keys, &covers.first, slot);
-            let second = growth(keys, &covers.second, slot);
             waiting.push(Waiting {
                 slot,
-                first,
-                second,
+                key,
+                first: growth(&covers.first, key),
+                second: growth(&covers.second, key),
             });
         }
     }
@@ -77,6 +76,6 @@ pub fn split<M: Measure>(keys: &[M], least: usize, sides: &mut [bool])
     clear(sides);
     sides[seeds.higher] = true;
     for _placed in 0..keys.len() - 2 {
-        place_next(keys, least, &mut covers, &mut waiting, sides);
+        place_next(least, &mut covers, &mut waiting, sides);
     }
 }

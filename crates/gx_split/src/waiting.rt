@@ -1,11 +1,25 @@
-//! What is kept of the two groups, and of the slots that wait to be placed.
+//! What is kept of the two groups, and of the keys that wait to be placed.
+use std::default::MadeWith;
 
-/// A slot that waits, and how much the cover of each group grows by its key.
-#[derive(Clone, Copy, Default)]
-pub struct Waiting {
+/// A key that waits, its slot, and how much the cover of each group grows by it.
+#[derive(Clone, Copy)]
+pub struct Waiting<'a, M> {
     pub slot: usize,
+    pub key: &'a M,
     pub first: u128,
     pub second: u128,
+}
+
+/// What fills the unused places of a list of waiting keys.
+impl<'a, M> MadeWith<&'a M> for Waiting<'a, M> {
+    fn made_with(key: &'a M) -> Self {
+        Waiting {
+            slot: 0,
+            key,
+            first: 0,
+            second: 0,
+        }
+    }
 }
 
 /// What covers each group, and how many keys each has.

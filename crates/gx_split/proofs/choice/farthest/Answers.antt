@@ -1,4 +1,4 @@
-use Rattle.std.proofs.Common.{◌≡◌, length, map, slice_index, sym, ◌∙◌, arith}
+use Rattle.std.proofs.Common.{◌≡◌, length, map, slice_index, ap, sym, ◌∙◌, arith}
 use Rattle.std.proofs.lemmas.List.{get_or-map, length-map}
 use Rattle.gx_split.specs.Waiting.{gap_of}
 use Rattle.gx_split.proofs.Steps.{greatest_upto-none, first_greatest-is, greatest_moves, greatest_stays}
@@ -6,17 +6,17 @@ use Rattle.gx_split.proofs.choice.farthest.Goals as goal
 use Rattle.gx_split.proofs.choice.farthest.Goals.{then-apart-greatest, else-apart-greatest}
 
 pub loop-k-init : goal.loop-k-init
-loop-k-init c = record {
+loop-k-init g c = record {
   place = sym (greatest_upto-none _);
-  greatest = c.gap-greatest.ensures ∙ sym (get_or-map gap_of c.args.waiting.now 0 _ 0 c.requires);
+  greatest = c.gap-greatest.ensures ∙ ap gap_of c.index-waiting-0.is ∙ sym (get_or-map gap_of c.args.waiting.now 0 _ 0 c.requires);
   within = c.requires;
 }
 
 pub loop-k-preserved : goal.loop-k-preserved
-loop-k-preserved c =
+loop-k-preserved g c =
     let keep = c.loop-k.invariant in
     let read : c.gap-apart.result ≡ slice_index (map gap_of c.args.waiting.now) c.loop-k.k =
-    c.gap-apart.ensures ∙ sym (get_or-map gap_of c.args.waiting.now c.loop-k.k _ 0 c.loop-k-test.true)
+    c.gap-apart.ensures ∙ ap gap_of c.index-waiting-k.is ∙ sym (get_or-map gap_of c.args.waiting.now c.loop-k.k _ 0 c.loop-k-test.true)
     in
     elim c.if-apart-greatest.branch [
       | then-apart-greatest w ↦
@@ -34,6 +34,6 @@ loop-k-preserved c =
     ]
 
 pub returns : goal.returns
-returns c =
+returns g c =
     let e : c.loop-k.k ≡ length (map gap_of c.args.waiting.now) = simp length-map (omega arith) in
     record { place = rw (first_greatest-is, ← e) c.loop-k.invariant.place; within = c.loop-k.invariant.within }

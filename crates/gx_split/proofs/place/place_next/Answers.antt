@@ -5,39 +5,37 @@ use Rattle.gx_split.proofs.Placing.{placed_first, placed_second, kept_first, kep
 use Rattle.gx_split.proofs.place.place_next.Goals as goal
 
 pub returns-then-second-clause-placed : goal.returns-then-second-clause-placed
-returns-then-second-clause-placed g c =
+returns-then-second-clause-placed g c keys kept =
     let m = measure g.M.Measure.joined g.M.Measure.extent in
-    let is = c.as_slice-slots.ensures.value in
+    let is = c.as_slice-all.ensures.value in
     let within = rw is at c.farthest-place.ensures.within in
     let is_place = rw is at c.farthest-place.ensures.place in
+    let is_next = rw is at c.index-all-place.is in
     let is_side = rw is at (sym c.if-second.true ∙ c.goes_second-second.ensures) in
-    let covers = rw is at c.put_second.ensures.covers in
-    let waiting = c.put_second.ensures.waiting ∙ ap (map (with_second m c.args.keys.now c.put_second.new.covers.second)) c.remove.ensures.items in
-    rw is (placed_second m c.args.keys.now c.args.covers.now c.put_second.new.covers c.args.waiting.now.items c.put_second.new.waiting.items c.args.sides.now c.args.least c.farthest-place.result c.requires.kept within is_place is_side covers waiting)
+    let waiting = c.put_second.ensures.waiting ∙ ap (map (with_second m c.put_second.new.covers.second)) c.remove.ensures.items in
+    placed_second m keys c.args.covers.now c.put_second.new.covers c.args.waiting.now.items c.put_second.new.waiting.items c.args.sides.now c.args.least c.farthest-place.result c.index-all-place.result kept within is_place is_next is_side c.put_second.ensures.covers waiting
 
 pub returns-then-second-clause-kept : goal.returns-then-second-clause-kept
-returns-then-second-clause-kept g c =
+returns-then-second-clause-kept g c keys kept =
     let m = measure g.M.Measure.joined g.M.Measure.extent in
-    let is = c.as_slice-slots.ensures.value in
-    let within = rw is at c.farthest-place.ensures.within in
-    let waiting = c.put_second.ensures.waiting ∙ ap (map (with_second m c.args.keys.now c.put_second.new.covers.second)) c.remove.ensures.items in
-    kept_second m c.args.keys.now c.args.covers.now c.put_second.new.covers c.args.waiting.now.items c.put_second.new.waiting.items c.farthest-place.result _ c.requires.kept within c.put_second.ensures.covers waiting
+    let within = rw c.as_slice-all.ensures.value at c.farthest-place.ensures.within in
+    let waiting = c.put_second.ensures.waiting ∙ ap (map (with_second m c.put_second.new.covers.second)) c.remove.ensures.items in
+    kept_second m keys c.args.covers.now c.put_second.new.covers c.args.waiting.now.items c.put_second.new.waiting.items c.farthest-place.result _ kept within c.put_second.ensures.covers waiting
 
 pub returns-else-second-clause-placed : goal.returns-else-second-clause-placed
-returns-else-second-clause-placed g c =
+returns-else-second-clause-placed g c keys kept =
     let m = measure g.M.Measure.joined g.M.Measure.extent in
-    let is = c.as_slice-slots.ensures.value in
+    let is = c.as_slice-all.ensures.value in
     let within = rw is at c.farthest-place.ensures.within in
     let is_place = rw is at c.farthest-place.ensures.place in
+    let is_next = rw is at c.index-all-place.is in
     let is_side = rw is at (sym c.if-second.false ∙ c.goes_second-second.ensures) in
-    let covers = rw is at c.put_first.ensures.covers in
-    let waiting = c.put_first.ensures.waiting ∙ ap (map (with_first m c.args.keys.now c.put_first.new.covers.first)) c.remove.ensures.items in
-    placed_first m c.args.keys.now c.args.covers.now c.put_first.new.covers c.args.waiting.now.items c.put_first.new.waiting.items c.args.sides.now c.args.least c.farthest-place.result c.requires.kept within is_place is_side covers waiting
+    let waiting = c.put_first.ensures.waiting ∙ ap (map (with_first m c.put_first.new.covers.first)) c.remove.ensures.items in
+    placed_first m keys c.args.covers.now c.put_first.new.covers c.args.waiting.now.items c.put_first.new.waiting.items c.args.sides.now c.args.least c.farthest-place.result c.index-all-place.result kept within is_place is_next is_side c.put_first.ensures.covers waiting
 
 pub returns-else-second-clause-kept : goal.returns-else-second-clause-kept
-returns-else-second-clause-kept g c =
+returns-else-second-clause-kept g c keys kept =
     let m = measure g.M.Measure.joined g.M.Measure.extent in
-    let is = c.as_slice-slots.ensures.value in
-    let within = rw is at c.farthest-place.ensures.within in
-    let waiting = c.put_first.ensures.waiting ∙ ap (map (with_first m c.args.keys.now c.put_first.new.covers.first)) c.remove.ensures.items in
-    kept_first m c.args.keys.now c.args.covers.now c.put_first.new.covers c.args.waiting.now.items c.put_first.new.waiting.items c.farthest-place.result _ c.requires.kept within c.put_first.ensures.covers waiting
+    let within = rw c.as_slice-all.ensures.value at c.farthest-place.ensures.within in
+    let waiting = c.put_first.ensures.waiting ∙ ap (map (with_first m c.put_first.new.covers.first)) c.remove.ensures.items in
+    kept_first m keys c.args.covers.now c.put_first.new.covers c.args.waiting.now.items c.put_first.new.waiting.items c.farthest-place.result _ kept within c.put_first.ensures.covers waiting

@@ -6,5 +6,5 @@ use Rattle.gx_split.proofs.place.refresh_first.Given as goal
 abbrev pub invariant-loop-other : goal.invariant-loop-other
 invariant-loop-other g l =
     l.waiting
-    ≡ map (with_first (measure g.M.Measure.joined g.M.Measure.extent) l.keys l.cover) (take l.other-index l.initial.waiting)
+    ≡ map (with_first (measure g.M.Measure.joined g.M.Measure.extent) l.cover) (take l.other-index l.initial.waiting)
     ++ drop l.other-index l.initial.waiting
