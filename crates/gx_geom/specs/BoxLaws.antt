@@ -1,5 +1,5 @@
 -- What holds of the tests on boxes, for any corners.
-use Rattle.std.proofs.Common.{◌≡◌, ℤ, ◌≤ℤ◌, ◌<ℤ◌, Bool, true, false, ◌&&◌, refl, ap, sym, ◌∙◌, arith, T}
+use Rattle.std.proofs.Common.{◌≡◌, ℤ, ◌≤ℤ◌, ◌<ℤ◌, Bool, true, false, ◌&&◌, refl, ap, ◌∙◌, arith, T}
 use Rattle.std.specs.Prelude.{int_le, int_lt, cond, not, FitsSigned}
 use Rattle.std.specs.Int.{w32, int_min, int_max}
 use Rattle.std.specs.Int.Signed.{le_z_yes, lt_z_yes, lt_z_no, ≤ℤ_refl}

@@ -1,5 +1,5 @@
 -- Boxes as four corners, and the relations between them.
-use Rattle.std.specs.Prelude.{ℕ, ◌*◌, ℤ, ◌-ℤ◌, ◌≤ℤ◌, int_le, unsigned_abs, FitsSigned, Bool, ◌&&◌, List, ◌∷◌, [], ◌++◌}
+use Rattle.std.specs.Prelude.{ℕ, ◌*◌, ℤ, ◌-ℤ◌, ◌≤ℤ◌, int_le, unsigned_abs, FitsSigned, Bool, ◌&&◌, List, ◌∷◌, ◌++◌}
 use Rattle.std.specs.Int.{w32, int_min, int_max}
 use Rattle.std.specs.Fmt.{signed_decimal}
 use Rattle.std.specs.Ordering.{int_cmp, ordering_then}

@@ -1,5 +1,5 @@
 //! Closed boxes of the plane.
-ghost use Rattle.std.specs.Prelude.{◌≡◌, ◌↔◌, ◌≤◌, ◌≤ℤ◌, IsTrue, IsOk, IfOk, OnErr, Some};
+ghost use Rattle.std.specs.Prelude.{◌≡◌, ◌↔◌, ◌≤◌, ◌≤ℤ◌, ◌-ℤ◌, unsigned_abs, IsTrue, IsOk, IfOk, OnErr, Some};
 
 use crate::{Refusal, Shape};
 use std::fmt;
@@ -26,6 +26,14 @@ impl Model for Box2 {
     ghost invariant = { λ b. IsBox (record { x1 = b.x1; y1 = b.y1; x2 = b.x2; y2 = b.y2 }) };
 
     ghost inverse = { λ b. record { x1 = b.x1; y1 = b.y1; x2 = b.x2; y2 = b.y2 } };
+}
+
+/// How far a number is above another. The difference may not fit in an `i32`, but its bits are the distance.
+fn distance(low: i32, high: i32) -> u32
+    requires { low ≤ℤ high }
+    ensures { result ≡ unsigned_abs (high -ℤ low) }
+{
+    high.wrapping_sub(low).cast_unsigned()
 }
 
 impl Box2 {
@@ -93,7 +101,7 @@ impl Box2 {
     pub fn area(&self) -> u64
         ensures { result ≡ area self.now }
     {
-        u64::from(self.x2.abs_diff(self.x1)) * u64::from(self.y2.abs_diff(self.y1))
+        u64::from(distance(self.x1, self.x2)) * u64::from(distance(self.y1, self.y2))
     }
 
     /// The least box that covers both.

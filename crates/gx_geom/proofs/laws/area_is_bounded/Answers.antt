@@ -1,8 +1,7 @@
-use Rattle.std.proofs.Common.{◌≡◌, ◌≤◌, ◌*◌, ◌<◌, ◌^◌, ℤ, arith, ◌≤ℤ◌, ◌-ℤ◌, FitsSigned, w32}
+use Rattle.std.proofs.Common.{◌≤◌, ℤ, arith, ◌≤ℤ◌, ◌-ℤ◌, FitsSigned, w32}
 use Rattle.std.specs.Prelude.{unsigned_abs}
 use Rattle.std.proofs.lemmas.Int.{ints}
 use Rattle.std.proofs.Math.Nat.{mul-le-mul}
-use Rattle.gx_geom.specs.Corners.{Corners, IsBox, area}
 use Rattle.gx_geom.proofs.laws.area_is_bounded.Goals as goal
 
 side : (low high : ℤ) → low ≤ℤ high → FitsSigned w32 low → FitsSigned w32 high → unsigned_abs (high -ℤ low) ≤ 4294967295

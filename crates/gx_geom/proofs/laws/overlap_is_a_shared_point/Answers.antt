@@ -1,4 +1,4 @@
-use Rattle.std.proofs.Common.{arith, ◌↔◌}
+use Rattle.std.proofs.Common.{arith}
 use Rattle.std.specs.Int.{int_max}
 use Rattle.std.proofs.lemmas.Int.{ints}
 use Rattle.gx_geom.specs.BoxLaws.{at_most_greater, greater_at_most}

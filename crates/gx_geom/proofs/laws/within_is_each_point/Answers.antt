@@ -1,8 +1,8 @@
-use Rattle.std.proofs.Common.{arith, ◌↔◌}
+use Rattle.std.proofs.Common.{arith}
 use Rattle.std.proofs.lemmas.Int.{ints}
 use Rattle.std.specs.Int.Signed.{≤ℤ_refl}
 use Rattle.gx_geom.specs.Corners.{Corners, IsBox, Within}
-use Rattle.gx_geom.specs.Points.{IsSubset, HasPoint}
+use Rattle.gx_geom.specs.Points.{IsSubset}
 use Rattle.gx_geom.proofs.laws.within_is_each_point.Goals as goal
 
 each_point : (a b : Corners) → Within a b → IsSubset a b
