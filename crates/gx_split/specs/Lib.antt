@@ -1,3 +1,4 @@
 pub mod Fair
+pub mod Sizes
 pub mod Split
 pub mod Waiting

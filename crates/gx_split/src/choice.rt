@@ -14,14 +14,14 @@ pub fn growth<M: Measure>(cover: &M, key: &M) -> u128
 }
 
 /// How far apart the growths of the two groups are.
-fn gap<M: Measure>(waiting: &Waiting<'_, M>) -> u128
+fn gap<M>(waiting: &Waiting<'_, M>) -> u128
     ensures { result ≡ gap_of waiting.now }
 {
     waiting.first.abs_diff(waiting.second)
 }
 
 /// The place of the first key at which the growths are farthest apart.
-pub fn farthest<M: Measure>(waiting: &[Waiting<'_, M>]) -> usize
+pub fn farthest<M>(waiting: &[Waiting<'_, M>]) -> usize
     requires { 0 < length waiting.now }
     ensures place { result ≡ first_greatest (map gap_of waiting.now) }
     ensures within { result < length waiting.now }

@@ -5,8 +5,7 @@ ghost use Rattle.gx_split.specs.Waiting.{groups_of, with_first, with_second, IsK
 
 use crate::Measure;
 use crate::choice::{farthest, goes_second, growth};
-use crate::waiting::{Covers, Waiting};
-use arrayvec::ArrayVec;
+use crate::waiting::{Covers, Waiting, WaitingList};
 
 /// The growths beside a new cover of the first group.
 fn refresh_first<M: Measure>(cover: &M, waiting: &mut [Waiting<'_, M>])
@@ -27,11 +26,7 @@ fn refresh_second<M: Measure>(cover: &M, waiting: &mut [Waiting<'_, M>])
 }
 
 /// A key goes to the first group.
-fn put_first<'a, M: Measure>(
-    key: &M,
-    covers: &mut Covers<M>,
-    waiting: &mut ArrayVec<Waiting<'a, M>, 101, &'a M>,
-)
+fn put_first<M: Measure>(key: &M, covers: &mut Covers<M>, waiting: &mut WaitingList<'_, M>)
     requires { covers.old.in_first + 1 < 2 ^ 64 }
     ensures covers { covers.new
         ≡ record covers.old { first = M.joined covers.old.first key.now; in_first = covers.old.in_first + 1 } }
@@ -43,11 +38,7 @@ fn put_first<'a, M: Measure>(
 }
 
 /// A key goes to the second group.
-fn put_second<'a, M: Measure>(
-    key: &M,
-    covers: &mut Covers<M>,
-    waiting: &mut ArrayVec<Waiting<'a, M>, 101, &'a M>,
-)
+fn put_second<M: Measure>(key: &M, covers: &mut Covers<M>, waiting: &mut WaitingList<'_, M>)
     requires { covers.old.in_second + 1 < 2 ^ 64 }
     ensures covers { covers.new
         ≡ record covers.old { second = M.joined covers.old.second key.now; in_second = covers.old.in_second + 1 } }
@@ -59,10 +50,10 @@ fn put_second<'a, M: Measure>(
 }
 
 /// The next key goes to its group.
-pub fn place_next<'a, M: Measure>(
+pub fn place_next<M: Measure>(
     least: usize,
     covers: &mut Covers<M>,
-    waiting: &mut ArrayVec<Waiting<'a, M>, 101, &'a M>,
+    waiting: &mut WaitingList<'_, M>,
     sides: &mut [bool],
 )
     requires some { 0 < length waiting.old.items }

@@ -1,8 +1,10 @@
 //! The pair of keys with which the two groups begin.
-ghost use Rattle.std.specs.Prelude.{◌≡◌, ◌≤◌, ◌<◌, ◌+◌, ◌-◌, length, slice_get};
+ghost use Rattle.std.specs.Prelude.{◌≡◌, ◌≤◌, ◌<◌, ◌+◌, ◌-◌, ◌^◌, length, slice_get};
 ghost use Rattle.gx_split.specs.Split.{measure, waste, waste_at, pair, worst_in_row, worst_in_rows, worst_pair};
+ghost use Rattle.gx_split.specs.Sizes.{IsSizes};
 
 use crate::Measure;
+use arrayvec::ArrayVec;
 
 /// Two slots, the lower first, and what their keys waste.
 #[derive(Clone, Copy)]
@@ -20,23 +22,44 @@ pub fn key_at<M: Measure>(keys: &[M], slot: usize) -> M
     keys[slot]
 }
 
-/// By how much the union of two keys is larger than both together.
-fn waste<M: Measure>(a: &M, b: &M) -> i128
+/// The size of each key, in order.
+fn sizes_of<M: Measure>(keys: &[M]) -> ArrayVec<u128, 101>
+    requires { length keys.now ≤ 101 }
+    ensures { IsSizes M.extent keys.now result.items }
+{
+    let mut sizes = ArrayVec::new();
+    for key in keys {
+        sizes.push(key.size());
+    }
+    sizes
+}
+
+/// By how much the union of two keys, which have these sizes, is larger than both together.
+fn waste<M: Measure>(a: &M, b: &M, a_size: u128, b_size: u128) -> i128
+    requires first { a_size ≡ M.extent a.now }
+    requires second { b_size ≡ M.extent b.now }
+    requires first_small { a_size < 2 ^ 126 }
+    requires second_small { b_size < 2 ^ 126 }
     ensures { result ≡ waste (measure M.joined M.extent) a.now b.now }
 {
-    let joined = a.join(b).size() as i128;
-    joined - a.size() as i128 - b.size() as i128
+    a.join(b).size() as i128 - a_size as i128 - b_size as i128
 }
 
 /// The pair of these two slots, with its waste.
-fn pair_of<M: Measure>(keys: &[M], lower: usize, higher: usize) -> Candidate
+fn pair_of<M: Measure>(keys: &[M], sizes: &[u128], lower: usize, higher: usize) -> Candidate
     requires in_order { lower < higher }
     requires within { higher < length keys.now }
+    requires sizes { IsSizes M.extent keys.now sizes.now }
     ensures lower { result.lower ≡ lower }
     ensures higher { result.higher ≡ higher }
     ensures wastes { result.waste ≡ waste_at (measure M.joined M.extent) keys.now result.lower result.higher }
 {
-    let waste = waste(&key_at(keys, lower), &key_at(keys, higher));
+    let waste = waste(
+        &key_at(keys, lower),
+        &key_at(keys, higher),
+        sizes[lower],
+        sizes[higher],
+    );
     Candidate {
         lower,
         higher,
@@ -45,8 +68,9 @@ fn pair_of<M: Measure>(keys: &[M], lower: usize, higher: usize) -> Candidate
 }
 
 /// The first worst of a pair and of the pairs of one slot with each later one.
-fn worst_in_row<M: Measure>(keys: &[M], lower: usize, best: Candidate) -> Candidate
+fn worst_in_row<M: Measure>(keys: &[M], sizes: &[u128], lower: usize, best: Candidate) -> Candidate
     requires within { lower < length keys.now }
+    requires sizes { IsSizes M.extent keys.now sizes.now }
     requires best { best.higher < length keys.now }
     requires best_order { best.lower < best.higher }
     requires wasted { best.waste ≡ waste_at (measure M.joined M.extent) keys.now best.lower best.higher }
@@ -58,7 +82,7 @@ fn worst_in_row<M: Measure>(keys: &[M], lower: usize, best: Candidate) -> Candid
 {
     let mut worst = best;
     for k in 0..keys.len() - 1 - lower {
-        let other = pair_of(keys, lower, lower + 1 + k);
+        let other = pair_of(keys, sizes, lower, lower + 1 + k);
         if other.waste > worst.waste {
             worst = other;
         }
@@ -68,14 +92,16 @@ fn worst_in_row<M: Measure>(keys: &[M], lower: usize, best: Candidate) -> Candid
 
 /// The first of the pairs that waste most.
 pub fn worst_pair<M: Measure>(keys: &[M]) -> Candidate
-    requires { 2 ≤ length keys.now }
+    requires some { 2 ≤ length keys.now }
+    requires few { length keys.now ≤ 101 }
     ensures slots { pair result.lower result.higher ≡ worst_pair (waste_at (measure M.joined M.extent) keys.now) (length keys.now) }
     ensures in_order { result.lower < result.higher }
     ensures within { result.higher < length keys.now }
 {
-    let mut worst = pair_of(keys, 0, 1);
+    let sizes = sizes_of(keys);
+    let mut worst = pair_of(keys, &sizes, 0, 1);
     for lower in 0..keys.len() - 1 {
-        worst = worst_in_row(keys, lower, worst);
+        worst = worst_in_row(keys, &sizes, lower, worst);
     }
     worst
 }

@@ -8,8 +8,7 @@ use crate::Measure;
 use crate::choice::growth;
 use crate::place::place_next;
 use crate::seeds::{Candidate, key_at, worst_pair};
-use crate::waiting::{Covers, Waiting};
-use arrayvec::ArrayVec;
+use crate::waiting::{Covers, Waiting, WaitingList};
 
 /// Whether a slot is one of the seeds'.
 fn is_seed(seeds: &Candidate, slot: usize) -> bool
@@ -23,13 +22,13 @@ fn waiting_beside<'a, M: Measure>(
     keys: &'a [M],
     seeds: &Candidate,
     covers: &Covers<M>,
-) -> ArrayVec<Waiting<'a, M>, 101, &'a M>
+) -> WaitingList<'a, M>
     requires some { 1 ≤ length keys.now }
     requires few { length keys.now ≤ 101 }
     ensures slots { map slot_of result.items ≡ others (pair seeds.now.lower seeds.now.higher) (length keys.now) }
     ensures fresh { All (IsFresh (measure M.joined M.extent) keys.now covers.now) result.items }
 {
-    let mut waiting = ArrayVec::new_in(&keys[0]);
+    let mut waiting = WaitingList::new_in(&keys[0]);
     for (slot, key) in keys.iter().enumerate() {
         if !is_seed(seeds, slot) {
             waiting.push(Waiting {

@@ -1,4 +1,5 @@
 //! What is kept of the two groups, and of the keys that wait to be placed.
+use arrayvec::ArrayVec;
 use std::default::MadeWith;
 
 /// A key that waits, its slot, and how much the cover of each group grows by it.
@@ -10,7 +11,10 @@ pub struct Waiting<'a, M> {
     pub second: u128,
 }
 
-/// What fills the unused places of a list of waiting keys.
+/// The keys that wait, in slot order.
+pub type WaitingList<'a, M> = ArrayVec<Waiting<'a, M>, 101, &'a M>;
+
+/// What an unused place of a `WaitingList` holds.
 impl<'a, M> MadeWith<&'a M> for Waiting<'a, M> {
     fn made_with(key: &'a M) -> Self {
         Waiting {
