@@ -12,7 +12,7 @@ use Rattle.std.proofs.lemmas.List.{append_assoc, append-nil, drop_all, length-ap
 use Rattle.std.proofs.lemmas.Slice.{drop-append-drop}
 use lib.Seq.{take-append_seam}
 use Rattle.gx_geom.specs.Corners.{Corners, IsBox, union, area, overlaps, within, corners_cmp, corners_of}
-use Rattle.gx_geom.specs.BoxLaws.{within_corners, corners_within, overlap_corners, corners_overlap, same_corners}
+use Rattle.gx_geom.specs.BoxLaws.{within_corners, corners_within, overlap_corners, corners_overlap, same_corners, lesser_at_most, at_most_greater, at_most_lesser, greater_at_most, at_most_through}
 use Rattle.gx_machine.specs.declared.query.Query.{Query}
 use Rattle.gx_machine.specs.declared.query.Query.TheVariants.{Overlap, Within, Equal}
 use Rattle.gx_machine.specs.Keys.{keys, key_matches}
@@ -31,37 +31,22 @@ start_is_box = record {
   y2_fits = omega (arith, ints);
 }
 
-min_below : (a b : ℤ) → (int_min a b ≤ℤ a) × (int_min a b ≤ℤ b)
-min_below a b = (omega (arith, ints, clamps), omega (arith, ints, clamps))
-
-max_above : (a b : ℤ) → (a ≤ℤ int_max a b) × (b ≤ℤ int_max a b)
-max_above a b = (omega (arith, ints, clamps), omega (arith, ints, clamps))
-
-min_least : (a b c : ℤ) → c ≤ℤ a → c ≤ℤ b → c ≤ℤ int_min a b
-min_least a b c p q = omega (arith, ints, clamps)
-
-max_least : (a b c : ℤ) → a ≤ℤ c → b ≤ℤ c → int_max a b ≤ℤ c
-max_least a b c p q = omega (arith, ints, clamps)
-
-through : (a b c : ℤ) → a ≤ℤ b → b ≤ℤ c → a ≤ℤ c
-through a b c p q = omega (arith, ints)
-
 pub union_covers_first : (a b : Corners) → within a (union a b) ≡ true
 union_covers_first a b =
     corners_within a (union a b) (record {
-      x_from = (min_below a.x1 b.x1).0;
-      x_to = (max_above a.x2 b.x2).0;
-      y_from = (min_below a.y1 b.y1).0;
-      y_to = (max_above a.y2 b.y2).0;
+      x_from = (lesser_at_most a.x1 b.x1).0;
+      x_to = (at_most_greater a.x2 b.x2).0;
+      y_from = (lesser_at_most a.y1 b.y1).0;
+      y_to = (at_most_greater a.y2 b.y2).0;
     })
 
 pub union_covers_second : (a b : Corners) → within b (union a b) ≡ true
 union_covers_second a b =
     corners_within b (union a b) (record {
-      x_from = (min_below a.x1 b.x1).1;
-      x_to = (max_above a.x2 b.x2).1;
-      y_from = (min_below a.y1 b.y1).1;
-      y_to = (max_above a.y2 b.y2).1;
+      x_from = (lesser_at_most a.x1 b.x1).1;
+      x_to = (at_most_greater a.x2 b.x2).1;
+      y_from = (lesser_at_most a.y1 b.y1).1;
+      y_to = (at_most_greater a.y2 b.y2).1;
     })
 
 pub union_is_least : (a b c : Corners) → within a c ≡ true → within b c ≡ true → within (union a b) c ≡ true
@@ -69,10 +54,10 @@ union_is_least a b c p q =
     let first = within_corners a c p in
     let second = within_corners b c q in
     corners_within (union a b) c (record {
-      x_from = min_least a.x1 b.x1 c.x1 first.x_from second.x_from;
-      x_to = max_least a.x2 b.x2 c.x2 first.x_to second.x_to;
-      y_from = min_least a.y1 b.y1 c.y1 first.y_from second.y_from;
-      y_to = max_least a.y2 b.y2 c.y2 first.y_to second.y_to;
+      x_from = at_most_lesser a.x1 b.x1 c.x1 first.x_from second.x_from;
+      x_to = greater_at_most a.x2 b.x2 c.x2 first.x_to second.x_to;
+      y_from = at_most_lesser a.y1 b.y1 c.y1 first.y_from second.y_from;
+      y_to = greater_at_most a.y2 b.y2 c.y2 first.y_to second.y_to;
     })
 
 -- what overlaps a box overlaps whatever covers it
@@ -81,10 +66,10 @@ overlap_covered k b q p inside =
     let meets = overlap_corners k q p in
     let lies = within_corners k b inside in
     corners_overlap b q (record {
-      x_left = through b.x1 k.x1 q.x2 lies.x_from meets.x_left;
-      x_right = through q.x1 k.x2 b.x2 meets.x_right lies.x_to;
-      y_left = through b.y1 k.y1 q.y2 lies.y_from meets.y_left;
-      y_right = through q.y1 k.y2 b.y2 meets.y_right lies.y_to;
+      x_left = at_most_through b.x1 k.x1 q.x2 lies.x_from meets.x_left;
+      x_right = at_most_through q.x1 k.x2 b.x2 meets.x_right lies.x_to;
+      y_left = at_most_through b.y1 k.y1 q.y2 lies.y_from meets.y_left;
+      y_right = at_most_through q.y1 k.y2 b.y2 meets.y_right lies.y_to;
     })
 
 -- what covers a box that lies in another overlaps that one
@@ -93,10 +78,10 @@ within_covered k b q is p inside =
     let lies = within_corners k q p in
     let lies' = within_corners k b inside in
     corners_overlap b q (record {
-      x_left = through b.x1 k.x1 q.x2 lies'.x_from (through k.x1 k.x2 q.x2 is.x_in_order lies.x_to);
-      x_right = through q.x1 k.x1 b.x2 lies.x_from (through k.x1 k.x2 b.x2 is.x_in_order lies'.x_to);
-      y_left = through b.y1 k.y1 q.y2 lies'.y_from (through k.y1 k.y2 q.y2 is.y_in_order lies.y_to);
-      y_right = through q.y1 k.y1 b.y2 lies.y_from (through k.y1 k.y2 b.y2 is.y_in_order lies'.y_to);
+      x_left = at_most_through b.x1 k.x1 q.x2 lies'.x_from (at_most_through k.x1 k.x2 q.x2 is.x_in_order lies.x_to);
+      x_right = at_most_through q.x1 k.x1 b.x2 lies.x_from (at_most_through k.x1 k.x2 b.x2 is.x_in_order lies'.x_to);
+      y_left = at_most_through b.y1 k.y1 q.y2 lies'.y_from (at_most_through k.y1 k.y2 q.y2 is.y_in_order lies.y_to);
+      y_right = at_most_through q.y1 k.y1 b.y2 lies.y_from (at_most_through k.y1 k.y2 b.y2 is.y_in_order lies'.y_to);
     })
 
 same_order : (o : Ordering) → is_eq o ≡ true → o ≡ Same

@@ -6,7 +6,7 @@ use Rattle.std.specs.Int.Signed.{le_z_yes, lt_z_yes, lt_z_no, ≤ℤ_refl}
 use Rattle.std.specs.Ordering.{int_cmp, ordering_then}
 use Rattle.std.specs.Cmp.Derive.{both_true}
 use Rattle.std.proofs.Math.Bool.{and_comm}
-use Rattle.std.proofs.lemmas.Int.{ints}
+use Rattle.std.proofs.lemmas.Int.{ints, clamps}
 use Rattle.std.proofs.lemmas.Map.Lookups.{exact_pairs, exact_signed}
 use Rattle.std.specs.declared.cmp.Ordering.TheVariants.{Equal}
 use Rattle.gx_geom.specs.Corners.{Corners, IsBox, Within, Overlap, union, overlaps, within, corners_cmp}
@@ -91,30 +91,23 @@ same_corners a b e =
     (exact_pairs int_cmp (λ p q. ordering_then (int_cmp p.0 q.0) (int_cmp p.1 q.1)) exact_signed (exact_pairs int_cmp int_cmp exact_signed exact_signed))
     (a.x1, (a.y1, (a.x2, a.y2))) (b.x1, (b.y1, (b.x2, b.y2))) e)
 
--- the lesser and the greater of two numbers, by which of them it is
-below : (a b : ℤ) → a <ℤ b → a ≤ℤ b
-below a b h = omega (arith, ints)
+-- the lesser and the greater of two numbers
+pub lesser_at_most : (a b : ℤ) → (int_min a b ≤ℤ a) × (int_min a b ≤ℤ b)
+lesser_at_most a b = (omega (arith, ints, clamps), omega (arith, ints, clamps))
 
-chosen_max : (t : Bool) (a b : ℤ) → int_lt b a ≡ t → (a ≤ℤ cond t a b) × (b ≤ℤ cond t a b)
-chosen_max true a b e = (≤ℤ_refl a, below b a (lt_z_yes (true_holds (int_lt b a) e)))
-chosen_max false a b e = (lt_z_no (true_holds (not (int_lt b a)) (ap not e)), ≤ℤ_refl b)
+pub at_most_greater : (a b : ℤ) → (a ≤ℤ int_max a b) × (b ≤ℤ int_max a b)
+at_most_greater a b = (omega (arith, ints, clamps), omega (arith, ints, clamps))
 
-chosen_min : (t : Bool) (a b : ℤ) → int_lt b a ≡ t → (cond t b a ≤ℤ a) × (cond t b a ≤ℤ b)
-chosen_min true a b e = (below b a (lt_z_yes (true_holds (int_lt b a) e)), ≤ℤ_refl b)
-chosen_min false a b e = (≤ℤ_refl a, lt_z_no (true_holds (not (int_lt b a)) (ap not e)))
+pub at_most_lesser : (a b c : ℤ) → c ≤ℤ a → c ≤ℤ b → c ≤ℤ int_min a b
+at_most_lesser a b c p q = omega (arith, ints, clamps)
 
+pub greater_at_most : (a b c : ℤ) → a ≤ℤ c → b ≤ℤ c → int_max a b ≤ℤ c
+greater_at_most a b c p q = omega (arith, ints, clamps)
+
+-- either of two numbers, by a test, has what both have
 one_of : (P : ℤ → Type 0) (t : Bool) (a b : ℤ) → P a → P b → P (cond t a b)
 one_of P true a b p q = p
 one_of P false a b p q = q
-
-pub at_most_greater : (a b : ℤ) → (a ≤ℤ int_max a b) × (b ≤ℤ int_max a b)
-at_most_greater a b = chosen_max (int_lt b a) a b refl
-
-pub lesser_at_most : (a b : ℤ) → (int_min a b ≤ℤ a) × (int_min a b ≤ℤ b)
-lesser_at_most a b = chosen_min (int_lt b a) a b refl
-
-pub greater_at_most : (a b c : ℤ) → a ≤ℤ c → b ≤ℤ c → int_max a b ≤ℤ c
-greater_at_most a b c p q = one_of (λ z. z ≤ℤ c) (int_lt b a) a b p q
 
 pub greater_fits : (a b : ℤ) → FitsSigned w32 a → FitsSigned w32 b → FitsSigned w32 (int_max a b)
 greater_fits a b p q = one_of (λ z. FitsSigned w32 z) (int_lt b a) a b p q
@@ -122,16 +115,16 @@ greater_fits a b p q = one_of (λ z. FitsSigned w32 z) (int_lt b a) a b p q
 pub lesser_fits : (a b : ℤ) → FitsSigned w32 a → FitsSigned w32 b → FitsSigned w32 (int_min a b)
 lesser_fits a b p q = one_of (λ z. FitsSigned w32 z) (int_lt b a) b a q p
 
-≤ℤ-through : (a b c : ℤ) → a ≤ℤ b → b ≤ℤ c → a ≤ℤ c
-≤ℤ-through a b c p q = omega (arith, ints)
+pub at_most_through : (a b c : ℤ) → a ≤ℤ b → b ≤ℤ c → a ≤ℤ c
+at_most_through a b c p q = omega (arith, ints)
 
 -- the corners of a union make a box
 pub union_is_box : (a b : Corners) → IsBox a → IsBox b → IsBox (union a b)
 union_is_box a b in_a in_b = record {
-  x_in_order = ≤ℤ-through (int_min a.x1 b.x1) a.x1 (int_max a.x2 b.x2) (lesser_at_most a.x1 b.x1).0
-      (≤ℤ-through a.x1 a.x2 (int_max a.x2 b.x2) in_a.x_in_order (at_most_greater a.x2 b.x2).0);
-  y_in_order = ≤ℤ-through (int_min a.y1 b.y1) a.y1 (int_max a.y2 b.y2) (lesser_at_most a.y1 b.y1).0
-      (≤ℤ-through a.y1 a.y2 (int_max a.y2 b.y2) in_a.y_in_order (at_most_greater a.y2 b.y2).0);
+  x_in_order = at_most_through (int_min a.x1 b.x1) a.x1 (int_max a.x2 b.x2) (lesser_at_most a.x1 b.x1).0
+      (at_most_through a.x1 a.x2 (int_max a.x2 b.x2) in_a.x_in_order (at_most_greater a.x2 b.x2).0);
+  y_in_order = at_most_through (int_min a.y1 b.y1) a.y1 (int_max a.y2 b.y2) (lesser_at_most a.y1 b.y1).0
+      (at_most_through a.y1 a.y2 (int_max a.y2 b.y2) in_a.y_in_order (at_most_greater a.y2 b.y2).0);
   x1_fits = lesser_fits a.x1 b.x1 in_a.x1_fits in_b.x1_fits;
   y1_fits = lesser_fits a.y1 b.y1 in_a.y1_fits in_b.y1_fits;
   x2_fits = greater_fits a.x2 b.x2 in_a.x2_fits in_b.x2_fits;
