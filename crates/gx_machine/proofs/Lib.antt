@@ -1,4 +1,5 @@
 pub mod SetLaws
+pub mod Covers
 pub mod SessionMoves
 pub mod SessionsApart
 pub mod Places

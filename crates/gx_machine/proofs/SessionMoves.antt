@@ -128,14 +128,14 @@ module _ {B : Type 0} (k : Keys B) (l : IsLawful k) where
   pub included_covers : (e : Entry B) (set : List (Entry B)) → Covered k set (including k e set)
   included_covers e set = λ x h. has-including k l x e set ∙ or_second (same_entry k x e) (has k x set) h
 
-  covered_including : (e : Entry B) (xs ys : List (Entry B)) → has k e ys ≡ true → Covered k xs ys → Covered k (including k e xs) ys
+  pub covered_including : (e : Entry B) (xs ys : List (Entry B)) → has k e ys ≡ true → Covered k xs ys → Covered k (including k e xs) ys
   covered_including e xs ys there covered = λ x h.
       elim (or_either (same_entry k x e) (has k x xs) (sym (has-including k l x e xs) ∙ h)) [
         | inl same ↦ ap (λ (z : Entry B). has k z ys) (same_is k l x e same) ∙ there
         | inr among ↦ covered x among
       ]
 
-  covered_excluding : (e : Entry B) (xs ys : List (Entry B)) → Covered k xs ys → Covered k (excluding k e xs) ys
+  pub covered_excluding : (e : Entry B) (xs ys : List (Entry B)) → Covered k xs ys → Covered k (excluding k e xs) ys
   covered_excluding e xs ys covered = λ x h.
       covered x (and_second (not (same_entry k e x)) (has k x xs) (sym (has-filter k l (λ z. not (same_entry k e z)) x xs) ∙ h))
 

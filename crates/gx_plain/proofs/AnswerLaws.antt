@@ -15,7 +15,7 @@ use Rattle.gx_machine.specs.Keys.{Keys}
 use Rattle.gx_machine.specs.Sessions.{Held, Session, Idle, Open, Aborting, Committing, view, answer_session, answer_insert, answer_delete, sealed_set, closed_session}
 use Rattle.gx_machine.specs.Machine.{Machine, newest, is_session, session_at, with_session, answer, seal, durable, close}
 use Rattle.gx_machine.specs.Sets.{found}
-use Rattle.gx_plain.specs.Index.{Index, commit, answer_machine, AnswersFully, LacksMemory, AnswersIndex, wants_memory}
+use Rattle.gx_plain.specs.Index.{Index, commit, answer_machine, AnswersFully, LacksMemory, AnswersIndex, takes_memory}
 use Rattle.gx_plain.specs.Slots.{SlotAnswers, Closes, SameSet}
 use Rattle.gx_plain.proofs.IndexLaws.{index_with}
 
@@ -79,11 +79,11 @@ module _ {B : Type 0} (k : Keys B) where
         })
 
     -- memory was refused
-    lacking : (x y : Session B) → session_at s sessions ≡ x → wants_memory x ≡ true → closed_session x ≡ Some y
-        → reply ≡ replies.Refused Memory → latest' ≡ latest → commits' ≡ commits → x' ≡ y → AnswersIndex k s old reply new
-    lacking x y is wants closes re le ce ye =
+    lacking : (x y : Session B) (given : Reply B × Machine B) → session_at s sessions ≡ x → answered true x s old.machine ≡ given → takes_memory given.0 ≡ true
+        → closed_session x ≡ Some y → reply ≡ replies.Refused Memory → latest' ≡ latest → commits' ≡ commits → x' ≡ y → AnswersIndex k s old reply new
+    lacking x y given is gives wants closes re le ce ye =
         inr (record {
-          wanted = ap wants_memory is ∙ wants;
+          wanted = ap (λ (r : Reply B × Machine B). takes_memory r.0) (answer_is s old.machine true x session is ∙ gives) ∙ wants;
           reply_is = re;
           closed = ap (λ (z : Session B). option_map (λ session. with_session s session old.machine) (closed_session z)) is
               ∙ ap (option_map (λ session. with_session s session old.machine)) closes ∙ ap Some (sym (new_machine latest commits y le ce ye));
@@ -101,11 +101,12 @@ module _ {B : Type 0} (k : Keys B) where
         same : sessions ≡ slice_set sessions (s - 1) x
         same = sym ((λ i. slice_set sessions (sym at i) ((sym is ∙ found_at) i)) ∙ set-get_or sessions place Idle)
 
-    closes_by : (x : Session B) (h : Held B) (given : Reply B × Held B) → session_at s sessions ≡ x → wants_memory x ≡ true → closed_session x ≡ Some (Open h None)
+    closes_by : (x : Session B) (h : Held B) (given : Reply B × Held B) → session_at s sessions ≡ x → closed_session x ≡ Some (Open h None)
         → answered true x s old.machine ≡ (given.0, machine_with latest commits (Open given.1 None))
         → Closes given h reply x' → SameSet latest commits latest' commits' → AnswersIndex k s old reply new
-    closes_by x h given is wants closes gives (inl full) same = fully x latest commits (Open given.1 None) given.0 is gives full.0 same.0 same.1 full.1
-    closes_by x h given is wants closes gives (inr none) same = lacking x (Open h None) is wants closes none.0 same.0 same.1 none.1
+    closes_by x h given is closes gives (inl full) same = fully x latest commits (Open given.1 None) given.0 is gives full.0 same.0 same.1 full.1
+    closes_by x h given is closes gives (inr none) same =
+        lacking x (Open h None) (given.0, machine_with latest commits (Open given.1 None)) is gives none.0 closes none.1 same.0 same.1 none.2
 
     -- sealing, becoming durable and answering, by the sets before, the session as sealed, and as it is found then
     abbrev committed : Held B → List (List (Entry B)) → Session B → Session B → Reply B × Machine B
@@ -169,9 +170,11 @@ module _ {B : Type 0} (k : Keys B) where
     answers_by Idle is a = nothing Idle is refl a.0 a.2.0 a.2.1 a.1
     answers_by (Open h None) is a = nothing (Open h None) is refl a.0 a.2.0 a.2.1 a.1
     answers_by (Open h (Some Begin)) is a = absurd a
-    answers_by (Open h (Some (Insert e))) is a = closes_by (Open h (Some (Insert e))) h (answer_insert k e latest h) is refl refl refl a.0 a.1
-    answers_by (Open h (Some (Delete e))) is a = closes_by (Open h (Some (Delete e))) h (answer_delete k e latest h) is refl refl refl a.0 a.1
-    answers_by (Open h (Some (Search q))) is a = closes_by (Open h (Some (Search q))) h (replies.Found (found k q (view k latest h)), h) is refl refl refl a.0 a.1
+    answers_by (Open h (Some (Insert e))) is a = closes_by (Open h (Some (Insert e))) h (answer_insert k e latest h) is refl refl a.0 a.1
+    answers_by (Open h (Some (Delete e))) is a =
+        let given = answer_delete k e latest h in
+        fully (Open h (Some (Delete e))) latest commits (Open given.1 None) given.0 is refl a.0 a.2.0 a.2.1 a.1
+    answers_by (Open h (Some (Search q))) is a = closes_by (Open h (Some (Search q))) h (replies.Found (found k q (view k latest h)), h) is refl refl a.0 a.1
     answers_by (Open h (Some Commit)) is a = fully (Open h (Some Commit)) (view k latest h) (commits + 1) Idle (replies.Committed (commits + 1)) is (commits_by h) a.0 a.2 a.3 a.1
     answers_by (Open h (Some Abort)) is a = absurd a
     answers_by (Aborting h) is a = fully (Aborting h) latest commits Idle replies.Aborted is refl a.0 a.2.0 a.2.1 a.1

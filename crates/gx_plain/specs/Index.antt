@@ -52,18 +52,15 @@ commit k s m = option_and_then (λ sealed. answer k s (durable (newest sealed) s
 abbrev pub answer_machine : {B : Type 0} → Keys B → ℕ → Machine B → Reply B × Machine B
 answer_machine k s m = unwrap_or (option_or (answer k s m) (commit k s m)) (Refused (if is_session s then NoCall else BadSession), m)
 
--- the session has an insert, a delete or a search open
-abbrev pub wants_memory : {B : Type 0} → Session B → Bool
-wants_memory Idle = false
-wants_memory (Open h None) = false
-wants_memory (Open h (Some Begin)) = false
-wants_memory (Open h (Some (Insert e))) = true
-wants_memory (Open h (Some (Delete e))) = true
-wants_memory (Open h (Some (Search q))) = true
-wants_memory (Open h (Some Commit)) = false
-wants_memory (Open h (Some Abort)) = false
-wants_memory (Aborting h) = false
-wants_memory (Committing number) = false
+-- an answer that takes memory: an entry is kept, or entries are handed out
+abbrev pub takes_memory : {B : Type 0} → Reply B → Bool
+takes_memory Ok = false
+takes_memory Inserted = true
+takes_memory Deleted = false
+takes_memory (Found entries) = true
+takes_memory (Committed number) = false
+takes_memory Aborted = false
+takes_memory (Refused why) = false
 
 -- the answer where memory lasts
 pub record AnswersFully {B : Type 0} (k : Keys B) (s : ℕ) (old : Index B) (reply : Reply B) (new : Index B) : Type 0 where
@@ -71,16 +68,16 @@ pub record AnswersFully {B : Type 0} (k : Keys B) (s : ℕ) (old : Index B) (rep
   pub machine_is : new.machine ≡ (answer_machine k s old.machine).1
   pub next_stays : new.next ≡ old.next
 
--- an insert, a delete or a search is closed for want of memory, and nothing else changes
-pub record LacksMemory {B : Type 0} (s : ℕ) (old : Index B) (reply : Reply B) (new : Index B) : Type 0 where
-  pub wanted : wants_memory (session_at s old.machine.sessions) ≡ true
+-- an insert that would add its entry, or a search, is closed for want of memory, and nothing else changes
+pub record LacksMemory {B : Type 0} (k : Keys B) (s : ℕ) (old : Index B) (reply : Reply B) (new : Index B) : Type 0 where
+  pub wanted : takes_memory (answer_machine k s old.machine).0 ≡ true
   pub reply_is : reply ≡ Refused Memory
   pub closed : close s old.machine ≡ Some new.machine
   pub next_stays : new.next ≡ old.next
 
 -- what answering may do
 abbrev pub AnswersIndex : {B : Type 0} → Keys B → ℕ → Index B → Reply B → Index B → Type 0
-AnswersIndex k s old reply new = AnswersFully k s old reply new ⊎ LacksMemory s old reply new
+AnswersIndex k s old reply new = AnswersFully k s old reply new ⊎ LacksMemory k s old reply new
 
 -- asking a call, and answering it where it is then open
 abbrev pub AnswersAsked : {B : Type 0} → Keys B → ℕ → Asked B → Index B → Reply B → Index B → Type 0

@@ -9,8 +9,10 @@ use Rattle.gx_machine.specs.declared.reply.Reply.TheVariants as replies
 use Rattle.gx_machine.specs.Keys.{Keys}
 use Rattle.gx_machine.specs.Sessions.{nothing_held, Held, Session, Idle, Open, Aborting, Committing, view, answer_insert, answer_delete}
 use Rattle.std.specs.List.{slice_index_or}
-use Rattle.gx_machine.specs.Sets.{found, InOrder}
+use Rattle.gx_machine.specs.Sets.{has, found, InOrder}
+use Rattle.gx_machine.specs.Invariants.{Covered}
 use Rattle.gx_machine.specs.Machine.{claims_held}
+use Rattle.gx_plain.specs.Index.{takes_memory}
 use Rattle.gx_plain.specs.declared.slot.Phase.{Phase}
 use Rattle.gx_plain.specs.declared.slot.Phase.TheVariants as phase
 
@@ -27,6 +29,52 @@ added_by (Open h call) = length h.plus
 added_by (Aborting h) = 0
 added_by (Committing number) = 0
 
+-- room for all claims, for a session's predicates, and for all that it claims to be taken away
+pub record IsRoomy (claims predicates minus : ℕ) : Type 0 where
+  pub for_claims : 512 ≤ claims
+  pub for_predicates : 16 ≤ predicates
+  pub for_minus : 512 ≤ minus
+
+-- the entry of an open delete is claimed
+abbrev pub DeleteIsClaimed : {B : Type 0} → Keys B → Phase B → List (Entry B) → Type 0
+DeleteIsClaimed k phase.Idle claims = Unit {0}
+DeleteIsClaimed k (phase.Open None) claims = Unit {0}
+DeleteIsClaimed k (phase.Open (Some Begin)) claims = Unit {0}
+DeleteIsClaimed k (phase.Open (Some (Insert e))) claims = Unit {0}
+DeleteIsClaimed k (phase.Open (Some (Delete e))) claims = has k e claims ≡ true
+DeleteIsClaimed k (phase.Open (Some (Search q))) claims = Unit {0}
+DeleteIsClaimed k (phase.Open (Some Commit)) claims = Unit {0}
+DeleteIsClaimed k (phase.Open (Some Abort)) claims = Unit {0}
+DeleteIsClaimed k phase.Aborting claims = Unit {0}
+
+-- what a transaction takes away it claims, so that there are never more such entries than claims
+pub record TakesClaimed {B : Type 0} (k : Keys B) (phase : Phase B) (claims minus : List (Entry B)) : Type 0 where
+  pub in_order : InOrder k minus
+  pub claimed : Covered k minus claims
+  pub asked : DeleteIsClaimed k phase claims
+
+-- the call writes this entry
+abbrev pub IsWrite : {B : Type 0} → Entry B → Call B → Type 0
+IsWrite e Begin = ⊥
+IsWrite e (Insert d) = d ≡ e
+IsWrite e (Delete d) = d ≡ e
+IsWrite e (Search q) = ⊥
+IsWrite e Commit = ⊥
+IsWrite e Abort = ⊥
+
+-- the session has a delete of this entry open
+abbrev pub IsDeleting : {B : Type 0} → Entry B → Session B → Type 0
+IsDeleting e Idle = ⊥
+IsDeleting e (Open h None) = ⊥
+IsDeleting e (Open h (Some Begin)) = ⊥
+IsDeleting e (Open h (Some (Insert d))) = ⊥
+IsDeleting e (Open h (Some (Delete d))) = d ≡ e
+IsDeleting e (Open h (Some (Search q))) = ⊥
+IsDeleting e (Open h (Some Commit)) = ⊥
+IsDeleting e (Open h (Some Abort)) = ⊥
+IsDeleting e (Aborting h) = ⊥
+IsDeleting e (Committing number) = ⊥
+
 -- a transaction with no call open
 abbrev pub IsFree : {B : Type 0} → Session B → Type 0
 IsFree Idle = ⊥
@@ -42,9 +90,9 @@ held_of (Open h call) = h
 held_of (Aborting h) = h
 held_of (Committing number) = nothing_held
 
--- an open call is closed with this reply, or for want of memory with what was held before
+-- an open call is closed with this reply, or with what was held before for want of the memory that the reply takes
 abbrev pub Closes : {B : Type 0} → Reply B × Held B → Held B → Reply B → Session B → Type 0
-Closes given h reply session = ((reply ≡ given.0) × (session ≡ Open given.1 None)) ⊎ ((reply ≡ replies.Refused Memory) × (session ≡ Open h None))
+Closes given h reply session = ((reply ≡ given.0) × (session ≡ Open given.1 None)) ⊎ ((takes_memory given.0 ≡ true) × (reply ≡ replies.Refused Memory) × (session ≡ Open h None))
 
 -- the last committed set and the number of commits stay as they were
 abbrev pub SameSet : {B : Type 0} → List (Entry B) → ℕ → List (Entry B) → ℕ → Type 0
@@ -56,7 +104,8 @@ SlotAnswers k Idle latest commits reply session latest' commits' = (reply ≡ re
 SlotAnswers k (Open h None) latest commits reply session latest' commits' = (reply ≡ replies.Refused NoCall) × (session ≡ Open h None) × SameSet latest commits latest' commits'
 SlotAnswers k (Open h (Some Begin)) latest commits reply session latest' commits' = ⊥
 SlotAnswers k (Open h (Some (Insert e))) latest commits reply session latest' commits' = Closes (answer_insert k e latest h) h reply session × SameSet latest commits latest' commits'
-SlotAnswers k (Open h (Some (Delete e))) latest commits reply session latest' commits' = Closes (answer_delete k e latest h) h reply session × SameSet latest commits latest' commits'
+SlotAnswers k (Open h (Some (Delete e))) latest commits reply session latest' commits' =
+    (reply ≡ (answer_delete k e latest h).0) × (session ≡ Open (answer_delete k e latest h).1 None) × SameSet latest commits latest' commits'
 SlotAnswers k (Open h (Some (Search q))) latest commits reply session latest' commits' = Closes (replies.Found (found k q (view k latest h)), h) h reply session × SameSet latest commits latest' commits'
 SlotAnswers k (Open h (Some Commit)) latest commits reply session latest' commits' =
     (reply ≡ replies.Committed (commits + 1)) × (session ≡ Idle) × (latest' ≡ view k latest h) × (commits' ≡ commits + 1)

@@ -1,7 +1,8 @@
 //! What a transaction holds, as vectors: claims, predicates, and its own changes.
-ghost use Rattle.std.specs.Prelude.{◌≡◌, ◌<◌, ◌≤◌, ◌+◌, ◌++◌, ◌∷◌, [], ◌||◌, length, nat_lt, vec_len, vec_capacity, IfOk, if◌then◌else◌};
+ghost use Rattle.std.specs.Prelude.{◌≡◌, ◌<◌, ◌≤◌, ◌+◌, ◌++◌, ◌∷◌, [], ◌||◌, length, nat_lt, vec_len, vec_capacity, true, IfOk, if◌then◌else◌};
 ghost use Rattle.gx_machine.specs.Keys.{keys, same_query, key_matches, matches};
 ghost use Rattle.gx_machine.specs.Sets.{has, including, found, including_all, excluding_all};
+ghost use Rattle.gx_machine.specs.Invariants.{Covered};
 ghost use Rattle.gx_machine.specs.Sessions.{has_query};
 ghost use Rattle.std.specs.List.{list_any};
 
@@ -85,12 +86,18 @@ pub fn claim<B: Shape>(e: Entry<B>, claims: &mut Vec<Entry<B>>, spent: usize) ->
         (if has (keys B.cmp B.overlap B.inside) e claims.old.items then claims.old.items
         else if nat_lt spent 512 then including (keys B.cmp B.overlap B.inside) e claims.old.items
         else claims.old.items) }
+    ensures claimed { result ≡ true → has (keys B.cmp B.overlap B.inside) e claims.new.items ≡ true }
+    ensures kept { Covered (keys B.cmp B.overlap B.inside) claims.old.items claims.new.items }
     ensures room { CLAIMS ≤ vec_capacity claims.new }
 {
     if sets::has(&e, claims) {
         return true;
     }
-    spent < CLAIMS && sets::include(e, claims).is_ok()
+    if spent >= CLAIMS {
+        return false;
+    }
+    sets::put(e, claims);
+    true
 }
 
 /// Holds a predicate. False, and nothing changes, exactly where the session lacks it and its places are spent.

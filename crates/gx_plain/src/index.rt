@@ -123,6 +123,7 @@ fn answer_at<B: Shape>(
     requires room { vec_len latest.old + added ≤ vec_capacity latest.old }
     requires counted { added_by (slice_index_or slots.old.items place Idle) ≤ added }
     requires more { commits.old + 1 < 2 ^ 64 }
+    requires few { claims_of (slice_index_or slots.old.items place Idle) ≤ 512 }
     ensures answers { SlotAnswers (keys B.cmp B.overlap B.inside) (slice_index_or slots.old.items place Idle) latest.old.items commits.old result
         (slice_index_or slots.new.items place Idle) latest.new.items commits.new }
     ensures others { slots.new.items ≡ slice_set slots.old.items place (slice_index_or slots.new.items place Idle) }
@@ -166,7 +167,7 @@ impl<B: Shape> Model for PlainIndex<B> {
 impl<B: Shape> PlainIndex<B> {
     ghost use Rattle.gx_plain.specs.Index.{fresh_index, ask_index, AnswersIndex, CallsIndex};
 
-    /// An index with nothing committed. It takes the room for all claims and predicates.
+    /// An index with nothing committed. It takes the room for all claims and predicates, and for deletes.
     pub fn new(alloc: Global) -> Result<Self, AllocError>
         ensures { IfOk result (λ index. index ≡ fresh_index) }
     {
@@ -206,8 +207,8 @@ impl<B: Shape> PlainIndex<B> {
     /// Answers the open call of a session, or its abort. A commit is sealed, durable and answered in one.
     ///
     /// Refusals: `BadSession` for a number outside of 1 to 8; `NoCall` where nothing is open; `Present` for an insert
-    /// of an entry that the session sees; `Absent` for a delete of one that it doesn't; `Memory` for an insert,
-    /// a delete or a search that needs memory and is refused it. The call is then closed, and may be asked again.
+    /// of an entry that the session sees; `Absent` for a delete of one that it doesn't; `Memory` for an insert or
+    /// a search that needs memory and is refused it. The call is then closed, and may be asked again.
     pub fn answer(&mut self, session: u8) -> Reply<B>
         ensures { AnswersIndex (keys B.cmp B.overlap B.inside) session self.old result self.new }
     {

@@ -39,13 +39,13 @@ fn place<B: Shape>(e: &Entry<B>, set: &[Entry<B>]) -> Option<usize>
     Some(set.len())
 }
 
-/// Puts the entry in its place, unless it is there. An `Err` changes nothing, and comes only where the vector is full.
+/// Puts the entry in its place, unless it is there. An `Err` changes nothing, and comes only where the vector is full
+/// and lacks the entry.
 pub fn include<B: Shape>(e: Entry<B>, set: &mut Vec<Entry<B>>) -> Result<(), AllocError>
     ensures ok { OnOk result (set.new.items ≡ including (keys B.cmp B.overlap B.inside) e set.old.items) }
     ensures err { OnErr result (set.new.items ≡ set.old.items) }
-    ensures full { OnErr result (vec_capacity set.old ≤ vec_len set.old) }
+    ensures full { OnErr result (vec_capacity set.old < length (including (keys B.cmp B.overlap B.inside) e set.old.items)) }
     ensures capacity { vec_capacity set.old ≤ vec_capacity set.new }
-    ensures placed { vec_len set.old < vec_capacity set.old → set.new.items ≡ including (keys B.cmp B.overlap B.inside) e set.old.items }
     ensures one_more { vec_len set.new ≤ vec_len set.old + 1 }
 {
     match place(&e, set) {
@@ -55,6 +55,16 @@ pub fn include<B: Shape>(e: Entry<B>, set: &mut Vec<Entry<B>>) -> Result<(), All
             Ok(())
         }
     }
+}
+
+/// Puts the entry in its place, for which there is room.
+pub fn put<B: Shape>(e: Entry<B>, set: &mut Vec<Entry<B>>)
+    requires { length (including (keys B.cmp B.overlap B.inside) e set.old.items) ≤ vec_capacity set.old }
+    ensures items { set.new.items ≡ including (keys B.cmp B.overlap B.inside) e set.old.items }
+    ensures capacity { vec_capacity set.old ≤ vec_capacity set.new }
+    ensures one_more { vec_len set.new ≤ vec_len set.old + 1 }
+{
+    let _ = include(e, set);
 }
 
 /// Takes the entry out of the set.
@@ -83,6 +93,6 @@ pub fn include_all<B: Shape>(more: &[Entry<B>], set: &mut Vec<Entry<B>>)
     ensures grown { vec_len set.new ≤ vec_len set.old + length more.now }
 {
     for e in more {
-        let _ = include(*e, set);
+        put(*e, set);
     }
 }

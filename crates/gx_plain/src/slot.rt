@@ -1,5 +1,5 @@
 //! A session of the plain index.
-ghost use Rattle.std.specs.Prelude.{◌≡◌, ◌≤◌, ◌<◌, ◌+◌, ◌^◌, Some, OnOk, IfOk, vec_len, vec_capacity, length};
+ghost use Rattle.std.specs.Prelude.{◌≡◌, ◌≤◌, ◌<◌, ◌+◌, ◌^◌, Some, None, OnOk, IfOk, vec_len, vec_capacity, length};
 ghost use Rattle.gx_machine.specs.Keys.{keys};
 
 use crate::held::{self, CLAIMS, PREDICATES};
@@ -20,9 +20,9 @@ pub enum Phase<B> {
     Aborting,
 }
 
-/// A session, with room for all that it may claim and for its predicates.
+/// A session, with room for its predicates, for all that it may claim, and for all of that to be taken away.
 #[derive(Drop)]
-pub struct Slot<B> {
+pub struct Slot<B: Shape> {
     phase: Phase<B>,
     claims: Vec<Entry<B>>,
     predicates: Vec<Query<B>>,
@@ -30,13 +30,14 @@ pub struct Slot<B> {
     minus: Vec<Entry<B>>,
 }
 
-impl<B> Model for Slot<B> {
+impl<B: Shape> Model for Slot<B> {
     ghost use Rattle.std.specs.Prelude.{◌≤◌, vec_capacity};
+    ghost use Rattle.gx_machine.specs.Keys.{keys};
     ghost use Rattle.gx_machine.specs.Sessions.{Session};
 
     ghost Value = { Session B };
 
-    ghost use Rattle.gx_plain.specs.Slots.{session_of};
+    ghost use Rattle.gx_plain.specs.Slots.{session_of, IsRoomy, TakesClaimed};
 
     ghost view = { λ s. session_of s.phase (record {
       claims = s.claims.items;
@@ -45,7 +46,8 @@ impl<B> Model for Slot<B> {
       minus = s.minus.items;
     }) };
 
-    ghost invariant = { λ s. (512 ≤ vec_capacity s.claims) × (16 ≤ vec_capacity s.predicates) };
+    ghost invariant = { λ s. IsRoomy (vec_capacity s.claims) (vec_capacity s.predicates) (vec_capacity s.minus)
+        × TakesClaimed (keys B.cmp B.overlap B.inside) s.phase s.claims.items s.minus.items };
 }
 
 fn refused<B>(why: Refusal) -> Asked<B>
@@ -55,10 +57,10 @@ fn refused<B>(why: Refusal) -> Asked<B>
 }
 
 impl<B: Shape> Slot<B> {
-    ghost use Rattle.gx_plain.specs.Slots.{IsFree, IsOpen, CanAnswer, held_of, added_by, opened_by, begins, Closes, SlotAnswers};
+    ghost use Rattle.gx_plain.specs.Slots.{IsFree, IsOpen, IsWrite, IsDeleting, CanAnswer, held_of, added_by, opened_by, begins, Closes, SlotAnswers};
     ghost use Rattle.gx_machine.specs.Sets.{found, InOrder};
     ghost use Rattle.gx_machine.specs.Sessions.{view, answer_insert, answer_delete};
-    ghost use Rattle.gx_machine.specs.Sessions.{Idle, session_bars, claims_of, ask_idle, ask_write, ask_search, ask_session};
+    ghost use Rattle.gx_machine.specs.Sessions.{Idle, Open, session_bars, claims_of, ask_idle, ask_write, ask_search, ask_session};
 
     /// A session with no transaction.
     pub fn new(alloc: Global) -> Result<Self, AllocError>
@@ -69,7 +71,7 @@ impl<B: Shape> Slot<B> {
             claims: Vec::with_capacity(alloc, CLAIMS)?,
             predicates: Vec::with_capacity(alloc, PREDICATES)?,
             plus: Vec::new(alloc),
-            minus: Vec::new(alloc),
+            minus: Vec::with_capacity(alloc, CLAIMS)?,
         })
     }
 
@@ -165,6 +167,7 @@ impl<B: Shape> Slot<B> {
     }
 
     fn ask_write(&mut self, call: Call<B>, e: Entry<B>, spent: usize) -> Asked<B>
+        requires write { IsWrite e call }
         requires free { IsFree self.old }
         requires spent { claims_of self.old ≤ spent }
         ensures asked { result ≡ (ask_write (keys B.cmp B.overlap B.inside) call e spent (held_of self.old)).0 }
@@ -223,17 +226,17 @@ impl<B: Shape> Slot<B> {
     }
 
     fn delete(&mut self, e: Entry<B>, latest: &[Entry<B>]) -> Reply<B>
-        requires { IsOpen self.old }
-        ensures closes { Closes (answer_delete (keys B.cmp B.overlap B.inside) e latest.now (held_of self.old)) (held_of self.old) result self.new }
+        requires open { IsDeleting e self.old }
+        requires few { claims_of self.old ≤ 512 }
+        ensures reply { result ≡ (answer_delete (keys B.cmp B.overlap B.inside) e latest.now (held_of self.old)).0 }
+        ensures session { self.new ≡ Open (answer_delete (keys B.cmp B.overlap B.inside) e latest.now (held_of self.old)).1 None }
         ensures added { added_by self.new ≤ added_by self.old }
     {
         self.phase = Phase::Open(None);
         if !views::has(&e, latest, &self.plus, &self.minus) {
             return Reply::Refused(Refusal::Absent);
         }
-        if sets::include(e, &mut self.minus).is_err() {
-            return Reply::Refused(Refusal::Memory);
-        }
+        sets::put(e, &mut self.minus);
         sets::exclude(&e, &mut self.plus);
         Reply::Deleted
     }
@@ -270,6 +273,7 @@ impl<B: Shape> Slot<B> {
         requires room { vec_len latest.old + added ≤ vec_capacity latest.old }
         requires counted { added_by self.old ≤ added }
         requires more { commits.old + 1 < 2 ^ 64 }
+        requires few { claims_of self.old ≤ 512 }
         ensures answers { SlotAnswers (keys B.cmp B.overlap B.inside) self.old latest.old.items commits.old result self.new latest.new.items commits.new }
         ensures room { vec_len latest.new + added + added_by self.new ≤ vec_capacity latest.new + added_by self.old }
         ensures opened { commits.new + opened_by self.new ≤ commits.old + opened_by self.old }

@@ -6,7 +6,7 @@ use std::alloc::Global;
 use std::process::Abort;
 use std::test::Fail;
 
-// A script on a fresh index gives this text. Where memory is refused once, it is asked again.
+// A script on a fresh index gives this text.
 fn gives<R: Abort + AllocGlobal>(rt: &R, script: &[u8], text: &[u8]) -> Result<(), Fail> {
     let mut index = fresh(rt.alloc())?;
     let mut reader = script;
@@ -236,8 +236,8 @@ fn twice<R: Abort>(rt: &R, index: &mut PlainIndex<Box2>, call: Call<Box2>) -> Re
     }
 }
 
-// Each call that takes memory answers as ever, at once or where it is asked again. (With one allocation refused, this
-// is run for each in turn.)
+// Each call that takes memory answers as ever, at once or where it is asked again; a delete takes none. (With one
+// allocation refused, this is run for each in turn.)
 #[test]
 fn refused_memory_changes_nothing(rt: HostRuntime) {
     let index = match PlainIndex::new(rt.alloc()) {
@@ -263,7 +263,7 @@ fn refused_memory_changes_nothing(rt: HostRuntime) {
     for row in 0..20u64 {
         assert!(rt;
             matches!(
-                twice(&rt, &mut index, Call::Delete(Entry { row, key })),
+                index.call(1, Call::Delete(Entry { row, key })),
                 Reply::Deleted
             )
         );
