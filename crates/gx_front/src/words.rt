@@ -19,8 +19,9 @@ pub enum WordsFault {
     Memory,
 }
 
-/// The words that the program was called with, its own name first.
-pub fn given<R: Env + AllocGlobal>(rt: &R) -> Result<Vec<String>, WordsFault> {
+/// The words that the program was called with, its own name first. `NotText` where one of them isn't text, and `Memory`
+/// where memory for them is refused.
+pub(crate) fn given<R: Env + AllocGlobal>(rt: &R) -> Result<Vec<String>, WordsFault> {
     match std::env::args(rt) {
         Ok(words) => words.collect(rt.alloc()).map_err(|_| WordsFault::Memory),
         Err(fault) if fault.kind() == io::ErrorKind::OutOfMemory => Err(WordsFault::Memory),
