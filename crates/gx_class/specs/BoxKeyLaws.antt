@@ -1,12 +1,12 @@
 -- What holds of boxes as keys.
-use Rattle.std.proofs.Common.{◌≡◌, ℕ, ◌+◌, ◌*◌, ◌^◌, ◌<◌, ◌≤◌, ℤ, pos, negsuc, ◌≤ℤ◌, FitsSigned, true, refl, ap, sym, ◌∙◌, subst, arith, List, length, [], ◌∷◌, ◌++◌, take, drop, Some, Result, Ok, Err, IsOk, IfOk}
+use Rattle.std.proofs.Common.{◌≡◌, ℕ, ◌+◌, ◌*◌, ◌^◌, ◌<◌, ◌≤◌, ℤ, pos, negsuc, FitsSigned, true, refl, ap, sym, ◌∙◌, subst, arith, List, length, [], ◌∷◌, ◌++◌, take, drop, Some, Result, Ok, Err, IsOk, IfOk}
 use Rattle.std.specs.Result.{result_ok}
 use Rattle.gx_geom.specs.declared.refusal.Refusal.{Refusal}
-use Rattle.std.specs.Int.{w32, int_min, int_max, cast_signed, cast_unsigned, from_be_bytes}
+use Rattle.std.specs.Int.{w32, cast_signed, cast_unsigned, from_be_bytes}
 use Rattle.std.specs.Ordering.{is_eq}
 use Rattle.std.specs.declared.cmp.Ordering.{Ordering}
 use Rattle.std.specs.declared.cmp.Ordering.TheVariants.{Less, Equal as Same, Greater}
-use Rattle.std.proofs.lemmas.Int.{ints, clamps, to_z-of_z}
+use Rattle.std.proofs.lemmas.Int.{ints, to_z-of_z}
 use Rattle.std.proofs.lemmas.Nat.{from_be_bytes-to_be_bytes_4}
 use Rattle.std.proofs.lemmas.List.{append_assoc, append-nil, drop_all, length-append}
 use Rattle.std.proofs.lemmas.Slice.{drop-append-drop}

@@ -1,8 +1,8 @@
 -- What holds of the tests on boxes, for any corners.
-use Rattle.std.proofs.Common.{◌≡◌, ℤ, ◌≤ℤ◌, ◌<ℤ◌, Bool, true, false, ◌&&◌, refl, ap, ◌∙◌, arith, T}
-use Rattle.std.specs.Prelude.{int_le, int_lt, cond, not, FitsSigned}
+use Rattle.std.proofs.Common.{◌≡◌, ℤ, ◌≤ℤ◌, Bool, true, false, ◌&&◌, refl, ap, ◌∙◌, arith, T}
+use Rattle.std.specs.Prelude.{int_le, int_lt, cond, FitsSigned}
 use Rattle.std.specs.Int.{w32, int_min, int_max}
-use Rattle.std.specs.Int.Signed.{le_z_yes, lt_z_yes, lt_z_no, ≤ℤ_refl}
+use Rattle.std.specs.Int.Signed.{le_z_yes, ≤ℤ_refl}
 use Rattle.std.specs.Ordering.{int_cmp, ordering_then}
 use Rattle.std.specs.Cmp.Derive.{both_true}
 use Rattle.std.proofs.Math.Bool.{and_comm}

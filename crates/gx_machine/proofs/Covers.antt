@@ -1,5 +1,5 @@
 -- What a list covers has no more entries than it.
-use Rattle.std.proofs.Common.{◌≡◌, ℕ, ◌+◌, ◌≤◌, Bool, true, false, not, cond, ◌||◌, inl, inr, List, [], ◌∷◌, length, ap, ◌∙◌, arith}
+use Rattle.std.proofs.Common.{◌≡◌, ◌+◌, ◌≤◌, Bool, true, false, not, cond, ◌||◌, inl, inr, List, [], ◌∷◌, length, ap, ◌∙◌, arith}
 use Rattle.std.specs.List.{filter}
 use Rattle.std.specs.Cmp.Derive.{both_true}
 use Rattle.std.specs.Ordering.{is_eq}
@@ -39,8 +39,11 @@ module _ {B : Type 0} (k : Keys B) (l : IsLawful k) where
   length-covered [] ys in_order covered = omega arith
   length-covered (x ∷ xs) ys in_order covered =
       let rest : Covered k xs (excluding k x ys) = λ e h.
-          has-filter k l (λ z. not (same_entry k x z)) e ys
-          ∙ both_true (ap not (before_differs x e xs in_order.0 h)) (covered e (or_second (same_entry k e x) (has k e xs) h))
+      has-filter k l (λ z. not (same_entry k x z)) e ys
+      ∙ both_true (ap not (before_differs x e xs in_order.0 h)) (covered e (or_second (same_entry k e x) (has k e xs) h))
       in
-      omega (arith, length-covered xs (excluding k x ys) in_order.1 rest,
-      length_without x ys (covered x (or_first (same_entry k x x) (has k x xs) (same_itself k l x))))
+      omega (
+        arith,
+        length-covered xs (excluding k x ys) in_order.1 rest,
+        length_without x ys (covered x (or_first (same_entry k x x) (has k x xs) (same_itself k l x))),
+      )

@@ -1,21 +1,20 @@
 -- Answering at a place of the list is answering of the machine.
-use Rattle.std.proofs.Common.{◌≡◌, ◌⊎◌, inl, inr, ℕ, zero, suc, ◌+◌, ◌-◌, ◌<◌, Bool, true, false, cond, List, [], ◌∷◌, ◌++◌, length, slice_set, drop, refl, ap, sym, ◌∙◌, subst, arith, nat_le, add-zero}
-use Rattle.std.specs.Prelude.{Option, None, Some, option_map, unwrap_or}
+use Rattle.std.proofs.Common.{◌≡◌, inl, inr, ℕ, ◌+◌, ◌-◌, ◌<◌, Bool, true, false, cond, List, [], ◌∷◌, ◌++◌, length, slice_set, drop, refl, ap, sym, ◌∙◌, arith, nat_le}
+use Rattle.std.specs.Prelude.{None, Some, option_map, unwrap_or}
 use Rattle.std.specs.Option.{option_and_then, option_or}
 use Rattle.std.specs.List.{slice_index_or}
-use Rattle.std.proofs.lemmas.List.{length-set, get_or-set_same, set-get_or, set-set}
+use Rattle.std.proofs.lemmas.List.{get_or-set_same, set-get_or, set-set}
 use Rattle.std.proofs.lemmas.Bool.{le-leb}
 use Rattle.gx_geom.specs.declared.refusal.Refusal.TheVariants.{BadSession, NoCall, Memory}
 use Rattle.gx_machine.specs.declared.entry.Entry.{Entry}
-use Rattle.gx_machine.specs.declared.call.Call.{Call}
 use Rattle.gx_machine.specs.declared.call.Call.TheVariants.{Begin, Insert, Delete, Search, Commit, Abort}
 use Rattle.gx_machine.specs.declared.reply.Reply.{Reply}
 use Rattle.gx_machine.specs.declared.reply.Reply.TheVariants as replies
 use Rattle.gx_machine.specs.Keys.{Keys}
 use Rattle.gx_machine.specs.Sessions.{Held, Session, Idle, Open, Aborting, Committing, view, answer_session, answer_insert, answer_delete, sealed_set, closed_session}
-use Rattle.gx_machine.specs.Machine.{Machine, newest, is_session, session_at, with_session, answer, seal, durable, close}
+use Rattle.gx_machine.specs.Machine.{Machine, newest, is_session, session_at, with_session, answer, durable}
 use Rattle.gx_machine.specs.Sets.{found}
-use Rattle.gx_plain.specs.Index.{Index, commit, answer_machine, AnswersFully, LacksMemory, AnswersIndex, takes_memory}
+use Rattle.gx_plain.specs.Index.{Index, answer_machine, AnswersIndex, takes_memory}
 use Rattle.gx_plain.specs.Slots.{SlotAnswers, Closes, SameSet}
 use Rattle.gx_plain.proofs.IndexLaws.{index_with}
 

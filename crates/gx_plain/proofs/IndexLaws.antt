@@ -1,8 +1,8 @@
 -- Asking and answering at a place of the list are asking and answering of the machine, and keep what is kept.
-use Rattle.std.proofs.Common.{◌≡◌, ◌⊎◌, inl, inr, ◌^◌, ℕ, zero, suc, ◌+◌, ◌-◌, ◌*◌, ◌<◌, ◌≤◌, Bool, true, false, cond, ◌&&◌, ◌||◌, List, [], ◌∷◌, length, get_or, slice_set, refl, ap, sym, ◌∙◌, subst, arith, nat_le, add-zero}
-use Rattle.std.specs.Prelude.{Option, None, Some, sum_by, replicate}
+use Rattle.std.proofs.Common.{◌≡◌, ◌⊎◌, inl, inr, ◌^◌, ℕ, zero, suc, ◌+◌, ◌-◌, ◌<◌, ◌≤◌, Bool, true, false, cond, ◌&&◌, ◌||◌, List, [], ◌∷◌, length, slice_set, refl, ap, sym, ◌∙◌, subst, arith, nat_le, add-zero}
+use Rattle.std.specs.Prelude.{Option, sum_by, replicate}
 use Rattle.std.specs.List.{slice_index_or}
-use Rattle.std.proofs.lemmas.List.{length-set, get_or-set_same, get_or-set_other}
+use Rattle.std.proofs.lemmas.List.{length-set}
 use Rattle.std.proofs.lemmas.List.Sums.{sum_by-set, sum_by-cons}
 use Rattle.std.specs.Int.{from_bool}
 use Rattle.std.proofs.lemmas.Bool.{leb-false}
@@ -15,7 +15,7 @@ use Rattle.gx_machine.specs.declared.reply.Asked.TheVariants as asked
 use Rattle.gx_machine.specs.Keys.{Keys}
 use Rattle.gx_machine.specs.Sets.{InOrder}
 use Rattle.gx_machine.specs.Sessions.{Session, Idle, Open, Aborting, Committing, claims_of, ask_session}
-use Rattle.gx_machine.specs.Machine.{Machine, is_session, session_at, with_session, least_barring, claims_held, newest, ask}
+use Rattle.gx_machine.specs.Machine.{Machine, is_session, with_session, least_barring, claims_held, ask}
 use Rattle.gx_plain.specs.Index.{Index, has_begun, is_used_up, ask_index}
 use Rattle.gx_plain.specs.Slots.{IsKept, CanAnswer, added_by, opened_by, begins}
 use Rattle.gx_plain.proofs.SlotLaws.{claims_ask, added_ask, opened_ask, can_answer_ask, begun_ask}

@@ -1,5 +1,5 @@
 -- What asking does to the counts that the plain index keeps.
-use Rattle.std.proofs.Common.{◌≡◌, ℕ, ◌+◌, ◌<◌, ◌≤◌, Bool, true, false, cond, List, [], ◌∷◌, ◌++◌, length, refl, arith, nat_lt}
+use Rattle.std.proofs.Common.{◌≡◌, ℕ, ◌+◌, ◌≤◌, Bool, true, false, cond, List, [], ◌∷◌, ◌++◌, length, refl, arith, nat_lt}
 use Rattle.std.specs.Prelude.{Option, None, Some}
 use Rattle.std.specs.declared.cmp.Ordering.{Ordering}
 use Rattle.std.specs.declared.cmp.Ordering.TheVariants.{Less, Equal, Greater}
@@ -10,7 +10,6 @@ use Rattle.gx_machine.specs.declared.entry.Entry.{Entry}
 use Rattle.gx_machine.specs.declared.query.Query.{Query}
 use Rattle.gx_machine.specs.declared.call.Call.{Call}
 use Rattle.gx_machine.specs.declared.call.Call.TheVariants.{Begin, Insert, Delete, Search, Commit, Abort}
-use Rattle.gx_machine.specs.declared.reply.Asked.{Asked}
 use Rattle.gx_machine.specs.declared.reply.Asked.TheVariants as asked
 use Rattle.gx_machine.specs.Keys.{Keys, entry_cmp}
 use Rattle.gx_machine.specs.Sets.{has, including}

@@ -1,17 +1,14 @@
 -- The plain index as a state, and what asking and answering it do, by the set machine's steps.
-use Rattle.std.specs.Prelude.{ℕ, ◌≡◌, ◌⊎◌, ◌+◌, Bool, true, false, ◌&&◌, ◌||◌, nat_le, if◌then◌else◌, Option, None, Some, option_map, unwrap_or, List, [], IsTrue}
+use Rattle.std.specs.Prelude.{ℕ, ◌≡◌, ◌⊎◌, ◌+◌, Bool, true, false, ◌&&◌, ◌||◌, nat_le, if◌then◌else◌, Option, Some, unwrap_or}
 use Rattle.std.specs.Option.{option_and_then, option_or}
-use Rattle.gx_geom.specs.declared.refusal.Refusal.{Refusal}
 use Rattle.gx_geom.specs.declared.refusal.Refusal.TheVariants.{BadSession, NoCall, Memory, HistoryFull}
 use Rattle.gx_machine.specs.declared.call.Call.{Call}
-use Rattle.gx_machine.specs.declared.call.Call.TheVariants.{Begin, Insert, Delete, Search, Commit, Abort}
 use Rattle.gx_machine.specs.declared.reply.Reply.{Reply}
 use Rattle.gx_machine.specs.declared.reply.Reply.TheVariants.{Ok, Inserted, Deleted, Found, Committed, Aborted, Refused}
 use Rattle.gx_machine.specs.declared.reply.Asked.{Asked}
 use Rattle.gx_machine.specs.declared.reply.Asked.TheVariants as asked
 use Rattle.gx_machine.specs.Keys.{Keys}
-use Rattle.gx_machine.specs.Sessions.{Session, Idle, Open, Aborting, Committing}
-use Rattle.gx_machine.specs.Machine.{Machine, fresh_machine, newest, is_session, session_at, ask, answer, seal, durable, close}
+use Rattle.gx_machine.specs.Machine.{Machine, fresh_machine, newest, is_session, ask, answer, seal, durable, close}
 
 -- the machine, and the number that the next transaction gets
 pub record Index (B : Type 0) : Type 0 where

@@ -1,5 +1,5 @@
 -- The plain index's calls as runs of the set machine.
-use Rattle.std.specs.Prelude.{ℕ, ◌≡◌, ◌⊎◌, ◌+◌, false, true, length, if◌then◌else◌, Option, None, Some, List, [], ◌∷◌}
+use Rattle.std.specs.Prelude.{ℕ, ◌≡◌, ◌⊎◌, ◌+◌, false, true, length, if◌then◌else◌, Option, None, Some, [], ◌∷◌}
 use Rattle.gx_geom.specs.declared.refusal.Refusal.TheVariants.{BadSession, NoCall, HistoryFull}
 use Rattle.gx_machine.specs.declared.call.Call.{Call}
 use Rattle.gx_machine.specs.declared.reply.Reply.{Reply}
@@ -9,7 +9,7 @@ use Rattle.gx_machine.specs.declared.reply.Asked.TheVariants.{Now, Open}
 use Rattle.gx_machine.specs.Keys.{Keys}
 use Rattle.gx_machine.specs.Machine.{newest, is_session}
 use Rattle.gx_machine.specs.Runs.{Step, Asks, Answers, Seals, Durable, RefusesAsk, RefusesCall, Event, IsStep, IsRun}
-use Rattle.gx_plain.specs.Index.{Index, has_begun, is_used_up, ask_index}
+use Rattle.gx_plain.specs.Index.{Index, is_used_up, ask_index}
 
 -- what an index of this crate is: eight sessions, all commits durable, and no fault has ended it
 pub record IsPlain {B : Type 0} (index : Index B) : Type 0 where

@@ -1,5 +1,5 @@
 -- What a session of the plain index stands for, and what answering does to it.
-use Rattle.std.specs.Prelude.{ℕ, ◌≡◌, ◌≤◌, ◌⊎◌, true, false, sum_by, ◌+◌, Bool, ◌||◌, if◌then◌else◌, length, Option, None, Some, List, ◌∷◌, []}
+use Rattle.std.specs.Prelude.{ℕ, ◌≡◌, ◌≤◌, ◌⊎◌, true, false, sum_by, ◌+◌, Bool, length, None, Some, List}
 use Rattle.gx_geom.specs.declared.refusal.Refusal.TheVariants.{NoCall, Memory}
 use Rattle.gx_machine.specs.declared.entry.Entry.{Entry}
 use Rattle.gx_machine.specs.declared.call.Call.{Call}

@@ -1,6 +1,6 @@
-use Rattle.std.proofs.Common.{◌≡◌, true, ap, sym, ◌∙◌, subst, arith, List}
+use Rattle.std.proofs.Common.{ap, sym, ◌∙◌, subst, arith, List}
 use Rattle.gx_machine.specs.declared.entry.Entry.{Entry}
-use Rattle.gx_machine.specs.Keys.{Keys, IsLawful, keys}
+use Rattle.gx_machine.specs.Keys.{IsLawful, keys}
 use Rattle.gx_machine.specs.Sets.{has}
 use Rattle.gx_machine.specs.Invariants.{Covered}
 use Rattle.gx_machine.proofs.SessionMoves.{has_included, included_covers}

@@ -1,5 +1,5 @@
-use Rattle.std.proofs.Common.{◌≡◌, Bool, true, false, not, ◌||◌, ◌&&◌, ap, sym, ◌∙◌, refl}
-use Rattle.gx_machine.specs.Keys.{Keys, keys, IsLawful}
+use Rattle.std.proofs.Common.{◌≡◌, Bool, true, false, not, ◌||◌, ◌&&◌, ap, sym, ◌∙◌}
+use Rattle.gx_machine.specs.Keys.{keys}
 use Rattle.gx_machine.specs.Sets.{has}
 use Rattle.gx_machine.proofs.SetLaws.{has-view}
 use Rattle.gx_plain.proofs.views.has.Goals as goal

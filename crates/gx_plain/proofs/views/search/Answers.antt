@@ -1,4 +1,4 @@
-use Rattle.std.proofs.Common.{◌≡◌, List, [], ap, sym, ◌∙◌, drop, length, ◌≤◌}
+use Rattle.std.proofs.Common.{◌≡◌, List, [], ap, sym, ◌∙◌, drop}
 use Rattle.std.specs.List.{filter}
 use Rattle.std.proofs.lemmas.List.{drop_all}
 use Rattle.gx_machine.specs.declared.entry.Entry.{Entry}
@@ -6,7 +6,6 @@ use Rattle.gx_machine.specs.Keys.{Keys, keys, IsLawful, matches}
 use Rattle.gx_machine.specs.Sets.{including_all, excluding_all, found, InOrder}
 use Rattle.gx_machine.specs.declared.query.Query.{Query}
 use Rattle.gx_machine.proofs.SetLaws.{filter_including_all, in_order_filter}
-use Rattle.gx_machine.specs.Sets.{has}
 use Rattle.gx_plain.proofs.views.search.Goals as goal
 
 -- at the loop's end nothing of plus is left

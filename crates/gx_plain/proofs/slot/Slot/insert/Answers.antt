@@ -1,4 +1,4 @@
-use Rattle.std.proofs.Common.{◌≡◌, ◌≤◌, sym, subst, arith, List}
+use Rattle.std.proofs.Common.{sym, subst, arith, List}
 use Rattle.std.specs.Prelude.{None}
 use Rattle.gx_machine.specs.declared.entry.Entry.{Entry}
 use Rattle.gx_machine.specs.Keys.{IsLawful, keys}
