@@ -25,15 +25,20 @@ awk 'BEGIN {
 "$top/gist" plain < /dev/null
 echo "$(wc -l < "$script") lines, $(wc -c < "$script") bytes"
 python3 - "$top/gist" "$script" <<'P'
-import resource, subprocess, sys, time
+import subprocess, sys, time
+
+def most_memory(pid):
+    with open(f"/proc/{pid}/status") as status:
+        return next((int(line.split()[1]) for line in status if line.startswith("VmHWM")), 0)
+
 started = time.monotonic()
-lines = 0
+lines = peak = 0
 with open(sys.argv[2], "rb") as script:
     program = subprocess.Popen([sys.argv[1], "plain"], stdin=script, stdout=subprocess.PIPE)
     for chunk in iter(lambda: program.stdout.read(1 << 20), b""):
         lines += chunk.count(b"\n")
+        peak = max(peak, most_memory(program.pid))
 status = program.wait()
 took = time.monotonic() - started
-peak = resource.getrusage(resource.RUSAGE_CHILDREN).ru_maxrss
 print(f"{took:.2f} seconds, {peak} KiB at most, {lines} lines written, status {status}")
 P
