@@ -1,5 +1,6 @@
 pub mod Changes
 pub mod Faultless
+pub mod HeapCalls
 pub mod Images
 pub mod Memory
 pub mod Moves
