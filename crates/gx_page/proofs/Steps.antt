@@ -13,7 +13,7 @@ use Rattle.gx_page.specs.Format.{image_of, total, Fits, IsItem, IsWellFormed}
 use Rattle.gx_page.specs.Reading.{read_of, IsImage}
 use Rattle.gx_page.proofs.Pieces.{length-overwrite, length-zeros}
 use Rattle.gx_page.proofs.Images.{made}
-use Rattle.gx_page.proofs.Changes.{inserted, removed, Replaces, replaced, byte_set, item_at, level_set, nsn_set, right_set, number_set, fresh_is, total-append}
+use Rattle.gx_page.proofs.Changes.{inserted, removed, Replaces, replaced, byte_set, item_at, level_set, nsn_set, right_set, number_set, blank, fresh_is, total-append}
 use Rattle.gx_page.proofs.Moves.{after_opening, after_closing}
 use Rattle.gx_page.proofs.Parts.{image_size}
 
@@ -122,10 +122,9 @@ zeros_written ys i = whole_written (zeros 4096) ys i (length-zeros 4096)
 
 pub fresh_goes : (level number : ℕ) → level < 2 ^ 16 → number < 2 ^ 32
     → IsImage (overwrite (overwrite (overwrite (zeros 4096) 0 (spell_16 level)) 4 (spell_16 4096)) 20 (spell_32 number))
-    × (read_of (overwrite (overwrite (overwrite (zeros 4096) 0 (spell_16 level)) 4 (spell_16 4096)) 20 (spell_32 number)) ≡ record { level = level; nsn = 0; right = 0; number = number; items = [] })
+    × (read_of (overwrite (overwrite (overwrite (zeros 4096) 0 (spell_16 level)) 4 (spell_16 4096)) 20 (spell_32 number)) ≡ blank level number)
 fresh_goes level number l n =
-    let v : Contents = record { level = level; nsn = 0; right = 0; number = number; items = [] } in
-    made v (record { level = l; nsn = lit< tt; right = lit< tt; number = n; items = All-nil IsItem; fits = omega arith })
+    made (blank level number) (record { level = l; nsn = lit< tt; right = lit< tt; number = n; items = All-nil IsItem; fits = omega arith })
     (overwrite (overwrite (overwrite (zeros 4096) 0 (spell_16 level)) 4 (spell_16 4096)) 20 (spell_32 number)) (fresh_is level number (zeros 4096) refl)
 
 -- ---- the edits of a block, write by write

@@ -75,12 +75,12 @@ into_box_spec {M = M} 𝓤 𝓛 𝓜 𝓡 wired =
     proved 𝓛 ended stayed c 𝓜 𝓡 (Goes-dropped 𝓛 0 (plain (λ _. block.the_row)) yes (λ κs x f. refl), tt) #self code.function (code.unfolded 𝓤 𝓛.H 𝓜 𝓡 wired)
     (λ κs. ((λ d. word d.at ∷ []), tt)) (λ κs. (block_tells, tt)) (λ κs qs bounds a g are.
     let d = a.0 in let vs : List Val × Unit {0} = (word d.at ∷ [], tt) in let z : (walk_of 𝓛 ended stayed c).Ghost = ((κs, qs, bounds, a, vs), g) in
-    let calls = Made 𝓛 𝓜.mem 𝓡.returns in let parts = owns (heap.the_row ∷ RawPtr ∷ []) (d.alloc, (d.at, tt)) (heap_val ∷ [], (ptr_val d.at ∷ [], tt)) in
+    let Post : Val → SProp 𝓤 = (walk_of 𝓛 ended stayed c).post z in let calls = Made 𝓛 𝓜.mem 𝓡.returns in let parts = owns (heap.the_row ∷ RawPtr ∷ []) (d.alloc, (d.at, tt)) (heap_val ∷ [], (ptr_val d.at ∷ [], tt)) in
     qed 𝓛 ((‵ ftrue ⊛ ‵ (owns (types_at ended.signature.params κs) a vs)) ∷ ‵ ftrue ∷ []) ∵ split ! $ drop ! $ fsplit ! $
     -- the block's parts are all that the call asks for
     use1 𝓛 (‵ parts ⊛ ‵ (block_owns d.alloc d.at d.bytes)) (block_parts 𝓛 d (word d.at ∷ [])) $ split ! $
     use2 𝓛 (raw (calls.pre (of_block 𝓛 𝓜.mem 𝓡.returns d))) (asked 𝓛 parts (sem 𝓛 (block_owns d.alloc d.at d.bytes))) $
-    enter ! _ _ _ _ _ $ alloc_all ! (λ l. pass_all ! refl (word_fits d.at, tt) $
+    enter ! 𝓣.C 𝓣.Λ code.function (word d.at ∷ []) Post $ alloc_all ! (λ l. pass_all ! refl (word_fits d.at, tt) $ let Ev = env code.function.locals l in
     sets ! (of_opd ! (get_in ! (fld ! refl (stop !)) (sub ! 0 refl (whole !)))) refl (pointer_fits d.at) $
     sets ! (of_opd ! (get_in ! (fld ! refl (stop !)) (sub ! 1 refl (whole !)))) refl handle_fits $ first ! $ blocks ! $
     calls_at_last ! (framed 𝓤 𝓛.H 𝓜 𝓣) calls
@@ -91,6 +91,6 @@ into_box_spec {M = M} 𝓤 𝓛 𝓜 𝓡 wired =
     pick ! (λ r. split ! $ move ! (1 ∷ []) $ heard ! (r.value ≡ d.bytes) (λ same. peeks ! B (Is B) (shows 𝓛 B) r (u ∷ []) (λ is.
     -- the box is the block's value, and then the result
     let fits = ((box_lawful 𝓛).typed r (u ∷ []) is).0 in
-    lands_last ! refl fits $ exec ! 𝓣.C 𝓣.Λ (env code.function.locals l) (after 3 code.function.body) (at_ret (env code.function.locals l) ((walk_of 𝓛 ended stayed c).post z)) $
+    lands_last ! refl fits $ exec ! 𝓣.C 𝓣.Λ Ev (after 3 code.function.body) (at_ret Ev Post) $
     sets ! (of_opd ! (get ! refl)) refl fits $ returns ! (look_at ! 0 refl) $ free_all ! refl $
     keep ! (0 ∷ []) $ suffices ! _ (ends_at 𝓛 ended stayed c z u r (tt, tt) (tt, tt)) $ by ! (ends_with 𝓛 (B.own_val r (u ∷ [])) same)))))))
