@@ -1,6 +1,5 @@
 pub mod Changes
 pub mod Faultless
-pub mod HeapCalls
 pub mod Images
 pub mod Memory
 pub mod Moves
@@ -8,3 +7,4 @@ pub mod Parts
 pub mod Pieces
 pub mod Slots
 pub mod Steps
+pub mod Walks

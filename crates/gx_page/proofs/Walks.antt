@@ -1,15 +1,15 @@
--- A call of std at the bytes and the heap: what it asks beside its arguments, and what is left of it.
+-- What the walks of a block share: how they begin and end, and what a call of std at the bytes and the heap asks and leaves.
 use Rattle.std.proofs.Common.{[], ◌∷◌}
 use seplogic.Ra.Ura.{Ura}
 use mir.Syntax.{Dict, impl, tnil, tcons, dnil}
 use mir.Val.{Val}
 use base.Fraction.{full_share}
-use base.Fml.{Fml, flft, fsep, ftrue}
+use base.Fml.{Fml, Lft, Share, flft, fsep, ftrue}
 use base.Logic.{SProp, ent, sep, emp, ex, id⊢}
 use prog.Routine.{Env}
 use prog.Wired.{Wired}
 use types.Logic.{Logic, sem}
-use types.Kit.{‵, raw, ◌⊛◌, some, later, ◌$◌, ◌∵◌, !, qed, move, keep, use0, use1, split, join, fjoin, pick, show, frame, updating, await, now, done}
+use types.Kit.{‵, raw, ◌⊛◌, some, later, ◌$◌, ◌∵◌, !, qed, move, keep, use0, use1, split, join, fsplit, fjoin, pick, show, frame, updating, await, now, done}
 use contract.BorrowLft.{◌⊑◌, ⊑_static}
 use contract.Monad.{fact, fact_i}
 use denote.Param.{layout}
@@ -67,3 +67,11 @@ module _ {M : Type 1} {𝓤 : Ura M} (𝓛 : Logic 𝓤) where
   -- a function that is left with its result alone ends, where it has no lifetime and had one argument
   pub ends_with : (result : Fml) {φ : Type 0} → φ → ent 𝓤 (sem 𝓛 result) (sep 𝓤 (sep 𝓤 (emp 𝓤) (sep 𝓤 (sem 𝓛 (fsep ftrue ftrue)) (sem 𝓛 result))) (fact 𝓤 φ))
   ends_with result holds = qed 𝓛 (‵ result ∷ []) ∵ says ! holds $ nothing ! $ nothing ! $ fjoin ! $ join ! $ nothing ! $ join ! $ done !
+
+  -- a function of one reference begins with it and the token of its lifetime
+  pub begins_with : (κ : Lft) (q : Share) (self : Fml) → ent 𝓤 (sep 𝓤 (sep 𝓤 (sep 𝓤 (sem 𝓛 (flft κ q)) (emp 𝓤)) (sem 𝓛 (fsep self ftrue))) (emp 𝓤)) (sep 𝓤 (sem 𝓛 self) (sem 𝓛 (flft κ q)))
+  begins_with κ q self = qed 𝓛 (((‵ (flft κ q) ⊛ ‵ ftrue) ⊛ ‵ (fsep self ftrue)) ∷ ‵ ftrue ∷ []) ∵ split ! $ split ! $ move ! (2 ∷ []) $ fsplit ! $ keep ! (0 ∷ 2 ∷ []) $ done !
+
+  -- and ends with that token and what it lends
+  pub lends : (κ : Lft) (q : Share) (loan : Fml) → ent 𝓤 (sep 𝓤 (sem 𝓛 (flft κ q)) (sem 𝓛 loan)) (sep 𝓤 (sep 𝓤 (sem 𝓛 (flft κ q)) (emp 𝓤)) (sep 𝓤 (sem 𝓛 (fsep ftrue ftrue)) (sem 𝓛 loan)))
+  lends κ q loan = qed 𝓛 (‵ (flft κ q) ∷ ‵ loan ∷ []) ∵ nothing ! $ move ! (1 ∷ 0 ∷ []) $ join ! $ frame ! $ nothing ! $ nothing ! $ fjoin ! $ done !
