@@ -318,11 +318,12 @@ zeros_head : (rest : List ℕ) → zeros 32 ++ rest ≡ head_of rest
 unfolding zeros head_of
 zeros_head rest = refl
 
-pub blank : ℕ → ℕ → Contents
+-- a page with no items, and no page to the right
+abbrev pub blank : ℕ → ℕ → Contents
 blank level number = record { level = level; nsn = 0; right = 0; number = number; items = [] }
 
-pub fresh_is : (level number : ℕ) (bytes : List ℕ) → bytes ≡ zeros 4096 → overwrite (overwrite (overwrite bytes 0 (spell_16 level)) 4 (spell_16 4096)) 20 (spell_32 number) ≡ image_of (record { level = level; nsn = 0; right = 0; number = number; items = [] })
+pub fresh_is : (level number : ℕ) (bytes : List ℕ) → bytes ≡ zeros 4096 → overwrite (overwrite (overwrite bytes 0 (spell_16 level)) 4 (spell_16 4096)) 20 (spell_32 number) ≡ image_of (blank level number)
 unfolding image_of head_of
 fresh_is level number bytes e =
     ap (λ (zs : List ℕ). overwrite (overwrite (overwrite zs 0 (spell_16 level)) 4 (spell_16 4096)) 20 (spell_32 number)) (e ∙ sym (zeros-append 32 4064) ∙ zeros_head (zeros 4064)) ∙
-    ap (λ (zs : List ℕ). header (record { level = level; nsn = 0; right = 0; number = number; items = [] }) zs) (sym (append-nil (zeros 4064)))
+    ap (λ (zs : List ℕ). header (blank level number) zs) (sym (append-nil (zeros 4064)))

@@ -7,3 +7,4 @@ pub mod Parts
 pub mod Pieces
 pub mod Slots
 pub mod Steps
+pub mod Walks

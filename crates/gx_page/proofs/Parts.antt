@@ -11,6 +11,9 @@ use Rattle.gx_page.proofs.Slots.{slot_of}
 pub image_size : (bytes : List ℕ) → IsImage bytes → length bytes ≡ 4096
 image_size bytes i = ap length (sym i.image) ∙ length-image (read_of bytes) i.well_formed.fits
 
+pub image_back : (bytes : List ℕ) → IsImage bytes → image_of (read_of bytes) ≡ bytes
+image_back bytes i = i.image
+
 pub image_fits : (bytes : List ℕ) → IsImage bytes → 32 + 4 * length (read_of bytes).items + total (read_of bytes).items ≤ 4096
 image_fits bytes i = i.well_formed.fits
 

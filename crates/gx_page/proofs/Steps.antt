@@ -3,7 +3,7 @@ use Rattle.std.proofs.Common.{◌≡◌, ℕ, zero, suc, ◌+◌, ◌-◌, ◌*�
 use lib.Seq.{split_at, set_split}
 use Rattle.std.specs.Prelude.{slice_range}
 use Rattle.std.specs.List.{All, insert, remove, copy_within}
-use Rattle.std.proofs.lemmas.List.{drop_all, length-set}
+use Rattle.std.proofs.lemmas.List.{drop_all, take_all, length-set}
 use Rattle.std.proofs.lemmas.List.Edits.{length-paste}
 use Rattle.std.proofs.lemmas.List.Elements.{All-append, All-cons, All-take, All-drop, All-set, All-nil}
 use Rattle.gx_page.specs.Bytes.{zeros, spell_16, spell_32, spell_64, overwrite, AreBytes}
@@ -11,35 +11,34 @@ use Rattle.gx_page.specs.Contents.{Contents}
 use Rattle.gx_page.specs.Edits.{with_items}
 use Rattle.gx_page.specs.Format.{image_of, total, Fits, IsItem, IsWellFormed}
 use Rattle.gx_page.specs.Reading.{read_of, IsImage}
-use Rattle.gx_page.proofs.Pieces.{length-overwrite}
+use Rattle.gx_page.proofs.Pieces.{length-overwrite, length-zeros}
 use Rattle.gx_page.proofs.Images.{made}
-use Rattle.gx_page.proofs.Changes.{inserted, removed, Replaces, replaced, byte_set, item_at, level_set, nsn_set, right_set, number_set, fresh_is, total-append}
+use Rattle.gx_page.proofs.Changes.{inserted, removed, Replaces, replaced, byte_set, item_at, level_set, nsn_set, right_set, number_set, blank, fresh_is, total-append}
 use Rattle.gx_page.proofs.Moves.{after_opening, after_closing}
 use Rattle.gx_page.proofs.Parts.{image_size}
 
--- the block is the image of changed contents
-changed : (b b' : List ℕ) (old : Contents) (f : Contents → Contents) → read_of b ≡ old → b' ≡ image_of (f (read_of b)) → IsWellFormed (f (read_of b)) → IsImage b' × (read_of b' ≡ f old)
-changed b b' old f e is w = let m = made (f (read_of b)) w b' is in (m.0, m.1 ∙ ap f e)
+-- ---- the header
+level_goes : (b : List ℕ) (n : ℕ) → IsImage b → n < 2 ^ 16 → IsImage (overwrite b 0 (spell_16 n)) × (read_of (overwrite b 0 (spell_16 n)) ≡ record (read_of b) { level = n })
+level_goes b n i l = let f = i.well_formed in
+    made (record (read_of b) { level = n }) (record { level = l; nsn = f.nsn; right = f.right; number = f.number; items = f.items; fits = f.fits }) (overwrite b 0 (spell_16 n)) (ap (λ (xs : List ℕ). overwrite xs 0 (spell_16 n)) (sym i.image) ∙ level_set (read_of b) n)
 
-pub level_goes : (b b' : List ℕ) (old : Contents) (n : ℕ) → IsImage b → read_of b ≡ old → n < 2 ^ 16 → b' ≡ overwrite b 0 (spell_16 n) → IsImage b' × (read_of b' ≡ record old { level = n })
-level_goes b b' old n i e l w = let f = i.well_formed in
-    changed b b' old (λ v. record v { level = n }) e (w ∙ ap (λ (xs : List ℕ). overwrite xs 0 (spell_16 n)) (sym i.image) ∙ level_set (read_of b) n)
-    (record { level = l; nsn = f.nsn; right = f.right; number = f.number; items = f.items; fits = f.fits })
+pub level_image : (b : List ℕ) (n : ℕ) → IsImage b → n < 2 ^ 16 → IsImage (overwrite b 0 (spell_16 n))
+level_image b n i l = (level_goes b n i l).0
 
-pub nsn_goes : (b b' ys : List ℕ) (old : Contents) (n : ℕ) → IsImage b → read_of b ≡ old → n < 2 ^ 64 → ys ≡ spell_64 n → b' ≡ overwrite b 8 ys → IsImage b' × (read_of b' ≡ record old { nsn = n })
-nsn_goes b b' ys old n i e l s w = let f = i.well_formed in
-    changed b b' old (λ v. record v { nsn = n }) e (w ∙ ap (λ (zs : List ℕ). overwrite b 8 zs) s ∙ ap (λ (xs : List ℕ). overwrite xs 8 (spell_64 n)) (sym i.image) ∙ nsn_set (read_of b) n)
-    (record { level = f.level; nsn = l; right = f.right; number = f.number; items = f.items; fits = f.fits })
+pub level_read : (b : List ℕ) (n : ℕ) → IsImage b → n < 2 ^ 16 → read_of (overwrite b 0 (spell_16 n)) ≡ record (read_of b) { level = n }
+level_read b n i l = (level_goes b n i l).1
 
-pub right_goes : (b b' ys : List ℕ) (old : Contents) (n : ℕ) → IsImage b → read_of b ≡ old → n < 2 ^ 32 → ys ≡ spell_32 n → b' ≡ overwrite b 16 ys → IsImage b' × (read_of b' ≡ record old { right = n })
-right_goes b b' ys old n i e l s w = let f = i.well_formed in
-    changed b b' old (λ v. record v { right = n }) e (w ∙ ap (λ (zs : List ℕ). overwrite b 16 zs) s ∙ ap (λ (xs : List ℕ). overwrite xs 16 (spell_32 n)) (sym i.image) ∙ right_set (read_of b) n)
-    (record { level = f.level; nsn = f.nsn; right = l; number = f.number; items = f.items; fits = f.fits })
+pub nsn_goes : (b : List ℕ) (n : ℕ) → IsImage b → n < 2 ^ 64 → IsImage (overwrite b 8 (spell_64 n)) × (read_of (overwrite b 8 (spell_64 n)) ≡ record (read_of b) { nsn = n })
+nsn_goes b n i l = let f = i.well_formed in
+    made (record (read_of b) { nsn = n }) (record { level = f.level; nsn = l; right = f.right; number = f.number; items = f.items; fits = f.fits }) (overwrite b 8 (spell_64 n)) (ap (λ (xs : List ℕ). overwrite xs 8 (spell_64 n)) (sym i.image) ∙ nsn_set (read_of b) n)
 
-pub number_goes : (b b' ys : List ℕ) (old : Contents) (n : ℕ) → IsImage b → read_of b ≡ old → n < 2 ^ 32 → ys ≡ spell_32 n → b' ≡ overwrite b 20 ys → IsImage b' × (read_of b' ≡ record old { number = n })
-number_goes b b' ys old n i e l s w = let f = i.well_formed in
-    changed b b' old (λ v. record v { number = n }) e (w ∙ ap (λ (zs : List ℕ). overwrite b 20 zs) s ∙ ap (λ (xs : List ℕ). overwrite xs 20 (spell_32 n)) (sym i.image) ∙ number_set (read_of b) n)
-    (record { level = f.level; nsn = f.nsn; right = f.right; number = l; items = f.items; fits = f.fits })
+pub right_goes : (b : List ℕ) (n : ℕ) → IsImage b → n < 2 ^ 32 → IsImage (overwrite b 16 (spell_32 n)) × (read_of (overwrite b 16 (spell_32 n)) ≡ record (read_of b) { right = n })
+right_goes b n i l = let f = i.well_formed in
+    made (record (read_of b) { right = n }) (record { level = f.level; nsn = f.nsn; right = l; number = f.number; items = f.items; fits = f.fits }) (overwrite b 16 (spell_32 n)) (ap (λ (xs : List ℕ). overwrite xs 16 (spell_32 n)) (sym i.image) ∙ right_set (read_of b) n)
+
+pub number_goes : (b : List ℕ) (n : ℕ) → IsImage b → n < 2 ^ 32 → IsImage (overwrite b 20 (spell_32 n)) × (read_of (overwrite b 20 (spell_32 n)) ≡ record (read_of b) { number = n })
+number_goes b n i l = let f = i.well_formed in
+    made (record (read_of b) { number = n }) (record { level = f.level; nsn = f.nsn; right = f.right; number = l; items = f.items; fits = f.fits }) (overwrite b 20 (spell_32 n)) (ap (λ (xs : List ℕ). overwrite xs 20 (spell_32 n)) (sym i.image) ∙ number_set (read_of b) n)
 
 -- ---- the items
 
@@ -52,29 +51,26 @@ length-inserted items i x h = omega (arith, length-append (take i items) (x ∷ 
 total-inserted : (items : List (List ℕ)) (i : ℕ) (x : List ℕ) → total (insert items i x) ≡ total items + length x
 total-inserted items i x = omega (arith, total-append (take i items) (x ∷ drop i items), total-append (take i items) (drop i items), ap total (Rattle.std.proofs.Common.take-append-drop i items))
 
-pub insert_fits : (items : List (List ℕ)) (i : ℕ) (x : List ℕ) → i ≤ length items → 36 + 4 * length items + total items + length x ≤ 4096 → Fits (insert items i x)
-insert_fits items i x h room = omega (arith, length-inserted items i x h, total-inserted items i x)
+pub inserted_size : (items : List (List ℕ)) (i : ℕ) (x : List ℕ) → i ≤ length items → 4 * length (insert items i x) + total (insert items i x) ≡ 4 + 4 * length items + total items + length x
+inserted_size items i x h = omega (arith, length-inserted items i x h, total-inserted items i x)
 
-pub fits_insert : (items : List (List ℕ)) (i : ℕ) (x : List ℕ) → i ≤ length items → Fits (insert items i x) → 36 + 4 * length items + total items + length x ≤ 4096
-fits_insert items i x h fits = let f : 32 + 4 * length (insert items i x) + total (insert items i x) ≤ 4096 = fits in omega (arith, length-inserted items i x h, total-inserted items i x)
-
-pub insert_goes : (b b' : List ℕ) (old : Contents) (i : ℕ) (x : List ℕ) → IsImage b → read_of b ≡ old → i ≤ length (read_of b).items → 1 ≤ length x → AreBytes x → 36 + 4 * length (read_of b).items + total (read_of b).items + length x ≤ 4096
-    → b' ≡ image_of (with_items (read_of b) (insert (read_of b).items i x)) → IsImage b' × (read_of b' ≡ with_items old (insert old.items i x))
-insert_goes b b' old i x im e h some are room w =
+pub insert_goes : (b b' : List ℕ) (i : ℕ) (x : List ℕ) → IsImage b → i ≤ length (read_of b).items → 1 ≤ length x → AreBytes x → 36 + 4 * length (read_of b).items + total (read_of b).items + length x ≤ 4096
+    → b' ≡ image_of (with_items (read_of b) (insert (read_of b).items i x)) → IsImage b' × (read_of b' ≡ with_items (read_of b) (insert (read_of b).items i x))
+insert_goes b b' i x im h some are room =
     let items = (read_of b).items in let f = im.well_formed in
-    changed b b' old (λ v. with_items v (insert v.items i x)) e w (formed (read_of b) (insert items i x) f
-    (All-append IsItem (take i items) (x ∷ drop i items) (All-take IsItem i items f.items) (All-cons IsItem x (drop i items) (some, are) (All-drop IsItem i items f.items))) (insert_fits items i x h room))
+    made (with_items (read_of b) (insert items i x)) (formed (read_of b) (insert items i x) f
+    (All-append IsItem (take i items) (x ∷ drop i items) (All-take IsItem i items f.items) (All-cons IsItem x (drop i items) (some, are) (All-drop IsItem i items f.items))) (omega (arith, inserted_size items i x h))) b'
 
 remove_fits : (items : List (List ℕ)) (i : ℕ) → i < length items → Fits items → Fits (remove items i)
 remove_fits items i h fits =
     let f : 32 + 4 * length items + total items ≤ 4096 = fits in let split : items ≡ take i items ++ (get_or items i [] ∷ drop (suc i) items) = split_at items i [] h in
     omega (arith, length-append (take i items) (drop (suc i) items), total-append (take i items) (drop (suc i) items), total-append (take i items) (get_or items i [] ∷ drop (suc i) items), ap total split, length-take i items, length-drop (suc i) items)
 
-pub remove_goes : (b b' : List ℕ) (old : Contents) (i : ℕ) → IsImage b → read_of b ≡ old → i < length (read_of b).items → b' ≡ image_of (with_items (read_of b) (remove (read_of b).items i)) → IsImage b' × (read_of b' ≡ with_items old (remove old.items i))
-remove_goes b b' old i im e h w =
+pub remove_goes : (b b' : List ℕ) (i : ℕ) → IsImage b → i < length (read_of b).items → b' ≡ image_of (with_items (read_of b) (remove (read_of b).items i)) → IsImage b' × (read_of b' ≡ with_items (read_of b) (remove (read_of b).items i))
+remove_goes b b' i im h =
     let items = (read_of b).items in let f = im.well_formed in
-    changed b b' old (λ v. with_items v (remove v.items i)) e w (formed (read_of b) (remove items i) f
-    (All-append IsItem (take i items) (drop (suc i) items) (All-take IsItem i items f.items) (All-drop IsItem (suc i) items f.items)) (remove_fits items i h f.fits))
+    made (with_items (read_of b) (remove items i)) (formed (read_of b) (remove items i) f
+    (All-append IsItem (take i items) (drop (suc i) items) (All-take IsItem i items f.items) (All-drop IsItem (suc i) items f.items)) (remove_fits items i h f.fits)) b'
 
 set_fits : (items : List (List ℕ)) (i : ℕ) (y : List ℕ) → i < length items → length y ≡ length (get_or items i []) → Fits items → Fits (set items i y)
 set_fits items i y h same fits =
@@ -84,12 +80,12 @@ set_fits items i y h same fits =
 replaces : (b : List ℕ) (i place : ℕ) → IsImage b → i < length (read_of b).items → place + (total (take i (read_of b).items) + length (get_or (read_of b).items i [])) ≡ 4096 → Replaces b i place (read_of b)
 replaces b i place im h p = record { image = sym im.image; slot = h; fits = im.well_formed.fits; place_is = p }
 
-pub replace_goes : (b b' : List ℕ) (old : Contents) (i place : ℕ) (y : List ℕ) → IsImage b → read_of b ≡ old → i < length (read_of b).items → place + (total (take i (read_of b).items) + length (get_or (read_of b).items i [])) ≡ 4096
-    → length y ≡ length (get_or (read_of b).items i []) → AreBytes y → b' ≡ overwrite b place y → IsImage b' × (read_of b' ≡ with_items old (set old.items i y))
-replace_goes b b' old i place y im e h p same are w =
+pub item_written : (b b' : List ℕ) (place i : ℕ) (y : List ℕ) → IsImage b → i < length (read_of b).items → place + (total (take i (read_of b).items) + length (get_or (read_of b).items i [])) ≡ 4096
+    → length y ≡ length (get_or (read_of b).items i []) → AreBytes y → b' ≡ overwrite b place y → IsImage b' × (read_of b' ≡ with_items (read_of b) (set (read_of b).items i y))
+item_written b b' place i y im h p same are w =
     let items = (read_of b).items in let f = im.well_formed in let some : 1 ≤ length (get_or items i []) = (f.items i [] h).0 in
-    changed b b' old (λ v. with_items v (set v.items i y)) e (w ∙ replaced b i place (read_of b) y (replaces b i place im h p) same)
-    (formed (read_of b) (set items i y) f (All-set IsItem items i y (omega arith, are) f.items) (set_fits items i y h same f.fits))
+    made (with_items (read_of b) (set items i y)) (formed (read_of b) (set items i y) f (All-set IsItem items i y (omega arith, are) f.items) (set_fits items i y h same f.fits)) b'
+    (w ∙ replaced b i place (read_of b) y (replaces b i place im h p) same)
 
 set_are : (x : List ℕ) (k c : ℕ) → AreBytes x → c < 256 → AreBytes (set x k c)
 set_are [] k c are l j = are j
@@ -98,37 +94,38 @@ set_are (y ∷ x) zero c are l (suc j) = are (suc j)
 set_are (y ∷ x) (suc k) c are l zero = are zero
 set_are (y ∷ x) (suc k) c are l (suc j) = set_are x k c (λ m. are (suc m)) l j
 
-pub byte_goes : (b b' : List ℕ) (old : Contents) (i place k c : ℕ) → IsImage b → read_of b ≡ old → i < length (read_of b).items → place + (total (take i (read_of b).items) + length (get_or (read_of b).items i [])) ≡ 4096
-    → k < length (get_or (read_of b).items i []) → c < 256 → b' ≡ set b (place + k) c → IsImage b' × (read_of b' ≡ with_items old (set old.items i (set (get_or old.items i []) k c)))
-byte_goes b b' old i place k c im e h p l small w =
+pub byte_written : (b b' : List ℕ) (place i k c : ℕ) → IsImage b → i < length (read_of b).items → place + (total (take i (read_of b).items) + length (get_or (read_of b).items i [])) ≡ 4096
+    → k < length (get_or (read_of b).items i []) → c < 256 → b' ≡ set b (place + k) c → IsImage b' × (read_of b' ≡ with_items (read_of b) (set (read_of b).items i (set (get_or (read_of b).items i []) k c)))
+byte_written b b' place i k c im h p l small w =
     let items = (read_of b).items in let f = im.well_formed in let x = get_or items i [] in let y = set x k c in let item = f.items i [] h in
     let size : length y ≡ length x = length-set x k c in
-    changed b b' old (λ v. with_items v (set v.items i (set (get_or v.items i []) k c))) e (w ∙ byte_set b i place k c (read_of b) (replaces b i place im h p) l)
-    (formed (read_of b) (set items i y) f (All-set IsItem items i y (omega (arith, item.0), set_are x k c item.1 small) f.items) (set_fits items i y h size f.fits))
+    made (with_items (read_of b) (set items i y)) (formed (read_of b) (set items i y) f (All-set IsItem items i y (omega (arith, item.0), set_are x k c item.1 small) f.items) (set_fits items i y h size f.fits)) b'
+    (w ∙ byte_set b i place k c (read_of b) (replaces b i place im h p) l)
 
-pub item_goes : (b : List ℕ) (i place size : ℕ) → IsImage b → i < length (read_of b).items → place + (total (take i (read_of b).items) + length (get_or (read_of b).items i [])) ≡ 4096 → size ≡ length (get_or (read_of b).items i [])
-    → slice_range b place (place + size) ≡ get_or (read_of b).items i []
-item_goes b i place size im h p s = ap (λ (m : ℕ). slice_range b place (place + m)) s ∙ item_at b i place (read_of b) (replaces b i place im h p)
+pub item_read : (b : List ℕ) (place i : ℕ) → IsImage b → i < length (read_of b).items → place + (total (take i (read_of b).items) + length (get_or (read_of b).items i [])) ≡ 4096
+    → slice_range b place (place + length (get_or (read_of b).items i [])) ≡ get_or (read_of b).items i []
+item_read b place i im h p = item_at b i place (read_of b) (replaces b i place im h p)
 
 pub item_some : (b : List ℕ) (i : ℕ) → IsImage b → i < length (read_of b).items → 1 ≤ length (get_or (read_of b).items i [])
 item_some b i im h = (im.well_formed.items i [] h).0
 
 -- ---- the whole block
 
-pub whole : (xs ys : List ℕ) → length xs ≤ length ys → overwrite xs 0 ys ≡ ys
-whole xs ys h = ap (λ (zs : List ℕ). ys ++ zs) (drop_all (0 + length ys) xs (omega arith)) ∙ append-nil ys
+pub whole_read : (b : List ℕ) → IsImage b → slice_range b 0 4096 ≡ image_of (read_of b)
+whole_read b i = let size = image_size b i in take_all 4096 b (omega arith) ∙ sym i.image
 
-pub whole_goes : (b b' ys : List ℕ) → length b ≡ 4096 → IsImage ys → b' ≡ overwrite b 0 ys → IsImage b' × (read_of b' ≡ read_of ys) × (image_of (read_of b') ≡ ys)
-whole_goes b b' ys size im w =
-    let same : b' ≡ ys = w ∙ whole b ys (omega (arith, image_size ys im)) in
-    (subst IsImage (sym same) im, ap read_of same, ap (λ (xs : List ℕ). image_of (read_of xs)) same ∙ im.image)
+pub whole_written : (b ys : List ℕ) → IsImage ys → length b ≡ 4096 → overwrite b 0 ys ≡ ys
+whole_written b ys i size = ap (λ (zs : List ℕ). ys ++ zs) (drop_all (0 + length ys) b (omega (arith, image_size ys i))) ∙ append-nil ys
 
-pub fresh_goes : (b b₁ b₂ b₃ ys : List ℕ) (level number : ℕ) → b ≡ zeros 4096 → b₁ ≡ overwrite b 0 (spell_16 level) → b₂ ≡ overwrite b₁ 4 (spell_16 4096) → ys ≡ spell_32 number → b₃ ≡ overwrite b₂ 20 ys → level < 2 ^ 16 → number < 2 ^ 32
-    → IsImage b₃ × (read_of b₃ ≡ record { level = level; nsn = 0; right = 0; number = number; items = [] })
-fresh_goes b b₁ b₂ b₃ ys level number e w₁ w₂ s w₃ l n =
-    let v : Contents = record { level = level; nsn = 0; right = 0; number = number; items = [] } in
-    made v (record { level = l; nsn = lit< tt; right = lit< tt; number = n; items = All-nil IsItem; fits = omega arith }) b₃
-    (w₃ ∙ ap (λ (zs : List ℕ). overwrite b₂ 20 zs) s ∙ ap (λ (xs : List ℕ). overwrite xs 20 (spell_32 number)) (w₂ ∙ ap (λ (xs : List ℕ). overwrite xs 4 (spell_16 4096)) w₁) ∙ fresh_is level number b e)
+pub zeros_written : (ys : List ℕ) → IsImage ys → overwrite (zeros 4096) 0 ys ≡ ys
+zeros_written ys i = whole_written (zeros 4096) ys i (length-zeros 4096)
+
+pub fresh_goes : (level number : ℕ) → level < 2 ^ 16 → number < 2 ^ 32
+    → IsImage (overwrite (overwrite (overwrite (zeros 4096) 0 (spell_16 level)) 4 (spell_16 4096)) 20 (spell_32 number))
+    × (read_of (overwrite (overwrite (overwrite (zeros 4096) 0 (spell_16 level)) 4 (spell_16 4096)) 20 (spell_32 number)) ≡ blank level number)
+fresh_goes level number l n =
+    made (blank level number) (record { level = l; nsn = lit< tt; right = lit< tt; number = n; items = All-nil IsItem; fits = omega arith })
+    (overwrite (overwrite (overwrite (zeros 4096) 0 (spell_16 level)) 4 (spell_16 4096)) 20 (spell_32 number)) (fresh_is level number (zeros 4096) refl)
 
 -- ---- the edits of a block, write by write
 

@@ -5,7 +5,7 @@
 ghost use Rattle.std.specs.Prelude.{◌≡◌, ℕ, ◌+◌, ◌-◌, ◌<◌, ◌≤◌, List, length, IfOk, slice_index, slice_range, slice_set};
 ghost use Rattle.std.specs.Borrow.{sem};
 ghost use Rattle.std.specs.List.{copy_within};
-ghost use Rattle.gx_page.specs.Bytes.{zeros, spell_16, number_16_at, overwrite};
+ghost use Rattle.gx_page.specs.Bytes.{zeros, spell_16, spell_32, spell_64, number_16_at, overwrite};
 ghost use Rattle.gx_page.specs.Ownership.{block_owns, block_lends};
 
 use std::alloc::{AllocError, Global};
@@ -140,6 +140,22 @@ impl Block {
     pub(crate) fn set_u16(&mut self, at: usize, value: u16)
         requires { at + 2 ≤ PAGE_SIZE }
         ensures { self.new.bytes ≡ overwrite self.old.bytes at (spell_16 value) }
+    {
+        self.write(at, &value.to_be_bytes());
+    }
+
+    /// Spells a number in four bytes.
+    pub(crate) fn set_u32(&mut self, at: usize, value: u32)
+        requires { at + 4 ≤ PAGE_SIZE }
+        ensures { self.new.bytes ≡ overwrite self.old.bytes at (spell_32 value) }
+    {
+        self.write(at, &value.to_be_bytes());
+    }
+
+    /// Spells a number in eight bytes.
+    pub(crate) fn set_u64(&mut self, at: usize, value: u64)
+        requires { at + 8 ≤ PAGE_SIZE }
+        ensures { self.new.bytes ≡ overwrite self.old.bytes at (spell_64 value) }
     {
         self.write(at, &value.to_be_bytes());
     }

@@ -83,6 +83,7 @@ fn is_free_zero(bytes: &[u8]) -> bool
 }
 
 /// The own number of the page whose image the bytes are, or their first fault.
+#[tactic(auto, using(crate::proofs::Faultless::is_image), unfolding(crate::specs::Reading::read_of))]
 pub(crate) fn check(bytes: &[u8]) -> Result<u32, PageFault>
     ensures faults { MatchResult result (λ _. fault_of bytes.now ≡ None) (λ fault. fault_of bytes.now ≡ Some fault) }
     ensures image { MatchResult result (λ number. IsImage bytes.now × (number ≡ (read_of bytes.now).number)) (λ _. ⊤) }

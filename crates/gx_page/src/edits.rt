@@ -1,12 +1,12 @@
 //! Edits of a block that is an image. Each leaves the image of the edited contents.
-ghost use Rattle.std.specs.Prelude.{◌≡◌, ℕ, ◌+◌, ◌*◌, ◌<◌, ◌≤◌, length};
+ghost use Rattle.std.specs.Prelude.{◌≡◌, ℕ, ◌+◌, ◌*◌, ◌<◌, ◌≤◌, [], length, slice_index_or, slice_set};
 ghost use Rattle.std.specs.List.{insert, remove};
 ghost use Rattle.gx_page.specs.Edits.{with_items};
-ghost use Rattle.gx_page.specs.Format.{image_of, total};
+ghost use Rattle.gx_page.specs.Format.{total};
 ghost use Rattle.gx_page.specs.Reading.{IsImage, read_of};
 
 use crate::block::Block;
-use crate::directory::{close_slot, count_of, end_of, open_slot, size_of, start_of};
+use crate::directory::{close_slot, count_of, end_of, open_slot, place_of, size_of, start_of};
 use crate::layout::{COUNT, START};
 
 /// Puts an item in front of a slot, where it fits. The items from that slot on move down by one copy.
@@ -14,7 +14,9 @@ pub(crate) fn insert(block: &mut Block, slot: usize, bytes: &[u8])
     requires image { IsImage block.old.bytes }
     requires slot { slot ≤ length (read_of block.old.bytes).items }
     requires fits { 36 + 4 * length (read_of block.old.bytes).items + total (read_of block.old.bytes).items + length bytes.now ≤ 4096 }
-    ensures { block.new.bytes ≡ image_of (with_items (read_of block.old.bytes) (insert (read_of block.old.bytes).items slot bytes.now)) }
+    requires item { 1 ≤ length bytes.now }
+    ensures image { IsImage block.new.bytes }
+    ensures items { read_of block.new.bytes ≡ with_items (read_of block.old.bytes) (insert (read_of block.old.bytes).items slot bytes.now) }
 {
     let count = count_of(block);
     let start = start_of(block);
@@ -32,7 +34,8 @@ pub(crate) fn insert(block: &mut Block, slot: usize, bytes: &[u8])
 pub(crate) fn remove(block: &mut Block, slot: usize)
     requires image { IsImage block.old.bytes }
     requires slot { slot < length (read_of block.old.bytes).items }
-    ensures { block.new.bytes ≡ image_of (with_items (read_of block.old.bytes) (remove (read_of block.old.bytes).items slot)) }
+    ensures image { IsImage block.new.bytes }
+    ensures items { read_of block.new.bytes ≡ with_items (read_of block.old.bytes) (remove (read_of block.old.bytes).items slot) }
 {
     let count = count_of(block);
     let start = start_of(block);
@@ -44,4 +47,28 @@ pub(crate) fn remove(block: &mut Block, slot: usize)
     close_slot(block, slot, usize::from(count), end);
     block.set_u16(COUNT, count - 1);
     block.set_u16(START, start + size);
+}
+
+/// Writes bytes over a slot's item, which has as many.
+pub(crate) fn replace(block: &mut Block, slot: usize, bytes: &[u8])
+    requires image { IsImage block.old.bytes }
+    requires slot { slot < length (read_of block.old.bytes).items }
+    requires size { length bytes.now ≡ length (slice_index_or (read_of block.old.bytes).items slot []) }
+    ensures image { IsImage block.new.bytes }
+    ensures items { read_of block.new.bytes ≡ with_items (read_of block.old.bytes) (slice_set (read_of block.old.bytes).items slot bytes.now) }
+{
+    let from = usize::from(place_of(block, slot));
+    block.write(from, bytes);
+}
+
+/// Writes one byte of a slot's item.
+pub(crate) fn set_byte(block: &mut Block, slot: usize, index: usize, byte: u8)
+    requires image { IsImage block.old.bytes }
+    requires slot { slot < length (read_of block.old.bytes).items }
+    requires index { index < length (slice_index_or (read_of block.old.bytes).items slot []) }
+    ensures image { IsImage block.new.bytes }
+    ensures items { read_of block.new.bytes ≡ with_items (read_of block.old.bytes) (slice_set (read_of block.old.bytes).items slot (slice_set (slice_index_or (read_of block.old.bytes).items slot []) index byte)) }
+{
+    let from = usize::from(place_of(block, slot));
+    block.set_byte(from + index, byte);
 }

@@ -36,6 +36,7 @@ impl Model for Page {
 impl Page {
     /// A page of a level and a number with no items, with sequence number 0 and no page to the right.
     /// Refused with `Memory` where there is none for the block.
+    #[tactic(auto, using(crate::proofs::Steps::fresh_goes))]
     pub fn fresh(alloc: Global, level: u16, number: u32) -> Result<Page, PageFault>
         ensures page { IfOk result (λ page. page ≡ record { level = level; nsn = 0; right = 0; number = number; items = [] }) }
         ensures fault { IfErr result (λ fault. fault ≡ PageFault.Memory) }
@@ -45,12 +46,13 @@ impl Page {
         };
         block.set_u16(0, level);
         block.set_u16(START, 4096);
-        block.write(NUMBER, &number.to_be_bytes());
+        block.set_u32(NUMBER, number);
         Ok(Page { block })
     }
 
     /// The page whose image the bytes are.
     /// Refused with the first fault of the bytes, and after all tests with `Memory` where there is none for the block.
+    #[tactic(auto, using(crate::proofs::Steps::zeros_written))]
     pub fn from_image(alloc: Global, bytes: &[u8]) -> Result<Page, PageFault>
         ensures page { IfOk result (λ page. (fault_of bytes.now ≡ None) × (image_of page ≡ bytes.now) × IsWellFormed page) }
         ensures fault { IfErr result (λ fault. (fault_of bytes.now ≡ Some fault) ⊎ ((fault_of bytes.now ≡ None) × (fault ≡ PageFault.Memory))) }
@@ -65,6 +67,7 @@ impl Page {
 
     /// Becomes the page whose image the bytes are, with no memory taken.
     /// Refused with the first fault of the bytes, and the page is then as it was.
+    #[tactic(auto, using(crate::proofs::Steps::whole_written, crate::proofs::Parts::image_size))]
     pub fn load(&mut self, bytes: &[u8]) -> Result<(), PageFault>
         ensures loaded { IfOk result (λ _. (fault_of bytes.now ≡ None) × (image_of self.new ≡ bytes.now) × IsWellFormed self.new) }
         ensures fault { IfErr result (λ fault. (fault_of bytes.now ≡ Some fault) × (self.new ≡ self.old)) }
@@ -84,6 +87,7 @@ impl Page {
     }
 
     /// The page's 4,096 bytes, in place.
+    #[tactic(auto, using(crate::proofs::Steps::whole_read, crate::proofs::Parts::image_size, crate::proofs::Parts::image_back))]
     pub fn image(&self) -> &[u8]
         ensures image { result.now ≡ image_of self.now }
         ensures size { length result.now ≡ PAGE_SIZE }
@@ -103,6 +107,7 @@ impl Page {
     }
 
     /// A slot's item, in place.
+    #[tactic(auto, using(crate::proofs::Steps::item_read, crate::proofs::Steps::item_some))]
     pub fn get(&self, slot: usize) -> &[u8]
         requires { slot < length self.now.items }
         ensures item { result.now ≡ slice_index_or self.now.items slot [] }
@@ -115,6 +120,7 @@ impl Page {
 
     /// Puts an item of 1 to 4,060 bytes in front of a slot, or behind the last.
     /// False where the page has no room for it and its slot, and the page is then as it was.
+    #[tactic(auto, using(crate::proofs::Steps::inserted_size))]
     pub fn insert(&mut self, slot: usize, bytes: &[u8]) -> bool
         requires slot { slot ≤ length self.old.items }
         requires item { (1 ≤ length bytes.now) × (length bytes.now ≤ 4060) }
@@ -145,8 +151,7 @@ impl Page {
         requires index { index < length (slice_index_or self.old.items slot []) }
         ensures { self.new ≡ with_items self.old (slice_set self.old.items slot (slice_set (slice_index_or self.old.items slot []) index byte)) }
     {
-        let from = usize::from(place_of(&self.block, slot));
-        self.block.set_byte(from + index, byte);
+        edits::set_byte(&mut self.block, slot, index, byte);
     }
 
     /// Puts bytes in the place of a slot's item, which has as many.
@@ -155,8 +160,7 @@ impl Page {
         requires size { length bytes.now ≡ length (slice_index_or self.old.items slot []) }
         ensures { self.new ≡ with_items self.old (slice_set self.old.items slot bytes.now) }
     {
-        let from = usize::from(place_of(&self.block, slot));
-        self.block.write(from, bytes);
+        edits::replace(&mut self.block, slot, bytes);
     }
 
     /// The level, 0 for a leaf.
@@ -192,6 +196,7 @@ impl Page {
     }
 
     /// Sets the level.
+    #[tactic(auto, using(crate::proofs::Steps::level_image, crate::proofs::Steps::level_read))]
     pub fn set_level(&mut self, level: u16)
         ensures { self.new ≡ record self.old { level = level } }
     {
@@ -199,27 +204,31 @@ impl Page {
     }
 
     /// Sets the sequence number.
+    #[tactic(auto, using(crate::proofs::Steps::nsn_goes))]
     pub fn set_nsn(&mut self, nsn: u64)
         ensures { self.new ≡ record self.old { nsn = nsn } }
     {
-        self.block.write(NSN, &nsn.to_be_bytes());
+        self.block.set_u64(NSN, nsn);
     }
 
     /// Sets the number of the page to the right, 0 for none.
+    #[tactic(auto, using(crate::proofs::Steps::right_goes))]
     pub fn set_right(&mut self, right: u32)
         ensures { self.new ≡ record self.old { right = right } }
     {
-        self.block.write(RIGHT, &right.to_be_bytes());
+        self.block.set_u32(RIGHT, right);
     }
 
     /// Sets the page's own number.
+    #[tactic(auto, using(crate::proofs::Steps::number_goes))]
     pub fn set_number(&mut self, number: u32)
         ensures { self.new ≡ record self.old { number = number } }
     {
-        self.block.write(NUMBER, &number.to_be_bytes());
+        self.block.set_u32(NUMBER, number);
     }
 
     /// Becomes what the other page is, with no memory taken.
+    #[tactic(auto, using(crate::proofs::Steps::whole_written, crate::proofs::Parts::image_size))]
     pub fn copy_from(&mut self, other: &Page)
         ensures { self.new ≡ other.now }
     {

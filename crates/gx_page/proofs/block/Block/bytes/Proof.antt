@@ -1,34 +1,38 @@
 -- `bytes` lends what lies behind the pointer, which a `&` to the block holds.
-use Rattle.std.proofs.Common.{◌≡◌, ℕ, ◌+◌, List, [], ◌∷◌, refl}
+use Rattle.std.proofs.Common.{◌≡◌, ℕ, List, [], ◌∷◌, refl, sym, ap, ◌∙◌}
 use mir.Syntax.{named}
 use mir.Val.{Val, vptr}
-use base.Logic.{SProp, ent, sep, emp}
-use base.Fml.{ftrue, fhide, flft}
+use base.Fml.{fhide, flft}
+use base.Logic.{SProp, ent, sep, via}
 use seplogic.Ra.Ura.{Ura}
 use types.Logic.{Logic, sem}
-use types.Kit.{‵, raw, ◌⊛◌, at_ret, ◌$◌, ◌∵◌, !, qed, by, move, keep, drop, split, join, fsplit, fjoin, use0, use1, feq_i, done}
-use types.Run.{stop, fld, hop, look, addr, of_opd, first, blocks, exec, returns, enter}
+use types.Kit.{by, drop, split3, ‵, raw, ◌⊛◌, at_ret, ◌$◌, ◌∵◌, !, qed, move, keep, split, fsplit, fjoin, feq_i, frame, rewrite, suffices, use1, done}
+use types.Part.{whole, sub, look_in}
+use types.Run.{stop, fld, hop, addr, of_opd, first, blocks, exec, returns, enter}
 use types.ByLocal.{alloc_all, pass_all, free_all, look_at, get, through, sets, sets_last, env}
-use contract.Monad.{fact, fact_i}
+use contract.Monad.{fact}
 use contract.Running.{tables}
+use denote.Copied.{Copied, Struct-Copied}
 use denote.Exit.{yes}
-use denote.Memory.{hidden_shr}
-use denote.Opens.{shr_dup, unhide, hide}
-use denote.RattleType.{RattleType, RowLaws, owns}
-use denote.RawPtr.{RawPtr, InBlock, block_of, count_of, ptr_row_laws}
-use denote.Ref.{shr_vals, shr_Tells}
-use denote.Signature.{types_at, plain}
-use denote.Steps.{nothing, heard}
-use denote.Struct.Owning.{shape, to}
+use denote.Laws.{Is, shows}
+use denote.Memory.{cell_at, hidden_shr}
+use denote.Opens.{unhide, hide}
+use denote.RattleType.{RattleType}
+use denote.RawPtr.{Ptr, block_ptr, InBlock, block_of, count_of, at_block}
+use denote.Ref.{Bor, ShrRef, shr_vals, shr_Tells}
+use denote.Signature.{plain, shr_ref_to}
+use denote.Steps.{heard, looks, shuts, peeks}
+use denote.Struct.Laws.{RawPtr-copy, alones, copieds}
 use denote.Struct.Lending.{in_block_says, lent_out}
-use denote.Struct.Struct.{Struct, Struct-row_laws}
-use denote.Triple.Walked.{Stays, stay_none_ref, walk_of, Goes-none_ref}
+use denote.Struct.Owning.{shape, to}
+use denote.Struct.Struct.{Struct}
+use denote.Triple.Walked.{says, Stays, stay_dropped, walk_of, ends_at, Goes-dropped}
 use Rattle.std.proofs.VecSteps.Shapes.{after}
-use Rattle.std.proofs.Words.{pointer_in, pointer_out}
-use Rattle.std.proofs.raw_atomic.Walks.{proved, leaves}
+use Rattle.std.proofs.raw_atomic.Walks.{proved}
 use Rattle.std.specs.contracts.alloc.Global as heap
-use Rattle.gx_page.proofs.Memory.{handle_shared}
-use Rattle.gx_page.proofs.block.Block.TheLaws.{the_row_laws}
+use Rattle.gx_page.specs.Ownership.{the_bytes}
+use Rattle.gx_page.proofs.Walks.{begins_with, lends}
+use Rattle.gx_page.proofs.Memory.{handle_copy, word, fields_tell}
 use Rattle.gx_page.specs.contracts.block.Block as block
 use Rattle.gx_page.specs.contracts.block.Block.bytes.{ended, clauses}
 use Rattle.gx_page.specs.contracts.block.Block.bytes.Key.{name as #self}
@@ -42,37 +46,36 @@ R = block.the_row
 abbrev Fields : RattleType
 Fields = Struct (shape block.the_type)
 
-fields_laws : RowLaws Fields
-fields_laws = Struct-row_laws (shape block.the_type) (ptr_row_laws, (handle_shared.shr_laws, tt))
-
-shows_pointer : {M : Type 1} {𝓤 : Ura M} (𝓛 : Logic 𝓤) (κ : List ℕ) (d : R.Denot) (b o : ℕ)
-    → ent 𝓤 (sem 𝓛 (hidden_shr Fields κ (to block.the_type d) b o)) (sep 𝓤 (sem 𝓛 (hidden_shr RawPtr κ d.at b (o + 0))) (sem 𝓛 (hidden_shr Fields κ (to block.the_type d) b o)))
-shows_pointer 𝓛 κ d b o = qed 𝓛 (‵ (hidden_shr Fields κ (to block.the_type d) b o) ∷ []) ∵
-    shr_dup ! Fields fields_laws (to block.the_type d) b o κ $ unhide ! $ fsplit ! $ fsplit ! $ hide ! $ keep ! (0 ∷ 3 ∷ []) $ done !
-
 abbrev stayed : Stays ended.signature.params ended.kept
-stayed = (stay_none_ref (0 ∷ []) tt (plain (λ _. R)) yes, tt)
+stayed = (stay_dropped (shr_ref_to (0 ∷ []) tt (plain (λ _. R))) yes, tt)
+
+module _ {M : Type 1} {𝓤 : Ura M} (𝓛 : Logic 𝓤) where
+  -- the two fields are copied, so a `&` to them is read
+  fields_copied : Copied 𝓛 Fields
+  fields_copied = Struct-Copied 𝓛 (shape block.the_type) (alones (block.the_type).parts (RawPtr-copy, (handle_copy, tt))) (copieds 𝓛 (block.the_type).parts (RawPtr-copy, (handle_copy, tt)))
+
+  -- a `&` to a block is a `&` to its fields and a `&` to its bytes, and the pointer is not null
+  reaches : (κ : List ℕ) (d : R.Denot) (b o : ℕ)
+      → ent 𝓤 (sem 𝓛 (hidden_shr R κ d b o)) (sep 𝓤 (sem 𝓛 (hidden_shr Fields κ (to block.the_type d) b o)) (sep 𝓤 (sem 𝓛 (hidden_shr the_bytes κ d.bytes (block_of d.at) (count_of d.at))) (fact 𝓤 (InBlock d.at))))
+  reaches κ d b o =
+      qed 𝓛 (‵ (hidden_shr R κ d b o) ∷ []) ∵ use1 𝓛 (‵ (hidden_shr Fields κ (to block.the_type d) b o) ⊛ ‵ (fhide (block.the_lent d d.at κ))) (lent_out 𝓛 block.struct (block.the_codes heap.the_row.coded) block.the_heap block.the_lent κ d b o) $ split ! $ frame ! $
+      unhide ! $ fsplit ! $ use1 𝓛 (raw (fact 𝓤 (InBlock d.at))) (in_block_says 𝓛 d.at) $ move ! (1 ∷ []) $ hide ! $ done !
 
 pub bytes_spec : {M : Type 1} → statement M
 bytes_spec 𝓤 𝓛 𝓜 𝓡 wired =
-    let H = 𝓛.H in let 𝓣 = tables 𝓤 H 𝓜 𝓡 𝓡.env in let c = clauses 𝓛 𝓜.mem 𝓡.returns in
-    proved 𝓛 ended stayed c 𝓜 𝓡 (Goes-none_ref 𝓛 1 (0 ∷ []) tt (plain (λ _. R)) yes, tt) #self code.function (code.unfolded 𝓤 H 𝓜 𝓡 wired)
-    (λ κs. (shr_vals, tt)) (λ κs. (shr_Tells (named 0) κs.0 R, tt)) (λ κs qs bounds a g are.
-    let κ = κs.0 in let q = qs.0 in let b = a.0.ref_ptr.0 in let o = a.0.ref_ptr.1 in let d = a.0.now in let vs : List Val × Unit {0} = (shr_vals a.0, tt) in
-    let z : (walk_of 𝓛 ended stayed c).Ghost = ((κs, qs, bounds, a, vs), g) in let Post : Val → SProp 𝓤 = (walk_of 𝓛 ended stayed c).post z in
-    let b' = block_of d.at in let o' = count_of d.at in
-    qed 𝓛 (((‵ (flft κ q) ⊛ ‵ ftrue) ⊛ ‵ (owns (types_at ended.signature.params κs) a vs)) ∷ ‵ ftrue ∷ []) ∵ split ! $ split ! $ move ! (2 ∷ []) $ fsplit ! $ fsplit ! $ drop ! $ keep ! (0 ∷ 2 ∷ []) $
-    -- [the `&` to the block; the token of its lifetime]
-    shr_dup ! R the_row_laws.shr_laws d b o κ $
-    use1 𝓛 (‵ (hidden_shr Fields κ (to block.the_type d) b o) ⊛ ‵ (fhide (block.the_lent d d.at κ))) (lent_out 𝓛 block.struct (block.the_codes heap.the_row.coded) block.the_heap block.the_lent κ d b o) $ split ! $
-    move ! (1 ∷ []) $ unhide ! $ fsplit ! $ use1 𝓛 (raw (fact 𝓤 (InBlock d.at))) (in_block_says 𝓛 d.at) $ heard ! (InBlock d.at) (λ inside. hide ! $ move ! (1 ∷ 3 ∷ []) $
-    -- [the fields; the token; the bytes; the `&` to the block]
-    enter ! 𝓣.C 𝓣.Λ code.function (shr_vals a.0) Post $ alloc_all ! (λ l. pass_all ! refl ((tt, tt), tt) $ let Ev = env code.function.locals l in
-    first ! $ blocks ! $ pointer_in ! tt d.at inside b (o + 0) (shows_pointer 𝓛 κ d b o) (λ s.
-    sets_last ! (addr ! (through ! refl (fld ! refl (hop ! (look ! 1 refl) (stop !))))) refl (tt, tt) $ exec ! 𝓣.C 𝓣.Λ Ev (after 1 code.function.body) (at_ret Ev Post) $
-    pointer_out ! tt d.at inside b (o + 0) $ sets ! (of_opd ! (get ! refl)) refl (tt, tt) $ returns ! (look_at ! 0 refl) $ free_all ! refl $ keep ! (3 ∷ 2 ∷ 0 ∷ []) $
-    -- [the `&` to the block; the bytes; the token]
-    feq_i ! (List Val) (vptr b o ∷ []) (vptr b o ∷ []) refl $ fjoin ! $ nothing ! $ move ! (1 ∷ 0 ∷ []) $ fjoin ! $ move ! (1 ∷ []) $
-    feq_i ! (List Val) (vptr b' o' ∷ []) (vptr b' o' ∷ []) refl $ fjoin ! $ move ! (1 ∷ 0 ∷ []) $ nothing ! $ move ! (3 ∷ 0 ∷ []) $ join ! $
-    use0 𝓛 (raw (fact 𝓤 (d.bytes ≡ d.bytes))) (fact_i 𝓤 (d.bytes ≡ d.bytes) (emp 𝓤) refl) $ keep ! (1 ∷ 2 ∷ 3 ∷ 0 ∷ []) $
-    by ! (leaves 𝓛 ended stayed c z (vptr b' o') (record { ref_ptr = (b', o'); now = d.bytes }) (tt, tt) (tt, tt))))))
+    let c = clauses 𝓛 𝓜.mem 𝓡.returns in let 𝓣 = tables 𝓤 𝓛.H 𝓜 𝓡 𝓡.env in
+    proved 𝓛 ended stayed c 𝓜 𝓡 (Goes-dropped 𝓛 1 (shr_ref_to (0 ∷ []) tt (plain (λ _. R))) yes (λ κs x f. refl), tt) #self code.function (code.unfolded 𝓤 𝓛.H 𝓜 𝓡 wired) (λ κs. (shr_vals, tt)) (λ κs. (shr_Tells (named 0) κs.0 R, tt)) (λ κs qs bounds a g are.
+    let self = a.0 in let d = self.now in let fields = to block.the_type d in let b = self.ref_ptr.0 in let o = self.ref_ptr.1 in let Self = (ShrRef (named 0) κs.0 R).own_val self (shr_vals self) in
+    let z : (walk_of 𝓛 ended stayed c).Ghost = ((κs, qs, bounds, a, (shr_vals self, tt)), g) in let Post : Val → SProp 𝓤 = (walk_of 𝓛 ended stayed c).post z in
+    let r : Bor (List ℕ) = record { ref_ptr = (block_of d.at, count_of d.at); now = d.bytes } in
+    via 𝓤 _ (begins_with 𝓛 κs.0 qs.0 Self) (qed 𝓛 (‵ Self ∷ ‵ (flft κs.0 qs.0) ∷ []) ∵
+    fsplit ! $ drop ! $ use1 𝓛 (‵ (hidden_shr Fields κs.0 fields b o) ⊛ ‵ (hidden_shr the_bytes κs.0 d.bytes r.ref_ptr.0 r.ref_ptr.1) ⊛ raw (fact 𝓤 (InBlock d.at))) (reaches 𝓛 κs.0 d b o) $
+    split3 ! $ move ! (2 ∷ []) $ heard ! (InBlock d.at) (λ inside. move ! (1 ∷ []) $ enter ! 𝓣.C 𝓣.Λ code.function (shr_vals self) Post $ alloc_all ! (λ l. pass_all ! refl ((tt, tt), tt) $ let Ev = env code.function.locals l in
+    -- [the `&` to the bytes; the `&` to the fields; the token]: the fields are looked into, where the pointer stands
+    move ! (1 ∷ 2 ∷ []) $ first ! $ blocks ! $ looks ! tt Fields (fields_copied 𝓛).opens fields b o (λ s ws. move ! (1 ∷ []) $ peeks ! Fields (Is Fields) (shows 𝓛 Fields) fields ws (λ is. move ! (1 ∷ []) $
+    let told : ws ≡ word (block_ptr r.ref_ptr.0 r.ref_ptr.1) ∷ [] = fields_tell fields ws is ∙ ap (λ (p : Ptr). word p ∷ []) (at_block d.at inside) in let Cell = λ (us : List Val). ‵ (cell_at s Fields.mir us b o) in
+    rewrite ! 0 Cell told refl $ sets_last ! (addr ! (through ! refl (fld ! refl (hop ! (look_in ! 0 (sub ! 0 refl (whole !))) (stop !))))) refl (tt, tt) $ exec ! 𝓣.C 𝓣.Λ Ev (after 1 code.function.body) (at_ret Ev Post) $
+    rewrite ! 0 Cell (sym told) refl $ shuts ! tt Fields s fields ws b o $ sets ! (of_opd ! (get ! refl)) refl (tt, tt) $ returns ! (look_at ! 0 refl) $ free_all ! refl $
+    -- [the token; the `&` to the fields; the `&` to the bytes]: the last of them is the result
+    keep ! (0 ∷ 2 ∷ []) $ suffices ! _ (ends_at 𝓛 ended stayed c z (vptr r.ref_ptr.0 r.ref_ptr.1) r (tt, tt) (tt, tt)) $ says ! refl $
+    move ! (1 ∷ []) $ feq_i ! (List Val) (vptr r.ref_ptr.0 r.ref_ptr.1 ∷ []) (shr_vals r) refl $ fjoin ! $ move ! (1 ∷ 0 ∷ []) $ by ! (lends 𝓛 κs.0 qs.0 ((ShrRef (named 0) κs.0 the_bytes).own_val r (shr_vals r)))))))))

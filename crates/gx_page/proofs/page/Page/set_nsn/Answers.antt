@@ -1,8 +1,0 @@
-use Rattle.gx_page.proofs.Steps.{nsn_goes}
-use Rattle.gx_page.proofs.page.Page.set_nsn.Goals as goal
-
-pub invariant_of-self : goal.invariant_of-self
-invariant_of-self c = (nsn_goes c.self.inside.block.bytes c.write.new.self.bytes c.to_be_bytes.result c.args.self.now c.args.nsn c.self.invariant c.self.view_is c.ranges.nsn.fits c.to_be_bytes.ensures c.write.ensures).0
-
-pub returns : goal.returns
-returns c = (nsn_goes c.self.inside.block.bytes c.write.new.self.bytes c.to_be_bytes.result c.args.self.now c.args.nsn c.self.invariant c.self.view_is c.ranges.nsn.fits c.to_be_bytes.ensures c.write.ensures).1
