@@ -14,8 +14,8 @@ use Rattle.gx_machine.specs.Keys.{Keys}
 use Rattle.gx_machine.specs.Sessions.{Held, Session, Idle, Open, Aborting, Committing, view, answer_session, answer_insert, answer_delete, sealed_set, closed_session}
 use Rattle.gx_machine.specs.Machine.{Machine, newest, is_session, session_at, with_session, answer, durable}
 use Rattle.gx_machine.specs.Sets.{found}
-use Rattle.gx_plain.specs.Index.{Index, answer_machine, AnswersIndex, takes_memory}
-use Rattle.gx_plain.specs.Slots.{SlotAnswers, Closes, SameSet}
+use Rattle.gx_plain.specs.Index.{Index, answer_machine, AnswersIndex}
+use Rattle.gx_session.specs.Slots.{SlotAnswers, Closes, SameSet, takes_memory}
 use Rattle.gx_plain.proofs.IndexLaws.{index_with}
 
 leb-true : (n : ℕ) → nat_le n n ≡ true

@@ -1,5 +1,3 @@
-pub mod SetLemmas
 pub mod SlotLaws
 pub mod IndexLaws
 pub mod AnswerLaws
-pub mod TakenAway

@@ -1,9 +1,6 @@
 -- What asking does to the counts that the plain index keeps.
-use Rattle.std.proofs.Common.{◌≡◌, ℕ, ◌+◌, ◌≤◌, Bool, true, false, cond, List, [], ◌∷◌, ◌++◌, length, refl, arith, nat_lt}
+use Rattle.std.proofs.Common.{◌≡◌, ℕ, ◌+◌, ◌≤◌, Bool, true, false, cond, [], ◌∷◌, ◌++◌, length, refl, arith, nat_lt}
 use Rattle.std.specs.Prelude.{Option, None, Some}
-use Rattle.std.specs.declared.cmp.Ordering.{Ordering}
-use Rattle.std.specs.declared.cmp.Ordering.TheVariants.{Less, Equal, Greater}
-use Rattle.std.specs.Ordering.{match_ordering}
 use Rattle.std.proofs.lemmas.Bool.{ltb-true}
 use Rattle.gx_geom.specs.declared.refusal.Refusal.TheVariants.{ClaimsFull, PredicatesFull}
 use Rattle.gx_machine.specs.declared.entry.Entry.{Entry}
@@ -11,23 +8,14 @@ use Rattle.gx_machine.specs.declared.query.Query.{Query}
 use Rattle.gx_machine.specs.declared.call.Call.{Call}
 use Rattle.gx_machine.specs.declared.call.Call.TheVariants.{Begin, Insert, Delete, Search, Commit, Abort}
 use Rattle.gx_machine.specs.declared.reply.Asked.TheVariants as asked
-use Rattle.gx_machine.specs.Keys.{Keys, entry_cmp}
+use Rattle.gx_machine.specs.Keys.{Keys}
 use Rattle.gx_machine.specs.Sets.{has, including}
 use Rattle.gx_machine.specs.Sessions.{Held, Session, Idle, Open, Aborting, Committing, claims_of, refused, has_query, ask_write, ask_search, ask_session}
 use Rattle.gx_plain.specs.Index.{has_begun}
-use Rattle.gx_plain.specs.Slots.{added_by, opened_by, begins, CanAnswer}
+use Rattle.gx_session.specs.Slots.{added_by, opened_by, begins, CanAnswer}
+use Rattle.gx_session.proofs.SetLemmas.{length-including}
 
 module _ {B : Type 0} (k : Keys B) where
-  length_match : (e x : Entry B) (xs : List (Entry B)) (o : Ordering) → length (including k e xs) ≤ length xs + 1
-      → length (match_ordering o (e ∷ x ∷ xs) (x ∷ xs) (x ∷ including k e xs)) ≤ length (x ∷ xs) + 1
-  length_match e x xs Less h = omega arith
-  length_match e x xs Equal h = omega arith
-  length_match e x xs Greater h = omega arith
-
-  pub length-including : (e : Entry B) (xs : List (Entry B)) → length (including k e xs) ≤ length xs + 1
-  length-including e [] = omega arith
-  length-including e (x ∷ xs) = length_match e x xs (entry_cmp k e x) (length-including e xs)
-
   -- a fact of what asking a write gives, by whether the entry is claimed and whether a place is left
   by_write : (P : Session B → Type 0) (call : Call B) (e : Entry B) (h : Held B) (t u : Bool)
       → P (Open h (Some call)) → (u ≡ true → P (Open (record h { claims = including k e h.claims }) (Some call))) → P (Open h None)
@@ -47,7 +35,7 @@ module _ {B : Type 0} (k : Keys B) where
   claims_write : (call : Call B) (e : Entry B) (spent : ℕ) (h : Held B) → spent ≤ 512 → claims_of (ask_write k call e spent h).1 + spent ≤ length h.claims + 512
   claims_write call e spent h places =
       by_write (λ x. claims_of x + spent ≤ length h.claims + 512) call e h (has k e h.claims) (nat_lt spent 512)
-      (omega arith) (λ left. omega (arith, length-including e h.claims, ltb-true spent 512 left)) (omega arith)
+      (omega arith) (λ left. omega (arith, length-including k e h.claims, ltb-true spent 512 left)) (omega arith)
 
   claims_search : (q : Query B) (spent : ℕ) (h : Held B) → spent ≤ 512 → claims_of (ask_search k q h).1 + spent ≤ length h.claims + 512
   claims_search q spent h places =

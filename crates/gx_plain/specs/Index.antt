@@ -8,6 +8,7 @@ use Rattle.gx_machine.specs.declared.reply.Reply.TheVariants.{Ok, Inserted, Dele
 use Rattle.gx_machine.specs.declared.reply.Asked.{Asked}
 use Rattle.gx_machine.specs.declared.reply.Asked.TheVariants as asked
 use Rattle.gx_machine.specs.Keys.{Keys}
+use Rattle.gx_session.specs.Slots.{takes_memory}
 use Rattle.gx_machine.specs.Machine.{Machine, fresh_machine, newest, is_session, ask, answer, seal, durable, close}
 
 -- the machine, and the number that the next transaction gets
@@ -48,16 +49,6 @@ commit k s m = option_and_then (λ sealed. answer k s (durable (newest sealed) s
 -- Answer, where memory lasts: as the machine does, a commit by its three steps; else there is no such call or session.
 abbrev pub answer_machine : {B : Type 0} → Keys B → ℕ → Machine B → Reply B × Machine B
 answer_machine k s m = unwrap_or (option_or (answer k s m) (commit k s m)) (Refused (if is_session s then NoCall else BadSession), m)
-
--- an answer that takes memory: an entry is kept, or entries are handed out
-abbrev pub takes_memory : {B : Type 0} → Reply B → Bool
-takes_memory Ok = false
-takes_memory Inserted = true
-takes_memory Deleted = false
-takes_memory (Found entries) = true
-takes_memory (Committed number) = false
-takes_memory Aborted = false
-takes_memory (Refused why) = false
 
 -- the answer where memory lasts
 pub record AnswersFully {B : Type 0} (k : Keys B) (s : ℕ) (old : Index B) (reply : Reply B) (new : Index B) : Type 0 where

@@ -1,3 +1,3 @@
 pub mod Index
+pub mod Kept
 pub mod Runs
-pub mod Slots

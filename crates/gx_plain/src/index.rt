@@ -5,11 +5,11 @@ ghost use Rattle.gx_machine.specs.Keys.{keys};
 ghost use Rattle.gx_machine.specs.Machine.{is_session, least_barring, claims_held};
 ghost use Rattle.gx_machine.specs.Sessions.{Idle, claims_of, session_bars, ask_session};
 ghost use Rattle.gx_machine.specs.Sets.{InOrder};
-ghost use Rattle.gx_plain.specs.Slots.{added_by, opened_by, begins, CanAnswer, SlotAnswers};
+ghost use Rattle.gx_session.specs.Slots.{added_by, opened_by, begins, CanAnswer, SlotAnswers};
 
-use crate::slot::Slot;
 use gx_geom::{Refusal, Shape};
 use gx_machine::{Asked, Call, Entry, Reply};
+use gx_session::Slot;
 use std::alloc::{AllocError, Global};
 use std::marker::Model;
 
@@ -154,7 +154,7 @@ impl<B: Shape> Model for PlainIndex<B> {
 
     ghost Value = { Index B };
 
-    ghost use Rattle.gx_plain.specs.Slots.{IsKept};
+    ghost use Rattle.gx_plain.specs.Kept.{IsKept};
 
     ghost view = { λ i. record {
       machine = record { older = []; latest = i.committed.items; first = i.commits; sessions = i.slots.items; ended = false };

@@ -3,15 +3,11 @@
 //! It is slow and exact. Other indexes are compared with it, call by call.
 #![tactic(auto)]
 
-mod held;
 mod index;
 pub mod laws;
 mod script;
-mod sets;
-mod slot;
 #[cfg(test)]
 mod tests;
-mod views;
 
 pub use gx_machine::{Asked, Call, Entries, Entry, Query, Reply};
 pub use gx_script::ScriptFault;

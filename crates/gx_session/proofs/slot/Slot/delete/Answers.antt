@@ -1,0 +1,35 @@
+use Rattle.std.proofs.Common.{◌≡◌, ◌≤◌, true, length, sym, subst, arith, List}
+use Rattle.std.specs.Prelude.{None}
+use Rattle.gx_machine.specs.declared.entry.Entry.{Entry}
+use Rattle.gx_machine.specs.Keys.{IsLawful, keys}
+use Rattle.gx_machine.specs.Sets.{has}
+use Rattle.gx_session.specs.Slots.{TakesClaimed}
+use Rattle.gx_session.specs.declared.slot.Phase.TheVariants as phase
+use Rattle.gx_session.proofs.TakenAway.{takes_more, delete_fits, delete_claimed}
+use Rattle.gx_session.proofs.slot.Slot.delete.Goals as goal
+
+pub put-requires : goal.put-requires
+put-requires g c =
+    let k = keys g.B.Ord.cmp g.B.Shape.overlap g.B.Shape.inside in
+    let lawful : IsLawful k = record { total = g.met.B.Ord.total; exact = g.met.B.Shape.same } in
+    let self = c.self.inside in
+    let claimed : (has k c.args.e self.claims.items ≡ true) × (length self.claims.items ≤ 512) =
+    delete_claimed k c.args.e self.phase _ c.args.self.now 512 c.self.view_is c.requires.open c.self.invariant.1.asked c.requires.few in
+    omega (
+      arith,
+      c.self.invariant.0.for_minus,
+      delete_fits k lawful c.args.e self.phase self.claims.items self.minus.items c.self.invariant.1 claimed.0 512 claimed.1,
+    )
+
+pub invariant_of-self-2 : goal.invariant_of-self-2
+invariant_of-self-2 g c =
+    let k = keys g.B.Ord.cmp g.B.Shape.overlap g.B.Shape.inside in
+    let lawful : IsLawful k = record { total = g.met.B.Ord.total; exact = g.met.B.Shape.same } in
+    let self = c.self.inside in
+    let room = c.self.invariant.0 in
+    let claimed : (has k c.args.e self.claims.items ≡ true) × (length self.claims.items ≤ 512) =
+    delete_claimed k c.args.e self.phase _ c.args.self.now 512 c.self.view_is c.requires.open c.self.invariant.1.asked c.requires.few in (
+      record { for_claims = room.for_claims; for_predicates = room.for_predicates; for_minus = omega (arith, room.for_minus, c.put.ensures.capacity) },
+      subst (λ (minus : List (Entry g.row.B.Denot)). TakesClaimed k (phase.Open None) self.claims.items minus) (sym c.put.ensures.items)
+          (takes_more k lawful c.args.e self.phase self.claims.items self.minus.items c.self.invariant.1 claimed.0),
+    )

@@ -1,0 +1,19 @@
+use Rattle.std.proofs.Common.{sym, subst, arith, List}
+use Rattle.std.specs.Prelude.{None}
+use Rattle.gx_machine.specs.declared.entry.Entry.{Entry}
+use Rattle.gx_machine.specs.Keys.{IsLawful, keys}
+use Rattle.gx_session.specs.Slots.{TakesClaimed}
+use Rattle.gx_session.specs.declared.slot.Phase.TheVariants as phase
+use Rattle.gx_session.proofs.TakenAway.{takes_less}
+use Rattle.gx_session.proofs.slot.Slot.insert.Goals as goal
+
+pub invariant_of-self-2 : goal.invariant_of-self-2
+invariant_of-self-2 g c =
+    let k = keys g.B.Ord.cmp g.B.Shape.overlap g.B.Shape.inside in
+    let lawful : IsLawful k = record { total = g.met.B.Ord.total; exact = g.met.B.Shape.same } in
+    let self = c.self.inside in
+    let room = c.self.invariant.0 in (
+      record { for_claims = room.for_claims; for_predicates = room.for_predicates; for_minus = omega (arith, room.for_minus, c.exclude.ensures.capacity) },
+      subst (λ (minus : List (Entry g.row.B.Denot)). TakesClaimed k (phase.Open None) self.claims.items minus) (sym c.exclude.ensures.items)
+          (takes_less k lawful c.args.e self.phase self.claims.items self.minus.items c.self.invariant.1),
+    )

@@ -1,0 +1,26 @@
+use Rattle.std.proofs.Common.{◌≡◌, List, [], ap, sym, ◌∙◌, drop}
+use Rattle.std.specs.List.{filter}
+use Rattle.std.proofs.lemmas.List.{drop_all}
+use Rattle.gx_machine.specs.declared.entry.Entry.{Entry}
+use Rattle.gx_machine.specs.Keys.{Keys, keys, IsLawful, matches}
+use Rattle.gx_machine.specs.Sets.{including_all, excluding_all, found, InOrder}
+use Rattle.gx_machine.specs.declared.query.Query.{Query}
+use Rattle.gx_machine.proofs.SetLaws.{filter_including_all, in_order_filter}
+use Rattle.gx_session.proofs.views.search.Goals as goal
+
+-- at the loop's end nothing of plus is left
+ended : {B : Type 0} (k : Keys B) (l : IsLawful k) (q : Query B) (latest plus minus first out : List (Entry B)) → InOrder k latest
+    → first ≡ found k q (excluding_all k minus latest)
+    → including_all k (filter (matches k q) []) out ≡ including_all k (filter (matches k q) plus) first
+    → out ≡ found k q (including_all k plus (excluding_all k minus latest))
+ended k l q latest plus minus first out o f e =
+    e ∙ ap (including_all k (filter (matches k q) plus)) f
+    ∙ sym (filter_including_all k l (matches k q) plus (excluding_all k minus latest) (in_order_filter k l _ latest o))
+
+pub returns : goal.returns
+returns g c =
+    let k = keys g.B.Ord.cmp g.B.Shape.overlap g.B.Shape.inside in
+    let none : drop c.loop-e.e-index c.args.plus.now ≡ [] = drop_all c.loop-e.e-index c.args.plus.now c.loop-e-test.false in
+    ended k (record { total = g.met.B.Ord.total; exact = g.met.B.Shape.same }) c.args.query.now c.args.latest.now c.args.plus.now c.args.minus.now
+    c.in_ok-out.out.items c.loop-e.out.items c.requires c.in_ok-out.ensures
+    (ap (λ s. including_all k (filter (matches k c.args.query.now) s) c.loop-e.out.items) (sym none) ∙ c.loop-e.invariant)
