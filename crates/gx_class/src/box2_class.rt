@@ -39,6 +39,7 @@ fn numbers(bytes: &[u8]) -> (i32, i32)
 
 impl KeyClass for Box2Class {
     ghost use Rattle.std.specs.Prelude.{pos};
+    ghost use Rattle.std.proofs.Common.{arith};
     ghost use Rattle.gx_geom.specs.Corners.{within};
     ghost use Rattle.gx_split.specs.Split.{measure, split_sides};
     ghost use Rattle.gx_geom.specs.BoxLaws.{within_itself, within_through, union_is_box};
@@ -138,6 +139,8 @@ impl KeyClass for Box2Class {
     ghost union_is_least = { λ a b c _ _ _. union_is_least a b c };
 
     ghost split_leaves_each = { λ xs least one enough _. split_leaves_each xs least one enough };
+
+    ghost key_is_short = { Prim.omega arith };
 
     ghost spelling_length = { λ k _. length-spelling k };
 }

@@ -3,9 +3,13 @@ ghost use Rattle.std.specs.Prelude.{◌≡◌, ◌≤◌, ◌*◌, ℕ, Bool, tr
 ghost use Rattle.gx_machine.specs.declared.query.Query.{Query};
 ghost use Rattle.gx_machine.specs.Keys.{keys, key_matches};
 ghost use Rattle.gx_class.specs.Sides.{LeavesEach};
+ghost use Rattle.gx_class.specs.declared.class.TheConstants.{MAX_KEY};
 
 use gx_geom::Shape;
 use gx_machine::Query;
+
+/// The most bytes that a key is written in. So 100 entries of a key and nine bytes more, with their places, fit a page.
+pub const MAX_KEY: usize = 24;
 
 /// A class of keys. Every value of `Key` that a program has in hand is a key of the class, so that each law holds of
 /// it.
@@ -18,7 +22,7 @@ pub trait KeyClass {
 
     const CLASS: u16;
 
-    /// How many bytes a key is written in.
+    /// How many bytes a key is written in, `MAX_KEY` at most.
     ghost KEY: { ℕ };
 
     const KEY: usize;
@@ -117,6 +121,9 @@ pub trait KeyClass {
     /// A split leaves each side its least number.
     ghost split_leaves_each: { (xs : List Self.Key) (least : ℕ) → 1 ≤ least → 2 * least ≤ length xs → length xs ≤ 101
         → LeavesEach (length xs) least (sides_of xs least) };
+
+    /// A key is short.
+    ghost key_is_short: { KEY ≤ MAX_KEY };
 
     /// Each key has as many bytes.
     ghost spelling_length: { (k : Self.Key) → is_key k → length (spelling k) ≡ KEY };

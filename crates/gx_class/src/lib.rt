@@ -9,4 +9,4 @@ mod reaches;
 mod tests;
 
 pub use box2_class::Box2Class;
-pub use class::KeyClass;
+pub use class::{KeyClass, MAX_KEY};

@@ -136,5 +136,7 @@ impl KeyClass for ReachClass {
 
     ghost split_leaves_each = { λ xs least one enough _. halves_leave_each (length xs) least enough };
 
+    ghost key_is_short = { Prim.omega arith };
+
     ghost spelling_length = { λ k _. refl };
 }

@@ -7,7 +7,7 @@ use Rattle.std.proofs.lemmas.List.{drop-drop, drop_at, take_at, set-append_left,
 use Rattle.std.proofs.lemmas.Nat.{from_be_bytes-to_be_bytes_2}
 use Rattle.gx_page.specs.Bytes.{zeros, spell_16, spell_32, spell_64, number_16, overwrite}
 use Rattle.gx_page.specs.Contents.{Contents}
-use Rattle.gx_page.specs.Edits.{opened, closed, with_items}
+use Rattle.gx_page.specs.Edits.{opened, closed, with_items, blank}
 use Rattle.gx_page.specs.Format.{image_of, header, directory, heap, total, Fits}
 use Rattle.gx_page.proofs.Pieces.{overwrite_mid, length-zeros, zeros-append}
 use Rattle.gx_page.proofs.Images.{length-directory, length-heap, range_mid}
@@ -20,7 +20,7 @@ directory-append end [] ys = ap (λ (m : ℕ). directory m ys) (omega arith)
 directory-append end (x ∷ xs) ys =
     ap (λ (zs : List ℕ). spell_16 (end - length x) ++ (spell_16 (length x) ++ zs)) (directory-append (end - length x) xs ys ∙ ap (λ (m : ℕ). directory (end - length x) xs ++ directory m ys) (omega arith))
 
-heap-append : (xs ys : List (List ℕ)) → heap (xs ++ ys) ≡ heap ys ++ heap xs
+pub heap-append : (xs ys : List (List ℕ)) → heap (xs ++ ys) ≡ heap ys ++ heap xs
 heap-append [] ys = sym (append-nil (heap ys))
 heap-append (x ∷ xs) ys = ap (λ (zs : List ℕ). zs ++ x) (heap-append xs ys) ∙ append_assoc (heap ys) (heap xs) x
 
@@ -317,10 +317,6 @@ head_of rest = 0 ∷ 0 ∷ 0 ∷ 0 ∷ 0 ∷ 0 ∷ 0 ∷ 0 ∷ 0 ∷ 0 ∷ 0 ∷
 zeros_head : (rest : List ℕ) → zeros 32 ++ rest ≡ head_of rest
 unfolding zeros head_of
 zeros_head rest = refl
-
--- a page with no items, and no page to the right
-abbrev pub blank : ℕ → ℕ → Contents
-blank level number = record { level = level; nsn = 0; right = 0; number = number; items = [] }
 
 pub fresh_is : (level number : ℕ) (bytes : List ℕ) → bytes ≡ zeros 4096 → overwrite (overwrite (overwrite bytes 0 (spell_16 level)) 4 (spell_16 4096)) 20 (spell_32 number) ≡ image_of (blank level number)
 unfolding image_of head_of

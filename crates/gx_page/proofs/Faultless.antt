@@ -1,6 +1,6 @@
 -- The tests of given bytes pass for images, and for nothing else.
 use Rattle.std.proofs.Common.{◌≡◌, ℕ, zero, suc, ◌+◌, ◌-◌, ◌*◌, ◌^◌, ◌<◌, ◌≤◌, Bool, true, false, ◌&&◌, cond, not, List, [], ◌∷◌, ◌++◌, Option, Some, None, inl, inr, length, take, drop, map, get_or, refl, sym, ap, ◌∙◌, subst, arith, length-take, length-drop, take-append-drop, eqb, leb, lit<, lit≤, eq-eqb}
-use Rattle.std.specs.Prelude.{slice_range}
+use Rattle.std.specs.Prelude.{◌↔◌, slice_range}
 use lib.Seq.{take-add}
 use Rattle.std.proofs.lemmas.Bool.{eqb-true, leb-true, le-leb}
 use Rattle.std.proofs.lemmas.List.{drop-drop, get_or-take, get_or-drop, get_or_past, take_all}
@@ -235,6 +235,9 @@ image_reserved v = refl
 
 pub image_faultless : (v : Contents) → IsWellFormed v → fault_of (image_of v) ≡ None
 image_faultless v w = faultless (image_of v) (record { size = length-image v w.fits; reserved = image_reserved v; directory = image_directory v w; free = image_free v w })
+
+pub faultless_is_image : (bytes : List ℕ) → AreBytes bytes → (fault_of bytes ≡ None) ↔ IsImage bytes
+faultless_is_image bytes are = (is_image bytes are, λ i. ap fault_of (sym i.image) ∙ image_faultless (read_of bytes) i.well_formed)
 
 -- ---- where the free bytes are
 

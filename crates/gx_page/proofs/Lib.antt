@@ -5,6 +5,8 @@ pub mod Memory
 pub mod Moves
 pub mod Parts
 pub mod Pieces
+pub mod Rooms
+pub mod Scans
 pub mod Slots
 pub mod Steps
 pub mod Walks

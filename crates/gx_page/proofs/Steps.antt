@@ -8,12 +8,12 @@ use Rattle.std.proofs.lemmas.List.Edits.{length-paste}
 use Rattle.std.proofs.lemmas.List.Elements.{All-append, All-cons, All-take, All-drop, All-set, All-nil}
 use Rattle.gx_page.specs.Bytes.{zeros, spell_16, spell_32, spell_64, overwrite, AreBytes}
 use Rattle.gx_page.specs.Contents.{Contents}
-use Rattle.gx_page.specs.Edits.{with_items}
+use Rattle.gx_page.specs.Edits.{with_items, blank}
 use Rattle.gx_page.specs.Format.{image_of, total, Fits, IsItem, IsWellFormed}
 use Rattle.gx_page.specs.Reading.{read_of, IsImage}
 use Rattle.gx_page.proofs.Pieces.{length-overwrite, length-zeros}
 use Rattle.gx_page.proofs.Images.{made}
-use Rattle.gx_page.proofs.Changes.{inserted, removed, Replaces, replaced, byte_set, item_at, level_set, nsn_set, right_set, number_set, blank, fresh_is, total-append}
+use Rattle.gx_page.proofs.Changes.{inserted, removed, Replaces, replaced, byte_set, item_at, level_set, nsn_set, right_set, number_set, fresh_is, total-append}
 use Rattle.gx_page.proofs.Moves.{after_opening, after_closing}
 use Rattle.gx_page.proofs.Parts.{image_size}
 
@@ -120,12 +120,15 @@ whole_written b ys i size = ap (λ (zs : List ℕ). ys ++ zs) (drop_all (0 + len
 pub zeros_written : (ys : List ℕ) → IsImage ys → overwrite (zeros 4096) 0 ys ≡ ys
 zeros_written ys i = whole_written (zeros 4096) ys i (length-zeros 4096)
 
-pub fresh_goes : (level number : ℕ) → level < 2 ^ 16 → number < 2 ^ 32
-    → IsImage (overwrite (overwrite (overwrite (zeros 4096) 0 (spell_16 level)) 4 (spell_16 4096)) 20 (spell_32 number))
-    × (read_of (overwrite (overwrite (overwrite (zeros 4096) 0 (spell_16 level)) 4 (spell_16 4096)) 20 (spell_32 number)) ≡ blank level number)
-fresh_goes level number l n =
+pub cleared : (b : List ℕ) → IsImage b → overwrite b 0 (zeros 4096) ≡ zeros 4096
+cleared b i = ap (λ (zs : List ℕ). zeros 4096 ++ zs) (drop_all (0 + length (zeros 4096)) b (omega (arith, image_size b i, length-zeros 4096))) ∙ append-nil (zeros 4096)
+
+pub blank_goes : (b : List ℕ) (level number : ℕ) → b ≡ zeros 4096 → level < 2 ^ 16 → number < 2 ^ 32
+    → IsImage (overwrite (overwrite (overwrite b 0 (spell_16 level)) 4 (spell_16 4096)) 20 (spell_32 number))
+    × (read_of (overwrite (overwrite (overwrite b 0 (spell_16 level)) 4 (spell_16 4096)) 20 (spell_32 number)) ≡ blank level number)
+blank_goes b level number e l n =
     made (blank level number) (record { level = l; nsn = lit< tt; right = lit< tt; number = n; items = All-nil IsItem; fits = omega arith })
-    (overwrite (overwrite (overwrite (zeros 4096) 0 (spell_16 level)) 4 (spell_16 4096)) 20 (spell_32 number)) (fresh_is level number (zeros 4096) refl)
+    (overwrite (overwrite (overwrite b 0 (spell_16 level)) 4 (spell_16 4096)) 20 (spell_32 number)) (fresh_is level number b e)
 
 -- ---- the edits of a block, write by write
 

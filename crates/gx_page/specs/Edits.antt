@@ -17,6 +17,10 @@ unfoldable pub closed : ℕ → ℕ → List ℕ → List ℕ
 closed zero end bytes = 0 ∷ 0 ∷ 0 ∷ 0 ∷ []
 closed (suc n) end bytes = spell_16 (end - first_length bytes) ++ (spell_16 (first_length bytes) ++ closed n (end - first_length bytes) (drop 4 bytes))
 
+-- no items, sequence number 0, and no page to the right
+abbrev pub blank : ℕ → ℕ → Contents
+blank level number = record { level = level; nsn = 0; right = 0; number = number; items = [] }
+
 -- the contents with other items
 abbrev pub with_items : Contents → List (List ℕ) → Contents
 with_items page items = record page { items = items }

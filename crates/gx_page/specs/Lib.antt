@@ -7,4 +7,5 @@ pub mod Laws
 pub mod Lending
 pub mod Ownership
 pub mod Reading
+pub mod Sizes
 pub mod Texts

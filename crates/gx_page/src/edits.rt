@@ -1,13 +1,37 @@
 //! Edits of a block that is an image. Each leaves the image of the edited contents.
 ghost use Rattle.std.specs.Prelude.{◌≡◌, ℕ, ◌+◌, ◌*◌, ◌<◌, ◌≤◌, [], length, slice_index_or, slice_set};
+ghost use Rattle.gx_page.specs.Bytes.{zeros};
 ghost use Rattle.std.specs.List.{insert, remove};
-ghost use Rattle.gx_page.specs.Edits.{with_items};
+ghost use Rattle.gx_page.specs.Edits.{blank, with_items};
 ghost use Rattle.gx_page.specs.Format.{total};
 ghost use Rattle.gx_page.specs.Reading.{IsImage, read_of};
 
-use crate::block::Block;
+use crate::block::{Block, PAGE_SIZE};
 use crate::directory::{close_slot, count_of, end_of, open_slot, place_of, size_of, start_of};
-use crate::layout::{COUNT, START};
+use crate::layout::{COUNT, NUMBER, START};
+
+/// Writes a level and a number over zeros, which makes the image of a page with no items.
+#[tactic(auto, using(crate::proofs::Steps::blank_goes))]
+pub(crate) fn write_blank(block: &mut Block, level: u16, number: u32)
+    requires { block.old.bytes ≡ zeros PAGE_SIZE }
+    ensures image { IsImage block.new.bytes }
+    ensures page { read_of block.new.bytes ≡ blank level number }
+{
+    block.set_u16(0, level);
+    block.set_u16(START, 4096);
+    block.set_u32(NUMBER, number);
+}
+
+/// Makes the image of a page with no items of an image.
+#[tactic(auto, using(crate::proofs::Steps::cleared))]
+pub(crate) fn reset(block: &mut Block, level: u16, number: u32)
+    requires { IsImage block.old.bytes }
+    ensures image { IsImage block.new.bytes }
+    ensures page { read_of block.new.bytes ≡ blank level number }
+{
+    block.clear(0, PAGE_SIZE);
+    write_blank(block, level, number);
+}
 
 /// Puts an item in front of a slot, where it fits. The items from that slot on move down by one copy.
 pub(crate) fn insert(block: &mut Block, slot: usize, bytes: &[u8])

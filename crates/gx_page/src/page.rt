@@ -1,11 +1,11 @@
 //! The slotted page: its calls, over a block that is always an image.
-ghost use Rattle.std.specs.Prelude.{◌≡◌, ◌↔◌, ◌⊎◌, ℕ, ◌+◌, ◌<◌, ◌≤◌, List, [], length, IfOk, IfErr, IsTrue, None, Some, MatchResult, slice_index_or, slice_set};
+ghost use Rattle.std.specs.Prelude.{◌≡◌, ◌↔◌, ◌⊎◌, ℕ, ◌+◌, ◌<◌, ◌≤◌, List, [], length, IfOk, IfErr, IsOk, IsTrue, None, Some, slice_index_or, slice_set};
 ghost use Rattle.std.specs.Bool.{OnTrue, OnFalse};
 ghost use Rattle.std.specs.List.{insert, remove};
 ghost use Rattle.gx_page.specs.Contents.{Contents};
-ghost use Rattle.gx_page.specs.Edits.{with_items};
+ghost use Rattle.gx_page.specs.Edits.{blank, with_items};
 ghost use Rattle.gx_page.specs.Faults.{fault_of};
-ghost use Rattle.gx_page.specs.Format.{Fits, image_of, IsWellFormed};
+ghost use Rattle.gx_page.specs.Format.{Fits, heap, image_of, IsWellFormed, total};
 ghost use Rattle.gx_page.specs.Reading.{IsImage, read_of};
 
 use crate::block::{Block, PAGE_SIZE};
@@ -33,29 +33,43 @@ impl Model for Page {
     ghost invariant = { λ p. IsImage p.block.bytes };
 }
 
+// This stands only where a page may be sent.
+fn sent<T: Send>() {}
+
+/// A page may be sent to another thread: without the promise that its block makes this doesn't compile.
+fn may_be_sent() {
+    sent::<Page>();
+}
+
 impl Page {
     /// A page of a level and a number with no items, with sequence number 0 and no page to the right.
     /// Refused with `Memory` where there is none for the block.
-    #[tactic(auto, using(crate::proofs::Steps::fresh_goes))]
     pub fn fresh(alloc: Global, level: u16, number: u32) -> Result<Page, PageFault>
-        ensures page { IfOk result (λ page. page ≡ record { level = level; nsn = 0; right = 0; number = number; items = [] }) }
+        ensures page { IfOk result (λ page. page ≡ blank level number) }
         ensures fault { IfErr result (λ fault. fault ≡ PageFault.Memory) }
     {
         let Ok(mut block) = Block::fresh(alloc) else {
             return Err(PageFault::Memory);
         };
-        block.set_u16(0, level);
-        block.set_u16(START, 4096);
-        block.set_u32(NUMBER, number);
+        edits::write_blank(&mut block, level, number);
         Ok(Page { block })
+    }
+
+    /// Becomes a page of a level and a number with no items, with sequence number 0 and no page to the right, with no
+    /// memory taken.
+    pub fn reset(&mut self, level: u16, number: u32)
+        ensures { self.new ≡ blank level number }
+    {
+        edits::reset(&mut self.block, level, number);
     }
 
     /// The page whose image the bytes are.
     /// Refused with the first fault of the bytes, and after all tests with `Memory` where there is none for the block.
     #[tactic(auto, using(crate::proofs::Steps::zeros_written))]
     pub fn from_image(alloc: Global, bytes: &[u8]) -> Result<Page, PageFault>
-        ensures page { IfOk result (λ page. (fault_of bytes.now ≡ None) × (image_of page ≡ bytes.now) × IsWellFormed page) }
+        ensures page { IfOk result (λ page. (fault_of bytes.now ≡ None) × IsImage bytes.now × (page ≡ read_of bytes.now)) }
         ensures fault { IfErr result (λ fault. (fault_of bytes.now ≡ Some fault) ⊎ ((fault_of bytes.now ≡ None) × (fault ≡ PageFault.Memory))) }
+        ensures faultless { (fault_of bytes.now ≡ None) ↔ IsImage bytes.now }
     {
         Page::check(bytes)?;
         let Ok(mut block) = Block::fresh(alloc) else {
@@ -69,10 +83,11 @@ impl Page {
     /// Refused with the first fault of the bytes, and the page is then as it was.
     #[tactic(auto, using(crate::proofs::Steps::whole_written, crate::proofs::Parts::image_size))]
     pub fn load(&mut self, bytes: &[u8]) -> Result<(), PageFault>
-        ensures loaded { IfOk result (λ _. (fault_of bytes.now ≡ None) × (image_of self.new ≡ bytes.now) × IsWellFormed self.new) }
+        ensures loaded { IfOk result (λ _. (fault_of bytes.now ≡ None) × IsImage bytes.now × (self.new ≡ read_of bytes.now)) }
         ensures fault { IfErr result (λ fault. (fault_of bytes.now ≡ Some fault) × (self.new ≡ self.old)) }
+        ensures faultless { (fault_of bytes.now ≡ None) ↔ IsImage bytes.now }
     {
-        check::check(bytes)?;
+        Self::check(bytes)?;
         self.block.write(0, bytes);
         Ok(())
     }
@@ -82,6 +97,7 @@ impl Page {
     pub fn check(bytes: &[u8]) -> Result<u32, PageFault>
         ensures page { IfOk result (λ number. (fault_of bytes.now ≡ None) × IsImage bytes.now × (number ≡ (read_of bytes.now).number)) }
         ensures fault { IfErr result (λ fault. fault_of bytes.now ≡ Some fault) }
+        ensures faultless { (fault_of bytes.now ≡ None) ↔ IsImage bytes.now }
     {
         check::check(bytes)
     }
@@ -92,8 +108,19 @@ impl Page {
         ensures image { result.now ≡ image_of self.now }
         ensures size { length result.now ≡ PAGE_SIZE }
         ensures well_formed { IsWellFormed self.now }
+        ensures back { IsImage result.now × (read_of result.now ≡ self.now) }
     {
         self.block.slice(0, PAGE_SIZE)
+    }
+
+    /// The items' bytes, in place: the last item's first, and the first one's up to the end.
+    #[tactic(auto, using(crate::proofs::Scans::heap_read))]
+    pub fn heap(&self) -> &[u8]
+        ensures heap { result.now ≡ heap self.now.items }
+        ensures size { length result.now ≡ total self.now.items }
+    {
+        let start = usize::from(start_of(&self.block));
+        self.block.slice(start, PAGE_SIZE)
     }
 
     /// How many items the page has, 812 at most.
