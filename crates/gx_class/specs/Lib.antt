@@ -1,4 +1,3 @@
 pub mod BoxKeyLaws
 pub mod Boxes
-pub mod Halves
 pub mod Sides

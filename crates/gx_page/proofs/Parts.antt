@@ -1,7 +1,7 @@
 -- What an image's numbers are, in its contents' words.
-use Rattle.std.proofs.Common.{◌≡◌, ℕ, zero, suc, ◌+◌, ◌-◌, ◌*◌, ◌<◌, ◌≤◌, List, [], ◌∷◌, length, take, get_or, sym, ap, ◌∙◌, arith}
+use Rattle.std.proofs.Common.{◌≡◌, ℕ, zero, suc, ◌+◌, ◌-◌, ◌*◌, ◌<◌, ◌≤◌, List, [], ◌∷◌, length, take, get_or, refl, sym, ap, ◌∙◌, arith}
 use Rattle.std.proofs.lemmas.Nat.{from_be_bytes-to_be_bytes_2}
-use Rattle.gx_page.specs.Bytes.{number_16_at}
+use Rattle.gx_page.specs.Bytes.{number_16_at, number_32_at, number_64_at}
 use Rattle.gx_page.specs.Contents.{Contents}
 use Rattle.gx_page.specs.Format.{image_of, total, IsItem, IsWellFormed}
 use Rattle.gx_page.specs.Reading.{read_of, IsImage}
@@ -10,6 +10,22 @@ use Rattle.gx_page.proofs.Slots.{slot_of}
 
 pub image_size : (bytes : List ℕ) → IsImage bytes → length bytes ≡ 4096
 image_size bytes i = ap length (sym i.image) ∙ length-image (read_of bytes) i.well_formed.fits
+
+pub level_in : (bytes : List ℕ) → number_16_at bytes 0 ≡ (read_of bytes).level
+unfolding read_of
+level_in bytes = refl
+
+pub nsn_in : (bytes : List ℕ) → number_64_at bytes 8 ≡ (read_of bytes).nsn
+unfolding read_of
+nsn_in bytes = refl
+
+pub right_in : (bytes : List ℕ) → number_32_at bytes 16 ≡ (read_of bytes).right
+unfolding read_of
+right_in bytes = refl
+
+pub number_in : (bytes : List ℕ) → number_32_at bytes 20 ≡ (read_of bytes).number
+unfolding read_of
+number_in bytes = refl
 
 pub image_back : (bytes : List ℕ) → IsImage bytes → image_of (read_of bytes) ≡ bytes
 image_back bytes i = i.image

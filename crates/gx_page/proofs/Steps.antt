@@ -18,15 +18,9 @@ use Rattle.gx_page.proofs.Moves.{after_opening, after_closing}
 use Rattle.gx_page.proofs.Parts.{image_size}
 
 -- ---- the header
-level_goes : (b : List ℕ) (n : ℕ) → IsImage b → n < 2 ^ 16 → IsImage (overwrite b 0 (spell_16 n)) × (read_of (overwrite b 0 (spell_16 n)) ≡ record (read_of b) { level = n })
+pub level_goes : (b : List ℕ) (n : ℕ) → IsImage b → n < 2 ^ 16 → IsImage (overwrite b 0 (spell_16 n)) × (read_of (overwrite b 0 (spell_16 n)) ≡ record (read_of b) { level = n })
 level_goes b n i l = let f = i.well_formed in
     made (record (read_of b) { level = n }) (record { level = l; nsn = f.nsn; right = f.right; number = f.number; items = f.items; fits = f.fits }) (overwrite b 0 (spell_16 n)) (ap (λ (xs : List ℕ). overwrite xs 0 (spell_16 n)) (sym i.image) ∙ level_set (read_of b) n)
-
-pub level_image : (b : List ℕ) (n : ℕ) → IsImage b → n < 2 ^ 16 → IsImage (overwrite b 0 (spell_16 n))
-level_image b n i l = (level_goes b n i l).0
-
-pub level_read : (b : List ℕ) (n : ℕ) → IsImage b → n < 2 ^ 16 → read_of (overwrite b 0 (spell_16 n)) ≡ record (read_of b) { level = n }
-level_read b n i l = (level_goes b n i l).1
 
 pub nsn_goes : (b : List ℕ) (n : ℕ) → IsImage b → n < 2 ^ 64 → IsImage (overwrite b 8 (spell_64 n)) × (read_of (overwrite b 8 (spell_64 n)) ≡ record (read_of b) { nsn = n })
 nsn_goes b n i l = let f = i.well_formed in
@@ -106,8 +100,10 @@ pub item_read : (b : List ℕ) (place i : ℕ) → IsImage b → i < length (rea
     → slice_range b place (place + length (get_or (read_of b).items i [])) ≡ get_or (read_of b).items i []
 item_read b place i im h p = item_at b i place (read_of b) (replaces b i place im h p)
 
-pub item_some : (b : List ℕ) (i : ℕ) → IsImage b → i < length (read_of b).items → 1 ≤ length (get_or (read_of b).items i [])
-item_some b i im h = (im.well_formed.items i [] h).0
+pub item_some : (b : List ℕ) (i : ℕ) → IsImage b → i < length (read_of b).items → (1 ≤ length (get_or (read_of b).items i [])) × (length (get_or (read_of b).items i []) ≤ 4060)
+item_some b i im h =
+    let items = (read_of b).items in let fits : Fits items = im.well_formed.fits in let xs = take i items in let ys = drop (suc i) items in
+    ((im.well_formed.items i [] h).0, omega (arith, ap total (split_at items i [] h), total-append xs (get_or items i [] ∷ ys)))
 
 -- ---- the whole block
 

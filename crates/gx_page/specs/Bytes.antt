@@ -22,9 +22,15 @@ number_32 bytes = from_be_bytes w32 bytes
 abbrev pub number_64 : List ℕ → ℕ
 number_64 bytes = from_be_bytes w64 bytes
 
--- the number that the two bytes from a place on spell
+-- the number that the bytes from a place on spell, two, four or eight of them
 abbrev pub number_16_at : List ℕ → ℕ → ℕ
 number_16_at bytes at = number_16 (slice_range bytes at (at + 2))
+
+abbrev pub number_32_at : List ℕ → ℕ → ℕ
+number_32_at bytes at = number_32 (slice_range bytes at (at + 4))
+
+abbrev pub number_64_at : List ℕ → ℕ → ℕ
+number_64_at bytes at = number_64 (slice_range bytes at (at + 8))
 
 -- n zero bytes
 unfoldable pub zeros : ℕ → List ℕ

@@ -1,6 +1,6 @@
 -- What a block of bytes holds, where it is an image.
 use Rattle.std.specs.Prelude.{◌≡◌, ℕ, zero, suc, ◌+◌, List, [], ◌∷◌, map, take, drop, slice_range}
-use Rattle.gx_page.specs.Bytes.{number_16, number_32, number_64, number_16_at}
+use Rattle.gx_page.specs.Bytes.{number_16, number_16_at, number_32_at, number_64_at}
 use Rattle.gx_page.specs.Contents.{Contents}
 use Rattle.gx_page.specs.Format.{image_of, IsWellFormed}
 
@@ -21,9 +21,9 @@ entries_of bytes = entries (count_of bytes) (drop 32 bytes)
 unfoldable pub read_of : List ℕ → Contents
 read_of bytes = record {
   level = number_16_at bytes 0;
-  nsn = number_64 (slice_range bytes 8 16);
-  right = number_32 (slice_range bytes 16 20);
-  number = number_32 (slice_range bytes 20 24);
+  nsn = number_64_at bytes 8;
+  right = number_32_at bytes 16;
+  number = number_32_at bytes 20;
   items = map (entry_bytes bytes) (entries_of bytes);
 }
 

@@ -5,7 +5,7 @@
 ghost use Rattle.std.specs.Prelude.{◌≡◌, ℕ, ◌+◌, ◌-◌, ◌<◌, ◌≤◌, List, length, IfOk, slice_index, slice_range, slice_set};
 ghost use Rattle.std.specs.Borrow.{sem};
 ghost use Rattle.std.specs.List.{copy_within};
-ghost use Rattle.gx_page.specs.Bytes.{zeros, spell_16, spell_32, spell_64, number_16_at, overwrite};
+ghost use Rattle.gx_page.specs.Bytes.{zeros, spell_16, spell_32, spell_64, number_16_at, number_32_at, number_64_at, overwrite};
 ghost use Rattle.gx_page.specs.Ownership.{block_owns, block_lends};
 
 use std::alloc::{AllocError, Global};
@@ -111,7 +111,7 @@ impl Block {
     }
 
     /// The N bytes from a place on.
-    pub(crate) fn array<const N: usize>(&self, at: usize) -> [u8; N]
+    fn array<const N: usize>(&self, at: usize) -> [u8; N]
         requires { at + N ≤ PAGE_SIZE }
         ensures { result ≡ slice_range self.now.bytes at (at + N) }
     {
@@ -125,6 +125,22 @@ impl Block {
         ensures { result ≡ number_16_at self.now.bytes at }
     {
         u16::from_be_bytes([self.byte(at), self.byte(at + 1)])
+    }
+
+    /// The number that four bytes spell.
+    pub(crate) fn u32_at(&self, at: usize) -> u32
+        requires { at + 4 ≤ PAGE_SIZE }
+        ensures { result ≡ number_32_at self.now.bytes at }
+    {
+        u32::from_be_bytes(self.array(at))
+    }
+
+    /// The number that eight bytes spell.
+    pub(crate) fn u64_at(&self, at: usize) -> u64
+        requires { at + 8 ≤ PAGE_SIZE }
+        ensures { result ≡ number_64_at self.now.bytes at }
+    {
+        u64::from_be_bytes(self.array(at))
     }
 
     /// Writes bytes over those from a place on.

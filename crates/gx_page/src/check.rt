@@ -1,6 +1,6 @@
 //! The tests of given bytes, in the order of their faults.
 ghost use Rattle.std.specs.Prelude.{◌≡◌, ℕ, ◌+◌, ◌*◌, ◌≤◌, length, drop, slice_range, Some, None, MatchResult, ⊤, true};
-ghost use Rattle.gx_page.specs.Bytes.{all_zero as every_zero, number_16_at, number_32};
+ghost use Rattle.gx_page.specs.Bytes.{all_zero as every_zero, number_16_at, number_32_at};
 ghost use Rattle.gx_page.specs.Faults.{fault_of, lowest, is_reserved_zero as reserved_zero, is_directory as right_directory, is_free_zero as free_zero};
 ghost use Rattle.gx_page.specs.Reading.{IsImage, read_of, entries};
 
@@ -16,9 +16,10 @@ fn u16_at(bytes: &[u8], at: usize) -> u16
     u16::from_be_bytes([bytes[at], bytes[at + 1]])
 }
 
-fn number_of(bytes: &[u8]) -> u32
+/// The number that the bytes spell where an image has its own.
+pub(crate) fn number_of(bytes: &[u8]) -> u32
     requires { length bytes.now ≡ PAGE_SIZE }
-    ensures { result ≡ number_32 (slice_range bytes.now 20 24) }
+    ensures { result ≡ number_32_at bytes.now 20 }
 {
     u32::from_be_bytes(*bytes[NUMBER..NUMBER + 4].first_chunk::<4>().unwrap())
 }
@@ -82,23 +83,21 @@ fn is_free_zero(bytes: &[u8]) -> bool
     all_zero(&bytes[end..usize::from(u16_at(bytes, START))])
 }
 
-/// The own number of the page whose image the bytes are, or their first fault.
-#[tactic(auto, using(crate::proofs::Faultless::is_image), unfolding(crate::specs::Reading::read_of))]
-pub(crate) fn check(bytes: &[u8]) -> Result<u32, PageFault>
-    ensures faults { MatchResult result (λ _. fault_of bytes.now ≡ None) (λ fault. fault_of bytes.now ≡ Some fault) }
-    ensures image { MatchResult result (λ number. IsImage bytes.now × (number ≡ (read_of bytes.now).number)) (λ _. ⊤) }
+/// The first fault of the bytes, if they have one.
+pub(crate) fn first_fault(bytes: &[u8]) -> Option<PageFault>
+    ensures { result ≡ fault_of bytes.now }
 {
     if bytes.len() != PAGE_SIZE {
-        return Err(PageFault::Size);
+        return Some(PageFault::Size);
     }
     if !is_reserved_zero(bytes) {
-        return Err(PageFault::Reserved);
+        return Some(PageFault::Reserved);
     }
     if !is_directory(bytes) {
-        return Err(PageFault::Directory);
+        return Some(PageFault::Directory);
     }
     if !is_free_zero(bytes) {
-        return Err(PageFault::Free);
+        return Some(PageFault::Free);
     }
-    Ok(number_of(bytes))
+    None
 }

@@ -9,8 +9,6 @@ mod fault;
 pub mod laws;
 mod layout;
 mod page;
-#[cfg(test)]
-mod tests;
 
 pub use block::PAGE_SIZE;
 pub use fault::PageFault;

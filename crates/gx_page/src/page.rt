@@ -9,10 +9,11 @@ ghost use Rattle.gx_page.specs.Format.{Fits, heap, image_of, IsWellFormed, total
 ghost use Rattle.gx_page.specs.Reading.{IsImage, read_of};
 
 use crate::block::{Block, PAGE_SIZE};
+use crate::check::{first_fault, number_of};
 use crate::directory::{count_of, place_of, size_of, start_of};
+use crate::edits;
 use crate::fault::PageFault;
 use crate::layout::{DIRECTORY, NSN, NUMBER, RIGHT, SLOT, START};
-use crate::{check, edits};
 use std::alloc::Global;
 use std::marker::Model;
 
@@ -99,7 +100,10 @@ impl Page {
         ensures fault { IfErr result (λ fault. fault_of bytes.now ≡ Some fault) }
         ensures faultless { (fault_of bytes.now ≡ None) ↔ IsImage bytes.now }
     {
-        check::check(bytes)
+        match first_fault(bytes) {
+            Some(fault) => Err(fault),
+            None => Ok(number_of(bytes)),
+        }
     }
 
     /// The page's 4,096 bytes, in place.
@@ -138,7 +142,7 @@ impl Page {
     pub fn get(&self, slot: usize) -> &[u8]
         requires { slot < length self.now.items }
         ensures item { result.now ≡ slice_index_or self.now.items slot [] }
-        ensures some { 1 ≤ length result.now }
+        ensures some { (1 ≤ length result.now) × (length result.now ≤ 4060) }
     {
         let from = usize::from(place_of(&self.block, slot));
         let size = usize::from(size_of(&self.block, slot));
@@ -191,7 +195,6 @@ impl Page {
     }
 
     /// The level, 0 for a leaf.
-    #[tactic(auto, unfolding(crate::specs::Reading::read_of))]
     pub fn level(&self) -> u16
         ensures { result ≡ self.now.level }
     {
@@ -199,31 +202,27 @@ impl Page {
     }
 
     /// The sequence number of the page's last split.
-    #[tactic(auto, unfolding(crate::specs::Reading::read_of))]
     pub fn nsn(&self) -> u64
         ensures { result ≡ self.now.nsn }
     {
-        u64::from_be_bytes(self.block.array(NSN))
+        self.block.u64_at(NSN)
     }
 
     /// The number of the page to the right, 0 for none.
-    #[tactic(auto, unfolding(crate::specs::Reading::read_of))]
     pub fn right(&self) -> u32
         ensures { result ≡ self.now.right }
     {
-        u32::from_be_bytes(self.block.array(RIGHT))
+        self.block.u32_at(RIGHT)
     }
 
     /// The page's own number.
-    #[tactic(auto, unfolding(crate::specs::Reading::read_of))]
     pub fn number(&self) -> u32
         ensures { result ≡ self.now.number }
     {
-        u32::from_be_bytes(self.block.array(NUMBER))
+        self.block.u32_at(NUMBER)
     }
 
     /// Sets the level.
-    #[tactic(auto, using(crate::proofs::Steps::level_image, crate::proofs::Steps::level_read))]
     pub fn set_level(&mut self, level: u16)
         ensures { self.new ≡ record self.old { level = level } }
     {
@@ -231,7 +230,6 @@ impl Page {
     }
 
     /// Sets the sequence number.
-    #[tactic(auto, using(crate::proofs::Steps::nsn_goes))]
     pub fn set_nsn(&mut self, nsn: u64)
         ensures { self.new ≡ record self.old { nsn = nsn } }
     {
@@ -239,7 +237,6 @@ impl Page {
     }
 
     /// Sets the number of the page to the right, 0 for none.
-    #[tactic(auto, using(crate::proofs::Steps::right_goes))]
     pub fn set_right(&mut self, right: u32)
         ensures { self.new ≡ record self.old { right = right } }
     {
@@ -247,7 +244,6 @@ impl Page {
     }
 
     /// Sets the page's own number.
-    #[tactic(auto, using(crate::proofs::Steps::number_goes))]
     pub fn set_number(&mut self, number: u32)
         ensures { self.new ≡ record self.old { number = number } }
     {
@@ -255,7 +251,6 @@ impl Page {
     }
 
     /// Becomes what the other page is, with no memory taken.
-    #[tactic(auto, using(crate::proofs::Steps::whole_written, crate::proofs::Parts::image_size))]
     pub fn copy_from(&mut self, other: &Page)
         ensures { self.new ≡ other.now }
     {

@@ -1,7 +1,8 @@
+//! The class of boxes by its rows, and code that knows only the trait, at two classes.
 ghost use Rattle.std.specs.Prelude.{◌≡◌, length};
 
 use crate::reaches::{Reach, ReachClass};
-use crate::{Box2Class, KeyClass};
+use gx_class::{Box2Class, KeyClass};
 use gx_geom::Box2;
 use gx_machine::Query;
 use std::process::Abort;

@@ -3,9 +3,9 @@ ghost use Rattle.gx_machine.specs.declared.query.Query.TheVariants.{Overlap, Wit
 ghost use Rattle.std.specs.Prelude.{◌≡◌, ◌≤◌, ◌<◌, ◌-◌, ◌/◌, ◌++◌, ◌∷◌, [], true, false, refl, length, replicate, nat_le, max};
 ghost use Rattle.std.proofs.Common.{ap, arith};
 ghost use Rattle.std.proofs.lemmas.Bool.Decides.{nat_tests};
-ghost use Rattle.gx_class.specs.Halves.{halves, halves_leave_each};
+ghost use Rattle.gx_tests.specs.Halves.{halves, halves_leave_each};
 
-use crate::KeyClass;
+use gx_class::KeyClass;
 use gx_geom::Shape;
 use gx_machine::Query;
 

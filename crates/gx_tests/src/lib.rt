@@ -1,0 +1,11 @@
+//! Callers of the crates below as the layers above will be, and the tests of what no contract says. Nothing here looks
+//! into a crate: it is all by public calls.
+#![tactic(auto)]
+
+pub mod callers;
+#[cfg(test)]
+mod classes;
+#[cfg(test)]
+mod pages;
+#[cfg(test)]
+mod reaches;
