@@ -1,4 +1,4 @@
-//! The class of boxes.
+//! The class of boxes: an R-tree's keys (Guttman 1984).
 ghost use Rattle.std.specs.Prelude.{◌≡◌, ◌≤◌, ◌+◌, ◌++◌, length, take, drop, MatchOption};
 ghost use Rattle.gx_geom.specs.Corners.{IsBox, corners_of, area, union};
 ghost use Rattle.gx_class.specs.Boxes.{number_bytes, spelling, may_match, cost};

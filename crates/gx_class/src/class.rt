@@ -1,7 +1,8 @@
-//! What the tree asks of its keys.
+//! What the tree asks of its keys: the methods of a generalized search tree's key class (Hellerstein, Naughton, Pfeffer
+//! 1995). Compress and Decompress are a lossless `encode` and `decode` here.
 ghost use Rattle.std.specs.Prelude.{◌≡◌, ◌≤◌, ◌*◌, ℕ, Bool, true, List, length, IfSome};
 ghost use Rattle.gx_machine.specs.declared.query.Query.{Query};
-ghost use Rattle.gx_machine.specs.Keys.{keys, key_matches};
+ghost use Rattle.gx_machine.specs.Keys.{keys_of, key_matches};
 ghost use Rattle.gx_class.specs.Sides.{LeavesEach};
 ghost use Rattle.gx_class.specs.declared.class.TheConstants.{MAX_KEY};
 
@@ -56,23 +57,24 @@ pub trait KeyClass {
     fn start() -> Self::Key
         ensures { result ≡ start_key };
 
-    /// Whether a key below the bound may match the query.
+    /// Whether a key below the bound may match the query: Consistent. False only where no key below can match.
     fn consistent(query: &Query<Self::Key>, bound: &Self::Key) -> bool
         ensures { result ≡ may_match query.now bound.now };
 
     /// Whether the key matches the query.
     fn matches(query: &Query<Self::Key>, key: &Self::Key) -> bool
-        ensures { result ≡ key_matches (keys Self.Key.Ord.cmp Self.Key.overlap Self.Key.inside) query.now key.now };
+        ensures { result ≡ key_matches (keys_of Self.Key.Shape) query.now key.now };
 
-    /// The least key that covers both.
+    /// The least key that covers both: Union.
     fn union(first: Self::Key, second: Self::Key) -> Self::Key
         ensures { result ≡ joined first second };
 
-    /// How much the bound grows by the key, and how large it is. The bound for which this is least is chosen.
+    /// How much the bound grows by the key, and how large it is: Penalty. The bound for which this is least is chosen, as
+    /// Guttman (1984) chooses the box that needs least enlargement, then the smaller.
     fn penalty(bound: &Self::Key, key: &Self::Key) -> (u128, u128)
         ensures { result ≡ cost bound.now key.now };
 
-    /// Splits 2 to 101 keys, with at least `least` on each side. In `sides`, which has a place for each key, `true`
+    /// PickSplit: splits 2 to 101 keys, with at least `least` on each side. In `sides`, which has a place for each key, `true`
     /// stands for the second group.
     fn pick_split(keys: &[Self::Key], least: usize, sides: &mut [bool])
         requires some { 1 ≤ least }
@@ -103,7 +105,7 @@ pub trait KeyClass {
 
     /// A key that matches may match below every bound that covers it.
     ghost match_is_consistent: { (q : Query Self.Key) (k b : Self.Key) → is_key k → is_key b
-        → key_matches (keys Self.Key.Ord.cmp Self.Key.overlap Self.Key.inside) q k ≡ true → Self.Key.inside k b ≡ true
+        → key_matches (keys_of Self.Key.Shape) q k ≡ true → Self.Key.inside k b ≡ true
         → may_match q b ≡ true };
 
     /// A union is a key.

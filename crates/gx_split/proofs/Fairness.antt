@@ -22,7 +22,7 @@ same_or_not : (a b : ℕ) → (a ≡ b) ⊎ (a ≢ b)
 same_or_not a b = elim (eqb_tells a b) [ inl w ↦ inl w.1 | inr w ↦ inr w.1 ]
 
 -- a place that reads false whatever stands for its absence is there
-in_range : (xs : List Bool) (i : ℕ) → get_or xs i true ≡ false → i < length xs
+pub in_range : (xs : List Bool) (i : ℕ) → get_or xs i true ≡ false → i < length xs
 in_range [] i h = cc
 in_range (x ∷ xs) zero h = omega arith
 in_range (x ∷ xs) (suc i) h = let less = in_range xs i h in omega arith

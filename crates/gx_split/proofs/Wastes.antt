@@ -105,7 +105,7 @@ first_worst w n two =
       first = all.first;
     })
 
-found : {K : Type 0} (keys : List K) (i : ℕ) → i < length keys → (key : K) × (slice_get keys i ≡ Some key)
+pub found : {K : Type 0} (keys : List K) (i : ℕ) → i < length keys → (key : K) × (slice_get keys i ≡ Some key)
 found [] i h = absurd (omega arith)
 found (k ∷ ks) zero h = (k, refl)
 found (k ∷ ks) (suc i) h = let less : i < length ks = omega arith in found ks i less

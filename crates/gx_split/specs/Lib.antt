@@ -1,4 +1,5 @@
 pub mod Fair
+pub mod Placement
 pub mod Sizes
 pub mod Split
 pub mod Waiting

@@ -1,4 +1,4 @@
-//! Which key is placed next, and on which side.
+//! Which key is placed next, and on which side (Guttman 1984, PickNext).
 ghost use Rattle.std.specs.Prelude.{◌≡◌, ◌≤◌, ◌<◌, ◌+◌, ◌-◌, ◌^◌, ℕ, [], length, map, nat_lt, Some};
 ghost use Rattle.gx_split.specs.Split.{measure, growth, second_less, first_greatest, goes_second};
 ghost use Rattle.gx_split.specs.Waiting.{gap_of, groups_of};

@@ -1,4 +1,4 @@
-//! The pair of keys with which the two groups begin.
+//! The pair of keys with which the two groups begin (Guttman 1984, PickSeeds).
 ghost use Rattle.std.specs.Prelude.{◌≡◌, ◌≤◌, ◌<◌, ◌+◌, ◌-◌, ◌^◌, length, slice_get};
 ghost use Rattle.gx_split.specs.Split.{measure, waste, waste_at, pair, worst_in_row, worst_in_rows, worst_pair};
 ghost use Rattle.gx_split.specs.Sizes.{IsSizes};

@@ -1,4 +1,4 @@
-//! The split of a list of keys.
+//! The split of a list of keys (Guttman 1984, the quadratic split).
 ghost use Rattle.std.specs.Prelude.{◌≡◌, ◌≤◌, ◌<◌, ◌+◌, ◌*◌, ◌||◌, nat_eq, All, length, map, replicate, false};
 ghost use Rattle.gx_split.specs.Split.{measure, pair, others, seeds, split_sides, waste_at};
 ghost use Rattle.gx_split.specs.Fair.{IsFairSplit, IsFirstWorst};
