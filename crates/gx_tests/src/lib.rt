@@ -1,0 +1,10 @@
+//! Callers of the crates below as the layers above will be, and the tests of what no contract says. Nothing here looks
+//! into a crate: it is all by public calls.
+#![tactic(auto)]
+
+#[cfg(test)]
+mod faults;
+#[cfg(test)]
+mod large;
+#[cfg(test)]
+mod memory;
