@@ -60,5 +60,5 @@ EndsOnWords words had left held holds status =
 
 -- how it ends where they couldn't be read
 abbrev pub EndsUnread : WordsFault → Option (List ℕ) → Option (List ℕ) → Option (List ℕ) → Option (List ℕ) → ℕ → Type 0
-EndsUnread NotText had left held holds status = HasWrongWords had left held holds status
+EndsUnread (NotText place) had left held holds status = HasWrongWords had left held holds status
 EndsUnread Memory had left held holds status = LacksMemory had left held holds status

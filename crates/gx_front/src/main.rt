@@ -1,30 +1,35 @@
 //! The program `gist`.
 #![tactic(auto)]
 
+mod faults;
 mod program;
 #[cfg(test)]
 mod tests;
 mod words;
 
+pub use faults::Noted;
 pub use program::gist;
 use std::process::ExitCode;
 pub use words::WordsFault;
 
 fn main(rt: HostRuntime) -> ExitCode {
+    let mut input = Noted::new(rt.stdin());
+    let mut output = Noted::new(rt.stdout());
+    let mut faults = rt.stderr();
     let status = match words::given(&rt) {
         Ok(given) => gist(
             rt.alloc(),
             Ok(given.as_slice()),
-            &mut rt.stdin(),
-            &mut rt.stdout(),
-            &mut rt.stderr(),
+            &mut input,
+            &mut output,
+            &mut faults,
         ),
         Err(fault) => gist::<String, _, _, _>(
             rt.alloc(),
             Err(fault),
-            &mut rt.stdin(),
-            &mut rt.stdout(),
-            &mut rt.stderr(),
+            &mut input,
+            &mut output,
+            &mut faults,
         ),
     };
     ExitCode::from(status)

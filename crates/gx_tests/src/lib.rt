@@ -6,6 +6,12 @@ pub mod callers;
 #[cfg(test)]
 mod classes;
 #[cfg(test)]
+mod faults;
+#[cfg(test)]
+mod large;
+#[cfg(test)]
+mod memory;
+#[cfg(test)]
 mod pages;
 #[cfg(test)]
 mod reaches;

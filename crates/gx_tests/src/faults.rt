@@ -1,0 +1,198 @@
+//! Readers and writers that fail with each common kind of error, once or for ever: what a script makes of it, and that
+//! nobody is asked again after an error or after the end.
+use gx_geom::Box2;
+use gx_plain::{PlainIndex, run_plain};
+use gx_script::ScriptFault;
+use std::io::{self, ErrorKind, Read, Write};
+use std::process::Abort;
+use std::test::Fail;
+
+const KINDS: [ErrorKind; 14] = [
+    ErrorKind::NotFound,
+    ErrorKind::PermissionDenied,
+    ErrorKind::ConnectionReset,
+    ErrorKind::NotConnected,
+    ErrorKind::BrokenPipe,
+    ErrorKind::WouldBlock,
+    ErrorKind::IsADirectory,
+    ErrorKind::InvalidInput,
+    ErrorKind::InvalidData,
+    ErrorKind::TimedOut,
+    ErrorKind::StorageFull,
+    ErrorKind::UnexpectedEof,
+    ErrorKind::OutOfMemory,
+    ErrorKind::Other,
+];
+
+// How a reader or a writer fails, from one of its calls on.
+#[derive(Clone, Copy)]
+enum Failing {
+    Never,
+    Once(ErrorKind),
+    ForEver(ErrorKind),
+}
+
+// The errors of a reader or a writer, and how often it was called after one of them, but for interrupted calls.
+#[derive(Drop)]
+struct Errors {
+    failing: Failing,
+    passes: u32,
+    failed: bool,
+    calls_after: u32,
+}
+
+impl Errors {
+    fn new(failing: Failing, passes: u32) -> Errors {
+        Errors {
+            failing,
+            passes,
+            failed: false,
+            calls_after: 0,
+        }
+    }
+
+    // The error of the next call, if it fails.
+    fn next(&mut self) -> Option<ErrorKind> {
+        if self.failed {
+            self.calls_after = self.calls_after.saturating_add(1);
+        }
+        if self.passes > 0 {
+            self.passes -= 1;
+            return None;
+        }
+        let kind = match self.failing {
+            Failing::Never => return None,
+            Failing::Once(kind) => {
+                self.failing = Failing::Never;
+                kind
+            }
+            Failing::ForEver(kind) => kind,
+        };
+        self.failed = kind != ErrorKind::Interrupted;
+        Some(kind)
+    }
+}
+
+// Gives one byte a read.
+#[derive(Drop)]
+struct Bytes<'a> {
+    rest: &'a [u8],
+    errors: Errors,
+}
+
+impl Read for Bytes<'_> {
+    fn read(&mut self, buffer: &mut [u8]) -> io::Result<usize> {
+        if let Some(kind) = self.errors.next() {
+            return Err(io::Error::from(kind));
+        }
+        match (self.rest.split_first(), buffer.first_mut()) {
+            (Some((byte, rest)), Some(place)) => {
+                *place = *byte;
+                self.rest = rest;
+                Ok(1)
+            }
+            _ => {
+                self.errors.failed = true;
+                Ok(0)
+            }
+        }
+    }
+}
+
+// Takes three bytes a write.
+#[derive(Drop)]
+struct Taken {
+    bytes: Vec<u8>,
+    errors: Errors,
+}
+
+impl Write for Taken {
+    fn write(&mut self, bytes: &[u8]) -> io::Result<usize> {
+        if let Some(kind) = self.errors.next() {
+            return Err(io::Error::from(kind));
+        }
+        let count = bytes.len().min(3);
+        self.bytes.extend_from_slice(bytes.split_at(count).0)?;
+        Ok(count)
+    }
+
+    fn flush(&mut self) -> io::Result<()> {
+        Ok(())
+    }
+}
+
+const SCRIPT: &[u8] = b"1 BEGIN\n1 INSERT 3 0 0 1 1\n1 COMMIT\n";
+
+const TEXT: &[u8] = b"1 ok\n1 inserted\n1 committed 1\n";
+
+// What a script comes to, with its text, where reader and writer fail so.
+fn run<R: Abort + AllocGlobal>(
+    rt: &R,
+    reading: Errors,
+    writing: Errors,
+) -> Result<(Result<(), ScriptFault>, Vec<u8>), Fail> {
+    let mut index: PlainIndex<Box2> = PlainIndex::new(rt.alloc())?;
+    let mut reader = Bytes {
+        rest: SCRIPT,
+        errors: reading,
+    };
+    let mut writer = Taken {
+        bytes: Vec::new(rt.alloc()),
+        errors: writing,
+    };
+    let result = run_plain(&mut reader, &mut writer, &mut index);
+    assert_eq!(rt; reader.errors.calls_after, 0);
+    assert_eq!(rt; writer.errors.calls_after, 0);
+    Ok((result, writer.bytes))
+}
+
+#[test]
+fn a_reader_that_fails_is_not_asked_again(rt: HostRuntime) -> Result<(), Fail> {
+    for kind in KINDS {
+        for failing in [Failing::Once(kind), Failing::ForEver(kind)] {
+            let (result, text) = run(
+                &rt,
+                Errors::new(failing, 20),
+                Errors::new(Failing::Never, 0),
+            )?;
+            assert!(rt; result == Err(ScriptFault::Read));
+            assert!(rt; text.as_slice() == b"1 ok\n".as_slice());
+        }
+    }
+    Ok(())
+}
+
+#[test]
+fn a_writer_that_fails_is_not_asked_again(rt: HostRuntime) -> Result<(), Fail> {
+    for kind in KINDS {
+        for failing in [Failing::Once(kind), Failing::ForEver(kind)] {
+            let (result, text) = run(&rt, Errors::new(Failing::Never, 0), Errors::new(failing, 3))?;
+            assert!(rt; result == Err(ScriptFault::Write));
+            assert!(rt; text.as_slice() == b"1 ok\n1 i".as_slice());
+        }
+    }
+    Ok(())
+}
+
+#[test]
+fn an_interrupted_call_is_made_again(rt: HostRuntime) -> Result<(), Fail> {
+    for passes in 0..12 {
+        let once = Failing::Once(ErrorKind::Interrupted);
+        let (result, text) = run(&rt, Errors::new(once, passes), Errors::new(once, passes))?;
+        assert!(rt; result == Ok(()));
+        assert!(rt; text.as_slice() == TEXT);
+    }
+    Ok(())
+}
+
+#[test]
+fn after_the_end_nothing_is_read(rt: HostRuntime) -> Result<(), Fail> {
+    let (result, text) = run(
+        &rt,
+        Errors::new(Failing::Never, 0),
+        Errors::new(Failing::Never, 0),
+    )?;
+    assert!(rt; result == Ok(()));
+    assert!(rt; text.as_slice() == TEXT);
+    Ok(())
+}
