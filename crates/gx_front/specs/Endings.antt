@@ -2,10 +2,10 @@
 use Rattle.std.specs.Prelude.{ℕ, ◌≡◌, ◌≢◌, ◌⊎◌, ◌++◌, codes, Option, List, []}
 use Rattle.std.specs.Io.KnownBytes.{Appends, Keeps}
 use Rattle.clap.specs.Words.{fault_of}
-use Rattle.gx_geom.specs.Corners.{Corners, corners_cmp, overlaps, within}
-use Rattle.gx_machine.specs.Keys.{keys}
+use Rattle.gx_geom.specs.Corners.{Corners}
 use Rattle.gx_script.specs.Scripts.{IsDone, IsStopped}
 use Rattle.gx_script.specs.declared.fault.ScriptFault.{ScriptFault}
+use Rattle.gx_plain.specs.Boxes.{box_keys}
 use Rattle.gx_plain.specs.Index.{Index, fresh_index, CallsIndex}
 use Rattle.gx_front.specs.Program.{gist_app}
 use Rattle.gx_front.specs.declared.words.WordsFault.{WordsFault}
@@ -37,14 +37,14 @@ pub record HasWrongWords (had left held holds : Option (List ℕ)) (status : ℕ
 pub record RanScript (had left held holds : Option (List ℕ)) (status : ℕ) : Type 0 where
   pub index : Index Corners
   pub status_is : status ≡ 0
-  pub done : IsDone (CallsIndex (keys corners_cmp overlaps within)) had left held holds fresh_index index
+  pub done : IsDone (CallsIndex box_keys) had left held holds fresh_index index
 
 -- the script was stopped by a fault
 pub record StoppedScript (had left held holds : Option (List ℕ)) (status : ℕ) : Type 0 where
   pub index : Index Corners
   pub fault : ScriptFault
   pub status_is : status ≡ 1
-  pub stopped : IsStopped (CallsIndex (keys corners_cmp overlaps within)) had left held holds fresh_index index fault
+  pub stopped : IsStopped (CallsIndex box_keys) had left held holds fresh_index index fault
 
 -- how a script on a fresh index may end
 abbrev pub EndsScript : Option (List ℕ) → Option (List ℕ) → Option (List ℕ) → Option (List ℕ) → ℕ → Type 0

@@ -5,15 +5,11 @@ use Rattle.gx_machine.specs.declared.reply.Reply.{Reply}
 use Rattle.gx_machine.specs.declared.reply.Reply.TheVariants.{Refused}
 use Rattle.gx_machine.specs.declared.reply.Asked.{Asked as Given}
 use Rattle.gx_machine.specs.declared.reply.Asked.TheVariants.{Now, Open}
+use Rattle.gx_machine.specs.declared.item.Item.{Item}
+use Rattle.gx_machine.specs.declared.item.Item.TheVariants.{Asked, Sealed, Replied}
 use Rattle.gx_machine.specs.Keys.{Keys}
 use Rattle.gx_machine.specs.Machine.{Machine, failed_machine}
 use Rattle.gx_machine.specs.Runs.{Step, Asks, Answers, Seals, Durable, Closes, RefusesAsk, RefusesCall, Fails, Crashes, Nothing, is_unseen_fault, IsRun}
-
--- What a record of calls and replies has: a call was asked; a commit was sealed under a number; a reply was given.
-pub data Item (B : Type 0) : Type 0 where
-  Asked : (s : ℕ) (call : Call B) → Item B
-  Sealed : (s number : ℕ) → Item B
-  Replied : (s : ℕ) (reply : Reply B) → Item B
 
 -- the items of an ask, with the reply that came at once if one did
 abbrev pub items_of_ask : {B : Type 0} → ℕ → Call B → Given B → List (Item B)

@@ -7,12 +7,14 @@ ghost use Rattle.gx_plain.specs.Index.{Index, AnswersIndex, ask_index, fresh_ind
 ghost use Rattle.gx_plain.specs.Runs.{IsPlain, AskIsRun, AnswerIsRun};
 
 pub use gx_machine::laws::{
-    calls_change_no_set, committed_transactions_run_alone, durable_keeps_the_last_set,
-    every_run_is_serial, kept_sets_stay_in_order, refused_ask_changes_nothing,
-    sessions_never_conflict,
+    acknowledged_commits_survive, busy_names_the_least_conflict, calls_change_no_set,
+    committed_transactions_run_alone, durable_keeps_the_last_set, each_step_keeps_locks_apart,
+    every_run_is_serial, found_is_what_the_view_has, kept_sets_stay_in_order, keys_are_lawful,
+    refused_ask_changes_nothing, runs_join, sessions_never_conflict, sets_keep_their_numbers,
+    unseen_faults_permit_nothing_new,
 };
 
-/// A fresh index has eight sessions, all its commits are durable, and no fault has ended it.
+/// A fresh index has eight sessions, all its commits are durable, and no fault has made it fail.
 pub fn a_fresh_index_is_plain<B>()
     ensures { IsPlain (fresh_index {B = B}) }
 {}
