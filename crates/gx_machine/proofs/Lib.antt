@@ -10,3 +10,4 @@ pub mod AloneRuns
 pub mod RunLemmas
 pub mod Answered
 pub mod Survival
+pub mod SetsByTests

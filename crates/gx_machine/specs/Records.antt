@@ -48,3 +48,10 @@ pub record RunsUnseen {B : Type 0} (k : Keys B) (old : Machine B) (steps : List 
   pub runs : IsRun k old (without_unseen_faults steps) end
   pub same_record : record_of (without_unseen_faults steps) ≡ record_of steps
   pub same : SameOrFailed end new
+
+-- the calls and replies of a record, without what was sealed
+abbrev pub calls_and_replies : {B : Type 0} → List (Item B) → List (Item B)
+calls_and_replies [] = []
+calls_and_replies (Asked s call ∷ items) = Asked s call ∷ calls_and_replies items
+calls_and_replies (Sealed s number ∷ items) = calls_and_replies items
+calls_and_replies (Replied s reply ∷ items) = Replied s reply ∷ calls_and_replies items

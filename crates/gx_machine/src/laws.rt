@@ -130,3 +130,9 @@ pub fn runs_join<B>()
     ensures { (k : Keys B) (old middle new : Machine B) (before after : List (Step B))
         → IsRun k old before middle → IsRun k middle after new → IsRun k old (before ++ after) new }
 {}
+
+/// A set is its members: two lists in order that have the same entries are one list.
+pub fn sets_are_their_members<B>()
+    ensures { (k : Keys B) → IsLawful k → (xs ys : List (Entry B)) → InOrder k xs → InOrder k ys
+        → ((e : Entry B) → has k e xs ≡ has k e ys) → xs ≡ ys }
+{}

@@ -2,3 +2,4 @@ pub mod Index
 pub mod Kept
 pub mod Runs
 pub mod Boxes
+pub mod OneRun
