@@ -2,7 +2,7 @@
 use Rattle.std.specs.Prelude.{ℕ, ◌≡◌, ◌≢◌, ◌⊎◌, ◌++◌, codes, Option, List, []}
 use Rattle.std.specs.Io.KnownBytes.{Appends, Keeps}
 use Rattle.clap.specs.Words.{fault_of}
-use Rattle.gx_geom.specs.Corners.{Corners}
+use Rattle.gx_geom.specs.Rectangles.{Rectangle}
 use Rattle.gx_script.specs.Scripts.{IsDone, IsStopped}
 use Rattle.gx_script.specs.declared.fault.ScriptFault.{ScriptFault}
 use Rattle.gx_plain.specs.Boxes.{box_keys}
@@ -35,13 +35,13 @@ pub record HasWrongWords (had left held holds : Option (List ℕ)) (status : ℕ
 
 -- the script ran to its end, on an index that was fresh
 pub record RanScript (had left held holds : Option (List ℕ)) (status : ℕ) : Type 0 where
-  pub index : Index Corners
+  pub index : Index Rectangle
   pub status_is : status ≡ 0
   pub done : IsDone (CallsIndex box_keys) had left held holds fresh_index index
 
 -- the script was stopped by a fault
 pub record StoppedScript (had left held holds : Option (List ℕ)) (status : ℕ) : Type 0 where
-  pub index : Index Corners
+  pub index : Index Rectangle
   pub fault : ScriptFault
   pub status_is : status ≡ 1
   pub stopped : IsStopped (CallsIndex box_keys) had left held holds fresh_index index fault

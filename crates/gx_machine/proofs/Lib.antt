@@ -11,3 +11,4 @@ pub mod RunLemmas
 pub mod Answered
 pub mod Survival
 pub mod SetsByTests
+pub mod WorkedRun

@@ -1,7 +1,7 @@
 -- Each call that is asked and answered is a run of the machine, and so is a script.
 use Rattle.std.proofs.Common.{◌≡◌, ℕ, ◌+◌, ◌-◌, Bool, true, false, cond, ◌⊎◌, inl, inr, List, [], ◌∷◌, ◌++◌, length, slice_set, refl, ap, sym, ◌∙◌, subst, rules, append_assoc}
 use Rattle.std.specs.Prelude.{Option, None, Some, option_map, Result, Ok, Err, if◌then◌else◌}
-use Rattle.gx_geom.specs.Corners.{Corners}
+use Rattle.gx_geom.specs.Rectangles.{Rectangle}
 use Rattle.gx_geom.specs.declared.refusal.Refusal.{Refusal}
 use Rattle.gx_geom.specs.declared.refusal.Refusal.TheVariants.{BadSession, NoCall, HistoryFull, Memory}
 use Rattle.gx_machine.specs.declared.entry.Entry.{Entry}
@@ -172,15 +172,15 @@ module _ {B : Type 0} (k : Keys B) where
   joined before after = ap calls_and_replies (records_join before after) ∙ calls_join (record_of before) (record_of after)
 
 -- What the lines of a script ask and are answered is one run.
-pub script_run : (number : ℕ) (lines : List Line) (old new : Index Corners) (text : List ℕ) → IsPlain old → IsScript (CallsIndex box_keys) number lines old text new
+pub script_run : (number : ℕ) (lines : List Line) (old new : Index Rectangle) (text : List ℕ) → IsPlain old → IsScript (CallsIndex box_keys) number lines old text new
     → IsOneRun number lines old.machine new.machine text
-script_run number [] old new text plain script = record { steps = []; runs = ap (λ (index : Index Corners). index.machine) script.1; tells = (refl, script.0) }
+script_run number [] old new text plain script = record { steps = []; runs = ap (λ (index : Index Rectangle). index.machine) script.1; tells = (refl, script.0) }
 script_run number (Blank ∷ more) old new text plain script =
     let told = script.3 in
     let rest = script_run (number + 1) more script.2 new script.1 (subst IsPlain (sym told.1) plain) script.4 in
     record {
       steps = rest.steps;
-      runs = subst (λ (index : Index Corners). IsRun box_keys index.machine rest.steps new.machine) told.1 rest.runs;
+      runs = subst (λ (index : Index Rectangle). IsRun box_keys index.machine rest.steps new.machine) told.1 rest.runs;
       tells = subst (λ (t : List ℕ). Tells (number + 1) more (calls_and_replies (record_of rest.steps)) t) (sym (script.5 ∙ ap (λ (t : List ℕ). t ++ script.1) told.0)) rest.tells;
     }
 script_run number (Bad ∷ more) old new text plain script =
@@ -188,7 +188,7 @@ script_run number (Bad ∷ more) old new text plain script =
     let rest = script_run (number + 1) more script.2 new script.1 (subst IsPlain (sym told.1) plain) script.4 in
     record {
       steps = rest.steps;
-      runs = subst (λ (index : Index Corners). IsRun box_keys index.machine rest.steps new.machine) told.1 rest.runs;
+      runs = subst (λ (index : Index Rectangle). IsRun box_keys index.machine rest.steps new.machine) told.1 rest.runs;
       tells = (script.1, script.5 ∙ ap (λ (t : List ℕ). t ++ script.1) told.0, rest.tells);
     }
 script_run number (Reversed session ∷ more) old new text plain script =
@@ -196,7 +196,7 @@ script_run number (Reversed session ∷ more) old new text plain script =
     let rest = script_run (number + 1) more script.2 new script.1 (subst IsPlain (sym told.1) plain) script.4 in
     record {
       steps = rest.steps;
-      runs = subst (λ (index : Index Corners). IsRun box_keys index.machine rest.steps new.machine) told.1 rest.runs;
+      runs = subst (λ (index : Index Rectangle). IsRun box_keys index.machine rest.steps new.machine) told.1 rest.runs;
       tells = (script.1, script.5 ∙ ap (λ (t : List ℕ). t ++ script.1) told.0, rest.tells);
     }
 script_run number (Wants session call ∷ more) old new text plain script =
@@ -211,7 +211,7 @@ script_run number (Wants session call ∷ more) old new text plain script =
         told.0,
         calls_and_replies (record_of rest.steps),
         script.1,
-        joined box_keys first.steps rest.steps ∙ ap (λ (items : List (Item Corners)). items ++ calls_and_replies (record_of rest.steps)) first.record_is,
+        joined box_keys first.steps rest.steps ∙ ap (λ (items : List (Item Rectangle)). items ++ calls_and_replies (record_of rest.steps)) first.record_is,
         script.5 ∙ ap (λ (t : List ℕ). t ++ script.1) told.2,
         rest.tells,
       );

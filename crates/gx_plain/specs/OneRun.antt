@@ -1,6 +1,6 @@
 -- A script as one run of the set machine.
 use Rattle.std.specs.Prelude.{ℕ, ◌≡◌, ◌+◌, List, [], ◌∷◌, ◌++◌}
-use Rattle.gx_geom.specs.Corners.{Corners}
+use Rattle.gx_geom.specs.Rectangles.{Rectangle}
 use Rattle.gx_geom.specs.declared.refusal.Refusal.TheVariants.{BadBox}
 use Rattle.gx_machine.specs.declared.item.Item.{Item}
 use Rattle.gx_machine.specs.declared.item.Item.TheVariants.{Asked, Replied}
@@ -26,19 +26,19 @@ pub record IsCallRun {B : Type 0} (k : Keys B) (s : ℕ) (call : Call B) (reply 
   pub record_is : calls_and_replies (record_of steps) ≡ Asked s call ∷ Replied s reply ∷ []
 
 -- These lines, the first of which has this number, ask these calls, and give this text with these replies.
-abbrev pub Tells : ℕ → List Line → List (Item Corners) → List ℕ → Type 0
+abbrev pub Tells : ℕ → List Line → List (Item Rectangle) → List ℕ → Type 0
 Tells number [] items text = (items ≡ []) × (text ≡ [])
 Tells number (Blank ∷ more) items text = Tells (number + 1) more items text
 Tells number (Bad ∷ more) items text = (rest : List ℕ) × (text ≡ bad_line number ++ rest) × Tells (number + 1) more items rest
 Tells number (Reversed session ∷ more) items text =
     (rest : List ℕ) × (text ≡ reply_text session (Refused BadBox) ++ rest) × Tells (number + 1) more items rest
 Tells number (Asks session call ∷ more) items text =
-    (reply : Reply Corners) × (later : List (Item Corners)) × (rest : List ℕ)
+    (reply : Reply Rectangle) × (later : List (Item Rectangle)) × (rest : List ℕ)
     × (items ≡ Asked (asked_as session) call ∷ Replied (asked_as session) reply ∷ later)
     × (text ≡ reply_text session reply ++ rest) × Tells (number + 1) more later rest
 
 -- What these lines ask and are answered is one run of the machine, and this is its text.
-pub record IsOneRun (number : ℕ) (lines : List Line) (old new : Machine Corners) (text : List ℕ) : Type 0 where
-  pub steps : List (Step Corners)
+pub record IsOneRun (number : ℕ) (lines : List Line) (old new : Machine Rectangle) (text : List ℕ) : Type 0 where
+  pub steps : List (Step Rectangle)
   pub runs : IsRun box_keys old steps new
   pub tells : Tells number lines (calls_and_replies (record_of steps)) text

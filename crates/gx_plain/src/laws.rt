@@ -8,7 +8,7 @@ ghost use Rattle.gx_plain.specs.Boxes.{box_keys};
 ghost use Rattle.gx_plain.specs.Index.{CallsIndex};
 ghost use Rattle.gx_plain.specs.OneRun.{IsCallRun, IsOneRun};
 ghost use Rattle.gx_plain.specs.Runs.{IsPlain, AskIsRun, AnswerIsRun};
-ghost use Rattle.gx_geom.specs.Corners.{Corners};
+ghost use Rattle.gx_geom.specs.Rectangles.{Rectangle};
 ghost use Rattle.gx_script.specs.declared.line.Line.{Line};
 ghost use Rattle.gx_script.specs.Scripts.{IsScript};
 
@@ -49,6 +49,6 @@ pub fn each_call_is_a_run<B>()
 /// What the lines of a script ask and are answered is one run of the machine, joined over all lines, whatever pieces
 /// the script came in; its replies are those of the text.
 pub fn each_script_is_one_run()
-    ensures { (number : ℕ) (lines : List Line) (old new : Index Corners) (text : List ℕ) → IsPlain old
+    ensures { (number : ℕ) (lines : List Line) (old new : Index Rectangle) (text : List ℕ) → IsPlain old
         → IsScript (CallsIndex box_keys) number lines old text new → IsOneRun number lines old.machine new.machine text }
 {}
