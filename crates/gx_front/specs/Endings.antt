@@ -3,10 +3,12 @@ use Rattle.std.specs.Prelude.{ℕ, ◌≡◌, ◌≢◌, ◌⊎◌, ◌++◌, co
 use Rattle.std.specs.Io.KnownBytes.{Appends, Keeps}
 use Rattle.clap.specs.Words.{fault_of}
 use Rattle.gx_geom.specs.Rectangles.{Rectangle}
-use Rattle.gx_script.specs.Scripts.{IsDone, IsStopped}
+use Rattle.gx_machine.specs.Machine.{fresh_machine}
+use Rattle.gx_script.specs.Scripts.{asked, IsDone, IsStopped}
 use Rattle.gx_script.specs.declared.fault.ScriptFault.{ScriptFault}
 use Rattle.gx_plain.specs.Boxes.{box_keys}
 use Rattle.gx_plain.specs.Index.{Index, fresh_index, CallsIndex}
+use Rattle.gx_plain.specs.OneRun.{IsOneRun}
 use Rattle.gx_front.specs.Program.{gist_app}
 use Rattle.gx_front.specs.declared.words.WordsFault.{WordsFault}
 use Rattle.gx_front.specs.declared.words.WordsFault.TheVariants.{NotText, Memory}
@@ -38,6 +40,8 @@ pub record RanScript (had left held holds : Option (List ℕ)) (status : ℕ) : 
   pub index : Index Rectangle
   pub status_is : status ≡ 0
   pub done : IsDone (CallsIndex box_keys) had left held holds fresh_index index
+  -- what its lines asked and were answered is one run of the machine, and this is its text
+  pub one_run : IsOneRun 1 (asked done.input) fresh_machine index.machine done.text
 
 -- the script was stopped by a fault
 pub record StoppedScript (had left held holds : Option (List ℕ)) (status : ℕ) : Type 0 where
