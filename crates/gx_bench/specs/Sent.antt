@@ -1,11 +1,11 @@
 -- Boxes as C sends them.
 use Rattle.std.specs.Prelude.{◌≤ℤ◌}
-use Rattle.gx_geom.specs.Corners.{Corners, corners_of}
+use Rattle.gx_geom.specs.Rectangles.{Rectangle, rectangle_of}
 use Rattle.gx_bench.specs.declared.SentBox.{SentBox}
 
 -- the corners that a box stands for
-abbrev pub key_of : SentBox → Corners
-key_of b = corners_of b.x1 b.y1 b.x2 b.y2
+abbrev pub key_of : SentBox → Rectangle
+key_of b = rectangle_of b.x1 b.y1 b.x2 b.y2
 
 -- none of its sides is reversed
 pub record InOrder (b : SentBox) : Type 0 where

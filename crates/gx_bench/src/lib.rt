@@ -2,7 +2,7 @@
 #![tactic(auto)]
 
 ghost use Rattle.std.specs.Prelude.{◌≡◌, ◌≤◌, ◌≤ℤ◌, ◌*◌, All, length, map};
-ghost use Rattle.gx_geom.specs.Corners.{corners_of, union, area};
+ghost use Rattle.gx_geom.specs.Rectangles.{rectangle_of, union, area};
 ghost use Rattle.gx_split.specs.Split.{measure, split_sides};
 ghost use Rattle.gx_bench.specs.Sent.{key_of, InOrder};
 

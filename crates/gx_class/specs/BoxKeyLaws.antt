@@ -11,7 +11,7 @@ use Rattle.std.proofs.lemmas.Nat.{from_be_bytes-to_be_bytes_4}
 use Rattle.std.proofs.lemmas.List.{append_assoc, append-nil, drop_all, length-append}
 use Rattle.std.proofs.lemmas.Slice.{drop-append-drop}
 use lib.Seq.{take-append_seam}
-use Rattle.gx_geom.specs.Corners.{Corners, IsBox, union, area, overlaps, within, corners_cmp, corners_of}
+use Rattle.gx_geom.specs.Rectangles.{Rectangle, IsBox, union, area, overlaps, within, rectangle_cmp, rectangle_of}
 use Rattle.gx_geom.specs.BoxLaws.{within_corners, corners_within, overlap_corners, corners_overlap, same_corners, lesser_at_most, at_most_greater, at_most_lesser, greater_at_most, at_most_through}
 use Rattle.gx_machine.specs.declared.query.Query.{Query}
 use Rattle.gx_machine.specs.declared.query.Query.TheVariants.{Overlap, Within, Equal}
@@ -21,7 +21,7 @@ use Rattle.gx_split.proofs.Wastes.{fair_split}
 use Rattle.gx_class.specs.Sides.{LeavesEach}
 use Rattle.gx_class.specs.Boxes.{may_match, number_bytes, spelling}
 
-pub start_is_box : IsBox (corners_of (pos 0) (pos 0) (pos 0) (pos 0))
+pub start_is_box : IsBox (rectangle_of (pos 0) (pos 0) (pos 0) (pos 0))
 start_is_box = record {
   x_in_order = omega (arith, ints);
   y_in_order = omega (arith, ints);
@@ -31,7 +31,7 @@ start_is_box = record {
   y2_fits = omega (arith, ints);
 }
 
-pub union_covers_first : (a b : Corners) → within a (union a b) ≡ true
+pub union_covers_first : (a b : Rectangle) → within a (union a b) ≡ true
 union_covers_first a b =
     corners_within a (union a b) (record {
       x_from = (lesser_at_most a.x1 b.x1).0;
@@ -40,7 +40,7 @@ union_covers_first a b =
       y_to = (at_most_greater a.y2 b.y2).0;
     })
 
-pub union_covers_second : (a b : Corners) → within b (union a b) ≡ true
+pub union_covers_second : (a b : Rectangle) → within b (union a b) ≡ true
 union_covers_second a b =
     corners_within b (union a b) (record {
       x_from = (lesser_at_most a.x1 b.x1).1;
@@ -49,7 +49,7 @@ union_covers_second a b =
       y_to = (at_most_greater a.y2 b.y2).1;
     })
 
-pub union_is_least : (a b c : Corners) → within a c ≡ true → within b c ≡ true → within (union a b) c ≡ true
+pub union_is_least : (a b c : Rectangle) → within a c ≡ true → within b c ≡ true → within (union a b) c ≡ true
 union_is_least a b c p q =
     let first = within_corners a c p in
     let second = within_corners b c q in
@@ -61,7 +61,7 @@ union_is_least a b c p q =
     })
 
 -- what overlaps a box overlaps whatever covers it
-overlap_covered : (k b q : Corners) → overlaps k q ≡ true → within k b ≡ true → overlaps b q ≡ true
+overlap_covered : (k b q : Rectangle) → overlaps k q ≡ true → within k b ≡ true → overlaps b q ≡ true
 overlap_covered k b q p inside =
     let meets = overlap_corners k q p in
     let lies = within_corners k b inside in
@@ -73,7 +73,7 @@ overlap_covered k b q p inside =
     })
 
 -- what covers a box that lies in another overlaps that one
-within_covered : (k b q : Corners) → IsBox k → within k q ≡ true → within k b ≡ true → overlaps b q ≡ true
+within_covered : (k b q : Rectangle) → IsBox k → within k q ≡ true → within k b ≡ true → overlaps b q ≡ true
 within_covered k b q is p inside =
     let lies = within_corners k q p in
     let lies' = within_corners k b inside in
@@ -89,15 +89,15 @@ same_order Less e = cc
 same_order Same e = refl
 same_order Greater e = cc
 
-pub match_is_consistent : (q : Query Corners) (k b : Corners) → IsBox k → key_matches (keys corners_cmp overlaps within) q k ≡ true → within k b ≡ true
+pub match_is_consistent : (q : Query Rectangle) (k b : Rectangle) → IsBox k → key_matches (keys rectangle_cmp overlaps within) q k ≡ true → within k b ≡ true
     → may_match q b ≡ true
 match_is_consistent (Overlap q) k b is matched inside = overlap_covered k b q matched inside
 match_is_consistent (Within q) k b is matched inside = within_covered k b q is matched inside
 match_is_consistent (Equal q) k b is matched inside =
-    let same : k ≡ q = same_corners k q (same_order (corners_cmp k q) matched) in
+    let same : k ≡ q = same_corners k q (same_order (rectangle_cmp k q) matched) in
     subst (λ z. within z b ≡ true) same inside
 
-pub split_leaves_each : (xs : List Corners) (least : ℕ) → 1 ≤ least → 2 * least ≤ length xs → LeavesEach (length xs) least (split_sides (measure union area) xs least)
+pub split_leaves_each : (xs : List Rectangle) (least : ℕ) → 1 ≤ least → 2 * least ≤ length xs → LeavesEach (length xs) least (split_sides (measure union area) xs least)
 split_leaves_each xs least one enough =
     let fair = fair_split (measure union area) xs least one enough in
     record { each_has_one = fair.each_has_one; first_has = fair.first_has; second_has = fair.second_has }
@@ -106,7 +106,7 @@ pub length-number_bytes : (z : ℤ) → length (number_bytes z) ≡ 4
 unfolding number_bytes
 length-number_bytes z = refl
 
-pub length-spelling : (b : Corners) → length (spelling b) ≡ 16
+pub length-spelling : (b : Rectangle) → length (spelling b) ≡ 16
 length-spelling b =
     let x1 = length-number_bytes b.x1 in
     let y1 = length-number_bytes b.y1 in
@@ -136,13 +136,13 @@ same_halves (x ∷ xs) ys (u ∷ us) vs l e =
     let head : x ≡ u = cc in
     (cc, rest.1)
 
-same_by_corners : (a b : Corners) → a.x1 ≡ b.x1 → a.y1 ≡ b.y1 → a.x2 ≡ b.x2 → a.y2 ≡ b.y2 → a ≡ b
+same_by_corners : (a b : Rectangle) → a.x1 ≡ b.x1 → a.y1 ≡ b.y1 → a.x2 ≡ b.x2 → a.y2 ≡ b.y2 → a ≡ b
 same_by_corners a b x1 y1 x2 y2 =
-    ap (λ z. corners_of z a.y1 a.x2 a.y2) x1 ∙ ap (λ z. corners_of b.x1 z a.x2 a.y2) y1
-    ∙ ap (λ z. corners_of b.x1 b.y1 z a.y2) x2 ∙ ap (corners_of b.x1 b.y1 b.x2) y2
+    ap (λ z. rectangle_of z a.y1 a.x2 a.y2) x1 ∙ ap (λ z. rectangle_of b.x1 z a.x2 a.y2) y1
+    ∙ ap (λ z. rectangle_of b.x1 b.y1 z a.y2) x2 ∙ ap (rectangle_of b.x1 b.y1 b.x2) y2
 
 -- corners whose numbers fit are those of their bytes
-pub same_spelling : (a b : Corners) → FitsSigned w32 a.x1 → FitsSigned w32 a.y1 → FitsSigned w32 a.x2 → FitsSigned w32 a.y2 → IsBox b → spelling a ≡ spelling b → a ≡ b
+pub same_spelling : (a b : Rectangle) → FitsSigned w32 a.x1 → FitsSigned w32 a.y1 → FitsSigned w32 a.x2 → FitsSigned w32 a.y2 → IsBox b → spelling a ≡ spelling b → a ≡ b
 same_spelling a b x1 y1 x2 y2 is e =
     let long_a = length-append (number_bytes a.x1) (number_bytes a.y1) in
     let long_b = length-append (number_bytes b.x1) (number_bytes b.y1) in
@@ -182,6 +182,6 @@ put_all out one two three four a b c d room la lb lc ld is1 is2 is3 is4 =
     last ∙ ap (λ l. (((a ++ b) ++ c) ++ d) ++ l) (drop_all 16 out (omega arith)) ∙ append-nil (((a ++ b) ++ c) ++ d) ∙ append_assoc (a ++ b) c d
 
 -- what an answer has in it, if it is one
-pub answer_is : (r : Result Corners Refusal) (key : Corners) → IsOk r → IfOk r (λ b. b ≡ key) → result_ok r ≡ Some key
+pub answer_is : (r : Result Rectangle Refusal) (key : Rectangle) → IsOk r → IfOk r (λ b. b ≡ key) → result_ok r ≡ Some key
 answer_is (Ok b) key ok is = ap Some is
 answer_is (Err e) key ok is = cc

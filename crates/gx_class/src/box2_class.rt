@@ -1,6 +1,6 @@
 //! The class of boxes: an R-tree's keys (Guttman 1984).
 ghost use Rattle.std.specs.Prelude.{◌≡◌, ◌≤◌, ◌+◌, ◌++◌, length, take, drop, MatchOption};
-ghost use Rattle.gx_geom.specs.Corners.{IsBox, corners_of, area, union};
+ghost use Rattle.gx_geom.specs.Rectangles.{IsBox, rectangle_of, area, union};
 ghost use Rattle.gx_class.specs.Boxes.{number_bytes, spelling, may_match, cost};
 
 use crate::KeyClass;
@@ -40,7 +40,7 @@ fn numbers(bytes: &[u8]) -> (i32, i32)
 impl KeyClass for Box2Class {
     ghost use Rattle.std.specs.Prelude.{pos};
     ghost use Rattle.std.proofs.Common.{arith};
-    ghost use Rattle.gx_geom.specs.Corners.{within};
+    ghost use Rattle.gx_geom.specs.Rectangles.{within};
     ghost use Rattle.gx_split.specs.Split.{measure, split_sides};
     ghost use Rattle.gx_geom.specs.BoxLaws.{within_itself, within_through, union_is_box};
     ghost use Rattle.gx_class.specs.BoxKeyLaws.{start_is_box, match_is_consistent, union_covers_first, union_covers_second, union_is_least, split_leaves_each, length-spelling};
@@ -57,7 +57,7 @@ impl KeyClass for Box2Class {
 
     ghost is_key = { IsBox };
 
-    ghost start_key = { corners_of (pos 0) (pos 0) (pos 0) (pos 0) };
+    ghost start_key = { rectangle_of (pos 0) (pos 0) (pos 0) (pos 0) };
 
     ghost may_match = { may_match };
 

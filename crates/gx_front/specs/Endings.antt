@@ -2,11 +2,13 @@
 use Rattle.std.specs.Prelude.{ℕ, ◌≡◌, ◌≢◌, ◌⊎◌, ◌++◌, codes, Option, List, []}
 use Rattle.std.specs.Io.KnownBytes.{Appends, Keeps}
 use Rattle.clap.specs.Words.{fault_of}
-use Rattle.gx_geom.specs.Corners.{Corners, corners_cmp, overlaps, within}
-use Rattle.gx_machine.specs.Keys.{keys}
-use Rattle.gx_script.specs.Scripts.{IsDone, IsStopped}
+use Rattle.gx_geom.specs.Rectangles.{Rectangle}
+use Rattle.gx_machine.specs.Machine.{fresh_machine}
+use Rattle.gx_script.specs.Scripts.{asked, IsDone, IsStopped}
 use Rattle.gx_script.specs.declared.fault.ScriptFault.{ScriptFault}
+use Rattle.gx_plain.specs.Boxes.{box_keys}
 use Rattle.gx_plain.specs.Index.{Index, fresh_index, CallsIndex}
+use Rattle.gx_plain.specs.OneRun.{IsOneRun}
 use Rattle.gx_front.specs.Program.{gist_app}
 use Rattle.gx_front.specs.declared.words.WordsFault.{WordsFault}
 use Rattle.gx_front.specs.declared.words.WordsFault.TheVariants.{NotText, Memory}
@@ -35,16 +37,18 @@ pub record HasWrongWords (had left held holds : Option (List ℕ)) (status : ℕ
 
 -- the script ran to its end, on an index that was fresh
 pub record RanScript (had left held holds : Option (List ℕ)) (status : ℕ) : Type 0 where
-  pub index : Index Corners
+  pub index : Index Rectangle
   pub status_is : status ≡ 0
-  pub done : IsDone (CallsIndex (keys corners_cmp overlaps within)) had left held holds fresh_index index
+  pub done : IsDone (CallsIndex box_keys) had left held holds fresh_index index
+  -- what its lines asked and were answered is one run of the machine, and this is its text
+  pub one_run : IsOneRun 1 (asked done.input) fresh_machine index.machine done.text
 
 -- the script was stopped by a fault
 pub record StoppedScript (had left held holds : Option (List ℕ)) (status : ℕ) : Type 0 where
-  pub index : Index Corners
+  pub index : Index Rectangle
   pub fault : ScriptFault
   pub status_is : status ≡ 1
-  pub stopped : IsStopped (CallsIndex (keys corners_cmp overlaps within)) had left held holds fresh_index index fault
+  pub stopped : IsStopped (CallsIndex box_keys) had left held holds fresh_index index fault
 
 -- how a script on a fresh index may end
 abbrev pub EndsScript : Option (List ℕ) → Option (List ℕ) → Option (List ℕ) → Option (List ℕ) → ℕ → Type 0

@@ -9,7 +9,7 @@ use Rattle.std.proofs.Math.Bool.{and_comm}
 use Rattle.std.proofs.lemmas.Int.{ints, clamps}
 use Rattle.std.proofs.lemmas.Map.Lookups.{exact_pairs, exact_signed}
 use Rattle.std.specs.declared.cmp.Ordering.TheVariants.{Equal}
-use Rattle.gx_geom.specs.Corners.{Corners, IsBox, Within, Overlap, union, overlaps, within, corners_cmp}
+use Rattle.gx_geom.specs.Rectangles.{Rectangle, IsBox, Within, Overlap, union, overlaps, within, rectangle_cmp}
 
 split_true : (p q : Bool) → (p && q) ≡ true → (p ≡ true) × (q ≡ true)
 split_true true q e = (refl, e)
@@ -29,7 +29,7 @@ at_most a b e = le_z_yes (true_holds (int_le a b) e)
 pub tests_at_most : (a b : ℤ) → a ≤ℤ b → int_le a b ≡ true
 tests_at_most a b h = holds_true (int_le a b) h.le
 
-pub within_corners : (a b : Corners) → within a b ≡ true → Within a b
+pub within_corners : (a b : Rectangle) → within a b ≡ true → Within a b
 within_corners a b e =
     let halves = split_true (int_le b.x1 a.x1 && int_le a.x2 b.x2) (int_le b.y1 a.y1 && int_le a.y2 b.y2) e in
     let in_x = split_true (int_le b.x1 a.x1) (int_le a.x2 b.x2) halves.0 in
@@ -41,12 +41,12 @@ within_corners a b e =
       y_to = at_most a.y2 b.y2 in_y.1;
     }
 
-pub corners_within : (a b : Corners) → Within a b → within a b ≡ true
+pub corners_within : (a b : Rectangle) → Within a b → within a b ≡ true
 corners_within a b w =
     both_true (both_true (tests_at_most b.x1 a.x1 w.x_from) (tests_at_most a.x2 b.x2 w.x_to))
     (both_true (tests_at_most b.y1 a.y1 w.y_from) (tests_at_most a.y2 b.y2 w.y_to))
 
-pub overlap_corners : (a b : Corners) → overlaps a b ≡ true → Overlap a b
+pub overlap_corners : (a b : Rectangle) → overlaps a b ≡ true → Overlap a b
 overlap_corners a b e =
     let halves = split_true (int_le a.x1 b.x2 && int_le b.x1 a.x2) (int_le a.y1 b.y2 && int_le b.y1 a.y2) e in
     let in_x = split_true (int_le a.x1 b.x2) (int_le b.x1 a.x2) halves.0 in
@@ -58,21 +58,21 @@ overlap_corners a b e =
       y_right = at_most b.y1 a.y2 in_y.1;
     }
 
-pub corners_overlap : (a b : Corners) → Overlap a b → overlaps a b ≡ true
+pub corners_overlap : (a b : Rectangle) → Overlap a b → overlaps a b ≡ true
 corners_overlap a b o =
     both_true (both_true (tests_at_most a.x1 b.x2 o.x_left) (tests_at_most b.x1 a.x2 o.x_right))
     (both_true (tests_at_most a.y1 b.y2 o.y_left) (tests_at_most b.y1 a.y2 o.y_right))
 
-pub overlaps_both_ways : (a b : Corners) → overlaps a b ≡ overlaps b a
+pub overlaps_both_ways : (a b : Rectangle) → overlaps a b ≡ overlaps b a
 overlaps_both_ways a b =
     ap (λ (p : Bool). p && (int_le a.y1 b.y2 && int_le b.y1 a.y2)) (and_comm (int_le a.x1 b.x2) (int_le b.x1 a.x2))
     ∙ ap (λ (p : Bool). (int_le b.x1 a.x2 && int_le a.x1 b.x2) && p) (and_comm (int_le a.y1 b.y2) (int_le b.y1 a.y2))
 
-pub within_itself : (a : Corners) → within a a ≡ true
+pub within_itself : (a : Rectangle) → within a a ≡ true
 within_itself a =
     corners_within a a (record { x_from = ≤ℤ_refl a.x1; x_to = ≤ℤ_refl a.x2; y_from = ≤ℤ_refl a.y1; y_to = ≤ℤ_refl a.y2 })
 
-pub within_through : (a b c : Corners) → within a b ≡ true → within b c ≡ true → within a c ≡ true
+pub within_through : (a b c : Rectangle) → within a b ≡ true → within b c ≡ true → within a c ≡ true
 within_through a b c p q =
     let v = within_corners a b p in
     let w = within_corners b c q in
@@ -83,7 +83,7 @@ within_through a b c p q =
       y_to = omega (arith, ints);
     })
 
-pub same_corners : (a b : Corners) → corners_cmp a b ≡ Equal → a ≡ b
+pub same_corners : (a b : Rectangle) → rectangle_cmp a b ≡ Equal → a ≡ b
 same_corners a b e =
     ap (λ (p : ℤ × (ℤ × (ℤ × ℤ))). record { x1 = p.0; y1 = p.1.0; x2 = p.1.1.0; y2 = p.1.1.1 })
     (exact_pairs int_cmp (λ p q. ordering_then (int_cmp p.0 q.0) (ordering_then (int_cmp p.1.0 q.1.0) (int_cmp p.1.1 q.1.1)))
@@ -119,7 +119,7 @@ pub at_most_through : (a b c : ℤ) → a ≤ℤ b → b ≤ℤ c → a ≤ℤ c
 at_most_through a b c p q = omega (arith, ints)
 
 -- the corners of a union make a box
-pub union_is_box : (a b : Corners) → IsBox a → IsBox b → IsBox (union a b)
+pub union_is_box : (a b : Rectangle) → IsBox a → IsBox b → IsBox (union a b)
 union_is_box a b in_a in_b = record {
   x_in_order = at_most_through (int_min a.x1 b.x1) a.x1 (int_max a.x2 b.x2) (lesser_at_most a.x1 b.x1).0
       (at_most_through a.x1 a.x2 (int_max a.x2 b.x2) in_a.x_in_order (at_most_greater a.x2 b.x2).0);

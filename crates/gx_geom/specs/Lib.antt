@@ -1,4 +1,4 @@
 pub mod BoxLaws
-pub mod Corners
+pub mod Rectangles
 pub mod Points
 pub mod Refusals

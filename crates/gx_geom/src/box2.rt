@@ -17,9 +17,9 @@ pub struct Box2 {
 
 impl Model for Box2 {
     ghost use Rattle.std.specs.Prelude.{ℤ, refl};
-    ghost use Rattle.gx_geom.specs.Corners.{Corners, IsBox};
+    ghost use Rattle.gx_geom.specs.Rectangles.{Rectangle, IsBox};
 
-    ghost Value = { Corners };
+    ghost Value = { Rectangle };
 
     ghost view = { λ b. record { x1 = b.x1; y1 = b.y1; x2 = b.x2; y2 = b.y2 } };
 
@@ -38,12 +38,12 @@ fn distance(low: i32, high: i32) -> u32
 
 impl Box2 {
     ghost use Rattle.std.specs.Int.{int_min, int_max};
-    ghost use Rattle.gx_geom.specs.Corners.{IsBox, Overlap, Within, overlaps, within, area, union, corners_of};
+    ghost use Rattle.gx_geom.specs.Rectangles.{IsBox, Overlap, Within, overlaps, within, area, union, rectangle_of};
 
     /// The box with these corners. `BadBox` exactly where `x2 < x1` or `y2 < y1`.
     pub fn new(x1: i32, y1: i32, x2: i32, y2: i32) -> Result<Box2, Refusal>
         ensures ok { IsOk result ↔ ((x1 ≤ℤ x2) × (y1 ≤ℤ y2)) }
-        ensures corners { IfOk result (λ b. b ≡ corners_of x1 y1 x2 y2) }
+        ensures corners { IfOk result (λ b. b ≡ rectangle_of x1 y1 x2 y2) }
         ensures refused { OnErr result (result ≡ Err Refusal.BadBox) }
     {
         if x1 <= x2 && y1 <= y2 {
@@ -55,7 +55,7 @@ impl Box2 {
 
     /// The box that is the one point `(x, y)`.
     pub fn point(x: i32, y: i32) -> Box2
-        ensures { result ≡ corners_of x y x y }
+        ensures { result ≡ rectangle_of x y x y }
     {
         Box2 {
             x1: x,
@@ -191,7 +191,7 @@ impl Box2 {
 }
 
 impl Shape for Box2 {
-    ghost use Rattle.gx_geom.specs.Corners.{overlaps, within};
+    ghost use Rattle.gx_geom.specs.Rectangles.{overlaps, within};
     ghost use Rattle.gx_geom.specs.BoxLaws.{overlaps_both_ways, within_itself, within_through, same_corners};
 
     ghost overlap = { overlaps };
@@ -220,7 +220,7 @@ impl Shape for Box2 {
 }
 
 impl fmt::Display for Box2 {
-    ghost use Rattle.gx_geom.specs.Corners.{corners_text};
+    ghost use Rattle.gx_geom.specs.Rectangles.{corners_text};
 
     ghost output = { λ b. Some (corners_text b) };
 

@@ -1,28 +1,28 @@
 //! What the relations on boxes mean for the points in them.
 ghost use Rattle.std.specs.Prelude.{◌≡◌, ◌↔◌, ◌≤◌, ℕ, ℤ, pos, negsuc};
-ghost use Rattle.gx_geom.specs.Corners.{Corners, IsBox, Overlap, Within, area, union, corners_of};
+ghost use Rattle.gx_geom.specs.Rectangles.{Rectangle, IsBox, Overlap, Within, area, union, rectangle_of};
 ghost use Rattle.gx_geom.specs.Points.{SharePoint, IsSubset};
 
 /// Two boxes overlap exactly where some point lies in both.
 pub fn overlap_is_a_shared_point()
-    ensures { (a b : Corners) → IsBox a → IsBox b → (Overlap a b ↔ SharePoint a b) }
+    ensures { (a b : Rectangle) → IsBox a → IsBox b → (Overlap a b ↔ SharePoint a b) }
 {}
 
 /// A box lies within another exactly where each of its points lies in the other.
 pub fn within_is_each_point()
-    ensures { (a b : Corners) → IsBox a → (Within a b ↔ IsSubset a b) }
+    ensures { (a b : Rectangle) → IsBox a → (Within a b ↔ IsSubset a b) }
 {}
 
 /// A union covers both boxes, and whatever covers both covers it.
 pub fn union_is_least()
-    ensures covers_first { (a b : Corners) → Within a (union a b) }
-    ensures covers_second { (a b : Corners) → Within b (union a b) }
-    ensures least { (a b c : Corners) → Within a c → Within b c → Within (union a b) c }
-    ensures is_box { (a b : Corners) → IsBox a → IsBox b → IsBox (union a b) }
+    ensures covers_first { (a b : Rectangle) → Within a (union a b) }
+    ensures covers_second { (a b : Rectangle) → Within b (union a b) }
+    ensures least { (a b c : Rectangle) → Within a c → Within b c → Within (union a b) c }
+    ensures is_box { (a b : Rectangle) → IsBox a → IsBox b → IsBox (union a b) }
 {}
 
 /// No box has a greater area than the greatest box, whose area fits in 64 bits.
 pub fn area_is_bounded()
-    ensures bound { (a : Corners) → IsBox a → area a ≤ 18446744065119617025 }
-    ensures reached { area (corners_of (negsuc 2147483647) (negsuc 2147483647) (pos 2147483647) (pos 2147483647)) ≡ 18446744065119617025 }
+    ensures bound { (a : Rectangle) → IsBox a → area a ≤ 18446744065119617025 }
+    ensures reached { area (rectangle_of (negsuc 2147483647) (negsuc 2147483647) (pos 2147483647) (pos 2147483647)) ≡ 18446744065119617025 }
 {}

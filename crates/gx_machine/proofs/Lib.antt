@@ -10,3 +10,5 @@ pub mod AloneRuns
 pub mod RunLemmas
 pub mod Answered
 pub mod Survival
+pub mod SetsByTests
+pub mod WorkedRun

@@ -8,3 +8,4 @@ pub mod Invariants
 pub mod Serial
 pub mod Alone
 pub mod Outcomes
+pub mod Worked

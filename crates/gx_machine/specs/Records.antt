@@ -5,15 +5,11 @@ use Rattle.gx_machine.specs.declared.reply.Reply.{Reply}
 use Rattle.gx_machine.specs.declared.reply.Reply.TheVariants.{Refused}
 use Rattle.gx_machine.specs.declared.reply.Asked.{Asked as Given}
 use Rattle.gx_machine.specs.declared.reply.Asked.TheVariants.{Now, Open}
+use Rattle.gx_machine.specs.declared.item.Item.{Item}
+use Rattle.gx_machine.specs.declared.item.Item.TheVariants.{Asked, Sealed, Replied}
 use Rattle.gx_machine.specs.Keys.{Keys}
 use Rattle.gx_machine.specs.Machine.{Machine, failed_machine}
 use Rattle.gx_machine.specs.Runs.{Step, Asks, Answers, Seals, Durable, Closes, RefusesAsk, RefusesCall, Fails, Crashes, Nothing, is_unseen_fault, IsRun}
-
--- What a record of calls and replies has: a call was asked; a commit was sealed under a number; a reply was given.
-pub data Item (B : Type 0) : Type 0 where
-  Asked : (s : ℕ) (call : Call B) → Item B
-  Sealed : (s number : ℕ) → Item B
-  Replied : (s : ℕ) (reply : Reply B) → Item B
 
 -- the items of an ask, with the reply that came at once if one did
 abbrev pub items_of_ask : {B : Type 0} → ℕ → Call B → Given B → List (Item B)
@@ -52,3 +48,10 @@ pub record RunsUnseen {B : Type 0} (k : Keys B) (old : Machine B) (steps : List 
   pub runs : IsRun k old (without_unseen_faults steps) end
   pub same_record : record_of (without_unseen_faults steps) ≡ record_of steps
   pub same : SameOrFailed end new
+
+-- the calls and replies of a record, without what was sealed
+abbrev pub calls_and_replies : {B : Type 0} → List (Item B) → List (Item B)
+calls_and_replies [] = []
+calls_and_replies (Asked s call ∷ items) = Asked s call ∷ calls_and_replies items
+calls_and_replies (Sealed s number ∷ items) = calls_and_replies items
+calls_and_replies (Replied s reply ∷ items) = Replied s reply ∷ calls_and_replies items

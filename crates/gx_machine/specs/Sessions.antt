@@ -105,10 +105,14 @@ with_lock k Begin spent locks = Ok locks
 with_lock k Commit spent locks = Ok locks
 with_lock k Abort spent locks = Ok locks
 
--- the same, where this is the least other session that conflicts
+-- what is given where no other session conflicts; where one does, this is the least
+abbrev pub unless_busy : {B : Type 0} → Option ℕ → Result (Locks B) Refusal → Result (Locks B) Refusal
+unless_busy None given = given
+unless_busy (Some other) given = Err (Busy other)
+
+-- the locks with the one that a call takes, or why there is none: a session that conflicts, or no place
 abbrev pub lock_for : {B : Type 0} → Keys B → Call B → Option ℕ → ℕ → Locks B → Result (Locks B) Refusal
-lock_for k call None spent locks = with_lock k call spent locks
-lock_for k call (Some other) spent locks = Err (Busy other)
+lock_for k call least spent locks = unless_busy least (with_lock k call spent locks)
 
 -- Asking, for one session.
 

@@ -42,3 +42,8 @@ Before k e (x ∷ set) = (entry_cmp k e x ≡ Less) × Before k e set
 abbrev pub InOrder : {B : Type 0} → Keys B → List (Entry B) → Type 0
 InOrder k [] = Unit {0}
 InOrder k (x ∷ set) = Before k x set × InOrder k set
+
+-- the set of the entries that pass this test
+pub record IsSetOf {B : Type 0} (k : Keys B) (test : Entry B → Bool) (set : List (Entry B)) : Type 0 where
+  pub in_order : InOrder k set
+  pub members : (e : Entry B) → has k e set ≡ test e

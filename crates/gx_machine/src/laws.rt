@@ -4,21 +4,21 @@ ghost use Rattle.gx_machine.specs.declared.limits.TheConstants.{SESSIONS};
 ghost use Rattle.gx_geom.specs.declared.refusal.Refusal.{Refusal};
 ghost use Rattle.gx_geom.specs.declared.refusal.Refusal.TheVariants.{Busy};
 ghost use Rattle.gx_machine.specs.declared.call.Call.{Call};
-ghost use Rattle.gx_machine.specs.declared.call.Call.TheVariants.{Search};
+ghost use Rattle.gx_machine.specs.declared.call.Call.TheVariants.{Insert};
 ghost use Rattle.gx_machine.specs.declared.entry.Entry.{Entry};
-ghost use Rattle.gx_machine.specs.declared.query.Query.{Query};
 ghost use Rattle.gx_machine.specs.declared.reply.Asked.TheVariants as asked;
-ghost use Rattle.gx_machine.specs.declared.reply.Reply.TheVariants.{Committed, Found, Refused};
-ghost use Rattle.gx_machine.specs.Keys.{Keys, IsLawful, keys_of, matches};
+ghost use Rattle.gx_machine.specs.declared.reply.Reply.TheVariants.{Committed, Found, Inserted, Refused};
+ghost use Rattle.gx_machine.specs.Keys.{Keys, IsLawful, keys_of};
 ghost use Rattle.gx_machine.specs.Sets.{has, InOrder};
-ghost use Rattle.gx_machine.specs.Sessions.{Locks, Changes, Open, session_conflicts, view};
-ghost use Rattle.gx_machine.specs.Machine.{Machine, ask, fresh_machine, newest, set_of, session_at};
-ghost use Rattle.gx_machine.specs.Runs.{Step, Asks, Answers, Seals, Durable, Crashes, IsStep, IsRun};
+ghost use Rattle.gx_machine.specs.Sessions.{Changes, no_changes, view};
+ghost use Rattle.gx_machine.specs.Machine.{Machine, ask, fresh_machine, newest, set_of};
+ghost use Rattle.gx_machine.specs.Runs.{Step, Answers, Durable, Crashes, IsStep, IsRun};
 ghost use Rattle.gx_machine.specs.Records.{RunsUnseen};
 ghost use Rattle.gx_machine.specs.Invariants.{KeptInOrder, AllIdle, LocksApart, SessionsHold, changes_sets, SameSets};
 ghost use Rattle.gx_machine.specs.Outcomes.{IsLeastConflict, NoneConflicts, IsAnswered};
+ghost use Rattle.gx_machine.specs.Worked.{number_keys, first_entry, first_added, worked_steps, worked_end};
 ghost use Rattle.gx_machine.specs.Alone.{CommittedRunAlone};
-ghost use Rattle.gx_machine.specs.Serial.{IsSerial};
+ghost use Rattle.gx_machine.specs.Serial.{IsSerial, AnsweredThenSealed};
 
 use gx_geom::Shape;
 
@@ -129,4 +129,21 @@ pub fn unseen_faults_permit_nothing_new<B>()
 pub fn runs_join<B>()
     ensures { (k : Keys B) (old middle new : Machine B) (before after : List (Step B))
         → IsRun k old before middle → IsRun k middle after new → IsRun k old (before ++ after) new }
+{}
+
+/// A set is its members: two lists in order that have the same entries are one list.
+pub fn sets_are_their_members<B>()
+    ensures { (k : Keys B) → IsLawful k → (xs ys : List (Entry B)) → InOrder k xs → InOrder k ys
+        → ((e : Entry B) → has k e xs ≡ has k e ys) → xs ≡ ys }
+{}
+
+/// The definitions have runs: in this one two sessions begin, a search meets a conflict, both commit, the first commit
+/// is durable and acknowledged, and a crash leaves it and loses the second. It begins as the laws ask, and its first
+/// insert is one that the law on serial runs speaks of.
+pub fn a_run_worked_out()
+    ensures run { IsRun number_keys fresh_machine worked_steps worked_end }
+    ensures lawful { IsLawful number_keys }
+    ensures idle { AllIdle {B = ℕ} fresh_machine }
+    ensures in_order { KeptInOrder number_keys fresh_machine }
+    ensures answered_then_sealed { (sealing : Machine ℕ) × AnsweredThenSealed number_keys fresh_machine 1 (Insert first_entry) no_changes Inserted first_added sealing }
 {}

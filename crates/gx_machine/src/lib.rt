@@ -6,6 +6,7 @@
 
 mod call;
 mod entry;
+mod item;
 pub mod laws;
 mod limits;
 mod query;
@@ -13,6 +14,7 @@ mod reply;
 
 pub use call::Call;
 pub use entry::{Entries, Entry};
+pub use item::Item;
 pub use limits::{LAST_NUMBER, MAX_CLAIMS, MAX_PREDICATES, SESSIONS};
 pub use query::Query;
 pub use reply::{Asked, Reply};

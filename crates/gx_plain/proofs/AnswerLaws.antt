@@ -1,5 +1,5 @@
 -- Answering at a place of the list is answering of the machine.
-use Rattle.std.proofs.Common.{◌≡◌, inl, inr, ℕ, ◌+◌, ◌-◌, ◌<◌, Bool, true, false, cond, List, [], ◌∷◌, ◌++◌, length, slice_set, drop, refl, ap, sym, ◌∙◌, arith, nat_le}
+use Rattle.std.proofs.Common.{◌≡◌, inl, inr, ℕ, ◌+◌, ◌-◌, ◌<◌, Bool, true, false, cond, List, [], ◌∷◌, ◌++◌, length, slice_set, drop, refl, ap, sym, ◌∙◌, subst, arith, nat_le, ◌≤◌}
 use Rattle.std.specs.Prelude.{None, Some, option_map, unwrap_or}
 use Rattle.std.specs.Option.{option_and_then, option_or}
 use Rattle.std.specs.List.{slice_index_or}
@@ -7,15 +7,16 @@ use Rattle.std.proofs.lemmas.List.{get_or-set_same, set-get_or, set-set}
 use Rattle.std.proofs.lemmas.Bool.{le-leb}
 use Rattle.gx_geom.specs.declared.refusal.Refusal.TheVariants.{BadSession, NoCall, Memory}
 use Rattle.gx_machine.specs.declared.entry.Entry.{Entry}
+use Rattle.gx_machine.specs.declared.call.Call.{Call}
 use Rattle.gx_machine.specs.declared.call.Call.TheVariants.{Begin, Insert, Delete, Search, Commit, Abort}
 use Rattle.gx_machine.specs.declared.reply.Reply.{Reply}
 use Rattle.gx_machine.specs.declared.reply.Reply.TheVariants as replies
 use Rattle.gx_machine.specs.Keys.{Keys}
-use Rattle.gx_machine.specs.Sessions.{Held, Session, Idle, Open, Aborting, Committing, view, answer_session, answer_insert, answer_delete, sealed_set, closed_session}
+use Rattle.gx_machine.specs.Sessions.{Locks, Changes, Session, Idle, Open, Aborting, Committing, view, answer_session, answer_insert, answer_delete, sealed_set, closed_session}
 use Rattle.gx_machine.specs.Machine.{Machine, newest, is_session, session_at, with_session, answer, durable}
 use Rattle.gx_machine.specs.Sets.{found}
 use Rattle.gx_plain.specs.Index.{Index, answer_machine, AnswersIndex}
-use Rattle.gx_session.specs.Slots.{SlotAnswers, Closes, SameSet, takes_memory}
+use Rattle.gx_session.specs.Slots.{CanAnswer, SlotAnswers, Closes, SameSet, takes_memory}
 use Rattle.gx_plain.proofs.IndexLaws.{index_with}
 
 leb-true : (n : ℕ) → nat_le n n ≡ true
@@ -26,13 +27,14 @@ module _ {B : Type 0} (k : Keys B) where
   abbrev answered : Bool → Session B → ℕ → Machine B → Reply B × Machine B
   answered t x s m =
       unwrap_or
-      (option_or (option_map (λ r. (r.0, with_session s r.1 m)) (answer_session k m.latest m.first x))
-      (option_and_then (λ sealed. answer k s (durable (newest sealed) sealed))
+      (option_or (option_map (λ r. (r.0, with_session s r.1 m)) (answer_session k m.latest m.oldest x))
+      (option_and_then (answer k s)
+      (option_map (λ sealed. durable (newest sealed) sealed)
       (option_map (λ set. record m {
         older = m.older ++ m.latest ∷ [];
         latest = set;
         sessions = slice_set m.sessions (s - 1) (Committing (newest m + 1));
-      }) (sealed_set k m.latest x))))
+      }) (sealed_set k m.latest x)))))
       (replies.Refused (cond t NoCall BadSession), m)
 
   answer_is : (s : ℕ) (m : Machine B) (t : Bool) (x : Session B) → is_session s ≡ t → session_at s m.sessions ≡ x → answer_machine k s m ≡ answered t x s m
@@ -41,7 +43,8 @@ module _ {B : Type 0} (k : Keys B) where
 
   module _ (s : ℕ) (place : ℕ) (session : is_session s ≡ true) (at : place ≡ s - 1) (latest : List (Entry B)) (commits next : ℕ)
       (sessions : List (Session B)) (within : place < length sessions)
-      (reply : Reply B) (latest' : List (Entry B)) (commits' : ℕ) (sessions' : List (Session B)) (x' : Session B) (changed : sessions' ≡ slice_set sessions place x') where
+      (reply : Reply B) (latest' : List (Entry B)) (commits' : ℕ) (sessions' : List (Session B)) (x' : Session B) (changed : sessions' ≡ slice_set sessions place x')
+      (can : CanAnswer commits (slice_index_or sessions place Idle)) where
     abbrev old : Index B
     old = index_with k latest commits next sessions
 
@@ -54,15 +57,15 @@ module _ {B : Type 0} (k : Keys B) where
 
     -- the machine with this set, number and session
     abbrev machine_with : List (Entry B) → ℕ → Session B → Machine B
-    machine_with set number y = record { older = []; latest = set; first = number; sessions = slice_set sessions (s - 1) y; ended = false }
+    machine_with set number y = record { older = []; latest = set; oldest = number; sessions = slice_set sessions (s - 1) y; failed = false }
 
     new_machine : (set : List (Entry B)) (number : ℕ) (y : Session B) → latest' ≡ set → commits' ≡ number → x' ≡ y → new.machine ≡ machine_with set number y
     new_machine set number y e f h = λ i. record {
       older = [];
       latest = e i;
-      first = f i;
+      oldest = f i;
       sessions = (changed ∙ (λ j. slice_set sessions (at j) (h j))) i;
-      ended = false;
+      failed = false;
     }
 
     -- the answer is this, with this set, number and session
@@ -94,21 +97,22 @@ module _ {B : Type 0} (k : Keys B) where
         → reply ≡ replies.Refused NoCall → latest' ≡ latest → commits' ≡ commits → x' ≡ x → AnswersIndex k s old reply new
     nothing x is gives re le ce xe =
         fully x latest commits x (replies.Refused NoCall) is
-        (gives ∙ (λ i. (replies.Refused NoCall, record { older = []; latest = latest; first = commits; sessions = same i; ended = false })))
+        (gives ∙ (λ i. (replies.Refused NoCall, record { older = []; latest = latest; oldest = commits; sessions = same i; failed = false })))
         re le ce xe
       where
         same : sessions ≡ slice_set sessions (s - 1) x
         same = sym ((λ i. slice_set sessions (sym at i) ((sym is ∙ found_at) i)) ∙ set-get_or sessions place Idle)
 
-    closes_by : (x : Session B) (h : Held B) (given : Reply B × Held B) → session_at s sessions ≡ x → closed_session x ≡ Some (Open h None)
-        → answered true x s old.machine ≡ (given.0, machine_with latest commits (Open given.1 None))
-        → Closes given h reply x' → SameSet latest commits latest' commits' → AnswersIndex k s old reply new
-    closes_by x h given is closes gives (inl full) same = fully x latest commits (Open given.1 None) given.0 is gives full.0 same.0 same.1 full.1
-    closes_by x h given is closes gives (inr none) same =
-        lacking x (Open h None) (given.0, machine_with latest commits (Open given.1 None)) is gives none.0 closes none.1 same.0 same.1 none.2
+    closes_by : (h : Locks B) (c : Changes B) (call : Call B) (given : Reply B × Changes B) → session_at s sessions ≡ Open h c (Some call)
+        → answered true (Open h c (Some call)) s old.machine ≡ (given.0, machine_with latest commits (Open h given.1 None))
+        → Closes given (Open h c (Some call)) reply x' → SameSet latest commits latest' commits' → AnswersIndex k s old reply new
+    closes_by h c call given is gives (inl full) same =
+        fully (Open h c (Some call)) latest commits (Open h given.1 None) given.0 is gives full.0 same.0 same.1 full.1
+    closes_by h c call given is gives (inr none) same =
+        lacking (Open h c (Some call)) (Open h c None) (given.0, machine_with latest commits (Open h given.1 None)) is gives none.0 refl none.1 same.0 same.1 none.2
 
     -- sealing, becoming durable and answering, by the sets before, the session as sealed, and as it is found then
-    abbrev committed : Held B → List (List (Entry B)) → Session B → Session B → Reply B × Machine B
+    abbrev committed : Changes B → List (List (Entry B)) → Session B → Session B → Reply B × Machine B
     committed h older sealed y =
         unwrap_or
         (option_map (λ (r : Reply B × Session B). (
@@ -116,9 +120,9 @@ module _ {B : Type 0} (k : Keys B) where
           record {
             older = older;
             latest = view k latest h;
-            first = commits + 1;
+            oldest = commits + 1;
             sessions = slice_set (slice_set sessions (s - 1) sealed) (s - 1) r.1;
-            ended = false;
+            failed = false;
           },
         )) (answer_session k (view k latest h) (commits + 1) y))
         (replies.Refused NoCall, old.machine)
@@ -140,8 +144,8 @@ module _ {B : Type 0} (k : Keys B) where
         ap (λ (t : Bool). cond t (slice_index_or (slice_set sessions (s - 1) sealed) (s - 1) Idle) Idle) session
         ∙ get_or-set_same sessions (s - 1) sealed Idle place_is
 
-    commits_by : (h : Held B) → answered true (Open h (Some Commit)) s old.machine ≡ (replies.Committed (commits + 1), machine_with (view k latest h) (commits + 1) Idle)
-    commits_by h =
+    commits_by : (locks : Locks B) (h : Changes B) → answered true (Open locks h (Some Commit)) s old.machine ≡ (replies.Committed (commits + 1), machine_with (view k latest h) (commits + 1) Idle)
+    commits_by locks h =
         (λ i. committed h (none_before i) (Committing (next_number i)) (session_at s (slice_set sessions (s - 1) (Committing (next_number i)))))
         ∙ ap (committed h [] (Committing (commits + 1))) (sealed_at (Committing (commits + 1)))
         ∙ ap (λ (t : Bool). unwrap_or (option_map (λ (r : Reply B × Session B). (
@@ -149,9 +153,9 @@ module _ {B : Type 0} (k : Keys B) where
           record {
             older = [];
             latest = view k latest h;
-            first = commits + 1;
+            oldest = commits + 1;
             sessions = slice_set (slice_set sessions (s - 1) (Committing (commits + 1))) (s - 1) r.1;
-            ended = false;
+            failed = false;
           },
         )) (cond t (Some (replies.Committed (commits + 1), Idle)) None)) (replies.Refused NoCall, old.machine)) (leb-true (commits + 1))
         ∙ (λ i. (
@@ -159,25 +163,36 @@ module _ {B : Type 0} (k : Keys B) where
           record {
             older = [];
             latest = view k latest h;
-            first = commits + 1;
+            oldest = commits + 1;
             sessions = set-set sessions (s - 1) (Committing (commits + 1)) Idle i;
-            ended = false;
+            failed = false;
           },
         ))
 
+    -- a sealed commit is answered, since it is durable
+    waits_by : (number : ℕ) → number ≤ commits → answered true (Committing number) s old.machine ≡ (replies.Committed number, machine_with latest commits Idle)
+    waits_by number durable =
+        ap (λ (t : Bool). unwrap_or (option_or (option_map (λ (r : Reply B × Session B). (r.0, with_session s r.1 old.machine)) (cond t (Some (replies.Committed number, Idle)) None)) None)
+        (replies.Refused NoCall, old.machine)) (le-leb number commits durable)
+
     answers_by : (x : Session B) → session_at s sessions ≡ x → SlotAnswers k x latest commits reply x' latest' commits' → AnswersIndex k s old reply new
     answers_by Idle is a = nothing Idle is refl a.0 a.2.0 a.2.1 a.1
-    answers_by (Open h None) is a = nothing (Open h None) is refl a.0 a.2.0 a.2.1 a.1
-    answers_by (Open h (Some Begin)) is a = absurd a
-    answers_by (Open h (Some (Insert e))) is a = closes_by (Open h (Some (Insert e))) h (answer_insert k e latest h) is refl refl a.0 a.1
-    answers_by (Open h (Some (Delete e))) is a =
-        let given = answer_delete k e latest h in
-        fully (Open h (Some (Delete e))) latest commits (Open given.1 None) given.0 is refl a.0 a.2.0 a.2.1 a.1
-    answers_by (Open h (Some (Search q))) is a = closes_by (Open h (Some (Search q))) h (replies.Found (found k q (view k latest h)), h) is refl refl a.0 a.1
-    answers_by (Open h (Some Commit)) is a = fully (Open h (Some Commit)) (view k latest h) (commits + 1) Idle (replies.Committed (commits + 1)) is (commits_by h) a.0 a.2 a.3 a.1
-    answers_by (Open h (Some Abort)) is a = absurd a
+    answers_by (Open h c None) is a = nothing (Open h c None) is refl a.0 a.2.0 a.2.1 a.1
+    answers_by (Open h c (Some Begin)) is a = absurd a
+    answers_by (Open h c (Some (Insert e))) is a = closes_by h c (Insert e) (answer_insert k e latest c) is refl a.0 a.1
+    answers_by (Open h c (Some (Delete e))) is a =
+        let given = answer_delete k e latest c in
+        fully (Open h c (Some (Delete e))) latest commits (Open h given.1 None) given.0 is refl a.0 a.2.0 a.2.1 a.1
+    answers_by (Open h c (Some (Search q))) is a = closes_by h c (Search q) (replies.Found (found k q (view k latest c)), c) is refl a.0 a.1
+    answers_by (Open h c (Some Commit)) is a =
+        fully (Open h c (Some Commit)) (view k latest c) (commits + 1) Idle (replies.Committed (commits + 1)) is (commits_by h c) a.0 a.2 a.3 a.1
+    answers_by (Open h c (Some Abort)) is a = absurd a
     answers_by (Aborting h) is a = fully (Aborting h) latest commits Idle replies.Aborted is refl a.0 a.2.0 a.2.1 a.1
-    answers_by (Committing number) is a = absurd a
+    answers_by (Committing number) is a =
+        fully (Committing number) latest commits Idle (replies.Committed number) is (waits_by number lasting) a.0 a.2.0 a.2.1 a.1
+      where
+        lasting : number ≤ commits
+        lasting = subst (λ (x : Session B). CanAnswer commits x) (sym found_at ∙ is) can
 
     pub answers : SlotAnswers k (slice_index_or sessions place Idle) latest commits reply x' latest' commits' → AnswersIndex k s old reply new
     answers a = answers_by (slice_index_or sessions place Idle) found_at a

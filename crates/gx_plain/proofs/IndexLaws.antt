@@ -1,6 +1,6 @@
 -- Asking and answering at a place of the list are asking and answering of the machine, and keep what is kept.
 use Rattle.std.proofs.Common.{◌≡◌, ◌⊎◌, inl, inr, ◌^◌, ℕ, zero, suc, ◌+◌, ◌-◌, ◌<◌, ◌≤◌, Bool, true, false, cond, ◌&&◌, ◌||◌, List, [], ◌∷◌, length, slice_set, refl, ap, sym, ◌∙◌, subst, arith, nat_le, add-zero}
-use Rattle.std.specs.Prelude.{Option, sum_by, replicate}
+use Rattle.std.specs.Prelude.{Option, None, Some, sum_by, replicate}
 use Rattle.std.specs.List.{slice_index_or}
 use Rattle.std.proofs.lemmas.List.{length-set}
 use Rattle.std.proofs.lemmas.List.Sums.{sum_by-set, sum_by-cons}
@@ -9,13 +9,14 @@ use Rattle.std.proofs.lemmas.Bool.{leb-false}
 use Rattle.gx_geom.specs.declared.refusal.Refusal.TheVariants.{BadSession, HistoryFull}
 use Rattle.gx_machine.specs.declared.entry.Entry.{Entry}
 use Rattle.gx_machine.specs.declared.call.Call.{Call}
+use Rattle.gx_machine.specs.declared.call.Call.TheVariants.{Begin, Insert, Delete, Search, Commit, Abort}
 use Rattle.gx_machine.specs.declared.reply.Reply.TheVariants.{Refused}
 use Rattle.gx_machine.specs.declared.reply.Asked.{Asked}
 use Rattle.gx_machine.specs.declared.reply.Asked.TheVariants as asked
 use Rattle.gx_machine.specs.Keys.{Keys}
 use Rattle.gx_machine.specs.Sets.{InOrder}
 use Rattle.gx_machine.specs.Sessions.{Session, Idle, Open, Aborting, Committing, claims_of, ask_session}
-use Rattle.gx_machine.specs.Machine.{Machine, is_session, with_session, least_barring, claims_held, ask}
+use Rattle.gx_machine.specs.Machine.{Machine, is_session, with_session, least_conflicting, claims_held, ask}
 use Rattle.gx_plain.specs.Index.{Index, has_begun, is_used_up, ask_index}
 use Rattle.gx_session.specs.Slots.{CanAnswer, added_by, opened_by, begins}
 use Rattle.gx_plain.specs.Kept.{IsKept}
@@ -24,14 +25,14 @@ use Rattle.gx_plain.proofs.SlotLaws.{claims_ask, added_ask, opened_ask, can_answ
 module _ {B : Type 0} (k : Keys B) where
   -- asking the session at a place, where these are the least that conflicts and the claims held in all
   abbrev pub asked_at : ℕ → Call B → Option ℕ → ℕ → Bool → Index B → Asked B × Index B
-  asked_at place call barred spent begun index =
-      let r = ask_session k call barred spent (slice_index_or index.machine.sessions place Idle) in
+  asked_at place call least spent begun index =
+      let r = ask_session k call least spent (slice_index_or index.machine.sessions place Idle) in
       (r.0, record { machine = record (index.machine) { sessions = slice_set index.machine.sessions place r.1 }; next = index.next + cond begun 1 0 })
 
   abbrev asked_if : Bool → ℕ → Call B → Machine B → Asked B × Machine B
   asked_if t s call m =
       cond t
-      (let r = ask_session k call (least_barring k call s 1 m.sessions) (claims_held m.sessions) (cond t (slice_index_or m.sessions (s - 1) Idle) Idle) in
+      (let r = ask_session k call (least_conflicting k call s 1 m.sessions) (claims_held m.sessions) (cond t (slice_index_or m.sessions (s - 1) Idle) Idle) in
       (r.0, with_session s r.1 m))
       (asked.Now (Refused BadSession), m)
 
@@ -58,16 +59,16 @@ module _ {B : Type 0} (k : Keys B) where
       ap (λ (r : Asked B × Machine B). index_of (is_used_up index) r index) (ask_is s call index.machine e)
       ∙ ap (λ (t : Bool). index_of t (at_place s call index) index) eu
       ∙ ap (λ (t : Bool). index_by t u (at_place s call index) index)
-      (begun_ask k call (least_barring k call s 1 index.machine.sessions) (claims_held index.machine.sessions) (slice_index_or index.machine.sessions (s - 1) Idle) ∙ eb)
+      (begun_ask k call (least_conflicting k call s 1 index.machine.sessions) (claims_held index.machine.sessions) (slice_index_or index.machine.sessions (s - 1) Idle) ∙ eb)
 
   -- asking where the numbers last
-  pub asks : (s : ℕ) (call : Call B) (index : Index B) (place : ℕ) (barred : Option ℕ) (spent : ℕ) (b u : Bool) → is_session s ≡ true → place ≡ s - 1
-      → barred ≡ least_barring k call s 1 index.machine.sessions → spent ≡ claims_held index.machine.sessions
+  pub asks : (s : ℕ) (call : Call B) (index : Index B) (place : ℕ) (least : Option ℕ) (spent : ℕ) (b u : Bool) → is_session s ≡ true → place ≡ s - 1
+      → least ≡ least_conflicting k call s 1 index.machine.sessions → spent ≡ claims_held index.machine.sessions
       → begins call (slice_index_or index.machine.sessions place Idle) ≡ b → is_used_up index ≡ u → (b && u) ≡ false
-      → ask_index k s call index ≡ asked_at place call barred spent b index
-  asks s call index place barred spent b u e ep eb es ebegins eu lasts =
+      → ask_index k s call index ≡ asked_at place call least spent b index
+  asks s call index place least spent b u e ep eb es ebegins eu lasts =
       ask_by s call index b u e (ap (λ (p : ℕ). begins call (slice_index_or index.machine.sessions p Idle)) (sym ep) ∙ ebegins) eu
-      ∙ ap (λ (t : Bool). cond t (asked.Now (Refused HistoryFull), index) (asked_at (s - 1) call (least_barring k call s 1 index.machine.sessions) (claims_held index.machine.sessions) b index)) lasts
+      ∙ ap (λ (t : Bool). cond t (asked.Now (Refused HistoryFull), index) (asked_at (s - 1) call (least_conflicting k call s 1 index.machine.sessions) (claims_held index.machine.sessions) b index)) lasts
       ∙ (λ i. asked_at (sym ep i) call (sym eb i) (sym es i) b index)
 
   -- asking where they don't
@@ -76,12 +77,12 @@ module _ {B : Type 0} (k : Keys B) where
       → ask_index k s call index ≡ (asked.Now (Refused HistoryFull), index)
   asks_too_late s call index place b u e ep ebegins eu late =
       ask_by s call index b u e (ap (λ (p : ℕ). begins call (slice_index_or index.machine.sessions p Idle)) (sym ep) ∙ ebegins) eu
-      ∙ ap (λ (t : Bool). cond t (asked.Now (Refused HistoryFull), index) (asked_at (s - 1) call (least_barring k call s 1 index.machine.sessions) (claims_held index.machine.sessions) b index)) late
+      ∙ ap (λ (t : Bool). cond t (asked.Now (Refused HistoryFull), index) (asked_at (s - 1) call (least_conflicting k call s 1 index.machine.sessions) (claims_held index.machine.sessions) b index)) late
 
   -- the index with these parts
   abbrev pub index_with : List (Entry B) → ℕ → ℕ → List (Session B) → Index B
   index_with latest commits next sessions =
-      record { machine = record { older = []; latest = latest; first = commits; sessions = sessions; ended = false }; next = next }
+      record { machine = record { older = []; latest = latest; oldest = commits; sessions = sessions; failed = false }; next = next }
 
   used_up : (latest : List (Entry B)) (commits next : ℕ) (sessions : List (Session B))
       → is_used_up (index_with latest commits next sessions) ≡ (nat_le 18446744073709551607 commits || nat_le 18446744073709551607 next)
@@ -99,21 +100,21 @@ module _ {B : Type 0} (k : Keys B) where
         subst (λ (index : Index B). ask_index k s call index ≡ (asked.Now (Refused HistoryFull), index)) was
         (asks_too_late s call (index_with latest commits next sessions) place begun _ session at begins_is (used_up latest commits next sessions) late)
 
-    pub asked_is : (barred : Option ℕ) (spent : ℕ) (second third : List (Session B)) → second ≡ sessions → third ≡ sessions
-        → barred ≡ least_barring k call s 1 second → spent ≡ claims_held third
+    pub asked_is : (least : Option ℕ) (spent : ℕ) (second third : List (Session B)) → second ≡ sessions → third ≡ sessions
+        → least ≡ least_conflicting k call s 1 second → spent ≡ claims_held third
         → (begun && (nat_le 18446744073709551607 commits || nat_le 18446744073709551607 next)) ≡ false
-        → ask_index k s call old ≡ asked_at place call barred spent begun (index_with latest commits next sessions)
-    asked_is barred spent second third second_is third_is barred_is spent_is lasts =
+        → ask_index k s call old ≡ asked_at place call least spent begun (index_with latest commits next sessions)
+    asked_is least spent second third second_is third_is least_is spent_is lasts =
         ap (ask_index k s call) (sym was)
-        ∙ asks s call (index_with latest commits next sessions) place barred spent begun _ session at
-        (barred_is ∙ ap (least_barring k call s 1) second_is) (spent_is ∙ ap claims_held third_is) begins_is (used_up latest commits next sessions) lasts
+        ∙ asks s call (index_with latest commits next sessions) place least spent begun _ session at
+        (least_is ∙ ap (least_conflicting k call s 1) second_is) (spent_is ∙ ap claims_held third_is) begins_is (used_up latest commits next sessions) lasts
 
   -- what is kept stays kept by asking
 
   opened_most : (x : Session B) → opened_by x ≤ 1
   opened_most Idle = omega arith
-  opened_most (Open held call) = omega arith
-  opened_most (Aborting held) = omega arith
+  opened_most (Open locks changes call) = omega arith
+  opened_most (Aborting locks) = omega arith
   opened_most (Committing number) = omega arith
 
   opened_in_all : (sessions : List (Session B)) → sum_by opened_by sessions ≤ length sessions
@@ -132,16 +133,29 @@ module _ {B : Type 0} (k : Keys B) where
   numbers_left true n a b h = inr (refl, (both_below n a b h).0, (both_below n a b h).1)
   numbers_left false n a b h = inl refl
 
-  answerable_set : (place : ℕ) (y : Session B) (sessions : List (Session B)) → CanAnswer y → ((p : ℕ) → CanAnswer (slice_index_or sessions p Idle))
-      → (p : ℕ) → CanAnswer (slice_index_or (slice_set sessions place y) p Idle)
-  answerable_set place y [] can each p = each p
-  answerable_set zero y (x ∷ xs) can each zero = can
-  answerable_set zero y (x ∷ xs) can each (suc p) = each (suc p)
-  answerable_set (suc place) y (x ∷ xs) can each zero = each zero
-  answerable_set (suc place) y (x ∷ xs) can each (suc p) = answerable_set place y xs can (λ q. each (suc q)) p
+  answerable_set : (commits : ℕ) (place : ℕ) (y : Session B) (sessions : List (Session B)) → CanAnswer commits y → ((p : ℕ) → CanAnswer commits (slice_index_or sessions p Idle))
+      → (p : ℕ) → CanAnswer commits (slice_index_or (slice_set sessions place y) p Idle)
+  answerable_set commits place y [] can each p = each p
+  answerable_set commits zero y (x ∷ xs) can each zero = can
+  answerable_set commits zero y (x ∷ xs) can each (suc p) = each (suc p)
+  answerable_set commits (suc place) y (x ∷ xs) can each zero = each zero
+  answerable_set commits (suc place) y (x ∷ xs) can each (suc p) = answerable_set commits place y xs can (λ q. each (suc q)) p
+
+  -- a session stays one that is answered as more commits come
+  pub still_answerable : (commits commits' : ℕ) (x : Session B) → commits ≤ commits' → CanAnswer commits x → CanAnswer commits' x
+  still_answerable commits commits' Idle rises can = tt
+  still_answerable commits commits' (Open locks changes None) rises can = tt
+  still_answerable commits commits' (Open locks changes (Some Begin)) rises can = can
+  still_answerable commits commits' (Open locks changes (Some (Insert e))) rises can = tt
+  still_answerable commits commits' (Open locks changes (Some (Delete e))) rises can = tt
+  still_answerable commits commits' (Open locks changes (Some (Search q))) rises can = tt
+  still_answerable commits commits' (Open locks changes (Some Commit)) rises can = tt
+  still_answerable commits commits' (Open locks changes (Some Abort)) rises can = can
+  still_answerable commits commits' (Aborting locks) rises can = tt
+  still_answerable commits commits' (Committing number) rises can = omega arith
 
   more_opened : (begun : Bool) (commits next new old length_new : ℕ) → (begun ≡ false) ⊎ ((begun ≡ true) × (commits < 18446744073709551607) × (next < 18446744073709551607))
-      → commits + old ≤ 18446744073709551614 → new ≤ 8 → new ≤ old + cond begun 1 0 → commits + new ≤ 18446744073709551614
+      → commits + old < 18446744073709551615 → new ≤ 8 → new ≤ old + cond begun 1 0 → commits + new < 18446744073709551615
   more_opened true commits next new old length_new (inl no_more) all few grown = cc
   more_opened false commits next new old length_new (inl no_more) all few grown = omega arith
   more_opened true commits next new old length_new (inr more) all few grown = omega (arith, more.1)
@@ -155,14 +169,14 @@ module _ {B : Type 0} (k : Keys B) where
   next_number false commits next (inr more) all = omega arith
 
   module _ (call : Call B) (latest : List (Entry B)) (capacity commits next : ℕ) (sessions : List (Session B)) (kept : IsKept k latest capacity commits next sessions)
-      (place : ℕ) (within : place < 8) (barred : Option ℕ) (spent : ℕ) (spent_is : spent ≡ claims_held sessions)
+      (place : ℕ) (within : place < 8) (least : Option ℕ) (spent : ℕ) (spent_is : spent ≡ claims_held sessions)
       (begun : Bool) (begun_is : begun ≡ begins call (slice_index_or sessions place Idle))
       (lasts : (begun && (nat_le 18446744073709551607 commits || nat_le 18446744073709551607 next)) ≡ false) where
     abbrev x : Session B
     x = slice_index_or sessions place Idle
 
     abbrev y : Session B
-    y = (ask_session k call barred spent x).1
+    y = (ask_session k call least spent x).1
 
     changed : (f : Session B → ℕ) → sum_by f (slice_set sessions place y) + f x ≡ sum_by f sessions + f y
     changed f = sum_by-set f sessions place y Idle (omega (arith, kept.eight))
@@ -170,12 +184,12 @@ module _ {B : Type 0} (k : Keys B) where
     pub kept_ask : IsKept k latest capacity commits (next + from_bool begun) (slice_set sessions place y)
     kept_ask = record {
       eight = length-set sessions place y ∙ kept.eight;
-      answerable = answerable_set place y sessions (can_answer_ask k call barred spent x (kept.answerable place)) kept.answerable;
-      claims = omega (arith, changed claims_of, claims_ask k call barred spent x (omega (arith, kept.claims, spent_is)), kept.claims, spent_is);
-      room = omega (arith, changed added_by, added_ask k call barred spent x, kept.room);
+      answerable = answerable_set commits place y sessions (can_answer_ask k commits call least spent x (kept.answerable place)) kept.answerable;
+      claims = omega (arith, changed claims_of, claims_ask k call least spent x (omega (arith, kept.claims, spent_is)), kept.claims, spent_is);
+      room = omega (arith, changed added_by, added_ask k call least spent x, kept.room);
       commits_left = more_opened begun commits next _ (sum_by opened_by sessions) 8 (numbers_left begun _ commits next lasts) kept.commits_left
           (omega (arith, opened_in_all (slice_set sessions place y), length-set sessions place y, kept.eight))
-          (rw begun_is (omega (arith, changed opened_by, opened_ask k call barred spent x)));
+          (rw begun_is (omega (arith, changed opened_by, opened_ask k call least spent x)));
       next_left = next_number begun commits next (numbers_left begun _ commits next lasts) kept.next_left;
       in_order = kept.in_order;
     }
@@ -194,8 +208,8 @@ module _ {B : Type 0} (k : Keys B) where
       → length latest' + added + added_by x' ≤ capacity' + added_by (slice_index_or sessions place Idle)
       → commits' + opened_by x' ≤ commits + opened_by (slice_index_or sessions place Idle)
       → claims_of x' ≤ claims_of (slice_index_or sessions place Idle)
-      → CanAnswer x' → InOrder k latest' → IsKept k latest' capacity' commits' next sessions'
-  kept_answer latest capacity commits next sessions kept place within x' latest' capacity' commits' added sessions' lent set_is added_is lent_is room opened claims can in_order =
+      → CanAnswer commits' x' → commits ≤ commits' → InOrder k latest' → IsKept k latest' capacity' commits' next sessions'
+  kept_answer latest capacity commits next sessions kept place within x' latest' capacity' commits' added sessions' lent set_is added_is lent_is room opened claims can rises in_order =
       let all_added : added ≡ sum_by added_by sessions = added_is ∙ ap (sum_by added_by) lent_is in
       let inside : place < length sessions = omega (arith, kept.eight) in
       let less_added : sum_by added_by (slice_set sessions place x') + added_by (slice_index_or sessions place Idle) ≡ sum_by added_by sessions + added_by x' =
@@ -206,7 +220,7 @@ module _ {B : Type 0} (k : Keys B) where
       sum_by-set claims_of sessions place x' Idle inside in
       let new : IsKept k latest' capacity' commits' next (slice_set sessions place x') = record {
         eight = length-set sessions place x' ∙ kept.eight;
-        answerable = answerable_set place x' sessions can kept.answerable;
+        answerable = answerable_set commits' place x' sessions can (λ p. still_answerable commits commits' (slice_index_or sessions p Idle) rises (kept.answerable p));
         claims = omega (arith, less_claims, kept.claims, claims);
         room = omega (arith, less_added, kept.room, room, all_added);
         commits_left = omega (arith, less_opened, kept.commits_left, opened);
@@ -223,8 +237,8 @@ module _ {B : Type 0} (k : Keys B) where
   replicate_reads (suc n) zero = refl
   replicate_reads (suc n) (suc p) = replicate_reads n p
 
-  idle_each : (n p : ℕ) → CanAnswer (slice_index_or (replicate n (idle B)) p Idle)
-  idle_each n p = subst (λ (x : Session B). CanAnswer x) (sym (replicate_reads n p)) tt
+  idle_each : (n p : ℕ) → CanAnswer 0 (slice_index_or (replicate n (idle B)) p Idle)
+  idle_each n p = subst (λ (x : Session B). CanAnswer 0 x) (sym (replicate_reads n p)) tt
 
   -- a fresh index keeps what is kept
   pub kept_fresh : (latest : List (Entry B)) (capacity : ℕ) (sessions : List (Session B)) → latest ≡ [] → sessions ≡ replicate 8 Idle → IsKept k latest capacity 0 1 sessions

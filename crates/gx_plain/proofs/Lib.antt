@@ -1,3 +1,4 @@
 pub mod SlotLaws
 pub mod IndexLaws
 pub mod AnswerLaws
+pub mod CallRuns

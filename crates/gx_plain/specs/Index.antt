@@ -1,8 +1,9 @@
 -- The plain index as a state, and what asking and answering it do, by the set machine's steps.
-use Rattle.std.specs.Prelude.{ℕ, ◌≡◌, ◌⊎◌, ◌+◌, Bool, true, false, ◌&&◌, ◌||◌, nat_le, if◌then◌else◌, Option, Some, unwrap_or}
+use Rattle.std.specs.Prelude.{ℕ, ◌≡◌, ◌⊎◌, ◌+◌, Bool, true, false, ◌&&◌, ◌||◌, nat_le, if◌then◌else◌, Option, Some, option_map, unwrap_or}
 use Rattle.std.specs.Option.{option_and_then, option_or}
 use Rattle.gx_geom.specs.declared.refusal.Refusal.TheVariants.{BadSession, NoCall, Memory, HistoryFull}
 use Rattle.gx_machine.specs.declared.call.Call.{Call}
+use Rattle.gx_machine.specs.declared.limits.TheConstants.{LAST_NUMBER}
 use Rattle.gx_machine.specs.declared.reply.Reply.{Reply}
 use Rattle.gx_machine.specs.declared.reply.Reply.TheVariants.{Ok, Inserted, Deleted, Found, Committed, Aborted, Refused}
 use Rattle.gx_machine.specs.declared.reply.Asked.{Asked}
@@ -33,7 +34,7 @@ has_begun (asked.Now (Refused why)) = false
 
 -- the numbers of commits or of transactions are used up but for those of the transactions that are open
 abbrev pub is_used_up : {B : Type 0} → Index B → Bool
-is_used_up index = nat_le 18446744073709551607 (newest index.machine) || nat_le 18446744073709551607 index.next
+is_used_up index = nat_le LAST_NUMBER (newest index.machine) || nat_le LAST_NUMBER index.next
 
 -- Ask: as the machine does, but a Begin is refused where the numbers are used up, and takes the next number else.
 abbrev pub ask_index : {B : Type 0} → Keys B → ℕ → Call B → Index B → Asked B × Index B
@@ -42,9 +43,13 @@ ask_index k s call index =
     if has_begun r.0 && is_used_up index then (asked.Now (Refused HistoryFull), index)
     else (r.0, record { machine = r.1; next = index.next + (if has_begun r.0 then 1 else 0) })
 
+-- a commit's set is sealed, and durable at once
+abbrev pub sealed_machine : {B : Type 0} → Keys B → ℕ → Machine B → Option (Machine B)
+sealed_machine k s m = option_map (λ sealed. durable (newest sealed) sealed) (seal k s m)
+
 -- a commit: sealed, durable at once, and answered
 abbrev pub commit : {B : Type 0} → Keys B → ℕ → Machine B → Option (Reply B × Machine B)
-commit k s m = option_and_then (λ sealed. answer k s (durable (newest sealed) sealed)) (seal k s m)
+commit k s m = option_and_then (answer k s) (sealed_machine k s m)
 
 -- Answer, where memory lasts: as the machine does, a commit by its three steps; else there is no such call or session.
 abbrev pub answer_machine : {B : Type 0} → Keys B → ℕ → Machine B → Reply B × Machine B

@@ -1,3 +1,5 @@
 pub mod Index
 pub mod Kept
 pub mod Runs
+pub mod Boxes
+pub mod OneRun

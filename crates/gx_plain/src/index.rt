@@ -1,36 +1,30 @@
 //! The plain index.
 ghost use Rattle.std.specs.Prelude.{vec_len, vec_capacity, nat_le, ◌||◌, not, ◌&&◌, ◌==◌, ◌≡◌, ◌<◌, ◌≤◌, ◌+◌, ◌-◌, Some, IfOk, MatchOption, IsTrue, ⊤, false, true, ◌^◌, length, sum_by, slice_set, replicate};
 ghost use Rattle.std.specs.List.{slice_index_or};
-ghost use Rattle.gx_machine.specs.Keys.{keys};
-ghost use Rattle.gx_machine.specs.Machine.{is_session, least_barring, claims_held};
-ghost use Rattle.gx_machine.specs.Sessions.{Idle, claims_of, session_bars, ask_session};
+ghost use Rattle.gx_machine.specs.declared.limits.TheConstants.{MAX_CLAIMS};
+ghost use Rattle.gx_machine.specs.Keys.{keys_of};
+ghost use Rattle.gx_machine.specs.Machine.{is_session, least_conflicting, claims_held};
+ghost use Rattle.gx_machine.specs.Sessions.{Idle, claims_of, session_conflicts, ask_session};
 ghost use Rattle.gx_machine.specs.Sets.{InOrder};
 ghost use Rattle.gx_session.specs.Slots.{added_by, opened_by, begins, CanAnswer, SlotAnswers};
 
 use gx_geom::{Refusal, Shape};
-use gx_machine::{Asked, Call, Entry, Reply};
+use gx_machine::{Asked, Call, Entry, LAST_NUMBER, Reply, SESSIONS};
 use gx_session::Slot;
 use std::alloc::{AllocError, Global};
 use std::marker::Model;
 
-/// How many sessions there are.
-const SESSIONS: usize = 8;
-
-/// From this number on, of the last commit or of the next transaction, no transaction begins: the numbers left
-/// are those of the transactions that are open.
-const NUMBERS_END: u64 = u64::MAX - 8;
-
 /// Whether a transaction would begin, and the numbers are used up.
 fn lacks_numbers(begins: bool, commits: u64, next: u64) -> bool
-    ensures { result ≡ (begins && (nat_le 18446744073709551607 commits || nat_le 18446744073709551607 next)) }
+    ensures { result ≡ (begins && (nat_le LAST_NUMBER commits || nat_le LAST_NUMBER next)) }
 {
-    begins && (commits >= NUMBERS_END || next >= NUMBERS_END)
+    begins && (commits >= LAST_NUMBER || next >= LAST_NUMBER)
 }
 
 /// The place of a session in the list, where there is one of that number.
 fn place_of(session: u8) -> Option<usize>
     ensures place { MatchOption result (is_session session ≡ false) (λ place. (is_session session ≡ true) × (place ≡ session - 1)) }
-    ensures within { MatchOption result ⊤ (λ place. place < 8) }
+    ensures within { MatchOption result ⊤ (λ place. place < SESSIONS) }
 {
     let place = usize::from(session).checked_sub(1)?;
     if place < SESSIONS { Some(place) } else { None }
@@ -38,7 +32,7 @@ fn place_of(session: u8) -> Option<usize>
 
 /// All sessions, with no transaction.
 fn idle_slots<B: Shape>(alloc: Global) -> Result<Vec<Slot<B>>, AllocError>
-    ensures { IfOk result (λ slots. slots.items ≡ replicate 8 Idle) }
+    ensures { IfOk result (λ slots. slots.items ≡ replicate SESSIONS Idle) }
 {
     let mut slots = Vec::with_capacity(alloc, SESSIONS)?;
     for _ in 0..SESSIONS {
@@ -49,15 +43,15 @@ fn idle_slots<B: Shape>(alloc: Global) -> Result<Vec<Slot<B>>, AllocError>
 
 /// Whether the session of this number is another one than `session` and conflicts with its call.
 fn conflicts<B: Shape>(slot: &Slot<B>, number: u8, call: &Call<B>, session: u8) -> bool
-    ensures { result ≡ (not (number == session) && session_bars (keys B.cmp B.overlap B.inside) call.now slot.now) }
+    ensures { result ≡ (not (number == session) && session_conflicts (keys_of B.Shape) call.now slot.now) }
 {
-    number != session && slot.bars(call)
+    number != session && slot.conflicts(call)
 }
 
 /// The least other session that conflicts with a call of `session`.
-fn least_barring<B: Shape>(slots: &[Slot<B>], call: &Call<B>, session: u8) -> Option<u8>
-    requires { length slots.now ≤ 8 }
-    ensures { result ≡ least_barring (keys B.cmp B.overlap B.inside) call.now session 1 slots.now }
+fn least_conflicting<B: Shape>(slots: &[Slot<B>], call: &Call<B>, session: u8) -> Option<u8>
+    requires { length slots.now ≤ SESSIONS }
+    ensures { result ≡ least_conflicting (keys_of B.Shape) call.now session 1 slots.now }
 {
     let mut number = 1;
     for slot in slots {
@@ -71,7 +65,7 @@ fn least_barring<B: Shape>(slots: &[Slot<B>], call: &Call<B>, session: u8) -> Op
 
 /// The claims held in all.
 fn claims_held<B: Shape>(slots: &[Slot<B>]) -> usize
-    requires { claims_held slots.now ≤ 512 }
+    requires { claims_held slots.now ≤ MAX_CLAIMS }
     ensures { result ≡ claims_held slots.now }
 {
     slots.iter().map(|slot| slot.claims()).sum()
@@ -98,15 +92,15 @@ fn ask_at<B: Shape>(
     slots: &mut Vec<Slot<B>>,
     place: usize,
     call: Call<B>,
-    barred: Option<u8>,
+    least: Option<u8>,
     spent: usize,
 ) -> Asked<B>
     requires within { place < length slots.old.items }
     requires spent { claims_of (slice_index_or slots.old.items place Idle) ≤ spent }
-    ensures asked { result ≡ (ask_session (keys B.cmp B.overlap B.inside) call barred spent (slice_index_or slots.old.items place Idle)).0 }
-    ensures session { slots.new.items ≡ slice_set slots.old.items place (ask_session (keys B.cmp B.overlap B.inside) call barred spent (slice_index_or slots.old.items place Idle)).1 }
+    ensures asked { result ≡ (ask_session (keys_of B.Shape) call least spent (slice_index_or slots.old.items place Idle)).0 }
+    ensures session { slots.new.items ≡ slice_set slots.old.items place (ask_session (keys_of B.Shape) call least spent (slice_index_or slots.old.items place Idle)).1 }
 {
-    slots[place].ask(call, barred, spent)
+    slots[place].ask(call, least, spent)
 }
 
 /// Answers the session at a place.
@@ -118,20 +112,21 @@ fn answer_at<B: Shape>(
     added: usize,
 ) -> Reply<B>
     requires within { place < length slots.old.items }
-    requires can_answer { CanAnswer (slice_index_or slots.old.items place Idle) }
-    requires in_order { InOrder (keys B.cmp B.overlap B.inside) latest.old.items }
+    requires can_answer { CanAnswer commits.old (slice_index_or slots.old.items place Idle) }
+    requires in_order { InOrder (keys_of B.Shape) latest.old.items }
     requires room { vec_len latest.old + added ≤ vec_capacity latest.old }
     requires counted { added_by (slice_index_or slots.old.items place Idle) ≤ added }
     requires more { commits.old + 1 < 2 ^ 64 }
-    requires few { claims_of (slice_index_or slots.old.items place Idle) ≤ 512 }
-    ensures answers { SlotAnswers (keys B.cmp B.overlap B.inside) (slice_index_or slots.old.items place Idle) latest.old.items commits.old result
+    requires few { claims_of (slice_index_or slots.old.items place Idle) ≤ MAX_CLAIMS }
+    ensures answers { SlotAnswers (keys_of B.Shape) (slice_index_or slots.old.items place Idle) latest.old.items commits.old result
         (slice_index_or slots.new.items place Idle) latest.new.items commits.new }
     ensures others { slots.new.items ≡ slice_set slots.old.items place (slice_index_or slots.new.items place Idle) }
     ensures room { vec_len latest.new + added + added_by (slice_index_or slots.new.items place Idle) ≤ vec_capacity latest.new + added_by (slice_index_or slots.old.items place Idle) }
     ensures opened { commits.new + opened_by (slice_index_or slots.new.items place Idle) ≤ commits.old + opened_by (slice_index_or slots.old.items place Idle) }
     ensures claims { claims_of (slice_index_or slots.new.items place Idle) ≤ claims_of (slice_index_or slots.old.items place Idle) }
-    ensures can_answer { CanAnswer (slice_index_or slots.new.items place Idle) }
-    ensures in_order { InOrder (keys B.cmp B.overlap B.inside) latest.new.items }
+    ensures can_answer { CanAnswer commits.new (slice_index_or slots.new.items place Idle) }
+    ensures in_order { InOrder (keys_of B.Shape) latest.new.items }
+    ensures rises { commits.old ≤ commits.new }
 {
     slots[place].answer(latest, commits, added)
 }
@@ -157,7 +152,7 @@ impl<B: Shape> Model for PlainIndex<B> {
     ghost use Rattle.gx_plain.specs.Kept.{IsKept};
 
     ghost view = { λ i. record {
-      machine = record { older = []; latest = i.committed.items; first = i.commits; sessions = i.slots.items; ended = false };
+      machine = record { older = []; latest = i.committed.items; oldest = i.commits; sessions = i.slots.items; failed = false };
       next = i.next;
     } };
 
@@ -183,13 +178,13 @@ impl<B: Shape> PlainIndex<B> {
     ///
     /// The reply comes at once where the call is refused and for a Begin; else the call is open until it is
     /// answered. Refusals, the first that holds: `BadSession` for another number; `CallOpen` where the session has
-    /// a call open or has asked for its abort; `InTransaction` for a Begin in a transaction, `NoTransaction` for
+    /// a call open, has asked for its abort or waits for its commit; `InTransaction` for a Begin in a transaction, `NoTransaction` for
     /// another call outside of one; `HistoryFull` for a Begin where the number of the last commit or of the next
     /// transaction is 2^64 - 9 or more; `Busy` with the least other session that conflicts; `ClaimsFull` and
     /// `PredicatesFull` where the places are taken. A refused call changes nothing.
     pub fn ask(&mut self, session: u8, call: Call<B>) -> Asked<B>
-        ensures asked { result ≡ (ask_index (keys B.cmp B.overlap B.inside) session call self.old).0 }
-        ensures index { self.new ≡ (ask_index (keys B.cmp B.overlap B.inside) session call self.old).1 }
+        ensures asked { result ≡ (ask_index (keys_of B.Shape) session call self.old).0 }
+        ensures index { self.new ≡ (ask_index (keys_of B.Shape) session call self.old).1 }
     {
         let Some(place) = place_of(session) else {
             return Asked::Now(Reply::Refused(Refusal::BadSession));
@@ -198,10 +193,10 @@ impl<B: Shape> PlainIndex<B> {
         if lacks_numbers(begins, self.commits, self.next) {
             return Asked::Now(Reply::Refused(Refusal::HistoryFull));
         }
-        let barred = least_barring(&self.slots, &call, session);
+        let least = least_conflicting(&self.slots, &call, session);
         let spent = claims_held(&self.slots);
         self.next += u64::from(begins);
-        ask_at(&mut self.slots, place, call, barred, spent)
+        ask_at(&mut self.slots, place, call, least, spent)
     }
 
     /// Answers the open call of a session, or its abort. A commit is sealed, durable and answered in one.
@@ -210,7 +205,7 @@ impl<B: Shape> PlainIndex<B> {
     /// of an entry that the session sees; `Absent` for a delete of one that it doesn't; `Memory` for an insert or
     /// a search that needs memory and is refused it. The call is then closed, and may be asked again.
     pub fn answer(&mut self, session: u8) -> Reply<B>
-        ensures { AnswersIndex (keys B.cmp B.overlap B.inside) session self.old result self.new }
+        ensures { AnswersIndex (keys_of B.Shape) session self.old result self.new }
     {
         let Some(place) = place_of(session) else {
             return Reply::Refused(Refusal::BadSession);
@@ -227,7 +222,7 @@ impl<B: Shape> PlainIndex<B> {
 
     /// Asks a call and, where it is then open, answers it. The refusals are those of `ask` and of `answer`.
     pub fn call(&mut self, session: u8, call: Call<B>) -> Reply<B>
-        ensures { CallsIndex (keys B.cmp B.overlap B.inside) self.old session call result self.new }
+        ensures { CallsIndex (keys_of B.Shape) self.old session call result self.new }
     {
         match self.ask(session, call) {
             Asked::Now(reply) => reply,

@@ -1,18 +1,26 @@
 //! Laws: what the plain index has to do with runs of the set machine, and what holds of every such run.
-ghost use Rattle.std.specs.Prelude.{◌≡◌, ℕ};
+ghost use Rattle.std.specs.Prelude.{◌≡◌, ℕ, List};
 ghost use Rattle.gx_machine.specs.declared.call.Call.{Call};
 ghost use Rattle.gx_machine.specs.declared.reply.Reply.{Reply};
 ghost use Rattle.gx_machine.specs.Keys.{Keys};
 ghost use Rattle.gx_plain.specs.Index.{Index, AnswersIndex, ask_index, fresh_index};
+ghost use Rattle.gx_plain.specs.Boxes.{box_keys};
+ghost use Rattle.gx_plain.specs.Index.{CallsIndex};
+ghost use Rattle.gx_plain.specs.OneRun.{IsCallRun, IsOneRun};
 ghost use Rattle.gx_plain.specs.Runs.{IsPlain, AskIsRun, AnswerIsRun};
+ghost use Rattle.gx_geom.specs.Rectangles.{Rectangle};
+ghost use Rattle.gx_script.specs.declared.line.Line.{Line};
+ghost use Rattle.gx_script.specs.Scripts.{IsScript};
 
 pub use gx_machine::laws::{
-    calls_change_no_set, committed_transactions_run_alone, durable_keeps_the_last_set,
-    every_run_is_serial, kept_sets_stay_in_order, refused_ask_changes_nothing,
-    sessions_never_conflict,
+    acknowledged_commits_survive, busy_names_the_least_conflict, calls_change_no_set,
+    committed_transactions_run_alone, durable_keeps_the_last_set, each_step_keeps_locks_apart,
+    every_run_is_serial, found_is_what_the_view_has, kept_sets_stay_in_order, keys_are_lawful,
+    refused_ask_changes_nothing, runs_join, sessions_never_conflict, sets_keep_their_numbers,
+    unseen_faults_permit_nothing_new,
 };
 
-/// A fresh index has eight sessions, all its commits are durable, and no fault has ended it.
+/// A fresh index has eight sessions, all its commits are durable, and no fault has made it fail.
 pub fn a_fresh_index_is_plain<B>()
     ensures { IsPlain (fresh_index {B = B}) }
 {}
@@ -24,8 +32,23 @@ pub fn asking_is_a_step<B>()
 {}
 
 /// Answering is a run of the machine, and keeps the index plain. The run is an answer; a commit's seal, its becoming
-/// durable and its answer; a call refused for want of memory; or nothing, where no call is open.
+/// durable and its answer; a call closed for want of memory; or nothing, where there is nothing to answer.
 pub fn answering_is_a_run<B>()
     ensures run { (k : Keys B) (s : ℕ) (old new : Index B) (reply : Reply B) → IsPlain old → AnswersIndex k s old reply new → AnswerIsRun k s old reply new }
     ensures plain { (k : Keys B) (s : ℕ) (old new : Index B) (reply : Reply B) → IsPlain old → AnswersIndex k s old reply new → IsPlain new }
+{}
+
+/// A call that is asked and answered is a run of the machine in which that call is asked and given that reply, and
+/// nothing else is; and keeps the index plain.
+pub fn each_call_is_a_run<B>()
+    ensures run { (k : Keys B) (s : ℕ) (call : Call B) (old new : Index B) (reply : Reply B) → IsPlain old → CallsIndex k old s call reply new
+        → IsCallRun k s call reply old.machine new.machine }
+    ensures plain { (k : Keys B) (s : ℕ) (call : Call B) (old new : Index B) (reply : Reply B) → IsPlain old → CallsIndex k old s call reply new → IsPlain new }
+{}
+
+/// What the lines of a script ask and are answered is one run of the machine, joined over all lines, whatever pieces
+/// the script came in; its replies are those of the text.
+pub fn each_script_is_one_run()
+    ensures { (number : ℕ) (lines : List Line) (old new : Index Rectangle) (text : List ℕ) → IsPlain old
+        → IsScript (CallsIndex box_keys) number lines old text new → IsOneRun number lines old.machine new.machine text }
 {}

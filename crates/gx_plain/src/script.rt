@@ -1,8 +1,7 @@
 //! Scripts for the plain index.
 ghost use Rattle.std.specs.Prelude.{OnOk, IfErr};
-ghost use Rattle.gx_geom.specs.Corners.{corners_cmp, overlaps, within};
-ghost use Rattle.gx_machine.specs.Keys.{keys};
 ghost use Rattle.gx_script.specs.Scripts.{IsDone, IsStopped};
+ghost use Rattle.gx_plain.specs.Boxes.{box_keys};
 ghost use Rattle.gx_plain.specs.Index.{CallsIndex};
 
 use crate::PlainIndex;
@@ -12,7 +11,7 @@ use gx_script::{Answers, ScriptFault};
 use std::io::{Read, Write};
 
 impl Answers for PlainIndex<Box2> {
-    ghost answered = { CallsIndex (keys corners_cmp overlaps within) };
+    ghost answered = { CallsIndex box_keys };
 
     fn call(&mut self, session: u8, call: Call<Box2>) -> Reply<Box2> {
         self.call(session, call)
@@ -30,9 +29,9 @@ pub fn run_plain<R: Read, W: Write>(
     writer: &mut W,
     index: &mut PlainIndex<Box2>,
 ) -> Result<(), ScriptFault>
-    ensures done { OnOk result (IsDone (CallsIndex (keys corners_cmp overlaps within)) (R.remaining reader.old) (R.remaining reader.new)
+    ensures done { OnOk result (IsDone (CallsIndex box_keys) (R.remaining reader.old) (R.remaining reader.new)
         (W.contents writer.old) (W.contents writer.new) index.old index.new) }
-    ensures stopped { IfErr result (IsStopped (CallsIndex (keys corners_cmp overlaps within)) (R.remaining reader.old) (R.remaining reader.new)
+    ensures stopped { IfErr result (IsStopped (CallsIndex box_keys) (R.remaining reader.old) (R.remaining reader.new)
         (W.contents writer.old) (W.contents writer.new) index.old index.new) }
 {
     gx_script::run(reader, writer, index)

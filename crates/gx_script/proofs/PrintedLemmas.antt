@@ -8,7 +8,7 @@ use Rattle.std.proofs.lemmas.Int.{ints}
 use Rattle.std.proofs.lemmas.Fmt.{decimal_by_steps}
 use Rattle.std.proofs.lemmas.List.{append-nil}
 use Rattle.std.proofs.lemmas.Bool.Decides.{nat_tests}
-use Rattle.gx_geom.specs.Corners.{Corners, IsBox}
+use Rattle.gx_geom.specs.Rectangles.{Rectangle, IsBox}
 use Rattle.gx_geom.specs.BoxLaws.{tests_at_most}
 use Rattle.gx_script.specs.Numbers.{number_of, next_value, corner_of, to_corner, to_negative_corner}
 use Rattle.gx_script.specs.Requests.{box_words}
@@ -85,7 +85,7 @@ corner_of-printed (negsuc n) fits =
     ap (λ o. option_and_then to_negative_corner o) (number_of-decimal (suc n) (omega arith)) ∙ rw below (ap (λ (z : ℤ). Some z) (below_zero n))
 
 -- the words of a box are read as the box
-pub box_words-printed : (b : Corners) → IsBox b → box_words (corner_words b) ≡ Some (Some b)
+pub box_words-printed : (b : Rectangle) → IsBox b → box_words (corner_words b) ≡ Some (Some b)
 box_words-printed b is =
     let x1 = corner_of-printed b.x1 is.x1_fits in
     let y1 = corner_of-printed b.y1 is.y1_fits in

@@ -6,7 +6,7 @@ use Rattle.std.specs.Io.KnownBytes.{Appends, Consumes, Keeps, IsAtEnd}
 use Rattle.std.proofs.KnownBytes.{Appends-nil, Appends-trans, Consumes-nil, Consumes-kept, Consumes-trans}
 use Rattle.std.proofs.lemmas.List.{append-nil, nil_from_length}
 use Rattle.std.proofs.lemmas.List.Folds.{list_any-append}
-use Rattle.gx_geom.specs.Corners.{Corners}
+use Rattle.gx_geom.specs.Rectangles.{Rectangle}
 use Rattle.gx_machine.specs.declared.call.Call.{Call}
 use Rattle.gx_machine.specs.declared.reply.Reply.{Reply}
 use Rattle.gx_script.specs.declared.line.Line.{Line}
@@ -21,7 +21,7 @@ quiet_after [] l h e = refl
 quiet_after (a ∷ after) l h e =
     list_any-append is_asking after (l ∷ []) ∙ ap (λ (t : Bool). t || list_any is_asking (l ∷ [])) h ∙ ap (λ (t : Bool). t || false) e
 
-module _ {I : Type 0} (answered : I → ℕ → Call Corners → Reply Corners → I → Type 0) where
+module _ {I : Type 0} (answered : I → ℕ → Call Rectangle → Reply Rectangle → I → Type 0) where
   -- lines, and then more lines
   pub script_append : (n : ℕ) (a b : List Line) (old mid new : I) (s t : List ℕ)
       → IsScript answered n a old s mid → IsScript answered (n + length a) b mid t new → IsScript answered n (a ++ b) old (s ++ t) new

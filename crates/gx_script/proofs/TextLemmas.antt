@@ -5,7 +5,7 @@ use Rattle.std.specs.List.{list_any, flat_map}
 use Rattle.std.specs.Fmt.{digits, digits_onto, digit_glyph, signed_decimal}
 use Rattle.std.proofs.lemmas.Bool.{ne_eqb}
 use Rattle.std.proofs.lemmas.List.Concat.{flat_map-cons}
-use Rattle.gx_geom.specs.Corners.{Corners, corners_text}
+use Rattle.gx_geom.specs.Rectangles.{Rectangle, corners_text}
 use Rattle.gx_geom.specs.Refusals.{refusal_number, refusal_text}
 use Rattle.gx_geom.specs.declared.refusal.Refusal.{Refusal}
 use Rattle.gx_geom.specs.declared.refusal.Refusal.TheVariants.{NoTransaction, InTransaction, Present, Absent, Busy, BadBox, PagesFull, ClaimsFull, PredicatesFull, Memory, Device, Failed, Damaged, NotFormatted, BadSession, CallOpen, TooSmall, BadParameter, NoCall, HistoryFull}
@@ -47,7 +47,7 @@ signed-unended (negsuc n) = unended-cons 45 (decimal (suc n)) refl (decimal-unen
 spaced : (a bs : List ℕ) → IsUnended a → IsUnended bs → IsUnended (a ++ (32 ∷ bs))
 spaced a bs h k = unended-append a (32 ∷ bs) h (unended-cons 32 bs refl k)
 
-corners-unended : (b : Corners) → IsUnended (corners_text b)
+corners-unended : (b : Rectangle) → IsUnended (corners_text b)
 corners-unended b =
     let third = spaced (signed_decimal b.x2) (signed_decimal b.y2) (signed-unended b.x2) (signed-unended b.y2) in
     let second = spaced (signed_decimal b.y1) (signed_decimal b.x2 ++ (32 ∷ signed_decimal b.y2)) (signed-unended b.y1) third in
@@ -91,7 +91,7 @@ told-one s told more h =
 together : (a b : ℕ) → 1 + (a + b) ≡ suc a + b
 together a b = omega arith
 
-entries-lines : (s : ℕ) (es : List (Entry Corners)) (more : List ℕ) → length (lines (flat_map (entry_line s) es ++ more)) ≡ length es + length (lines more)
+entries-lines : (s : ℕ) (es : List (Entry Rectangle)) (more : List ℕ) → length (lines (flat_map (entry_line s) es ++ more)) ≡ length es + length (lines more)
 entries-lines s [] more = omega arith
 entries-lines s (e ∷ es) more =
     let unended = unended-append (codes "entry ") (decimal e.row ++ (32 ∷ corners_text e.key)) refl
@@ -105,7 +105,7 @@ entries-lines s (e ∷ es) more =
 together_one : (a b : ℕ) → 1 + (a + b) ≡ 1 + a + b
 together_one a b = omega arith
 
-pub reply-lines : (s : ℕ) (reply : Reply Corners) (more : List ℕ) → length (lines (reply_text s reply ++ more)) ≡ reply_lines reply + length (lines more)
+pub reply-lines : (s : ℕ) (reply : Reply Rectangle) (more : List ℕ) → length (lines (reply_text s reply ++ more)) ≡ reply_lines reply + length (lines more)
 reply-lines s Ok more = told-one s (codes "ok") more refl
 reply-lines s Inserted more = told-one s (codes "inserted") more refl
 reply-lines s Deleted more = told-one s (codes "deleted") more refl

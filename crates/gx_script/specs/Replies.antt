@@ -1,7 +1,7 @@
 -- The text of a reply.
 use Rattle.std.specs.Prelude.{ℕ, ◌+◌, codes, decimal, length, List, [], ◌∷◌, ◌++◌}
 use Rattle.std.specs.List.{flat_map}
-use Rattle.gx_geom.specs.Corners.{Corners, corners_text}
+use Rattle.gx_geom.specs.Rectangles.{Rectangle, corners_text}
 use Rattle.gx_geom.specs.Refusals.{refusal_number, refusal_text}
 use Rattle.gx_machine.specs.declared.entry.Entry.{Entry}
 use Rattle.gx_machine.specs.declared.reply.Reply.{Reply}
@@ -12,11 +12,11 @@ abbrev pub told_line : ℕ → List ℕ → List ℕ
 told_line session told = decimal session ++ (32 ∷ (told ++ (10 ∷ [])))
 
 -- an entry: its row, then its corners
-abbrev pub entry_line : ℕ → Entry Corners → List ℕ
+abbrev pub entry_line : ℕ → Entry Rectangle → List ℕ
 entry_line session e = told_line session (codes "entry " ++ (decimal e.row ++ (32 ∷ corners_text e.key)))
 
 -- the lines of a reply: one, and one more for each entry that was found
-abbrev pub reply_text : ℕ → Reply Corners → List ℕ
+abbrev pub reply_text : ℕ → Reply Rectangle → List ℕ
 reply_text session Ok = told_line session (codes "ok")
 reply_text session Inserted = told_line session (codes "inserted")
 reply_text session Deleted = told_line session (codes "deleted")
@@ -32,7 +32,7 @@ abbrev pub bad_line : ℕ → List ℕ
 bad_line number = codes "line " ++ (decimal number ++ (codes " bad" ++ (10 ∷ [])))
 
 -- how many lines a reply has
-abbrev pub reply_lines : Reply Corners → ℕ
+abbrev pub reply_lines : Reply Rectangle → ℕ
 reply_lines Ok = 1
 reply_lines Inserted = 1
 reply_lines Deleted = 1

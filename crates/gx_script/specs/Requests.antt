@@ -2,7 +2,7 @@
 use Rattle.std.specs.Prelude.{ℕ, nat_lt, ◌&&◌, int_le, if◌then◌else◌, codes, length, Option, None, Some, option_map, option_and_then, List, [], ◌∷◌}
 use Rattle.std.specs.Option.{option_map_or}
 use Rattle.std.specs.Str.{bytes_eq}
-use Rattle.gx_geom.specs.Corners.{Corners, corners_of}
+use Rattle.gx_geom.specs.Rectangles.{Rectangle, rectangle_of}
 use Rattle.gx_machine.specs.declared.call.Call.{Call}
 use Rattle.gx_machine.specs.declared.call.Call.TheVariants as call
 use Rattle.gx_machine.specs.declared.query.Query.TheVariants as query
@@ -39,30 +39,30 @@ at_end a [] = Some a
 at_end a (w ∷ ws) = None
 
 -- the corners, where none is reversed
-abbrev pub box_of : Corners → Option Corners
+abbrev pub box_of : Rectangle → Option Rectangle
 box_of b = if int_le b.x1 b.x2 && int_le b.y1 b.y2 then Some b else None
 
 -- four corners and no other word, and the box that they make: none where they are reversed
-abbrev pub box_words : List (List ℕ) → Option (Option Corners)
+abbrev pub box_words : List (List ℕ) → Option (Option Rectangle)
 box_words ws =
     option_and_then (λ x1. option_and_then (λ y1. option_and_then (λ x2. option_and_then (λ y2.
-    at_end (box_of (corners_of x1.0 y1.0 x2.0 y2.0)) y2.1)
+    at_end (box_of (rectangle_of x1.0 y1.0 x2.0 y2.0)) y2.1)
     (first_word corner_of x2.1)) (first_word corner_of y1.1)) (first_word corner_of x1.1)) (first_word corner_of ws)
 
 -- a row, four corners and no other word, and the entry that they make: none where the corners are reversed
-abbrev pub entry_words : List (List ℕ) → Option (Option (Entry Corners))
+abbrev pub entry_words : List (List ℕ) → Option (Option (Entry Rectangle))
 entry_words ws =
     option_and_then (λ row. option_map (λ box. option_map (λ key. record { row = row.0; key = key }) box) (box_words row.1))
     (first_word number_of ws)
 
 -- the call that a session makes of its arguments; reversed corners ask nothing
-abbrev pub with_arguments : {A : Type 0} → ℕ → (A → Call Corners) → Option (Option A) → Line
+abbrev pub with_arguments : {A : Type 0} → ℕ → (A → Call Rectangle) → Option (Option A) → Line
 with_arguments session make None = Bad
 with_arguments session make (Some None) = Reversed session
 with_arguments session make (Some (Some a)) = Asks session (make a)
 
 -- a call without arguments
-abbrev pub alone : ℕ → Call Corners → List (List ℕ) → Line
+abbrev pub alone : ℕ → Call Rectangle → List (List ℕ) → Line
 alone session call [] = Asks session call
 alone session call (w ∷ ws) = Bad
 

@@ -2,7 +2,7 @@
 use Rattle.std.specs.Prelude.{ℕ, ◌≡◌, ◌+◌, ◌<◌, ◌==◌, ◌⊎◌, nat_lt, Bool, true, false, if◌then◌else◌, length, map, Option, List, [], ◌∷◌, ◌++◌}
 use Rattle.std.specs.List.{list_any}
 use Rattle.std.specs.Io.KnownBytes.{Appends, Consumes, IsAtEnd}
-use Rattle.gx_geom.specs.Corners.{Corners}
+use Rattle.gx_geom.specs.Rectangles.{Rectangle}
 use Rattle.gx_geom.specs.declared.refusal.Refusal.TheVariants.{BadBox}
 use Rattle.gx_machine.specs.declared.call.Call.{Call}
 use Rattle.gx_machine.specs.declared.reply.Reply.{Reply}
@@ -43,14 +43,14 @@ FirstLines bytes done rest = (tail : List ℕ) → asked (bytes ++ tail) ≡ don
 abbrev pub IsUnended : List ℕ → Type 0
 IsUnended bytes = list_any (λ b. b == 10) bytes ≡ false
 
-module _ {I : Type 0} (answered : I → ℕ → Call Corners → Reply Corners → I → Type 0) where
+module _ {I : Type 0} (answered : I → ℕ → Call Rectangle → Reply Rectangle → I → Type 0) where
   -- From old, the line of this number gives this text and leads to new.
   abbrev pub IsTold : ℕ → Line → I → List ℕ → I → Type 0
   IsTold number Blank old text new = (text ≡ []) × (new ≡ old)
   IsTold number Bad old text new = (text ≡ bad_line number) × (new ≡ old)
   IsTold number (Reversed session) old text new = (text ≡ reply_text session (Refused BadBox)) × (new ≡ old)
   IsTold number (Asks session call) old text new =
-      (reply : Reply Corners) × answered old (asked_as session) call reply new × (text ≡ reply_text session reply)
+      (reply : Reply Rectangle) × answered old (asked_as session) call reply new × (text ≡ reply_text session reply)
 
   -- From old, these lines, the first of which has this number, give this text and lead to new.
   abbrev pub IsScript : ℕ → List Line → I → List ℕ → I → Type 0

@@ -1,7 +1,7 @@
 -- What each step of the runner does: to one line, and to a piece of the script.
 use Rattle.std.specs.Prelude.{ℕ, ◌≡◌, ◌+◌, ◌<◌, ◌≤◌, ◌⊎◌, true, length, take, Option, List, [], ◌++◌}
 use Rattle.std.specs.Io.KnownBytes.{Appends, Consumes, Keeps, IsAtEnd}
-use Rattle.gx_geom.specs.Corners.{Corners}
+use Rattle.gx_geom.specs.Rectangles.{Rectangle}
 use Rattle.gx_machine.specs.declared.call.Call.{Call}
 use Rattle.gx_machine.specs.declared.reply.Reply.{Reply}
 use Rattle.gx_script.specs.declared.line.Line.{Line}
@@ -20,7 +20,7 @@ IsGiven had left buffer Interrupted = Keeps had left
 IsGiven had left buffer End = Consumes had left [] × IsAtEnd left
 IsGiven had left buffer (Bytes count) = (count ≤ length buffer) × Consumes had left (take count buffer)
 
-module _ {I : Type 0} (answered : I → ℕ → Call Corners → Reply Corners → I → Type 0) where
+module _ {I : Type 0} (answered : I → ℕ → Call Rectangle → Reply Rectangle → I → Type 0) where
   -- A line was told behind what waited: this is left of both, and the front was written.
   pub record IsToldWhole (number : ℕ) (line : Line) (old new : I) (held holds : Option (List ℕ)) (waiting left : List ℕ) : Type 0 where
     pub text : List ℕ

@@ -2,7 +2,7 @@
 ghost use Rattle.std.specs.Prelude.{◌≡◌, ◌≢◌, ◌+◌, ◌<◌, ◌^◌, ℕ, ℤ, List, [], ◌∷◌, ◌++◌, true, length, codes, decimal, Some, FitsSigned};
 ghost use Rattle.std.specs.Int.{w32};
 ghost use Rattle.std.specs.Fmt.{signed_decimal};
-ghost use Rattle.gx_geom.specs.Corners.{Corners, IsBox};
+ghost use Rattle.gx_geom.specs.Rectangles.{Rectangle, IsBox};
 ghost use Rattle.gx_machine.specs.declared.call.Call.TheVariants as call;
 ghost use Rattle.gx_machine.specs.declared.query.Query.TheVariants as query;
 ghost use Rattle.gx_machine.specs.declared.entry.Entry.{Entry};
@@ -53,15 +53,15 @@ pub fn printed_numbers_are_read()
 pub fn each_command_asks_its_call()
     ensures blank { words_line [] ≡ line.Blank }
     ensures begin { (s : ℕ) → s < 2 ^ 64 → words_line (decimal s ∷ (codes "BEGIN" ∷ [])) ≡ line.Asks s call.Begin }
-    ensures insert { (s : ℕ) (e : Entry Corners) → s < 2 ^ 64 → e.row < 2 ^ 64 → IsBox e.key →
+    ensures insert { (s : ℕ) (e : Entry Rectangle) → s < 2 ^ 64 → e.row < 2 ^ 64 → IsBox e.key →
         words_line (decimal s ∷ (codes "INSERT" ∷ (decimal e.row ∷ corner_words e.key))) ≡ line.Asks s (call.Insert e) }
-    ensures delete { (s : ℕ) (e : Entry Corners) → s < 2 ^ 64 → e.row < 2 ^ 64 → IsBox e.key →
+    ensures delete { (s : ℕ) (e : Entry Rectangle) → s < 2 ^ 64 → e.row < 2 ^ 64 → IsBox e.key →
         words_line (decimal s ∷ (codes "DELETE" ∷ (decimal e.row ∷ corner_words e.key))) ≡ line.Asks s (call.Delete e) }
-    ensures overlap { (s : ℕ) (b : Corners) → s < 2 ^ 64 → IsBox b →
+    ensures overlap { (s : ℕ) (b : Rectangle) → s < 2 ^ 64 → IsBox b →
         words_line (decimal s ∷ (codes "OVERLAP" ∷ corner_words b)) ≡ line.Asks s (call.Search (query.Overlap b)) }
-    ensures within { (s : ℕ) (b : Corners) → s < 2 ^ 64 → IsBox b →
+    ensures within { (s : ℕ) (b : Rectangle) → s < 2 ^ 64 → IsBox b →
         words_line (decimal s ∷ (codes "WITHIN" ∷ corner_words b)) ≡ line.Asks s (call.Search (query.Within b)) }
-    ensures equal { (s : ℕ) (b : Corners) → s < 2 ^ 64 → IsBox b →
+    ensures equal { (s : ℕ) (b : Rectangle) → s < 2 ^ 64 → IsBox b →
         words_line (decimal s ∷ (codes "EQUAL" ∷ corner_words b)) ≡ line.Asks s (call.Search (query.Equal b)) }
     ensures commit { (s : ℕ) → s < 2 ^ 64 → words_line (decimal s ∷ (codes "COMMIT" ∷ [])) ≡ line.Asks s call.Commit }
     ensures abort { (s : ℕ) → s < 2 ^ 64 → words_line (decimal s ∷ (codes "ABORT" ∷ [])) ≡ line.Asks s call.Abort }
@@ -69,7 +69,7 @@ pub fn each_command_asks_its_call()
 
 /// The text of a reply is whole lines, one and one more for each entry that was found.
 pub fn replies_are_whole_lines()
-    ensures reply { (s : ℕ) (reply : Reply Corners) (more : List ℕ) →
+    ensures reply { (s : ℕ) (reply : Reply Rectangle) (more : List ℕ) →
         length (lines (reply_text s reply ++ more)) ≡ reply_lines reply + length (lines more) }
     ensures bad { (number : ℕ) (more : List ℕ) → length (lines (bad_line number ++ more)) ≡ 1 + length (lines more) }
 {}

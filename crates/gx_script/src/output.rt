@@ -2,7 +2,7 @@
 ghost use Rattle.std.specs.Prelude.{◌≡◌, ◌+◌, ◌<◌, ◌≤◌, ◌↔◌, [], ◌∷◌, ◌++◌, length, decimal, codes, IsTrue, OnOk, IfErr};
 ghost use Rattle.std.specs.Fmt.{signed_decimal};
 ghost use Rattle.std.specs.Io.KnownBytes.{Appends};
-ghost use Rattle.gx_geom.specs.Corners.{corners_text};
+ghost use Rattle.gx_geom.specs.Rectangles.{corners_text};
 ghost use Rattle.gx_geom.specs.Refusals.{refusal_number, refusal_text};
 ghost use Rattle.gx_script.specs.Replies.{told_line, entry_line, bad_line};
 ghost use Rattle.gx_script.specs.Writes.{IsPut, IsCut};

@@ -1,7 +1,7 @@
 //! What a line asks for.
 ghost use Rattle.std.specs.Prelude.{◌≡◌, MatchOption, IfSome, FitsSigned, option_map};
 ghost use Rattle.std.specs.Int.{w32};
-ghost use Rattle.gx_geom.specs.Corners.{corners_of};
+ghost use Rattle.gx_geom.specs.Rectangles.{rectangle_of};
 ghost use Rattle.gx_script.specs.Words.{words};
 ghost use Rattle.gx_script.specs.Numbers.{number_of, corner_of};
 ghost use Rattle.gx_script.specs.Requests.{command_of, first_word, box_of, box_words, entry_words, with_arguments, alone, command_line, session_line, line_of};
@@ -142,7 +142,7 @@ fn corners(rest: &[u8]) -> Option<Option<Box2>>
 }
 
 fn ordered(x1: i32, y1: i32, x2: i32, y2: i32) -> Option<Box2>
-    ensures { result ≡ box_of (corners_of x1 y1 x2 y2) }
+    ensures { result ≡ box_of (rectangle_of x1 y1 x2 y2) }
 {
     Box2::new(x1, y1, x2, y2).ok()
 }

@@ -1,6 +1,6 @@
 //! What a transaction holds, as vectors: claims, predicates, and its own changes.
 ghost use Rattle.std.specs.Prelude.{◌≡◌, ◌<◌, ◌≤◌, ◌+◌, ◌++◌, ◌∷◌, [], ◌||◌, length, nat_lt, vec_len, vec_capacity, true, IfOk, if◌then◌else◌};
-ghost use Rattle.gx_machine.specs.Keys.{keys, same_query, key_matches, matches};
+ghost use Rattle.gx_machine.specs.Keys.{keys_of, same_query, key_matches, matches};
 ghost use Rattle.gx_machine.specs.Sets.{has, including, found, including_all, excluding_all};
 ghost use Rattle.gx_machine.specs.Invariants.{Covered};
 ghost use Rattle.gx_machine.specs.Sessions.{has_query};
@@ -8,19 +8,13 @@ ghost use Rattle.std.specs.List.{list_any};
 
 use crate::sets;
 use gx_geom::Shape;
-use gx_machine::{Entry, Query};
+use gx_machine::{Entry, MAX_CLAIMS, MAX_PREDICATES, Query};
 use std::alloc::{AllocError, Global};
 use std::cmp::Ordering;
 
-/// The places for claims, over all sessions.
-pub const CLAIMS: usize = 512;
-
-/// The places for predicates that each session has.
-pub const PREDICATES: usize = 16;
-
 /// Whether a key matches a query.
 fn key_matches<B: Shape>(query: &Query<B>, key: &B) -> bool
-    ensures { result ≡ key_matches (keys B.cmp B.overlap B.inside) query.now key.now }
+    ensures { result ≡ key_matches (keys_of B.Shape) query.now key.now }
 {
     match query {
         Query::Overlap(q) => key.overlaps(q),
@@ -31,14 +25,14 @@ fn key_matches<B: Shape>(query: &Query<B>, key: &B) -> bool
 
 /// Whether an entry matches a query.
 pub fn matches<B: Shape>(query: &Query<B>, e: &Entry<B>) -> bool
-    ensures { result ≡ matches (keys B.cmp B.overlap B.inside) query.now e.now }
+    ensures { result ≡ matches (keys_of B.Shape) query.now e.now }
 {
     key_matches(query, &e.key)
 }
 
 /// Whether two queries are the same.
 fn is_same_query<B: Shape>(a: &Query<B>, b: &Query<B>) -> bool
-    ensures { result ≡ same_query (keys B.cmp B.overlap B.inside) a.now b.now }
+    ensures { result ≡ same_query (keys_of B.Shape) a.now b.now }
 {
     match (a, b) {
         (Query::Overlap(p), Query::Overlap(q)) => p.cmp(q) == Ordering::Equal,
@@ -50,50 +44,50 @@ fn is_same_query<B: Shape>(a: &Query<B>, b: &Query<B>) -> bool
 
 /// Whether the query is among the predicates.
 pub fn has_query<B: Shape>(query: &Query<B>, predicates: &[Query<B>]) -> bool
-    ensures { result ≡ has_query (keys B.cmp B.overlap B.inside) query.now predicates.now }
+    ensures { result ≡ has_query (keys_of B.Shape) query.now predicates.now }
 {
     predicates.iter().any(|p| is_same_query(query, p))
 }
 
 /// Whether one of the predicates matches the entry.
 pub fn any_matches<B: Shape>(predicates: &[Query<B>], e: &Entry<B>) -> bool
-    ensures { result ≡ list_any (λ q. matches (keys B.cmp B.overlap B.inside) q e.now) predicates.now }
+    ensures { result ≡ list_any (λ q. matches (keys_of B.Shape) q e.now) predicates.now }
 {
     predicates.iter().any(|q| matches(q, e))
 }
 
 /// Whether one of the claims matches the query.
 pub fn any_matching<B: Shape>(query: &Query<B>, claims: &[Entry<B>]) -> bool
-    ensures { result ≡ list_any (matches (keys B.cmp B.overlap B.inside) query.now) claims.now }
+    ensures { result ≡ list_any (matches (keys_of B.Shape) query.now) claims.now }
 {
     claims.iter().any(|e| matches(query, e))
 }
 
-/// Whether what is held keeps others from writing the entry.
-pub fn bars_write<B: Shape>(e: &Entry<B>, claims: &[Entry<B>], predicates: &[Query<B>]) -> bool
-    ensures { result ≡ has (keys B.cmp B.overlap B.inside) e.now claims.now
-        || list_any (λ q. matches (keys B.cmp B.overlap B.inside) q e.now) predicates.now }
+/// Whether a write of the entry conflicts with these locks of another session.
+pub fn write_conflicts<B: Shape>(e: &Entry<B>, claims: &[Entry<B>], predicates: &[Query<B>]) -> bool
+    ensures { result ≡ has (keys_of B.Shape) e.now claims.now
+        || list_any (λ q. matches (keys_of B.Shape) q e.now) predicates.now }
 {
     sets::has(e, claims) || any_matches(predicates, e)
 }
 
 /// Claims an entry. False, and nothing changes, exactly where the session lacks it and all places are spent.
 pub fn claim<B: Shape>(e: Entry<B>, claims: &mut Vec<Entry<B>>, spent: usize) -> bool
-    requires room { CLAIMS ≤ vec_capacity claims.old }
+    requires room { MAX_CLAIMS ≤ vec_capacity claims.old }
     requires spent { vec_len claims.old ≤ spent }
-    ensures place { result ≡ has (keys B.cmp B.overlap B.inside) e claims.old.items || nat_lt spent 512 }
+    ensures place { result ≡ has (keys_of B.Shape) e claims.old.items || nat_lt spent MAX_CLAIMS }
     ensures claims { claims.new.items ≡
-        (if has (keys B.cmp B.overlap B.inside) e claims.old.items then claims.old.items
-        else if nat_lt spent 512 then including (keys B.cmp B.overlap B.inside) e claims.old.items
+        (if has (keys_of B.Shape) e claims.old.items then claims.old.items
+        else if nat_lt spent MAX_CLAIMS then including (keys_of B.Shape) e claims.old.items
         else claims.old.items) }
-    ensures claimed { result ≡ true → has (keys B.cmp B.overlap B.inside) e claims.new.items ≡ true }
-    ensures kept { Covered (keys B.cmp B.overlap B.inside) claims.old.items claims.new.items }
-    ensures room { CLAIMS ≤ vec_capacity claims.new }
+    ensures claimed { result ≡ true → has (keys_of B.Shape) e claims.new.items ≡ true }
+    ensures kept { Covered (keys_of B.Shape) claims.old.items claims.new.items }
+    ensures room { MAX_CLAIMS ≤ vec_capacity claims.new }
 {
     if sets::has(&e, claims) {
         return true;
     }
-    if spent >= CLAIMS {
+    if spent >= MAX_CLAIMS {
         return false;
     }
     sets::put(e, claims);
@@ -102,16 +96,16 @@ pub fn claim<B: Shape>(e: Entry<B>, claims: &mut Vec<Entry<B>>, spent: usize) ->
 
 /// Holds a predicate. False, and nothing changes, exactly where the session lacks it and its places are spent.
 pub fn hold<B: Shape>(query: Query<B>, predicates: &mut Vec<Query<B>>) -> bool
-    requires { PREDICATES ≤ vec_capacity predicates.old }
-    ensures place { result ≡ has_query (keys B.cmp B.overlap B.inside) query predicates.old.items || nat_lt (length predicates.old.items) 16 }
+    requires { MAX_PREDICATES ≤ vec_capacity predicates.old }
+    ensures place { result ≡ has_query (keys_of B.Shape) query predicates.old.items || nat_lt (length predicates.old.items) MAX_PREDICATES }
     ensures predicates { predicates.new.items ≡
-        (if has_query (keys B.cmp B.overlap B.inside) query predicates.old.items then predicates.old.items
-        else if nat_lt (length predicates.old.items) 16 then predicates.old.items ++ query ∷ []
+        (if has_query (keys_of B.Shape) query predicates.old.items then predicates.old.items
+        else if nat_lt (length predicates.old.items) MAX_PREDICATES then predicates.old.items ++ query ∷ []
         else predicates.old.items) }
-    ensures room { PREDICATES ≤ vec_capacity predicates.new }
+    ensures room { MAX_PREDICATES ≤ vec_capacity predicates.new }
 {
     if has_query(&query, predicates) {
         return true;
     }
-    predicates.len() < PREDICATES && predicates.push(query).is_ok()
+    predicates.len() < MAX_PREDICATES && predicates.push(query).is_ok()
 }

@@ -1,6 +1,6 @@
 //! Sets of entries as sorted vectors.
 ghost use Rattle.std.specs.Prelude.{insert, ◌≡◌, ◌+◌, ◌<◌, ◌≤◌, MatchOption, OnOk, OnErr, IsOk, vec_len, vec_capacity, length, ⊤};
-ghost use Rattle.gx_machine.specs.Keys.{keys, same_entry, matches};
+ghost use Rattle.gx_machine.specs.Keys.{keys_of, same_entry, matches};
 ghost use Rattle.gx_machine.specs.Sets.{has, including, excluding, including_all, excluding_all};
 
 use gx_geom::Shape;
@@ -10,14 +10,14 @@ use std::cmp::Ordering;
 
 /// Whether two entries are the same.
 pub fn is_same<B: Shape>(a: &Entry<B>, b: &Entry<B>) -> bool
-    ensures { result ≡ same_entry (keys B.cmp B.overlap B.inside) a.now b.now }
+    ensures { result ≡ same_entry (keys_of B.Shape) a.now b.now }
 {
     a.cmp(b) == Ordering::Equal
 }
 
 /// Whether the entry is in the set.
 pub fn has<B: Shape>(e: &Entry<B>, set: &[Entry<B>]) -> bool
-    ensures { result ≡ has (keys B.cmp B.overlap B.inside) e.now set.now }
+    ensures { result ≡ has (keys_of B.Shape) e.now set.now }
 {
     set.iter().any(|x| is_same(e, x))
 }
@@ -26,8 +26,8 @@ pub fn has<B: Shape>(e: &Entry<B>, set: &[Entry<B>]) -> bool
 fn place<B: Shape>(e: &Entry<B>, set: &[Entry<B>]) -> Option<usize>
     ensures within { MatchOption result ⊤ (λ i. i ≤ length set.now) }
     ensures place { MatchOption result
-        (including (keys B.cmp B.overlap B.inside) e.now set.now ≡ set.now)
-        (λ i. including (keys B.cmp B.overlap B.inside) e.now set.now ≡ insert set.now i e.now) }
+        (including (keys_of B.Shape) e.now set.now ≡ set.now)
+        (λ i. including (keys_of B.Shape) e.now set.now ≡ insert set.now i e.now) }
 {
     for (i, x) in set.iter().enumerate() {
         match e.cmp(x) {
@@ -42,9 +42,9 @@ fn place<B: Shape>(e: &Entry<B>, set: &[Entry<B>]) -> Option<usize>
 /// Puts the entry in its place, unless it is there. An `Err` changes nothing, and comes only where the vector is full
 /// and lacks the entry.
 pub fn include<B: Shape>(e: Entry<B>, set: &mut Vec<Entry<B>>) -> Result<(), AllocError>
-    ensures ok { OnOk result (set.new.items ≡ including (keys B.cmp B.overlap B.inside) e set.old.items) }
+    ensures ok { OnOk result (set.new.items ≡ including (keys_of B.Shape) e set.old.items) }
     ensures err { OnErr result (set.new.items ≡ set.old.items) }
-    ensures full { OnErr result (vec_capacity set.old < length (including (keys B.cmp B.overlap B.inside) e set.old.items)) }
+    ensures full { OnErr result (vec_capacity set.old < length (including (keys_of B.Shape) e set.old.items)) }
     ensures capacity { vec_capacity set.old ≤ vec_capacity set.new }
     ensures one_more { vec_len set.new ≤ vec_len set.old + 1 }
 {
@@ -59,8 +59,8 @@ pub fn include<B: Shape>(e: Entry<B>, set: &mut Vec<Entry<B>>) -> Result<(), All
 
 /// Puts the entry in its place, for which there is room.
 pub fn put<B: Shape>(e: Entry<B>, set: &mut Vec<Entry<B>>)
-    requires { length (including (keys B.cmp B.overlap B.inside) e set.old.items) ≤ vec_capacity set.old }
-    ensures items { set.new.items ≡ including (keys B.cmp B.overlap B.inside) e set.old.items }
+    requires { length (including (keys_of B.Shape) e set.old.items) ≤ vec_capacity set.old }
+    ensures items { set.new.items ≡ including (keys_of B.Shape) e set.old.items }
     ensures capacity { vec_capacity set.old ≤ vec_capacity set.new }
     ensures one_more { vec_len set.new ≤ vec_len set.old + 1 }
 {
@@ -69,7 +69,7 @@ pub fn put<B: Shape>(e: Entry<B>, set: &mut Vec<Entry<B>>)
 
 /// Takes the entry out of the set.
 pub fn exclude<B: Shape>(e: &Entry<B>, set: &mut Vec<Entry<B>>)
-    ensures items { set.new.items ≡ excluding (keys B.cmp B.overlap B.inside) e.now set.old.items }
+    ensures items { set.new.items ≡ excluding (keys_of B.Shape) e.now set.old.items }
     ensures capacity { vec_capacity set.old ≤ vec_capacity set.new }
     ensures no_more { vec_len set.new ≤ vec_len set.old }
 {
@@ -78,7 +78,7 @@ pub fn exclude<B: Shape>(e: &Entry<B>, set: &mut Vec<Entry<B>>)
 
 /// Takes each of these entries out of the set.
 pub fn exclude_all<B: Shape>(gone: &[Entry<B>], set: &mut Vec<Entry<B>>)
-    ensures items { set.new.items ≡ excluding_all (keys B.cmp B.overlap B.inside) gone.now set.old.items }
+    ensures items { set.new.items ≡ excluding_all (keys_of B.Shape) gone.now set.old.items }
     ensures capacity { vec_capacity set.old ≤ vec_capacity set.new }
     ensures no_more { vec_len set.new ≤ vec_len set.old }
 {
@@ -88,7 +88,7 @@ pub fn exclude_all<B: Shape>(gone: &[Entry<B>], set: &mut Vec<Entry<B>>)
 /// Puts each of these entries in its place. There is room for them all.
 pub fn include_all<B: Shape>(more: &[Entry<B>], set: &mut Vec<Entry<B>>)
     requires { vec_len set.old + length more.now ≤ vec_capacity set.old }
-    ensures items { set.new.items ≡ including_all (keys B.cmp B.overlap B.inside) more.now set.old.items }
+    ensures items { set.new.items ≡ including_all (keys_of B.Shape) more.now set.old.items }
     ensures capacity { vec_capacity set.old ≤ vec_capacity set.new }
     ensures grown { vec_len set.new ≤ vec_len set.old + length more.now }
 {

@@ -1,11 +1,10 @@
 //! A session of the plain index.
-ghost use Rattle.std.specs.Prelude.{◌≡◌, ◌≤◌, ◌<◌, ◌+◌, ◌^◌, Some, None, OnOk, IfOk, vec_len, vec_capacity, length};
-ghost use Rattle.gx_machine.specs.Keys.{keys};
+ghost use Rattle.std.specs.Prelude.{◌≡◌, ◌≤◌, ◌<◌, ◌+◌, ◌^◌, Some, None, IfOk, MatchOption, vec_len, vec_capacity, length};
+ghost use Rattle.gx_machine.specs.Keys.{keys_of};
 
-use crate::held::{self, CLAIMS, PREDICATES};
-use crate::{sets, views};
+use crate::{held, sets, views};
 use gx_geom::{Refusal, Shape};
-use gx_machine::{Asked, Call, Entries, Entry, Query, Reply};
+use gx_machine::{Asked, Call, Entries, Entry, MAX_CLAIMS, MAX_PREDICATES, Query, Reply};
 use std::alloc::{AllocError, Global};
 use std::marker::Model;
 
@@ -18,6 +17,8 @@ pub enum Phase<B> {
     Open(Option<Call<B>>),
     /// It has asked for its abort.
     Aborting,
+    /// Its commit is sealed under this number.
+    Committing(u64),
 }
 
 /// A session, with room for its predicates, for all that it may claim, and for all of that to be taken away.
@@ -26,8 +27,8 @@ pub struct Slot<B: Shape> {
     phase: Phase<B>,
     claims: Vec<Entry<B>>,
     predicates: Vec<Query<B>>,
-    plus: Vec<Entry<B>>,
-    minus: Vec<Entry<B>>,
+    added: Vec<Entry<B>>,
+    taken: Vec<Entry<B>>,
 }
 
 impl<B: Shape> Model for Slot<B> {
@@ -39,15 +40,12 @@ impl<B: Shape> Model for Slot<B> {
 
     ghost use Rattle.gx_session.specs.Slots.{session_of, IsRoomy, TakesClaimed};
 
-    ghost view = { λ s. session_of s.phase (record {
-      claims = s.claims.items;
-      predicates = s.predicates.items;
-      plus = s.plus.items;
-      minus = s.minus.items;
-    }) };
+    ghost view = { λ s. session_of s.phase
+        (record { claims = s.claims.items; predicates = s.predicates.items })
+        (record { added = s.added.items; taken = s.taken.items }) };
 
-    ghost invariant = { λ s. IsRoomy (vec_capacity s.claims) (vec_capacity s.predicates) (vec_capacity s.minus)
-        × TakesClaimed (keys B.cmp B.overlap B.inside) s.phase s.claims.items s.minus.items };
+    ghost invariant = { λ s. IsRoomy (vec_capacity s.claims) (vec_capacity s.predicates) (vec_capacity s.taken)
+        × TakesClaimed (keys B.cmp B.overlap B.inside) s.phase s.claims.items s.taken.items };
 }
 
 fn refused<B>(why: Refusal) -> Asked<B>
@@ -57,10 +55,10 @@ fn refused<B>(why: Refusal) -> Asked<B>
 }
 
 impl<B: Shape> Slot<B> {
-    ghost use Rattle.gx_session.specs.Slots.{IsFree, IsOpen, IsWrite, IsDeleting, CanAnswer, held_of, added_by, opened_by, begins, Closes, SlotAnswers};
+    ghost use Rattle.gx_session.specs.Slots.{IsFree, IsOpen, IsWrite, IsDeleting, CanAnswer, changes_of, added_by, opened_by, begins, Closes, SlotAnswers, SlotSeals, NothingSealed, SlotDrops};
     ghost use Rattle.gx_machine.specs.Sets.{found, InOrder};
     ghost use Rattle.gx_machine.specs.Sessions.{view, answer_insert, answer_delete};
-    ghost use Rattle.gx_machine.specs.Sessions.{Idle, Open, session_bars, claims_of, ask_idle, ask_write, ask_search, ask_session};
+    ghost use Rattle.gx_machine.specs.Sessions.{Idle, Open, Committing, locks_of, session_conflicts, claims_of, with_claim, with_predicate, unless_busy, asked_with, ask_idle, ask_open, ask_session};
 
     /// A session with no transaction, and with its room.
     pub fn new(alloc: Global) -> Result<Self, AllocError>
@@ -68,21 +66,21 @@ impl<B: Shape> Slot<B> {
     {
         Ok(Slot {
             phase: Phase::Idle,
-            claims: Vec::with_capacity(alloc, CLAIMS)?,
-            predicates: Vec::with_capacity(alloc, PREDICATES)?,
-            plus: Vec::new(alloc),
-            minus: Vec::with_capacity(alloc, CLAIMS)?,
+            claims: Vec::with_capacity(alloc, MAX_CLAIMS)?,
+            predicates: Vec::with_capacity(alloc, MAX_PREDICATES)?,
+            added: Vec::new(alloc),
+            taken: Vec::with_capacity(alloc, MAX_CLAIMS)?,
         })
     }
 
-    /// Whether it conflicts with another session's call.
-    pub fn bars(&self, call: &Call<B>) -> bool
-        ensures { result ≡ session_bars (keys B.cmp B.overlap B.inside) call.now self.now }
+    /// Whether another session's call conflicts with it.
+    pub fn conflicts(&self, call: &Call<B>) -> bool
+        ensures { result ≡ session_conflicts (keys_of B.Shape) call.now self.now }
     {
         match self.phase {
-            Phase::Idle => false,
+            Phase::Idle | Phase::Committing(_) => false,
             Phase::Open(_) | Phase::Aborting => match call {
-                Call::Insert(e) | Call::Delete(e) => held::bars_write(
+                Call::Insert(e) | Call::Delete(e) => held::write_conflicts(
                     e,
                     &self.claims,
                     &self.predicates,
@@ -98,7 +96,7 @@ impl<B: Shape> Slot<B> {
         ensures { result ≡ claims_of self.now }
     {
         match self.phase {
-            Phase::Idle => 0,
+            Phase::Idle | Phase::Committing(_) => 0,
             Phase::Open(_) | Phase::Aborting => self.claims.len(),
         }
     }
@@ -110,26 +108,25 @@ impl<B: Shape> Slot<B> {
         matches!(call, Call::Begin) && matches!(self.phase, Phase::Idle)
     }
 
-    /// Asks a call, where `barred` is the least other session that conflicts and `spent` the claims held in all. It
+    /// Asks a call, where `least` is the least other session that conflicts and `spent` the claims held in all. It
     /// takes no memory.
     ///
     /// The reply comes at once where the call is refused and for a Begin; else the call is open until it is
-    /// answered. Refusals, the first that holds: `CallOpen` where a call is open or the session is aborting;
-    /// `NoTransaction` for any call but a Begin outside of a transaction; `Busy` where a session is given that
-    /// conflicts; `InTransaction` for a Begin in a transaction; `ClaimsFull` where 512 claims are spent, and
+    /// answered. Refusals, the first that holds: `CallOpen` where a call is open, or the session is aborting or waits
+    /// for its commit; `InTransaction` for a Begin in a transaction, `NoTransaction` for any other call outside of
+    /// one; `Busy` where a session is given that conflicts; `ClaimsFull` where 512 claims are spent, and
     /// `PredicatesFull` where the session has 16, unless it holds this one already. A refused call changes nothing.
-    pub fn ask(&mut self, call: Call<B>, barred: Option<u8>, spent: usize) -> Asked<B>
+    pub fn ask(&mut self, call: Call<B>, least: Option<u8>, spent: usize) -> Asked<B>
         requires { claims_of self.old ≤ spent }
-        ensures asked { result ≡ (ask_session (keys B.cmp B.overlap B.inside) call barred spent self.old).0 }
-        ensures session { self.new ≡ (ask_session (keys B.cmp B.overlap B.inside) call barred spent self.old).1 }
+        ensures asked { result ≡ (ask_session (keys_of B.Shape) call least spent self.old).0 }
+        ensures session { self.new ≡ (ask_session (keys_of B.Shape) call least spent self.old).1 }
     {
         match self.phase {
             Phase::Idle => self.ask_idle(call),
-            Phase::Open(None) => match barred {
-                Some(other) => refused(Refusal::Busy(other)),
-                None => self.ask_free(call, spent),
-            },
-            Phase::Open(Some(_)) | Phase::Aborting => refused(Refusal::CallOpen),
+            Phase::Open(None) => self.ask_open(call, least, spent),
+            Phase::Open(Some(_)) | Phase::Aborting | Phase::Committing(_) => {
+                refused(Refusal::CallOpen)
+            }
         }
     }
 
@@ -142,8 +139,8 @@ impl<B: Shape> Slot<B> {
             Call::Begin => {
                 self.claims.clear();
                 self.predicates.clear();
-                self.plus.clear();
-                self.minus.clear();
+                self.added.clear();
+                self.taken.clear();
                 self.phase = Phase::Open(None);
                 Asked::Now(Reply::Ok)
             }
@@ -151,21 +148,18 @@ impl<B: Shape> Slot<B> {
         }
     }
 
-    fn ask_free(&mut self, call: Call<B>, spent: usize) -> Asked<B>
+    fn ask_open(&mut self, call: Call<B>, least: Option<u8>, spent: usize) -> Asked<B>
         requires free { IsFree self.old }
         requires spent { claims_of self.old ≤ spent }
-        ensures asked { result ≡ (ask_session (keys B.cmp B.overlap B.inside) call None spent self.old).0 }
-        ensures session { self.new ≡ (ask_session (keys B.cmp B.overlap B.inside) call None spent self.old).1 }
+        ensures asked { result ≡ (ask_open (keys_of B.Shape) call least spent (locks_of self.old) (changes_of self.old)).0 }
+        ensures session { self.new ≡ (ask_open (keys_of B.Shape) call least spent (locks_of self.old) (changes_of self.old)).1 }
     {
         match call {
             Call::Begin => refused(Refusal::InTransaction),
-            Call::Insert(e) => self.ask_write(Call::Insert(e), e, spent),
-            Call::Delete(e) => self.ask_write(Call::Delete(e), e, spent),
-            Call::Search(query) => self.ask_search(query),
-            Call::Commit => {
-                self.phase = Phase::Open(Some(Call::Commit));
-                Asked::Open
-            }
+            Call::Insert(e) => self.ask_write(Call::Insert(e), e, least, spent),
+            Call::Delete(e) => self.ask_write(Call::Delete(e), e, least, spent),
+            Call::Search(query) => self.ask_search(query, least),
+            Call::Commit => self.ask_commit(least),
             Call::Abort => {
                 self.phase = Phase::Aborting;
                 Asked::Open
@@ -173,13 +167,16 @@ impl<B: Shape> Slot<B> {
         }
     }
 
-    fn ask_write(&mut self, call: Call<B>, e: Entry<B>, spent: usize) -> Asked<B>
+    fn ask_write(&mut self, call: Call<B>, e: Entry<B>, least: Option<u8>, spent: usize) -> Asked<B>
         requires write { IsWrite e call }
         requires free { IsFree self.old }
         requires spent { claims_of self.old ≤ spent }
-        ensures asked { result ≡ (ask_write (keys B.cmp B.overlap B.inside) call e spent (held_of self.old)).0 }
-        ensures session { self.new ≡ (ask_write (keys B.cmp B.overlap B.inside) call e spent (held_of self.old)).1 }
+        ensures asked { result ≡ (asked_with call (unless_busy least (with_claim (keys_of B.Shape) e spent (locks_of self.old))) (locks_of self.old) (changes_of self.old)).0 }
+        ensures session { self.new ≡ (asked_with call (unless_busy least (with_claim (keys_of B.Shape) e spent (locks_of self.old))) (locks_of self.old) (changes_of self.old)).1 }
     {
+        if let Some(other) = least {
+            return refused(Refusal::Busy(other));
+        }
         if held::claim(e, &mut self.claims, spent) {
             self.phase = Phase::Open(Some(call));
             Asked::Open
@@ -188,11 +185,14 @@ impl<B: Shape> Slot<B> {
         }
     }
 
-    fn ask_search(&mut self, query: Query<B>) -> Asked<B>
+    fn ask_search(&mut self, query: Query<B>, least: Option<u8>) -> Asked<B>
         requires { IsFree self.old }
-        ensures asked { result ≡ (ask_search (keys B.cmp B.overlap B.inside) query (held_of self.old)).0 }
-        ensures session { self.new ≡ (ask_search (keys B.cmp B.overlap B.inside) query (held_of self.old)).1 }
+        ensures asked { result ≡ (asked_with (Call.Search query) (unless_busy least (with_predicate (keys_of B.Shape) query (locks_of self.old))) (locks_of self.old) (changes_of self.old)).0 }
+        ensures session { self.new ≡ (asked_with (Call.Search query) (unless_busy least (with_predicate (keys_of B.Shape) query (locks_of self.old))) (locks_of self.old) (changes_of self.old)).1 }
     {
+        if let Some(other) = least {
+            return refused(Refusal::Busy(other));
+        }
         if held::hold(query, &mut self.predicates) {
             self.phase = Phase::Open(Some(Call::Search(query)));
             Asked::Open
@@ -201,13 +201,25 @@ impl<B: Shape> Slot<B> {
         }
     }
 
+    fn ask_commit(&mut self, least: Option<u8>) -> Asked<B>
+        requires { IsFree self.old }
+        ensures asked { result ≡ (asked_with Call.Commit (unless_busy least (Ok (locks_of self.old))) (locks_of self.old) (changes_of self.old)).0 }
+        ensures session { self.new ≡ (asked_with Call.Commit (unless_busy least (Ok (locks_of self.old))) (locks_of self.old) (changes_of self.old)).1 }
+    {
+        if let Some(other) = least {
+            return refused(Refusal::Busy(other));
+        }
+        self.phase = Phase::Open(Some(Call::Commit));
+        Asked::Open
+    }
+
     /// How many entries its transaction has added.
     pub fn added(&self) -> usize
         ensures { result ≡ added_by self.now }
     {
         match self.phase {
-            Phase::Idle | Phase::Aborting => 0,
-            Phase::Open(_) => self.plus.len(),
+            Phase::Idle | Phase::Aborting | Phase::Committing(_) => 0,
+            Phase::Open(_) => self.added.len(),
         }
     }
 
@@ -215,60 +227,103 @@ impl<B: Shape> Slot<B> {
         requires open { IsOpen self.old }
         requires room { vec_len latest.old + added ≤ vec_capacity latest.old }
         requires counted { added_by self.old ≤ added }
-        ensures closes { Closes (answer_insert (keys B.cmp B.overlap B.inside) e latest.old.items (held_of self.old)) (held_of self.old) result self.new }
+        ensures closes { Closes (answer_insert (keys_of B.Shape) e latest.old.items (changes_of self.old)) self.old result self.new }
         ensures latest { latest.new.items ≡ latest.old.items }
         ensures room { vec_len latest.new + added + added_by self.new ≤ vec_capacity latest.new + added_by self.old }
     {
         self.phase = Phase::Open(None);
-        if views::has(&e, latest, &self.plus, &self.minus) {
+        if views::has(&e, latest, &self.added, &self.taken) {
             return Reply::Refused(Refusal::Present);
         }
         if latest.reserve(added.saturating_add(1)).is_err()
-            || sets::include(e, &mut self.plus).is_err()
+            || sets::include(e, &mut self.added).is_err()
         {
             return Reply::Refused(Refusal::Memory);
         }
-        sets::exclude(&e, &mut self.minus);
+        sets::exclude(&e, &mut self.taken);
         Reply::Inserted
     }
 
     fn delete(&mut self, e: Entry<B>, latest: &[Entry<B>]) -> Reply<B>
         requires open { IsDeleting e self.old }
-        requires few { claims_of self.old ≤ 512 }
-        ensures reply { result ≡ (answer_delete (keys B.cmp B.overlap B.inside) e latest.now (held_of self.old)).0 }
-        ensures session { self.new ≡ Open (answer_delete (keys B.cmp B.overlap B.inside) e latest.now (held_of self.old)).1 None }
+        requires few { claims_of self.old ≤ MAX_CLAIMS }
+        ensures reply { result ≡ (answer_delete (keys_of B.Shape) e latest.now (changes_of self.old)).0 }
+        ensures session { self.new ≡ Open (locks_of self.old) (answer_delete (keys_of B.Shape) e latest.now (changes_of self.old)).1 None }
         ensures added { added_by self.new ≤ added_by self.old }
     {
         self.phase = Phase::Open(None);
-        if !views::has(&e, latest, &self.plus, &self.minus) {
+        if !views::has(&e, latest, &self.added, &self.taken) {
             return Reply::Refused(Refusal::Absent);
         }
-        sets::put(e, &mut self.minus);
-        sets::exclude(&e, &mut self.plus);
+        sets::put(e, &mut self.taken);
+        sets::exclude(&e, &mut self.added);
         Reply::Deleted
     }
 
     fn search(&mut self, query: Query<B>, latest: &[Entry<B>]) -> Reply<B>
         requires open { IsOpen self.old }
-        requires in_order { InOrder (keys B.cmp B.overlap B.inside) latest.now }
-        ensures closes { Closes (Reply.Found (found (keys B.cmp B.overlap B.inside) query (view (keys B.cmp B.overlap B.inside) latest.now (held_of self.old))), held_of self.old) (held_of self.old) result self.new }
+        requires in_order { InOrder (keys_of B.Shape) latest.now }
+        ensures closes { Closes (Reply.Found (found (keys_of B.Shape) query (view (keys_of B.Shape) latest.now (changes_of self.old))), changes_of self.old) self.old result self.new }
         ensures added { added_by self.new ≡ added_by self.old }
     {
         self.phase = Phase::Open(None);
         match views::search(
-            *self.plus.allocator(),
+            *self.added.allocator(),
             &query,
             latest,
-            &self.plus,
-            &self.minus,
+            &self.added,
+            &self.taken,
         ) {
             Ok(entries) => Reply::Found(Entries::new(entries)),
             Err(AllocError) => Reply::Refused(Refusal::Memory),
         }
     }
 
+    /// Seals its commit: the set becomes what its transaction sees, the number of commits rises by one and is the
+    /// commit's, and its claims and predicates are free. None, and nothing changes, where it has no commit open.
+    pub fn seal(&mut self, latest: &mut Vec<Entry<B>>, commits: &mut u64) -> Option<u64>
+        requires in_order { InOrder (keys_of B.Shape) latest.old.items }
+        requires room { vec_len latest.old + added_by self.old ≤ vec_capacity latest.old }
+        requires more { commits.old + 1 < 2 ^ 64 }
+        ensures seals { MatchOption result
+            (NothingSealed (keys_of B.Shape) self.old latest.old.items commits.old self.new latest.new.items commits.new)
+            (SlotSeals (keys_of B.Shape) self.old latest.old.items commits.old self.new latest.new.items commits.new) }
+        ensures room { vec_len latest.new + added_by self.new ≤ vec_len latest.old + added_by self.old }
+        ensures capacity { vec_capacity latest.old ≤ vec_capacity latest.new }
+        ensures opened { commits.new + opened_by self.new ≤ commits.old + opened_by self.old }
+        ensures claims { claims_of self.new ≤ claims_of self.old }
+        ensures in_order { InOrder (keys_of B.Shape) latest.new.items }
+    {
+        match self.phase {
+            Phase::Open(Some(Call::Commit)) => {
+                views::take_over(latest, &self.added, &self.taken);
+                *commits += 1;
+                self.phase = Phase::Committing(*commits);
+                Some(*commits)
+            }
+            _ => None,
+        }
+    }
+
+    /// Closes its open call without an answer: the call may be asked again. False, and nothing changes, where it has
+    /// none.
+    pub fn drop_call(&mut self) -> bool
+        ensures drops { SlotDrops self.old result self.new }
+        ensures added { added_by self.new ≡ added_by self.old }
+        ensures opened { opened_by self.new ≡ opened_by self.old }
+        ensures claims { claims_of self.new ≡ claims_of self.old }
+    {
+        match self.phase {
+            Phase::Open(Some(_)) => {
+                self.phase = Phase::Open(None);
+                true
+            }
+            _ => false,
+        }
+    }
+
     /// Answers the session. The set is the last committed one, for which there is room for all that sessions
-    /// have added, and `commits` the number of commits.
+    /// have added, and `commits` the number of commits. A commit that isn't sealed is sealed and answered in one.
     ///
     /// Refusals: `NoCall` where nothing is open; `Present` for an insert of an entry that the session sees; `Absent`
     /// for a delete of one that it doesn't; `Memory` for an insert or a search that needs memory and is refused it.
@@ -278,18 +333,19 @@ impl<B: Shape> Slot<B> {
         commits: &mut u64,
         added: usize,
     ) -> Reply<B>
-        requires can_answer { CanAnswer self.old }
-        requires in_order { InOrder (keys B.cmp B.overlap B.inside) latest.old.items }
+        requires can_answer { CanAnswer commits.old self.old }
+        requires in_order { InOrder (keys_of B.Shape) latest.old.items }
         requires room { vec_len latest.old + added ≤ vec_capacity latest.old }
         requires counted { added_by self.old ≤ added }
         requires more { commits.old + 1 < 2 ^ 64 }
-        requires few { claims_of self.old ≤ 512 }
-        ensures answers { SlotAnswers (keys B.cmp B.overlap B.inside) self.old latest.old.items commits.old result self.new latest.new.items commits.new }
+        requires few { claims_of self.old ≤ MAX_CLAIMS }
+        ensures answers { SlotAnswers (keys_of B.Shape) self.old latest.old.items commits.old result self.new latest.new.items commits.new }
         ensures room { vec_len latest.new + added + added_by self.new ≤ vec_capacity latest.new + added_by self.old }
         ensures opened { commits.new + opened_by self.new ≤ commits.old + opened_by self.old }
         ensures claims { claims_of self.new ≤ claims_of self.old }
-        ensures can_answer { CanAnswer self.new }
-        ensures in_order { InOrder (keys B.cmp B.overlap B.inside) latest.new.items }
+        ensures can_answer { CanAnswer commits.new self.new }
+        ensures in_order { InOrder (keys_of B.Shape) latest.new.items }
+        ensures rises { commits.old ≤ commits.new }
     {
         match self.phase {
             Phase::Idle | Phase::Open(None) => Reply::Refused(Refusal::NoCall),
@@ -298,10 +354,14 @@ impl<B: Shape> Slot<B> {
             Phase::Open(Some(Call::Search(query))) => self.search(query, latest),
             Phase::Open(Some(Call::Begin | Call::Abort)) => unreachable!(),
             Phase::Open(Some(Call::Commit)) => {
-                views::take_over(latest, &self.plus, &self.minus);
+                views::take_over(latest, &self.added, &self.taken);
                 self.phase = Phase::Idle;
                 *commits += 1;
                 Reply::Committed(*commits)
+            }
+            Phase::Committing(number) => {
+                self.phase = Phase::Idle;
+                Reply::Committed(number)
             }
             Phase::Aborting => {
                 self.phase = Phase::Idle;

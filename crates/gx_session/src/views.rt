@@ -1,6 +1,6 @@
 //! What a transaction sees: the last committed set without what it took away, with what it added.
 ghost use Rattle.std.specs.Prelude.{◌≡◌, ◌+◌, ◌<◌, ◌≤◌, length, filter, IfOk, vec_len, vec_capacity};
-ghost use Rattle.gx_machine.specs.Keys.{keys, matches};
+ghost use Rattle.gx_machine.specs.Keys.{keys_of, matches};
 ghost use Rattle.gx_machine.specs.Sets.{has, including_all, excluding_all, found, InOrder};
 
 use crate::{held, sets};
@@ -12,13 +12,13 @@ use std::alloc::{AllocError, Global};
 pub fn has<B: Shape>(
     e: &Entry<B>,
     latest: &[Entry<B>],
-    plus: &[Entry<B>],
-    minus: &[Entry<B>],
+    added: &[Entry<B>],
+    taken: &[Entry<B>],
 ) -> bool
-    ensures { result ≡ has (keys B.cmp B.overlap B.inside) e.now
-        (including_all (keys B.cmp B.overlap B.inside) plus.now (excluding_all (keys B.cmp B.overlap B.inside) minus.now latest.now)) }
+    ensures { result ≡ has (keys_of B.Shape) e.now
+        (including_all (keys_of B.Shape) added.now (excluding_all (keys_of B.Shape) taken.now latest.now)) }
 {
-    sets::has(e, plus) || !sets::has(e, minus) && sets::has(e, latest)
+    sets::has(e, added) || !sets::has(e, taken) && sets::has(e, latest)
 }
 
 /// The entries of the set, without those taken away, that match.
@@ -26,12 +26,12 @@ fn matches_without<B: Shape>(
     alloc: Global,
     query: &Query<B>,
     set: &[Entry<B>],
-    minus: &[Entry<B>],
+    taken: &[Entry<B>],
 ) -> Result<Vec<Entry<B>>, AllocError>
-    ensures { IfOk result (λ v. v.items ≡ found (keys B.cmp B.overlap B.inside) query.now (excluding_all (keys B.cmp B.overlap B.inside) minus.now set.now)) }
+    ensures { IfOk result (λ v. v.items ≡ found (keys_of B.Shape) query.now (excluding_all (keys_of B.Shape) taken.now set.now)) }
 {
     set.iter()
-        .filter(|e| !sets::has(*e, minus))
+        .filter(|e| !sets::has(*e, taken))
         .filter(|e| held::matches(query, *e))
         .copied()
         .collect(alloc)
@@ -42,15 +42,15 @@ pub fn search<B: Shape>(
     alloc: Global,
     query: &Query<B>,
     latest: &[Entry<B>],
-    plus: &[Entry<B>],
-    minus: &[Entry<B>],
+    added: &[Entry<B>],
+    taken: &[Entry<B>],
 ) -> Result<Vec<Entry<B>>, AllocError>
-    requires { InOrder (keys B.cmp B.overlap B.inside) latest.now }
-    ensures { IfOk result (λ v. v.items ≡ found (keys B.cmp B.overlap B.inside) query.now
-        (including_all (keys B.cmp B.overlap B.inside) plus.now (excluding_all (keys B.cmp B.overlap B.inside) minus.now latest.now))) }
+    requires { InOrder (keys_of B.Shape) latest.now }
+    ensures { IfOk result (λ v. v.items ≡ found (keys_of B.Shape) query.now
+        (including_all (keys_of B.Shape) added.now (excluding_all (keys_of B.Shape) taken.now latest.now))) }
 {
-    let mut out = matches_without(alloc, query, latest, minus)?;
-    for e in plus {
+    let mut out = matches_without(alloc, query, latest, taken)?;
+    for e in added {
         if held::matches(query, e) {
             sets::include(*e, &mut out)?;
         }
@@ -59,13 +59,13 @@ pub fn search<B: Shape>(
 }
 
 /// Makes the set the view, for which there is room.
-pub fn take_over<B: Shape>(latest: &mut Vec<Entry<B>>, plus: &[Entry<B>], minus: &[Entry<B>])
-    requires { vec_len latest.old + length plus.now ≤ vec_capacity latest.old }
-    ensures view { latest.new.items ≡ including_all (keys B.cmp B.overlap B.inside) plus.now (excluding_all (keys B.cmp B.overlap B.inside) minus.now latest.old.items) }
-    ensures in_order { InOrder (keys B.cmp B.overlap B.inside) latest.old.items → InOrder (keys B.cmp B.overlap B.inside) latest.new.items }
+pub fn take_over<B: Shape>(latest: &mut Vec<Entry<B>>, added: &[Entry<B>], taken: &[Entry<B>])
+    requires { vec_len latest.old + length added.now ≤ vec_capacity latest.old }
+    ensures view { latest.new.items ≡ including_all (keys_of B.Shape) added.now (excluding_all (keys_of B.Shape) taken.now latest.old.items) }
+    ensures in_order { InOrder (keys_of B.Shape) latest.old.items → InOrder (keys_of B.Shape) latest.new.items }
     ensures room { vec_capacity latest.old ≤ vec_capacity latest.new }
-    ensures grown { vec_len latest.new ≤ vec_len latest.old + length plus.now }
+    ensures grown { vec_len latest.new ≤ vec_len latest.old + length added.now }
 {
-    sets::exclude_all(minus, latest);
-    sets::include_all(plus, latest);
+    sets::exclude_all(taken, latest);
+    sets::include_all(added, latest);
 }

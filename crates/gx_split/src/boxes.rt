@@ -1,5 +1,5 @@
 //! Boxes have an area for their size.
-ghost use Rattle.gx_geom.specs.Corners.{IsBox};
+ghost use Rattle.gx_geom.specs.Rectangles.{IsBox};
 
 use crate::Measure;
 use gx_geom::Box2;
@@ -12,7 +12,7 @@ fn know_box(key: &Box2)
 }
 
 impl Measure for Box2 {
-    ghost use Rattle.gx_geom.specs.Corners.{union, area};
+    ghost use Rattle.gx_geom.specs.Rectangles.{union, area};
 
     ghost joined = { union };
 

@@ -8,14 +8,14 @@ use gx_machine::Query;
 use std::process::Abort;
 use std::test::Fail;
 
-type Corners = (i32, i32, i32, i32);
+type Rectangle = (i32, i32, i32, i32);
 
-fn make_box(rt: &impl Abort, (x1, y1, x2, y2): Corners) -> Box2 {
+fn make_box(rt: &impl Abort, (x1, y1, x2, y2): Rectangle) -> Box2 {
     Box2::new(x1, y1, x2, y2).ok().expect(rt, "a box")
 }
 
 // The groups of a split, as `1` and `2`.
-fn check_split(rt: &impl Abort, boxes: &[Corners], least: usize, groups: &[u8]) {
+fn check_split(rt: &impl Abort, boxes: &[Rectangle], least: usize, groups: &[u8]) {
     let n = boxes.len();
     assert!(rt; n <= 16);
     let mut keys = [Box2::point(0, 0); 16];

@@ -2,12 +2,12 @@ use Rattle.std.proofs.Common.{arith}
 use Rattle.std.specs.Int.{int_max}
 use Rattle.std.proofs.lemmas.Int.{ints}
 use Rattle.gx_geom.specs.BoxLaws.{at_most_greater, greater_at_most}
-use Rattle.gx_geom.specs.Corners.{Corners, IsBox, Overlap}
+use Rattle.gx_geom.specs.Rectangles.{Rectangle, IsBox, Overlap}
 use Rattle.gx_geom.specs.Points.{SharePoint}
 use Rattle.gx_geom.proofs.laws.overlap_is_a_shared_point.Goals as goal
 
 -- the point where both boxes have begun on each axis
-shared : (a b : Corners) → IsBox a → IsBox b → Overlap a b → SharePoint a b
+shared : (a b : Rectangle) → IsBox a → IsBox b → Overlap a b → SharePoint a b
 shared a b in_a in_b o = (
   int_max a.x1 b.x1,
   int_max a.y1 b.y1,
@@ -25,7 +25,7 @@ shared a b in_a in_b o = (
   },
 )
 
-overlapping : (a b : Corners) → SharePoint a b → Overlap a b
+overlapping : (a b : Rectangle) → SharePoint a b → Overlap a b
 overlapping a b p =
     let in_a = p.2 in
     let in_b = p.3 in

@@ -1,7 +1,7 @@
 use Rattle.std.proofs.Common.{◌≡◌, ℕ, List, [], ◌++◌, ◌∙◌, refl, sym, ap, length, decimal, codes}
 use Rattle.std.specs.List.{flat_map}
 use Rattle.std.proofs.lemmas.Result.{on_ok_weaker, err_from_is_err_and}
-use Rattle.gx_geom.specs.Corners.{Corners}
+use Rattle.gx_geom.specs.Rectangles.{Rectangle}
 use Rattle.gx_machine.specs.declared.entry.Entry.{Entry}
 use Rattle.gx_script.specs.Replies.{reply_text, told_line, entry_line}
 use Rattle.gx_script.specs.Writes.{IsPut}
@@ -19,7 +19,7 @@ returns-in_err-make_room-clause-cut g c =
     )
 
 -- the text of what was found, by the lent list
-found_text : (session : ℕ) (lent entries : List (Entry Corners)) → lent ≡ entries
+found_text : (session : ℕ) (lent entries : List (Entry Rectangle)) → lent ≡ entries
     → told_line session (codes "found " ++ decimal (length entries)) ++ flat_map (entry_line session) entries
     ≡ told_line session (codes "found " ++ decimal (length lent)) ++ flat_map (entry_line session) lent
 found_text session lent entries e =

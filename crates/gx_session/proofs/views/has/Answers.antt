@@ -21,22 +21,22 @@ pub returns-then-has : goal.returns-then-has
 returns-then-has g c =
     let k = keys g.B.Ord.cmp g.B.Shape.overlap g.B.Shape.inside in
     let e = c.args.e.now in
-    by_plus _ (has k e c.args.plus.now) (has k e c.args.minus.now) (has k e c.args.latest.now) _
-    (has-view k (record { total = g.met.B.Ord.total; exact = g.met.B.Shape.same }) e c.args.latest.now c.args.plus.now c.args.minus.now)
+    by_plus _ (has k e c.args.added.now) (has k e c.args.taken.now) (has k e c.args.latest.now) _
+    (has-view k (record { total = g.met.B.Ord.total; exact = g.met.B.Shape.same }) e c.args.latest.now c.args.added.now c.args.taken.now)
     c.has.ensures c.if-has.true
 
 pub returns-then-not-has : goal.returns-then-not-has
 returns-then-not-has g c =
     let k = keys g.B.Ord.cmp g.B.Shape.overlap g.B.Shape.inside in
     let e = c.args.e.now in
-    by_latest _ (has k e c.args.plus.now) (has k e c.args.minus.now) (has k e c.args.latest.now) _ _ _
-    (has-view k (record { total = g.met.B.Ord.total; exact = g.met.B.Shape.same }) e c.args.latest.now c.args.plus.now c.args.minus.now)
+    by_latest _ (has k e c.args.added.now) (has k e c.args.taken.now) (has k e c.args.latest.now) _ _ _
+    (has-view k (record { total = g.met.B.Ord.total; exact = g.met.B.Shape.same }) e c.args.latest.now c.args.added.now c.args.taken.now)
     c.has.ensures c.if-has.false c.has-else-has.ensures c.if-not-has.true c.has-then-not-has.ensures
 
 pub returns-else-not-has : goal.returns-else-not-has
 returns-else-not-has g c =
     let k = keys g.B.Ord.cmp g.B.Shape.overlap g.B.Shape.inside in
     let e = c.args.e.now in
-    by_minus _ (has k e c.args.plus.now) (has k e c.args.minus.now) (has k e c.args.latest.now) _ _
-    (has-view k (record { total = g.met.B.Ord.total; exact = g.met.B.Shape.same }) e c.args.latest.now c.args.plus.now c.args.minus.now)
+    by_minus _ (has k e c.args.added.now) (has k e c.args.taken.now) (has k e c.args.latest.now) _ _
+    (has-view k (record { total = g.met.B.Ord.total; exact = g.met.B.Shape.same }) e c.args.latest.now c.args.added.now c.args.taken.now)
     c.has.ensures c.if-has.false c.has-else-has.ensures c.if-not-has.false

@@ -8,19 +8,19 @@ use Rattle.gx_machine.specs.declared.query.Query.{Query}
 use Rattle.gx_machine.proofs.SetLaws.{filter_including_all, in_order_filter}
 use Rattle.gx_session.proofs.views.search.Goals as goal
 
--- at the loop's end nothing of plus is left
-ended : {B : Type 0} (k : Keys B) (l : IsLawful k) (q : Query B) (latest plus minus first out : List (Entry B)) → InOrder k latest
-    → first ≡ found k q (excluding_all k minus latest)
-    → including_all k (filter (matches k q) []) out ≡ including_all k (filter (matches k q) plus) first
-    → out ≡ found k q (including_all k plus (excluding_all k minus latest))
-ended k l q latest plus minus first out o f e =
-    e ∙ ap (including_all k (filter (matches k q) plus)) f
-    ∙ sym (filter_including_all k l (matches k q) plus (excluding_all k minus latest) (in_order_filter k l _ latest o))
+-- at the loop's end nothing of added is left
+ended : {B : Type 0} (k : Keys B) (l : IsLawful k) (q : Query B) (latest added taken first out : List (Entry B)) → InOrder k latest
+    → first ≡ found k q (excluding_all k taken latest)
+    → including_all k (filter (matches k q) []) out ≡ including_all k (filter (matches k q) added) first
+    → out ≡ found k q (including_all k added (excluding_all k taken latest))
+ended k l q latest added taken first out o f e =
+    e ∙ ap (including_all k (filter (matches k q) added)) f
+    ∙ sym (filter_including_all k l (matches k q) added (excluding_all k taken latest) (in_order_filter k l _ latest o))
 
 pub returns : goal.returns
 returns g c =
     let k = keys g.B.Ord.cmp g.B.Shape.overlap g.B.Shape.inside in
-    let none : drop c.loop-e.e-index c.args.plus.now ≡ [] = drop_all c.loop-e.e-index c.args.plus.now c.loop-e-test.false in
-    ended k (record { total = g.met.B.Ord.total; exact = g.met.B.Shape.same }) c.args.query.now c.args.latest.now c.args.plus.now c.args.minus.now
+    let none : drop c.loop-e.e-index c.args.added.now ≡ [] = drop_all c.loop-e.e-index c.args.added.now c.loop-e-test.false in
+    ended k (record { total = g.met.B.Ord.total; exact = g.met.B.Shape.same }) c.args.query.now c.args.latest.now c.args.added.now c.args.taken.now
     c.in_ok-out.out.items c.loop-e.out.items c.requires c.in_ok-out.ensures
     (ap (λ s. including_all k (filter (matches k c.args.query.now) s) c.loop-e.out.items) (sym none) ∙ c.loop-e.invariant)

@@ -8,4 +8,4 @@ use Rattle.gx_session.proofs.views.search.Given as goal
 abbrev pub invariant-loop-e : goal.invariant-loop-e
 invariant-loop-e g l =
     let k = keys g.B.Ord.cmp g.B.Shape.overlap g.B.Shape.inside in
-    including_all k (filter (matches k l.query) (drop l.e-index l.plus)) l.out.items ≡ including_all k (filter (matches k l.query) l.plus) l.initial.out.items
+    including_all k (filter (matches k l.query) (drop l.e-index l.added)) l.out.items ≡ including_all k (filter (matches k l.query) l.added) l.initial.out.items

@@ -2,7 +2,7 @@ use Rattle.std.proofs.Common.{◌≡◌, ◌++◌, length, drop, ◌≤ℤ◌, F
 use Rattle.std.specs.Int.{w32}
 use Rattle.std.proofs.lemmas.Int.{to_z-of_z}
 use Rattle.std.proofs.lemmas.List.{take-append-drop}
-use Rattle.gx_geom.specs.Corners.{corners_of}
+use Rattle.gx_geom.specs.Rectangles.{rectangle_of}
 use Rattle.gx_class.specs.Boxes.{number_bytes, spelling}
 use Rattle.gx_class.specs.BoxKeyLaws.{length-spelling, same_spelling, answer_is}
 use Rattle.gx_class.proofs.box2_class.Box2ClassKeyClass.decode.Goals as goal
@@ -23,7 +23,7 @@ returns-clause-back c key is e =
     let y1_fits : FitsSigned w32 y1 = search rules in
     let x2_fits : FitsSigned w32 x2 = search rules in
     let y2_fits : FitsSigned w32 y2 = search rules in
-    let a = corners_of x1 y1 x2 y2 in
+    let a = rectangle_of x1 y1 x2 y2 in
     let read : bytes ≡ spelling a =
     sym (take-append-drop 8 bytes) ∙ ap (λ l. l ++ drop 8 bytes) (sym c.split_at.ensures.front ∙ c.numbers-x1.ensures)
     ∙ ap (λ l. (number_bytes x1 ++ number_bytes y1) ++ l) (sym c.split_at.ensures.back ∙ c.numbers-x2.ensures)

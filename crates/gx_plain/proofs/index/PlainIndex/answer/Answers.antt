@@ -17,7 +17,7 @@ invariant_of-self g c =
     c.in-Some.place c.in-Some.ensures.within (slice_index_or c.answer_at.new.slots.items c.in-Some.place Idle)
     c.answer_at.new.latest.items (vec_capacity c.answer_at.new.latest) c.answer_at.new.commits c.added-added.result c.answer_at.new.slots.items c.deref.result.now
     c.answer_at.ensures.others c.added-added.ensures c.deref.ensures.value
-    (omega (arith, c.answer_at.ensures.room, c.answer_at.new.latest.ok.0)) c.answer_at.ensures.opened c.answer_at.ensures.claims c.answer_at.ensures.can_answer c.answer_at.ensures.in_order
+    (omega (arith, c.answer_at.ensures.room, c.answer_at.new.latest.ok.0)) c.answer_at.ensures.opened c.answer_at.ensures.claims c.answer_at.ensures.can_answer c.answer_at.ensures.rises c.answer_at.ensures.in_order
 
 pub returns : goal.returns
 returns g c =
@@ -28,4 +28,4 @@ returns g c =
     (answers k c.args.session c.in-Some.place c.in-Some.ensures.place.0 c.in-Some.ensures.place.1
     c.self.inside.committed.items c.self.inside.commits c.self.inside.next c.self.inside.slots.items inside
     c.answer_at.result c.answer_at.new.latest.items c.answer_at.new.commits c.answer_at.new.slots.items
-    (slice_index_or c.answer_at.new.slots.items c.in-Some.place Idle) c.answer_at.ensures.others c.answer_at.ensures.answers)
+    (slice_index_or c.answer_at.new.slots.items c.in-Some.place Idle) c.answer_at.ensures.others (c.self.invariant.answerable c.in-Some.place) c.answer_at.ensures.answers)

@@ -29,7 +29,7 @@ overflow_add-self g c =
     let fits : c.self.inside.next + c.from.result < 2 ^ 64 =
     subst (λ (n : ℕ). c.self.inside.next + n < 2 ^ 64) (sym c.from.ensures)
     (next_fits k c.args.call c.self.inside.committed.items (vec_capacity c.self.inside.committed) c.self.inside.commits c.self.inside.next c.self.inside.slots.items c.self.invariant
-    c.in-Some.place c.in-Some.ensures.within c.least_barring-barred.result c.claims_held-spent.result (c.claims_held-spent.ensures ∙ ap claims_held c.deref-3.ensures.value)
+    c.in-Some.place c.in-Some.ensures.within c.least_conflicting-least.result c.claims_held-spent.result (c.claims_held-spent.ensures ∙ ap claims_held c.deref-3.ensures.value)
     c.begins_at-begins.result (c.begins_at-begins.ensures ∙ ap (λ (xs : List (Session g.row.B.Denot)). begins c.args.call (slice_index_or xs c.in-Some.place Idle)) c.deref.ensures.value)
     (sym c.lacks_numbers.ensures ∙ c.if-lacks_numbers.false)) in
     omega (arith, fits)
@@ -42,7 +42,7 @@ invariant_of-self g c =
     (subst (λ (xs : List (Session g.row.B.Denot)). IsKept k old.committed.items (vec_capacity old.committed) old.commits (old.next + from_bool c.begins_at-begins.result) xs)
     (sym c.ask_at.ensures.session)
     (kept_ask k c.args.call c.self.inside.committed.items (vec_capacity c.self.inside.committed) c.self.inside.commits c.self.inside.next c.self.inside.slots.items c.self.invariant
-    c.in-Some.place c.in-Some.ensures.within c.least_barring-barred.result c.claims_held-spent.result (c.claims_held-spent.ensures ∙ ap claims_held c.deref-3.ensures.value)
+    c.in-Some.place c.in-Some.ensures.within c.least_conflicting-least.result c.claims_held-spent.result (c.claims_held-spent.ensures ∙ ap claims_held c.deref-3.ensures.value)
     c.begins_at-begins.result (c.begins_at-begins.ensures ∙ ap (λ (xs : List (Session g.row.B.Denot)). begins c.args.call (slice_index_or xs c.in-Some.place Idle)) c.deref.ensures.value)
     (sym c.lacks_numbers.ensures ∙ c.if-lacks_numbers.false)))
 
@@ -52,8 +52,8 @@ returns-clause-asked g c =
     ∙ sym (ap (λ r. r.0) (asked_is (keys g.B.Ord.cmp g.B.Shape.overlap g.B.Shape.inside) c.args.session c.args.call
     c.self.inside.committed.items c.self.inside.commits c.self.inside.next c.self.inside.slots.items c.args.self.now c.self.view_is
     c.in-Some.place c.in-Some.ensures.place.0 c.in-Some.ensures.place.1 c.begins_at-begins.result c.deref.result.now c.deref.ensures.value c.begins_at-begins.ensures
-    c.least_barring-barred.result c.claims_held-spent.result c.deref-2.result.now c.deref-3.result.now c.deref-2.ensures.value c.deref-3.ensures.value
-    c.least_barring-barred.ensures c.claims_held-spent.ensures (sym c.lacks_numbers.ensures ∙ c.if-lacks_numbers.false)))
+    c.least_conflicting-least.result c.claims_held-spent.result c.deref-2.result.now c.deref-3.result.now c.deref-2.ensures.value c.deref-3.ensures.value
+    c.least_conflicting-least.ensures c.claims_held-spent.ensures (sym c.lacks_numbers.ensures ∙ c.if-lacks_numbers.false)))
 
 pub returns-clause-index : goal.returns-clause-index
 returns-clause-index g c =
@@ -63,5 +63,5 @@ returns-clause-index g c =
     ∙ sym (ap (λ r. r.1) (asked_is k c.args.session c.args.call
     c.self.inside.committed.items c.self.inside.commits c.self.inside.next c.self.inside.slots.items c.args.self.now c.self.view_is
     c.in-Some.place c.in-Some.ensures.place.0 c.in-Some.ensures.place.1 c.begins_at-begins.result c.deref.result.now c.deref.ensures.value c.begins_at-begins.ensures
-    c.least_barring-barred.result c.claims_held-spent.result c.deref-2.result.now c.deref-3.result.now c.deref-2.ensures.value c.deref-3.ensures.value
-    c.least_barring-barred.ensures c.claims_held-spent.ensures (sym c.lacks_numbers.ensures ∙ c.if-lacks_numbers.false)))
+    c.least_conflicting-least.result c.claims_held-spent.result c.deref-2.result.now c.deref-3.result.now c.deref-2.ensures.value c.deref-3.ensures.value
+    c.least_conflicting-least.ensures c.claims_held-spent.ensures (sym c.lacks_numbers.ensures ∙ c.if-lacks_numbers.false)))

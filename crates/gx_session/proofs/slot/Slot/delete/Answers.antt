@@ -14,11 +14,11 @@ put-requires g c =
     let lawful : IsLawful k = record { total = g.met.B.Ord.total; exact = g.met.B.Shape.same } in
     let self = c.self.inside in
     let claimed : (has k c.args.e self.claims.items ≡ true) × (length self.claims.items ≤ 512) =
-    delete_claimed k c.args.e self.phase _ c.args.self.now 512 c.self.view_is c.requires.open c.self.invariant.1.asked c.requires.few in
+    delete_claimed k c.args.e self.phase _ _ c.args.self.now 512 c.self.view_is c.requires.open c.self.invariant.1.asked c.requires.few in
     omega (
       arith,
-      c.self.invariant.0.for_minus,
-      delete_fits k lawful c.args.e self.phase self.claims.items self.minus.items c.self.invariant.1 claimed.0 512 claimed.1,
+      c.self.invariant.0.for_taken,
+      delete_fits k lawful c.args.e self.phase self.claims.items self.taken.items c.self.invariant.1 claimed.0 512 claimed.1,
     )
 
 pub invariant_of-self-2 : goal.invariant_of-self-2
@@ -28,8 +28,8 @@ invariant_of-self-2 g c =
     let self = c.self.inside in
     let room = c.self.invariant.0 in
     let claimed : (has k c.args.e self.claims.items ≡ true) × (length self.claims.items ≤ 512) =
-    delete_claimed k c.args.e self.phase _ c.args.self.now 512 c.self.view_is c.requires.open c.self.invariant.1.asked c.requires.few in (
-      record { for_claims = room.for_claims; for_predicates = room.for_predicates; for_minus = omega (arith, room.for_minus, c.put.ensures.capacity) },
-      subst (λ (minus : List (Entry g.row.B.Denot)). TakesClaimed k (phase.Open None) self.claims.items minus) (sym c.put.ensures.items)
-          (takes_more k lawful c.args.e self.phase self.claims.items self.minus.items c.self.invariant.1 claimed.0),
+    delete_claimed k c.args.e self.phase _ _ c.args.self.now 512 c.self.view_is c.requires.open c.self.invariant.1.asked c.requires.few in (
+      record { for_claims = room.for_claims; for_predicates = room.for_predicates; for_taken = omega (arith, room.for_taken, c.put.ensures.capacity) },
+      subst (λ (taken : List (Entry g.row.B.Denot)). TakesClaimed k (phase.Open None) self.claims.items taken) (sym c.put.ensures.items)
+          (takes_more k lawful c.args.e self.phase self.claims.items self.taken.items c.self.invariant.1 claimed.0),
     )

@@ -13,7 +13,7 @@ invariant_of-self-2 g c =
     let lawful : IsLawful k = record { total = g.met.B.Ord.total; exact = g.met.B.Shape.same } in
     let self = c.self.inside in
     let room = c.self.invariant.0 in (
-      record { for_claims = room.for_claims; for_predicates = room.for_predicates; for_minus = omega (arith, room.for_minus, c.exclude.ensures.capacity) },
-      subst (λ (minus : List (Entry g.row.B.Denot)). TakesClaimed k (phase.Open None) self.claims.items minus) (sym c.exclude.ensures.items)
-          (takes_less k lawful c.args.e self.phase self.claims.items self.minus.items c.self.invariant.1),
+      record { for_claims = room.for_claims; for_predicates = room.for_predicates; for_taken = omega (arith, room.for_taken, c.exclude.ensures.capacity) },
+      subst (λ (taken : List (Entry g.row.B.Denot)). TakesClaimed k (phase.Open None) self.claims.items taken) (sym c.exclude.ensures.items)
+          (takes_less k lawful c.args.e self.phase self.claims.items self.taken.items c.self.invariant.1),
     )

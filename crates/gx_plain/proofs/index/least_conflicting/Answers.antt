@@ -3,16 +3,16 @@ use Rattle.std.specs.Prelude.{Some, ◌==◌}
 use Rattle.std.proofs.lemmas.List.{drop_more}
 use Rattle.gx_machine.specs.declared.call.Call.{Call}
 use Rattle.gx_machine.specs.Keys.{Keys, keys}
-use Rattle.gx_machine.specs.Sessions.{Session, session_bars}
-use Rattle.gx_machine.specs.Machine.{least_barring}
-use Rattle.gx_plain.proofs.index.least_barring.Goals as goal
+use Rattle.gx_machine.specs.Sessions.{Session, session_conflicts}
+use Rattle.gx_machine.specs.Machine.{least_conflicting}
+use Rattle.gx_plain.proofs.index.least_conflicting.Goals as goal
 
 module _ {B : Type 0} (k : Keys B) (call : Call B) (s n i : ℕ) (slots : List (Session B)) (x : Session B) (within : i < length slots) (is : x ≡ get_or slots i x) where
-  step : (t : Bool) → (not (n == s) && session_bars k call x) ≡ t
-      → least_barring k call s n (drop i slots) ≡ cond t (Some n) (least_barring k call s (n + 1) (drop (i + 1) slots))
+  step : (t : Bool) → (not (n == s) && session_conflicts k call x) ≡ t
+      → least_conflicting k call s n (drop i slots) ≡ cond t (Some n) (least_conflicting k call s (n + 1) (drop (i + 1) slots))
   step t e =
-      ap (least_barring k call s n) (drop_more slots i x within ∙ ap (λ y. y ∷ drop (i + 1) slots) (sym is))
-      ∙ ap (λ b. cond b (Some n) (least_barring k call s (n + 1) (drop (i + 1) slots))) e
+      ap (least_conflicting k call s n) (drop_more slots i x within ∙ ap (λ y. y ∷ drop (i + 1) slots) (sym is))
+      ∙ ap (λ b. cond b (Some n) (least_conflicting k call s (n + 1) (drop (i + 1) slots))) e
 
 pub returns-then-conflicts : goal.returns-then-conflicts
 returns-then-conflicts g c =
