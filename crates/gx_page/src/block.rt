@@ -87,18 +87,17 @@ impl Block {
     /// The byte at a place.
     pub(crate) fn byte(&self, at: usize) -> u8
         requires { at < PAGE_SIZE }
-        ensures value { result ≡ slice_index self.now.bytes at }
-        ensures size { length self.now.bytes ≡ PAGE_SIZE }
+        ensures { (result ≡ slice_index self.now.bytes at) × (length self.now.bytes ≡ PAGE_SIZE) }
     {
-        self.bytes()[at]
+        unsafe { (*self.at)[at] }
     }
 
     /// Writes the byte at a place.
     pub(crate) fn set_byte(&mut self, at: usize, byte: u8)
         requires { at < PAGE_SIZE }
-        ensures { self.new.bytes ≡ slice_set self.old.bytes at byte }
+        ensures { (self.new.bytes ≡ slice_set self.old.bytes at byte) × (length self.old.bytes ≡ PAGE_SIZE) }
     {
-        self.bytes_mut()[at] = byte;
+        unsafe { (*self.at)[at] = byte };
     }
 
     /// The bytes between two places.
@@ -153,11 +152,14 @@ impl Block {
     }
 
     /// Spells a number in two bytes, the greater first.
+    #[tactic(auto, using(crate::proofs::Pieces::two_written))]
     pub(crate) fn set_u16(&mut self, at: usize, value: u16)
         requires { at + 2 ≤ PAGE_SIZE }
         ensures { self.new.bytes ≡ overwrite self.old.bytes at (spell_16 value) }
     {
-        self.write(at, &value.to_be_bytes());
+        let bytes = value.to_be_bytes();
+        self.set_byte(at, bytes[0]);
+        self.set_byte(at + 1, bytes[1]);
     }
 
     /// Spells a number in four bytes.
