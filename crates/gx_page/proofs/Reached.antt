@@ -1,10 +1,11 @@
 -- What a `&` to a block reaches: its two fields, and the bytes behind the pointer.
-use Rattle.std.proofs.Common.{◌≡◌, ℕ, List, [], ◌∷◌, length}
+use Rattle.std.proofs.Common.{◌≡◌, ℕ, zero, suc, ◌+◌, List, [], ◌∷◌, length, zero-add, arith}
+use lib.ListN.{drop as drop-list, take as take-list}
 use base.Fml.{fhide}
-use base.Logic.{ent, sep}
+use base.Logic.{ent, sep, id⊢}
 use seplogic.Ra.Ura.{Ura}
 use types.Logic.{Logic, sem}
-use types.Kit.{‵, raw, ◌⊛◌, ◌$◌, ◌∵◌, !, qed, move, split, fsplit, feq_l, frame, use1, done}
+use types.Kit.{‵, raw, ◌⊛◌, ◌$◌, ◌∵◌, !, qed, move, split, fsplit, feq_l, frame, use1, done, by, drop}
 use contract.Monad.{fact}
 use denote.Builtin.{u8}
 use denote.Copied.{Copied, Struct-Copied}
@@ -13,6 +14,7 @@ use denote.Opens.{unhide, hide}
 use denote.RattleType.{RattleType}
 use denote.RawPtr.{InBlock, block_of, count_of}
 use denote.Slice.{elements_shared}
+use denote.Steps.{nothing}
 use denote.Struct.Laws.{RawPtr-copy, alones, copieds}
 use denote.Struct.Lending.{in_block_says, lent_out}
 use denote.Struct.Owning.{shape, to}
@@ -46,3 +48,16 @@ module _ {M : Type 1} {𝓤 : Ura M} (𝓛 : Logic 𝓤) where
   pub each_byte : (κ : List ℕ) (bytes : List ℕ) (b o : ℕ)
       → ent 𝓤 (sem 𝓛 (hidden_shr the_bytes κ bytes b o)) (sep 𝓤 (sem 𝓛 (fhide (elements_shared u8 bytes b o κ))) (fact 𝓤 (length bytes ≡ 4096)))
   each_byte κ bytes b o = qed 𝓛 (‵ (hidden_shr the_bytes κ bytes b o) ∷ []) ∵ unhide ! $ fsplit ! $ feq_l ! (λ size. hide ! $ says ! size $ done !)
+
+  -- a `&` to each of some bytes, without the first so many, and of the first so many alone
+  pub drop_each : (κ : List ℕ) (n : ℕ) (bytes : List ℕ) (b o p : ℕ) → p ≡ n + o
+      → ent 𝓤 (sem 𝓛 (elements_shared u8 bytes b o κ)) (sem 𝓛 (elements_shared u8 (drop-list n bytes) b p κ))
+  drop_each κ zero bytes b o p e = rw (e, zero-add o) (id⊢ 𝓤 _)
+  drop_each κ (suc n) [] b o p e = id⊢ 𝓤 _
+  drop_each κ (suc n) (x ∷ bytes) b o p e = qed 𝓛 (‵ (elements_shared u8 (x ∷ bytes) b o κ) ∷ []) ∵ fsplit ! $ drop ! $ by ! (drop_each κ n bytes b (o + 1) p (omega arith))
+
+  pub take_each : (κ : List ℕ) (n : ℕ) (bytes : List ℕ) (b o : ℕ) → ent 𝓤 (sem 𝓛 (elements_shared u8 bytes b o κ)) (sem 𝓛 (elements_shared u8 (take-list n bytes) b o κ))
+  take_each κ zero bytes b o = qed 𝓛 (‵ (elements_shared u8 bytes b o κ) ∷ []) ∵ drop ! $ nothing ! $ done !
+  take_each κ (suc n) [] b o = id⊢ 𝓤 _
+  take_each κ (suc n) (x ∷ bytes) b o =
+      qed 𝓛 (‵ (elements_shared u8 (x ∷ bytes) b o κ) ∷ []) ∵ fsplit ! $ frame ! $ by ! (take_each κ n bytes b (o + 1))

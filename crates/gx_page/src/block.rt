@@ -10,6 +10,7 @@ ghost use Rattle.gx_page.specs.Ownership.{block_owns, block_lends};
 
 use std::alloc::{AllocError, Global};
 use std::marker::Model;
+use std::slice;
 
 /// How many bytes a page has.
 pub const PAGE_SIZE: usize = 4096;
@@ -103,10 +104,9 @@ impl Block {
     /// The bytes between two places.
     pub(crate) fn slice(&self, from: usize, to: usize) -> &[u8]
         requires { (from ≤ to) × (to ≤ PAGE_SIZE) }
-        ensures value { result.now ≡ slice_range self.now.bytes from to }
-        ensures size { length self.now.bytes ≡ PAGE_SIZE }
+        ensures { (result.now ≡ slice_range self.now.bytes from to) × (length self.now.bytes ≡ PAGE_SIZE) }
     {
-        &self.bytes()[from..to]
+        unsafe { slice::from_raw_parts((self.at as *const u8).add(from), to - from) }
     }
 
     /// The N bytes from a place on.
