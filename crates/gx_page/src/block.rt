@@ -1,7 +1,7 @@
 //! The block of a page: 4,096 bytes of the heap behind one raw pointer.
 //!
-//! The pointer is followed in `bytes` and `bytes_mut` alone, and changes hands in `of_box` and `into_box`. These four, and
-//! that a block may be lent and sent, are proved by hand; the rest is safe code over them.
+//! The pointer is followed in `byte`, `set_byte`, `slice`, `bytes` and `bytes_mut` alone, and changes hands in `of_box` and
+//! `into_box`. These seven, and that a block may be lent and sent, are proved by hand; the rest is safe code over them.
 ghost use Rattle.std.specs.Prelude.{◌≡◌, ℕ, ◌+◌, ◌-◌, ◌<◌, ◌≤◌, List, length, IfOk, slice_index, slice_range, slice_set};
 ghost use Rattle.std.specs.Borrow.{sem};
 ghost use Rattle.std.specs.List.{copy_within};
