@@ -3,8 +3,10 @@ pub mod Faultless
 pub mod Images
 pub mod Memory
 pub mod Moves
+pub mod Opened
 pub mod Parts
 pub mod Pieces
+pub mod Reached
 pub mod Rooms
 pub mod Scans
 pub mod Slots

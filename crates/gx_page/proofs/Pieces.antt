@@ -1,5 +1,5 @@
 -- Lists of bytes cut, joined and written over.
-use Rattle.std.proofs.Common.{◌≡◌, ℕ, zero, suc, ◌+◌, ◌-◌, ◌≤◌, Bool, true, false, ◌&&◌, List, [], ◌∷◌, ◌++◌, length, take, drop, replicate, get_or, refl, sym, ap, ◌∙◌, arith, rules, append_assoc, lit<, length-append, eqb}
+use Rattle.std.proofs.Common.{◌≡◌, ℕ, zero, suc, ◌+◌, ◌-◌, ◌≤◌, Bool, true, false, ◌&&◌, List, [], ◌∷◌, ◌++◌, length, take, drop, replicate, get_or, set, refl, sym, ap, ◌∙◌, arith, rules, append_assoc, lit<, length-append, eqb}
 use Rattle.std.proofs.lemmas.List.{get_or-take, get_or-drop, take_at, drop_at, places, same_lists, length-replicate, replicate-append-replicate, drop-drop}
 use borrow.Rule.Slice.PartMut.{put_mid}
 use Rattle.std.proofs.lemmas.Bool.{eqb-true}
@@ -62,3 +62,18 @@ fill_zeros bytes part from to h k e =
     let size : length (replicate (to - from) 0) ≡ to - from = length-replicate (to - from) 0 in
     ap (λ (xs : List ℕ). take from bytes ++ (xs ++ drop (to - from) (drop from bytes))) e ∙
     ap (λ (xs : List ℕ). take from bytes ++ (replicate (to - from) 0 ++ xs)) (drop-drop (to - from) from bytes ∙ ap (λ (n : ℕ). drop (from + n) bytes) (sym size))
+
+-- two bytes written one by one
+two_set : (xs : List ℕ) (a b at : ℕ) → suc (suc at) ≤ length xs → set (set xs at a) (suc at) b ≡ take at xs ++ (a ∷ b ∷ drop (suc (suc at)) xs)
+two_set [] a b at h = absurd (omega arith)
+two_set (x ∷ []) a b at h = absurd (omega arith)
+two_set (x ∷ y ∷ xs) a b zero h = refl
+two_set (x ∷ y ∷ xs) a b (suc at) h = ap (λ (zs : List ℕ). x ∷ zs) (two_set (y ∷ xs) a b at (omega arith))
+
+pub two_written : (xs ys : List ℕ) (at : ℕ) → length xs ≡ 4096 → at + 2 ≤ 4096 → length ys ≡ 2 → set (set xs at (get_or ys 0 0)) (at + 1) (get_or ys 1 0) ≡ overwrite xs at ys
+two_written xs [] at size h two = cc
+two_written xs (a ∷ []) at size h two = cc
+two_written xs (a ∷ b ∷ []) at size h two =
+    let next : at + 1 ≡ suc at = omega arith in let rest : suc (suc at) ≡ at + 2 = omega arith in
+    ap (λ (n : ℕ). set (set xs at a) n b) next ∙ two_set xs a b at (omega arith) ∙ ap (λ (n : ℕ). take at xs ++ (a ∷ b ∷ drop n xs)) rest
+two_written xs (a ∷ b ∷ c ∷ ys) at size h two = absurd (omega arith)

@@ -75,3 +75,11 @@ module _ {M : Type 1} {𝓤 : Ura M} (𝓛 : Logic 𝓤) where
   -- and ends with that token and what it lends
   pub lends : (κ : Lft) (q : Share) (loan : Fml) → ent 𝓤 (sep 𝓤 (sem 𝓛 (flft κ q)) (sem 𝓛 loan)) (sep 𝓤 (sep 𝓤 (sem 𝓛 (flft κ q)) (emp 𝓤)) (sep 𝓤 (sem 𝓛 (fsep ftrue ftrue)) (sem 𝓛 loan)))
   lends κ q loan = qed 𝓛 (‵ (flft κ q) ∷ ‵ loan ∷ []) ∵ nothing ! $ move ! (1 ∷ 0 ∷ []) $ join ! $ frame ! $ nothing ! $ nothing ! $ fjoin ! $ done !
+
+  -- the same where it had a number besides, or two
+  pub gives : (κ : Lft) (q : Share) (result : Fml) → ent 𝓤 (sep 𝓤 (sem 𝓛 (flft κ q)) (sem 𝓛 result)) (sep 𝓤 (sep 𝓤 (sem 𝓛 (flft κ q)) (emp 𝓤)) (sep 𝓤 (sem 𝓛 (fsep ftrue (fsep ftrue ftrue))) (sem 𝓛 result)))
+  gives κ q result = qed 𝓛 (‵ (flft κ q) ∷ ‵ result ∷ []) ∵ nothing ! $ move ! (1 ∷ 0 ∷ []) $ join ! $ frame ! $ nothing ! $ nothing ! $ fjoin ! $ nothing ! $ fjoin ! $ done !
+
+  pub gives_two : (κ : Lft) (q : Share) (result : Fml) → ent 𝓤 (sep 𝓤 (sem 𝓛 (flft κ q)) (sem 𝓛 result)) (sep 𝓤 (sep 𝓤 (sem 𝓛 (flft κ q)) (emp 𝓤)) (sep 𝓤 (sem 𝓛 (fsep ftrue (fsep ftrue (fsep ftrue ftrue)))) (sem 𝓛 result)))
+  gives_two κ q result =
+      qed 𝓛 (‵ (flft κ q) ∷ ‵ result ∷ []) ∵ nothing ! $ move ! (1 ∷ 0 ∷ []) $ join ! $ frame ! $ nothing ! $ nothing ! $ fjoin ! $ nothing ! $ fjoin ! $ nothing ! $ fjoin ! $ done !

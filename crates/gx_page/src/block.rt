@@ -1,7 +1,7 @@
 //! The block of a page: 4,096 bytes of the heap behind one raw pointer.
 //!
-//! The pointer is followed in `bytes` and `bytes_mut` alone, and changes hands in `of_box` and `into_box`. These four, and
-//! that a block may be lent and sent, are proved by hand; the rest is safe code over them.
+//! The pointer is followed in `byte`, `set_byte`, `slice`, `bytes` and `bytes_mut` alone, and changes hands in `of_box` and
+//! `into_box`. These seven, and that a block may be lent and sent, are proved by hand; the rest is safe code over them.
 ghost use Rattle.std.specs.Prelude.{◌≡◌, ℕ, ◌+◌, ◌-◌, ◌<◌, ◌≤◌, List, length, IfOk, slice_index, slice_range, slice_set};
 ghost use Rattle.std.specs.Borrow.{sem};
 ghost use Rattle.std.specs.List.{copy_within};
@@ -10,6 +10,7 @@ ghost use Rattle.gx_page.specs.Ownership.{block_owns, block_lends};
 
 use std::alloc::{AllocError, Global};
 use std::marker::Model;
+use std::slice;
 
 /// How many bytes a page has.
 pub const PAGE_SIZE: usize = 4096;
@@ -87,27 +88,25 @@ impl Block {
     /// The byte at a place.
     pub(crate) fn byte(&self, at: usize) -> u8
         requires { at < PAGE_SIZE }
-        ensures value { result ≡ slice_index self.now.bytes at }
-        ensures size { length self.now.bytes ≡ PAGE_SIZE }
+        ensures { (result ≡ slice_index self.now.bytes at) × (length self.now.bytes ≡ PAGE_SIZE) }
     {
-        self.bytes()[at]
+        unsafe { (*self.at)[at] }
     }
 
     /// Writes the byte at a place.
     pub(crate) fn set_byte(&mut self, at: usize, byte: u8)
         requires { at < PAGE_SIZE }
-        ensures { self.new.bytes ≡ slice_set self.old.bytes at byte }
+        ensures { (self.new.bytes ≡ slice_set self.old.bytes at byte) × (length self.old.bytes ≡ PAGE_SIZE) }
     {
-        self.bytes_mut()[at] = byte;
+        unsafe { (*self.at)[at] = byte };
     }
 
     /// The bytes between two places.
     pub(crate) fn slice(&self, from: usize, to: usize) -> &[u8]
         requires { (from ≤ to) × (to ≤ PAGE_SIZE) }
-        ensures value { result.now ≡ slice_range self.now.bytes from to }
-        ensures size { length self.now.bytes ≡ PAGE_SIZE }
+        ensures { (result.now ≡ slice_range self.now.bytes from to) × (length self.now.bytes ≡ PAGE_SIZE) }
     {
-        &self.bytes()[from..to]
+        unsafe { slice::from_raw_parts((self.at as *const u8).add(from), to - from) }
     }
 
     /// The N bytes from a place on.
@@ -153,11 +152,14 @@ impl Block {
     }
 
     /// Spells a number in two bytes, the greater first.
+    #[tactic(auto, using(crate::proofs::Pieces::two_written))]
     pub(crate) fn set_u16(&mut self, at: usize, value: u16)
         requires { at + 2 ≤ PAGE_SIZE }
         ensures { self.new.bytes ≡ overwrite self.old.bytes at (spell_16 value) }
     {
-        self.write(at, &value.to_be_bytes());
+        let bytes = value.to_be_bytes();
+        self.set_byte(at, bytes[0]);
+        self.set_byte(at + 1, bytes[1]);
     }
 
     /// Spells a number in four bytes.

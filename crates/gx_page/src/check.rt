@@ -6,7 +6,7 @@ ghost use Rattle.gx_page.specs.Reading.{IsImage, read_of, entries};
 
 use crate::block::PAGE_SIZE;
 use crate::fault::PageFault;
-use crate::layout::{COUNT, DIRECTORY, LENGTH, NSN, NUMBER, SLOT, START};
+use crate::layout::{COUNT, DIRECTORY, LENGTH, NSN, SLOT, START};
 
 #[tactic(auto, using(crate::proofs::Pieces::number_at))]
 fn u16_at(bytes: &[u8], at: usize) -> u16
@@ -16,12 +16,12 @@ fn u16_at(bytes: &[u8], at: usize) -> u16
     u16::from_be_bytes([bytes[at], bytes[at + 1]])
 }
 
-/// The number that the bytes spell where an image has its own.
-pub(crate) fn number_of(bytes: &[u8]) -> u32
-    requires { length bytes.now ≡ PAGE_SIZE }
-    ensures { result ≡ number_32_at bytes.now 20 }
+/// The number that four bytes spell from a place on.
+pub(crate) fn u32_at(bytes: &[u8], at: usize) -> u32
+    requires { at + 4 ≤ length bytes.now }
+    ensures { result ≡ number_32_at bytes.now at }
 {
-    u32::from_be_bytes(*bytes[NUMBER..NUMBER + 4].first_chunk::<4>().unwrap())
+    u32::from_be_bytes(*bytes[at..at + 4].first_chunk::<4>().unwrap())
 }
 
 fn all_zero(bytes: &[u8]) -> bool

@@ -9,7 +9,7 @@ ghost use Rattle.gx_page.specs.Format.{Fits, heap, image_of, IsWellFormed, total
 ghost use Rattle.gx_page.specs.Reading.{IsImage, read_of};
 
 use crate::block::{Block, PAGE_SIZE};
-use crate::check::{first_fault, number_of};
+use crate::check::{first_fault, u32_at};
 use crate::directory::{count_of, place_of, size_of, start_of};
 use crate::edits;
 use crate::fault::PageFault;
@@ -102,7 +102,7 @@ impl Page {
     {
         match first_fault(bytes) {
             Some(fault) => Err(fault),
-            None => Ok(number_of(bytes)),
+            None => Ok(u32_at(bytes, NUMBER)),
         }
     }
 

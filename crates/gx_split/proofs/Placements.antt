@@ -3,12 +3,11 @@ use Rattle.std.proofs.Common.{◌≡◌, ℕ, zero, suc, ◌+◌, ◌-◌, ◌*�
 use Rattle.std.specs.Prelude.{nat_le, nat_lt, slice_get}
 use Rattle.std.proofs.lemmas.Bool.Decides.{nat_tests}
 use Rattle.std.proofs.lemmas.List.{length-map, get_or-map}
-use Rattle.gx_split.specs.Split.{Measure, Groups, Pair, begun, difference, growth_at, goes_second, next_place, joined_with, placed, place_one, put, second_less, seeds, split_sides, waste_at}
+use Rattle.gx_split.specs.Split.{Measure, Groups, Pair, begun, difference, growth_at, goes_second, next_place, joined_with, placed, place_one, put, second_less, seeds, split_sides}
 use Rattle.gx_split.specs.Placement.{Offer, IsSide, Placing, GoesToFirst, GoesToSecond, IsPlacement, ArePlacements, none, more, IsQuadraticSplit}
-use Rattle.gx_split.proofs.Begun.{length-others}
 use Rattle.gx_split.proofs.Placing.{placed-none, placed-more}
-use Rattle.gx_split.proofs.Fairness.{IsFair, in_range, first_greatest_is, fair_begun, fair_placed}
-use Rattle.gx_split.proofs.Wastes.{first_worst, found}
+use Rattle.gx_split.proofs.Fairness.{IsFair, in_range, first_greatest_is, fair_placed}
+use Rattle.gx_split.proofs.Wastes.{found, begins}
 
 -- ---- the side
 
@@ -89,27 +88,19 @@ empty_list (x ∷ xs) h = absurd (omega arith)
 
 pub quadratic_split : {K : Type 0} (m : Measure K) (keys : List K) (least : ℕ) → 1 ≤ least → 2 * least ≤ length keys
     → (first : K) × (second : K) × (end : Groups K) × IsQuadraticSplit m keys least (split_sides m keys least) first second end
-unfolding split_sides
 quadratic_split m keys least one enough =
-    let worst = first_worst (waste_at m keys) (length keys) (omega arith) in
-    let p = seeds m keys in
-    let lower_in : p.lower < length keys = let a = worst.in_order in let b = worst.within in omega arith in
-    let lower = found keys p.lower lower_in in
-    let higher = found keys p.higher worst.within in
-    let start = fair_begun keys least p lower.0 higher.0 one enough worst.in_order worst.within in
-    let count = length-others p (length keys) worst.in_order worst.within in
-    let g = begun keys p lower.0 higher.0 in
+    let two = begins m keys least one enough in let b = two.2 in
+    let g = begun keys (seeds m keys) two.0 two.1 in
     let end = placed m keys least g (length keys - 2) in
-    let after = fair_placed m keys (length keys) least p g (length keys - 2) start (omega arith) enough in
-    let left = after.1 in (
-      lower.0,
-      higher.0,
+    let few : length keys - 2 ≤ length g.rest = let w = b.waiting in omega arith in (
+      two.0,
+      two.1,
       end,
       record {
-        first_seed = lower.1;
-        second_seed = higher.1;
-        placements = placements m keys least p g (length keys - 2) start (omega arith) enough;
-        none_waits = empty_list end.rest (omega arith);
-        sides_are = rw (lower.1, higher.1) refl;
+        first_seed = b.lower;
+        second_seed = b.higher;
+        placements = placements m keys least (seeds m keys) g (length keys - 2) b.start few enough;
+        none_waits = empty_list end.rest b.none_waits;
+        sides_are = b.sides_are;
       },
     )

@@ -6,7 +6,7 @@ use Rattle.gx_split.specs.Split.{Measure, Pair, pair, begun, placed, seeds, spli
 use Rattle.gx_split.specs.Fair.{Precedes, IsFirstWorst, IsFairSplit}
 use Rattle.gx_split.proofs.Steps.{worst_in_row-none, worst_in_row-more, worst_in_rows-none, worst_in_rows-more, worst_pair-is}
 use Rattle.gx_split.proofs.Begun.{length-others}
-use Rattle.gx_split.proofs.Fairness.{below_or_not, fair_begun, fair_placed, fair_end}
+use Rattle.gx_split.proofs.Fairness.{IsFair, below_or_not, fair_begun, fair_placed, fair_end}
 
 -- the pairs of the rows below m, and the first k of row m
 abbrev Seen : ℕ → ℕ → ℕ → ℕ → Type 0
@@ -110,11 +110,21 @@ found [] i h = absurd (omega arith)
 found (k ∷ ks) zero h = (k, refl)
 found (k ∷ ks) (suc i) h = let less : i < length ks = omega arith in found ks i less
 
--- the whole split is fair
-pub fair_split : {K : Type 0} (m : Measure K) (keys : List K) (least : ℕ) → 1 ≤ least → 2 * least ≤ length keys
-    → IsFairSplit (length keys) least (seeds m keys) (split_sides m keys least)
+-- the groups as they begin and end, and the two keys that they begin with
+pub record IsBegun {K : Type 0} (m : Measure K) (keys : List K) (least : ℕ) (a b : K) : Type 0 where
+  pub lower : slice_get keys (seeds m keys).lower ≡ Some a
+  pub higher : slice_get keys (seeds m keys).higher ≡ Some b
+  pub lower_in : (seeds m keys).lower < length keys
+  pub higher_in : (seeds m keys).higher < length keys
+  pub start : IsFair (length keys) least (seeds m keys) (begun keys (seeds m keys) a b)
+  pub waiting : length (begun keys (seeds m keys) a b).rest + 2 ≡ length keys
+  pub end : IsFair (length keys) least (seeds m keys) (placed m keys least (begun keys (seeds m keys) a b) (length keys - 2))
+  pub none_waits : length (placed m keys least (begun keys (seeds m keys) a b) (length keys - 2)).rest ≡ 0
+  pub sides_are : split_sides m keys least ≡ (placed m keys least (begun keys (seeds m keys) a b) (length keys - 2)).sides
+
+pub begins : {K : Type 0} (m : Measure K) (keys : List K) (least : ℕ) → 1 ≤ least → 2 * least ≤ length keys → (a : K) × (b : K) × IsBegun m keys least a b
 unfolding split_sides
-fair_split m keys least one enough =
+begins m keys least one enough =
     let worst = first_worst (waste_at m keys) (length keys) (omega arith) in
     let p = seeds m keys in
     let lower_in : p.lower < length keys = let a = worst.in_order in let b = worst.within in omega arith in
@@ -122,5 +132,26 @@ fair_split m keys least one enough =
     let higher = found keys p.higher worst.within in
     let start = fair_begun keys least p lower.0 higher.0 one enough worst.in_order worst.within in
     let count = length-others p (length keys) worst.in_order worst.within in
-    let end = fair_placed m keys (length keys) least p (begun keys p lower.0 higher.0) (length keys - 2) start (omega arith) enough in
-    rw (lower.1, higher.1) (fair_end (length keys) least p (placed m keys least (begun keys p lower.0 higher.0) (length keys - 2)) end.0 (let left = end.1 in omega arith) lower_in worst.within)
+    let after = fair_placed m keys (length keys) least p (begun keys p lower.0 higher.0) (length keys - 2) start (omega arith) enough in
+    let left = after.1 in (
+      lower.0,
+      higher.0,
+      record {
+        lower = lower.1;
+        higher = higher.1;
+        lower_in = lower_in;
+        higher_in = worst.within;
+        start = start;
+        waiting = count;
+        end = after.0;
+        none_waits = omega arith;
+        sides_are = rw (lower.1, higher.1) refl;
+      },
+    )
+
+-- the whole split is fair
+pub fair_split : {K : Type 0} (m : Measure K) (keys : List K) (least : ℕ) → 1 ≤ least → 2 * least ≤ length keys
+    → IsFairSplit (length keys) least (seeds m keys) (split_sides m keys least)
+fair_split m keys least one enough =
+    let two = begins m keys least one enough in let b = two.2 in
+    rw b.sides_are (fair_end (length keys) least (seeds m keys) (placed m keys least (begun keys (seeds m keys) two.0 two.1) (length keys - 2)) b.end b.none_waits b.lower_in b.higher_in)

@@ -2,37 +2,30 @@
 use Rattle.std.proofs.Common.{◌≡◌, ℕ, List, [], ◌∷◌, refl, sym, ap, ◌∙◌}
 use mir.Syntax.{named}
 use mir.Val.{Val, vptr}
-use base.Fml.{fhide, flft}
-use base.Logic.{SProp, ent, sep, via}
-use seplogic.Ra.Ura.{Ura}
-use types.Logic.{Logic, sem}
-use types.Kit.{by, drop, split3, ‵, raw, ◌⊛◌, at_ret, ◌$◌, ◌∵◌, !, qed, move, keep, split, fsplit, fjoin, feq_i, frame, rewrite, suffices, use1, done}
+use base.Fml.{flft}
+use base.Logic.{SProp, via}
+use types.Kit.{by, drop, split3, ‵, raw, ◌⊛◌, at_ret, ◌$◌, ◌∵◌, !, qed, move, keep, fsplit, fjoin, feq_i, rewrite, suffices, use1}
 use types.Part.{whole, sub, look_in}
 use types.Run.{stop, fld, hop, addr, of_opd, first, blocks, exec, returns, enter}
 use types.ByLocal.{alloc_all, pass_all, free_all, look_at, get, through, sets, sets_last, env}
 use contract.Monad.{fact}
 use contract.Running.{tables}
-use denote.Copied.{Copied, Struct-Copied}
 use denote.Exit.{yes}
 use denote.Laws.{Is, shows}
 use denote.Memory.{cell_at, hidden_shr}
-use denote.Opens.{unhide, hide}
 use denote.RattleType.{RattleType}
 use denote.RawPtr.{Ptr, block_ptr, InBlock, block_of, count_of, at_block}
 use denote.Ref.{Bor, ShrRef, shr_vals, shr_Tells}
 use denote.Signature.{plain, shr_ref_to}
 use denote.Steps.{heard, looks, shuts, peeks}
-use denote.Struct.Laws.{RawPtr-copy, alones, copieds}
-use denote.Struct.Lending.{in_block_says, lent_out}
-use denote.Struct.Owning.{shape, to}
-use denote.Struct.Struct.{Struct}
+use denote.Struct.Owning.{to}
 use denote.Triple.Walked.{says, Stays, stay_dropped, walk_of, ends_at, Goes-dropped}
 use Rattle.std.proofs.VecSteps.Shapes.{after}
 use Rattle.std.proofs.raw_atomic.Walks.{proved}
-use Rattle.std.specs.contracts.alloc.Global as heap
 use Rattle.gx_page.specs.Ownership.{the_bytes}
 use Rattle.gx_page.proofs.Walks.{begins_with, lends}
-use Rattle.gx_page.proofs.Memory.{handle_copy, word, fields_tell}
+use Rattle.gx_page.proofs.Memory.{word, fields_tell}
+use Rattle.gx_page.proofs.Reached.{Fields, fields_copied, reaches}
 use Rattle.gx_page.specs.contracts.block.Block as block
 use Rattle.gx_page.specs.contracts.block.Block.bytes.{ended, clauses}
 use Rattle.gx_page.specs.contracts.block.Block.bytes.Key.{name as #self}
@@ -42,24 +35,8 @@ use Rattle.gx_page.proofs.block.Block.bytes.Code as code
 abbrev R : RattleType
 R = block.the_row
 
--- the block's two fields, without what it owns behind the pointer
-abbrev Fields : RattleType
-Fields = Struct (shape block.the_type)
-
 abbrev stayed : Stays ended.signature.params ended.kept
 stayed = (stay_dropped (shr_ref_to (0 ∷ []) tt (plain (λ _. R))) yes, tt)
-
-module _ {M : Type 1} {𝓤 : Ura M} (𝓛 : Logic 𝓤) where
-  -- the two fields are copied, so a `&` to them is read
-  fields_copied : Copied 𝓛 Fields
-  fields_copied = Struct-Copied 𝓛 (shape block.the_type) (alones (block.the_type).parts (RawPtr-copy, (handle_copy, tt))) (copieds 𝓛 (block.the_type).parts (RawPtr-copy, (handle_copy, tt)))
-
-  -- a `&` to a block is a `&` to its fields and a `&` to its bytes, and the pointer is not null
-  reaches : (κ : List ℕ) (d : R.Denot) (b o : ℕ)
-      → ent 𝓤 (sem 𝓛 (hidden_shr R κ d b o)) (sep 𝓤 (sem 𝓛 (hidden_shr Fields κ (to block.the_type d) b o)) (sep 𝓤 (sem 𝓛 (hidden_shr the_bytes κ d.bytes (block_of d.at) (count_of d.at))) (fact 𝓤 (InBlock d.at))))
-  reaches κ d b o =
-      qed 𝓛 (‵ (hidden_shr R κ d b o) ∷ []) ∵ use1 𝓛 (‵ (hidden_shr Fields κ (to block.the_type d) b o) ⊛ ‵ (fhide (block.the_lent d d.at κ))) (lent_out 𝓛 block.struct (block.the_codes heap.the_row.coded) block.the_heap block.the_lent κ d b o) $ split ! $ frame ! $
-      unhide ! $ fsplit ! $ use1 𝓛 (raw (fact 𝓤 (InBlock d.at))) (in_block_says 𝓛 d.at) $ move ! (1 ∷ []) $ hide ! $ done !
 
 pub bytes_spec : {M : Type 1} → statement M
 bytes_spec 𝓤 𝓛 𝓜 𝓡 wired =

@@ -1,12 +1,13 @@
 -- Bytes without a fault are an image, and an image has none.
-use Rattle.std.proofs.Common.{◌≡◌, None, sym, ◌∙◌}
+use Rattle.std.proofs.Common.{◌≡◌, None, length, sym, ◌∙◌, arith}
 use Rattle.gx_page.specs.Faults.{fault_of}
 use Rattle.gx_page.proofs.Parts.{image_size, number_in}
 use Rattle.gx_page.proofs.Faultless.{is_image, faultless_is_image}
 use Rattle.gx_page.proofs.page.Page.check.Goals as goal
 
-pub number_of-requires : goal.number_of-requires
-number_of-requires c = image_size c.args.bytes.now (is_image c.args.bytes.now (λ k. (c.type_inv.bytes k).fits) (sym c.first_fault.ensures ∙ c.in-None.is))
+pub u32_at-requires : goal.u32_at-requires
+u32_at-requires c =
+    let size : length c.args.bytes.now ≡ 4096 = image_size c.args.bytes.now (is_image c.args.bytes.now (λ k. (c.type_inv.bytes k).fits) (sym c.first_fault.ensures ∙ c.in-None.is)) in omega arith
 
 pub returns-in-Some-clause-faultless : goal.returns-in-Some-clause-faultless
 returns-in-Some-clause-faultless c = faultless_is_image c.args.bytes.now (λ k. (c.type_inv.bytes k).fits)
@@ -14,7 +15,7 @@ returns-in-Some-clause-faultless c = faultless_is_image c.args.bytes.now (λ k. 
 pub returns-in-None-clause-page : goal.returns-in-None-clause-page
 returns-in-None-clause-page c =
     let none : fault_of c.args.bytes.now ≡ None = sym c.first_fault.ensures ∙ c.in-None.is in
-    (none, is_image c.args.bytes.now (λ k. (c.type_inv.bytes k).fits) none, c.number_of.ensures ∙ number_in c.args.bytes.now)
+    (none, is_image c.args.bytes.now (λ k. (c.type_inv.bytes k).fits) none, c.u32_at.ensures ∙ number_in c.args.bytes.now)
 
 pub returns-in-None-clause-faultless : goal.returns-in-None-clause-faultless
 returns-in-None-clause-faultless c = faultless_is_image c.args.bytes.now (λ k. (c.type_inv.bytes k).fits)
