@@ -1,2 +1,4 @@
+pub mod Filters
+pub mod Halves
 pub mod SetLemmas
 pub mod TakenAway

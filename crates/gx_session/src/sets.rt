@@ -1,7 +1,8 @@
 //! Sets of entries as sorted vectors.
-ghost use Rattle.std.specs.Prelude.{insert, ◌≡◌, ◌+◌, ◌<◌, ◌≤◌, MatchOption, OnOk, OnErr, IsOk, vec_len, vec_capacity, length, ⊤};
-ghost use Rattle.gx_machine.specs.Keys.{keys_of, same_entry, matches};
-ghost use Rattle.gx_machine.specs.Sets.{has, including, excluding, including_all, excluding_all};
+ghost use Rattle.std.specs.Prelude.{insert, ◌≡◌, ◌+◌, ◌<◌, ◌≤◌, true, false, MatchOption, OnOk, OnErr, IsOk, vec_len, vec_capacity, length, ⊤};
+ghost use Rattle.gx_machine.specs.Keys.{keys_of, entry_cmp, same_entry, matches};
+ghost use Rattle.gx_machine.specs.Sets.{has, including, excluding, including_all, excluding_all, InOrder};
+ghost use Rattle.gx_session.specs.Orders.{IsSearched};
 
 use gx_geom::Shape;
 use gx_machine::Entry;
@@ -20,6 +21,32 @@ pub fn has<B: Shape>(e: &Entry<B>, set: &[Entry<B>]) -> bool
     ensures { result ≡ has (keys_of B.Shape) e.now set.now }
 {
     set.iter().any(|x| is_same(e, x))
+}
+
+// How two entries are ordered.
+fn compare<B: Shape>(a: &Entry<B>, b: &Entry<B>) -> Ordering
+    ensures { result ≡ entry_cmp (keys_of B.Shape) a.now b.now }
+{
+    a.cmp(b)
+}
+
+/// Where the entry stands in a set in order, or the place where it goes, searched by halves.
+pub(crate) fn find<B: Shape>(e: &Entry<B>, set: &[Entry<B>]) -> Result<usize, usize>
+    requires { InOrder (keys_of B.Shape) set.now }
+    ensures { IsSearched (keys_of B.Shape) e.now set.now result }
+{
+    set.binary_search_by(|x| compare(x, e))
+}
+
+/// Whether the entry is in a set in order, searched by halves.
+pub fn has_in_order<B: Shape>(e: &Entry<B>, set: &[Entry<B>]) -> bool
+    requires { InOrder (keys_of B.Shape) set.now }
+    ensures { result ≡ has (keys_of B.Shape) e.now set.now }
+{
+    match find(e, set) {
+        Ok(_) => true,
+        Err(_) => false,
+    }
 }
 
 /// Where the entry goes in the set, or nothing where it is there.
@@ -76,13 +103,14 @@ pub fn exclude<B: Shape>(e: &Entry<B>, set: &mut Vec<Entry<B>>)
     set.retain(|x| !is_same(e, x));
 }
 
-/// Takes each of these entries out of the set.
+/// Takes each of these entries, which are in order, out of the set.
 pub fn exclude_all<B: Shape>(gone: &[Entry<B>], set: &mut Vec<Entry<B>>)
+    requires { InOrder (keys_of B.Shape) gone.now }
     ensures items { set.new.items ≡ excluding_all (keys_of B.Shape) gone.now set.old.items }
     ensures capacity { vec_capacity set.old ≤ vec_capacity set.new }
     ensures no_more { vec_len set.new ≤ vec_len set.old }
 {
-    set.retain(|x| !has(x, gone));
+    set.retain(|x| !has_in_order(x, gone));
 }
 
 /// Puts each of these entries in its place. There is room for them all.

@@ -227,6 +227,7 @@ impl<B: Shape> Slot<B> {
         requires open { IsOpen self.old }
         requires room { vec_len latest.old + added ≤ vec_capacity latest.old }
         requires counted { added_by self.old ≤ added }
+        requires in_order { InOrder (keys_of B.Shape) latest.old.items }
         ensures closes { Closes (answer_insert (keys_of B.Shape) e latest.old.items (changes_of self.old)) self.old result self.new }
         ensures latest { latest.new.items ≡ latest.old.items }
         ensures room { vec_len latest.new + added + added_by self.new ≤ vec_capacity latest.new + added_by self.old }
@@ -247,6 +248,7 @@ impl<B: Shape> Slot<B> {
     fn delete(&mut self, e: Entry<B>, latest: &[Entry<B>]) -> Reply<B>
         requires open { IsDeleting e self.old }
         requires few { claims_of self.old ≤ MAX_CLAIMS }
+        requires in_order { InOrder (keys_of B.Shape) latest.now }
         ensures reply { result ≡ (answer_delete (keys_of B.Shape) e latest.now (changes_of self.old)).0 }
         ensures session { self.new ≡ Open (locks_of self.old) (answer_delete (keys_of B.Shape) e latest.now (changes_of self.old)).1 None }
         ensures added { added_by self.new ≤ added_by self.old }

@@ -15,29 +15,31 @@ pub fn has<B: Shape>(
     added: &[Entry<B>],
     taken: &[Entry<B>],
 ) -> bool
+    requires { InOrder (keys_of B.Shape) latest.now }
     ensures { result ≡ has (keys_of B.Shape) e.now
         (including_all (keys_of B.Shape) added.now (excluding_all (keys_of B.Shape) taken.now latest.now)) }
 {
-    sets::has(e, added) || !sets::has(e, taken) && sets::has(e, latest)
+    sets::has(e, added) || !sets::has(e, taken) && sets::has_in_order(e, latest)
 }
 
-/// The entries of the set, without those taken away, that match.
+/// The entries of the set that match, without those taken away. Few match, so each that does is looked up.
 fn matches_without<B: Shape>(
     alloc: Global,
     query: &Query<B>,
     set: &[Entry<B>],
     taken: &[Entry<B>],
 ) -> Result<Vec<Entry<B>>, AllocError>
-    ensures { IfOk result (λ v. v.items ≡ found (keys_of B.Shape) query.now (excluding_all (keys_of B.Shape) taken.now set.now)) }
+    requires { InOrder (keys_of B.Shape) taken.now }
+    ensures { IfOk result (λ v. v.items ≡ excluding_all (keys_of B.Shape) taken.now (found (keys_of B.Shape) query.now set.now)) }
 {
     set.iter()
-        .filter(|e| !sets::has(*e, taken))
         .filter(|e| held::matches(query, *e))
+        .filter(|e| !sets::has_in_order(*e, taken))
         .copied()
         .collect(alloc)
 }
 
-/// The entries of the view that match, in order.
+/// The entries of the view that match, in order. What was taken away is in order too.
 pub fn search<B: Shape>(
     alloc: Global,
     query: &Query<B>,
@@ -45,7 +47,8 @@ pub fn search<B: Shape>(
     added: &[Entry<B>],
     taken: &[Entry<B>],
 ) -> Result<Vec<Entry<B>>, AllocError>
-    requires { InOrder (keys_of B.Shape) latest.now }
+    requires in_order { InOrder (keys_of B.Shape) latest.now }
+    requires taken { InOrder (keys_of B.Shape) taken.now }
     ensures { IfOk result (λ v. v.items ≡ found (keys_of B.Shape) query.now
         (including_all (keys_of B.Shape) added.now (excluding_all (keys_of B.Shape) taken.now latest.now))) }
 {
@@ -58,11 +61,13 @@ pub fn search<B: Shape>(
     Ok(out)
 }
 
-/// Makes the set the view, for which there is room.
+/// Makes the set the view, for which there is room. What was taken away is in order too.
 pub fn take_over<B: Shape>(latest: &mut Vec<Entry<B>>, added: &[Entry<B>], taken: &[Entry<B>])
-    requires { vec_len latest.old + length added.now ≤ vec_capacity latest.old }
+    requires in_order { InOrder (keys_of B.Shape) latest.old.items }
+    requires taken { InOrder (keys_of B.Shape) taken.now }
+    requires room { vec_len latest.old + length added.now ≤ vec_capacity latest.old }
     ensures view { latest.new.items ≡ including_all (keys_of B.Shape) added.now (excluding_all (keys_of B.Shape) taken.now latest.old.items) }
-    ensures in_order { InOrder (keys_of B.Shape) latest.old.items → InOrder (keys_of B.Shape) latest.new.items }
+    ensures in_order { InOrder (keys_of B.Shape) latest.new.items }
     ensures room { vec_capacity latest.old ≤ vec_capacity latest.new }
     ensures grown { vec_len latest.new ≤ vec_len latest.old + length added.now }
 {

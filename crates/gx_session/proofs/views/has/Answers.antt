@@ -31,7 +31,7 @@ returns-then-not-has g c =
     let e = c.args.e.now in
     by_latest _ (has k e c.args.added.now) (has k e c.args.taken.now) (has k e c.args.latest.now) _ _ _
     (has-view k (record { total = g.met.B.Ord.total; exact = g.met.B.Shape.same }) e c.args.latest.now c.args.added.now c.args.taken.now)
-    c.has.ensures c.if-has.false c.has-else-has.ensures c.if-not-has.true c.has-then-not-has.ensures
+    c.has.ensures c.if-has.false c.has-else-has.ensures c.if-not-has.true c.has_in_order.ensures
 
 pub returns-else-not-has : goal.returns-else-not-has
 returns-else-not-has g c =
