@@ -127,6 +127,17 @@ no_spelling_begins_another key r s x y p q e =
     let both : first ≡ second = some_is first second (sym (record_again key r x p) ∙ ap (record_at key) e ∙ record_again key s y q) in
     (ap (λ (z : Rec × List ℕ). z.0) both, ap (λ (z : Rec × List ℕ). z.1) both)
 
+pub spelling_begins : (key : ℕ) (r : Rec) (rest : List ℕ) → IsRecord key r → BeginsWith key (spelling r ++ rest) r (length (spelling r)) × (drop (length (spelling r)) (spelling r ++ rest) ≡ rest)
+spelling_begins key r rest is =
+    let behind : drop (length (spelling r)) (spelling r ++ rest) ≡ rest = drop_at (spelling r) rest _ refl in
+    let begins : BeginsWith key (spelling r ++ rest) r (length (spelling r)) = record {
+      is_record = is;
+      size = refl;
+      within = omega (arith, length-append (spelling r) rest);
+      front = ap (λ (l : List ℕ). spelling r ++ l) (sym behind);
+    } in
+    (begins, behind)
+
 pub spelling_sizes : (key : ℕ) (r : Rec) → IsRecord key r → (9 ≤ length (spelling r)) × (length (spelling r) ≤ 12314 + key)
 spelling_sizes key (Pages counter used pages) is = let size = spelling_size (Pages counter used pages) is.in_range in let few = is.in_range.3 in (omega (arith, size), omega (arith, size, few))
 spelling_sizes key (Write tx row k before after leaf image) is = let size = spelling_size (Write tx row k before after leaf image) is.in_range in (omega (arith, size), omega (arith, size, is.has_key))

@@ -1,14 +1,18 @@
 -- The laws of the spelling.
-use Rattle.std.specs.Prelude.{◌≡◌, ◌↔◌, ℕ, ◌+◌, ◌≤◌, List, ◌++◌, length}
+use Rattle.std.specs.Prelude.{◌≡◌, ◌↔◌, ℕ, ◌+◌, ◌≤◌, List, ◌++◌, length, drop}
 use Rattle.std.specs.List.{AllByRecursion}
 use Rattle.gx_page.specs.Contents.{Contents}
 use Rattle.gx_page.specs.Format.{image_of, IsWellFormed}
 use Rattle.gx_record.specs.Rec.{Rec}
-use Rattle.gx_record.specs.Format.{spelling, spellings, IsImageOf, IsRecord}
+use Rattle.gx_record.specs.Format.{spelling, spellings, IsImageOf, IsRecord, BeginsWith}
 
 -- No spelling begins another: records whose spellings begin the same bytes are equal, and the same bytes follow them.
 abbrev pub NoSpellingBeginsAnother : Type 0
 NoSpellingBeginsAnother = (key : ℕ) (r s : Rec) (x y : List ℕ) → IsRecord key r → IsRecord key s → spelling r ++ x ≡ spelling s ++ y → (r ≡ s) × (x ≡ y)
+
+-- a spelling stands at the front of the bytes that it begins
+abbrev pub SpellingsBegin : Type 0
+SpellingsBegin = (key : ℕ) (r : Rec) (rest : List ℕ) → IsRecord key r → BeginsWith key (spelling r ++ rest) r (length (spelling r)) × (drop (length (spelling r)) (spelling r ++ rest) ≡ rest)
 
 -- bytes are whole records in one way only
 abbrev pub SpellingsTell : Type 0
