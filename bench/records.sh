@@ -1,0 +1,14 @@
+#!/bin/sh
+# Builds the proved records and the C program, compares what both write and read over many seeded records, and times both.
+# The argument, if there is one, is the seed. CC names another compiler.
+set -eu
+top=$(cd "$(dirname "$0")/.." && pwd)
+made=$(mktemp -d)
+trap 'rm -rf "$made"' EXIT
+cd "$top/crates/gx_record_bench"
+if ! rt lib >"$made/log" 2>&1; then
+    cat "$made/log"
+    exit 1
+fi
+"${CC:-gcc}" -O2 -o "$made/records" "$top/bench/records.c" out/libgx_record_bench.a
+"$made/records" "$@"
