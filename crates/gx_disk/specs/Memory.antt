@@ -1,10 +1,8 @@
 -- A device in memory: its record of writes and syncs, and what it held before them.
-use Rattle.std.specs.Prelude.{◌≡◌, ℕ, zero, suc, ◌+◌, ◌*◌, ◌%◌, ◌<◌, ◌≤◌, List, [], ◌∷◌, length, take, drop, slice_index_or, Bool, true, false, ◌&&◌, ◌||◌, nat_le, nat_lt, if◌then◌else◌}
+use Rattle.std.specs.Prelude.{◌≡◌, ℕ, ◌+◌, ◌-◌, ◌*◌, ◌≤◌, List, [], ◌∷◌, length, take, drop, Bool, true, false, ◌&&◌, ◌||◌, nat_le, nat_lt, if◌then◌else◌, Option, Some, None}
 use Rattle.gx_disk.specs.declared.memory.Call.{Call}
 use Rattle.gx_disk.specs.declared.memory.Call.TheVariants.{Write, Sync}
-use Rattle.gx_disk.specs.declared.memory.Torn.{Torn}
-use Rattle.gx_disk.specs.declared.memory.Torn.TheVariants.{Old, New, Bytes}
-use Rattle.gx_disk.specs.Sectors.{sector_of, put}
+use Rattle.gx_disk.specs.Sectors.{put}
 use Rattle.gx_disk.specs.Device.{Device, IsImage}
 
 -- whether a sector is one of the n from first on
@@ -25,6 +23,11 @@ pending_after (call ∷ calls) was s = pending_after calls (pending_next call wa
 unfoldable pub size_kept : Call → ℕ
 size_kept Sync = 0
 size_kept (Write first n kept) = 512 * kept
+
+-- where the overwritten bytes of one call have a sector, if they do
+unfoldable pub place_kept : Call → ℕ → Option ℕ
+place_kept Sync s = None
+place_kept (Write first n kept) s = if is_within first kept s then Some (512 * (s - first)) else None
 
 -- how many overwritten bytes were kept of these calls
 unfoldable pub total_kept : List Call → ℕ
@@ -71,24 +74,3 @@ pub record IsKept (sectors : ℕ) (calls : List Call) (kept : List ℕ) (synced 
   pub since : synced ≤ length calls
   pub since_size : synced_size ≡ total_kept (take synced calls)
   pub since_pending : (s : ℕ) → pending_after calls false s ≡ pending_after (drop synced calls) false s
-
--- how many of the first sectors are pending
-unfoldable pub pending_below : (ℕ → Bool) → ℕ → ℕ
-pending_below pending zero = 0
-pending_below pending (suc s) = pending_below pending s + (if pending s then 1 else 0)
-
--- what the i-th unsynced sector takes of these choices, in turn: its old bytes where there is no choice
-abbrev pub choice_of : List Torn → ℕ → Torn
-choice_of torn i = slice_index_or torn (i % length torn) Old
-
--- a sector's bytes by a choice, of its old and new bytes
-abbrev pub torn_bytes : Torn → List ℕ → List ℕ → List ℕ
-torn_bytes Old old new = old
-torn_bytes New old new = new
-torn_bytes (Bytes bytes) old new = bytes
-
--- the bytes after a crash: each unsynced sector by number takes the next choice of its bytes at the last sync and now, and no other changes
-pub record IsCrash (sectors : ℕ) (pending : ℕ → Bool) (synced bytes : List ℕ) (torn : List Torn) (left : List ℕ) : Type 0 where
-  pub size : length left ≡ length bytes
-  pub torn_ones : (s : ℕ) → s < sectors → pending s ≡ true → sector_of left s ≡ torn_bytes (choice_of torn (pending_below pending s)) (sector_of synced s) (sector_of bytes s)
-  pub others : (s : ℕ) → s < sectors → pending s ≡ false → sector_of left s ≡ sector_of bytes s

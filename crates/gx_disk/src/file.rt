@@ -1,10 +1,10 @@
 //! A device in a file.
 //!
 //! Nothing is claimed of what the file holds: that the system keeps it is a premise of whoever runs on a file.
-ghost use Rattle.std.specs.Prelude.{◌≡◌, ◌+◌, ◌*◌, ◌^◌, ◌<◌, ◌≤◌, ℕ, List, length, IsOk, IsErr, IfOk, MatchResult};
+ghost use Rattle.std.specs.Prelude.{◌≡◌, ◌+◌, ◌*◌, ◌^◌, ◌<◌, ◌≤◌, ℕ, List, length, IsOk, IsErr, IfOk};
 
 use crate::device::{DiskFault, SECTOR_SIZE, SectorDisk};
-use crate::tally::Tally;
+use crate::tally::{Tally, counted};
 use std::fs::{File, Files, OpenOptions};
 use std::os::unix::fs::FileExt;
 use std::path::AsPath;
@@ -28,6 +28,17 @@ fn lock(file: File) -> Result<File, DiskFault> {
     match file.try_lock() {
         Ok(()) => Ok(file),
         Err(_) => Err(DiskFault::InUse),
+    }
+}
+
+// Whatever the system refused is one fault.
+fn file_fault<E: Drop>(outcome: Result<(), E>) -> Result<(), DiskFault>
+    ensures ok { IsOk outcome → IsOk result }
+    ensures err { IsErr outcome → IsErr result }
+{
+    match outcome {
+        Ok(()) => Ok(()),
+        Err(_) => Err(DiskFault::File),
     }
 }
 
@@ -95,22 +106,6 @@ impl FileDisk {
             calls: Tally::zero(),
         })
     }
-
-    // A call's answer, of which a refusal counts as a fault.
-    fn counted<E: Drop>(&mut self, outcome: Result<(), E>) -> Result<(), DiskFault>
-        ensures ok { IsOk outcome → IsOk result }
-        ensures err { IsErr outcome → IsErr result }
-        ensures faults { MatchResult result (λ _. self.new.faults.count ≡ self.old.faults.count) (λ _. self.new.faults.count ≡ self.old.faults.count + 1) }
-        ensures rest { (self.new.sectors ≡ self.old.sectors) × (self.new.calls.count ≡ self.old.calls.count) }
-    {
-        match outcome {
-            Ok(()) => Ok(()),
-            Err(_) => {
-                self.faults = self.faults.next();
-                Err(DiskFault::File)
-            }
-        }
-    }
 }
 
 impl SectorDisk for FileDisk {
@@ -139,26 +134,26 @@ impl SectorDisk for FileDisk {
     }
 
     fn read(&mut self, first: u64, buffer: &mut [u8]) -> Result<(), DiskFault> {
-        let result = self.file.read_exact_at(buffer, first * SECTOR);
-        self.counted(result)
+        let outcome = file_fault(self.file.read_exact_at(buffer, first * SECTOR));
+        counted(&mut self.faults, outcome)
     }
 
     fn write(&mut self, first: u64, bytes: &[u8]) -> Result<(), DiskFault> {
         self.calls = self.calls.next();
-        let result = self.file.write_all_at(bytes, first * SECTOR);
-        self.counted(result)
+        let outcome = file_fault(self.file.write_all_at(bytes, first * SECTOR));
+        counted(&mut self.faults, outcome)
     }
 
     fn sync(&mut self) -> Result<(), DiskFault> {
         self.calls = self.calls.next();
-        let result = if self.grown {
+        let outcome = file_fault(if self.grown {
             self.file.sync_all()
         } else {
             self.file.sync_data()
-        };
-        if result.is_ok() {
+        });
+        if outcome.is_ok() {
             self.grown = false;
         }
-        self.counted(result)
+        counted(&mut self.faults, outcome)
     }
 }

@@ -2,10 +2,10 @@
 ghost use Rattle.std.specs.Prelude.{◌≡◌, ◌+◌, ◌-◌, ◌/◌, ◌||◌, ℕ, true, false, length, IsErr};
 ghost use Rattle.gx_disk.specs.Sectors.{IsSpan};
 ghost use Rattle.gx_disk.specs.Device.{Counts, Reads, Writes, Syncs};
-ghost use Rattle.gx_disk.specs.Fuse.{blows, blows_again};
+ghost use Rattle.gx_disk.specs.Fuse.{blows, blows_again, Burns, IsMade};
 
 use crate::device::{DiskFault, SECTOR_SIZE, SectorDisk};
-use crate::tally::Tally;
+use crate::tally::{Tally, counted};
 
 /// How often a fuse blows.
 #[derive(Clone, Copy)]
@@ -114,44 +114,55 @@ impl<D: SectorDisk> SectorDisk for FuseDisk<D> {
         self.inner.sectors()
     }
 
-    fn read(&mut self, first: u64, buffer: &mut [u8]) -> Result<(), DiskFault> {
+    fn read(&mut self, first: u64, buffer: &mut [u8]) -> Result<(), DiskFault>
+        requires { IsSpan (D.state self.old.inner).sectors first (length buffer.old) }
+        ensures counts { Counts 0 (⟦<FuseDisk<D> as SectorDisk>⟧.state self.old) (⟦<FuseDisk<D> as SectorDisk>⟧.state self.new) result }
+        ensures reads { (D.state self.old.inner).honest ≡ true → Reads first buffer.new (⟦<FuseDisk<D> as SectorDisk>⟧.state self.old) (⟦<FuseDisk<D> as SectorDisk>⟧.state self.new) result }
+        ensures burns { Burns self.old.fuse self.new.fuse self.old.done self.new.done self.old.left self.new.left self.old.blown self.new.blown }
+        ensures fails { blows self.old.left self.old.blown self.old.fuse ≡ true → IsErr result × (self.new.inner ≡ self.old.inner) }
+        ensures passes { blows self.old.left self.old.blown self.old.fuse ≡ false → Counts 0 (D.state self.old.inner) (D.state self.new.inner) result }
+    {
         if burn(&mut self.left, &mut self.blown, self.fuse) {
-            self.faults = self.faults.next();
-            return Err(DiskFault::Fuse);
+            return counted(&mut self.faults, Err(DiskFault::Fuse));
         }
-        let result = self.inner.read(first, buffer);
-        if result.is_err() {
-            self.faults = self.faults.next();
-        }
-        result
+        let outcome = self.inner.read(first, buffer);
+        counted(&mut self.faults, outcome)
     }
 
-    fn write(&mut self, first: u64, bytes: &[u8]) -> Result<(), DiskFault> {
+    fn write(&mut self, first: u64, bytes: &[u8]) -> Result<(), DiskFault>
+        requires { IsSpan (D.state self.old.inner).sectors first (length bytes.now) }
+        ensures counts { Counts 1 (⟦<FuseDisk<D> as SectorDisk>⟧.state self.old) (⟦<FuseDisk<D> as SectorDisk>⟧.state self.new) result }
+        ensures writes { (D.state self.old.inner).honest ≡ true → Writes first (length bytes.now / SECTOR_SIZE) bytes.now (⟦<FuseDisk<D> as SectorDisk>⟧.state self.old) (⟦<FuseDisk<D> as SectorDisk>⟧.state self.new) result }
+        ensures burns { Burns self.old.fuse self.new.fuse self.old.done self.new.done self.old.left self.new.left self.old.blown self.new.blown }
+        ensures fails { blows self.old.left self.old.blown self.old.fuse ≡ true → IsErr result }
+        ensures not_made { blows self.old.left self.old.blown self.old.fuse ≡ true → self.old.done ≡ false → self.new.inner ≡ self.old.inner }
+        ensures made { blows self.old.left self.old.blown self.old.fuse ≡ true → self.old.done ≡ true
+            → IsMade first (length bytes.now / SECTOR_SIZE) bytes.now (D.state self.old.inner) (D.state self.new.inner) }
+        ensures passes { blows self.old.left self.old.blown self.old.fuse ≡ false → Counts 1 (D.state self.old.inner) (D.state self.new.inner) result }
+    {
         self.calls = self.calls.next();
         if burn(&mut self.left, &mut self.blown, self.fuse) {
-            self.faults = self.faults.next();
             if self.done {
                 let _ = self.inner.write(first, bytes);
             }
-            return Err(DiskFault::Fuse);
+            return counted(&mut self.faults, Err(DiskFault::Fuse));
         }
-        let result = self.inner.write(first, bytes);
-        if result.is_err() {
-            self.faults = self.faults.next();
-        }
-        result
+        let outcome = self.inner.write(first, bytes);
+        counted(&mut self.faults, outcome)
     }
 
-    fn sync(&mut self) -> Result<(), DiskFault> {
+    fn sync(&mut self) -> Result<(), DiskFault>
+        ensures counts { Counts 1 (⟦<FuseDisk<D> as SectorDisk>⟧.state self.old) (⟦<FuseDisk<D> as SectorDisk>⟧.state self.new) result }
+        ensures syncs { (D.state self.old.inner).honest ≡ true → Syncs (⟦<FuseDisk<D> as SectorDisk>⟧.state self.old) (⟦<FuseDisk<D> as SectorDisk>⟧.state self.new) result }
+        ensures burns { Burns self.old.fuse self.new.fuse self.old.done self.new.done self.old.left self.new.left self.old.blown self.new.blown }
+        ensures fails { blows self.old.left self.old.blown self.old.fuse ≡ true → IsErr result × (self.new.inner ≡ self.old.inner) }
+        ensures passes { blows self.old.left self.old.blown self.old.fuse ≡ false → Counts 1 (D.state self.old.inner) (D.state self.new.inner) result }
+    {
         self.calls = self.calls.next();
         if burn(&mut self.left, &mut self.blown, self.fuse) {
-            self.faults = self.faults.next();
-            return Err(DiskFault::Fuse);
+            return counted(&mut self.faults, Err(DiskFault::Fuse));
         }
-        let result = self.inner.sync();
-        if result.is_err() {
-            self.faults = self.faults.next();
-        }
-        result
+        let outcome = self.inner.sync();
+        counted(&mut self.faults, outcome)
     }
 }

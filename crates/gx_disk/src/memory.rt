@@ -1,13 +1,15 @@
 //! A device in memory. It keeps a record of its writes and syncs, since a crash may fall at each earlier moment.
 ghost use Rattle.std.specs.Prelude.{◌≡◌, ◌+◌, ◌-◌, ◌*◌, ◌/◌, ◌%◌, ◌<◌, ◌≤◌, ℕ, List, [], ◌∷◌, ◌++◌, length, take, drop, replicate, Bool, false, true, IsTrue, IsOk, IfOk, IfErr, OnOk, OnErr, vec_len, vec_capacity};
 ghost use Rattle.gx_disk.specs.Sectors.{IsSpan, put};
-ghost use Rattle.gx_disk.specs.Device.{Counts, Reads, Writes, Syncs};
-ghost use Rattle.gx_disk.specs.Memory.{device_of, IsKept};
+ghost use Rattle.gx_disk.specs.Device.{IsImage, Counts, Reads, Writes, Syncs};
+ghost use Rattle.gx_disk.specs.Memory.{pending_after, bytes_at, device_of, IsKept};
+ghost use Rattle.gx_disk.specs.Crash.{pending_below, IsCrash};
 ghost use Rattle.gx_disk.specs.Past.{image_counts, image_is_now};
 ghost use Rattle.gx_disk.specs.Room.{HasRoom};
 
 use crate::device::{DiskFault, SECTOR_SIZE, SectorDisk};
-use crate::tally::Tally;
+use crate::tally::{Tally, counted};
+use crate::tear::{count_pending, tear};
 use std::alloc::{AllocError, Global};
 
 /// What a crash leaves of a sector that was written since the last sync.
@@ -52,11 +54,19 @@ pub struct MemDisk {
 }
 
 // So many bytes from a place on.
-fn part(bytes: &[u8], at: usize, size: usize) -> &[u8]
+pub(crate) fn part(bytes: &[u8], at: usize, size: usize) -> &[u8]
     requires { at + size ≤ length bytes.now }
     ensures { result.now ≡ take size (drop at bytes.now) }
 {
     &bytes[at..at + size]
+}
+
+// What lies behind the first so many.
+fn behind<T>(all: &[T], count: usize) -> &[T]
+    requires { count ≤ length all.now }
+    ensures { result.now ≡ drop count all.now }
+{
+    &all[count..]
 }
 
 // Whether the bytes are the same.
@@ -104,7 +114,7 @@ fn remember(
 
 #[tactic(auto, unfolding(crate::specs::Sectors::put))]
 // Puts bytes over those from a place on.
-fn overwrite(bytes: &mut Vec<u8>, at: usize, new: &[u8])
+pub(crate) fn overwrite(bytes: &mut Vec<u8>, at: usize, new: &[u8])
     requires { at + length new.now ≤ length bytes.old.items }
     ensures { bytes.new.items ≡ put at new.now bytes.old.items }
 {
@@ -157,6 +167,50 @@ impl MemDisk {
         self.past.reserve(calls)?;
         self.kept.reserve(size)
     }
+
+    /// Cuts the device to its first sectors, with nothing pending. Its record begins anew.
+    #[tactic(auto, unfolding(crate::specs::Memory::total_kept, crate::specs::Memory::pending_after, crate::specs::Memory::fit_all))]
+    pub fn cut(&mut self, sectors: usize)
+        requires { sectors ≤ self.old.sectors }
+        ensures sectors { self.new.sectors ≡ sectors }
+        ensures bytes { self.new.bytes.items ≡ take (512 * sectors) self.old.bytes.items }
+        ensures past { self.new.past.items ≡ [] }
+        ensures room { (c n : ℕ) → HasRoom c n self.old.past self.old.kept → HasRoom c n self.new.past self.new.kept }
+    {
+        self.bytes.truncate(SECTOR_SIZE * sectors);
+        self.sectors = sectors;
+        self.past.clear();
+        self.kept.clear();
+        self.synced = 0;
+        self.synced_size = 0;
+    }
+
+    /// How many sectors were written since the last sync that succeeded, or the last crash.
+    pub fn unsynced(&self) -> usize
+        ensures { result ≡ pending_below (pending_after self.now.past.items false) self.now.sectors }
+    {
+        count_pending(behind(&self.past, self.synced), self.sectors)
+    }
+
+    #[tactic(auto, unfolding(crate::specs::Memory::total_kept, crate::specs::Memory::pending_after, crate::specs::Memory::fit_all))]
+    /// A crash. The i-th unsynced sector by number takes the choice i mod the number of choices; with none all are old.
+    /// Afterwards nothing is pending, and the record begins anew.
+    pub fn crash(&mut self, torn: &[Torn])
+        ensures crash { IsCrash self.old.sectors (pending_after self.old.past.items false) torn.now
+            (bytes_at self.old.synced self.old.past.items self.old.kept.items self.old.bytes.items) self.old.bytes.items self.new.bytes.items }
+        ensures image { IsImage self.old.bytes.items (pending_after self.old.past.items false) self.new.bytes.items }
+        ensures past { self.new.past.items ≡ [] }
+        ensures sectors { self.new.sectors ≡ self.old.sectors }
+        ensures room { (c n : ℕ) → HasRoom c n self.old.past self.old.kept → HasRoom c n self.new.past self.new.kept }
+    {
+        let calls = behind(&self.past, self.synced);
+        let kept = behind(&self.kept, self.synced_size);
+        tear(&mut self.bytes, calls, kept, self.sectors, torn);
+        self.past.clear();
+        self.kept.clear();
+        self.synced = 0;
+        self.synced_size = 0;
+    }
 }
 
 impl SectorDisk for MemDisk {
@@ -179,14 +233,22 @@ impl SectorDisk for MemDisk {
         Ok(())
     }
 
-    fn write(&mut self, first: u64, bytes: &[u8]) -> Result<(), DiskFault> {
+    fn write(&mut self, first: u64, bytes: &[u8]) -> Result<(), DiskFault>
+        requires { IsSpan self.old.sectors first (length bytes.now) }
+        ensures counts { Counts 1 (⟦<MemDisk as SectorDisk>⟧.state self.old) (⟦<MemDisk as SectorDisk>⟧.state self.new) result }
+        ensures writes { Writes first (length bytes.now / SECTOR_SIZE) bytes.now (⟦<MemDisk as SectorDisk>⟧.state self.old) (⟦<MemDisk as SectorDisk>⟧.state self.new) result }
+        ensures fault { IfErr result (λ fault. fault ≡ DiskFault.Memory) }
+        ensures room { HasRoom 1 (length bytes.now) self.old.past self.old.kept → IsOk result }
+        ensures left { (c n : ℕ) → HasRoom (c + 1) (n + length bytes.now) self.old.past self.old.kept → HasRoom c n self.new.past self.new.kept }
+    {
         self.calls = self.calls.next();
         let first = first as usize;
         let at = SECTOR_SIZE * first;
         let kept = changed(part(&self.bytes, at, bytes.len()), bytes);
+        let count = bytes.len() / SECTOR_SIZE;
         let call = Call::Write {
             first,
-            sectors: bytes.len() / SECTOR_SIZE,
+            sectors: count,
             kept,
         };
         let overwritten = part(&self.bytes, at, SECTOR_SIZE * kept);
@@ -195,14 +257,17 @@ impl SectorDisk for MemDisk {
                 overwrite(&mut self.bytes, at, bytes);
                 Ok(())
             }
-            Err(_) => {
-                self.faults = self.faults.next();
-                Err(DiskFault::Memory)
-            }
+            Err(_) => counted(&mut self.faults, Err(DiskFault::Memory)),
         }
     }
 
-    fn sync(&mut self) -> Result<(), DiskFault> {
+    fn sync(&mut self) -> Result<(), DiskFault>
+        ensures counts { Counts 1 (⟦<MemDisk as SectorDisk>⟧.state self.old) (⟦<MemDisk as SectorDisk>⟧.state self.new) result }
+        ensures syncs { Syncs (⟦<MemDisk as SectorDisk>⟧.state self.old) (⟦<MemDisk as SectorDisk>⟧.state self.new) result }
+        ensures fault { IfErr result (λ fault. fault ≡ DiskFault.Memory) }
+        ensures room { HasRoom 1 0 self.old.past self.old.kept → IsOk result }
+        ensures left { (c n : ℕ) → HasRoom (c + 1) n self.old.past self.old.kept → HasRoom c n self.new.past self.new.kept }
+    {
         self.calls = self.calls.next();
         match remember(&mut self.past, &mut self.kept, Call::Sync, &[]) {
             Ok(()) => {
@@ -210,10 +275,7 @@ impl SectorDisk for MemDisk {
                 self.synced_size = self.kept.len();
                 Ok(())
             }
-            Err(_) => {
-                self.faults = self.faults.next();
-                Err(DiskFault::Memory)
-            }
+            Err(_) => counted(&mut self.faults, Err(DiskFault::Memory)),
         }
     }
 }

@@ -1,7 +1,8 @@
 //! A count that only proofs read. It takes no bytes, so it may rise for ever.
-ghost use Rattle.std.specs.Prelude.{◌≡◌, ◌+◌, ℕ};
+ghost use Rattle.std.specs.Prelude.{◌≡◌, ◌+◌, ℕ, MatchResult};
 ghost use base.Fml.{ftrue};
 
+use crate::device::DiskFault;
 use std::marker::Model;
 
 /// How often something was done.
@@ -31,4 +32,16 @@ impl Tally {
     {
         Tally {}
     }
+}
+
+/// A call's outcome. A refusal counts as one fault.
+pub(crate) fn counted(faults: &mut Tally, outcome: Result<(), DiskFault>) -> Result<(), DiskFault>
+    ensures outcome { result ≡ outcome }
+    ensures faults { MatchResult outcome (λ _. faults.new.count ≡ faults.old.count) (λ _. faults.new.count ≡ faults.old.count + 1) }
+{
+    if let Err(fault) = outcome {
+        *faults = faults.next();
+        return Err(fault);
+    }
+    Ok(())
 }
