@@ -1,0 +1,10 @@
+pub mod Tests
+pub mod Folds
+pub mod Touches
+pub mod Lookups
+pub mod Fair
+pub mod Told
+pub mod Logs
+pub mod Sets
+pub mod States
+pub mod Lives

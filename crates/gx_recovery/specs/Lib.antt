@@ -1,0 +1,10 @@
+pub mod Records
+pub mod Known
+pub mod Analysis
+pub mod Redo
+pub mod Standing
+pub mod Damage
+pub mod Coming
+pub mod Logged
+pub mod Renewal
+pub mod Life
