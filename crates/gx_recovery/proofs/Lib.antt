@@ -8,3 +8,6 @@ pub mod Logs
 pub mod Sets
 pub mod States
 pub mod Lives
+pub mod Renewals
+pub mod Moves
+pub mod Undo

@@ -105,7 +105,12 @@ abbrev pub IsLife : {E P : Type 0} → Known E P → Logged E P → List (LogSte
 IsLife k old [] new = new ≡ old
 IsLife {E} {P} k old (step ∷ steps) new = (middle : Logged E P) × IsLogStep k old step middle × IsLife k middle steps new
 
--- from old, some moves of the kept sets lead to new
+-- what the steps of a life do to the kept sets
+abbrev pub moves_of : {E P : Type 0} → (k : Known E P) → (old : Logged E P) → (steps : List (LogStep E P)) → (new : Logged E P) → IsLife k old steps new → List (Move E)
+moves_of k old [] new life = []
+moves_of k old (step ∷ steps) new life = move_of k old step ∷ moves_of k life.0 steps new life.2
+
+-- from old, these moves of the kept sets lead to new
 abbrev pub AreMoves : {E : Type 0} → Kept E → List (Move E) → Kept E → Type 0
 AreMoves old [] new = new ≡ old
 AreMoves {E} old (move ∷ moves) new = (middle : Kept E) × IsMove old move middle × AreMoves middle moves new
