@@ -7,3 +7,6 @@ pub mod StepEffects
 pub mod StepsKeep
 pub mod SerialRuns
 pub mod AloneRuns
+pub mod RunLemmas
+pub mod Answered
+pub mod Survival

@@ -1,14 +1,15 @@
 -- Sessions by their numbers, in the list of all eight.
 use Rattle.std.proofs.Common.{◌≡◌, ◌≢◌, ℕ, zero, suc, ◌+◌, ◌-◌, ◌<◌, Bool, true, false, not, ◌&&◌, ◌⊎◌, inl, inr, List, [], ◌∷◌, Option, Some, None, length, replicate, refl, ap, ◌∙◌, arith, get_or-set_same, get_or-set_other}
-use Rattle.std.specs.Prelude.{if◌then◌else◌, nat_lt, ◌==◌, slice_set}
+use Rattle.std.specs.Prelude.{if◌then◌else◌, nat_lt, nat_le, ◌==◌, slice_set}
 use Rattle.std.specs.List.{slice_index_or}
-use Rattle.std.proofs.lemmas.Bool.{ltb-true, ne_eqb}
+use Rattle.std.proofs.lemmas.Bool.{ltb-true, leb-true, ne_eqb}
 use Rattle.std.proofs.lemmas.List.{get_or-replicate}
 use Rattle.std.proofs.Math.Decide.{ℕ_discrete}
 use Rattle.gx_machine.specs.declared.call.Call.{Call}
+use Rattle.gx_machine.specs.declared.call.Call.TheVariants.{Begin, Insert, Delete, Search, Commit, Abort}
 use Rattle.gx_machine.specs.Keys.{Keys}
-use Rattle.gx_machine.specs.Sessions.{Session, Idle, session_bars}
-use Rattle.gx_machine.specs.Machine.{is_session, session_at, least_barring}
+use Rattle.gx_machine.specs.Sessions.{Session, Idle, no_locks, conflicts, session_conflicts}
+use Rattle.gx_machine.specs.Machine.{is_session, session_at, least_conflicting}
 
 both_first : (a b : Bool) → (a && b) ≡ true → a ≡ true
 both_first true b h = refl
@@ -20,18 +21,27 @@ both_second false b h = cc
 
 pub session_bounds : (s : ℕ) → is_session s ≡ true → (0 < s) × (s < 9)
 session_bounds s h =
-    (ltb-true 0 s (both_first (nat_lt 0 s) (nat_lt s 9) h), ltb-true s 9 (both_second (nat_lt 0 s) (nat_lt s 9) h))
+    (ltb-true 0 s (both_first (nat_lt 0 s) (nat_le s 8) h), omega (arith, leb-true s 8 (both_second (nat_lt 0 s) (nat_le s 8) h)))
 
-abbrev barring : Bool → ℕ → Option ℕ → Option ℕ
-barring test n rest = if test then Some n else rest
+abbrev conflicting : Bool → ℕ → Option ℕ → Option ℕ
+conflicting test n rest = if test then Some n else rest
 
-not_barring : (test : Bool) (n : ℕ) (rest : Option ℕ) → barring test n rest ≡ None → (test ≡ false) × (rest ≡ None)
-not_barring true n rest h = let no : ⊥ = cc in absurd no
-not_barring false n rest h = (refl, h)
+not_conflicting : (test : Bool) (n : ℕ) (rest : Option ℕ) → conflicting test n rest ≡ None → (test ≡ false) × (rest ≡ None)
+not_conflicting true n rest h = let no : ⊥ = cc in absurd no
+not_conflicting false n rest h = (refl, h)
 
-bars_nothing : (same bars : Bool) → same ≡ false → (not same && bars) ≡ false → bars ≡ false
-bars_nothing true bars e h = cc
-bars_nothing false bars e h = h
+conflicts_not : (same meets : Bool) → same ≡ false → (not same && meets) ≡ false → meets ≡ false
+conflicts_not true meets e h = cc
+conflicts_not false meets e h = h
+
+-- nothing conflicts with no locks
+pub idle_clear : {B : Type 0} (k : Keys B) (call : Call B) → conflicts k call no_locks ≡ false
+idle_clear k Begin = refl
+idle_clear k (Insert e) = refl
+idle_clear k (Delete e) = refl
+idle_clear k (Search q) = refl
+idle_clear k Commit = refl
+idle_clear k Abort = refl
 
 module _ {B : Type 0} where
   -- a place read where the number is a session's
@@ -80,26 +90,26 @@ module _ {B : Type 0} where
   at_idle a = idle_place a (is_session a) refl
 
   module _ (k : Keys B) (call : Call B) (s : ℕ) where
-    none_bars : (n : ℕ) (sessions : List (Session B)) (i : ℕ) → least_barring k call s n sessions ≡ None → n + i ≢ s
-        → session_bars k call (slice_index_or sessions i Idle) ≡ false
-    none_bars n [] i none ne = refl
-    none_bars n (x ∷ xs) zero none ne =
+    none_at : (n : ℕ) (sessions : List (Session B)) (i : ℕ) → least_conflicting k call s n sessions ≡ None → n + i ≢ s
+        → session_conflicts k call (slice_index_or sessions i Idle) ≡ false
+    none_at n [] i none ne = idle_clear k call
+    none_at n (x ∷ xs) zero none ne =
         let other : n ≢ s = λ e. ne (omega arith) in
-        bars_nothing (n == s) (session_bars k call x) (ne_eqb n s other)
-        (not_barring (not (n == s) && session_bars k call x) n (least_barring k call s (n + 1) xs) none).0
-    none_bars n (x ∷ xs) (suc i) none ne =
+        conflicts_not (n == s) (session_conflicts k call x) (ne_eqb n s other)
+        (not_conflicting (not (n == s) && session_conflicts k call x) n (least_conflicting k call s (n + 1) xs) none).0
+    none_at n (x ∷ xs) (suc i) none ne =
         let other : (n + 1) + i ≢ s = λ e. ne (omega arith) in
-        none_bars (n + 1) xs i (not_barring (not (n == s) && session_bars k call x) n (least_barring k call s (n + 1) xs) none).1 other
+        none_at (n + 1) xs i (not_conflicting (not (n == s) && session_conflicts k call x) n (least_conflicting k call s (n + 1) xs) none).1 other
 
-    place_bars : (a : ℕ) (sessions : List (Session B)) (there : Bool) → is_session a ≡ there → least_barring k call s 1 sessions ≡ None → a ≢ s
-        → session_bars k call (place there a sessions) ≡ false
-    place_bars a sessions true is none ne =
+    place_clear : (a : ℕ) (sessions : List (Session B)) (there : Bool) → is_session a ≡ there → least_conflicting k call s 1 sessions ≡ None → a ≢ s
+        → session_conflicts k call (place there a sessions) ≡ false
+    place_clear a sessions true is none ne =
         let bounds : (0 < a) × (a < 9) = session_bounds a is in
         let other : 1 + (a - 1) ≢ s = λ e. ne (omega arith) in
-        none_bars 1 sessions (a - 1) none other
-    place_bars a sessions false is none ne = refl
+        none_at 1 sessions (a - 1) none other
+    place_clear a sessions false is none ne = idle_clear k call
 
     -- where no session is found that conflicts, no other one does
-    pub others_clear : (sessions : List (Session B)) → least_barring k call s 1 sessions ≡ None → (a : ℕ) → a ≢ s
-        → session_bars k call (session_at a sessions) ≡ false
-    others_clear sessions none a ne = place_bars a sessions (is_session a) refl none ne
+    pub others_clear : (sessions : List (Session B)) → least_conflicting k call s 1 sessions ≡ None → (a : ℕ) → a ≢ s
+        → session_conflicts k call (session_at a sessions) ≡ false
+    others_clear sessions none a ne = place_clear a sessions (is_session a) refl none ne

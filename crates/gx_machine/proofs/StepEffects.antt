@@ -11,32 +11,30 @@ use Rattle.gx_machine.specs.declared.reply.Reply.TheVariants as reply
 use Rattle.gx_machine.specs.declared.reply.Asked.{Asked}
 use Rattle.gx_machine.specs.declared.reply.Asked.TheVariants as asked
 use Rattle.gx_machine.specs.Keys.{Keys, IsLawful}
-use Rattle.gx_machine.specs.Sessions.{Session, Idle, Open, Aborting, Committing, Held, session_bars, ask_session, answer_session, sealed_set, closed_session, view}
-use Rattle.gx_machine.specs.Machine.{Machine, newest, is_session, session_at, with_session, least_barring, claims_held, ask, answer, seal, durable, close, crash}
-use Rattle.gx_machine.specs.Runs.{Step, Asks, Answers, Seals, Durable, Crashes, RefusesAsk, RefusesCall, IsStep, AskRefused, CallRefused}
+use Rattle.gx_machine.specs.Sessions.{Session, Idle, Open, Aborting, Committing, Locks, Changes, ask_session, answer_session, sealed_set, closed_session, view}
+use Rattle.gx_machine.specs.Machine.{Machine, newest, kept_sets, is_session, session_at, with_session, least_conflicting, claims_held, ask, answer, seal, durable, close, crash}
+use Rattle.gx_machine.specs.Runs.{Step, Asks, Answers, Seals, Durable, Closes, RefusesAsk, RefusesCall, Fails, Crashes, Nothing, IsStep, AskRefused, MeetsFault}
+use Rattle.gx_machine.specs.Outcomes.{NoneConflicts}
 use Rattle.gx_machine.proofs.SessionMoves.{Move, ask_move, answer_move, close_move, value_of}
 use Rattle.gx_machine.proofs.Places.{session_there, others_clear}
 
--- no other session than this conflicts with the call
-abbrev pub IsFree : {B : Type 0} → Keys B → ℕ → List (Session B) → Call B → Type 0
-IsFree k s sessions call = (a : ℕ) → a ≢ s → session_bars k call (session_at a sessions) ≡ false
-
 -- the machine once the commit of this session is sealed
-abbrev pub sealed_machine : {B : Type 0} → Keys B → ℕ → Held B → Machine B → Machine B
-sealed_machine k s h m = record m {
-  older = m.older ++ m.latest ∷ [];
-  latest = view k m.latest h;
+abbrev pub sealed_machine : {B : Type 0} → Keys B → ℕ → Changes B → Machine B → Machine B
+sealed_machine k s changes m = record m {
+  older = kept_sets m;
+  latest = view k m.latest changes;
   sessions = slice_set m.sessions (s - 1) (Committing (newest m + 1));
 }
 
--- a step changes nothing but whether a fault has ended the machine; or moves one session; or seals a commit; or
+-- a step changes nothing but whether a fault has made the machine fail; or moves one session; or seals a commit; or
 -- drops sets; or is a crash
 pub data Effect {B : Type 0} (k : Keys B) (begun : ℕ → Type 0) (old new : Machine B) : Type 0 where
-  quiet : (ended : Bool) → new ≡ record old { ended = ended } → Effect k begun old new
-  moved : (s : ℕ) (y : Session B) → is_session s ≡ true → Move k (IsFree k s old.sessions) (begun s) (session_at s old.sessions) y
+  quiet : (failed : Bool) → new ≡ record old { failed = failed } → Effect k begun old new
+  moved : (s : ℕ) (y : Session B) → is_session s ≡ true
+      → Move k (λ call. NoneConflicts k s call old.sessions) (begun s) (session_at s old.sessions) y
       → new ≡ with_session s y old → Effect k begun old new
-  sealed : (s : ℕ) (h : Held B) → is_session s ≡ true → session_at s old.sessions ≡ Open h (Some Commit)
-      → new ≡ sealed_machine k s h old → Effect k begun old new
+  sealed : (s : ℕ) (locks : Locks B) (changes : Changes B) → is_session s ≡ true → session_at s old.sessions ≡ Open locks changes (Some Commit)
+      → new ≡ sealed_machine k s changes old → Effect k begun old new
   settled : (number : ℕ) → new ≡ durable number old → Effect k begun old new
   crashed : (number : ℕ) → new ≡ crash number old → Effect k begun old new
 
@@ -47,7 +45,7 @@ mapped f (Some x) y h = (x, refl, value_of h)
 
 -- what asking gives where the session is there
 abbrev pub asked_session : {B : Type 0} → Keys B → ℕ → Call B → Machine B → Asked B × Session B
-asked_session k s call m = ask_session k call (least_barring k call s 1 m.sessions) (claims_held m.sessions) (session_at s m.sessions)
+asked_session k s call m = ask_session k call (least_conflicting k call s 1 m.sessions) (claims_held m.sessions) (session_at s m.sessions)
 
 abbrev pub asked_there : {B : Type 0} → Keys B → ℕ → Call B → Machine B → Bool → Asked B × Machine B
 asked_there k s call m there =
@@ -57,15 +55,15 @@ asked_there k s call m there =
 module _ {B : Type 0} (k : Keys B) (l : IsLawful k) where
   -- what a sealed set is of
   pub sealed_view : (latest set : List (Entry B)) (x : Session B) → sealed_set k latest x ≡ Some set
-      → (h : Held B) × (x ≡ Open h (Some Commit)) × (set ≡ view k latest h)
+      → (locks : Locks B) × (changes : Changes B) × (x ≡ Open locks changes (Some Commit)) × (set ≡ view k latest changes)
   sealed_view latest set Idle h = let no : ⊥ = cc in absurd no
-  sealed_view latest set (Open g None) h = let no : ⊥ = cc in absurd no
-  sealed_view latest set (Open g (Some Begin)) h = let no : ⊥ = cc in absurd no
-  sealed_view latest set (Open g (Some (Insert e))) h = let no : ⊥ = cc in absurd no
-  sealed_view latest set (Open g (Some (Delete e))) h = let no : ⊥ = cc in absurd no
-  sealed_view latest set (Open g (Some (Search q))) h = let no : ⊥ = cc in absurd no
-  sealed_view latest set (Open g (Some Commit)) h = (g, refl, sym (value_of h))
-  sealed_view latest set (Open g (Some Abort)) h = let no : ⊥ = cc in absurd no
+  sealed_view latest set (Open g c None) h = let no : ⊥ = cc in absurd no
+  sealed_view latest set (Open g c (Some Begin)) h = let no : ⊥ = cc in absurd no
+  sealed_view latest set (Open g c (Some (Insert e))) h = let no : ⊥ = cc in absurd no
+  sealed_view latest set (Open g c (Some (Delete e))) h = let no : ⊥ = cc in absurd no
+  sealed_view latest set (Open g c (Some (Search q))) h = let no : ⊥ = cc in absurd no
+  sealed_view latest set (Open g c (Some Commit)) h = (g, c, refl, sym (value_of h))
+  sealed_view latest set (Open g c (Some Abort)) h = let no : ⊥ = cc in absurd no
   sealed_view latest set (Aborting g) h = let no : ⊥ = cc in absurd no
   sealed_view latest set (Committing number) h = let no : ⊥ = cc in absurd no
 
@@ -74,11 +72,11 @@ module _ {B : Type 0} (k : Keys B) (l : IsLawful k) where
         → (call ≡ Begin → r ≡ asked.Now reply.Ok → begun s) → Effect k begun old new
     ask_by s call r true is h begin =
         moved s (asked_session k s call old).1 is
-        (ask_move k l (IsFree k s old.sessions) (begun s) call (least_barring k call s 1 old.sessions) (claims_held old.sessions) (session_at s old.sessions)
+        (ask_move k l (λ call. NoneConflicts k s call old.sessions) (begun s) call (least_conflicting k call s 1 old.sessions) (claims_held old.sessions) (session_at s old.sessions)
         (λ none. others_clear k call s old.sessions none)
         (λ c ok. begin c (sym (ap (λ (p : Asked B × Machine B). p.0) h) ∙ ok)))
         (sym (ap (λ (p : Asked B × Machine B). p.1) h))
-    ask_by s call r false is h begin = quiet old.ended (sym (ap (λ (p : Asked B × Machine B). p.1) h))
+    ask_by s call r false is h begin = quiet old.failed (sym (ap (λ (p : Asked B × Machine B). p.1) h))
 
     ask_effect : (s : ℕ) (call : Call B) (r : Asked B) → ask k s call old ≡ (r, new) → (call ≡ Begin → r ≡ asked.Now reply.Ok → begun s)
         → Effect k begun old new
@@ -86,11 +84,11 @@ module _ {B : Type 0} (k : Keys B) (l : IsLawful k) where
 
     answer_effect : (s : ℕ) (r : Reply B) → answer k s old ≡ Some (r, new) → Effect k begun old new
     answer_effect s r h =
-        let found = mapped (λ (p : Reply B × Session B). (p.0, with_session s p.1 old)) (answer_session k old.latest old.first (session_at s old.sessions)) (r, new) h in
+        let found = mapped (λ (p : Reply B × Session B). (p.0, with_session s p.1 old)) (answer_session k old.latest old.oldest (session_at s old.sessions)) (r, new) h in
         let busy : ¬ (session_at s old.sessions ≡ Idle) = λ idle.
-        (let none : None ≡ Some found.0 = sym (ap (answer_session k old.latest old.first) idle) ∙ found.1 in cc) in
+        (let none : None ≡ Some found.0 = sym (ap (answer_session k old.latest old.oldest) idle) ∙ found.1 in cc) in
         moved s found.0.1 (session_there s old.sessions busy (is_session s) refl)
-        (answer_move k l (IsFree k s old.sessions) (begun s) old.latest old.first (session_at s old.sessions) found.0.1 found.0.0 found.1)
+        (answer_move k l (λ call. NoneConflicts k s call old.sessions) (begun s) old.latest old.oldest (session_at s old.sessions) found.0.1 found.0.0 found.1)
         (sym (ap (λ (p : Reply B × Machine B). p.1) found.2))
 
     close_effect : (s : ℕ) → close s old ≡ Some new → Effect k begun old new
@@ -99,12 +97,12 @@ module _ {B : Type 0} (k : Keys B) (l : IsLawful k) where
         let busy : ¬ (session_at s old.sessions ≡ Idle) = λ idle.
         (let none : None ≡ Some found.0 = sym (ap closed_session idle) ∙ found.1 in cc) in
         moved s found.0 (session_there s old.sessions busy (is_session s) refl)
-        (close_move k l (IsFree k s old.sessions) (begun s) (session_at s old.sessions) found.0 found.1)
+        (close_move k l (λ call. NoneConflicts k s call old.sessions) (begun s) (session_at s old.sessions) found.0 found.1)
         (sym found.2)
 
     abbrev with_set : ℕ → List (Entry B) → Machine B
     with_set s set = record old {
-      older = old.older ++ old.latest ∷ [];
+      older = kept_sets old;
       latest = set;
       sessions = slice_set old.sessions (s - 1) (Committing (newest old + 1));
     }
@@ -113,41 +111,34 @@ module _ {B : Type 0} (k : Keys B) (l : IsLawful k) where
     seal_effect s h =
         let found = mapped (with_set s) (sealed_set k old.latest (session_at s old.sessions)) new h in
         let of = sealed_view old.latest found.0 (session_at s old.sessions) found.1 in
-        let busy : ¬ (session_at s old.sessions ≡ Idle) = λ idle. (let both : Idle ≡ Open of.0 (Some Commit) = sym idle ∙ of.1 in cc) in
-        sealed s of.0 (session_there s old.sessions busy (is_session s) refl) of.1 (sym found.2 ∙ ap (with_set s) of.2)
+        let busy : ¬ (session_at s old.sessions ≡ Idle) = λ idle. (let both : Idle ≡ Open of.0 of.1 (Some Commit) = sym idle ∙ of.2 in cc) in
+        sealed s of.0 of.1 (session_there s old.sessions busy (is_session s) refl) of.2 (sym found.2 ∙ ap (with_set s) of.3)
+
+    fault_effect : (why : Refusal) → MeetsFault why old new → Effect k begun old new
+    fault_effect refusal.Device h = quiet true h.1
+    fault_effect refusal.Failed h = quiet true h
+    fault_effect other h = absurd h
 
     ask_refused_effect : (s : ℕ) (call : Call B) (why : Refusal) → AskRefused k s call why old new → Effect k begun old new
-    ask_refused_effect s call refusal.HistoryFull h = quiet old.ended h.2
+    ask_refused_effect s call refusal.HistoryFull h = quiet old.failed h.2
     ask_refused_effect s call refusal.Device h = quiet true h.1
     ask_refused_effect s call refusal.Failed h = quiet true h
     ask_refused_effect s call other h = absurd h
 
-    call_refused_effect : (s : ℕ) (why : Refusal) → CallRefused s why old new → Effect k begun old new
-    call_refused_effect s refusal.PagesFull h = close_effect s h.1
-    call_refused_effect s refusal.Memory h = close_effect s h.1
-    call_refused_effect s refusal.Device h = quiet true h.2
-    call_refused_effect s refusal.Failed h = quiet true h.1
-    call_refused_effect s other h = absurd h
-
-  -- the session begins, by this step and this reply
-  abbrev pub Began : Step B → Option (Reply B) → ℕ → Type 0
-  Began step r s = (step ≡ Asks s Begin) × (r ≡ Some reply.Ok)
+  -- the session begins by this step
+  abbrev pub Began : Step B → ℕ → Type 0
+  Began step s = step ≡ Asks s Begin (asked.Now reply.Ok)
 
   -- each step is of one of the five kinds
-  pub step_effect : (old new : Machine B) (step : Step B) (r : Option (Reply B)) → IsStep k old step r new → Effect k (Began step r) old new
-  step_effect old new (Asks s call) (Some r) h =
-      ask_effect (Began (Asks s call) (Some r)) old new s call (asked.Now r) h.1 (λ c ok. (ap (Asks s) c, (let is : r ≡ reply.Ok = cc in ap Some is)))
-  step_effect old new (Asks s call) None h =
-      ask_effect (Began (Asks s call) None) old new s call asked.Open h.1 (λ c ok. (let no : ⊥ = cc in absurd no))
-  step_effect old new (Answers s) (Some r) h = answer_effect (Began (Answers s) (Some r)) old new s r h.1
-  step_effect old new (Answers s) None h = absurd h
-  step_effect old new (Seals s) None h = seal_effect (Began (Seals s) None) old new s h.1
-  step_effect old new (Seals s) (Some r) h = absurd h
-  step_effect old new (Durable number) None h = settled number h.3
-  step_effect old new (Durable number) (Some r) h = absurd h
-  step_effect old new (Crashes number) None h = crashed number h.2
-  step_effect old new (Crashes number) (Some r) h = absurd h
-  step_effect old new (RefusesAsk s call) (Some (reply.Refused why)) h = ask_refused_effect (Began (RefusesAsk s call) (Some (reply.Refused why))) old new s call why h
-  step_effect old new (RefusesAsk s call) other h = absurd h
-  step_effect old new (RefusesCall s) (Some (reply.Refused why)) h = call_refused_effect (Began (RefusesCall s) (Some (reply.Refused why))) old new s why h
-  step_effect old new (RefusesCall s) other h = absurd h
+  pub step_effect : (old new : Machine B) (step : Step B) → IsStep k old step new → Effect k (Began step) old new
+  step_effect old new (Asks s call given) h =
+      ask_effect (Began (Asks s call given)) old new s call given h.1 (λ c ok. (λ i. Asks s (c i) (ok i)))
+  step_effect old new (Answers s r) h = answer_effect (Began (Answers s r)) old new s r h.1
+  step_effect old new (Seals s number) h = seal_effect (Began (Seals s number)) old new s h.2
+  step_effect old new (Durable number) h = settled number h.3
+  step_effect old new (Closes s why) h = close_effect (Began (Closes s why)) old new s h.2
+  step_effect old new (RefusesAsk s call why) h = ask_refused_effect (Began (RefusesAsk s call why)) old new s call why h
+  step_effect old new (RefusesCall s why) h = fault_effect (Began (RefusesCall s why)) old new why h.1
+  step_effect old new Fails h = quiet true h
+  step_effect old new (Crashes number) h = crashed number h.2
+  step_effect old new Nothing h = quiet old.failed h

@@ -1,5 +1,5 @@
 -- Keys by their order and relations alone, and what matches a query.
-use Rattle.std.specs.Prelude.{◌≡◌, Bool, false}
+use Rattle.std.specs.Prelude.{◌≡◌, Bool, false, Option}
 use Rattle.std.specs.Cmp.{IsTotalOrder}
 use Rattle.std.specs.declared.cmp.Ordering.TheVariants.{Equal}
 use Rattle.std.specs.declared.cmp.Ordering.{Ordering}
@@ -19,7 +19,15 @@ pub record IsLawful {B : Type 0} (k : Keys B) : Type 0 where
   pub total : IsTotalOrder k.cmp
   pub exact : (a b : B) → k.cmp a b ≡ Equal → a ≡ b
 
--- the same, from the members of a bound
+-- all that a key type's trait and the comparisons below it say of its keys
+abbrev pub Members : Type 0 → Type 0
+Members B = record { partial_cmp : B → B → Option Ordering; eq : B → B → Bool; cmp : B → B → Ordering; overlap : B → B → Bool; inside : B → B → Bool }
+
+-- the keys of a type, from what its trait says of them
+abbrev pub keys_of : {B : Type 0} → Members B → Keys B
+keys_of shape = record { cmp = shape.cmp; overlaps = shape.overlap; within = shape.inside }
+
+-- the same, from an order and the two relations
 abbrev pub keys : {B : Type 0} → (B → B → Ordering) → (B → B → Bool) → (B → B → Bool) → Keys B
 keys cmp overlaps within = record { cmp = cmp; overlaps = overlaps; within = within }
 

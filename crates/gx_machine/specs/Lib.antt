@@ -3,6 +3,8 @@ pub mod Sets
 pub mod Sessions
 pub mod Machine
 pub mod Runs
+pub mod Records
 pub mod Invariants
 pub mod Serial
 pub mod Alone
+pub mod Outcomes

@@ -1,8 +1,9 @@
 -- What a session is, and what one call does to it.
-use Rattle.std.specs.Prelude.{ℕ, Bool, true, false, ◌||◌, if◌then◌else◌, nat_lt, nat_le, length, Option, None, Some, option_map, List, [], ◌∷◌, ◌++◌}
+use Rattle.std.specs.Prelude.{ℕ, Bool, true, false, ◌||◌, if◌then◌else◌, nat_lt, nat_le, length, Option, None, Some, option_map, Result, Ok, Err, List, [], ◌∷◌, ◌++◌}
 use Rattle.std.specs.List.{list_any}
 use Rattle.gx_geom.specs.declared.refusal.Refusal.{Refusal}
 use Rattle.gx_geom.specs.declared.refusal.Refusal.TheVariants.{NoTransaction, InTransaction, Present, Absent, Busy, ClaimsFull, PredicatesFull, CallOpen}
+use Rattle.gx_machine.specs.declared.limits.TheConstants.{MAX_CLAIMS, MAX_PREDICATES}
 use Rattle.gx_machine.specs.declared.entry.Entry.{Entry}
 use Rattle.gx_machine.specs.declared.query.Query.{Query}
 use Rattle.gx_machine.specs.declared.call.Call.{Call}
@@ -14,169 +15,197 @@ use Rattle.gx_machine.specs.declared.reply.Asked.TheVariants as asked
 use Rattle.gx_machine.specs.Keys.{Keys, matches, same_query}
 use Rattle.gx_machine.specs.Sets.{has, including, excluding, including_all, excluding_all, found}
 
--- what an open transaction holds: the entries that it claims, its predicates, and the entries that it has
--- added to the last committed set and taken from it
-pub record Held (B : Type 0) : Type 0 where
+-- what keeps other sessions off: the entries that a session claims, and its predicates
+pub record Locks (B : Type 0) : Type 0 where
   pub claims : List (Entry B)
   pub predicates : List (Query B)
-  pub plus : List (Entry B)
-  pub minus : List (Entry B)
 
--- nothing, as a transaction begins
-abbrev pub nothing_held : {B : Type 0} → Held B
-nothing_held = record { claims = []; predicates = []; plus = []; minus = [] }
+-- what a transaction has added to the last committed set, and what it has taken from it
+pub record Changes (B : Type 0) : Type 0 where
+  pub added : List (Entry B)
+  pub taken : List (Entry B)
 
--- a session has no transaction; or has one, perhaps with a call open; or is undoing one; or waits for its commit
+-- none, as a transaction begins
+abbrev pub no_locks : {B : Type 0} → Locks B
+no_locks = record { claims = []; predicates = [] }
+
+abbrev pub no_changes : {B : Type 0} → Changes B
+no_changes = record { added = []; taken = [] }
+
+-- a session has no transaction; or has one, perhaps with a call open; or is undoing one, whose changes decide nothing
+-- more; or waits for its commit
 pub data Session (B : Type 0) : Type 0 where
   Idle : Session B
-  Open : (held : Held B) (call : Option (Call B)) → Session B
-  Aborting : (held : Held B) → Session B
+  Open : (locks : Locks B) (changes : Changes B) (call : Option (Call B)) → Session B
+  Aborting : (locks : Locks B) → Session B
   Committing : (number : ℕ) → Session B
 
+-- the locks that a session holds
+abbrev pub locks_of : {B : Type 0} → Session B → Locks B
+locks_of Idle = no_locks
+locks_of (Open locks changes call) = locks
+locks_of (Aborting locks) = locks
+locks_of (Committing number) = no_locks
+
 -- the last committed set as a transaction sees it
-abbrev pub view : {B : Type 0} → Keys B → List (Entry B) → Held B → List (Entry B)
-view k latest h = including_all k h.plus (excluding_all k h.minus latest)
+abbrev pub view : {B : Type 0} → Keys B → List (Entry B) → Changes B → List (Entry B)
+view k latest changes = including_all k changes.added (excluding_all k changes.taken latest)
+
+-- Locks.
 
 -- a query is among the predicates
 abbrev pub has_query : {B : Type 0} → Keys B → Query B → List (Query B) → Bool
 has_query k q predicates = list_any (same_query k q) predicates
 
--- what is held keeps others from writing the entry
-abbrev pub bars_write : {B : Type 0} → Keys B → Entry B → Held B → Bool
-bars_write k e h = has k e h.claims || list_any (λ q. matches k q e) h.predicates
+-- a write of the entry conflicts with locks that claim it, or have a predicate that matches it
+abbrev pub write_conflicts : {B : Type 0} → Keys B → Entry B → Locks B → Bool
+write_conflicts k e locks = has k e locks.claims || list_any (λ q. matches k q e) locks.predicates
 
--- what is held keeps others from searching
-abbrev pub bars_search : {B : Type 0} → Keys B → Query B → Held B → Bool
-bars_search k q h = list_any (matches k q) h.claims
+-- a search conflicts with locks that claim a matching entry
+abbrev pub search_conflicts : {B : Type 0} → Keys B → Query B → Locks B → Bool
+search_conflicts k q locks = list_any (matches k q) locks.claims
 
--- what is held conflicts with another session's call
-abbrev pub bars : {B : Type 0} → Keys B → Call B → Held B → Bool
-bars k (Insert e) h = bars_write k e h
-bars k (Delete e) h = bars_write k e h
-bars k (Search q) h = bars_search k q h
-bars k Begin h = false
-bars k Commit h = false
-bars k Abort h = false
+-- a call conflicts with another session's locks
+abbrev pub conflicts : {B : Type 0} → Keys B → Call B → Locks B → Bool
+conflicts k (Insert e) locks = write_conflicts k e locks
+conflicts k (Delete e) locks = write_conflicts k e locks
+conflicts k (Search q) locks = search_conflicts k q locks
+conflicts k Begin locks = false
+conflicts k Commit locks = false
+conflicts k Abort locks = false
 
--- a session conflicts with another's call
-abbrev pub session_bars : {B : Type 0} → Keys B → Call B → Session B → Bool
-session_bars k call Idle = false
-session_bars k call (Open h pending) = bars k call h
-session_bars k call (Aborting h) = bars k call h
-session_bars k call (Committing number) = false
+-- a call conflicts with another session
+abbrev pub session_conflicts : {B : Type 0} → Keys B → Call B → Session B → Bool
+session_conflicts k call session = conflicts k call (locks_of session)
 
 -- how many claims a session holds
 abbrev pub claims_of : {B : Type 0} → Session B → ℕ
-claims_of Idle = 0
-claims_of (Open h pending) = length h.claims
-claims_of (Aborting h) = length h.claims
-claims_of (Committing number) = 0
+claims_of session = length (locks_of session).claims
+
+-- the locks with a claim on the entry, or why there is none: spent are the claims held in all
+abbrev pub with_claim : {B : Type 0} → Keys B → Entry B → ℕ → Locks B → Result (Locks B) Refusal
+with_claim k e spent locks =
+    if has k e locks.claims then Ok locks
+    else if nat_lt spent MAX_CLAIMS then Ok (record locks { claims = including k e locks.claims })
+    else Err ClaimsFull
+
+-- the locks with this predicate, or why there is none
+abbrev pub with_predicate : {B : Type 0} → Keys B → Query B → Locks B → Result (Locks B) Refusal
+with_predicate k q locks =
+    if has_query k q locks.predicates then Ok locks
+    else if nat_lt (length locks.predicates) MAX_PREDICATES then Ok (record locks { predicates = locks.predicates ++ q ∷ [] })
+    else Err PredicatesFull
+
+-- the locks with the one that a call takes: a write claims its entry, a search holds its predicate, no other takes one
+abbrev pub with_lock : {B : Type 0} → Keys B → Call B → ℕ → Locks B → Result (Locks B) Refusal
+with_lock k (Insert e) spent locks = with_claim k e spent locks
+with_lock k (Delete e) spent locks = with_claim k e spent locks
+with_lock k (Search q) spent locks = with_predicate k q locks
+with_lock k Begin spent locks = Ok locks
+with_lock k Commit spent locks = Ok locks
+with_lock k Abort spent locks = Ok locks
+
+-- the same, where this is the least other session that conflicts
+abbrev pub lock_for : {B : Type 0} → Keys B → Call B → Option ℕ → ℕ → Locks B → Result (Locks B) Refusal
+lock_for k call None spent locks = with_lock k call spent locks
+lock_for k call (Some other) spent locks = Err (Busy other)
+
+-- Asking, for one session.
 
 -- a call refused, with the session as it was
 abbrev pub refused : {B : Type 0} → Refusal → Session B → Asked B × Session B
 refused why session = (asked.Now (reply.Refused why), session)
 
--- Asking, for one session: barred is the least other session that conflicts, spent the claims held in all.
+-- a call in a transaction, which has its lock or lacks it for a reason
+abbrev pub asked_with : {B : Type 0} → Call B → Result (Locks B) Refusal → Locks B → Changes B → Asked B × Session B
+asked_with call (Ok locks) old changes = (asked.Open, Open locks changes (Some call))
+asked_with call (Err why) old changes = refused why (Open old changes None)
 
--- a write claims its entry
-abbrev pub ask_write : {B : Type 0} → Keys B → Call B → Entry B → ℕ → Held B → Asked B × Session B
-ask_write k call e spent h =
-    if has k e h.claims then (asked.Open, Open h (Some call))
-    else if nat_lt spent 512 then (asked.Open, Open (record h { claims = including k e h.claims }) (Some call))
-    else refused ClaimsFull (Open h None)
+-- a call in a transaction with no call open: an abort gives up its changes, any other call is open
+abbrev pub ask_open : {B : Type 0} → Keys B → Call B → Option ℕ → ℕ → Locks B → Changes B → Asked B × Session B
+ask_open k Begin least spent locks changes = refused InTransaction (Open locks changes None)
+ask_open k (Insert e) least spent locks changes = asked_with (Insert e) (lock_for k (Insert e) least spent locks) locks changes
+ask_open k (Delete e) least spent locks changes = asked_with (Delete e) (lock_for k (Delete e) least spent locks) locks changes
+ask_open k (Search q) least spent locks changes = asked_with (Search q) (lock_for k (Search q) least spent locks) locks changes
+ask_open k Commit least spent locks changes = asked_with Commit (lock_for k Commit least spent locks) locks changes
+ask_open k Abort least spent locks changes = (asked.Open, Aborting locks)
 
--- a search holds its predicate
-abbrev pub ask_search : {B : Type 0} → Keys B → Query B → Held B → Asked B × Session B
-ask_search k q h =
-    if has_query k q h.predicates then (asked.Open, Open h (Some (Search q)))
-    else if nat_lt (length h.predicates) 16 then (asked.Open, Open (record h { predicates = h.predicates ++ q ∷ [] }) (Some (Search q)))
-    else refused PredicatesFull (Open h None)
-
--- a call in an open transaction with no call open, and with no conflict
-abbrev pub ask_free : {B : Type 0} → Keys B → Call B → ℕ → Held B → Asked B × Session B
-ask_free k Begin spent h = refused InTransaction (Open h None)
-ask_free k (Insert e) spent h = ask_write k (Insert e) e spent h
-ask_free k (Delete e) spent h = ask_write k (Delete e) e spent h
-ask_free k (Search q) spent h = ask_search k q h
-ask_free k Commit spent h = (asked.Open, Open h (Some Commit))
-ask_free k Abort spent h = (asked.Open, Aborting h)
-
-abbrev pub ask_open : {B : Type 0} → Keys B → Call B → Option ℕ → ℕ → Held B → Asked B × Session B
-ask_open k call None spent h = ask_free k call spent h
-ask_open k call (Some other) spent h = refused (Busy other) (Open h None)
-
+-- a call outside of a transaction
 abbrev pub ask_idle : {B : Type 0} → Call B → Asked B × Session B
-ask_idle Begin = (asked.Now reply.Ok, Open nothing_held None)
+ask_idle Begin = (asked.Now reply.Ok, Open no_locks no_changes None)
 ask_idle (Insert e) = refused NoTransaction Idle
 ask_idle (Delete e) = refused NoTransaction Idle
 ask_idle (Search q) = refused NoTransaction Idle
 ask_idle Commit = refused NoTransaction Idle
 ask_idle Abort = refused NoTransaction Idle
 
+-- a call, where least is the least other session that conflicts and spent the claims held in all
 abbrev pub ask_session : {B : Type 0} → Keys B → Call B → Option ℕ → ℕ → Session B → Asked B × Session B
-ask_session k call barred spent Idle = ask_idle call
-ask_session k call barred spent (Open h None) = ask_open k call barred spent h
-ask_session k call barred spent (Open h (Some pending)) = refused CallOpen (Open h (Some pending))
-ask_session k call barred spent (Aborting h) = refused CallOpen (Aborting h)
-ask_session k call barred spent (Committing number) = refused CallOpen (Committing number)
+ask_session k call least spent Idle = ask_idle call
+ask_session k call least spent (Open locks changes None) = ask_open k call least spent locks changes
+ask_session k call least spent (Open locks changes (Some pending)) = refused CallOpen (Open locks changes (Some pending))
+ask_session k call least spent (Aborting locks) = refused CallOpen (Aborting locks)
+ask_session k call least spent (Committing number) = refused CallOpen (Committing number)
 
--- Answering, for one session, where latest is the last committed set.
+-- Answering, where latest is the last committed set: an answer knows a transaction's changes, and none of its locks.
 
 -- an insert adds its entry where the view lacks it
-abbrev pub answer_insert : {B : Type 0} → Keys B → Entry B → List (Entry B) → Held B → Reply B × Held B
-answer_insert k e latest h =
-    if has k e (view k latest h) then (reply.Refused Present, h)
-    else (reply.Inserted, record h { plus = including k e h.plus; minus = excluding k e h.minus })
+abbrev pub answer_insert : {B : Type 0} → Keys B → Entry B → List (Entry B) → Changes B → Reply B × Changes B
+answer_insert k e latest changes =
+    if has k e (view k latest changes) then (reply.Refused Present, changes)
+    else (reply.Inserted, record { added = including k e changes.added; taken = excluding k e changes.taken })
 
 -- a delete takes its entry away where the view has it
-abbrev pub answer_delete : {B : Type 0} → Keys B → Entry B → List (Entry B) → Held B → Reply B × Held B
-answer_delete k e latest h =
-    if has k e (view k latest h) then (reply.Deleted, record h { plus = excluding k e h.plus; minus = including k e h.minus })
-    else (reply.Refused Absent, h)
+abbrev pub answer_delete : {B : Type 0} → Keys B → Entry B → List (Entry B) → Changes B → Reply B × Changes B
+answer_delete k e latest changes =
+    if has k e (view k latest changes) then
+    (reply.Deleted, record { added = excluding k e changes.added; taken = including k e changes.taken })
+    else (reply.Refused Absent, changes)
 
--- the answer to an open call, and what is held afterwards; a commit isn't answered so
-abbrev pub answer_call : {B : Type 0} → Keys B → Call B → List (Entry B) → Held B → Option (Reply B × Held B)
-answer_call k (Insert e) latest h = Some (answer_insert k e latest h)
-answer_call k (Delete e) latest h = Some (answer_delete k e latest h)
-answer_call k (Search q) latest h = Some (reply.Found (found k q (view k latest h)), h)
-answer_call k Begin latest h = None
-answer_call k Commit latest h = None
-answer_call k Abort latest h = None
+-- the answer to an open call, and the changes afterwards; a commit isn't answered so
+abbrev pub answer_call : {B : Type 0} → Keys B → Call B → List (Entry B) → Changes B → Option (Reply B × Changes B)
+answer_call k (Insert e) latest changes = Some (answer_insert k e latest changes)
+answer_call k (Delete e) latest changes = Some (answer_delete k e latest changes)
+answer_call k (Search q) latest changes = Some (reply.Found (found k q (view k latest changes)), changes)
+answer_call k Begin latest changes = None
+answer_call k Commit latest changes = None
+answer_call k Abort latest changes = None
 
--- the answer to a session, where first is the number up to which commits are durable: an open call but a commit
+-- the answer to a session, where oldest is the number up to which commits are durable: an open call but a commit
 -- is answered and closed, an abort is answered, and a commit that was sealed is answered once it is durable
 abbrev pub answer_session : {B : Type 0} → Keys B → List (Entry B) → ℕ → Session B → Option (Reply B × Session B)
-answer_session k latest first Idle = None
-answer_session k latest first (Open h None) = None
-answer_session k latest first (Open h (Some call)) = option_map (λ r. (r.0, Open r.1 None)) (answer_call k call latest h)
-answer_session k latest first (Aborting h) = Some (reply.Aborted, Idle)
-answer_session k latest first (Committing number) = if nat_le number first then Some (reply.Committed number, Idle) else None
+answer_session k latest oldest Idle = None
+answer_session k latest oldest (Open locks changes None) = None
+answer_session k latest oldest (Open locks changes (Some call)) =
+    option_map (λ r. (r.0, Open locks r.1 None)) (answer_call k call latest changes)
+answer_session k latest oldest (Aborting locks) = Some (reply.Aborted, Idle)
+answer_session k latest oldest (Committing number) = if nat_le number oldest then Some (reply.Committed number, Idle) else None
 
 -- the set that a session's commit adds, where it has asked for one
 abbrev pub sealed_set : {B : Type 0} → Keys B → List (Entry B) → Session B → Option (List (Entry B))
 sealed_set k latest Idle = None
-sealed_set k latest (Open h None) = None
-sealed_set k latest (Open h (Some Begin)) = None
-sealed_set k latest (Open h (Some (Insert e))) = None
-sealed_set k latest (Open h (Some (Delete e))) = None
-sealed_set k latest (Open h (Some (Search q))) = None
-sealed_set k latest (Open h (Some Commit)) = Some (view k latest h)
-sealed_set k latest (Open h (Some Abort)) = None
-sealed_set k latest (Aborting h) = None
+sealed_set k latest (Open locks changes None) = None
+sealed_set k latest (Open locks changes (Some Begin)) = None
+sealed_set k latest (Open locks changes (Some (Insert e))) = None
+sealed_set k latest (Open locks changes (Some (Delete e))) = None
+sealed_set k latest (Open locks changes (Some (Search q))) = None
+sealed_set k latest (Open locks changes (Some Commit)) = Some (view k latest changes)
+sealed_set k latest (Open locks changes (Some Abort)) = None
+sealed_set k latest (Aborting locks) = None
 sealed_set k latest (Committing number) = None
 
--- a session whose open call is closed without an answer keeps what it holds
+-- a session whose open call is closed without an answer keeps its locks and its changes
 abbrev pub closed_session : {B : Type 0} → Session B → Option (Session B)
 closed_session Idle = None
-closed_session (Open h None) = None
-closed_session (Open h (Some call)) = Some (Open h None)
-closed_session (Aborting h) = None
+closed_session (Open locks changes None) = None
+closed_session (Open locks changes (Some call)) = Some (Open locks changes None)
+closed_session (Aborting locks) = None
 closed_session (Committing number) = None
 
 -- a call of the session was asked and isn't answered
 abbrev pub is_unanswered : {B : Type 0} → Session B → Bool
 is_unanswered Idle = false
-is_unanswered (Open h None) = false
-is_unanswered (Open h (Some call)) = true
-is_unanswered (Aborting h) = true
+is_unanswered (Open locks changes None) = false
+is_unanswered (Open locks changes (Some call)) = true
+is_unanswered (Aborting locks) = true
 is_unanswered (Committing number) = true

@@ -1,29 +1,62 @@
 //! What holds of every run of the set machine.
-ghost use Rattle.std.specs.Prelude.{◌≡◌, ℕ, false, Option, List};
+ghost use Rattle.std.specs.Prelude.{◌≡◌, ◌≢◌, ◌≤◌, ◌<◌, ◌+◌, ◌&&◌, ◌||◌, ℕ, true, false, not, List, ◌++◌, length};
+ghost use Rattle.gx_machine.specs.declared.limits.TheConstants.{SESSIONS};
 ghost use Rattle.gx_geom.specs.declared.refusal.Refusal.{Refusal};
-ghost use Rattle.gx_machine.specs.Keys.{Keys, IsLawful};
-ghost use Rattle.gx_machine.specs.Machine.{Machine, ask, fresh_machine, newest};
-ghost use Rattle.gx_machine.specs.Runs.{Step, Durable, Event, IsStep, IsRun};
-ghost use Rattle.gx_machine.specs.Invariants.{KeptInOrder, AllIdle, SessionsHold, changes_sets, SameSets};
+ghost use Rattle.gx_geom.specs.declared.refusal.Refusal.TheVariants.{Busy};
+ghost use Rattle.gx_machine.specs.declared.call.Call.{Call};
+ghost use Rattle.gx_machine.specs.declared.call.Call.TheVariants.{Search};
+ghost use Rattle.gx_machine.specs.declared.entry.Entry.{Entry};
+ghost use Rattle.gx_machine.specs.declared.query.Query.{Query};
+ghost use Rattle.gx_machine.specs.declared.reply.Asked.TheVariants as asked;
+ghost use Rattle.gx_machine.specs.declared.reply.Reply.TheVariants.{Committed, Found, Refused};
+ghost use Rattle.gx_machine.specs.Keys.{Keys, IsLawful, keys_of, matches};
+ghost use Rattle.gx_machine.specs.Sets.{has, InOrder};
+ghost use Rattle.gx_machine.specs.Sessions.{Locks, Changes, Open, session_conflicts, view};
+ghost use Rattle.gx_machine.specs.Machine.{Machine, ask, fresh_machine, newest, set_of, session_at};
+ghost use Rattle.gx_machine.specs.Runs.{Step, Asks, Answers, Seals, Durable, Crashes, IsStep, IsRun};
+ghost use Rattle.gx_machine.specs.Records.{RunsUnseen};
+ghost use Rattle.gx_machine.specs.Invariants.{KeptInOrder, AllIdle, LocksApart, SessionsHold, changes_sets, SameSets};
+ghost use Rattle.gx_machine.specs.Outcomes.{IsLeastConflict, NoneConflicts, IsAnswered};
 ghost use Rattle.gx_machine.specs.Alone.{CommittedRunAlone};
 ghost use Rattle.gx_machine.specs.Serial.{IsSerial};
-ghost use Rattle.gx_machine.specs.declared.call.Call.{Call};
-ghost use Rattle.gx_machine.specs.declared.reply.Reply.{Reply};
-ghost use Rattle.gx_machine.specs.declared.reply.Asked.TheVariants.{Now};
-ghost use Rattle.gx_machine.specs.declared.reply.Reply.TheVariants.{Refused};
+
+use gx_geom::Shape;
+
+/// The order of every key type is total, and only what is the same compares as equal: what the laws assume of keys.
+pub fn keys_are_lawful<B: Shape>()
+    ensures { IsLawful (keys_of B.Shape) }
+{}
 
 /// A refused ask changes nothing.
 pub fn refused_ask_changes_nothing<B>()
     ensures { (k : Keys B) (s : ℕ) (call : Call B) (m : Machine B) (why : Refusal)
-        → (ask k s call m).0 ≡ Now (Refused why) → (ask k s call m).1 ≡ m }
+        → (ask k s call m).0 ≡ asked.Now (Refused why) → (ask k s call m).1 ≡ m }
+{}
+
+/// A call is refused as busy only with the least other session that conflicts; and one that is open met no other
+/// session that conflicts.
+pub fn busy_names_the_least_conflict<B>()
+    ensures busy { (k : Keys B) (s other : ℕ) (call : Call B) (m : Machine B) → length m.sessions ≡ SESSIONS
+        → (ask k s call m).0 ≡ asked.Now (Refused (Busy other)) → IsLeastConflict k s call other m.sessions }
+    ensures open { (k : Keys B) (s : ℕ) (call : Call B) (m : Machine B)
+        → (ask k s call m).0 ≡ asked.Open → NoneConflicts k s call m.sessions }
 {}
 
 /// Where the keys have an order, each kept set is in order after any run that begins so. A machine with nothing
 /// committed begins so.
 pub fn kept_sets_stay_in_order<B>()
-    ensures run { (k : Keys B) → IsLawful k → (old new : Machine B) (events : List (Event B))
-        → KeptInOrder k old → IsRun k old events new → KeptInOrder k new }
+    ensures run { (k : Keys B) → IsLawful k → (old new : Machine B) (steps : List (Step B))
+        → KeptInOrder k old → IsRun k old steps new → KeptInOrder k new }
     ensures fresh { (k : Keys B) → KeptInOrder k fresh_machine }
+{}
+
+/// What is found is in order, each entry once, and holds an entry exactly where it matches and the view has it; the
+/// view has what the transaction added, and what the last committed set has and the transaction didn't take away.
+pub fn found_is_what_the_view_has<B>()
+    ensures found { (k : Keys B) → IsLawful k → (old new : Machine B) (s : ℕ) (entries : List (Entry B))
+        → KeptInOrder k old → IsStep k old (Answers s (Found entries)) new → IsAnswered k s old entries }
+    ensures view { (k : Keys B) → IsLawful k → (e : Entry B) (latest : List (Entry B)) (changes : Changes B)
+        → has k e (view k latest changes) ≡ (has k e changes.added || (not (has k e changes.taken) && has k e latest)) }
 {}
 
 /// Every run is serial that begins with idle sessions and with kept sets that are in order: committed transactions
@@ -42,21 +75,58 @@ pub fn committed_transactions_run_alone<B>()
 {}
 
 /// In any run that begins with idle sessions, no session claims an entry that another claims, or that a predicate of
-/// another matches. Each open transaction claims what it has changed, and holds what its open call needs.
+/// another matches. Each open transaction claims what it has changed, in two lists in order that share nothing, and
+/// holds what its open call needs.
 pub fn sessions_never_conflict<B>()
-    ensures { (k : Keys B) → IsLawful k → (start new : Machine B) (events : List (Event B))
-        → AllIdle start → IsRun k start events new → SessionsHold k new.sessions }
+    ensures { (k : Keys B) → IsLawful k → (start new : Machine B) (steps : List (Step B))
+        → AllIdle start → IsRun k start steps new → SessionsHold k new.sessions }
+{}
+
+/// The same of locks alone, step by step: where no session claims what another claims or watches, none does after
+/// any step.
+pub fn each_step_keeps_locks_apart<B>()
+    ensures { (k : Keys B) → IsLawful k → (old new : Machine B) (step : Step B)
+        → IsStep k old step new → LocksApart k old.sessions → LocksApart k new.sessions }
 {}
 
 /// Asking, answering and refusing change no kept set and no number of one; nor does an abort's answer.
 pub fn calls_change_no_set<B>()
-    ensures { (k : Keys B) (old new : Machine B) (step : Step B) (reply : Option (Reply B))
-        → changes_sets step ≡ false → IsStep k old step reply new → SameSets old new }
+    ensures { (k : Keys B) (old new : Machine B) (step : Step B)
+        → changes_sets step ≡ false → IsStep k old step new → SameSets old new }
 {}
 
 /// Becoming durable drops sets from the front, and never the last one, which keeps its number. No session changes.
 pub fn durable_keeps_the_last_set<B>()
-    ensures { (k : Keys B) (old new : Machine B) (number : ℕ) → IsStep k old (Durable number) None new
-        → (new.latest ≡ old.latest) × (newest new ≡ newest old) × (new.first ≡ number)
+    ensures { (k : Keys B) (old new : Machine B) (number : ℕ) → IsStep k old (Durable number) new
+        → (new.latest ≡ old.latest) × (newest new ≡ newest old) × (new.oldest ≡ number)
         × (new.sessions ≡ old.sessions) }
+{}
+
+/// A set that is kept before a step and after it has the same number: sealing adds one behind, becoming durable drops
+/// some in front, and a crash leaves one. The last committed set is that of the newest number.
+pub fn sets_keep_their_numbers<B>()
+    ensures step { (k : Keys B) (old new : Machine B) (step : Step B) (number : ℕ) → IsStep k old step new
+        → new.oldest ≤ number → number ≤ newest old → number ≤ newest new → set_of number new ≡ set_of number old }
+    ensures newest { (m : Machine B) → set_of (newest m) m ≡ m.latest }
+{}
+
+/// After a commit is acknowledged, whatever comes, each crash leaves the set of a number that is at least the commit's,
+/// and that is the set that the number had.
+pub fn acknowledged_commits_survive<B>()
+    ensures { (k : Keys B) (old answered last crashed : Machine B) (s committed number : ℕ) (steps : List (Step B))
+        → IsStep k old (Answers s (Committed committed)) answered → IsRun k answered steps last
+        → IsStep k last (Crashes number) crashed
+        → (committed ≤ number) × (newest crashed ≡ number) × (crashed.latest ≡ set_of number last) }
+{}
+
+/// Faults that no session sees permit no calls and replies that there weren't before: each run without them is a run,
+/// with the same record.
+pub fn unseen_faults_permit_nothing_new<B>()
+    ensures { (k : Keys B) (old new : Machine B) (steps : List (Step B)) → IsRun k old steps new → RunsUnseen k old steps new }
+{}
+
+/// Two runs, of which the second begins where the first ends, are one run.
+pub fn runs_join<B>()
+    ensures { (k : Keys B) (old middle new : Machine B) (before after : List (Step B))
+        → IsRun k old before middle → IsRun k middle after new → IsRun k old (before ++ after) new }
 {}

@@ -7,10 +7,12 @@
 mod call;
 mod entry;
 pub mod laws;
+mod limits;
 mod query;
 mod reply;
 
 pub use call::Call;
 pub use entry::{Entries, Entry};
+pub use limits::{LAST_NUMBER, MAX_CLAIMS, MAX_PREDICATES, SESSIONS};
 pub use query::Query;
 pub use reply::{Asked, Reply};

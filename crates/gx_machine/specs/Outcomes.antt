@@ -1,0 +1,30 @@
+-- What answers and refusals say, in the words of their subject.
+use Rattle.std.specs.Prelude.{ℕ, ◌≡◌, ◌≢◌, ◌<◌, true, false, ◌&&◌, Some, List}
+use Rattle.gx_machine.specs.declared.entry.Entry.{Entry}
+use Rattle.gx_machine.specs.declared.query.Query.{Query}
+use Rattle.gx_machine.specs.declared.call.Call.{Call}
+use Rattle.gx_machine.specs.declared.call.Call.TheVariants.{Search}
+use Rattle.gx_machine.specs.Keys.{Keys, matches}
+use Rattle.gx_machine.specs.Sets.{has, InOrder}
+use Rattle.gx_machine.specs.Sessions.{Session, Open, Locks, Changes, session_conflicts, view}
+use Rattle.gx_machine.specs.Machine.{Machine, is_session, session_at}
+
+-- no session but s conflicts with a call of s
+abbrev pub NoneConflicts : {B : Type 0} → Keys B → ℕ → Call B → List (Session B) → Type 0
+NoneConflicts k s call sessions = (a : ℕ) → a ≢ s → session_conflicts k call (session_at a sessions) ≡ false
+
+-- this session is another one than s, conflicts with a call of s, and is the least such
+pub record IsLeastConflict {B : Type 0} (k : Keys B) (s : ℕ) (call : Call B) (other : ℕ) (sessions : List (Session B)) : Type 0 where
+  pub is_there : is_session other ≡ true
+  pub is_another : other ≢ s
+  pub conflicts : session_conflicts k call (session_at other sessions) ≡ true
+  pub is_least : (a : ℕ) → a < other → a ≢ s → session_conflicts k call (session_at a sessions) ≡ false
+
+-- The session has a search open, and these are the entries of its view that match, in order, each once.
+pub record IsAnswered {B : Type 0} (k : Keys B) (s : ℕ) (m : Machine B) (entries : List (Entry B)) : Type 0 where
+  pub locks : Locks B
+  pub changes : Changes B
+  pub query : Query B
+  pub asked : session_at s m.sessions ≡ Open locks changes (Some (Search query))
+  pub in_order : InOrder k entries
+  pub exact : (e : Entry B) → has k e entries ≡ (matches k query e && has k e (view k m.latest changes))
