@@ -11,3 +11,4 @@ pub mod Lives
 pub mod Renewals
 pub mod Moves
 pub mod Undo
+pub mod MachineSteps

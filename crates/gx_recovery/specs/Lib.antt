@@ -8,3 +8,4 @@ pub mod Coming
 pub mod Logged
 pub mod Renewal
 pub mod Life
+pub mod Machines
