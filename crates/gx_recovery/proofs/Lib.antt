@@ -12,3 +12,4 @@ pub mod Renewals
 pub mod Moves
 pub mod Undo
 pub mod MachineSteps
+pub mod DamageItems

@@ -37,7 +37,7 @@ module _ {E P : Type 0} (k : Known E P) (l : IsLawful k) where
   fair_by : (log : List (Record E P)) (r : Record E P) → may_follow k log (analysis k log) r ≡ true → Apart k (read k (analysis k log) r).touched → IsFair k log r
   fair_by log (Pages images counter used) may apart = tt
   fair_by log (Write transaction entry mark after leaf content) may apart =
-      record { open_yet = open_tells transaction log (and_first (is_open transaction log) (k.own content == leaf) may); apart = apart }
+      record { open_yet = untrue (settled any_number transaction log) (and_first (not (settled any_number transaction log)) (k.own content == leaf) may); apart = apart }
   fair_by log (Commit transaction number) may apart = (
     open_tells transaction log (and_first (is_open transaction log) (number == (analysis k log).number + 1) may),
     eqb-true number ((analysis k log).number + 1) (and_second (is_open transaction log) (number == (analysis k log).number + 1) may),

@@ -46,7 +46,7 @@ is_open t log = is_transaction t && not (settled any_number t log)
 -- Whether a record by itself may come after a log of which a is told. Neither the counter nor the pages in use fall.
 abbrev pub may_follow : {E P : Type 0} → Known E P → List (Record E P) → Analysis E → Record E P → Bool
 may_follow k log a (Pages images counter used) = nat_le a.counter counter && (nat_le a.used used && list_all (image_fits k used) images)
-may_follow k log a (Write transaction entry before after leaf content) = is_open transaction log && k.own content == leaf
+may_follow k log a (Write transaction entry before after leaf content) = not (settled any_number transaction log) && k.own content == leaf
 may_follow k log a (Commit transaction number) = is_open transaction log && number == a.number + 1
 may_follow k log a (End transaction) = is_open transaction log
 may_follow k log a (Counters number counter used next) = false
@@ -93,6 +93,11 @@ pub record Place (E P : Type 0) : Type 0 where
 abbrev pub bodies_read : {E P : Type 0} → List (Place E P) → List (List (Record E P))
 bodies_read [] = []
 bodies_read (place ∷ places) = if place.open_gate then place.body ∷ bodies_read places else []
+
+-- bodies behind open gates
+abbrev pub opened : {E P : Type 0} → List (List (Record E P)) → List (Place E P)
+opened [] = []
+opened (body ∷ bodies) = (record { open_gate = true; body = body }) ∷ opened bodies
 
 -- a list of records is a log
 pub record IsLog {E P : Type 0} (k : Known E P) (log : List (Record E P)) : Type 0 where

@@ -9,3 +9,5 @@ pub mod Logged
 pub mod Renewal
 pub mod Life
 pub mod Machines
+pub mod Damages
+pub mod Worked

@@ -8,6 +8,7 @@ ghost use Rattle.gx_recovery.specs.Known.{Known};
 
 pub mod laws;
 pub mod machine_laws;
+pub mod worked;
 
 /// How many transactions of a log may be open at once.
 pub const TRANSACTIONS: usize = 8;
