@@ -1,11 +1,12 @@
 -- The items of damage are none exactly where the tests of a log pass.
-use Rattle.std.proofs.Common.{◌≡◌, ℕ, ◌+◌, Bool, true, false, not, ◌&&◌, List, [], ◌∷◌, ◌++◌, refl, ap, sym, ◌∙◌}
+use Rattle.std.proofs.Common.{◌≡◌, ℕ, ◌+◌, Bool, true, false, not, ◌&&◌, List, [], ◌∷◌, ◌++◌, refl, ap, sym, ◌∙◌, append_assoc}
 use Rattle.std.specs.Prelude.{nat_le, ◌==◌, if◌then◌else◌, length}
 use Rattle.std.specs.List.{list_all}
+use Rattle.std.proofs.lemmas.List.{append-nil}
 use Rattle.gx_recovery.specs.Known.{Known}
 use Rattle.gx_recovery.specs.Records.{Image, Record, Pages, Write, Commit, End, Counters, Note, Touch, settled, any_number}
 use Rattle.gx_recovery.specs.Analysis.{Analysis, analysis}
-use Rattle.gx_recovery.specs.Damage.{is_transaction, is_page, touch_fits, apart, transactions, fits, image_fits, is_open, may_follow, follows, follow, is_note, is_head, records_of, is_undamaged, Place, bodies_read, opened, IsLog}
+use Rattle.gx_recovery.specs.Damage.{is_transaction, is_page, apart, transactions, fits, is_open, may_follow, follows, follow, is_note, is_head, records_of, is_undamaged, Place, bodies_read, opened, IsLog}
 use Rattle.gx_recovery.specs.Damages.{Damage, NoHead, NotDevice, PageNumber, OwnNumber, LeafNumber, NoEntry, LastNumber, Closed, CommitNumber, CounterFalls, UsedFalls, Shared, TooManyOpen, TooManyTouched, unless, misfits, unopened, unfollowing, faults_after, faults_from, damages, is_none}
 use Rattle.gx_recovery.proofs.Tests.{and_first, and_second}
 use Rattle.gx_recovery.proofs.Logs.{untrue}
@@ -147,7 +148,9 @@ module _ {E P : Type 0} (k : Known E P) where
   pub bodies_log : (bodies : List (List (Record E P))) → is_undamaged k bodies ≡ true → IsLog k (records_of bodies)
   bodies_log [] h = cc
   bodies_log (head ∷ bodies) h = record {
-    head = head; later = records_of bodies; parts = refl;
+    head = head;
+    later = records_of bodies;
+    parts = refl;
     begins = and_first (is_head k head) (follow k head (records_of bodies)) h;
     goes_on = and_second (is_head k head) (follow k head (records_of bodies)) h;
   }
@@ -158,8 +161,26 @@ module _ {E P : Type 0} (k : Known E P) where
       let closed : p.open_gate ≡ false = untrue p.open_gate (and_first (not p.open_gate) (list_all (λ (q : Place E P). not q.open_gate) ps) h) in
       ap (λ b. if b then p.body ∷ bodies_read ps else []) closed
 
-  -- places with open gates, and then closed ones: the bodies of the first are read, and no others
-  pub bodies_before : (bodies : List (List (Record E P))) (places : List (Place E P)) → list_all (λ p. not p.open_gate) places ≡ true
-      → bodies_read (opened bodies ++ places) ≡ bodies
-  bodies_before [] places h = closed_ahead places h
-  bodies_before (body ∷ bodies) places h = ap (λ (x : List (List (Record E P))). body ∷ x) (bodies_before bodies places h)
+  read_opened : (bodies : List (List (Record E P))) (places : List (Place E P)) → bodies_read (opened bodies ++ places) ≡ bodies ++ bodies_read places
+  read_opened [] places = refl
+  read_opened (body ∷ bodies) places = ap (λ (x : List (List (Record E P))). body ∷ x) (read_opened bodies places)
+
+  read_one : (bodies : List (List (Record E P))) (gate : Bool) (body : List (Record E P)) (rest : List (List (Record E P))) → rest ≡ []
+      → bodies ++ (if gate then body ∷ rest else []) ≡ (if gate then bodies ++ body ∷ [] else bodies)
+  read_one bodies true body rest h = ap (λ (x : List (List (Record E P))). bodies ++ body ∷ x) h
+  read_one bodies false body rest h = append-nil bodies
+
+  -- open gates, one that is open or not, and then closed ones: what is read
+  pub read_before : (bodies : List (List (Record E P))) (one : Place E P) (places : List (Place E P)) → list_all (λ p. not p.open_gate) places ≡ true
+      → bodies_read (opened bodies ++ one ∷ places) ≡ (if one.open_gate then bodies ++ one.body ∷ [] else bodies)
+  read_before bodies one places h = read_opened bodies (one ∷ places) ∙ read_one bodies one.open_gate one.body (bodies_read places) (closed_ahead places h)
+
+  -- nothing is read past a closed gate, whatever is there
+  pub read_past : (bodies : List (List (Record E P))) (one : Place E P) (places : List (Place E P)) → one.open_gate ≡ false
+      → bodies_read (opened bodies ++ one ∷ places) ≡ bodies
+  read_past bodies one places h =
+      read_opened bodies (one ∷ places) ∙ ap (λ (b : Bool). bodies ++ (if b then one.body ∷ bodies_read places else [])) h ∙ append-nil bodies
+
+  pub records_append : (bodies : List (List (Record E P))) (body : List (Record E P)) → records_of (bodies ++ body ∷ []) ≡ records_of bodies ++ body
+  records_append [] body = append-nil body
+  records_append (x ∷ bodies) body = ap (λ y. x ++ y) (records_append bodies body) ∙ sym (append_assoc x (records_of bodies) body)

@@ -13,3 +13,4 @@ pub mod Moves
 pub mod Undo
 pub mod MachineSteps
 pub mod DamageItems
+pub mod WorkedProofs

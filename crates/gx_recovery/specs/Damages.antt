@@ -1,8 +1,8 @@
 -- What is wrong with given bodies, item by item: all that the tests of a log refuse.
-use Rattle.std.specs.Prelude.{ℕ, ◌+◌, Bool, true, false, not, ◌&&◌, nat_le, ◌==◌, if◌then◌else◌, length, List, [], ◌∷◌, ◌++◌}
+use Rattle.std.specs.Prelude.{ℕ, ◌+◌, Bool, true, false, not, nat_le, ◌==◌, if◌then◌else◌, length, List, [], ◌∷◌, ◌++◌}
 use Rattle.std.specs.List.{list_all}
 use Rattle.gx_recovery.specs.Known.{Known}
-use Rattle.gx_recovery.specs.Records.{Image, Record, Pages, Write, Commit, End, Counters, Note, Touch, settled, any_number}
+use Rattle.gx_recovery.specs.Records.{Record, Pages, Write, Commit, End, Counters, Note, settled, any_number}
 use Rattle.gx_recovery.specs.Analysis.{Analysis, analysis}
 use Rattle.gx_recovery.specs.Damage.{is_transaction, is_page, apart, transactions, is_note, records_of}
 use Rattle.gx_recovery.specs.declared.TheConstants.{TRANSACTIONS, TOUCHED}

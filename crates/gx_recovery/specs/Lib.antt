@@ -11,3 +11,4 @@ pub mod Life
 pub mod Machines
 pub mod Damages
 pub mod Worked
+pub mod WorkedLife

@@ -1,11 +1,11 @@
 -- A small index to try the definitions on: entries are numbers, and pages 2 and 3 are its leaves.
-use Rattle.std.specs.Prelude.{◌≡◌, ℕ, zero, suc, ◌+◌, nat_lt, nat_le, ◌==◌, Bool, true, false, not, ◌&&◌, if◌then◌else◌, List, [], ◌∷◌, ◌++◌, map}
+use Rattle.std.specs.Prelude.{◌≡◌, ℕ, zero, suc, ◌+◌, nat_lt, ◌==◌, Bool, true, false, not, ◌&&◌, if◌then◌else◌, List, [], ◌∷◌, ◌++◌}
 use Rattle.std.specs.List.{list_any}
 use Rattle.std.specs.Ordering.{is_eq, nat_cmp}
 use Rattle.gx_recovery.specs.Known.{Known, Tree}
-use Rattle.gx_recovery.specs.Records.{Image, Record, Pages, Write, Commit, End, Counters, Note}
+use Rattle.gx_recovery.specs.Records.{Record, Pages, Write, Commit, End, Counters, Note}
 use Rattle.gx_recovery.specs.Damages.{Damage, NoBody, NoHead, HeadLater, NotDevice, PageNumber, OwnNumber, LeafNumber, NoEntry, LastNumber, Closed, CommitNumber, CounterFalls, UsedFalls, Shared, TooManyOpen, TooManyTouched, damages}
-use Rattle.gx_recovery.specs.declared.TheConstants.{TRANSACTIONS, TOUCHED, LAST_TRANSACTION}
+use Rattle.gx_recovery.specs.declared.TheConstants.{LAST_TRANSACTION}
 
 -- an entry on a leaf, with its mark
 pub record Pair : Type 0 where

@@ -1,11 +1,13 @@
 //! What holds of every log.
-ghost use Rattle.std.specs.Prelude.{◌≡◌, ℕ, ◌+◌, ◌≤◌, Bool, true, Some, List, [], ◌∷◌, ◌++◌};
+ghost use Rattle.std.specs.Prelude.{◌≡◌, ℕ, ◌+◌, ◌≤◌, Bool, true, false, not, if◌then◌else◌, Some, List, [], ◌∷◌, ◌++◌};
+ghost use Rattle.std.specs.List.{list_all};
 ghost use Rattle.gx_recovery.specs.Known.{Tree, IsLawful};
 ghost use Rattle.gx_recovery.specs.Records.{Record, Write, Commit, End};
 ghost use Rattle.gx_recovery.specs.Analysis.{number_of};
 ghost use Rattle.gx_recovery.specs.Redo.{redone, tree_of};
 ghost use Rattle.gx_recovery.specs.Standing.{own_before, stands_for};
-ghost use Rattle.gx_recovery.specs.Damage.{is_open, IsLog};
+ghost use Rattle.gx_recovery.specs.Damage.{is_open, records_of, is_undamaged, Place, opened, bodies_read, IsLog};
+ghost use Rattle.gx_recovery.specs.Damages.{damages, is_none};
 ghost use Rattle.gx_recovery.specs.Coming.{WritesOne, Restored, IsGood, MayCome};
 ghost use Rattle.gx_recovery.specs.Logged.{Logged, all_records, latest, kept, IsHealthy, appended, begun, gate_synced, AgreesBeside, IsLeft, StandsForKept};
 ghost use Rattle.gx_recovery.specs.Renewal.{renewed, renewed_over};
@@ -110,4 +112,22 @@ pub fn a_life_moves_the_kept_sets<M: Meaning>()
         → (life : IsLife M.known old steps new) → AreMoves (kept_of M.known old) (moves_of M.known old steps new life) (kept_of M.known new) }
     ensures durable { IsLawful M.known → (old new : Logged M.Entry M.Page) (steps : List (LogStep M.Entry M.Page)) → IsHealthy M.known old
         → IsLife M.known old steps new → (kept_of M.known old).first ≤ (kept_of M.known new).first }
+{}
+
+/// Bodies in which nothing is damaged are a log; and nothing is damaged exactly where no item of damage is found.
+pub fn undamaged_bodies_are_a_log<M: Meaning>()
+    ensures log { (bodies : List (List (Record M.Entry M.Page))) → is_undamaged M.known bodies ≡ true → IsLog M.known (records_of bodies) }
+    ensures items { (bodies : List (List (Record M.Entry M.Page))) → is_none (damages M.known bodies) ≡ is_undamaged M.known bodies }
+{}
+
+/// Of places with open gates, one whose gate is open or not, and then closed ones, the open bodies are read, with the
+/// one's or without. So a batch in flight is read whole or not at all, and nothing is read past a closed gate.
+pub fn closed_gates_end_the_log<M: Meaning>()
+    ensures bodies { (bodies : List (List (Record M.Entry M.Page))) (one : Place M.Entry M.Page) (places : List (Place M.Entry M.Page))
+        → list_all (λ p. not p.open_gate) places ≡ true
+        → bodies_read (opened bodies ++ one ∷ places) ≡ (if one.open_gate then bodies ++ one.body ∷ [] else bodies) }
+    ensures records { (bodies : List (List (Record M.Entry M.Page))) (body : List (Record M.Entry M.Page))
+        → records_of (bodies ++ body ∷ []) ≡ records_of bodies ++ body }
+    ensures past { (bodies : List (List (Record M.Entry M.Page))) (one : Place M.Entry M.Page) (places : List (Place M.Entry M.Page))
+        → one.open_gate ≡ false → bodies_read (opened bodies ++ one ∷ places) ≡ bodies }
 {}
