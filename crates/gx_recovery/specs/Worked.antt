@@ -5,7 +5,6 @@ use Rattle.std.specs.Ordering.{is_eq, nat_cmp}
 use Rattle.gx_recovery.specs.Known.{Known, Tree}
 use Rattle.gx_recovery.specs.Records.{Record, Pages, Write, Commit, End, Counters, Note}
 use Rattle.gx_recovery.specs.Damages.{Damage, NoBody, NoHead, HeadLater, NotDevice, PageNumber, OwnNumber, LeafNumber, NoEntry, LastNumber, Closed, CommitNumber, CounterFalls, UsedFalls, Shared, TooManyOpen, TooManyTouched, damages}
-use Rattle.gx_recovery.specs.declared.TheConstants.{LAST_TRANSACTION}
 
 -- an entry on a leaf, with its mark
 pub record Pair : Type 0 where
@@ -68,10 +67,19 @@ later body found = record { bodies = (fresh_head ∷ []) ∷ body ∷ []; found 
 abbrev pub first : List (Record ℕ Content) → List Damage → Row
 first body found = record { bodies = body ∷ []; found = found }
 
--- the rows: each log has one thing wrong with it, and the first has none
+-- the number that no transaction has
+abbrev pub no_transaction : ℕ
+no_transaction = 18446744073709551615
+
+-- the rows: the first five logs have nothing wrong with them, each of the others one thing
 abbrev pub rows : List Row
 rows =
     later (insert 1 7 ∷ Commit 1 1 ∷ insert 2 7 ∷ End 2 ∷ []) []
+    -- at the limits: all pages of the device, the last transaction, eight transactions, 512 entries
+    ∷ first (Counters 0 0 8 1 ∷ Note 1 7 true 8 ∷ []) []
+    ∷ later (End 18446744073709551614 ∷ []) []
+    ∷ first (fresh_head ∷ notes_upto 8) []
+    ∷ first (fresh_head ∷ notes_down 512) []
     -- gate 0 is closed; the first body begins with another record, or has another behind; a head in a later body
     ∷ record { bodies = []; found = NoBody ∷ [] }
     ∷ first (insert 1 7 ∷ []) (NoHead ∷ [])
@@ -92,10 +100,10 @@ rows =
     -- a key that isn't one of the class
     ∷ later (insert 1 7000 ∷ []) (NoEntry ∷ [])
     -- the number that none can follow, of a write, a commit, an end and a note
-    ∷ later (insert LAST_TRANSACTION 7 ∷ []) (LastNumber ∷ [])
-    ∷ later (Commit LAST_TRANSACTION 1 ∷ []) (LastNumber ∷ [])
-    ∷ later (End LAST_TRANSACTION ∷ []) (LastNumber ∷ [])
-    ∷ first (fresh_head ∷ Note LAST_TRANSACTION 7 true 2 ∷ []) (LastNumber ∷ [])
+    ∷ later (insert no_transaction 7 ∷ []) (LastNumber ∷ [])
+    ∷ later (Commit no_transaction 1 ∷ []) (LastNumber ∷ [])
+    ∷ later (End no_transaction ∷ []) (LastNumber ∷ [])
+    ∷ first (fresh_head ∷ Note no_transaction 7 true 2 ∷ []) (LastNumber ∷ [])
     -- a transaction goes on after its commit or its end
     ∷ later (Commit 1 1 ∷ insert 1 7 ∷ []) (Closed ∷ [])
     ∷ later (End 1 ∷ Commit 1 1 ∷ []) (Closed ∷ [])

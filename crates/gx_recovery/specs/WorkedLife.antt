@@ -1,7 +1,7 @@
 -- A life of the worked index, with its states and their sets.
 use Rattle.std.specs.Prelude.{ℕ, zero, suc, ◌+◌, ◌-◌, Bool, true, false, ◌==◌, if◌then◌else◌, filter, List, [], ◌∷◌}
-use Rattle.gx_recovery.specs.Records.{Record, Pages, Write, Commit, End}
-use Rattle.gx_recovery.specs.Standing.{stands_for}
+use Rattle.gx_recovery.specs.Records.{Record, Pages, Write, Commit, End, Counters}
+use Rattle.gx_recovery.specs.Standing.{stands_for, view_of}
 use Rattle.gx_recovery.specs.Logged.{Logged, durable, latest, kept, appended, begun, gate_synced}
 use Rattle.gx_recovery.specs.Renewal.{renewed, renewed_over}
 use Rattle.gx_recovery.specs.Life.{LogStep, Appends, Begins, Syncs, WritesPages, Renews, Restarts}
@@ -100,3 +100,27 @@ sets_of s = sets_from (latest worked s + 1 - durable worked s) (durable worked s
 -- what a log over a page area stands for
 abbrev pub stood_for : (ℕ → Content) → List (Record ℕ Content) → List ℕ
 stood_for area log = members (stands_for worked area log)
+
+-- the view of a transaction in a log
+abbrev pub seen_by : ℕ → (ℕ → Content) → List (Record ℕ Content) → List ℕ
+seen_by t area log = members (view_of worked t area log)
+
+-- What the rules prevent. Page 2 is written before its record is gated.
+abbrev pub too_early : ℕ → Content
+too_early p = if 2 == p then leaf 2 (live 7 ∷ []) else leaf p []
+
+-- a checkpoint leaves out the notes
+abbrev pub noteless : List (Record ℕ Content)
+noteless = Counters 1 1 3 3 ∷ []
+
+-- a batch is read behind one whose gate is closed
+abbrev pub past_a_gate : List (Record ℕ Content)
+past_a_gate = fresh_head ∷ delete_7 ∷ []
+
+-- a transaction ends with nothing restored
+abbrev pub ended_early : Logged ℕ Content
+ended_early = appended end_2 reopened
+
+-- two transactions have written one entry
+abbrev pub shared : List (Record ℕ Content)
+shared = fresh_head ∷ insert_7 ∷ delete_7 ∷ []

@@ -1,13 +1,14 @@
 //! The definitions tried on values: they are met, and each test of a log refuses something that no other does.
 ghost use Rattle.std.specs.Prelude.{◌≡◌, true, false, List, [], ◌∷◌, ◌++◌};
 ghost use Rattle.gx_recovery.specs.Known.{IsLawful};
-ghost use Rattle.gx_recovery.specs.Records.{Counters, Note};
+ghost use Rattle.gx_recovery.specs.Records.{Commit, Counters, Note};
 ghost use Rattle.gx_recovery.specs.Logged.{IsHealthy};
 ghost use Rattle.gx_recovery.specs.Life.{IsLife};
 ghost use Rattle.gx_recovery.specs.Worked.{worked, rows, found_in, wanted_of};
-ghost use Rattle.gx_recovery.specs.WorkedLife.{fresh, in_flight, committed, losing, torn, reopened, undoing, undone, written, renewed_last, worked_steps, sets_of, stood_for};
+ghost use Rattle.gx_recovery.specs.WorkedLife.{fresh, in_flight, committed, losing, torn, reopened, undoing, undone, written, renewed_last, worked_steps, sets_of, stood_for, too_early, past_a_gate, noteless, ended_early, shared, seen_by};
 
-/// Each damaged log of the rows is refused for its own item and for no other; the first is a log.
+/// Each damaged log of the rows is refused for its own item and for no other. Beside them stand logs that are at a limit
+/// and not over it.
 pub fn each_item_refuses_a_log_alone()
     ensures { found_in rows ≡ wanted_of rows }
 {}
@@ -37,4 +38,17 @@ pub fn the_sets_of_the_worked_life()
     ensures undone { sets_of undone ≡ (7 ∷ []) ∷ [] }
     ensures either { stood_for written.area renewed_last.gated ≡ stood_for written.area written.gated }
     ensures renewed { renewed_last.gated ≡ Counters 1 1 3 3 ∷ [] }
+{}
+
+/// What would go wrong. With nothing committed, a crash leaves entry 7 where its page is written before its record is
+/// gated, and where a batch is read behind a closed gate. With entry 7 committed, a crash leaves entry 8 and not 7 where a
+/// checkpoint leaves out the notes, and where a transaction ends before all is restored. Where two transactions write one
+/// entry, the commit of the first has a set that isn't its view.
+pub fn what_the_rules_prevent()
+    ensures too_early { stood_for too_early in_flight.gated ≡ 7 ∷ [] }
+    ensures past_a_gate { stood_for fresh.area past_a_gate ≡ 7 ∷ [] }
+    ensures noteless { stood_for reopened.area noteless ≡ 8 ∷ [] }
+    ensures ended_early { sets_of ended_early ≡ (8 ∷ []) ∷ [] }
+    ensures seen { seen_by 1 fresh.area shared ≡ [] }
+    ensures shared { stood_for fresh.area (shared ++ Commit 1 1 ∷ []) ≡ 7 ∷ [] }
 {}
