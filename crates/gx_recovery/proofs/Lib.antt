@@ -14,3 +14,4 @@ pub mod Undo
 pub mod MachineSteps
 pub mod DamageItems
 pub mod WorkedProofs
+pub mod Numbers

@@ -102,12 +102,14 @@ module _ {E P : Type 0} (k : Known E P) (l : IsLawful k) where
   fair_head (End transaction ∷ rs) h = cc
   fair_head (Note transaction entry mark leaf ∷ rs) h = cc
 
+  -- each record of a log is fair
+  pub fair_log : (log : List (Record E P)) → (is : IsLog k log) → AreFair k [] (is.head ++ is.later)
+  fair_log log is = fair-append k [] is.head is.later (fair_head is.head is.begins) (fair_follow is.head is.later is.goes_on)
+
   -- what holds of every log
   pub told_log : (log : List (Record E P)) → IsLog k log → Told k log
   told_log log is =
-      subst (Told k) (sym is.parts)
-      (kept_by_fair k (Told k) (told_step k l) [] (is.head ++ is.later) (told_nothing k l)
-      (fair-append k [] is.head is.later (fair_head is.head is.begins) (fair_follow is.head is.later is.goes_on)))
+      subst (Told k) (sym is.parts) (kept_by_fair k (Told k) (told_step k l) [] (is.head ++ is.later) (told_nothing k l) (fair_log log is))
 
   follow-append : (log xs ys : List (Record E P)) → follow k log xs ≡ true → follow k (log ++ xs) ys ≡ true → follow k log (xs ++ ys) ≡ true
   follow-append log [] ys p q = ap (λ b. follow k b ys) (sym (append-nil log)) ∙ q

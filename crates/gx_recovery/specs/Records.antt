@@ -60,3 +60,12 @@ any_number number = true
 -- whether transaction t is closed in a log
 abbrev pub settled : {E P : Type 0} → (ℕ → Bool) → ℕ → List (Record E P) → Bool
 settled passes t log = list_any (closes passes t) log
+
+-- whether a record is of transaction t
+abbrev pub names : {E P : Type 0} → ℕ → Record E P → Bool
+names t (Pages images counter used) = false
+names t (Write transaction entry before after leaf content) = transaction == t
+names t (Commit transaction number) = transaction == t
+names t (End transaction) = transaction == t
+names t (Counters number counter used next) = false
+names t (Note transaction entry before leaf) = transaction == t

@@ -49,6 +49,10 @@ in_flight = begun (appended commit_1 (appended insert_7 fresh))
 abbrev pub committed : Logged ℕ Content
 committed = gate_synced in_flight
 
+-- another life, in which transaction 2 commits the insert of 8
+abbrev pub second : Logged ℕ Content
+second = appended (Commit 2 2) (appended insert_8 committed)
+
 -- the loser's batch is gated, and pages are written, one torn
 abbrev pub losing : Logged ℕ Content
 losing = gate_synced (begun (appended delete_7 (appended split (appended insert_8 committed))))

@@ -1,12 +1,12 @@
 //! What holds of every log.
-ghost use Rattle.std.specs.Prelude.{◌≡◌, ℕ, ◌+◌, ◌≤◌, Bool, true, false, not, if◌then◌else◌, Some, List, [], ◌∷◌, ◌++◌};
-ghost use Rattle.std.specs.List.{list_all};
+ghost use Rattle.std.specs.Prelude.{◌≡◌, ℕ, ◌+◌, ◌<◌, ◌≤◌, Bool, true, false, not, if◌then◌else◌, Some, List, [], ◌∷◌, ◌++◌};
+ghost use Rattle.std.specs.List.{list_all, list_any};
 ghost use Rattle.gx_recovery.specs.Known.{Tree, IsLawful};
-ghost use Rattle.gx_recovery.specs.Records.{Record, Write, Commit, End};
-ghost use Rattle.gx_recovery.specs.Analysis.{number_of};
+ghost use Rattle.gx_recovery.specs.Records.{Record, Write, Commit, End, names};
+ghost use Rattle.gx_recovery.specs.Analysis.{analysis, number_of};
 ghost use Rattle.gx_recovery.specs.Redo.{redone, tree_of};
 ghost use Rattle.gx_recovery.specs.Standing.{own_before, stands_for};
-ghost use Rattle.gx_recovery.specs.Damage.{is_open, records_of, is_undamaged, Place, opened, bodies_read, IsLog};
+ghost use Rattle.gx_recovery.specs.Damage.{is_open, follows, records_of, is_undamaged, Place, opened, bodies_read, IsLog};
 ghost use Rattle.gx_recovery.specs.Damages.{damages, is_none};
 ghost use Rattle.gx_recovery.specs.Coming.{WritesOne, Restored, IsGood, MayCome};
 ghost use Rattle.gx_recovery.specs.Logged.{Logged, all_records, latest, kept, IsHealthy, appended, begun, gate_synced, AgreesBeside, IsLeft, StandsForKept};
@@ -130,4 +130,15 @@ pub fn closed_gates_end_the_log<M: Meaning>()
         → records_of (bodies ++ body ∷ []) ≡ records_of bodies ++ body }
     ensures past { (bodies : List (List (Record M.Entry M.Page))) (one : Place M.Entry M.Page) (places : List (Place M.Entry M.Page))
         → one.open_gate ≡ false → bodies_read (opened bodies ++ one ∷ places) ≡ bodies }
+{}
+
+/// The next transaction's number is above every transaction's of a log, never falls, and is the same in the log that a
+/// checkpoint or an opening writes: so no number is given twice.
+pub fn transaction_numbers_are_given_once<M: Meaning>()
+    ensures above { IsLawful M.known → (log : List (Record M.Entry M.Page)) → IsLog M.known log → (t : ℕ)
+        → list_any (names t) log ≡ true → t < (analysis M.known log).next }
+    ensures rises { IsLawful M.known → (log : List (Record M.Entry M.Page)) (r : Record M.Entry M.Page) → follows M.known log r ≡ true
+        → (analysis M.known log).next ≤ (analysis M.known (log ++ r ∷ [])).next }
+    ensures renewed { IsLawful M.known → (log : List (Record M.Entry M.Page)) → IsLog M.known log
+        → (analysis M.known (renewed M.known log)).next ≡ (analysis M.known log).next }
 {}

@@ -2,10 +2,10 @@
 ghost use Rattle.std.specs.Prelude.{◌≡◌, true, false, List, [], ◌∷◌, ◌++◌};
 ghost use Rattle.gx_recovery.specs.Known.{IsLawful};
 ghost use Rattle.gx_recovery.specs.Records.{Commit, Counters, Note};
-ghost use Rattle.gx_recovery.specs.Logged.{IsHealthy};
+ghost use Rattle.gx_recovery.specs.Logged.{IsHealthy, all_records, appended};
 ghost use Rattle.gx_recovery.specs.Life.{IsLife};
 ghost use Rattle.gx_recovery.specs.Worked.{worked, rows, found_in, wanted_of};
-ghost use Rattle.gx_recovery.specs.WorkedLife.{fresh, in_flight, committed, losing, torn, reopened, undoing, undone, written, renewed_last, worked_steps, sets_of, stood_for, too_early, past_a_gate, noteless, ended_early, shared, seen_by};
+ghost use Rattle.gx_recovery.specs.WorkedLife.{fresh, insert_8, in_flight, committed, second, losing, torn, reopened, undoing, undone, written, renewed_last, worked_steps, sets_of, stood_for, too_early, past_a_gate, noteless, ended_early, shared, seen_by};
 
 /// Each damaged log of the rows is refused for its own item and for no other. Beside them stand logs that are at a limit
 /// and not over it.
@@ -30,6 +30,8 @@ pub fn the_sets_of_the_worked_life()
     ensures without_flight { stood_for fresh.area in_flight.gated ≡ [] }
     ensures with_flight { stood_for fresh.area (in_flight.gated ++ in_flight.flight) ≡ 7 ∷ [] }
     ensures committed { sets_of committed ≡ (7 ∷ []) ∷ [] }
+    ensures second { sets_of second ≡ (7 ∷ []) ∷ (7 ∷ 8 ∷ []) ∷ [] }
+    ensures second_view { seen_by 2 committed.area (all_records (appended insert_8 committed)) ≡ 7 ∷ 8 ∷ [] }
     ensures losing { sets_of losing ≡ (7 ∷ []) ∷ [] }
     ensures torn { stood_for torn losing.gated ≡ 7 ∷ [] }
     ensures reopened { sets_of reopened ≡ (7 ∷ []) ∷ [] }

@@ -39,3 +39,9 @@ returns-clause-renewed c = refl
 
 pub returns-clause-undoing : goal.returns-clause-undoing
 returns-clause-undoing c = refl
+
+pub returns-clause-second : goal.returns-clause-second
+returns-clause-second c = refl
+
+pub returns-clause-second_view : goal.returns-clause-second_view
+returns-clause-second_view c = refl
