@@ -1,0 +1,17 @@
+pub mod Tests
+pub mod Folds
+pub mod Touches
+pub mod Lookups
+pub mod Fair
+pub mod Told
+pub mod Logs
+pub mod Sets
+pub mod States
+pub mod Lives
+pub mod Renewals
+pub mod Moves
+pub mod Undo
+pub mod MachineSteps
+pub mod DamageItems
+pub mod WorkedProofs
+pub mod Numbers

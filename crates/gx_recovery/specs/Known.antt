@@ -1,0 +1,33 @@
+-- What is known of entries and pages, and nothing else: the laws hold whatever they are.
+use Rattle.std.specs.Prelude.{◌≡◌, ℕ, Bool}
+use Rattle.std.specs.Cmp.{IsTotalOrder}
+use Rattle.std.specs.declared.cmp.Ordering.{Ordering}
+use Rattle.std.specs.declared.cmp.Ordering.TheVariants.{Equal}
+use Rattle.std.specs.Ordering.{is_eq}
+
+-- pages by their numbers, the counter of splits, and the greatest page number in use
+pub record Tree (P : Type 0) : Type 0 where
+  pub page : ℕ → P
+  pub counter : ℕ
+  pub used : ℕ
+
+-- The order of entries; which are live in the pages; whether the tree of the pages is sound; whether an entry stands on
+-- a leaf or to the right of it; whether an entry's key is one of the class; the number that a page's content has as its
+-- own; how many pages the device has.
+pub record Known (E P : Type 0) : Type 1 where
+  pub cmp : E → E → Ordering
+  pub live : Tree P → E → Bool
+  pub sound : Tree P → Type 0
+  pub placed : Tree P → E → ℕ → Type 0
+  pub is_entry : E → Bool
+  pub own : P → ℕ
+  pub pages : ℕ
+
+-- the order is total, and only an entry and itself compare as equal
+pub record IsLawful {E P : Type 0} (k : Known E P) : Type 0 where
+  pub total : IsTotalOrder k.cmp
+  pub exact : (a b : E) → k.cmp a b ≡ Equal → a ≡ b
+
+-- two are the same entry
+abbrev pub same : {E P : Type 0} → Known E P → E → E → Bool
+same k a b = is_eq (k.cmp a b)

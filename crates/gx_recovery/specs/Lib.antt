@@ -1,0 +1,14 @@
+pub mod Records
+pub mod Known
+pub mod Analysis
+pub mod Redo
+pub mod Standing
+pub mod Damage
+pub mod Coming
+pub mod Logged
+pub mod Renewal
+pub mod Life
+pub mod Machines
+pub mod Damages
+pub mod Worked
+pub mod WorkedLife

@@ -1,0 +1,133 @@
+-- A small index to try the definitions on: entries are numbers, and pages 2 and 3 are its leaves.
+use Rattle.std.specs.Prelude.{◌≡◌, ℕ, zero, suc, ◌+◌, nat_lt, ◌==◌, Bool, true, false, not, ◌&&◌, if◌then◌else◌, List, [], ◌∷◌, ◌++◌}
+use Rattle.std.specs.List.{list_any}
+use Rattle.std.specs.Ordering.{is_eq, nat_cmp}
+use Rattle.gx_recovery.specs.Known.{Known, Tree}
+use Rattle.gx_recovery.specs.Records.{Record, Pages, Write, Commit, End, Counters, Note}
+use Rattle.gx_recovery.specs.Damages.{Damage, NoBody, NoHead, HeadLater, NotDevice, PageNumber, OwnNumber, LeafNumber, NoEntry, LastNumber, Closed, CommitNumber, CounterFalls, UsedFalls, Shared, TooManyOpen, TooManyTouched, damages}
+
+-- an entry on a leaf, with its mark
+pub record Pair : Type 0 where
+  pub entry : ℕ
+  pub marked : Bool
+
+-- a page's content: its own number, and its pairs
+pub record Content : Type 0 where
+  pub own : ℕ
+  pub pairs : List Pair
+
+abbrev pub live : ℕ → Pair
+live e = record { entry = e; marked = false }
+
+abbrev pub marked : ℕ → Pair
+marked e = record { entry = e; marked = true }
+
+abbrev pub leaf : ℕ → List Pair → Content
+leaf own pairs = record { own = own; pairs = pairs }
+
+-- the pairs of a leaf and of what is to the right of it
+abbrev pub pairs_from : ℕ → Tree Content → List Pair
+pairs_from page tree = if page == 2 then (tree.page 2).pairs ++ (tree.page 3).pairs else (tree.page 3).pairs
+
+abbrev pub worked : Known ℕ Content
+worked = record {
+  cmp = nat_cmp;
+  live = λ tree e. list_any (λ p. not p.marked && is_eq (nat_cmp e p.entry)) (pairs_from 2 tree);
+  sound = λ tree. ((tree.page 2).own ≡ 2) × (tree.used ≡ 2 + tree.counter);
+  placed = λ tree e page. list_any (λ p. is_eq (nat_cmp e p.entry)) (pairs_from page tree) ≡ true;
+  is_entry = λ e. nat_lt e 1000;
+  own = λ content. content.own;
+  pages = 8;
+}
+
+-- an insert by a transaction, of an entry that wasn't there, on page 2
+abbrev pub insert : ℕ → ℕ → Record ℕ Content
+insert t e = Write t e true false 2 (leaf 2 (live e ∷ []))
+
+-- notes of so many transactions, one each; and so many notes of one transaction
+abbrev pub notes_upto : ℕ → List (Record ℕ Content)
+notes_upto zero = []
+notes_upto (suc n) = notes_upto n ++ Note n n true 2 ∷ []
+
+abbrev pub notes_down : ℕ → List (Record ℕ Content)
+notes_down zero = []
+notes_down (suc n) = Note 1 n true 2 ∷ notes_down n
+
+abbrev pub fresh_head : Record ℕ Content
+fresh_head = Counters 0 0 2 1
+
+-- A damaged log with what is wrong with it.
+pub record Row : Type 0 where
+  pub bodies : List (List (Record ℕ Content))
+  pub found : List Damage
+
+abbrev pub later : List (Record ℕ Content) → List Damage → Row
+later body found = record { bodies = (fresh_head ∷ []) ∷ body ∷ []; found = found }
+
+abbrev pub first : List (Record ℕ Content) → List Damage → Row
+first body found = record { bodies = body ∷ []; found = found }
+
+-- the number that no transaction has
+abbrev pub no_transaction : ℕ
+no_transaction = 18446744073709551615
+
+-- the rows: the first five logs have nothing wrong with them, each of the others one thing
+abbrev pub rows : List Row
+rows =
+    later (insert 1 7 ∷ Commit 1 1 ∷ insert 2 7 ∷ End 2 ∷ []) []
+    -- at the limits: all pages of the device, the last transaction, eight transactions, 512 entries
+    ∷ first (Counters 0 0 8 1 ∷ Note 1 7 true 8 ∷ []) []
+    ∷ later (End 18446744073709551614 ∷ []) []
+    ∷ first (fresh_head ∷ notes_upto 8) []
+    ∷ first (fresh_head ∷ notes_down 512) []
+    -- gate 0 is closed; the first body begins with another record, or has another behind; a head in a later body
+    ∷ record { bodies = []; found = NoBody ∷ [] }
+    ∷ first (insert 1 7 ∷ []) (NoHead ∷ [])
+    ∷ first (fresh_head ∷ insert 1 7 ∷ []) (NoHead ∷ [])
+    ∷ later (Note 1 7 true 2 ∷ []) (HeadLater ∷ [])
+    ∷ later (fresh_head ∷ []) (HeadLater ∷ [])
+    -- more pages than the device has; a page 0; a page that isn't in use
+    ∷ first (Counters 0 0 9 1 ∷ []) (NotDevice ∷ [])
+    ∷ later (Pages (record { page = 0; content = leaf 0 [] } ∷ []) 0 2 ∷ []) (PageNumber ∷ [])
+    ∷ later (Pages (record { page = 3; content = leaf 3 [] } ∷ []) 0 2 ∷ []) (PageNumber ∷ [])
+    -- an image of another page, on a split and on a write
+    ∷ later (Pages (record { page = 2; content = leaf 3 [] } ∷ []) 0 2 ∷ []) (OwnNumber ∷ [])
+    ∷ later (Write 1 7 true false 2 (leaf 3 []) ∷ []) (OwnNumber ∷ [])
+    -- a leaf that isn't in use, of a write and of a note; a leaf 0
+    ∷ later (Write 1 7 true false 3 (leaf 3 []) ∷ []) (LeafNumber ∷ [])
+    ∷ first (fresh_head ∷ Note 1 7 true 3 ∷ []) (LeafNumber ∷ [])
+    ∷ first (fresh_head ∷ Note 1 7 true 0 ∷ []) (LeafNumber ∷ [])
+    -- a key that isn't one of the class
+    ∷ later (insert 1 7000 ∷ []) (NoEntry ∷ [])
+    -- the number that none can follow, of a write, a commit, an end and a note
+    ∷ later (insert no_transaction 7 ∷ []) (LastNumber ∷ [])
+    ∷ later (Commit no_transaction 1 ∷ []) (LastNumber ∷ [])
+    ∷ later (End no_transaction ∷ []) (LastNumber ∷ [])
+    ∷ first (fresh_head ∷ Note no_transaction 7 true 2 ∷ []) (LastNumber ∷ [])
+    -- a transaction goes on after its commit or its end
+    ∷ later (Commit 1 1 ∷ insert 1 7 ∷ []) (Closed ∷ [])
+    ∷ later (End 1 ∷ Commit 1 1 ∷ []) (Closed ∷ [])
+    ∷ later (Commit 1 1 ∷ End 1 ∷ []) (Closed ∷ [])
+    -- a commit's number is left out, or comes again
+    ∷ later (Commit 1 2 ∷ []) (CommitNumber ∷ [])
+    ∷ later (Commit 1 1 ∷ Commit 2 1 ∷ []) (CommitNumber ∷ [])
+    -- the counter falls; the pages in use fall
+    ∷ later (Pages [] 1 2 ∷ Pages [] 0 2 ∷ []) (CounterFalls ∷ [])
+    ∷ later (Pages [] 0 3 ∷ Pages [] 0 2 ∷ []) (UsedFalls ∷ [])
+    -- two open transactions have one entry: by two writes, by a note and a write, by two notes
+    ∷ later (insert 1 7 ∷ insert 2 7 ∷ []) (Shared ∷ [])
+    ∷ record { bodies = (fresh_head ∷ Note 1 7 true 2 ∷ []) ∷ (insert 2 7 ∷ []) ∷ []; found = Shared ∷ [] }
+    ∷ first (fresh_head ∷ Note 1 7 true 2 ∷ Note 2 7 true 2 ∷ []) (Shared ∷ [])
+    -- nine transactions are open
+    ∷ first (fresh_head ∷ notes_upto 9) (TooManyOpen ∷ [])
+    -- 513 entries are touched
+    ∷ first (fresh_head ∷ notes_down 513) (TooManyTouched ∷ [])
+    ∷ []
+
+abbrev pub found_in : List Row → List (List Damage)
+found_in [] = []
+found_in (row ∷ rows) = damages worked row.bodies ∷ found_in rows
+
+abbrev pub wanted_of : List Row → List (List Damage)
+wanted_of [] = []
+wanted_of (row ∷ rows) = row.found ∷ wanted_of rows

@@ -1,0 +1,29 @@
+//! What a log stands for, and why a crash leaves a committed set.
+//!
+//! A log is a list of records over entries and pages. Of these the crate knows only what [`Meaning`] names: which
+//! entries are live in given pages, and which pages are good. It knows no device and no tree.
+#![tactic(auto)]
+
+ghost use Rattle.gx_recovery.specs.Known.{Known};
+
+pub mod laws;
+pub mod machine_laws;
+pub mod worked;
+
+/// How many transactions of a log may be open at once.
+pub const TRANSACTIONS: usize = 8;
+
+/// How many entries the open transactions of a log may have touched in all.
+pub const TOUCHED: usize = 512;
+
+/// The transaction's number that none can follow, so that no log has it.
+pub const LAST_TRANSACTION: u64 = u64::MAX;
+
+/// Entries and pages, by what a log needs to know of them.
+pub trait Meaning {
+    type Entry;
+
+    type Page;
+
+    ghost known: { Known Self.Entry Self.Page };
+}
