@@ -1,0 +1,6 @@
+pub mod Sums
+pub mod Chains
+pub mod Splits
+pub mod Roots
+pub mod Changes
+pub mod PageSteps
