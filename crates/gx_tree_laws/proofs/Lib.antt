@@ -4,3 +4,7 @@ pub mod Splits
 pub mod Roots
 pub mod Changes
 pub mod PageSteps
+pub mod Runs
+pub mod SplitReach
+pub mod RootReach
+pub mod ChangeReach

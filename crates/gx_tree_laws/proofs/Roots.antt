@@ -27,7 +27,7 @@ module _ {K : Type 0} (r : Rules K) (old new : Tree K) (sides : List Bool) (left
   no_pairs : (old.node 1).pairs ≡ []
   no_pairs = ((legal.pages 1 root_used).inner legal.root).0
 
-  used_more : (q : ℕ) → Used old q → Used new q
+  pub used_more : (q : ℕ) → Used old q → Used new q
   used_more q u = let e = step.used in (u.0, (let h = u.1 in omega (arith, e, h)))
 
   used_before : (q : ℕ) → Used new q → q ≢ a → q ≢ b → Used old q

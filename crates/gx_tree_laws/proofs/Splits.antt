@@ -69,7 +69,7 @@ module _ {K : Type 0} (r : Rules K) (law : IsLawful r) (old new : Tree K) (n p :
   pub split_apart : n ≢ p
   split_apart e = let l = split_level in let same = ap (λ q. (old.node q).level) e in omega (arith, l, same)
 
-  used_more : (q : ℕ) → Used old q → Used new q
+  pub used_more : (q : ℕ) → Used old q → Used new q
   used_more q u = let e = step.used in (u.0, (let h = u.1 in omega (arith, e, h)))
 
   old_page : (q : ℕ) → Used old q → q ≢ s
@@ -347,7 +347,7 @@ module _ {K : Type 0} (r : Rules K) (law : IsLawful r) (old new : Tree K) (n p :
 
   -- the chain
 
-  right_same : (q : ℕ) → Used old q → q ≢ n → (new.node q).right ≡ (old.node q).right
+  pub right_same : (q : ℕ) → Used old q → q ≢ n → (new.node q).right ≡ (old.node q).right
   right_same q u ne = elim (place_of n p s q) [
     | is_split e ↦ absurd (ne e)
     | is_parent e ↦ subst (λ q. (new.node q).right ≡ (old.node q).right) (sym e) (ap (λ (x : Node K). x.right) step.named)
@@ -355,7 +355,7 @@ module _ {K : Type 0} (r : Rules K) (law : IsLawful r) (old new : Tree K) (n p :
     | is_other nn np ns ↦ ap (λ (x : Node K). x.right) (step.others q nn np ns)
   ]
 
-  used_new : Used new s
+  pub used_new : Used new s
   used_new = (omega arith, (let e = step.used in omega (arith, e)))
 
   linked_split : (xs : List ℕ) (a : ℕ) → Linked old a xs → Linked new a (after n s xs)
