@@ -8,3 +8,6 @@ pub mod Runs
 pub mod SplitReach
 pub mod RootReach
 pub mod ChangeReach
+pub mod Whole
+pub mod LookSteps
+pub mod OwnLook

@@ -24,7 +24,7 @@ module _ {K : Type 0} (r : Rules K) (old new : Tree K) (sides : List Bool) (left
   pub root_used : Used old 1
   root_used = let h = first_two in (omega arith, omega (arith, h))
 
-  no_pairs : (old.node 1).pairs ≡ []
+  pub no_pairs : (old.node 1).pairs ≡ []
   no_pairs = ((legal.pages 1 root_used).inner legal.root).0
 
   pub used_more : (q : ℕ) → Used old q → Used new q
@@ -47,7 +47,7 @@ module _ {K : Type 0} (r : Rules K) (old new : Tree K) (sides : List Bool) (left
   pub sum_root : (f : ℕ → ℕ) → sum_over f (child_pages (new.node 1)) ≡ f a + f b
   sum_root f = let x = ap (λ (z : Node K). sum_over f (child_pages z)) step.root in omega (arith, x)
 
-  pairs_root : (test : Pair K → Bool) → how_many test (new.node 1).pairs ≡ 0
+  pub pairs_root : (test : Pair K → Bool) → how_many test (new.node 1).pairs ≡ 0
   pairs_root test = ap (λ (z : Node K). how_many test z.pairs) step.root
 
   names_new : (x q : ℕ) → old.used < x → Used old q → times x (child_pages (old.node q)) ≡ 0

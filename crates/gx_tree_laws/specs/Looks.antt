@@ -1,7 +1,7 @@
 -- A look at work: a search, or a write that looks whether its pair is there.
 use Rattle.std.specs.Prelude.{ℕ, ◌≡◌, ◌+◌, ◌≤◌, Bool, true, ◌&&◌, if◌then◌else◌, nat_lt, List, [], ◌∷◌, ◌++◌, map, filter}
 use Rattle.gx_tree_laws.specs.Lists.{Each, how_many}
-use Rattle.gx_tree_laws.specs.Trees.{Pair, Child, Tree, Rules, standing}
+use Rattle.gx_tree_laws.specs.Trees.{Pair, Child, Node, Tree, Rules, Used, standing}
 use Rattle.gx_tree_laws.specs.Reach.{Item, Run, run, times_ahead, pairs_ahead}
 
 -- an item that was made on this tree or on one that led to it
@@ -37,6 +37,12 @@ stacked t leads item stack = beyond_of t item ++ (below_of t leads (t.node item.
 abbrev pub found_with : {K : Type 0} → Tree K → (Pair K → Bool) → Item → List (Pair K) → List (Pair K)
 found_with t wants item found = found ++ filter wants (t.node item.page).pairs
 
+-- each key of the tree is a key of its class
+pub record KeysAre {K : Type 0} (IsKey : K → Type 0) (t : Tree K) : Type 0 where
+  pub pairs : (p : ℕ) → Used t p → Each (λ x. IsKey x.key) (t.node p).pairs
+  pub children : (p : ℕ) → Used t p → Each (λ c. IsKey c.key) (t.node p).children
+
 -- a bound that covers something wanted leads to it
-abbrev pub LeadsTo : {K : Type 0} → Rules K → (Pair K → Bool) → (K → Bool) → Type 0
-LeadsTo {K} r wants leads = (b : K) (x : Pair K) → wants x ≡ true → r.covers b x.key ≡ true → leads b ≡ true
+abbrev pub LeadsTo : {K : Type 0} → Rules K → (K → Type 0) → (Pair K → Bool) → (K → Bool) → Type 0
+LeadsTo {K} r IsKey wants leads = (b : K) (x : Pair K) → IsKey b → IsKey x.key → wants x ≡ true → r.covers b x.key ≡ true
+    → leads b ≡ true
