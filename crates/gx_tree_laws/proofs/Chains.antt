@@ -156,7 +156,7 @@ module _ {K : Type 0} where
       ap (λ q. q ∷ xs) same
       ∙ ap (λ (zs : List ℕ). y ∷ zs) (linked_unique t (t.node y).right xs ys (subst (λ q. Linked t (t.node q).right xs) same l.3) m.3)
 
-  linked_from : (t : Tree K) (n a : ℕ) (xs : List ℕ) → Linked t a xs → 0 < times n xs
+  pub linked_from : (t : Tree K) (n a : ℕ) (xs : List ℕ) → Linked t a xs → 0 < times n xs
       → (ys : List ℕ) × Linked t n ys × (length ys ≤ length xs)
   linked_from t n a [] l some = absurd (omega arith)
   linked_from t n a (x ∷ xs) l some = elim (cases_eq x n) [

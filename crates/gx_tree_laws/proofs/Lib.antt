@@ -11,3 +11,7 @@ pub mod ChangeReach
 pub mod Whole
 pub mod LookSteps
 pub mod OwnLook
+pub mod AllSteps
+pub mod DescentSteps
+pub mod SeekSteps
+pub mod InReach

@@ -20,7 +20,7 @@ module _ {K : Type 0} (r : Rules K) (old new : Tree K) (sides : List Bool) (left
   abbrev b : ℕ
   b = suc (suc old.used)
 
-  number_same : (q : ℕ) → Used old q → (new.node q).number ≡ (old.node q).number
+  pub number_same : (q : ℕ) → Used old q → (new.node q).number ≡ (old.node q).number
   number_same q u = elim (cases_eq q 1) [
       | inl e ↦ subst (λ q. (new.node q).number ≡ (old.node q).number) (sym e) (ap (λ (z : Node K). z.number) step.root)
       | inr ne ↦ ap (λ (z : Node K). z.number) (same_node r old new sides left right legal step q u ne)

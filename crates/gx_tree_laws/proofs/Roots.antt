@@ -30,7 +30,7 @@ module _ {K : Type 0} (r : Rules K) (old new : Tree K) (sides : List Bool) (left
   pub used_more : (q : ℕ) → Used old q → Used new q
   used_more q u = let e = step.used in (u.0, (let h = u.1 in omega (arith, e, h)))
 
-  used_before : (q : ℕ) → Used new q → q ≢ a → q ≢ b → Used old q
+  pub used_before : (q : ℕ) → Used new q → q ≢ a → q ≢ b → Used old q
   used_before q u na nb = let e = step.used in let h = u.1 in (u.0, omega (arith, e, h, na, nb))
 
   -- a page that was taken, but for the root, is as it was

@@ -43,7 +43,7 @@ module _ {K : Type 0} (r : Rules K) (law : IsLawful r) (old new : Tree K) (n p :
   abbrev s : ℕ
   s = suc old.used
 
-  number_same : (q : ℕ) → Used old q → q ≢ n → (new.node q).number ≡ (old.node q).number
+  pub number_same : (q : ℕ) → Used old q → q ≢ n → (new.node q).number ≡ (old.node q).number
   number_same q u ne = elim (place_of n p s q) [
       | is_split e ↦ absurd (ne e)
       | is_parent e ↦ subst (λ q. (new.node q).number ≡ (old.node q).number) (sym e) (ap (λ (x : Node K). x.number) step.named)

@@ -1,5 +1,5 @@
 -- Words on lists and numbers that the tree's definitions are made of.
-use Rattle.std.specs.Prelude.{ℕ, zero, suc, ◌+◌, Bool, true, false, cond, List, [], ◌∷◌}
+use Rattle.std.specs.Prelude.{ℕ, zero, suc, ◌+◌, Bool, true, false, cond, ◌⊎◌, List, [], ◌∷◌}
 
 -- the sum of f over the elements
 abbrev pub sum_over : {X : Type 0} → (X → ℕ) → List X → ℕ
@@ -36,3 +36,8 @@ going sides [] = []
 going [] (x ∷ xs) = []
 going (true ∷ sides) (x ∷ xs) = x ∷ going sides xs
 going (false ∷ sides) (x ∷ xs) = going sides xs
+
+-- P holds of some element
+abbrev pub SomeOf : {X : Type 0} → (X → Type 0) → List X → Type 0
+SomeOf P [] = ⊥
+SomeOf P (x ∷ xs) = P x ⊎ SomeOf P xs
