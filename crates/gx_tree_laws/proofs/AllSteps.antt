@@ -1,7 +1,8 @@
 -- Any step, and any list of them, keeps a tree legal and a look going.
 use Rattle.std.proofs.Common.{◌≡◌, Bool, true, List, [], ◌∷◌, sym, subst}
 use Rattle.gx_tree_laws.specs.Lists.{Each}
-use Rattle.gx_tree_laws.specs.Trees.{Pair, Tree, Rules, IsLawful}
+use Rattle.std.proofs.Common.{ℕ}
+use Rattle.gx_tree_laws.specs.Trees.{Pair, Tree, Rules, IsLawful, is_entry}
 use Rattle.gx_tree_laws.specs.Legal.{Legal}
 use Rattle.gx_tree_laws.specs.Steps.{Step, Splits, SplitsRoot, Widens, Adds, Marks, Sweeps, IsStep, AreSteps, LeavesAlone}
 use Rattle.gx_tree_laws.specs.Reach.{Item}
@@ -9,7 +10,11 @@ use Rattle.gx_tree_laws.specs.Looks.{IsLook}
 use Rattle.gx_tree_laws.proofs.Splits.{legal_split}
 use Rattle.gx_tree_laws.proofs.Roots.{legal_root}
 use Rattle.gx_tree_laws.proofs.PageSteps.{legal_widened, legal_added, legal_marked, legal_swept}
+use Rattle.gx_tree_laws.specs.Writes.{IsDescent, IsSeek}
+use Rattle.gx_tree_laws.proofs.Sums.{each_always}
 use Rattle.gx_tree_laws.proofs.LookSteps.{look_step}
+use Rattle.gx_tree_laws.proofs.DescentSteps.{descent_step}
+use Rattle.gx_tree_laws.proofs.SeekSteps.{seek_step}
 
 module _ {K : Type 0} (r : Rules K) (law : IsLawful r) where
   pub legal_step : (old new : Tree K) (step : Step K) → Legal r old → IsStep r old step new → Legal r new
@@ -38,3 +43,16 @@ module _ {K : Type 0} (r : Rules K) (law : IsLawful r) where
   look_steps wants stack found =
       kept_by_steps (LeavesAlone r wants) (λ t. IsLook t wants stack found)
       (λ old new step legal is alone look. look_step r law wants stack found old new step legal is alone look)
+
+  pub descent_steps : (coming : K) (item : Item) (steps : List (Step K)) (old new : Tree K)
+      → Legal r old → AreSteps r old steps new → IsDescent r old item coming → IsDescent r new item coming
+  descent_steps coming item steps old new legal are descent =
+      kept_by_steps (λ step. Unit {0}) (λ t. IsDescent r t item coming)
+      (λ old new step legal is alone d. descent_step r coming law item old new step legal is d) steps old new legal are
+      (each_always (λ step. Unit {0}) (λ step. tt) steps) descent
+
+  pub seek_steps : (a row : ℕ) (key : K) (steps : List (Step K)) (old new : Tree K)
+      → Legal r old → AreSteps r old steps new → Each (LeavesAlone r (is_entry r row key)) steps → IsSeek r old a row key → IsSeek r new a row key
+  seek_steps a row key =
+      kept_by_steps (LeavesAlone r (is_entry r row key)) (λ t. IsSeek r t a row key)
+      (λ old new step legal is alone seek. seek_step r a row key law old new step legal is alone seek)

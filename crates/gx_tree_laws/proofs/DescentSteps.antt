@@ -9,7 +9,7 @@ use Rattle.gx_tree_laws.specs.Reach.{Item}
 use Rattle.gx_tree_laws.specs.Looks.{from_root}
 use Rattle.gx_tree_laws.specs.Writes.{IsDescent}
 use Rattle.gx_tree_laws.proofs.Sums.{each_map, each_both, each-append, each_staying, each_going, total_two}
-use Rattle.gx_tree_laws.proofs.Chains.{one_at, one_off, each_with_key}
+use Rattle.gx_tree_laws.proofs.Chains.{one_at, one_off, some_child, each_with_key}
 use Rattle.gx_tree_laws.proofs.Splits.{Place, is_split, is_parent, is_new, is_other, place_of, split_used, used_more as split_more}
 use Rattle.gx_tree_laws.proofs.Roots.{root_used, used_more as root_more, used_before as root_before, same_node}
 use Rattle.gx_tree_laws.proofs.Changes.{used_kept, used_before, number_kept}
@@ -128,18 +128,25 @@ module _ {K : Type 0} (r : Rules K) (coming : K) where
       ((λ is. (let one = one_at c.page x is in absurd (omega (arith, one, none)))), unnamed_covers x cs (omega (arith, none)))
 
   -- from a page whose entry for x covers the key a descent goes on to x, remembered with the counter
-  pub descent_goes_down : (t : Tree K) → Legal r t → (a x : ℕ) → Used t a → Used t x → 2 ≤ x → 0 < times x (child_pages (t.node a))
+  pub descent_goes_down : (t : Tree K) → Legal r t → (a x : ℕ) → Used t a → 0 < times x (child_pages (t.node a))
       → Each (Cover x) (t.node a).children → IsDescent r t (record { page = x; seen = t.counter }) coming
-  descent_goes_down t legal a x ua ux low named covers = record {
-    there = ux;
+  descent_goes_down t legal a x ua named covers = record {
+    there = ((omega (arith, low), ux));
     seen = omega arith;
     covered = λ le q u. elim (cases_eq q a) [
       | inl e ↦ subst (λ q. Each (Cover x) (t.node q).children) (sym e) covers
       | inr ne ↦ unnamed_covers x (t.node q).children
         (let two = total_two (λ y. times x (child_pages (t.node y))) t.used q a u.0 u.1 ua.0 ua.1 ne in
-        let one = legal.parent x low ux.1 in omega (arith, two, one, named))
+        let one = legal.parent x low ux in omega (arith, two, one, named))
     ];
   }
+    where
+      pick : (c : Child K) × ChildFits r t (t.node a).level c × (c.page ≡ x)
+      pick = some_child (ChildFits r t (t.node a).level) x (t.node a).children named (legal.pages a ua).children
+      low : 2 ≤ x
+      low = let f = pick.1 in let e = pick.2 in let h = f.low in omega (arith, e, h)
+      ux : x ≤ t.used
+      ux = let f = pick.1 in let e = pick.2 in let h = f.used in omega (arith, e, h)
 
   -- a widening for the key makes that entry cover it
   pub widened_covers : (old new : Tree K) (a x : ℕ) (key : K) → IsWidening r old new a x coming key → Each (Cover x) (new.node a).children

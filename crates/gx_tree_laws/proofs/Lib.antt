@@ -15,3 +15,5 @@ pub mod AllSteps
 pub mod DescentSteps
 pub mod SeekSteps
 pub mod InReach
+pub mod Bounds
+pub mod Fresh

@@ -3,11 +3,11 @@ use Rattle.std.proofs.Common.{◌≡◌, ◌≢◌, ℕ, zero, suc, ◌+◌, ◌
 use Rattle.std.specs.Prelude.{◌==◌, if◌then◌else◌, nat_lt}
 use Rattle.std.proofs.lemmas.Bool.{cases_eq, ltb-true, ltb-false}
 use Rattle.gx_tree_laws.specs.Lists.{sum_over, one_if, how_many, Each, total}
-use Rattle.gx_tree_laws.specs.Trees.{Pair, Child, Node, Tree, Rules, IsLawful, Used, child_pages, times, standing}
+use Rattle.gx_tree_laws.specs.Trees.{Pair, Child, Node, Tree, Rules, IsLawful, Used, child_pages, times, leaves, standing, is_entry}
 use Rattle.gx_tree_laws.specs.Legal.{Bounds, ChildFits, NodeFits, Legal}
 use Rattle.gx_tree_laws.specs.Reach.{Item, Run, ends, goes, run, down, under, ahead_of, ahead, pages_ahead, times_ahead, pairs_ahead}
-use Rattle.gx_tree_laws.specs.Looks.{ItemFits, IsLook, from_root, beyond_of, below_of, stacked, found_with, KeysAre, LeadsTo}
-use Rattle.gx_tree_laws.proofs.Sums.{sum_over-append, sum_over_same, sum_over_add, sum_over-map, each_map, each_both, each-append, each-map, each_always, total_le, total_same, total_none, at_page, at_page_same, at_page_other, total_at_page}
+use Rattle.gx_tree_laws.specs.Looks.{ItemFits, IsLook, from_root, beyond_of, below_of, stacked, found_with, LeadsTo}
+use Rattle.gx_tree_laws.proofs.Sums.{sum_over-append, sum_over_same, sum_over_le, sum_over_add, sum_over-map, each_map, each_both, each-append, each-map, each_always, total_le, total_same, total_none, at_page, at_page_same, at_page_other, total_at_page}
 use Rattle.gx_tree_laws.proofs.Chains.{one_at, one_off}
 use Rattle.gx_tree_laws.proofs.Splits.{bounds_through}
 use Rattle.gx_tree_laws.proofs.PageSteps.{each_filter, how_many_filter}
@@ -186,28 +186,30 @@ module _ {K : Type 0} (r : Rules K) (t : Tree K) (legal : Legal r t) where
         (each_map (λ c. Used t c.page) (λ c. ItemFits t (record { page = c.page; seen = t.counter })) (λ c taken. item_now_fits t c.page taken (number_early c.page taken))
         (t.node item.page).children (children_taken item.page u)))) rest)
 
-    module _ (law : IsLawful r) (IsKey : K → Type 0) (keys : KeysAre IsKey t) (wants : Pair K → Bool) (consistent : LeadsTo r IsKey wants leads) where
-      none_here : (b : K) → IsKey b → leads b ≡ false → (test : Pair K → Bool) (xs : List (Pair K)) → Each (λ x. r.covers b x.key ≡ true) xs → Each (λ x. IsKey x.key) xs
-          → how_many (λ x. wants x && test x) xs ≡ 0
-      none_here b kb off test [] covers are = refl
-      none_here b kb off test (x ∷ xs) covers are =
-          let rest = none_here b kb off test xs covers.1 are.1 in
+    module _ (law : IsLawful r) (wants : Pair K → Bool) (consistent : LeadsTo r t wants leads) where
+      none_here : (b : K) → leads b ≡ false → (test : Pair K → Bool) (xs : List (Pair K)) → Each (λ x. r.covers b x.key ≡ true) xs
+          → Each (λ x. wants x ≡ true → r.covers b x.key ≡ true → leads b ≡ true) xs → how_many (λ x. wants x && test x) xs ≡ 0
+      none_here b off test [] covers lead = refl
+      none_here b off test (x ∷ xs) covers lead =
+          let rest = none_here b off test xs covers.1 lead.1 in
           let here = by (wants x) refl in
           omega (arith, rest, here)
         where
           by : (w : Bool) → wants x ≡ w → one_if (w && test x) ≡ 0
-          by true is = let on = consistent b x kb are.0 is covers.0 in let no : ⊥ = cc in absurd no
+          by true is = let on = lead.0 is covers.0 in let no : ⊥ = cc in absurd no
           by false is = refl
 
       -- below a bound that leads to nothing wanted there is nothing wanted
-      none_down : (test : Pair K → Bool) (b : K) → IsKey b → leads b ≡ false → (k q : ℕ) → Used t q → Bounds r b (t.node q)
+      none_down : (test : Pair K → Bool) (b : K) → leads b ≡ false
+          → ((q : ℕ) → Used t q → Each (λ x. wants x ≡ true → r.covers b x.key ≡ true → leads b ≡ true) (t.node q).pairs)
+          → (k q : ℕ) → Used t q → Bounds r b (t.node q)
           → down t (λ p. how_many (λ x. wants x && test x) (t.node p).pairs) k q ≡ 0
-      none_down test b kb off zero q u bound = none_here b kb off test (t.node q).pairs bound.pairs (keys.pairs q u)
-      none_down test b kb off (suc k) q u bound =
-          let here = none_here b kb off test (t.node q).pairs bound.pairs (keys.pairs q u) in
+      none_down test b off lead zero q u bound = none_here b off test (t.node q).pairs bound.pairs (lead q u)
+      none_down test b off lead (suc k) q u bound =
+          let here = none_here b off test (t.node q).pairs bound.pairs (lead q u) in
           let each : Each (λ c. down t (λ p. how_many (λ x. wants x && test x) (t.node p).pairs) k c.page ≡ 0) (t.node q).children =
               each_both (ChildFits r t (t.node q).level) (λ c. r.covers b c.key ≡ true) (λ c. down t (λ p. how_many (λ x. wants x && test x) (t.node p).pairs) k c.page ≡ 0)
-              (λ c fit covers. none_down test b kb off k c.page (let low = fit.low in (omega (arith, low), fit.used)) (bounds_through r law b c.key (t.node c.page) covers fit.bounds))
+              (λ c fit covers. none_down test b off lead k c.page (let low = fit.low in (omega (arith, low), fit.used)) (bounds_through r law b c.key (t.node c.page) covers fit.bounds))
               (t.node q).children (legal.pages q u).children bound.children in
           let shape = sum_over-map (down t (λ p. how_many (λ x. wants x && test x) (t.node p).pairs) k) (λ (c : Child K). c.page) (t.node q).children in
           let none = sum_none (λ c. down t (λ p. how_many (λ x. wants x && test x) (t.node p).pairs) k c.page) (t.node q).children each in
@@ -236,9 +238,11 @@ module _ {K : Type 0} (r : Rules K) (t : Tree K) (legal : Legal r t) where
           let whole = under_children f item.page u in
           let below = below_ahead f (t.node item.page).children (children_taken item.page u) in
           let same = filter_same (λ c. under t f c.page) (t.node item.page).children
-            (each_both (ChildFits r t (t.node item.page).level) (λ c. IsKey c.key) (λ c. leads c.key ≡ false → under t f c.page ≡ 0)
-            (λ c fits is_key off. none_down test c.key is_key off (t.node c.page).level c.page (let low = fits.low in (omega (arith, low), fits.used)) fits.bounds)
-            (t.node item.page).children (legal.pages item.page u).children (keys.children item.page u)) in
+            (each_both (ChildFits r t (t.node item.page).level)
+            (λ c. (q : ℕ) → Used t q → Each (λ x. wants x ≡ true → r.covers c.key x.key ≡ true → leads c.key ≡ true) (t.node q).pairs)
+            (λ c. leads c.key ≡ false → under t f c.page ≡ 0)
+            (λ c fits lead off. none_down test c.key off lead (t.node c.page).level c.page (let low = fits.low in (omega (arith, low), fits.used)) fits.bounds)
+            (t.node item.page).children (legal.pages item.page u).children (consistent item.page u)) in
           let first = sum_over-append (ahead_of t f) (beyond_of t item) (below_of t leads (t.node item.page).children ++ stack) in
           let second = sum_over-append (ahead_of t f) (below_of t leads (t.node item.page).children) stack in
           omega (arith, parts, whole, below, same, first, second)
@@ -258,3 +262,30 @@ module _ {K : Type 0} (r : Rules K) (t : Tree K) (legal : Legal r t) where
           let less = ahead_less (λ q. one_if (q == l)) item stack (look.items).0 in
           omega (arith, before, less));
       }
+
+-- Where it ends.
+
+pub look_ends : {K : Type 0} (t : Tree K) (wants : Pair K → Bool) (found : List (Pair K)) → IsLook t wants [] found
+    → (test : Pair K → Bool) → how_many test found ≡ standing (λ x. wants x && test x) t
+look_ends t wants found look test = let whole = look.complete test in omega (arith, whole)
+
+less_wanted : {K : Type 0} (t : Tree K) (wants test : Pair K → Bool) → standing (λ x. wants x && test x) t ≤ standing test t
+less_wanted {K} t wants test =
+    sum_over_le (λ q. how_many (λ x. wants x && test x) (t.node q).pairs) (λ q. how_many test (t.node q).pairs) (leaves t)
+    (each_always (λ q. how_many (λ x. wants x && test x) (t.node q).pairs ≤ how_many test (t.node q).pairs) (λ q. here (t.node q).pairs) (leaves t))
+  where
+    at : (w b : Bool) → one_if (w && b) ≤ one_if b
+    at true b = omega arith
+    at false b = omega arith
+    here : (xs : List (Pair K)) → how_many (λ x. wants x && test x) xs ≤ how_many test xs
+    here xs = sum_over_le (λ x. one_if (wants x && test x)) (λ x. one_if (test x)) xs
+        (each_always (λ x. one_if (wants x && test x) ≤ one_if (test x)) (λ x. at (wants x) (test x)) xs)
+
+-- nothing is found twice
+pub found_once : {K : Type 0} (r : Rules K) (t : Tree K) → Legal r t → (wants : Pair K → Bool) (stack : List Item) (found : List (Pair K))
+    → IsLook t wants stack found → (row : ℕ) (key : K) → how_many (is_entry r row key) found ≤ 1
+found_once r t legal wants stack found look row key =
+    let whole = look.complete (is_entry r row key) in
+    let less = less_wanted t wants (is_entry r row key) in
+    let one = legal.single row key in
+    omega (arith, whole, less, one)

@@ -1,8 +1,9 @@
 -- Sums over lists and over pages.
-use Rattle.std.proofs.Common.{◌≡◌, ◌≢◌, ℕ, zero, suc, ◌+◌, ◌<◌, ◌≤◌, Bool, true, false, cond, ◌⊎◌, inl, inr, List, [], ◌∷◌, ◌++◌, map, length, refl, ap, sym, ◌∙◌, arith}
+use Rattle.std.proofs.Common.{◌≡◌, ◌≢◌, ℕ, zero, suc, ◌+◌, ◌<◌, ◌≤◌, Bool, true, false, cond, ◌⊎◌, inl, inr, List, [], ◌∷◌, ◌++◌, map, flat_map, length, refl, ap, sym, ◌∙◌, arith}
 use Rattle.std.specs.Prelude.{◌==◌}
 use Rattle.std.proofs.lemmas.Bool.{ne_eqb, eq-eqb, cases_eq}
-use Rattle.gx_tree_laws.specs.Lists.{sum_over, Each, total, staying, going}
+use Rattle.gx_tree_laws.specs.Lists.{sum_over, one_if, how_many, Each, total, staying, going}
+use Rattle.gx_tree_laws.specs.Trees.{Pair, Tree, leaves, passing, standing}
 
 module _ {X : Type 0} where
   pub sum_over-append : (f : X → ℕ) (xs ys : List X) → sum_over f (xs ++ ys) ≡ sum_over f xs + sum_over f ys
@@ -178,3 +179,14 @@ total_one f (suc n) a low high = one_by f n a (cases_eq a (suc n)) (λ below. to
     one_by : (f : ℕ → ℕ) (n a : ℕ) → (a ≡ suc n) ⊎ (a ≢ suc n) → (a ≤ n → f a ≤ total f n) → a ≤ suc n → f a ≤ f (suc n) + total f n
     one_by f n a (inl e) rest high = let same : f a ≡ f (suc n) = ap f e in omega arith
     one_by f n a (inr ne) rest high = let below : a ≤ n = omega arith in let more : f a ≤ total f n = rest below in omega arith
+
+-- the pairs on some pages, in order
+pub how_many-flat_map : {K : Type 0} (test : Pair K → Bool) (t : Tree K) → standing test t ≡ how_many test (flat_map (λ q. (t.node q).pairs) (leaves t))
+how_many-flat_map {K} test t = on (leaves t)
+  where
+    on : (pages : List ℕ) → passing test t pages ≡ how_many test (flat_map (λ q. (t.node q).pairs) pages)
+    on [] = refl
+    on (q ∷ qs) =
+        let more = sum_over-append (λ x. one_if (test x)) (t.node q).pairs (flat_map (λ q. (t.node q).pairs) qs) in
+        let rest = on qs in
+        omega (arith, more, rest)

@@ -37,12 +37,8 @@ stacked t leads item stack = beyond_of t item ++ (below_of t leads (t.node item.
 abbrev pub found_with : {K : Type 0} → Tree K → (Pair K → Bool) → Item → List (Pair K) → List (Pair K)
 found_with t wants item found = found ++ filter wants (t.node item.page).pairs
 
--- each key of the tree is a key of its class
-pub record KeysAre {K : Type 0} (IsKey : K → Type 0) (t : Tree K) : Type 0 where
-  pub pairs : (p : ℕ) → Used t p → Each (λ x. IsKey x.key) (t.node p).pairs
-  pub children : (p : ℕ) → Used t p → Each (λ c. IsKey c.key) (t.node p).children
-
--- a bound that covers something wanted leads to it
-abbrev pub LeadsTo : {K : Type 0} → Rules K → (K → Type 0) → (Pair K → Bool) → (K → Bool) → Type 0
-LeadsTo {K} r IsKey wants leads = (b : K) (x : Pair K) → IsKey b → IsKey x.key → wants x ≡ true → r.covers b x.key ≡ true
-    → leads b ≡ true
+-- an entry of the tree whose key covers something wanted that stands in it leads to it
+abbrev pub LeadsTo : {K : Type 0} → Rules K → Tree K → (Pair K → Bool) → (K → Bool) → Type 0
+LeadsTo {K} r t wants leads = (p : ℕ) → Used t p
+    → Each (λ c. (q : ℕ) → Used t q → Each (λ x. wants x ≡ true → r.covers c.key x.key ≡ true → leads c.key ≡ true) (t.node q).pairs)
+    (t.node p).children

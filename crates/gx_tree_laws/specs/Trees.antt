@@ -81,3 +81,12 @@ standing test t = passing test t (leaves t)
 -- the pair of this row and key, marked or not
 abbrev pub is_entry : {K : Type 0} → Rules K → ℕ → K → Pair K → Bool
 is_entry r row key x = (x.row == row) && r.same x.key key
+
+-- a fresh tree: a root of level 1, whose one entry has the start key and names page 2, an empty leaf
+abbrev pub fresh_node : {K : Type 0} → K → ℕ → Node K
+fresh_node start p =
+    if p == 1 then record { level = 1; number = 0; right = 0; pairs = []; children = record { key = start; page = 2 } ∷ [] }
+    else record { level = 0; number = 0; right = 0; pairs = []; children = [] }
+
+abbrev pub fresh_tree : {K : Type 0} → K → Tree K
+fresh_tree start = record { node = fresh_node start; used = 2; counter = 0 }
