@@ -17,3 +17,7 @@ pub mod SeekSteps
 pub mod InReach
 pub mod Bounds
 pub mod Fresh
+pub mod Tested
+pub mod WorkedTrees
+pub mod WorkedSteps
+pub mod WorkedLook

@@ -5,3 +5,4 @@ pub mod Steps
 pub mod Reach
 pub mod Looks
 pub mod Writes
+pub mod Worked
