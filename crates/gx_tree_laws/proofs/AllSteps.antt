@@ -1,5 +1,5 @@
 -- Any step, and any list of them, keeps a tree legal and a look going.
-use Rattle.std.proofs.Common.{◌≡◌, Bool, true, List, [], ◌∷◌, sym, subst}
+use Rattle.std.proofs.Common.{Bool, List, [], ◌∷◌, sym, subst}
 use Rattle.gx_tree_laws.specs.Lists.{Each}
 use Rattle.std.proofs.Common.{ℕ}
 use Rattle.gx_tree_laws.specs.Trees.{Pair, Tree, Rules, IsLawful, is_entry}

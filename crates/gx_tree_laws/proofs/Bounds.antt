@@ -1,11 +1,11 @@
 -- How much may lie ahead at most.
-use Rattle.std.proofs.Common.{◌≡◌, ◌≢◌, ℕ, zero, suc, ◌+◌, ◌<◌, ◌≤◌, ◌⊎◌, inl, inr, Bool, List, [], ◌∷◌, refl, ap, sym, ◌∙◌, subst, arith}
+use Rattle.std.proofs.Common.{◌≡◌, ℕ, zero, suc, ◌+◌, ◌<◌, ◌≤◌, inl, inr, Bool, List, [], ◌∷◌, refl, ap, sym, ◌∙◌, arith}
 use Rattle.std.specs.Prelude.{◌==◌}
 use Rattle.std.proofs.lemmas.Bool.{cases_eq}
 use Rattle.gx_tree_laws.specs.Lists.{sum_over, one_if, Each, total}
-use Rattle.gx_tree_laws.specs.Trees.{Pair, Node, Tree, Rules, Used, child_pages}
+use Rattle.gx_tree_laws.specs.Trees.{Pair, Tree, Rules, Used, child_pages}
 use Rattle.gx_tree_laws.specs.Legal.{Legal}
-use Rattle.gx_tree_laws.specs.Reach.{Item, Run, run, down, under, ahead_of, ahead, pages_ahead, times_ahead}
+use Rattle.gx_tree_laws.specs.Reach.{Item, run, down, under, ahead_of, ahead, pages_ahead, times_ahead}
 use Rattle.gx_tree_laws.specs.Looks.{ItemFits, IsLook}
 use Rattle.gx_tree_laws.proofs.Sums.{sum_over_same, sum_over_add, each_map, each_always, total_same, at_page, at_page_same, at_page_other, total_at_page}
 use Rattle.gx_tree_laws.proofs.Chains.{one_at, one_off}

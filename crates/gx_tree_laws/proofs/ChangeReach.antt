@@ -1,7 +1,7 @@
 -- What lies ahead of an item after one page alone has changed is what lay ahead before.
-use Rattle.std.proofs.Common.{◌≡◌, ◌≢◌, ℕ, zero, suc, ◌+◌, ◌<◌, ◌≤◌, List, [], ◌∷◌, map, length, refl, ap, sym, ◌∙◌, subst, arith}
+use Rattle.std.proofs.Common.{◌≡◌, ℕ, zero, suc, List, map, ap, sym, ◌∙◌, subst, arith}
 use Rattle.gx_tree_laws.specs.Lists.{sum_over, Each}
-use Rattle.gx_tree_laws.specs.Trees.{Pair, Child, Node, Tree, Used, child_pages}
+use Rattle.gx_tree_laws.specs.Trees.{Pair, Child, Tree, child_pages}
 use Rattle.gx_tree_laws.specs.Steps.{ChangesOnly}
 use Rattle.gx_tree_laws.specs.Reach.{Item, Run, ends, goes, run, down, under, ahead_of, ahead}
 use Rattle.gx_tree_laws.specs.Looks.{ItemFits}

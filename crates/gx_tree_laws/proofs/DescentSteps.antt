@@ -1,16 +1,16 @@
 -- A descent at work: steps of others keep it, and so do its own.
-use Rattle.std.proofs.Common.{◌≡◌, ◌≢◌, ℕ, zero, suc, ◌+◌, ◌<◌, ◌≤◌, Bool, true, false, cond, ◌⊎◌, inl, inr, List, [], ◌∷◌, ◌++◌, map, filter, length, refl, ap, sym, ◌∙◌, subst, arith}
+use Rattle.std.proofs.Common.{◌≡◌, ◌≢◌, ℕ, suc, ◌<◌, ◌≤◌, Bool, true, inl, inr, List, [], ◌∷◌, ◌++◌, map, filter, ap, sym, ◌∙◌, subst, arith}
 use Rattle.std.proofs.lemmas.Bool.{cases_eq}
-use Rattle.gx_tree_laws.specs.Lists.{sum_over, one_if, Each, total, staying, going}
-use Rattle.gx_tree_laws.specs.Trees.{Pair, Child, Node, Tree, Rules, IsLawful, Used, child_pages, times, parents}
+use Rattle.gx_tree_laws.specs.Lists.{Each}
+use Rattle.gx_tree_laws.specs.Trees.{Pair, Child, Node, Tree, Rules, IsLawful, Used, child_pages, times}
 use Rattle.gx_tree_laws.specs.Legal.{ChildFits, Legal}
 use Rattle.gx_tree_laws.specs.Steps.{IsSplit, IsRootSplit, ChangesOnly, IsWidening, EntriesCover, with_key, with_mark, spares, Step, Splits, SplitsRoot, Widens, Adds, Marks, Sweeps, IsStep}
 use Rattle.gx_tree_laws.specs.Reach.{Item}
 use Rattle.gx_tree_laws.specs.Looks.{from_root}
 use Rattle.gx_tree_laws.specs.Writes.{IsDescent}
 use Rattle.gx_tree_laws.proofs.Sums.{each_map, each_both, each-append, each_staying, each_going, total_two}
-use Rattle.gx_tree_laws.proofs.Chains.{one_at, one_off, some_child, each_with_key}
-use Rattle.gx_tree_laws.proofs.Splits.{Place, is_split, is_parent, is_new, is_other, place_of, split_used, used_more as split_more}
+use Rattle.gx_tree_laws.proofs.Chains.{one_at, some_child, each_with_key}
+use Rattle.gx_tree_laws.proofs.Splits.{is_split, is_parent, is_new, is_other, place_of, split_used, used_more as split_more}
 use Rattle.gx_tree_laws.proofs.Roots.{root_used, used_more as root_more, used_before as root_before, same_node}
 use Rattle.gx_tree_laws.proofs.Changes.{used_kept, used_before, number_kept}
 use Rattle.gx_tree_laws.proofs.SplitReach.{number_same as split_number}

@@ -1,9 +1,8 @@
 -- A fresh tree is legal.
-use Rattle.std.proofs.Common.{◌≡◌, ◌≢◌, ℕ, zero, suc, ◌+◌, ◌<◌, ◌≤◌, ◌⊎◌, inl, inr, List, [], ◌∷◌, refl, ap, sym, subst, arith}
-use Rattle.std.specs.Prelude.{◌==◌, if◌then◌else◌}
-use Rattle.std.proofs.lemmas.Bool.{cases_eq, ne_eqb}
-use Rattle.gx_tree_laws.specs.Trees.{Node, Tree, Rules, IsLawful, Used, parents, times, leaves, standing, is_entry, fresh_node, fresh_tree}
-use Rattle.gx_tree_laws.specs.Legal.{ChildFits, NodeFits, Legal}
+use Rattle.std.proofs.Common.{◌≡◌, ℕ, ◌⊎◌, inl, inr, refl, ap, sym, subst, arith}
+use Rattle.std.proofs.lemmas.Bool.{cases_eq}
+use Rattle.gx_tree_laws.specs.Trees.{Rules, IsLawful, Used, parents, times, leaves, fresh_node, fresh_tree}
+use Rattle.gx_tree_laws.specs.Legal.{NodeFits, Legal}
 
 module _ {K : Type 0} (r : Rules K) (law : IsLawful r) (start : K) where
   fits_root : NodeFits r (fresh_tree start) (fresh_node start 1)

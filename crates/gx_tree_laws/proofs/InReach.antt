@@ -1,9 +1,9 @@
 -- What lies ahead lies in the reach of an item.
-use Rattle.std.proofs.Common.{◌≡◌, ℕ, zero, suc, ◌+◌, ◌<◌, ◌≤◌, Bool, true, false, ◌&&◌, ◌⊎◌, inl, inr, List, [], ◌∷◌, refl, ap, sym, subst, arith}
-use Rattle.std.proofs.lemmas.Bool.{cases_lt, cases_eq}
-use Rattle.gx_tree_laws.specs.Lists.{sum_over, one_if, how_many, Each, SomeOf}
-use Rattle.gx_tree_laws.specs.Trees.{Pair, Node, Tree, Used, child_pages, times, standing}
-use Rattle.gx_tree_laws.specs.Reach.{Item, Near, here, beyond, Under, itself, below, InReach, Run, ends, goes, run, down, under, ahead_of, ahead}
+use Rattle.std.proofs.Common.{ℕ, zero, suc, ◌<◌, Bool, ◌&&◌, inl, inr, List, [], ◌∷◌, refl, arith}
+use Rattle.std.proofs.lemmas.Bool.{cases_lt}
+use Rattle.gx_tree_laws.specs.Lists.{sum_over, how_many, Each, SomeOf}
+use Rattle.gx_tree_laws.specs.Trees.{Pair, Tree, child_pages, times, standing}
+use Rattle.gx_tree_laws.specs.Reach.{Item, Near, here, beyond, Under, itself, below, InReach, Run, ends, goes, down, under, ahead_of, ahead}
 use Rattle.gx_tree_laws.specs.Looks.{ItemFits, IsLook}
 use Rattle.gx_tree_laws.proofs.Chains.{one_at}
 

@@ -1,14 +1,14 @@
 -- Steps of others keep a look, as long as they leave alone what it wants.
-use Rattle.std.proofs.Common.{◌≡◌, ◌≢◌, ℕ, zero, suc, ◌+◌, ◌<◌, ◌≤◌, Bool, true, false, not, cond, ◌&&◌, ◌||◌, ◌⊎◌, inl, inr, List, [], ◌∷◌, ◌++◌, map, filter, length, refl, ap, sym, ◌∙◌, subst, arith}
+use Rattle.std.proofs.Common.{◌≡◌, ℕ, suc, ◌<◌, ◌≤◌, Bool, true, false, not, ◌&&◌, ◌||◌, inl, inr, List, [], ◌∷◌, ◌++◌, map, filter, refl, ap, sym, ◌∙◌, arith}
 use Rattle.std.specs.Prelude.{◌==◌, if◌then◌else◌}
 use Rattle.std.proofs.lemmas.Bool.{cases_eq}
-use Rattle.gx_tree_laws.specs.Lists.{sum_over, one_if, how_many, Each}
-use Rattle.gx_tree_laws.specs.Trees.{Pair, Child, Node, Tree, Rules, IsLawful, Used, child_pages, standing, is_entry}
+use Rattle.gx_tree_laws.specs.Lists.{one_if, how_many}
+use Rattle.gx_tree_laws.specs.Trees.{Pair, Child, Node, Tree, Rules, IsLawful, Used, child_pages, is_entry}
 use Rattle.gx_tree_laws.specs.Legal.{Legal}
 use Rattle.gx_tree_laws.specs.Steps.{IsSplit, IsRootSplit, ChangesOnly, with_key, with_mark, spares, Step, Splits, SplitsRoot, Widens, Adds, Marks, Sweeps, IsStep, LeavesAlone}
 use Rattle.gx_tree_laws.specs.Reach.{Item, ahead}
 use Rattle.gx_tree_laws.specs.Looks.{ItemFits, IsLook}
-use Rattle.gx_tree_laws.proofs.Sums.{each_map, sum_over-append, sum_over_same, each_always}
+use Rattle.gx_tree_laws.proofs.Sums.{each_map, sum_over-append}
 use Rattle.gx_tree_laws.proofs.Chains.{one_at, one_off, pages_with_key}
 use Rattle.gx_tree_laws.proofs.Splits.{split_used, pairs_split, pairs_same, standing_split}
 use Rattle.gx_tree_laws.proofs.Roots.{root_used, same_node, standing_root, pairs_root, no_pairs}
@@ -161,6 +161,10 @@ module _ {K : Type 0} (wants : Pair K → Bool) (test : Pair K → Bool) where
   spared_by true false s spared = refl
   spared_by false t s spared = refl
 
+  claimed_spared : (m c : Bool) → (m ≡ true → c ≡ true) → (not m || c) ≡ true
+  claimed_spared true c claims = claims refl
+  claimed_spared false c claims = refl
+
   none_of : (claimed : Pair K → Bool) → ((x : Pair K) → wants x ≡ true → spares claimed x ≡ true) → (xs : List (Pair K))
       → how_many (λ y. (wants y && test y) && not (spares claimed y)) xs ≡ 0
   none_of claimed spared [] = refl
@@ -169,11 +173,11 @@ module _ {K : Type 0} (wants : Pair K → Bool) (test : Pair K → Bool) where
       let here = spared_by (wants y) (test y) (spares claimed y) (spared y) in
       omega (arith, rest, here)
 
-  pub alone_swept : (claimed : Pair K → Bool) → ((x : Pair K) → wants x ≡ true → spares claimed x ≡ true) → (xs : List (Pair K))
+  pub alone_swept : (claimed : Pair K → Bool) → ((x : Pair K) → wants x ≡ true → x.marked ≡ true → claimed x ≡ true) → (xs : List (Pair K))
       → how_many (λ y. wants y && test y) (filter (spares claimed) xs) ≡ how_many (λ y. wants y && test y) xs
-  alone_swept claimed spared xs =
+  alone_swept claimed claims xs =
       let parts = how_many_filter (λ y. wants y && test y) (spares claimed) xs in
-      let none = none_of claimed spared xs in
+      let none = none_of claimed (λ x wanted. claimed_spared x.marked (claimed x) (claims x wanted)) xs in
       omega (arith, parts, none)
 
 -- any step of others

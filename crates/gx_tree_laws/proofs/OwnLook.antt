@@ -1,17 +1,17 @@
 -- A look's own steps: it begins with the root, reads a page a step, and ends.
-use Rattle.std.proofs.Common.{◌≡◌, ◌≢◌, ℕ, zero, suc, ◌+◌, ◌<◌, ◌≤◌, Bool, true, false, cond, ◌&&◌, ◌⊎◌, inl, inr, List, [], ◌∷◌, ◌++◌, map, filter, length, refl, ap, sym, ◌∙◌, subst, arith}
+use Rattle.std.proofs.Common.{◌≡◌, ℕ, zero, suc, ◌+◌, ◌<◌, ◌≤◌, Bool, true, false, cond, ◌&&◌, inl, inr, List, [], ◌∷◌, ◌++◌, filter, length, refl, ap, sym, ◌∙◌, subst, arith}
 use Rattle.std.specs.Prelude.{◌==◌, if◌then◌else◌, nat_lt}
 use Rattle.std.proofs.lemmas.Bool.{cases_eq, ltb-true, ltb-false}
 use Rattle.gx_tree_laws.specs.Lists.{sum_over, one_if, how_many, Each, total}
-use Rattle.gx_tree_laws.specs.Trees.{Pair, Child, Node, Tree, Rules, IsLawful, Used, child_pages, times, leaves, standing, is_entry}
-use Rattle.gx_tree_laws.specs.Legal.{Bounds, ChildFits, NodeFits, Legal}
-use Rattle.gx_tree_laws.specs.Reach.{Item, Run, ends, goes, run, down, under, ahead_of, ahead, pages_ahead, times_ahead, pairs_ahead}
+use Rattle.gx_tree_laws.specs.Trees.{Pair, Child, Tree, Rules, IsLawful, Used, leaves, standing, is_entry}
+use Rattle.gx_tree_laws.specs.Legal.{Bounds, ChildFits, Legal}
+use Rattle.gx_tree_laws.specs.Reach.{Item, Run, ends, goes, run, down, under, ahead_of, ahead, pages_ahead, pairs_ahead}
 use Rattle.gx_tree_laws.specs.Looks.{ItemFits, IsLook, from_root, beyond_of, below_of, stacked, found_with, LeadsTo}
-use Rattle.gx_tree_laws.proofs.Sums.{sum_over-append, sum_over_same, sum_over_le, sum_over_add, sum_over-map, each_map, each_both, each-append, each-map, each_always, total_le, total_same, total_none, at_page, at_page_same, at_page_other, total_at_page}
+use Rattle.gx_tree_laws.proofs.Sums.{sum_over-append, sum_over_same, sum_over_le, sum_over-map, each_map, each_both, each-append, each-map, each_always, total_none}
 use Rattle.gx_tree_laws.proofs.Chains.{one_at, one_off}
 use Rattle.gx_tree_laws.proofs.Splits.{bounds_through}
-use Rattle.gx_tree_laws.proofs.PageSteps.{each_filter, how_many_filter}
-use Rattle.gx_tree_laws.proofs.Runs.{run_is, length_run, each_run, each_child_used}
+use Rattle.gx_tree_laws.proofs.PageSteps.{each_filter}
+use Rattle.gx_tree_laws.proofs.Runs.{run_is, length_run}
 use Rattle.gx_tree_laws.proofs.Whole.{under_is, under_root, standing_under_root}
 
 -- the pages near an item: its own, and what is near its rightlink where it was split since

@@ -1,9 +1,9 @@
 -- The pages near an item.
-use Rattle.std.proofs.Common.{◌≡◌, ◌≢◌, ℕ, zero, suc, ◌+◌, ◌<◌, ◌≤◌, Bool, true, false, cond, ◌⊎◌, inl, inr, List, [], ◌∷◌, map, length, refl, ap, sym, ◌∙◌, subst, arith}
+use Rattle.std.proofs.Common.{◌≡◌, ℕ, zero, suc, ◌+◌, ◌<◌, ◌≤◌, Bool, true, false, inl, inr, List, [], ◌∷◌, length, refl, ap, ◌∙◌, subst, arith}
 use Rattle.std.specs.Prelude.{◌==◌, if◌then◌else◌, nat_lt}
 use Rattle.std.proofs.lemmas.Bool.{cases_eq, lt-ltb, le-ltb}
-use Rattle.gx_tree_laws.specs.Lists.{sum_over, one_if, how_many, Each}
-use Rattle.gx_tree_laws.specs.Trees.{Child, Node, Tree, Rules, Used, times, child_pages}
+use Rattle.gx_tree_laws.specs.Lists.{one_if, Each}
+use Rattle.gx_tree_laws.specs.Trees.{Tree, Rules, Used, times, child_pages}
 use Rattle.gx_tree_laws.specs.Legal.{ChildFits, Legal}
 use Rattle.gx_tree_laws.specs.Reach.{Run, ends, goes, run}
 use Rattle.gx_tree_laws.proofs.Sums.{each_map, each-map}

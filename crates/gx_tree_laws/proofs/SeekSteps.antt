@@ -1,7 +1,7 @@
 -- A seek at work: steps of others keep it, and so do its own, of which each leaves a leaf less.
-use Rattle.std.proofs.Common.{◌≡◌, ◌≢◌, ℕ, zero, suc, ◌+◌, ◌<◌, ◌≤◌, Bool, true, false, cond, ◌&&◌, ◌⊎◌, inl, inr, List, [], ◌∷◌, ◌++◌, filter, length, refl, ap, sym, ◌∙◌, subst, arith}
-use Rattle.gx_tree_laws.specs.Lists.{sum_over, one_if, how_many, Each}
-use Rattle.gx_tree_laws.specs.Trees.{Pair, Child, Node, Tree, Rules, IsLawful, Used, times, walk, leaves, passing, is_entry}
+use Rattle.std.proofs.Common.{◌≡◌, ℕ, ◌<◌, Bool, true, false, ◌&&◌, List, [], ◌∷◌, ◌++◌, filter, length, refl, ap, sym, ◌∙◌, subst, arith}
+use Rattle.gx_tree_laws.specs.Lists.{one_if, how_many}
+use Rattle.gx_tree_laws.specs.Trees.{Pair, Child, Tree, Rules, IsLawful, Used, walk, leaves, passing, is_entry}
 use Rattle.gx_tree_laws.specs.Legal.{Linked, Legal}
 use Rattle.gx_tree_laws.specs.Steps.{with_key, with_mark, spares, ChangesOnly, Step, Splits, SplitsRoot, Widens, Adds, Marks, Sweeps, IsStep, LeavesAlone}
 use Rattle.gx_tree_laws.specs.Writes.{IsSeek, leaves_left}

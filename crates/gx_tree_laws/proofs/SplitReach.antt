@@ -1,16 +1,15 @@
 -- What lies ahead of an item after a split is what lay ahead before.
-use Rattle.std.proofs.Common.{◌≡◌, ◌≢◌, ℕ, zero, suc, ◌+◌, ◌<◌, ◌≤◌, Bool, true, false, cond, ◌⊎◌, inl, inr, List, [], ◌∷◌, map, length, refl, ap, sym, ◌∙◌, subst, arith}
-use Rattle.std.specs.Prelude.{◌==◌}
+use Rattle.std.proofs.Common.{◌≡◌, ◌≢◌, ℕ, zero, suc, ◌+◌, ◌≤◌, Bool, inl, inr, List, [], ◌∷◌, refl, ap, sym, ◌∙◌, subst, arith}
 use Rattle.std.proofs.lemmas.Bool.{cases_eq}
-use Rattle.gx_tree_laws.specs.Lists.{sum_over, one_if, how_many, Each}
-use Rattle.gx_tree_laws.specs.Trees.{Pair, Child, Node, Tree, Rules, IsLawful, Used, child_pages, times, standing}
+use Rattle.gx_tree_laws.specs.Lists.{sum_over, Each}
+use Rattle.gx_tree_laws.specs.Trees.{Node, Tree, Rules, IsLawful, Used, child_pages, times}
 use Rattle.gx_tree_laws.specs.Legal.{Legal}
 use Rattle.gx_tree_laws.specs.Steps.{IsSplit}
 use Rattle.gx_tree_laws.specs.Reach.{Item, Run, ends, goes, run, down, under, ahead_of, ahead}
 use Rattle.gx_tree_laws.specs.Looks.{ItemFits}
-use Rattle.gx_tree_laws.proofs.Sums.{sum_over_same, each_map, each-map, each_unmap, each_both}
+use Rattle.gx_tree_laws.proofs.Sums.{sum_over_same, each_map, each-map, each_both}
 use Rattle.gx_tree_laws.proofs.Chains.{one_at, one_off, after, after_at, after_off, sum_after, length_after}
-use Rattle.gx_tree_laws.proofs.Splits.{Place, is_split, is_parent, is_new, is_other, place_of, split_used, split_apart, sum_split, sum_parent, pairs_split, pairs_same, level_same, right_same, used_more, used_new, unnamed}
+use Rattle.gx_tree_laws.proofs.Splits.{is_split, is_parent, is_new, is_other, place_of, split_used, split_apart, sum_split, sum_parent, level_same, right_same, used_more, used_new, unnamed}
 use Rattle.gx_tree_laws.proofs.Runs.{run_is, length_run, run_once, each_run, each_child_used}
 
 -- a sum over pages of which one, that stands there once, has a share more

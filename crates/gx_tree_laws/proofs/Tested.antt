@@ -1,11 +1,11 @@
 -- A test for legal trees: where it computes to true, the tree is legal.
-use Rattle.std.proofs.Common.{◌≡◌, ◌≢◌, ℕ, zero, suc, ◌+◌, ◌<◌, ◌≤◌, Bool, true, false, ◌&&◌, ◌⊎◌, inl, inr, List, [], ◌∷◌, ◌++◌, map, flat_map, length, refl, ap, sym, ◌∙◌, subst, arith}
-use Rattle.std.specs.Prelude.{◌==◌, nat_le, nat_lt, if◌then◌else◌, not}
-use Rattle.std.proofs.lemmas.Bool.{and_parts, leb-true, ltb-true, eqb-true, cases_eq, not-true}
-use Rattle.gx_tree_laws.specs.Lists.{sum_over, one_if, how_many, Each}
-use Rattle.gx_tree_laws.specs.Trees.{Pair, Child, Node, Tree, Rules, Used, size, times, parents, leaves, passing, standing, is_entry}
+use Rattle.std.proofs.Common.{◌≡◌, ◌≢◌, ℕ, zero, suc, ◌+◌, ◌<◌, ◌≤◌, Bool, true, false, ◌&&◌, inl, inr, List, [], ◌∷◌, map, flat_map, length, refl, ap, sym, ◌∙◌, arith}
+use Rattle.std.specs.Prelude.{◌==◌, nat_le, nat_lt, if◌then◌else◌}
+use Rattle.std.proofs.lemmas.Bool.{and_parts, leb-true, ltb-true, eqb-true, cases_eq}
+use Rattle.gx_tree_laws.specs.Lists.{one_if, Each}
+use Rattle.gx_tree_laws.specs.Trees.{Pair, Child, Node, Tree, Rules, size, times, parents, leaves, standing, is_entry}
 use Rattle.gx_tree_laws.specs.Legal.{Bounds, ChildFits, NodeFits, Linked, Legal}
-use Rattle.gx_tree_laws.proofs.Sums.{sum_over-append, sum_over_le, sum_over-map, each_always, how_many-flat_map}
+use Rattle.gx_tree_laws.proofs.Sums.{sum_over_le, sum_over-map, each_always, how_many-flat_map}
 use Rattle.gx_tree_laws.proofs.Chains.{one_at, one_off}
 
 abbrev all_pages : (ℕ → Bool) → ℕ → Bool

@@ -1,12 +1,12 @@
 -- Each page lies below the root once, and each leaf on the chain once.
-use Rattle.std.proofs.Common.{◌≡◌, ◌≢◌, ℕ, zero, suc, ◌+◌, ◌*◌, ◌<◌, ◌≤◌, Bool, true, false, cond, ◌⊎◌, inl, inr, List, [], ◌∷◌, map, length, refl, ap, sym, ◌∙◌, subst, arith}
+use Rattle.std.proofs.Common.{◌≡◌, ◌≢◌, ℕ, zero, suc, ◌+◌, ◌*◌, ◌<◌, ◌≤◌, Bool, inl, inr, List, [], ◌∷◌, map, refl, ap, sym, ◌∙◌, arith}
 use Rattle.std.specs.Prelude.{◌==◌}
-use Rattle.std.proofs.lemmas.Bool.{cases_eq, cases_lt}
+use Rattle.std.proofs.lemmas.Bool.{cases_eq}
 use Rattle.gx_tree_laws.specs.Lists.{sum_over, one_if, how_many, Each, total}
-use Rattle.gx_tree_laws.specs.Trees.{Pair, Child, Node, Tree, Rules, Used, child_pages, times, parents, leaves, passing, standing}
+use Rattle.gx_tree_laws.specs.Trees.{Pair, Child, Tree, Rules, Used, child_pages, times, parents, leaves, standing}
 use Rattle.gx_tree_laws.specs.Legal.{ChildFits, Legal}
 use Rattle.gx_tree_laws.specs.Reach.{down, under}
-use Rattle.gx_tree_laws.proofs.Sums.{sum_over_same, sum_over-map, each_map, each-map, total_same, total_add, total_none, at_page, at_page_same, at_page_other, total_at_page}
+use Rattle.gx_tree_laws.proofs.Sums.{sum_over_same, each_map, each-map, total_same, total_add, total_none, at_page, at_page_same, at_page_other, total_at_page}
 use Rattle.gx_tree_laws.proofs.Chains.{one_at, one_off, times_none, each_linked}
 use Rattle.gx_tree_laws.proofs.Runs.{each_child_used}
 

@@ -1,10 +1,10 @@
 -- The search that was held is still a look once others have split its page.
-use Rattle.std.proofs.Common.{◌≡◌, ◌≢◌, ℕ, zero, suc, ◌+◌, ◌<◌, ◌≤◌, Bool, true, false, not, ◌&&◌, ◌⊎◌, inl, inr, List, [], ◌∷◌, refl, ap, sym, ◌∙◌, arith}
+use Rattle.std.proofs.Common.{◌≡◌, ℕ, zero, suc, ◌+◌, ◌≤◌, Bool, true, not, ◌&&◌, List, [], ◌∷◌, arith}
 use Rattle.std.specs.Prelude.{◌==◌, nat_le}
-use Rattle.std.proofs.lemmas.Bool.{cases_eq, and_parts, and_from, leb-true, le-leb}
-use Rattle.gx_tree_laws.specs.Lists.{one_if, how_many, Each}
-use Rattle.gx_tree_laws.specs.Trees.{Pair, Child, Used, standing}
-use Rattle.gx_tree_laws.specs.Reach.{Item, Run, ends, goes, ahead}
+use Rattle.std.proofs.lemmas.Bool.{and_parts, and_from, leb-true, le-leb}
+use Rattle.gx_tree_laws.specs.Lists.{one_if, Each}
+use Rattle.gx_tree_laws.specs.Trees.{Pair, Child, Used}
+use Rattle.gx_tree_laws.specs.Reach.{ends, goes}
 use Rattle.gx_tree_laws.specs.Looks.{ItemFits, IsLook, LeadsTo}
 use Rattle.gx_tree_laws.specs.Worked.{Box, box_covers, boxes, held_end, near_origin, wanted_near_origin}
 use Rattle.gx_tree_laws.proofs.Chains.{one_off}

@@ -1,11 +1,11 @@
 -- The steps worked out by hand are steps, and the trees that aren't legal aren't.
-use Rattle.std.proofs.Common.{◌≡◌, ◌≢◌, ℕ, zero, suc, ◌+◌, ◌<◌, ◌≤◌, Bool, true, false, not, ◌&&◌, List, [], ◌∷◌, ◌++◌, refl, ap, arith}
+use Rattle.std.proofs.Common.{◌≡◌, ◌≢◌, ℕ, zero, suc, ◌≤◌, true, false, ◌&&◌, List, [], ◌∷◌, ◌++◌, refl, arith}
 use Rattle.std.specs.Prelude.{◌==◌, nat_le}
 use Rattle.std.proofs.lemmas.Bool.{and_parts, and_from, leb-true, le-leb, eqb-true, eq-eqb}
 use Rattle.gx_tree_laws.specs.Lists.{Each}
-use Rattle.gx_tree_laws.specs.Trees.{Pair, Child, Node, Tree, Rules, IsLawful, Used}
-use Rattle.gx_tree_laws.specs.Legal.{Bounds, Legal}
-use Rattle.gx_tree_laws.specs.Steps.{IsSplit, IsRootSplit, IsWidening, IsAdding, IsMarking, IsSweep, ChangesOnly, EntriesCover, AreSteps, Step}
+use Rattle.gx_tree_laws.specs.Trees.{Pair, Node, Tree, IsLawful}
+use Rattle.gx_tree_laws.specs.Legal.{Legal}
+use Rattle.gx_tree_laws.specs.Steps.{IsSplit, IsRootSplit, IsWidening, IsAdding, IsMarking, IsSweep, AreSteps}
 use Rattle.gx_tree_laws.specs.Worked.{Box, box, box_covers, boxes, tree_of, node_at, leaf, inner, live, dead, entry, held, held_split, held_steps, in_row, row_leaves, eight_rows, nine_rows, nine_steps, swept, swept_steps, named_twice, off_the_chain, bound_too_small}
 
 -- Boxes.

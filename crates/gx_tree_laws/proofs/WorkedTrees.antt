@@ -1,7 +1,7 @@
 -- The trees worked out by hand.
-use Rattle.std.proofs.Common.{◌≡◌, refl}
+use Rattle.std.proofs.Common.{refl}
 use Rattle.gx_tree_laws.specs.Legal.{Legal}
-use Rattle.gx_tree_laws.specs.Worked.{boxes, held, held_split, held_end, eight_rows, nine_rows, swept}
+use Rattle.gx_tree_laws.specs.Worked.{boxes, held, held_split, held_end, eight_rows, nine_rows}
 use Rattle.gx_tree_laws.proofs.Tested.{legal_by_test}
 
 pub held_legal : Legal boxes held

@@ -1,7 +1,7 @@
 -- A look at work: a search, or a write that looks whether its pair is there.
 use Rattle.std.specs.Prelude.{ℕ, ◌≡◌, ◌+◌, ◌≤◌, Bool, true, ◌&&◌, if◌then◌else◌, nat_lt, List, [], ◌∷◌, ◌++◌, map, filter}
 use Rattle.gx_tree_laws.specs.Lists.{Each, how_many}
-use Rattle.gx_tree_laws.specs.Trees.{Pair, Child, Node, Tree, Rules, Used, standing}
+use Rattle.gx_tree_laws.specs.Trees.{Pair, Child, Tree, Rules, Used, standing}
 use Rattle.gx_tree_laws.specs.Reach.{Item, Run, run, times_ahead, pairs_ahead}
 
 -- an item that was made on this tree or on one that led to it

@@ -131,7 +131,7 @@ abbrev pub AreSteps : {K : Type 0} → Rules K → Tree K → List (Step K) → 
 AreSteps r old [] new = new ≡ old
 AreSteps {K} r old (step ∷ steps) new = (middle : Tree K) × IsStep r old step middle × AreSteps r middle steps new
 
--- a step that neither adds, marks nor sweeps what passes the test
+-- a step that neither adds, marks nor sweeps what passes the test: what passes, and is marked, is claimed
 abbrev pub LeavesAlone : {K : Type 0} → Rules K → (Pair K → Bool) → Step K → Type 0
 LeavesAlone r test (Splits n p sides left right) = Unit {0}
 LeavesAlone r test (SplitsRoot sides left right) = Unit {0}
@@ -139,4 +139,4 @@ LeavesAlone r test (Widens a x coming key) = Unit {0}
 LeavesAlone r test (Adds a x) = test x ≡ false
 LeavesAlone {K} r test (Marks a row key mark) = (x : Pair K) → is_entry r row key x ≡ true
     → (test x ≡ false) × (test (record { row = x.row; key = x.key; marked = mark }) ≡ false)
-LeavesAlone {K} r test (Sweeps a claimed) = (x : Pair K) → test x ≡ true → spares claimed x ≡ true
+LeavesAlone {K} r test (Sweeps a claimed) = (x : Pair K) → test x ≡ true → x.marked ≡ true → claimed x ≡ true
