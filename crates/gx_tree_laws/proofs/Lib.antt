@@ -21,3 +21,6 @@ pub mod Tested
 pub mod WorkedTrees
 pub mod WorkedSteps
 pub mod WorkedLook
+pub mod Levels
+pub mod DescentFalls
+pub mod KeysLead

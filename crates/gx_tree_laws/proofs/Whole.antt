@@ -42,7 +42,7 @@ total_scale : (A : ℕ → ℕ) (c n : ℕ) → total (λ q. A q * c) n ≡ tota
 total_scale A c zero = omega arith
 total_scale A c (suc n) = let rest = total_scale A c n in omega (arith, rest)
 
-total_swap : (A : ℕ → ℕ → ℕ) (m n : ℕ) → total (λ q. total (λ x. A q x) n) m ≡ total (λ x. total (λ q. A q x) m) n
+pub total_swap : (A : ℕ → ℕ → ℕ) (m n : ℕ) → total (λ q. total (λ x. A q x) n) m ≡ total (λ x. total (λ q. A q x) m) n
 total_swap A zero n = sym (total_none (λ x. 0) n (λ q low high. refl))
 total_swap A (suc m) n =
     let rest = total_swap A m n in
