@@ -1,5 +1,6 @@
 -- Each own step of a descent but the last lowers what it has left.
-use Rattle.std.proofs.Common.{◌≡◌, ◌≢◌, ℕ, zero, suc, ◌+◌, ◌-◌, ◌*◌, ◌<◌, ◌≤◌, Bool, true, false, not, ◌&&◌, ◌⊎◌, inl, inr, List, [], ◌∷◌, map, refl, ap, sym, ◌∙◌, subst, arith}
+use Rattle.std.proofs.Common.{◌≡◌, ◌≢◌, ℕ, zero, suc, ◌+◌, ◌-◌, ◌*◌, ◌^◌, ◌<◌, ◌≤◌, Bool, true, false, not, ◌&&◌, ◌⊎◌, inl, inr, List, [], ◌∷◌, map, refl, ap, sym, ◌∙◌, subst, arith}
+use Rattle.std.proofs.Math.Nat.{mul-le-mul_left, mul-le-mul_right}
 use Rattle.std.specs.Prelude.{nat_lt, if◌then◌else◌}
 use Rattle.std.proofs.lemmas.Bool.{lt-ltb, le-ltb, cases_lt}
 use Rattle.gx_tree_laws.specs.Lists.{one_if, how_many}
@@ -15,6 +16,9 @@ use Rattle.gx_tree_laws.proofs.Roots.{standing_root, legal_root}
 use Rattle.gx_tree_laws.proofs.Changes.{level_kept, number_kept}
 use Rattle.gx_tree_laws.proofs.PageSteps.{standing_swept_plain, standing_widened, legal_widened}
 use Rattle.gx_tree_laws.proofs.Levels.{level_below_used, standing_most}
+
+product : (a b c d : ℕ) → a ≤ c → b ≤ d → a * b ≤ c * d
+product a b c d le me = let p = mul-le-mul_left a me in let q = mul-le-mul_right d le in omega (arith, p, q)
 
 module _ {K : Type 0} (r : Rules K) (room : ℕ) (claimed : Pair K → Bool) where
   module _ (t : Tree K) (legal : Legal r t) where
@@ -33,7 +37,7 @@ module _ {K : Type 0} (r : Rules K) (room : ℕ) (claimed : Pair K → Bool) whe
     restart_falls item lt = let a = split_levels item lt in let b = root_levels in omega (arith, a, b)
 
     -- on to a child
-    down_falls : (item : Item) (x : ℕ) → Used t item.page → (t.node item.page).number ≤ item.seen → 0 < times x (child_pages (t.node item.page))
+    pub down_falls : (item : Item) (x : ℕ) → Used t item.page → (t.node item.page).number ≤ item.seen → 0 < times x (child_pages (t.node item.page))
         → descent_left t room claimed (record { page = x; seen = t.counter }) < descent_left t room claimed item
     down_falls item x u le named =
         let pick = some_child (ChildFits r t (t.node item.page).level) x (t.node item.page).children named (legal.pages item.page u).children in
@@ -45,11 +49,24 @@ module _ {K : Type 0} (r : Rules K) (room : ℕ) (claimed : Pair K → Bool) whe
         let b = page_levels (record { page = x; seen = t.counter }) (legal.pages x ux).number in
         omega (arith, level, same, a, b)
 
-    levels_most : (item : Item) → Used t item.page → levels_left t item ≤ t.used + (t.node item.page).level
+    root_taken : Used t 1
+    root_taken = let h = legal.counter in (omega arith, omega (arith, h))
+
+    levels_most : (item : Item) → Used t item.page → levels_left t item ≤ t.used
     levels_most item u = elim (cases_lt item.seen (t.node item.page).number) [
-        | inl lt ↦ let a = split_levels item lt in let b = level_below_used r t legal in omega (arith, a, b)
-        | inr le ↦ let a = page_levels item le in omega (arith, a)
+        | inl lt ↦ let a = split_levels item lt in let b = level_below_used r t legal 1 root_taken in omega (arith, a, b)
+        | inr le ↦ let a = page_levels item le in let b = level_below_used r t legal item.page u in omega (arith, a, b)
       ]
+
+    -- below 2^40, on a device of at most 65,536 pages, with at most 100 entries a node
+    pub left_most : (item : Item) → Used t item.page → t.used ≤ room → room ≤ 65536 → r.most ≤ 100
+        → descent_left t room claimed item < 2 ^ 40
+    left_most item u fits small few =
+        let levels = levels_most item u in
+        let pairs = standing_most r t legal (is_sweepable claimed) in
+        let free = product (room - t.used) (room + 1) 65536 65537 (omega (arith, small)) (omega (arith, small)) in
+        let marked = product t.used r.most 65536 100 (omega (arith, fits, small)) few in
+        omega (arith, levels, pairs, free, marked, fits, small)
 
   -- on to a child whose entry was widened
   pub widened_falls : IsLawful r → (old new : Tree K) → Legal r old → (item : Item) (x : ℕ) (coming key : K) → IsWidening r old new item.page x coming key
@@ -109,10 +126,10 @@ module _ {K : Type 0} (r : Rules K) (room : ℕ) (claimed : Pair K → Bool) whe
       let now = legal_split r law old new n p sides left right legal step in
       let stands = standing_split r law old new n p sides left right legal step (is_sweepable claimed) in
       let top = root_levels new now in
-      let few = level_below_used r new now in
+      let few = level_below_used r new now 1 (root_taken new now) in
       let far = legal.counter in
       let same = level_same r law old new n p sides left right legal step 1 (omega arith, omega (arith, far)) in
-      let low = level_below_used r old legal in
+      let low = level_below_used r old legal 1 (root_taken old legal) in
       let free : (room - new.used) * (room + 1) ≡ (room - suc old.used) * (room + 1) = ap (λ k. (room - k) * (room + 1)) used in
       let one = one_page room old.used (omega (arith, used, fits)) in
       omega (arith, stands, top, same, low, free, one, used, fits)
@@ -126,7 +143,7 @@ module _ {K : Type 0} (r : Rules K) (room : ℕ) (claimed : Pair K → Bool) whe
       let now = legal_root r old new sides left right legal step law.two in
       let stands = standing_root r old new sides left right legal step (is_sweepable claimed) in
       let top = root_levels new now in
-      let few = level_below_used r new now in
+      let few = level_below_used r new now 1 (root_taken new now) in
       let free : (room - new.used) * (room + 1) ≡ (room - suc (suc old.used)) * (room + 1) = ap (λ k. (room - k) * (room + 1)) used in
       let one = one_page room old.used (omega (arith, used, fits)) in
       let two = one_page room (suc old.used) (omega (arith, used, fits)) in

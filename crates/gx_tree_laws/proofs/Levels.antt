@@ -32,11 +32,11 @@ first_child P [] some e = absurd (omega arith)
 first_child P (c ∷ cs) some e = (c, e.0)
 
 module _ {K : Type 0} (r : Rules K) (t : Tree K) (legal : Legal r t) where
-  -- a page of each level up to the root's
-  page_of_level : (d k : ℕ) → k + d ≡ (t.node 1).level → (q : ℕ) × Used t q × ((t.node q).level ≡ k)
-  page_of_level zero k e = (1, (let h = legal.counter in (omega arith, omega (arith, h))), omega (arith, e))
-  page_of_level (suc d) k e =
-      let above = page_of_level d (suc k) (omega (arith, e)) in
+  -- a page of each level up to that of a page that is taken
+  page_of_level : (top : ℕ) → Used t top → (d k : ℕ) → k + d ≡ (t.node top).level → (q : ℕ) × Used t q × ((t.node q).level ≡ k)
+  page_of_level top taken zero k e = (top, taken, omega (arith, e))
+  page_of_level top taken (suc d) k e =
+      let above = page_of_level top taken d (suc k) (omega (arith, e)) in
       let u = above.1 in
       let fit = legal.pages above.0 u in
       let level = above.2 in
@@ -45,26 +45,26 @@ module _ {K : Type 0} (r : Rules K) (t : Tree K) (legal : Legal r t) where
       let low = f.low in
       ((child.0).page, (omega (arith, low), f.used), (let l = f.level in omega (arith, l, level)))
 
-  pub level_below_used : (t.node 1).level < t.used
-  level_below_used =
-      let top : ℕ = suc (t.node 1).level in
-      let each : total (λ k. 1) top ≤ total (λ k. total (λ q. one_if (suc (t.node q).level == k)) t.used) top =
-          total_le (λ k. 1) (λ k. total (λ q. one_if (suc (t.node q).level == k)) t.used) top (λ k low high. some_page k low high) in
-      let swap : total (λ k. total (λ q. one_if (suc (t.node q).level == k)) t.used) top ≡ total (λ q. total (λ k. one_if (suc (t.node q).level == k)) top) t.used =
-          total_swap (λ k q. one_if (suc (t.node q).level == k)) top t.used in
-      let most : total (λ q. total (λ k. one_if (suc (t.node q).level == k)) top) t.used ≤ total (λ q. 1) t.used =
-          total_le (λ q. total (λ k. one_if (suc (t.node q).level == k)) top) (λ q. 1) t.used (λ q low high. at_most_one (suc (t.node q).level) top) in
-      let count : total (λ k. 1) top ≡ top = ones top in
+  pub level_below_used : (top : ℕ) → Used t top → (t.node top).level < t.used
+  level_below_used top taken =
+      let above : ℕ = suc (t.node top).level in
+      let each : total (λ k. 1) above ≤ total (λ k. total (λ q. one_if (suc (t.node q).level == k)) t.used) above =
+          total_le (λ k. 1) (λ k. total (λ q. one_if (suc (t.node q).level == k)) t.used) above (λ k low high. some_page k low high) in
+      let swap : total (λ k. total (λ q. one_if (suc (t.node q).level == k)) t.used) above ≡ total (λ q. total (λ k. one_if (suc (t.node q).level == k)) above) t.used =
+          total_swap (λ k q. one_if (suc (t.node q).level == k)) above t.used in
+      let most : total (λ q. total (λ k. one_if (suc (t.node q).level == k)) above) t.used ≤ total (λ q. 1) t.used =
+          total_le (λ q. total (λ k. one_if (suc (t.node q).level == k)) above) (λ q. 1) t.used (λ q low high. at_most_one (suc (t.node q).level) above) in
+      let count : total (λ k. 1) above ≡ above = ones above in
       let pages : total (λ q. 1) t.used ≡ t.used = ones t.used in
       omega (arith, each, swap, most, count, pages)
     where
-      some_page : (k : ℕ) → 0 < k → k ≤ suc (t.node 1).level → 1 ≤ total (λ q. one_if (suc (t.node q).level == k)) t.used
+      some_page : (k : ℕ) → 0 < k → k ≤ suc (t.node top).level → 1 ≤ total (λ q. one_if (suc (t.node q).level == k)) t.used
       some_page zero low high = absurd (omega arith)
-      some_page (suc k) low high = gap_by k ((t.node 1).level - k) (omega (arith, high))
+      some_page (suc k) low high = gap_by k ((t.node top).level - k) (omega (arith, high))
         where
-          gap_by : (k d : ℕ) → k + d ≡ (t.node 1).level → 1 ≤ total (λ q. one_if (suc (t.node q).level == suc k)) t.used
+          gap_by : (k d : ℕ) → k + d ≡ (t.node top).level → 1 ≤ total (λ q. one_if (suc (t.node q).level == suc k)) t.used
           gap_by k d e =
-              let page = page_of_level d k e in
+              let page = page_of_level top taken d k e in
               let u = page.1 in
               let one = one_at (suc (t.node page.0).level) (suc k) (ap (λ l. suc l) page.2) in
               let le = total_one (λ q. one_if (suc (t.node q).level == suc k)) t.used page.0 u.0 u.1 in

@@ -1,6 +1,6 @@
 //! The laws at work on trees that were worked out by hand, so that none holds for want of a case: each kind of step is
 //! taken on one of them, and trees that aren't legal are told from those that are.
-ghost use Rattle.std.specs.Prelude.{◌≡◌, ◌∷◌, [], List};
+ghost use Rattle.std.specs.Prelude.{◌≡◌, ◌∷◌, [], true};
 ghost use Rattle.gx_tree_laws.specs.Trees.{IsLawful, leaves};
 ghost use Rattle.gx_tree_laws.specs.Legal.{Legal};
 ghost use Rattle.gx_tree_laws.specs.Steps.{AreSteps};
@@ -45,6 +45,19 @@ pub fn worked_search_moves_right()
     }
     ensures looks { IsLook held_end wanted_near_origin (record { page = 2; seen = 0 } ∷ []) [] }
     ensures leads { LeadsTo boxes held_end wanted_near_origin near_origin }
+{}
+
+/// A search that begins once a leaf is split remembers both halves with the counter as it is now, and doesn't move right
+/// from the first: it reads each half once.
+pub fn worked_search_reads_each_leaf_once()
+    ensures children {
+        stacked held_split (λ b. true) (from_root held_split) []
+        ≡ record { page = 2; seen = 1 } ∷ record { page = 3; seen = 1 } ∷ []
+    }
+    ensures first {
+        stacked held_split (λ b. true) (record { page = 2; seen = 1 }) (record { page = 3; seen = 1 } ∷ [])
+        ≡ record { page = 3; seen = 1 } ∷ []
+    }
 {}
 
 /// A page named twice, a leaf off the chain, and a bound that is too small: none of these trees is legal.
