@@ -16,20 +16,20 @@ module _ {K : Type 0} (t : Tree K) where
   down_add f g zero q = refl
   down_add f g (suc k) q =
       let each = sum_over_same (down t (λ x. f x + g x) k) (λ x. down t f k x + down t g k x) (child_pages (t.node q))
-        (each_always (λ x. down t (λ x. f x + g x) k x ≡ down t f k x + down t g k x) (down_add f g k) (child_pages (t.node q))) in
+      (each_always (λ x. down t (λ x. f x + g x) k x ≡ down t f k x + down t g k x) (down_add f g k) (child_pages (t.node q))) in
       let add = sum_over_add (down t f k) (down t g k) (child_pages (t.node q)) in
       omega (arith, each, add)
 
   ahead_of_add : (f g : ℕ → ℕ) (item : Item) → ahead_of t (λ x. f x + g x) item ≡ ahead_of t f item + ahead_of t g item
   ahead_of_add f g item =
       sum_over_same (under t (λ x. f x + g x)) (λ x. under t f x + under t g x) (run t t.used item.seen item.page)
-        (each_always (λ x. under t (λ x. f x + g x) x ≡ under t f x + under t g x) (λ q. down_add f g (t.node q).level q) (run t t.used item.seen item.page))
+      (each_always (λ x. under t (λ x. f x + g x) x ≡ under t f x + under t g x) (λ q. down_add f g (t.node q).level q) (run t t.used item.seen item.page))
       ∙ sum_over_add (under t f) (under t g) (run t t.used item.seen item.page)
 
   ahead_add : (f g : ℕ → ℕ) (stack : List Item) → ahead t (λ x. f x + g x) stack ≡ ahead t f stack + ahead t g stack
   ahead_add f g stack =
       sum_over_same (ahead_of t (λ x. f x + g x)) (λ i. ahead_of t f i + ahead_of t g i) stack
-        (each_always (λ i. ahead_of t (λ x. f x + g x) i ≡ ahead_of t f i + ahead_of t g i) (ahead_of_add f g) stack)
+      (each_always (λ i. ahead_of t (λ x. f x + g x) i ≡ ahead_of t f i + ahead_of t g i) (ahead_of_add f g) stack)
       ∙ sum_over_add (ahead_of t f) (ahead_of t g) stack
 
   none_over : {X : Type 0} (f : X → ℕ) (xs : List X) → ((x : X) → f x ≡ 0) → sum_over f xs ≡ 0
@@ -65,7 +65,7 @@ module _ {K : Type 0} (t : Tree K) where
     down_same (suc k) q u =
         let here = same q u in
         let below = sum_over_same (down t f k) (down t g k) (child_pages (t.node q))
-          (each_map (λ x. Used t x × (2 ≤ x)) (λ x. down t f k x ≡ down t g k x) (λ x taken. down_same k x taken.0) (child_pages (t.node q)) (each_child_used r t legal q u)) in
+        (each_map (λ x. Used t x × (2 ≤ x)) (λ x. down t f k x ≡ down t g k x) (λ x taken. down_same k x taken.0) (child_pages (t.node q)) (each_child_used r t legal q u)) in
         omega (arith, here, below)
 
     ahead_same : (stack : List Item) → Each (ItemFits t) stack → ahead t f stack ≡ ahead t g stack
@@ -73,7 +73,7 @@ module _ {K : Type 0} (t : Tree K) where
         sum_over_same (ahead_of t f) (ahead_of t g) stack
         (each_map (ItemFits t) (λ item. ahead_of t f item ≡ ahead_of t g item)
         (λ item fit. sum_over_same (under t f) (under t g) (run t t.used item.seen item.page)
-          (each_run t item.seen (λ q. under t f q ≡ under t g q) (λ q u. down_same (t.node q).level q u) fit.run)) stack fits)
+        (each_run t item.seen (λ q. under t f q ≡ under t g q) (λ q u. down_same (t.node q).level q u) fit.run)) stack fits)
 
   -- so no more pages lie ahead of a look than are taken
   pub pages_most : (r : Rules K) → Legal r t → (wants : Pair K → Bool) (stack : List Item) (found : List (Pair K)) → IsLook t wants stack found

@@ -11,7 +11,6 @@ use Rattle.gx_tree_laws.proofs.Runs.{run_is, length_run}
 
 module _ {K : Type 0} (old new : Tree K) (a : ℕ) (pairs : List (Pair K)) (entries : List (Child K))
     (step : ChangesOnly old new a pairs entries) where
-
   run_kept : (seen : ℕ) {x : ℕ} {xs : List ℕ} → Run old seen x xs → Run new seen x xs
   run_kept seen {x = x} (ends u le) =
       ends (used_kept old new a pairs entries step x u) (let k = number_kept old new a pairs entries step x in omega (arith, k, le))
@@ -38,7 +37,7 @@ module _ {K : Type 0} (old new : Tree K) (a : ℕ) (pairs : List (Pair K)) (entr
         let here = same q in
         let shape = ap (λ (xs : List ℕ). sum_over (down new f k) xs) (pages_kept old new a pairs entries step pages q) in
         let below = sum_over_same (down new f k) (down old g k) (child_pages (old.node q))
-          (each_always (λ x. down new f k x ≡ down old g k x) (down_kept k) (child_pages (old.node q))) in
+        (each_always (λ x. down new f k x ≡ down old g k x) (down_kept k) (child_pages (old.node q))) in
         omega (arith, here, shape, below)
 
     under_kept : (q : ℕ) → under new f q ≡ under old g q
@@ -48,7 +47,7 @@ module _ {K : Type 0} (old new : Tree K) (a : ℕ) (pairs : List (Pair K)) (entr
     ahead_of_kept item fit =
         ap (λ (ys : List ℕ). sum_over (under new f) ys) (near_kept item fit)
         ∙ sum_over_same (under new f) (under old g) (run old old.used item.seen item.page)
-          (each_always (λ x. under new f x ≡ under old g x) under_kept (run old old.used item.seen item.page))
+        (each_always (λ x. under new f x ≡ under old g x) under_kept (run old old.used item.seen item.page))
 
     pub ahead_kept : (stack : List Item) → Each (ItemFits old) stack → ahead new f stack ≡ ahead old g stack
     ahead_kept stack fits =

@@ -11,7 +11,7 @@ module _ {K : Type 0} (r : Rules K) (law : IsLawful r) (start : K) where
     leaf = λ z. absurd (omega (arith, z));
     inner = λ z. (refl, omega arith);
     number = omega arith;
-    children = (record { low = omega arith; used = omega arith; level = refl; bounds = record { pairs = tt; children = tt; }; }, tt);
+    children = (record { low = omega arith; used = omega arith; level = refl; bounds = record { pairs = tt; children = tt } }, tt);
   }
 
   fits_leaf : NodeFits r (fresh_tree start) (fresh_node start 2)
@@ -24,7 +24,7 @@ module _ {K : Type 0} (r : Rules K) (law : IsLawful r) (start : K) where
   }
 
   pub one_of : (p : ℕ) → Used (fresh_tree start) p → (p ≡ 1) ⊎ (p ≡ 2)
-  one_of p u = elim (cases_eq p 1) [ | inl e ↦ inl e | inr ne ↦ inr (let low = u.0 in let high = u.1 in omega (arith, low, high, ne)) ]
+  one_of p u = elim (cases_eq p 1) [ inl e ↦ inl e | inr ne ↦ inr (let low = u.0 in let high = u.1 in omega (arith, low, high, ne)) ]
 
   pub fresh_legal : Legal r (fresh_tree start)
   fresh_legal = record {

@@ -9,7 +9,6 @@ module _ {K : Type 0} (r : Rules K) (t : Tree K) (IsKey : K → Type 0)
     (children : (p : ℕ) → Used t p → Each (λ c. IsKey c.key) (t.node p).children)
     (wants : Pair K → Bool) (leads : K → Bool)
     (consistent : (b : K) (x : Pair K) → IsKey b → IsKey x.key → wants x ≡ true → r.covers b x.key ≡ true → leads b ≡ true) where
-
   of_pairs : (b : K) → IsKey b → (xs : List (Pair K)) → Each (λ x. IsKey x.key) xs
       → Each (λ x. wants x ≡ true → r.covers b x.key ≡ true → leads b ≡ true) xs
   of_pairs b is [] are = tt

@@ -29,30 +29,30 @@ module _ {K : Type 0} (wants : Pair K → Bool) (stack : List Item) (found : Lis
         let h = (split_used r law old new n p sides left right legal step).1 in
         elim (cases_eq l (suc old.used)) [
           | inl e ↦
-            let same = ahead_split r law old new n p sides left right legal step (λ q. one_if (q == l)) (λ q. one_if (q == n))
+              let same = ahead_split r law old new n p sides left right legal step (λ q. one_if (q == l)) (λ q. one_if (q == n))
               (let a = one_off n l (λ z. (omega (arith, z, e, h))) in let b = one_at (suc old.used) l (sym e) in let c = one_at n n refl in omega (arith, a, b, c))
               (λ q u ne. one_off q l (λ z. (let k = u.1 in omega (arith, z, e, k))) ∙ sym (one_off q n ne)) stack look.items in
-            let before = look.once n in
-            omega (arith, same, before)
+              let before = look.once n in
+              omega (arith, same, before)
           | inr ne ↦
-            let same = ahead_split r law old new n p sides left right legal step (λ q. one_if (q == l)) (λ q. one_if (q == l))
+              let same = ahead_split r law old new n p sides left right legal step (λ q. one_if (q == l)) (λ q. one_if (q == l))
               (let b = one_off (suc old.used) l (λ z. ne (sym z)) in omega (arith, b)) (λ q u other. refl) stack look.items in
-            let before = look.once l in
-            omega (arith, same, before)
+              let before = look.once l in
+              omega (arith, same, before)
         ]
 
     pub look_split : IsLook new wants stack found
     look_split = record {
       items = each_map (ItemFits old) (ItemFits new) (item_split r law old new n p sides left right legal step) stack look.items;
       complete = λ test.
-        (let same = ahead_split r law old new n p sides left right legal step
+          (let same = ahead_split r law old new n p sides left right legal step
           (λ q. how_many (λ x. wants x && test x) (new.node q).pairs) (λ q. how_many (λ x. wants x && test x) (old.node q).pairs)
           (pairs_split r law old new n p sides left right legal step (λ x. wants x && test x))
           (λ q u ne. ap (λ (xs : List (Pair K)). how_many (λ x. wants x && test x) xs) (pairs_same r law old new n p sides left right legal step q u ne))
           stack look.items in
-        let stands = standing_split r law old new n p sides left right legal step (λ x. wants x && test x) in
-        let before = look.complete test in
-        omega (arith, same, stands, before));
+          let stands = standing_split r law old new n p sides left right legal step (λ x. wants x && test x) in
+          let before = look.complete test in
+          omega (arith, same, stands, before));
       once = once_after;
     }
 
@@ -66,45 +66,45 @@ module _ {K : Type 0} (wants : Pair K → Bool) (stack : List Item) (found : Lis
         let h = (root_used r old new sides left right legal step).1 in
         elim (cases_eq l (suc old.used)) [
           | inl e ↦
-            let same = ahead_root r old new sides left right legal step (λ q. one_if (q == l)) (λ q. one_if (q == 1))
+              let same = ahead_root r old new sides left right legal step (λ q. one_if (q == l)) (λ q. one_if (q == 1))
               (let a = one_off 1 l (λ z. (omega (arith, z, e, h))) in let b = one_at (suc old.used) l (sym e) in
               let c = one_off (suc (suc old.used)) l (λ z. (omega (arith, z, e))) in omega (arith, a, b, c))
               (λ q u ne. old_off l q (omega (arith, e)) u ∙ sym (one_off q 1 ne)) stack look.items in
-            let before = look.once 1 in
-            omega (arith, same, before)
+              let before = look.once 1 in
+              omega (arith, same, before)
           | inr na ↦ elim (cases_eq l (suc (suc old.used))) [
-              | inl e ↦
+            | inl e ↦
                 let same = ahead_root r old new sides left right legal step (λ q. one_if (q == l)) (λ q. one_if (q == 1))
-                  (let a = one_off 1 l (λ z. (omega (arith, z, e, h))) in let b = one_off (suc old.used) l (λ z. na (sym z)) in
-                  let c = one_at (suc (suc old.used)) l (sym e) in omega (arith, a, b, c))
-                  (λ q u ne. old_off l q (omega (arith, e)) u ∙ sym (one_off q 1 ne)) stack look.items in
+                (let a = one_off 1 l (λ z. (omega (arith, z, e, h))) in let b = one_off (suc old.used) l (λ z. na (sym z)) in
+                let c = one_at (suc (suc old.used)) l (sym e) in omega (arith, a, b, c))
+                (λ q u ne. old_off l q (omega (arith, e)) u ∙ sym (one_off q 1 ne)) stack look.items in
                 let before = look.once 1 in
                 omega (arith, same, before)
-              | inr nb ↦
+            | inr nb ↦
                 let same = ahead_root r old new sides left right legal step (λ q. one_if (q == l)) (λ q. one_if (q == l))
-                  (let b = one_off (suc old.used) l (λ z. na (sym z)) in let c = one_off (suc (suc old.used)) l (λ z. nb (sym z)) in omega (arith, b, c))
-                  (λ q u other. refl) stack look.items in
+                (let b = one_off (suc old.used) l (λ z. na (sym z)) in let c = one_off (suc (suc old.used)) l (λ z. nb (sym z)) in omega (arith, b, c))
+                (λ q u other. refl) stack look.items in
                 let before = look.once l in
                 omega (arith, same, before)
-            ]
+          ]
         ]
 
     pub look_root : IsLook new wants stack found
     look_root = record {
       items = each_map (ItemFits old) (ItemFits new) (item_root r old new sides left right legal step) stack look.items;
       complete = λ test.
-        (let none = ap (λ (xs : List (Pair K)). how_many (λ x. wants x && test x) xs) (no_pairs r old new sides left right legal step) in
-        let top = pairs_root r old new sides left right legal step (λ x. wants x && test x) in
-        let first = ap (λ (z : Node K). how_many (λ x. wants x && test x) z.pairs) step.first in
-        let second = ap (λ (z : Node K). how_many (λ x. wants x && test x) z.pairs) step.second in
-        let same = ahead_root r old new sides left right legal step
+          (let none = ap (λ (xs : List (Pair K)). how_many (λ x. wants x && test x) xs) (no_pairs r old new sides left right legal step) in
+          let top = pairs_root r old new sides left right legal step (λ x. wants x && test x) in
+          let first = ap (λ (z : Node K). how_many (λ x. wants x && test x) z.pairs) step.first in
+          let second = ap (λ (z : Node K). how_many (λ x. wants x && test x) z.pairs) step.second in
+          let same = ahead_root r old new sides left right legal step
           (λ q. how_many (λ x. wants x && test x) (new.node q).pairs) (λ q. how_many (λ x. wants x && test x) (old.node q).pairs)
           (omega (arith, none, top, first, second))
           (λ q u ne. ap (λ (z : Node K). how_many (λ x. wants x && test x) z.pairs) (same_node r old new sides left right legal step q u ne))
           stack look.items in
-        let stands = standing_root r old new sides left right legal step (λ x. wants x && test x) in
-        let before = look.complete test in
-        omega (arith, same, stands, before));
+          let stands = standing_root r old new sides left right legal step (λ x. wants x && test x) in
+          let before = look.complete test in
+          omega (arith, same, stands, before));
       once = once_root;
     }
 
@@ -116,16 +116,16 @@ module _ {K : Type 0} (wants : Pair K → Bool) (stack : List Item) (found : Lis
     look_changed = record {
       items = each_map (ItemFits old) (ItemFits new) (item_kept old new a pairs entries step) stack look.items;
       complete = λ test.
-        (let same = ahead_kept old new a pairs entries step pages
+          (let same = ahead_kept old new a pairs entries step pages
           (λ q. how_many (λ x. wants x && test x) (new.node q).pairs) (λ q. how_many (λ x. wants x && test x) (old.node q).pairs)
           (pairs_kept old new a pairs entries step (λ x. wants x && test x) (alone test)) stack look.items in
-        let stands = passing_kept old new a pairs entries step (λ x. wants x && test x) (alone test) 2 legal.chain in
-        let before = look.complete test in
-        omega (arith, same, stands, before));
+          let stands = passing_kept old new a pairs entries step (λ x. wants x && test x) (alone test) 2 legal.chain in
+          let before = look.complete test in
+          omega (arith, same, stands, before));
       once = λ l.
-        (let same = ahead_kept old new a pairs entries step pages (λ q. one_if (q == l)) (λ q. one_if (q == l)) (λ q. refl) stack look.items in
-        let before = look.once l in
-        omega (arith, same, before));
+          (let same = ahead_kept old new a pairs entries step pages (λ q. one_if (q == l)) (λ q. one_if (q == l)) (λ q. refl) stack look.items in
+          let before = look.once l in
+          omega (arith, same, before));
     }
 
 -- What leaves alone what is wanted leaves as much of it.

@@ -31,7 +31,7 @@ module _ {K : Type 0} (t : Tree K) where
   item_now_fits : (c : ℕ) → Used t c → (t.node c).number ≤ t.counter → ItemFits t (record { page = c; seen = t.counter })
   item_now_fits c u le =
       let now = item_now c u le in
-      record { seen = omega arith; run = subst (λ (ys : List ℕ). Run t t.counter c ys) (sym now.1) now.0; }
+      record { seen = omega arith; run = subst (λ (ys : List ℕ). Run t t.counter c ys) (sym now.1) now.0 }
 
   ahead_now : (f : ℕ → ℕ) (c : ℕ) → Used t c → (t.node c).number ≤ t.counter → ahead_of t f (record { page = c; seen = t.counter }) ≡ under t f c
   ahead_now f c u le =
@@ -69,7 +69,7 @@ module _ {K : Type 0} (t : Tree K) where
       let long = length_run t item.seen t.used item.page in
       let same_long = ap (λ (ys : List ℕ). length ys) e in
       let next = run_is t item.seen rest t.used (omega (arith, long, same_long)) in
-      (record { seen = fit.seen; run = subst (λ (ys : List ℕ). Run t item.seen (t.node item.page).right ys) (sym next) rest; }, tt)
+      (record { seen = fit.seen; run = subst (λ (ys : List ℕ). Run t item.seen (t.node item.page).right ys) (sym next) rest }, tt)
 
   beyond_fits : (item : Item) → ItemFits t item → Each (ItemFits t) (beyond_of t item)
   beyond_fits item fit = beyond_fits_by item fit (parts_of t item.seen fit.run).1 (nat_lt item.seen (t.node item.page).number) refl
@@ -89,25 +89,25 @@ module _ {K : Type 0} (r : Rules K) (t : Tree K) (legal : Legal r t) where
   is_most_once : (l n : ℕ) → total (λ q. one_if (q == l)) n ≤ 1
   is_most_once l zero = omega arith
   is_most_once l (suc n) = elim (cases_eq (suc n) l) [
-      | inl e ↦
+    | inl e ↦
         let one = one_at (suc n) l e in
         let none = total_none (λ q. one_if (q == l)) n (λ q low high. one_off q l (λ z. (omega (arith, z, e, high)))) in
         omega (arith, one, none)
-      | inr ne ↦ let none = one_off (suc n) l ne in let rest = is_most_once l n in omega (arith, none, rest)
-    ]
+    | inr ne ↦ let none = one_off (suc n) l ne in let rest = is_most_once l n in omega (arith, none, rest)
+  ]
 
   pub look_begins : (wants : Pair K → Bool) → IsLook t wants (from_root t ∷ []) []
   look_begins wants = record {
     items = (item_now_fits t 1 root_taken (number_early 1 root_taken), tt);
     complete = λ test.
-      (let now = ahead_now t (λ q. how_many (λ x. wants x && test x) (t.node q).pairs) 1 root_taken (number_early 1 root_taken) in
-      let whole = standing_under_root r t legal (λ x. wants x && test x) in
-      omega (arith, now, whole));
+        (let now = ahead_now t (λ q. how_many (λ x. wants x && test x) (t.node q).pairs) 1 root_taken (number_early 1 root_taken) in
+        let whole = standing_under_root r t legal (λ x. wants x && test x) in
+        omega (arith, now, whole));
     once = λ l.
-      (let now = ahead_now t (λ q. one_if (q == l)) 1 root_taken (number_early 1 root_taken) in
-      let whole = under_root r t legal (λ q. one_if (q == l)) in
-      let most = is_most_once l t.used in
-      omega (arith, now, whole, most));
+        (let now = ahead_now t (λ q. one_if (q == l)) 1 root_taken (number_early 1 root_taken) in
+        let whole = under_root r t legal (λ q. one_if (q == l)) in
+        let most = is_most_once l t.used in
+        omega (arith, now, whole, most));
   }
 
   ones : (n : ℕ) → total (λ q. 1) n ≡ n
@@ -130,8 +130,8 @@ module _ {K : Type 0} (r : Rules K) (t : Tree K) (legal : Legal r t) where
     below_ahead f cs taken =
         sum_over-map (ahead_of t f) (λ (c : Child K). record { page = c.page; seen = t.counter }) (filter (λ c. leads c.key) cs)
         ∙ sum_over_same (λ c. ahead_of t f (record { page = c.page; seen = t.counter })) (λ c. under t f c.page) (filter (λ c. leads c.key) cs)
-          (each_map (λ c. Used t c.page) (λ c. ahead_of t f (record { page = c.page; seen = t.counter }) ≡ under t f c.page)
-          (λ c u. ahead_now t f c.page u (number_early c.page u)) (filter (λ c. leads c.key) cs) (each_filter (λ c. Used t c.page) (λ c. leads c.key) cs taken))
+        (each_map (λ c. Used t c.page) (λ c. ahead_of t f (record { page = c.page; seen = t.counter }) ≡ under t f c.page)
+        (λ c u. ahead_now t f c.page u (number_early c.page u)) (filter (λ c. leads c.key) cs) (each_filter (λ c. Used t c.page) (λ c. leads c.key) cs taken))
 
     filter_less : (f : Child K → ℕ) (cs : List (Child K)) → sum_over f (filter (λ c. leads c.key) cs) ≤ sum_over f cs
     filter_less f [] = omega arith
@@ -208,9 +208,9 @@ module _ {K : Type 0} (r : Rules K) (t : Tree K) (legal : Legal r t) where
       none_down test b off lead (suc k) q u bound =
           let here = none_here b off test (t.node q).pairs bound.pairs (lead q u) in
           let each : Each (λ c. down t (λ p. how_many (λ x. wants x && test x) (t.node p).pairs) k c.page ≡ 0) (t.node q).children =
-              each_both (ChildFits r t (t.node q).level) (λ c. r.covers b c.key ≡ true) (λ c. down t (λ p. how_many (λ x. wants x && test x) (t.node p).pairs) k c.page ≡ 0)
-              (λ c fit covers. none_down test b off lead k c.page (let low = fit.low in (omega (arith, low), fit.used)) (bounds_through r law b c.key (t.node c.page) covers fit.bounds))
-              (t.node q).children (legal.pages q u).children bound.children in
+          each_both (ChildFits r t (t.node q).level) (λ c. r.covers b c.key ≡ true) (λ c. down t (λ p. how_many (λ x. wants x && test x) (t.node p).pairs) k c.page ≡ 0)
+          (λ c fit covers. none_down test b off lead k c.page (let low = fit.low in (omega (arith, low), fit.used)) (bounds_through r law b c.key (t.node c.page) covers fit.bounds))
+          (t.node q).children (legal.pages q u).children bound.children in
           let shape = sum_over-map (down t (λ p. how_many (λ x. wants x && test x) (t.node p).pairs) k) (λ (c : Child K). c.page) (t.node q).children in
           let none = sum_none (λ c. down t (λ p. how_many (λ x. wants x && test x) (t.node p).pairs) k c.page) (t.node q).children each in
           omega (arith, here, shape, none)
@@ -238,11 +238,11 @@ module _ {K : Type 0} (r : Rules K) (t : Tree K) (legal : Legal r t) where
           let whole = under_children f item.page u in
           let below = below_ahead f (t.node item.page).children (children_taken item.page u) in
           let same = filter_same (λ c. under t f c.page) (t.node item.page).children
-            (each_both (ChildFits r t (t.node item.page).level)
-            (λ c. (q : ℕ) → Used t q → Each (λ x. wants x ≡ true → r.covers c.key x.key ≡ true → leads c.key ≡ true) (t.node q).pairs)
-            (λ c. leads c.key ≡ false → under t f c.page ≡ 0)
-            (λ c fits lead off. none_down test c.key off lead (t.node c.page).level c.page (let low = fits.low in (omega (arith, low), fits.used)) fits.bounds)
-            (t.node item.page).children (legal.pages item.page u).children (consistent item.page u)) in
+          (each_both (ChildFits r t (t.node item.page).level)
+          (λ c. (q : ℕ) → Used t q → Each (λ x. wants x ≡ true → r.covers c.key x.key ≡ true → leads c.key ≡ true) (t.node q).pairs)
+          (λ c. leads c.key ≡ false → under t f c.page ≡ 0)
+          (λ c fits lead off. none_down test c.key off lead (t.node c.page).level c.page (let low = fits.low in (omega (arith, low), fits.used)) fits.bounds)
+          (t.node item.page).children (legal.pages item.page u).children (consistent item.page u)) in
           let first = sum_over-append (ahead_of t f) (beyond_of t item) (below_of t leads (t.node item.page).children ++ stack) in
           let second = sum_over-append (ahead_of t f) (below_of t leads (t.node item.page).children) stack in
           omega (arith, parts, whole, below, same, first, second)
@@ -252,15 +252,15 @@ module _ {K : Type 0} (r : Rules K) (t : Tree K) (legal : Legal r t) where
       look_goes_on item stack found look = record {
         items = stacked_fits item stack (look.items).0 (look.items).1;
         complete = λ test.
-          (let before = look.complete test in
-          let same = pairs_same test item stack (look.items).0 in
-          let got = sum_over-append (λ x. one_if (test x)) found (filter wants (t.node item.page).pairs) in
-          let new = found_more test (t.node item.page).pairs in
-          omega (arith, before, same, got, new));
+            (let before = look.complete test in
+            let same = pairs_same test item stack (look.items).0 in
+            let got = sum_over-append (λ x. one_if (test x)) found (filter wants (t.node item.page).pairs) in
+            let new = found_more test (t.node item.page).pairs in
+            omega (arith, before, same, got, new));
         once = λ l.
-          (let before = look.once l in
-          let less = ahead_less (λ q. one_if (q == l)) item stack (look.items).0 in
-          omega (arith, before, less));
+            (let before = look.once l in
+            let less = ahead_less (λ q. one_if (q == l)) item stack (look.items).0 in
+            omega (arith, before, less));
       }
 
 -- Where it ends.
@@ -277,6 +277,7 @@ less_wanted {K} t wants test =
     at : (w b : Bool) → one_if (w && b) ≤ one_if b
     at true b = omega arith
     at false b = omega arith
+
     here : (xs : List (Pair K)) → how_many (λ x. wants x && test x) xs ≤ how_many test xs
     here xs = sum_over_le (λ x. one_if (wants x && test x)) (λ x. one_if (test x)) xs
         (each_always (λ x. one_if (wants x && test x) ≤ one_if (test x)) (λ x. at (wants x) (test x)) xs)

@@ -13,7 +13,6 @@ use Rattle.gx_tree_laws.proofs.Runs.{run_is, length_run, each_run, each_child_us
 
 module _ {K : Type 0} (r : Rules K) (old new : Tree K) (sides : List Bool) (left right : K)
     (legal : Legal r old) (step : IsRootSplit r old new sides left right) where
-
   abbrev a : ℕ
   a = suc old.used
 
@@ -22,15 +21,15 @@ module _ {K : Type 0} (r : Rules K) (old new : Tree K) (sides : List Bool) (left
 
   pub number_same : (q : ℕ) → Used old q → (new.node q).number ≡ (old.node q).number
   number_same q u = elim (cases_eq q 1) [
-      | inl e ↦ subst (λ q. (new.node q).number ≡ (old.node q).number) (sym e) (ap (λ (z : Node K). z.number) step.root)
-      | inr ne ↦ ap (λ (z : Node K). z.number) (same_node r old new sides left right legal step q u ne)
-    ]
+    | inl e ↦ subst (λ q. (new.node q).number ≡ (old.node q).number) (sym e) (ap (λ (z : Node K). z.number) step.root)
+    | inr ne ↦ ap (λ (z : Node K). z.number) (same_node r old new sides left right legal step q u ne)
+  ]
 
   right_same : (q : ℕ) → Used old q → (new.node q).right ≡ (old.node q).right
   right_same q u = elim (cases_eq q 1) [
-      | inl e ↦ subst (λ q. (new.node q).right ≡ (old.node q).right) (sym e) (ap (λ (z : Node K). z.right) step.root)
-      | inr ne ↦ ap (λ (z : Node K). z.right) (same_node r old new sides left right legal step q u ne)
-    ]
+    | inl e ↦ subst (λ q. (new.node q).right ≡ (old.node q).right) (sym e) (ap (λ (z : Node K). z.right) step.root)
+    | inr ne ↦ ap (λ (z : Node K). z.right) (same_node r old new sides left right legal step q u ne)
+  ]
 
   module _ (f g : ℕ → ℕ) (parted : f 1 + (f a + f b) ≡ g 1) (same : (q : ℕ) → Used old q → q ≢ 1 → f q ≡ g q) where
     down_children : (k : ℕ) → ((q : ℕ) → Used old q → q ≢ 1 → down new f k q ≡ down old g k q) → (q : ℕ) → Used old q
@@ -61,12 +60,12 @@ module _ {K : Type 0} (r : Rules K) (old new : Tree K) (sides : List Bool) (left
 
     pub under_same : (q : ℕ) → Used old q → under new f q ≡ under old g q
     under_same q u = elim (cases_eq q 1) [
-        | inl e ↦ subst (λ q. under new f q ≡ under old g q) (sym e)
+      | inl e ↦ subst (λ q. under new f q ≡ under old g q) (sym e)
           (ap (λ k. down new f k 1) (ap (λ (z : Node K). z.level) step.root) ∙ root_by (old.node 1).level refl)
-        | inr ne ↦
+      | inr ne ↦
           ap (λ k. down new f k q) (ap (λ (z : Node K). z.level) (same_node r old new sides left right legal step q u ne))
           ∙ down_other (old.node q).level q u ne
-      ]
+    ]
 
   run_root : (seen : ℕ) {x : ℕ} {xs : List ℕ} → Run old seen x xs → Run new seen x xs
   run_root seen {x = x} (ends u le) =
@@ -92,7 +91,7 @@ module _ {K : Type 0} (r : Rules K) (old new : Tree K) (sides : List Bool) (left
   ahead_of_root f g parted same item fit =
       ap (λ (ys : List ℕ). sum_over (under new f) ys) (near_root item fit)
       ∙ sum_over_same (under new f) (under old g) (run old old.used item.seen item.page)
-        (each_run old item.seen (λ x. under new f x ≡ under old g x) (under_same f g parted same) fit.run)
+      (each_run old item.seen (λ x. under new f x ≡ under old g x) (under_same f g parted same) fit.run)
 
   pub ahead_root : (f g : ℕ → ℕ) → f 1 + (f a + f b) ≡ g 1 → ((q : ℕ) → Used old q → q ≢ 1 → f q ≡ g q)
       → (stack : List Item) → Each (ItemFits old) stack → ahead new f stack ≡ ahead old g stack

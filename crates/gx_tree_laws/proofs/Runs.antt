@@ -35,16 +35,16 @@ module _ {K : Type 0} (t : Tree K) (seen : ℕ) where
 
   run_from : (n : ℕ) {p : ℕ} {xs : List ℕ} → Run t seen p xs → 0 < times n xs → (ys : List ℕ) × Run t seen n ys × (length ys ≤ length xs)
   run_from n {p = p} (ends u le) some = elim (cases_eq p n) [
-      | inl same ↦ (p ∷ [], subst (λ q. Run t seen q (p ∷ [])) same (ends u le), omega arith)
-      | inr ne ↦ let none = one_off p n ne in absurd (omega (arith, none, some))
-    ]
+    | inl same ↦ (p ∷ [], subst (λ q. Run t seen q (p ∷ [])) same (ends u le), omega arith)
+    | inr ne ↦ let none = one_off p n ne in absurd (omega (arith, none, some))
+  ]
   run_from n {p = p} (goes {qs = qs} u lt rest) some = elim (cases_eq p n) [
-      | inl same ↦ (p ∷ qs, subst (λ q. Run t seen q (p ∷ qs)) same (goes u lt rest), omega arith)
-      | inr ne ↦
+    | inl same ↦ (p ∷ qs, subst (λ q. Run t seen q (p ∷ qs)) same (goes u lt rest), omega arith)
+    | inr ne ↦
         let none = one_off p n ne in
         let found = run_from n rest (omega (arith, none, some)) in
         (found.0, found.1, (let le = found.2 in omega (arith, le)))
-    ]
+  ]
 
   once_by : (n p : ℕ) (qs : List ℕ) → Run t seen p (p ∷ qs) → p ≡ n → (0 < times n qs → (ys : List ℕ) × Run t seen n ys × (length ys ≤ length qs))
       → (k : ℕ) → times n qs ≡ k → one_if (p == n) + times n qs ≤ 1
@@ -59,13 +59,13 @@ module _ {K : Type 0} (t : Tree K) (seen : ℕ) where
   -- no page is near an item twice
   pub run_once : (n : ℕ) {p : ℕ} {xs : List ℕ} → Run t seen p xs → times n xs ≤ 1
   run_once n {p = p} (ends u le) = elim (cases_eq p n) [
-      | inl same ↦ let one = one_at p n same in omega (arith, one)
-      | inr ne ↦ let none = one_off p n ne in omega (arith, none)
-    ]
+    | inl same ↦ let one = one_at p n same in omega (arith, one)
+    | inr ne ↦ let none = one_off p n ne in omega (arith, none)
+  ]
   run_once n {p = p} (goes {qs = qs} u lt rest) = elim (cases_eq p n) [
-      | inl same ↦ once_by n p qs (goes u lt rest) same (run_from n rest) (times n qs) refl
-      | inr ne ↦ let none = one_off p n ne in let more = run_once n rest in omega (arith, none, more)
-    ]
+    | inl same ↦ once_by n p qs (goes u lt rest) same (run_from n rest) (times n qs) refl
+    | inr ne ↦ let none = one_off p n ne in let more = run_once n rest in omega (arith, none, more)
+  ]
 
   pub each_run : (P : ℕ → Type 0) → ((q : ℕ) → Used t q → P q) → {p : ℕ} {xs : List ℕ} → Run t seen p xs → Each P xs
   each_run P always {p = p} (ends u le) = (always p u, tt)

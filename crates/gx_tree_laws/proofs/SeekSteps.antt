@@ -93,11 +93,13 @@ module _ {K : Type 0} (r : Rules K) (a row : ℕ) (key : K) where
         let rest : Linked t (t.node a).right ys = subst (λ q. Linked t q ys) (ap (λ q. (t.node q).right) (sym l.0)) l.3 in
         let next : walk t t.used (t.node a).right ≡ ys = walk_is t ys (t.node a).right t.used rest (omega (arith, most, long)) in
         let same = ap (λ q. how_many (is_entry r row key) (t.node q).pairs) l.0 in
-        let short = ap (λ (zs : List ℕ). length zs) next in
-        (record {
-          chain = subst (λ zs. Linked t (t.node a).right zs) (sym next) rest;
-          stands = subst (λ zs. 0 < passing (is_entry r row key) t zs) (sym next) (omega (arith, some, same, none));
-        }, omega (arith, short, long))
+        let short = ap (λ (zs : List ℕ). length zs) next in (
+          record {
+            chain = subst (λ zs. Linked t (t.node a).right zs) (sym next) rest;
+            stands = subst (λ zs. 0 < passing (is_entry r row key) t zs) (sym next) (omega (arith, some, same, none));
+          },
+          omega (arith, short, long),
+        )
 
     pub seek_goes_right : IsSeek r t a row key → how_many (is_entry r row key) (t.node a).pairs ≡ 0
         → IsSeek r t (t.node a).right row key × (leaves_left t (t.node a).right < leaves_left t a)

@@ -15,9 +15,9 @@ all_pages f (suc n) = f (suc n) && all_pages f n
 all_pages_at : (f : ℕ → Bool) (n q : ℕ) → all_pages f n ≡ true → 0 < q → q ≤ n → f q ≡ true
 all_pages_at f zero q all low high = absurd (omega arith)
 all_pages_at f (suc n) q all low high = elim (cases_eq q (suc n)) [
-    | inl e ↦ ap f e ∙ (and_parts (f (suc n)) (all_pages f n) all).0
-    | inr ne ↦ all_pages_at f n q (and_parts (f (suc n)) (all_pages f n) all).1 low (omega (arith, high, ne))
-  ]
+  | inl e ↦ ap f e ∙ (and_parts (f (suc n)) (all_pages f n) all).0
+  | inr ne ↦ all_pages_at f n q (and_parts (f (suc n)) (all_pages f n) all).1 low (omega (arith, high, ne))
+]
 
 abbrev all_of : {X : Type 0} → (X → Bool) → List X → Bool
 all_of f [] = true
@@ -104,13 +104,15 @@ module _ {K : Type 0} (r : Rules K) (t : Tree K) where
 
   shape_is : (node : Node K) (z : Bool) → (node.level == 0) ≡ z → (if z then is_empty node.children else is_empty node.pairs && nat_lt 0 (length node.children)) ≡ true
       → (node.level ≡ 0 → node.children ≡ []) × (0 < node.level → (node.pairs ≡ []) × (0 < length node.children))
-  shape_is node true is e =
-      (λ leaf. empty_is node.children e,
-      λ up. (let zero_is = eqb-true node.level 0 is in absurd (omega (arith, up, zero_is))))
+  shape_is node true is e = (
+    λ leaf. empty_is node.children e,
+    λ up. (let zero_is = eqb-true node.level 0 is in absurd (omega (arith, up, zero_is))),
+  )
   shape_is node false is e =
-      let parts = and_parts (is_empty node.pairs) (nat_lt 0 (length node.children)) e in
-      (λ leaf. (let yes_it = ap (λ k. k == 0) leaf in let no_it : ⊥ = (let both : false ≡ true = sym is ∙ yes_it in cc) in absurd no_it),
-      λ up. (empty_is node.pairs parts.0, ltb-true 0 (length node.children) parts.1))
+      let parts = and_parts (is_empty node.pairs) (nat_lt 0 (length node.children)) e in (
+        λ leaf. (let yes_it = ap (λ k. k == 0) leaf in let no_it : ⊥ = (let both : false ≡ true = sym is ∙ yes_it in cc) in absurd no_it),
+        λ up. (empty_is node.pairs parts.0, ltb-true 0 (length node.children) parts.1),
+      )
 
   node_fits : (node : Node K) → node_test node ≡ true → NodeFits r t node
   node_fits node e =
@@ -148,7 +150,7 @@ module _ {K : Type 0} (r : Rules K) (t : Tree K) where
       let all = how_many-flat_map (is_entry r row key) t in
       let rows = sum_over-map (λ x. one_if (x == row)) (λ (x : Pair K). x.row) (flat_map (λ q. (t.node q).pairs) (leaves t)) in
       let le = sum_over_le (λ x. one_if (is_entry r row key x)) (λ x. one_if (x.row == row)) (flat_map (λ q. (t.node q).pairs) (leaves t))
-        (each_always (λ x. one_if (is_entry r row key x) ≤ one_if (x.row == row)) (λ x. both (x.row == row) (r.same x.key key)) (flat_map (λ q. (t.node q).pairs) (leaves t))) in
+      (each_always (λ x. one_if (is_entry r row key x) ≤ one_if (x.row == row)) (λ x. both (x.row == row) (r.same x.key key)) (flat_map (λ q. (t.node q).pairs) (leaves t))) in
       omega (arith, all, rows, le)
     where
       both : (a b : Bool) → one_if (a && b) ≤ one_if a
@@ -159,9 +161,9 @@ module _ {K : Type 0} (r : Rules K) (t : Tree K) where
   pub legal_by_test : legal_test ≡ true → Legal r t
   legal_by_test e =
       let a = and_parts (all_pages (λ p. node_test (t.node p)) t.used) (nat_lt 0 (t.node 1).level && (all_pages parent_test t.used
-        && (linked_test 2 (leaves t) && (all_pages once_test t.used && (distinct rows_of && nat_le (t.counter + 2) t.used))))) e in
+      && (linked_test 2 (leaves t) && (all_pages once_test t.used && (distinct rows_of && nat_le (t.counter + 2) t.used))))) e in
       let b = and_parts (nat_lt 0 (t.node 1).level) (all_pages parent_test t.used
-        && (linked_test 2 (leaves t) && (all_pages once_test t.used && (distinct rows_of && nat_le (t.counter + 2) t.used)))) a.1 in
+      && (linked_test 2 (leaves t) && (all_pages once_test t.used && (distinct rows_of && nat_le (t.counter + 2) t.used)))) a.1 in
       let c = and_parts (all_pages parent_test t.used) (linked_test 2 (leaves t) && (all_pages once_test t.used && (distinct rows_of && nat_le (t.counter + 2) t.used))) b.1 in
       let d = and_parts (linked_test 2 (leaves t)) (all_pages once_test t.used && (distinct rows_of && nat_le (t.counter + 2) t.used)) c.1 in
       let f = and_parts (all_pages once_test t.used) (distinct rows_of && nat_le (t.counter + 2) t.used) d.1 in
@@ -170,10 +172,10 @@ module _ {K : Type 0} (r : Rules K) (t : Tree K) where
         pages = λ p u. node_fits (t.node p) (all_pages_at (λ p. node_test (t.node p)) t.used p a.0 u.0 u.1);
         root = ltb-true 0 (t.node 1).level b.0;
         parent = λ q low high. eqb-true (parents t q) 1
-          (under_if (λ q. ℕ) q 1 (parents t q == 1) (q == 1) refl (all_pages_at parent_test t.used q c.0 (omega (arith, low)) high) (λ is. (omega (arith, is, low))));
+            (under_if (λ q. ℕ) q 1 (parents t q == 1) (q == 1) refl (all_pages_at parent_test t.used q c.0 (omega (arith, low)) high) (λ is. (omega (arith, is, low))));
         chain = linked_are 2 (leaves t) d.0;
         once = λ q u leaf. eqb-true (times q (leaves t)) 1
-          (at_zero (t.node q).level (times q (leaves t) == 1) (all_pages_at once_test t.used q f.0 u.0 u.1) leaf);
+            (at_zero (t.node q).level (times q (leaves t) == 1) (all_pages_at once_test t.used q f.0 u.0 u.1) leaf);
         single = λ row key. (let few = few_rows row key in let one = distinct_once rows_of row g.0 in omega (arith, few, one));
         counter = leb-true (t.counter + 2) t.used g.1;
       }

@@ -51,6 +51,7 @@ held_leads p u = every (held_end.node p).children
     pairs_of : (b : Box) (xs : List (Pair Box)) → Each (λ x. wanted_near_origin x ≡ true → box_covers b x.key ≡ true → near_origin b ≡ true) xs
     pairs_of b [] = tt
     pairs_of b (x ∷ xs) = ((λ wanted covers. leads_by b x.key (not x.marked) wanted covers), pairs_of b xs)
+
     every : (cs : List (Child Box)) → Each (λ c. (q : ℕ) → Used held_end q
         → Each (λ x. wanted_near_origin x ≡ true → box_covers c.key x.key ≡ true → near_origin c.key ≡ true) (held_end.node q).pairs) cs
     every [] = tt

@@ -29,17 +29,17 @@ box_path a b p q s t = λ i. record { x1 = p i; y1 = q i; x2 = s i; y2 = t i }
 pub boxes_lawful : IsLawful boxes
 boxes_lawful = record {
   goes_on = λ a b c ab bc.
-    (let p = corners a b ab in let q = corners b c bc in
-    let p0 = p.0 in let p1 = p.1 in let p2 = p.2 in let p3 = p.3 in let q0 = q.0 in let q1 = q.1 in let q2 = q.2 in let q3 = q.3 in
-    from_corners a c (omega (arith, p0, q0)) (omega (arith, p1, q1)) (omega (arith, p2, q2)) (omega (arith, p3, q3)));
+      (let p = corners a b ab in let q = corners b c bc in
+      let p0 = p.0 in let p1 = p.1 in let p2 = p.2 in let p3 = p.3 in let q0 = q.0 in let q1 = q.1 in let q2 = q.2 in let q3 = q.3 in
+      from_corners a c (omega (arith, p0, q0)) (omega (arith, p1, q1)) (omega (arith, p2, q2)) (omega (arith, p3, q3)));
   exact = λ a b e.
-    (let p = and_parts (a.x1 == b.x1) ((a.y1 == b.y1) && ((a.x2 == b.x2) && (a.y2 == b.y2))) e in
-    let q = and_parts (a.y1 == b.y1) ((a.x2 == b.x2) && (a.y2 == b.y2)) p.1 in
-    let s = and_parts (a.x2 == b.x2) (a.y2 == b.y2) q.1 in
-    box_path a b (eqb-true a.x1 b.x1 p.0) (eqb-true a.y1 b.y1 q.0) (eqb-true a.x2 b.x2 s.0) (eqb-true a.y2 b.y2 s.1));
+      (let p = and_parts (a.x1 == b.x1) ((a.y1 == b.y1) && ((a.x2 == b.x2) && (a.y2 == b.y2))) e in
+      let q = and_parts (a.y1 == b.y1) ((a.x2 == b.x2) && (a.y2 == b.y2)) p.1 in
+      let s = and_parts (a.x2 == b.x2) (a.y2 == b.y2) q.1 in
+      box_path a b (eqb-true a.x1 b.x1 p.0) (eqb-true a.y1 b.y1 q.0) (eqb-true a.x2 b.x2 s.0) (eqb-true a.y2 b.y2 s.1));
   itself = λ a. and_from (a.x1 == a.x1) ((a.y1 == a.y1) && ((a.x2 == a.x2) && (a.y2 == a.y2))) (eq-eqb a.x1 a.x1 refl)
-    (and_from (a.y1 == a.y1) ((a.x2 == a.x2) && (a.y2 == a.y2)) (eq-eqb a.y1 a.y1 refl)
-    (and_from (a.x2 == a.x2) (a.y2 == a.y2) (eq-eqb a.x2 a.x2 refl) (eq-eqb a.y2 a.y2 refl)));
+      (and_from (a.y1 == a.y1) ((a.x2 == a.x2) && (a.y2 == a.y2)) (eq-eqb a.y1 a.y1 refl)
+      (and_from (a.x2 == a.x2) (a.y2 == a.y2) (eq-eqb a.x2 a.x2 refl) (eq-eqb a.y2 a.y2 refl)));
   two = omega arith;
 }
 
@@ -79,8 +79,13 @@ held_third : IsAdding boxes held held3 2 (live 3 (box 100 2 101 3))
 held_third = record {
   leaf = refl;
   room = omega arith;
-  changes = record { there = (omega arith, omega arith); used = refl; counter = refl; changed = refl;
-    others = two_others (inner 1 0 (entry (box 0 0 101 5) 2 ∷ [])) (held.node 2) (held3.node 2); };
+  changes = record {
+    there = (omega arith, omega arith);
+    used = refl;
+    counter = refl;
+    changed = refl;
+    others = two_others (inner 1 0 (entry (box 0 0 101 5) 2 ∷ [])) (held.node 2) (held3.node 2);
+  };
   absent = refl;
   covered = λ p u. two_cover (box 0 0 101 5) (box 100 2 101 3) (held.node 2).pairs refl p;
 }
@@ -89,8 +94,13 @@ held_fourth : IsAdding boxes held3 held4 2 (live 4 (box 100 0 101 1))
 held_fourth = record {
   leaf = refl;
   room = omega arith;
-  changes = record { there = (omega arith, omega arith); used = refl; counter = refl; changed = refl;
-    others = two_others (inner 1 0 (entry (box 0 0 101 5) 2 ∷ [])) (held3.node 2) (held4.node 2); };
+  changes = record {
+    there = (omega arith, omega arith);
+    used = refl;
+    counter = refl;
+    changed = refl;
+    others = two_others (inner 1 0 (entry (box 0 0 101 5) 2 ∷ [])) (held3.node 2) (held4.node 2);
+  };
   absent = refl;
   covered = λ p u. two_cover (box 0 0 101 5) (box 100 0 101 1) (held3.node 2).pairs refl p;
 }
@@ -116,14 +126,14 @@ held_is_split = record {
   left_some = omega arith;
   right_some = omega arith;
   left_union = record {
-    covers = record { pairs = (refl, (refl, tt)); children = tt; };
+    covers = record { pairs = (refl, (refl, tt)); children = tt };
     least = λ b h. (let ps = h.pairs in between b (box 100 4 101 5) (box 100 2 101 3) (box 100 2 101 5) ps.0 ps.1.0
-      (λ p q. p) (λ p q. q) (λ p q. p) (λ p q. p));
+        (λ p q. p) (λ p q. q) (λ p q. p) (λ p q. p));
   };
   right_union = record {
-    covers = record { pairs = (refl, (refl, tt)); children = tt; };
+    covers = record { pairs = (refl, (refl, tt)); children = tt };
     least = λ b h. (let ps = h.pairs in between b (box 0 0 1 1) (box 100 0 101 1) (box 0 0 101 1) ps.0 ps.1.0
-      (λ p q. p) (λ p q. p) (λ p q. q) (λ p q. p));
+        (λ p q. p) (λ p q. p) (λ p q. q) (λ p q. p));
   };
 }
 
@@ -168,14 +178,14 @@ root_is_split = record {
   left_some = omega arith;
   right_some = omega arith;
   left_union = record {
-    covers = record { pairs = tt; children = (refl, (refl, tt)); };
+    covers = record { pairs = tt; children = (refl, (refl, tt)) };
     least = λ b h. (let cs = h.children in between b (box 10 0 21 1) (box 30 0 41 1) (box 10 0 41 1) cs.0 cs.1.0
-      (λ p q. p) (λ p q. p) (λ p q. q) (λ p q. p));
+        (λ p q. p) (λ p q. p) (λ p q. q) (λ p q. p));
   };
   right_union = record {
-    covers = record { pairs = tt; children = (refl, (refl, tt)); };
+    covers = record { pairs = tt; children = (refl, (refl, tt)) };
     least = λ b h. (let cs = h.children in between b (box 50 0 61 1) (box 70 0 81 1) (box 50 0 81 1) cs.0 cs.1.0
-      (λ p q. p) (λ p q. p) (λ p q. q) (λ p q. p));
+        (λ p q. p) (λ p q. p) (λ p q. q) (λ p q. p));
   };
 }
 
@@ -205,11 +215,11 @@ names_root (suc (suc (suc (suc (suc (suc (suc (suc q)))))))) = tt
 root_widens : IsWidening boxes rows_split rows_wider 1 7 (box 90 0 91 1) (box 50 0 91 1)
 root_widens = record {
   inner = omega arith;
-  changes = record { there = (omega arith, omega arith); used = refl; counter = refl; changed = refl; others = wider_others; };
+  changes = record { there = (omega arith, omega arith); used = refl; counter = refl; changed = refl; others = wider_others };
   covers_old = ((λ e. absurd (omega (arith, e))), ((λ e. refl), tt));
   covers_coming = refl;
   least = λ b h to_coming. between b (box 50 0 81 1) (box 90 0 91 1) (box 50 0 91 1) (h.1.0 refl) to_coming
-    (λ p q. p) (λ p q. p) (λ p q. q) (λ p q. p);
+      (λ p q. p) (λ p q. p) (λ p q. q) (λ p q. p);
   covered = λ p u. names_root p;
 }
 
@@ -238,11 +248,11 @@ names_seven (suc (suc (suc (suc (suc (suc (suc (suc q)))))))) = tt
 seven_widens : IsWidening boxes rows_wider rows_widest 7 5 (box 90 0 91 1) (box 70 0 91 1)
 seven_widens = record {
   inner = omega arith;
-  changes = record { there = (omega arith, omega arith); used = refl; counter = refl; changed = refl; others = widest_others; };
+  changes = record { there = (omega arith, omega arith); used = refl; counter = refl; changed = refl; others = widest_others };
   covers_old = ((λ e. absurd (omega (arith, e))), ((λ e. refl), tt));
   covers_coming = refl;
   least = λ b h to_coming. between b (box 70 0 81 1) (box 90 0 91 1) (box 70 0 91 1) (h.1.0 refl) to_coming
-    (λ p q. p) (λ p q. p) (λ p q. q) (λ p q. p);
+      (λ p q. p) (λ p q. p) (λ p q. q) (λ p q. p);
   covered = λ p u. names_seven p;
 }
 
@@ -272,7 +282,7 @@ ninth_added : IsAdding boxes rows_widest nine_rows 5 (in_row 9)
 ninth_added = record {
   leaf = refl;
   room = omega arith;
-  changes = record { there = (omega arith, omega arith); used = refl; counter = refl; changed = refl; others = nine_others; };
+  changes = record { there = (omega arith, omega arith); used = refl; counter = refl; changed = refl; others = nine_others };
   absent = refl;
   covered = λ p u. names_five p;
 }
@@ -288,15 +298,25 @@ held_marked = tree_of (inner 1 0 (entry (box 0 0 101 5) 2 ∷ []) ∷ leaf 0 0 (
 marked_step : IsMarking boxes held held_marked 2 1 (box 100 4 101 5) true
 marked_step = record {
   leaf = refl;
-  changes = record { there = (omega arith, omega arith); used = refl; counter = refl; changed = refl;
-    others = two_others (inner 1 0 (entry (box 0 0 101 5) 2 ∷ [])) (held.node 2) (held_marked.node 2); };
+  changes = record {
+    there = (omega arith, omega arith);
+    used = refl;
+    counter = refl;
+    changed = refl;
+    others = two_others (inner 1 0 (entry (box 0 0 101 5) 2 ∷ [])) (held.node 2) (held_marked.node 2);
+  };
 }
 
 swept_step : IsSweep held_marked swept 2 (λ x. false)
 swept_step = record {
   leaf = refl;
-  changes = record { there = (omega arith, omega arith); used = refl; counter = refl; changed = refl;
-    others = two_others (inner 1 0 (entry (box 0 0 101 5) 2 ∷ [])) (held_marked.node 2) (swept.node 2); };
+  changes = record {
+    there = (omega arith, omega arith);
+    used = refl;
+    counter = refl;
+    changed = refl;
+    others = two_others (inner 1 0 (entry (box 0 0 101 5) 2 ∷ [])) (held_marked.node 2) (swept.node 2);
+  };
 }
 
 pub swept_are_steps : AreSteps boxes held swept_steps swept

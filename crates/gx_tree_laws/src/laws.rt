@@ -1,12 +1,12 @@
 //! What holds of every tree, whatever steps are made.
-ghost use Rattle.std.specs.Prelude.{◌≡◌, ◌≤◌, ◌<◌, ◌+◌, ◌^◌, ◌++◌, ◌∷◌, [], ℕ, suc, Bool, true, not, ◌&&◌, List, flat_map};
+ghost use Rattle.std.specs.Prelude.{◌≡◌, ◌≢◌, ◌≤◌, ◌<◌, ◌+◌, ◌^◌, ◌++◌, ◌∷◌, [], ℕ, suc, Bool, true, not, ◌&&◌, List, flat_map};
 ghost use Rattle.gx_tree_laws.specs.Lists.{one_if, how_many, Each, SomeOf};
-ghost use Rattle.gx_tree_laws.specs.Trees.{Pair, Tree, Rules, IsLawful, Used, child_pages, times, leaves, standing, is_entry, fresh_tree};
+ghost use Rattle.gx_tree_laws.specs.Trees.{Pair, Tree, Rules, IsLawful, Used, size, child_pages, times, leaves, standing, is_entry, fresh_tree};
 ghost use Rattle.gx_tree_laws.specs.Legal.{Legal};
 ghost use Rattle.gx_tree_laws.specs.Steps.{IsSplit, IsRootSplit, IsWidening, IsAdding, IsMarking, IsSweep, Step, IsStep, AreSteps, LeavesAlone};
 ghost use Rattle.gx_tree_laws.specs.Reach.{Item, InReach, pages_ahead};
 ghost use Rattle.gx_tree_laws.specs.Looks.{ItemFits, IsLook, from_root, stacked, found_with, LeadsTo};
-ghost use Rattle.gx_tree_laws.specs.Writes.{IsDescent, IsSeek, leaves_left, is_sweepable, descent_left};
+ghost use Rattle.gx_tree_laws.specs.Writes.{IsDescent, IsSeek, leaves_left, is_sweepable, must_restart, descent_left};
 
 /// A fresh tree is legal, and no pair stands in it.
 pub fn fresh_tree_is_legal<K>()
@@ -162,32 +162,39 @@ pub fn descent_goes_down<K>()
 {}
 
 /// A descent that runs alone ends: each of its steps but the last lowers what it has left, which is below 2^40. It begins
-/// again where its page was split; it goes down, where the child's entry covers the key or is widened for it; at a full
-/// leaf it sweeps what it can; where there is nothing to sweep, and at a full inner node, it splits and begins again. A
-/// split takes a page that isn't taken yet, of the `room` pages of the device.
+/// again where its page was split since, and where it would split its page and the page that it came from no longer names
+/// it or is full; it goes down from a page that isn't full, where the child's entry covers the key or is widened for it;
+/// at a full leaf it sweeps what it can; else it splits and begins again. A split takes a page that isn't taken yet, of the
+/// `room` pages of the device.
 pub fn descent_comes_to_an_end<K>()
-    ensures restarts { (r : Rules K) (room : ℕ) (claimed : Pair K → Bool) (t : Tree K) → Legal r t → (item : Item)
-        → item.seen < (t.node item.page).number
-        → descent_left t room claimed (from_root t) < descent_left t room claimed item }
-    ensures goes_down { (r : Rules K) (room : ℕ) (claimed : Pair K → Bool) (t : Tree K) → Legal r t → (item : Item) (x : ℕ)
-        → Used t item.page → (t.node item.page).number ≤ item.seen → 0 < times x (child_pages (t.node item.page))
-        → descent_left t room claimed (record { page = x; seen = t.counter }) < descent_left t room claimed item }
+    ensures restarts { (r : Rules K) (room : ℕ) (claimed : Pair K → Bool) (t : Tree K) → Legal r t
+        → (parent : ℕ) (item : Item) → must_restart r t parent item ≡ true
+        → descent_left r t room claimed 0 (from_root t) < descent_left r t room claimed parent item }
+    ensures goes_down { (r : Rules K) (room : ℕ) (claimed : Pair K → Bool) (t : Tree K) → Legal r t
+        → (parent : ℕ) (item : Item) (x : ℕ) → Used t item.page → size (t.node item.page) < r.most
+        → 0 < times x (child_pages (t.node item.page))
+        → descent_left r t room claimed item.page (record { page = x; seen = t.counter })
+        < descent_left r t room claimed parent item }
     ensures widens { (r : Rules K) (room : ℕ) (claimed : Pair K → Bool) → IsLawful r → (old new : Tree K) → Legal r old
-        → (item : Item) (x : ℕ) (coming key : K) → IsWidening r old new item.page x coming key
-        → (old.node item.page).number ≤ item.seen → 0 < times x (child_pages (old.node item.page))
-        → descent_left new room claimed (record { page = x; seen = new.counter }) < descent_left old room claimed item }
-    ensures sweeps { (r : Rules K) (room : ℕ) (claimed : Pair K → Bool) (old new : Tree K) → Legal r old → (item : Item)
-        → IsSweep old new item.page claimed → (old.node item.page).number ≤ item.seen
+        → (parent : ℕ) (item : Item) (x : ℕ) (coming key : K) → IsWidening r old new item.page x coming key
+        → size (old.node item.page) < r.most → 0 < times x (child_pages (old.node item.page))
+        → descent_left r new room claimed item.page (record { page = x; seen = new.counter })
+        < descent_left r old room claimed parent item }
+    ensures sweeps { (r : Rules K) (room : ℕ) (claimed : Pair K → Bool) (old new : Tree K) → Legal r old
+        → (parent : ℕ) (item : Item) → IsSweep old new item.page claimed → parent ≢ item.page
         → 0 < how_many (is_sweepable claimed) (old.node item.page).pairs
-        → descent_left new room claimed item < descent_left old room claimed item }
+        → descent_left r new room claimed parent item < descent_left r old room claimed parent item }
     ensures splits { (r : Rules K) (room : ℕ) (claimed : Pair K → Bool) → IsLawful r → (old new : Tree K) → Legal r old
-        → (item : Item) (n p : ℕ) (sides : List Bool) (left right : K) → IsSplit r old new n p sides left right
-        → new.used ≤ room → descent_left new room claimed (from_root new) < descent_left old room claimed item }
-    ensures splits_root { (r : Rules K) (room : ℕ) (claimed : Pair K → Bool) → IsLawful r → (old new : Tree K) → Legal r old
-        → (item : Item) (sides : List Bool) (left right : K) → IsRootSplit r old new sides left right
-        → new.used ≤ room → descent_left new room claimed (from_root new) < descent_left old room claimed item }
-    ensures most { (r : Rules K) (room : ℕ) (claimed : Pair K → Bool) (t : Tree K) → Legal r t → (item : Item)
-        → Used t item.page → t.used ≤ room → room ≤ 65536 → r.most ≤ 100 → descent_left t room claimed item < 2 ^ 40 }
+        → (parent : ℕ) (item : Item) (n p : ℕ) (sides : List Bool) (left right : K)
+        → IsSplit r old new n p sides left right → new.used ≤ room
+        → descent_left r new room claimed 0 (from_root new) < descent_left r old room claimed parent item }
+    ensures splits_root { (r : Rules K) (room : ℕ) (claimed : Pair K → Bool) → IsLawful r → (old new : Tree K)
+        → Legal r old → (parent : ℕ) (item : Item) (sides : List Bool) (left right : K)
+        → IsRootSplit r old new sides left right → new.used ≤ room
+        → descent_left r new room claimed 0 (from_root new) < descent_left r old room claimed parent item }
+    ensures most { (r : Rules K) (room : ℕ) (claimed : Pair K → Bool) (t : Tree K) → Legal r t → (parent : ℕ) (item : Item)
+        → Used t item.page → t.used ≤ room → room ≤ 65536 → r.most ≤ 100
+        → descent_left r t room claimed parent item < 2 ^ 40 }
 {}
 
 /// A seek begins with a leaf in which the pair stands. It is always at a leaf; where the pair isn't there, it goes on with

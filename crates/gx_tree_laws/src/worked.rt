@@ -37,12 +37,10 @@ pub fn worked_search_moves_right()
     ensures second { stacked held_end near_origin (record { page = 2; seen = 0 }) [] ≡ record { page = 4; seen = 0 } ∷ [] }
     ensures fourth { stacked held_end near_origin (record { page = 4; seen = 0 }) [] ≡ record { page = 3; seen = 0 } ∷ [] }
     ensures third { stacked held_end near_origin (record { page = 3; seen = 0 }) [] ≡ [] }
-    ensures found {
-        found_with held_end wanted_near_origin (record { page = 3; seen = 0 })
+    ensures found { found_with held_end wanted_near_origin (record { page = 3; seen = 0 })
         (found_with held_end wanted_near_origin (record { page = 4; seen = 0 })
         (found_with held_end wanted_near_origin (record { page = 2; seen = 0 }) []))
-        ≡ live 2 (box 0 0 1 1) ∷ []
-    }
+        ≡ live 2 (box 0 0 1 1) ∷ [] }
     ensures looks { IsLook held_end wanted_near_origin (record { page = 2; seen = 0 } ∷ []) [] }
     ensures leads { LeadsTo boxes held_end wanted_near_origin near_origin }
 {}
@@ -50,14 +48,10 @@ pub fn worked_search_moves_right()
 /// A search that begins once a leaf is split remembers both halves with the counter as it is now, and doesn't move right
 /// from the first: it reads each half once.
 pub fn worked_search_reads_each_leaf_once()
-    ensures children {
-        stacked held_split (λ b. true) (from_root held_split) []
-        ≡ record { page = 2; seen = 1 } ∷ record { page = 3; seen = 1 } ∷ []
-    }
-    ensures first {
-        stacked held_split (λ b. true) (record { page = 2; seen = 1 }) (record { page = 3; seen = 1 } ∷ [])
-        ≡ record { page = 3; seen = 1 } ∷ []
-    }
+    ensures children { stacked held_split (λ b. true) (from_root held_split) []
+        ≡ record { page = 2; seen = 1 } ∷ record { page = 3; seen = 1 } ∷ [] }
+    ensures first { stacked held_split (λ b. true) (record { page = 2; seen = 1 }) (record { page = 3; seen = 1 } ∷ [])
+        ≡ record { page = 3; seen = 1 } ∷ [] }
 {}
 
 /// A page named twice, a leaf off the chain, and a bound that is too small: none of these trees is legal.
