@@ -1,0 +1,116 @@
+-- There are fewer levels than pages, and few pairs.
+use Rattle.std.proofs.Common.{◌≡◌, ℕ, zero, suc, ◌+◌, ◌-◌, ◌*◌, ◌<◌, ◌≤◌, Bool, true, false, inl, inr, List, [], ◌∷◌, length, refl, ap, arith}
+use Rattle.std.specs.Prelude.{◌==◌}
+use Rattle.std.proofs.lemmas.Bool.{cases_eq, cases_lt}
+use Rattle.gx_tree_laws.specs.Lists.{one_if, how_many, Each, total}
+use Rattle.gx_tree_laws.specs.Trees.{Pair, Child, Tree, Rules, Used, child_pages, times, standing}
+use Rattle.gx_tree_laws.specs.Legal.{ChildFits, Legal}
+use Rattle.gx_tree_laws.proofs.Sums.{total_le, total_one, total_none}
+use Rattle.gx_tree_laws.proofs.Chains.{one_at, one_off, some_child}
+use Rattle.gx_tree_laws.proofs.Whole.{total_swap, chain_is}
+
+ones : (n : ℕ) → total (λ q. 1) n ≡ n
+ones zero = refl
+ones (suc n) = let rest = ones n in omega (arith, rest)
+
+constant : (c n : ℕ) → total (λ q. c) n ≡ n * c
+constant c zero = omega arith
+constant c (suc n) = let rest = constant c n in omega (arith, rest)
+
+at_most_one : (l n : ℕ) → total (λ k. one_if (l == k)) n ≤ 1
+at_most_one l zero = omega arith
+at_most_one l (suc n) = elim (cases_eq l (suc n)) [
+  | inl e ↦
+      let one = one_at l (suc n) e in
+      let none = total_none (λ k. one_if (l == k)) n (λ k low high. one_off l k (λ z. (omega (arith, z, e, high)))) in
+      omega (arith, one, none)
+  | inr ne ↦ let none = one_off l (suc n) ne in let rest = at_most_one l n in omega (arith, none, rest)
+]
+
+some_total : (f : ℕ → ℕ) (n : ℕ) → 0 < total f n → (p : ℕ) × (0 < p) × (p ≤ n) × (0 < f p)
+some_total f zero some = absurd (omega arith)
+some_total f (suc n) some = elim (cases_lt 0 (f (suc n))) [
+  | inl on ↦ (suc n, omega arith, omega arith, on)
+  | inr off ↦ let rest = some_total f n (omega (arith, some, off)) in (rest.0, rest.1, (let h = rest.2 in omega (arith, h)), rest.3)
+]
+
+first_child : {K : Type 0} (P : Child K → Type 0) (cs : List (Child K)) → 0 < length cs → Each P cs → (c : Child K) × P c
+first_child P [] some e = absurd (omega arith)
+first_child P (c ∷ cs) some e = (c, e.0)
+
+module _ {K : Type 0} (r : Rules K) (t : Tree K) (legal : Legal r t) where
+  -- a page of each level up to that of a page that is taken
+  page_of_level : (top : ℕ) → Used t top → (d k : ℕ) → k + d ≡ (t.node top).level → (q : ℕ) × Used t q × ((t.node q).level ≡ k)
+  page_of_level top taken zero k e = (top, taken, omega (arith, e))
+  page_of_level top taken (suc d) k e =
+      let above = page_of_level top taken d (suc k) (omega (arith, e)) in
+      let u = above.1 in
+      let fit = legal.pages above.0 u in
+      let level = above.2 in
+      let child = first_child (ChildFits r t (t.node above.0).level) (t.node above.0).children (fit.inner (omega (arith, level))).1 fit.children in
+      let f = child.1 in
+      let low = f.low in
+      ((child.0).page, (omega (arith, low), f.used), (let l = f.level in omega (arith, l, level)))
+
+  pub level_below_used : (top : ℕ) → Used t top → (t.node top).level < t.used
+  level_below_used top taken =
+      let above : ℕ = suc (t.node top).level in
+      let each : total (λ k. 1) above ≤ total (λ k. total (λ q. one_if (suc (t.node q).level == k)) t.used) above =
+      total_le (λ k. 1) (λ k. total (λ q. one_if (suc (t.node q).level == k)) t.used) above (λ k low high. some_page k low high) in
+      let swap : total (λ k. total (λ q. one_if (suc (t.node q).level == k)) t.used) above ≡ total (λ q. total (λ k. one_if (suc (t.node q).level == k)) above) t.used =
+      total_swap (λ k q. one_if (suc (t.node q).level == k)) above t.used in
+      let most : total (λ q. total (λ k. one_if (suc (t.node q).level == k)) above) t.used ≤ total (λ q. 1) t.used =
+      total_le (λ q. total (λ k. one_if (suc (t.node q).level == k)) above) (λ q. 1) t.used (λ q low high. at_most_one (suc (t.node q).level) above) in
+      let count : total (λ k. 1) above ≡ above = ones above in
+      let pages : total (λ q. 1) t.used ≡ t.used = ones t.used in
+      omega (arith, each, swap, most, count, pages)
+    where
+      some_page : (k : ℕ) → 0 < k → k ≤ suc (t.node top).level → 1 ≤ total (λ q. one_if (suc (t.node q).level == k)) t.used
+      some_page zero low high = absurd (omega arith)
+      some_page (suc k) low high = gap_by k ((t.node top).level - k) (omega (arith, high))
+        where
+          gap_by : (k d : ℕ) → k + d ≡ (t.node top).level → 1 ≤ total (λ q. one_if (suc (t.node q).level == suc k)) t.used
+          gap_by k d e =
+              let page = page_of_level top taken d k e in
+              let u = page.1 in
+              let one = one_at (suc (t.node page.0).level) (suc k) (ap (λ l. suc l) page.2) in
+              let le = total_one (λ q. one_if (suc (t.node q).level == suc k)) t.used page.0 u.0 u.1 in
+              omega (arith, one, le)
+
+  -- no page stands above the root
+  below_root : (d q : ℕ) → Used t q → t.used ≤ (t.node q).level + d → (t.node q).level ≤ (t.node 1).level
+  below_root zero q u far = let below = level_below_used q u in absurd (omega (arith, below, far))
+  below_root (suc d) q u far = elim (cases_eq q 1) [
+    | inl e ↦ let same = ap (λ x. (t.node x).level) e in omega (arith, same)
+    | inr ne ↦
+        let low = u.0 in
+        let one = legal.parent q (omega (arith, low, ne)) u.1 in
+        let up = some_total (λ p. times q (child_pages (t.node p))) t.used (omega (arith, one)) in
+        let taken : Used t up.0 = (up.1, up.2) in
+        let pick = some_child (ChildFits r t (t.node up.0).level) q (t.node up.0).children up.3 (legal.pages up.0 taken).children in
+        let f = pick.1 in let e = pick.2 in
+        let level = f.level in
+        let same = ap (λ x. (t.node x).level) e in
+        let rest = below_root d up.0 taken (omega (arith, level, same, far)) in
+        omega (arith, rest, level, same)
+  ]
+
+  pub level_most : (q : ℕ) → Used t q → (t.node q).level ≤ (t.node 1).level
+  level_most q u = below_root t.used q u (omega arith)
+
+  few : (test : Pair K → Bool) (xs : List (Pair K)) → how_many test xs ≤ length xs
+  few test [] = omega arith
+  few test (x ∷ xs) = let rest = few test xs in let one = at_most (test x) in omega (arith, rest, one)
+    where
+      at_most : (b : Bool) → one_if b ≤ 1
+      at_most true = omega arith
+      at_most false = omega arith
+
+  pub standing_most : (test : Pair K → Bool) → standing test t ≤ t.used * r.most
+  standing_most test =
+      let all = chain_is r t legal (λ q. how_many test (t.node q).pairs) (λ q u up. ap (λ (xs : List (Pair K)). how_many test xs) ((legal.pages q u).inner up).0) in
+      let each : total (λ q. how_many test (t.node q).pairs) t.used ≤ total (λ q. r.most) t.used =
+      total_le (λ q. how_many test (t.node q).pairs) (λ q. r.most) t.used
+      (λ q low high. (let le = few test (t.node q).pairs in let room = (legal.pages q (low, high)).room in omega (arith, le, room))) in
+      let count = constant r.most t.used in
+      omega (arith, all, each, count)
