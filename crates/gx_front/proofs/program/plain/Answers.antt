@@ -22,6 +22,6 @@ ran had left held holds old new fresh done =
       one_run = script_run 1 (asked from_fresh.input) fresh_index new from_fresh.text plain from_fresh.ran;
     }
 
-pub returns-in-Ok-run_plain : goal.returns-in-Ok-run_plain
-returns-in-Ok-run_plain g c =
+pub returns-in-Ok-run_plain-clause-ends : goal.returns-in-Ok-run_plain-clause-ends
+returns-in-Ok-run_plain-clause-ends g c =
     inr (inl (ran _ _ _ _ c.in-Ok.index c.run_plain.new.index c.in-Ok.ensures c.in-Ok-run_plain.ensures.done))
