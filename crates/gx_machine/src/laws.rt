@@ -1,6 +1,6 @@
 //! What holds of every run of the set machine.
-ghost use Rattle.std.specs.Prelude.{◌≡◌, ◌≢◌, ◌≤◌, ◌<◌, ◌+◌, ◌&&◌, ◌||◌, ℕ, true, false, not, List, ◌++◌, length};
-ghost use Rattle.gx_machine.specs.declared.limits.TheConstants.{SESSIONS};
+ghost use Rattle.std.specs.Prelude.{◌≡◌, ◌≢◌, ◌≤◌, ◌<◌, ◌+◌, ◌^◌, ◌&&◌, ◌||◌, ℕ, true, false, not, List, ◌++◌, length};
+ghost use Rattle.gx_machine.specs.declared.limits.TheConstants.{SESSIONS, MAX_CLAIMS, MAX_PREDICATES, LAST_NUMBER};
 ghost use Rattle.gx_geom.specs.declared.refusal.Refusal.{Refusal};
 ghost use Rattle.gx_geom.specs.declared.refusal.Refusal.TheVariants.{Busy};
 ghost use Rattle.gx_machine.specs.declared.call.Call.{Call};
@@ -25,6 +25,15 @@ use gx_geom::Shape;
 /// The order of every key type is total, and only what is the same compares as equal: what the laws assume of keys.
 pub fn keys_are_lawful<B: Shape>()
     ensures { IsLawful (keys_of B.Shape) }
+{}
+
+/// The limits, in numbers: eight sessions, 512 claims in all, 16 predicates a session, and no transaction begins from
+/// number 2^64 - 9 on.
+pub fn limits()
+    ensures sessions { SESSIONS ≡ 8 }
+    ensures claims { MAX_CLAIMS ≡ 512 }
+    ensures predicates { MAX_PREDICATES ≡ 16 }
+    ensures numbers { LAST_NUMBER + 9 ≡ 2 ^ 64 }
 {}
 
 /// A refused ask changes nothing.
