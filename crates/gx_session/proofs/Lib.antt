@@ -1,4 +1,5 @@
 pub mod Filters
 pub mod Halves
+pub mod Merging
 pub mod SetLemmas
 pub mod TakenAway

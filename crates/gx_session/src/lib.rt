@@ -2,6 +2,7 @@
 #![tactic(auto)]
 
 mod held;
+mod merge;
 mod sets;
 mod slot;
 mod views;

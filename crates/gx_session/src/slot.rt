@@ -34,6 +34,7 @@ pub struct Slot<B: Shape> {
 impl<B: Shape> Model for Slot<B> {
     ghost use Rattle.std.specs.Prelude.{◌≤◌, vec_capacity};
     ghost use Rattle.gx_machine.specs.Keys.{keys};
+    ghost use Rattle.gx_machine.specs.Sets.{InOrder};
     ghost use Rattle.gx_machine.specs.Sessions.{Session};
 
     ghost Value = { Session B };
@@ -45,7 +46,8 @@ impl<B: Shape> Model for Slot<B> {
         (record { added = s.added.items; taken = s.taken.items }) };
 
     ghost invariant = { λ s. IsRoomy (vec_capacity s.claims) (vec_capacity s.predicates) (vec_capacity s.taken)
-        × TakesClaimed (keys B.cmp B.overlap B.inside) s.phase s.claims.items s.taken.items };
+        × TakesClaimed (keys B.cmp B.overlap B.inside) s.phase s.claims.items s.taken.items
+        × InOrder (keys B.cmp B.overlap B.inside) s.added.items };
 }
 
 fn refused<B>(why: Refusal) -> Asked<B>

@@ -3,7 +3,7 @@ ghost use Rattle.std.specs.Prelude.{◌≡◌, ◌+◌, ◌<◌, ◌≤◌, leng
 ghost use Rattle.gx_machine.specs.Keys.{keys_of, matches};
 ghost use Rattle.gx_machine.specs.Sets.{has, including_all, excluding_all, found, InOrder};
 
-use crate::{held, sets};
+use crate::{held, merge, sets};
 use gx_geom::Shape;
 use gx_machine::{Entry, Query};
 use std::alloc::{AllocError, Global};
@@ -61,9 +61,10 @@ pub fn search<B: Shape>(
     Ok(out)
 }
 
-/// Makes the set the view, for which there is room. What was taken away is in order too.
+/// Makes the set the view, for which there is room. What was added and taken away is in order too.
 pub fn take_over<B: Shape>(latest: &mut Vec<Entry<B>>, added: &[Entry<B>], taken: &[Entry<B>])
     requires in_order { InOrder (keys_of B.Shape) latest.old.items }
+    requires added { InOrder (keys_of B.Shape) added.now }
     requires taken { InOrder (keys_of B.Shape) taken.now }
     requires room { vec_len latest.old + length added.now ≤ vec_capacity latest.old }
     ensures view { latest.new.items ≡ including_all (keys_of B.Shape) added.now (excluding_all (keys_of B.Shape) taken.now latest.old.items) }
@@ -72,5 +73,5 @@ pub fn take_over<B: Shape>(latest: &mut Vec<Entry<B>>, added: &[Entry<B>], taken
     ensures grown { vec_len latest.new ≤ vec_len latest.old + length added.now }
 {
     sets::exclude_all(taken, latest);
-    sets::include_all(added, latest);
+    merge::merge(added, latest);
 }

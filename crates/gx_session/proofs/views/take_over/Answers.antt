@@ -10,5 +10,12 @@ returns-clause-in_order g c =
     let k = keys g.B.Ord.cmp g.B.Shape.overlap g.B.Shape.inside in
     let lawful : IsLawful k = record { total = g.met.B.Ord.total; exact = g.met.B.Shape.same } in
     let P : List (Entry g.row.B.Denot) → Type 0 = λ s. InOrder k s in
-    subst P (sym c.include_all.ensures.items) (in_order_including_all k lawful c.args.added.now c.exclude_all.new.set.items
+    subst P (sym c.merge.ensures.items) (in_order_including_all k lawful c.args.added.now c.exclude_all.new.set.items
     (subst P (sym c.exclude_all.ensures.items) (in_order_filter k lawful (λ x. not (has k x c.args.taken.now)) c.args.latest.now.items c.requires.in_order)))
+
+pub merge-requires-clause-in_order : goal.merge-requires-clause-in_order
+merge-requires-clause-in_order g c =
+    let k = keys g.B.Ord.cmp g.B.Shape.overlap g.B.Shape.inside in
+    let lawful : IsLawful k = record { total = g.met.B.Ord.total; exact = g.met.B.Shape.same } in
+    let P : List (Entry g.row.B.Denot) → Type 0 = λ s. InOrder k s in
+    subst P (sym c.exclude_all.ensures.items) (in_order_filter k lawful (λ x. not (has k x c.args.taken.now)) c.args.latest.now.items c.requires.in_order)
