@@ -160,10 +160,8 @@ __attribute__((noinline)) static size_t c_write_write(uint64_t tx, uint64_t row,
 }
 
 static bool all_zero(const uint8_t *bytes, size_t count) {
-    for (size_t i = 0; i < count; i++)
-        if (bytes[i] != 0)
-            return false;
-    return true;
+    static const uint8_t zeros[4096];
+    return memcmp(bytes, zeros, count) == 0;
 }
 
 // The number of the page whose image the bytes are, or -1.

@@ -24,10 +24,15 @@ pub(crate) fn u32_at(bytes: &[u8], at: usize) -> u32
     u32::from_be_bytes(*bytes[at..at + 4].first_chunk::<4>().unwrap())
 }
 
+/// Goes over all bytes without a branch, so that many are tested at once.
 fn all_zero(bytes: &[u8]) -> bool
     ensures { result ≡ every_zero bytes.now }
 {
-    bytes.iter().all(|byte| *byte == 0)
+    let mut bits = 0;
+    for byte in bytes {
+        bits |= *byte;
+    }
+    bits == 0
 }
 
 #[tactic(auto, unfolding(crate::specs::Faults::is_reserved_zero))]
