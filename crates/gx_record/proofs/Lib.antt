@@ -1,0 +1,5 @@
+pub mod ByKind
+pub mod Fields
+pub mod Numbers
+pub mod Whole
+pub mod Writes

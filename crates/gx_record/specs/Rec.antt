@@ -1,0 +1,11 @@
+-- What a record of the log says, without where its bytes lie.
+use Rattle.std.specs.Prelude.{ℕ, Bool, List}
+
+-- A mark is true where the entry is marked. A page is its number and its image.
+pub data Rec : Type 0 where
+  Pages : (counter used : ℕ) (pages : List (ℕ × List ℕ)) → Rec
+  Write : (tx row : ℕ) (key : List ℕ) (before after : Bool) (leaf : ℕ) (image : List ℕ) → Rec
+  Commit : (tx n : ℕ) → Rec
+  End : (tx : ℕ) → Rec
+  Counters : (n counter used next : ℕ) → Rec
+  Note : (tx row : ℕ) (key : List ℕ) (before : Bool) (leaf : ℕ) → Rec

@@ -1,0 +1,184 @@
+//! Writing a record's spelling, field by field. Each function that writes answers the place behind what it wrote.
+ghost use Rattle.std.specs.Prelude.{◌≡◌, ◌+◌, ◌≤◌, ◌++◌, ◌∷◌, ◌*◌, [], length};
+ghost use Rattle.std.specs.List.{AllByRecursion};
+ghost use Rattle.gx_record.specs.Bytes.{u64_bytes, u32_bytes, mark_byte};
+ghost use Rattle.gx_record.specs.Format.{entry_bytes, pages_bytes, spelling};
+ghost use Rattle.gx_record.specs.Seen.{is_marked, images, rec_of};
+ghost use Rattle.gx_record.specs.Writing.{Wrote, size_of, IsWhole, HasWholeImages};
+
+use crate::mark::Mark;
+use crate::pages::{PageImage, PageImages};
+use crate::record::Record;
+use crate::tags::{COMMIT, COUNTERS, END, NOTE, PAGES, WRITE};
+use gx_page::PAGE_SIZE;
+
+/// How many bytes the spelling has.
+pub(crate) fn length_of(logged: &Record<'_>) -> usize
+    requires { HasWholeImages (rec_of logged.now) }
+    ensures { result ≡ size_of (rec_of logged.now) }
+{
+    match logged {
+        Record::Pages { pages, .. } => 14 + (4 + PAGE_SIZE) * pages.count(),
+        Record::Write { key, .. } => 23 + key.len() + PAGE_SIZE,
+        Record::Commit { .. } => 17,
+        Record::End { .. } => 9,
+        Record::Counters { .. } => 29,
+        Record::Note { key, .. } => 22 + key.len(),
+    }
+}
+
+/// Writes bytes from a place on.
+fn put(out: &mut [u8], at: usize, bytes: &[u8]) -> usize
+    requires { at + length bytes.now ≤ length out.old }
+    ensures wrote { Wrote out.old out.new at bytes.now result }
+    ensures behind { result ≡ at + length bytes.now }
+{
+    let end = at + bytes.len();
+    out[at..end].copy_from_slice(bytes);
+    end
+}
+
+#[tactic(auto, unfolding(crate::specs::Bytes::u64_bytes))]
+fn put_u64(out: &mut [u8], at: usize, number: u64) -> usize
+    requires { at + 8 ≤ length out.old }
+    ensures wrote { Wrote out.old out.new at (u64_bytes number) result }
+    ensures behind { result ≡ at + 8 }
+{
+    put(out, at, &number.to_be_bytes())
+}
+
+#[tactic(auto, unfolding(crate::specs::Bytes::u32_bytes))]
+fn put_u32(out: &mut [u8], at: usize, number: u32) -> usize
+    requires { at + 4 ≤ length out.old }
+    ensures wrote { Wrote out.old out.new at (u32_bytes number) result }
+    ensures behind { result ≡ at + 4 }
+{
+    put(out, at, &number.to_be_bytes())
+}
+
+fn put_mark(out: &mut [u8], at: usize, mark: Mark) -> usize
+    requires { at + 1 ≤ length out.old }
+    ensures wrote { Wrote out.old out.new at (mark_byte (is_marked mark) ∷ []) result }
+    ensures behind { result ≡ at + 1 }
+{
+    match mark {
+        Mark::Live => put(out, at, &[0]),
+        Mark::Marked => put(out, at, &[1]),
+    }
+}
+
+/// Writes whose write of which entry it is.
+fn put_entry(out: &mut [u8], at: usize, tx: u64, row: u64, key: &[u8]) -> usize
+    requires { at + (16 + length key.now) ≤ length out.old }
+    ensures wrote { Wrote out.old out.new at (entry_bytes tx row key.now) result }
+    ensures behind { result ≡ at + (16 + length key.now) }
+{
+    let at = put_u64(out, at, tx);
+    let at = put_u64(out, at, row);
+    put(out, at, key)
+}
+
+/// Writes a page's number and its image.
+fn put_page(out: &mut [u8], at: usize, page: u32, image: &[u8]) -> usize
+    requires room { at + 4100 ≤ length out.old }
+    requires whole { length image.now ≡ PAGE_SIZE }
+    ensures wrote { Wrote out.old out.new at (u32_bytes page ++ image.now) result }
+    ensures behind { result ≡ at + 4100 }
+{
+    let at = put_u32(out, at, page);
+    put(out, at, image)
+}
+
+/// Writes pages behind their count.
+fn put_pages(out: &mut [u8], at: usize, pages: &PageImages<'_>) -> usize
+    requires room { at + (1 + 4100 * length (images pages.now)) ≤ length out.old }
+    requires whole { AllByRecursion IsWhole (images pages.now) }
+    ensures wrote { Wrote out.old out.new at (length (images pages.now) ∷ pages_bytes (images pages.now)) result }
+    ensures behind { result ≡ at + (1 + 4100 * length (images pages.now)) }
+{
+    match *pages {
+        PageImages::One(first) => {
+            let at = put(out, at, &[1]);
+            put_page(out, at, first.page, first.image)
+        }
+        PageImages::Two(first, second) => {
+            let at = put(out, at, &[2]);
+            let at = put_page(out, at, first.page, first.image);
+            put_page(out, at, second.page, second.image)
+        }
+        PageImages::Three(first, second, third) => {
+            let at = put(out, at, &[3]);
+            let at = put_page(out, at, first.page, first.image);
+            let at = put_page(out, at, second.page, second.image);
+            put_page(out, at, third.page, third.image)
+        }
+    }
+}
+
+/// Writes the spelling at the front.
+pub(crate) fn write(logged: &Record<'_>, out: &mut [u8]) -> usize
+    requires whole { HasWholeImages (rec_of logged.now) }
+    requires room { size_of (rec_of logged.now) ≤ length out.old }
+    ensures { Wrote out.old out.new 0 (spelling (rec_of logged.now)) result }
+{
+    match *logged {
+        Record::Pages {
+            counter,
+            used,
+            pages,
+        } => {
+            let at = put(out, 0, &[PAGES]);
+            let at = put_u64(out, at, counter);
+            let at = put_u32(out, at, used);
+            put_pages(out, at, &pages)
+        }
+        Record::Write {
+            tx,
+            row,
+            key,
+            before,
+            after,
+            leaf,
+            image,
+        } => {
+            let at = put(out, 0, &[WRITE]);
+            let at = put_entry(out, at, tx, row, key);
+            let at = put_mark(out, at, before);
+            let at = put_mark(out, at, after);
+            put_page(out, at, leaf, image)
+        }
+        Record::Commit { tx, n } => {
+            let at = put(out, 0, &[COMMIT]);
+            let at = put_u64(out, at, tx);
+            put_u64(out, at, n)
+        }
+        Record::End { tx } => {
+            let at = put(out, 0, &[END]);
+            put_u64(out, at, tx)
+        }
+        Record::Counters {
+            n,
+            counter,
+            used,
+            next,
+        } => {
+            let at = put(out, 0, &[COUNTERS]);
+            let at = put_u64(out, at, n);
+            let at = put_u64(out, at, counter);
+            let at = put_u32(out, at, used);
+            put_u64(out, at, next)
+        }
+        Record::Note {
+            tx,
+            row,
+            key,
+            before,
+            leaf,
+        } => {
+            let at = put(out, 0, &[NOTE]);
+            let at = put_entry(out, at, tx, row, key);
+            let at = put_mark(out, at, before);
+            put_u32(out, at, leaf)
+        }
+    }
+}
