@@ -1,0 +1,8 @@
+//! The gated log: batches of records on a device, each counted once its gate is open.
+#![tactic(auto)]
+
+mod extent;
+mod filling;
+
+pub use extent::{BODY_SIZE, Extent, PLACES, read_extent, selected};
+pub use filling::{Appended, Glog};
