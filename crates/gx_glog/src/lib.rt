@@ -3,6 +3,8 @@
 
 mod extent;
 mod filling;
+#[cfg(test)]
+mod tests;
 
 pub use extent::{BODY_SIZE, Extent, PLACES, read_extent, selected};
 pub use filling::{Appended, Glog};
