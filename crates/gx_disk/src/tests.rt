@@ -8,19 +8,24 @@ const B: [u8; 512] = [0xb2; 512];
 
 const C: [u8; 512] = [0xc3; 512];
 
-// The first byte of each of the first four sectors.
+// A sector's first byte.
+fn first_of<D: SectorDisk>(disk: &mut D, s: u64) -> u8 {
+    if s >= disk.sectors() {
+        return 0;
+    }
+    let mut sector = [0; 512];
+    match disk.read(s, &mut sector) {
+        Ok(()) => sector[0],
+        Err(_) => 0,
+    }
+}
+
+// The first bytes of the first four sectors.
 fn firsts<D: SectorDisk + Drop>(mut disk: D) -> [u8; 4] {
-    let mut found = [0; 4];
-    if disk.sectors() < 4 {
-        return found;
-    }
-    for s in 0..4 {
-        let mut sector = [0; 512];
-        if disk.read(s as u64, &mut sector).is_ok() {
-            found[s] = sector[0];
-        }
-    }
-    found
+    let zero = first_of(&mut disk, 0);
+    let one = first_of(&mut disk, 1);
+    let two = first_of(&mut disk, 2);
+    [zero, one, two, first_of(&mut disk, 3)]
 }
 
 // Sector 1 is A since the last sync, then sectors 1 to 3 were written, sector 2 twice.

@@ -1,0 +1,159 @@
+//! Reading an extent of the log.
+ghost use Rattle.std.specs.Prelude.{◌≡◌, ◌+◌, ◌≤◌, ◌<◌, ℕ, true, false, length, OnOk, IfOk, IfErr, slice_index};
+ghost use Rattle.gx_disk.specs.Device.{Counts};
+ghost use Rattle.gx_disk.specs.Sectors.{span_of};
+ghost use Rattle.gx_glog.specs.Layout.{gates_of, bodies_of, selected_of, is_open, body_of, size_in};
+ghost use Rattle.gx_glog.specs.Reading.{ReadsBody, CountsReads};
+ghost use Rattle.gx_glog.specs.Looks.{Looks};
+
+use gx_disk::{SECTOR_SIZE, SectorDisk};
+use gx_geom::Refusal;
+
+/// How many bytes a body has.
+pub const BODY_SIZE: usize = 32768;
+
+/// How many batches an extent has places for.
+pub const PLACES: u8 = 32;
+
+const SELECTOR: u64 = 2;
+
+const SELECTS_B: u8 = 0x5A;
+
+const OPEN: u8 = 0xA7;
+
+/// One of the log's two halves: 32 gates and 32 bodies.
+#[derive(Clone, Copy, Debug, PartialEq, Eq)]
+pub enum Extent {
+    A,
+    B,
+}
+
+// The first byte of a sector.
+fn first_byte<D: SectorDisk>(disk: &mut D, sector: u64) -> Result<u8, Refusal>
+    requires { sector < (D.state disk.old).sectors }
+    ensures counts { Counts 0 (D.state disk.old) (D.state disk.new) result }
+    ensures byte { (D.state disk.old).honest ≡ true → IfOk result (λ byte. byte ≡ slice_index (span_of (D.state disk.old).seen sector 512) 0) }
+    ensures looks { (D.state disk.old).honest ≡ true → Looks (D.state disk.old) (D.state disk.new) }
+    ensures refusal { IfErr result (λ refusal. refusal ≡ Refusal.Device) }
+{
+    let mut bytes = [0; SECTOR_SIZE];
+    match disk.read(sector, &mut bytes) {
+        Ok(()) => Ok(bytes[0]),
+        Err(_) => Err(Refusal::Device),
+    }
+}
+
+#[tactic(auto, unfolding(crate::specs::Layout::selected_of))]
+/// The extent that the device selects. Refused where the read fails.
+pub fn selected<D: SectorDisk>(disk: &mut D) -> Result<Extent, Refusal>
+    requires { 4168 ≤ (D.state disk.old).sectors }
+    ensures counts { Counts 0 (D.state disk.old) (D.state disk.new) result }
+    ensures extent { (D.state disk.old).honest ≡ true → IfOk result (λ extent. extent ≡ selected_of (D.state disk.old).seen) }
+    ensures looks { (D.state disk.old).honest ≡ true → Looks (D.state disk.old) (D.state disk.new) }
+    ensures refusal { IfErr result (λ refusal. refusal ≡ Refusal.Device) }
+{
+    match first_byte(disk, SELECTOR) {
+        Ok(byte) => Ok(if byte == SELECTS_B {
+            Extent::B
+        } else {
+            Extent::A
+        }),
+        Err(refusal) => Err(refusal),
+    }
+}
+
+impl Extent {
+    /// The sector of its first gate.
+    fn gates(self) -> u64
+        ensures { result ≡ gates_of self }
+    {
+        match self {
+            Extent::A => 8,
+            Extent::B => 2088,
+        }
+    }
+
+    /// The first sector of its first body.
+    fn bodies(self) -> u64
+        ensures { result ≡ bodies_of self }
+    {
+        match self {
+            Extent::A => 40,
+            Extent::B => 2120,
+        }
+    }
+}
+
+// How many bytes of records a body says it has.
+#[tactic(auto, unfolding(crate::specs::Layout::size_in))]
+fn size_of_records(body: &[u8]) -> u32
+    requires { 4 ≤ length body.now }
+    ensures { result ≡ size_in body.now }
+{
+    u32::from_be_bytes([body[0], body[1], body[2], body[3]])
+}
+
+// Whether a gate is open.
+#[tactic(auto, unfolding(crate::specs::Layout::is_open))]
+fn is_open_gate<D: SectorDisk>(disk: &mut D, extent: Extent, i: u8) -> Result<bool, Refusal>
+    requires place { i < 32 }
+    requires device { 4168 ≤ (D.state disk.old).sectors }
+    ensures counts { Counts 0 (D.state disk.old) (D.state disk.new) result }
+    ensures state { (D.state disk.old).honest ≡ true → IfOk result (λ is. is ≡ is_open (D.state disk.old).seen extent i) }
+    ensures looks { (D.state disk.old).honest ≡ true → Looks (D.state disk.old) (D.state disk.new) }
+    ensures refusal { IfErr result (λ refusal. refusal ≡ Refusal.Device) }
+{
+    match first_byte(disk, extent.gates() + u64::from(i)) {
+        Ok(byte) => Ok(byte == OPEN),
+        Err(refusal) => Err(refusal),
+    }
+}
+
+// Reads a body.
+#[tactic(auto, unfolding(crate::specs::Layout::body_of))]
+fn read_body<D: SectorDisk>(
+    disk: &mut D,
+    extent: Extent,
+    i: u8,
+    body: &mut [u8],
+) -> Result<(), Refusal>
+    requires place { i < 32 }
+    requires room { length body.old ≡ BODY_SIZE }
+    requires device { 4168 ≤ (D.state disk.old).sectors }
+    ensures counts { Counts 0 (D.state disk.old) (D.state disk.new) result }
+    ensures body { (D.state disk.old).honest ≡ true → OnOk result (body.new ≡ body_of (D.state disk.old).seen extent i) }
+    ensures looks { (D.state disk.old).honest ≡ true → Looks (D.state disk.old) (D.state disk.new) }
+    ensures refusal { IfErr result (λ refusal. refusal ≡ Refusal.Device) }
+{
+    match disk.read(extent.bodies() + 64 * u64::from(i), body) {
+        Ok(()) => Ok(()),
+        Err(_) => Err(Refusal::Device),
+    }
+}
+
+/// Reads the body of place i of an extent, and answers how many bytes of records it has, from 1 to 32,764.
+/// None where the gate is closed. Refused where a read fails (`Device`), and where the number is out of range (`Damaged`).
+#[tactic(auto, using(crate::proofs::Looking::looks_joined))]
+pub fn read_extent<D: SectorDisk>(
+    disk: &mut D,
+    extent: Extent,
+    i: u8,
+    body: &mut [u8],
+) -> Result<Option<usize>, Refusal>
+    requires place { i < 32 }
+    requires room { length body.old ≡ BODY_SIZE }
+    requires device { 4168 ≤ (D.state disk.old).sectors }
+    ensures counts { CountsReads (D.state disk.old) (D.state disk.new) result }
+    ensures body { (D.state disk.old).honest ≡ true → ReadsBody (D.state disk.old).seen extent i body.new result }
+    ensures looks { (D.state disk.old).honest ≡ true → Looks (D.state disk.old) (D.state disk.new) }
+{
+    if !is_open_gate(disk, extent, i)? {
+        return Ok(None);
+    }
+    read_body(disk, extent, i, body)?;
+    let size = size_of_records(body) as usize;
+    if size == 0 || size > BODY_SIZE - 4 {
+        return Err(Refusal::Damaged);
+    }
+    Ok(Some(size))
+}

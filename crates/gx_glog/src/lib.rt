@@ -1,0 +1,10 @@
+//! The gated log: batches of records on a device, each counted once its gate is open.
+#![tactic(auto)]
+
+mod extent;
+mod filling;
+#[cfg(test)]
+mod tests;
+
+pub use extent::{BODY_SIZE, Extent, PLACES, read_extent, selected};
+pub use filling::{Appended, Glog};
