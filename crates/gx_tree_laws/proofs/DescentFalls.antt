@@ -171,3 +171,31 @@ module _ {K : Type 0} (r : Rules K) (room : ℕ) (claimed : Pair K → Bool) whe
       let one = one_page room old.used (omega (arith, used, fits)) in
       let two = one_page room (suc old.used) (omega (arith, used, fits)) in
       omega (arith, stands, top, few, free, one, two, used, fits)
+
+  -- a split by others takes a page, which counts for more than all levels
+  pub others_split_falls : IsLawful r → (old new : Tree K) → Legal r old → (parent : ℕ) (item : Item) → Used old item.page → (n p : ℕ) (sides : List Bool) (left right : K)
+      → IsSplit r old new n p sides left right → new.used ≤ room
+      → descent_left r new room claimed parent item < descent_left r old room claimed parent item
+  others_split_falls law old new legal parent item u n p sides left right step fits =
+      let used = step.used in
+      let now = legal_split r law old new n p sides left right legal step in
+      let stands = standing_split r law old new n p sides left right legal step (is_sweepable claimed) in
+      let taken : Used new item.page = (u.0, (let h = u.1 in omega (arith, h, used))) in
+      let levels = levels_most new now parent item taken in
+      let free : (room - new.used) * (room + 1) ≡ (room - suc old.used) * (room + 1) = ap (λ k. (room - k) * (room + 1)) used in
+      let one = one_page room old.used (omega (arith, used, fits)) in
+      omega (arith, stands, levels, free, one, fits)
+
+  pub others_root_split_falls : IsLawful r → (old new : Tree K) → Legal r old → (parent : ℕ) (item : Item) → Used old item.page → (sides : List Bool) (left right : K)
+      → IsRootSplit r old new sides left right → new.used ≤ room
+      → descent_left r new room claimed parent item < descent_left r old room claimed parent item
+  others_root_split_falls law old new legal parent item u sides left right step fits =
+      let used = step.used in
+      let now = legal_root r old new sides left right legal step law.two in
+      let stands = standing_root r old new sides left right legal step (is_sweepable claimed) in
+      let taken : Used new item.page = (u.0, (let h = u.1 in omega (arith, h, used))) in
+      let levels = levels_most new now parent item taken in
+      let free : (room - new.used) * (room + 1) ≡ (room - suc (suc old.used)) * (room + 1) = ap (λ k. (room - k) * (room + 1)) used in
+      let one = one_page room old.used (omega (arith, used, fits)) in
+      let two = one_page room (suc old.used) (omega (arith, used, fits)) in
+      omega (arith, stands, levels, free, one, two, fits)

@@ -1,5 +1,5 @@
 -- There are fewer levels than pages, and few pairs.
-use Rattle.std.proofs.Common.{◌≡◌, ℕ, zero, suc, ◌+◌, ◌-◌, ◌*◌, ◌<◌, ◌≤◌, Bool, true, false, inl, inr, List, [], ◌∷◌, length, refl, ap, arith}
+use Rattle.std.proofs.Common.{subst, ◌≢◌, ◌≡◌, ℕ, zero, suc, ◌+◌, ◌-◌, ◌*◌, ◌<◌, ◌≤◌, Bool, true, false, inl, inr, List, [], ◌∷◌, length, refl, ap, arith}
 use Rattle.std.specs.Prelude.{◌==◌}
 use Rattle.std.proofs.lemmas.Bool.{cases_eq, cases_lt}
 use Rattle.gx_tree_laws.specs.Lists.{one_if, how_many, Each, total}
@@ -77,22 +77,29 @@ module _ {K : Type 0} (r : Rules K) (t : Tree K) (legal : Legal r t) where
               let le = total_one (λ q. one_if (suc (t.node q).level == suc k)) t.used page.0 u.0 u.1 in
               omega (arith, one, le)
 
+  -- each page but the root has a parent, one level above it
+  pub parent_of : (q : ℕ) → Used t q → q ≢ 1 → (p : ℕ) × Used t p × (suc (t.node q).level ≡ (t.node p).level)
+  parent_of q u ne =
+      let low = u.0 in
+      let one = legal.parent q (omega (arith, low, ne)) u.1 in
+      let up = some_total (λ p. times q (child_pages (t.node p))) t.used (omega (arith, one)) in
+      (up.0, (up.1, up.2), level_above q up.0 (up.1, up.2) up.3)
+    where
+      level_above : (q p : ℕ) → Used t p → 0 < times q (child_pages (t.node p)) → suc (t.node q).level ≡ (t.node p).level
+      level_above q p taken named =
+          let pick = some_child (ChildFits r t (t.node p).level) q (t.node p).children named (legal.pages p taken).children in
+          subst (λ x. suc (t.node x).level ≡ (t.node p).level) pick.2 (pick.1).level
+
   -- no page stands above the root
   below_root : (d q : ℕ) → Used t q → t.used ≤ (t.node q).level + d → (t.node q).level ≤ (t.node 1).level
   below_root zero q u far = let below = level_below_used q u in absurd (omega (arith, below, far))
   below_root (suc d) q u far = elim (cases_eq q 1) [
     | inl e ↦ let same = ap (λ x. (t.node x).level) e in omega (arith, same)
     | inr ne ↦
-        let low = u.0 in
-        let one = legal.parent q (omega (arith, low, ne)) u.1 in
-        let up = some_total (λ p. times q (child_pages (t.node p))) t.used (omega (arith, one)) in
-        let taken : Used t up.0 = (up.1, up.2) in
-        let pick = some_child (ChildFits r t (t.node up.0).level) q (t.node up.0).children up.3 (legal.pages up.0 taken).children in
-        let f = pick.1 in let e = pick.2 in
-        let level = f.level in
-        let same = ap (λ x. (t.node x).level) e in
-        let rest = below_root d up.0 taken (omega (arith, level, same, far)) in
-        omega (arith, rest, level, same)
+        let up = parent_of q u ne in
+        let above = up.2 in
+        let rest = below_root d up.0 up.1 (omega (arith, above, far)) in
+        omega (arith, rest, above)
   ]
 
   pub level_most : (q : ℕ) → Used t q → (t.node q).level ≤ (t.node 1).level

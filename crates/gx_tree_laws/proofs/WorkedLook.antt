@@ -1,12 +1,13 @@
 -- The search that was held is still a look once others have split its page.
-use Rattle.std.proofs.Common.{◌≡◌, ℕ, zero, suc, ◌+◌, ◌≤◌, Bool, true, not, ◌&&◌, List, [], ◌∷◌, arith}
+use Rattle.std.proofs.Common.{refl, ◌≡◌, ℕ, zero, suc, ◌+◌, ◌≤◌, Bool, true, not, ◌&&◌, List, [], ◌∷◌, arith}
 use Rattle.std.specs.Prelude.{◌==◌, nat_le}
 use Rattle.std.proofs.lemmas.Bool.{and_parts, and_from, leb-true, le-leb}
 use Rattle.gx_tree_laws.specs.Lists.{one_if, Each}
 use Rattle.gx_tree_laws.specs.Trees.{Pair, Child, Used}
 use Rattle.gx_tree_laws.specs.Reach.{ends, goes}
 use Rattle.gx_tree_laws.specs.Looks.{ItemFits, IsLook, LeadsTo}
-use Rattle.gx_tree_laws.specs.Worked.{Box, box_covers, boxes, held_end, near_origin, wanted_near_origin}
+use Rattle.gx_tree_laws.specs.Writes.{IsSeek}
+use Rattle.gx_tree_laws.specs.Worked.{Box, box, box_covers, boxes, held_end, near_origin, wanted_near_origin}
 use Rattle.gx_tree_laws.proofs.Chains.{one_off}
 use Rattle.gx_tree_laws.proofs.WorkedSteps.{corners}
 
@@ -56,3 +57,10 @@ held_leads p u = every (held_end.node p).children
         → Each (λ x. wanted_near_origin x ≡ true → box_covers c.key x.key ≡ true → near_origin c.key ≡ true) (held_end.node q).pairs) cs
     every [] = tt
     every (c ∷ cs) = ((λ q taken. pairs_of c.key (held_end.node q).pairs), every cs)
+
+pub held_seek : IsSeek boxes held_end 2 2 (box 0 0 1 1)
+held_seek = record {
+  chain =
+      (refl, (omega arith, omega arith), refl, (refl, (omega arith, omega arith), refl, (refl, (omega arith, omega arith), refl, refl)));
+  stands = omega arith;
+}

@@ -10,15 +10,19 @@ pub record Box : Type 0 where
   pub x2 : ℕ
   pub y2 : ℕ
 
+-- a box of these corners
 abbrev pub box : (x1 y1 x2 y2 : ℕ) → Box
 box x1 y1 x2 y2 = record { x1 = x1; y1 = y1; x2 = x2; y2 = y2 }
 
+-- whether the second lies in the first
 abbrev pub box_covers : Box → Box → Bool
 box_covers a b = nat_le a.x1 b.x1 && (nat_le a.y1 b.y1 && (nat_le b.x2 a.x2 && nat_le b.y2 a.y2))
 
+-- whether the two are the same
 abbrev pub box_same : Box → Box → Bool
 box_same a b = (a.x1 == b.x1) && ((a.y1 == b.y1) && ((a.x2 == b.x2) && (a.y2 == b.y2)))
 
+-- boxes as keys
 abbrev pub boxes : Rules Box
 boxes = record { covers = box_covers; same = box_same; most = 4 }
 
@@ -37,18 +41,22 @@ node_at (node ∷ nodes) (suc (suc p)) = node_at nodes (suc p)
 abbrev pub tree_of : {K : Type 0} → List (Node K) → ℕ → Tree K
 tree_of nodes counter = record { node = node_at nodes; used = length nodes; counter = counter }
 
+-- a leaf: its number, its rightlink, its pairs
 abbrev pub leaf : {K : Type 0} → ℕ → ℕ → List (Pair K) → Node K
 leaf number right pairs = record { level = 0; number = number; right = right; pairs = pairs; children = [] }
 
+-- an inner node that was never split: its level, its rightlink, its entries
 abbrev pub inner : {K : Type 0} → ℕ → ℕ → List (Child K) → Node K
 inner level right children = record { level = level; number = 0; right = right; pairs = []; children = children }
 
+-- a pair without a mark, and one with it
 abbrev pub live : ℕ → Box → Pair Box
 live row key = record { row = row; key = key; marked = false }
 
 abbrev pub dead : ℕ → Box → Pair Box
 dead row key = record { row = row; key = key; marked = true }
 
+-- an entry of an inner node
 abbrev pub entry : Box → ℕ → Child Box
 entry key page = record { key = key; page = page }
 
@@ -85,6 +93,7 @@ wanted_near_origin x = not x.marked && near_origin x.key
 
 -- Nine boxes in a row, as the root, full, is split for the ninth.
 
+-- the i-th box of the row
 abbrev pub in_row : ℕ → Pair Box
 in_row i = live i (box (10 * i) 0 (10 * i + 1) 1)
 

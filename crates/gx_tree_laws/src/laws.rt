@@ -192,6 +192,15 @@ pub fn descent_comes_to_an_end<K>()
         → Legal r old → (parent : ℕ) (item : Item) (sides : List Bool) (left right : K)
         → IsRootSplit r old new sides left right → new.used ≤ room
         → descent_left r new room claimed 0 (from_root new) < descent_left r old room claimed parent item }
+    // a split by others lowers it too: the page that it takes counts for more than all levels
+    ensures others_split { (r : Rules K) (room : ℕ) (claimed : Pair K → Bool) → IsLawful r → (old new : Tree K) → Legal r old
+        → (parent : ℕ) (item : Item) → Used old item.page → (n p : ℕ) (sides : List Bool) (left right : K)
+        → IsSplit r old new n p sides left right → new.used ≤ room
+        → descent_left r new room claimed parent item < descent_left r old room claimed parent item }
+    ensures others_split_root { (r : Rules K) (room : ℕ) (claimed : Pair K → Bool) → IsLawful r → (old new : Tree K)
+        → Legal r old → (parent : ℕ) (item : Item) → Used old item.page → (sides : List Bool) (left right : K)
+        → IsRootSplit r old new sides left right → new.used ≤ room
+        → descent_left r new room claimed parent item < descent_left r old room claimed parent item }
     ensures most { (r : Rules K) (room : ℕ) (claimed : Pair K → Bool) (t : Tree K) → Legal r t → (parent : ℕ) (item : Item)
         → Used t item.page → t.used ≤ room → room ≤ 65536 → r.most ≤ 100
         → descent_left r t room claimed parent item < 2 ^ 40 }

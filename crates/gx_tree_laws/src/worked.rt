@@ -1,11 +1,12 @@
 //! The laws at work on trees that were worked out by hand, so that none holds for want of a case: each kind of step is
 //! taken on one of them, and trees that aren't legal are told from those that are.
-ghost use Rattle.std.specs.Prelude.{◌≡◌, ◌∷◌, [], true};
+ghost use Rattle.std.specs.Prelude.{◌≡◌, ◌∷◌, [], true, false};
 ghost use Rattle.gx_tree_laws.specs.Trees.{IsLawful, leaves};
 ghost use Rattle.gx_tree_laws.specs.Legal.{Legal};
 ghost use Rattle.gx_tree_laws.specs.Steps.{AreSteps};
 ghost use Rattle.gx_tree_laws.specs.Reach.{Item, run};
 ghost use Rattle.gx_tree_laws.specs.Looks.{IsLook, from_root, stacked, found_with, LeadsTo};
+ghost use Rattle.gx_tree_laws.specs.Writes.{IsSeek, leaves_left, must_restart, descent_left};
 ghost use Rattle.gx_tree_laws.specs.Worked.{Box, box, boxes, live, held, held_split, held_steps, held_end, eight_rows, nine_rows, nine_steps, swept, swept_steps, near_origin, wanted_near_origin, named_twice, off_the_chain, bound_too_small};
 
 /// Boxes keep the laws of keys.
@@ -52,6 +53,23 @@ pub fn worked_search_reads_each_leaf_once()
         ≡ record { page = 2; seen = 1 } ∷ record { page = 3; seen = 1 } ∷ [] }
     ensures first { stacked held_split (λ b. true) (record { page = 2; seen = 1 }) (record { page = 3; seen = 1 } ∷ [])
         ≡ record { page = 3; seen = 1 } ∷ [] }
+{}
+
+/// A descent that came to page 2 before it was split begins again, one that came after it doesn't; nor does one whose
+/// parent names the page and has room.
+pub fn worked_descent_begins_again()
+    ensures before { must_restart boxes held_split 1 (record { page = 2; seen = 0 }) ≡ true }
+    ensures later { must_restart boxes held_split 1 (record { page = 2; seen = 1 }) ≡ false }
+    ensures no_parent { must_restart boxes held_split 3 (record { page = 2; seen = 1 }) ≡ true }
+    ensures left { descent_left boxes held_split 16 (λ x. false) 1 (record { page = 2; seen = 1 }) ≡ 221 }
+    ensures left_before { descent_left boxes held_split 16 (λ x. false) 1 (record { page = 2; seen = 0 }) ≡ 223 }
+{}
+
+/// The box at the origin is sought from page 2, where it was, and stands two leaves to the right.
+pub fn worked_seek_goes_right()
+    ensures seek { IsSeek boxes held_end 2 2 (box 0 0 1 1) }
+    ensures leaves { leaves_left held_end 2 ≡ 3 }
+    ensures last { leaves_left held_end 3 ≡ 1 }
 {}
 
 /// A page named twice, a leaf off the chain, and a bound that is too small: none of these trees is legal.

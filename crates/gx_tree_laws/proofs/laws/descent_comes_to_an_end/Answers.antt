@@ -1,4 +1,4 @@
-use Rattle.gx_tree_laws.proofs.DescentFalls.{restart_falls, down_falls, widened_falls, swept_falls, split_falls, root_split_falls, left_most}
+use Rattle.gx_tree_laws.proofs.DescentFalls.{restart_falls, down_falls, widened_falls, swept_falls, split_falls, root_split_falls, others_split_falls, others_root_split_falls, left_most}
 use Rattle.gx_tree_laws.proofs.laws.descent_comes_to_an_end.Goals as goal
 
 pub returns-clause-restarts : goal.returns-clause-restarts
@@ -21,3 +21,11 @@ returns-clause-splits_root g c = λ r room claimed law old new legal parent item
 
 pub returns-clause-most : goal.returns-clause-most
 returns-clause-most g c = λ r room claimed t legal parent item u fits small few. left_most r room claimed t legal parent item u fits small few
+
+pub returns-clause-others_split : goal.returns-clause-others_split
+returns-clause-others_split g c =
+    λ r room claimed law old new legal parent item u n p sides left right step fits. others_split_falls r room claimed law old new legal parent item u n p sides left right step fits
+
+pub returns-clause-others_split_root : goal.returns-clause-others_split_root
+returns-clause-others_split_root g c =
+    λ r room claimed law old new legal parent item u sides left right step fits. others_root_split_falls r room claimed law old new legal parent item u sides left right step fits
