@@ -7,6 +7,7 @@ use Rattle.gx_recovery.specs.Records.{Record}
 use Rattle.gx_recovery.specs.Analysis.{number_of}
 use Rattle.gx_recovery.specs.Redo.{redone, tree_of}
 use Rattle.gx_recovery.specs.Standing.{set_of, stands_for}
+use Rattle.gx_recovery.specs.Damage.{IsLog}
 use Rattle.gx_recovery.specs.Coming.{IsGood, MayComeAll}
 use Rattle.gx_recovery.specs.Logged.{Logged, all_records, durable, latest, kept, IsHealthy, IsLeft, StandsForKept}
 use Rattle.gx_recovery.specs.Renewal.{renewed, renewed_over, found}

@@ -12,7 +12,7 @@ use Rattle.gx_recovery.specs.Standing.{set_of, stands_for}
 use Rattle.gx_recovery.specs.Damage.{follows, IsLog}
 use Rattle.gx_recovery.specs.Coming.{IsExact, IsGood, MayCome, MayComeAll}
 use Rattle.gx_recovery.specs.Logged.{AgreesBeside}
-use Rattle.gx_recovery.proofs.Tests.{true_or_false}
+use Rattle.gx_recovery.proofs.Tests.{true_or_false, or_none_first, or_none_second}
 use Rattle.gx_recovery.proofs.Folds.{analysis-snoc, redone-append}
 use Rattle.gx_recovery.proofs.Fair.{IsFair}
 use Rattle.gx_recovery.proofs.Logs.{fair_follows, told_log, log_goes_on}
@@ -24,7 +24,7 @@ one_more a b h = omega arith
 through : (a b c : ℕ) → a ≤ b → b ≤ c → a ≤ c
 through a b c p q = omega arith
 
-module _ {E P : Type 0} where
+module _ {P : Type 0} where
   -- pages with one page written over agree where they did, and on that page
   over : (page p : ℕ) (content : P) (old new : ℕ → P) → ((page == p) ≡ false → new p ≡ old p) → with_page page content new p ≡ with_page page content old p
   over page p content old new h =
@@ -40,6 +40,13 @@ module _ {E P : Type 0} where
       over_images images p (with_page i.page i.content old) (with_page i.page i.content new)
       (λ rest. over i.page p i.content old new (λ other. h (ap (λ b. b || list_any (λ j. j.page == p) images) other ∙ rest)))
 
+  images_apart : (images : List (Image P)) (p : ℕ) (area : ℕ → P) → list_any (λ i. i.page == p) images ≡ false → with_images images area p ≡ area p
+  images_apart [] p area h = refl
+  images_apart (i ∷ images) p area h =
+      images_apart images p (with_page i.page i.content area) (or_none_second (i.page == p) (list_any (λ j. j.page == p) images) h)
+      ∙ ap (λ b. if b then i.content else area p) (or_none_first (i.page == p) (list_any (λ j. j.page == p) images) h)
+
+module _ {E P : Type 0} where
   over_record : (r : Record E P) (p : ℕ) (old new : ℕ → P) → (gives p r ≡ false → new p ≡ old p) → redo new r p ≡ redo old r p
   over_record (Pages images counter used) p old new h = over_images images p old new h
   over_record (Write transaction entry mark after leaf content) p old new h = over leaf p content old new h
@@ -53,12 +60,6 @@ module _ {E P : Type 0} where
   over_records (r ∷ rs) p old new h =
       over_records rs p (redo old r) (redo new r)
       (λ rest. over_record r p old new (λ other. h (ap (λ b. b || list_any (gives p) rs) other ∙ rest)))
-
-  images_apart : (images : List (Image P)) (p : ℕ) (area : ℕ → P) → list_any (λ i. i.page == p) images ≡ false → with_images images area p ≡ area p
-  images_apart [] p area h = refl
-  images_apart (i ∷ images) p area h =
-      images_apart images p (with_page i.page i.content area) (or_none_second (i.page == p) (list_any (λ j. j.page == p) images) h)
-      ∙ ap (λ b. if b then i.content else area p) (or_none_first (i.page == p) (list_any (λ j. j.page == p) images) h)
 
   record_apart : (r : Record E P) (p : ℕ) (area : ℕ → P) → gives p r ≡ false → redo area r p ≡ area p
   record_apart (Pages images counter used) p area h = images_apart images p area h
