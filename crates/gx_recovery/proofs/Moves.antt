@@ -7,10 +7,11 @@ use Rattle.gx_recovery.specs.Records.{Record}
 use Rattle.gx_recovery.specs.Analysis.{number_of}
 use Rattle.gx_recovery.specs.Redo.{redone, tree_of}
 use Rattle.gx_recovery.specs.Standing.{set_of, stands_for}
+use Rattle.gx_recovery.specs.Damage.{IsLog}
 use Rattle.gx_recovery.specs.Coming.{IsGood, MayComeAll}
 use Rattle.gx_recovery.specs.Logged.{Logged, all_records, durable, latest, kept, IsHealthy, IsLeft, StandsForKept}
-use Rattle.gx_recovery.specs.Renewal.{renewed, renewed_over}
-use Rattle.gx_recovery.specs.Life.{Kept, Move, Stays, Durable, Seals, Crashes, IsMove, AreSame, IsOneLeft, kept_of, AllWritten, LogStep, Appends, Begins, Syncs, WritesPages, Renews, Restarts, IsLogStep, move_of, moves_of, IsLife, AreMoves}
+use Rattle.gx_recovery.specs.Renewal.{renewed, renewed_over, found}
+use Rattle.gx_recovery.specs.Life.{Kept, Move, Stays, Durable, Seals, Crashes, IsMove, AreSame, IsOneLeft, kept_of, AllWritten, LogStep, Appends, Begins, Syncs, WritesPages, Renews, LosesPower, Restarts, IsLogStep, move_of, moves_of, IsLife, AreMoves}
 use Rattle.gx_recovery.proofs.Renewals.{same_number, renewed_is_log, renewed_good, renewed_healthy, renewed_latest, renewed_set, stands_alike}
 use Rattle.gx_recovery.proofs.States.{stands_as}
 use Rattle.gx_recovery.proofs.Lives.{begun_healthy, begun_stays, written_healthy, written_stays, appended_healthy, appended_moves, synced_healthy, synced_moves, left_stands}
@@ -23,6 +24,17 @@ one_above a b h = omega arith
 
 one_below : (a b c : ℕ) → b ≡ a → a ≤ c → b ≤ c
 one_below a b c h g = omega arith
+
+module _ {E P : Type 0} (k : Known E P) (area : ℕ → P) (log : List (Record E P)) where
+  -- a log as it is found, over a good tree, has the one set that it stands for
+  pub found_as_state : IsLog k log → IsGood k (tree_of k area log) log → IsHealthy k (found area log)
+  found_as_state is good = record { gated = is; good = good; coming = tt }
+
+  pub found_latest : latest k (found area log) ≡ number_of k log
+  found_latest = ap (number_of k) (append-nil log)
+
+  pub found_set : IsLawful k → IsLog k log → (e : E) → kept k (found area log) (number_of k log) e ≡ stands_for k area log e
+  found_set l is e = ap (λ x. set_of k (number_of k log) area x e) (append-nil log) ∙ sym (stands_as k l area log is e)
 
 module _ {E P : Type 0} (k : Known E P) (l : IsLawful k) where
   module _ (s : Logged E P) (h : IsHealthy k s) (no_flight : s.flight ≡ []) (no_filling : s.filling ≡ []) (written : AllWritten s) where
@@ -69,6 +81,21 @@ module _ {E P : Type 0} (k : Known E P) (l : IsLawful k) where
     stood : StandsForKept k s area log
     stood = left_stands k l s h area log left
 
+    pub found_healthy : IsHealthy k (found area log)
+    found_healthy = record { gated = stood.is_log; good = stood.good; coming = tt }
+
+    pub found_leaves : IsOneLeft (kept_of k s) (kept_of k (found area log))
+    found_leaves =
+        let last : latest k (found area log) ≡ number_of k log = ap (number_of k) (append-nil log) in
+        record {
+          one = sym last;
+          at_least = stood.at_least;
+          at_most = subst (λ n. n ≤ latest k s) (sym last) stood.at_most;
+          set = λ e.
+              ap (λ n. kept k (found area log) n e) last ∙ ap (λ x. set_of k (number_of k log) area x e) (append-nil log)
+              ∙ sym (stands_as k l area log stood.is_log e) ∙ stood.same_set e ∙ ap (λ n. kept k s n e) (sym last);
+        }
+
     pub restarted_healthy : IsHealthy k (renewed_over k area log)
     restarted_healthy = renewed_healthy k l area log stood.is_log stood.good
 
@@ -91,6 +118,7 @@ module _ {E P : Type 0} (k : Known E P) (l : IsLawful k) where
   step_healthy old new Syncs h is = subst (IsHealthy k) (sym is) (synced_healthy k l old h)
   step_healthy old new (WritesPages area) h is = subst (IsHealthy k) (sym is.1) (written_healthy k old h l area is.0)
   step_healthy old new Renews h is = subst (IsHealthy k) (sym is.3) (checkpoint_healthy old h is.0 is.1 is.2)
+  step_healthy old new (LosesPower area log) h is = subst (IsHealthy k) (sym is.1) (found_healthy old h area log is.0)
   step_healthy old new (Restarts area log) h is = subst (IsHealthy k) (sym is.1) (restarted_healthy old h area log is.0)
 
   -- each step is a move of the kept sets
@@ -101,6 +129,7 @@ module _ {E P : Type 0} (k : Known E P) (l : IsLawful k) where
   step_moves old new Syncs h is = subst (λ x. IsMove (kept_of k old) Durable (kept_of k x)) (sym is) (synced_moves k l old h)
   step_moves old new (WritesPages area) h is = subst (λ x. IsMove (kept_of k old) Stays (kept_of k x)) (sym is.1) (written_stays k old h l area is.0)
   step_moves old new Renews h is = subst (λ x. IsMove (kept_of k old) Stays (kept_of k x)) (sym is.3) (checkpoint_stays old h is.0 is.1 is.2)
+  step_moves old new (LosesPower area log) h is = subst (λ x. IsMove (kept_of k old) Crashes (kept_of k x)) (sym is.1) (found_leaves old h area log is.0)
   step_moves old new (Restarts area log) h is = subst (λ x. IsMove (kept_of k old) Crashes (kept_of k x)) (sym is.1) (restarted_leaves old h area log is.0)
 
   pub life_healthy : (steps : List (LogStep E P)) (old new : Logged E P) → IsHealthy k old → IsLife k old steps new → IsHealthy k new

@@ -12,7 +12,7 @@ use Rattle.gx_recovery.specs.Standing.{set_of, stands_for}
 use Rattle.gx_recovery.specs.Damage.{follows, IsLog}
 use Rattle.gx_recovery.specs.Coming.{IsExact, IsGood, MayCome, MayComeAll}
 use Rattle.gx_recovery.specs.Logged.{AgreesBeside}
-use Rattle.gx_recovery.proofs.Tests.{true_or_false}
+use Rattle.gx_recovery.proofs.Tests.{true_or_false, or_none_first, or_none_second}
 use Rattle.gx_recovery.proofs.Folds.{analysis-snoc, redone-append}
 use Rattle.gx_recovery.proofs.Fair.{IsFair}
 use Rattle.gx_recovery.proofs.Logs.{fair_follows, told_log, log_goes_on}
@@ -23,6 +23,64 @@ one_more a b h = omega arith
 
 through : (a b c : ℕ) → a ≤ b → b ≤ c → a ≤ c
 through a b c p q = omega arith
+
+module _ {P : Type 0} where
+  -- pages with one page written over agree where they did, and on that page
+  over : (page p : ℕ) (content : P) (old new : ℕ → P) → ((page == p) ≡ false → new p ≡ old p) → with_page page content new p ≡ with_page page content old p
+  over page p content old new h =
+      elim (true_or_false (page == p)) [
+        | inl is ↦ ap (λ b. if b then content else new p) is ∙ sym (ap (λ b. if b then content else old p) is)
+        | inr other ↦ ap (λ b. if b then content else new p) other ∙ h other ∙ sym (ap (λ b. if b then content else old p) other)
+      ]
+
+  over_images : (images : List (Image P)) (p : ℕ) (old new : ℕ → P) → (list_any (λ i. i.page == p) images ≡ false → new p ≡ old p)
+      → with_images images new p ≡ with_images images old p
+  over_images [] p old new h = h refl
+  over_images (i ∷ images) p old new h =
+      over_images images p (with_page i.page i.content old) (with_page i.page i.content new)
+      (λ rest. over i.page p i.content old new (λ other. h (ap (λ b. b || list_any (λ j. j.page == p) images) other ∙ rest)))
+
+  images_apart : (images : List (Image P)) (p : ℕ) (area : ℕ → P) → list_any (λ i. i.page == p) images ≡ false → with_images images area p ≡ area p
+  images_apart [] p area h = refl
+  images_apart (i ∷ images) p area h =
+      images_apart images p (with_page i.page i.content area) (or_none_second (i.page == p) (list_any (λ j. j.page == p) images) h)
+      ∙ ap (λ b. if b then i.content else area p) (or_none_first (i.page == p) (list_any (λ j. j.page == p) images) h)
+
+module _ {E P : Type 0} where
+  over_record : (r : Record E P) (p : ℕ) (old new : ℕ → P) → (gives p r ≡ false → new p ≡ old p) → redo new r p ≡ redo old r p
+  over_record (Pages images counter used) p old new h = over_images images p old new h
+  over_record (Write transaction entry mark after leaf content) p old new h = over leaf p content old new h
+  over_record (Commit transaction number) p old new h = h refl
+  over_record (End transaction) p old new h = h refl
+  over_record (Counters number counter used next) p old new h = h refl
+  over_record (Note transaction entry mark leaf) p old new h = h refl
+
+  over_records : (rs : List (Record E P)) (p : ℕ) (old new : ℕ → P) → (list_any (gives p) rs ≡ false → new p ≡ old p) → redone new rs p ≡ redone old rs p
+  over_records [] p old new h = h refl
+  over_records (r ∷ rs) p old new h =
+      over_records rs p (redo old r) (redo new r)
+      (λ rest. over_record r p old new (λ other. h (ap (λ b. b || list_any (gives p) rs) other ∙ rest)))
+
+  record_apart : (r : Record E P) (p : ℕ) (area : ℕ → P) → gives p r ≡ false → redo area r p ≡ area p
+  record_apart (Pages images counter used) p area h = images_apart images p area h
+  record_apart (Write transaction entry mark after leaf content) p area h = ap (λ b. if b then content else area p) h
+  record_apart (Commit transaction number) p area h = refl
+  record_apart (End transaction) p area h = refl
+  record_apart (Counters number counter used next) p area h = refl
+  record_apart (Note transaction entry mark leaf) p area h = refl
+
+  -- a page that no record gives is as it was
+  pub redone_apart : (rs : List (Record E P)) (p : ℕ) (area : ℕ → P) → list_any (gives p) rs ≡ false → redone area rs p ≡ area p
+  redone_apart [] p area h = refl
+  redone_apart (r ∷ rs) p area h =
+      redone_apart rs p (redo area r) (or_none_second (gives p r) (list_any (gives p) rs) h) ∙ record_apart r p area (or_none_first (gives p r) (list_any (gives p) rs) h)
+
+  -- redo over pages of which some are redone already, or torn, gives the same pages
+  pub redone_again : (log : List (Record E P)) (old new : ℕ → P) → AgreesBeside log old new → redone new log ≡ redone old log
+  redone_again log old new agrees = fun_ext (λ p. over_records log p old new (agrees p))
+
+  pub redone_twice : (log : List (Record E P)) (area : ℕ → P) → redone (redone area log) log ≡ redone area log
+  redone_twice log area = redone_again log area (redone area log) (λ p h. redone_apart log p area h)
 
 module _ {E P : Type 0} (k : Known E P) (l : IsLawful k) where
   -- a log with records that may come is one
@@ -90,35 +148,6 @@ module _ {E P : Type 0} (k : Known E P) (l : IsLawful k) where
   coming_second area log [] ys p = subst (λ x. MayComeAll k area x ys) (sym (append-nil log)) p
   coming_second area log (x ∷ xs) ys p =
       subst (λ b. MayComeAll k area b ys) (append_assoc log (x ∷ []) xs) (coming_second area (log ++ x ∷ []) xs ys p.1)
-
-  -- pages with one page written over agree where they did, and on that page
-  over : (page p : ℕ) (content : P) (old new : ℕ → P) → ((page == p) ≡ false → new p ≡ old p) → with_page page content new p ≡ with_page page content old p
-  over page p content old new h =
-      elim (true_or_false (page == p)) [
-        | inl is ↦ ap (λ b. if b then content else new p) is ∙ sym (ap (λ b. if b then content else old p) is)
-        | inr other ↦ ap (λ b. if b then content else new p) other ∙ h other ∙ sym (ap (λ b. if b then content else old p) other)
-      ]
-
-  over_images : (images : List (Image P)) (p : ℕ) (old new : ℕ → P) → (list_any (λ i. i.page == p) images ≡ false → new p ≡ old p)
-      → with_images images new p ≡ with_images images old p
-  over_images [] p old new h = h refl
-  over_images (i ∷ images) p old new h =
-      over_images images p (with_page i.page i.content old) (with_page i.page i.content new)
-      (λ rest. over i.page p i.content old new (λ other. h (ap (λ b. b || list_any (λ j. j.page == p) images) other ∙ rest)))
-
-  over_record : (r : Record E P) (p : ℕ) (old new : ℕ → P) → (gives p r ≡ false → new p ≡ old p) → redo new r p ≡ redo old r p
-  over_record (Pages images counter used) p old new h = over_images images p old new h
-  over_record (Write transaction entry mark after leaf content) p old new h = over leaf p content old new h
-  over_record (Commit transaction number) p old new h = h refl
-  over_record (End transaction) p old new h = h refl
-  over_record (Counters number counter used next) p old new h = h refl
-  over_record (Note transaction entry mark leaf) p old new h = h refl
-
-  over_records : (rs : List (Record E P)) (p : ℕ) (old new : ℕ → P) → (list_any (gives p) rs ≡ false → new p ≡ old p) → redone new rs p ≡ redone old rs p
-  over_records [] p old new h = h refl
-  over_records (r ∷ rs) p old new h =
-      over_records rs p (redo old r) (redo new r)
-      (λ rest. over_record r p old new (λ other. h (ap (λ b. b || list_any (gives p) rs) other ∙ rest)))
 
   -- the pages after a log do not depend on the pages that it gives whole
   pub redone_agrees : (log more : List (Record E P)) (old new : ℕ → P) → AgreesBeside log old new → redone new (log ++ more) ≡ redone old (log ++ more)

@@ -6,7 +6,7 @@ use Rattle.gx_recovery.specs.Redo.{redone}
 use Rattle.gx_recovery.specs.Standing.{view_of}
 use Rattle.gx_recovery.specs.Coming.{MayCome}
 use Rattle.gx_recovery.specs.Logged.{Logged, all_records, durable, latest, kept, appended, begun, gate_synced, AgreesBeside, IsLeft}
-use Rattle.gx_recovery.specs.Renewal.{renewed, renewed_over}
+use Rattle.gx_recovery.specs.Renewal.{renewed, renewed_over, found}
 
 -- kept sets from the number of the first one to that of the last, as tests of one entry
 pub record Kept (E : Type 0) : Type 0 where
@@ -59,13 +59,14 @@ IsMove old (Seals view) new = IsAdded view old new
 IsMove old Crashes new = IsOneLeft old new
 
 -- What happens to a log: a record is appended; the filling batch begins; its gate is synced; pages are written; a
--- checkpoint puts a new log in its place; a crash, after which an opening does so.
+-- checkpoint puts a new log in its place; power is lost; or it is, and an opening puts a new log there.
 pub data LogStep (E P : Type 0) : Type 0 where
   Appends : (r : Record E P) → LogStep E P
   Begins : LogStep E P
   Syncs : LogStep E P
   WritesPages : (area : ℕ → P) → LogStep E P
   Renews : LogStep E P
+  LosesPower : (area : ℕ → P) (log : List (Record E P)) → LogStep E P
   Restarts : (area : ℕ → P) (log : List (Record E P)) → LogStep E P
 
 -- each page is as the log leaves it
@@ -80,6 +81,7 @@ IsLogStep k old Begins new = (old.flight ≡ []) × (new ≡ begun old)
 IsLogStep k old Syncs new = new ≡ gate_synced old
 IsLogStep k old (WritesPages area) new = AgreesBeside old.gated old.area area × (new ≡ record old { area = area })
 IsLogStep k old Renews new = (old.flight ≡ []) × (old.filling ≡ []) × AllWritten old × (new ≡ record old { gated = renewed k old.gated })
+IsLogStep k old (LosesPower area log) new = IsLeft old area log × (new ≡ found area log)
 IsLogStep k old (Restarts area log) new = IsLeft old area log × (new ≡ renewed_over k area log)
 
 -- what appending a record does to the kept sets: a commit adds the view of its transaction
@@ -98,6 +100,7 @@ move_of k s Begins = Stays
 move_of k s Syncs = Durable
 move_of k s (WritesPages area) = Stays
 move_of k s Renews = Stays
+move_of k s (LosesPower area log) = Crashes
 move_of k s (Restarts area log) = Crashes
 
 -- a life: from old, these steps lead to new

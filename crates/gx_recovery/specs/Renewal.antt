@@ -21,3 +21,7 @@ renewed k log = head_of (analysis k log)
 -- a log renewed over its own pages
 abbrev pub renewed_over : {E P : Type 0} → Known E P → (ℕ → P) → List (Record E P) → Logged E P
 renewed_over k area log = record { area = redone area log; gated = renewed k log; flight = []; filling = [] }
+
+-- a log as it is found over a page area, before anything is done to it
+abbrev pub found : {E P : Type 0} → (ℕ → P) → List (Record E P) → Logged E P
+found area log = record { area = area; gated = log; flight = []; filling = [] }

@@ -10,7 +10,7 @@ ghost use Rattle.gx_recovery.specs.Damage.{is_open, follows, records_of, is_unda
 ghost use Rattle.gx_recovery.specs.Damages.{damages, is_none};
 ghost use Rattle.gx_recovery.specs.Coming.{WritesOne, Restored, IsGood, MayCome};
 ghost use Rattle.gx_recovery.specs.Logged.{Logged, all_records, latest, kept, IsHealthy, appended, begun, gate_synced, AgreesBeside, IsLeft, StandsForKept};
-ghost use Rattle.gx_recovery.specs.Renewal.{renewed, renewed_over};
+ghost use Rattle.gx_recovery.specs.Renewal.{renewed, renewed_over, found};
 ghost use Rattle.gx_recovery.specs.Life.{IsMove, Stays, Durable, kept_of, append_move, AllWritten, LogStep, IsLogStep, move_of, IsLife, moves_of, AreMoves};
 
 use crate::Meaning;
@@ -63,6 +63,25 @@ pub fn checkpoint_keeps_the_set<M: Meaning>()
         → IsMove (kept_of M.known s) Stays (kept_of M.known (record s { gated = renewed M.known s.gated })) }
     ensures either { IsLawful M.known → (s : Logged M.Entry M.Page) → IsHealthy M.known s → s.flight ≡ [] → s.filling ≡ [] → AllWritten s
         → (e : M.Entry) → stands_for M.known s.area (renewed M.known s.gated) e ≡ stands_for M.known s.area s.gated e }
+{}
+
+/// Redo may be cut off at any point and made again: over pages of which the log gives some whole, whatever is on those,
+/// it leaves the same pages. It leaves all others as they are, and made twice it is made once.
+pub fn redo_may_be_made_again<M: Meaning>()
+    ensures again { (log : List (Record M.Entry M.Page)) (old new : ℕ → M.Page) → AgreesBeside log old new → redone new log ≡ redone old log }
+    ensures others { (log : List (Record M.Entry M.Page)) (area : ℕ → M.Page) → AgreesBeside log area (redone area log) }
+    ensures twice { (log : List (Record M.Entry M.Page)) (area : ℕ → M.Page) → redone (redone area log) log ≡ redone area log }
+{}
+
+/// A log as it is found, undamaged and over pages that are good for it, is a healthy state with nothing in flight, which
+/// keeps the one set that it stands for. So an opening's page writes and its checkpoint are steps like any others, and a
+/// crash in the midst of it leaves that set.
+pub fn found_log_keeps_its_set<M: Meaning>()
+    ensures healthy { (area : ℕ → M.Page) (log : List (Record M.Entry M.Page)) → IsLog M.known log
+        → IsGood M.known (tree_of M.known area log) log → IsHealthy M.known (found area log) }
+    ensures last { (area : ℕ → M.Page) (log : List (Record M.Entry M.Page)) → latest M.known (found area log) ≡ number_of M.known log }
+    ensures set { IsLawful M.known → (area : ℕ → M.Page) (log : List (Record M.Entry M.Page)) → IsLog M.known log
+        → (e : M.Entry) → kept M.known (found area log) (number_of M.known log) e ≡ stands_for M.known area log e }
 {}
 
 /// An opening: the pages after a log, with the log's own numbers and notes as the new log, have the one set that the

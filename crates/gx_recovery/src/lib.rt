@@ -6,15 +6,17 @@
 
 ghost use Rattle.gx_recovery.specs.Known.{Known};
 
+use gx_machine::{MAX_CLAIMS, SESSIONS};
+
 pub mod laws;
 pub mod machine_laws;
 pub mod worked;
 
-/// How many transactions of a log may be open at once.
-pub const TRANSACTIONS: usize = 8;
+/// How many transactions of a log may be open at once: one for each session.
+pub const TRANSACTIONS: usize = SESSIONS;
 
-/// How many entries the open transactions of a log may have touched in all.
-pub const TOUCHED: usize = 512;
+/// How many entries the open transactions of a log may have touched in all: each is claimed.
+pub const TOUCHED: usize = MAX_CLAIMS;
 
 /// The transaction's number that none can follow, so that no log has it.
 pub const LAST_TRANSACTION: u64 = u64::MAX;

@@ -1,0 +1,11 @@
+use Rattle.gx_recovery.proofs.Moves.{found_as_state, found_set, found_latest}
+use Rattle.gx_recovery.proofs.laws.found_log_keeps_its_set.Goals as goal
+
+pub returns-clause-healthy : goal.returns-clause-healthy
+returns-clause-healthy g c = λ area log is good. found_as_state g.M.Meaning.known area log is good
+
+pub returns-clause-last : goal.returns-clause-last
+returns-clause-last g c = λ area log. found_latest g.M.Meaning.known area log
+
+pub returns-clause-set : goal.returns-clause-set
+returns-clause-set g c = λ l area log is e. found_set g.M.Meaning.known area log l is e
