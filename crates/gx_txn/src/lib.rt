@@ -10,6 +10,8 @@ mod note;
 mod queries;
 mod search;
 mod table;
+#[cfg(test)]
+mod tests;
 
 pub use note::Note;
 pub use table::Transactions;

@@ -199,7 +199,8 @@ impl<B: Shape> Transactions<B> {
         requires { is_session session ≡ true }
         ensures { self.new ≡ with_held session nothing_held self.old }
     {
-        self.slots[usize::from(session) - 1].release();
+        let committed = &mut self.slots[usize::from(session) - 1];
+        committed.release();
     }
 
     /// Frees all that a session holds, as the record of its undone transaction's end is appended.
@@ -207,6 +208,7 @@ impl<B: Shape> Transactions<B> {
         requires { is_session session ≡ true }
         ensures { self.new ≡ with_held session nothing_held self.old }
     {
-        self.slots[usize::from(session) - 1].release();
+        let undone = &mut self.slots[usize::from(session) - 1];
+        undone.release();
     }
 }
