@@ -45,9 +45,13 @@ pub fn any_matches<B: Shape>(predicates: &[Query<B>], e: &Entry<B>) -> bool
     predicates.iter().any(|q| matches(q, e))
 }
 
-/// Whether one of the entries matches the query.
+/// Whether one of the entries matches the query. The kind of query is asked once, before the scan.
 pub fn any_matching<B: Shape>(query: &Query<B>, entries: &[Entry<B>]) -> bool
     ensures { result ≡ list_any (matches (keys_of B.Shape) query.now) entries.now }
 {
-    entries.iter().any(|e| matches(query, e))
+    match query {
+        Query::Overlap(q) => entries.iter().any(|e| e.key.overlaps(q)),
+        Query::Within(q) => entries.iter().any(|e| e.key.within(q)),
+        Query::Equal(q) => entries.iter().any(|e| e.key.cmp(q) == Ordering::Equal),
+    }
 }
