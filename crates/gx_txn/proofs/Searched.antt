@@ -1,6 +1,6 @@
 -- Lists in the order of the entries that their elements have, searched by halves.
 use Rattle.std.proofs.Common.{◌≡◌, ℕ, zero, suc, ◌<◌, ◌≤◌, Bool, true, false, ◌||◌, List, [], ◌∷◌, map, length, get_or, refl, ap, sym, ◌∙◌, subst, arith, insert}
-use Rattle.std.specs.Prelude.{Result, Ok, Err}
+use Rattle.std.specs.Prelude.{Result, Ok, Err, ⊤}
 use Rattle.std.specs.Result.{MatchResult}
 use Rattle.std.specs.List.{AllWithin}
 use Rattle.std.specs.List.Sorted.{IsBinarySearchResult, IsSearchInRange}
@@ -97,3 +97,10 @@ module _ {B : Type 0} (k : Keys B) (l : IsLawful k) where
         ap (has k e) (sym (map-id xs)) ∙ lacks_in_gap (λ (x : Entry B). x) e xs i parted.0 parted.1,
         including_in_gap e xs i within parted.0 parted.1,
       )
+
+  -- where it finds the entry, the entry stands
+  pub searched_at : (e : Entry B) (xs : List (Entry B)) (r : Result ℕ ℕ) → IsSearchInRange r (length xs)
+      → IsBinarySearchResult (λ y. entry_cmp k y e) xs r
+      → MatchResult r (λ i. (i < length xs) × ((d : Entry B) → get_or xs i d ≡ e)) (λ i. ⊤)
+  searched_at e xs (Ok i) within found = (within, λ d. entry_exact k l (get_or xs i d) e (found d))
+  searched_at e xs (Err i) within found = tt

@@ -12,5 +12,5 @@ invariant_of-self g c =
       record { for_claims = omega (arith, room.for_claims, c.put.ensures.capacity); for_predicates = room.for_predicates; for_notes = room.for_notes },
       claim_put k lawful self.claims.items self.predicates.items self.notes.items c.args.self.now c.self.view_is c.self.invariant.1
           c.args.e c.deref.result.now c.put.new.list.items c.in-Err.field-0 c.args.spent c.requires c.if-spent-ge-MAX_CLAIMS.false
-          c.deref.ensures.value c.in-Err.ensures.2 c.put.ensures.items,
+          c.deref.ensures.value c.in-Err.ensures.place.2 c.put.ensures.items,
     )
