@@ -1,0 +1,5 @@
+pub mod Searched
+pub mod Noted
+pub mod Keeping
+pub mod FirstAndLast
+pub mod AsMachine

@@ -1,0 +1,45 @@
+//! Binary search for an entry, in claims and in notes.
+ghost use Rattle.std.specs.Prelude.{insert, vec_len, vec_capacity, ◌≡◌, ◌<◌, ◌≤◌, MatchResult, IfOk, length, slice_index_or, slice_set, true, false, ⊤};
+ghost use Rattle.gx_machine.specs.declared.entry.Entry.{Entry};
+ghost use Rattle.gx_machine.specs.Keys.{keys_of};
+ghost use Rattle.gx_machine.specs.Sets.{has, including, InOrder};
+ghost use Rattle.gx_txn.specs.declared.note.Note.{Note};
+ghost use Rattle.gx_txn.specs.Notes.{entries_of, noting};
+
+use crate::Note;
+use gx_geom::Shape;
+use gx_machine::Entry;
+
+/// Where the entry is in a list in order, or where it goes.
+pub fn find_entry<B: Shape>(e: &Entry<B>, entries: &[Entry<B>]) -> Result<usize, usize>
+    requires { InOrder (keys_of B.Shape) entries.now }
+    ensures at { IfOk result (λ i. (i < length entries.now) × ((d : Entry B) → slice_index_or entries.now i d ≡ e.now)) }
+    ensures place { MatchResult result
+        (λ i. has (keys_of B.Shape) e.now entries.now ≡ true)
+        (λ i. (i ≤ length entries.now) × (has (keys_of B.Shape) e.now entries.now ≡ false)
+        × (including (keys_of B.Shape) e.now entries.now ≡ insert entries.now i e.now)) }
+{
+    entries.binary_search(e)
+}
+
+/// Where the entry's note is in a list in order, or where it goes.
+pub fn find_note<B: Shape>(note: &Note<B>, notes: &[Note<B>]) -> Result<usize, usize>
+    requires { InOrder (keys_of B.Shape) (entries_of notes.now) }
+    ensures { MatchResult result
+        (λ i. (i < length notes.now) × ((d : Note B) → noting (keys_of B.Shape) note.now notes.now
+        ≡ slice_set notes.now i (record (slice_index_or notes.now i d) { leaf = note.now.leaf })))
+        (λ i. (i ≤ length notes.now) × (noting (keys_of B.Shape) note.now notes.now ≡ insert notes.now i note.now)
+        × (has (keys_of B.Shape) note.now.entry (entries_of notes.now) ≡ false)) }
+{
+    notes.binary_search_by_key(&note.entry, |n| n.entry)
+}
+
+/// Puts an element at its place in a vector that has room for it.
+pub fn put<T: Copy>(list: &mut Vec<T>, place: usize, element: T)
+    requires within { place ≤ vec_len list.old }
+    requires room { vec_len list.old < vec_capacity list.old }
+    ensures items { list.new.items ≡ insert list.old.items place element }
+    ensures capacity { vec_capacity list.old ≤ vec_capacity list.new }
+{
+    let _ = list.insert(place, element);
+}
