@@ -1,0 +1,7 @@
+pub mod Calls
+pub mod Crashes
+pub mod Empty
+pub mod Leaving
+pub mod Record
+pub mod Spans
+pub mod Tearing

@@ -1,0 +1,55 @@
+//! What a device of whole sectors promises.
+ghost use Rattle.std.specs.Prelude.{◌≡◌, ◌+◌, ◌*◌, ◌/◌, ◌≤◌, ℕ, List, true, length};
+ghost use Rattle.gx_disk.specs.Sectors.{IsSpan};
+ghost use Rattle.gx_disk.specs.Device.{Device, MayLeave, Counts, Reads, Writes, Syncs};
+
+/// How many bytes a sector has.
+pub const SECTOR_SIZE: usize = 512;
+
+/// Why a call of a device failed.
+#[derive(Clone, Copy, Debug, PartialEq, Eq)]
+pub enum DiskFault {
+    /// There was no memory for the record of a call.
+    Memory,
+    /// The call was made to fail, in a test.
+    Fuse,
+    /// The system refused a call on the file, or the file is shorter than it was.
+    File,
+    /// Another opener has the file.
+    InUse,
+}
+
+pub trait SectorDisk {
+    /// What contracts see of it.
+    ghost state: { Self → Device };
+
+    /// How many sectors it has.
+    fn sectors(&self) -> u64
+        ensures { result ≡ (state self.now).sectors };
+
+    /// Reads whole sectors.
+    fn read(&mut self, first: u64, buffer: &mut [u8]) -> Result<(), DiskFault>
+        requires { IsSpan (state self.old).sectors first (length buffer.old) }
+        ensures counts { Counts 0 (state self.old) (state self.new) result }
+        ensures reads { (state self.old).honest ≡ true → Reads first buffer.new (state self.old) (state self.new) result };
+
+    /// Writes whole sectors.
+    fn write(&mut self, first: u64, bytes: &[u8]) -> Result<(), DiskFault>
+        requires { IsSpan (state self.old).sectors first (length bytes.now) }
+        ensures counts { Counts 1 (state self.old) (state self.new) result }
+        ensures writes { (state self.old).honest ≡ true → Writes first (length bytes.now / SECTOR_SIZE) bytes.now (state self.old) (state self.new) result };
+
+    /// Settles every sector.
+    fn sync(&mut self) -> Result<(), DiskFault>
+        ensures counts { Counts 1 (state self.old) (state self.new) result }
+        ensures syncs { (state self.old).honest ≡ true → Syncs (state self.old) (state self.new) result };
+
+    /// It reads whole sectors.
+    ghost whole: { (d : Self) → (state d).honest ≡ true → length (state d).seen ≡ 512 * (state d).sectors };
+
+    /// This moment is one of those since an earlier one.
+    ghost counts_now: { (d : Self) (t : ℕ) (image : List ℕ) → (state d).honest ≡ true → t ≤ (state d).moment → MayLeave (state d) image → (state d).left_since t image };
+
+    /// Since this moment there is no other.
+    ghost only_now: { (d : Self) (image : List ℕ) → (state d).honest ≡ true → (state d).left_since (state d).moment image → MayLeave (state d) image };
+}
