@@ -105,8 +105,11 @@ impl<T: PageTest> Pool<T> {
         }
     }
 
-    /// Brings a page into a frame, unless it is in one.
-    fn bring_one<D: SectorDisk>(&mut self, disk: &mut D, page: u32) -> Result<(), PoolFault>
+    /// Brings a page into a frame, unless it is in one, and leaves what is held as it is: `page` reads it then.
+    ///
+    /// Refused with `NoCleanFrame` where it isn't in a frame and none is empty or holds a clean page that isn't held, with
+    /// `Device` where the device failed, and with `Damaged` where it has no page of that number, or one that fails the test.
+    pub fn bring_one<D: SectorDisk>(&mut self, disk: &mut D, page: u32) -> Result<(), PoolFault>
         requires { IsPage (D.state disk.old).sectors page }
         ensures brought { BringsOne (T.passes self.old.test) (D.state disk.old) (D.state disk.new) self.old.frames self.new.frames page result }
         ensures test { self.new.test ≡ self.old.test }
@@ -155,7 +158,7 @@ impl<T: PageTest> Pool<T> {
                 self.frames.stamp(i, None);
                 Ok(())
             }
-            Err(_) => Err(PoolFault::Device),
+            Err(_unwritten) => Err(PoolFault::Device),
         }
     }
 
