@@ -1,0 +1,340 @@
+-- What becomes of the pages that are kept, edit by edit, and how bringings join.
+use Rattle.std.proofs.Common.{◌≡◌, ◌≢◌, ◌∙◌, sym, ap, subst, refl, ◌⊎◌, inl, inr, ⊎_elim, ℕ, zero, suc, ◌<◌, ◌≤◌, ◌+◌, List, [], ◌∷◌, Ok, Err, Result, below_more, length, get_or, set, Bool, true, false, not, ◌&&◌, Option, Some, None, IsSome, arith, rules, get_or-set_same, get_or-set_other, length-set}
+use Rattle.std.specs.Prelude.{is_none, IsErrAnd}
+use Rattle.std.proofs.Math.Decide.{ℕ_discrete}
+use Rattle.std.proofs.lemmas.Option.{none-some}
+use Rattle.gx_disk.specs.Device.{Device, Counts, Reads, Rests, SamePending, Elapses, MayLeave}
+use Rattle.gx_page.specs.Contents.{Contents}
+use Rattle.gx_page.specs.Edits.{blank}
+use Rattle.gx_page.specs.Reading.{IsImage, read_of}
+use Rattle.gx_pool.specs.declared.mark.Mark.{Mark}
+use Rattle.gx_pool.specs.Area.{bytes_of, IsPassing}
+use Rattle.gx_pool.specs.Marks.{empty, clean, is_held}
+use Rattle.gx_pool.specs.State.{State, Kept, IsSound, IsSpare, mark_at, place_of, kept, kept_at, frame_at, stamp_of}
+use Rattle.gx_pool.specs.Edits.{vacated, with_page, settled, stamped, forgotten}
+use Rattle.gx_pool.specs.Bringing.{Brings, BringsOne, BringsAll, Answers, AnswersAll, Came, Left, HasImage, OnlyRead}
+use Rattle.gx_pool.specs.declared.fault.PoolFault.{PoolFault}
+use Rattle.gx_pool.specs.declared.fault.PoolFault.TheVariants.{NoCleanFrame, Device as DeviceFault, Damaged}
+use Rattle.gx_pool.proofs.Places.{some-injective, vacated_sound, with_page_sound, settled_sound, vacated_kept, vacated_gone, loaded_kept, settled_kept, settled_other, place_none, kept_some}
+
+clean_parts : (stamp : Option ℕ) (held : Bool) → (is_none stamp && not held) ≡ true → (stamp ≡ None) × (held ≡ false)
+clean_parts None false is = (refl, refl)
+clean_parts None true is = grind arith
+clean_parts (Some n) held is = grind arith
+
+-- the page of a clean frame is spare
+spare : (s : State) (i page : ℕ) → IsSound s → clean s.held (mark_at s i) ≡ true → (mark_at s i).page ≡ Some page → IsSpare s page
+spare s i page sound is here =
+    let parts = clean_parts (mark_at s i).stamp (is_held s.held (mark_at s i).page) is in
+    record {
+      clean = ap stamp_of (kept_some s page i (sound.back i page here)) ∙ parts.0;
+      free = ap (is_held s.held) (sym here) ∙ parts.1;
+    }
+
+is_some_page : (o : Option ℕ) (page : ℕ) → (o ≡ Some page) ⊎ (o ≢ Some page)
+is_some_page None page = inr (λ e. none-some page e)
+is_some_page (Some q) page = elim (ℕ_discrete q page) [
+  | yes e ↦ inl (ap Some e)
+  | no ne ↦ inr (λ e. ne (some-injective q page e))
+]
+
+-- a clean frame is emptied
+pub vacated_brings : (passes : Contents → Bool) (d : Bool) (seen : List ℕ) (s : State) (i : ℕ) → IsSound s → i < length s.marks → clean s.held (mark_at s i) ≡ true → Brings passes d seen s (vacated s i)
+vacated_brings passes d seen s i sound inside is = record {
+  fates = λ page. elim (is_some_page (mark_at s i).page page) [
+    | inl here ↦ inr (inl (record { was = spare s i page sound is here; is = vacated_gone s i page here }))
+    | inr other ↦ inl (vacated_kept s i page sound inside other)
+  ];
+  held = refl;
+  gated = refl;
+  frames = length-set s.marks i empty;
+}
+
+-- a bringing after which the same is kept in other frames is one
+pub brings_same : (passes : Contents → Bool) (d : Bool) (seen : List ℕ) (s t u : State) → Brings passes d seen s t → ((page : ℕ) → kept u page ≡ kept t page)
+    → u.held ≡ t.held → u.gated ≡ t.gated → length u.marks ≡ length t.marks → Brings passes d seen s u
+brings_same passes d seen s t u first same held gated frames = record {
+  fates = λ page. ⊎_elim (λ is. inl (same page ∙ is)) (λ rest. inr (⊎_elim
+      (λ left. inl (record { was = left.was; is = same page ∙ left.is }))
+      (λ came. inr (record { contents = came.contents; was = came.was; is = same page ∙ came.is; number = came.number; passing = came.passing; backed = came.backed }))
+      rest)) (first.fates page);
+  held = held ∙ first.held;
+  gated = gated ∙ first.gated;
+  frames = frames ∙ first.frames;
+}
+
+vacated_free : (s : State) (i : ℕ) → i < length s.marks → (mark_at (vacated s i) i).page ≡ None
+vacated_free s i inside = ap (λ m. m.page) (get_or-set_same s.marks i empty empty inside)
+
+-- and an image is read into it
+pub loaded_brings : (passes : Contents → Bool) (d : Bool) (seen : List ℕ) (s : State) (i : ℕ) (w : Contents) → IsSound s → i < length s.marks → clean s.held (mark_at s i) ≡ true
+    → Brings passes d seen s (with_page (vacated s i) i w)
+loaded_brings passes d seen s i w sound inside is =
+    brings_same passes d seen s (vacated s i) (with_page (vacated s i) i w) (vacated_brings passes d seen s i sound inside is)
+    (λ page. loaded_kept (vacated s i) i page w (vacated_sound s i sound inside) (vacated_free s i inside)) refl refl refl
+
+still_absent : (passes : Contents → Bool) (d : Bool) (seen : List ℕ) (s : State) (i page : ℕ) → IsSound s → i < length s.marks → clean s.held (mark_at s i) ≡ true → kept s page ≡ None
+    → kept (vacated s i) page ≡ None
+still_absent passes d seen s i page sound inside is absent = elim (is_some_page (mark_at s i).page page) [
+  | inl here ↦ vacated_gone s i page here
+  | inr other ↦ vacated_kept s i page sound inside other ∙ absent
+]
+
+-- a page that wasn't kept has no frame then
+pub loaded_absent : (s : State) (i page : ℕ) (w : Contents) → IsSound s → i < length s.marks → clean s.held (mark_at s i) ≡ true → kept s page ≡ None
+    → place_of (with_page (vacated s i) i w) page ≡ None
+loaded_absent s i page w sound inside is absent =
+    place_none (vacated s i) page (still_absent (λ c. true) true s.held s i page sound inside is absent)
+
+loaded_page : (s : State) (i : ℕ) (w : Contents) → IsSound s → i < length s.marks → (frame_at (with_page (vacated s i) i w) i).page ≡ w
+loaded_page s i w sound inside = get_or-set_same s.pages i w (blank 0 0) (rw sound.sizes inside)
+
+-- and the frame is the page's
+pub admitted_kept : (s : State) (i page level : ℕ) (w : Contents) → IsSound s → i < length s.marks → page ≤ 65536
+    → kept (settled (with_page (vacated s i) i w) i page level None) page ≡ Some (record { page = w; stamp = None })
+admitted_kept s i page level w sound inside small =
+    let t : State = with_page (vacated s i) i w in
+    let there : i < length t.marks = rw (length-set s.marks i empty) inside in
+    settled_kept t i page level None (with_page_sound (vacated s i) i w (vacated_sound s i sound inside)) there small
+    ∙ ap (λ c. Some (record { page = c; stamp = None })) (loaded_page s i w sound inside)
+
+pub admitted_brings : (passes : Contents → Bool) (d : Bool) (seen : List ℕ) (s : State) (i page level : ℕ) (w : Contents) → IsSound s → i < length s.marks → clean s.held (mark_at s i) ≡ true
+    → page ≤ 65536 → kept s page ≡ None → w.number ≡ page → passes w ≡ true → (d ≡ true → HasImage (bytes_of seen page) w)
+    → Brings passes d seen s (settled (with_page (vacated s i) i w) i page level None)
+admitted_brings passes d seen s i page level w sound inside is small absent number passing backed =
+    let t : State = with_page (vacated s i) i w in
+    let first : Brings passes d seen s t = loaded_brings passes d seen s i w sound inside is in
+    let whole : IsSound t = with_page_sound (vacated s i) i w (vacated_sound s i sound inside) in
+    let free : (mark_at t i).page ≡ None = vacated_free s i inside in
+    record {
+      fates = λ q. elim (ℕ_discrete q page) [
+        | yes e ↦ inr (inr (record {
+          contents = w;
+          was = inl (ap (kept s) e ∙ absent);
+          is = ap (kept (settled t i page level None)) e ∙ admitted_kept s i page level w sound inside small;
+          number = number ∙ sym e;
+          passing = passing;
+          backed = λ honest. subst {A = ℕ} (λ n. HasImage (bytes_of seen n) w) (sym e) (backed honest);
+        }))
+        | no ne ↦
+            let same : kept (settled t i page level None) q ≡ kept t q = settled_other t i page q level None whole free ne in
+            ⊎_elim (λ is. inl (same ∙ is)) (λ rest. inr (⊎_elim
+            (λ left. inl (record { was = left.was; is = same ∙ left.is }))
+            (λ came. inr (record { contents = came.contents; was = came.was; is = same ∙ came.is; number = came.number; passing = came.passing; backed = came.backed }))
+            rest)) (first.fates q)
+      ];
+      held = refl;
+      gated = refl;
+      frames = length-set (vacated s i).marks i _ ∙ length-set s.marks i empty;
+    }
+
+image_read : (bytes buffer : List ℕ) → bytes ≡ buffer → IsImage buffer → HasImage bytes (read_of buffer)
+image_read bytes buffer e image = rw e (record { image = image; read = refl })
+
+-- a frame emptied, an image read into it, and the frame given to its page
+pub admitted : (passes : Contents → Bool) (d : Bool) (seen buffer : List ℕ) (s t u : State) (i page level : ℕ) → IsSound s → i < length s.marks → clean s.held (mark_at s i) ≡ true
+    → page ≤ 65536 → kept s page ≡ None → t ≡ with_page (vacated s i) i (read_of buffer) → u ≡ settled t i page level None
+    → (frame_at t i).page.number ≡ page → passes (frame_at t i).page ≡ true → IsImage buffer → (d ≡ true → bytes_of seen page ≡ buffer)
+    → Brings passes d seen s u
+admitted passes d seen buffer s t u i page level sound inside is small absent te ue number passing image read =
+    let w : Contents = read_of buffer in
+    let there : (frame_at t i).page ≡ w = ap (λ v. (frame_at v i).page) te ∙ loaded_page s i w sound inside in
+    rw (ue, te) (admitted_brings passes d seen s i page level w sound inside is small absent (ap (λ c. c.number) (sym there) ∙ number) (ap passes (sym there) ∙ passing)
+    (λ honest. image_read (bytes_of seen page) buffer (read honest) image))
+
+pub admitted_there : (s t u : State) (w : Contents) (i page level : ℕ) → IsSound s → i < length s.marks → page ≤ 65536 → t ≡ with_page (vacated s i) i w → u ≡ settled t i page level None → IsSome (kept u page)
+admitted_there s t u w i page level sound inside small te ue = rw (ue, te, admitted_kept s i page level w sound inside small) refl
+
+-- ---- runs of bringings
+
+true_false : (b : Bool) → b ≡ true → b ≡ false → ⊥
+true_false b is not_so = grind arith
+
+pub brings_nothing : (passes : Contents → Bool) (d : Bool) (seen : List ℕ) (s : State) → Brings passes d seen s s
+brings_nothing passes d seen s = record { fates = λ page. inl refl; held = refl; gated = refl; frames = refl }
+
+-- what is spare is so by what is kept and held
+spare_same : (s t : State) (page : ℕ) → kept t page ≡ kept s page → t.held ≡ s.held → IsSpare t page → IsSpare s page
+spare_same s t page same held is = record {
+  clean = ap stamp_of (sym same) ∙ is.clean;
+  free = ap (λ pages. is_held pages (Some page)) (sym held) ∙ is.free;
+}
+
+Fate : (Contents → Bool) → Bool → List ℕ → State → State → ℕ → Type 0
+Fate passes d seen s t page = (kept t page ≡ kept s page) ⊎ (Left s t page ⊎ Came passes d seen s t page)
+
+fates_joined : (passes : Contents → Bool) (d : Bool) (seen : List ℕ) (s t u : State) (page : ℕ) → t.held ≡ s.held → Fate passes d seen s t page → Fate passes d seen t u page → Fate passes d seen s u page
+unfolding Fate
+fates_joined passes d seen s t u page held (inl same) (inl next) = inl (next ∙ same)
+fates_joined passes d seen s t u page held (inl same) (inr (inl left)) = inr (inl (record { was = spare_same s t page same held left.was; is = left.is }))
+fates_joined passes d seen s t u page held (inl same) (inr (inr came)) = inr (inr (record {
+  contents = came.contents;
+  was = ⊎_elim (λ absent. inl (sym same ∙ absent)) (λ is. inr (spare_same s t page same held is)) came.was;
+  is = came.is;
+  number = came.number;
+  passing = came.passing;
+  backed = came.backed;
+}))
+fates_joined passes d seen s t u page held (inr (inl left)) (inl next) = inr (inl (record { was = left.was; is = next ∙ left.is }))
+fates_joined passes d seen s t u page held (inr (inl left)) (inr (inl again)) = inr (inl (record { was = left.was; is = again.is }))
+fates_joined passes d seen s t u page held (inr (inl left)) (inr (inr came)) = inr (inr (record {
+  contents = came.contents;
+  was = inr left.was;
+  is = came.is;
+  number = came.number;
+  passing = came.passing;
+  backed = came.backed;
+}))
+fates_joined passes d seen s t u page held (inr (inr came)) (inl next) = inr (inr (record {
+  contents = came.contents;
+  was = came.was;
+  is = next ∙ came.is;
+  number = came.number;
+  passing = came.passing;
+  backed = came.backed;
+}))
+fates_joined passes d seen s t u page held (inr (inr came)) (inr (inl left)) = ⊎_elim (λ absent. inl (left.is ∙ sym absent)) (λ spare. inr (inl (record { was = spare; is = left.is }))) came.was
+fates_joined passes d seen s t u page held (inr (inr came)) (inr (inr again)) = inr (inr (record {
+  contents = again.contents;
+  was = came.was;
+  is = again.is;
+  number = again.number;
+  passing = again.passing;
+  backed = again.backed;
+}))
+
+-- one bringing and then another, of a device that reads the same
+pub brings_joined : (passes : Contents → Bool) (d e : Bool) (seen next : List ℕ) (s t u : State) → e ≡ d → (d ≡ true → next ≡ seen) → Brings passes d seen s t → Brings passes e next t u → Brings passes d seen s u
+unfolding Fate
+brings_joined passes d e seen next s t u same reads first then = record {
+  fates = λ page.
+      let later : Fate passes d seen t u page = ⊎_elim inl (λ rest. inr (⊎_elim inl (λ came. inr (record {
+        contents = came.contents;
+        was = came.was;
+        is = came.is;
+        number = came.number;
+        passing = came.passing;
+        backed = λ honest. subst {A = List ℕ} (λ bytes. HasImage (bytes_of bytes page) came.contents) (reads honest) (came.backed (same ∙ honest));
+      })) rest)) (then.fates page) in
+      fates_joined passes d seen s t u page first.held (first.fates page) later;
+  held = then.held ∙ first.held;
+  gated = then.gated ∙ first.gated;
+  frames = then.frames ∙ first.frames;
+}
+
+pub only_read_nothing : (d : Device) → OnlyRead d d
+only_read_nothing d = record {
+  sectors = refl;
+  honest = refl;
+  calls = refl;
+  rests = λ honest. record { seen = refl; settled = λ s was. was };
+  pending = λ honest s. refl;
+  time = λ honest. record { later = omega arith; only = λ t image le left. inl left; keeps = λ t image le left. left };
+}
+
+may_leave_same : (d e : Device) → Rests d e → SamePending d e → (image : List ℕ) → MayLeave d image → MayLeave e image
+may_leave_same d e rests pending image may = record {
+  size = rw rests.seen may.size;
+  settled = λ s was. rw rests.seen (may.settled s (sym (pending s) ∙ was));
+}
+
+pub only_read_joined : (c d e : Device) → OnlyRead c d → OnlyRead d e → OnlyRead c e
+only_read_joined c d e first next = record {
+  sectors = next.sectors ∙ first.sectors;
+  honest = next.honest ∙ first.honest;
+  calls = next.calls ∙ first.calls;
+  rests = λ honest. let then : d.honest ≡ true = first.honest ∙ honest in record {
+    seen = (next.rests then).seen ∙ (first.rests honest).seen;
+    settled = λ s was. (next.rests then).settled s ((first.rests honest).settled s was);
+  };
+  pending = λ honest s. next.pending (first.honest ∙ honest) s ∙ first.pending honest s;
+  time = λ honest.
+      let then : d.honest ≡ true = first.honest ∙ honest in
+      let one = first.time honest in
+      let two = next.time then in
+      record {
+        later = omega (arith, one.later, two.later);
+        only = λ t image le left. ⊎_elim (λ was. ⊎_elim inl (λ may. inr (may_leave_same d e (next.rests then) (next.pending then) image may)) (one.only t image le was)) inr
+            (two.only t image (omega (arith, le, one.later)) left);
+        keeps = λ t image le left. two.keeps t image (omega (arith, le, one.later)) (one.keeps t image le left);
+      };
+}
+
+-- a held page that is kept stays
+pub held_stays : (passes : Contents → Bool) (d : Bool) (seen : List ℕ) (s t : State) (page : ℕ) → Brings passes d seen s t → is_held s.held (Some page) ≡ true → IsSome (kept s page) → IsSome (kept t page)
+held_stays passes d seen s t page first held there = ⊎_elim (λ same. rw same there) (λ rest. ⊎_elim
+    (λ left. absurd (true_false (is_held s.held (Some page)) held left.was.free))
+    (λ came. rw came.is refl) rest) (first.fates page)
+
+-- a held page that isn't kept wasn't
+pub held_absent : (passes : Contents → Bool) (d : Bool) (seen : List ℕ) (s t : State) (page : ℕ) → Brings passes d seen s t → is_held s.held (Some page) ≡ true → kept t page ≡ None → kept s page ≡ None
+held_absent passes d seen s t page first held absent = ⊎_elim (λ same. sym same ∙ absent) (λ rest. ⊎_elim
+    (λ left. absurd (true_false (is_held s.held (Some page)) held left.was.free))
+    (λ came. absurd (none-some _ (sym absent ∙ came.is))) rest) (first.fates page)
+
+-- a page of a list is among those held
+among : (page : ℕ) (pages : List ℕ) (k : ℕ) → k < length pages → get_or pages k 0 ≡ page → is_held pages (Some page) ≡ true
+among page [] k inside is = absurd (omega arith)
+among page (x ∷ pages) zero inside is = grind arith
+among page (x ∷ pages) (suc k) inside is = let rest : is_held pages (Some page) ≡ true = among page pages k (omega arith) is in grind arith
+
+-- some of the pages were brought
+pub record BringsSome (passes : Contents → Bool) (d e : Device) (s t : State) (pages : List ℕ) (n : ℕ) : Type 0 where
+  pub brings : Brings passes d.honest d.seen s t
+  pub only_read : OnlyRead d e
+  pub faults : e.faults ≡ d.faults
+  pub there : (k : ℕ) → k < n → IsSome (kept t (get_or pages k 0))
+
+pub none_brought : (passes : Contents → Bool) (d : Device) (s t : State) (pages : List ℕ) → t ≡ s → BringsSome passes d d s t pages 0
+none_brought passes d s t pages e = rw e (record { brings = brings_nothing passes d.honest d.seen s; only_read = only_read_nothing d; faults = refl; there = λ k below. absurd (omega arith) })
+
+-- and one more
+pub one_more : (passes : Contents → Bool) (d e f : Device) (s t u : State) (pages : List ℕ) (n : ℕ) (page : ℕ) → s.held ≡ pages → n < length pages → page ≡ get_or pages n 0
+    → BringsSome passes d e s t pages n → BringsOne {A = Unit {0}} passes e f t u page (Ok tt) → BringsSome passes d f s u pages (n + 1)
+one_more passes d e f s t u pages n page held inside is some one = record {
+  brings = brings_joined passes d.honest e.honest d.seen e.seen s t u some.only_read.honest (λ honest. (some.only_read.rests honest).seen) some.brings one.brings;
+  only_read = only_read_joined d e f some.only_read one.only_read;
+  faults = omega (arith, one.faults, some.faults);
+  there = below_more _ n
+      (λ k below. held_stays passes e.honest e.seen t u (get_or pages k 0) one.brings
+      (ap (λ h. is_held h (Some (get_or pages k 0))) (some.brings.held ∙ held) ∙ among (get_or pages k 0) pages k (omega arith) refl) (some.there k below))
+      (rw (← is) one.answer);
+}
+
+answers_all : (passes : Contents → Bool) (d e : Device) (s t u : State) (pages : List ℕ) (n : ℕ) (page : ℕ) (fault : PoolFault) → s.held ≡ pages → n < length pages → page ≡ get_or pages n 0
+    → Brings passes d.honest d.seen s t → e.honest ≡ d.honest → (d.honest ≡ true → e.seen ≡ d.seen)
+    → Answers {A = Unit {0}} passes e t u page (Err fault) → AnswersAll {A = Unit {0}} passes d s u pages (Err fault)
+answers_all passes d e s t u pages n page NoCleanFrame held inside is first same reads answer = ((n, inside, rw (← is) answer.0), answer.1)
+answers_all passes d e s t u pages n page DeviceFault held inside is first same reads answer = (n, inside, rw (← is) answer)
+answers_all passes d e s t u pages n page Damaged held inside is first same reads answer = (
+  n,
+  inside,
+  rw (← is) (
+    held_absent passes d.honest d.seen s t page first (ap (λ h. is_held h (Some page)) held ∙ among page pages n inside (sym is)) answer.0,
+    λ honest. subst {A = List ℕ} (λ seen. ¬ IsPassing passes page (bytes_of seen page)) (reads honest) (answer.1 (same ∙ honest)),
+  ),
+)
+
+-- or one of them wasn't
+pub one_refused : (passes : Contents → Bool) (d e f : Device) (s t u : State) (pages : List ℕ) (n : ℕ) (page : ℕ) (fault : PoolFault) → s.held ≡ pages → n < length pages → page ≡ get_or pages n 0
+    → BringsSome passes d e s t pages n → BringsOne {A = Unit {0}} passes e f t u page (Err fault) → BringsAll {A = Unit {0}} passes d f s u pages (Err fault)
+one_refused passes d e f s t u pages n page fault held inside is some one = record {
+  brings = brings_joined passes d.honest e.honest d.seen e.seen s t u some.only_read.honest (λ honest. (some.only_read.rests honest).seen) some.brings one.brings;
+  only_read = only_read_joined d e f some.only_read one.only_read;
+  faults = omega (arith, one.faults, some.faults);
+  answer = answers_all passes d e s t u pages n page fault held inside is some.brings some.only_read.honest (λ honest. (some.only_read.rests honest).seen) one.answer;
+}
+
+pub all_brought : (passes : Contents → Bool) (d e : Device) (s t : State) (pages : List ℕ) (n : ℕ) → length pages ≤ n → BringsSome passes d e s t pages n → BringsAll {A = Unit {0}} passes d e s t pages (Ok tt)
+all_brought passes d e s t pages n all some = record {
+  brings = some.brings;
+  only_read = some.only_read;
+  faults = omega (arith, some.faults);
+  answer = λ k below. some.there k (omega arith);
+}
+
+-- an answer that is a refusal by that fault
+pub refused_as : (passes : Contents → Bool) (d f : Device) (s u : State) (pages : List ℕ) (result : Result (Unit {0}) PoolFault) (fault : PoolFault) (P : PoolFault → Type 0) → IsErrAnd result P
+    → ((found : PoolFault) → P found → found ≡ fault) → BringsAll {A = Unit {0}} passes d f s u pages (Err fault) → BringsAll {A = Unit {0}} passes d f s u pages result
+refused_as passes d f s u pages (Ok a) fault P is same all = absurd is
+refused_as passes d f s u pages (Err found) fault P is same all = rw (same found is) all

@@ -1,0 +1,4 @@
+pub mod Bringing
+pub mod Places
+pub mod Shown
+pub mod Writing

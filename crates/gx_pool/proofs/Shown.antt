@@ -1,0 +1,57 @@
+-- What is shown of each page while pages are brought.
+use Rattle.std.proofs.Common.{◌≡◌, ◌∙◌, sym, ap, subst, refl, ⊎_elim, ℕ, List, Bool, true, Option, Some, None}
+use Rattle.std.proofs.lemmas.Option.{none-some}
+use Rattle.gx_page.specs.Contents.{Contents}
+use Rattle.gx_page.specs.Reading.{read_of}
+use Rattle.gx_pool.specs.Area.{bytes_of}
+use Rattle.gx_pool.specs.State.{State, Kept, IsSpare, kept, stamp_of}
+use Rattle.gx_pool.specs.Bringing.{Brings, Came, Left, HasImage}
+use Rattle.gx_pool.specs.Laws.{shown, shown_of, IsBacked, IsPassed}
+
+kept_or : Option Kept → Kept → Kept
+kept_or None k = k
+kept_or (Some k) other = k
+
+same_kept : (k l : Kept) → ◌≡◌ {A = Option Kept} (Some k) (Some l) → k ≡ l
+unfolding kept_or
+same_kept k l e = ap (λ o. kept_or o k) e
+
+one_kept : (o : Option Kept) (k l : Kept) → o ≡ Some k → o ≡ Some l → k ≡ l
+one_kept o k l first next = same_kept k l (sym first ∙ next)
+
+pub brings_backed : (passes : Contents → Bool) (seen : List ℕ) (s t : State) → Brings passes true seen s t → IsBacked s seen → IsBacked t seen
+brings_backed passes seen s t first backed = λ page k is clean. ⊎_elim
+    (λ same. backed page k (sym same ∙ is) clean)
+    (λ rest. ⊎_elim
+    (λ left. absurd (none-some k (sym left.is ∙ is)))
+    (λ came. subst {A = Kept} (λ l. HasImage (bytes_of seen page) l.page) (one_kept (kept t page) (record { page = came.contents; stamp = None }) k came.is is) (came.backed refl))
+    rest)
+    (first.fates page)
+
+-- a clean page that is kept, or none, is shown as the device has it
+clean_shown : (s : State) (seen : List ℕ) (page : ℕ) (o : Option Kept) → IsBacked s seen → kept s page ≡ o → stamp_of o ≡ None → shown_of o (read_of (bytes_of seen page)) ≡ read_of (bytes_of seen page)
+clean_shown s seen page None backed is clean = refl
+clean_shown s seen page (Some k) backed is clean = sym (backed page k is clean).read
+
+pub brings_shown : (passes : Contents → Bool) (seen : List ℕ) (s t : State) (page : ℕ) → Brings passes true seen s t → IsBacked s seen → shown t seen page ≡ shown s seen page
+brings_shown passes seen s t page first backed =
+    let here : Contents = read_of (bytes_of seen page) in
+    let was : stamp_of (kept s page) ≡ None → here ≡ shown s seen page = λ clean. sym (clean_shown s seen page (kept s page) backed refl clean) in
+    ⊎_elim
+    (λ same. ap (λ o. shown_of o here) same)
+    (λ rest. ⊎_elim
+    (λ left. ap (λ o. shown_of o here) left.is ∙ was left.was.clean)
+    (λ came. ap (λ o. shown_of o here) came.is ∙ sym (came.backed refl).read ∙ was (⊎_elim (λ absent. ap stamp_of absent) (λ spare. spare.clean) came.was))
+    rest)
+    (first.fates page)
+
+pub brings_passed : (passes : Contents → Bool) (honest : Bool) (seen : List ℕ) (s t : State) → Brings passes honest seen s t → IsPassed passes s → IsPassed passes t
+brings_passed passes honest seen s t first passed = λ page k is. ⊎_elim
+    (λ same. passed page k (sym same ∙ is))
+    (λ rest. ⊎_elim
+    (λ left. absurd (none-some k (sym left.is ∙ is)))
+    (λ came.
+    let e = one_kept (kept t page) (record { page = came.contents; stamp = None }) k came.is is in
+    (ap (λ l. l.page.number) (sym e) ∙ came.number, ap (λ l. passes l.page) (sym e) ∙ came.passing))
+    rest)
+    (first.fates page)

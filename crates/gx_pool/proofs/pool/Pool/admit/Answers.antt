@@ -1,0 +1,32 @@
+use Rattle.std.proofs.Common.{◌≡◌, ◌∙◌, ap}
+use Rattle.gx_page.specs.Reading.{read_of}
+use Rattle.gx_pool.specs.State.{place_of}
+use Rattle.gx_pool.specs.Edits.{with_page}
+use Rattle.gx_pool.proofs.Bringing.{vacated_brings, loaded_brings, loaded_absent, admitted, admitted_there}
+use Rattle.gx_pool.proofs.pool.Pool.admit.Goals as goal
+
+pub returns-in_default-clause-brings : goal.returns-in_default-clause-brings
+returns-in_default-clause-brings g c = λ d seen read.
+    rw (c.in_default.ensures.fault.1, c.vacate.ensures.vacated) (vacated_brings _ d seen c.args.self.now.frames c.args.i c.vacate.ensures.sound c.requires.frame.0 c.requires.frame.1)
+
+pub returns-then-not-is_right-clause-brings : goal.returns-then-not-is_right-clause-brings
+returns-then-not-is_right-clause-brings g c = λ d seen read.
+    rw (c.in-Ok.ensures.loaded.1, c.deref.ensures, c.vacate.ensures.vacated)
+    (loaded_brings _ d seen c.args.self.now.frames c.args.i (read_of c.args.self.now.buffer.value) c.vacate.ensures.sound c.requires.frame.0 c.requires.frame.1)
+
+pub settle-requires-clause-page : goal.settle-requires-clause-page
+settle-requires-clause-page g c = (
+  c.requires.page.0,
+  ap (λ v. place_of v c.args.page) (c.in-Ok.ensures.loaded.1 ∙ ap (λ b. with_page c.vacate.new.self c.args.i (read_of b)) c.deref.ensures ∙ ap (λ v. with_page v c.args.i (read_of c.args.self.now.buffer.value)) c.vacate.ensures.vacated)
+      ∙ (loaded_absent c.args.self.now.frames c.args.i c.args.page (read_of c.args.self.now.buffer.value) c.vacate.ensures.sound c.requires.frame.0 c.requires.frame.1 c.requires.page.1),
+)
+
+pub returns-clause-brings : goal.returns-clause-brings
+returns-clause-brings g c = λ d seen read.
+    admitted _ d seen c.args.self.now.buffer.value c.args.self.now.frames c.load.new.self c.settle.new.self c.args.i c.args.page c.level-level.result c.vacate.ensures.sound c.requires.frame.0 c.requires.frame.1
+    c.requires.page.0 c.requires.page.1 (c.in-Ok.ensures.loaded.1 ∙ ap (λ b. with_page c.vacate.new.self c.args.i (read_of b)) c.deref.ensures ∙ ap (λ v. with_page v c.args.i (read_of c.args.self.now.buffer.value)) c.vacate.ensures.vacated) c.settle.ensures c.if-not-is_right.ensures.yes.0 c.if-not-is_right.ensures.yes.1 (rw (← c.deref.ensures) c.in-Ok.ensures.loaded.0) read
+
+pub returns-clause-admitted : goal.returns-clause-admitted
+returns-clause-admitted g c =
+    admitted_there c.args.self.now.frames c.load.new.self c.settle.new.self (read_of c.args.self.now.buffer.value) c.args.i c.args.page c.level-level.result c.vacate.ensures.sound c.requires.frame.0 c.requires.page.0
+    (c.in-Ok.ensures.loaded.1 ∙ ap (λ b. with_page c.vacate.new.self c.args.i (read_of b)) c.deref.ensures ∙ ap (λ v. with_page v c.args.i (read_of c.args.self.now.buffer.value)) c.vacate.ensures.vacated) c.settle.ensures

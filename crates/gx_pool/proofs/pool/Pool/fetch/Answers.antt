@@ -1,0 +1,19 @@
+use Rattle.std.proofs.Common.{◌≡◌, List, ℕ, subst, sym}
+use Rattle.gx_pool.specs.Area.{IsPassing}
+use Rattle.gx_pool.proofs.pool.Pool.fetch.Goals as goal
+
+pub returns-then-admit-clause-fetched : goal.returns-then-admit-clause-fetched
+returns-then-admit-clause-fetched g c = record {
+  brings = rw (← c.frame_to_use.ensures.unchanged, ← c.in_ok-read.ensures.same.0, ← c.in_ok-read.ensures.same.1) (c.admit.ensures.brings _ _ c.in_ok-read.ensures.read);
+  only_read = c.in_ok-read.ensures.only_read;
+  faults = c.in_ok-read.ensures.faults;
+  answer = c.if-admit.ensures.admitted;
+}
+
+pub returns-else-admit-clause-fetched : goal.returns-else-admit-clause-fetched
+returns-else-admit-clause-fetched g c = record {
+  brings = rw (← c.frame_to_use.ensures.unchanged, ← c.in_ok-read.ensures.same.0, ← c.in_ok-read.ensures.same.1) (c.admit.ensures.brings _ _ c.in_ok-read.ensures.read);
+  only_read = c.in_ok-read.ensures.only_read;
+  faults = c.in_ok-read.ensures.faults;
+  answer = (c.requires.absent, λ honest passing. c.if-admit.ensures.refused (rw (← c.in_ok-read.ensures.read honest, c.in_ok-read.ensures.same.1) passing));
+}

@@ -1,0 +1,10 @@
+use Rattle.std.proofs.Common.{◌≡◌, ◌∙◌, sym, ap}
+use Rattle.gx_page.specs.Format.{image_of}
+use Rattle.gx_pool.proofs.Writing.{wrote_ok}
+use Rattle.gx_pool.proofs.pool.Pool.write_frame.Goals as goal
+
+pub returns-in-Ok-clause-written : goal.returns-in-Ok-clause-written
+returns-in-Ok-clause-written g c = λ k is.
+    wrote_ok (g.D.SectorDisk.state c.args.disk.now) (g.D.SectorDisk.state c.write.new.self) c.args.self.now.frames c.stamp.new.self c.args.page c.args.i k c.image.result.now
+    c.requires.sound c.requires.frame.0 is c.stamp.ensures.stamped (c.image.ensures.image ∙ ap image_of c.page_in.ensures) c.image.ensures.size c.in-Ok.ensures.counts
+    (λ honest. rw (← c.first_sector.ensures) (c.in-Ok.ensures.writes honest))

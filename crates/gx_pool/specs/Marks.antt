@@ -1,0 +1,33 @@
+-- What is known of a frame besides its page.
+use Rattle.std.specs.Prelude.{◌≡◌, ℕ, ◌<◌, ◌≤◌, ◌==◌, ◌&&◌, Bool, true, false, not, if◌then◌else◌, List, slice_index_or, Option, Some, None, MatchOption, is_none, nat_le}
+use Rattle.std.specs.List.{list_any}
+use Rattle.gx_pool.specs.declared.mark.Mark.{Mark}
+
+-- of an empty frame
+abbrev pub empty : Mark
+empty = record { page = None; level = 0; stamp = None }
+
+-- whether a frame's page is among those held
+abbrev pub is_held : List ℕ → Option ℕ → Bool
+is_held held None = false
+is_held held (Some page) = list_any (λ other. other == page) held
+
+-- whether a frame is empty or has a clean page that isn't held
+abbrev pub clean : List ℕ → Mark → Bool
+clean held mark = is_none mark.stamp && not (is_held held mark.page)
+
+-- whether a page has changes, and all are in gated batches
+abbrev pub is_gated : ℕ → Option ℕ → Bool
+is_gated gated None = false
+is_gated gated (Some stamp) = nat_le stamp gated
+
+-- a frame's page, where it may be written
+abbrev pub writable : ℕ → Mark → Option ℕ
+writable gated mark = if is_gated gated mark.stamp then mark.page else None
+
+-- the page of one of the first n frames that may be written, none being less; or there is none
+abbrev pub IsLeast : ℕ → List Mark → ℕ → Option ℕ → Type 0
+IsLeast gated marks n least = MatchOption least
+    ((k : ℕ) → k < n → writable gated (slice_index_or marks k empty) ≡ None)
+    (λ page. ((k : ℕ) × (k < n) × (writable gated (slice_index_or marks k empty) ≡ Some page))
+    × ((k other : ℕ) → k < n → writable gated (slice_index_or marks k empty) ≡ Some other → page ≤ other))

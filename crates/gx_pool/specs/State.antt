@@ -1,0 +1,80 @@
+-- What frames hold.
+use Rattle.std.specs.Prelude.{◌≡◌, ◌⊎◌, ℕ, ◌<◌, ◌≤◌, ◌*◌, List, [], length, slice_index_or, Bool, true, false, Option, Some, None}
+use Rattle.gx_page.specs.Contents.{Contents}
+use Rattle.gx_page.specs.Edits.{blank}
+use Rattle.gx_pool.specs.declared.mark.Mark.{Mark}
+use Rattle.gx_pool.specs.Marks.{clean, empty, is_gated, is_held}
+
+pub record State : Type 0 where
+  -- the page in each frame
+  pub pages : List Contents
+  -- what is known of each frame besides
+  pub marks : List Mark
+  -- the frame of each page, by number
+  pub places : List (Option ℕ)
+  -- the pages that the event holds
+  pub held : List ℕ
+  -- the last batch that is gated
+  pub gated : ℕ
+
+-- a page that is kept, and the greatest batch that has a change of it, none where it is as the device has it
+pub record Kept : Type 0 where
+  pub page : Contents
+  pub stamp : Option ℕ
+
+abbrev pub mark_at : State → ℕ → Mark
+mark_at s i = slice_index_or s.marks i empty
+
+abbrev pub place_of : State → ℕ → Option ℕ
+place_of s page = slice_index_or s.places page None
+
+abbrev pub frame_at : State → ℕ → Kept
+frame_at s i = record { page = slice_index_or s.pages i (blank 0 0); stamp = (mark_at s i).stamp }
+
+abbrev pub kept_at : State → Option ℕ → Option Kept
+kept_at s None = None
+kept_at s (Some i) = Some (frame_at s i)
+
+-- what is kept of a page: the finite map that the pool is
+unfoldable pub kept : State → ℕ → Option Kept
+kept s page = kept_at s (place_of s page)
+
+abbrev pub stamp_of : Option Kept → Option ℕ
+stamp_of None = None
+stamp_of (Some k) = k.stamp
+
+-- frames and places name each other
+pub record IsSound (s : State) : Type 0 where
+  pub sizes : length s.pages ≡ length s.marks
+  pub few : length s.marks ≤ 4096
+  pub numbers : length s.places ≡ 65537
+  pub there : (page i : ℕ) → place_of s page ≡ Some i → (i < length s.marks) × ((mark_at s i).page ≡ Some page)
+  pub back : (i page : ℕ) → (mark_at s i).page ≡ Some page → place_of s page ≡ Some i
+
+-- the page has changes, and all are in gated batches
+abbrev pub IsWritable : State → ℕ → Type 0
+IsWritable s page = is_gated s.gated (stamp_of (kept s page)) ≡ true
+
+-- the page is kept and clean, and the event doesn't hold it
+pub record IsSpare (s : State) (page : ℕ) : Type 0 where
+  pub clean : stamp_of (kept s page) ≡ None
+  pub free : is_held s.held (Some page) ≡ false
+
+-- no frame is clean for the event: each has a page that is dirty or held
+abbrev pub NoneClean : State → Type 0
+NoneClean s = (i : ℕ) → i < length s.marks → clean s.held (mark_at s i) ≡ false
+
+-- the event holds these pages
+abbrev pub holding : State → List ℕ → State
+holding s pages = record s { held = pages }
+
+-- no page is kept in any of so many frames
+pub record IsEmpty (frames : ℕ) (s : State) : Type 0 where
+  pub count : length s.marks ≡ frames
+  pub none : (page : ℕ) → kept s page ≡ None
+  pub held : s.held ≡ []
+  pub gated : s.gated ≡ 0
+
+-- no page has changes that aren't on the device
+abbrev pub NoneDirty : State → Type 0
+NoneDirty s = (page : ℕ) → stamp_of (kept s page) ≡ None

@@ -1,0 +1,256 @@
+//! Frames, and the table of which page is in which.
+ghost use Rattle.std.specs.Prelude.{◌≡◌, ◌≢◌, ◌<◌, ◌≤◌, ◌+◌, ◌*◌, ◌↔◌, ⊤, ℕ, true, false, IsTrue, IsSome, IfOk, OnOk, OnErr, IfSome, IfNone, Some, None, length, slice_index_or, nat_le, max};
+ghost use Rattle.std.specs.Borrow.{sem};
+ghost use Rattle.std.specs.Bool.{OnTrue, OnFalse};
+ghost use Rattle.gx_page.specs.Edits.{blank};
+ghost use Rattle.gx_page.specs.Faults.{fault_of};
+ghost use Rattle.gx_page.specs.Reading.{IsImage, read_of};
+
+use crate::area::PAGES;
+use crate::mark::{self, HELD, Mark};
+use arrayvec::ArrayVec;
+use gx_page::{Page, PageFault};
+use std::alloc::{AllocError, Global};
+use std::marker::Model;
+
+/// How many frames a pool has at most.
+pub const FRAMES: usize = 4096;
+
+/// Frames with pages, and the frame of each page by its number.
+#[derive(Drop)]
+pub struct Frames {
+    pages: Vec<Page>,
+    marks: Vec<Mark>,
+    places: Vec<Option<u16>>,
+    held: ArrayVec<u32, HELD>,
+    gated: u64,
+    hand: usize,
+}
+
+impl Model for Frames {
+    ghost use Rattle.std.specs.Prelude.{◌≤◌, length};
+    ghost use Rattle.gx_pool.specs.State.{State, IsSound};
+
+    ghost Value = { State };
+
+    ghost view = { λ s. record { pages = s.pages.items; marks = s.marks.items; places = s.places.items; held = s.held.items; gated = s.gated } };
+
+    ghost invariant = { λ s. IsSound (record { pages = s.pages.items; marks = s.marks.items; places = s.places.items; held = s.held.items; gated = s.gated }) × (s.hand ≤ length s.marks.items) };
+}
+
+impl Frames {
+    ghost use Rattle.gx_pool.specs.Lending.{LendsPage, LendsChange};
+    ghost use Rattle.gx_pool.specs.Marks.{clean, empty, is_gated};
+    ghost use Rattle.gx_pool.specs.State.{State, IsEmpty, IsSound, place_of, mark_at, kept, stamp_of, NoneClean, IsWritable};
+    ghost use Rattle.gx_pool.specs.Edits.{vacated, with_page, settled, stamped};
+
+    /// So many empty frames, with the table of pages.
+    #[tactic(auto, using(crate::proofs::Places::empty_sound, crate::proofs::Places::kept_none))]
+    pub(crate) fn with_capacity(alloc: Global, frames: usize) -> Result<Frames, AllocError>
+        requires { frames ≤ FRAMES }
+        ensures { IfOk result (λ s. IsEmpty frames s) }
+    {
+        Ok(Frames {
+            pages: mark::blank_pages(alloc, frames)?,
+            marks: mark::empty_marks(alloc, frames)?,
+            places: mark::empty_places(alloc, PAGES + 1)?,
+            held: ArrayVec::new(),
+            gated: 0,
+            hand: 0,
+        })
+    }
+
+    /// The frame of a page.
+    pub(crate) fn place(&self, page: u32) -> Option<usize>
+        requires { page ≤ PAGES }
+        ensures place { result ≡ place_of self.now page }
+        ensures inside { IfSome result (λ i. i < length self.now.marks) }
+        ensures sound { IsSound self.now }
+    {
+        mark::place_in(&self.places, page as usize)
+    }
+
+    /// Whether a page is kept.
+    #[tactic(auto, using(crate::proofs::Places::some_kept, crate::proofs::Places::kept_none))]
+    pub(crate) fn is_kept(&self, page: u32) -> bool
+        requires { page ≤ PAGES }
+        ensures kept { OnTrue result (IsSome (kept self.now page)) }
+        ensures absent { OnFalse result (kept self.now page ≡ None) }
+    {
+        match self.place(page) {
+            Some(_) => true,
+            None => false,
+        }
+    }
+
+    /// The page in a frame.
+    pub(crate) fn page_in(&self, i: usize) -> &Page
+        requires { i < length self.now.marks }
+        ensures { result.now ≡ slice_index_or self.now.pages i (blank 0 0) }
+    {
+        &self.pages[i]
+    }
+
+    /// A page that is kept.
+    pub(crate) fn kept_page(&self, page: u32) -> &Page
+        requires page { page ≤ PAGES }
+        requires kept { IsSome (kept self.now page) }
+        ensures { IfSome (kept self.now page) (λ k. result.now ≡ k.page) }
+    {
+        match self.place(page) {
+            Some(i) => self.page_in(i),
+            None => unreachable!(),
+        }
+    }
+
+    /// The frame for a page that comes in.
+    pub(crate) fn frame_to_use(&mut self) -> Option<usize>
+        ensures found { IfSome result (λ i. (i < length self.old.marks) × (clean self.old.held (mark_at self.old i) ≡ true)) }
+        ensures none { IfNone result (NoneClean self.old) }
+        ensures unchanged { self.new ≡ self.old }
+        ensures sound { IsSound self.old }
+    {
+        let found = mark::frame_to_use(&self.marks, &self.held, self.hand);
+        if let Some(i) = found {
+            self.hand = i;
+        }
+        found
+    }
+
+    /// Empties a frame.
+    #[tactic(auto, using(crate::proofs::Places::vacated_sound))]
+    pub(crate) fn vacate(&mut self, i: usize)
+        requires { i < length self.old.marks }
+        ensures vacated { self.new ≡ vacated self.old i }
+        ensures sound { IsSound self.old }
+    {
+        let mark = mark::mark_in(&self.marks, i);
+        mark::forget(&mut self.places, mark.page);
+        self.marks[i] = Mark::empty();
+    }
+
+    /// Reads an image into an empty frame.
+    #[tactic(auto, using(crate::proofs::Places::with_page_sound))]
+    pub(crate) fn load(&mut self, i: usize, bytes: &[u8]) -> Result<(), PageFault>
+        requires { i < length self.old.marks }
+        ensures loaded { OnOk result (IsImage bytes.now × (self.new ≡ with_page self.old i (read_of bytes.now))) }
+        ensures fault { OnErr result ((fault_of bytes.now ≢ None) × (self.new ≡ self.old)) }
+        ensures faultless { (fault_of bytes.now ≡ None) ↔ IsImage bytes.now }
+    {
+        self.pages[i].load(bytes)
+    }
+
+    /// Gives an empty frame to a page that has none.
+    #[tactic(auto, using(crate::proofs::Places::settled_sound))]
+    pub(crate) fn settle(&mut self, i: usize, page: u32, level: u16, stamp: Option<u64>)
+        requires frame { (i < length self.old.marks) × ((mark_at self.old i).page ≡ None) }
+        requires page { (page ≤ PAGES) × (place_of self.old page ≡ None) }
+        ensures { self.new ≡ settled self.old i page level stamp }
+    {
+        self.marks[i] = Mark {
+            page: Some(page),
+            level,
+            stamp,
+        };
+        self.places[page as usize] = Some(i as u16);
+    }
+
+    /// Stamps the page in a frame, or says that it is as the device has it.
+    #[tactic(auto, using(crate::proofs::Places::stamped_sound))]
+    pub(crate) fn stamp(&mut self, i: usize, stamp: Option<u64>)
+        requires { i < length self.old.marks }
+        ensures stamped { self.new ≡ stamped self.old i stamp }
+        ensures sound { IsSound self.old }
+    {
+        let mark = mark::mark_in(&self.marks, i);
+        self.marks[i] = Mark { stamp, ..mark };
+    }
+
+    /// A page that is kept, to change, as of a batch.
+    pub(crate) fn change_kept(&mut self, page: u32, batch: u64) -> &mut Page
+        requires page { page ≤ PAGES }
+        requires kept { IsSome (kept self.old page) }
+        ensures* writes_back { sem 𝓛 (LendsChange self.entry page batch result) }
+        ensures page { IfSome (kept self.old page) (λ k. result.now ≡ k.page) }
+        ensures sound { IsSound self.old }
+    {
+        match self.place(page) {
+            Some(i) => {
+                let stamp = mark::later(batch, self.mark(i).stamp);
+                self.stamp(i, Some(stamp));
+                self.page_mut(i)
+            }
+            None => unreachable!(),
+        }
+    }
+
+    /// The page in a frame, to change.
+    #[tactic(auto, using(crate::proofs::Places::with_page_sound))]
+    pub(crate) fn page_mut(&mut self, i: usize) -> &mut Page
+        requires { i < length self.old.marks }
+        ensures* writes_back { sem 𝓛 (LendsPage self.entry i result) }
+        ensures page { result.now ≡ slice_index_or self.old.pages i (blank 0 0) }
+        ensures sound { IsSound self.old }
+    {
+        &mut self.pages[i]
+    }
+
+    /// What is known of a frame besides its page.
+    pub(crate) fn mark(&self, i: usize) -> Mark
+        requires { i < length self.now.marks }
+        ensures { result ≡ mark_at self.now i }
+    {
+        self.marks[i]
+    }
+
+    /// The least page that may be written.
+    #[tactic(auto, using(crate::proofs::Places::least_found, crate::proofs::Places::least_none))]
+    pub(crate) fn dirty(&self) -> Option<u32>
+        ensures found { IfSome result (λ page. IsWritable self.now page × ((q : ℕ) → IsWritable self.now q → page ≤ q)) }
+        ensures none { IfNone result ((q : ℕ) → IsWritable self.now q → ⊥) }
+    {
+        mark::least_writable(&self.marks, self.gated)
+    }
+
+    /// The frame of a page that may be written.
+    #[tactic(auto, using(crate::proofs::Places::placed_gated, crate::proofs::Places::unplaced_gated))]
+    pub(crate) fn writable(&self, page: u32) -> Option<usize>
+        requires { page ≤ PAGES }
+        ensures some { IfSome result (λ i. (is_gated self.now.gated (stamp_of (kept self.now page)) ≡ true) × (place_of self.now page ≡ Some i) × (i < length self.now.marks)) }
+        ensures none { IfNone result (is_gated self.now.gated (stamp_of (kept self.now page)) ≡ false) }
+        ensures sound { IsSound self.now }
+    {
+        match self.place(page) {
+            Some(i) => {
+                if self.mark(i).is_gated(self.gated) {
+                    Some(i)
+                } else {
+                    None
+                }
+            }
+            None => None,
+        }
+    }
+
+    /// Holds these pages and no others.
+    pub(crate) fn hold(&mut self, pages: &[u32])
+        requires { length pages.now ≤ HELD }
+        ensures { self.new ≡ record self.old { held = pages.now } }
+    {
+        mark::hold(&mut self.held, pages);
+    }
+
+    /// The last batch that is gated.
+    pub(crate) fn gated(&self) -> u64
+        ensures { result ≡ self.now.gated }
+    {
+        self.gated
+    }
+
+    /// Tells how far batches are gated.
+    pub(crate) fn set_gated(&mut self, batch: u64)
+        ensures { self.new ≡ record self.old { gated = batch } }
+    {
+        self.gated = batch;
+    }
+}

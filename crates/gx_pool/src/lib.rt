@@ -1,0 +1,19 @@
+//! The frame pool: pages of a device in frames, each page its last change, and none written before its changes are gated.
+#![tactic(auto)]
+
+mod area;
+mod fault;
+mod frames;
+pub mod laws;
+mod mark;
+mod passing;
+mod pool;
+#[cfg(test)]
+mod tests;
+
+pub use area::{AREA, PAGE_SECTORS, PAGES};
+pub use fault::PoolFault;
+pub use frames::FRAMES;
+pub use mark::HELD;
+pub use passing::PageTest;
+pub use pool::Pool;

@@ -1,0 +1,205 @@
+//! What is known of a frame besides its page.
+ghost use Rattle.std.specs.Prelude.{◌≡◌, ◌==◌, ◌<◌, ◌+◌, ◌≤◌, true, false, ℕ, length, slice_index_or, Some, None, MatchOption, IfSome, IfNone, IfOk};
+ghost use Rattle.std.specs.List.{list_any};
+ghost use Rattle.gx_pool.specs.Edits.{forgotten, later};
+ghost use Rattle.gx_pool.specs.Marks.{clean, empty, is_gated, writable, IsLeast};
+
+use arrayvec::ArrayVec;
+use gx_page::Page;
+use std::alloc::{AllocError, Global};
+
+/// How many pages an event may hold.
+pub const HELD: usize = 4;
+
+/// What a frame holds: the number of its page, none for an empty frame; the level that the page had as it came; and the
+/// greatest batch that has a change of it, none where it is as the device has it.
+#[derive(Clone, Copy)]
+pub struct Mark {
+    pub(crate) page: Option<u32>,
+    pub(crate) level: u16,
+    pub(crate) stamp: Option<u64>,
+}
+
+/// Whether a page is among those held.
+fn is_among(page: u32, held: &[u32]) -> bool
+    ensures { result ≡ list_any (λ other. other == page) held.now }
+{
+    held.iter().any(|other| *other == page)
+}
+
+/// What is known of a frame.
+pub(crate) fn mark_in(marks: &[Mark], i: usize) -> Mark
+    requires { i < length marks.now }
+    ensures { result ≡ slice_index_or marks.now i empty }
+{
+    marks[i]
+}
+
+/// The later of a batch and the stamp that a page has, if it has one.
+pub(crate) fn later(batch: u64, stamp: Option<u64>) -> u64
+    ensures { result ≡ later batch stamp }
+{
+    match stamp {
+        Some(was) => was.max(batch),
+        None => batch,
+    }
+}
+
+/// The frame of a page.
+pub(crate) fn place_in(places: &[Option<u16>], page: usize) -> Option<usize>
+    requires { page < length places.now }
+    ensures { result ≡ slice_index_or places.now page None }
+{
+    match places[page] {
+        Some(i) => Some(usize::from(i)),
+        None => None,
+    }
+}
+
+/// Holds these pages and no others.
+pub(crate) fn hold(held: &mut ArrayVec<u32, HELD>, pages: &[u32])
+    requires { length pages.now ≤ HELD }
+    ensures { held.new.items ≡ pages.now }
+{
+    held.clear();
+    for page in pages {
+        held.push(*page);
+    }
+}
+
+/// Forgets the frame of a page, where there is one.
+pub(crate) fn forget(places: &mut Vec<Option<u16>>, page: Option<u32>)
+    requires { IfSome page (λ p. p < length places.old.items) }
+    ensures { places.new.items ≡ forgotten places.old.items page }
+{
+    if let Some(page) = page {
+        places[page as usize] = None;
+    }
+}
+
+impl Mark {
+    /// Of an empty frame.
+    pub(crate) fn empty() -> Mark
+        ensures { result ≡ empty }
+    {
+        Mark {
+            page: None,
+            level: 0,
+            stamp: None,
+        }
+    }
+
+    /// Whether the frame is empty, or has a clean page that isn't among those held.
+    pub(crate) fn is_clean(&self, held: &[u32]) -> bool
+        ensures { result ≡ clean held.now self.now }
+    {
+        if self.stamp.is_some() {
+            return false;
+        }
+        match self.page {
+            None => true,
+            Some(page) => !is_among(page, held),
+        }
+    }
+
+    /// Whether its page is dirty and all its changes are in gated batches.
+    pub(crate) fn is_gated(&self, gated: u64) -> bool
+        ensures { result ≡ is_gated gated self.now.stamp }
+    {
+        self.stamp.is_some_and(|stamp| stamp <= gated)
+    }
+
+    /// Its page, where it is dirty and all its changes are in gated batches.
+    pub(crate) fn writable(&self, gated: u64) -> Option<u32>
+        ensures { result ≡ writable gated self.now }
+    {
+        match self.stamp {
+            Some(stamp) if stamp <= gated => self.page,
+            _ => None,
+        }
+    }
+}
+
+/// The first clean frame between two places, or the first one with a leaf.
+fn clean_between(marks: &[Mark], held: &[u32], from: usize, to: usize, leaf: bool) -> Option<usize>
+    requires { to ≤ length marks.now }
+    ensures found { IfSome result (λ i. (i < length marks.now) × (clean held.now (slice_index_or marks.now i empty) ≡ true)) }
+    ensures none { leaf ≡ false → IfNone result ((k : ℕ) → from ≤ k → k < to → clean held.now (slice_index_or marks.now k empty) ≡ false) }
+{
+    for i in from..to {
+        let mark = marks[i];
+        if mark.is_clean(held) && (!leaf || mark.level == 0) {
+            return Some(i);
+        }
+    }
+    None
+}
+
+/// The frame for a page that comes in: the first clean one with a leaf, or empty, from the hand on and round; and where
+/// there is none, any clean one.
+pub(crate) fn frame_to_use(marks: &[Mark], held: &[u32], hand: usize) -> Option<usize>
+    requires { hand ≤ length marks.now }
+    ensures found { IfSome result (λ i. (i < length marks.now) × (clean held.now (slice_index_or marks.now i empty) ≡ true)) }
+    ensures none { IfNone result ((k : ℕ) → k < length marks.now → clean held.now (slice_index_or marks.now k empty) ≡ false) }
+{
+    let count = marks.len();
+    if let Some(i) = clean_between(marks, held, hand, count, true) {
+        return Some(i);
+    }
+    if let Some(i) = clean_between(marks, held, 0, hand, true) {
+        return Some(i);
+    }
+    clean_between(marks, held, 0, count, false)
+}
+
+/// The least page that may be written.
+pub(crate) fn least_writable(marks: &[Mark], gated: u64) -> Option<u32>
+    ensures { IsLeast gated marks.now (length marks.now) result }
+{
+    let mut least: Option<u32> = None;
+    for mark in marks {
+        match mark.writable(gated) {
+            Some(page) if least.is_none_or(|other| page < other) => least = Some(page),
+            _ => {}
+        }
+    }
+    least
+}
+
+/// So many empty frames.
+#[tactic(auto, using(crate::proofs::Places::one_same))]
+pub(crate) fn empty_marks(alloc: Global, frames: usize) -> Result<Vec<Mark>, AllocError>
+    ensures { IfOk result (λ marks. (length marks.items ≡ frames) × ((k : ℕ) → slice_index_or marks.items k empty ≡ empty)) }
+{
+    let mut marks = Vec::with_capacity(alloc, frames)?;
+    for _i in 0..frames {
+        marks.push(Mark::empty())?;
+    }
+    Ok(marks)
+}
+
+/// A table of so many numbers of pages that have no frame.
+#[tactic(auto, using(crate::proofs::Places::one_same))]
+pub(crate) fn empty_places(alloc: Global, pages: usize) -> Result<Vec<Option<u16>>, AllocError>
+    ensures { IfOk result (λ places. (length places.items ≡ pages) × ((k : ℕ) → slice_index_or places.items k None ≡ None)) }
+{
+    let mut places = Vec::with_capacity(alloc, pages)?;
+    for _i in 0..pages {
+        places.push(None)?;
+    }
+    Ok(places)
+}
+
+/// So many pages.
+pub(crate) fn blank_pages(alloc: Global, frames: usize) -> Result<Vec<Page>, AllocError>
+    ensures { IfOk result (λ pages. length pages.items ≡ frames) }
+{
+    let mut pages = Vec::with_capacity(alloc, frames)?;
+    for _i in 0..frames {
+        let Ok(page) = Page::fresh(alloc, 0, 0) else {
+            return Err(AllocError);
+        };
+        pages.push(page)?;
+    }
+    Ok(pages)
+}

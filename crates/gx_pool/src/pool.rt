@@ -1,0 +1,246 @@
+//! The pool: pages of a device that is lent to each call that may use it.
+ghost use Rattle.std.specs.Prelude.{Bool, List, ◌≡◌, ◌≢◌, ◌⊎◌, ◌<◌, ◌≤◌, ◌+◌, ◌/◌, ℕ, [], true, false, Some, None, IsSome, IfSome, IfNone, IfOk, OnOk, OnErr, length, slice_index, slice_index_or, max};
+ghost use Rattle.std.specs.Borrow.{sem};
+ghost use Rattle.std.specs.Bool.{OnTrue, OnFalse};
+ghost use Rattle.gx_page.specs.Edits.{blank};
+ghost use Rattle.gx_pool.specs.Area.{bytes_of, IsPage, IsPassing};
+ghost use Rattle.gx_pool.specs.Marks.{clean, empty, is_gated};
+ghost use Rattle.gx_pool.specs.State.{State, Kept, IsEmpty, IsSound, NoneDirty, holding, kept, mark_at, place_of, stamp_of, NoneClean, IsWritable};
+ghost use Rattle.gx_pool.specs.Writing.{WritesPage};
+ghost use Rattle.gx_pool.specs.Bringing.{Brings, BringsOne, HasImage, OnlyRead, faults_of, BringsAll};
+
+use crate::area::{PAGES, first_sector};
+use crate::fault::PoolFault;
+use crate::frames::{FRAMES, Frames};
+use crate::mark::HELD;
+use crate::passing::PageTest;
+use gx_disk::SectorDisk;
+use gx_page::{PAGE_SIZE, Page};
+use std::alloc::{AllocError, Global};
+
+/// Frames with pages, and the test that each passes as it comes in.
+#[derive(Drop)]
+pub struct Pool<T> {
+    frames: Frames,
+    buffer: Box<[u8; PAGE_SIZE]>,
+    test: T,
+}
+
+impl<T: PageTest> Pool<T> {
+    ghost use Rattle.gx_pool.specs.Lending.{lends_change};
+
+    /// A pool of so many frames, all empty, with the test of its pages. All memory that it ever takes is taken here.
+    pub fn with_capacity(alloc: Global, frames: usize, test: T) -> Result<Pool<T>, AllocError>
+        requires { frames ≤ FRAMES }
+        ensures { IfOk result (λ pool. IsEmpty frames pool.frames × (pool.test ≡ test)) }
+    {
+        Ok(Pool {
+            frames: Frames::with_capacity(alloc, frames)?,
+            buffer: Box::new(alloc, zeroed::<PAGE_SIZE>())?,
+            test,
+        })
+    }
+
+    /// Whether a frame has the page of a number and it passes the test.
+    fn is_right(&self, i: usize, page: u32) -> bool
+        requires { i < length self.now.frames.marks }
+        ensures yes { OnTrue result (((slice_index_or self.now.frames.pages i (blank 0 0)).number ≡ page) × (T.passes self.now.test (slice_index_or self.now.frames.pages i (blank 0 0)) ≡ true)) }
+        ensures no { OnFalse result ((slice_index_or self.now.frames.pages i (blank 0 0)).number ≡ page → T.passes self.now.test (slice_index_or self.now.frames.pages i (blank 0 0)) ≡ true → ⊥) }
+    {
+        let read = self.frames.page_in(i);
+        read.number() == page && self.test.passes(read)
+    }
+
+    /// Reads a page's sectors into the buffer.
+    fn read<D: SectorDisk>(&mut self, disk: &mut D, page: u32) -> Result<(), PoolFault>
+        requires { IsPage (D.state disk.old).sectors page }
+        ensures only_read { OnlyRead (D.state disk.old) (D.state disk.new) }
+        ensures read { OnOk result ((D.state disk.old).honest ≡ true → bytes_of (D.state disk.old).seen page ≡ self.new.buffer.value) }
+        ensures faults { (D.state disk.new).faults ≡ (D.state disk.old).faults + faults_of result }
+        ensures fault { OnErr result (result ≡ Err PoolFault.Device) }
+        ensures same { (self.new.frames ≡ self.old.frames) × (self.new.test ≡ self.old.test) }
+    {
+        match disk.read(first_sector(page), &mut self.buffer[..]) {
+            Ok(()) => Ok(()),
+            Err(_) => Err(PoolFault::Device),
+        }
+    }
+
+    /// Takes the bytes that were read into a frame, where they are the image of the page and it passes the test.
+    fn admit(&mut self, i: usize, page: u32) -> bool
+        requires frame { (i < length self.old.frames.marks) × (clean self.old.frames.held (mark_at self.old.frames i) ≡ true) }
+        requires page { (page ≤ 65536) × (kept self.old.frames page ≡ None) }
+        ensures brings { (d : Bool) (seen : List ℕ) → (d ≡ true → bytes_of seen page ≡ self.old.buffer.value) → Brings (T.passes self.old.test) d seen self.old.frames self.new.frames }
+        ensures admitted { OnTrue result (IsSome (kept self.new.frames page)) }
+        ensures refused { OnFalse result (¬ IsPassing (T.passes self.old.test) page self.old.buffer.value) }
+        ensures test { self.new.test ≡ self.old.test }
+    {
+        self.frames.vacate(i);
+        let Ok(()) = self.frames.load(i, &self.buffer[..]) else {
+            return false;
+        };
+        if !self.is_right(i, page) {
+            return false;
+        }
+        let level = self.frames.page_in(i).level();
+        self.frames.settle(i, page, level, None);
+        true
+    }
+
+    /// Reads a page that isn't kept into a frame.
+    fn fetch<D: SectorDisk>(&mut self, disk: &mut D, page: u32) -> Result<(), PoolFault>
+        requires page { IsPage (D.state disk.old).sectors page }
+        requires absent { kept self.old.frames page ≡ None }
+        ensures fetched { BringsOne (T.passes self.old.test) (D.state disk.old) (D.state disk.new) self.old.frames self.new.frames page result }
+        ensures test { self.new.test ≡ self.old.test }
+    {
+        let Some(i) = self.frames.frame_to_use() else {
+            return Err(PoolFault::NoCleanFrame);
+        };
+        self.read(disk, page)?;
+        if self.admit(i, page) {
+            Ok(())
+        } else {
+            Err(PoolFault::Damaged)
+        }
+    }
+
+    /// Brings a page into a frame, unless it is in one, and leaves what is held as it is: `page` reads it then.
+    ///
+    /// Refused with `NoCleanFrame` where it isn't in a frame and none is empty or holds a clean page that isn't held, with
+    /// `Device` where the device failed, and with `Damaged` where it has no page of that number, or one that fails the test.
+    pub fn bring_one<D: SectorDisk>(&mut self, disk: &mut D, page: u32) -> Result<(), PoolFault>
+        requires { IsPage (D.state disk.old).sectors page }
+        ensures brought { BringsOne (T.passes self.old.test) (D.state disk.old) (D.state disk.new) self.old.frames self.new.frames page result }
+        ensures test { self.new.test ≡ self.old.test }
+    {
+        if self.frames.is_kept(page) {
+            return Ok(());
+        }
+        self.fetch(disk, page)
+    }
+
+    /// Holds these pages, up to four, and lets go what was held; those that aren't kept are read. What an event uses is
+    /// brought first: then its pages can be read and changed, and none of that fails.
+    ///
+    /// Refused with the fault of the first page that can't be brought: `NoCleanFrame` where no frame is empty or holds a
+    /// clean page other than these, `Device` where the device failed, and `Damaged` where it has no page of that number, or
+    /// one that fails the test. The pages before it have come, and dirty pages are as they were.
+    pub fn bring<D: SectorDisk>(&mut self, disk: &mut D, pages: &[u32]) -> Result<(), PoolFault>
+        requires few { length pages.now ≤ HELD }
+        requires pages { (k : ℕ) → k < length pages.now → IsPage (D.state disk.old).sectors (slice_index pages.now k) }
+        ensures brought { BringsAll (T.passes self.old.test) (D.state disk.old) (D.state disk.new) (holding self.old.frames pages.now) self.new.frames pages.now result }
+        ensures test { self.new.test ≡ self.old.test }
+    {
+        self.frames.hold(pages);
+        for page in pages {
+            self.bring_one(disk, *page)?;
+        }
+        Ok(())
+    }
+
+    /// Writes the page in a frame to its sectors; it is clean then.
+    fn write_frame<D: SectorDisk>(
+        &mut self,
+        disk: &mut D,
+        i: usize,
+        page: u32,
+    ) -> Result<(), PoolFault>
+        requires page { IsPage (D.state disk.old).sectors page }
+        requires frame { (place_of self.old.frames page ≡ Some i) × (i < length self.old.frames.marks) }
+        requires sound { IsSound self.old.frames }
+        ensures written { (k : Kept) → kept self.old.frames page ≡ Some k → WritesPage (D.state disk.old) (D.state disk.new) self.old.frames self.new.frames page k result }
+        ensures fault { OnErr result (result ≡ Err PoolFault.Device) }
+        ensures test { self.new.test ≡ self.old.test }
+    {
+        match disk.write(first_sector(page), self.frames.page_in(i).image()) {
+            Ok(()) => {
+                self.frames.stamp(i, None);
+                Ok(())
+            }
+            Err(_unwritten) => Err(PoolFault::Device),
+        }
+    }
+
+    /// Writes a page to its sectors, where it has changes and all of them are in gated batches; else nothing is done. Once
+    /// it is written it is clean, and its frame may go to another page.
+    ///
+    /// Refused with `Device` where the device failed. The page is then kept as it was, with its changes.
+    pub fn write_page<D: SectorDisk>(&mut self, disk: &mut D, page: u32) -> Result<(), PoolFault>
+        requires { IsPage (D.state disk.old).sectors page }
+        ensures idle { is_gated self.old.frames.gated (stamp_of (kept self.old.frames page)) ≡ false → (result ≡ Ok tt) × (self.new ≡ self.old) × (disk.new ≡ disk.old) }
+        ensures written { (k : Kept) → kept self.old.frames page ≡ Some k → is_gated self.old.frames.gated k.stamp ≡ true → WritesPage (D.state disk.old) (D.state disk.new) self.old.frames self.new.frames page k result }
+        ensures fault { OnErr result (result ≡ Err PoolFault.Device) }
+        ensures test { self.new.test ≡ self.old.test }
+    {
+        match self.frames.writable(page) {
+            Some(i) => self.write_frame(disk, i, page),
+            None => Ok(()),
+        }
+    }
+
+    /// The least page that has changes, all of them in gated batches: one that `write_page` writes.
+    pub fn dirty(&self) -> Option<u32>
+        ensures found { IfSome result (λ page. IsWritable self.now.frames page × ((q : ℕ) → IsWritable self.now.frames q → page ≤ q)) }
+        ensures none { IfNone result ((q : ℕ) → IsWritable self.now.frames q → ⊥) }
+    {
+        self.frames.dirty()
+    }
+
+    /// Tells how far the log is: batches up to this one are gated.
+    pub fn gated(&mut self, batch: u64)
+        ensures { self.new ≡ record self.old { frames = record self.old.frames { gated = batch } } }
+    {
+        self.frames.set_gated(batch);
+    }
+
+    /// Tells that a checkpoint has ended: the log goes on behind batch 0, which is gated, in the other extent. All pages were
+    /// written before.
+    pub fn turned(&mut self)
+        requires { NoneDirty self.old.frames }
+        ensures { self.new ≡ record self.old { frames = record self.old.frames { gated = 0 } } }
+    {
+        self.frames.set_gated(0);
+    }
+
+    /// Lets go what is held.
+    pub fn release(&mut self)
+        ensures { self.new ≡ record self.old { frames = record self.old.frames { held = [] } } }
+    {
+        self.frames.hold(&[]);
+    }
+
+    /// Whether a page is in a frame.
+    pub fn is_kept(&self, page: u32) -> bool
+        requires { page ≤ PAGES }
+        ensures kept { OnTrue result (IsSome (kept self.now.frames page)) }
+        ensures absent { OnFalse result (kept self.now.frames page ≡ None) }
+    {
+        self.frames.is_kept(page)
+    }
+
+    /// A page that is in a frame, to read; several may be read at once.
+    pub fn page(&self, page: u32) -> &Page
+        requires page { page ≤ PAGES }
+        requires kept { IsSome (kept self.now.frames page) }
+        ensures { IfSome (kept self.now.frames page) (λ k. result.now ≡ k.page) }
+    {
+        self.frames.kept_page(page)
+    }
+
+    /// A page that is in a frame, to change, as of a batch: its greatest stamp is that batch, or a later one that it had.
+    pub fn change_kept(&mut self, page: u32, batch: u64) -> &mut Page
+        requires page { page ≤ PAGES }
+        requires kept { IsSome (kept self.old.frames page) }
+        ensures* writes_back { sem 𝓛 (lends_change T.row self.entry page batch result) }
+        ensures page { IfSome (kept self.old.frames page) (λ k. result.now ≡ k.page) }
+        ensures sound { IsSound self.old.frames }
+    {
+        self.frames.change_kept(page, batch)
+    }
+}
+
+/// So many zeros.
+fn zeroed<const N: usize>() -> [u8; N] {
+    [0; N]
+}
