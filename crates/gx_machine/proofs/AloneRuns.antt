@@ -1,6 +1,6 @@
 -- A committed transaction reads as if it had run alone where its commit was sealed.
 use Rattle.std.proofs.Common.{◌≡◌, ◌≢◌, ℕ, ◌+◌, ◌-◌, Bool, true, false, ◌⊎◌, inl, inr, List, [], ◌∷◌, ◌++◌, Option, Some, None, length, refl, ap, sym, ◌∙◌, subst, eq-eqb}
-use Rattle.std.specs.Prelude.{if◌then◌else◌, nat_lt, ◌==◌, slice_set, Result, Ok, Err}
+use Rattle.std.specs.Prelude.{if◌then◌else◌, ◌==◌, slice_set, Result, Ok, Err}
 use Rattle.std.proofs.lemmas.Bool.{ne_eqb}
 use Rattle.std.proofs.lemmas.List.Elements.{All-head, All-tail}
 use Rattle.std.proofs.Math.Decide.{ℕ_discrete}
@@ -13,7 +13,7 @@ use Rattle.gx_machine.specs.declared.reply.Reply.TheVariants as reply
 use Rattle.gx_machine.specs.declared.reply.Asked.{Asked}
 use Rattle.gx_machine.specs.declared.reply.Asked.TheVariants as asked
 use Rattle.gx_machine.specs.Keys.{Keys, IsLawful}
-use Rattle.gx_machine.specs.Sessions.{Session, Idle, Open, Aborting, Committing, Locks, Changes, no_locks, no_changes, view, lock_for, asked_with, ask_open, ask_session, answer_call, answer_session, closed_session}
+use Rattle.gx_machine.specs.Sessions.{Session, Idle, Open, Aborting, Committing, Locks, Changes, no_locks, no_changes, lock_for, asked_with, ask_open, ask_session, answer_call, answer_session, closed_session}
 use Rattle.gx_machine.specs.Machine.{Machine, newest, is_session, session_at, with_session, least_conflicting, claims_held, ask, answer, seal, close, crash}
 use Rattle.gx_machine.specs.Runs.{Step, Asks, Answers, Seals, Durable, Closes, RefusesAsk, RefusesCall, Fails, Crashes, Nothing, IsStep, IsRun, AskRefused, MeetsFault}
 use Rattle.gx_machine.specs.Invariants.{KeptInOrder, AllIdle}

@@ -11,7 +11,6 @@ use Rattle.gx_machine.specs.declared.call.Call.{Call}
 use Rattle.gx_machine.specs.declared.call.Call.TheVariants.{Begin, Insert, Delete, Search, Commit, Abort}
 use Rattle.gx_machine.specs.declared.reply.Reply.{Reply}
 use Rattle.gx_machine.specs.declared.reply.Reply.TheVariants as reply
-use Rattle.gx_machine.specs.declared.reply.Asked.{Asked}
 use Rattle.gx_machine.specs.declared.reply.Asked.TheVariants as asked
 use Rattle.gx_machine.specs.declared.limits.TheConstants.{MAX_CLAIMS, MAX_PREDICATES}
 use Rattle.gx_machine.specs.Keys.{Keys, IsLawful, matches}
@@ -23,7 +22,7 @@ use Rattle.gx_machine.specs.Invariants.{KeptInOrder}
 use Rattle.gx_machine.proofs.SetLaws.{in_order_filter, has-filter}
 use Rattle.gx_machine.proofs.SessionMoves.{value_of, claim_given, predicate_given, insert_answered, delete_answered, commit_answered}
 use Rattle.gx_machine.proofs.Places.{session_bounds, others_clear, idle_clear}
-use Rattle.gx_machine.proofs.StepEffects.{mapped, asked_session, asked_there}
+use Rattle.gx_machine.proofs.StepEffects.{mapped, asked_there}
 use Rattle.gx_machine.proofs.StepsKeep.{view_in_order}
 
 module _ {B : Type 0} (k : Keys B) where

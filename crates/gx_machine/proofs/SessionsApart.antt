@@ -1,6 +1,5 @@
 -- What each move of a session keeps: its transaction stays sound, and its locks apart from those of the others.
 use Rattle.std.proofs.Common.{◌≡◌, Bool, true, false, ◌||◌, inl, inr, List, [], ◌∷◌, ◌++◌, refl, ap, sym, ◌∙◌}
-use Rattle.std.specs.Prelude.{None, Some, Option}
 use Rattle.std.specs.List.{list_any}
 use Rattle.std.proofs.lemmas.Bool.{or_from, or_parts}
 use Rattle.std.proofs.lemmas.List.Folds.{list_any-append}
@@ -9,8 +8,8 @@ use Rattle.gx_machine.specs.declared.query.Query.{Query}
 use Rattle.gx_machine.specs.declared.call.Call.{Call}
 use Rattle.gx_machine.specs.declared.call.Call.TheVariants.{Insert, Search}
 use Rattle.gx_machine.specs.Keys.{Keys, IsLawful, same_entry, same_query, matches}
-use Rattle.gx_machine.specs.Sets.{has, including, InOrder}
-use Rattle.gx_machine.specs.Sessions.{Session, Idle, Open, Aborting, Committing, Locks, locks_of, has_query, conflicts}
+use Rattle.gx_machine.specs.Sets.{has, including}
+use Rattle.gx_machine.specs.Sessions.{Session, Locks, locks_of, has_query, conflicts}
 use Rattle.gx_machine.specs.Invariants.{Apart, IsSound}
 use Rattle.gx_machine.proofs.SetLaws.{has-including, same_is, in_order_including}
 use Rattle.gx_machine.proofs.SessionMoves.{Move, stays, begins, asks, claims, watches, aborts, answers, ends, included_covers, or_either, same_query_is}

@@ -10,7 +10,7 @@ use Rattle.gx_machine.specs.Keys.{Keys, IsLawful, entry_cmp, same_entry, matches
 use Rattle.gx_machine.specs.Sets.{has, including, excluding, including_all, excluding_all, found, Before, InOrder, IsSetOf}
 use Rattle.gx_machine.specs.Sessions.{Changes, view}
 use Rattle.gx_machine.proofs.SetLaws.{entry_total, same_is, has-including, has-including_all, has-filter, has-view, in_order_including, in_order_including_all, in_order_filter}
-use Rattle.gx_machine.proofs.SessionMoves.{or_either, or_first, or_second, same_itself}
+use Rattle.gx_machine.proofs.SessionMoves.{or_either, or_first, same_itself}
 use Rattle.gx_machine.proofs.StepsKeep.{view_in_order}
 
 module _ {B : Type 0} (k : Keys B) (l : IsLawful k) where

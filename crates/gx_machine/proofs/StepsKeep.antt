@@ -1,5 +1,5 @@
 -- What each step keeps: kept sets in order, locks apart from one another, and transactions sound.
-use Rattle.std.proofs.Common.{◌≡◌, ◌≢◌, ℕ, zero, suc, ◌+◌, ◌-◌, true, not, inl, inr, List, [], ◌∷◌, ◌++◌, replicate, refl, sym, ◌∙◌, subst}
+use Rattle.std.proofs.Common.{◌≡◌, ◌≢◌, ℕ, zero, suc, ◌+◌, ◌-◌, true, not, inl, inr, List, [], ◌∷◌, replicate, refl, sym, ◌∙◌, subst}
 use Rattle.std.specs.Prelude.{slice_set, All}
 use Rattle.std.specs.List.{slice_index_or}
 use Rattle.std.proofs.lemmas.List.{length-set}
@@ -7,7 +7,7 @@ use Rattle.std.proofs.lemmas.List.Elements.{All-drop, All-nil, All-head, All-tai
 use Rattle.gx_machine.specs.declared.entry.Entry.{Entry}
 use Rattle.gx_machine.specs.Keys.{Keys, IsLawful}
 use Rattle.gx_machine.specs.Sets.{has, excluding_all, InOrder}
-use Rattle.gx_machine.specs.Sessions.{Session, Idle, Committing, Locks, Changes, no_locks, locks_of, view}
+use Rattle.gx_machine.specs.Sessions.{Session, Idle, Committing, Changes, locks_of, view}
 use Rattle.gx_machine.specs.Machine.{Machine, newest, kept_sets, is_session, session_at}
 use Rattle.gx_machine.specs.Runs.{Step, IsStep, IsRun}
 use Rattle.gx_machine.specs.Invariants.{KeptInOrder, AllIdle, Apart, LocksApart, IsSound, SessionsHold}

@@ -1,6 +1,6 @@
 -- Commits that were acknowledged are left by every crash.
-use Rattle.std.proofs.Common.{◌≡◌, ℕ, ◌+◌, ◌-◌, ◌≤◌, Bool, true, false, List, [], ◌∷◌, Option, Some, None, refl, ap, sym, ◌∙◌, subst, arith}
-use Rattle.std.specs.Prelude.{option_map, slice_set}
+use Rattle.std.proofs.Common.{◌≡◌, ℕ, ◌+◌, ◌-◌, ◌≤◌, Bool, true, false, List, [], ◌∷◌, Some, ap, sym, ◌∙◌, subst, arith}
+use Rattle.std.specs.Prelude.{slice_set}
 use Rattle.gx_geom.specs.declared.refusal.Refusal.{Refusal}
 use Rattle.gx_geom.specs.declared.refusal.Refusal.TheVariants as refusal
 use Rattle.gx_machine.specs.declared.entry.Entry.{Entry}
@@ -10,7 +10,7 @@ use Rattle.gx_machine.specs.declared.reply.Reply.TheVariants as reply
 use Rattle.gx_machine.specs.declared.reply.Asked.{Asked}
 use Rattle.gx_machine.specs.Keys.{Keys}
 use Rattle.gx_machine.specs.Sessions.{Session, Committing, answer_session, sealed_set, closed_session}
-use Rattle.gx_machine.specs.Machine.{Machine, newest, kept_sets, is_session, session_at, with_session, set_of, answer, failed_machine}
+use Rattle.gx_machine.specs.Machine.{Machine, newest, kept_sets, is_session, session_at, with_session, answer, failed_machine}
 use Rattle.gx_machine.specs.Runs.{Step, Asks, Answers, Seals, Durable, Closes, RefusesAsk, RefusesCall, Fails, Crashes, Nothing, IsStep, IsRun, AskRefused, MeetsFault}
 use Rattle.gx_machine.proofs.StepEffects.{mapped, asked_there}
 use Rattle.gx_machine.proofs.Answered.{durable_commit}

@@ -1,5 +1,5 @@
 -- The worked run is one, and has what the law on serial runs asks for.
-use Rattle.std.proofs.Common.{◌≡◌, ℕ, true, List, [], ◌∷◌, refl, arith}
+use Rattle.std.proofs.Common.{ℕ, [], ◌∷◌, refl, arith}
 use Rattle.std.specs.Prelude.{Option, None, Some}
 use Rattle.std.specs.Cmp.{nat_cmp_total}
 use Rattle.std.proofs.lemmas.Map.Lookups.{exact_unsigned}
@@ -8,11 +8,11 @@ use Rattle.gx_machine.specs.declared.call.Call.{Call}
 use Rattle.gx_machine.specs.declared.call.Call.TheVariants.{Begin, Insert, Search, Commit}
 use Rattle.gx_machine.specs.declared.query.Query.TheVariants.{Overlap}
 use Rattle.gx_machine.specs.declared.reply.Reply.{Reply}
-use Rattle.gx_machine.specs.declared.reply.Reply.TheVariants.{Inserted, Ok, Refused}
+use Rattle.gx_machine.specs.declared.reply.Reply.TheVariants.{Inserted, Refused}
 use Rattle.gx_geom.specs.declared.refusal.Refusal.TheVariants.{Busy}
 use Rattle.gx_machine.specs.declared.reply.Asked.TheVariants.{Now, Open}
 use Rattle.gx_machine.specs.Keys.{IsLawful}
-use Rattle.gx_machine.specs.Sessions.{no_changes, Locks}
+use Rattle.gx_machine.specs.Sessions.{no_changes}
 use Rattle.gx_machine.specs.Machine.{Machine, fresh_machine, ask, answer, seal, durable}
 use Rattle.gx_machine.specs.Runs.{Step, Asks, IsRun}
 use Rattle.gx_machine.specs.Serial.{Begins, BeginsNone, AnsweredThenSealed}

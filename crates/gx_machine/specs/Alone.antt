@@ -1,5 +1,5 @@
 -- A committed transaction, run alone on one set.
-use Rattle.std.specs.Prelude.{ℕ, ◌≡◌, ◌==◌, if◌then◌else◌, Option, None, Some, List, [], ◌∷◌, ◌++◌}
+use Rattle.std.specs.Prelude.{ℕ, ◌≡◌, ◌==◌, if◌then◌else◌, None, Some, List, [], ◌∷◌, ◌++◌}
 use Rattle.gx_machine.specs.declared.call.Call.{Call}
 use Rattle.gx_machine.specs.declared.call.Call.TheVariants.{Begin}
 use Rattle.gx_machine.specs.declared.entry.Entry.{Entry}

@@ -1,7 +1,6 @@
 -- The record of a run: what was asked, sealed and replied.
-use Rattle.std.specs.Prelude.{ℕ, ◌≡◌, ◌⊎◌, Bool, true, false, not, if◌then◌else◌, List, [], ◌∷◌, ◌++◌, filter}
+use Rattle.std.specs.Prelude.{ℕ, ◌≡◌, ◌⊎◌, not, List, [], ◌∷◌, ◌++◌, filter}
 use Rattle.gx_machine.specs.declared.call.Call.{Call}
-use Rattle.gx_machine.specs.declared.reply.Reply.{Reply}
 use Rattle.gx_machine.specs.declared.reply.Reply.TheVariants.{Refused}
 use Rattle.gx_machine.specs.declared.reply.Asked.{Asked as Given}
 use Rattle.gx_machine.specs.declared.reply.Asked.TheVariants.{Now, Open}

@@ -1,5 +1,5 @@
 -- A run worked out: two sessions, a conflict, two commits, of which a crash loses the one that wasn't acknowledged.
-use Rattle.std.specs.Prelude.{ℕ, ◌==◌, true, false, List, [], ◌∷◌, ◌++◌, replicate}
+use Rattle.std.specs.Prelude.{ℕ, ◌==◌, false, List, [], ◌∷◌, ◌++◌, replicate}
 use Rattle.std.specs.Ordering.{nat_cmp}
 use Rattle.gx_geom.specs.declared.refusal.Refusal.TheVariants.{Busy}
 use Rattle.gx_machine.specs.declared.limits.TheConstants.{SESSIONS}

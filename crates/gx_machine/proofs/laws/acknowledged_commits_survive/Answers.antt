@@ -1,5 +1,5 @@
-use Rattle.std.proofs.Common.{◌≤◌, ◌∙◌, ap, arith, add-zero}
-use Rattle.gx_machine.specs.Machine.{Machine, newest}
+use Rattle.std.proofs.Common.{◌∙◌, ap, arith, add-zero}
+use Rattle.gx_machine.specs.Machine.{newest}
 use Rattle.gx_machine.proofs.Survival.{acknowledged, run_rises}
 use Rattle.gx_machine.proofs.laws.acknowledged_commits_survive.Goals as goal
 
