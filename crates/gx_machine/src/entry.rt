@@ -1,6 +1,8 @@
 //! Entries, and lists of them.
 ghost use Rattle.std.specs.Prelude.{◌≡◌};
 
+use gx_geom::Shape;
+use std::cmp::Ordering;
 use std::marker::Model;
 
 /// A row and the key that it has. One row may have several keys, each an entry of its own.
@@ -10,6 +12,20 @@ pub struct Entry<B> {
     pub row: u64,
     /// The key.
     pub key: B,
+}
+
+impl<B: Shape> Entry<B> {
+    ghost use Rattle.std.specs.Prelude.{◌<◌};
+    ghost use Rattle.gx_machine.specs.Keys.{keys_of, entry_cmp};
+
+    /// How it is ordered beside another: by row, and then by key.
+    pub fn compared_with(&self, other: &Entry<B>) -> Ordering
+        ensures order { result ≡ entry_cmp (keys_of B.Shape) self.now other.now }
+        ensures by_row { self.now.row < other.now.row → result ≡ Ordering.Less }
+        ensures by_key { self.now.row ≡ other.now.row → result ≡ B.cmp self.now.key other.now.key }
+    {
+        self.cmp(other)
+    }
 }
 
 /// The entries of an answer, in order by row and then by key.

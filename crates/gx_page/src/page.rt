@@ -201,14 +201,15 @@ impl Page {
         self.block.u16_at(0)
     }
 
-    /// The sequence number of the page's last split.
+    /// The node sequence number: the counter of splits as it was at the page's last one (Kornacker, Mohan, Hellerstein
+    /// 1997).
     pub fn nsn(&self) -> u64
         ensures { result ≡ self.now.nsn }
     {
         self.block.u64_at(NSN)
     }
 
-    /// The number of the page to the right, 0 for none.
+    /// The rightlink: the number of the page to the right, 0 for none (Lehman, Yao 1981).
     pub fn right(&self) -> u32
         ensures { result ≡ self.now.right }
     {

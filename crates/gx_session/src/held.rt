@@ -1,4 +1,4 @@
-//! What a transaction holds, as vectors: claims, predicates, and its own changes.
+//! What a transaction holds, as vectors: claims, predicates, and its own changes (claims with predicates: Kornacker, Mohan, Hellerstein 1997).
 ghost use Rattle.std.specs.Prelude.{◌≡◌, ◌<◌, ◌≤◌, ◌+◌, ◌++◌, ◌∷◌, [], ◌||◌, length, nat_lt, vec_len, vec_capacity, true, IfOk, if◌then◌else◌};
 ghost use Rattle.gx_machine.specs.Keys.{keys_of, same_query, key_matches, matches};
 ghost use Rattle.gx_machine.specs.Sets.{has, including, found, including_all, excluding_all};
