@@ -15,6 +15,7 @@ pub mod AllSteps
 pub mod DescentSteps
 pub mod SeekSteps
 pub mod InReach
+pub mod Rightlinks
 pub mod Bounds
 pub mod Fresh
 pub mod Tested

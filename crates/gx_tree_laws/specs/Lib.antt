@@ -5,4 +5,5 @@ pub mod Steps
 pub mod Reach
 pub mod Looks
 pub mod Writes
+pub mod Rightlinks
 pub mod Worked

@@ -7,6 +7,7 @@ ghost use Rattle.gx_tree_laws.specs.Steps.{IsSplit, IsRootSplit, IsWidening, IsA
 ghost use Rattle.gx_tree_laws.specs.Reach.{Item, InReach, pages_ahead};
 ghost use Rattle.gx_tree_laws.specs.Looks.{ItemFits, IsLook, from_root, stacked, found_with, LeadsTo};
 ghost use Rattle.gx_tree_laws.specs.Writes.{IsDescent, IsSeek, leaves_left, is_sweepable, must_restart, descent_left};
+ghost use Rattle.gx_tree_laws.specs.Rightlinks.{GoesOn};
 
 /// A fresh tree is legal, and no pair stands in it.
 pub fn fresh_tree_is_legal<K>()
@@ -147,6 +148,17 @@ pub fn steps_of_others_keep_what_is_at_work<K>()
     ensures seeks { (r : Rules K) → IsLawful r → (a row : ℕ) (key : K)
         (steps : List (Step K)) (old new : Tree K) → Legal r old → AreSteps r old steps new
         → Each (LeavesAlone r (is_entry r row key)) steps → IsSeek r old a row key → IsSeek r new a row key }
+{}
+
+/// While a search runs, rightlinks go on, those of inner nodes too: a page that was split since it began has a rightlink
+/// to a taken page of its own level, which isn't the root, and the root itself is no such page. It is so at the beginning,
+/// where no number is above the counter, and steps of others, in any order and number, keep it (Lehman, Yao 1981).
+pub fn rightlinks_go_on<K>()
+    ensures begins { (r : Rules K) (t : Tree K) → Legal r t → GoesOn t t.counter }
+    ensures one { (r : Rules K) → IsLawful r → (floor : ℕ) (old new : Tree K) (step : Step K)
+        → Legal r old → IsStep r old step new → GoesOn old floor → GoesOn new floor }
+    ensures all { (r : Rules K) → IsLawful r → (floor : ℕ) (steps : List (Step K)) (old new : Tree K)
+        → Legal r old → AreSteps r old steps new → GoesOn old floor → GoesOn new floor }
 {}
 
 /// A descent begins at the root, and goes on from a page to one that it names by an entry that covers the coming key. A
