@@ -20,7 +20,7 @@ pub enum Appended {
     NoRoom,
 }
 
-/// A running log. Its buffers are taken at the start.
+/// A running log, as far as records are put into it. Its buffer is taken at the start.
 #[derive(Drop)]
 pub struct Glog {
     extent: Extent,
