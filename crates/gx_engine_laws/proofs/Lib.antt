@@ -1,0 +1,13 @@
+pub mod Options
+pub mod Places
+pub mod Noted
+pub mod Sees
+pub mod Locking
+pub mod Asks
+pub mod Standing
+pub mod Follow
+pub mod Faults
+pub mod EventRuns
+pub mod Views
+pub mod Apart
+pub mod WhatStood

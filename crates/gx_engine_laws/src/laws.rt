@@ -1,0 +1,105 @@
+//! What holds of every engine whose events are as they are defined.
+ghost use Rattle.std.specs.Prelude.{◌≡◌, ◌≢◌, ◌≤◌, ℕ, Bool, true, false, Option, None, Some, List, if◌then◌else◌, is_some};
+ghost use Rattle.gx_machine.specs.declared.call.Call.{Call};
+ghost use Rattle.gx_machine.specs.declared.call.Call.TheVariants.{Search};
+ghost use Rattle.gx_machine.specs.declared.entry.Entry.{Entry};
+ghost use Rattle.gx_machine.specs.declared.query.Query.{Query};
+ghost use Rattle.gx_machine.specs.Keys.{Keys, IsLawful};
+ghost use Rattle.gx_machine.specs.Sets.{has, found, InOrder, IsSetOf};
+ghost use Rattle.gx_machine.specs.Sessions.{Locks, Open, view, write_conflicts};
+ghost use Rattle.gx_machine.specs.Machine.{Machine, set_of};
+ghost use Rattle.gx_machine.specs.Runs.{IsStep};
+ghost use Rattle.gx_engine_laws.specs.Slots.{Note, Working, locks_held, notes_kept, slot_at, noted};
+ghost use Rattle.gx_engine_laws.specs.Engines.{Engine, opened_engine, opened_machine, last_number, stood, kept, gathered, changes_of, SeenAs, IsSound, IsSame};
+ghost use Rattle.gx_engine_laws.specs.Events.{Event, Seals, Opens, IsEvent, step_of};
+ghost use Rattle.gx_engine_laws.specs.Runs.{AreEvents, steps_of, RunsAs};
+ghost use Rattle.gx_engine_laws.specs.Wants.{Pair, Change, slot_wants, HasLooked, is_claimed, ToldByLocks, LeavesAlone, is_sweep, LeavesSession};
+ghost use Rattle.gx_engine_laws.specs.Kinds.{is_of_another, changes_what_stood, may_follow_failure, is_opening};
+
+/// An engine opened over a committed set is sound, and is seen as the machine with that one set and idle sessions.
+pub fn an_opened_engine_is_sound<B>()
+    ensures sound { (k : Keys B) (number : ℕ) (set : List (Entry B)) → IsSound k (opened_engine k number set) }
+    ensures seen { (k : Keys B) (number : ℕ) (set : List (Entry B)) → InOrder k set
+        → SeenAs k (opened_engine k number set) (opened_machine number set) }
+{}
+
+/// An engine is seen as one machine.
+pub fn an_engine_is_seen_as_one_machine<B>()
+    ensures { (k : Keys B) → IsLawful k → (engine : Engine B) (m n : Machine B)
+        → SeenAs k engine m → SeenAs k engine n → m ≡ n }
+{}
+
+/// Any list of events of a sound engine is a run of the machine that it is seen as, event by event a step: the engine is
+/// seen as the run's end, and is sound there.
+pub fn events_are_a_run<B>()
+    ensures one { (k : Keys B) → IsLawful k → (old new : Engine B) (m n : Machine B) (event : Event B)
+        → IsSound k old → SeenAs k old m → IsEvent k old event new → SeenAs k new n → IsStep k m (step_of event) n }
+    ensures all { (k : Keys B) → IsLawful k → (old new : Engine B) (m : Machine B) (events : List (Event B))
+        → IsSound k old → SeenAs k old m → AreEvents k old events new → RunsAs k m (steps_of events) new }
+{}
+
+/// A transaction sees an entry that no other one has noted exactly where it is live; and so each entry that its locks bar:
+/// what it claims, and what its predicates match.
+pub fn a_transaction_sees_what_is_live<B>()
+    ensures unnoted { (k : Keys B) → IsLawful k → (engine : Engine B) (m : Machine B) (s : ℕ) (locks : Locks B) (notes : List (Note B))
+        (call : Option (Call B)) → IsSound k engine → SeenAs k engine m → slot_at s engine.slots ≡ Working locks notes call
+        → (e : Entry B) → ((a : ℕ) → a ≢ s → noted k e (notes_kept (slot_at a engine.slots)) ≡ None)
+        → has k e (view k m.latest (changes_of k engine.live notes)) ≡ engine.live e }
+    ensures barred { (k : Keys B) → IsLawful k → (engine : Engine B) (m : Machine B) (s : ℕ) (locks : Locks B) (notes : List (Note B))
+        (call : Option (Call B)) → IsSound k engine → SeenAs k engine m → slot_at s engine.slots ≡ Working locks notes call
+        → (e : Entry B) → write_conflicts k e locks ≡ true
+        → has k e (view k m.latest (changes_of k engine.live notes)) ≡ engine.live e }
+{}
+
+/// A search's look that has ended, its entries put in order and without repeats, is exactly what the machine finds.
+pub fn an_ended_look_is_what_is_found<B>()
+    ensures { (k : Keys B) → IsLawful k → (engine : Engine B) (m : Machine B) (s : ℕ) (locks : Locks B) (notes : List (Note B))
+        (query : Query B) (seen : List (Entry B)) → IsSound k engine → SeenAs k engine m
+        → slot_at s engine.slots ≡ Working locks notes (Some (Search query)) → HasLooked k query engine.live seen
+        → gathered k seen ≡ found k query (view k m.latest (changes_of k engine.live notes)) }
+{}
+
+/// Another's event leaves a session's slot as it was, and as live each entry that its locks bar. So a write's look that
+/// has ended tells whether its entry is live for as long as the call is open.
+pub fn events_of_others_leave_a_session<B>()
+    ensures { (k : Keys B) → IsLawful k → (old new : Engine B) (event : Event B) (s : ℕ) → IsSound k old
+        → IsEvent k old event new → is_of_another s event ≡ true → LeavesSession k s old new }
+{}
+
+/// A pair that another session claims isn't wanted, whatever its mark; and what is wanted and marked is claimed, so that no
+/// sweep takes it. So a tree change that is told by locks alone leaves alone what every other open call, and undo, wants.
+pub fn locks_keep_what_is_wanted<B>()
+    ensures claimed { (k : Keys B) → IsLawful k → (engine : Engine B) (a b : ℕ) (pair : Pair B) → IsSound k engine → a ≢ b
+        → has k pair.entry (locks_held (slot_at a engine.slots)).claims ≡ true → slot_wants k (slot_at b engine.slots) pair ≡ false }
+    ensures swept { (k : Keys B) → IsLawful k → (engine : Engine B) (s : ℕ) (pair : Pair B) → IsSound k engine → pair.live ≡ false
+        → slot_wants k (slot_at s engine.slots) pair ≡ true → is_claimed k pair.entry engine.slots ≡ true }
+    ensures others { (k : Keys B) → IsLawful k → (engine : Engine B) (a b : ℕ) (change : Change B) → IsSound k engine → a ≢ b
+        → ToldByLocks k a engine.slots change → LeavesAlone (slot_wants k (slot_at b engine.slots)) change }
+    ensures own_sweep { (k : Keys B) → IsLawful k → (engine : Engine B) (s : ℕ) (change : Change B) → IsSound k engine → is_sweep change ≡ true
+        → ToldByLocks k s engine.slots change → LeavesAlone (slot_wants k (slot_at s engine.slots)) change }
+{}
+
+/// What stood changes by commits alone, and by an opening: a write with its note, an undo and its end keep it. A commit makes
+/// of it what its transaction sees; an opening leaves the kept set of its number. The last kept set is what stood, and the
+/// machine's kept sets are the engine's.
+pub fn what_stood_changes_by_commits<B>()
+    ensures stays { (k : Keys B) → IsLawful k → (old new : Engine B) (event : Event B) → IsSound k old → IsEvent k old event new
+        → changes_what_stood event ≡ false → (e : Entry B) → stood k new e ≡ stood k old e }
+    ensures commits { (k : Keys B) → IsLawful k → (old new : Engine B) (s : ℕ) (set : List (Entry B)) (number : ℕ) → IsSound k old
+        → IsEvent k old (Seals s set number) new → (e : Entry B) → stood k new e
+        ≡ (if is_some (noted k e (notes_kept (slot_at s old.slots))) then old.live e else stood k old e) }
+    ensures opens { (k : Keys B) (old new : Engine B) (number : ℕ) → IsEvent k old (Opens number) new
+        → (e : Entry B) → stood k new e ≡ kept k number old e }
+    ensures last { (k : Keys B) (engine : Engine B) (e : Entry B) → kept k (last_number engine) engine e ≡ stood k engine e }
+    ensures sets { (k : Keys B) → IsLawful k → (engine : Engine B) (m : Machine B) → IsSound k engine → SeenAs k engine m
+        → (number : ℕ) → engine.oldest ≤ number → number ≤ last_number engine → IsSetOf k (kept k number engine) (set_of number m) }
+{}
+
+/// An engine that has failed answers each call with the refusal for it, and nothing that decides changes, until it is
+/// opened again.
+pub fn a_failed_engine_only_refuses<B>()
+    ensures kinds { (k : Keys B) (old new : Engine B) (event : Event B) → old.failed ≡ true → IsEvent k old event new
+        → may_follow_failure event ≡ true }
+    ensures same { (k : Keys B) (old new : Engine B) (event : Event B) → old.failed ≡ true → IsEvent k old event new
+        → is_opening event ≡ false → IsSame new old }
+{}
