@@ -11,3 +11,4 @@ pub mod EventRuns
 pub mod Views
 pub mod Apart
 pub mod WhatStood
+pub mod WorkedEvents

@@ -5,3 +5,4 @@ pub mod Events
 pub mod Runs
 pub mod Wants
 pub mod Kinds
+pub mod Worked

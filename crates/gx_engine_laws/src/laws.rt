@@ -1,5 +1,5 @@
 //! What holds of every engine whose events are as they are defined.
-ghost use Rattle.std.specs.Prelude.{◌≡◌, ◌≢◌, ◌≤◌, ℕ, Bool, true, false, Option, None, Some, List, if◌then◌else◌, is_some};
+ghost use Rattle.std.specs.Prelude.{◌≡◌, ◌≢◌, ◌≤◌, ℕ, Bool, true, false, Option, None, Some, List, [], ◌∷◌, if◌then◌else◌, is_some};
 ghost use Rattle.gx_machine.specs.declared.call.Call.{Call};
 ghost use Rattle.gx_machine.specs.declared.call.Call.TheVariants.{Search};
 ghost use Rattle.gx_machine.specs.declared.entry.Entry.{Entry};
@@ -14,6 +14,8 @@ ghost use Rattle.gx_engine_laws.specs.Engines.{Engine, opened_engine, opened_mac
 ghost use Rattle.gx_engine_laws.specs.Events.{Event, Seals, Opens, IsEvent, step_of};
 ghost use Rattle.gx_engine_laws.specs.Runs.{AreEvents, steps_of, RunsAs};
 ghost use Rattle.gx_engine_laws.specs.Wants.{Pair, Change, slot_wants, HasLooked, is_claimed, ToldByLocks, LeavesAlone, is_sweep, LeavesSession};
+ghost use Rattle.gx_machine.specs.Worked.{number_keys};
+ghost use Rattle.gx_engine_laws.specs.Worked.{sought, first_engine, last_engine, worked_events};
 ghost use Rattle.gx_engine_laws.specs.Kinds.{is_of_another, changes_what_stood, may_follow_failure, is_opening};
 
 /// An engine opened over a committed set is sound, and is seen as the machine with that one set and idle sessions.
@@ -102,4 +104,13 @@ pub fn a_failed_engine_only_refuses<B>()
         → may_follow_failure event ≡ true }
     ensures same { (k : Keys B) (old new : Engine B) (event : Event B) → old.failed ≡ true → IsEvent k old event new
         → is_opening event ≡ false → IsSame new old }
+{}
+
+/// The events are met: in this interleaving one session searches while another inserts, is refused what the search
+/// watches, and commits; the first then deletes what it found, and its abort makes that live again; a crash leaves both
+/// entries. It begins with an engine opened over one entry, so that it is a run of the machine.
+pub fn an_interleaving_worked_out()
+    ensures lawful { IsLawful number_keys }
+    ensures events { AreEvents number_keys first_engine worked_events last_engine }
+    ensures runs { RunsAs number_keys (opened_machine 0 (sought ∷ [])) (steps_of worked_events) last_engine }
 {}
