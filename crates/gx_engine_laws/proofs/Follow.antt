@@ -179,7 +179,7 @@ module _ {B : Type 0} (k : Keys B) (l : IsLawful k) where
     -- Searches.
 
     -- what an open search matches, its locks bar
-    match_bars : (q : Query B) (locks : Locks B) (e : Entry B) → has_query k q locks.predicates ≡ true → matches k q e ≡ true → write_conflicts k e locks ≡ true
+    pub match_bars : (q : Query B) (locks : Locks B) (e : Entry B) → has_query k q locks.predicates ≡ true → matches k q e ≡ true → write_conflicts k e locks ≡ true
     match_bars q locks e held is =
         elim (true_or_false (list_any (λ p. matches k p e) locks.predicates)) [
           | inl h ↦ or_right (has k e locks.claims) (list_any (λ p. matches k p e) locks.predicates) h

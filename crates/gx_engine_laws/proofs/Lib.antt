@@ -12,3 +12,4 @@ pub mod Views
 pub mod Apart
 pub mod WhatStood
 pub mod WorkedEvents
+pub mod Meanwhile

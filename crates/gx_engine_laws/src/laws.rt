@@ -1,10 +1,10 @@
 //! What holds of every engine whose events are as they are defined.
-ghost use Rattle.std.specs.Prelude.{◌≡◌, ◌≢◌, ◌≤◌, ℕ, Bool, true, false, Option, None, Some, List, [], ◌∷◌, if◌then◌else◌, is_some};
+ghost use Rattle.std.specs.Prelude.{◌≡◌, ◌≢◌, ◌≤◌, ℕ, Bool, true, false, Option, None, Some, All, List, [], ◌∷◌, if◌then◌else◌, is_some};
 ghost use Rattle.gx_machine.specs.declared.call.Call.{Call};
 ghost use Rattle.gx_machine.specs.declared.call.Call.TheVariants.{Search};
 ghost use Rattle.gx_machine.specs.declared.entry.Entry.{Entry};
 ghost use Rattle.gx_machine.specs.declared.query.Query.{Query};
-ghost use Rattle.gx_machine.specs.Keys.{Keys, IsLawful};
+ghost use Rattle.gx_machine.specs.Keys.{Keys, IsLawful, matches};
 ghost use Rattle.gx_machine.specs.Sets.{has, found, InOrder, IsSetOf};
 ghost use Rattle.gx_machine.specs.Sessions.{Locks, Open, view, write_conflicts};
 ghost use Rattle.gx_machine.specs.Machine.{Machine, set_of};
@@ -61,11 +61,18 @@ pub fn an_ended_look_is_what_is_found<B>()
         → gathered k seen ≡ found k query (view k m.latest (changes_of k engine.live notes)) }
 {}
 
-/// Another's event leaves a session's slot as it was, and as live each entry that its locks bar. So a write's look that
-/// has ended tells whether its entry is live for as long as the call is open.
+/// Events of others, however many, leave a session's slot as it was, and as live each entry that its locks bar. So what an
+/// open search has found stays live, and what it looked for in vain stays away; and a write that has looked knows whether
+/// its entry is live for as long as its call is open.
 pub fn events_of_others_leave_a_session<B>()
-    ensures { (k : Keys B) → IsLawful k → (old new : Engine B) (event : Event B) (s : ℕ) → IsSound k old
+    ensures one { (k : Keys B) → IsLawful k → (old new : Engine B) (event : Event B) (s : ℕ) → IsSound k old
         → IsEvent k old event new → is_of_another s event ≡ true → LeavesSession k s old new }
+    ensures many { (k : Keys B) → IsLawful k → (old new : Engine B) (m : Machine B) (events : List (Event B)) (s : ℕ) → IsSound k old
+        → SeenAs k old m → AreEvents k old events new → All (λ event. is_of_another s event ≡ true) events → LeavesSession k s old new }
+    ensures looks { (k : Keys B) → IsLawful k → (old new : Engine B) (m : Machine B) (events : List (Event B)) (s : ℕ) → IsSound k old
+        → SeenAs k old m → AreEvents k old events new → All (λ event. is_of_another s event ≡ true) events
+        → (locks : Locks B) (notes : List (Note B)) (query : Query B) → slot_at s old.slots ≡ Working locks notes (Some (Search query))
+        → (e : Entry B) → matches k query e ≡ true → new.live e ≡ old.live e }
 {}
 
 /// A pair that another session claims isn't wanted, whatever its mark; and what is wanted and marked is claimed, so that no
