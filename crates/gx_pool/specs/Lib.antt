@@ -1,6 +1,8 @@
 pub mod Area
 pub mod Bringing
+pub mod Creating
 pub mod Edits
+pub mod Gated
 pub mod Laws
 pub mod Lending
 pub mod Marks
