@@ -7,4 +7,5 @@ pub mod Laws
 pub mod Lending
 pub mod Marks
 pub mod State
+pub mod Viewing
 pub mod Writing

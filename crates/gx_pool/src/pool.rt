@@ -30,6 +30,7 @@ pub struct Pool<T> {
 
 impl<T: PageTest> Pool<T> {
     ghost use Rattle.gx_pool.specs.Lending.{lends_change};
+    ghost use Rattle.gx_pool.specs.Viewing.{lends_brought, lends_view};
 
     /// A pool of so many frames, all empty, with the test of its pages. All memory that it ever takes is taken here.
     pub fn with_capacity(alloc: Global, frames: usize, test: T) -> Result<Pool<T>, AllocError>
@@ -270,6 +271,36 @@ impl<T: PageTest> Pool<T> {
         ensures sound { IsSound self.old.frames }
     {
         self.frames.change_kept(page, batch)
+    }
+
+    /// Brings a page as `bring_one` does, and lends it to be read.
+    ///
+    /// Refused as `bring_one`.
+    pub fn view<D: SectorDisk>(&mut self, disk: &mut D, page: u32) -> Result<&Page, PoolFault>
+        requires { IsPage (D.state disk.old).sectors page }
+        ensures* viewed { sem 𝓛 (lends_view T.row (T.passes self.old.test) (D.state disk.old) (D.state disk.new) self.entry page result) }
+        ensures idle { IsSome (kept self.old.frames page) ⊎ NoneClean self.old.frames → disk.new ≡ disk.old }
+    {
+        self.bring_one(disk, page)?;
+        Ok(self.page(page))
+    }
+
+    /// Brings a page as `bring_one` does, and lends it to be changed, as of a batch: its greatest stamp is that batch, or a
+    /// later one that it had.
+    ///
+    /// Refused as `bring_one`; then no page has changed.
+    pub fn change<D: SectorDisk>(
+        &mut self,
+        disk: &mut D,
+        page: u32,
+        batch: u64,
+    ) -> Result<&mut Page, PoolFault>
+        requires { IsPage (D.state disk.old).sectors page }
+        ensures* changed { sem 𝓛 (lends_brought T.row (T.passes self.old.test) (D.state disk.old) (D.state disk.new) self.entry page batch result) }
+        ensures idle { IsSome (kept self.old.frames page) ⊎ NoneClean self.old.frames → disk.new ≡ disk.old }
+    {
+        self.bring_one(disk, page)?;
+        Ok(self.change_kept(page, batch))
     }
 }
 
