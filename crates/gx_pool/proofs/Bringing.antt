@@ -1,21 +1,23 @@
 -- What becomes of the pages that are kept, edit by edit, and how bringings join.
-use Rattle.std.proofs.Common.{◌≡◌, ◌≢◌, ◌∙◌, sym, ap, subst, refl, ◌⊎◌, inl, inr, ⊎_elim, ℕ, zero, suc, ◌<◌, ◌≤◌, ◌+◌, List, [], ◌∷◌, Ok, Err, Result, below_more, length, get_or, set, Bool, true, false, not, ◌&&◌, Option, Some, None, IsSome, arith, rules, get_or-set_same, get_or-set_other, length-set}
+use Rattle.std.proofs.Common.{◌≡◌, ◌≢◌, ◌∙◌, sym, ap, subst, refl, ◌⊎◌, inl, inr, ⊎_elim, ℕ, zero, suc, ◌<◌, ◌≤◌, ◌+◌, List, [], ◌∷◌, Ok, Err, Result, below_more, length, get_or, Bool, true, false, not, ◌&&◌, Option, Some, None, IsSome, arith, get_or-set_same, length-set}
 use Rattle.std.specs.Prelude.{is_none, IsErrAnd}
 use Rattle.std.proofs.Math.Decide.{ℕ_discrete}
 use Rattle.std.proofs.lemmas.Option.{none-some}
-use Rattle.gx_disk.specs.Device.{Device, Counts, Reads, Rests, SamePending, Elapses, MayLeave}
+use Rattle.gx_disk.specs.Device.{Device, Rests, SamePending, MayLeave}
 use Rattle.gx_page.specs.Contents.{Contents}
 use Rattle.gx_page.specs.Edits.{blank}
 use Rattle.gx_page.specs.Reading.{IsImage, read_of}
-use Rattle.gx_pool.specs.declared.mark.Mark.{Mark}
 use Rattle.gx_pool.specs.Area.{bytes_of, IsPassing}
 use Rattle.gx_pool.specs.Marks.{empty, clean, is_held}
-use Rattle.gx_pool.specs.State.{State, Kept, IsSound, IsSpare, mark_at, place_of, kept, kept_at, frame_at, stamp_of}
-use Rattle.gx_pool.specs.Edits.{vacated, with_page, settled, stamped, forgotten}
-use Rattle.gx_pool.specs.Bringing.{Brings, BringsOne, BringsAll, Answers, AnswersAll, Came, Left, HasImage, OnlyRead}
+use Rattle.gx_pool.specs.State.{State, IsSound, IsSpare, AllKept, NoneClean, SomeClean, mark_at, place_of, kept, frame_at, holding, stamp_of}
+use Rattle.gx_pool.specs.Edits.{vacated, with_page, settled}
+use Rattle.gx_pool.specs.Bringing.{Brings, BringsOne, BringsAll, Answers, AnswersAll, Came, ComeAlone, ComesAlone, HasImage, IsFirstMissing, Left, OnlyRead}
 use Rattle.gx_pool.specs.declared.fault.PoolFault.{PoolFault}
 use Rattle.gx_pool.specs.declared.fault.PoolFault.TheVariants.{NoCleanFrame, Device as DeviceFault, Damaged}
-use Rattle.gx_pool.proofs.Places.{some-injective, vacated_sound, with_page_sound, settled_sound, vacated_kept, vacated_gone, loaded_kept, settled_kept, settled_other, place_none, kept_some}
+use Rattle.gx_pool.proofs.Places.{some-injective, vacated_sound, with_page_sound, vacated_kept, vacated_gone, loaded_kept, settled_kept, settled_other, place_none, kept_some}
+
+true_false : (b : Bool) → b ≡ true → b ≡ false → ⊥
+true_false b is not_so = grind arith
 
 clean_parts : (stamp : Option ℕ) (held : Bool) → (is_none stamp && not held) ≡ true → (stamp ≡ None) × (held ≡ false)
 clean_parts None false is = (refl, refl)
@@ -23,7 +25,7 @@ clean_parts None true is = grind arith
 clean_parts (Some n) held is = grind arith
 
 -- the page of a clean frame is spare
-spare : (s : State) (i page : ℕ) → IsSound s → clean s.held (mark_at s i) ≡ true → (mark_at s i).page ≡ Some page → IsSpare s page
+pub spare : (s : State) (i page : ℕ) → IsSound s → clean s.held (mark_at s i) ≡ true → (mark_at s i).page ≡ Some page → IsSpare s page
 spare s i page sound is here =
     let parts = clean_parts (mark_at s i).stamp (is_held s.held (mark_at s i).page) is in
     record {
@@ -31,7 +33,7 @@ spare s i page sound is here =
       free = ap (is_held s.held) (sym here) ∙ parts.1;
     }
 
-is_some_page : (o : Option ℕ) (page : ℕ) → (o ≡ Some page) ⊎ (o ≢ Some page)
+pub is_some_page : (o : Option ℕ) (page : ℕ) → (o ≡ Some page) ⊎ (o ≢ Some page)
 is_some_page None page = inr (λ e. none-some page e)
 is_some_page (Some q) page = elim (ℕ_discrete q page) [
   | yes e ↦ inl (ap Some e)
@@ -63,8 +65,15 @@ brings_same passes d seen s t u first same held gated frames = record {
   frames = frames ∙ first.frames;
 }
 
-vacated_free : (s : State) (i : ℕ) → i < length s.marks → (mark_at (vacated s i) i).page ≡ None
+pub vacated_free : (s : State) (i : ℕ) → i < length s.marks → (mark_at (vacated s i) i).page ≡ None
 vacated_free s i inside = ap (λ m. m.page) (get_or-set_same s.marks i empty empty inside)
+
+-- a frame that was emptied is clean
+vacated_clean : (s : State) (i : ℕ) → i < length s.marks → SomeClean (vacated s i)
+vacated_clean s i inside = (i, rw (length-set s.marks i empty) inside, ap (clean s.held) (get_or-set_same s.marks i empty empty inside))
+
+pub not_both_clean : (s : State) → NoneClean s → SomeClean s → ⊥
+not_both_clean s none some = true_false (clean s.held (mark_at s some.0)) some.2 (none some.0 some.1)
 
 -- and an image is read into it
 pub loaded_brings : (passes : Contents → Bool) (d : Bool) (seen : List ℕ) (s : State) (i : ℕ) (w : Contents) → IsSound s → i < length s.marks → clean s.held (mark_at s i) ≡ true
@@ -73,20 +82,40 @@ loaded_brings passes d seen s i w sound inside is =
     brings_same passes d seen s (vacated s i) (with_page (vacated s i) i w) (vacated_brings passes d seen s i sound inside is)
     (λ page. loaded_kept (vacated s i) i page w (vacated_sound s i sound inside) (vacated_free s i inside)) refl refl refl
 
-still_absent : (passes : Contents → Bool) (d : Bool) (seen : List ℕ) (s : State) (i page : ℕ) → IsSound s → i < length s.marks → clean s.held (mark_at s i) ≡ true → kept s page ≡ None
-    → kept (vacated s i) page ≡ None
-still_absent passes d seen s i page sound inside is absent = elim (is_some_page (mark_at s i).page page) [
+-- a page that wasn't kept has no frame then
+still_absent : (s : State) (i page : ℕ) → IsSound s → i < length s.marks → kept s page ≡ None → kept (vacated s i) page ≡ None
+still_absent s i page sound inside absent = elim (is_some_page (mark_at s i).page page) [
   | inl here ↦ vacated_gone s i page here
   | inr other ↦ vacated_kept s i page sound inside other ∙ absent
 ]
 
--- a page that wasn't kept has no frame then
-pub loaded_absent : (s : State) (i page : ℕ) (w : Contents) → IsSound s → i < length s.marks → clean s.held (mark_at s i) ≡ true → kept s page ≡ None
-    → place_of (with_page (vacated s i) i w) page ≡ None
-loaded_absent s i page w sound inside is absent =
-    place_none (vacated s i) page (still_absent (λ c. true) true s.held s i page sound inside is absent)
+pub vacated_alone : (s : State) (i page : ℕ) → IsSound s → i < length s.marks → ComesAlone s (vacated s i) page
+vacated_alone s i page sound inside = λ q ne absent. still_absent s i q sound inside absent
 
-loaded_page : (s : State) (i : ℕ) (w : Contents) → IsSound s → i < length s.marks → (frame_at (with_page (vacated s i) i w) i).page ≡ w
+pub vacated_missing : (s : State) (i page : ℕ) → IsSound s → i < length s.marks → kept s page ≡ None → (kept (vacated s i) page ≡ None) × SomeClean (vacated s i)
+vacated_missing s i page sound inside absent = (still_absent s i page sound inside absent, vacated_clean s i inside)
+
+loaded_missing_page : (s : State) (i page : ℕ) (w : Contents) → IsSound s → i < length s.marks → kept s page ≡ None → kept (with_page (vacated s i) i w) page ≡ None
+loaded_missing_page s i page w sound inside absent =
+    loaded_kept (vacated s i) i page w (vacated_sound s i sound inside) (vacated_free s i inside) ∙ still_absent s i page sound inside absent
+
+pub loaded_alone : (s : State) (i page : ℕ) (w : Contents) → IsSound s → i < length s.marks → ComesAlone s (with_page (vacated s i) i w) page
+loaded_alone s i page w sound inside = λ q ne absent. loaded_missing_page s i q w sound inside absent
+
+pub loaded_missing : (s : State) (i page : ℕ) (w : Contents) → IsSound s → i < length s.marks → kept s page ≡ None
+    → (kept (with_page (vacated s i) i w) page ≡ None) × SomeClean (with_page (vacated s i) i w)
+loaded_missing s i page w sound inside absent = (loaded_missing_page s i page w sound inside absent, vacated_clean s i inside)
+
+pub loaded_absent : (s : State) (i page : ℕ) (w : Contents) → IsSound s → i < length s.marks → kept s page ≡ None → place_of (with_page (vacated s i) i w) page ≡ None
+loaded_absent s i page w sound inside absent = place_none (vacated s i) page (still_absent s i page sound inside absent)
+
+pub settled_alone : (s t u : State) (i page level : ℕ) (stamp : Option ℕ) (w : Contents) → IsSound s → i < length s.marks → t ≡ with_page (vacated s i) i w → u ≡ settled t i page level stamp
+    → ComesAlone s u page
+settled_alone s t u i page level stamp w sound inside te ue = λ q ne absent.
+    rw (ue, te) (settled_other (with_page (vacated s i) i w) i page q level stamp (with_page_sound (vacated s i) i w (vacated_sound s i sound inside)) (vacated_free s i inside) ne
+    ∙ loaded_missing_page s i q w sound inside absent)
+
+pub loaded_page : (s : State) (i : ℕ) (w : Contents) → IsSound s → i < length s.marks → (frame_at (with_page (vacated s i) i w) i).page ≡ w
 loaded_page s i w sound inside = get_or-set_same s.pages i w (blank 0 0) (rw sound.sizes inside)
 
 -- and the frame is the page's
@@ -146,9 +175,6 @@ pub admitted_there : (s t u : State) (w : Contents) (i page level : ℕ) → IsS
 admitted_there s t u w i page level sound inside small te ue = rw (ue, te, admitted_kept s i page level w sound inside small) refl
 
 -- ---- runs of bringings
-
-true_false : (b : Bool) → b ≡ true → b ≡ false → ⊥
-true_false b is not_so = grind arith
 
 pub brings_nothing : (passes : Contents → Bool) (d : Bool) (seen : List ℕ) (s : State) → Brings passes d seen s s
 brings_nothing passes d seen s = record { fates = λ page. inl refl; held = refl; gated = refl; frames = refl }
@@ -281,37 +307,57 @@ among page (x ∷ pages) (suc k) inside is = let rest : is_held pages (Some page
 -- some of the pages were brought
 pub record BringsSome (passes : Contents → Bool) (d e : Device) (s t : State) (pages : List ℕ) (n : ℕ) : Type 0 where
   pub brings : Brings passes d.honest d.seen s t
+  pub alone : ComeAlone s t pages
   pub only_read : OnlyRead d e
   pub faults : e.faults ≡ d.faults
   pub there : (k : ℕ) → k < n → IsSome (kept t (get_or pages k 0))
 
 pub none_brought : (passes : Contents → Bool) (d : Device) (s t : State) (pages : List ℕ) → t ≡ s → BringsSome passes d d s t pages 0
-none_brought passes d s t pages e = rw e (record { brings = brings_nothing passes d.honest d.seen s; only_read = only_read_nothing d; faults = refl; there = λ k below. absurd (omega arith) })
+none_brought passes d s t pages e =
+    rw e (record { brings = brings_nothing passes d.honest d.seen s; alone = λ q apart absent. absent; only_read = only_read_nothing d; faults = refl; there = λ k below. absurd (omega arith) })
+
+other_page : (q page : ℕ) (pages : List ℕ) → is_held pages (Some q) ≡ false → is_held pages (Some page) ≡ true → q ≢ page
+other_page q page pages apart held = λ e. true_false (is_held pages (Some page)) held (ap (λ p. is_held pages (Some p)) (sym e) ∙ apart)
+
+-- one page of several more came, and no other
+come_alone : (s t u : State) (pages : List ℕ) (page : ℕ) → is_held pages (Some page) ≡ true → ComeAlone s t pages → ComesAlone t u page → ComeAlone s u pages
+come_alone s t u pages page held first next = λ q apart absent. next q (other_page q page pages apart held) (first q apart absent)
+
+-- those before stay while one more is brought
+before_stay : (passes : Contents → Bool) (d : Bool) (seen : List ℕ) (t u : State) (pages : List ℕ) (n : ℕ) → t.held ≡ pages → n < length pages → Brings passes d seen t u
+    → ((k : ℕ) → k < n → IsSome (kept t (get_or pages k 0))) → (k : ℕ) → k < n → IsSome (kept u (get_or pages k 0))
+before_stay passes d seen t u pages n held inside next there =
+    λ k below. held_stays passes d seen t u (get_or pages k 0) next (ap (λ h. is_held h (Some (get_or pages k 0))) held ∙ among (get_or pages k 0) pages k (omega arith) refl) (there k below)
 
 -- and one more
 pub one_more : (passes : Contents → Bool) (d e f : Device) (s t u : State) (pages : List ℕ) (n : ℕ) (page : ℕ) → s.held ≡ pages → n < length pages → page ≡ get_or pages n 0
     → BringsSome passes d e s t pages n → BringsOne {A = Unit {0}} passes e f t u page (Ok tt) → BringsSome passes d f s u pages (n + 1)
 one_more passes d e f s t u pages n page held inside is some one = record {
   brings = brings_joined passes d.honest e.honest d.seen e.seen s t u some.only_read.honest (λ honest. (some.only_read.rests honest).seen) some.brings one.brings;
+  alone = come_alone s t u pages page (among page pages n inside (sym is)) some.alone one.alone;
   only_read = only_read_joined d e f some.only_read one.only_read;
   faults = omega (arith, one.faults, some.faults);
-  there = below_more _ n
-      (λ k below. held_stays passes e.honest e.seen t u (get_or pages k 0) one.brings
-      (ap (λ h. is_held h (Some (get_or pages k 0))) (some.brings.held ∙ held) ∙ among (get_or pages k 0) pages k (omega arith) refl) (some.there k below))
-      (rw (← is) one.answer);
+  there = below_more _ n (before_stay passes e.honest e.seen t u pages n (some.brings.held ∙ held) inside one.brings some.there) (rw (← is) one.answer);
 }
 
+first_missing : (u : State) (pages : List ℕ) (n page : ℕ) → n < length pages → page ≡ get_or pages n 0 → ((k : ℕ) → k < n → IsSome (kept u (get_or pages k 0))) → kept u page ≡ None
+    → IsFirstMissing u pages n
+first_missing u pages n page inside is before missing = record { inside = inside; before = before; missing = rw (← is) missing }
+
 answers_all : (passes : Contents → Bool) (d e : Device) (s t u : State) (pages : List ℕ) (n : ℕ) (page : ℕ) (fault : PoolFault) → s.held ≡ pages → n < length pages → page ≡ get_or pages n 0
-    → Brings passes d.honest d.seen s t → e.honest ≡ d.honest → (d.honest ≡ true → e.seen ≡ d.seen)
+    → Brings passes d.honest d.seen s t → e.honest ≡ d.honest → (d.honest ≡ true → e.seen ≡ d.seen) → ((k : ℕ) → k < n → IsSome (kept u (get_or pages k 0)))
     → Answers {A = Unit {0}} passes e t u page (Err fault) → AnswersAll {A = Unit {0}} passes d s u pages (Err fault)
-answers_all passes d e s t u pages n page NoCleanFrame held inside is first same reads answer = ((n, inside, rw (← is) answer.0), answer.1)
-answers_all passes d e s t u pages n page DeviceFault held inside is first same reads answer = (n, inside, rw (← is) answer)
-answers_all passes d e s t u pages n page Damaged held inside is first same reads answer = (
+answers_all passes d e s t u pages n page NoCleanFrame held inside is first same reads before answer =
+    (n, first_missing u pages n page inside is before (ap (λ v. kept v page) answer.same ∙ answer.missing), subst {A = State} NoneClean (sym answer.same) answer.full)
+answers_all passes d e s t u pages n page DeviceFault held inside is first same reads before answer =
+    (n, first_missing u pages n page inside is before (ap (λ v. kept v page) answer.same ∙ answer.missing), subst {A = State} SomeClean (sym answer.same) answer.room)
+answers_all passes d e s t u pages n page Damaged held inside is first same reads before answer = (
   n,
-  inside,
+  first_missing u pages n page inside is before answer.absent,
   rw (← is) (
-    held_absent passes d.honest d.seen s t page first (ap (λ h. is_held h (Some page)) held ∙ among page pages n inside (sym is)) answer.0,
-    λ honest. subst {A = List ℕ} (λ seen. ¬ IsPassing passes page (bytes_of seen page)) (reads honest) (answer.1 (same ∙ honest)),
+    answer.left,
+    held_absent passes d.honest d.seen s t page first (ap (λ h. is_held h (Some page)) held ∙ among page pages n inside (sym is)) answer.missing,
+    λ honest. subst {A = List ℕ} (λ seen. ¬ IsPassing passes page (bytes_of seen page)) (reads honest) (answer.damaged (same ∙ honest)),
   ),
 )
 
@@ -320,14 +366,17 @@ pub one_refused : (passes : Contents → Bool) (d e f : Device) (s t u : State) 
     → BringsSome passes d e s t pages n → BringsOne {A = Unit {0}} passes e f t u page (Err fault) → BringsAll {A = Unit {0}} passes d f s u pages (Err fault)
 one_refused passes d e f s t u pages n page fault held inside is some one = record {
   brings = brings_joined passes d.honest e.honest d.seen e.seen s t u some.only_read.honest (λ honest. (some.only_read.rests honest).seen) some.brings one.brings;
+  alone = come_alone s t u pages page (among page pages n inside (sym is)) some.alone one.alone;
   only_read = only_read_joined d e f some.only_read one.only_read;
   faults = omega (arith, one.faults, some.faults);
-  answer = answers_all passes d e s t u pages n page fault held inside is some.brings some.only_read.honest (λ honest. (some.only_read.rests honest).seen) one.answer;
+  answer = answers_all passes d e s t u pages n page fault held inside is some.brings some.only_read.honest (λ honest. (some.only_read.rests honest).seen)
+      (before_stay passes e.honest e.seen t u pages n (some.brings.held ∙ held) inside one.brings some.there) one.answer;
 }
 
 pub all_brought : (passes : Contents → Bool) (d e : Device) (s t : State) (pages : List ℕ) (n : ℕ) → length pages ≤ n → BringsSome passes d e s t pages n → BringsAll {A = Unit {0}} passes d e s t pages (Ok tt)
 all_brought passes d e s t pages n all some = record {
   brings = some.brings;
+  alone = some.alone;
   only_read = some.only_read;
   faults = omega (arith, some.faults);
   answer = λ k below. some.there k (omega arith);
@@ -338,3 +387,15 @@ pub refused_as : (passes : Contents → Bool) (d f : Device) (s u : State) (page
     → ((found : PoolFault) → P found → found ≡ fault) → BringsAll {A = Unit {0}} passes d f s u pages (Err fault) → BringsAll {A = Unit {0}} passes d f s u pages result
 refused_as passes d f s u pages (Ok a) fault P is same all = absurd is
 refused_as passes d f s u pages (Err found) fault P is same all = rw (same found is) all
+
+-- ---- where nothing is to be read
+
+same_held_kept : (s : State) (pages : List ℕ) (page : ℕ) → kept (holding s pages) page ≡ kept s page
+unfolding kept
+same_held_kept s pages page = refl
+
+-- where all pages are kept, or no frame is clean, the next one is idle too
+pub idle_next : (s t : State) (pages : List ℕ) (n page : ℕ) → n < length pages → page ≡ get_or pages n 0 → t ≡ holding s pages → AllKept s pages ⊎ NoneClean (holding s pages)
+    → IsSome (kept t page) ⊎ NoneClean t
+idle_next s t pages n page inside is same (inl all) = inl (rw (same, same_held_kept s pages page, is) (all n inside))
+idle_next s t pages n page inside is same (inr none) = inr (subst {A = State} NoneClean (sym same) none)

@@ -1,4 +1,7 @@
 pub mod Bringing
+pub mod Counting
+pub mod Creating
+pub mod Gated
 pub mod Places
 pub mod Shown
 pub mod Writing

@@ -1,11 +1,14 @@
 -- What is shown of each page while pages are brought.
-use Rattle.std.proofs.Common.{◌≡◌, ◌∙◌, sym, ap, subst, refl, ⊎_elim, ℕ, List, Bool, true, Option, Some, None}
+use Rattle.std.proofs.Common.{◌≡◌, ◌≢◌, ◌∙◌, sym, ap, subst, refl, ⊎_elim, ℕ, List, Bool, true, Option, Some, None}
+use Rattle.std.proofs.Math.Decide.{ℕ_discrete}
 use Rattle.std.proofs.lemmas.Option.{none-some}
 use Rattle.gx_page.specs.Contents.{Contents}
+use Rattle.gx_page.specs.Edits.{blank}
 use Rattle.gx_page.specs.Reading.{read_of}
 use Rattle.gx_pool.specs.Area.{bytes_of}
-use Rattle.gx_pool.specs.State.{State, Kept, IsSpare, kept, stamp_of}
-use Rattle.gx_pool.specs.Bringing.{Brings, Came, Left, HasImage}
+use Rattle.gx_pool.specs.State.{State, Kept, kept, stamp_of}
+use Rattle.gx_pool.specs.Bringing.{Brings, HasImage}
+use Rattle.gx_pool.specs.Creating.{Creates}
 use Rattle.gx_pool.specs.Laws.{shown, shown_of, IsBacked, IsPassed}
 
 kept_or : Option Kept → Kept → Kept
@@ -55,3 +58,33 @@ brings_passed passes honest seen s t first passed = λ page k is. ⊎_elim
     (ap (λ l. l.page.number) (sym e) ∙ came.number, ap (λ l. passes l.page) (sym e) ∙ came.passing))
     rest)
     (first.fates page)
+
+-- ---- a page that was made
+
+pub creates_backed : (seen : List ℕ) (s t : State) (page level batch : ℕ) → Creates s t page level batch → IsBacked s seen → IsBacked t seen
+creates_backed seen s t page level batch made backed = λ q k is clean. elim (ℕ_discrete q page) [
+  | yes e ↦ absurd (none-some batch (sym clean ∙ ap (λ l. l.stamp) (sym (one_kept (kept t page) (record { page = blank level page; stamp = Some batch }) k made.made (ap (kept t) (sym e) ∙ is)))))
+  | no ne ↦ ⊎_elim
+      (λ same. backed q k (sym same ∙ is) clean)
+      (λ left. absurd (none-some k (sym left.is ∙ is)))
+      (made.others q ne)
+]
+
+pub creates_shown : (seen : List ℕ) (s t : State) (page level batch other : ℕ) → Creates s t page level batch → IsBacked s seen → other ≢ page → shown t seen other ≡ shown s seen other
+creates_shown seen s t page level batch other made backed ne =
+    let here : Contents = read_of (bytes_of seen other) in
+    ⊎_elim
+    (λ same. ap (λ o. shown_of o here) same)
+    (λ left. ap (λ o. shown_of o here) left.is ∙ sym (clean_shown s seen other (kept s other) backed refl left.was.clean))
+    (made.others other ne)
+
+pub creates_passed : (passes : Contents → Bool) (s t : State) (page level batch : ℕ) → Creates s t page level batch → passes (blank level page) ≡ true → IsPassed passes s → IsPassed passes t
+creates_passed passes s t page level batch made is passed = λ q k there. elim (ℕ_discrete q page) [
+  | yes e ↦
+      let same = one_kept (kept t page) (record { page = blank level page; stamp = Some batch }) k made.made (ap (kept t) (sym e) ∙ there) in
+      (ap (λ l. l.page.number) (sym same) ∙ sym e, ap (λ l. passes l.page) (sym same) ∙ is)
+  | no ne ↦ ⊎_elim
+      (λ same. passed q k (sym same ∙ there))
+      (λ left. absurd (none-some k (sym left.is ∙ there)))
+      (made.others q ne)
+]

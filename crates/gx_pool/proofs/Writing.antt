@@ -1,5 +1,5 @@
 -- What a page's write leaves of frames and device.
-use Rattle.std.proofs.Common.{◌≡◌, ◌≢◌, ◌∙◌, sym, ap, refl, subst, ℕ, ◌<◌, ◌/◌, List, length, Bool, true, Option, Some, None, Result, Ok, Err, arith, length-set}
+use Rattle.std.proofs.Common.{◌≡◌, ◌∙◌, sym, ap, refl, subst, ℕ, ◌/◌, List, length, true, Option, Some, None, Ok, Err, length-set}
 use Rattle.gx_disk.specs.Device.{Device, Counts, Writes}
 use Rattle.gx_disk.specs.declared.device.DiskFault.{DiskFault}
 use Rattle.gx_page.specs.Format.{image_of}

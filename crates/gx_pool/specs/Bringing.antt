@@ -1,13 +1,13 @@
 -- What becomes of the pages that are kept while others are brought.
-use Rattle.std.specs.Prelude.{◌≡◌, ◌≢◌, ◌⊎◌, ℕ, ◌+◌, ◌<◌, slice_index, List, [], ◌∷◌, length, Bool, true, false, Option, Some, None, Result, Ok, Err, IsSome}
-use Rattle.std.specs.List.{Contains}
+use Rattle.std.specs.Prelude.{◌≡◌, ◌≢◌, ◌⊎◌, ℕ, ◌+◌, ◌<◌, slice_index, List, length, Bool, true, false, Some, None, Result, Ok, Err, IsSome}
 use Rattle.gx_disk.specs.Device.{Device, Rests, SamePending, Elapses}
 use Rattle.gx_page.specs.Contents.{Contents}
 use Rattle.gx_page.specs.Reading.{IsImage, read_of}
 use Rattle.gx_pool.specs.declared.fault.PoolFault.{PoolFault}
 use Rattle.gx_pool.specs.declared.fault.PoolFault.TheVariants.{NoCleanFrame, Device as DeviceFault, Damaged}
 use Rattle.gx_pool.specs.Area.{bytes_of, IsPassing}
-use Rattle.gx_pool.specs.State.{State, kept, stamp_of, IsSpare, NoneClean}
+use Rattle.gx_pool.specs.Marks.{is_held}
+use Rattle.gx_pool.specs.State.{State, kept, AllKept, IsSpare, NoneClean, SomeClean}
 
 -- the bytes are the image of these contents
 pub record HasImage (bytes : List ℕ) (contents : Contents) : Type 0 where
@@ -52,36 +52,74 @@ faults_of (Err NoCleanFrame) = 0
 faults_of (Err DeviceFault) = 1
 faults_of (Err Damaged) = 0
 
--- What an answer for one page says: it is kept; or it isn't, and no frame is clean for the event; or the device failed; or
--- what an honest device has is no page of that number that passes the test.
+-- No page comes but this one.
+abbrev pub ComesAlone : State → State → ℕ → Type 0
+ComesAlone old new page = (q : ℕ) → q ≢ page → kept old q ≡ None → kept new q ≡ None
+
+-- the page isn't kept, no frame is clean for the event, and all is as it was
+pub record NoFrame (old new : State) (page : ℕ) : Type 0 where
+  pub missing : kept old page ≡ None
+  pub full : NoneClean old
+  pub same : new ≡ old
+
+-- the page isn't kept, a frame is clean for the event, and all is as it was
+pub record Unread (old new : State) (page : ℕ) : Type 0 where
+  pub missing : kept old page ≡ None
+  pub room : SomeClean old
+  pub same : new ≡ old
+
+-- The page isn't kept, before and after; a frame is clean for the event, before and after; and what an honest device has is
+-- no page of that number that passes the test.
+pub record Refuted (passes : Contents → Bool) (d : Device) (old new : State) (page : ℕ) : Type 0 where
+  pub missing : kept old page ≡ None
+  pub absent : kept new page ≡ None
+  pub room : SomeClean old
+  pub left : SomeClean new
+  pub damaged : d.honest ≡ true → ¬ IsPassing passes page (bytes_of d.seen page)
+
+-- What an answer for one page says: it is kept; or it isn't, and no frame is clean for the event; or one is, and the device
+-- failed; or one is, and what an honest device has is no page of that number that passes the test.
 abbrev pub Answers : {A : Type 0} → (Contents → Bool) → Device → State → State → ℕ → Result A PoolFault → Type 0
 Answers passes d old new page (Ok a) = IsSome (kept new page)
-Answers passes d old new page (Err NoCleanFrame) = (kept new page ≡ None) × NoneClean new
-Answers passes d old new page (Err DeviceFault) = kept new page ≡ None
-Answers passes d old new page (Err Damaged) = (kept old page ≡ None) × (d.honest ≡ true → ¬ IsPassing passes page (bytes_of d.seen page))
+Answers passes d old new page (Err NoCleanFrame) = NoFrame old new page
+Answers passes d old new page (Err DeviceFault) = Unread old new page
+Answers passes d old new page (Err Damaged) = Refuted passes d old new page
 
 -- one page was brought
 pub record BringsOne {A : Type 0} (passes : Contents → Bool) (d e : Device) (old new : State) (page : ℕ) (result : Result A PoolFault) : Type 0 where
   pub brings : Brings passes d.honest d.seen old new
+  pub alone : ComesAlone old new page
   pub only_read : OnlyRead d e
   pub faults : e.faults ≡ d.faults + faults_of result
   pub answer : Answers passes d old new page result
 
--- one of the pages
-abbrev pub OneOf : List ℕ → (ℕ → Type 0) → Type 0
-OneOf pages P = (k : ℕ) × (k < length pages) × P (slice_index pages k)
+-- No page comes but these.
+abbrev pub ComeAlone : State → State → List ℕ → Type 0
+ComeAlone old new pages = (q : ℕ) → is_held pages (Some q) ≡ false → kept old q ≡ None → kept new q ≡ None
 
--- What an answer for several pages says: each is kept; or one isn't, and no frame is clean for the event; or the device
--- failed; or what an honest device has of one that wasn't kept is no page of that number that passes the test.
+-- the k-th of the pages is the first that isn't kept
+pub record IsFirstMissing (s : State) (pages : List ℕ) (k : ℕ) : Type 0 where
+  pub inside : k < length pages
+  pub before : (j : ℕ) → j < k → IsSome (kept s (slice_index pages j))
+  pub missing : kept s (slice_index pages k) ≡ None
+
+-- the first of the pages that isn't kept, and what holds of it
+abbrev pub FirstMissing : State → List ℕ → (ℕ → Type 0) → Type 0
+FirstMissing s pages P = (k : ℕ) × IsFirstMissing s pages k × P (slice_index pages k)
+
+-- What an answer for several pages says: each is kept; or those before one are, that one isn't, and no frame is clean for
+-- the event; or one is, and the device failed; or one is, the page wasn't kept, and what an honest device has is no page of
+-- that number that passes the test.
 abbrev pub AnswersAll : {A : Type 0} → (Contents → Bool) → Device → State → State → List ℕ → Result A PoolFault → Type 0
-AnswersAll passes d old new pages (Ok a) = (k : ℕ) → k < length pages → IsSome (kept new (slice_index pages k))
-AnswersAll passes d old new pages (Err NoCleanFrame) = OneOf pages (λ page. kept new page ≡ None) × NoneClean new
-AnswersAll passes d old new pages (Err DeviceFault) = OneOf pages (λ page. kept new page ≡ None)
-AnswersAll passes d old new pages (Err Damaged) = OneOf pages (λ page. (kept old page ≡ None) × (d.honest ≡ true → ¬ IsPassing passes page (bytes_of d.seen page)))
+AnswersAll passes d old new pages (Ok a) = AllKept new pages
+AnswersAll passes d old new pages (Err NoCleanFrame) = FirstMissing new pages (λ page. NoneClean new)
+AnswersAll passes d old new pages (Err DeviceFault) = FirstMissing new pages (λ page. SomeClean new)
+AnswersAll passes d old new pages (Err Damaged) = FirstMissing new pages (λ page. SomeClean new × (kept old page ≡ None) × (d.honest ≡ true → ¬ IsPassing passes page (bytes_of d.seen page)))
 
 -- pages were brought, one after another
 pub record BringsAll {A : Type 0} (passes : Contents → Bool) (d e : Device) (old new : State) (pages : List ℕ) (result : Result A PoolFault) : Type 0 where
   pub brings : Brings passes d.honest d.seen old new
+  pub alone : ComeAlone old new pages
   pub only_read : OnlyRead d e
   pub faults : e.faults ≡ d.faults + faults_of result
   pub answer : AnswersAll passes d old new pages result

@@ -1,11 +1,13 @@
 -- The laws of the pool.
-use Rattle.std.specs.Prelude.{◌≡◌, ◌≢◌, ℕ, List, Bool, true, Option, Some, None}
+use Rattle.std.specs.Prelude.{◌≡◌, ◌≢◌, ◌<◌, ℕ, List, Bool, true, Option, Some, None}
 use Rattle.gx_page.specs.Contents.{Contents}
+use Rattle.gx_page.specs.Edits.{blank}
 use Rattle.gx_page.specs.Reading.{read_of}
 use Rattle.gx_pool.specs.Area.{bytes_of}
-use Rattle.gx_pool.specs.State.{State, Kept, IsSound, kept}
+use Rattle.gx_pool.specs.State.{State, Kept, IsSound, NoneClean, SomeClean, clean_count, kept}
 use Rattle.gx_pool.specs.Edits.{changed, later}
 use Rattle.gx_pool.specs.Bringing.{Brings, HasImage}
+use Rattle.gx_pool.specs.Creating.{Creates}
 
 abbrev pub ChangeIsOfItsPage : Type 0
 ChangeIsOfItsPage = (s : State) (page stamp : ℕ) (contents : Contents) (k : Kept) → IsSound s → kept s page ≡ Some k
@@ -38,3 +40,18 @@ BringingShowsTheSame = (passes : Contents → Bool) (seen : List ℕ) (s t : Sta
 
 abbrev pub BringingKeepsPassing : Type 0
 BringingKeepsPassing = (passes : Contents → Bool) (honest : Bool) (seen : List ℕ) (s t : State) → Brings passes honest seen s t → IsPassed passes s → IsPassed passes t
+
+abbrev pub CreatingKeepsBacked : Type 0
+CreatingKeepsBacked = (seen : List ℕ) (s t : State) (page level batch : ℕ) → Creates s t page level batch → IsBacked s seen → IsBacked t seen
+
+abbrev pub CreatingShowsTheSame : Type 0
+CreatingShowsTheSame = (seen : List ℕ) (s t : State) (page level batch other : ℕ) → Creates s t page level batch → IsBacked s seen → other ≢ page → shown t seen other ≡ shown s seen other
+
+abbrev pub CreatingKeepsPassing : Type 0
+CreatingKeepsPassing = (passes : Contents → Bool) (s t : State) (page level batch : ℕ) → Creates s t page level batch → passes (blank level page) ≡ true → IsPassed passes s → IsPassed passes t
+
+abbrev pub SomeAreClean : Type 0
+SomeAreClean = (s : State) → 0 < clean_count s → SomeClean s
+
+abbrev pub NoneAreClean : Type 0
+NoneAreClean = (s : State) → NoneClean s → clean_count s ≡ 0

@@ -1,8 +1,11 @@
 pub mod Area
 pub mod Bringing
+pub mod Creating
 pub mod Edits
+pub mod Gated
 pub mod Laws
 pub mod Lending
 pub mod Marks
 pub mod State
+pub mod Viewing
 pub mod Writing

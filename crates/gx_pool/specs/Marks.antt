@@ -1,5 +1,5 @@
 -- What is known of a frame besides its page.
-use Rattle.std.specs.Prelude.{◌≡◌, ℕ, ◌<◌, ◌≤◌, ◌==◌, ◌&&◌, Bool, true, false, not, if◌then◌else◌, List, slice_index_or, Option, Some, None, MatchOption, is_none, nat_le}
+use Rattle.std.specs.Prelude.{◌≡◌, ℕ, ◌<◌, ◌≤◌, ◌==◌, ◌&&◌, Bool, false, not, if◌then◌else◌, List, slice_index_or, Option, Some, None, MatchOption, is_none, nat_le}
 use Rattle.std.specs.List.{list_any}
 use Rattle.gx_pool.specs.declared.mark.Mark.{Mark}
 

@@ -1,5 +1,5 @@
 -- What frames hold.
-use Rattle.std.specs.Prelude.{◌≡◌, ◌⊎◌, ℕ, ◌<◌, ◌≤◌, ◌*◌, List, [], length, slice_index_or, Bool, true, false, Option, Some, None}
+use Rattle.std.specs.Prelude.{◌≡◌, ℕ, ◌<◌, ◌≤◌, List, [], length, slice_index, slice_index_or, count_by, true, false, Option, Some, None, IsSome}
 use Rattle.gx_page.specs.Contents.{Contents}
 use Rattle.gx_page.specs.Edits.{blank}
 use Rattle.gx_pool.specs.declared.mark.Mark.{Mark}
@@ -63,6 +63,18 @@ pub record IsSpare (s : State) (page : ℕ) : Type 0 where
 -- no frame is clean for the event: each has a page that is dirty or held
 abbrev pub NoneClean : State → Type 0
 NoneClean s = (i : ℕ) → i < length s.marks → clean s.held (mark_at s i) ≡ false
+
+-- a frame is clean for the event: it is empty, or has a clean page that isn't held
+abbrev pub SomeClean : State → Type 0
+SomeClean s = (i : ℕ) × (i < length s.marks) × (clean s.held (mark_at s i) ≡ true)
+
+-- how many frames are clean for the event
+abbrev pub clean_count : State → ℕ
+clean_count s = count_by (clean s.held) s.marks
+
+-- each of the pages is kept
+abbrev pub AllKept : State → List ℕ → Type 0
+AllKept s pages = (k : ℕ) → k < length pages → IsSome (kept s (slice_index pages k))
 
 -- the event holds these pages
 abbrev pub holding : State → List ℕ → State

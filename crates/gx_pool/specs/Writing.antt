@@ -1,5 +1,5 @@
 -- What a page's write leaves.
-use Rattle.std.specs.Prelude.{◌≡◌, ◌≢◌, ℕ, List, length, Bool, true, Option, Some, None, Result, OnOk, OnErr}
+use Rattle.std.specs.Prelude.{◌≡◌, ◌≢◌, ℕ, length, true, Some, None, Result, OnOk, OnErr}
 use Rattle.gx_disk.specs.Device.{Device, Counts, Writes}
 use Rattle.gx_page.specs.Format.{image_of}
 use Rattle.gx_pool.specs.Area.{first_of}

@@ -41,7 +41,8 @@ impl Model for Frames {
 impl Frames {
     ghost use Rattle.gx_pool.specs.Lending.{LendsPage, LendsChange};
     ghost use Rattle.gx_pool.specs.Marks.{clean, empty, is_gated};
-    ghost use Rattle.gx_pool.specs.State.{State, IsEmpty, IsSound, place_of, mark_at, kept, stamp_of, NoneClean, IsWritable};
+    ghost use Rattle.gx_pool.specs.Creating.{Creates};
+    ghost use Rattle.gx_pool.specs.State.{State, IsEmpty, IsSound, place_of, mark_at, kept, stamp_of, clean_count, NoneClean, IsWritable};
     ghost use Rattle.gx_pool.specs.Edits.{vacated, with_page, settled, stamped};
 
     /// So many empty frames, with the table of pages.
@@ -153,6 +154,38 @@ impl Frames {
             stamp,
         };
         self.places[page as usize] = Some(i as u16);
+    }
+
+    /// Makes the page in an empty frame blank.
+    #[tactic(auto, using(crate::proofs::Places::with_page_sound))]
+    pub(crate) fn reset(&mut self, i: usize, page: u32, level: u16)
+        requires { i < length self.old.marks }
+        ensures { self.new ≡ with_page self.old i (blank level page) }
+    {
+        self.pages[i].reset(level, page);
+    }
+
+    /// Gives a clean frame to a page that isn't kept: blank, and with a change of a batch.
+    pub(crate) fn create(&mut self, page: u32, level: u16, batch: u64)
+        requires page { (page ≤ PAGES) × (kept self.old page ≡ None) }
+        requires frame { 0 < clean_count self.old }
+        ensures { Creates self.old self.new page level batch }
+    {
+        match self.frame_to_use() {
+            Some(i) => {
+                self.vacate(i);
+                self.reset(i, page, level);
+                self.settle(i, page, level, Some(batch));
+            }
+            None => unreachable!(),
+        }
+    }
+
+    /// How many frames are empty or have a clean page that isn't held.
+    pub(crate) fn clean_frames(&self) -> usize
+        ensures { result ≡ clean_count self.now }
+    {
+        mark::clean_count(&self.marks, &self.held)
     }
 
     /// Stamps the page in a frame, or says that it is as the device has it.

@@ -1,5 +1,8 @@
 //! Laws of the pool. Each function is its contract alone.
-ghost use Rattle.gx_pool.specs.Laws.{ChangeIsOfItsPage, ChangeIsOfNoOther, BringingKeepsBacked, BringingShowsTheSame, BringingKeepsPassing};
+ghost use Rattle.gx_pool.specs.Gated.{ImagesAgree};
+ghost use Rattle.gx_pool.specs.Laws.{ChangeIsOfItsPage, ChangeIsOfNoOther, BringingKeepsBacked, BringingShowsTheSame, BringingKeepsPassing, CreatingKeepsBacked, CreatingShowsTheSame, CreatingKeepsPassing, SomeAreClean, NoneAreClean};
+
+use gx_disk::SectorDisk;
 
 /// A change is of its page and of no other, with the later of its batch and the stamp that was there.
 pub fn change()
@@ -13,4 +16,23 @@ pub fn bringing()
     ensures backed { BringingKeepsBacked }
     ensures shown { BringingShowsTheSame }
     ensures passing { BringingKeepsPassing }
+{}
+
+/// Where each clean page is what an honest device has, it is so after a page was made, and every other page is shown as
+/// before. Where each kept page passes the test, each does then, if the blank page passes it.
+pub fn creating()
+    ensures backed { CreatingKeepsBacked }
+    ensures shown { CreatingShowsTheSame }
+    ensures passing { CreatingKeepsPassing }
+{}
+
+/// Some frame is clean exactly where the number of clean frames is positive.
+pub fn counting()
+    ensures some { SomeAreClean }
+    ensures none { NoneAreClean }
+{}
+
+/// Where the sectors of all pages but some are settled, what a crash now may leave has each other page as it reads.
+pub fn images<D: SectorDisk>()
+    ensures { (disk : D) → ImagesAgree (D.state disk) }
 {}

@@ -1,5 +1,5 @@
 //! What is known of a frame besides its page.
-ghost use Rattle.std.specs.Prelude.{◌≡◌, ◌==◌, ◌<◌, ◌+◌, ◌≤◌, true, false, ℕ, length, slice_index_or, Some, None, MatchOption, IfSome, IfNone, IfOk};
+ghost use Rattle.std.specs.Prelude.{◌≡◌, ◌==◌, ◌<◌, ◌+◌, ◌≤◌, true, false, ℕ, length, count_by, slice_index_or, Some, None, MatchOption, IfSome, IfNone, IfOk};
 ghost use Rattle.std.specs.List.{list_any};
 ghost use Rattle.gx_pool.specs.Edits.{forgotten, later};
 ghost use Rattle.gx_pool.specs.Marks.{clean, empty, is_gated, writable, IsLeast};
@@ -150,6 +150,13 @@ pub(crate) fn frame_to_use(marks: &[Mark], held: &[u32], hand: usize) -> Option<
         return Some(i);
     }
     clean_between(marks, held, 0, count, false)
+}
+
+/// How many of the frames are empty or have a clean page that isn't held.
+pub(crate) fn clean_count(marks: &[Mark], held: &[u32]) -> usize
+    ensures { result ≡ count_by (clean held.now) marks.now }
+{
+    marks.iter().filter(|mark| mark.is_clean(held)).count()
 }
 
 /// The least page that may be written.

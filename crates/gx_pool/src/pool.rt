@@ -5,9 +5,11 @@ ghost use Rattle.std.specs.Bool.{OnTrue, OnFalse};
 ghost use Rattle.gx_page.specs.Edits.{blank};
 ghost use Rattle.gx_pool.specs.Area.{bytes_of, IsPage, IsPassing};
 ghost use Rattle.gx_pool.specs.Marks.{clean, empty, is_gated};
-ghost use Rattle.gx_pool.specs.State.{State, Kept, IsEmpty, IsSound, NoneDirty, holding, kept, mark_at, place_of, stamp_of, NoneClean, IsWritable};
+ghost use Rattle.gx_pool.specs.State.{State, Kept, IsEmpty, IsSound, NoneDirty, AllKept, clean_count, holding, kept, mark_at, place_of, stamp_of, NoneClean, SomeClean, IsWritable};
+ghost use Rattle.gx_pool.specs.Creating.{Creates};
+ghost use Rattle.gx_pool.specs.Gated.{IsAreaSettled, KeepsArea, NamesGated};
 ghost use Rattle.gx_pool.specs.Writing.{WritesPage};
-ghost use Rattle.gx_pool.specs.Bringing.{Brings, BringsOne, HasImage, OnlyRead, faults_of, BringsAll};
+ghost use Rattle.gx_pool.specs.Bringing.{Brings, BringsOne, ComesAlone, HasImage, OnlyRead, faults_of, BringsAll};
 
 use crate::area::{PAGES, first_sector};
 use crate::fault::PoolFault;
@@ -28,6 +30,7 @@ pub struct Pool<T> {
 
 impl<T: PageTest> Pool<T> {
     ghost use Rattle.gx_pool.specs.Lending.{lends_change};
+    ghost use Rattle.gx_pool.specs.Viewing.{lends_brought, lends_view};
 
     /// A pool of so many frames, all empty, with the test of its pages. All memory that it ever takes is taken here.
     pub fn with_capacity(alloc: Global, frames: usize, test: T) -> Result<Pool<T>, AllocError>
@@ -71,8 +74,10 @@ impl<T: PageTest> Pool<T> {
         requires frame { (i < length self.old.frames.marks) × (clean self.old.frames.held (mark_at self.old.frames i) ≡ true) }
         requires page { (page ≤ 65536) × (kept self.old.frames page ≡ None) }
         ensures brings { (d : Bool) (seen : List ℕ) → (d ≡ true → bytes_of seen page ≡ self.old.buffer.value) → Brings (T.passes self.old.test) d seen self.old.frames self.new.frames }
+        ensures alone { ComesAlone self.old.frames self.new.frames page }
         ensures admitted { OnTrue result (IsSome (kept self.new.frames page)) }
         ensures refused { OnFalse result (¬ IsPassing (T.passes self.old.test) page self.old.buffer.value) }
+        ensures left { OnFalse result ((kept self.new.frames page ≡ None) × SomeClean self.new.frames) }
         ensures test { self.new.test ≡ self.old.test }
     {
         self.frames.vacate(i);
@@ -92,6 +97,7 @@ impl<T: PageTest> Pool<T> {
         requires page { IsPage (D.state disk.old).sectors page }
         requires absent { kept self.old.frames page ≡ None }
         ensures fetched { BringsOne (T.passes self.old.test) (D.state disk.old) (D.state disk.new) self.old.frames self.new.frames page result }
+        ensures idle { NoneClean self.old.frames → (self.new.frames ≡ self.old.frames) × (disk.new ≡ disk.old) }
         ensures test { self.new.test ≡ self.old.test }
     {
         let Some(i) = self.frames.frame_to_use() else {
@@ -105,13 +111,16 @@ impl<T: PageTest> Pool<T> {
         }
     }
 
-    /// Brings a page into a frame, unless it is in one, and leaves what is held as it is: `page` reads it then.
+    /// Brings a page into a frame, unless it is in one, and leaves what is held as it is: `page` reads it then. Where it is
+    /// in one, or no frame is clean (empty, or with a clean page that isn't held), the device isn't called.
     ///
-    /// Refused with `NoCleanFrame` where it isn't in a frame and none is empty or holds a clean page that isn't held, with
-    /// `Device` where the device failed, and with `Damaged` where it has no page of that number, or one that fails the test.
+    /// Refused with `NoCleanFrame` exactly where it isn't in a frame and no frame is clean. Else with `Device` where the
+    /// device failed; then every frame is as it was. And with `Damaged` where the device has no page of that number, or one
+    /// that fails the test; then a frame is empty.
     pub fn bring_one<D: SectorDisk>(&mut self, disk: &mut D, page: u32) -> Result<(), PoolFault>
         requires { IsPage (D.state disk.old).sectors page }
         ensures brought { BringsOne (T.passes self.old.test) (D.state disk.old) (D.state disk.new) self.old.frames self.new.frames page result }
+        ensures idle { IsSome (kept self.old.frames page) ⊎ NoneClean self.old.frames → (self.new.frames ≡ self.old.frames) × (disk.new ≡ disk.old) }
         ensures test { self.new.test ≡ self.old.test }
     {
         if self.frames.is_kept(page) {
@@ -123,13 +132,14 @@ impl<T: PageTest> Pool<T> {
     /// Holds these pages, up to four, and lets go what was held; those that aren't kept are read. What an event uses is
     /// brought first: then its pages can be read and changed, and none of that fails.
     ///
-    /// Refused with the fault of the first page that can't be brought: `NoCleanFrame` where no frame is empty or holds a
-    /// clean page other than these, `Device` where the device failed, and `Damaged` where it has no page of that number, or
-    /// one that fails the test. The pages before it have come, and dirty pages are as they were.
+    /// Refused with the fault of the first page that can't be brought: `NoCleanFrame` exactly where no frame is empty or has
+    /// a clean page other than these, else `Device` where the device failed, and `Damaged` where it has no page of that
+    /// number, or one that fails the test. The pages before it are kept, and dirty pages are as they were.
     pub fn bring<D: SectorDisk>(&mut self, disk: &mut D, pages: &[u32]) -> Result<(), PoolFault>
         requires few { length pages.now ≤ HELD }
         requires pages { (k : ℕ) → k < length pages.now → IsPage (D.state disk.old).sectors (slice_index pages.now k) }
         ensures brought { BringsAll (T.passes self.old.test) (D.state disk.old) (D.state disk.new) (holding self.old.frames pages.now) self.new.frames pages.now result }
+        ensures idle { AllKept self.old.frames pages.now ⊎ NoneClean (holding self.old.frames pages.now) → (self.new.frames ≡ holding self.old.frames pages.now) × (disk.new ≡ disk.old) }
         ensures test { self.new.test ≡ self.old.test }
     {
         self.frames.hold(pages);
@@ -137,6 +147,26 @@ impl<T: PageTest> Pool<T> {
             self.bring_one(disk, *page)?;
         }
         Ok(())
+    }
+
+    /// How many frames are clean: empty, or with a clean page that isn't held. So many pages can be made.
+    pub fn clean_frames(&self) -> usize
+        ensures { result ≡ clean_count self.now.frames }
+    {
+        self.frames.clean_frames()
+    }
+
+    /// Makes a page that was never written: blank, of a level, and with a change of a batch. The device isn't read, since its
+    /// sectors may hold anything, and no memory is taken. A clean frame is used, so a clean page that isn't held may go.
+    /// The page is dirty, so it stays until it is written; nothing has to hold it.
+    pub fn create(&mut self, page: u32, level: u16, batch: u64)
+        requires page { (1 ≤ page) × (page ≤ PAGES) }
+        requires absent { kept self.old.frames page ≡ None }
+        requires frame { 0 < clean_count self.old.frames }
+        ensures created { Creates self.old.frames self.new.frames page level batch }
+        ensures test { self.new.test ≡ self.old.test }
+    {
+        self.frames.create(page, level, batch);
     }
 
     /// Writes the page in a frame to its sectors; it is clean then.
@@ -165,11 +195,15 @@ impl<T: PageTest> Pool<T> {
     /// Writes a page to its sectors, where it has changes and all of them are in gated batches; else nothing is done. Once
     /// it is written it is clean, and its frame may go to another page.
     ///
+    /// Whether it succeeds or not, no sector of another page changes. So where the sectors of all pages but some are settled,
+    /// and the pages that may be written are among those, a crash at any moment of the call leaves each other page's bytes.
+    ///
     /// Refused with `Device` where the device failed. The page is then kept as it was, with its changes.
     pub fn write_page<D: SectorDisk>(&mut self, disk: &mut D, page: u32) -> Result<(), PoolFault>
         requires { IsPage (D.state disk.old).sectors page }
         ensures idle { is_gated self.old.frames.gated (stamp_of (kept self.old.frames page)) ≡ false → (result ≡ Ok tt) × (self.new ≡ self.old) × (disk.new ≡ disk.old) }
         ensures written { (k : Kept) → kept self.old.frames page ≡ Some k → is_gated self.old.frames.gated k.stamp ≡ true → WritesPage (D.state disk.old) (D.state disk.new) self.old.frames self.new.frames page k result }
+        ensures area { (named : ℕ → Bool) → (D.state disk.old).honest ≡ true → NamesGated named self.old.frames → IsAreaSettled named (D.state disk.old) → KeepsArea named (D.state disk.old) (D.state disk.new) }
         ensures fault { OnErr result (result ≡ Err PoolFault.Device) }
         ensures test { self.new.test ≡ self.old.test }
     {
@@ -237,6 +271,36 @@ impl<T: PageTest> Pool<T> {
         ensures sound { IsSound self.old.frames }
     {
         self.frames.change_kept(page, batch)
+    }
+
+    /// Brings a page as `bring_one` does, and lends it to be read.
+    ///
+    /// Refused as `bring_one`.
+    pub fn view<D: SectorDisk>(&mut self, disk: &mut D, page: u32) -> Result<&Page, PoolFault>
+        requires { IsPage (D.state disk.old).sectors page }
+        ensures* viewed { sem 𝓛 (lends_view T.row (T.passes self.old.test) (D.state disk.old) (D.state disk.new) self.entry page result) }
+        ensures idle { IsSome (kept self.old.frames page) ⊎ NoneClean self.old.frames → disk.new ≡ disk.old }
+    {
+        self.bring_one(disk, page)?;
+        Ok(self.page(page))
+    }
+
+    /// Brings a page as `bring_one` does, and lends it to be changed, as of a batch: its greatest stamp is that batch, or a
+    /// later one that it had.
+    ///
+    /// Refused as `bring_one`; then no page has changed.
+    pub fn change<D: SectorDisk>(
+        &mut self,
+        disk: &mut D,
+        page: u32,
+        batch: u64,
+    ) -> Result<&mut Page, PoolFault>
+        requires { IsPage (D.state disk.old).sectors page }
+        ensures* changed { sem 𝓛 (lends_brought T.row (T.passes self.old.test) (D.state disk.old) (D.state disk.new) self.entry page batch result) }
+        ensures idle { IsSome (kept self.old.frames page) ⊎ NoneClean self.old.frames → disk.new ≡ disk.old }
+    {
+        self.bring_one(disk, page)?;
+        Ok(self.change_kept(page, batch))
     }
 }
 

@@ -1,4 +1,4 @@
-use Rattle.std.proofs.Common.{◌≡◌, ℕ, length, get_or, None}
+use Rattle.std.proofs.Common.{◌≡◌, ℕ, length, get_or}
 use Rattle.gx_pool.specs.Marks.{empty}
 use Rattle.gx_pool.proofs.mark.empty_marks.Given as goal
 

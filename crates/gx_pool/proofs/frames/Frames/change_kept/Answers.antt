@@ -1,4 +1,4 @@
-use Rattle.std.proofs.Common.{◌≡◌, ◌∙◌, sym, ap, refl, get_or, Some}
+use Rattle.std.proofs.Common.{◌∙◌, sym, ap, refl, get_or, Some}
 use Rattle.gx_page.specs.Edits.{blank}
 use Rattle.gx_pool.specs.Edits.{with_page, stamped, later, changed_at}
 use Rattle.gx_pool.proofs.Places.{not_kept, frame_page}

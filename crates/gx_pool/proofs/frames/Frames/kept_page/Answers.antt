@@ -1,4 +1,4 @@
-use Rattle.std.proofs.Common.{◌≡◌, ◌∙◌, sym}
+use Rattle.std.proofs.Common.{◌∙◌, sym}
 use Rattle.gx_pool.proofs.Places.{not_kept, frame_page}
 use Rattle.gx_pool.proofs.frames.Frames.kept_page.Goals as goal
 

@@ -1,6 +1,5 @@
-use Rattle.std.proofs.Common.{◌≡◌, ◌∙◌, get_or, None, ◌<◌, sym, ap, length, arith, length-set}
-use Rattle.gx_pool.specs.Marks.{empty}
-use Rattle.gx_pool.specs.State.{State, IsSound}
+use Rattle.std.proofs.Common.{◌∙◌, get_or, None, sym, ap}
+use Rattle.gx_pool.specs.State.{State}
 use Rattle.gx_pool.proofs.Places.{placed_inside}
 use Rattle.gx_pool.proofs.frames.Frames.place.Goals as goal
 

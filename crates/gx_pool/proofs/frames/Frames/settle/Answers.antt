@@ -1,6 +1,5 @@
-use Rattle.std.proofs.Common.{◌≡◌, ◌∙◌, ◌<◌, sym, ap, length, arith, length-set}
-use Rattle.gx_pool.specs.Marks.{empty}
-use Rattle.gx_pool.specs.State.{State, IsSound, mark_at, place_of}
+use Rattle.std.proofs.Common.{◌∙◌, ◌<◌, ap, length, arith, length-set}
+use Rattle.gx_pool.specs.State.{State, mark_at, place_of}
 use Rattle.gx_pool.proofs.Places.{settled_sound}
 use Rattle.gx_pool.proofs.frames.Frames.settle.Goals as goal
 

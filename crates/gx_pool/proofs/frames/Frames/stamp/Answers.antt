@@ -1,6 +1,5 @@
-use Rattle.std.proofs.Common.{◌≡◌, ◌<◌, sym, ap, length, arith, length-set}
-use Rattle.gx_pool.specs.Marks.{empty}
-use Rattle.gx_pool.specs.State.{State, IsSound}
+use Rattle.std.proofs.Common.{◌<◌, ap, length, arith, length-set}
+use Rattle.gx_pool.specs.State.{State}
 use Rattle.gx_pool.proofs.Places.{stamped_sound}
 use Rattle.gx_pool.proofs.frames.Frames.stamp.Goals as goal
 

@@ -1,6 +1,6 @@
-use Rattle.std.proofs.Common.{◌≡◌, ◌∙◌, get_or, ◌<◌, sym, ap, length, arith, length-set}
+use Rattle.std.proofs.Common.{◌∙◌, get_or, ◌<◌, sym, ap, length, arith, length-set}
 use Rattle.gx_pool.specs.Marks.{empty}
-use Rattle.gx_pool.specs.State.{State, IsSound}
+use Rattle.gx_pool.specs.State.{State}
 use Rattle.gx_pool.proofs.Places.{vacated_sound, named_inside}
 use Rattle.gx_pool.proofs.frames.Frames.vacate.Goals as goal
 

@@ -1,4 +1,4 @@
-use Rattle.std.proofs.Common.{◌≡◌, ◌∙◌, sym, ap}
+use Rattle.std.proofs.Common.{◌∙◌, sym, ap}
 use Rattle.gx_pool.specs.Marks.{is_gated}
 use Rattle.gx_pool.proofs.Places.{placed_gated}
 use Rattle.gx_pool.proofs.frames.Frames.writable.Goals as goal

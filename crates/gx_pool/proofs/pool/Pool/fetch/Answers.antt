@@ -1,5 +1,3 @@
-use Rattle.std.proofs.Common.{◌≡◌, List, ℕ, subst, sym}
-use Rattle.gx_pool.specs.Area.{IsPassing}
 use Rattle.gx_pool.proofs.pool.Pool.fetch.Goals as goal
 
 pub returns-then-admit-clause-fetched : goal.returns-then-admit-clause-fetched
@@ -7,6 +5,7 @@ returns-then-admit-clause-fetched g c = record {
   brings = rw (← c.frame_to_use.ensures.unchanged, ← c.in_ok-read.ensures.same.0, ← c.in_ok-read.ensures.same.1) (c.admit.ensures.brings _ _ c.in_ok-read.ensures.read);
   only_read = c.in_ok-read.ensures.only_read;
   faults = c.in_ok-read.ensures.faults;
+  alone = rw (← c.frame_to_use.ensures.unchanged, ← c.in_ok-read.ensures.same.0) c.admit.ensures.alone;
   answer = c.if-admit.ensures.admitted;
 }
 
@@ -15,5 +14,12 @@ returns-else-admit-clause-fetched g c = record {
   brings = rw (← c.frame_to_use.ensures.unchanged, ← c.in_ok-read.ensures.same.0, ← c.in_ok-read.ensures.same.1) (c.admit.ensures.brings _ _ c.in_ok-read.ensures.read);
   only_read = c.in_ok-read.ensures.only_read;
   faults = c.in_ok-read.ensures.faults;
-  answer = (c.requires.absent, λ honest passing. c.if-admit.ensures.refused (rw (← c.in_ok-read.ensures.read honest, c.in_ok-read.ensures.same.1) passing));
+  alone = rw (← c.frame_to_use.ensures.unchanged, ← c.in_ok-read.ensures.same.0) c.admit.ensures.alone;
+  answer = record {
+    missing = c.requires.absent;
+    absent = c.if-admit.ensures.left.0;
+    room = (c.in-Some.i, c.in-Some.ensures.found.0, c.in-Some.ensures.found.1);
+    left = c.if-admit.ensures.left.1;
+    damaged = λ honest passing. c.if-admit.ensures.refused (rw (← c.in_ok-read.ensures.read honest, c.in_ok-read.ensures.same.1) passing);
+  };
 }

@@ -1,4 +1,4 @@
-use Rattle.std.proofs.Common.{◌≡◌, ◌∙◌, sym, ap}
+use Rattle.std.proofs.Common.{◌∙◌, ap}
 use Rattle.gx_page.specs.Format.{image_of}
 use Rattle.gx_pool.proofs.Writing.{wrote_ok}
 use Rattle.gx_pool.proofs.pool.Pool.write_frame.Goals as goal

@@ -1,0 +1,7 @@
+use Rattle.gx_pool.specs.Marks.{clean, empty}
+use Rattle.gx_pool.proofs.Counting.{some_counted}
+use Rattle.gx_pool.proofs.Creating.{none_clean_counted}
+use Rattle.gx_pool.proofs.laws.counting.Goals as goal
+
+pub returns : goal.returns
+returns c = record { some = λ s positive. some_counted (clean s.held) s.marks empty positive; none = none_clean_counted }
