@@ -1,6 +1,6 @@
 -- What an append does.
 use Rattle.std.specs.Prelude.{◌≡◌, ℕ, ◌+◌, ◌<◌, ◌≤◌, List, ◌++◌, length}
-use Rattle.gx_glog.specs.Buffers.{Log}
+use Rattle.gx_glog.specs.State.{Log}
 use Rattle.gx_glog.specs.declared.filling.Appended.{Appended}
 use Rattle.gx_glog.specs.declared.filling.Appended.TheVariants.{At, NoRoom}
 

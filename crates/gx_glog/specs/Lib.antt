@@ -1,5 +1,10 @@
 pub mod Appending
-pub mod Buffers
+pub mod Beside
+pub mod Bodies
+pub mod Laws
 pub mod Layout
 pub mod Looks
 pub mod Reading
+pub mod Standing
+pub mod State
+pub mod Steps

@@ -19,7 +19,7 @@ const SELECTOR: u64 = 2;
 
 const SELECTS_B: u8 = 0x5A;
 
-const OPEN: u8 = 0xA7;
+pub(crate) const OPEN: u8 = 0xA7;
 
 /// One of the log's two halves: 32 gates and 32 bodies.
 #[derive(Clone, Copy, Debug, PartialEq, Eq)]
@@ -64,7 +64,7 @@ pub fn selected<D: SectorDisk>(disk: &mut D) -> Result<Extent, Refusal>
 
 impl Extent {
     /// The sector of its first gate.
-    fn gates(self) -> u64
+    pub(crate) fn gates(self) -> u64
         ensures { result ≡ gates_of self }
     {
         match self {
@@ -74,7 +74,7 @@ impl Extent {
     }
 
     /// The first sector of its first body.
-    fn bodies(self) -> u64
+    pub(crate) fn bodies(self) -> u64
         ensures { result ≡ bodies_of self }
     {
         match self {

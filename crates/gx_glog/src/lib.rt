@@ -1,10 +1,16 @@
 //! The gated log: batches of records on a device, each counted once its gate is open.
 #![tactic(auto)]
 
+mod batch;
+mod buffer;
+pub mod caller;
 mod extent;
 mod filling;
+pub mod laws;
+mod stage;
 #[cfg(test)]
 mod tests;
 
 pub use extent::{BODY_SIZE, Extent, PLACES, read_extent, selected};
 pub use filling::{Appended, Glog};
+pub use stage::Stage;

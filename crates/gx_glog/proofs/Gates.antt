@@ -1,0 +1,71 @@
+-- What gates, bodies and the selector read as: it hangs on their own sectors alone.
+use Rattle.std.proofs.Common.{◌≡◌, ◌∙◌, sym, ap, refl, ℕ, zero, suc, ◌+◌, ◌*◌, ◌<◌, ◌≤◌, ◌==◌, List, ◌++◌, true, false, Bool, if◌then◌else◌, arith}
+use Rattle.std.specs.Prelude.{slice_index}
+use Rattle.gx_disk.specs.Sectors.{span_of, sector_of, IsWithin}
+use Rattle.gx_disk.specs.Device.{IsImage}
+use Rattle.gx_disk.proofs.Spans.{spans_same}
+use Rattle.gx_glog.specs.declared.extent.Extent.{Extent}
+use Rattle.gx_glog.specs.declared.extent.Extent.TheVariants.{A, B}
+use Rattle.gx_glog.specs.Layout.{gates_of, bodies_of, selected_of, is_open, body_of, size_in, records_in, open_run, batches_of, log_of}
+
+-- an extent's gates stand before its bodies, behind the selector and before the pages
+pub record IsPlaced (extent : Extent) : Type 0 where
+  pub bodies : bodies_of extent ≡ gates_of extent + 32
+  pub from : 8 ≤ gates_of extent
+  pub to : bodies_of extent + 2048 ≤ 4168
+
+pub placed : (extent : Extent) → IsPlaced extent
+placed A = record { bodies = refl; from = omega arith; to = omega arith }
+placed B = record { bodies = refl; from = omega arith; to = omega arith }
+
+pub gate_same : (extent : Extent) (k : ℕ) (xs ys : List ℕ) → sector_of xs (gates_of extent + k) ≡ sector_of ys (gates_of extent + k) → is_open xs extent k ≡ is_open ys extent k
+unfolding is_open span_of sector_of
+gate_same extent k xs ys same = ap (λ (sector : List ℕ). slice_index sector 0 == 0xA7) same
+
+pub selector_same : (xs ys : List ℕ) → sector_of xs 2 ≡ sector_of ys 2 → selected_of xs ≡ selected_of ys
+unfolding selected_of span_of sector_of
+selector_same xs ys same = ap (λ (sector : List ℕ). if slice_index sector 0 == 0x5A then B else A) same
+
+pub body_same : (extent : Extent) (k : ℕ) (xs ys : List ℕ) → ((s : ℕ) → IsWithin (bodies_of extent + 64 * k) 64 s → sector_of xs s ≡ sector_of ys s) → body_of xs extent k ≡ body_of ys extent k
+unfolding body_of
+body_same extent k xs ys same = spans_same 64 (bodies_of extent + 64 * k) xs ys same
+
+-- batches are the same where their bodies are
+pub batches_same : (extent : Extent) (n : ℕ) (xs ys : List ℕ) → ((k : ℕ) → k < n → body_of xs extent k ≡ body_of ys extent k) → batches_of xs extent n ≡ batches_of ys extent n
+unfolding batches_of
+batches_same extent zero xs ys same = refl
+batches_same extent (suc n) xs ys same =
+    let before : batches_of xs extent n ≡ batches_of ys extent n = batches_same extent n xs ys (λ k less. same k (omega arith)) in
+    let last : body_of xs extent n ≡ body_of ys extent n = same n (omega arith) in
+    rw (before, last) refl
+
+-- the records of one batch more come behind
+pub batches_more : (extent : Extent) (n : ℕ) (xs : List ℕ) → batches_of xs extent (n + 1) ≡ batches_of xs extent n ++ records_in (body_of xs extent n)
+unfolding batches_of
+batches_more extent n xs = let more : n + 1 ≡ suc n = omega arith in rw more refl
+
+-- a run of n open gates ends at a closed one, or at the last place
+pub run_is : (extent : Extent) (places k n : ℕ) (bytes : List ℕ) → n ≤ places → ((j : ℕ) → k ≤ j → j < k + n → is_open bytes extent j ≡ true) → (n < places → is_open bytes extent (k + n) ≡ false)
+    → open_run bytes extent k places ≡ n
+unfolding open_run
+run_is extent zero k zero bytes few opened closed = refl
+run_is extent zero k (suc n) bytes few opened closed = absurd (omega arith)
+run_is extent (suc places) k zero bytes few opened closed =
+    let here : k ≡ k + 0 = omega arith in
+    let shut : is_open bytes extent k ≡ false = ap (λ j. is_open bytes extent j) here ∙ closed (omega arith) in
+    rw shut refl
+run_is extent (suc places) k (suc n) bytes few opened closed =
+    let open_here : is_open bytes extent k ≡ true = opened k (omega arith) (omega arith) in
+    let there : k + 1 + n ≡ k + suc n = omega arith in
+    let rest : open_run bytes extent (k + 1) places ≡ n =
+    run_is extent places (k + 1) n bytes (omega arith) (λ j from below. opened j (omega arith) (omega arith)) (λ less. ap (λ j. is_open bytes extent j) there ∙ closed (omega arith)) in
+    rw open_here (ap suc rest)
+
+-- the log of an image with n open gates in a row
+pub log_is : (extent : Extent) (n : ℕ) (image : List ℕ) → selected_of image ≡ extent → n ≤ 32 → ((k : ℕ) → k < n → is_open image extent k ≡ true) → (n < 32 → is_open image extent n ≡ false)
+    → log_of image ≡ batches_of image extent n
+unfolding log_of
+log_is extent n image selects few opened closed =
+    let there : 0 + n ≡ n = omega arith in
+    let run : open_run image extent 0 32 ≡ n = run_is extent 32 0 n image few (λ j from below. opened j (omega arith)) (λ less. ap (λ j. is_open image extent j) there ∙ closed less) in
+    rw selects (ap (λ m. batches_of image extent m) run)

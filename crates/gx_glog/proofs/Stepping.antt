@@ -1,0 +1,368 @@
+-- What each device call of a batch keeps.
+use Rattle.std.proofs.Common.{◌≡◌, ◌∙◌, sym, ap, refl, ◌⊎◌, inl, inr, ⊎_elim, ℕ, ◌+◌, ◌*◌, ◌<◌, ◌≤◌, ◌==◌, List, [], ◌++◌, length, take, drop, true, false, Bool, Result, Ok, Err, subst, below_more, arith}
+use Rattle.std.proofs.lemmas.Bool.{cases_lt}
+use Rattle.std.specs.Prelude.{slice_index}
+use Rattle.gx_geom.specs.declared.refusal.Refusal.{Refusal}
+use Rattle.gx_disk.specs.Sectors.{span_of, sector_of, put, IsWithin, IsOutside}
+use Rattle.gx_disk.specs.Device.{Device, MayLeave, Touches, Writes, Syncs, IsWritten}
+use Rattle.gx_disk.specs.Moments.{Leaves}
+use Rattle.gx_disk.proofs.Leaving.{call_leaves, nothing_leaves, rested_touches}
+use Rattle.gx_disk.proofs.Spans.{put_back}
+use Rattle.gx_glog.specs.declared.extent.Extent.{Extent}
+use Rattle.gx_glog.specs.declared.stage.Stage.{Stage}
+use Rattle.gx_glog.specs.declared.stage.Stage.TheVariants.{Body, BodySync, Gate, GateSync, Idle}
+use Rattle.gx_glog.specs.Layout.{gates_of, bodies_of, selected_of, is_open, body_of, size_in, records_in, batches_of, log_of}
+use Rattle.gx_glog.specs.Reading.{IsSize}
+use Rattle.gx_glog.specs.Bodies.{HasRecords, IsBody, IsOpenGate}
+use Rattle.gx_glog.specs.State.{Log, IsSound, in_flight, begun, done, Made, Goes}
+use Rattle.gx_glog.specs.Standing.{IsGate, IsBodySettled, HasBatches, Flies, On, gated_of, IsLogOf, Shows, IsKept}
+use Rattle.gx_glog.specs.Steps.{Calls, CallOf, Gates, Keeps}
+use Rattle.gx_glog.proofs.Gates.{IsPlaced, placed, gate_same, batches_more}
+use Rattle.gx_glog.proofs.Images.{closed_log, either_log, image_gate, image_shows}
+use Rattle.gx_glog.proofs.Keeping.{touched_kept, rested_kept, gate_kept, body_kept, body_settled, records_kept, batches_kept, gated_kept, on_kept, gated_stays, rested_leaves, touched_wider}
+
+abbrev pub log_with : Extent → ℕ → ℕ → Stage → List ℕ → List ℕ → Log
+log_with extent used gated stage flight filling = record { extent = extent; used = used; gated = gated; stage = stage; flight = flight; filling = filling }
+
+-- the body's write
+module _ (extent : Extent) (used gated : ℕ) (flight filling bytes : List ℕ) (before now : Device) (result : Result Stage Refusal)
+    (sound : IsSound (log_with extent used gated Body flight filling)) (has : HasBatches extent gated used before.seen before.pending) (gate : IsGate false before.seen before.pending extent gated)
+    (is_body : IsBody flight bytes) (writes : Writes (bodies_of extent + 64 * gated) 64 bytes before now result) where
+  gates_stay : (k : ℕ) → k < 32 → IsKept before.seen now.seen before.pending now.pending (gates_of extent + k)
+  gates_stay k below = let at = placed extent in touched_kept (bodies_of extent + 64 * gated) 64 (gates_of extent + k) before now writes.touches (inl (omega (arith, at.bodies)))
+
+  bodies_stay : (k : ℕ) → k < gated → (s : ℕ) → IsWithin (bodies_of extent + 64 * k) 64 s → IsKept before.seen now.seen before.pending now.pending s
+  bodies_stay k less s within = touched_kept (bodies_of extent + 64 * gated) 64 s before now writes.touches (inl (omega (arith, within.below)))
+
+  body_batches : HasBatches extent gated used now.seen now.pending
+  body_batches =
+      let at = placed extent in
+      let selector = touched_kept (bodies_of extent + 64 * gated) 64 2 before now writes.touches (inl (omega (arith, at.bodies, at.from))) in
+      batches_kept before.seen now.seen before.pending now.pending extent gated used writes.touches.size selector (λ k which below. gates_stay k below) bodies_stay (omega (arith, sound.places, sound.few)) has
+
+  body_gate : IsGate false now.seen now.pending extent gated
+  body_gate = gate_kept before.seen now.seen before.pending now.pending false extent gated (gates_stay gated (omega (arith, sound.places, sound.few))) gate
+
+  body_same_batches : batches_of now.seen extent gated ≡ batches_of before.seen extent gated
+  body_same_batches = gated_kept before.seen now.seen before.pending now.pending extent gated bodies_stay
+
+  body_moments : Leaves (λ image. log_of image ≡ batches_of before.seen extent gated) before now
+  body_moments =
+      call_leaves (λ image. log_of image ≡ batches_of before.seen extent gated) before now writes.time
+      (λ image may. closed_log now.seen now.pending extent gated used image body_batches may (omega (arith, sound.places, sound.few))
+      (λ less. image_gate false now.seen now.pending extent gated image body_gate may) ∙ body_same_batches)
+
+  body_touches : Touches 8 4160 before now
+  body_touches = let at = placed extent in touched_wider (bodies_of extent + 64 * gated) 64 before now (omega (arith, at.bodies, at.from)) (omega (arith, at.to, sound.places, sound.few)) writes.touches
+
+  body_reads : IsWritten (bodies_of extent + 64 * gated) 64 bytes before now → HasRecords flight (body_of now.seen extent gated)
+  unfolding body_of span_of
+  body_reads written =
+      let at = placed extent in
+      let fits : 512 * (bodies_of extent + 64 * gated) + length bytes ≤ length before.seen = omega (arith, at.to, is_body.whole, has.size, sound.places, sound.few) in
+      let back : take (length bytes) (drop (512 * (bodies_of extent + 64 * gated)) (put (512 * (bodies_of extent + 64 * gated)) bytes before.seen)) ≡ bytes = put_back (512 * (bodies_of extent + 64 * gated)) bytes before.seen fits in
+      let reads : take 32768 (drop (512 * (bodies_of extent + 64 * gated)) now.seen) ≡ bytes = ap (λ n. take n (drop (512 * (bodies_of extent + 64 * gated)) now.seen)) (sym is_body.whole) ∙ ap (λ seen. take (length bytes) (drop (512 * (bodies_of extent + 64 * gated)) seen)) written.seen ∙ back in
+      let P : List ℕ → Type 0 = λ body. HasRecords flight body in
+      subst P (sym reads) is_body.has
+
+body_made : (extent : Extent) (used gated : ℕ) (flight filling : List ℕ) (before now : Device) → On (log_with extent used gated Body flight filling) before.seen before.pending
+    → Calls Body extent gated flight before now (Ok Body) → Keeps (log_with extent used gated Body flight filling) (log_with extent used gated BodySync flight filling) before now (Ok Body)
+body_made extent used gated flight filling before now on (bytes, is_body, writes) = record {
+  on = record {
+    sound = record { places = on.sound.places; few = on.sound.few; some = on.sound.some; fits = on.sound.fits; filled = on.sound.filled; room = on.sound.room };
+    batches = body_batches extent used gated flight filling bytes before now (Ok Body) on.sound on.batches on.flight is_body writes;
+    flight = (
+      body_gate extent used gated flight filling bytes before now (Ok Body) on.sound on.batches on.flight is_body writes,
+      body_reads extent used gated flight filling bytes before now (Ok Body) on.sound on.batches on.flight is_body writes writes.written,
+    );
+  };
+  gated = body_same_batches extent used gated flight filling bytes before now (Ok Body) on.sound on.batches on.flight is_body writes;
+  moments = body_moments extent used gated flight filling bytes before now (Ok Body) on.sound on.batches on.flight is_body writes;
+  touches = body_touches extent used gated flight filling bytes before now (Ok Body) on.sound on.batches on.flight is_body writes;
+  time = writes.time;
+}
+
+body_failed : (extent : Extent) (used gated : ℕ) (flight filling : List ℕ) (before now : Device) (refusal : Refusal) → On (log_with extent used gated Body flight filling) before.seen before.pending
+    → Calls Body extent gated flight before now (Err refusal) → Keeps (log_with extent used gated Body flight filling) (log_with extent used gated Body flight filling) before now (Err refusal)
+body_failed extent used gated flight filling before now refusal on (bytes, is_body, writes) = record {
+  on = record {
+    sound = on.sound;
+    batches = body_batches extent used gated flight filling bytes before now (Err refusal) on.sound on.batches on.flight is_body writes;
+    flight = body_gate extent used gated flight filling bytes before now (Err refusal) on.sound on.batches on.flight is_body writes;
+  };
+  gated = body_same_batches extent used gated flight filling bytes before now (Err refusal) on.sound on.batches on.flight is_body writes;
+  moments = body_moments extent used gated flight filling bytes before now (Err refusal) on.sound on.batches on.flight is_body writes;
+  touches = body_touches extent used gated flight filling bytes before now (Err refusal) on.sound on.batches on.flight is_body writes;
+  time = writes.time;
+}
+
+-- the gate's write
+module _ (extent : Extent) (used gated : ℕ) (flight filling bytes : List ℕ) (before now : Device) (result : Result Stage Refusal)
+    (sound : IsSound (log_with extent used gated Gate flight filling)) (has : HasBatches extent gated used before.seen before.pending)
+    (body : HasRecords flight (body_of before.seen extent gated)) (settled : IsBodySettled before.pending extent gated)
+    (is_gate : IsOpenGate bytes) (writes : Writes (gates_of extent + gated) 1 bytes before now result) where
+  others_stay : (k : ℕ) → (k < gated) ⊎ (used ≤ k) → k < 32 → IsKept before.seen now.seen before.pending now.pending (gates_of extent + k)
+  others_stay k (inl less) below = touched_kept (gates_of extent + gated) 1 (gates_of extent + k) before now writes.touches (inl (omega arith))
+  others_stay k (inr from) below = touched_kept (gates_of extent + gated) 1 (gates_of extent + k) before now writes.touches (inr (omega (arith, sound.places)))
+
+  all_bodies_stay : (k s : ℕ) → IsWithin (bodies_of extent + 64 * k) 64 s → IsKept before.seen now.seen before.pending now.pending s
+  all_bodies_stay k s within =
+      let at = placed extent in
+      touched_kept (gates_of extent + gated) 1 s before now writes.touches (inr (omega (arith, at.bodies, within.from, sound.places, sound.few)))
+
+  gate_batches : HasBatches extent gated used now.seen now.pending
+  gate_batches =
+      let at = placed extent in
+      let selector = touched_kept (gates_of extent + gated) 1 2 before now writes.touches (inl (omega (arith, at.from))) in
+      batches_kept before.seen now.seen before.pending now.pending extent gated used writes.touches.size selector others_stay (λ k less s within. all_bodies_stay k s within) (omega (arith, sound.places, sound.few)) has
+
+  gate_body : HasRecords flight (body_of now.seen extent gated)
+  gate_body = records_kept before.seen now.seen before.pending now.pending extent gated flight (all_bodies_stay gated) body
+
+  gate_settled : IsBodySettled now.pending extent gated
+  gate_settled = body_settled before.seen now.seen before.pending now.pending extent gated (all_bodies_stay gated) settled
+
+  gate_same_batches : batches_of now.seen extent gated ≡ batches_of before.seen extent gated
+  gate_same_batches = gated_kept before.seen now.seen before.pending now.pending extent gated (λ k less s within. all_bodies_stay k s within)
+
+  gate_moments : Leaves (IsLogOf (batches_of before.seen extent gated) flight) before now
+  gate_moments =
+      let P : List ℕ → Type 0 = λ records. (image : List ℕ) → MayLeave now image → IsLogOf records flight image in
+      call_leaves (IsLogOf (batches_of before.seen extent gated) flight) before now writes.time
+      (subst P gate_same_batches (λ image may. either_log now.seen now.pending extent gated used image gate_batches may flight (omega (arith, sound.places, sound.few)) (omega (arith, sound.places)) gate_body gate_settled))
+
+  gate_touches : Touches 8 4160 before now
+  gate_touches = let at = placed extent in touched_wider (gates_of extent + gated) 1 before now (omega (arith, at.from)) (omega (arith, at.bodies, at.to, sound.places, sound.few)) writes.touches
+
+  gate_opens : IsWritten (gates_of extent + gated) 1 bytes before now → is_open now.seen extent gated ≡ true
+  unfolding is_open span_of
+  gate_opens written =
+      let at = placed extent in
+      let fits : 512 * (gates_of extent + gated) + length bytes ≤ length before.seen = omega (arith, at.bodies, at.to, is_gate.whole, has.size, sound.places, sound.few) in
+      let back : take (length bytes) (drop (512 * (gates_of extent + gated)) (put (512 * (gates_of extent + gated)) bytes before.seen)) ≡ bytes = put_back (512 * (gates_of extent + gated)) bytes before.seen fits in
+      let reads : take 512 (drop (512 * (gates_of extent + gated)) now.seen) ≡ bytes =
+      ap (λ n. take n (drop (512 * (gates_of extent + gated)) now.seen)) (sym is_gate.whole) ∙ ap (λ seen. take (length bytes) (drop (512 * (gates_of extent + gated)) seen)) written.seen ∙ back in
+      ap (λ sector. slice_index sector 0 == 0xA7) reads ∙ ap (λ byte. byte == 0xA7) is_gate.opens
+
+gate_made : (extent : Extent) (used gated : ℕ) (flight filling : List ℕ) (before now : Device) → On (log_with extent used gated Gate flight filling) before.seen before.pending
+    → Calls Gate extent gated flight before now (Ok Gate) → Keeps (log_with extent used gated Gate flight filling) (log_with extent used gated GateSync flight filling) before now (Ok Gate)
+gate_made extent used gated flight filling before now on (bytes, is_gate, writes) = record {
+  on = record {
+    sound = record { places = on.sound.places; few = on.sound.few; some = on.sound.some; fits = on.sound.fits; filled = on.sound.filled; room = on.sound.room };
+    batches = gate_batches extent used gated flight filling bytes before now (Ok Gate) on.sound on.batches on.flight.0 on.flight.1 is_gate writes;
+    flight = (
+      gate_body extent used gated flight filling bytes before now (Ok Gate) on.sound on.batches on.flight.0 on.flight.1 is_gate writes,
+      gate_settled extent used gated flight filling bytes before now (Ok Gate) on.sound on.batches on.flight.0 on.flight.1 is_gate writes,
+      gate_opens extent used gated flight filling bytes before now (Ok Gate) on.sound on.batches on.flight.0 on.flight.1 is_gate writes writes.written,
+    );
+  };
+  gated = gate_same_batches extent used gated flight filling bytes before now (Ok Gate) on.sound on.batches on.flight.0 on.flight.1 is_gate writes;
+  moments = gate_moments extent used gated flight filling bytes before now (Ok Gate) on.sound on.batches on.flight.0 on.flight.1 is_gate writes;
+  touches = gate_touches extent used gated flight filling bytes before now (Ok Gate) on.sound on.batches on.flight.0 on.flight.1 is_gate writes;
+  time = writes.time;
+}
+
+gate_failed : (extent : Extent) (used gated : ℕ) (flight filling : List ℕ) (before now : Device) (refusal : Refusal) → On (log_with extent used gated Gate flight filling) before.seen before.pending
+    → Calls Gate extent gated flight before now (Err refusal) → Keeps (log_with extent used gated Gate flight filling) (log_with extent used gated Gate flight filling) before now (Err refusal)
+gate_failed extent used gated flight filling before now refusal on (bytes, is_gate, writes) = record {
+  on = record {
+    sound = on.sound;
+    batches = gate_batches extent used gated flight filling bytes before now (Err refusal) on.sound on.batches on.flight.0 on.flight.1 is_gate writes;
+    flight = (
+      gate_body extent used gated flight filling bytes before now (Err refusal) on.sound on.batches on.flight.0 on.flight.1 is_gate writes,
+      gate_settled extent used gated flight filling bytes before now (Err refusal) on.sound on.batches on.flight.0 on.flight.1 is_gate writes,
+    );
+  };
+  gated = gate_same_batches extent used gated flight filling bytes before now (Err refusal) on.sound on.batches on.flight.0 on.flight.1 is_gate writes;
+  moments = gate_moments extent used gated flight filling bytes before now (Err refusal) on.sound on.batches on.flight.0 on.flight.1 is_gate writes;
+  touches = gate_touches extent used gated flight filling bytes before now (Err refusal) on.sound on.batches on.flight.0 on.flight.1 is_gate writes;
+  time = writes.time;
+}
+
+-- a sync: nothing reads otherwise, so what is on the device stays on it
+module _ (log : Log) (before now : Device) (result : Result Stage Refusal) (on : On log before.seen before.pending) (syncs : Syncs before now result) where
+  synced_on : On log now.seen now.pending
+  synced_on = on_kept before.seen now.seen before.pending now.pending log (rested_leaves before now syncs.rests) on
+
+  synced_gated : gated_of log now.seen ≡ gated_of log before.seen
+  synced_gated = gated_stays before.seen now.seen before.pending now.pending log (rested_leaves before now syncs.rests) on
+
+  synced_moments : Leaves (Shows log.stage (gated_of log before.seen) log.flight) before now
+  synced_moments =
+      let P : List ℕ → Type 0 = λ records. (image : List ℕ) → MayLeave now image → Shows log.stage records log.flight image in
+      call_leaves (Shows log.stage (gated_of log before.seen) log.flight) before now syncs.time (subst P synced_gated (λ image may. image_shows log now.seen now.pending image synced_on may))
+
+  synced_touches : Touches 8 4160 before now
+  synced_touches = touched_wider 8 0 before now (omega arith) (omega arith) (rested_touches 8 before now syncs.rests)
+
+sync_failed : (log : Log) (before now : Device) (refusal : Refusal) → On log before.seen before.pending → Syncs {T = Stage} {E = Refusal} before now (Err refusal) → Keeps log log before now (Err refusal)
+sync_failed log before now refusal on syncs = record {
+  on = synced_on log before now (Err refusal) on syncs;
+  gated = synced_gated log before now (Err refusal) on syncs;
+  moments = synced_moments log before now (Err refusal) on syncs;
+  touches = synced_touches log before now (Err refusal) on syncs;
+  time = syncs.time;
+}
+
+body_synced : (extent : Extent) (used gated : ℕ) (flight filling : List ℕ) (before now : Device) → On (log_with extent used gated BodySync flight filling) before.seen before.pending
+    → Calls BodySync extent gated flight before now (Ok BodySync) → Keeps (log_with extent used gated BodySync flight filling) (log_with extent used gated Gate flight filling) before now (Ok BodySync)
+body_synced extent used gated flight filling before now on syncs =
+    let log = log_with extent used gated BodySync flight filling in
+    let there : On log now.seen now.pending = synced_on log before now (Ok BodySync) on syncs in
+    record {
+      on = record {
+        sound = record { places = on.sound.places; few = on.sound.few; some = on.sound.some; fits = on.sound.fits; filled = on.sound.filled; room = on.sound.room };
+        batches = there.batches;
+        flight = (there.flight.1, λ s within. syncs.settled s);
+      };
+      gated = synced_gated log before now (Ok BodySync) on syncs;
+      moments = synced_moments log before now (Ok BodySync) on syncs;
+      touches = synced_touches log before now (Ok BodySync) on syncs;
+      time = syncs.time;
+    }
+
+-- the batch in flight joins those that are gated
+joined : (extent : Extent) (used gated : ℕ) (flight seen : List ℕ) (pending : ℕ → Bool) → used ≡ gated + 1 → IsSize (length flight) → IsGate true seen pending extent gated → IsBodySettled pending extent gated
+    → HasRecords flight (body_of seen extent gated) → HasBatches extent gated used seen pending → HasBatches extent used used seen pending
+joined extent used gated flight seen pending places fits gate settled body has =
+    let P : ℕ → Type 0 = λ n. HasBatches extent n used seen pending in
+    let size : IsSize (size_in (body_of seen extent gated)) = (let S : ℕ → Type 0 = IsSize in subst S (sym body.size) fits) in
+    let more : HasBatches extent (gated + 1) used seen pending = record {
+      size = has.size;
+      selects = has.selects;
+      selector = has.selector;
+      opened = below_more (λ k. IsGate true seen pending extent k) gated has.opened gate;
+      bodies = below_more (λ k. IsBodySettled pending extent k) gated has.bodies settled;
+      sizes = below_more (λ k. IsSize (size_in (body_of seen extent k))) gated has.sizes size;
+      closed = has.closed;
+    } in
+    subst P (sym places) more
+
+gate_synced : (extent : Extent) (used gated : ℕ) (flight filling : List ℕ) (before now : Device) → On (log_with extent used gated GateSync flight filling) before.seen before.pending
+    → Calls GateSync extent gated flight before now (Ok GateSync) → Keeps (log_with extent used gated GateSync flight filling) (log_with extent used used Idle [] filling) before now (Ok GateSync)
+gate_synced extent used gated flight filling before now on syncs =
+    let log = log_with extent used gated GateSync flight filling in
+    let there : On log now.seen now.pending = synced_on log before now (Ok GateSync) on syncs in
+    let places : used ≡ gated + 1 = on.sound.places in
+    let fits : IsSize (length flight) = (omega (arith, on.sound.some), omega (arith, on.sound.fits)) in
+    let gate : IsGate true now.seen now.pending extent gated = record { reads = there.flight.2; settled = syncs.settled (gates_of extent + gated) } in
+    let same : batches_of now.seen extent gated ≡ batches_of before.seen extent gated = synced_gated log before now (Ok GateSync) on syncs in
+    record {
+      on = record {
+        sound = record { places = omega arith; few = on.sound.few; some = omega arith; fits = omega arith; filled = on.sound.filled; room = on.sound.room };
+        batches = joined extent used gated flight now.seen now.pending places fits gate there.flight.1 there.flight.0 there.batches;
+        flight = tt;
+      };
+      gated = ap (batches_of now.seen extent) places ∙ batches_more extent gated now.seen ∙ rw (same, there.flight.0.bytes) refl;
+      moments = synced_moments log before now (Ok GateSync) on syncs;
+      touches = synced_touches log before now (Ok GateSync) on syncs;
+      time = syncs.time;
+    }
+
+-- a call that was made, by its stage
+pub made_keeps : (stage : Stage) (extent : Extent) (used gated : ℕ) (flight filling : List ℕ) (before now : Device) → in_flight stage ≡ 1 → On (log_with extent used gated stage flight filling) before.seen before.pending
+    → Calls stage extent gated flight before now (Ok stage)
+    → Keeps (log_with extent used gated stage flight filling) (done (log_with extent used gated stage flight filling)) before now (Ok stage)
+made_keeps Idle extent used gated flight filling before now flies on calls = absurd (omega arith)
+made_keeps Body extent used gated flight filling before now flies on calls = body_made extent used gated flight filling before now on calls
+made_keeps BodySync extent used gated flight filling before now flies on calls = body_synced extent used gated flight filling before now on calls
+made_keeps Gate extent used gated flight filling before now flies on calls = gate_made extent used gated flight filling before now on calls
+made_keeps GateSync extent used gated flight filling before now flies on calls = gate_synced extent used gated flight filling before now on calls
+
+-- a call that failed, by its stage
+pub failed_keeps : (stage : Stage) (extent : Extent) (used gated : ℕ) (flight filling : List ℕ) (before now : Device) (refusal : Refusal) → in_flight stage ≡ 1
+    → On (log_with extent used gated stage flight filling) before.seen before.pending → Calls stage extent gated flight before now (Err refusal)
+    → Keeps (log_with extent used gated stage flight filling) (log_with extent used gated stage flight filling) before now (Err refusal)
+failed_keeps Idle extent used gated flight filling before now refusal flies on calls = absurd (omega arith)
+failed_keeps Body extent used gated flight filling before now refusal flies on calls = body_failed extent used gated flight filling before now refusal on calls
+failed_keeps BodySync extent used gated flight filling before now refusal flies on calls = sync_failed (log_with extent used gated BodySync flight filling) before now refusal on calls
+failed_keeps Gate extent used gated flight filling before now refusal flies on calls = gate_failed extent used gated flight filling before now refusal on calls
+failed_keeps GateSync extent used gated flight filling before now refusal flies on calls = sync_failed (log_with extent used gated GateSync flight filling) before now refusal on calls
+
+-- where a record waits for a batch, there is a place for it
+pub room_left : (used : ℕ) (filling : List ℕ) → 1 ≤ length filling → (32 ≤ used → filling ≡ []) → used < 32
+room_left used filling some room = ⊎_elim (λ less. less) (λ full. absurd (let none : length filling ≡ 0 = ap length (room full) in omega arith)) (cases_lt used 32)
+
+-- a batch begins where there is a place for it
+pub begun_on : (extent : Extent) (used gated : ℕ) (flight filling seen : List ℕ) (pending : ℕ → Bool) → 1 ≤ length filling → On (log_with extent used gated Idle flight filling) seen pending
+    → On (begun (log_with extent used gated Idle flight filling)) seen pending
+begun_on extent used gated flight filling seen pending some on =
+    let fewer : used < 32 = room_left used filling some on.sound.room in
+    record {
+      sound = record { places = omega (arith, on.sound.places); few = omega arith; some = some; fits = omega (arith, on.sound.filled); filled = omega arith; room = λ full. refl };
+      batches = record {
+        size = on.batches.size;
+        selects = on.batches.selects;
+        selector = on.batches.selector;
+        opened = on.batches.opened;
+        bodies = on.batches.bodies;
+        sizes = on.batches.sizes;
+        closed = λ k from below. on.batches.closed k (omega arith) below;
+      };
+      flight = on.batches.closed gated (omega (arith, on.sound.places)) (omega (arith, on.sound.places));
+    }
+
+-- what the first call of a new batch keeps
+pub begun_keeps : (extent : Extent) (used gated : ℕ) (flight filling : List ℕ) (new : Log) (before now : Device) (result : Result Stage Refusal)
+    → Made (begun (log_with extent used gated Idle flight filling)) new result
+    → Keeps (begun (log_with extent used gated Idle flight filling)) new before now result → Keeps (log_with extent used gated Idle flight filling) new before now result
+begun_keeps extent used gated flight filling new before now (Ok Body) made keeps = record { on = keeps.on; gated = keeps.gated; moments = keeps.moments; touches = keeps.touches; time = keeps.time }
+begun_keeps extent used gated flight filling new before now (Ok BodySync) made keeps = record { on = keeps.on; gated = keeps.gated; moments = keeps.moments; touches = keeps.touches; time = keeps.time }
+begun_keeps extent used gated flight filling new before now (Ok Gate) made keeps = record { on = keeps.on; gated = keeps.gated; moments = keeps.moments; touches = keeps.touches; time = keeps.time }
+begun_keeps extent used gated flight filling new before now (Ok GateSync) made keeps = let other : GateSync ≡ Body = made.0 in cc
+begun_keeps extent used gated flight filling new before now (Ok Idle) made keeps = record { on = keeps.on; gated = keeps.gated; moments = keeps.moments; touches = keeps.touches; time = keeps.time }
+begun_keeps extent used gated flight filling new before now (Err refusal) made keeps = record { on = keeps.on; gated = keeps.gated; moments = keeps.moments; touches = keeps.touches; time = keeps.time }
+
+-- where nothing is logged and nothing is in flight, nothing changes
+pub idle_keeps : (extent : Extent) (used gated : ℕ) (flight filling : List ℕ) (d : Device) → On (log_with extent used gated Idle flight filling) d.seen d.pending
+    → Keeps (log_with extent used gated Idle flight filling) (log_with extent used gated Idle flight filling) d d (Ok Idle)
+idle_keeps extent used gated flight filling d on = record {
+  on = on;
+  gated = refl;
+  moments = nothing_leaves (Shows Idle (batches_of d.seen extent gated) flight) d;
+  touches = record { size = refl; bytes = λ s out. refl; settled = λ s out was. was };
+  time = record { later = omega arith; only = λ t image le left. inl left; keeps = λ t image le left. left };
+}
+
+-- a batch in flight goes on by the call that is due
+pub flying_goes : (stage : Stage) (extent : Extent) (used gated : ℕ) (flight filling : List ℕ) (new : Log) (result : Result Stage Refusal) → in_flight stage ≡ 1
+    → Made (log_with extent used gated stage flight filling) new result → Goes (log_with extent used gated stage flight filling) new result
+flying_goes Idle extent used gated flight filling new result flies made = absurd (omega arith)
+flying_goes Body extent used gated flight filling new result flies made = made
+flying_goes BodySync extent used gated flight filling new result flies made = made
+flying_goes Gate extent used gated flight filling new result flies made = made
+flying_goes GateSync extent used gated flight filling new result flies made = made
+
+-- what a call that was made keeps
+pub call_made : (log new : Log) (stage : Stage) (before now : Device) → in_flight log.stage ≡ 1 → stage ≡ log.stage → new ≡ done log → Calls log.stage log.extent log.gated log.flight before now (Ok stage)
+    → On log before.seen before.pending → Keeps log new before now (Ok stage)
+call_made log new stage before now flies made goes calls on =
+    let P : Stage → Type 0 = λ s. Calls log.stage log.extent log.gated log.flight before now (Ok s) → Keeps log (done log) before now (Ok s) in
+    let Q : Log → Type 0 = λ l. Keeps log l before now (Ok stage) in
+    subst Q (sym goes) (subst P (sym made) (made_keeps log.stage log.extent log.used log.gated log.flight log.filling before now flies on) calls)
+
+-- and one that failed
+pub call_failed : (log new : Log) (refusal : Refusal) (before now : Device) → in_flight log.stage ≡ 1 → new ≡ log → Calls log.stage log.extent log.gated log.flight before now (Err refusal)
+    → On log before.seen before.pending → Keeps log new before now (Err refusal)
+call_failed log new refusal before now flies goes calls on =
+    let Q : Log → Type 0 = λ l. Keeps log l before now (Err refusal) in
+    subst Q (sym goes) (failed_keeps log.stage log.extent log.used log.gated log.flight log.filling before now refusal flies on calls)
+
+first_of_idle : (stage : Stage) (extent : Extent) (used gated : ℕ) (flight filling : List ℕ) (begins new : Log) (before now : Device) (result : Result Stage Refusal) → stage ≡ Idle
+    → begins ≡ begun (log_with extent used gated stage flight filling) → 1 ≤ length filling → Made begins new result
+    → (On begins before.seen before.pending → Keeps begins new before now result)
+    → On (log_with extent used gated stage flight filling) before.seen before.pending → Keeps (log_with extent used gated stage flight filling) new before now result
+first_of_idle Idle extent used gated flight filling begins new before now result idle is some made keeps on =
+    let M : Log → Type 0 = λ l. Made l new result in
+    let K : Log → Type 0 = λ l. On l before.seen before.pending → Keeps l new before now result in
+    begun_keeps extent used gated flight filling new before now result (subst M is made)
+    (subst K is keeps (begun_on extent used gated flight filling before.seen before.pending some on))
+first_of_idle Body extent used gated flight filling begins new before now result idle is some made keeps on = cc
+first_of_idle BodySync extent used gated flight filling begins new before now result idle is some made keeps on = cc
+first_of_idle Gate extent used gated flight filling begins new before now result idle is some made keeps on = cc
+first_of_idle GateSync extent used gated flight filling begins new before now result idle is some made keeps on = cc
+
+-- what the first call of a new batch keeps of a log with none in flight
+pub first_keeps : (log begins new : Log) (before now : Device) (result : Result Stage Refusal) → log.stage ≡ Idle → begins ≡ begun log → 1 ≤ length log.filling → Made begins new result
+    → (On begins before.seen before.pending → Keeps begins new before now result) → On log before.seen before.pending → Keeps log new before now result
+first_keeps log begins new before now result = first_of_idle log.stage log.extent log.used log.gated log.flight log.filling begins new before now result

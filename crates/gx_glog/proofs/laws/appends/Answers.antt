@@ -1,0 +1,5 @@
+use Rattle.gx_glog.proofs.Keeping.{start_on, append_on}
+use Rattle.gx_glog.proofs.laws.appends.Goals as goal
+
+pub returns : goal.returns
+returns c = record { start = start_on; append = append_on }

@@ -1,0 +1,28 @@
+-- The laws of a log on a device.
+use Rattle.std.specs.Prelude.{◌≡◌, ℕ, ◌+◌, ◌<◌, ◌≤◌, Bool, List, [], ◌++◌, length}
+use Rattle.gx_disk.specs.Device.{IsImage}
+use Rattle.gx_glog.specs.declared.extent.Extent.{Extent}
+use Rattle.gx_glog.specs.declared.stage.Stage.TheVariants.{Idle}
+use Rattle.gx_glog.specs.State.{Log}
+use Rattle.gx_glog.specs.Standing.{HasBatches, On, gated_of, Shows, LeavesLog}
+
+-- each image's log is what is gated, with what is in flight or without; without as long as its gate isn't written
+abbrev pub ImagesHaveTheLog : Type 0
+ImagesHaveTheLog = (log : Log) (seen : List ℕ) (pending : ℕ → Bool) (image : List ℕ) → On log seen pending → IsImage seen pending image → Shows log.stage (gated_of log seen) log.flight image
+
+-- a log with nothing logged is on a device that has its batches
+abbrev pub StartIsOn : Type 0
+StartIsOn = (extent : Extent) (used : ℕ) (seen : List ℕ) (pending : ℕ → Bool) → used ≤ 32 → HasBatches extent used used seen pending
+    → On (record { extent = extent; used = used; gated = used; stage = Idle; flight = []; filling = [] }) seen pending
+
+-- a record more that fills changes nothing of it
+abbrev pub AppendStaysOn : Type 0
+AppendStaysOn = (log : Log) (bytes seen : List ℕ) (pending : ℕ → Bool) → log.used < 32 → length log.filling + length bytes ≤ 32764 → On log seen pending
+    → On (record log { filling = log.filling ++ bytes }) seen pending
+
+-- nor does a call that leaves the log's sectors
+abbrev pub ElsewhereStaysOn : Type 0
+ElsewhereStaysOn = (log : Log) (seen seen' : List ℕ) (pending pending' : ℕ → Bool) → LeavesLog seen seen' pending pending' → On log seen pending → On log seen' pending'
+
+abbrev pub ElsewhereKeepsBatches : Type 0
+ElsewhereKeepsBatches = (log : Log) (seen seen' : List ℕ) (pending pending' : ℕ → Bool) → LeavesLog seen seen' pending pending' → On log seen pending → gated_of log seen' ≡ gated_of log seen

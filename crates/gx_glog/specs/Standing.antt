@@ -1,0 +1,74 @@
+-- A log on a device: what its sectors read as, and which of them a crash leaves.
+use Rattle.std.specs.Prelude.{◌≡◌, ◌⊎◌, ℕ, ◌+◌, ◌*◌, ◌<◌, ◌≤◌, List, ◌++◌, length, Bool, true, false}
+use Rattle.gx_disk.specs.Sectors.{sector_of, IsWithin}
+use Rattle.gx_glog.specs.declared.extent.Extent.{Extent}
+use Rattle.gx_glog.specs.declared.stage.Stage.{Stage}
+use Rattle.gx_glog.specs.declared.stage.Stage.TheVariants.{Body, BodySync, Gate, GateSync, Idle}
+use Rattle.gx_glog.specs.Layout.{gates_of, bodies_of, selected_of, is_open, body_of, size_in, batches_of, log_of}
+use Rattle.gx_glog.specs.Reading.{IsSize}
+use Rattle.gx_glog.specs.Bodies.{HasRecords}
+use Rattle.gx_glog.specs.State.{Log, IsSound}
+
+-- the gate of place k reads open or closed, and a crash leaves it so
+pub record IsGate (state : Bool) (seen : List ℕ) (pending : ℕ → Bool) (extent : Extent) (k : ℕ) : Type 0 where
+  pub reads : is_open seen extent k ≡ state
+  pub settled : pending (gates_of extent + k) ≡ false
+
+-- a crash leaves the body of place k as it reads
+abbrev pub IsBodySettled : (ℕ → Bool) → Extent → ℕ → Type 0
+IsBodySettled pending extent k = (s : ℕ) → IsWithin (bodies_of extent + 64 * k) 64 s → pending s ≡ false
+
+-- the extent is selected; its first batches are gated, with bodies of a size in range; the gates of the places that aren't taken are closed
+pub record HasBatches (extent : Extent) (gated used : ℕ) (seen : List ℕ) (pending : ℕ → Bool) : Type 0 where
+  pub size : 2134016 ≤ length seen
+  pub selects : selected_of seen ≡ extent
+  pub selector : pending 2 ≡ false
+  pub opened : (k : ℕ) → k < gated → IsGate true seen pending extent k
+  pub bodies : (k : ℕ) → k < gated → IsBodySettled pending extent k
+  pub sizes : (k : ℕ) → k < gated → IsSize (size_in (body_of seen extent k))
+  pub closed : (k : ℕ) → used ≤ k → k < 32 → IsGate false seen pending extent k
+
+-- What is known of the place in flight while a call is due. Until its gate is written it is closed; from the gate's write on, which
+-- may fail and leave it in any state, the body is settled.
+abbrev pub Flies : Stage → Extent → ℕ → List ℕ → List ℕ → (ℕ → Bool) → Type 0
+Flies Idle extent k flight seen pending = Unit {0}
+Flies Body extent k flight seen pending = IsGate false seen pending extent k
+Flies BodySync extent k flight seen pending = IsGate false seen pending extent k × HasRecords flight (body_of seen extent k)
+Flies Gate extent k flight seen pending = HasRecords flight (body_of seen extent k) × IsBodySettled pending extent k
+Flies GateSync extent k flight seen pending = HasRecords flight (body_of seen extent k) × IsBodySettled pending extent k × (is_open seen extent k ≡ true)
+
+-- a log's value fits what is seen of a device, and what is pending on it
+pub record On (log : Log) (seen : List ℕ) (pending : ℕ → Bool) : Type 0 where
+  pub sound : IsSound log
+  pub batches : HasBatches log.extent log.gated log.used seen pending
+  pub flight : Flies log.stage log.extent log.gated log.flight seen pending
+
+-- the records of the batches that are gated, as they read
+abbrev pub gated_of : Log → List ℕ → List ℕ
+gated_of log seen = batches_of seen log.extent log.gated
+
+-- an image's log is what is gated, or that and what is in flight
+abbrev pub IsLogOf : List ℕ → List ℕ → List ℕ → Type 0
+IsLogOf gated flight image = (log_of image ≡ gated) ⊎ (log_of image ≡ gated ++ flight)
+
+-- the same, by the call that is due: what is in flight doesn't count until its gate is written
+abbrev pub Shows : Stage → List ℕ → List ℕ → List ℕ → Type 0
+Shows Idle gated flight image = log_of image ≡ gated
+Shows Body gated flight image = log_of image ≡ gated
+Shows BodySync gated flight image = log_of image ≡ gated
+Shows Gate gated flight image = IsLogOf gated flight image
+Shows GateSync gated flight image = IsLogOf gated flight image
+
+-- a sector reads as before, and is settled where it was
+pub record IsKept (seen seen' : List ℕ) (pending pending' : ℕ → Bool) (s : ℕ) : Type 0 where
+  pub bytes : sector_of seen' s ≡ sector_of seen s
+  pub settled : pending s ≡ false → pending' s ≡ false
+
+-- the sectors of the log: the selector, the gates and the bodies
+abbrev pub IsOfLog : ℕ → Type 0
+IsOfLog s = (s ≡ 2) ⊎ ((8 ≤ s) × (s < 4168))
+
+-- no sector of the log reads otherwise, or is pending where it was settled
+pub record LeavesLog (seen seen' : List ℕ) (pending pending' : ℕ → Bool) : Type 0 where
+  pub size : length seen' ≡ length seen
+  pub kept : (s : ℕ) → IsOfLog s → IsKept seen seen' pending pending' s

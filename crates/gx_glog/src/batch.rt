@@ -1,0 +1,160 @@
+//! A batch's four device calls, one a step.
+ghost use Rattle.std.specs.Prelude.{◌≡◌, ◌≢◌, ◌+◌, ◌*◌, ◌≤◌, ◌<◌, ℕ, [], true, length, slice_index, ◌↔◌, IsTrue, IfErr, IfOk};
+ghost use Rattle.gx_disk.specs.Device.{Counts, Writes, Syncs};
+ghost use Rattle.gx_glog.specs.Layout.{gates_of, bodies_of};
+ghost use Rattle.gx_glog.specs.Bodies.{IsBody, IsOpenGate};
+ghost use Rattle.gx_glog.specs.State.{begun, done, in_flight, calls_of, Made, Goes};
+ghost use Rattle.gx_glog.specs.Standing.{On};
+ghost use Rattle.gx_glog.specs.Steps.{Calls, CallOf, Keeps};
+
+use crate::extent::{Extent, OPEN};
+use crate::filling::Glog;
+use crate::stage::Stage;
+use gx_disk::{SECTOR_SIZE, SectorDisk};
+use gx_geom::Refusal;
+use std::mem;
+
+// The sector of an open gate.
+fn open_gate() -> [u8; SECTOR_SIZE]
+    ensures { IsOpenGate result }
+{
+    let mut bytes = [0; SECTOR_SIZE];
+    bytes[0] = OPEN;
+    bytes
+}
+
+// Writes the body of place k.
+fn write_body<D: SectorDisk>(
+    disk: &mut D,
+    extent: Extent,
+    k: u8,
+    body: &[u8],
+) -> Result<Stage, Refusal>
+    requires place { k < 32 }
+    requires whole { length body.now ≡ 32768 }
+    requires device { 4168 ≤ (D.state disk.old).sectors }
+    ensures counts { Counts 1 (D.state disk.old) (D.state disk.new) result }
+    ensures call { (D.state disk.old).honest ≡ true → Writes (bodies_of extent + 64 * k) 64 body.now (D.state disk.old) (D.state disk.new) result }
+    ensures stage { IfOk result (λ stage. stage ≡ Stage.Body) }
+    ensures refusal { IfErr result (λ refusal. refusal ≡ Refusal.Device) }
+{
+    match disk.write(extent.bodies() + 64 * u64::from(k), body) {
+        Ok(()) => Ok(Stage::Body),
+        Err(_) => Err(Refusal::Device),
+    }
+}
+
+// Writes the open gate of place k.
+fn write_gate<D: SectorDisk>(disk: &mut D, extent: Extent, k: u8) -> Result<Stage, Refusal>
+    requires place { k < 32 }
+    requires device { 4168 ≤ (D.state disk.old).sectors }
+    ensures counts { Counts 1 (D.state disk.old) (D.state disk.new) result }
+    ensures call { (D.state disk.old).honest ≡ true → Calls Stage.Gate extent k [] (D.state disk.old) (D.state disk.new) result }
+    ensures stage { IfOk result (λ stage. stage ≡ Stage.Gate) }
+    ensures refusal { IfErr result (λ refusal. refusal ≡ Refusal.Device) }
+{
+    let gate = open_gate();
+    match disk.write(extent.gates() + u64::from(k), &gate) {
+        Ok(()) => Ok(Stage::Gate),
+        Err(_) => Err(Refusal::Device),
+    }
+}
+
+// Settles what was written in a stage.
+fn settle<D: SectorDisk>(disk: &mut D, stage: Stage) -> Result<Stage, Refusal>
+    ensures counts { Counts 1 (D.state disk.old) (D.state disk.new) result }
+    ensures call { (D.state disk.old).honest ≡ true → Syncs (D.state disk.old) (D.state disk.new) result }
+    ensures stage { IfOk result (λ made. made ≡ stage) }
+    ensures refusal { IfErr result (λ refusal. refusal ≡ Refusal.Device) }
+{
+    match disk.sync() {
+        Ok(()) => Ok(stage),
+        Err(_) => Err(Refusal::Device),
+    }
+}
+
+impl Glog {
+    // Puts what fills into flight, at the next place.
+    fn begin(&mut self)
+        requires idle { self.old.stage ≡ Stage.Idle }
+        requires some { 1 ≤ length self.old.filling }
+        ensures { self.new ≡ begun self.old }
+    {
+        mem::swap(&mut self.filling, &mut self.flight);
+        self.used += 1;
+        self.stage = Stage::Body;
+    }
+
+    // The call that was due is made.
+    fn advance(&mut self)
+        ensures { self.new ≡ done self.old }
+    {
+        match self.stage {
+            Stage::Body => self.stage = Stage::BodySync,
+            Stage::BodySync => self.stage = Stage::Gate,
+            Stage::Gate => self.stage = Stage::GateSync,
+            Stage::GateSync => {
+                self.gated = self.used;
+                self.flight.clear();
+                self.stage = Stage::Idle;
+            }
+            Stage::Idle => {}
+        }
+    }
+
+    // Makes the device call that is due, and answers which one it was.
+    fn call<D: SectorDisk>(&self, disk: &mut D) -> Result<Stage, Refusal>
+        requires flying { in_flight self.now.stage ≡ 1 }
+        requires device { 4168 ≤ (D.state disk.old).sectors }
+        ensures counts { Counts 1 (D.state disk.old) (D.state disk.new) result }
+        ensures call { (D.state disk.old).honest ≡ true → Calls self.now.stage self.now.extent self.now.gated self.now.flight (D.state disk.old) (D.state disk.new) result }
+        ensures stage { IfOk result (λ stage. stage ≡ self.now.stage) }
+        ensures refusal { IfErr result (λ refusal. refusal ≡ Refusal.Device) }
+    {
+        match self.stage {
+            Stage::Body => write_body(disk, self.extent, self.gated, self.flight.body()),
+            Stage::Gate => write_gate(disk, self.extent, self.gated),
+            Stage::BodySync | Stage::GateSync | Stage::Idle => settle(disk, self.stage),
+        }
+    }
+
+    // Makes the device call that is due. Where it fails it is still due.
+    fn make<D: SectorDisk>(&mut self, disk: &mut D) -> Result<Stage, Refusal>
+        requires flying { in_flight self.old.stage ≡ 1 }
+        requires device { 4168 ≤ (D.state disk.old).sectors }
+        ensures counts { Counts 1 (D.state disk.old) (D.state disk.new) result }
+        ensures made { Made self.old self.new result }
+        ensures call { (D.state disk.old).honest ≡ true → CallOf self.new (D.state disk.old) (D.state disk.new) result }
+        ensures keeps { (D.state disk.old).honest ≡ true → On self.old (D.state disk.old).seen (D.state disk.old).pending → Keeps self.old self.new (D.state disk.old) (D.state disk.new) result }
+    {
+        match self.call(disk) {
+            Ok(stage) => {
+                self.advance();
+                Ok(stage)
+            }
+            Err(refusal) => Err(refusal),
+        }
+    }
+
+    /// Makes the next device call of the batch in flight, or of a new one with all that fills: body, sync, gate, sync. Answers which call it was,
+    /// and Idle where nothing is logged and none was made. Refused where the device call fails (`Device`); it is then still due.
+    pub fn log_step<D: SectorDisk>(&mut self, disk: &mut D) -> Result<Stage, Refusal>
+        requires { 4168 ≤ (D.state disk.old).sectors }
+        ensures counts { Counts (calls_of result) (D.state disk.old) (D.state disk.new) result }
+        ensures goes { Goes self.old self.new result }
+        // Which call of the device it was, with its bytes.
+        ensures call { (D.state disk.old).honest ≡ true → CallOf self.new (D.state disk.old) (D.state disk.new) result }
+        ensures idle { result ≡ Ok Stage.Idle → disk.new ≡ disk.old }
+        // Where the log was on the device it still is, and no image at any moment has another log.
+        ensures keeps { (D.state disk.old).honest ≡ true → On self.old (D.state disk.old).seen (D.state disk.old).pending → Keeps self.old self.new (D.state disk.old) (D.state disk.new) result }
+    {
+        if self.stage.is_flying() {
+            return self.make(disk);
+        }
+        if self.filling.is_empty() {
+            return Ok(Stage::Idle);
+        }
+        self.begin();
+        self.make(disk)
+    }
+}

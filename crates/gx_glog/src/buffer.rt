@@ -1,0 +1,149 @@
+//! A buffer with the records of one batch, as the body that is written of them.
+ghost use Rattle.std.specs.Prelude.{◌≡◌, ◌+◌, ◌-◌, ◌^◌, ◌≤◌, ◌<◌, ◌++◌, ℕ, List, [], length, ◌↔◌, IsTrue, IsSome, OnSome, IfSome, IfNone, IfOk, drop, replicate};
+ghost use Rattle.std.specs.Bool.{OnTrue, OnFalse};
+ghost use Rattle.gx_disk.specs.Sectors.{put};
+ghost use Rattle.gx_record.specs.Bytes.{u32_bytes};
+ghost use Rattle.gx_record.specs.Format.{IsInRange, spelling};
+ghost use Rattle.gx_record.specs.Seen.{rec_of};
+ghost use Rattle.gx_glog.specs.Bodies.{IsBody, IsZero};
+
+use crate::extent::BODY_SIZE;
+use gx_record::Record;
+use std::alloc::{AllocError, Global};
+use std::marker::Model;
+
+// How many bytes stand before the records.
+const SIZE_BYTES: usize = 4;
+
+/// The records of a batch: their size, their bytes, and zeros up to the body's end.
+#[derive(Drop)]
+pub(crate) struct Buffer {
+    bytes: Vec<u8>,
+    end: usize,
+}
+
+impl Model for Buffer {
+    ghost use Rattle.std.specs.Prelude.{ℕ, List, ◌-◌, take, drop};
+    ghost use Rattle.gx_glog.specs.Bodies.{IsFilled};
+
+    ghost Value = { List ℕ };
+
+    ghost view = { λ b. take (b.end - 4) (drop 4 b.bytes.items) };
+
+    ghost invariant = { λ b. IsFilled b.end b.bytes.items };
+}
+
+// So many zeros.
+fn zeros(alloc: Global, size: usize) -> Result<Vec<u8>, AllocError>
+    ensures size { IfOk result (λ bytes. length bytes.items ≡ size) }
+    ensures zeros { IfOk result (λ bytes. IsZero bytes.items) }
+{
+    let mut bytes = Vec::new(alloc);
+    bytes.resize(size, 0)?;
+    Ok(bytes)
+}
+
+// Writes a record's spelling from a place on, and answers its size. None where there is no room for it.
+#[tactic(auto, using(crate::proofs::Fills::put_tail), unfolding(gx_disk::specs::Sectors::put))]
+fn put_at(buffer: &mut Vec<u8>, end: usize, logged: &Record<'_>) -> Option<usize>
+    requires in_range { IsInRange (rec_of logged.now) }
+    requires inside { end ≤ length buffer.old.items }
+    ensures size { IfSome result (λ n. n ≡ length (spelling (rec_of logged.now))) }
+    ensures room { IsSome result ↔ (end + length (spelling (rec_of logged.now)) ≤ length buffer.old.items) }
+    ensures put { OnSome result (buffer.new.items ≡ put end (spelling (rec_of logged.now)) buffer.old.items) }
+    ensures full { IfNone result (buffer.new.items ≡ buffer.old.items) }
+{
+    logged.encode_into(&mut buffer[end..])
+}
+
+// Puts bytes over those from a place on.
+#[tactic(auto, unfolding(gx_disk::specs::Sectors::put))]
+fn overwrite(buffer: &mut Vec<u8>, at: usize, bytes: &[u8])
+    requires { at + length bytes.now ≤ length buffer.old.items }
+    ensures { buffer.new.items ≡ put at bytes.now buffer.old.items }
+{
+    buffer[at..at + bytes.len()].copy_from_slice(bytes);
+}
+
+// Writes how many bytes of records there are.
+#[tactic(auto, unfolding(gx_record::specs::Bytes::u32_bytes))]
+fn put_size(buffer: &mut Vec<u8>, size: u32)
+    requires { 4 ≤ length buffer.old.items }
+    ensures { buffer.new.items ≡ put 0 (u32_bytes size) buffer.old.items }
+{
+    overwrite(buffer, 0, &size.to_be_bytes());
+}
+
+// Writes zeros over a part.
+fn zero(part: &mut [u8])
+    ensures { part.new ≡ replicate (length part.old) 0 }
+{
+    part.fill(0);
+}
+
+// Writes zeros from a place up to another.
+#[tactic(auto, using(crate::proofs::Fills::part_size), unfolding(gx_disk::specs::Sectors::put))]
+fn wipe(buffer: &mut Vec<u8>, from: usize, to: usize)
+    requires order { from ≤ to }
+    requires inside { to ≤ length buffer.old.items }
+    ensures { buffer.new.items ≡ put from (replicate (to - from) 0) buffer.old.items }
+{
+    zero(&mut buffer[from..to]);
+}
+
+impl Buffer {
+    /// A buffer with no records.
+    pub(crate) fn new(alloc: Global) -> Result<Buffer, AllocError>
+        ensures { IfOk result (λ buffer. buffer ≡ []) }
+    {
+        Ok(Buffer {
+            bytes: zeros(alloc, BODY_SIZE)?,
+            end: SIZE_BYTES,
+        })
+    }
+
+    /// How many bytes of records there is still room for.
+    pub(crate) fn free(&self) -> usize
+        ensures { result + length self.now ≡ 32764 }
+    {
+        BODY_SIZE - self.end
+    }
+
+    pub(crate) fn is_empty(&self) -> bool
+        ensures none { OnTrue result (self.now ≡ []) }
+        ensures some { OnFalse result (1 ≤ length self.now) }
+    {
+        self.end == SIZE_BYTES
+    }
+
+    /// Puts a record behind those that are there. False where there is no room for it, and nothing then changes.
+    pub(crate) fn push(&mut self, logged: &Record<'_>) -> bool
+        requires { IsInRange (rec_of logged.now) }
+        ensures put { OnTrue result ((length self.old + length (spelling (rec_of logged.now)) ≤ 32764) × (self.new ≡ self.old ++ spelling (rec_of logged.now))) }
+        ensures full { OnFalse result ((32764 < length self.old + length (spelling (rec_of logged.now))) × (self.new ≡ self.old)) }
+    {
+        match put_at(&mut self.bytes, self.end, logged) {
+            Some(size) => {
+                self.end += size;
+                put_size(&mut self.bytes, (self.end - SIZE_BYTES) as u32);
+                true
+            }
+            None => false,
+        }
+    }
+
+    /// Drops the records.
+    pub(crate) fn clear(&mut self)
+        ensures { self.new ≡ [] }
+    {
+        wipe(&mut self.bytes, 0, self.end);
+        self.end = SIZE_BYTES;
+    }
+
+    /// The body's bytes.
+    pub(crate) fn body(&self) -> &[u8]
+        ensures { IsBody self.now result.now }
+    {
+        &self.bytes
+    }
+}

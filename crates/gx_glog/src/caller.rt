@@ -1,0 +1,110 @@
+//! A caller of the log, as small as one can be: a batch is written, and a page in the midst of it.
+ghost use Rattle.std.specs.Prelude.{◌≡◌, ◌+◌, ◌/◌, ◌≤◌, ◌<◌, ◌++◌, ℕ, List, true, length, OnOk};
+ghost use Rattle.gx_disk.specs.Device.{Counts, Writes};
+ghost use Rattle.gx_disk.specs.Moments.{Leaves};
+ghost use Rattle.gx_record.specs.Format.{IsInRange, spelling};
+ghost use Rattle.gx_record.specs.Seen.{rec_of};
+ghost use Rattle.gx_glog.specs.State.{calls_of};
+ghost use Rattle.gx_glog.specs.Standing.{gated_of};
+ghost use Rattle.gx_glog.specs.Beside.{IsSafe, Beside, IsReady};
+
+use crate::filling::{Appended, Glog};
+use crate::stage::Stage;
+use gx_disk::SectorDisk;
+use gx_geom::Refusal;
+use gx_record::Record;
+
+// A step of the log.
+fn step<D: SectorDisk>(log: &mut Glog, disk: &mut D) -> Result<Stage, Refusal>
+    requires { 4168 ≤ (D.state disk.old).sectors }
+    ensures counts { Counts (calls_of result) (D.state disk.old) (D.state disk.new) result }
+    ensures beside { (gated batch start : List ℕ) (first : ℕ) → (D.state disk.old).honest ≡ true
+        → Beside gated batch first start log.old (D.state disk.old).seen (D.state disk.old).pending
+        → Beside gated batch first start log.new (D.state disk.new).seen (D.state disk.new).pending }
+    ensures moments { (gated batch start : List ℕ) (first : ℕ) → (D.state disk.old).honest ≡ true
+        → Beside gated batch first start log.old (D.state disk.old).seen (D.state disk.old).pending
+        → Leaves (IsSafe gated batch first start) (D.state disk.old) (D.state disk.new) }
+{
+    log.log_step(disk)
+}
+
+// Writes the page of eight sectors.
+fn write_page<D: SectorDisk>(
+    log: &Glog,
+    disk: &mut D,
+    first: u64,
+    page: &[u8],
+) -> Result<(), Refusal>
+    requires place { 4168 ≤ first }
+    requires device { first + 8 ≤ (D.state disk.old).sectors }
+    requires size { length page.now ≡ 4096 }
+    ensures counts { Counts 1 (D.state disk.old) (D.state disk.new) result }
+    ensures beside { (gated batch start : List ℕ) → (D.state disk.old).honest ≡ true
+        → Beside gated batch first start log.now (D.state disk.old).seen (D.state disk.old).pending
+        → Beside gated batch first start log.now (D.state disk.new).seen (D.state disk.new).pending }
+    ensures moments { (gated batch start : List ℕ) → (D.state disk.old).honest ≡ true
+        → Beside gated batch first start log.now (D.state disk.old).seen (D.state disk.old).pending
+        → Leaves (IsSafe gated batch first start) (D.state disk.old) (D.state disk.new) }
+{
+    let _ = log;
+    match disk.write(first, page) {
+        Ok(()) => Ok(()),
+        Err(_) => Err(Refusal::Device),
+    }
+}
+
+// Three steps of the log.
+fn three_steps<D: SectorDisk>(log: &mut Glog, disk: &mut D) -> Result<(), Refusal>
+    requires { 4168 ≤ (D.state disk.old).sectors }
+    ensures moments { (gated batch start : List ℕ) (first : ℕ) → (D.state disk.old).honest ≡ true
+        → Beside gated batch first start log.old (D.state disk.old).seen (D.state disk.old).pending
+        → Leaves (IsSafe gated batch first start) (D.state disk.old) (D.state disk.new) }
+{
+    step(log, disk)?;
+    step(log, disk)?;
+    step(log, disk)?;
+    Ok(())
+}
+
+// The first step of a batch, a page, and the three steps that are left.
+fn steps_round_page<D: SectorDisk>(
+    log: &mut Glog,
+    disk: &mut D,
+    first: u64,
+    page: &[u8],
+) -> Result<(), Refusal>
+    requires place { 4168 ≤ first }
+    requires device { first + 8 ≤ (D.state disk.old).sectors }
+    requires size { length page.now ≡ 4096 }
+    ensures moments { (gated batch start : List ℕ) → (D.state disk.old).honest ≡ true
+        → Beside gated batch first start log.old (D.state disk.old).seen (D.state disk.old).pending
+        → Leaves (IsSafe gated batch first start) (D.state disk.old) (D.state disk.new) }
+{
+    step(log, disk)?;
+    write_page(log, disk, first, page)?;
+    three_steps(log, disk)
+}
+
+/// Puts a record into a log with nothing in flight, and writes its batch, with a page of eight sectors behind its first call.
+/// Of an honest device, at each moment, also where a call fails, each image has one of the two logs, and no other page than
+/// the one that is written differs.
+pub fn write_beside<D: SectorDisk>(
+    log: &mut Glog,
+    disk: &mut D,
+    logged: &Record<'_>,
+    first: u64,
+    page: &[u8],
+) -> Result<(), Refusal>
+    requires in_range { IsInRange (rec_of logged.now) }
+    requires room { log.old.used < 32 }
+    requires place { 4168 ≤ first }
+    requires device { first + 8 ≤ (D.state disk.old).sectors }
+    requires size { length page.now ≡ 4096 }
+    ensures safe { (D.state disk.old).honest ≡ true → IsReady first log.old (D.state disk.old).seen (D.state disk.old).pending
+        → Leaves (IsSafe (gated_of log.old (D.state disk.old).seen) (log.old.filling ++ spelling (rec_of logged.now)) first (D.state disk.old).seen) (D.state disk.old) (D.state disk.new) }
+{
+    match log.append(logged) {
+        Appended::At(_) => steps_round_page(log, disk, first, page),
+        Appended::NoRoom => Ok(()),
+    }
+}
