@@ -11,7 +11,7 @@ use Rattle.std.proofs.lemmas.Map.Lookups.{exact_pairs, exact_signed}
 use Rattle.std.specs.declared.cmp.Ordering.TheVariants.{Equal}
 use Rattle.gx_geom.specs.Rectangles.{Rectangle, IsBox, Within, Overlap, union, overlaps, within, rectangle_cmp}
 
-split_true : (p q : Bool) → (p && q) ≡ true → (p ≡ true) × (q ≡ true)
+pub split_true : (p q : Bool) → (p && q) ≡ true → (p ≡ true) × (q ≡ true)
 split_true true q e = (refl, e)
 split_true false q e = cc
 
@@ -105,7 +105,7 @@ pub greater_at_most : (a b c : ℤ) → a ≤ℤ c → b ≤ℤ c → int_max a 
 greater_at_most a b c p q = omega (arith, ints, clamps)
 
 -- either of two numbers, by a test, has what both have
-one_of : (P : ℤ → Type 0) (t : Bool) (a b : ℤ) → P a → P b → P (cond t a b)
+pub one_of : (P : ℤ → Type 0) (t : Bool) (a b : ℤ) → P a → P b → P (cond t a b)
 one_of P true a b p q = p
 one_of P false a b p q = q
 

@@ -1,7 +1,8 @@
-//! What the relations on boxes mean for the points in them.
+//! What the relations on boxes and on intervals mean for the points in them.
 ghost use Rattle.std.specs.Prelude.{◌≡◌, ◌↔◌, ◌≤◌, ℕ, ℤ, pos, negsuc};
 ghost use Rattle.gx_geom.specs.Rectangles.{Rectangle, IsBox, Overlap, Within, area, union, rectangle_of};
 ghost use Rattle.gx_geom.specs.Points.{SharePoint, IsSubset};
+ghost use Rattle.gx_geom.specs.Spans.{Span, IsInterval, Meet, LieIn, ShareNumber, HasEachOf};
 
 /// Two boxes overlap exactly where some point lies in both.
 pub fn overlap_is_a_shared_point()
@@ -25,4 +26,11 @@ pub fn union_is_least()
 pub fn area_is_bounded()
     ensures bound { (a : Rectangle) → IsBox a → area a ≤ 18446744065119617025 }
     ensures reached { area (rectangle_of (negsuc 2147483647) (negsuc 2147483647) (pos 2147483647) (pos 2147483647)) ≡ 18446744065119617025 }
+{}
+
+/// Two intervals overlap exactly where some number lies in both, and one lies within another exactly where each of its
+/// numbers does.
+pub fn intervals_as_numbers()
+    ensures overlap { (a b : Span) → IsInterval a → IsInterval b → (Meet a b ↔ ShareNumber a b) }
+    ensures within { (a b : Span) → IsInterval a → (LieIn a b ↔ HasEachOf b a) }
 {}

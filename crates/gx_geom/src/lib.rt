@@ -1,7 +1,8 @@
-//! Boxes, the relations between them, and the refusals that calls answer.
+//! Boxes and intervals, the relations between them, and the refusals that calls answer.
 #![tactic(auto)]
 
 mod box2;
+mod interval;
 pub mod laws;
 mod refusal;
 mod shape;
@@ -9,5 +10,6 @@ mod shape;
 mod tests;
 
 pub use box2::Box2;
+pub use interval::Interval;
 pub use refusal::Refusal;
 pub use shape::Shape;

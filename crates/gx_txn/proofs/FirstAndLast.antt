@@ -39,7 +39,7 @@ module _ {B : Type 0} (k : Keys B) (l : IsLawful k) where
 
   at_it : (e : Entry B) (n x : Note B) (xs : List (Note B)) (t : Bool) → n.entry ≡ x.entry
       → cond t (Some (record x { leaf = n.leaf })) (of_entry k e xs) ≡ noted_then e n t (cond t (Some x) (of_entry k e xs))
-  at_it e n x xs true same = ap (λ (y : Entry B). Some (record { entry = y; was_live = x.was_live; leaf = n.leaf })) (sym same)
+  at_it e n x xs true same = ap (λ (y : Entry B). Some (record { entry = y; before = x.before; leaf = n.leaf })) (sym same)
   at_it e n x xs false same = refl
 
   past_it : (e : Entry B) (n x : Note B) (rest old : Option (Note B)) (s t : Bool) → same_entry k e x.entry ≡ s → same_entry k e n.entry ≡ t

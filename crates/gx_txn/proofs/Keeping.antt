@@ -72,15 +72,13 @@ module _ {B : Type 0} (k : Keys B) (l : IsLawful k) where
     old = record { locks = record { claims = claims; predicates = predicates }; notes = notes }
 
     -- the claims with an entry put where a search found its place
-    pub claim_put : (e : Entry B) (searched new : List (Entry B)) (i spent : ℕ) → length h.locks.claims ≤ spent → spent < MAX_CLAIMS
-        → searched ≡ claims → including k e searched ≡ insert searched i e → new ≡ insert claims i e
+    pub claim_put : (e : Entry B) (new : List (Entry B)) (i spent : ℕ) → length h.locks.claims ≤ spent → spent < MAX_CLAIMS
+        → including k e claims ≡ insert claims i e → new ≡ insert claims i e
         → IsKept k (record { locks = record { claims = new; predicates = predicates }; notes = notes })
     unfolding old
-    claim_put e searched new i spent few room same place put =
+    claim_put e new i spent few room place put =
         let counted : length claims ≡ length h.locks.claims = ap (λ (x : Held B). length x.locks.claims) is in
-        let new_is : including k e claims ≡ new =
-        ap (including k e) (sym same) ∙ place ∙ ap (λ (es : List (Entry B)). insert es i e) same ∙ sym put in
-        subst (λ (es : List (Entry B)). IsKept k (record { locks = record { claims = es; predicates = predicates }; notes = notes })) new_is
+        subst (λ (es : List (Entry B)). IsKept k (record { locks = record { claims = es; predicates = predicates }; notes = notes })) (place ∙ sym put)
         (kept_with_claim e old kept (omega arith))
 
     claimed_old : (e : Entry B) → has k e h.locks.claims ≡ true → has k e claims ≡ true

@@ -1,2 +1,4 @@
+pub mod Claimed
 pub mod Notes
 pub mod Tables
+pub mod Watched

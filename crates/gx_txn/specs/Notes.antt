@@ -29,7 +29,7 @@ of_entry k e (n ∷ notes) = if same_entry k e n.entry then Some n else of_entry
 -- a write with the mark from before an earlier write of the same entry, where there is one
 abbrev pub with_first_mark : {B : Type 0} → Note B → Option (Note B) → Note B
 with_first_mark last None = last
-with_first_mark last (Some first) = record last { was_live = first.was_live }
+with_first_mark last (Some first) = record last { before = first.before }
 
 -- of the writes of an entry, given the last write first, the leaf of the last and the mark from before the first
 abbrev pub written : {B : Type 0} → Keys B → Entry B → List (Note B) → Option (Note B)

@@ -2,7 +2,7 @@
 use Rattle.std.specs.Prelude.{ℕ, ◌≡◌, ◌≤◌, ◌+◌, ◌-◌, ◌==◌, Bool, not, ◌&&◌, if◌then◌else◌, length, Option, None, Some, Result, Ok, Err, IsOk, List, [], ◌∷◌, slice_set, sum_by}
 use Rattle.std.specs.List.{slice_index_or, list_any}
 use Rattle.gx_geom.specs.declared.refusal.Refusal.{Refusal}
-use Rattle.gx_machine.specs.declared.limits.TheConstants.{MAX_CLAIMS, MAX_PREDICATES}
+use Rattle.gx_machine.specs.declared.limits.TheConstants.{MAX_CLAIMS}
 use Rattle.gx_machine.specs.declared.entry.Entry.{Entry}
 use Rattle.gx_machine.specs.declared.call.Call.{Call}
 use Rattle.gx_machine.specs.Keys.{Keys}
@@ -38,12 +38,6 @@ pub record IsKept {B : Type 0} (k : Keys B) (h : Held B) : Type 0 where
   pub notes_in_order : InOrder k (entries_of h.notes)
   pub noted_is_claimed : Covered k (entries_of h.notes) h.locks.claims
   pub few : length h.locks.claims ≤ MAX_CLAIMS
-
--- room for all claims, for a session's predicates, and for a note on each claim
-pub record IsRoomy (claims predicates notes : ℕ) : Type 0 where
-  pub for_claims : MAX_CLAIMS ≤ claims
-  pub for_predicates : MAX_PREDICATES ≤ predicates
-  pub for_notes : MAX_CLAIMS ≤ notes
 
 -- what the session of this number holds
 abbrev pub held_by : {B : Type 0} → ℕ → List (Held B) → Held B

@@ -3,7 +3,9 @@ ghost use Rattle.std.specs.Prelude.{◌≡◌, ◌≤◌, IfOk, OnOk, length, tr
 ghost use Rattle.gx_machine.specs.declared.limits.TheConstants.{MAX_CLAIMS};
 ghost use Rattle.gx_machine.specs.Keys.{keys_of};
 
-use crate::{Note, queries, search};
+use crate::claims::Claims;
+use crate::predicates::Predicates;
+use crate::{Note, search};
 use gx_geom::{Refusal, Shape};
 use gx_machine::{Call, Entry, MAX_CLAIMS, MAX_PREDICATES, Query};
 use std::alloc::{AllocError, Global};
@@ -12,26 +14,24 @@ use std::marker::Model;
 /// A session's claims and notes, each in the order of entries, and its predicates, with room for all of them.
 #[derive(Drop)]
 pub struct Holding<B: Shape> {
-    claims: Vec<Entry<B>>,
-    predicates: Vec<Query<B>>,
+    claims: Claims<B>,
+    predicates: Predicates<B>,
     notes: Vec<Note<B>>,
 }
 
 impl<B: Shape> Model for Holding<B> {
-    ghost use Rattle.std.specs.Prelude.{vec_capacity};
+    ghost use Rattle.std.specs.Prelude.{◌≤◌, vec_capacity};
+    ghost use Rattle.gx_machine.specs.declared.limits.TheConstants.{MAX_CLAIMS};
     ghost use Rattle.gx_machine.specs.Keys.{keys};
-    ghost use Rattle.gx_txn.specs.Tables.{Held, IsKept, IsRoomy};
+    ghost use Rattle.gx_txn.specs.Tables.{Held, IsKept};
 
     ghost Value = { Held B };
 
-    ghost view = { λ h. record {
-      locks = record { claims = h.claims.items; predicates = h.predicates.items };
-      notes = h.notes.items;
-    } };
+    ghost view = { λ h. record { locks = record { claims = h.claims; predicates = h.predicates }; notes = h.notes.items } };
 
-    ghost invariant = { λ h. IsRoomy (vec_capacity h.claims) (vec_capacity h.predicates) (vec_capacity h.notes)
+    ghost invariant = { λ h. (MAX_CLAIMS ≤ vec_capacity h.notes)
         × IsKept (keys B.cmp B.overlap B.inside) (record {
-          locks = record { claims = h.claims.items; predicates = h.predicates.items };
+          locks = record { claims = h.claims; predicates = h.predicates };
           notes = h.notes.items;
         }) };
 }
@@ -46,8 +46,8 @@ impl<B: Shape> Holding<B> {
         ensures { IfOk result (λ h. h ≡ nothing_held) }
     {
         Ok(Holding {
-            claims: Vec::with_capacity(alloc, MAX_CLAIMS)?,
-            predicates: Vec::with_capacity(alloc, MAX_PREDICATES)?,
+            claims: Claims::new(alloc)?,
+            predicates: Predicates::new(alloc)?,
             notes: Vec::with_capacity(alloc, MAX_CLAIMS)?,
         })
     }
@@ -56,7 +56,7 @@ impl<B: Shape> Holding<B> {
     pub fn claims(&self, e: &Entry<B>) -> bool
         ensures { result ≡ claims (keys_of B.Shape) e.now self.now }
     {
-        search::find_entry(e, &self.claims).is_ok()
+        self.claims.has(e)
     }
 
     /// How many claims it holds.
@@ -73,9 +73,9 @@ impl<B: Shape> Holding<B> {
     {
         match call {
             Call::Insert(e) | Call::Delete(e) => {
-                self.claims(e) || queries::any_matches(&self.predicates, e)
+                self.claims.has(e) || self.predicates.any_matches(e)
             }
-            Call::Search(query) => queries::any_matching(query, &self.claims),
+            Call::Search(query) => self.claims.any_matching(query),
             Call::Begin | Call::Commit | Call::Abort => false,
         }
     }
@@ -87,11 +87,11 @@ impl<B: Shape> Holding<B> {
         ensures takes { Takes (with_claim (keys_of B.Shape) e spent self.old.locks) self.old result self.new }
         ensures claimed { OnOk result (claims (keys_of B.Shape) e self.new ≡ true) }
     {
-        match search::find_entry(&e, &self.claims) {
+        match self.claims.find(&e) {
             Ok(_) => Ok(()),
             Err(_) if spent >= MAX_CLAIMS => Err(Refusal::ClaimsFull),
             Err(place) => {
-                search::put(&mut self.claims, place, e);
+                self.claims.put(place, e);
                 Ok(())
             }
         }
@@ -103,13 +103,13 @@ impl<B: Shape> Holding<B> {
         ensures takes { Takes (with_predicate (keys_of B.Shape) query self.old.locks) self.old result self.new }
         ensures held { OnOk result (has_query (keys_of B.Shape) query self.new.locks.predicates ≡ true) }
     {
-        if queries::has_query(&query, &self.predicates) {
+        if self.predicates.has(&query) {
             return Ok(());
         }
         if self.predicates.len() >= MAX_PREDICATES {
             return Err(Refusal::PredicatesFull);
         }
-        let _ = self.predicates.push(query);
+        self.predicates.push(query);
         Ok(())
     }
 

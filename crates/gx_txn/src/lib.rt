@@ -4,14 +4,15 @@
 //! does, and keeps for each written entry what undoing it needs.
 #![tactic(auto)]
 
+mod claims;
 mod holding;
+mod lanes;
 pub mod laws;
+mod marks;
 mod note;
-mod queries;
+mod predicates;
 mod search;
 mod table;
-#[cfg(test)]
-mod tests;
 
 pub use note::Note;
 pub use table::Transactions;

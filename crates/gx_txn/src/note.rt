@@ -6,9 +6,8 @@ use gx_machine::Entry;
 pub struct Note<B> {
     /// The entry.
     pub entry: Entry<B>,
-    /// Whether it was there with its mark clear before the transaction first wrote it. An entry that was absent or
-    /// marked wasn't live.
-    pub was_live: bool,
+    /// Its mark from before the transaction first wrote it: set where it was marked or absent, clear where it was live.
+    pub before: bool,
     /// The number of the leaf where the transaction last wrote it.
     pub leaf: u32,
 }

@@ -1,5 +1,5 @@
 //! Binary search for an entry, in claims and in notes.
-ghost use Rattle.std.specs.Prelude.{insert, vec_len, vec_capacity, ◌≡◌, ◌<◌, ◌≤◌, MatchResult, IfOk, length, slice_index_or, slice_set, true, false, ⊤};
+ghost use Rattle.std.specs.Prelude.{insert, ◌++◌, ◌∷◌, [], vec_len, vec_capacity, ◌≡◌, ◌<◌, ◌≤◌, MatchResult, IfOk, length, slice_index_or, slice_set, true, false, ⊤};
 ghost use Rattle.gx_machine.specs.declared.entry.Entry.{Entry};
 ghost use Rattle.gx_machine.specs.Keys.{keys_of};
 ghost use Rattle.gx_machine.specs.Sets.{has, including, InOrder};
@@ -42,4 +42,13 @@ pub fn put<T: Copy>(list: &mut Vec<T>, place: usize, element: T)
     ensures capacity { vec_capacity list.old ≤ vec_capacity list.new }
 {
     let _ = list.insert(place, element);
+}
+
+/// Puts an element last in a vector that has room for it.
+pub fn put_last<T: Copy>(list: &mut Vec<T>, element: T)
+    requires { vec_len list.old < vec_capacity list.old }
+    ensures items { list.new.items ≡ list.old.items ++ element ∷ [] }
+    ensures capacity { vec_capacity list.old ≤ vec_capacity list.new }
+{
+    let _ = list.push(element);
 }

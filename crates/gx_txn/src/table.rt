@@ -161,19 +161,20 @@ impl<B: Shape> Transactions<B> {
         hold_at(&mut self.slots, usize::from(session) - 1, query)
     }
 
-    /// Notes that a session wrote an entry in a leaf, where the entry was live or not before. The session claims it.
+    /// Notes that a session wrote an entry in a leaf: `before` is the entry's mark from before this write, set where it
+    /// was marked or absent. The session claims the entry.
     ///
-    /// The first write's mark and the last write's leaf stand.
-    pub fn note(&mut self, session: u8, entry: Entry<B>, was_live: bool, leaf: u32)
+    /// Of all writes of the entry, the first one's `before` and the last one's leaf stand.
+    pub fn note(&mut self, session: u8, entry: Entry<B>, before: bool, leaf: u32)
         requires session { is_session session ≡ true }
         requires claimed { claims (keys_of B.Shape) entry (held_by session self.old) ≡ true }
         ensures { self.new ≡ with_held session (with_notes (noting (keys_of B.Shape)
-            (record { entry = entry; was_live = was_live; leaf = leaf }) (held_by session self.old).notes)
+            (record { entry = entry; before = before; leaf = leaf }) (held_by session self.old).notes)
             (held_by session self.old)) self.old }
     {
         self.slots[usize::from(session) - 1].note(Note {
             entry,
-            was_live,
+            before,
             leaf,
         });
     }

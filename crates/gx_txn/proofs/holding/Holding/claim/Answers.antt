@@ -1,4 +1,3 @@
-use Rattle.std.proofs.Common.{arith}
 use Rattle.gx_machine.specs.Keys.{IsLawful, keys}
 use Rattle.gx_txn.proofs.Keeping.{claim_put}
 use Rattle.gx_txn.proofs.holding.Holding.claim.Goals as goal
@@ -7,10 +6,9 @@ pub invariant_of-self : goal.invariant_of-self
 invariant_of-self g c =
     let k = keys g.B.Ord.cmp g.B.Shape.overlap g.B.Shape.inside in
     let lawful : IsLawful k = record { total = g.met.B.Ord.total; exact = g.met.B.Shape.same } in
-    let self = c.self.inside in
-    let room = c.self.invariant.0 in (
-      record { for_claims = omega (arith, room.for_claims, c.put.ensures.capacity); for_predicates = room.for_predicates; for_notes = room.for_notes },
-      claim_put k lawful self.claims.items self.predicates.items self.notes.items c.args.self.now c.self.view_is c.self.invariant.1
-          c.args.e c.deref.result.now c.put.new.list.items c.in-Err.field-0 c.args.spent c.requires c.if-spent-ge-MAX_CLAIMS.false
-          c.deref.ensures.value c.in-Err.ensures.place.2 c.put.ensures.items,
+    let self = c.self.inside in (
+      c.self.invariant.0,
+      claim_put k lawful self.claims self.predicates self.notes.items c.args.self.now c.self.view_is c.self.invariant.1
+          c.args.e c.put.new.self c.in-Err.field-0 c.args.spent c.requires c.if-spent-ge-MAX_CLAIMS.false
+          c.in-Err.ensures.2 c.put.ensures,
     )

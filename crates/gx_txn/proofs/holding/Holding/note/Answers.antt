@@ -10,8 +10,8 @@ put-requires-clause-room g c =
     let self = c.self.inside in
     omega (
       arith,
-      c.self.invariant.0.for_notes,
-      room_for_note k lawful self.claims.items self.predicates.items self.notes.items c.args.self.now c.self.view_is c.self.invariant.1
+      c.self.invariant.0,
+      room_for_note k lawful self.claims self.predicates self.notes.items c.args.self.now c.self.view_is c.self.invariant.1
           c.args.note c.deref.result.now c.in-Err.place c.requires c.deref.ensures.value c.in-Err.ensures.0 c.in-Err.ensures.1,
     )
 
@@ -21,7 +21,7 @@ invariant_of-self g c =
     let lawful : IsLawful k = record { total = g.met.B.Ord.total; exact = g.met.B.Shape.same } in
     let self = c.self.inside in (
       c.self.invariant.0,
-      note_put k lawful self.claims.items self.predicates.items self.notes.items c.args.self.now c.self.view_is c.self.invariant.1
+      note_put k lawful self.claims self.predicates self.notes.items c.args.self.now c.self.view_is c.self.invariant.1
           c.args.note _ c.requires
           (changed_in k c.args.note c.index_mut.result.now c.deref.result.now self.notes.items c.in-Ok.place c.deref.ensures.value c.index_mut.ensures.value
           (c.in-Ok.ensures.1 c.index_mut.result.now)),
@@ -31,10 +31,9 @@ pub invariant_of-self-in-Err : goal.invariant_of-self-in-Err
 invariant_of-self-in-Err g c =
     let k = keys g.B.Ord.cmp g.B.Shape.overlap g.B.Shape.inside in
     let lawful : IsLawful k = record { total = g.met.B.Ord.total; exact = g.met.B.Shape.same } in
-    let self = c.self.inside in
-    let room = c.self.invariant.0 in (
-      record { for_claims = room.for_claims; for_predicates = room.for_predicates; for_notes = omega (arith, room.for_notes, c.put.ensures.capacity) },
-      note_put k lawful self.claims.items self.predicates.items self.notes.items c.args.self.now c.self.view_is c.self.invariant.1
+    let self = c.self.inside in (
+      omega (arith, c.self.invariant.0, c.put.ensures.capacity),
+      note_put k lawful self.claims self.predicates self.notes.items c.args.self.now c.self.view_is c.self.invariant.1
           c.args.note c.put.new.list.items c.requires
           (found_in k c.args.note c.deref.result.now self.notes.items c.put.new.list.items c.in-Err.place c.deref.ensures.value c.in-Err.ensures.1 c.put.ensures.items),
     )

@@ -1,0 +1,16 @@
+use Rattle.std.proofs.Common.{List, ap, sym, subst, length, arith}
+use Rattle.gx_machine.specs.declared.entry.Entry.{Entry}
+use Rattle.gx_txn.specs.Claimed.{IsTabled}
+use Rattle.gx_txn.proofs.Tabled.{tabled_with}
+use Rattle.gx_txn.proofs.claims.Claims.put.Goals as goal
+
+pub invariant_of-self : goal.invariant_of-self
+invariant_of-self g c =
+    let self = c.self.inside in
+    let long = ap (λ (es : List (Entry _)). length es) c.self.view_is in (
+      omega (arith, c.self.invariant.0, c.put-2.ensures.capacity),
+      omega (arith, c.self.invariant.1, c.put.ensures.capacity),
+      subst (λ (es : List (Entry _)). IsTabled c.set.new.self c.put.new.list.items es) (sym c.put-2.ensures.items)
+          (tabled_with c.args.e self.rows c.set.new.self self.keys.items c.put.new.list.items self.entries.items c.args.place _
+          (omega (arith, long, c.requires.within)) c.set.ensures.only c.set.ensures.marked c.put.ensures.items c.self.invariant.2),
+    )

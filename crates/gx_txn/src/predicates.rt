@@ -1,0 +1,112 @@
+//! The predicates of one session.
+ghost use Rattle.std.specs.Prelude.{◌≡◌, ◌<◌, ◌++◌, ◌∷◌, [], IfOk, length};
+ghost use Rattle.std.specs.List.{list_any};
+ghost use Rattle.gx_machine.specs.declared.limits.TheConstants.{MAX_PREDICATES};
+ghost use Rattle.gx_machine.specs.Keys.{keys_of, same_query, matches};
+ghost use Rattle.gx_machine.specs.Sessions.{has_query};
+
+use crate::lanes::{Around, OverlappedBy, SameAs, some_passes};
+use crate::search::put_last;
+use gx_geom::Shape;
+use gx_machine::{Entry, MAX_PREDICATES, Query};
+use std::alloc::{AllocError, Global};
+use std::cmp::Ordering;
+use std::marker::Model;
+
+/// The queries that a session watches, in the order of asking, with room for all of them. Beside them are the keys of
+/// each kind of query, so that a write tests them without asking for the kind.
+#[derive(Drop)]
+pub struct Predicates<B: Shape> {
+    asked: Vec<Query<B>>,
+    overlap: Vec<B>,
+    within: Vec<B>,
+    equal: Vec<B>,
+}
+
+impl<B: Shape> Model for Predicates<B> {
+    ghost use Rattle.std.specs.Prelude.{List, ◌≤◌, vec_capacity};
+    ghost use Rattle.gx_machine.specs.declared.limits.TheConstants.{MAX_PREDICATES};
+    ghost use Rattle.gx_machine.specs.declared.query.Query.{Query};
+    ghost use Rattle.gx_txn.specs.Watched.{AreByKind};
+
+    ghost Value = { List (Query B) };
+
+    ghost view = { λ p. p.asked.items };
+
+    ghost invariant = { λ p. (MAX_PREDICATES ≤ vec_capacity p.asked) × (MAX_PREDICATES ≤ vec_capacity p.overlap)
+        × (MAX_PREDICATES ≤ vec_capacity p.within) × (MAX_PREDICATES ≤ vec_capacity p.equal)
+        × AreByKind p.asked.items p.overlap.items p.within.items p.equal.items };
+}
+
+/// Whether two queries are the same.
+fn is_same<B: Shape>(a: &Query<B>, b: &Query<B>) -> bool
+    ensures { result ≡ same_query (keys_of B.Shape) a.now b.now }
+{
+    match (a, b) {
+        (Query::Overlap(p), Query::Overlap(q)) => p.cmp(q) == Ordering::Equal,
+        (Query::Within(p), Query::Within(q)) => p.cmp(q) == Ordering::Equal,
+        (Query::Equal(p), Query::Equal(q)) => p.cmp(q) == Ordering::Equal,
+        _ => false,
+    }
+}
+
+impl<B: Shape> Predicates<B> {
+    /// None, with room for all that a session may have.
+    pub fn new(alloc: Global) -> Result<Self, AllocError>
+        ensures { IfOk result (λ p. p ≡ []) }
+    {
+        Ok(Predicates {
+            asked: Vec::with_capacity(alloc, MAX_PREDICATES)?,
+            overlap: Vec::with_capacity(alloc, MAX_PREDICATES)?,
+            within: Vec::with_capacity(alloc, MAX_PREDICATES)?,
+            equal: Vec::with_capacity(alloc, MAX_PREDICATES)?,
+        })
+    }
+
+    /// How many there are.
+    pub fn len(&self) -> usize
+        ensures { result ≡ length self.now }
+    {
+        self.asked.len()
+    }
+
+    /// Whether the query is one of them.
+    pub fn has(&self, query: &Query<B>) -> bool
+        ensures { result ≡ has_query (keys_of B.Shape) query.now self.now }
+    {
+        self.asked.iter().any(|p| is_same(query, p))
+    }
+
+    /// Whether one of them matches the entry.
+    pub fn any_matches(&self, e: &Entry<B>) -> bool
+        ensures { result ≡ list_any (λ q. matches (keys_of B.Shape) q e.now) self.now }
+    {
+        let overlapped = some_passes(&OverlappedBy(e.key), &self.overlap);
+        let around = some_passes(&Around(e.key), &self.within);
+        let same = some_passes(&SameAs(e.key), &self.equal);
+        overlapped | around | same
+    }
+
+    /// Holds one more. There is room: fewer than all places are taken.
+    pub fn push(&mut self, query: Query<B>)
+        requires { length self.old < MAX_PREDICATES }
+        ensures { self.new ≡ self.old ++ query ∷ [] }
+    {
+        put_last(&mut self.asked, query);
+        match query {
+            Query::Overlap(q) => put_last(&mut self.overlap, q),
+            Query::Within(q) => put_last(&mut self.within, q),
+            Query::Equal(q) => put_last(&mut self.equal, q),
+        }
+    }
+
+    /// Lets go of all.
+    pub fn clear(&mut self)
+        ensures { self.new ≡ [] }
+    {
+        self.asked.clear();
+        self.overlap.clear();
+        self.within.clear();
+        self.equal.clear();
+    }
+}
