@@ -5,8 +5,6 @@ mod box2;
 pub mod laws;
 mod refusal;
 mod shape;
-#[cfg(test)]
-mod tests;
 
 pub use box2::Box2;
 pub use refusal::Refusal;
