@@ -22,7 +22,6 @@ pub(crate) fn write_blank(block: &mut Block, level: u16, number: u32)
 }
 
 /// Makes the image of a page with no items of an image.
-#[tactic(auto, using(crate::proofs::Steps::cleared))]
 pub(crate) fn reset(block: &mut Block, level: u16, number: u32)
     requires { IsImage block.old.bytes }
     ensures image { IsImage block.new.bytes }
