@@ -6,8 +6,6 @@ mod interval;
 pub mod laws;
 mod refusal;
 mod shape;
-#[cfg(test)]
-mod tests;
 
 pub use box2::Box2;
 pub use interval::Interval;

@@ -119,12 +119,13 @@ zeros_written ys i = whole_written (zeros 4096) ys i (length-zeros 4096)
 pub cleared : (b : List ℕ) → IsImage b → overwrite b 0 (zeros 4096) ≡ zeros 4096
 cleared b i = ap (λ (zs : List ℕ). zeros 4096 ++ zs) (drop_all (0 + length (zeros 4096)) b (omega (arith, image_size b i, length-zeros 4096))) ∙ append-nil (zeros 4096)
 
-pub blank_goes : (b : List ℕ) (level number : ℕ) → b ≡ zeros 4096 → level < 2 ^ 16 → number < 2 ^ 32
-    → IsImage (overwrite (overwrite (overwrite b 0 (spell_16 level)) 4 (spell_16 4096)) 20 (spell_32 number))
-    × (read_of (overwrite (overwrite (overwrite b 0 (spell_16 level)) 4 (spell_16 4096)) 20 (spell_32 number)) ≡ blank level number)
-blank_goes b level number e l n =
-    made (blank level number) (record { level = l; nsn = lit< tt; right = lit< tt; number = n; items = All-nil IsItem; fits = omega arith })
-    (overwrite (overwrite (overwrite b 0 (spell_16 level)) 4 (spell_16 4096)) 20 (spell_32 number)) (fresh_is level number b e)
+-- three writes over zeros make the image of a page with no items
+pub blank_goes : (b b₁ b₂ b₃ : List ℕ) (level number : ℕ) → b ≡ zeros 4096 → level < 2 ^ 16 → number < 2 ^ 32
+    → b₁ ≡ overwrite b 0 (spell_16 level) → b₂ ≡ overwrite b₁ 4 (spell_16 4096) → b₃ ≡ overwrite b₂ 20 (spell_32 number)
+    → IsImage b₃ × (read_of b₃ ≡ blank level number)
+blank_goes b b₁ b₂ b₃ level number e l n w₁ w₂ w₃ =
+    made (blank level number) (record { level = l; nsn = lit< tt; right = lit< tt; number = n; items = All-nil IsItem; fits = omega arith }) b₃
+    (w₃ ∙ ap (λ (zs : List ℕ). overwrite zs 20 (spell_32 number)) (w₂ ∙ ap (λ (zs : List ℕ). overwrite zs 4 (spell_16 4096)) w₁) ∙ fresh_is level number b e)
 
 -- ---- the edits of a block, write by write
 

@@ -17,7 +17,6 @@ pub(crate) fn slot_at(slot: usize) -> usize
 }
 
 /// How many slots an image has.
-#[tactic(auto, using(crate::proofs::Parts::image_count, crate::proofs::Parts::image_fits))]
 pub(crate) fn count_of(block: &Block) -> u16
     requires { IsImage block.now.bytes }
     ensures count { result ≡ length (read_of block.now.bytes).items }
@@ -27,7 +26,6 @@ pub(crate) fn count_of(block: &Block) -> u16
 }
 
 /// Where the heap of an image starts.
-#[tactic(auto, using(crate::proofs::Parts::image_start))]
 pub(crate) fn start_of(block: &Block) -> u16
     requires { IsImage block.now.bytes }
     ensures { result + total (read_of block.now.bytes).items ≡ 4096 }

@@ -11,7 +11,6 @@ use crate::directory::{close_slot, count_of, end_of, open_slot, place_of, size_o
 use crate::layout::{COUNT, NUMBER, START};
 
 /// Writes a level and a number over zeros, which makes the image of a page with no items.
-#[tactic(auto, using(crate::proofs::Steps::blank_goes))]
 pub(crate) fn write_blank(block: &mut Block, level: u16, number: u32)
     requires { block.old.bytes ≡ zeros PAGE_SIZE }
     ensures image { IsImage block.new.bytes }
@@ -23,7 +22,6 @@ pub(crate) fn write_blank(block: &mut Block, level: u16, number: u32)
 }
 
 /// Makes the image of a page with no items of an image.
-#[tactic(auto, using(crate::proofs::Steps::cleared))]
 pub(crate) fn reset(block: &mut Block, level: u16, number: u32)
     requires { IsImage block.old.bytes }
     ensures image { IsImage block.new.bytes }

@@ -107,7 +107,6 @@ impl Page {
     }
 
     /// The page's 4,096 bytes, in place.
-    #[tactic(auto, using(crate::proofs::Steps::whole_read, crate::proofs::Parts::image_size, crate::proofs::Parts::image_back))]
     pub fn image(&self) -> &[u8]
         ensures image { result.now ≡ image_of self.now }
         ensures size { length result.now ≡ PAGE_SIZE }
@@ -118,7 +117,6 @@ impl Page {
     }
 
     /// The items' bytes, in place: the last item's first, and the first one's up to the end.
-    #[tactic(auto, using(crate::proofs::Scans::heap_read))]
     pub fn heap(&self) -> &[u8]
         ensures heap { result.now ≡ heap self.now.items }
         ensures size { length result.now ≡ total self.now.items }
@@ -128,7 +126,6 @@ impl Page {
     }
 
     /// How many items the page has, 812 at most.
-    #[tactic(auto, using(crate::proofs::Parts::image_bound))]
     pub fn count(&self) -> usize
         ensures count { result ≡ length self.now.items }
         ensures bound { result ≤ 812 }
@@ -138,7 +135,6 @@ impl Page {
     }
 
     /// A slot's item, in place.
-    #[tactic(auto, using(crate::proofs::Steps::item_read, crate::proofs::Steps::item_some))]
     pub fn get(&self, slot: usize) -> &[u8]
         requires { slot < length self.now.items }
         ensures item { result.now ≡ slice_index_or self.now.items slot [] }

@@ -6,8 +6,6 @@
 mod index;
 pub mod laws;
 mod script;
-#[cfg(test)]
-mod tests;
 
 pub use gx_machine::{Asked, Call, Entries, Entry, Query, Reply};
 pub use gx_script::ScriptFault;

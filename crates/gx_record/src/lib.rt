@@ -8,8 +8,6 @@ mod mark;
 mod pages;
 mod record;
 mod tags;
-#[cfg(test)]
-mod tests;
 
 pub use mark::Mark;
 pub use pages::{PageImage, PageImages};

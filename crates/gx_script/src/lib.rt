@@ -12,8 +12,6 @@ mod output;
 mod replies;
 mod requests;
 mod runner;
-#[cfg(test)]
-mod tests;
 mod words;
 
 pub use answers::Answers;

@@ -1,18 +1,13 @@
 //! The class of boxes by its rows, and code that knows only the trait, at two classes.
 ghost use Rattle.std.specs.Prelude.{◌≡◌, length};
 
+use crate::boxes::{Rectangle, make_box};
 use crate::reaches::{Reach, ReachClass};
 use gx_class::{Box2Class, KeyClass};
 use gx_geom::Box2;
 use gx_machine::Query;
 use std::process::Abort;
 use std::test::Fail;
-
-type Rectangle = (i32, i32, i32, i32);
-
-fn make_box(rt: &impl Abort, (x1, y1, x2, y2): Rectangle) -> Box2 {
-    Box2::new(x1, y1, x2, y2).ok().expect(rt, "a box")
-}
 
 // The groups of a split, as `1` and `2`.
 fn check_split(rt: &impl Abort, boxes: &[Rectangle], least: usize, groups: &[u8]) {

@@ -2,6 +2,8 @@
 //! into a crate: it is all by public calls.
 #![tactic(auto)]
 
+#[cfg(test)]
+mod boxes;
 pub mod callers;
 #[cfg(test)]
 mod classes;
@@ -14,4 +16,10 @@ mod memory;
 #[cfg(test)]
 mod pages;
 #[cfg(test)]
+mod plain;
+#[cfg(test)]
 mod reaches;
+#[cfg(test)]
+mod records;
+#[cfg(test)]
+mod scripts;

@@ -1,9 +1,7 @@
 //! Scripts against an index that answers from a list, in pieces of any size.
-ghost use Rattle.std.specs.Prelude.{◌≤◌, ◌+◌, ◌<◌, length};
-
-use super::*;
 use gx_geom::{Box2, Refusal};
 use gx_machine::{Call, Entries, Entry, Query, Reply};
+use gx_script::{Answers, Line, ScriptFault, parse, run};
 use std::alloc::{AllocError, Global};
 use std::io::{self, ErrorKind, Read, Write};
 use std::process::Abort;
@@ -146,199 +144,184 @@ fn gives<R: Abort + AllocGlobal>(rt: &R, script: &[u8], text: &[u8]) -> Result<(
     Ok(())
 }
 
-#[test]
-fn ends_of_lines(rt: HostRuntime) -> Result<(), Fail> {
-    gives(&rt, b"", b"")?;
-    gives(&rt, b"1 BEGIN", b"1 ok\n")?;
-    gives(
-        &rt,
+/// A script and the text that it gives.
+type Row = (&'static [u8], &'static [u8]);
+
+fn each_gives<R: Abort + AllocGlobal>(rt: &R, rows: &[Row]) -> Result<(), Fail> {
+    for (script, text) in rows {
+        gives(rt, script, text)?;
+    }
+    Ok(())
+}
+
+// Ends of lines.
+const ENDS: [Row; 7] = [
+    (b"", b""),
+    (b"1 BEGIN", b"1 ok\n"),
+    (
         b"1 BEGIN\r\n1 COMMIT\r\n",
         b"1 ok\n1 committed 18446744073709551615\n",
-    )?;
-    gives(&rt, b"1 BEGIN\r\r\n", b"line 1 bad\n")?;
-    gives(&rt, b"\r", b"")?;
-    gives(&rt, b"\r\n \t\nx\r", b"line 3 bad\n")?;
-    gives(&rt, b"\n\n1 ABORT", b"1 aborted\n")
-}
+    ),
+    (b"1 BEGIN\r\r\n", b"line 1 bad\n"),
+    (b"\r", b""),
+    (b"\r\n \t\nx\r", b"line 3 bad\n"),
+    (b"\n\n1 ABORT", b"1 aborted\n"),
+];
 
-#[test]
-fn words_of_lines(rt: HostRuntime) -> Result<(), Fail> {
-    gives(&rt, b"\t1\t \tBEGIN\t \n", b"1 ok\n")?;
-    gives(
-        &rt,
+// Words and what separates them.
+const WORDS: [Row; 6] = [
+    (b"\t1\t \tBEGIN\t \n", b"1 ok\n"),
+    (
         b"1 begin\n1 Begin\n1 HELLO\n1BEGIN\n",
         b"line 1 bad\nline 2 bad\nline 3 bad\nline 4 bad\n",
-    )?;
-    gives(
-        &rt,
+    ),
+    (
         b"1\n1 BEGIN 1\n1 COMMIT now\n1 ABORT -\n",
         b"line 1 bad\nline 2 bad\nline 3 bad\nline 4 bad\n",
-    )?;
-    gives(
-        &rt,
+    ),
+    (
         b"1 INSERT 7 0 0 1\n1 INSERT 7 0 0 1 1 1\n",
         b"line 1 bad\nline 2 bad\n",
-    )?;
-    gives(
-        &rt,
+    ),
+    (
         b"1 OVERLAP 0 0 1\n1 WITHIN 0 0 1 1 1\n1 EQUAL\n",
         b"line 1 bad\nline 2 bad\nline 3 bad\n",
-    )?;
-    gives(
-        &rt,
+    ),
+    (
         b"1 BEGIN\0\n\0\n1 BEGIN\xff\n\x80\n1\x0bBEGIN\n",
         b"line 1 bad\nline 2 bad\nline 3 bad\nline 4 bad\nline 5 bad\n",
-    )
-}
+    ),
+];
 
-#[test]
-fn numbers_in_lines(rt: HostRuntime) -> Result<(), Fail> {
-    gives(
-        &rt,
+// Rows and corners at their bounds.
+const NUMBERS: [Row; 7] = [
+    (
         b"0001 INSERT 007 -00 0000 01 2\n1 OVERLAP 0 0 1 1\n",
         b"1 inserted\n1 found 1\n1 entry 7 0 0 1 2\n",
-    )?;
-    gives(
-        &rt,
+    ),
+    (
         b"+1 BEGIN\n-1 BEGIN\n1 INSERT +7 0 0 1 1\n1 INSERT -7 0 0 1 1\n",
         b"line 1 bad\nline 2 bad\nline 3 bad\nline 4 bad\n",
-    )?;
-    gives(
-        &rt,
+    ),
+    (
         b"1 INSERT 7 - 0 1 1\n1 INSERT 7 --1 0 1 1\n1 DELETE 7 -0 0 +1 1\n1 DELETE 7 0x0 0 1 1\n",
         b"line 1 bad\nline 2 bad\nline 3 bad\nline 4 bad\n",
-    )?;
-    gives(
-        &rt,
+    ),
+    (
         b"1 INSERT 18446744073709551615 0 0 1 1\n1 OVERLAP 0 0 0 0\n",
         b"1 inserted\n1 found 1\n1 entry 18446744073709551615 0 0 1 1\n",
-    )?;
-    gives(
-        &rt,
+    ),
+    (
         b"1 INSERT 18446744073709551616 0 0 1 1\n1 DELETE 99999999999999999999 0 0 1 1\n",
         b"line 1 bad\nline 2 bad\n",
-    )?;
-    gives(
-        &rt,
+    ),
+    (
         b"1 INSERT 1 -2147483648 -2147483648 2147483647 2147483647\n1 OVERLAP 0 0 0 0\n",
         b"1 inserted\n1 found 1\n1 entry 1 -2147483648 -2147483648 2147483647 2147483647\n",
-    )?;
-    gives(
-        &rt,
+    ),
+    (
         b"1 OVERLAP 0 0 2147483648 0\n1 OVERLAP -2147483649 0 0 0\n",
         b"line 1 bad\nline 2 bad\n",
-    )
-}
+    ),
+];
 
-#[test]
-fn sessions(rt: HostRuntime) -> Result<(), Fail> {
-    gives(
-        &rt,
+// Sessions, and what is tested before them.
+const SESSIONS: [Row; 5] = [
+    (
         b"0 BEGIN\n9 BEGIN\n257 BEGIN\n",
         b"0 refused 15 bad session\n9 refused 15 bad session\n257 refused 15 bad session\n",
-    )?;
-    gives(
-        &rt,
+    ),
+    (
         b"18446744073709551615 COMMIT\n",
         b"18446744073709551615 refused 15 bad session\n",
-    )?;
-    gives(&rt, b"18446744073709551616 BEGIN\n", b"line 1 bad\n")?;
-    gives(
-        &rt,
+    ),
+    (b"18446744073709551616 BEGIN\n", b"line 1 bad\n"),
+    (
         b"9 INSERT 7 5 0 4 9\n18446744073709551615 OVERLAP 0 1 0 0\n",
         b"9 refused 6 bad box\n18446744073709551615 refused 6 bad box\n",
-    )?;
-    gives(
-        &rt,
+    ),
+    (
         b"1 OVERLAP 3000000000 0 0 0\n1 WITHIN 1 1 0 -3000000000\n",
         b"line 1 bad\nline 2 bad\n",
-    )
-}
+    ),
+];
 
-#[test]
-fn replies(rt: HostRuntime) -> Result<(), Fail> {
-    gives(
-        &rt,
+// Replies of each kind.
+const REPLIES: [Row; 2] = [
+    (
         b"8 DELETE 1 0 0 0 0\n8 EQUAL 0 0 0 0\n8 WITHIN -1 -1 1 1\n",
         b"8 deleted\n8 refused 5 busy 3\n8 found 0\n",
-    )?;
-    gives(
-        &rt,
+    ),
+    (
         b"1 INSERT 9 1 2 3 4\n2 INSERT 8 -4 -3 -2 -1\n3 OVERLAP 0 0 0 0\n",
         b"1 inserted\n2 inserted\n3 found 2\n3 entry 9 1 2 3 4\n3 entry 8 -4 -3 -2 -1\n",
-    )
-}
-
-// A line of so many bytes, spaces but for what it begins with, and then its end.
-fn padded(alloc: Global, begin: &[u8], size: usize, end: &[u8]) -> Result<Vec<u8>, AllocError> {
-    let mut line = Vec::from_slice(alloc, begin)?;
-    for _ in begin.len()..size {
-        line.push(b' ')?;
-    }
-    line.extend_from_slice(end)?;
-    Ok(line)
-}
+    ),
+];
 
 #[test]
-fn long_lines(rt: HostRuntime) -> Result<(), Fail> {
-    gives(&rt, padded(rt.alloc(), b"", 1024, b"\n")?.as_slice(), b"")?;
-    gives(
-        &rt,
-        padded(rt.alloc(), b"", 1025, b"\n")?.as_slice(),
-        b"line 1 bad\n",
-    )?;
-    gives(&rt, padded(rt.alloc(), b"", 1024, b"\r\n")?.as_slice(), b"")?;
-    gives(
-        &rt,
-        padded(rt.alloc(), b"", 1024, b"\r\r\n")?.as_slice(),
-        b"line 1 bad\n",
-    )?;
-    gives(
-        &rt,
-        padded(rt.alloc(), b"", 1025, b"\r\n")?.as_slice(),
-        b"line 1 bad\n",
-    )?;
-    gives(
-        &rt,
-        padded(rt.alloc(), b"1 BEGIN", 1024, b"\r\n1 ABORT\n")?.as_slice(),
-        b"1 ok\n1 aborted\n",
-    )?;
-    gives(
-        &rt,
-        padded(rt.alloc(), b"1 BEGIN", 1025, b"")?.as_slice(),
-        b"line 1 bad\n",
-    )?;
-    gives(
-        &rt,
-        padded(rt.alloc(), b"1 BEGIN", 3000, b"\n1 ABORT\n")?.as_slice(),
-        b"line 1 bad\n1 aborted\n",
-    )
+fn scripts_and_their_texts(rt: HostRuntime) -> Result<(), Fail> {
+    each_gives(&rt, &ENDS)?;
+    each_gives(&rt, &WORDS)?;
+    each_gives(&rt, &NUMBERS)?;
+    each_gives(&rt, &SESSIONS)?;
+    each_gives(&rt, &REPLIES)
+}
+
+// How a line begins, how long spaces make it, how it ends, and the text that it gives.
+const LONG_LINES: [(&[u8], usize, &[u8], &[u8]); 8] = [
+    (b"", 1024, b"\n", b""),
+    (b"", 1025, b"\n", b"line 1 bad\n"),
+    (b"", 1024, b"\r\n", b""),
+    (b"", 1024, b"\r\r\n", b"line 1 bad\n"),
+    (b"", 1025, b"\r\n", b"line 1 bad\n"),
+    (b"1 BEGIN", 1024, b"\r\n1 ABORT\n", b"1 ok\n1 aborted\n"),
+    (b"1 BEGIN", 1025, b"", b"line 1 bad\n"),
+    (b"1 BEGIN", 3000, b"\n1 ABORT\n", b"line 1 bad\n1 aborted\n"),
+];
+
+#[test]
+fn a_line_has_1024_bytes_at_most(rt: HostRuntime) -> Result<(), Fail> {
+    for (begin, size, end, text) in LONG_LINES {
+        let mut line = Vec::from_slice(rt.alloc(), begin)?;
+        for _ in begin.len()..size {
+            line.push(b' ')?;
+        }
+        line.extend_from_slice(end)?;
+        gives(&rt, line.as_slice(), text)?;
+    }
+    Ok(())
+}
+
+const INSERT: &[u8] =
+    b"1 INSERT 18446744073709551615 -2147483648 -2147483648 2147483647 2147483647\n";
+
+const FOUND: &[u8] =
+    b"1 entry 18446744073709551615 -2147483648 -2147483648 2147483647 2147483647\n";
+
+// Appends bytes 200 times.
+fn append(to: &mut Vec<u8>, bytes: &[u8]) -> Result<(), AllocError> {
+    for _ in 0..200u8 {
+        to.extend_from_slice(bytes)?;
+    }
+    Ok(())
 }
 
 // More text than waits at once.
 #[test]
-fn long_replies(rt: HostRuntime) -> Result<(), Fail> {
+fn a_reply_is_longer_than_what_waits(rt: HostRuntime) -> Result<(), Fail> {
     let mut script = Vec::new(rt.alloc());
-    let mut text = Vec::new(rt.alloc());
-    for _ in 0..200u8 {
-        script.extend_from_slice(
-            b"1 INSERT 18446744073709551615 -2147483648 -2147483648 2147483647 2147483647\n",
-        )?;
-        text.extend_from_slice(b"1 inserted\n")?;
-    }
+    append(&mut script, INSERT)?;
     script.extend_from_slice(b"1 OVERLAP 0 0 0 0\n1 ABORT\n")?;
+    let mut text = Vec::new(rt.alloc());
+    append(&mut text, b"1 inserted\n")?;
     text.extend_from_slice(b"1 found 200\n")?;
-    for _ in 0..200u8 {
-        text.extend_from_slice(
-            b"1 entry 18446744073709551615 -2147483648 -2147483648 2147483647 2147483647\n",
-        )?;
-    }
+    append(&mut text, FOUND)?;
     text.extend_from_slice(b"1 aborted\n")?;
     gives(&rt, script.as_slice(), text.as_slice())
 }
 
 #[test]
-fn a_reader_that_fails(rt: HostRuntime) -> Result<(), Fail> {
+fn a_reader_that_fails_ends_the_script(rt: HostRuntime) -> Result<(), Fail> {
     let mut reader = Drip {
         rest: b"1 BEGIN\nx\n1 ABORT\n1 COM",
         size: 5,
@@ -356,7 +339,7 @@ fn a_reader_that_fails(rt: HostRuntime) -> Result<(), Fail> {
 
 // However much the writer takes, that is the front of the text, and no call is asked past the first reply that is cut.
 #[test]
-fn a_writer_that_fails(rt: HostRuntime) -> Result<(), Fail> {
+fn a_writer_that_fails_ends_the_script(rt: HostRuntime) -> Result<(), Fail> {
     let text = b"1 ok\n1 inserted\n1 found 1\n1 entry 7 0 0 1 1\n1 aborted\n".as_slice();
     for most in 0..text.len() {
         let mut reader = b"1 BEGIN\n1 INSERT 7 0 0 1 1\n1 OVERLAP 0 0 1 1\n1 ABORT\n".as_slice();
@@ -385,7 +368,7 @@ fn a_writer_that_fails(rt: HostRuntime) -> Result<(), Fail> {
 }
 
 #[test]
-fn lines_by_themselves(rt: HostRuntime) -> Result<(), Fail> {
+fn a_line_is_read_by_itself(rt: HostRuntime) -> Result<(), Fail> {
     assert!(rt; parse(b" \t\r") == Line::Blank);
     assert!(rt; parse(b"2 ABORT") == Line::Asks(2, Call::Abort));
     assert!(rt; parse(b"300 EQUAL 1 0 0 0") == Line::Reversed(300));

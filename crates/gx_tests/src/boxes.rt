@@ -1,0 +1,98 @@
+//! Boxes and refusals: printed texts, the greatest box, and each call once.
+use gx_geom::{Box2, Refusal, Shape};
+use std::process::Abort;
+use std::test::Fail;
+
+/// A box by its corners: x1, y1, x2, y2.
+pub type Rectangle = (i32, i32, i32, i32);
+
+/// The box of these corners; fails where they are reversed.
+pub fn make_box(rt: &impl Abort, (x1, y1, x2, y2): Rectangle) -> Box2 {
+    Box2::new(x1, y1, x2, y2).ok().expect(rt, "a box")
+}
+
+const REFUSALS: [(Refusal, u8, &str); 21] = [
+    (Refusal::NoTransaction, 1, "no transaction"),
+    (Refusal::InTransaction, 2, "in transaction"),
+    (Refusal::Present, 3, "present"),
+    (Refusal::Absent, 4, "absent"),
+    (Refusal::Busy(8), 5, "busy 8"),
+    (Refusal::Busy(255), 5, "busy 255"),
+    (Refusal::BadBox, 6, "bad box"),
+    (Refusal::PagesFull, 7, "pages full"),
+    (Refusal::ClaimsFull, 8, "claims full"),
+    (Refusal::PredicatesFull, 9, "predicates full"),
+    (Refusal::Memory, 10, "memory"),
+    (Refusal::Device, 11, "device"),
+    (Refusal::Failed, 12, "failed"),
+    (Refusal::Damaged, 13, "damaged"),
+    (Refusal::NotFormatted, 14, "not formatted"),
+    (Refusal::BadSession, 15, "bad session"),
+    (Refusal::CallOpen, 16, "call open"),
+    (Refusal::TooSmall, 17, "too small"),
+    (Refusal::BadParameter, 18, "bad parameter"),
+    (Refusal::NoCall, 19, "no call"),
+    (Refusal::HistoryFull, 20, "history full"),
+];
+
+#[test]
+fn refusals_have_numbers_and_texts(rt: HostRuntime) {
+    for (refusal, number, text) in REFUSALS {
+        assert_eq!(rt; refusal.number(), number);
+        assert!(rt; refusal.text().as_str() == text);
+    }
+}
+
+#[test]
+fn the_greatest_box_has_an_area_and_a_text(rt: HostRuntime) -> Result<(), Fail> {
+    let all = make_box(&rt, (i32::MIN, i32::MIN, i32::MAX, i32::MAX));
+    assert_eq!(rt; all.area(), 18_446_744_065_119_617_025);
+    let text = all.to_string(rt.alloc())?;
+    assert!(rt; text.as_str() == "-2147483648 -2147483648 2147483647 2147483647");
+    Ok(())
+}
+
+#[test]
+fn reversed_corners_are_no_box(rt: HostRuntime) {
+    for (x1, y1, x2, y2) in [(1, 0, 0, 0), (0, 1, 0, 0)] {
+        assert_eq!(rt; Box2::new(x1, y1, x2, y2), Err(Refusal::BadBox));
+    }
+}
+
+// Two boxes, whether they overlap, and whether the first is within the second.
+const PAIRS: [(Rectangle, Rectangle, bool, bool); 5] = [
+    ((0, -1, 2, 3), (2, 3, 5, 7), true, false),
+    ((0, -1, 2, 3), (3, 3, 3, 3), false, false),
+    ((2, 0, 2, 0), (0, -1, 2, 3), true, true),
+    ((0, -1, 2, 3), (0, -1, 2, 3), true, true),
+    ((0, -1, 2, 3), (1, -1, 2, 3), true, false),
+];
+
+// The relations as the trait has them.
+fn relations<S: Shape>(a: &S, b: &S) -> (bool, bool, bool) {
+    (a.overlaps(b), a.within(b), b.covers(a))
+}
+
+#[test]
+fn boxes_overlap_and_cover(rt: HostRuntime) {
+    for (first, second, overlap, within) in PAIRS {
+        let a = make_box(&rt, first);
+        let b = make_box(&rt, second);
+        assert_eq!(rt;
+            (a.overlaps(&b), a.within(&b), b.covers(&a)),
+            (overlap, within, within)
+        );
+        assert_eq!(rt; relations(&a, &b), (overlap, within, within));
+        assert_eq!(rt; b.overlaps(&a), overlap);
+    }
+}
+
+#[test]
+fn a_union_and_corners(rt: HostRuntime) {
+    let near = make_box(&rt, (0, -1, 2, 3));
+    let far = make_box(&rt, (2, 3, 5, 7));
+    assert_eq!(rt; near.union(&far), make_box(&rt, (0, -1, 5, 7)));
+    assert_eq!(rt; (far.x1(), far.y1(), far.x2(), far.y2()), (2, 3, 5, 7));
+    assert!(rt; near < far);
+    assert_eq!(rt; Box2::point(2, 3), make_box(&rt, (2, 3, 2, 3)));
+}
