@@ -84,7 +84,7 @@ within_covered k b q is p inside =
       y_right = at_most_through q.y1 k.y1 b.y2 lies.y_from (at_most_through k.y1 k.y2 b.y2 is.y_in_order lies'.y_to);
     })
 
-same_order : (o : Ordering) → is_eq o ≡ true → o ≡ Same
+pub same_order : (o : Ordering) → is_eq o ≡ true → o ≡ Same
 same_order Less e = cc
 same_order Same e = refl
 same_order Greater e = cc

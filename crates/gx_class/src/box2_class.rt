@@ -1,7 +1,7 @@
 //! The class of boxes: an R-tree's keys (Guttman 1984).
 ghost use Rattle.std.specs.Prelude.{◌≡◌, ◌≤◌, ◌+◌, ◌++◌, length, take, drop, MatchOption};
 ghost use Rattle.gx_geom.specs.Rectangles.{IsBox, rectangle_of, area, union};
-ghost use Rattle.gx_class.specs.Boxes.{number_bytes, spelling, may_match, cost};
+ghost use Rattle.gx_class.specs.Boxes.{number_bytes, spelling, reading, may_match, cost};
 
 use crate::KeyClass;
 use gx_geom::{Box2, Shape};
@@ -44,6 +44,7 @@ impl KeyClass for Box2Class {
     ghost use Rattle.gx_split.specs.Split.{measure, split_sides};
     ghost use Rattle.gx_geom.specs.BoxLaws.{within_itself, within_through, union_is_box};
     ghost use Rattle.gx_class.specs.BoxKeyLaws.{start_is_box, match_is_consistent, union_covers_first, union_covers_second, union_is_least, split_leaves_each, length-spelling};
+    ghost use Rattle.gx_class.specs.BoxReadings.{reading_back, reading_only};
 
     type Key = Box2;
 
@@ -68,6 +69,8 @@ impl KeyClass for Box2Class {
     ghost sides_of = { split_sides (measure union area) };
 
     ghost spelling = { spelling };
+
+    ghost reading = { reading };
 
     fn known(key: &Box2) {
         let _ = key.x1();
@@ -143,4 +146,8 @@ impl KeyClass for Box2Class {
     ghost key_is_short = { Prim.omega arith };
 
     ghost spelling_length = { λ k _. length-spelling k };
+
+    ghost reading_back = { reading_back };
+
+    ghost reading_only = { reading_only };
 }

@@ -1,6 +1,6 @@
 //! What the tree asks of its keys: the methods of a generalized search tree's key class (Hellerstein, Naughton, Pfeffer
 //! 1995). Compress and Decompress are a lossless `encode` and `decode` here.
-ghost use Rattle.std.specs.Prelude.{◌≡◌, ◌≤◌, ◌*◌, ℕ, Bool, true, List, length, IfSome};
+ghost use Rattle.std.specs.Prelude.{◌≡◌, ◌<◌, ◌≤◌, ◌*◌, ℕ, Bool, true, List, length, slice_index, Option, Some, IfSome};
 ghost use Rattle.gx_machine.specs.declared.query.Query.{Query};
 ghost use Rattle.gx_machine.specs.Keys.{keys_of, key_matches};
 ghost use Rattle.gx_class.specs.Sides.{LeavesEach};
@@ -48,6 +48,9 @@ pub trait KeyClass {
 
     /// The bytes of a key.
     ghost spelling: { Self.Key → List ℕ };
+
+    /// The key that bytes spell, if they spell one.
+    ghost reading: { List ℕ → Option Self.Key };
 
     /// Whoever has a key in hand learns by this call that it is one.
     fn known(key: &Self::Key)
@@ -129,4 +132,11 @@ pub trait KeyClass {
 
     /// Each key has as many bytes.
     ghost spelling_length: { (k : Self.Key) → is_key k → length (spelling k) ≡ KEY };
+
+    /// A key's bytes spell that key.
+    ghost reading_back: { (k : Self.Key) → is_key k → reading (spelling k) ≡ Some k };
+
+    /// Bytes spell no key but the one whose bytes they are.
+    ghost reading_only: { (bytes : List ℕ) (k : Self.Key) → ((i : ℕ) → slice_index bytes i < 256) → reading bytes ≡ Some k
+        → is_key k × (bytes ≡ spelling k) };
 }

@@ -4,6 +4,7 @@ ghost use Rattle.std.specs.Prelude.{◌≡◌, ◌≤◌, ◌<◌, ◌-◌, ◌/
 ghost use Rattle.std.proofs.Common.{ap, arith};
 ghost use Rattle.std.proofs.lemmas.Bool.Decides.{nat_tests};
 ghost use Rattle.gx_tests.specs.Halves.{halves, halves_leave_each};
+ghost use Rattle.gx_tests.specs.OneByte.{one_byte, one_byte_only};
 
 use gx_class::KeyClass;
 use gx_geom::Shape;
@@ -66,6 +67,8 @@ impl KeyClass for ReachClass {
     ghost sides_of = { λ xs least. halves (length xs) };
 
     ghost spelling = { λ k. k.0 ∷ [] };
+
+    ghost reading = { one_byte (λ n. record { 0 = n }) };
 
     fn known(key: &Reach) {
         let _number = key.0;
@@ -139,4 +142,8 @@ impl KeyClass for ReachClass {
     ghost key_is_short = { Prim.omega arith };
 
     ghost spelling_length = { λ k _. refl };
+
+    ghost reading_back = { λ k _. refl };
+
+    ghost reading_only = { one_byte_only (λ n. record { 0 = n }) (λ k. k.0) (λ n. refl) };
 }

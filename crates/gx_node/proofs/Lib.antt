@@ -1,0 +1,10 @@
+pub mod Children
+pub mod Choice
+pub mod Heaps
+pub mod Keys
+pub mod Live
+pub mod Pages
+pub mod Pairs
+pub mod Parts
+pub mod Scanning
+pub mod Slots

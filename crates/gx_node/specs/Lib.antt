@@ -1,0 +1,5 @@
+pub mod Entries
+pub mod Hits
+pub mod Laws
+pub mod Reading
+pub mod Seen

@@ -1,0 +1,137 @@
+//! Inner nodes in place.
+ghost use Rattle.std.specs.Prelude.{◌≡◌, ◌↔◌, ℕ, ◌<◌, ◌≤◌, true, map, length, slice_index_or, IsOk, IfOk, IfErr, Some, slice_get};
+ghost use Rattle.std.specs.List.{IsFirstBest};
+ghost use Rattle.gx_node.specs.Entries.{HoldsChildren};
+ghost use Rattle.gx_node.specs.Hits.{IsNextHit, costs_less};
+ghost use Rattle.gx_node.specs.Reading.{format, is_inner, inner_of};
+ghost use Rattle.gx_node.specs.Seen.{child_seen};
+
+use crate::check::are_children;
+use crate::entry::{CHILD_TAIL, child_of};
+use crate::scan::{costs_less, next_passing};
+use gx_class::{KeyClass, Probing};
+use gx_geom::Refusal;
+use gx_page::Page;
+use std::marker::{Model, PhantomData};
+
+/// An inner node, read where it lies: children, each a page and the bound of what lies below it, by slot.
+#[derive(Drop)]
+pub struct Inner<'a, K: KeyClass> {
+    page: &'a Page,
+    class: PhantomData<K>,
+}
+
+impl<'a, K: KeyClass> Model for Inner<'a, K> {
+    ghost use Rattle.gx_tree_laws.specs.Trees.{Node};
+    ghost use Rattle.gx_node.specs.Reading.{format, inner_size, AreKeyed, inner_of};
+
+    ghost Value = { Node K.Key };
+
+    ghost view = { λ i. inner_of (format K.KEY K.reading K.start_key) i.page.now };
+
+    ghost invariant = { λ i. AreKeyed (format K.KEY K.reading K.start_key) (inner_size (format K.KEY K.reading K.start_key)) i.page.now.items };
+}
+
+impl<'a, K: KeyClass> Inner<'a, K> {
+    /// The inner node on a page that is known to be one, where `used` is the greatest page taken. That number isn't read:
+    /// it says which test the page passed.
+    #[tactic(auto, using(crate::proofs::Slots::inner_is_keyed))]
+    pub fn of(page: &'a Page, _used: u32) -> Self
+        requires { is_inner (format K.KEY K.reading K.start_key) _used page.now ≡ true }
+        ensures { result ≡ inner_of (format K.KEY K.reading K.start_key) page.now }
+    {
+        Inner {
+            page,
+            class: PhantomData,
+        }
+    }
+
+    /// The inner node on a page, which is tested here, where `used` is the greatest page taken. `Damaged` where the page
+    /// isn't one.
+    pub fn read(page: &'a Page, used: u32) -> Result<Self, Refusal>
+        ensures exact { IsOk result ↔ (is_inner (format K.KEY K.reading K.start_key) used page.now ≡ true) }
+        ensures inner { IfOk result (λ inner. inner ≡ inner_of (format K.KEY K.reading K.start_key) page.now) }
+        ensures held { IfOk result (λ inner. HoldsChildren K.is_key K.spelling used page.now inner.children) }
+        ensures refused { IfErr result (λ why. why ≡ Refusal.Damaged) }
+    {
+        if page.level() != 0 && are_children::<K>(page, used) {
+            Ok(Inner::of(page, used))
+        } else {
+            Err(Refusal::Damaged)
+        }
+    }
+
+    /// The level: one more than that of the nodes below.
+    pub fn level(&self) -> u16
+        ensures { result ≡ self.now.level }
+    {
+        self.page.level()
+    }
+
+    /// The sequence number of the node's last split.
+    pub fn nsn(&self) -> u64
+        ensures { result ≡ self.now.number }
+    {
+        self.page.nsn()
+    }
+
+    /// The rightlink: the page of the node to the right, 0 for none.
+    pub fn right(&self) -> u32
+        ensures { result ≡ self.now.right }
+    {
+        self.page.right()
+    }
+
+    /// How many children the node has.
+    pub fn len(&self) -> usize
+        ensures { result ≡ length self.now.children }
+    {
+        self.page.count()
+    }
+
+    /// A slot's bound and page.
+    #[tactic(auto, using(crate::proofs::Slots::slot_made))]
+    pub fn child(&self, slot: usize) -> (K::Key, u32)
+        requires { slot < length self.now.children }
+        ensures { slice_get self.now.children slot ≡ Some (child_seen result) }
+    {
+        child_of::<K>(self.page.get(slot))
+    }
+
+    /// The penalty of a key for a slot's bound.
+    #[tactic(auto, using(crate::proofs::Slots::made_at))]
+    fn penalty(&self, slot: usize, key: &K::Key) -> (u128, u128)
+        requires { slot < length self.now.children }
+        ensures { (d : ℕ × ℕ) → slice_index_or (map (λ child. K.cost child.key key.now) self.now.children) slot d ≡ result }
+    {
+        K::penalty(&self.child(slot).0, key)
+    }
+
+    /// The slot of the bound for which the penalty of a key is least, and of such bounds the first.
+    pub fn least_penalty(&self, key: &K::Key) -> usize
+        requires { 1 ≤ length self.now.children }
+        ensures { IsFirstBest costs_less (map (λ child. K.cost child.key key.now) self.now.children) (length self.now.children) result }
+    {
+        let mut best = 0;
+        let mut least = self.penalty(0, key);
+        for slot in 1..self.len() {
+            let penalty = self.penalty(slot, key);
+            if !costs_less(penalty, least) {
+                continue;
+            }
+            best = slot;
+            least = penalty;
+        }
+        best
+    }
+}
+
+impl<'a, K: Probing> Inner<'a, K> {
+    /// The first slot from a slot on whose bound passes.
+    pub fn next_hit(&self, probe: &K::Probe, from: usize) -> Option<usize>
+        requires { from ≤ length self.now.children }
+        ensures { IsNextHit (map (λ child. K.passes probe.now child.key) self.now.children) from result }
+    {
+        next_passing::<K>(self.page, K::KEY + CHILD_TAIL, probe, from)
+    }
+}
