@@ -126,7 +126,7 @@ read_back z fits = ap (cast_signed w32) (from_be_bytes-to_be_bytes_4 (cast_unsig
 same_number : (y z : ℤ) → FitsSigned w32 y → FitsSigned w32 z → number_bytes y ≡ number_bytes z → y ≡ z
 same_number y z fits fits' e = sym (read_back y fits) ∙ ap (λ l. cast_signed w32 (from_be_bytes w32 l)) e ∙ read_back z fits'
 
-same_halves : (xs ys us vs : List ℕ) → length xs ≡ length us → xs ++ ys ≡ us ++ vs → (xs ≡ us) × (ys ≡ vs)
+pub same_halves : (xs ys us vs : List ℕ) → length xs ≡ length us → xs ++ ys ≡ us ++ vs → (xs ≡ us) × (ys ≡ vs)
 same_halves [] ys [] vs l e = (refl, e)
 same_halves [] ys (u ∷ us) vs l e = absurd (omega arith)
 same_halves (x ∷ xs) ys [] vs l e = absurd (omega arith)
@@ -182,6 +182,6 @@ put_all out one two three four a b c d room la lb lc ld is1 is2 is3 is4 =
     last ∙ ap (λ l. (((a ++ b) ++ c) ++ d) ++ l) (drop_all 16 out (omega arith)) ∙ append-nil (((a ++ b) ++ c) ++ d) ∙ append_assoc (a ++ b) c d
 
 -- what an answer has in it, if it is one
-pub answer_is : (r : Result Rectangle Refusal) (key : Rectangle) → IsOk r → IfOk r (λ b. b ≡ key) → result_ok r ≡ Some key
-answer_is (Ok b) key ok is = ap Some is
+pub answer_is : {A : Type 0} (r : Result A Refusal) (key : A) → IsOk r → IfOk r (λ a. a ≡ key) → result_ok r ≡ Some key
+answer_is (Ok a) key ok is = ap Some is
 answer_is (Err e) key ok is = cc

@@ -47,7 +47,7 @@ orders : (a b : Rectangle) → a ≡ b → IsBox b → in_order a ≡ true
 orders a b e is =
     ap in_order e ∙ and_from (int_le b.x1 b.x2) (int_le b.y1 b.y2) (tests_at_most b.x1 b.x2 is.x_in_order) (tests_at_most b.y1 b.y2 is.y_in_order)
 
-chosen : (t : Bool) (a b : Rectangle) → t ≡ true → a ≡ b → (if t then Some a else None) ≡ Some b
+pub chosen : {T : Type 0} (t : Bool) (a b : T) → t ≡ true → a ≡ b → (if t then Some a else None) ≡ Some b
 chosen true a b e is = ap Some is
 chosen false a b e is = cc
 
@@ -73,13 +73,17 @@ pub number_fits : (bytes : List ℕ) → ((i : ℕ) → slice_index bytes i < 25
 unfolding number_of
 number_fits bytes small = to_z-Fits w32 (from_be_bytes w32 bytes) (record { fits = number_small bytes small })
 
+-- the first bytes of others
+pub small_front : (n : ℕ) (bytes : List ℕ) → ((i : ℕ) → slice_index bytes i < 256) → (i : ℕ) → slice_index (take n bytes) i < 256
+small_front n bytes small i =
+    elim (cases_lt i n) [
+      | inl h ↦ subst (λ b. b < 256) (sym (get_or-take n bytes i 0 h)) (small i)
+      | inr h ↦ subst (λ b. b < 256) (sym (get_or_past (take n bytes) i 0 (omega (arith, length-take n bytes)))) (omega arith)
+    ]
+
 -- four bytes of others
 pub small_part : (bytes : List ℕ) (n : ℕ) → ((i : ℕ) → slice_index bytes i < 256) → (i : ℕ) → slice_index (take 4 (drop n bytes)) i < 256
-small_part bytes n small i =
-    elim (cases_lt i 4) [
-      | inl h ↦ subst (λ b. b < 256) (sym (get_or-take 4 (drop n bytes) i 0 h ∙ get_or-drop n bytes i 0)) (small (n + i))
-      | inr h ↦ subst (λ b. b < 256) (sym (get_or_past (take 4 (drop n bytes)) i 0 (omega (arith, length-take 4 (drop n bytes))))) (omega arith)
-    ]
+small_part bytes n small = small_front 4 (drop n bytes) (λ i. subst (λ b. b < 256) (sym (get_or-drop n bytes i 0)) (small (n + i)))
 
 parts_join : (bytes : List ℕ) → length bytes ≡ 16
     → (take 4 (drop 0 bytes) ++ take 4 (drop 4 bytes)) ++ (take 4 (drop 8 bytes) ++ take 4 (drop 12 bytes)) ≡ bytes
@@ -122,7 +126,7 @@ corners_written bytes long small =
     ∙ ap (λ l. (number_bytes b.x1 ++ number_bytes b.y1) ++ (l ++ take 4 (drop 12 bytes))) (sym (part_written bytes 8 (omega arith) small))
     ∙ ap (λ l. (number_bytes b.x1 ++ number_bytes b.y1) ++ (number_bytes b.x2 ++ l)) (sym (part_written bytes 12 (omega arith) small))
 
-told : (t : Bool) (a b : Rectangle) → (if t then Some a else None) ≡ Some b → (t ≡ true) × (a ≡ b)
+pub told : {T : Type 0} (t : Bool) (a b : T) → (if t then Some a else None) ≡ Some b → (t ≡ true) × (a ≡ b)
 told true a b e = (refl, cc)
 told false a b e = cc
 

@@ -2,5 +2,11 @@ pub mod BoxKeyLaws
 pub mod BoxProbeLaws
 pub mod BoxReadings
 pub mod Boxes
+pub mod Counts
+pub mod Halving
+pub mod HalvingLaws
+pub mod IntervalKeyLaws
+pub mod IntervalReadings
+pub mod Intervals
 pub mod Probes
 pub mod Sides

@@ -1,12 +1,15 @@
-//! Key classes: what the tree asks of its keys, and the class of boxes.
+//! Key classes: what the tree asks of its keys, and the classes of boxes and of intervals.
 #![tactic(auto)]
 
 mod box2_class;
 mod box_probe;
 mod class;
+mod interval_class;
+pub mod laws;
 mod probe;
 
 pub use box_probe::BoxProbe;
 pub use box2_class::Box2Class;
 pub use class::{KeyClass, MAX_KEY};
+pub use interval_class::IntervalClass;
 pub use probe::Probing;

@@ -78,7 +78,8 @@ impl Interval {
 
     /// How far the ends are apart, exact up to 2^64 - 1.
     pub fn size(&self) -> u64
-        ensures { result ≡ size self.now }
+        ensures value { result ≡ size self.now }
+        ensures in_order { IsInterval self.now }
     {
         distance(self.lo, self.hi)
     }
