@@ -14,4 +14,6 @@ mod memory;
 #[cfg(test)]
 mod pages;
 #[cfg(test)]
+mod pool;
+#[cfg(test)]
 mod reaches;
