@@ -18,6 +18,8 @@ mod pages;
 #[cfg(test)]
 mod plain;
 #[cfg(test)]
+mod pool;
+#[cfg(test)]
 mod reaches;
 #[cfg(test)]
 mod records;
