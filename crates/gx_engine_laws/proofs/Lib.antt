@@ -13,3 +13,4 @@ pub mod Apart
 pub mod WhatStood
 pub mod WorkedEvents
 pub mod Meanwhile
+pub mod Looked

@@ -5,3 +5,6 @@
 #![tactic(auto)]
 
 pub mod laws;
+mod look;
+
+pub use look::{Listed, Look, is_live};
