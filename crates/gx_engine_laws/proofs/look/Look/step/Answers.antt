@@ -1,7 +1,7 @@
 use Rattle.std.proofs.Common.{◌≡◌, ◌<◌, ◌+◌, List, get_or, length, sym, subst, arith, rules}
 use Rattle.gx_machine.specs.declared.entry.Entry.{Entry}
 use Rattle.gx_machine.specs.Keys.{keys, IsLawful}
-use Rattle.gx_engine_laws.specs.Looks.{Looking, is_live, IsLooking}
+use Rattle.gx_engine_laws.specs.Looks.{is_live, IsLooking}
 use Rattle.gx_engine_laws.proofs.Looked.{reads_one}
 use Rattle.gx_engine_laws.proofs.look.Look.step.Goals as goal
 
