@@ -1,4 +1,4 @@
-//! A caller of the frame pool, proved from its contracts alone: what a split will do with three pages.
+//! A caller of the frame pool, proved from its contracts and its law of a change: what a split will do with three pages.
 ghost use Rattle.std.specs.Prelude.{◌≡◌, ◌≤◌, ◌++◌, ◌∷◌, [], ℕ, List, None, IsSome, OnOk};
 ghost use Rattle.gx_pool.specs.Area.{IsPage};
 ghost use Rattle.gx_pool.specs.State.{kept};
