@@ -10,6 +10,8 @@ mod faults;
 #[cfg(test)]
 mod large;
 #[cfg(test)]
+mod log;
+#[cfg(test)]
 mod memory;
 #[cfg(test)]
 mod pages;
