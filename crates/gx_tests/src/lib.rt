@@ -9,9 +9,10 @@ pub mod callers;
 mod classes;
 #[cfg(test)]
 mod faults;
-pub mod frames;
 #[cfg(test)]
 mod large;
+#[cfg(test)]
+mod log;
 #[cfg(test)]
 mod memory;
 #[cfg(test)]
