@@ -1,5 +1,5 @@
 -- Numbers read from the one byte in which each is written.
-use Rattle.std.proofs.Common.{◌≡◌, ℕ, ◌<◌, refl, sym, ◌∙◌, ap, subst, List, [], ◌∷◌, Option, Some, None}
+use Rattle.std.proofs.Common.{◌≡◌, ℕ, ◌<◌, sym, ◌∙◌, ap, subst, List, [], ◌∷◌, Option, Some, None}
 use Rattle.std.specs.Prelude.{slice_index}
 
 abbrev pub one_byte : {B : Type 0} → (ℕ → B) → List ℕ → Option B
