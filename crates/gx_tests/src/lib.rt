@@ -9,6 +9,7 @@ pub mod callers;
 mod classes;
 #[cfg(test)]
 mod faults;
+pub mod frames;
 #[cfg(test)]
 mod large;
 #[cfg(test)]
