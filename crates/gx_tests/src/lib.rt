@@ -4,9 +4,13 @@
 
 pub mod callers;
 #[cfg(test)]
+mod claims;
+#[cfg(test)]
 mod classes;
 #[cfg(test)]
 mod faults;
+#[cfg(test)]
+mod intervals;
 #[cfg(test)]
 mod large;
 #[cfg(test)]
