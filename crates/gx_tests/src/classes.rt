@@ -192,7 +192,7 @@ fn calls(rt: HostRuntime) {
 }
 
 // What code that knows only the trait can do: the union of two keys is written, read again and looked for.
-fn union_through_bytes<K: KeyClass>(first: K::Key, second: K::Key, out: &mut [u8]) -> bool
+pub fn union_through_bytes<K: KeyClass>(first: K::Key, second: K::Key, out: &mut [u8]) -> bool
     requires { length out.old ≡ K.KEY }
 {
     let union = K::union(first, second);

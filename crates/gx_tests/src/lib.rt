@@ -6,10 +6,14 @@
 mod boxes;
 pub mod callers;
 #[cfg(test)]
+mod claims;
+#[cfg(test)]
 mod classes;
 #[cfg(test)]
 mod faults;
 pub mod frames;
+#[cfg(test)]
+mod intervals;
 #[cfg(test)]
 mod large;
 #[cfg(test)]

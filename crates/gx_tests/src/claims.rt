@@ -1,0 +1,152 @@
+//! The tables of claims, predicates and notes beside the plain index, with places to the last and one more.
+ghost use Rattle.std.specs.Prelude.{◌≡◌, true};
+ghost use Rattle.gx_machine.specs.Machine.{is_session};
+
+use gx_geom::{Box2, Refusal};
+use gx_machine::{Asked, Call, Entry, Query, Reply};
+use gx_plain::PlainIndex;
+use gx_txn::{Note, Transactions};
+use std::alloc::AllocError;
+use std::process::Abort;
+use std::test::Fail;
+
+// The tables, the plain index whose sessions are asked the same, what sessions were given and what they wrote, in the
+// order of writing, and which of them undo what they wrote.
+#[derive(Drop)]
+struct Beside {
+    table: Transactions<Box2>,
+    plain: PlainIndex<Box2>,
+    claims: Vec<(u8, Entry<Box2>)>,
+    writes: Vec<(u8, Note<Box2>)>,
+    undoing: [bool; 9],
+}
+
+fn begun<R: AllocGlobal>(rt: &R) -> Result<Beside, AllocError> {
+    let mut plain = PlainIndex::new(rt.alloc())?;
+    for s in 1..9 {
+        let _ = plain.ask(s, Call::Begin);
+    }
+    Ok(Beside {
+        table: Transactions::new(rt.alloc())?,
+        plain,
+        claims: Vec::new(rt.alloc()),
+        writes: Vec::new(rt.alloc()),
+        undoing: [false; 9],
+    })
+}
+
+// What the tables are to answer where the plain index gives this.
+fn given(asked: Asked<Box2>) -> Result<(), Refusal> {
+    match asked {
+        Asked::Open => Ok(()),
+        Asked::Now(Reply::Refused(why)) => Err(why),
+        Asked::Now(_) => Err(Refusal::NoCall),
+    }
+}
+
+// A session's number.
+fn session(drawn: u32) -> u8
+    ensures { is_session result ≡ true }
+{
+    1 + (drawn % 8) as u8
+}
+
+impl Beside {
+    // The session holds nothing from now on, and begins again.
+    fn begin_again(&mut self, s: u8) {
+        self.claims.retain(|c| c.0 != s);
+        self.writes.retain(|w| w.0 != s);
+        let _ = self.plain.ask(s, Call::Begin);
+    }
+
+    fn commit<R: Abort>(&mut self, rt: &R, s: u8)
+        requires { is_session s ≡ true }
+    {
+        let reply = self.plain.call(s, Call::Commit);
+        assert!(rt; matches!(reply, Reply::Committed(_)));
+        self.table.commit(s);
+        self.begin_again(s);
+    }
+}
+
+fn row(row: u64) -> Entry<Box2> {
+    Entry {
+        row,
+        key: Box2::point(0, 0),
+    }
+}
+
+fn claim<R: Abort>(rt: &R, both: &mut Beside, s: u8, n: u64, answer: Result<(), Refusal>)
+    requires { is_session s ≡ true }
+{
+    assert_eq!(rt; both.table.claim(s, row(n)), answer);
+    assert_eq!(rt; given(both.plain.ask(s, Call::Insert(row(n)))), answer);
+    if answer.is_ok() {
+        let _ = both.plain.answer(s);
+    }
+}
+
+#[test]
+fn claims_are_full_at_512(rt: HostRuntime) -> Result<(), Fail> {
+    let mut both = begun(&rt)?;
+    for place in 0..512 {
+        claim(&rt, &mut both, session(place), u64::from(place), Ok(()));
+    }
+    claim(&rt, &mut both, 1, 512, Err(Refusal::ClaimsFull));
+    claim(&rt, &mut both, 1, 0, Ok(()));
+    claim(&rt, &mut both, 1, 15, Err(Refusal::Busy(8)));
+    both.commit(&rt, 8);
+    claim(&rt, &mut both, 1, 15, Ok(()));
+    assert!(rt; !both.table.is_claimed(&row(7)));
+    Ok(())
+}
+
+// Claims an entry for session 3, and notes a write of it.
+fn write<R: Abort>(rt: &R, table: &mut Transactions<Box2>, drawn: u64, leaf: u32) {
+    let e = row(drawn);
+    let given = table.claim(3, e);
+    assert_eq!(rt; given, Ok(()));
+    if given.is_ok() {
+        table.note(3, e, leaf % 2 == 0, leaf);
+        assert!(rt; table.is_claimed(&e));
+    }
+}
+
+#[test]
+fn one_session_may_have_all_claims_and_notes(rt: HostRuntime) -> Result<(), Fail> {
+    let mut table = Transactions::new(rt.alloc())?;
+    for place in 0..512 {
+        write(&rt, &mut table, u64::from(place * 5 % 512), place);
+    }
+    assert_eq!(rt; table.notes(3).len(), 512);
+    assert_eq!(rt; table.claim(3, row(512)), Err(Refusal::ClaimsFull));
+    assert_eq!(rt; table.claim(4, row(512)), Err(Refusal::ClaimsFull));
+    Ok(())
+}
+
+fn at(x: i32) -> Query<Box2> {
+    Query::Equal(Box2::point(x, 0))
+}
+
+fn search<R: Abort>(rt: &R, both: &mut Beside, s: u8, x: i32, answer: Result<(), Refusal>)
+    requires { is_session s ≡ true }
+{
+    assert_eq!(rt; both.table.predicate(s, at(x)), answer);
+    assert_eq!(rt; given(both.plain.ask(s, Call::Search(at(x)))), answer);
+    if answer.is_ok() {
+        let _ = both.plain.answer(s);
+    }
+}
+
+#[test]
+fn predicates_are_full_at_16(rt: HostRuntime) -> Result<(), Fail> {
+    let mut both = begun(&rt)?;
+    for place in 0..16 {
+        search(&rt, &mut both, 2, place, Ok(()));
+    }
+    search(&rt, &mut both, 2, 16, Err(Refusal::PredicatesFull));
+    search(&rt, &mut both, 3, 16, Ok(()));
+    search(&rt, &mut both, 2, 0, Ok(()));
+    claim(&rt, &mut both, 4, 1, Err(Refusal::Busy(2)));
+    Ok(())
+}
