@@ -1,14 +1,14 @@
 -- A batch that is written while a page is.
-use Rattle.std.proofs.Common.{◌≡◌, ◌∙◌, sym, ap, refl, subst, ◌⊎◌, inl, inr, ⊎_elim, ℕ, ◌+◌, ◌<◌, ◌≤◌, List, [], ◌++◌, length, true, false, Bool, Result, Ok, Err, arith}
+use Rattle.std.proofs.Common.{◌≡◌, ◌∙◌, sym, ap, refl, subst, ◌⊎◌, inl, inr, ⊎_elim, ℕ, ◌+◌, ◌<◌, ◌≤◌, List, [], ◌++◌, length, Bool, Result, Ok, Err, arith}
 use Rattle.gx_geom.specs.declared.refusal.Refusal.{Refusal}
-use Rattle.gx_disk.specs.Sectors.{sector_of, IsOutside}
-use Rattle.gx_disk.specs.Device.{Device, IsImage, MayLeave, Elapses, Touches, Writes}
+use Rattle.gx_disk.specs.Sectors.{IsOutside}
+use Rattle.gx_disk.specs.Device.{Device, IsImage, Elapses, Touches, Writes}
 use Rattle.gx_disk.specs.Moments.{Leaves}
 use Rattle.gx_disk.proofs.Leaving.{call_leaves}
 use Rattle.gx_glog.specs.declared.stage.Stage.{Stage}
 use Rattle.gx_glog.specs.declared.stage.Stage.TheVariants.{Body, BodySync, Gate, GateSync, Idle}
 use Rattle.gx_glog.specs.declared.extent.Extent.{Extent}
-use Rattle.gx_glog.specs.State.{Log, in_flight, begun, done, Made, Goes}
+use Rattle.gx_glog.specs.State.{Log, in_flight, done, Made, Goes}
 use Rattle.gx_glog.specs.Layout.{log_of}
 use Rattle.gx_glog.specs.Standing.{On, gated_of, IsLogOf, Shows, IsOfLog}
 use Rattle.gx_glog.specs.Steps.{Gates, Keeps}

@@ -1,14 +1,13 @@
 -- What a buffer has after a record was put into it, and after it was cleared.
-use Rattle.std.proofs.Common.{◌≡◌, ◌∙◌, sym, ap, refl, subst, ℕ, ◌+◌, ◌-◌, ◌*◌, ◌^◌, ◌<◌, ◌≤◌, List, [], ◌++◌, length, take, drop, get_or, replicate, slice_set, ⊎_elim, arith}
+use Rattle.std.proofs.Common.{◌≡◌, ◌∙◌, sym, ap, refl, subst, ℕ, ◌+◌, ◌-◌, ◌^◌, ◌<◌, ◌≤◌, List, ◌++◌, length, take, drop, get_or, replicate, slice_set, ⊎_elim, arith}
 use Rattle.std.proofs.lemmas.Bool.{cases_lt}
-use Rattle.std.proofs.lemmas.List.{append-nil, drop_all, drop_at, take_at, take-append-le, drop-append-le, length-take-le, length-drop, length-append, drop-take, drop-drop, take-append-drop, append_assoc, get_or-take, get_or-drop, get_or_append_left, get_or-append_right, get_or-replicate, length-replicate, length-set, get_or-set_same, get_or-set_other, get_or_past}
-use Rattle.std.specs.Int.{from_be_bytes}
+use Rattle.std.proofs.lemmas.List.{append-nil, drop_all, take_at, drop-append-le, length-take-le, length-drop, length-append, drop-take, drop-drop, append_assoc, get_or-take, get_or-drop, get_or_append_left, get_or-append_right, get_or-replicate, length-replicate, length-set, get_or-set_same, get_or-set_other, get_or_past}
 use Rattle.gx_disk.specs.Sectors.{put}
 use Rattle.gx_disk.proofs.Spans.{length-put, put_back, put_behind}
 use Rattle.gx_record.specs.Bytes.{u32_bytes, u32_of}
 use Rattle.gx_record.proofs.Numbers.{length-u32_bytes, u32_again}
 use Rattle.gx_glog.specs.Layout.{size_in, records_in}
-use Rattle.gx_glog.specs.Bodies.{IsZero, IsFilled, HasRecords, IsBody, IsOpenGate}
+use Rattle.gx_glog.specs.Bodies.{IsZero, IsFilled, IsBody, IsOpenGate}
 
 -- nothing lies behind a tail
 pub put_tail : (end n : ℕ) (xs new : List ℕ) → length xs ≤ end + n → (take end xs ++ (new ++ drop n (drop end xs))) ≡ take end xs ++ new

@@ -1,12 +1,11 @@
 -- What gates, bodies and the selector read as: it hangs on their own sectors alone.
-use Rattle.std.proofs.Common.{◌≡◌, ◌∙◌, sym, ap, refl, ℕ, zero, suc, ◌+◌, ◌*◌, ◌<◌, ◌≤◌, ◌==◌, List, ◌++◌, true, false, Bool, if◌then◌else◌, arith}
+use Rattle.std.proofs.Common.{◌≡◌, ◌∙◌, ap, refl, ℕ, zero, suc, ◌+◌, ◌*◌, ◌<◌, ◌≤◌, ◌==◌, List, ◌++◌, true, false, if◌then◌else◌, arith}
 use Rattle.std.specs.Prelude.{slice_index}
 use Rattle.gx_disk.specs.Sectors.{span_of, sector_of, IsWithin}
-use Rattle.gx_disk.specs.Device.{IsImage}
 use Rattle.gx_disk.proofs.Spans.{spans_same}
 use Rattle.gx_glog.specs.declared.extent.Extent.{Extent}
 use Rattle.gx_glog.specs.declared.extent.Extent.TheVariants.{A, B}
-use Rattle.gx_glog.specs.Layout.{gates_of, bodies_of, selected_of, is_open, body_of, size_in, records_in, open_run, batches_of, log_of}
+use Rattle.gx_glog.specs.Layout.{gates_of, bodies_of, selected_of, is_open, body_of, records_in, open_run, batches_of, log_of}
 
 -- an extent's gates stand before its bodies, behind the selector and before the pages
 pub record IsPlaced (extent : Extent) : Type 0 where

@@ -1,10 +1,10 @@
 -- Which log an image has, of a device that a log is on.
-use Rattle.std.proofs.Common.{◌≡◌, ◌∙◌, sym, ap, refl, ◌⊎◌, inl, inr, ℕ, ◌+◌, ◌*◌, ◌<◌, ◌≤◌, List, ◌++◌, true, false, Bool, below_more, arith}
+use Rattle.std.proofs.Common.{◌≡◌, ◌∙◌, ap, refl, inl, inr, ℕ, ◌+◌, ◌<◌, ◌≤◌, List, ◌++◌, true, false, Bool, below_more, arith}
 use Rattle.gx_disk.specs.Device.{IsImage}
 use Rattle.gx_glog.specs.declared.extent.Extent.{Extent}
 use Rattle.gx_glog.specs.declared.stage.Stage.{Stage}
 use Rattle.gx_glog.specs.declared.stage.Stage.TheVariants.{Body, BodySync, Gate, GateSync, Idle}
-use Rattle.gx_glog.specs.Layout.{gates_of, bodies_of, selected_of, is_open, body_of, records_in, batches_of, log_of}
+use Rattle.gx_glog.specs.Layout.{gates_of, selected_of, is_open, body_of, records_in, batches_of, log_of}
 use Rattle.gx_glog.specs.Bodies.{HasRecords}
 use Rattle.gx_glog.specs.State.{Log, IsSound}
 use Rattle.gx_glog.specs.Standing.{IsGate, IsBodySettled, HasBatches, Flies, On, gated_of, IsLogOf, Shows}

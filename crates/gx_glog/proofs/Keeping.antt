@@ -1,16 +1,16 @@
 -- What is known of a log's sectors stays where they are kept.
-use Rattle.std.proofs.Common.{◌≡◌, ◌∙◌, sym, ap, refl, ◌⊎◌, inl, inr, ℕ, ◌+◌, ◌*◌, ◌<◌, ◌≤◌, List, [], ◌++◌, length, true, false, Bool, subst, length-append, arith}
-use Rattle.gx_disk.specs.Sectors.{sector_of, IsWithin, IsOutside}
+use Rattle.std.proofs.Common.{◌≡◌, ◌∙◌, sym, refl, ◌⊎◌, inl, inr, ℕ, ◌+◌, ◌*◌, ◌<◌, ◌≤◌, List, [], ◌++◌, length, true, false, Bool, subst, length-append, arith}
+use Rattle.gx_disk.specs.Sectors.{IsWithin, IsOutside}
 use Rattle.gx_disk.specs.Device.{Device, Touches, Rests}
 use Rattle.gx_glog.specs.declared.extent.Extent.{Extent}
 use Rattle.gx_glog.specs.declared.stage.Stage.{Stage}
 use Rattle.gx_glog.specs.declared.stage.Stage.TheVariants.{Body, BodySync, Gate, GateSync, Idle}
-use Rattle.gx_glog.specs.Layout.{gates_of, bodies_of, selected_of, is_open, body_of, size_in, batches_of}
+use Rattle.gx_glog.specs.Layout.{gates_of, bodies_of, body_of, size_in, batches_of}
 use Rattle.gx_glog.specs.Reading.{IsSize}
 use Rattle.gx_glog.specs.Bodies.{HasRecords}
-use Rattle.gx_glog.specs.State.{Log, in_flight, IsSound}
+use Rattle.gx_glog.specs.State.{Log, in_flight}
 use Rattle.gx_glog.specs.Standing.{IsGate, IsBodySettled, HasBatches, Flies, On, gated_of, IsKept, IsOfLog, LeavesLog}
-use Rattle.gx_glog.proofs.Gates.{IsPlaced, placed, gate_same, selector_same, body_same, batches_same}
+use Rattle.gx_glog.proofs.Gates.{placed, gate_same, selector_same, body_same, batches_same}
 
 -- a sector that a call doesn't touch is kept
 pub touched_kept : (first n s : ℕ) (old new : Device) → Touches first n old new → IsOutside first n s → IsKept old.seen new.seen old.pending new.pending s

@@ -1,8 +1,7 @@
 -- A read looks, and looks in a row are one.
-use Rattle.std.proofs.Common.{◌≡◌, ◌∙◌, sym, refl, ℕ, List, Result, arith}
-use Rattle.gx_disk.specs.Device.{Device, MayLeave, Reads, Rests}
-use Rattle.gx_disk.specs.Moments.{Leaves}
-use Rattle.gx_disk.proofs.Leaving.{nothing_leaves, leaves_joined, leaves_weaker, call_leaves, rested_image}
+use Rattle.std.proofs.Common.{◌∙◌, ℕ, List, Result}
+use Rattle.gx_disk.specs.Device.{Device, MayLeave, Reads}
+use Rattle.gx_disk.proofs.Leaving.{leaves_joined, leaves_weaker, call_leaves, rested_image}
 use Rattle.gx_glog.specs.Looks.{Looks}
 
 pub read_looks : {T E : Type 0} (first : ℕ) (bytes : List ℕ) (old new : Device) (r : Result T E) → Reads first bytes old new r → Looks old new

@@ -1,9 +1,9 @@
 -- What each device call of a batch keeps.
-use Rattle.std.proofs.Common.{◌≡◌, ◌∙◌, sym, ap, refl, ◌⊎◌, inl, inr, ⊎_elim, ℕ, ◌+◌, ◌*◌, ◌<◌, ◌≤◌, ◌==◌, List, [], ◌++◌, length, take, drop, true, false, Bool, Result, Ok, Err, subst, below_more, arith}
+use Rattle.std.proofs.Common.{◌≡◌, ◌∙◌, sym, ap, refl, ◌⊎◌, inl, inr, ⊎_elim, ℕ, ◌+◌, ◌*◌, ◌<◌, ◌≤◌, ◌==◌, List, [], length, take, drop, true, false, Bool, Result, Ok, Err, subst, below_more, arith}
 use Rattle.std.proofs.lemmas.Bool.{cases_lt}
 use Rattle.std.specs.Prelude.{slice_index}
 use Rattle.gx_geom.specs.declared.refusal.Refusal.{Refusal}
-use Rattle.gx_disk.specs.Sectors.{span_of, sector_of, put, IsWithin, IsOutside}
+use Rattle.gx_disk.specs.Sectors.{span_of, put, IsWithin}
 use Rattle.gx_disk.specs.Device.{Device, MayLeave, Touches, Writes, Syncs, IsWritten}
 use Rattle.gx_disk.specs.Moments.{Leaves}
 use Rattle.gx_disk.proofs.Leaving.{call_leaves, nothing_leaves, rested_touches}
@@ -11,15 +11,15 @@ use Rattle.gx_disk.proofs.Spans.{put_back}
 use Rattle.gx_glog.specs.declared.extent.Extent.{Extent}
 use Rattle.gx_glog.specs.declared.stage.Stage.{Stage}
 use Rattle.gx_glog.specs.declared.stage.Stage.TheVariants.{Body, BodySync, Gate, GateSync, Idle}
-use Rattle.gx_glog.specs.Layout.{gates_of, bodies_of, selected_of, is_open, body_of, size_in, records_in, batches_of, log_of}
+use Rattle.gx_glog.specs.Layout.{gates_of, bodies_of, is_open, body_of, size_in, batches_of, log_of}
 use Rattle.gx_glog.specs.Reading.{IsSize}
 use Rattle.gx_glog.specs.Bodies.{HasRecords, IsBody, IsOpenGate}
 use Rattle.gx_glog.specs.State.{Log, IsSound, in_flight, begun, done, Made, Goes}
-use Rattle.gx_glog.specs.Standing.{IsGate, IsBodySettled, HasBatches, Flies, On, gated_of, IsLogOf, Shows, IsKept}
-use Rattle.gx_glog.specs.Steps.{Calls, CallOf, Gates, Keeps}
-use Rattle.gx_glog.proofs.Gates.{IsPlaced, placed, gate_same, batches_more}
+use Rattle.gx_glog.specs.Standing.{IsGate, IsBodySettled, HasBatches, On, gated_of, IsLogOf, Shows, IsKept}
+use Rattle.gx_glog.specs.Steps.{Calls, Keeps}
+use Rattle.gx_glog.proofs.Gates.{placed, batches_more}
 use Rattle.gx_glog.proofs.Images.{closed_log, either_log, image_gate, image_shows}
-use Rattle.gx_glog.proofs.Keeping.{touched_kept, rested_kept, gate_kept, body_kept, body_settled, records_kept, batches_kept, gated_kept, on_kept, gated_stays, rested_leaves, touched_wider}
+use Rattle.gx_glog.proofs.Keeping.{touched_kept, gate_kept, body_settled, records_kept, batches_kept, gated_kept, on_kept, gated_stays, rested_leaves, touched_wider}
 
 abbrev pub log_with : Extent → ℕ → ℕ → Stage → List ℕ → List ℕ → Log
 log_with extent used gated stage flight filling = record { extent = extent; used = used; gated = gated; stage = stage; flight = flight; filling = filling }

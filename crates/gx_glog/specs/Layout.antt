@@ -1,5 +1,5 @@
 -- Where the log lies on the device, and what the log of an image is.
-use Rattle.std.specs.Prelude.{◌≡◌, ℕ, zero, suc, ◌+◌, ◌-◌, ◌*◌, ◌≤◌, ◌==◌, Bool, List, [], ◌++◌, take, drop, slice_index, if◌then◌else◌}
+use Rattle.std.specs.Prelude.{ℕ, zero, suc, ◌+◌, ◌*◌, ◌==◌, Bool, List, [], ◌++◌, take, drop, slice_index, if◌then◌else◌}
 use Rattle.std.specs.Int.{from_be_bytes}
 use mir.Syntax.{w32}
 use Rattle.gx_disk.specs.Sectors.{span_of}

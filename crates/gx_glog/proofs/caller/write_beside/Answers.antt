@@ -4,7 +4,7 @@ use Rattle.gx_record.specs.Format.{spelling}
 use Rattle.gx_record.specs.Seen.{rec_of}
 use Rattle.gx_glog.specs.State.{Log}
 use Rattle.gx_glog.specs.Standing.{gated_of}
-use Rattle.gx_glog.specs.Beside.{IsSafe, Beside}
+use Rattle.gx_glog.specs.Beside.{Beside}
 use Rattle.gx_glog.proofs.Besides.{appended_beside}
 use Rattle.gx_glog.proofs.caller.write_beside.Goals as goal
 

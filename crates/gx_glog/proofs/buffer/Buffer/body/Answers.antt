@@ -1,5 +1,3 @@
-use Rattle.std.proofs.Common.{◌∙◌, sym, subst, List, ℕ}
-use Rattle.gx_glog.specs.Bodies.{IsBody}
 use Rattle.gx_glog.proofs.Fills.{filled_body}
 use Rattle.gx_glog.proofs.buffer.Buffer.body.Goals as goal
 

@@ -1,4 +1,4 @@
-use Rattle.std.proofs.Common.{◌+◌, ◌-◌, ◌≤◌, ◌≡◌, length, refl, ap, ◌∙◌, sym, take, drop, arith, length-take-le, length-drop}
+use Rattle.std.proofs.Common.{◌+◌, ◌-◌, ◌≤◌, ◌≡◌, length, refl, ap, take, drop, arith, length-take-le, length-drop}
 use Rattle.gx_record.specs.Format.{spelling}
 use Rattle.gx_record.specs.Seen.{rec_of}
 use Rattle.gx_disk.proofs.Spans.{length-put}
