@@ -5,20 +5,16 @@ ghost use Rattle.gx_machine.specs.Machine.{is_session};
 use gx_geom::{Box2, Refusal};
 use gx_machine::{Asked, Call, Entry, Query, Reply};
 use gx_plain::PlainIndex;
-use gx_txn::{Note, Transactions};
+use gx_txn::Transactions;
 use std::alloc::AllocError;
 use std::process::Abort;
 use std::test::Fail;
 
-// The tables, the plain index whose sessions are asked the same, what sessions were given and what they wrote, in the
-// order of writing, and which of them undo what they wrote.
+// The tables, and the plain index whose sessions are asked the same.
 #[derive(Drop)]
 struct Beside {
     table: Transactions<Box2>,
     plain: PlainIndex<Box2>,
-    claims: Vec<(u8, Entry<Box2>)>,
-    writes: Vec<(u8, Note<Box2>)>,
-    undoing: [bool; 9],
 }
 
 fn begun<R: AllocGlobal>(rt: &R) -> Result<Beside, AllocError> {
@@ -29,14 +25,11 @@ fn begun<R: AllocGlobal>(rt: &R) -> Result<Beside, AllocError> {
     Ok(Beside {
         table: Transactions::new(rt.alloc())?,
         plain,
-        claims: Vec::new(rt.alloc()),
-        writes: Vec::new(rt.alloc()),
-        undoing: [false; 9],
     })
 }
 
 // What the tables are to answer where the plain index gives this.
-fn given(asked: Asked<Box2>) -> Result<(), Refusal> {
+pub(crate) fn given(asked: Asked<Box2>) -> Result<(), Refusal> {
     match asked {
         Asked::Open => Ok(()),
         Asked::Now(Reply::Refused(why)) => Err(why),
@@ -45,27 +38,20 @@ fn given(asked: Asked<Box2>) -> Result<(), Refusal> {
 }
 
 // A session's number.
-fn session(drawn: u32) -> u8
+pub(crate) fn session(drawn: u32) -> u8
     ensures { is_session result ≡ true }
 {
     1 + (drawn % 8) as u8
 }
 
 impl Beside {
-    // The session holds nothing from now on, and begins again.
-    fn begin_again(&mut self, s: u8) {
-        self.claims.retain(|c| c.0 != s);
-        self.writes.retain(|w| w.0 != s);
-        let _ = self.plain.ask(s, Call::Begin);
-    }
-
     fn commit<R: Abort>(&mut self, rt: &R, s: u8)
         requires { is_session s ≡ true }
     {
         let reply = self.plain.call(s, Call::Commit);
         assert!(rt; matches!(reply, Reply::Committed(_)));
         self.table.commit(s);
-        self.begin_again(s);
+        let _ = self.plain.ask(s, Call::Begin);
     }
 }
 

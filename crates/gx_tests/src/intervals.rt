@@ -64,7 +64,10 @@ fn calls(rt: HostRuntime) -> Result<(), Fail> {
     assert_eq!(rt; IntervalClass::union(bound, key), make(&rt, 0, 20));
     let all = make(&rt, i64::MIN, i64::MAX);
     assert_eq!(rt; all.size(), u64::MAX);
-    assert_eq!(rt; IntervalClass::penalty(&key, &all).0, 18_446_744_073_709_551_605);
+    assert_eq!(rt;
+        IntervalClass::penalty(&key, &all).0,
+        18_446_744_073_709_551_605
+    );
     for (query, may, does) in [
         (Query::Overlap(key), true, true),
         (Query::Within(key), true, false),
@@ -80,6 +83,9 @@ fn calls(rt: HostRuntime) -> Result<(), Fail> {
     assert_eq!(rt; IntervalClass::KEY, 16);
     assert!(rt; union_through_bytes::<IntervalClass>(bound, key, &mut [0; 16]));
     let printed = format!(in rt.alloc(); "{all}")?;
-    assert_eq!(rt; printed.as_str(), "-9223372036854775808 9223372036854775807");
+    assert_eq!(rt;
+        printed.as_str(),
+        "-9223372036854775808 9223372036854775807"
+    );
     Ok(())
 }

@@ -8,6 +8,8 @@ pub mod callers;
 #[cfg(test)]
 mod claims;
 #[cfg(test)]
+mod claims_run;
+#[cfg(test)]
 mod classes;
 #[cfg(test)]
 mod faults;

@@ -1,4 +1,4 @@
-//! Tests of many keys in a row, with no branch for each.
+//! Tests of many keys in a row, with no branch on what was found.
 ghost use Rattle.std.specs.Prelude.{◌≡◌, Bool};
 ghost use Rattle.std.specs.List.{list_any};
 ghost use Rattle.std.specs.Ordering.{is_eq};
@@ -16,8 +16,7 @@ pub trait Test<B> {
         ensures { result ≡ test self.now key.now };
 }
 
-/// Whether some key passes. All are tested, whatever the first of them give, and each is copied before its test: so the
-/// compiler needs no branch for a key, and may test several at once.
+/// Whether some key passes. All are tested, whatever the first of them give, so no branch is taken on what was found.
 pub fn some_passes<B: Copy, T: Test<B>>(test: &T, keys: &[B]) -> bool
     ensures { result ≡ list_any (T.test test.now) keys.now }
 {

@@ -1,0 +1,224 @@
+//! A seeded run of the tables of claims, predicates and notes beside the plain index.
+ghost use Rattle.std.specs.Prelude.{◌≡◌, true};
+ghost use Rattle.gx_machine.specs.Machine.{is_session};
+
+use crate::claims::{given, session};
+use gx_geom::Box2;
+use gx_machine::{Call, Entry, Query, Reply};
+use gx_plain::PlainIndex;
+use gx_txn::{Note, Transactions};
+use std::alloc::AllocError;
+use std::process::Abort;
+use std::test::Fail;
+
+// What sessions were given and what they wrote, in the order of asking, and which of them undo what they wrote.
+#[derive(Drop)]
+struct Lists {
+    claims: Vec<(u8, Entry<Box2>)>,
+    writes: Vec<(u8, Note<Box2>)>,
+    undoing: [bool; 9],
+}
+
+impl Lists {
+    fn free(&mut self, s: u8) {
+        self.claims.retain(|c| c.0 != s);
+        self.writes.retain(|w| w.0 != s);
+        self.undoing[usize::from(s % 9)] = false;
+    }
+
+    // The first mark and the last leaf of an entry's writes.
+    fn noted(&self, s: u8, e: &Entry<Box2>) -> Option<(bool, u32)> {
+        let mut noted = None;
+        for (other, write) in &self.writes {
+            if *other == s && write.entry == *e {
+                noted = match noted {
+                    None => Some((write.before, write.leaf)),
+                    Some((first, _)) => Some((first, write.leaf)),
+                };
+            }
+        }
+        noted
+    }
+}
+
+// The mark from before a write, by the plain index's reply to it.
+fn mark_before(reply: Reply<Box2>) -> Option<bool> {
+    match reply {
+        Reply::Inserted => Some(true),
+        Reply::Deleted => Some(false),
+        _ => None,
+    }
+}
+
+// The next of a sequence of numbers below 65,536.
+fn draw(state: &mut u32) -> u32 {
+    *state = state.wrapping_mul(1_664_525).wrapping_add(1_013_904_223);
+    *state >> 16
+}
+
+// A point or a square of a small grid.
+fn key(drawn: u32) -> Box2 {
+    let (x, y) = ((drawn % 8) as i32, (drawn / 8 % 8) as i32);
+    let side = (drawn / 64 % 2) as i32;
+    Box2::new(x, y, x + side, y + side).unwrap_or(Box2::point(0, 0))
+}
+
+// Rows are far apart, and two of them share a mark.
+fn entry(drawn: u32) -> Entry<Box2> {
+    Entry {
+        row: u64::from(drawn % 3) * 2039,
+        key: key(drawn / 4),
+    }
+}
+
+fn query(drawn: u32) -> Query<Box2> {
+    match drawn % 3 {
+        0 => Query::Overlap(key(drawn / 4)),
+        1 => Query::Within(key(drawn / 4)),
+        _ => Query::Equal(key(drawn / 4)),
+    }
+}
+
+// Asks for a write of both, and answers it; a write that changed something is noted.
+fn write<R: Abort>(
+    rt: &R,
+    table: &mut Transactions<Box2>,
+    plain: &mut PlainIndex<Box2>,
+    lists: &mut Lists,
+    s: u8,
+    drawn: (u32, u32, u32),
+) -> Result<(), AllocError>
+    requires { is_session s ≡ true }
+{
+    let e = entry(drawn.0);
+    let call = if drawn.1 % 3 == 0 {
+        Call::Delete(e)
+    } else {
+        Call::Insert(e)
+    };
+    let answer = table.claim(s, e);
+    assert_eq!(rt; answer, given(plain.ask(s, call)));
+    if answer.is_ok() {
+        lists.claims.push((s, e))?;
+        let replied = mark_before(plain.answer(s));
+        if let Some(before) = replied {
+            let leaf = drawn.2;
+            table.note(s, e, before, leaf);
+            lists.writes.push((
+                s,
+                Note {
+                    entry: e,
+                    before,
+                    leaf,
+                },
+            ))?;
+        }
+    }
+    Ok(())
+}
+
+fn search<R: Abort>(
+    rt: &R,
+    table: &mut Transactions<Box2>,
+    plain: &mut PlainIndex<Box2>,
+    s: u8,
+    q: Query<Box2>,
+)
+    requires { is_session s ≡ true }
+{
+    let answer = table.predicate(s, q);
+    assert_eq!(rt; answer, given(plain.ask(s, Call::Search(q))));
+    if answer.is_ok() {
+        let _ = plain.answer(s);
+    }
+}
+
+// One drawn call of a session that isn't undoing its writes.
+fn call<R: Abort>(
+    rt: &R,
+    state: &mut u32,
+    table: &mut Transactions<Box2>,
+    plain: &mut PlainIndex<Box2>,
+    lists: &mut Lists,
+    s: u8,
+) -> Result<(), AllocError>
+    requires { is_session s ≡ true }
+{
+    match draw(state) % 64 {
+        0 => {
+            assert!(rt; matches!(plain.call(s, Call::Commit), Reply::Committed(_)));
+            table.commit(s);
+            lists.free(s);
+            let _ = plain.ask(s, Call::Begin);
+        }
+        1 => {
+            let _ = plain.ask(s, Call::Abort);
+            lists.undoing[usize::from(s % 9)] = true;
+        }
+        2..=12 => search(rt, table, plain, s, query(draw(state))),
+        _ => {
+            let drawn = (draw(state), draw(state), draw(state));
+            write(rt, table, plain, lists, s, drawn)?;
+        }
+    }
+    Ok(())
+}
+
+// The session's undo ends, and it begins again.
+fn end<R: Abort>(
+    rt: &R,
+    table: &mut Transactions<Box2>,
+    plain: &mut PlainIndex<Box2>,
+    lists: &mut Lists,
+    s: u8,
+)
+    requires { is_session s ≡ true }
+{
+    assert!(rt; matches!(plain.answer(s), Reply::Aborted));
+    table.end(s);
+    lists.free(s);
+    let _ = plain.ask(s, Call::Begin);
+}
+
+// The tables hold these notes of a session, and the claims that were given.
+fn same<R: Abort>(rt: &R, s: u8, table: &Transactions<Box2>, lists: &Lists)
+    requires { is_session s ≡ true }
+{
+    for note in table.notes(s) {
+        assert_eq!(rt; lists.noted(s, &note.entry), Some((note.before, note.leaf)));
+    }
+    for drawn in 0..1024 {
+        let e = entry(drawn);
+        let noted = table.notes(s).iter().any(|n| n.entry == e);
+        assert_eq!(rt; noted, lists.noted(s, &e).is_some());
+        let claimed = lists.claims.iter().any(|c| c.1 == e);
+        assert_eq!(rt; table.is_claimed(&e), claimed);
+    }
+}
+
+#[test]
+fn a_seeded_run_is_that_of_the_plain_index(rt: HostRuntime) -> Result<(), Fail> {
+    let mut table = Transactions::new(rt.alloc())?;
+    let mut plain = PlainIndex::new(rt.alloc())?;
+    let mut lists = Lists {
+        claims: Vec::new(rt.alloc()),
+        writes: Vec::new(rt.alloc()),
+        undoing: [false; 9],
+    };
+    for s in 1..9 {
+        let _ = plain.ask(s, Call::Begin);
+    }
+    let mut state = 7;
+    for round in 0..20_000 {
+        let s = session(draw(&mut state));
+        if !lists.undoing[usize::from(s % 9)] {
+            call(&rt, &mut state, &mut table, &mut plain, &mut lists, s)?;
+        } else if draw(&mut state) % 8 == 0 {
+            end(&rt, &mut table, &mut plain, &mut lists, s);
+        }
+        if round % 500 == 0 {
+            same(&rt, s, &table, &lists);
+        }
+    }
+    Ok(())
+}
