@@ -3,7 +3,7 @@ ghost use Rattle.std.specs.Prelude.{◌≡◌, true};
 ghost use Rattle.gx_machine.specs.Machine.{is_session};
 
 use crate::claims::{given, session};
-use gx_geom::Box2;
+use gx_geom::{Box2, Refusal};
 use gx_machine::{Call, Entry, Query, Reply};
 use gx_plain::PlainIndex;
 use gx_txn::{Note, Transactions};
@@ -26,6 +26,18 @@ impl Lists {
         self.undoing[usize::from(s % 9)] = false;
     }
 
+    fn write(&mut self, s: u8, drawn: u32, before: bool, leaf: u32) -> Result<(), AllocError> {
+        self.writes.push((
+            s,
+            Note {
+                entry: entry(drawn),
+                before,
+                leaf,
+            },
+        ))?;
+        Ok(())
+    }
+
     // The first mark and the last leaf of an entry's writes.
     fn noted(&self, s: u8, e: &Entry<Box2>) -> Option<(bool, u32)> {
         let mut noted = None;
@@ -41,12 +53,12 @@ impl Lists {
     }
 }
 
-// The mark from before a write, by the plain index's reply to it.
-fn mark_before(reply: Reply<Box2>) -> Option<bool> {
+// The mark from before a write, by the plain index's reply to it: 0 live, 1 marked or absent, and 2 where nothing changed.
+fn mark_before(reply: Reply<Box2>) -> u8 {
     match reply {
-        Reply::Inserted => Some(true),
-        Reply::Deleted => Some(false),
-        _ => None,
+        Reply::Deleted => 0,
+        Reply::Inserted => 1,
+        _ => 2,
     }
 }
 
@@ -79,6 +91,40 @@ fn query(drawn: u32) -> Query<Box2> {
     }
 }
 
+// What the plain index gives where a session asks to write an entry.
+fn ask_write(
+    plain: &mut PlainIndex<Box2>,
+    s: u8,
+    drawn: u32,
+    deletes: bool,
+) -> Result<(), Refusal> {
+    if deletes {
+        given(plain.ask(s, Call::Delete(entry(drawn))))
+    } else {
+        given(plain.ask(s, Call::Insert(entry(drawn))))
+    }
+}
+
+// Claims an entry, and notes a write of it.
+fn claim_and_note<R: Abort>(
+    rt: &R,
+    table: &mut Transactions<Box2>,
+    s: u8,
+    drawn: u32,
+    before: bool,
+    leaf: u32,
+)
+    requires { is_session s ≡ true }
+{
+    let e = entry(drawn);
+    let given = table.claim(s, e);
+    assert_eq!(rt; given, Ok(()));
+    if given.is_ok() {
+        table.note(s, e, before, leaf);
+        assert!(rt; table.is_claimed(&e));
+    }
+}
+
 // Asks for a write of both, and answers it; a write that changed something is noted.
 fn write<R: Abort>(
     rt: &R,
@@ -86,34 +132,24 @@ fn write<R: Abort>(
     plain: &mut PlainIndex<Box2>,
     lists: &mut Lists,
     s: u8,
-    drawn: (u32, u32, u32),
+    drawn: u32,
+    leaf: u32,
 ) -> Result<(), AllocError>
     requires { is_session s ≡ true }
 {
-    let e = entry(drawn.0);
-    let call = if drawn.1 % 3 == 0 {
-        Call::Delete(e)
-    } else {
-        Call::Insert(e)
-    };
-    let answer = table.claim(s, e);
-    assert_eq!(rt; answer, given(plain.ask(s, call)));
-    if answer.is_ok() {
-        lists.claims.push((s, e))?;
-        let replied = mark_before(plain.answer(s));
-        if let Some(before) = replied {
-            let leaf = drawn.2;
-            table.note(s, e, before, leaf);
-            lists.writes.push((
-                s,
-                Note {
-                    entry: e,
-                    before,
-                    leaf,
-                },
-            ))?;
-        }
+    let asked = ask_write(plain, s, drawn, leaf % 3 == 0);
+    if asked.is_err() {
+        assert_eq!(rt; table.claim(s, entry(drawn)), asked);
+        return Ok(());
     }
+    let mark = mark_before(plain.answer(s));
+    if mark < 2 {
+        claim_and_note(rt, table, s, drawn, mark == 1, leaf);
+        lists.write(s, drawn, mark == 1, leaf)?;
+    } else {
+        assert_eq!(rt; table.claim(s, entry(drawn)), Ok(()));
+    }
+    lists.claims.push((s, entry(drawn)))?;
     Ok(())
 }
 
@@ -122,12 +158,12 @@ fn search<R: Abort>(
     table: &mut Transactions<Box2>,
     plain: &mut PlainIndex<Box2>,
     s: u8,
-    q: Query<Box2>,
+    drawn: u32,
 )
     requires { is_session s ≡ true }
 {
-    let answer = table.predicate(s, q);
-    assert_eq!(rt; answer, given(plain.ask(s, Call::Search(q))));
+    let answer = table.predicate(s, query(drawn));
+    assert_eq!(rt; answer, given(plain.ask(s, Call::Search(query(drawn)))));
     if answer.is_ok() {
         let _ = plain.answer(s);
     }
@@ -155,10 +191,10 @@ fn call<R: Abort>(
             let _ = plain.ask(s, Call::Abort);
             lists.undoing[usize::from(s % 9)] = true;
         }
-        2..=12 => search(rt, table, plain, s, query(draw(state))),
+        2..=12 => search(rt, table, plain, s, draw(state)),
         _ => {
-            let drawn = (draw(state), draw(state), draw(state));
-            write(rt, table, plain, lists, s, drawn)?;
+            let drawn = draw(state);
+            write(rt, table, plain, lists, s, drawn, draw(state))?;
         }
     }
     Ok(())
