@@ -1,5 +1,5 @@
 //! Closed boxes of the plane.
-ghost use Rattle.std.specs.Prelude.{◌≡◌, ◌↔◌, ◌≤◌, ◌≤ℤ◌, ◌-ℤ◌, unsigned_abs, IsTrue, IsOk, IfOk, OnErr, Some};
+ghost use Rattle.std.specs.Prelude.{◌≡◌, ◌&&◌, ◌↔◌, ◌≤◌, ◌≤ℤ◌, ◌-ℤ◌, unsigned_abs, int_le, IsTrue, IsOk, IfOk, OnErr, Some};
 
 use crate::{Refusal, Shape};
 use std::fmt;
@@ -34,6 +34,21 @@ fn distance(low: i32, high: i32) -> u32
     ensures { result ≡ unsigned_abs (high -ℤ low) }
 {
     high.wrapping_sub(low).cast_unsigned()
+}
+
+/// Whether the second number is at least the first.
+fn at_most(low: i32, high: i32) -> bool
+    ensures { result ≡ int_le low high }
+{
+    low <= high
+}
+
+/// Both, with no branch between them: where many boxes are tested one after another, a branch on the first test is
+/// foreseen in half of them at best.
+fn both(first: bool, second: bool) -> bool
+    ensures { result ≡ (first && second) }
+{
+    first & second
 }
 
 impl Box2 {
@@ -121,7 +136,7 @@ impl Box2 {
         ensures test { result ≡ overlaps self.now other.now }
         ensures corners { IsTrue result ↔ Overlap self.now other.now }
     {
-        self.overlaps_in_x(other) && self.overlaps_in_y(other)
+        both(self.overlaps_in_x(other), self.overlaps_in_y(other))
     }
 
     /// Whether this box lies in the other.
@@ -129,7 +144,7 @@ impl Box2 {
         ensures test { result ≡ within self.now other.now }
         ensures corners { IsTrue result ↔ Within self.now other.now }
     {
-        self.within_in_x(other) && self.within_in_y(other)
+        both(self.within_in_x(other), self.within_in_y(other))
     }
 
     /// Whether the other lies in this box.
@@ -166,27 +181,27 @@ impl Box2 {
     }
 
     fn overlaps_in_x(&self, other: &Box2) -> bool
-        ensures { IsTrue result ↔ ((self.now.x1 ≤ℤ other.now.x2) × (other.now.x1 ≤ℤ self.now.x2)) }
+        ensures { result ≡ (int_le self.now.x1 other.now.x2 && int_le other.now.x1 self.now.x2) }
     {
-        self.x1 <= other.x2 && other.x1 <= self.x2
+        both(at_most(self.x1, other.x2), at_most(other.x1, self.x2))
     }
 
     fn overlaps_in_y(&self, other: &Box2) -> bool
-        ensures { IsTrue result ↔ ((self.now.y1 ≤ℤ other.now.y2) × (other.now.y1 ≤ℤ self.now.y2)) }
+        ensures { result ≡ (int_le self.now.y1 other.now.y2 && int_le other.now.y1 self.now.y2) }
     {
-        self.y1 <= other.y2 && other.y1 <= self.y2
+        both(at_most(self.y1, other.y2), at_most(other.y1, self.y2))
     }
 
     fn within_in_x(&self, other: &Box2) -> bool
-        ensures { IsTrue result ↔ ((other.now.x1 ≤ℤ self.now.x1) × (self.now.x2 ≤ℤ other.now.x2)) }
+        ensures { result ≡ (int_le other.now.x1 self.now.x1 && int_le self.now.x2 other.now.x2) }
     {
-        other.x1 <= self.x1 && self.x2 <= other.x2
+        both(at_most(other.x1, self.x1), at_most(self.x2, other.x2))
     }
 
     fn within_in_y(&self, other: &Box2) -> bool
-        ensures { IsTrue result ↔ ((other.now.y1 ≤ℤ self.now.y1) × (self.now.y2 ≤ℤ other.now.y2)) }
+        ensures { result ≡ (int_le other.now.y1 self.now.y1 && int_le self.now.y2 other.now.y2) }
     {
-        other.y1 <= self.y1 && self.y2 <= other.y2
+        both(at_most(other.y1, self.y1), at_most(self.y2, other.y2))
     }
 }
 

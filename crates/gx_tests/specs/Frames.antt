@@ -3,7 +3,7 @@ use Rattle.std.specs.Prelude.{◌≡◌, ◌≢◌, ℕ, List, [], ◌∷◌, �
 use Rattle.gx_disk.specs.Device.{Device}
 use Rattle.gx_page.specs.Contents.{Contents}
 use Rattle.gx_page.specs.Format.{image_of}
-use Rattle.gx_pool.specs.Bringing.{BringsAll}
+use Rattle.gx_pool.specs.Bringing.{Brings, BringsAll, OnlyRead}
 use Rattle.gx_pool.specs.Creating.{Creates}
 use Rattle.gx_pool.specs.Edits.{later}
 use Rattle.gx_pool.specs.State.{State, Kept, holding, kept, stamp_of}
@@ -40,3 +40,8 @@ pub record AddsSibling (passes : Contents → Bool) (d e : Device) (old new : St
   pub created : Creates between made sibling 0 batch
   pub changed : ChangesThree made new node parent sibling nsn batch
   pub stamps : (q : ℕ) → q ≢ node → q ≢ parent → q ≢ sibling → stamp_of (kept new q) ≡ stamp_of (kept old q)
+
+-- pages were brought and nothing else was done: what is dirty or held is as it was, and the device was only read
+pub record OnlyBrings (passes : Contents → Bool) (d e : Device) (old new : State) (pages : List ℕ) : Type 0 where
+  pub brings : Brings passes d.honest d.seen (holding old pages) new
+  pub only_read : OnlyRead d e

@@ -1,8 +1,8 @@
 //! A caller of the frame pool, proved from its contracts and its law of a change: what a split will do with three pages.
-ghost use Rattle.std.specs.Prelude.{◌≡◌, ◌≤◌, ◌++◌, ◌∷◌, [], ℕ, List, None, IsSome, OnOk};
+ghost use Rattle.std.specs.Prelude.{◌≡◌, ◌≤◌, ◌++◌, ◌∷◌, [], ℕ, List, None, IsSome, OnOk, OnErr};
 ghost use Rattle.gx_pool.specs.Area.{IsPage};
 ghost use Rattle.gx_pool.specs.State.{kept};
-ghost use Rattle.gx_tests.specs.Frames.{AddsSibling, AreThree, ChangesOne, ChangesThree, LogsThree};
+ghost use Rattle.gx_tests.specs.Frames.{AddsSibling, AreThree, ChangesOne, ChangesThree, LogsThree, OnlyBrings};
 
 use gx_disk::SectorDisk;
 use gx_pool::{PAGES, PageTest, Pool, PoolFault};
@@ -72,8 +72,8 @@ pub fn log_three<T: PageTest, L: ImageLog>(
     log.append(first.image(), second.image(), third.image());
 }
 
-/// Brings a node and its parent, makes a sibling, and changes all three as of one batch. Nothing is changed where it is
-/// refused.
+/// Brings a node and its parent, makes a sibling, and changes all three as of one batch. Where it is refused
+/// pages were brought, and nothing else was done.
 pub fn add_sibling<T: PageTest, D: SectorDisk>(
     pool: &mut Pool<T>,
     disk: &mut D,
@@ -86,7 +86,8 @@ pub fn add_sibling<T: PageTest, D: SectorDisk>(
     requires pages { IsPage (D.state disk.old).sectors node × IsPage (D.state disk.old).sectors parent }
     requires sibling { (1 ≤ sibling) × (sibling ≤ PAGES) × (kept pool.old.frames sibling ≡ None) }
     requires apart { AreThree node parent sibling }
-    ensures { OnOk result (AddsSibling (T.passes pool.old.test) (D.state disk.old) (D.state disk.new) pool.old.frames pool.new.frames node parent sibling nsn batch) }
+    ensures added { OnOk result (AddsSibling (T.passes pool.old.test) (D.state disk.old) (D.state disk.new) pool.old.frames pool.new.frames node parent sibling nsn batch) }
+    ensures refused { OnErr result (OnlyBrings (T.passes pool.old.test) (D.state disk.old) (D.state disk.new) pool.old.frames pool.new.frames (node ∷ parent ∷ [])) }
 {
     pool.bring(disk, &[node, parent])?;
     if pool.clean_frames() == 0 {
