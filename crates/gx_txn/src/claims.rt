@@ -1,5 +1,5 @@
 //! The claims of one session.
-ghost use Rattle.std.specs.Prelude.{insert, ◌≡◌, ◌<◌, ◌≤◌, IfOk, [], length, true, false, MatchResult};
+ghost use Rattle.std.specs.Prelude.{insert, ◌≡◌, ◌<◌, ◌≤◌, IfOk, [], length, slice_index_or, true, false, MatchResult};
 ghost use Rattle.std.specs.List.{list_any};
 ghost use Rattle.gx_machine.specs.declared.limits.TheConstants.{MAX_CLAIMS};
 ghost use Rattle.gx_machine.specs.Keys.{keys_of, matches};
@@ -58,7 +58,8 @@ impl<B: Shape> Claims<B> {
     /// Where the entry is, or where it goes.
     pub fn find(&self, e: &Entry<B>) -> Result<usize, usize>
         requires { InOrder (keys_of B.Shape) self.now }
-        ensures { MatchResult result
+        ensures at { IfOk result (λ i. (i < length self.now) × ((d : Entry B) → slice_index_or self.now i d ≡ e.now)) }
+        ensures place { MatchResult result
             (λ i. has (keys_of B.Shape) e.now self.now ≡ true)
             (λ i. (i ≤ length self.now) × (has (keys_of B.Shape) e.now self.now ≡ false)
             × (including (keys_of B.Shape) e.now self.now ≡ insert self.now i e.now)) }

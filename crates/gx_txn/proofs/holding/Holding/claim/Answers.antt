@@ -10,5 +10,5 @@ invariant_of-self g c =
       c.self.invariant.0,
       claim_put k lawful self.claims self.predicates self.notes.items c.args.self.now c.self.view_is c.self.invariant.1
           c.args.e c.put.new.self c.in-Err.field-0 c.args.spent c.requires c.if-spent-ge-MAX_CLAIMS.false
-          c.in-Err.ensures.2 c.put.ensures,
+          c.in-Err.ensures.place.2 c.put.ensures,
     )
