@@ -147,8 +147,12 @@ impl Block {
         requires { at + length bytes.now ≤ PAGE_SIZE }
         ensures { self.new.bytes ≡ overwrite self.old.bytes at bytes.now }
     {
-        let end = at + bytes.len();
-        self.bytes_mut()[at..end].copy_from_slice(bytes);
+        let start = self.at as *mut u8;
+        let mut index = 0;
+        while index < bytes.len() {
+            unsafe { *start.add(at + index) = bytes[index] };
+            index += 1;
+        }
     }
 
     /// Spells a number in two bytes, the greater first.
@@ -186,12 +190,42 @@ impl Block {
         self.bytes_mut()[from..to].fill(0);
     }
 
+    /// Copies so many bytes from a place to one that isn't above it, the first of them first.
+    fn move_down(&mut self, from: usize, dest: usize, count: usize)
+        requires { (dest ≤ from) × (from + count ≤ PAGE_SIZE) }
+        ensures { (self.new.bytes ≡ copy_within self.old.bytes from (from + count) dest) × (length self.old.bytes ≡ PAGE_SIZE) }
+    {
+        let start = self.at as *mut u8;
+        let mut index = 0;
+        while index < count {
+            unsafe { *start.add(dest + index) = *start.add(from + index) };
+            index += 1;
+        }
+    }
+
+    /// Copies so many bytes from a place to one above it, the last of them first.
+    fn move_up(&mut self, from: usize, dest: usize, count: usize)
+        requires { (from ≤ dest) × (dest + count ≤ PAGE_SIZE) }
+        ensures { (self.new.bytes ≡ copy_within self.old.bytes from (from + count) dest) × (length self.old.bytes ≡ PAGE_SIZE) }
+    {
+        let start = self.at as *mut u8;
+        let mut left = count;
+        while left > 0 {
+            left -= 1;
+            unsafe { *start.add(dest + left) = *start.add(from + left) };
+        }
+    }
+
     /// Copies the bytes between two places to another one; the two parts may overlap.
     pub(crate) fn copy_within(&mut self, from: usize, to: usize, dest: usize)
         requires source { (from ≤ to) × (to ≤ PAGE_SIZE) }
         requires room { dest + (to - from) ≤ PAGE_SIZE }
         ensures { self.new.bytes ≡ copy_within self.old.bytes from to dest }
     {
-        self.bytes_mut().copy_within(from..to, dest);
+        if dest <= from {
+            self.move_down(from, dest, to - from);
+        } else {
+            self.move_up(from, dest, to - from);
+        }
     }
 }
