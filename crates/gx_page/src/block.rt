@@ -1,7 +1,8 @@
 //! The block of a page: 4,096 bytes of the heap behind one raw pointer.
 //!
-//! The pointer is followed in `byte`, `set_byte`, `slice`, `bytes` and `bytes_mut` alone, and changes hands in `of_box` and
-//! `into_box`. These seven, and that a block may be lent and sent, are proved by hand; the rest is safe code over them.
+//! The pointer is followed in `byte`, `set_byte`, `slice`, `bytes`, `bytes_mut`, `write`, `move_down` and `move_up` alone, and
+//! changes hands in `of_box` and `into_box`. These ten, and that a block may be lent and sent, are proved by hand; the rest is
+//! safe code over them.
 ghost use Rattle.std.specs.Prelude.{◌≡◌, ℕ, ◌+◌, ◌-◌, ◌<◌, ◌≤◌, List, length, IfOk, slice_index, slice_range, slice_set};
 ghost use Rattle.std.specs.Borrow.{sem};
 ghost use Rattle.std.specs.List.{copy_within};
@@ -153,6 +154,15 @@ impl Block {
             unsafe { *start.add(at + index) = bytes[index] };
             index += 1;
         }
+    }
+
+    /// The same for a whole image: by one loan of the block, so that std copies it at once.
+    pub(crate) fn write_many(&mut self, at: usize, bytes: &[u8])
+        requires { at + length bytes.now ≤ PAGE_SIZE }
+        ensures { self.new.bytes ≡ overwrite self.old.bytes at bytes.now }
+    {
+        let end = at + bytes.len();
+        self.bytes_mut()[at..end].copy_from_slice(bytes);
     }
 
     /// Spells a number in two bytes, the greater first.
