@@ -1,4 +1,5 @@
 pub mod Changes
+pub mod Copies
 pub mod Faultless
 pub mod Images
 pub mod Memory

@@ -2,11 +2,12 @@
 use Rattle.std.proofs.Common.{◌≡◌, ℕ, zero, suc, ◌+◌, ◌-◌, ◌*◌, ◌<◌, ◌≤◌, Bool, true, false, ◌&&◌, cond, List, [], ◌∷◌, ◌++◌, Option, Some, None, length, take, drop, get_or, refl, sym, ap, ◌∙◌, arith, eqb, leb, lit<, eq-eqb}
 use Rattle.std.proofs.lemmas.Bool.{le-leb, leb-true, eqb-true}
 use Rattle.std.proofs.lemmas.List.{drop-drop}
-use Rattle.gx_page.specs.Bytes.{zeros, number_16, number_16_at}
+use Rattle.std.specs.Prelude.{slice_range}
+use Rattle.gx_page.specs.Bytes.{zeros, all_zero, number_16, number_16_at}
 use Rattle.gx_page.specs.Contents.{Contents}
 use Rattle.gx_page.specs.Format.{image_of, heap, total, Fits, IsWellFormed}
 use Rattle.gx_page.specs.Reading.{entries}
-use Rattle.gx_page.specs.Faults.{in_order, last_place, lowest}
+use Rattle.gx_page.specs.Faults.{in_order, last_place, lowest, is_free_zero}
 use Rattle.gx_page.proofs.Images.{slots, entries-directory}
 
 pub number_here : (bytes : List ℕ) (at : ℕ) → number_16_at bytes at ≡ number_16 (take 2 (drop at bytes))
@@ -93,3 +94,9 @@ slot_of v w bytes e j h =
     let same : (number_16_at bytes (32 + 4 * j), number_16_at bytes (32 + 4 * j + 2)) ≡ (4096 - total (take (suc j) v.items), length (get_or v.items j [])) =
     sym (get_or-entries (length v.items) bytes 32 j h) ∙ ap (λ (xs : List ℕ). get_or (entries (length v.items) (drop 32 xs)) j nowhere) e ∙ ap (λ (es : List (ℕ × ℕ)). get_or es j nowhere) (image_entries v w) ∙ get_or-slots v.items 4096 j h in
     record { place = ap (λ (p : ℕ × ℕ). p.0) same; size = ap (λ (p : ℕ × ℕ). p.1) same; within = total-take v.items (suc j) }
+
+-- the bytes between the directory and the heap, by numbers that are the count and the heap's start
+pub free_part : (bytes : List ℕ) (count start : ℕ) → count ≡ number_16_at bytes 2 → start ≡ number_16_at bytes 4 → all_zero (slice_range bytes (32 + 4 * count) start) ≡ is_free_zero bytes
+unfolding is_free_zero
+free_part bytes count start is_count is_start =
+    ap (λ (n : ℕ). all_zero (slice_range bytes (32 + 4 * n) start)) is_count ∙ ap (λ (n : ℕ). all_zero (slice_range bytes (32 + 4 * number_16_at bytes 2) n)) is_start

@@ -1,7 +1,8 @@
 //! The block of a page: 4,096 bytes of the heap behind one raw pointer.
 //!
-//! The pointer is followed in `byte`, `set_byte`, `slice`, `bytes` and `bytes_mut` alone, and changes hands in `of_box` and
-//! `into_box`. These seven, and that a block may be lent and sent, are proved by hand; the rest is safe code over them.
+//! The pointer is followed in `byte`, `set_byte`, `slice`, `bytes`, `bytes_mut`, `write`, `move_down` and `move_up` alone, and
+//! changes hands in `of_box` and `into_box`. These ten, and that a block may be lent and sent, are proved by hand; the rest is
+//! safe code over them.
 ghost use Rattle.std.specs.Prelude.{◌≡◌, ℕ, ◌+◌, ◌-◌, ◌<◌, ◌≤◌, List, length, IfOk, slice_index, slice_range, slice_set};
 ghost use Rattle.std.specs.Borrow.{sem};
 ghost use Rattle.std.specs.List.{copy_within};
@@ -147,6 +148,19 @@ impl Block {
         requires { at + length bytes.now ≤ PAGE_SIZE }
         ensures { self.new.bytes ≡ overwrite self.old.bytes at bytes.now }
     {
+        let start = self.at as *mut u8;
+        let mut index = 0;
+        while index < bytes.len() {
+            unsafe { *start.add(at + index) = bytes[index] };
+            index += 1;
+        }
+    }
+
+    /// The same for a whole image: by one loan of the block, so that std copies it at once.
+    pub(crate) fn write_many(&mut self, at: usize, bytes: &[u8])
+        requires { at + length bytes.now ≤ PAGE_SIZE }
+        ensures { self.new.bytes ≡ overwrite self.old.bytes at bytes.now }
+    {
         let end = at + bytes.len();
         self.bytes_mut()[at..end].copy_from_slice(bytes);
     }
@@ -186,12 +200,42 @@ impl Block {
         self.bytes_mut()[from..to].fill(0);
     }
 
+    /// Copies so many bytes from a place to one that isn't above it, the first of them first.
+    fn move_down(&mut self, from: usize, dest: usize, count: usize)
+        requires { (dest ≤ from) × (from + count ≤ PAGE_SIZE) }
+        ensures { (self.new.bytes ≡ copy_within self.old.bytes from (from + count) dest) × (length self.old.bytes ≡ PAGE_SIZE) }
+    {
+        let start = self.at as *mut u8;
+        let mut index = 0;
+        while index < count {
+            unsafe { *start.add(dest + index) = *start.add(from + index) };
+            index += 1;
+        }
+    }
+
+    /// Copies so many bytes from a place to one above it, the last of them first.
+    fn move_up(&mut self, from: usize, dest: usize, count: usize)
+        requires { (from ≤ dest) × (dest + count ≤ PAGE_SIZE) }
+        ensures { (self.new.bytes ≡ copy_within self.old.bytes from (from + count) dest) × (length self.old.bytes ≡ PAGE_SIZE) }
+    {
+        let start = self.at as *mut u8;
+        let mut left = count;
+        while left > 0 {
+            left -= 1;
+            unsafe { *start.add(dest + left) = *start.add(from + left) };
+        }
+    }
+
     /// Copies the bytes between two places to another one; the two parts may overlap.
     pub(crate) fn copy_within(&mut self, from: usize, to: usize, dest: usize)
         requires source { (from ≤ to) × (to ≤ PAGE_SIZE) }
         requires room { dest + (to - from) ≤ PAGE_SIZE }
         ensures { self.new.bytes ≡ copy_within self.old.bytes from to dest }
     {
-        self.bytes_mut().copy_within(from..to, dest);
+        if dest <= from {
+            self.move_down(from, dest, to - from);
+        } else {
+            self.move_up(from, dest, to - from);
+        }
     }
 }

@@ -76,7 +76,7 @@ impl Page {
         let Ok(mut block) = Block::fresh(alloc) else {
             return Err(PageFault::Memory);
         };
-        block.write(0, bytes);
+        block.write_many(0, bytes);
         Ok(Page { block })
     }
 
@@ -89,7 +89,7 @@ impl Page {
         ensures faultless { (fault_of bytes.now ≡ None) ↔ IsImage bytes.now }
     {
         Self::check(bytes)?;
-        self.block.write(0, bytes);
+        self.block.write_many(0, bytes);
         Ok(())
     }
 
@@ -251,6 +251,6 @@ impl Page {
     pub fn copy_from(&mut self, other: &Page)
         ensures { self.new ≡ other.now }
     {
-        self.block.write(0, other.block.bytes());
+        self.block.write_many(0, other.block.bytes());
     }
 }

@@ -9,6 +9,9 @@ pub u32_at-requires : goal.u32_at-requires
 u32_at-requires c =
     let size : length c.args.bytes.now ≡ 4096 = image_size c.args.bytes.now (is_image c.args.bytes.now (λ k. (c.type_inv.bytes k).fits) (sym c.first_fault.ensures ∙ c.in-None.is)) in omega arith
 
+pub returns-in-Some-clause-fault : goal.returns-in-Some-clause-fault
+returns-in-Some-clause-fault c = sym c.first_fault.ensures ∙ c.in-Some.is
+
 pub returns-in-Some-clause-faultless : goal.returns-in-Some-clause-faultless
 returns-in-Some-clause-faultless c = faultless_is_image c.args.bytes.now (λ k. (c.type_inv.bytes k).fits)
 
