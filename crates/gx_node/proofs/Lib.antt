@@ -3,6 +3,7 @@ pub mod Choice
 pub mod Edited
 pub mod EditedInners
 pub mod EditedLeaves
+pub mod Gathered
 pub mod Heaps
 pub mod Keys
 pub mod Live

@@ -1,4 +1,6 @@
 //! Laws of the nodes on pages. Each function is its contract alone.
+ghost use Rattle.gx_tree_laws.specs.Trees.{Pair, Child};
+ghost use Rattle.gx_node.specs.Hits.{HitsAreAFilter};
 ghost use Rattle.gx_node.specs.Reading.{format};
 ghost use Rattle.gx_node.specs.Laws.{LeavesHold, HeldPairsAreRead, InnersHold, HeldChildrenAreRead, BlanksAreNodes, NodesFollowLinks, MoreAreTaken, OneMark, OneBound};
 
@@ -35,4 +37,11 @@ pub fn more_taken<K: KeyClass>()
 pub fn one_changed<K: KeyClass>()
     ensures mark { OneMark K.Key }
     ensures bound { OneBound K.Key }
+{}
+
+/// The pairs or children that `next_hit` and its like find, one call after another, are those of the node that pass, in
+/// their order.
+pub fn hits<K: KeyClass>()
+    ensures pairs { HitsAreAFilter (Pair K.Key) }
+    ensures children { HitsAreAFilter (Child K.Key) }
 {}
