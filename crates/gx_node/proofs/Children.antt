@@ -12,7 +12,7 @@ use Rattle.gx_node.specs.Entries.{child_bytes, IsChild}
 use Rattle.gx_node.specs.Reading.{Format, has_key, key_of, is_child, child_of}
 use Rattle.gx_node.proofs.Parts.{IsLawful, key_in_front, key_read, page_behind, page_written}
 
-same_child : {B : Type 0} (p q : Child B) → p.key ≡ q.key → p.page ≡ q.page → p ≡ q
+pub same_child : {B : Type 0} (p q : Child B) → p.key ≡ q.key → p.page ≡ q.page → p ≡ q
 same_child {B} p q key page =
     let made : B → ℕ → Child B = λ k n. record { key = k; page = n } in
     ap (λ k. made k p.page) key ∙ ap (made q.key) page

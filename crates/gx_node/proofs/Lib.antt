@@ -1,10 +1,16 @@
 pub mod Children
 pub mod Choice
+pub mod Edited
+pub mod EditedInners
+pub mod EditedLeaves
+pub mod Gathered
 pub mod Heaps
 pub mod Keys
 pub mod Live
+pub mod OneChanged
 pub mod Pages
 pub mod Pairs
 pub mod Parts
 pub mod Scanning
 pub mod Slots
+pub mod Sweeping

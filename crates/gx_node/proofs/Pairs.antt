@@ -12,15 +12,15 @@ use Rattle.gx_node.specs.Entries.{mark_byte, pair_bytes, IsPair}
 use Rattle.gx_node.specs.Reading.{Format, has_key, key_of, is_pair, pair_of}
 use Rattle.gx_node.proofs.Parts.{IsLawful, key_in_front, key_read, row_behind, mark_behind, row_written}
 
-mark_small : (b : Bool) → nat_lt (mark_byte b) 2 ≡ true
+pub mark_small : (b : Bool) → nat_lt (mark_byte b) 2 ≡ true
 mark_small true = refl
 mark_small false = refl
 
-mark_read : (b : Bool) → (mark_byte b == 1) ≡ b
+pub mark_read : (b : Bool) → (mark_byte b == 1) ≡ b
 mark_read true = refl
 mark_read false = refl
 
-same_pair : {B : Type 0} (p q : Pair B) → p.row ≡ q.row → p.key ≡ q.key → p.marked ≡ q.marked → p ≡ q
+pub same_pair : {B : Type 0} (p q : Pair B) → p.row ≡ q.row → p.key ≡ q.key → p.marked ≡ q.marked → p ≡ q
 same_pair {B} p q row key marked =
     let made : ℕ → B → Bool → Pair B = λ r k m. record { row = r; key = k; marked = m } in
     ap (λ r. made r p.key p.marked) row ∙ ap (λ k. made q.row k p.marked) key ∙ ap (made q.row q.key) marked

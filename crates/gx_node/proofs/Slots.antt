@@ -85,3 +85,9 @@ some_at (x ∷ xs) (suc slot) h = some_at xs slot (omega arith)
 
 pub some_hit : {X : Type 0} (test : X → Bool) (xs : List X) (from slot : ℕ) → IsNextHit (map test xs) from (Some slot) → (x : X) × (slice_get xs slot ≡ Some x)
 some_hit test xs from slot next = some_at xs slot (omega (arith, next.1, length-map xs test))
+
+-- the slot of what is made of each
+pub slot_is : {X Y : Type 0} (f : X → Y) (xs : List X) (slot : ℕ) (d : X) (y : Y) → slot < length xs → slice_get (map f xs) slot ≡ Some y → f (get_or xs slot d) ≡ y
+slot_is f [] slot d y h e = absurd (omega arith)
+slot_is f (x ∷ xs) zero d y h e = cc
+slot_is f (x ∷ xs) (suc slot) d y h e = slot_is f xs slot d y (omega arith) e

@@ -1,6 +1,7 @@
 //! One entry's bytes.
 ghost use Rattle.std.specs.Prelude.{◌≡◌, ◌+◌, length};
 ghost use Rattle.gx_page.specs.Bytes.{number_32, number_64};
+ghost use Rattle.gx_node.specs.Entries.{IsPair, pair_bytes, child_bytes};
 ghost use Rattle.gx_node.specs.Reading.{format, is_pair, pair_of, is_child, child_of};
 ghost use Rattle.gx_node.specs.Seen.{pair_seen, child_seen};
 
@@ -87,4 +88,28 @@ pub(crate) fn child_of<K: KeyClass>(item: &[u8]) -> (K::Key, u32)
     let (key, page) = item.split_at(K::KEY);
     let key = read_key::<K>(key).unwrap_or(K::start());
     (key, u32_of(page))
+}
+
+/// Writes a pair's bytes over `out`, which has room for just these.
+pub(crate) fn write_pair<K: KeyClass>(row: u64, key: K::Key, marked: bool, out: &mut [u8])
+    requires { length out.old ≡ K.KEY + 9 }
+    ensures pair { IsPair K.is_key (record { row = row; key = key; marked = marked }) }
+    ensures bytes { out.new ≡ pair_bytes K.spelling (record { row = row; key = key; marked = marked }) }
+{
+    K::known(&key);
+    let (front, tail) = out.split_at_mut(K::KEY);
+    let (middle, last) = tail.split_at_mut(8);
+    K::encode(key, front);
+    middle.copy_from_slice(&row.to_be_bytes());
+    last.copy_from_slice(&[u8::from(marked)]);
+}
+
+/// Writes a child's bytes over `out`, which has room for just these.
+pub(crate) fn write_child<K: KeyClass>(bound: K::Key, child: u32, out: &mut [u8])
+    requires { length out.old ≡ K.KEY + 4 }
+    ensures { out.new ≡ child_bytes K.spelling (child_seen (bound, child)) }
+{
+    let (key, page) = out.split_at_mut(K::KEY);
+    K::encode(bound, key);
+    page.copy_from_slice(&child.to_be_bytes());
 }

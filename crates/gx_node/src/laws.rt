@@ -1,6 +1,8 @@
 //! Laws of the nodes on pages. Each function is its contract alone.
+ghost use Rattle.gx_tree_laws.specs.Trees.{Pair, Child};
+ghost use Rattle.gx_node.specs.Hits.{HitsAreAFilter};
 ghost use Rattle.gx_node.specs.Reading.{format};
-ghost use Rattle.gx_node.specs.Laws.{LeavesHold, HeldPairsAreRead, InnersHold, HeldChildrenAreRead};
+ghost use Rattle.gx_node.specs.Laws.{LeavesHold, HeldPairsAreRead, InnersHold, HeldChildrenAreRead, BlanksAreNodes, NodesFollowLinks, MoreAreTaken, OneMark, OneBound};
 
 use gx_class::KeyClass;
 
@@ -14,4 +16,32 @@ pub fn leaves<K: KeyClass>()
 pub fn inners<K: KeyClass>()
     ensures hold { InnersHold K.is_key K.spelling (format K.KEY K.reading K.start_key) }
     ensures read { HeldChildrenAreRead K.is_key K.spelling (format K.KEY K.reading K.start_key) }
+{}
+
+/// What `Page::fresh` and `Page::reset` leave is a node without entries.
+pub fn blanks<K: KeyClass>()
+    ensures { BlanksAreNodes (format K.KEY K.reading K.start_key) }
+{}
+
+/// Where a page's sequence number, rightlink or own number is set, it is the same node with these.
+pub fn links<K: KeyClass>()
+    ensures { NodesFollowLinks (format K.KEY K.reading K.start_key) }
+{}
+
+/// An inner node stays one as more pages are taken.
+pub fn more_taken<K: KeyClass>()
+    ensures { MoreAreTaken (format K.KEY K.reading K.start_key) }
+{}
+
+/// A mark set by slot, or a bound, is the tree's step where the slot's entry is the only one of its kind in the node.
+pub fn one_changed<K: KeyClass>()
+    ensures mark { OneMark K.Key }
+    ensures bound { OneBound K.Key }
+{}
+
+/// The pairs or children that `next_hit` and its like find, one call after another, are those of the node that pass, in
+/// their order.
+pub fn hits<K: KeyClass>()
+    ensures pairs { HitsAreAFilter (Pair K.Key) }
+    ensures children { HitsAreAFilter (Child K.Key) }
 {}

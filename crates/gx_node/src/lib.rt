@@ -4,10 +4,14 @@
 mod check;
 mod entry;
 mod inner;
+pub mod inner_edits;
+mod items;
 pub mod laws;
 mod leaf;
+pub mod leaf_edits;
 mod scan;
 
 pub use check::is_node;
 pub use inner::Inner;
+pub use items::MAX_ENTRIES;
 pub use leaf::Leaf;

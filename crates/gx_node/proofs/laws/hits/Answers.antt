@@ -1,0 +1,5 @@
+use Rattle.gx_node.proofs.Gathered.{gathers_by_hits}
+use Rattle.gx_node.proofs.laws.hits.Goals as goal
+
+pub returns : goal.returns
+returns g c = record { pairs = gathers_by_hits; children = gathers_by_hits }

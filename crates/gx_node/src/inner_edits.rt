@@ -1,0 +1,68 @@
+//! Edits of an inner node in place. None takes memory, and each leaves an inner node of the same page number, level, sequence
+//! number and rightlink. The greatest page taken, `used`, isn't read: it says which test the page passed.
+ghost use Rattle.std.specs.Prelude.{◌≡◌, ◌<◌, ◌≤◌, ◌∷◌, ◌++◌, [], true, length, Some, slice_get, slice_set};
+ghost use Rattle.gx_tree_laws.specs.Lists.{staying, going};
+ghost use Rattle.gx_tree_laws.specs.Trees.{Child};
+ghost use Rattle.gx_node.specs.Edits.{with_children, bounded_by};
+ghost use Rattle.gx_node.specs.Reading.{format, is_inner, inner_of};
+ghost use Rattle.gx_node.specs.Seen.{child_seen};
+ghost use Rattle.gx_node.specs.declared.items.TheConstants.{MAX_ENTRIES};
+
+use crate::entry::{CHILD_TAIL, child_of, write_child};
+use crate::items::{append_going, append_item, keep_staying};
+use gx_class::{KeyClass, MAX_KEY};
+use gx_page::Page;
+
+/// Puts a child behind the last of an inner node that has fewer than 100.
+pub fn append<K: KeyClass>(page: &mut Page, bound: K::Key, child: u32, _used: u32)
+    requires inner { is_inner (format K.KEY K.reading K.start_key) _used page.old ≡ true }
+    requires room { length (inner_of (format K.KEY K.reading K.start_key) page.old).children < MAX_ENTRIES }
+    requires taken { (1 ≤ child) × (child ≤ _used) }
+    ensures inner { is_inner (format K.KEY K.reading K.start_key) _used page.new ≡ true }
+    ensures node { inner_of (format K.KEY K.reading K.start_key) page.new ≡ with_children (inner_of (format K.KEY K.reading K.start_key) page.old)
+        ((inner_of (format K.KEY K.reading K.start_key) page.old).children ++ child_seen (bound, child) ∷ []) }
+    ensures number { page.new.number ≡ page.old.number }
+{
+    K::known(&bound);
+    let size = K::KEY + CHILD_TAIL;
+    let mut bytes = [0; MAX_KEY + CHILD_TAIL];
+    write_child::<K>(bound, child, &mut bytes[..size]);
+    append_item(page, &bytes[..size]);
+}
+
+/// Puts a bound in the place of a slot's own. The child stays on its page.
+pub fn set_bound<K: KeyClass>(page: &mut Page, slot: usize, bound: K::Key, _used: u32)
+    requires inner { is_inner (format K.KEY K.reading K.start_key) _used page.old ≡ true }
+    requires slot { slot < length (inner_of (format K.KEY K.reading K.start_key) page.old).children }
+    ensures inner { is_inner (format K.KEY K.reading K.start_key) _used page.new ≡ true }
+    ensures node { (child : Child K.Key) → slice_get (inner_of (format K.KEY K.reading K.start_key) page.old).children slot ≡ Some child
+        → inner_of (format K.KEY K.reading K.start_key) page.new ≡ with_children (inner_of (format K.KEY K.reading K.start_key) page.old)
+        (slice_set (inner_of (format K.KEY K.reading K.start_key) page.old).children slot (bounded_by bound child)) }
+    ensures number { page.new.number ≡ page.old.number }
+{
+    K::known(&bound);
+    let (_, child) = child_of::<K>(page.get(slot));
+    let size = K::KEY + CHILD_TAIL;
+    let mut bytes = [0; MAX_KEY + CHILD_TAIL];
+    write_child::<K>(bound, child, &mut bytes[..size]);
+    page.replace(slot, &bytes[..size]);
+}
+
+/// Splits an inner node: the children whose side is `true` move, in their order, to another page of a level above 0, which
+/// has none.
+pub fn split<K: KeyClass>(page: &mut Page, sides: &[bool], other: &mut Page, _used: u32)
+    requires inner { is_inner (format K.KEY K.reading K.start_key) _used page.old ≡ true }
+    requires sides { length sides.now ≡ length (inner_of (format K.KEY K.reading K.start_key) page.old).children }
+    requires empty { (1 ≤ other.old.level) × (other.old.items ≡ []) }
+    ensures inner { is_inner (format K.KEY K.reading K.start_key) _used page.new ≡ true }
+    ensures node { inner_of (format K.KEY K.reading K.start_key) page.new ≡ with_children (inner_of (format K.KEY K.reading K.start_key) page.old)
+        (staying sides.now (inner_of (format K.KEY K.reading K.start_key) page.old).children) }
+    ensures number { page.new.number ≡ page.old.number }
+    ensures other_inner { is_inner (format K.KEY K.reading K.start_key) _used other.new ≡ true }
+    ensures other_node { inner_of (format K.KEY K.reading K.start_key) other.new ≡ with_children (inner_of (format K.KEY K.reading K.start_key) other.old)
+        (going sides.now (inner_of (format K.KEY K.reading K.start_key) page.old).children) }
+    ensures other_number { other.new.number ≡ other.old.number }
+{
+    append_going(page, sides, other);
+    keep_staying(page, sides);
+}

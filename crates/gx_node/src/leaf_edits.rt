@@ -1,0 +1,85 @@
+//! Edits of a leaf in place. None takes memory, and each leaves a leaf of the same page number, level, sequence number and
+//! rightlink.
+ghost use Rattle.std.specs.Prelude.{◌≡◌, ◌<◌, ◌≤◌, ◌∷◌, ◌++◌, [], true, Bool, length, filter, Some, slice_get, slice_set};
+ghost use Rattle.gx_machine.specs.declared.entry.Entry.{Entry};
+ghost use Rattle.gx_tree_laws.specs.Lists.{staying, going};
+ghost use Rattle.gx_tree_laws.specs.Steps.{spares};
+ghost use Rattle.gx_tree_laws.specs.Trees.{Pair};
+ghost use Rattle.gx_node.specs.Edits.{with_pairs, marked_as, entry_of};
+ghost use Rattle.gx_node.specs.Reading.{format, is_leaf, leaf_of};
+ghost use Rattle.gx_node.specs.Seen.{pair_seen};
+ghost use Rattle.gx_node.specs.declared.items.TheConstants.{MAX_ENTRIES};
+
+use crate::entry::{PAIR_TAIL, pair_of, write_pair};
+use crate::items::{append_going, append_item, keep_staying};
+use gx_class::{KeyClass, MAX_KEY};
+use gx_machine::Entry;
+use gx_page::Page;
+
+/// Puts a pair behind the last of a leaf that has fewer than 100.
+pub fn append<K: KeyClass>(page: &mut Page, entry: Entry<K::Key>, marked: bool)
+    requires leaf { is_leaf (format K.KEY K.reading K.start_key) page.old ≡ true }
+    requires room { length (leaf_of (format K.KEY K.reading K.start_key) page.old).pairs < MAX_ENTRIES }
+    ensures leaf { is_leaf (format K.KEY K.reading K.start_key) page.new ≡ true }
+    ensures node { leaf_of (format K.KEY K.reading K.start_key) page.new ≡ with_pairs (leaf_of (format K.KEY K.reading K.start_key) page.old)
+        ((leaf_of (format K.KEY K.reading K.start_key) page.old).pairs ++ pair_seen (entry, marked) ∷ []) }
+    ensures number { page.new.number ≡ page.old.number }
+{
+    let size = K::KEY + PAIR_TAIL;
+    let mut bytes = [0; MAX_KEY + PAIR_TAIL];
+    write_pair::<K>(entry.row, entry.key, marked, &mut bytes[..size]);
+    append_item(page, &bytes[..size]);
+}
+
+/// Sets or clears the mark of a slot's pair.
+pub fn set_mark<K: KeyClass>(page: &mut Page, slot: usize, marked: bool)
+    requires leaf { is_leaf (format K.KEY K.reading K.start_key) page.old ≡ true }
+    requires slot { slot < length (leaf_of (format K.KEY K.reading K.start_key) page.old).pairs }
+    ensures leaf { is_leaf (format K.KEY K.reading K.start_key) page.new ≡ true }
+    ensures node { (pair : Pair K.Key) → slice_get (leaf_of (format K.KEY K.reading K.start_key) page.old).pairs slot ≡ Some pair
+        → leaf_of (format K.KEY K.reading K.start_key) page.new ≡ with_pairs (leaf_of (format K.KEY K.reading K.start_key) page.old)
+        (slice_set (leaf_of (format K.KEY K.reading K.start_key) page.old).pairs slot (marked_as marked pair)) }
+    ensures number { page.new.number ≡ page.old.number }
+{
+    page.set_byte(slot, K::KEY + 8, u8::from(marked));
+}
+
+/// Takes the marked pairs out that nobody claims.
+pub fn sweep<K: KeyClass, F: Fn(Entry<K::Key>) -> bool>(page: &mut Page, claimed: F)
+    requires leaf { is_leaf (format K.KEY K.reading K.start_key) page.old ≡ true }
+    requires claimed { F.IsAlwaysCallable claimed }
+    ensures leaf { is_leaf (format K.KEY K.reading K.start_key) page.new ≡ true }
+    ensures node { (test : Entry K.Key → Bool) → ((entry : Entry K.Key) (answer : Bool) → F.post claimed entry answer → answer ≡ test entry)
+        → leaf_of (format K.KEY K.reading K.start_key) page.new ≡ with_pairs (leaf_of (format K.KEY K.reading K.start_key) page.old)
+        (filter (spares (λ pair. test (entry_of pair))) (leaf_of (format K.KEY K.reading K.start_key) page.old).pairs) }
+    ensures number { page.new.number ≡ page.old.number }
+{
+    for slot in (0..page.count()).rev() {
+        let (entry, marked) = pair_of::<K>(page.get(slot));
+        if !marked {
+            continue;
+        }
+        if claimed(entry) {
+            continue;
+        }
+        page.remove(slot);
+    }
+}
+
+/// Splits a leaf: the pairs whose side is `true` move, in their order, to another leaf, which has none.
+pub fn split<K: KeyClass>(page: &mut Page, sides: &[bool], other: &mut Page)
+    requires leaf { is_leaf (format K.KEY K.reading K.start_key) page.old ≡ true }
+    requires sides { length sides.now ≡ length (leaf_of (format K.KEY K.reading K.start_key) page.old).pairs }
+    requires empty { (other.old.level ≡ 0) × (other.old.items ≡ []) }
+    ensures leaf { is_leaf (format K.KEY K.reading K.start_key) page.new ≡ true }
+    ensures node { leaf_of (format K.KEY K.reading K.start_key) page.new ≡ with_pairs (leaf_of (format K.KEY K.reading K.start_key) page.old)
+        (staying sides.now (leaf_of (format K.KEY K.reading K.start_key) page.old).pairs) }
+    ensures number { page.new.number ≡ page.old.number }
+    ensures other_leaf { is_leaf (format K.KEY K.reading K.start_key) other.new ≡ true }
+    ensures other_node { leaf_of (format K.KEY K.reading K.start_key) other.new ≡ with_pairs (leaf_of (format K.KEY K.reading K.start_key) other.old)
+        (going sides.now (leaf_of (format K.KEY K.reading K.start_key) page.old).pairs) }
+    ensures other_number { other.new.number ≡ other.old.number }
+{
+    append_going(page, sides, other);
+    keep_staying(page, sides);
+}
