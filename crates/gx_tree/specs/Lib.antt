@@ -1,0 +1,4 @@
+pub mod Found
+pub mod Looking
+pub mod Store
+pub mod Wants
