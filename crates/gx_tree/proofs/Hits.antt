@@ -1,6 +1,7 @@
 -- Hits gathered one after another are those that pass.
 use Rattle.std.proofs.Common.{◌≡◌, ℕ, zero, suc, ◌+◌, ◌<◌, ◌≤◌, ◌&&◌, Bool, true, false, cond, List, [], ◌∷◌, ◌++◌, length, map, filter, drop, get_or, refl, sym, ap, ◌∙◌, arith, Some, None}
 use Rattle.std.specs.Prelude.{slice_get}
+use Rattle.gx_tree_laws.specs.Lists.{how_many, one_if}
 use Rattle.gx_node.specs.Hits.{IsNextHit}
 use Rattle.std.proofs.lemmas.List.{length-map, append-nil, append_assoc}
 use Rattle.gx_node.proofs.Slots.{some_hit, made_at}
@@ -59,8 +60,12 @@ none_behind w (x ∷ xs) zero h = absurd (omega arith)
 none_behind w (x ∷ xs) (suc from) h = none_behind w xs from (omega arith)
 
 -- a hit is taken where it passes the other test
-pub hit_with : {X : Type 0} (p q : X → Bool) (x : X) → p x ≡ true → filter (λ x. p x && q x) (x ∷ []) ≡ filter q (x ∷ [])
-hit_with p q x e = ap (λ b. cond (b && q x) (x ∷ []) []) e
+pub hit_with : {X : Type 0} (p q : X → Bool) (x : X) → p x ≡ true → filter (λ x. q x && p x) (x ∷ []) ≡ filter q (x ∷ [])
+hit_with p q x e = with_true (q x) (p x) e
+  where
+    with_true : (a b : Bool) → b ≡ true → cond (a && b) (x ∷ []) [] ≡ cond a (x ∷ []) []
+    with_true true b e = ap (λ c. cond c (x ∷ []) []) e
+    with_true false b e = refl
 
 pub hit_alone : {X : Type 0} (p : X → Bool) (x : X) → p x ≡ true → filter p (x ∷ []) ≡ x ∷ []
 hit_alone p x e = ap (λ b. cond b (x ∷ []) []) e
@@ -81,3 +86,13 @@ went_on done more one rest left all h e i =
 pub map-append : {X Y : Type 0} (f : X → Y) (xs ys : List X) → map f (xs ++ ys) ≡ map f xs ++ map f ys
 map-append f [] ys = refl
 map-append f (x ∷ xs) ys = ap (λ zs. f x ∷ zs) (map-append f xs ys)
+
+-- ---- a whole list without a hit
+
+pub none_at_all : {X : Type 0} (w : X → Bool) (xs : List X) → IsNextHit (map w xs) 0 None → how_many w xs ≡ 0
+none_at_all w [] next = refl
+none_at_all w (x ∷ xs) next =
+    let here : w x ≡ false = next 0 (omega arith) (omega (arith, length-map xs w)) in
+    let rest : how_many w xs ≡ 0 = none_at_all w xs (λ k h i. next (suc k) (omega arith) (omega (arith, length-map xs w))) in
+    let one : one_if (w x) ≡ 0 = ap one_if here in
+    omega arith

@@ -1,10 +1,10 @@
 //! A look, a page a step.
-ghost use Rattle.std.specs.Prelude.{◌≡◌, ◌<◌, ◌++◌, ◌∷◌, [], true, length, filter, ◌≢◌, List, ◌==◌, slice_get, Some, Err, IfOk, OnOk, OnErr};
+ghost use Rattle.std.specs.Prelude.{◌≡◌, ◌<◌, ◌++◌, ◌∷◌, [], true, length, filter, map, ◌≢◌, List, ◌==◌, slice_get, Some, Err, IfOk, OnOk, OnErr};
 ghost use Rattle.smallvec.specs.SmallVec.{small_vec_len};
 ghost use Rattle.gx_node.specs.Reading.{format, is_node};
 ghost use Rattle.gx_tree_laws.specs.Trees.{Pair, Used};
 ghost use Rattle.gx_tree_laws.specs.Reach as reach;
-ghost use Rattle.gx_tree.specs.Found.{pairs_found};
+ghost use Rattle.gx_tree.specs.Found.{found_at};
 ghost use Rattle.gx_tree.specs.Looking.{below, beyond, LookStep, Reads};
 ghost use Rattle.gx_tree.specs.Store.{node_of, tree_of, Stays};
 ghost use Rattle.gx_tree.specs.Wants.{has_row, wants};
@@ -12,7 +12,7 @@ ghost use Rattle.gx_tree.specs.Wants.{has_row, wants};
 use crate::fault::StepFault;
 use crate::found::Found;
 use crate::item::Item;
-use crate::pages::Pages;
+use crate::pages::{Pages, bring_page};
 use crate::wanted::Wanted;
 use gx_class::{KeyClass, Probing};
 use gx_geom::Shape;
@@ -41,7 +41,7 @@ fn keep<K: Probing>(
 ) -> Result<(), AllocError>
     requires { slot < length leaf.now.pairs }
     ensures { (x : Pair K.Key) → slice_get leaf.now.pairs slot ≡ Some x
-        → OnOk result (pairs_found found.new.items ≡ pairs_found found.old.items ++ filter (has_row wanted.now.row) (x ∷ [])) }
+        → OnOk result (found.new.items ≡ found.old.items ++ map (found_at page) (filter (has_row wanted.now.row) (x ∷ []))) }
 {
     let (entry, marked) = leaf.entry(slot);
     if wanted.takes(entry.row, marked) {
@@ -61,8 +61,8 @@ fn gather<K: Probing>(
     wanted: &Wanted<K>,
     found: &mut Vec<Found<K::Key>>,
 ) -> Result<(), AllocError>
-    ensures { OnOk result (pairs_found found.new.items
-        ≡ pairs_found found.old.items ++ filter (wants K.passes wanted.now.keys wanted.now.row) leaf.now.pairs) }
+    ensures { OnOk result (found.new.items
+        ≡ found.old.items ++ map (found_at page) (filter (wants K.passes wanted.now.keys wanted.now.row) leaf.now.pairs)) }
 {
     let count = leaf.len();
     let mut slot = 0;
@@ -146,7 +146,7 @@ fn read<K: Probing>(
     ensures { OnOk result ((rest : List reach.Item) (item : reach.Item) → look.old.stack.items ≡ rest ++ item ∷ []
         → Reads counter (wants K.passes wanted.now.keys wanted.now.row) (K.passes wanted.now.bounds)
         (node_of (format K.KEY K.reading K.start_key) page.now) rest item look.new.stack.items
-        (pairs_found look.old.found.items) (pairs_found look.new.found.items)) }
+        look.old.found.items look.new.found.items) }
 {
     let Some(item) = look.stack.pop() else {
         return Ok(());
@@ -178,18 +178,13 @@ pub fn look_step<K: Probing, P: Pages<K>>(
     ensures steady { P.steady pages.old → P.steady pages.new }
     ensures step { OnOk result (LookStep (tree_of (P.store pages.new)) (wants K.passes wanted.now.keys wanted.now.row)
         (K.passes wanted.now.bounds) look.old.stack.items look.new.stack.items
-        (pairs_found look.old.found.items) (pairs_found look.new.found.items)) }
+        look.old.found.items look.new.found.items) }
     ensures damaged { result ≡ Err StepFault.Damaged → (rest : List reach.Item) (item : reach.Item)
-        → look.old.stack.items ≡ rest ++ item ∷ [] → ¬ Used (tree_of (P.store pages.old)) item.page }
+        → look.old.stack.items ≡ rest ++ item ∷ [] → ¬ Used (tree_of (P.store pages.new)) item.page }
     ensures refused { OnErr result (result ≢ Err StepFault.Memory → look.new ≡ look.old) }
 {
     let item = look.next();
-    if item.page() == 0 || pages.used() < item.page() {
-        return Err(StepFault::Damaged);
-    }
-    if let Err(fault) = pages.bring(&[item.page()]) {
-        return Err(StepFault::Pages(fault));
-    }
+    bring_page(pages, item.page())?;
     let counter = pages.counter();
     let room = pages.room();
     match read(look, wanted, pages.page(item.page()), room, counter) {

@@ -1,10 +1,11 @@
 //! What the steps ask of whoever keeps the pages.
-ghost use Rattle.std.specs.Prelude.{◌≡◌, ◌≤◌, ℕ, true, length, OnOk};
+ghost use Rattle.std.specs.Prelude.{◌≡◌, ◌≢◌, ◌≤◌, ℕ, true, length, Err, OnOk};
 ghost use Rattle.gx_node.specs.Reading.{format, is_node};
 ghost use Rattle.gx_tree_laws.specs.Lists.{Each};
 ghost use Rattle.gx_tree_laws.specs.Trees.{Used};
 ghost use Rattle.gx_tree.specs.Store.{Store, Stays, node_of, node_at, tree_of};
 
+use crate::fault::StepFault;
 use gx_class::KeyClass;
 use gx_page::Page;
 
@@ -48,4 +49,26 @@ pub trait Pages<K: KeyClass> {
         requires { held self.now page }
         ensures node { node_of (format K.KEY K.reading K.start_key) result.now ≡ node_at (store self.now).nodes page }
         ensures passes { is_node (format K.KEY K.reading K.start_key) (store self.now).room result.now ≡ true };
+}
+
+/// Brings one page, which a step names.
+///
+/// Refused with `Pages` where it could not be brought, and with `Damaged` exactly where it isn't taken.
+pub(crate) fn bring_page<K: KeyClass, P: Pages<K>>(
+    pages: &mut P,
+    page: u32,
+) -> Result<(), StepFault<P::Fault>>
+    ensures held { OnOk result (P.held pages.new page × Used (tree_of (P.store pages.new)) page) }
+    ensures stays { Stays (P.steady pages.old) (P.store pages.old) (P.store pages.new) }
+    ensures steady { P.steady pages.old → P.steady pages.new }
+    ensures damaged { result ≡ Err StepFault.Damaged → ¬ Used (tree_of (P.store pages.new)) page }
+    ensures memory { result ≢ Err StepFault.Memory }
+{
+    if page == 0 || pages.used() < page {
+        return Err(StepFault::Damaged);
+    }
+    match pages.bring(&[page]) {
+        Ok(()) => Ok(()),
+        Err(fault) => Err(StepFault::Pages(fault)),
+    }
 }

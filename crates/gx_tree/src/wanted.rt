@@ -9,6 +9,7 @@ use gx_class::Probing;
 use gx_machine::{Entry, Query};
 
 /// What a look wants: the live pairs that match a query, or the pair of a row and a key, live or marked.
+#[derive(Drop)]
 pub struct Wanted<K: Probing> {
     pub(crate) keys: K::Probe,
     pub(crate) bounds: K::Probe,
@@ -18,7 +19,7 @@ pub struct Wanted<K: Probing> {
 impl<K: Probing> Wanted<K> {
     /// What a search wants: the live pairs whose keys match.
     pub fn matching(query: &Query<K::Key>) -> Self
-        ensures pairs { (x : Pair K.Key) → K.is_key x.key → wants K.passes result.keys result.row x ≡ (key_matches (keys_of K.Key.Shape) query.now x.key && not x.marked) }
+        ensures pairs { (x : Pair K.Key) → K.is_key x.key → wants K.passes result.keys result.row x ≡ (not x.marked && key_matches (keys_of K.Key.Shape) query.now x.key) }
         ensures bounds { (b : K.Key) → K.is_key b → K.passes result.bounds b ≡ K.may_match query.now b }
     {
         Wanted {
@@ -30,7 +31,7 @@ impl<K: Probing> Wanted<K> {
 
     /// What a write's look wants: the pair of its row and its key, live or marked.
     pub fn entry(entry: &Entry<K::Key>) -> Self
-        ensures pairs { (x : Pair K.Key) → K.is_key x.key → wants K.passes result.keys result.row x ≡ (is_eq (K.Key.cmp x.key entry.now.key) && (x.row == entry.now.row)) }
+        ensures pairs { (x : Pair K.Key) → K.is_key x.key → wants K.passes result.keys result.row x ≡ ((x.row == entry.now.row) && is_eq (K.Key.cmp x.key entry.now.key)) }
         ensures bounds { (b : K.Key) → K.is_key b → K.passes result.bounds b ≡ K.may_match (Query.Equal entry.now.key) b }
     {
         let query = Query::Equal(entry.key);
