@@ -4,7 +4,7 @@ use Rattle.std.specs.Prelude.{slice_get}
 use Rattle.gx_tree_laws.specs.Lists.{how_many, one_if}
 use Rattle.gx_node.specs.Hits.{IsNextHit}
 use Rattle.std.proofs.lemmas.List.{length-map, append-nil, append_assoc}
-use Rattle.gx_node.proofs.Slots.{some_hit, made_at}
+use Rattle.gx_node.proofs.Slots.{made_at}
 
 -- p is the test of hits, and w takes some of them
 module _ {X : Type 0} (p w : X → Bool) (only : (x : X) → p x ≡ false → w x ≡ false) where

@@ -1,9 +1,9 @@
 -- A whole search: what its look wants is what matches.
-use Rattle.std.proofs.Common.{◌≡◌, ℕ, ◌+◌, ◌&&◌, not, Bool, true, List, [], ◌∷◌, length, refl, ap, sym, ◌∙◌, arith}
+use Rattle.std.proofs.Common.{◌≡◌, ◌&&◌, Bool, true, List, [], ◌∷◌, length, ap, sym, ◌∙◌, arith}
 use Rattle.std.specs.Prelude.{Result, Err}
 use Rattle.std.proofs.lemmas.Bool.{and_parts}
 use Rattle.gx_tree_laws.specs.Lists.{one_if, how_many, Each}
-use Rattle.gx_tree_laws.specs.Trees.{Pair, Tree, Rules, Used, leaves, standing}
+use Rattle.gx_tree_laws.specs.Trees.{Pair, Tree, Rules, leaves, standing}
 use Rattle.gx_tree_laws.specs.Legal.{Legal}
 use Rattle.gx_tree_laws.specs.Reach.{Item}
 use Rattle.gx_tree_laws.specs.Looks.{IsLook, LeadsTo}

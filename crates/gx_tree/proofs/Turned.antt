@@ -1,7 +1,7 @@
 -- The order of a look's stack doesn't matter.
-use Rattle.std.proofs.Common.{◌≡◌, ℕ, ◌+◌, ◌<◌, ◌≤◌, ◌&&◌, ◌==◌, Bool, List, [], ◌∷◌, ◌++◌, map, filter, length, refl, ap, sym, ◌∙◌, subst, arith}
-use Rattle.std.proofs.lemmas.List.{append-nil, append_assoc}
-use Rattle.gx_tree_laws.specs.Lists.{sum_over, one_if, how_many, Each}
+use Rattle.std.proofs.Common.{◌≡◌, ℕ, ◌<◌, ◌&&◌, ◌==◌, Bool, List, [], ◌∷◌, ◌++◌, map, filter, length, refl, ap, sym, ◌∙◌, subst, arith}
+use Rattle.std.proofs.lemmas.List.{append_assoc}
+use Rattle.gx_tree_laws.specs.Lists.{one_if, how_many}
 use Rattle.gx_tree_laws.specs.Trees.{Pair, Tree, Rules, IsLawful, Used}
 use Rattle.gx_tree_laws.specs.Legal.{Legal}
 use Rattle.gx_tree_laws.specs.Reach.{Item, ahead_of, ahead, pages_ahead}
@@ -10,7 +10,7 @@ use Rattle.gx_tree_laws.proofs.Sums.{sum_over-append, each_parts, each-append}
 use Rattle.gx_tree_laws.proofs.OwnLook.{look_goes_on, pages_fall, item_used}
 use Rattle.gx_tree.specs.declared.found.Found.{Found}
 use Rattle.gx_tree.specs.Found.{pair_found, pairs_found, found_at}
-use Rattle.gx_tree.specs.Looking.{beyond, below, Reads, LookStep}
+use Rattle.gx_tree.specs.Looking.{beyond, below, LookStep}
 
 module _ {K : Type 0} (t : Tree K) where
   ahead_turned : (f : ℕ → ℕ) (xs ys : List Item) → ahead t f (xs ++ ys) ≡ ahead t f (ys ++ xs)

@@ -1,7 +1,7 @@
 -- The entry by which a descent goes down is the only one that names its page.
-use Rattle.std.proofs.Common.{◌≡◌, ◌≢◌, ℕ, zero, suc, ◌+◌, ◌<◌, ◌≤◌, ◌==◌, true, List, [], ◌∷◌, map, refl, ap, sym, ◌∙◌, subst, arith, Some}
+use Rattle.std.proofs.Common.{◌≡◌, ◌≢◌, ℕ, zero, suc, ◌<◌, ◌≤◌, ◌==◌, true, List, [], ◌∷◌, map, ap, sym, subst, arith, Some}
 use Rattle.std.specs.Prelude.{slice_get}
-use Rattle.gx_tree_laws.specs.Lists.{Each, one_if, total}
+use Rattle.gx_tree_laws.specs.Lists.{Each, one_if}
 use Rattle.gx_tree_laws.specs.Trees.{Child, Tree, Rules, Used, child_pages, times, parents}
 use Rattle.gx_tree_laws.specs.Legal.{ChildFits, Legal}
 use Rattle.gx_tree_laws.specs.Writes.{IsDescent}

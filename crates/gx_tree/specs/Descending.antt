@@ -1,8 +1,8 @@
 -- What a descent does at a node.
-use Rattle.std.specs.Prelude.{◌≡◌, ◌≢◌, ℕ, ◌<◌, ◌≤◌, List, map, length, Some, slice_get}
+use Rattle.std.specs.Prelude.{◌≡◌, ◌≢◌, ℕ, ◌<◌, ◌≤◌, map, length, Some, slice_get}
 use Rattle.std.specs.List.{IsFirstBest}
 use Rattle.gx_node.specs.Hits.{costs_less}
-use Rattle.gx_tree_laws.specs.Trees.{Child, Node}
+use Rattle.gx_tree_laws.specs.Trees.{Node}
 use Rattle.gx_tree.specs.declared.descent.Way.{Way}
 use Rattle.gx_tree.specs.declared.descent.Way.TheVariants.{Again, Add, FullLeaf, FullInner, Down, Widen}
 

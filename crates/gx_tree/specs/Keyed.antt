@@ -1,9 +1,9 @@
 -- The keys of a tree as those of a class.
-use Rattle.std.specs.Prelude.{ℕ, ◌≡◌, ◌≤◌}
+use Rattle.std.specs.Prelude.{ℕ}
 use Rattle.std.specs.Ordering.{is_eq}
 use Rattle.gx_machine.specs.Keys.{Members}
 use Rattle.gx_tree_laws.specs.Lists.{Each}
-use Rattle.gx_tree_laws.specs.Trees.{Tree, Rules, IsLawful, Used}
+use Rattle.gx_tree_laws.specs.Trees.{Tree, Rules, Used}
 
 -- what the tree's laws are told of the keys of a type, from what its trait says of them, with so many entries a node
 abbrev pub rules_of : {B : Type 0} → Members B → ℕ → Rules B

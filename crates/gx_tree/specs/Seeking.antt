@@ -1,5 +1,5 @@
 -- What a seek comes to at a leaf.
-use Rattle.std.specs.Prelude.{◌≡◌, ℕ, Bool, true, Some, slice_get}
+use Rattle.std.specs.Prelude.{◌≡◌, Bool, true, Some, slice_get}
 use Rattle.gx_tree_laws.specs.Lists.{how_many}
 use Rattle.gx_tree_laws.specs.Trees.{Pair, Node}
 use Rattle.gx_tree.specs.declared.seek.Sought.{Sought}

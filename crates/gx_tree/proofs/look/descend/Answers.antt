@@ -1,8 +1,7 @@
-use Rattle.std.proofs.Common.{◌≡◌, ◌+◌, ◌∙◌, ◌++◌, ◌∷◌, [], ap, filter, drop, map}
+use Rattle.std.proofs.Common.{◌+◌, ◌∙◌, ◌++◌, ◌∷◌, [], ap, filter, drop, map}
 use Rattle.gx_tree_laws.specs.Trees.{Child}
 use Rattle.gx_tree_laws.specs.Reach.{Item}
 use Rattle.gx_node.specs.Seen.{child_seen}
-use Rattle.gx_tree.specs.Looking.{below}
 use Rattle.gx_tree.proofs.Hits.{next_taken, none_left, hit_alone, hit_passes, ended, went_on, map-append}
 use Rattle.gx_tree.proofs.look.descend.Goals as goal
 

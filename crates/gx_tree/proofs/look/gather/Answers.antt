@@ -1,4 +1,4 @@
-use Rattle.std.proofs.Common.{◌≡◌, ◌+◌, ◌∙◌, ◌++◌, ◌∷◌, [], ap, filter, drop, map}
+use Rattle.std.proofs.Common.{◌+◌, ◌∙◌, ◌++◌, ◌∷◌, [], ap, filter, drop, map}
 use Rattle.std.proofs.lemmas.Bool.{and_right}
 use Rattle.gx_tree_laws.specs.Trees.{Pair}
 use Rattle.gx_node.proofs.Slots.{some_hit}

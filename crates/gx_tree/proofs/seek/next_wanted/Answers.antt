@@ -1,4 +1,4 @@
-use Rattle.std.proofs.Common.{◌≡◌, ◌∙◌, ◌&&◌, sym, subst, map, refl, rules, None}
+use Rattle.std.proofs.Common.{◌≡◌, ◌∙◌, sym, subst, map, refl, rules, None}
 use Rattle.gx_tree_laws.specs.Trees.{Pair}
 use Rattle.gx_node.specs.Hits.{IsNextHit}
 use Rattle.gx_node.specs.Seen.{pair_seen}

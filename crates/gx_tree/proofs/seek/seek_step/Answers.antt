@@ -1,4 +1,4 @@
-use Rattle.std.proofs.Common.{◌≡◌, ◌∙◌, map, sym, ap, subst, refl, rules, Some}
+use Rattle.std.proofs.Common.{◌≡◌, ◌∙◌, sym, ap, subst, refl, rules, Some}
 use Rattle.std.specs.Prelude.{true, slice_get}
 use Rattle.gx_tree_laws.specs.Lists.{how_many}
 use Rattle.gx_tree_laws.specs.Trees.{Pair, Node}

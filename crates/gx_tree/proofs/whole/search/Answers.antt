@@ -1,7 +1,7 @@
-use Rattle.std.proofs.Common.{◌≡◌, ◌∙◌, ◌∷◌, [], ◌<◌, ◌&&◌, not, Bool, length, sym, ap, subst, refl, rules, arith, List, Err}
+use Rattle.std.proofs.Common.{◌≡◌, ◌∙◌, ◌∷◌, [], ◌<◌, ◌&&◌, not, length, sym, ap, subst, refl, rules, Err}
 use Rattle.std.specs.Ordering.{is_eq}
 use Rattle.gx_machine.specs.Keys.{keys, key_matches}
-use Rattle.gx_tree_laws.specs.Trees.{Pair, Tree, Rules, IsLawful, Used}
+use Rattle.gx_tree_laws.specs.Trees.{Rules, IsLawful, Used}
 use Rattle.gx_tree_laws.specs.Reach.{Item}
 use Rattle.gx_tree_laws.specs.Looks.{IsLook, LeadsTo, from_root}
 use Rattle.gx_tree_laws.proofs.OwnLook.{look_begins}
