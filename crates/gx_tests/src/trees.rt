@@ -172,7 +172,7 @@ fn pages_that_lead_nowhere_are_not_read(rt: HostRuntime) -> Result<(), Fail> {
     assert_eq!(rt; rows_found(&rt, &mut pages, &Wanted::matching(&all))?.1, 7);
     let key = a_box(&rt, LINE[4]);
     let (rows, reads) = rows_found(&rt, &mut pages, &Wanted::entry(&Entry { row: 5, key }))?;
-    assert_eq!(rt; rows.as_slice(), [5]);
+    assert_eq!(rt; rows.as_slice(), [5u64].as_slice());
     assert_eq!(rt; reads, 3);
     let (rows, _) = rows_found(&rt, &mut pages, &Wanted::entry(&Entry { row: 6, key }))?;
     assert_eq!(rt; rows.len(), 0);
