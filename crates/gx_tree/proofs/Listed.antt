@@ -1,0 +1,37 @@
+-- Pages in a list.
+use Rattle.std.proofs.Common.{◌≡◌, ℕ, zero, suc, ◌-◌, ◌<◌, ◌≤◌, Bool, true, List, [], ◌∷◌, length, map, get_or, refl, sym, ap, ◌∙◌, arith}
+use Rattle.std.specs.List.{list_all}
+use Rattle.std.specs.Prelude.{if◌then◌else◌}
+use Rattle.std.proofs.lemmas.Bool.{and_parts, eq-eqb}
+use Rattle.gx_page.specs.Contents.{Contents}
+use Rattle.gx_node.specs.Reading.{Format, leaf_of, inner_of}
+use Rattle.gx_tree_laws.specs.Trees.{Node}
+use Rattle.gx_tree.specs.Store.{Store, Stays, node_of, node_at, blank}
+
+pub mapped_at : {X Y : Type 0} (f : X → Y) (xs : List X) (k : ℕ) (d : X) (e : Y) → k < length xs → get_or (map f xs) k e ≡ f (get_or xs k d)
+mapped_at f [] k d e h = absurd (omega arith)
+mapped_at f (x ∷ xs) zero d e h = refl
+mapped_at f (x ∷ xs) (suc k) d e h = mapped_at f xs k d e (omega arith)
+
+-- the node of a page that stands in a list, page 1 first
+pub node_in : {X B : Type 0} (f : X → Node B) (xs : List X) (p : ℕ) (d : X) → 0 < p → p ≤ length xs → f (get_or xs (p - 1) d) ≡ node_at (map f xs) p
+node_in f xs zero d low high = absurd (omega arith)
+node_in f xs (suc p) d low high =
+    let one : suc p - 1 ≡ p = omega arith in
+    ap (λ n. f (get_or xs n d)) one ∙ sym (mapped_at f xs p d blank (omega arith))
+
+pub each_at : {X : Type 0} (test : X → Bool) (xs : List X) (k : ℕ) (d : X) → k < length xs → list_all test xs ≡ true → test (get_or xs k d) ≡ true
+each_at test [] k d h e = absurd (omega arith)
+each_at test (x ∷ xs) zero d h e = (and_parts (test x) (list_all test xs) e).0
+each_at test (x ∷ xs) (suc k) d h e = each_at test xs k d (omega arith) (and_parts (test x) (list_all test xs) e).1
+
+-- where what is read is what stands, a store stays
+pub same_store : {B : Type 0} (steady : Type 0) (old new : Store B) → Stays steady old new → steady → new ≡ old
+same_store steady old new stays is =
+    ap (λ ns. record { nodes = ns; counter = new.counter; room = new.room }) (stays.nodes is)
+    ∙ ap (λ k. record { nodes = old.nodes; counter = k; room = new.room }) stays.counter
+    ∙ ap (λ k. record { nodes = old.nodes; counter = old.counter; room = k }) stays.room
+
+-- a page of level 0 is read as a leaf
+pub leaf_node : {B : Type 0} (f : Format B) (page : Contents) → page.level ≡ 0 → node_of f page ≡ leaf_of f page
+leaf_node f page e = ap (λ b. if b then leaf_of f page else inner_of f page) (eq-eqb page.level 0 e)

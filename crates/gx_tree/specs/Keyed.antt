@@ -1,0 +1,15 @@
+-- The keys of a tree as those of a class.
+use Rattle.std.specs.Prelude.{ℕ}
+use Rattle.std.specs.Ordering.{is_eq}
+use Rattle.gx_machine.specs.Keys.{Members}
+use Rattle.gx_tree_laws.specs.Lists.{Each}
+use Rattle.gx_tree_laws.specs.Trees.{Tree, Rules, Used}
+
+-- what the tree's laws are told of the keys of a type, from what its trait says of them, with so many entries a node
+abbrev pub rules_of : {B : Type 0} → Members B → ℕ → Rules B
+rules_of shape most = record { covers = λ a b. shape.inside b a; same = λ a b. is_eq (shape.cmp a b); most = most }
+
+-- each key of the tree is a key of the class
+pub record AreKeys {B : Type 0} (IsKey : B → Type 0) (t : Tree B) : Type 0 where
+  pub pairs : (p : ℕ) → Used t p → Each (λ x. IsKey x.key) (t.node p).pairs
+  pub children : (p : ℕ) → Used t p → Each (λ c. IsKey c.key) (t.node p).children

@@ -1,0 +1,11 @@
+-- What a seek comes to at a leaf.
+use Rattle.std.specs.Prelude.{◌≡◌, Bool, true, Some, slice_get}
+use Rattle.gx_tree_laws.specs.Lists.{how_many}
+use Rattle.gx_tree_laws.specs.Trees.{Pair, Node}
+use Rattle.gx_tree.specs.declared.seek.Sought.{Sought}
+use Rattle.gx_tree.specs.declared.seek.Sought.TheVariants.{Here, Right}
+
+-- the node is a leaf; its pair in that slot is wanted and has that mark, or none is wanted, and that is its rightlink
+abbrev pub Seeks : {B : Type 0} → (Pair B → Bool) → Node B → Sought → Type 0
+Seeks {B} wants node (Here slot marked) = (node.level ≡ 0) × ((x : Pair B) × (slice_get node.pairs slot ≡ Some x) × (wants x ≡ true) × (x.marked ≡ marked))
+Seeks wants node (Right page) = (node.level ≡ 0) × (how_many wants node.pairs ≡ 0) × (page ≡ node.right)

@@ -1,0 +1,118 @@
+//! The way down to the leaf for a coming pair.
+ghost use Rattle.std.specs.Prelude.{◌≡◌, ◌≢◌, ◌≤◌, ◌<◌, length, true, Err, IfSome, IfNone, IfOk, ℕ};
+ghost use Rattle.std.specs.Bool.{OnTrue, OnFalse};
+ghost use Rattle.gx_node.specs.Reading.{format, is_node};
+ghost use Rattle.gx_tree_laws.specs.Trees.{Used};
+ghost use Rattle.gx_tree.specs.Descending.{Descends};
+ghost use Rattle.gx_tree.specs.Store.{node_of, tree_of, Stays};
+
+use crate::fault::StepFault;
+use crate::item::Item;
+use crate::pages::{Pages, bring_page};
+use gx_class::KeyClass;
+use gx_geom::Shape;
+use gx_node::Inner;
+use gx_page::Page;
+use std::cmp::Ordering;
+
+/// What a descent does at a page.
+#[derive(Clone, Copy, Debug)]
+pub enum Way<B> {
+    /// The page was split since its number was read: the descent begins again at the root.
+    Again,
+    /// A leaf that has room: the pair is added.
+    Add,
+    /// A leaf that is full: it is swept, or else split.
+    FullLeaf,
+    /// An inner node that is full: it is split.
+    FullInner,
+    /// An inner node that has room: down to this slot's child, on this page, whose bound covers the coming key.
+    Down(usize, u32),
+    /// The same, once the bound is widened to this key.
+    Widen(usize, u32, B),
+}
+
+/// Whether two keys are the same.
+fn are_same<B: Shape>(first: &B, second: &B) -> bool
+    ensures yes { OnTrue result (first.now ≡ second.now) }
+    ensures no { OnFalse result (first.now ≢ second.now) }
+{
+    first.cmp(second) == Ordering::Equal
+}
+
+/// The way down from an inner node: the child of least penalty, and of such children the first (Guttman 1984). `None`
+/// where it has no children.
+fn way_down<K: KeyClass>(inner: &Inner<K>, coming: &K::Key, most: usize) -> Option<Way<K::Key>>
+    requires { 0 < inner.now.level }
+    ensures way { (seen : ℕ) → inner.now.number ≤ seen → IfSome result (Descends K.cost K.joined most inner.now seen coming.now) }
+    ensures none { IfNone result (length inner.now.children ≡ 0) }
+{
+    if inner.len() == 0 {
+        return None;
+    }
+    if inner.len() >= most {
+        return Some(Way::FullInner);
+    }
+    let slot = inner.least_penalty(coming);
+    let (bound, child) = inner.child(slot);
+    let union = K::union(bound, *coming);
+    if are_same(&union, &bound) {
+        Some(Way::Down(slot, child))
+    } else {
+        Some(Way::Widen(slot, child, union))
+    }
+}
+
+/// What a descent does at the node on a page.
+fn way_at<K: KeyClass>(
+    page: &Page,
+    room: u32,
+    seen: u64,
+    coming: &K::Key,
+    most: usize,
+) -> Option<Way<K::Key>>
+    requires { is_node (format K.KEY K.reading K.start_key) room page.now ≡ true }
+    ensures way { IfSome result (Descends K.cost K.joined most (node_of (format K.KEY K.reading K.start_key) page.now) seen coming.now) }
+    ensures none { IfNone result ((0 < (node_of (format K.KEY K.reading K.start_key) page.now).level)
+        × (length (node_of (format K.KEY K.reading K.start_key) page.now).children ≡ 0)) }
+{
+    if page.nsn() > seen {
+        return Some(Way::Again);
+    }
+    if page.level() > 0 {
+        return way_down(&Inner::<K>::of(page, room), coming, most);
+    }
+    if page.count() < most {
+        Some(Way::Add)
+    } else {
+        Some(Way::FullLeaf)
+    }
+}
+
+/// Reads the page of a descent for a coming key, and says what the descent does there, where a node has at most `most`
+/// entries: it begins again where the page was split since; it goes down to the child whose bound has the least penalty
+/// for the key, and of such children the first, once that bound covers the key too; a full node is in its way.
+///
+/// Refused with `Pages` where the page could not be brought, and with `Damaged` exactly where it isn't taken, or has a
+/// level above 0 and no entries.
+pub fn way_step<K: KeyClass, P: Pages<K>>(
+    pages: &mut P,
+    item: &Item,
+    coming: &K::Key,
+    most: usize,
+) -> Result<Way<K::Key>, StepFault<P::Fault>>
+    ensures stays { Stays (P.steady pages.old) (P.store pages.old) (P.store pages.new) }
+    ensures steady { P.steady pages.old → P.steady pages.new }
+    ensures way { IfOk result (Descends K.cost K.joined most ((tree_of (P.store pages.new)).node item.now.page) item.now.seen coming.now) }
+    ensures damaged { result ≡ Err StepFault.Damaged → Used (tree_of (P.store pages.new)) item.now.page
+        → (0 < ((tree_of (P.store pages.new)).node item.now.page).level) × (length ((tree_of (P.store pages.new)).node item.now.page).children ≡ 0) }
+    ensures memory { result ≢ Err StepFault.Memory }
+{
+    bring_page(pages, item.page())?;
+    let room = pages.room();
+    let page = pages.page(item.page());
+    match way_at::<K>(page, room, item.seen(), coming, most) {
+        Some(way) => Ok(way),
+        None => Err(StepFault::Damaged),
+    }
+}

@@ -1,0 +1,14 @@
+//! What a look finds.
+
+use gx_machine::Entry;
+
+/// A pair that a look found, and the leaf in which it stood then.
+#[derive(Clone, Copy, Debug, PartialEq, Eq)]
+pub struct Found<B> {
+    /// The row and its key.
+    pub entry: Entry<B>,
+    /// Whether the pair was marked as deleted.
+    pub marked: bool,
+    /// The leaf's page.
+    pub leaf: u32,
+}

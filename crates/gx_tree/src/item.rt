@@ -1,0 +1,45 @@
+//! Items of a traversal.
+ghost use Rattle.std.specs.Prelude.{◌≡◌};
+
+use std::marker::Model;
+
+/// A page that is to be read, and the counter of splits as it was when the page's number was read (Kornacker, Mohan,
+/// Hellerstein 1997). A page whose sequence number is greater was split since.
+#[derive(Clone, Copy, Debug, Default, PartialEq, Eq)]
+pub struct Item {
+    page: u32,
+    seen: u64,
+}
+
+impl Model for Item {
+    ghost use Rattle.gx_tree_laws.specs.Reach as reach;
+
+    ghost Value = { reach.Item };
+
+    ghost view = { λ i. record { page = i.page; seen = i.seen } };
+
+    ghost inverse = { λ i. record { page = i.page; seen = i.seen } };
+}
+
+impl Item {
+    /// A page and the counter as it is.
+    pub fn new(page: u32, seen: u64) -> Item
+        ensures { result ≡ record { page = page; seen = seen } }
+    {
+        Item { page, seen }
+    }
+
+    /// The page.
+    pub fn page(&self) -> u32
+        ensures { result ≡ self.now.page }
+    {
+        self.page
+    }
+
+    /// The counter as it was.
+    pub fn seen(&self) -> u64
+        ensures { result ≡ self.now.seen }
+    {
+        self.seen
+    }
+}

@@ -1,0 +1,194 @@
+//! A look, a page a step.
+ghost use Rattle.std.specs.Prelude.{◌≡◌, ◌<◌, ◌++◌, ◌∷◌, [], true, length, filter, map, ◌≢◌, List, ◌==◌, slice_get, Some, Err, IfOk, OnOk, OnErr};
+ghost use Rattle.smallvec.specs.SmallVec.{small_vec_len};
+ghost use Rattle.gx_node.specs.Reading.{format, is_node};
+ghost use Rattle.gx_tree_laws.specs.Trees.{Pair, Used};
+ghost use Rattle.gx_tree_laws.specs.Reach as reach;
+ghost use Rattle.gx_tree.specs.Found.{found_at};
+ghost use Rattle.gx_tree.specs.Looking.{below, beyond, LookStep, Reads};
+ghost use Rattle.gx_tree.specs.Store.{node_of, tree_of, Stays};
+ghost use Rattle.gx_tree.specs.Wants.{has_row, wants};
+
+use crate::fault::StepFault;
+use crate::found::Found;
+use crate::item::Item;
+use crate::pages::{Pages, bring_page};
+use crate::wanted::Wanted;
+use gx_class::{KeyClass, Probing};
+use gx_geom::Shape;
+use gx_node::{Inner, Leaf};
+use gx_page::Page;
+use smallvec::SmallVec;
+use std::alloc::{AllocError, Global};
+
+/// How many items a stack keeps before it takes memory.
+pub const INLINE_ITEMS: usize = 16;
+
+/// A look at work: the items that are to be read, the next one last, and what is found.
+#[derive(Drop)]
+pub struct Look<B: Shape> {
+    pub(crate) stack: SmallVec<Item, INLINE_ITEMS>,
+    pub(crate) found: Vec<Found<B>>,
+}
+
+/// Finds a leaf's pair, if it is wanted.
+fn keep<K: Probing>(
+    leaf: &Leaf<K>,
+    slot: usize,
+    page: u32,
+    wanted: &Wanted<K>,
+    found: &mut Vec<Found<K::Key>>,
+) -> Result<(), AllocError>
+    requires { slot < length leaf.now.pairs }
+    ensures { (x : Pair K.Key) → slice_get leaf.now.pairs slot ≡ Some x
+        → OnOk result (found.new.items ≡ found.old.items ++ map (found_at page) (filter (has_row wanted.now.row) (x ∷ []))) }
+{
+    let (entry, marked) = leaf.entry(slot);
+    if wanted.takes(entry.row, marked) {
+        found.push(Found {
+            entry,
+            marked,
+            leaf: page,
+        })?;
+    }
+    Ok(())
+}
+
+/// Finds what is wanted of a leaf.
+fn gather<K: Probing>(
+    leaf: &Leaf<K>,
+    page: u32,
+    wanted: &Wanted<K>,
+    found: &mut Vec<Found<K::Key>>,
+) -> Result<(), AllocError>
+    ensures { OnOk result (found.new.items
+        ≡ found.old.items ++ map (found_at page) (filter (wants K.passes wanted.now.keys wanted.now.row) leaf.now.pairs)) }
+{
+    let count = leaf.len();
+    let mut slot = 0;
+    'scan: while slot < count {
+        let Some(hit) = leaf.next_hit(&wanted.keys, slot) else {
+            return Ok(());
+        };
+        keep(leaf, hit, page, wanted, found)?;
+        slot = hit + 1;
+    }
+    Ok(())
+}
+
+/// Stacks the children of an inner node below which something wanted may stand, with the counter as it is.
+fn descend<K: Probing>(
+    inner: &Inner<K>,
+    counter: u64,
+    wanted: &Wanted<K>,
+    stack: &mut SmallVec<Item, INLINE_ITEMS>,
+) -> Result<(), AllocError>
+    ensures { OnOk result (stack.new.items ≡ stack.old.items ++ below counter (K.passes wanted.now.bounds) inner.now.children) }
+{
+    let count = inner.len();
+    let mut slot = 0;
+    'scan: while slot < count {
+        let Some(hit) = inner.next_hit(&wanted.bounds, slot) else {
+            return Ok(());
+        };
+        stack.push(Item::new(inner.child(hit).1, counter))?;
+        slot = hit + 1;
+    }
+    Ok(())
+}
+
+impl<B: Shape> Look<B> {
+    /// A look that begins with an item.
+    pub fn new(alloc: Global, item: Item) -> Result<Self, AllocError>
+        ensures { IfOk result (λ look. (look.stack.items ≡ item ∷ []) × (look.found.items ≡ [])) }
+    {
+        let mut stack = SmallVec::new(alloc);
+        stack.push(item)?;
+        Ok(Look {
+            stack,
+            found: Vec::new(alloc),
+        })
+    }
+
+    /// Whether nothing is left to read.
+    pub fn is_done(&self) -> bool
+        ensures { result ≡ (length self.now.stack.items == 0) }
+    {
+        self.stack.is_empty()
+    }
+
+    /// What was found so far.
+    pub fn found(&self) -> &[Found<B>]
+        ensures { result.now ≡ self.now.found.items }
+    {
+        self.found.as_slice()
+    }
+
+    /// The item that is read next.
+    fn next(&self) -> Item
+        requires { 0 < length self.now.stack.items }
+        ensures { (rest : List reach.Item) (item : reach.Item) → self.now.stack.items ≡ rest ++ item ∷ [] → result ≡ item }
+    {
+        self.stack.as_slice()[self.stack.len() - 1]
+    }
+}
+
+/// Reads the node of the next item.
+fn read<K: Probing>(
+    look: &mut Look<K::Key>,
+    wanted: &Wanted<K>,
+    page: &Page,
+    room: u32,
+    counter: u64,
+) -> Result<(), AllocError>
+    requires some { 0 < length look.old.stack.items }
+    requires node { is_node (format K.KEY K.reading K.start_key) room page.now ≡ true }
+    ensures { OnOk result ((rest : List reach.Item) (item : reach.Item) → look.old.stack.items ≡ rest ++ item ∷ []
+        → Reads counter (wants K.passes wanted.now.keys wanted.now.row) (K.passes wanted.now.bounds)
+        (node_of (format K.KEY K.reading K.start_key) page.now) rest item look.new.stack.items
+        look.old.found.items look.new.found.items) }
+{
+    let Some(item) = look.stack.pop() else {
+        return Ok(());
+    };
+    if page.nsn() > item.seen() {
+        look.stack.push(Item::new(page.right(), item.seen()))?;
+    }
+    if page.level() == 0 {
+        gather(&Leaf::of(page), item.page(), wanted, &mut look.found)
+    } else {
+        descend(&Inner::of(page, room), counter, wanted, &mut look.stack)
+    }
+}
+
+/// Reads the page of the look's next item. What is wanted there is found; where the page was split since its number was
+/// read, the look goes on to its rightlink too, with the number that it remembers; and it will go down to the children
+/// below which something wanted may stand, each remembered with the counter as it is now (Kornacker, Mohan, Hellerstein
+/// 1997).
+///
+/// Refused with `Pages` where the page could not be brought, and `Damaged` where the item names no page that is taken: the
+/// look is then as it was. And with `Memory` where that is refused; the look is of no use then.
+pub fn look_step<K: Probing, P: Pages<K>>(
+    pages: &mut P,
+    wanted: &Wanted<K>,
+    look: &mut Look<K::Key>,
+) -> Result<(), StepFault<P::Fault>>
+    requires { 0 < length look.old.stack.items }
+    ensures stays { Stays (P.steady pages.old) (P.store pages.old) (P.store pages.new) }
+    ensures steady { P.steady pages.old → P.steady pages.new }
+    ensures step { OnOk result (LookStep (tree_of (P.store pages.new)) (wants K.passes wanted.now.keys wanted.now.row)
+        (K.passes wanted.now.bounds) look.old.stack.items look.new.stack.items
+        look.old.found.items look.new.found.items) }
+    ensures damaged { result ≡ Err StepFault.Damaged → (rest : List reach.Item) (item : reach.Item)
+        → look.old.stack.items ≡ rest ++ item ∷ [] → ¬ Used (tree_of (P.store pages.new)) item.page }
+    ensures refused { OnErr result (result ≢ Err StepFault.Memory → look.new ≡ look.old) }
+{
+    let item = look.next();
+    bring_page(pages, item.page())?;
+    let counter = pages.counter();
+    let room = pages.room();
+    match read(look, wanted, pages.page(item.page()), room, counter) {
+        Ok(()) => Ok(()),
+        Err(_) => Err(StepFault::Memory),
+    }
+}

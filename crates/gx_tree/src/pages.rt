@@ -1,0 +1,74 @@
+//! What the steps ask of whoever keeps the pages.
+ghost use Rattle.std.specs.Prelude.{◌≡◌, ◌≢◌, ◌≤◌, ℕ, true, length, Err, OnOk};
+ghost use Rattle.gx_node.specs.Reading.{format, is_node};
+ghost use Rattle.gx_tree_laws.specs.Lists.{Each};
+ghost use Rattle.gx_tree_laws.specs.Trees.{Used};
+ghost use Rattle.gx_tree.specs.Store.{Store, Stays, node_of, node_at, tree_of};
+
+use crate::fault::StepFault;
+use gx_class::KeyClass;
+use gx_page::Page;
+
+/// The pages of a tree. A step first brings the pages that it uses, which may fail; from then on they are held, and
+/// reading them doesn't fail. Each page that is lent is a node of the class.
+pub trait Pages<K: KeyClass> {
+    /// Why pages could not be brought.
+    type Fault;
+
+    /// The nodes of all pages that are taken, the counter of splits, and how many pages there are.
+    ghost store: { Self → Store K.Key };
+
+    /// Whether a page is held.
+    ghost held: { Self → ℕ → Type 0 };
+
+    /// What is read of a page is what stands there, so that bringing it changes nothing.
+    ghost steady: { Self → Type 0 };
+
+    /// The greatest page that is taken.
+    fn used(&self) -> u32
+        ensures { result ≡ length (store self.now).nodes };
+
+    /// How many pages there are, taken or not.
+    fn room(&self) -> u32
+        ensures { result ≡ (store self.now).room };
+
+    /// How many splits of nodes other than the root there were.
+    fn counter(&self) -> u64
+        ensures { result ≡ (store self.now).counter };
+
+    /// Holds these pages, four at most, and lets go what was held.
+    fn bring(&mut self, pages: &[u32]) -> Result<(), Self::Fault>
+        requires few { length pages.now ≤ 4 }
+        requires used { Each (Used (tree_of (store self.old))) pages.now }
+        ensures held { OnOk result (Each (held self.new) pages.now) }
+        ensures stays { Stays (steady self.old) (store self.old) (store self.new) }
+        ensures steady { steady self.old → steady self.new };
+
+    /// A page that is held.
+    fn page(&self, page: u32) -> &Page
+        requires { held self.now page }
+        ensures node { node_of (format K.KEY K.reading K.start_key) result.now ≡ node_at (store self.now).nodes page }
+        ensures passes { is_node (format K.KEY K.reading K.start_key) (store self.now).room result.now ≡ true };
+}
+
+/// Brings one page, which a step names.
+///
+/// Refused with `Pages` where it could not be brought, and with `Damaged` exactly where it isn't taken.
+pub(crate) fn bring_page<K: KeyClass, P: Pages<K>>(
+    pages: &mut P,
+    page: u32,
+) -> Result<(), StepFault<P::Fault>>
+    ensures held { OnOk result (P.held pages.new page × Used (tree_of (P.store pages.new)) page) }
+    ensures stays { Stays (P.steady pages.old) (P.store pages.old) (P.store pages.new) }
+    ensures steady { P.steady pages.old → P.steady pages.new }
+    ensures damaged { result ≡ Err StepFault.Damaged → ¬ Used (tree_of (P.store pages.new)) page }
+    ensures memory { result ≢ Err StepFault.Memory }
+{
+    if page == 0 || pages.used() < page {
+        return Err(StepFault::Damaged);
+    }
+    match pages.bring(&[page]) {
+        Ok(()) => Ok(()),
+        Err(fault) => Err(StepFault::Pages(fault)),
+    }
+}

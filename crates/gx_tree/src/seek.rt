@@ -1,0 +1,68 @@
+//! The way to a pair that is there.
+ghost use Rattle.std.specs.Prelude.{◌≡◌, ◌≢◌, ◌≤◌, length, map, Err, IfOk};
+ghost use Rattle.gx_node.specs.Hits.{IsNextHit};
+ghost use Rattle.gx_tree_laws.specs.Trees.{Used};
+ghost use Rattle.gx_tree.specs.Seeking.{Seeks};
+ghost use Rattle.gx_tree.specs.Store.{tree_of, Stays};
+ghost use Rattle.gx_tree.specs.Wants.{wants};
+
+use crate::fault::StepFault;
+use crate::pages::{Pages, bring_page};
+use crate::wanted::Wanted;
+use gx_class::Probing;
+use gx_node::Leaf;
+
+/// What a seek comes to at a leaf.
+#[derive(Clone, Copy, Debug, PartialEq, Eq)]
+pub enum Sought {
+    /// The pair stands in this slot; whether it is marked as deleted.
+    Here(usize, bool),
+    /// It doesn't: the leaf to the right, 0 for none.
+    Right(u32),
+}
+
+/// The first slot from a slot on whose pair is wanted.
+fn next_wanted<K: Probing>(leaf: &Leaf<K>, wanted: &Wanted<K>, from: usize) -> Option<usize>
+    requires { from ≤ length leaf.now.pairs }
+    ensures { IsNextHit (map (wants K.passes wanted.now.keys wanted.now.row) leaf.now.pairs) from result }
+{
+    let count = leaf.len();
+    let mut slot = from;
+    'scan: while slot < count {
+        let hit = leaf.next_hit(&wanted.keys, slot)?;
+        let (entry, marked) = leaf.entry(hit);
+        if wanted.takes(entry.row, marked) {
+            return Some(hit);
+        }
+        slot = hit + 1;
+    }
+    None
+}
+
+/// Looks for a pair in the leaf on a page, by `Wanted::entry`. A pair that was found in a leaf is there or further to the
+/// right, since splits move pairs to the right only (Lehman, Yao 1981); where it isn't in this leaf, the next one is told.
+///
+/// Refused with `Pages` where the page could not be brought, and with `Damaged` exactly where it isn't a leaf that is
+/// taken.
+pub fn seek_step<K: Probing, P: Pages<K>>(
+    pages: &mut P,
+    wanted: &Wanted<K>,
+    page: u32,
+) -> Result<Sought, StepFault<P::Fault>>
+    ensures stays { Stays (P.steady pages.old) (P.store pages.old) (P.store pages.new) }
+    ensures steady { P.steady pages.old → P.steady pages.new }
+    ensures sought { IfOk result (Seeks (wants K.passes wanted.now.keys wanted.now.row) ((tree_of (P.store pages.new)).node page)) }
+    ensures damaged { result ≡ Err StepFault.Damaged → Used (tree_of (P.store pages.new)) page → ((tree_of (P.store pages.new)).node page).level ≢ 0 }
+    ensures memory { result ≢ Err StepFault.Memory }
+{
+    bring_page(pages, page)?;
+    let page = pages.page(page);
+    if page.level() != 0 {
+        return Err(StepFault::Damaged);
+    }
+    let leaf = Leaf::<K>::of(page);
+    match next_wanted(&leaf, wanted, 0) {
+        Some(slot) => Ok(Sought::Here(slot, leaf.entry(slot).1)),
+        None => Ok(Sought::Right(leaf.right())),
+    }
+}
