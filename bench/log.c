@@ -1,0 +1,37 @@
+// The device calls of a log's batches alone, beside the proved log of gx_log_bench: a body of 32,768 bytes, a sync, a gate of
+// 512 bytes, a sync, over the same places of a file. The word is how many times 32 batches are written.
+#define _GNU_SOURCE
+#include <fcntl.h>
+#include <stdint.h>
+#include <stdio.h>
+#include <stdlib.h>
+#include <string.h>
+#include <unistd.h>
+
+enum { SECTOR = 512, SECTORS = 4168, BODY = 32768, PLACES = 32, GATES = 8, BODIES = 40 };
+
+static uint8_t body[BODY], gate[SECTOR];
+
+static void stop(const char *what) {
+    fprintf(stderr, "%s\n", what);
+    exit(1);
+}
+
+int main(int count, char **words) {
+    if (count != 2)
+        return 2;
+    uint64_t rounds = strtoull(words[1], NULL, 10);
+    int file = open("log.device", O_RDWR | O_CREAT, 0666);
+    if (file < 0 || ftruncate(file, SECTOR * SECTORS) != 0)
+        stop("no file");
+    memset(body, 1, BODY);
+    gate[0] = 0xA7;
+    for (uint64_t round = 0; round < rounds; round++)
+        for (int place = 0; place < PLACES; place++) {
+            if (pwrite(file, body, BODY, SECTOR * (BODIES + 64 * place)) != BODY || fdatasync(file) != 0)
+                stop("a body failed");
+            if (pwrite(file, gate, SECTOR, SECTOR * (GATES + place)) != SECTOR || fdatasync(file) != 0)
+                stop("a gate failed");
+        }
+    return 0;
+}

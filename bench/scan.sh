@@ -1,0 +1,14 @@
+#!/bin/sh
+# Builds the proved scan of nodes and the C program, compares what both find and choose, and times both.
+# The argument, if there is one, is the seed. CC names another compiler.
+set -eu
+top=$(cd "$(dirname "$0")/.." && pwd)
+made=$(mktemp -d)
+trap 'rm -rf "$made"' EXIT
+cd "$top/crates/gx_node_bench"
+if ! rt lib >"$made/log" 2>&1; then
+    cat "$made/log"
+    exit 1
+fi
+"${CC:-gcc}" -O2 -o "$made/scan" "$top/bench/scan.c" out/libgx_node_bench.a "$(dirname "$(rt doc)")/c/liblibc_c.a"
+"$made/scan" "$@"

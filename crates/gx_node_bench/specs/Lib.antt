@@ -1,0 +1,3 @@
+pub mod Choices
+pub mod Scans
+pub mod Sent
