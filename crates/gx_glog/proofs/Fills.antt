@@ -6,7 +6,9 @@ use Rattle.gx_disk.specs.Sectors.{put}
 use Rattle.gx_disk.proofs.Spans.{length-put, put_back, put_behind}
 use Rattle.gx_record.specs.Bytes.{u32_bytes, u32_of}
 use Rattle.gx_record.proofs.Numbers.{length-u32_bytes, u32_again}
+use Rattle.gx_glog.specs.declared.extent.Extent.{Extent}
 use Rattle.gx_glog.specs.Layout.{size_in, records_in}
+use Rattle.gx_glog.specs.Turning.{selector_of, IsSelector}
 use Rattle.gx_glog.specs.Bodies.{IsZero, IsFilled, IsBody, IsOpenGate}
 
 -- nothing lies behind a tail
@@ -102,16 +104,33 @@ zeros_before n part rest is zeros k =
     (λ (from : n ≤ k). get_or-append_right part rest n k 0 long from ∙ zeros (k - n))
     (cases_lt k n)
 
--- zeros but for the first byte are the sector of an open gate
-pub gate_is : (n : ℕ) (bytes : List ℕ) → n ≡ 512 → bytes ≡ slice_set (replicate n 0) 0 0xA7 → IsOpenGate bytes
-gate_is n bytes whole is =
+-- no byte of zeros is other than 0
+pub replicated_zero : (n k : ℕ) → get_or (replicate {A = ℕ} n 0) k 0 ≡ 0
+replicated_zero n k =
     let size : length (replicate {A = ℕ} n 0) ≡ n = length-replicate {A = ℕ} n 0 in
-    let zero : (k : ℕ) → get_or (replicate {A = ℕ} n 0) k 0 ≡ 0 = λ k. ⊎_elim (λ (less : k < n). get_or-replicate n k 0 0 less) (λ (from : n ≤ k). get_or_past (replicate n 0) k 0 (omega (arith, size))) (cases_lt k n) in
+    ⊎_elim (λ (less : k < n). get_or-replicate n k 0 0 less) (λ (from : n ≤ k). get_or_past (replicate n 0) k 0 (omega (arith, size))) (cases_lt k n)
+
+-- a sector of zeros but for the first byte
+record IsMarked (byte : ℕ) (bytes : List ℕ) : Type 0 where
+  pub whole : length bytes ≡ 512
+  pub first : get_or bytes 0 0 ≡ byte
+  pub zeros : (k : ℕ) → 0 < k → get_or bytes k 0 ≡ 0
+
+marked : (n byte : ℕ) (bytes : List ℕ) → n ≡ 512 → bytes ≡ slice_set (replicate n 0) 0 byte → IsMarked byte bytes
+marked n byte bytes whole is =
+    let size : length (replicate {A = ℕ} n 0) ≡ n = length-replicate {A = ℕ} n 0 in
     record {
-      whole = ap length is ∙ length-set (replicate n 0) 0 0xA7 ∙ size ∙ whole;
-      opens = ap (λ (ys : List ℕ). get_or ys 0 0) is ∙ get_or-set_same (replicate n 0) 0 0xA7 0 (omega (arith, size, whole));
-      zeros = λ k from. ap (λ (ys : List ℕ). get_or ys k 0) is ∙ get_or-set_other (replicate n 0) 0 k 0xA7 0 (λ same. absurd (omega arith)) ∙ zero k;
+      whole = ap length is ∙ length-set (replicate n 0) 0 byte ∙ size ∙ whole;
+      first = ap (λ (ys : List ℕ). get_or ys 0 0) is ∙ get_or-set_same (replicate n 0) 0 byte 0 (omega (arith, size, whole));
+      zeros = λ k from. ap (λ (ys : List ℕ). get_or ys k 0) is ∙ get_or-set_other (replicate n 0) 0 k byte 0 (λ same. absurd (omega arith)) ∙ replicated_zero n k;
     }
+
+-- the sector of an open gate, and that of a selector
+pub gate_is : (n : ℕ) (bytes : List ℕ) → n ≡ 512 → bytes ≡ slice_set (replicate n 0) 0 0xA7 → IsOpenGate bytes
+gate_is n bytes whole is = let is_marked = marked n 0xA7 bytes whole is in record { whole = is_marked.whole; opens = is_marked.first; zeros = is_marked.zeros }
+
+pub selector_is : (extent : Extent) (n byte : ℕ) (bytes : List ℕ) → n ≡ 512 → byte ≡ selector_of extent → bytes ≡ slice_set (replicate n 0) 0 byte → IsSelector extent bytes
+selector_is extent n byte bytes whole selects is = let is_marked = marked n byte bytes whole is in record { whole = is_marked.whole; selects = is_marked.first ∙ selects; zeros = is_marked.zeros }
 
 -- a part has as many bytes as lie between its ends
 pub part_size : (from to : ℕ) (xs : List ℕ) → from ≤ to → to ≤ length xs → length (take (to - from) (drop from xs)) ≡ to - from

@@ -1,11 +1,11 @@
 -- What gates, bodies and the selector read as: it hangs on their own sectors alone.
-use Rattle.std.proofs.Common.{◌≡◌, ◌∙◌, ap, refl, ℕ, zero, suc, ◌+◌, ◌*◌, ◌<◌, ◌≤◌, ◌==◌, List, ◌++◌, true, false, if◌then◌else◌, arith}
+use Rattle.std.proofs.Common.{◌≡◌, ◌∙◌, ap, refl, ◌⊎◌, inl, inr, ℕ, zero, suc, ◌+◌, ◌*◌, ◌<◌, ◌≤◌, ◌==◌, List, ◌++◌, true, false, if◌then◌else◌, arith}
 use Rattle.std.specs.Prelude.{slice_index}
-use Rattle.gx_disk.specs.Sectors.{span_of, sector_of, IsWithin}
+use Rattle.gx_disk.specs.Sectors.{span_of, sector_of, IsWithin, IsOutside}
 use Rattle.gx_disk.proofs.Spans.{spans_same}
 use Rattle.gx_glog.specs.declared.extent.Extent.{Extent}
 use Rattle.gx_glog.specs.declared.extent.Extent.TheVariants.{A, B}
-use Rattle.gx_glog.specs.Layout.{gates_of, bodies_of, selected_of, is_open, body_of, records_in, open_run, batches_of, log_of}
+use Rattle.gx_glog.specs.Layout.{gates_of, bodies_of, other_of, selected_of, is_open, body_of, records_in, open_run, batches_of, log_of}
 
 -- an extent's gates stand before its bodies, behind the selector and before the pages
 pub record IsPlaced (extent : Extent) : Type 0 where
@@ -16,6 +16,18 @@ pub record IsPlaced (extent : Extent) : Type 0 where
 pub placed : (extent : Extent) → IsPlaced extent
 placed A = record { bodies = refl; from = omega arith; to = omega arith }
 placed B = record { bodies = refl; from = omega arith; to = omega arith }
+
+-- an image selects the one extent or the other
+pub either_extent : (extent selected : Extent) → (selected ≡ extent) ⊎ (selected ≡ other_of extent)
+either_extent A A = inl refl
+either_extent A B = inr refl
+either_extent B A = inr refl
+either_extent B B = inl refl
+
+-- a span within one extent leaves the sectors of the other
+pub other_outside : (extent : Extent) (first n s : ℕ) → gates_of (other_of extent) ≤ first → first + n ≤ gates_of (other_of extent) + 2080 → IsWithin (gates_of extent) 2080 s → IsOutside first n s
+other_outside A first n s from to within = inl (omega (arith, within.below))
+other_outside B first n s from to within = inr (omega (arith, within.from))
 
 pub gate_same : (extent : Extent) (k : ℕ) (xs ys : List ℕ) → sector_of xs (gates_of extent + k) ≡ sector_of ys (gates_of extent + k) → is_open xs extent k ≡ is_open ys extent k
 unfolding is_open span_of sector_of

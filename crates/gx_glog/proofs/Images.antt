@@ -1,14 +1,16 @@
 -- Which log an image has, of a device that a log is on.
-use Rattle.std.proofs.Common.{◌≡◌, ◌∙◌, ap, refl, inl, inr, ℕ, ◌+◌, ◌<◌, ◌≤◌, List, ◌++◌, true, false, Bool, below_more, arith}
+use Rattle.std.proofs.Common.{◌≡◌, ◌∙◌, ap, refl, subst, ◌⊎◌, inl, inr, ⊎_elim, ℕ, ◌+◌, ◌<◌, ◌≤◌, List, ◌++◌, true, false, Bool, below_more, arith}
 use Rattle.gx_disk.specs.Device.{IsImage}
 use Rattle.gx_glog.specs.declared.extent.Extent.{Extent}
 use Rattle.gx_glog.specs.declared.stage.Stage.{Stage}
 use Rattle.gx_glog.specs.declared.stage.Stage.TheVariants.{Body, BodySync, Gate, GateSync, Idle}
-use Rattle.gx_glog.specs.Layout.{gates_of, selected_of, is_open, body_of, records_in, batches_of, log_of}
+use Rattle.gx_glog.specs.declared.stage.Turn.{Turn}
+use Rattle.gx_glog.specs.declared.stage.Turn.TheVariants as turn
+use Rattle.gx_glog.specs.Layout.{gates_of, other_of, selected_of, is_open, body_of, records_in, batches_of, log_of}
 use Rattle.gx_glog.specs.Bodies.{HasRecords}
-use Rattle.gx_glog.specs.State.{Log, IsSound}
-use Rattle.gx_glog.specs.Standing.{IsGate, IsBodySettled, HasBatches, Flies, On, gated_of, IsLogOf, Shows}
-use Rattle.gx_glog.proofs.Gates.{gate_same, selector_same, body_same, batches_same, batches_more, log_is}
+use Rattle.gx_glog.specs.State.{Log, IsSound, in_flight, turning}
+use Rattle.gx_glog.specs.Standing.{IsGate, IsBodySettled, IsSelected, HasBatches, HasHead, Flies, Leads, On, gated_of, IsLogOf, Shows, ShowsIn}
+use Rattle.gx_glog.proofs.Gates.{either_extent, gate_same, selector_same, body_same, batches_same, batches_more, log_is}
 
 pub image_gate : (state : Bool) (seen : List ℕ) (pending : ℕ → Bool) (extent : Extent) (k : ℕ) (image : List ℕ) → IsGate state seen pending extent k → IsImage seen pending image → is_open image extent k ≡ state
 image_gate state seen pending extent k image gate may = gate_same extent k image seen (may.settled (gates_of extent + k) gate.settled) ∙ gate.reads
@@ -21,16 +23,14 @@ pub image_batches : (seen : List ℕ) (pending : ℕ → Bool) (extent : Extent)
     → batches_of image extent n ≡ batches_of seen extent n
 image_batches seen pending extent n image settled may = batches_same extent n image seen (λ k less. image_body seen pending extent k image (settled k less) may)
 
-module _ (seen : List ℕ) (pending : ℕ → Bool) (extent : Extent) (gated used : ℕ) (image : List ℕ) (has : HasBatches extent gated used seen pending) (may : IsImage seen pending image) where
-  image_selects : selected_of image ≡ extent
-  image_selects = selector_same image seen (may.settled 2 has.selector) ∙ has.selects
-
+module _ (seen : List ℕ) (pending : ℕ → Bool) (extent : Extent) (gated used : ℕ) (image : List ℕ) (has : HasBatches extent gated used seen pending) (may : IsImage seen pending image)
+    (selects : selected_of image ≡ extent) where
   image_opened : (k : ℕ) → k < gated → is_open image extent k ≡ true
   image_opened k less = image_gate true seen pending extent k image (has.opened k less) may
 
   -- the log of an image whose gate behind the gated ones is closed
   pub closed_log : gated ≤ 32 → (gated < 32 → is_open image extent gated ≡ false) → log_of image ≡ batches_of seen extent gated
-  closed_log few closed = log_is extent gated image image_selects few image_opened closed ∙ image_batches seen pending extent gated image has.bodies may
+  closed_log few closed = log_is extent gated image selects few image_opened closed ∙ image_batches seen pending extent gated image has.bodies may
 
   -- the log of an image whose gate behind the gated ones is open, over a body that has these records
   open_log : (flight : List ℕ) → gated < 32 → used ≡ gated + 1 → HasRecords flight (body_of seen extent gated) → IsBodySettled pending extent gated → is_open image extent gated ≡ true
@@ -38,7 +38,7 @@ module _ (seen : List ℕ) (pending : ℕ → Bool) (extent : Extent) (gated use
   open_log flight few places body settled is_opened =
       let opened : (k : ℕ) → k < gated + 1 → is_open image extent k ≡ true = below_more (λ k. is_open image extent k ≡ true) gated image_opened is_opened in
       let closed : gated + 1 < 32 → is_open image extent (gated + 1) ≡ false = λ less. image_gate false seen pending extent (gated + 1) image (has.closed (gated + 1) (omega arith) less) may in
-      let whole : log_of image ≡ batches_of image extent (gated + 1) = log_is extent (gated + 1) image image_selects (omega arith) opened closed in
+      let whole : log_of image ≡ batches_of image extent (gated + 1) = log_is extent (gated + 1) image selects (omega arith) opened closed in
       let last : records_in (body_of image extent gated) ≡ flight = ap records_in (image_body seen pending extent gated image settled may) ∙ body.bytes in
       let before : batches_of image extent gated ≡ batches_of seen extent gated = image_batches seen pending extent gated image has.bodies may in
       whole ∙ batches_more extent gated image ∙ rw (before, last) refl
@@ -53,22 +53,69 @@ module _ (seen : List ℕ) (pending : ℕ → Bool) (extent : Extent) (gated use
       → IsLogOf (batches_of seen extent gated) flight image
   either_log flight few places body settled = by_gate flight (is_open image extent gated) refl few places body settled
 
-shows : (stage : Stage) (extent : Extent) (used gated : ℕ) (flight filling : List ℕ) (seen : List ℕ) (pending : ℕ → Bool) (image : List ℕ)
-    → IsSound (record { extent = extent; used = used; gated = gated; stage = stage; flight = flight; filling = filling })
-    → HasBatches extent gated used seen pending → Flies stage extent gated flight seen pending → IsImage seen pending image
+shows : (stage : Stage) (extent : Extent) (used gated : ℕ) (flight : List ℕ) (seen : List ℕ) (pending : ℕ → Bool) (image : List ℕ) → used ≡ gated + in_flight stage → used ≤ 32
+    → HasBatches extent gated used seen pending → Flies stage extent gated flight seen pending → IsImage seen pending image → selected_of image ≡ extent
     → Shows stage (batches_of seen extent gated) flight image
-shows Idle extent used gated flight filling seen pending image sound has flies may =
-    closed_log seen pending extent gated used image has may (omega (arith, sound.places, sound.few))
-    (λ less. image_gate false seen pending extent gated image (has.closed gated (omega (arith, sound.places)) less) may)
-shows Body extent used gated flight filling seen pending image sound has flies may =
-    closed_log seen pending extent gated used image has may (omega (arith, sound.places, sound.few)) (λ less. image_gate false seen pending extent gated image flies may)
-shows BodySync extent used gated flight filling seen pending image sound has flies may =
-    closed_log seen pending extent gated used image has may (omega (arith, sound.places, sound.few)) (λ less. image_gate false seen pending extent gated image flies.0 may)
-shows Gate extent used gated flight filling seen pending image sound has flies may =
-    either_log seen pending extent gated used image has may flight (omega (arith, sound.places, sound.few)) (omega (arith, sound.places)) flies.0 flies.1
-shows GateSync extent used gated flight filling seen pending image sound has flies may =
-    either_log seen pending extent gated used image has may flight (omega (arith, sound.places, sound.few)) (omega (arith, sound.places)) flies.0 flies.1
+shows Idle extent used gated flight seen pending image places few has flies may selects =
+    closed_log seen pending extent gated used image has may selects (omega arith)
+    (λ less. image_gate false seen pending extent gated image (has.closed gated (omega arith) less) may)
+shows Body extent used gated flight seen pending image places few has flies may selects =
+    closed_log seen pending extent gated used image has may selects (omega arith) (λ less. image_gate false seen pending extent gated image flies may)
+shows BodySync extent used gated flight seen pending image places few has flies may selects =
+    closed_log seen pending extent gated used image has may selects (omega arith) (λ less. image_gate false seen pending extent gated image flies.0 may)
+shows Gate extent used gated flight seen pending image places few has flies may selects =
+    either_log seen pending extent gated used image has may selects flight (omega arith) places flies.0 flies.1
+shows GateSync extent used gated flight seen pending image places few has flies may selects =
+    either_log seen pending extent gated used image has may selects flight (omega arith) places flies.0 flies.1
 
--- of a device that a log is on, each image's log is what is gated, with what is in flight or without
-pub image_shows : (log : Log) (seen : List ℕ) (pending : ℕ → Bool) (image : List ℕ) → On log seen pending → IsImage seen pending image → Shows log.stage (gated_of log seen) log.flight image
-image_shows log seen pending image on may = shows log.stage log.extent log.used log.gated log.flight log.filling seen pending image on.sound on.batches on.flight may
+-- an image that selects the log's extent has what is gated, with what is in flight or without
+pub selected_shows : (log : Log) (seen : List ℕ) (pending : ℕ → Bool) (image : List ℕ) → On log seen pending → IsImage seen pending image → selected_of image ≡ log.extent
+    → Shows log.stage (gated_of log seen) log.flight image
+selected_shows log seen pending image on may selects =
+    shows log.stage log.extent log.used log.gated log.flight seen pending image on.sound.places on.sound.few on.batches on.flight may selects
+
+-- the batches of an extent whose first one is the head are the head
+pub head_batches : (extent : Extent) (head seen : List ℕ) (pending : ℕ → Bool) → HasHead extent head seen pending → batches_of seen extent 1 ≡ head
+unfolding batches_of
+head_batches extent head seen pending has = has.records.bytes
+
+-- an image that selects that extent has the head
+pub head_shows : (extent : Extent) (head seen : List ℕ) (pending : ℕ → Bool) (image : List ℕ) → HasHead extent head seen pending → IsImage seen pending image → selected_of image ≡ extent → log_of image ≡ head
+head_shows extent head seen pending image has may selects =
+    closed_log seen pending extent 1 1 image has.batches may selects (omega arith) (λ less. image_gate false seen pending extent 1 image (has.batches.closed 1 (omega arith) less) may)
+    ∙ head_batches extent head seen pending has
+
+-- where the selector is settled, each image selects the extent
+pub image_selects : (extent : Extent) (seen : List ℕ) (pending : ℕ → Bool) (image : List ℕ) → IsSelected extent seen pending → IsImage seen pending image → selected_of image ≡ extent
+image_selects extent seen pending image selected may = selector_same image seen (may.settled 2 selected.settled) ∙ selected.reads
+
+-- a log without a batch in flight shows what is gated
+pub shows_gated : (stage : Stage) (gated flight image : List ℕ) → in_flight stage ≡ 0 → Shows stage gated flight image → log_of image ≡ gated
+shows_gated Idle gated flight image none has = has
+shows_gated Body gated flight image none has = has
+shows_gated BodySync gated flight image none has = has
+shows_gated Gate gated flight image none has = absurd (omega arith)
+shows_gated GateSync gated flight image none has = absurd (omega arith)
+
+-- from the selector's write on, the image's selector decides
+turned_shows : (extent : Extent) (stage : Stage) (gated head seen : List ℕ) (pending : ℕ → Bool) (image : List ℕ) → in_flight stage ≡ 0 → (selected_of image ≡ extent → Shows stage gated head image)
+    → HasHead (other_of extent) head seen pending → IsImage seen pending image → (log_of image ≡ gated) ⊎ (log_of image ≡ head)
+turned_shows extent stage gated head seen pending image none has_gated has may =
+    ⊎_elim (λ (same : selected_of image ≡ extent). inl (shows_gated stage gated head image none (has_gated same)))
+    (λ (other : selected_of image ≡ other_of extent). inr (head_shows (other_of extent) head seen pending image has may other))
+    (either_extent extent (selected_of image))
+
+shows_in : (turn : Turn) (stage : Stage) (extent : Extent) (gated head seen : List ℕ) (pending : ℕ → Bool) (image : List ℕ) → in_flight stage + turning turn ≤ 1 → (selected_of image ≡ extent → Shows stage gated head image)
+    → Leads turn extent (other_of extent) head seen pending → IsImage seen pending image → ShowsIn turn stage gated head image
+shows_in turn.Closed stage extent gated head seen pending image one has_gated leads may = has_gated (image_selects extent seen pending image leads may)
+shows_in turn.Body stage extent gated head seen pending image one has_gated leads may = has_gated (image_selects extent seen pending image leads.0 may)
+shows_in turn.BodySync stage extent gated head seen pending image one has_gated leads may = has_gated (image_selects extent seen pending image leads.0 may)
+shows_in turn.Gate stage extent gated head seen pending image one has_gated leads may = has_gated (image_selects extent seen pending image leads.0 may)
+shows_in turn.GateSync stage extent gated head seen pending image one has_gated leads may = has_gated (image_selects extent seen pending image leads.0 may)
+shows_in turn.Selector stage extent gated head seen pending image one has_gated leads may = turned_shows extent stage gated head seen pending image (omega arith) has_gated leads may
+shows_in turn.Done stage extent gated head seen pending image one has_gated leads may = turned_shows extent stage gated head seen pending image (omega arith) has_gated leads.0 may
+
+-- of a device that a log is on, each image's log is what is gated, with what is in flight or without; or what a turn leads to
+pub image_shows : (log : Log) (seen : List ℕ) (pending : ℕ → Bool) (image : List ℕ) → On log seen pending → IsImage seen pending image → ShowsIn log.turn log.stage (gated_of log seen) log.flight image
+image_shows log seen pending image on may =
+    shows_in log.turn log.stage log.extent (gated_of log seen) log.flight seen pending image on.sound.one (λ selects. selected_shows log seen pending image on may selects) on.turn may

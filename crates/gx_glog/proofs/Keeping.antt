@@ -1,15 +1,17 @@
 -- What is known of a log's sectors stays where they are kept.
-use Rattle.std.proofs.Common.{◌≡◌, ◌∙◌, sym, refl, ◌⊎◌, inl, inr, ℕ, ◌+◌, ◌*◌, ◌<◌, ◌≤◌, List, [], ◌++◌, length, true, false, Bool, subst, length-append, arith}
+use Rattle.std.proofs.Common.{◌≡◌, ◌∙◌, sym, ap, refl, ◌⊎◌, inl, inr, ℕ, ◌+◌, ◌*◌, ◌<◌, ◌≤◌, List, [], ◌++◌, length, true, false, Bool, subst, length-append, arith}
 use Rattle.gx_disk.specs.Sectors.{IsWithin, IsOutside}
 use Rattle.gx_disk.specs.Device.{Device, Touches, Rests}
 use Rattle.gx_glog.specs.declared.extent.Extent.{Extent}
 use Rattle.gx_glog.specs.declared.stage.Stage.{Stage}
 use Rattle.gx_glog.specs.declared.stage.Stage.TheVariants.{Body, BodySync, Gate, GateSync, Idle}
-use Rattle.gx_glog.specs.Layout.{gates_of, bodies_of, body_of, size_in, batches_of}
+use Rattle.gx_glog.specs.declared.stage.Turn.{Turn}
+use Rattle.gx_glog.specs.declared.stage.Turn.TheVariants as turn
+use Rattle.gx_glog.specs.Layout.{gates_of, bodies_of, other_of, body_of, size_in, batches_of}
 use Rattle.gx_glog.specs.Reading.{IsSize}
 use Rattle.gx_glog.specs.Bodies.{HasRecords}
-use Rattle.gx_glog.specs.State.{Log, in_flight}
-use Rattle.gx_glog.specs.Standing.{IsGate, IsBodySettled, HasBatches, Flies, On, gated_of, IsKept, IsOfLog, LeavesLog}
+use Rattle.gx_glog.specs.State.{Log, in_flight, turning}
+use Rattle.gx_glog.specs.Standing.{IsGate, IsBodySettled, IsSelected, HasBatches, ReadsClosed, HasFirst, HasHead, Flies, Leads, On, gated_of, IsKept, IsOfLog, LeavesLog}
 use Rattle.gx_glog.proofs.Gates.{placed, gate_same, selector_same, body_same, batches_same}
 
 -- a sector that a call doesn't touch is kept
@@ -37,15 +39,13 @@ module _ (seen seen' : List ℕ) (pending pending' : ℕ → Bool) where
       let P : List ℕ → Type 0 = λ body. HasRecords records body in
       subst P (sym (body_kept extent k kept)) has
 
-  -- gated batches stand where the selector, their gates and bodies and the gates of the places that aren't taken are kept
-  pub batches_kept : (extent : Extent) (gated used : ℕ) → length seen' ≡ length seen → IsKept seen seen' pending pending' 2
+  -- gated batches stand where their gates and bodies and the gates of the places that aren't taken are kept
+  pub batches_kept : (extent : Extent) (gated used : ℕ) → length seen' ≡ length seen
       → ((k : ℕ) → (k < gated) ⊎ (used ≤ k) → k < 32 → IsKept seen seen' pending pending' (gates_of extent + k))
       → ((k : ℕ) → k < gated → (s : ℕ) → IsWithin (bodies_of extent + 64 * k) 64 s → IsKept seen seen' pending pending' s)
       → gated ≤ 32 → HasBatches extent gated used seen pending → HasBatches extent gated used seen' pending'
-  batches_kept extent gated used size selector gates bodies few has = record {
+  batches_kept extent gated used size gates bodies few has = record {
     size = omega (arith, size, has.size);
-    selects = selector_same seen' seen selector.bytes ∙ has.selects;
-    selector = selector.settled has.selector;
     opened = λ k less. gate_kept true extent k (gates k (inl less) (omega arith)) (has.opened k less);
     bodies = λ k less. body_settled extent k (bodies k less) (has.bodies k less);
     sizes = λ k less. (let P : List ℕ → Type 0 = λ body. IsSize (size_in body) in subst P (sym (body_kept extent k (bodies k less))) (has.sizes k less));
@@ -57,7 +57,67 @@ module _ (seen seen' : List ℕ) (pending pending' : ℕ → Bool) where
       → batches_of seen' extent n ≡ batches_of seen extent n
   gated_kept extent n kept = batches_same extent n seen' seen (λ k less. body_kept extent k (kept k less))
 
+  -- an extent stays selected where the selector is kept
+  pub selected_kept : (extent : Extent) → IsKept seen seen' pending pending' 2 → IsSelected extent seen pending → IsSelected extent seen' pending'
+  selected_kept extent kept selected = record { reads = selector_same seen' seen kept.bytes ∙ selected.reads; settled = kept.settled selected.settled }
+
+  -- the sectors of an extent are kept
+  abbrev pub KeptExtent : Extent → Type 0
+  KeptExtent extent = (s : ℕ) → IsWithin (gates_of extent) 2080 s → IsKept seen seen' pending pending' s
+
+  pub extent_gate : (extent : Extent) → KeptExtent extent → (k : ℕ) → k < 32 → IsKept seen seen' pending pending' (gates_of extent + k)
+  extent_gate extent kept k below = kept (gates_of extent + k) (record { from = omega arith; below = omega arith })
+
+  pub extent_body : (extent : Extent) → KeptExtent extent → (k : ℕ) → k < 32 → (s : ℕ) → IsWithin (bodies_of extent + 64 * k) 64 s → IsKept seen seen' pending pending' s
+  extent_body extent kept k below s within = let at = placed extent in kept s (record { from = omega (arith, at.bodies, within.from); below = omega (arith, at.bodies, within.below) })
+
+  -- what is known of an extent whose sectors are kept
+  pub extent_batches : (extent : Extent) (gated used : ℕ) → length seen' ≡ length seen → KeptExtent extent → gated ≤ 32 → HasBatches extent gated used seen pending → HasBatches extent gated used seen' pending'
+  extent_batches extent gated used size kept few has =
+      batches_kept extent gated used size (λ k which below. extent_gate extent kept k below) (λ k less. extent_body extent kept k (omega arith)) few has
+
+  pub extent_gated : (extent : Extent) (n : ℕ) → KeptExtent extent → n ≤ 32 → batches_of seen' extent n ≡ batches_of seen extent n
+  extent_gated extent n kept few = gated_kept extent n (λ k less. extent_body extent kept k (omega arith))
+
+  pub closed_kept : (extent : Extent) → ((k : ℕ) → k < 32 → IsKept seen seen' pending pending' (gates_of extent + k)) → ReadsClosed extent seen → ReadsClosed extent seen'
+  closed_kept extent kept closed k below = gate_same extent k seen' seen (kept k below).bytes ∙ closed k below
+
+  pub first_kept : (extent : Extent) (head : List ℕ) → ((k : ℕ) → 1 ≤ k → k < 32 → IsKept seen seen' pending pending' (gates_of extent + k))
+      → ((s : ℕ) → IsWithin (bodies_of extent + 64 * 0) 64 s → IsKept seen seen' pending pending' s) → HasFirst extent head seen pending → HasFirst extent head seen' pending'
+  first_kept extent head gates body has = record {
+    records = records_kept extent 0 head body has.records;
+    body = body_settled extent 0 body has.body;
+    closed = λ k from below. gate_kept false extent k (gates k from below) (has.closed k from below);
+  }
+
+  pub head_kept : (extent : Extent) (head : List ℕ) → length seen' ≡ length seen → KeptExtent extent → HasHead extent head seen pending → HasHead extent head seen' pending'
+  head_kept extent head size kept has = record {
+    batches = extent_batches extent 1 1 size kept (omega arith) has.batches;
+    records = records_kept extent 0 head (extent_body extent kept 0 (omega arith)) has.records;
+  }
+
+  leads_kept : length seen' ≡ length seen → IsKept seen seen' pending pending' 2 → (turn : Turn) (from to : Extent) (head : List ℕ) → KeptExtent to → Leads turn from to head seen pending → Leads turn from to head seen' pending'
+  leads_kept size selector turn.Closed from to head kept leads = selected_kept from selector leads
+  leads_kept size selector turn.Body from to head kept leads = (selected_kept from selector leads.0, closed_kept to (extent_gate to kept) leads.1)
+  leads_kept size selector turn.BodySync from to head kept leads = (
+    selected_kept from selector leads.0,
+    closed_kept to (extent_gate to kept) leads.1,
+    records_kept to 0 head (extent_body to kept 0 (omega arith)) leads.2,
+  )
+  leads_kept size selector turn.Gate from to head kept leads =
+      (selected_kept from selector leads.0, first_kept to head (λ k some below. extent_gate to kept k below) (extent_body to kept 0 (omega arith)) leads.1)
+  leads_kept size selector turn.GateSync from to head kept leads = (
+    selected_kept from selector leads.0,
+    first_kept to head (λ k some below. extent_gate to kept k below) (extent_body to kept 0 (omega arith)) leads.1,
+    gate_same to 0 seen' seen (extent_gate to kept 0 (omega arith)).bytes ∙ leads.2,
+  )
+  leads_kept size selector turn.Selector from to head kept leads = head_kept to head size kept leads
+  leads_kept size selector turn.Done from to head kept leads = (head_kept to head size kept leads.0, selector_same seen' seen selector.bytes ∙ leads.1)
+
   -- the log's own sectors
+  extent_is_of_log : (extent : Extent) → LeavesLog seen seen' pending pending' → KeptExtent extent
+  extent_is_of_log extent leaves s within = let at = placed extent in leaves.kept s (inr (omega (arith, at.from, within.from), omega (arith, at.bodies, at.to, within.below)))
+
   gate_is_of_log : (extent : Extent) (k : ℕ) → k < 32 → IsOfLog (gates_of extent + k)
   gate_is_of_log extent k below = let at = placed extent in inr (omega (arith, at.from, at.to, at.bodies), omega (arith, at.to, at.bodies))
 
@@ -86,15 +146,16 @@ module _ (seen seen' : List ℕ) (pending pending' : ℕ → Bool) where
   on_kept log leaves on = record {
     sound = on.sound;
     batches =
-        batches_kept log.extent log.gated log.used leaves.size (leaves.kept 2 (inl refl)) (λ k which below. leaves.kept (gates_of log.extent + k) (gate_is_of_log log.extent k below))
-        (λ k less s within. leaves.kept s (body_is_of_log log.extent k s (omega (arith, on.sound.places, on.sound.few)) within)) (omega (arith, on.sound.places, on.sound.few)) on.batches;
+        extent_batches log.extent log.gated log.used leaves.size (extent_is_of_log log.extent leaves) (omega (arith, on.sound.places, on.sound.few)) on.batches;
     flight = flies_kept leaves log.stage log.extent log.gated log.flight (omega (arith, on.sound.places, on.sound.few)) on.flight;
+    turn = leads_kept leaves.size (leaves.kept 2 (inl refl)) log.turn log.extent (other_of log.extent) log.flight (extent_is_of_log (other_of log.extent) leaves) on.turn;
+    quiet = on.quiet;
   }
 
   -- and has the same batches
   pub gated_stays : (log : Log) → LeavesLog seen seen' pending pending' → On log seen pending → gated_of log seen' ≡ gated_of log seen
   gated_stays log leaves on =
-      gated_kept log.extent log.gated (λ k less s within. leaves.kept s (body_is_of_log log.extent k s (omega (arith, on.sound.places, on.sound.few)) within))
+      extent_gated log.extent log.gated (extent_is_of_log log.extent leaves) (omega (arith, on.sound.places, on.sound.few))
 
 -- a call elsewhere leaves the log's sectors
 pub touched_leaves : (first n : ℕ) (old new : Device) → ((s : ℕ) → IsOfLog s → IsOutside first n s) → Touches first n old new → LeavesLog old.seen new.seen old.pending new.pending
@@ -117,21 +178,24 @@ touched_wider first n old new from to touches = record {
 }
 
 -- a log with nothing logged
-pub start_on : (extent : Extent) (used : ℕ) (seen : List ℕ) (pending : ℕ → Bool) → used ≤ 32 → HasBatches extent used used seen pending
-    → On (record { extent = extent; used = used; gated = used; stage = Idle; flight = []; filling = [] }) seen pending
-start_on extent used seen pending few has = record {
-  sound = record { places = omega arith; few = few; some = omega arith; fits = omega arith; filled = omega arith; room = λ full. refl };
+pub start_on : (extent : Extent) (used : ℕ) (seen : List ℕ) (pending : ℕ → Bool) → used ≤ 32 → IsSelected extent seen pending → HasBatches extent used used seen pending
+    → On (record { extent = extent; used = used; gated = used; stage = Idle; turn = turn.Closed; flight = []; filling = [] }) seen pending
+start_on extent used seen pending few selected has = record {
+  sound = record { places = omega arith; few = few; one = omega arith; some = omega arith; fits = omega arith; filled = omega arith; room = λ full. refl };
   batches = has;
   flight = tt;
+  turn = selected;
+  quiet = λ turns. refl;
 }
 
 -- a log with a record more that fills
-pub append_on : (log : Log) (bytes seen : List ℕ) (pending : ℕ → Bool) → log.used < 32 → length log.filling + length bytes ≤ 32764 → On log seen pending
+pub append_on : (log : Log) (bytes seen : List ℕ) (pending : ℕ → Bool) → log.turn ≡ turn.Closed → log.used < 32 → length log.filling + length bytes ≤ 32764 → On log seen pending
     → On (record log { filling = log.filling ++ bytes }) seen pending
-append_on log bytes seen pending place fits on = record {
+append_on log bytes seen pending still place fits on = record {
   sound = record {
     places = on.sound.places;
     few = on.sound.few;
+    one = on.sound.one;
     some = on.sound.some;
     fits = on.sound.fits;
     filled = omega (arith, length-append log.filling bytes);
@@ -139,4 +203,34 @@ append_on log bytes seen pending place fits on = record {
   };
   batches = on.batches;
   flight = on.flight;
+  turn = on.turn;
+  quiet = λ turns. absurd (let none : turning log.turn ≡ 0 = ap turning still in omega arith);
 }
+
+-- a log with a record more in the head
+put_first_on_at : (extent : Extent) (used gated : ℕ) (flight filling bytes seen : List ℕ) (pending : ℕ → Bool) → length flight + length bytes ≤ 32764
+    → On (record { extent = extent; used = used; gated = gated; stage = Idle; turn = turn.Closed; flight = flight; filling = filling }) seen pending
+    → On (record { extent = extent; used = used; gated = gated; stage = Idle; turn = turn.Closed; flight = flight ++ bytes; filling = filling }) seen pending
+put_first_on_at extent used gated flight filling bytes seen pending fits on = record {
+  sound = record {
+    places = on.sound.places;
+    few = on.sound.few;
+    one = omega arith;
+    some = omega arith;
+    fits = omega (arith, length-append flight bytes);
+    filled = on.sound.filled;
+    room = on.sound.room;
+  };
+  batches = on.batches;
+  flight = tt;
+  turn = on.turn;
+  quiet = on.quiet;
+}
+
+pub put_first_on : (log : Log) (bytes seen : List ℕ) (pending : ℕ → Bool) → log.stage ≡ Idle → log.turn ≡ turn.Closed → length log.flight + length bytes ≤ 32764 → On log seen pending
+    → On (record log { flight = log.flight ++ bytes }) seen pending
+put_first_on log bytes seen pending idle still fits =
+    let at : Stage → Turn → List ℕ → Log = λ stage turn flight. record { extent = log.extent; used = log.used; gated = log.gated; stage = stage; turn = turn; flight = flight; filling = log.filling } in
+    let P : Stage → Type 0 = λ stage. On (at stage log.turn log.flight) seen pending → On (at stage log.turn (log.flight ++ bytes)) seen pending in
+    let Q : Turn → Type 0 = λ turn. On (at Idle turn log.flight) seen pending → On (at Idle turn (log.flight ++ bytes)) seen pending in
+    subst P (sym idle) (subst Q (sym still) (put_first_on_at log.extent log.used log.gated log.flight log.filling bytes seen pending fits))

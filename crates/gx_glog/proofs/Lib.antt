@@ -5,3 +5,4 @@ pub mod Images
 pub mod Keeping
 pub mod Looking
 pub mod Stepping
+pub mod Turning

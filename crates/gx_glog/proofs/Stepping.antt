@@ -11,23 +11,29 @@ use Rattle.gx_disk.proofs.Spans.{put_back}
 use Rattle.gx_glog.specs.declared.extent.Extent.{Extent}
 use Rattle.gx_glog.specs.declared.stage.Stage.{Stage}
 use Rattle.gx_glog.specs.declared.stage.Stage.TheVariants.{Body, BodySync, Gate, GateSync, Idle}
+use Rattle.gx_glog.specs.declared.stage.Turn.{Turn}
+use Rattle.gx_glog.specs.declared.stage.Turn.TheVariants as turn
 use Rattle.gx_glog.specs.Layout.{gates_of, bodies_of, is_open, body_of, size_in, batches_of, log_of}
 use Rattle.gx_glog.specs.Reading.{IsSize}
 use Rattle.gx_glog.specs.Bodies.{HasRecords, IsBody, IsOpenGate}
-use Rattle.gx_glog.specs.State.{Log, IsSound, in_flight, begun, done, Made, Goes}
-use Rattle.gx_glog.specs.Standing.{IsGate, IsBodySettled, HasBatches, On, gated_of, IsLogOf, Shows, IsKept}
+use Rattle.gx_glog.specs.State.{Log, IsSound, in_flight, turning, begun, done, Made, Goes}
+use Rattle.gx_glog.specs.Standing.{IsGate, IsBodySettled, IsSelected, HasBatches, On, gated_of, IsLogOf, Shows, IsKept}
 use Rattle.gx_glog.specs.Steps.{Calls, Keeps}
-use Rattle.gx_glog.proofs.Gates.{placed, batches_more}
-use Rattle.gx_glog.proofs.Images.{closed_log, either_log, image_gate, image_shows}
-use Rattle.gx_glog.proofs.Keeping.{touched_kept, gate_kept, body_settled, records_kept, batches_kept, gated_kept, on_kept, gated_stays, rested_leaves, touched_wider}
+use Rattle.gx_glog.proofs.Gates.{placed, selector_same, batches_more}
+use Rattle.gx_glog.proofs.Images.{closed_log, either_log, image_gate, image_selects, selected_shows}
+use Rattle.gx_glog.proofs.Keeping.{touched_kept, gate_kept, body_settled, records_kept, selected_kept, batches_kept, gated_kept, on_kept, gated_stays, rested_kept, rested_leaves, touched_wider}
 
+abbrev pub log_at : Turn → Extent → ℕ → ℕ → Stage → List ℕ → List ℕ → Log
+log_at turn extent used gated stage flight filling = record { extent = extent; used = used; gated = gated; stage = stage; turn = turn; flight = flight; filling = filling }
+
+-- a log without a turn
 abbrev pub log_with : Extent → ℕ → ℕ → Stage → List ℕ → List ℕ → Log
-log_with extent used gated stage flight filling = record { extent = extent; used = used; gated = gated; stage = stage; flight = flight; filling = filling }
+log_with = log_at turn.Closed
 
 -- the body's write
 module _ (extent : Extent) (used gated : ℕ) (flight filling bytes : List ℕ) (before now : Device) (result : Result Stage Refusal)
     (sound : IsSound (log_with extent used gated Body flight filling)) (has : HasBatches extent gated used before.seen before.pending) (gate : IsGate false before.seen before.pending extent gated)
-    (is_body : IsBody flight bytes) (writes : Writes (bodies_of extent + 64 * gated) 64 bytes before now result) where
+    (selected : IsSelected extent before.seen before.pending) (is_body : IsBody flight bytes) (writes : Writes (bodies_of extent + 64 * gated) 64 bytes before now result) where
   gates_stay : (k : ℕ) → k < 32 → IsKept before.seen now.seen before.pending now.pending (gates_of extent + k)
   gates_stay k below = let at = placed extent in touched_kept (bodies_of extent + 64 * gated) 64 (gates_of extent + k) before now writes.touches (inl (omega (arith, at.bodies)))
 
@@ -36,9 +42,12 @@ module _ (extent : Extent) (used gated : ℕ) (flight filling bytes : List ℕ) 
 
   body_batches : HasBatches extent gated used now.seen now.pending
   body_batches =
+      batches_kept before.seen now.seen before.pending now.pending extent gated used writes.touches.size (λ k which below. gates_stay k below) bodies_stay (omega (arith, sound.places, sound.few)) has
+
+  body_selected : IsSelected extent now.seen now.pending
+  body_selected =
       let at = placed extent in
-      let selector = touched_kept (bodies_of extent + 64 * gated) 64 2 before now writes.touches (inl (omega (arith, at.bodies, at.from))) in
-      batches_kept before.seen now.seen before.pending now.pending extent gated used writes.touches.size selector (λ k which below. gates_stay k below) bodies_stay (omega (arith, sound.places, sound.few)) has
+      selected_kept before.seen now.seen before.pending now.pending extent (touched_kept (bodies_of extent + 64 * gated) 64 2 before now writes.touches (inl (omega (arith, at.bodies, at.from)))) selected
 
   body_gate : IsGate false now.seen now.pending extent gated
   body_gate = gate_kept before.seen now.seen before.pending now.pending false extent gated (gates_stay gated (omega (arith, sound.places, sound.few))) gate
@@ -49,7 +58,7 @@ module _ (extent : Extent) (used gated : ℕ) (flight filling bytes : List ℕ) 
   body_moments : Leaves (λ image. log_of image ≡ batches_of before.seen extent gated) before now
   body_moments =
       call_leaves (λ image. log_of image ≡ batches_of before.seen extent gated) before now writes.time
-      (λ image may. closed_log now.seen now.pending extent gated used image body_batches may (omega (arith, sound.places, sound.few))
+      (λ image may. closed_log now.seen now.pending extent gated used image body_batches may (image_selects extent now.seen now.pending image body_selected may) (omega (arith, sound.places, sound.few))
       (λ less. image_gate false now.seen now.pending extent gated image body_gate may) ∙ body_same_batches)
 
   body_touches : Touches 8 4160 before now
@@ -69,30 +78,34 @@ body_made : (extent : Extent) (used gated : ℕ) (flight filling : List ℕ) (be
     → Calls Body extent gated flight before now (Ok Body) → Keeps (log_with extent used gated Body flight filling) (log_with extent used gated BodySync flight filling) before now (Ok Body)
 body_made extent used gated flight filling before now on (bytes, is_body, writes) = record {
   on = record {
-    sound = record { places = on.sound.places; few = on.sound.few; some = on.sound.some; fits = on.sound.fits; filled = on.sound.filled; room = on.sound.room };
-    batches = body_batches extent used gated flight filling bytes before now (Ok Body) on.sound on.batches on.flight is_body writes;
+    sound = record { places = on.sound.places; few = on.sound.few; one = on.sound.one; some = on.sound.some; fits = on.sound.fits; filled = on.sound.filled; room = on.sound.room };
+    batches = body_batches extent used gated flight filling bytes before now (Ok Body) on.sound on.batches on.flight on.turn is_body writes;
     flight = (
-      body_gate extent used gated flight filling bytes before now (Ok Body) on.sound on.batches on.flight is_body writes,
-      body_reads extent used gated flight filling bytes before now (Ok Body) on.sound on.batches on.flight is_body writes writes.written,
+      body_gate extent used gated flight filling bytes before now (Ok Body) on.sound on.batches on.flight on.turn is_body writes,
+      body_reads extent used gated flight filling bytes before now (Ok Body) on.sound on.batches on.flight on.turn is_body writes writes.written,
     );
+    turn = body_selected extent used gated flight filling bytes before now (Ok Body) on.sound on.batches on.flight on.turn is_body writes;
+    quiet = on.quiet;
   };
-  gated = body_same_batches extent used gated flight filling bytes before now (Ok Body) on.sound on.batches on.flight is_body writes;
-  moments = body_moments extent used gated flight filling bytes before now (Ok Body) on.sound on.batches on.flight is_body writes;
-  touches = body_touches extent used gated flight filling bytes before now (Ok Body) on.sound on.batches on.flight is_body writes;
+  gated = body_same_batches extent used gated flight filling bytes before now (Ok Body) on.sound on.batches on.flight on.turn is_body writes;
+  moments = body_moments extent used gated flight filling bytes before now (Ok Body) on.sound on.batches on.flight on.turn is_body writes;
+  touches = body_touches extent used gated flight filling bytes before now (Ok Body) on.sound on.batches on.flight on.turn is_body writes;
   time = writes.time;
 }
 
 body_failed : (extent : Extent) (used gated : ℕ) (flight filling : List ℕ) (before now : Device) (refusal : Refusal) → On (log_with extent used gated Body flight filling) before.seen before.pending
-    → Calls Body extent gated flight before now (Err refusal) → Keeps (log_with extent used gated Body flight filling) (log_with extent used gated Body flight filling) before now (Err refusal)
+    → Calls {T = Stage} Body extent gated flight before now (Err refusal) → Keeps (log_with extent used gated Body flight filling) (log_with extent used gated Body flight filling) before now (Err refusal)
 body_failed extent used gated flight filling before now refusal on (bytes, is_body, writes) = record {
   on = record {
     sound = on.sound;
-    batches = body_batches extent used gated flight filling bytes before now (Err refusal) on.sound on.batches on.flight is_body writes;
-    flight = body_gate extent used gated flight filling bytes before now (Err refusal) on.sound on.batches on.flight is_body writes;
+    batches = body_batches extent used gated flight filling bytes before now (Err refusal) on.sound on.batches on.flight on.turn is_body writes;
+    flight = body_gate extent used gated flight filling bytes before now (Err refusal) on.sound on.batches on.flight on.turn is_body writes;
+    turn = body_selected extent used gated flight filling bytes before now (Err refusal) on.sound on.batches on.flight on.turn is_body writes;
+    quiet = on.quiet;
   };
-  gated = body_same_batches extent used gated flight filling bytes before now (Err refusal) on.sound on.batches on.flight is_body writes;
-  moments = body_moments extent used gated flight filling bytes before now (Err refusal) on.sound on.batches on.flight is_body writes;
-  touches = body_touches extent used gated flight filling bytes before now (Err refusal) on.sound on.batches on.flight is_body writes;
+  gated = body_same_batches extent used gated flight filling bytes before now (Err refusal) on.sound on.batches on.flight on.turn is_body writes;
+  moments = body_moments extent used gated flight filling bytes before now (Err refusal) on.sound on.batches on.flight on.turn is_body writes;
+  touches = body_touches extent used gated flight filling bytes before now (Err refusal) on.sound on.batches on.flight on.turn is_body writes;
   time = writes.time;
 }
 
@@ -100,7 +113,7 @@ body_failed extent used gated flight filling before now refusal on (bytes, is_bo
 module _ (extent : Extent) (used gated : ℕ) (flight filling bytes : List ℕ) (before now : Device) (result : Result Stage Refusal)
     (sound : IsSound (log_with extent used gated Gate flight filling)) (has : HasBatches extent gated used before.seen before.pending)
     (body : HasRecords flight (body_of before.seen extent gated)) (settled : IsBodySettled before.pending extent gated)
-    (is_gate : IsOpenGate bytes) (writes : Writes (gates_of extent + gated) 1 bytes before now result) where
+    (selected : IsSelected extent before.seen before.pending) (is_gate : IsOpenGate bytes) (writes : Writes (gates_of extent + gated) 1 bytes before now result) where
   others_stay : (k : ℕ) → (k < gated) ⊎ (used ≤ k) → k < 32 → IsKept before.seen now.seen before.pending now.pending (gates_of extent + k)
   others_stay k (inl less) below = touched_kept (gates_of extent + gated) 1 (gates_of extent + k) before now writes.touches (inl (omega arith))
   others_stay k (inr from) below = touched_kept (gates_of extent + gated) 1 (gates_of extent + k) before now writes.touches (inr (omega (arith, sound.places)))
@@ -112,9 +125,12 @@ module _ (extent : Extent) (used gated : ℕ) (flight filling bytes : List ℕ) 
 
   gate_batches : HasBatches extent gated used now.seen now.pending
   gate_batches =
+      batches_kept before.seen now.seen before.pending now.pending extent gated used writes.touches.size others_stay (λ k less s within. all_bodies_stay k s within) (omega (arith, sound.places, sound.few)) has
+
+  gate_selected : IsSelected extent now.seen now.pending
+  gate_selected =
       let at = placed extent in
-      let selector = touched_kept (gates_of extent + gated) 1 2 before now writes.touches (inl (omega (arith, at.from))) in
-      batches_kept before.seen now.seen before.pending now.pending extent gated used writes.touches.size selector others_stay (λ k less s within. all_bodies_stay k s within) (omega (arith, sound.places, sound.few)) has
+      selected_kept before.seen now.seen before.pending now.pending extent (touched_kept (gates_of extent + gated) 1 2 before now writes.touches (inl (omega (arith, at.from)))) selected
 
   gate_body : HasRecords flight (body_of now.seen extent gated)
   gate_body = records_kept before.seen now.seen before.pending now.pending extent gated flight (all_bodies_stay gated) body
@@ -129,7 +145,7 @@ module _ (extent : Extent) (used gated : ℕ) (flight filling bytes : List ℕ) 
   gate_moments =
       let P : List ℕ → Type 0 = λ records. (image : List ℕ) → MayLeave now image → IsLogOf records flight image in
       call_leaves (IsLogOf (batches_of before.seen extent gated) flight) before now writes.time
-      (subst P gate_same_batches (λ image may. either_log now.seen now.pending extent gated used image gate_batches may flight (omega (arith, sound.places, sound.few)) (omega (arith, sound.places)) gate_body gate_settled))
+      (subst P gate_same_batches (λ image may. either_log now.seen now.pending extent gated used image gate_batches may (image_selects extent now.seen now.pending image gate_selected may) flight (omega (arith, sound.places, sound.few)) (omega (arith, sound.places)) gate_body gate_settled))
 
   gate_touches : Touches 8 4160 before now
   gate_touches = let at = placed extent in touched_wider (gates_of extent + gated) 1 before now (omega (arith, at.from)) (omega (arith, at.bodies, at.to, sound.places, sound.few)) writes.touches
@@ -148,34 +164,38 @@ gate_made : (extent : Extent) (used gated : ℕ) (flight filling : List ℕ) (be
     → Calls Gate extent gated flight before now (Ok Gate) → Keeps (log_with extent used gated Gate flight filling) (log_with extent used gated GateSync flight filling) before now (Ok Gate)
 gate_made extent used gated flight filling before now on (bytes, is_gate, writes) = record {
   on = record {
-    sound = record { places = on.sound.places; few = on.sound.few; some = on.sound.some; fits = on.sound.fits; filled = on.sound.filled; room = on.sound.room };
-    batches = gate_batches extent used gated flight filling bytes before now (Ok Gate) on.sound on.batches on.flight.0 on.flight.1 is_gate writes;
+    sound = record { places = on.sound.places; few = on.sound.few; one = on.sound.one; some = on.sound.some; fits = on.sound.fits; filled = on.sound.filled; room = on.sound.room };
+    batches = gate_batches extent used gated flight filling bytes before now (Ok Gate) on.sound on.batches on.flight.0 on.flight.1 on.turn is_gate writes;
     flight = (
-      gate_body extent used gated flight filling bytes before now (Ok Gate) on.sound on.batches on.flight.0 on.flight.1 is_gate writes,
-      gate_settled extent used gated flight filling bytes before now (Ok Gate) on.sound on.batches on.flight.0 on.flight.1 is_gate writes,
-      gate_opens extent used gated flight filling bytes before now (Ok Gate) on.sound on.batches on.flight.0 on.flight.1 is_gate writes writes.written,
+      gate_body extent used gated flight filling bytes before now (Ok Gate) on.sound on.batches on.flight.0 on.flight.1 on.turn is_gate writes,
+      gate_settled extent used gated flight filling bytes before now (Ok Gate) on.sound on.batches on.flight.0 on.flight.1 on.turn is_gate writes,
+      gate_opens extent used gated flight filling bytes before now (Ok Gate) on.sound on.batches on.flight.0 on.flight.1 on.turn is_gate writes writes.written,
     );
+    turn = gate_selected extent used gated flight filling bytes before now (Ok Gate) on.sound on.batches on.flight.0 on.flight.1 on.turn is_gate writes;
+    quiet = on.quiet;
   };
-  gated = gate_same_batches extent used gated flight filling bytes before now (Ok Gate) on.sound on.batches on.flight.0 on.flight.1 is_gate writes;
-  moments = gate_moments extent used gated flight filling bytes before now (Ok Gate) on.sound on.batches on.flight.0 on.flight.1 is_gate writes;
-  touches = gate_touches extent used gated flight filling bytes before now (Ok Gate) on.sound on.batches on.flight.0 on.flight.1 is_gate writes;
+  gated = gate_same_batches extent used gated flight filling bytes before now (Ok Gate) on.sound on.batches on.flight.0 on.flight.1 on.turn is_gate writes;
+  moments = gate_moments extent used gated flight filling bytes before now (Ok Gate) on.sound on.batches on.flight.0 on.flight.1 on.turn is_gate writes;
+  touches = gate_touches extent used gated flight filling bytes before now (Ok Gate) on.sound on.batches on.flight.0 on.flight.1 on.turn is_gate writes;
   time = writes.time;
 }
 
 gate_failed : (extent : Extent) (used gated : ℕ) (flight filling : List ℕ) (before now : Device) (refusal : Refusal) → On (log_with extent used gated Gate flight filling) before.seen before.pending
-    → Calls Gate extent gated flight before now (Err refusal) → Keeps (log_with extent used gated Gate flight filling) (log_with extent used gated Gate flight filling) before now (Err refusal)
+    → Calls {T = Stage} Gate extent gated flight before now (Err refusal) → Keeps (log_with extent used gated Gate flight filling) (log_with extent used gated Gate flight filling) before now (Err refusal)
 gate_failed extent used gated flight filling before now refusal on (bytes, is_gate, writes) = record {
   on = record {
     sound = on.sound;
-    batches = gate_batches extent used gated flight filling bytes before now (Err refusal) on.sound on.batches on.flight.0 on.flight.1 is_gate writes;
+    batches = gate_batches extent used gated flight filling bytes before now (Err refusal) on.sound on.batches on.flight.0 on.flight.1 on.turn is_gate writes;
     flight = (
-      gate_body extent used gated flight filling bytes before now (Err refusal) on.sound on.batches on.flight.0 on.flight.1 is_gate writes,
-      gate_settled extent used gated flight filling bytes before now (Err refusal) on.sound on.batches on.flight.0 on.flight.1 is_gate writes,
+      gate_body extent used gated flight filling bytes before now (Err refusal) on.sound on.batches on.flight.0 on.flight.1 on.turn is_gate writes,
+      gate_settled extent used gated flight filling bytes before now (Err refusal) on.sound on.batches on.flight.0 on.flight.1 on.turn is_gate writes,
     );
+    turn = gate_selected extent used gated flight filling bytes before now (Err refusal) on.sound on.batches on.flight.0 on.flight.1 on.turn is_gate writes;
+    quiet = on.quiet;
   };
-  gated = gate_same_batches extent used gated flight filling bytes before now (Err refusal) on.sound on.batches on.flight.0 on.flight.1 is_gate writes;
-  moments = gate_moments extent used gated flight filling bytes before now (Err refusal) on.sound on.batches on.flight.0 on.flight.1 is_gate writes;
-  touches = gate_touches extent used gated flight filling bytes before now (Err refusal) on.sound on.batches on.flight.0 on.flight.1 is_gate writes;
+  gated = gate_same_batches extent used gated flight filling bytes before now (Err refusal) on.sound on.batches on.flight.0 on.flight.1 on.turn is_gate writes;
+  moments = gate_moments extent used gated flight filling bytes before now (Err refusal) on.sound on.batches on.flight.0 on.flight.1 on.turn is_gate writes;
+  touches = gate_touches extent used gated flight filling bytes before now (Err refusal) on.sound on.batches on.flight.0 on.flight.1 on.turn is_gate writes;
   time = writes.time;
 }
 
@@ -187,19 +207,21 @@ module _ (log : Log) (before now : Device) (result : Result Stage Refusal) (on :
   synced_gated : gated_of log now.seen ≡ gated_of log before.seen
   synced_gated = gated_stays before.seen now.seen before.pending now.pending log (rested_leaves before now syncs.rests) on
 
-  synced_moments : Leaves (Shows log.stage (gated_of log before.seen) log.flight) before now
-  synced_moments =
+  synced_moments : IsSelected log.extent before.seen before.pending → Leaves (Shows log.stage (gated_of log before.seen) log.flight) before now
+  synced_moments selected =
       let P : List ℕ → Type 0 = λ records. (image : List ℕ) → MayLeave now image → Shows log.stage records log.flight image in
-      call_leaves (Shows log.stage (gated_of log before.seen) log.flight) before now syncs.time (subst P synced_gated (λ image may. image_shows log now.seen now.pending image synced_on may))
+      let still : IsSelected log.extent now.seen now.pending = selected_kept before.seen now.seen before.pending now.pending log.extent (rested_kept 2 before now syncs.rests) selected in
+      call_leaves (Shows log.stage (gated_of log before.seen) log.flight) before now syncs.time
+      (subst P synced_gated (λ image may. selected_shows log now.seen now.pending image synced_on may (image_selects log.extent now.seen now.pending image still may)))
 
   synced_touches : Touches 8 4160 before now
   synced_touches = touched_wider 8 0 before now (omega arith) (omega arith) (rested_touches 8 before now syncs.rests)
 
-sync_failed : (log : Log) (before now : Device) (refusal : Refusal) → On log before.seen before.pending → Syncs {T = Stage} {E = Refusal} before now (Err refusal) → Keeps log log before now (Err refusal)
-sync_failed log before now refusal on syncs = record {
+sync_failed : (log : Log) (before now : Device) (refusal : Refusal) → On log before.seen before.pending → IsSelected log.extent before.seen before.pending → Syncs {T = Stage} {E = Refusal} before now (Err refusal) → Keeps log log before now (Err refusal)
+sync_failed log before now refusal on selected syncs = record {
   on = synced_on log before now (Err refusal) on syncs;
   gated = synced_gated log before now (Err refusal) on syncs;
-  moments = synced_moments log before now (Err refusal) on syncs;
+  moments = synced_moments log before now (Err refusal) on syncs selected;
   touches = synced_touches log before now (Err refusal) on syncs;
   time = syncs.time;
 }
@@ -211,12 +233,14 @@ body_synced extent used gated flight filling before now on syncs =
     let there : On log now.seen now.pending = synced_on log before now (Ok BodySync) on syncs in
     record {
       on = record {
-        sound = record { places = on.sound.places; few = on.sound.few; some = on.sound.some; fits = on.sound.fits; filled = on.sound.filled; room = on.sound.room };
+        sound = record { places = on.sound.places; few = on.sound.few; one = on.sound.one; some = on.sound.some; fits = on.sound.fits; filled = on.sound.filled; room = on.sound.room };
         batches = there.batches;
         flight = (there.flight.1, λ s within. syncs.settled s);
+        turn = there.turn;
+        quiet = there.quiet;
       };
       gated = synced_gated log before now (Ok BodySync) on syncs;
-      moments = synced_moments log before now (Ok BodySync) on syncs;
+      moments = synced_moments log before now (Ok BodySync) on syncs on.turn;
       touches = synced_touches log before now (Ok BodySync) on syncs;
       time = syncs.time;
     }
@@ -229,8 +253,6 @@ joined extent used gated flight seen pending places fits gate settled body has =
     let size : IsSize (size_in (body_of seen extent gated)) = (let S : ℕ → Type 0 = IsSize in subst S (sym body.size) fits) in
     let more : HasBatches extent (gated + 1) used seen pending = record {
       size = has.size;
-      selects = has.selects;
-      selector = has.selector;
       opened = below_more (λ k. IsGate true seen pending extent k) gated has.opened gate;
       bodies = below_more (λ k. IsBodySettled pending extent k) gated has.bodies settled;
       sizes = below_more (λ k. IsSize (size_in (body_of seen extent k))) gated has.sizes size;
@@ -249,12 +271,14 @@ gate_synced extent used gated flight filling before now on syncs =
     let same : batches_of now.seen extent gated ≡ batches_of before.seen extent gated = synced_gated log before now (Ok GateSync) on syncs in
     record {
       on = record {
-        sound = record { places = omega arith; few = on.sound.few; some = omega arith; fits = omega arith; filled = on.sound.filled; room = on.sound.room };
+        sound = record { places = omega arith; few = on.sound.few; one = omega arith; some = omega arith; fits = omega arith; filled = on.sound.filled; room = on.sound.room };
         batches = joined extent used gated flight now.seen now.pending places fits gate there.flight.1 there.flight.0 there.batches;
         flight = tt;
+        turn = there.turn;
+        quiet = there.quiet;
       };
       gated = ap (batches_of now.seen extent) places ∙ batches_more extent gated now.seen ∙ rw (same, there.flight.0.bytes) refl;
-      moments = synced_moments log before now (Ok GateSync) on syncs;
+      moments = synced_moments log before now (Ok GateSync) on syncs on.turn;
       touches = synced_touches log before now (Ok GateSync) on syncs;
       time = syncs.time;
     }
@@ -271,13 +295,13 @@ made_keeps GateSync extent used gated flight filling before now flies on calls =
 
 -- a call that failed, by its stage
 pub failed_keeps : (stage : Stage) (extent : Extent) (used gated : ℕ) (flight filling : List ℕ) (before now : Device) (refusal : Refusal) → in_flight stage ≡ 1
-    → On (log_with extent used gated stage flight filling) before.seen before.pending → Calls stage extent gated flight before now (Err refusal)
+    → On (log_with extent used gated stage flight filling) before.seen before.pending → Calls {T = Stage} stage extent gated flight before now (Err refusal)
     → Keeps (log_with extent used gated stage flight filling) (log_with extent used gated stage flight filling) before now (Err refusal)
 failed_keeps Idle extent used gated flight filling before now refusal flies on calls = absurd (omega arith)
 failed_keeps Body extent used gated flight filling before now refusal flies on calls = body_failed extent used gated flight filling before now refusal on calls
-failed_keeps BodySync extent used gated flight filling before now refusal flies on calls = sync_failed (log_with extent used gated BodySync flight filling) before now refusal on calls
+failed_keeps BodySync extent used gated flight filling before now refusal flies on calls = sync_failed (log_with extent used gated BodySync flight filling) before now refusal on on.turn calls
 failed_keeps Gate extent used gated flight filling before now refusal flies on calls = gate_failed extent used gated flight filling before now refusal on calls
-failed_keeps GateSync extent used gated flight filling before now refusal flies on calls = sync_failed (log_with extent used gated GateSync flight filling) before now refusal on calls
+failed_keeps GateSync extent used gated flight filling before now refusal flies on calls = sync_failed (log_with extent used gated GateSync flight filling) before now refusal on on.turn calls
 
 -- where a record waits for a batch, there is a place for it
 pub room_left : (used : ℕ) (filling : List ℕ) → 1 ≤ length filling → (32 ≤ used → filling ≡ []) → used < 32
@@ -289,17 +313,17 @@ pub begun_on : (extent : Extent) (used gated : ℕ) (flight filling seen : List 
 begun_on extent used gated flight filling seen pending some on =
     let fewer : used < 32 = room_left used filling some on.sound.room in
     record {
-      sound = record { places = omega (arith, on.sound.places); few = omega arith; some = some; fits = omega (arith, on.sound.filled); filled = omega arith; room = λ full. refl };
+      sound = record { places = omega (arith, on.sound.places); few = omega arith; one = omega arith; some = omega arith; fits = on.sound.filled; filled = omega arith; room = λ full. refl };
       batches = record {
         size = on.batches.size;
-        selects = on.batches.selects;
-        selector = on.batches.selector;
         opened = on.batches.opened;
         bodies = on.batches.bodies;
         sizes = on.batches.sizes;
         closed = λ k from below. on.batches.closed k (omega arith) below;
       };
       flight = on.batches.closed gated (omega (arith, on.sound.places)) (omega (arith, on.sound.places));
+      turn = on.turn;
+      quiet = λ turns. refl;
     }
 
 -- what the first call of a new batch keeps
@@ -314,39 +338,51 @@ begun_keeps extent used gated flight filling new before now (Ok Idle) made keeps
 begun_keeps extent used gated flight filling new before now (Err refusal) made keeps = record { on = keeps.on; gated = keeps.gated; moments = keeps.moments; touches = keeps.touches; time = keeps.time }
 
 -- where nothing is logged and nothing is in flight, nothing changes
-pub idle_keeps : (extent : Extent) (used gated : ℕ) (flight filling : List ℕ) (d : Device) → On (log_with extent used gated Idle flight filling) d.seen d.pending
-    → Keeps (log_with extent used gated Idle flight filling) (log_with extent used gated Idle flight filling) d d (Ok Idle)
-idle_keeps extent used gated flight filling d on = record {
+pub idle_keeps : (t : Turn) (extent : Extent) (used gated : ℕ) (flight filling : List ℕ) (d : Device) → On (log_at t extent used gated Idle flight filling) d.seen d.pending
+    → Keeps (log_at t extent used gated Idle flight filling) (log_at t extent used gated Idle flight filling) d d (Ok Idle)
+idle_keeps t extent used gated flight filling d on = record {
   on = on;
   gated = refl;
   moments = nothing_leaves (Shows Idle (batches_of d.seen extent gated) flight) d;
   touches = record { size = refl; bytes = λ s out. refl; settled = λ s out was. was };
-  time = record { later = omega arith; only = λ t image le left. inl left; keeps = λ t image le left. left };
+  time = record { later = omega arith; only = λ from image le left. inl left; keeps = λ from image le left. left };
 }
 
--- a batch in flight goes on by the call that is due
-pub flying_goes : (stage : Stage) (extent : Extent) (used gated : ℕ) (flight filling : List ℕ) (new : Log) (result : Result Stage Refusal) → in_flight stage ≡ 1
-    → Made (log_with extent used gated stage flight filling) new result → Goes (log_with extent used gated stage flight filling) new result
-flying_goes Idle extent used gated flight filling new result flies made = absurd (omega arith)
-flying_goes Body extent used gated flight filling new result flies made = made
-flying_goes BodySync extent used gated flight filling new result flies made = made
-flying_goes Gate extent used gated flight filling new result flies made = made
-flying_goes GateSync extent used gated flight filling new result flies made = made
+-- no turn is under way where a batch is in flight
+pub none_turns : (t : Turn) → turning t ≡ 0 → t ≡ turn.Closed
+none_turns turn.Closed none = refl
+none_turns turn.Body none = absurd (omega arith)
+none_turns turn.BodySync none = absurd (omega arith)
+none_turns turn.Gate none = absurd (omega arith)
+none_turns turn.GateSync none = absurd (omega arith)
+none_turns turn.Selector none = absurd (omega arith)
+none_turns turn.Done none = absurd (omega arith)
 
 -- what a call that was made keeps
 pub call_made : (log new : Log) (stage : Stage) (before now : Device) → in_flight log.stage ≡ 1 → stage ≡ log.stage → new ≡ done log → Calls log.stage log.extent log.gated log.flight before now (Ok stage)
     → On log before.seen before.pending → Keeps log new before now (Ok stage)
 call_made log new stage before now flies made goes calls on =
+    let at : Turn → Log = λ t. log_at t log.extent log.used log.gated log.stage log.flight log.filling in
     let P : Stage → Type 0 = λ s. Calls log.stage log.extent log.gated log.flight before now (Ok s) → Keeps log (done log) before now (Ok s) in
     let Q : Log → Type 0 = λ l. Keeps log l before now (Ok stage) in
-    subst Q (sym goes) (subst P (sym made) (made_keeps log.stage log.extent log.used log.gated log.flight log.filling before now flies on) calls)
+    let R : Turn → Type 0 = λ t. On (at t) before.seen before.pending → Calls log.stage log.extent log.gated log.flight before now (Ok log.stage) → Keeps (at t) (done (at t)) before now (Ok log.stage) in
+    let still : log.turn ≡ turn.Closed = none_turns log.turn (omega (arith, on.sound.one)) in
+    subst Q (sym goes) (subst P (sym made) (subst R (sym still) (λ on'. made_keeps log.stage log.extent log.used log.gated log.flight log.filling before now flies on') on) calls)
 
 -- and one that failed
-pub call_failed : (log new : Log) (refusal : Refusal) (before now : Device) → in_flight log.stage ≡ 1 → new ≡ log → Calls log.stage log.extent log.gated log.flight before now (Err refusal)
+pub call_failed : (log new : Log) (refusal : Refusal) (before now : Device) → in_flight log.stage ≡ 1 → new ≡ log → Calls {T = Stage} log.stage log.extent log.gated log.flight before now (Err refusal)
     → On log before.seen before.pending → Keeps log new before now (Err refusal)
 call_failed log new refusal before now flies goes calls on =
+    let at : Turn → Log = λ t. log_at t log.extent log.used log.gated log.stage log.flight log.filling in
     let Q : Log → Type 0 = λ l. Keeps log l before now (Err refusal) in
-    subst Q (sym goes) (failed_keeps log.stage log.extent log.used log.gated log.flight log.filling before now refusal flies on calls)
+    let R : Turn → Type 0 = λ t. On (at t) before.seen before.pending → Keeps (at t) (at t) before now (Err refusal) in
+    let still : log.turn ≡ turn.Closed = none_turns log.turn (omega (arith, on.sound.one)) in
+    subst Q (sym goes) (subst R (sym still) (λ on'. failed_keeps log.stage log.extent log.used log.gated log.flight log.filling before now refusal flies on' calls) on)
+
+-- nor where a record waits for a batch
+waiting_still : (t : Turn) (filling : List ℕ) → 1 ≤ length filling → (1 ≤ turning t → filling ≡ []) → t ≡ turn.Closed
+waiting_still t filling some quiet =
+    none_turns t (⊎_elim (λ (none : turning t < 1). omega arith) (λ (turns : 1 ≤ turning t). absurd (let none : length filling ≡ 0 = ap length (quiet turns) in omega arith)) (cases_lt (turning t) 1))
 
 first_of_idle : (stage : Stage) (extent : Extent) (used gated : ℕ) (flight filling : List ℕ) (begins new : Log) (before now : Device) (result : Result Stage Refusal) → stage ≡ Idle
     → begins ≡ begun (log_with extent used gated stage flight filling) → 1 ≤ length filling → Made begins new result
@@ -365,4 +401,8 @@ first_of_idle GateSync extent used gated flight filling begins new before now re
 -- what the first call of a new batch keeps of a log with none in flight
 pub first_keeps : (log begins new : Log) (before now : Device) (result : Result Stage Refusal) → log.stage ≡ Idle → begins ≡ begun log → 1 ≤ length log.filling → Made begins new result
     → (On begins before.seen before.pending → Keeps begins new before now result) → On log before.seen before.pending → Keeps log new before now result
-first_keeps log begins new before now result = first_of_idle log.stage log.extent log.used log.gated log.flight log.filling begins new before now result
+first_keeps log begins new before now result idle is some made keeps on =
+    let at : Turn → Log = λ t. log_at t log.extent log.used log.gated log.stage log.flight log.filling in
+    let R : Turn → Type 0 = λ t. On (at t) before.seen before.pending → Keeps (at t) new before now result in
+    subst R (sym (waiting_still log.turn log.filling some on.quiet))
+    (first_of_idle log.stage log.extent log.used log.gated log.flight log.filling begins new before now result idle is some made keeps) on

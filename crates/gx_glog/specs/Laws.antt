@@ -3,22 +3,35 @@ use Rattle.std.specs.Prelude.{◌≡◌, ℕ, ◌+◌, ◌<◌, ◌≤◌, Bool,
 use Rattle.gx_disk.specs.Device.{IsImage}
 use Rattle.gx_glog.specs.declared.extent.Extent.{Extent}
 use Rattle.gx_glog.specs.declared.stage.Stage.TheVariants.{Idle}
+use Rattle.gx_glog.specs.declared.stage.Turn.TheVariants.{Closed}
+use Rattle.gx_glog.specs.Layout.{selected_of}
 use Rattle.gx_glog.specs.State.{Log}
-use Rattle.gx_glog.specs.Standing.{HasBatches, On, gated_of, Shows, LeavesLog}
+use Rattle.gx_glog.specs.Standing.{IsSelected, HasBatches, On, gated_of, Shows, ShowsIn, LeavesLog}
 
--- each image's log is what is gated, with what is in flight or without; without as long as its gate isn't written
+-- each image's log is what is gated, with what is in flight or without, without as long as its gate isn't written; or, from a turn's write
+-- of the selector on, what is gated or the head
 abbrev pub ImagesHaveTheLog : Type 0
-ImagesHaveTheLog = (log : Log) (seen : List ℕ) (pending : ℕ → Bool) (image : List ℕ) → On log seen pending → IsImage seen pending image → Shows log.stage (gated_of log seen) log.flight image
+ImagesHaveTheLog = (log : Log) (seen : List ℕ) (pending : ℕ → Bool) (image : List ℕ) → On log seen pending → IsImage seen pending image → ShowsIn log.turn log.stage (gated_of log seen) log.flight image
+
+-- an image that selects the log's extent has what is gated, whatever of a turn was done
+abbrev pub SelectorDecides : Type 0
+SelectorDecides = (log : Log) (seen : List ℕ) (pending : ℕ → Bool) (image : List ℕ) → On log seen pending → IsImage seen pending image → selected_of image ≡ log.extent
+    → Shows log.stage (gated_of log seen) log.flight image
 
 -- a log with nothing logged is on a device that has its batches
 abbrev pub StartIsOn : Type 0
-StartIsOn = (extent : Extent) (used : ℕ) (seen : List ℕ) (pending : ℕ → Bool) → used ≤ 32 → HasBatches extent used used seen pending
-    → On (record { extent = extent; used = used; gated = used; stage = Idle; flight = []; filling = [] }) seen pending
+StartIsOn = (extent : Extent) (used : ℕ) (seen : List ℕ) (pending : ℕ → Bool) → used ≤ 32 → IsSelected extent seen pending → HasBatches extent used used seen pending
+    → On (record { extent = extent; used = used; gated = used; stage = Idle; turn = Closed; flight = []; filling = [] }) seen pending
 
--- a record more that fills changes nothing of it
+-- a record more that fills changes nothing of it, where no turn is under way
 abbrev pub AppendStaysOn : Type 0
-AppendStaysOn = (log : Log) (bytes seen : List ℕ) (pending : ℕ → Bool) → log.used < 32 → length log.filling + length bytes ≤ 32764 → On log seen pending
+AppendStaysOn = (log : Log) (bytes seen : List ℕ) (pending : ℕ → Bool) → log.turn ≡ Closed → log.used < 32 → length log.filling + length bytes ≤ 32764 → On log seen pending
     → On (record log { filling = log.filling ++ bytes }) seen pending
+
+-- nor does one more of the head
+abbrev pub PutFirstStaysOn : Type 0
+PutFirstStaysOn = (log : Log) (bytes seen : List ℕ) (pending : ℕ → Bool) → log.stage ≡ Idle → log.turn ≡ Closed → length log.flight + length bytes ≤ 32764 → On log seen pending
+    → On (record log { flight = log.flight ++ bytes }) seen pending
 
 -- nor does a call that leaves the log's sectors
 abbrev pub ElsewhereStaysOn : Type 0

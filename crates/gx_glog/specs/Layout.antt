@@ -16,6 +16,11 @@ abbrev pub bodies_of : Extent → ℕ
 bodies_of A = 40
 bodies_of B = 2120
 
+-- the extent that a turn leads to
+abbrev pub other_of : Extent → Extent
+other_of A = B
+other_of B = A
+
 -- the extent that the selector's first byte selects
 unfoldable pub selected_of : List ℕ → Extent
 selected_of bytes = if slice_index (span_of bytes 2 512) 0 == 0x5A then B else A

@@ -8,3 +8,4 @@ pub mod Reading
 pub mod Standing
 pub mod State
 pub mod Steps
+pub mod Turning

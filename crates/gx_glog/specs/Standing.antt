@@ -1,13 +1,15 @@
 -- A log on a device: what its sectors read as, and which of them a crash leaves.
-use Rattle.std.specs.Prelude.{◌≡◌, ◌⊎◌, ℕ, ◌+◌, ◌*◌, ◌<◌, ◌≤◌, List, ◌++◌, length, Bool, true, false}
+use Rattle.std.specs.Prelude.{◌≡◌, ◌⊎◌, ℕ, ◌+◌, ◌*◌, ◌<◌, ◌≤◌, List, [], ◌++◌, length, Bool, true, false}
 use Rattle.gx_disk.specs.Sectors.{sector_of, IsWithin}
 use Rattle.gx_glog.specs.declared.extent.Extent.{Extent}
 use Rattle.gx_glog.specs.declared.stage.Stage.{Stage}
 use Rattle.gx_glog.specs.declared.stage.Stage.TheVariants.{Body, BodySync, Gate, GateSync, Idle}
-use Rattle.gx_glog.specs.Layout.{gates_of, bodies_of, selected_of, is_open, body_of, size_in, batches_of, log_of}
+use Rattle.gx_glog.specs.declared.stage.Turn.{Turn}
+use Rattle.gx_glog.specs.declared.stage.Turn.TheVariants as turn
+use Rattle.gx_glog.specs.Layout.{gates_of, bodies_of, other_of, selected_of, is_open, body_of, size_in, batches_of, log_of}
 use Rattle.gx_glog.specs.Reading.{IsSize}
 use Rattle.gx_glog.specs.Bodies.{HasRecords}
-use Rattle.gx_glog.specs.State.{Log, IsSound}
+use Rattle.gx_glog.specs.State.{Log, IsSound, turning}
 
 -- the gate of place k reads open or closed, and a crash leaves it so
 pub record IsGate (state : Bool) (seen : List ℕ) (pending : ℕ → Bool) (extent : Extent) (k : ℕ) : Type 0 where
@@ -18,11 +20,14 @@ pub record IsGate (state : Bool) (seen : List ℕ) (pending : ℕ → Bool) (ext
 abbrev pub IsBodySettled : (ℕ → Bool) → Extent → ℕ → Type 0
 IsBodySettled pending extent k = (s : ℕ) → IsWithin (bodies_of extent + 64 * k) 64 s → pending s ≡ false
 
--- the extent is selected; its first batches are gated, with bodies of a size in range; the gates of the places that aren't taken are closed
+-- the selector selects this extent, and a crash leaves it so
+pub record IsSelected (extent : Extent) (seen : List ℕ) (pending : ℕ → Bool) : Type 0 where
+  pub reads : selected_of seen ≡ extent
+  pub settled : pending 2 ≡ false
+
+-- an extent's first batches are gated, with bodies of a size in range; the gates of the places that aren't taken are closed
 pub record HasBatches (extent : Extent) (gated used : ℕ) (seen : List ℕ) (pending : ℕ → Bool) : Type 0 where
   pub size : 2134016 ≤ length seen
-  pub selects : selected_of seen ≡ extent
-  pub selector : pending 2 ≡ false
   pub opened : (k : ℕ) → k < gated → IsGate true seen pending extent k
   pub bodies : (k : ℕ) → k < gated → IsBodySettled pending extent k
   pub sizes : (k : ℕ) → k < gated → IsSize (size_in (body_of seen extent k))
@@ -37,11 +42,39 @@ Flies BodySync extent k flight seen pending = IsGate false seen pending extent k
 Flies Gate extent k flight seen pending = HasRecords flight (body_of seen extent k) × IsBodySettled pending extent k
 Flies GateSync extent k flight seen pending = HasRecords flight (body_of seen extent k) × IsBodySettled pending extent k × (is_open seen extent k ≡ true)
 
--- a log's value fits what is seen of a device, and what is pending on it
+-- each gate of an extent reads closed
+abbrev pub ReadsClosed : Extent → List ℕ → Type 0
+ReadsClosed extent seen = (k : ℕ) → k < 32 → is_open seen extent k ≡ false
+
+-- body 0 of an extent has these records, and all gates but the first are closed, as a crash leaves it
+pub record HasFirst (extent : Extent) (head seen : List ℕ) (pending : ℕ → Bool) : Type 0 where
+  pub records : HasRecords head (body_of seen extent 0)
+  pub body : IsBodySettled pending extent 0
+  pub closed : (k : ℕ) → 1 ≤ k → k < 32 → IsGate false seen pending extent k
+
+-- the first batch of an extent is gated, and has these records
+pub record HasHead (extent : Extent) (head seen : List ℕ) (pending : ℕ → Bool) : Type 0 where
+  pub batches : HasBatches extent 1 1 seen pending
+  pub records : HasRecords head (body_of seen extent 0)
+
+-- What is known of the selector and of the extent `to` while a call of the turn to it is due. Until the selector's write the extent
+-- that the turn leads from is selected; from then on, since that write may fail and leave any selector, either extent has its log.
+abbrev pub Leads : Turn → Extent → Extent → List ℕ → List ℕ → (ℕ → Bool) → Type 0
+Leads turn.Closed from to head seen pending = IsSelected from seen pending
+Leads turn.Body from to head seen pending = IsSelected from seen pending × ReadsClosed to seen
+Leads turn.BodySync from to head seen pending = IsSelected from seen pending × ReadsClosed to seen × HasRecords head (body_of seen to 0)
+Leads turn.Gate from to head seen pending = IsSelected from seen pending × HasFirst to head seen pending
+Leads turn.GateSync from to head seen pending = IsSelected from seen pending × HasFirst to head seen pending × (is_open seen to 0 ≡ true)
+Leads turn.Selector from to head seen pending = HasHead to head seen pending
+Leads turn.Done from to head seen pending = HasHead to head seen pending × (selected_of seen ≡ to)
+
+-- A log's value fits what is seen of a device, and what is pending on it. While a turn is under way, nothing fills.
 pub record On (log : Log) (seen : List ℕ) (pending : ℕ → Bool) : Type 0 where
   pub sound : IsSound log
   pub batches : HasBatches log.extent log.gated log.used seen pending
   pub flight : Flies log.stage log.extent log.gated log.flight seen pending
+  pub turn : Leads log.turn log.extent (other_of log.extent) log.flight seen pending
+  pub quiet : 1 ≤ turning log.turn → log.filling ≡ []
 
 -- the records of the batches that are gated, as they read
 abbrev pub gated_of : Log → List ℕ → List ℕ
@@ -58,6 +91,16 @@ Shows Body gated flight image = log_of image ≡ gated
 Shows BodySync gated flight image = log_of image ≡ gated
 Shows Gate gated flight image = IsLogOf gated flight image
 Shows GateSync gated flight image = IsLogOf gated flight image
+
+-- The same of a log with a turn. From the selector's write on, an image's log is what is gated, or the head alone.
+abbrev pub ShowsIn : Turn → Stage → List ℕ → List ℕ → List ℕ → Type 0
+ShowsIn turn.Closed stage gated flight image = Shows stage gated flight image
+ShowsIn turn.Body stage gated flight image = Shows stage gated flight image
+ShowsIn turn.BodySync stage gated flight image = Shows stage gated flight image
+ShowsIn turn.Gate stage gated flight image = Shows stage gated flight image
+ShowsIn turn.GateSync stage gated flight image = Shows stage gated flight image
+ShowsIn turn.Selector stage gated flight image = (log_of image ≡ gated) ⊎ (log_of image ≡ flight)
+ShowsIn turn.Done stage gated flight image = (log_of image ≡ gated) ⊎ (log_of image ≡ flight)
 
 -- a sector reads as before, and is settled where it was
 pub record IsKept (seen seen' : List ℕ) (pending pending' : ℕ → Bool) (s : ℕ) : Type 0 where

@@ -5,6 +5,9 @@ use Rattle.gx_geom.specs.declared.refusal.Refusal.TheVariants.{Device}
 use Rattle.gx_glog.specs.declared.extent.Extent.{Extent}
 use Rattle.gx_glog.specs.declared.stage.Stage.{Stage}
 use Rattle.gx_glog.specs.declared.stage.Stage.TheVariants.{Body, BodySync, Gate, GateSync, Idle}
+use Rattle.gx_glog.specs.declared.stage.Turn.{Turn}
+use Rattle.gx_glog.specs.declared.stage.Turn.TheVariants as turn
+use Rattle.gx_glog.specs.Layout.{other_of}
 
 -- Lists of records are told as the bytes of their spellings.
 pub record Log : Type 0 where
@@ -16,7 +19,9 @@ pub record Log : Type 0 where
   pub gated : ℕ
   -- the device call that the batch in flight waits for, Idle where there is none
   pub stage : Stage
-  -- the records of the batch in flight
+  -- the device call that a turn to the other extent waits for, Closed where none of it was made
+  pub turn : Turn
+  -- the records of the batch in flight, or while there is none the head: those that a turn puts first into the other extent
   pub flight : List ℕ
   -- the records that wait for the next batch
   pub filling : List ℕ
@@ -29,18 +34,30 @@ in_flight BodySync = 1
 in_flight Gate = 1
 in_flight GateSync = 1
 
--- places are taken by gated batches and the one in flight; a batch has records and fits its body; where each place is taken, nothing waits for one
+-- how many turns are under way: one from its first call on
+abbrev pub turning : Turn → ℕ
+turning turn.Closed = 0
+turning turn.Body = 1
+turning turn.BodySync = 1
+turning turn.Gate = 1
+turning turn.GateSync = 1
+turning turn.Selector = 1
+turning turn.Done = 1
+
+-- Places are taken by gated batches and the one in flight; a batch or a head on its way has records and fits its body; a turn and a batch
+-- aren't on their way together; where each place is taken, nothing waits for one.
 pub record IsSound (log : Log) : Type 0 where
   pub places : log.used ≡ log.gated + in_flight log.stage
   pub few : log.used ≤ 32
-  pub some : in_flight log.stage ≤ length log.flight
-  pub fits : length log.flight ≤ 32764 * in_flight log.stage
+  pub one : in_flight log.stage + turning log.turn ≤ 1
+  pub some : in_flight log.stage + turning log.turn ≤ length log.flight
+  pub fits : length log.flight ≤ 32764
   pub filled : length log.filling ≤ 32764
   pub room : 32 ≤ log.used → log.filling ≡ []
 
--- what fills is in flight, at the next place
+-- What fills is in flight, at the next place. A head that was there is dropped, and a turn given up.
 abbrev pub begun : Log → Log
-begun log = record log { used = log.used + 1; stage = Body; flight = log.filling; filling = [] }
+begun log = record log { used = log.used + 1; stage = Body; turn = turn.Closed; flight = log.filling; filling = [] }
 
 abbrev pub after : Stage → Log → Log
 after Body log = record log { stage = BodySync }
@@ -77,3 +94,21 @@ calls_of (Ok BodySync) = 1
 calls_of (Ok Gate) = 1
 calls_of (Ok GateSync) = 1
 calls_of (Err refusal) = 1
+
+abbrev pub after_turn : Turn → Log → Log
+after_turn turn.Closed log = record log { turn = turn.Body }
+after_turn turn.Body log = record log { turn = turn.BodySync }
+after_turn turn.BodySync log = record log { turn = turn.Gate }
+after_turn turn.Gate log = record log { turn = turn.GateSync }
+after_turn turn.GateSync log = record log { turn = turn.Selector }
+after_turn turn.Selector log = record log { turn = turn.Done }
+after_turn turn.Done log = record log { extent = other_of log.extent; used = 1; gated = 1; turn = turn.Closed; flight = [] }
+
+-- the turn's call that was due is made; after the last one the log goes on in the other extent, behind the head
+abbrev pub turned : Log → Log
+turned log = after_turn log.turn log
+
+-- a turn goes on by the call that is due, or that call failed and is still due
+abbrev pub Turns : Log → Log → Result Turn Refusal → Type 0
+Turns old new (Ok call) = (call ≡ old.turn) × (new ≡ turned old)
+Turns old new (Err refusal) = (refusal ≡ Device) × (new ≡ old)

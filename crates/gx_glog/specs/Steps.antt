@@ -13,7 +13,7 @@ use Rattle.gx_glog.specs.State.{Log}
 use Rattle.gx_glog.specs.Standing.{On, gated_of, Shows}
 
 -- the device call of each stage, for the batch of place k
-abbrev pub Calls : Stage → Extent → ℕ → List ℕ → disk.Device → disk.Device → Result Stage Refusal → Type 0
+abbrev pub Calls : {T : Type 0} → Stage → Extent → ℕ → List ℕ → disk.Device → disk.Device → Result T Refusal → Type 0
 Calls Idle extent k flight before now result = Unit {0}
 Calls Body extent k flight before now result = (bytes : List ℕ) × IsBody flight bytes × Writes (bodies_of extent + 64 * k) 64 bytes before now result
 Calls BodySync extent k flight before now result = Syncs before now result
@@ -23,7 +23,7 @@ Calls GateSync extent k flight before now result = Syncs before now result
 -- the device call that an answer tells of: the one that was made, or the one that failed and is still due
 abbrev pub CallOf : Log → disk.Device → disk.Device → Result Stage Refusal → Type 0
 CallOf new before now (Ok stage) = Calls stage new.extent new.gated new.flight before now (Ok stage)
-CallOf new before now (Err refusal) = Calls new.stage new.extent new.gated new.flight before now (Err refusal)
+CallOf new before now (Err refusal) = Calls {T = Stage} new.stage new.extent new.gated new.flight before now (Err refusal)
 
 -- the gated records are those of before, or those and the ones that were in flight once the last call is made
 abbrev pub Gates : List ℕ → List ℕ → List ℕ → Result Stage Refusal → Type 0

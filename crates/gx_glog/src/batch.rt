@@ -9,7 +9,7 @@ ghost use Rattle.gx_glog.specs.Steps.{Calls, CallOf, Keeps};
 
 use crate::extent::{Extent, OPEN};
 use crate::filling::Glog;
-use crate::stage::Stage;
+use crate::stage::{Stage, Turn};
 use gx_disk::{SECTOR_SIZE, SectorDisk};
 use gx_geom::Refusal;
 use std::mem;
@@ -23,45 +23,51 @@ fn open_gate() -> [u8; SECTOR_SIZE]
     bytes
 }
 
-// Writes the body of place k.
-fn write_body<D: SectorDisk>(
+// Writes the body of place k, and answers which call it was.
+pub(crate) fn write_body<D: SectorDisk, S: Copy>(
     disk: &mut D,
     extent: Extent,
     k: u8,
     body: &[u8],
-) -> Result<Stage, Refusal>
+    answer: S,
+) -> Result<S, Refusal>
     requires place { k < 32 }
     requires whole { length body.now ≡ 32768 }
     requires device { 4168 ≤ (D.state disk.old).sectors }
     ensures counts { Counts 1 (D.state disk.old) (D.state disk.new) result }
     ensures call { (D.state disk.old).honest ≡ true → Writes (bodies_of extent + 64 * k) 64 body.now (D.state disk.old) (D.state disk.new) result }
-    ensures stage { IfOk result (λ stage. stage ≡ Stage.Body) }
+    ensures stage { IfOk result (λ made. made ≡ answer) }
     ensures refusal { IfErr result (λ refusal. refusal ≡ Refusal.Device) }
 {
     match disk.write(extent.bodies() + 64 * u64::from(k), body) {
-        Ok(()) => Ok(Stage::Body),
+        Ok(()) => Ok(answer),
         Err(_) => Err(Refusal::Device),
     }
 }
 
-// Writes the open gate of place k.
-fn write_gate<D: SectorDisk>(disk: &mut D, extent: Extent, k: u8) -> Result<Stage, Refusal>
+// Writes the open gate of place k, and answers which call it was.
+pub(crate) fn write_gate<D: SectorDisk, S: Copy>(
+    disk: &mut D,
+    extent: Extent,
+    k: u8,
+    answer: S,
+) -> Result<S, Refusal>
     requires place { k < 32 }
     requires device { 4168 ≤ (D.state disk.old).sectors }
     ensures counts { Counts 1 (D.state disk.old) (D.state disk.new) result }
     ensures call { (D.state disk.old).honest ≡ true → Calls Stage.Gate extent k [] (D.state disk.old) (D.state disk.new) result }
-    ensures stage { IfOk result (λ stage. stage ≡ Stage.Gate) }
+    ensures stage { IfOk result (λ made. made ≡ answer) }
     ensures refusal { IfErr result (λ refusal. refusal ≡ Refusal.Device) }
 {
     let gate = open_gate();
     match disk.write(extent.gates() + u64::from(k), &gate) {
-        Ok(()) => Ok(Stage::Gate),
+        Ok(()) => Ok(answer),
         Err(_) => Err(Refusal::Device),
     }
 }
 
 // Settles what was written in a stage.
-fn settle<D: SectorDisk>(disk: &mut D, stage: Stage) -> Result<Stage, Refusal>
+pub(crate) fn settle<D: SectorDisk, S: Copy>(disk: &mut D, stage: S) -> Result<S, Refusal>
     ensures counts { Counts 1 (D.state disk.old) (D.state disk.new) result }
     ensures call { (D.state disk.old).honest ≡ true → Syncs (D.state disk.old) (D.state disk.new) result }
     ensures stage { IfOk result (λ made. made ≡ stage) }
@@ -74,15 +80,17 @@ fn settle<D: SectorDisk>(disk: &mut D, stage: Stage) -> Result<Stage, Refusal>
 }
 
 impl Glog {
-    // Puts what fills into flight, at the next place.
+    // Puts what fills into flight, at the next place. A head that was put there is dropped.
     fn begin(&mut self)
         requires idle { self.old.stage ≡ Stage.Idle }
         requires some { 1 ≤ length self.old.filling }
         ensures { self.new ≡ begun self.old }
     {
+        self.flight.clear();
         mem::swap(&mut self.filling, &mut self.flight);
         self.used += 1;
         self.stage = Stage::Body;
+        self.turn = Turn::Closed;
     }
 
     // The call that was due is made.
@@ -112,8 +120,8 @@ impl Glog {
         ensures refusal { IfErr result (λ refusal. refusal ≡ Refusal.Device) }
     {
         match self.stage {
-            Stage::Body => write_body(disk, self.extent, self.gated, self.flight.body()),
-            Stage::Gate => write_gate(disk, self.extent, self.gated),
+            Stage::Body => write_body(disk, self.extent, self.gated, self.flight.body(), Stage::Body),
+            Stage::Gate => write_gate(disk, self.extent, self.gated, Stage::Gate),
             Stage::BodySync | Stage::GateSync | Stage::Idle => settle(disk, self.stage),
         }
     }

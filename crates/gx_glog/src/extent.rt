@@ -2,9 +2,10 @@
 ghost use Rattle.std.specs.Prelude.{◌≡◌, ◌+◌, ◌≤◌, ◌<◌, ℕ, true, false, length, OnOk, IfOk, IfErr, slice_index};
 ghost use Rattle.gx_disk.specs.Device.{Counts};
 ghost use Rattle.gx_disk.specs.Sectors.{span_of};
-ghost use Rattle.gx_glog.specs.Layout.{gates_of, bodies_of, selected_of, is_open, body_of, size_in};
+ghost use Rattle.gx_glog.specs.Layout.{gates_of, bodies_of, other_of, selected_of, is_open, body_of, size_in};
 ghost use Rattle.gx_glog.specs.Reading.{ReadsBody, CountsReads};
 ghost use Rattle.gx_glog.specs.Looks.{Looks};
+ghost use Rattle.gx_glog.specs.Turning.{selector_of};
 
 use gx_disk::{SECTOR_SIZE, SectorDisk};
 use gx_geom::Refusal;
@@ -15,7 +16,7 @@ pub const BODY_SIZE: usize = 32768;
 /// How many batches an extent has places for.
 pub const PLACES: u8 = 32;
 
-const SELECTOR: u64 = 2;
+pub(crate) const SELECTOR: u64 = 2;
 
 const SELECTS_B: u8 = 0x5A;
 
@@ -70,6 +71,26 @@ impl Extent {
         match self {
             Extent::A => 8,
             Extent::B => 2088,
+        }
+    }
+
+    /// The extent that a turn leads to.
+    pub(crate) fn other(self) -> Extent
+        ensures { result ≡ other_of self }
+    {
+        match self {
+            Extent::A => Extent::B,
+            Extent::B => Extent::A,
+        }
+    }
+
+    /// The first byte of the selector that selects it.
+    pub(crate) fn selector(self) -> u8
+        ensures { result ≡ selector_of self }
+    {
+        match self {
+            Extent::A => 0,
+            Extent::B => SELECTS_B,
         }
     }
 

@@ -1,13 +1,14 @@
 //! A running log, and the records that are put into it.
-ghost use Rattle.std.specs.Prelude.{◌≡◌, ◌+◌, ◌≤◌, ◌<◌, [], length, IfOk, IfErr};
+ghost use Rattle.std.specs.Prelude.{◌≡◌, ◌⊎◌, ◌+◌, ◌≤◌, ◌<◌, [], length, IfOk, IfErr};
+ghost use Rattle.std.specs.Bool.{OnTrue, OnFalse};
 ghost use Rattle.gx_record.specs.Format.{IsInRange, spelling};
 ghost use Rattle.gx_record.specs.Seen.{rec_of};
 ghost use Rattle.gx_glog.specs.Appending.{Appends};
-ghost use Rattle.gx_glog.specs.State.{begun, done};
+ghost use Rattle.gx_glog.specs.State.{begun, done, in_flight};
 
 use crate::buffer::Buffer;
 use crate::extent::Extent;
-use crate::stage::Stage;
+use crate::stage::{Stage, Turn};
 use gx_geom::Refusal;
 use gx_record::Record;
 use std::alloc::{AllocError, Global};
@@ -22,7 +23,8 @@ pub enum Appended {
     NoRoom,
 }
 
-/// A running log. Its two buffers are taken at the start: records are put into one, while the other has the batch that is being written.
+/// A running log. Its two buffers are taken at the start: records are put into one, while the other has the batch that is being written,
+/// or the first records of the other extent, which `put_first` puts there.
 #[derive(Drop)]
 pub struct Glog {
     pub(crate) extent: Extent,
@@ -30,6 +32,9 @@ pub struct Glog {
     pub(crate) gated: u8,
     // the device call that the batch in flight waits for
     pub(crate) stage: Stage,
+    // the device call that a turn waits for
+    pub(crate) turn: Turn,
+    // the batch in flight, or while there is none the head of the other extent
     pub(crate) flight: Buffer,
     pub(crate) filling: Buffer,
 }
@@ -39,21 +44,22 @@ impl Model for Glog {
 
     ghost Value = { Log };
 
-    ghost view = { λ g. record { extent = g.extent; used = g.used; gated = g.gated; stage = g.stage; flight = g.flight; filling = g.filling } };
+    ghost view = { λ g. record { extent = g.extent; used = g.used; gated = g.gated; stage = g.stage; turn = g.turn; flight = g.flight; filling = g.filling } };
 
-    ghost invariant = { λ g. IsSound (record { extent = g.extent; used = g.used; gated = g.gated; stage = g.stage; flight = g.flight; filling = g.filling }) };
+    ghost invariant = { λ g. IsSound (record { extent = g.extent; used = g.used; gated = g.gated; stage = g.stage; turn = g.turn; flight = g.flight; filling = g.filling }) };
 }
 
 // A log at rest with empty buffers.
 fn at_rest(alloc: Global, extent: Extent, used: u8) -> Result<Glog, AllocError>
     requires { used ≤ 32 }
-    ensures { IfOk result (λ log. log ≡ record { extent = extent; used = used; gated = used; stage = Stage.Idle; flight = []; filling = [] }) }
+    ensures { IfOk result (λ log. log ≡ record { extent = extent; used = used; gated = used; stage = Stage.Idle; turn = Turn.Closed; flight = []; filling = [] }) }
 {
     Ok(Glog {
         extent,
         used,
         gated: used,
         stage: Stage::Idle,
+        turn: Turn::Closed,
         flight: Buffer::new(alloc)?,
         filling: Buffer::new(alloc)?,
     })
@@ -64,7 +70,7 @@ impl Glog {
     /// Refused where there is no memory for its buffers.
     pub fn start(alloc: Global, extent: Extent, used: u8) -> Result<Glog, Refusal>
         requires { used ≤ 32 }
-        ensures log { IfOk result (λ log. log ≡ record { extent = extent; used = used; gated = used; stage = Stage.Idle; flight = []; filling = [] }) }
+        ensures log { IfOk result (λ log. log ≡ record { extent = extent; used = used; gated = used; stage = Stage.Idle; turn = Turn.Closed; flight = []; filling = [] }) }
         ensures refusal { IfErr result (λ refusal. refusal ≡ Refusal.Memory) }
     {
         match at_rest(alloc, extent, used) {
@@ -79,6 +85,22 @@ impl Glog {
         ensures bound { result ≤ 32 }
     {
         self.used
+    }
+
+    /// Whether nothing is logged, and nothing in flight.
+    pub fn is_idle(&self) -> bool
+        ensures yes { OnTrue result ((self.now.stage ≡ Stage.Idle) × (self.now.filling ≡ [])) }
+        ensures no { OnFalse result ((in_flight self.now.stage ≡ 1) ⊎ (1 ≤ length self.now.filling)) }
+    {
+        !self.stage.is_flying() && self.filling.is_empty()
+    }
+
+    /// Whether a batch is in flight, or a record was put first into the other extent.
+    pub fn has_head(&self) -> bool
+        ensures yes { OnTrue result (1 ≤ length self.now.flight) }
+        ensures no { OnFalse result (self.now.flight ≡ []) }
+    {
+        !self.flight.is_empty()
     }
 
     /// How many bytes of records the filling buffer still has room for.

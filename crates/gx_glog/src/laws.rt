@@ -1,16 +1,19 @@
 //! Laws of a log on a device. Each function is its contract alone.
-ghost use Rattle.gx_glog.specs.Laws.{ImagesHaveTheLog, StartIsOn, AppendStaysOn, ElsewhereStaysOn, ElsewhereKeepsBatches};
+ghost use Rattle.gx_glog.specs.Laws.{ImagesHaveTheLog, SelectorDecides, StartIsOn, AppendStaysOn, PutFirstStaysOn, ElsewhereStaysOn, ElsewhereKeepsBatches};
 
 /// Of a device that a log is on, the log of each image is what is gated, with what is in flight or without: without as long as
-/// its gate isn't written.
+/// its gate isn't written. From a turn's write of the selector on it is what is gated or the head, as the image's selector says.
 pub fn images()
-    ensures { ImagesHaveTheLog }
+    ensures log { ImagesHaveTheLog }
+    ensures selector { SelectorDecides }
 {}
 
-/// A log is on a device from its start on, where the device has its batches, and an append keeps it there.
+/// A log is on a device from its start on, where the device has its batches, and an append or a record put first keeps it there
+/// as long as no turn is under way.
 pub fn appends()
     ensures start { StartIsOn }
     ensures append { AppendStaysOn }
+    ensures put_first { PutFirstStaysOn }
 {}
 
 /// A log stays on a device, with the same batches, where a call changes no sector of the log: a read, a sync, a page's write.

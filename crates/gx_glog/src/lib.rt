@@ -10,7 +10,8 @@ pub mod laws;
 mod stage;
 #[cfg(test)]
 mod tests;
+mod turn;
 
 pub use extent::{BODY_SIZE, Extent, PLACES, read_extent, selected};
 pub use filling::{Appended, Glog};
-pub use stage::Stage;
+pub use stage::{Stage, Turn};

@@ -1,4 +1,4 @@
-//! The device calls of a batch.
+//! The device calls of a batch, and of a turn.
 ghost use Rattle.std.specs.Prelude.{◌≡◌};
 ghost use Rattle.std.specs.Bool.{OnTrue, OnFalse};
 
@@ -15,6 +15,25 @@ pub enum Stage {
     GateSync,
     /// Nothing is logged and nothing is in flight.
     Idle,
+}
+
+/// A device call of a turn to the other extent, in their order.
+#[derive(Clone, Copy, Debug, PartialEq, Eq)]
+pub enum Turn {
+    /// The 32 gates of the other extent are written closed, in one write.
+    Closed,
+    /// The 32,768 bytes of its body 0 are written.
+    Body,
+    /// The body is synced.
+    BodySync,
+    /// The open gate of that body is written.
+    Gate,
+    /// The gate is synced.
+    GateSync,
+    /// The selector is written, and an image may have either extent's log.
+    Selector,
+    /// The selector is synced, and the log goes on in the extent that it selects.
+    Done,
 }
 
 impl Stage {

@@ -1,0 +1,156 @@
+//! The turn to the other extent, one device call a step.
+ghost use Rattle.std.specs.Prelude.{◌≡◌, ◌≤◌, ◌<◌, ℕ, [], true, length, IfErr, IfOk};
+ghost use Rattle.gx_disk.specs.Device.{Counts, Writes};
+ghost use Rattle.gx_record.specs.Format.{IsInRange, spelling};
+ghost use Rattle.gx_record.specs.Seen.{rec_of};
+ghost use Rattle.gx_glog.specs.Layout.{other_of};
+ghost use Rattle.gx_glog.specs.Bodies.{IsZero};
+ghost use Rattle.gx_glog.specs.State.{turned, Turns};
+ghost use Rattle.gx_glog.specs.Standing.{On};
+ghost use Rattle.gx_glog.specs.Turning.{PutsFirst, AreClosedGates, IsSelector, TurnCalls, KeepsTurning};
+
+use crate::batch::{settle, write_body, write_gate};
+use crate::extent::{Extent, SELECTOR};
+use crate::filling::{Appended, Glog};
+use crate::stage::{Stage, Turn};
+use gx_disk::{SECTOR_SIZE, SectorDisk};
+use gx_geom::Refusal;
+use gx_record::Record;
+
+// How many bytes the gates of an extent have.
+const GATES_SIZE: usize = 16384;
+
+// So many zeros.
+fn zeroed<const N: usize>() -> [u8; N]
+    ensures size { length result ≡ N }
+    ensures zeros { IsZero result }
+{
+    [0; N]
+}
+
+// The sectors of an extent's gates, all closed.
+fn closed_gates() -> [u8; GATES_SIZE]
+    ensures { AreClosedGates result }
+{
+    zeroed()
+}
+
+// The sector of a selector.
+fn selecting(extent: Extent) -> [u8; SECTOR_SIZE]
+    ensures { IsSelector extent result }
+{
+    let mut bytes = [0; SECTOR_SIZE];
+    bytes[0] = extent.selector();
+    bytes
+}
+
+// Closes the gates of an extent.
+fn write_closed<D: SectorDisk>(disk: &mut D, extent: Extent) -> Result<Turn, Refusal>
+    requires device { 4168 ≤ (D.state disk.old).sectors }
+    ensures counts { Counts 1 (D.state disk.old) (D.state disk.new) result }
+    ensures call { (D.state disk.old).honest ≡ true → TurnCalls Turn.Closed extent [] (D.state disk.old) (D.state disk.new) result }
+    ensures call_is { IfOk result (λ call. call ≡ Turn.Closed) }
+    ensures refusal { IfErr result (λ refusal. refusal ≡ Refusal.Device) }
+{
+    let gates = closed_gates();
+    match disk.write(extent.gates(), &gates) {
+        Ok(()) => Ok(Turn::Closed),
+        Err(_) => Err(Refusal::Device),
+    }
+}
+
+// Selects an extent.
+fn write_selector<D: SectorDisk>(disk: &mut D, extent: Extent) -> Result<Turn, Refusal>
+    requires device { 4168 ≤ (D.state disk.old).sectors }
+    ensures counts { Counts 1 (D.state disk.old) (D.state disk.new) result }
+    ensures call { (D.state disk.old).honest ≡ true → TurnCalls Turn.Selector extent [] (D.state disk.old) (D.state disk.new) result }
+    ensures call_is { IfOk result (λ call. call ≡ Turn.Selector) }
+    ensures refusal { IfErr result (λ refusal. refusal ≡ Refusal.Device) }
+{
+    let bytes = selecting(extent);
+    match disk.write(SELECTOR, &bytes) {
+        Ok(()) => Ok(Turn::Selector),
+        Err(_) => Err(Refusal::Device),
+    }
+}
+
+impl Glog {
+    /// Puts a record into body 0 of the other extent, behind those that were put there before; the place is 0. A turn makes it the log's
+    /// first batch there, and a batch that begins before drops it. Nothing is written to the device.
+    pub fn put_first(&mut self, logged: &Record<'_>) -> Appended
+        requires in_range { IsInRange (rec_of logged.now) }
+        requires idle { self.old.stage ≡ Stage.Idle }
+        ensures { PutsFirst (spelling (rec_of logged.now)) self.old self.new result }
+    {
+        if !self.flight.push(logged) {
+            return Appended::NoRoom;
+        }
+        Appended::At(0)
+    }
+
+    // The turn's call that was due is made.
+    fn advance_turn(&mut self)
+        requires idle { self.old.stage ≡ Stage.Idle }
+        requires head { 1 ≤ length self.old.flight }
+        ensures { self.new ≡ turned self.old }
+    {
+        match self.turn {
+            Turn::Closed => self.turn = Turn::Body,
+            Turn::Body => self.turn = Turn::BodySync,
+            Turn::BodySync => self.turn = Turn::Gate,
+            Turn::Gate => self.turn = Turn::GateSync,
+            Turn::GateSync => self.turn = Turn::Selector,
+            Turn::Selector => self.turn = Turn::Done,
+            Turn::Done => {
+                self.extent = self.extent.other();
+                self.used = 1;
+                self.gated = 1;
+                self.turn = Turn::Closed;
+                self.flight.clear();
+            }
+        }
+    }
+
+    // Makes the turn's device call that is due, and answers which one it was.
+    fn call_turn<D: SectorDisk>(&self, disk: &mut D) -> Result<Turn, Refusal>
+        requires device { 4168 ≤ (D.state disk.old).sectors }
+        ensures counts { Counts 1 (D.state disk.old) (D.state disk.new) result }
+        ensures call { (D.state disk.old).honest ≡ true → TurnCalls self.now.turn (other_of self.now.extent) self.now.flight (D.state disk.old) (D.state disk.new) result }
+        ensures call_is { IfOk result (λ call. call ≡ self.now.turn) }
+        ensures refusal { IfErr result (λ refusal. refusal ≡ Refusal.Device) }
+    {
+        let to = self.extent.other();
+        match self.turn {
+            Turn::Closed => write_closed(disk, to),
+            Turn::Body => write_body(disk, to, 0, self.flight.body(), Turn::Body),
+            Turn::Gate => write_gate(disk, to, 0, Turn::Gate),
+            Turn::Selector => write_selector(disk, to),
+            Turn::BodySync | Turn::GateSync | Turn::Done => settle(disk, self.turn),
+        }
+    }
+
+    /// Makes the next device call of the turn to the other extent, whose body 0 gets what was put first: its gates closed, its body,
+    /// sync, its gate, sync, the selector, sync. Answers which call it was; after `Done` the other extent is selected, and one place of
+    /// it is used. Refused where the device call fails (`Device`); it is then still due.
+    pub fn turn_step<D: SectorDisk>(&mut self, disk: &mut D) -> Result<Turn, Refusal>
+        requires idle { self.old.stage ≡ Stage.Idle }
+        requires quiet { self.old.filling ≡ [] }
+        requires head { 1 ≤ length self.old.flight }
+        requires device { 4168 ≤ (D.state disk.old).sectors }
+        ensures counts { Counts 1 (D.state disk.old) (D.state disk.new) result }
+        ensures turns { Turns self.old self.new result }
+        // Which call of the device it was, with its bytes.
+        ensures call { (D.state disk.old).honest ≡ true → TurnCalls self.old.turn (other_of self.old.extent) self.old.flight (D.state disk.old) (D.state disk.new) result }
+        // Where the log was on the device it still is; no image at any moment has another log than the old one and, from the selector's
+        // write on, the new one.
+        ensures keeps { (D.state disk.old).honest ≡ true → On self.old (D.state disk.old).seen (D.state disk.old).pending → KeepsTurning self.old self.new (D.state disk.old) (D.state disk.new) result }
+    {
+        match self.call_turn(disk) {
+            Ok(call) => {
+                self.advance_turn();
+                Ok(call)
+            }
+            Err(refusal) => Err(refusal),
+        }
+    }
+}
