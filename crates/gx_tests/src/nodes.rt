@@ -1,0 +1,298 @@
+//! Nodes written in place: each edit byte for byte, on nodes of 0, 1, 99 and 100 entries, of boxes and of intervals; and
+//! damaged pages.
+ghost use Rattle.std.specs.Prelude.{◌≡◌, true, length};
+ghost use Rattle.gx_node.specs.Reading.{format, is_leaf, leaf_of, is_inner, inner_of};
+
+use gx_class::{Box2Class, IntervalClass, KeyClass};
+use gx_geom::{Box2, Interval, Refusal};
+use gx_machine::Entry;
+use gx_node::{Inner, Leaf, MAX_ENTRIES, inner_edits, is_node, leaf_edits};
+use gx_page::Page;
+use std::alloc::Global;
+use std::process::Abort;
+use std::test::Fail;
+
+/// A class with a key for each small number, and the bytes that the key is to have.
+trait Numbered: KeyClass {
+    fn key(rt: &impl Abort, n: u8) -> Self::Key;
+
+    fn bytes(n: u8) -> [u8; 16];
+}
+
+impl Numbered for Box2Class {
+    fn key(rt: &impl Abort, n: u8) -> Box2 {
+        let end = i32::from(n) + 1;
+        Box2::new(-1, i32::from(n), end, end)
+            .ok()
+            .expect(rt, "a box")
+    }
+
+    fn bytes(n: u8) -> [u8; 16] {
+        let end = n.wrapping_add(1);
+        [255, 255, 255, 255, 0, 0, 0, n, 0, 0, 0, end, 0, 0, 0, end]
+    }
+}
+
+impl Numbered for IntervalClass {
+    fn key(rt: &impl Abort, n: u8) -> Interval {
+        Interval::new(-1, i64::from(n))
+            .ok()
+            .expect(rt, "an interval")
+    }
+
+    fn bytes(n: u8) -> [u8; 16] {
+        [
+            255, 255, 255, 255, 255, 255, 255, 255, 0, 0, 0, 0, 0, 0, 0, n,
+        ]
+    }
+}
+
+/// Puts bytes behind the last item of a page.
+fn write(rt: &impl Abort, page: &mut Page, item: &[u8]) {
+    assert!(rt; !item.is_empty() && item.len() <= 4060);
+    let last = page.count();
+    assert!(rt; page.insert(last, item));
+}
+
+/// A pair's 25 bytes: the key's 16, the row in eight, and the mark.
+fn write_pair(rt: &impl Abort, page: &mut Page, key: [u8; 16], row: u8, mark: u8) {
+    let mut item = [0; 25];
+    item[..16].copy_from_slice(&key);
+    item[23] = row;
+    item[24] = mark;
+    write(rt, page, &item);
+}
+
+/// A child's 20 bytes: the key's 16, and the page in four.
+fn write_child(rt: &impl Abort, page: &mut Page, key: [u8; 16], child: u8) {
+    let mut item = [0; 20];
+    item[..16].copy_from_slice(&key);
+    item[19] = child;
+    write(rt, page, &item);
+}
+
+/// How many pairs a leaf has.
+fn pairs<K: KeyClass>(rt: &impl Abort, page: &Page) -> usize
+    ensures leaf { is_leaf (format K.KEY K.reading K.start_key) page.now ≡ true }
+    ensures count { result ≡ length (leaf_of (format K.KEY K.reading K.start_key) page.now).pairs }
+{
+    match Leaf::<K>::read(page) {
+        Ok(leaf) => leaf.len(),
+        Err(_) => panic!(rt; "no leaf"),
+    }
+}
+
+/// How many children an inner node has, where 200 pages are taken.
+fn children<K: KeyClass>(rt: &impl Abort, page: &Page) -> usize
+    ensures inner { is_inner (format K.KEY K.reading K.start_key) 200 page.now ≡ true }
+    ensures count { result ≡ length (inner_of (format K.KEY K.reading K.start_key) page.now).children }
+{
+    match Inner::<K>::read(page, 200) {
+        Ok(inner) => inner.len(),
+        Err(_) => panic!(rt; "no inner node"),
+    }
+}
+
+fn put_pair<K: Numbered>(rt: &impl Abort, page: &mut Page, n: u8, row: u8, marked: bool) {
+    assert!(rt; pairs::<K>(rt, page) < MAX_ENTRIES);
+    let row = u64::from(row);
+    let key = K::key(rt, n);
+    leaf_edits::append::<K>(page, Entry { row, key }, marked);
+}
+
+fn set_mark<K: KeyClass>(rt: &impl Abort, page: &mut Page, slot: usize, marked: bool) {
+    assert!(rt; slot < pairs::<K>(rt, page));
+    leaf_edits::set_mark::<K>(page, slot, marked);
+}
+
+/// Sweeps a leaf of which the pairs of even rows are claimed.
+fn sweep<K: KeyClass>(rt: &impl Abort, page: &mut Page) {
+    pairs::<K>(rt, page);
+    leaf_edits::sweep::<K, _>(page, |entry| entry.row % 2 == 0);
+}
+
+/// Splits a leaf, to page 9.
+fn split_leaf<K: KeyClass>(rt: &impl Abort, page: &mut Page, sides: &[bool], other: &mut Page) {
+    assert!(rt; sides.len() == pairs::<K>(rt, page));
+    other.reset(0, 9);
+    leaf_edits::split::<K>(page, sides, other);
+}
+
+fn put_child<K: Numbered>(rt: &impl Abort, page: &mut Page, n: u8, child: u8) {
+    assert!(rt; children::<K>(rt, page) < MAX_ENTRIES);
+    assert!(rt; 1 <= child && child <= 200);
+    inner_edits::append::<K>(page, K::key(rt, n), u32::from(child), 200);
+}
+
+fn set_bound<K: Numbered>(rt: &impl Abort, page: &mut Page, slot: usize, n: u8) {
+    assert!(rt; slot < children::<K>(rt, page));
+    inner_edits::set_bound::<K>(page, slot, K::key(rt, n), 200);
+}
+
+/// Splits an inner node of level 3, to page 9.
+fn split_inner<K: KeyClass>(rt: &impl Abort, page: &mut Page, sides: &[bool], other: &mut Page) {
+    assert!(rt; sides.len() == children::<K>(rt, page));
+    other.reset(3, 9);
+    inner_edits::split::<K>(page, sides, other, 200);
+}
+
+/// Page 2 with a sequence number and a rightlink.
+fn start(page: &mut Page, level: u16) {
+    page.reset(level, 2);
+    page.set_nsn(0x0102_0304_0506_0708);
+    page.set_right(0x0a0b_0c0d);
+}
+
+fn leaf_edits_write<K: Numbered>(rt: &impl Abort, alloc: Global) -> Result<(), Fail> {
+    let mut page = Page::fresh(alloc, 0, 2)?;
+    let mut other = Page::fresh(alloc, 5, 7)?;
+    let mut wanted = Page::fresh(alloc, 0, 2)?;
+    for count in [0, 1, 99, 100] {
+        start(&mut page, 0);
+        start(&mut wanted, 0);
+        for n in 0..count {
+            put_pair::<K>(rt, &mut page, n, 255 - n, n % 3 == 0);
+            write_pair(rt, &mut wanted, K::bytes(n), 255 - n, u8::from(n % 3 == 0));
+        }
+        assert_eq!(rt; page.image(), wanted.image(), "{count} pairs");
+
+        start(&mut wanted, 0);
+        for n in 0..count {
+            set_mark::<K>(rt, &mut page, usize::from(n), n % 3 == 1);
+            write_pair(rt, &mut wanted, K::bytes(n), 255 - n, u8::from(n % 3 == 1));
+        }
+        assert_eq!(rt; page.image(), wanted.image(), "marks of {count}");
+
+        start(&mut wanted, 0);
+        for n in 0..count {
+            if n % 3 != 1 || (255 - n) % 2 == 0 {
+                write_pair(rt, &mut wanted, K::bytes(n), 255 - n, u8::from(n % 3 == 1));
+            }
+        }
+        sweep::<K>(rt, &mut page);
+        assert_eq!(rt; page.image(), wanted.image(), "sweep of {count}");
+    }
+    Ok(())
+}
+
+fn leaf_is_split<K: Numbered>(rt: &impl Abort, alloc: Global) -> Result<(), Fail> {
+    let mut page = Page::fresh(alloc, 0, 2)?;
+    let mut other = Page::fresh(alloc, 5, 7)?;
+    let mut wanted = Page::fresh(alloc, 0, 2)?;
+    let mut wanted_other = Page::fresh(alloc, 0, 9)?;
+    for count in [0, 1, 99, 100] {
+        start(&mut page, 0);
+        start(&mut wanted, 0);
+        wanted_other.reset(0, 9);
+        let mut sides = [false; 100];
+        for n in 0..count {
+            let goes = n % 5 < 2;
+            sides[usize::from(n)] = goes;
+            put_pair::<K>(rt, &mut page, n, n, false);
+            if goes {
+                write_pair(rt, &mut wanted_other, K::bytes(n), n, 0);
+            } else {
+                write_pair(rt, &mut wanted, K::bytes(n), n, 0);
+            }
+        }
+        split_leaf::<K>(rt, &mut page, &sides[..usize::from(count)], &mut other);
+        assert_eq!(rt; page.image(), wanted.image(), "stays of {count}");
+        assert_eq!(rt; other.image(), wanted_other.image(), "goes of {count}");
+    }
+    Ok(())
+}
+
+fn inner_edits_write<K: Numbered>(rt: &impl Abort, alloc: Global) -> Result<(), Fail> {
+    let mut page = Page::fresh(alloc, 1, 2)?;
+    let mut other = Page::fresh(alloc, 5, 7)?;
+    let mut wanted = Page::fresh(alloc, 0, 2)?;
+    let mut wanted_other = Page::fresh(alloc, 0, 9)?;
+    for count in [0, 1, 99, 100] {
+        start(&mut page, 3);
+        start(&mut wanted, 3);
+        for n in 0..count {
+            put_child::<K>(rt, &mut page, n, 200 - n);
+            write_child(rt, &mut wanted, K::bytes(n), 200 - n);
+        }
+        assert_eq!(rt; page.image(), wanted.image(), "{count} children");
+
+        start(&mut wanted, 3);
+        wanted_other.reset(3, 9);
+        let mut sides = [false; 100];
+        for n in 0..count {
+            let goes = n % 5 < 2;
+            sides[usize::from(n)] = goes;
+            set_bound::<K>(rt, &mut page, usize::from(n), n + 100);
+            if goes {
+                write_child(rt, &mut wanted_other, K::bytes(n + 100), 200 - n);
+            } else {
+                write_child(rt, &mut wanted, K::bytes(n + 100), 200 - n);
+            }
+        }
+        split_inner::<K>(rt, &mut page, &sides[..usize::from(count)], &mut other);
+        assert_eq!(rt; page.image(), wanted.image(), "stays of {count}");
+        assert_eq!(rt; other.image(), wanted_other.image(), "goes of {count}");
+    }
+    Ok(())
+}
+
+#[test]
+fn leaves_of_boxes(rt: HostRuntime) -> Result<(), Fail> {
+    leaf_edits_write::<Box2Class>(&rt, rt.alloc())?;
+    leaf_is_split::<Box2Class>(&rt, rt.alloc())
+}
+
+#[test]
+fn leaves_of_intervals(rt: HostRuntime) -> Result<(), Fail> {
+    leaf_edits_write::<IntervalClass>(&rt, rt.alloc())?;
+    leaf_is_split::<IntervalClass>(&rt, rt.alloc())
+}
+
+#[test]
+fn inner_nodes(rt: HostRuntime) -> Result<(), Fail> {
+    inner_edits_write::<Box2Class>(&rt, rt.alloc())?;
+    inner_edits_write::<IntervalClass>(&rt, rt.alloc())
+}
+
+/// Fails unless a page is damaged, read as either kind, where 200 pages are taken.
+fn damaged<K: KeyClass>(rt: &impl Abort, page: &Page) {
+    assert_eq!(rt; Leaf::<K>::read(page).err(), Some(Refusal::Damaged));
+    assert_eq!(rt; Inner::<K>::read(page, 200).err(), Some(Refusal::Damaged));
+    assert!(rt; !is_node::<K>(page, 200));
+}
+
+fn damage<K: Numbered>(rt: &impl Abort, alloc: Global) -> Result<(), Fail> {
+    let mut page = Page::fresh(alloc, 0, 2)?;
+    let mut reversed = K::bytes(1);
+    reversed[0] = 1;
+    for (key, mark) in [(K::bytes(1), 2), (K::bytes(1), 255), (reversed, 0)] {
+        page.reset(0, 2);
+        write_pair(rt, &mut page, K::bytes(0), 0, 0);
+        write_pair(rt, &mut page, key, 1, mark);
+        damaged::<K>(rt, &page);
+    }
+    for (key, child) in [(K::bytes(1), 0), (K::bytes(1), 201), (reversed, 1)] {
+        page.reset(1, 2);
+        write_child(rt, &mut page, K::bytes(0), 200);
+        write_child(rt, &mut page, key, child);
+        damaged::<K>(rt, &page);
+    }
+    for level in [0, 1] {
+        page.reset(level, 2);
+        write(rt, &mut page, &[0; 24]);
+        damaged::<K>(rt, &page);
+    }
+    page.reset(1, 2);
+    write_pair(rt, &mut page, K::bytes(0), 0, 0);
+    damaged::<K>(rt, &page);
+    page.reset(0, 2);
+    write_child(rt, &mut page, K::bytes(0), 1);
+    damaged::<K>(rt, &page);
+    Ok(())
+}
+
+#[test]
+fn damaged_nodes(rt: HostRuntime) -> Result<(), Fail> {
+    damage::<Box2Class>(&rt, rt.alloc())?;
+    damage::<IntervalClass>(&rt, rt.alloc())
+}
