@@ -82,6 +82,19 @@ IsDeleting e (Open locks changes (Some Abort)) = ⊥
 IsDeleting e (Aborting locks) = ⊥
 IsDeleting e (Committing number) = ⊥
 
+-- the session has a commit open that isn't sealed
+abbrev pub IsCommitting : {B : Type 0} → Session B → Type 0
+IsCommitting Idle = ⊥
+IsCommitting (Open locks changes None) = ⊥
+IsCommitting (Open locks changes (Some Begin)) = ⊥
+IsCommitting (Open locks changes (Some (Insert e))) = ⊥
+IsCommitting (Open locks changes (Some (Delete e))) = ⊥
+IsCommitting (Open locks changes (Some (Search q))) = ⊥
+IsCommitting (Open locks changes (Some Commit)) = Unit {0}
+IsCommitting (Open locks changes (Some Abort)) = ⊥
+IsCommitting (Aborting locks) = ⊥
+IsCommitting (Committing number) = ⊥
+
 -- a transaction with no call open
 abbrev pub IsFree : {B : Type 0} → Session B → Type 0
 IsFree Idle = ⊥

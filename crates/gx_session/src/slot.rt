@@ -57,10 +57,10 @@ fn refused<B>(why: Refusal) -> Asked<B>
 }
 
 impl<B: Shape> Slot<B> {
-    ghost use Rattle.gx_session.specs.Slots.{IsFree, IsOpen, IsWrite, IsDeleting, CanAnswer, changes_of, added_by, opened_by, begins, Closes, SlotAnswers, SlotSeals, NothingSealed, SlotDrops};
+    ghost use Rattle.gx_session.specs.Slots.{IsFree, IsOpen, IsWrite, IsDeleting, IsCommitting, CanAnswer, changes_of, added_by, opened_by, begins, Closes, SlotAnswers, SlotSeals, NothingSealed, SlotDrops};
     ghost use Rattle.gx_machine.specs.Sets.{found, InOrder};
     ghost use Rattle.gx_machine.specs.Sessions.{view, answer_insert, answer_delete};
-    ghost use Rattle.gx_machine.specs.Sessions.{Idle, Open, Committing, locks_of, session_conflicts, claims_of, with_claim, with_predicate, unless_busy, asked_with, ask_idle, ask_open, ask_session};
+    ghost use Rattle.gx_machine.specs.Sessions.{Idle, Open, Aborting, Committing, locks_of, session_conflicts, claims_of, with_claim, with_predicate, unless_busy, asked_with, ask_idle, ask_open, ask_session};
 
     /// A session with no transaction, and with its room.
     pub fn new(alloc: Global) -> Result<Self, AllocError>
@@ -162,10 +162,7 @@ impl<B: Shape> Slot<B> {
             Call::Delete(e) => self.ask_write(Call::Delete(e), e, least, spent),
             Call::Search(query) => self.ask_search(query, least),
             Call::Commit => self.ask_commit(least),
-            Call::Abort => {
-                self.phase = Phase::Aborting;
-                Asked::Open
-            }
+            Call::Abort => self.ask_abort(),
         }
     }
 
@@ -212,6 +209,15 @@ impl<B: Shape> Slot<B> {
             return refused(Refusal::Busy(other));
         }
         self.phase = Phase::Open(Some(Call::Commit));
+        Asked::Open
+    }
+
+    fn ask_abort(&mut self) -> Asked<B>
+        requires { IsFree self.old }
+        ensures asked { result ≡ Asked.Open }
+        ensures session { self.new ≡ Aborting (locks_of self.old) }
+    {
+        self.phase = Phase::Aborting;
         Asked::Open
     }
 
@@ -283,6 +289,45 @@ impl<B: Shape> Slot<B> {
         }
     }
 
+    /// Seals its open commit under the next number, which it answers.
+    fn seal_open(&mut self, latest: &mut Vec<Entry<B>>, commits: &mut u64) -> u64
+        requires open { IsCommitting self.old }
+        requires in_order { InOrder (keys_of B.Shape) latest.old.items }
+        requires room { vec_len latest.old + added_by self.old ≤ vec_capacity latest.old }
+        requires more { commits.old + 1 < 2 ^ 64 }
+        ensures set { latest.new.items ≡ view (keys_of B.Shape) latest.old.items (changes_of self.old) }
+        ensures number { result ≡ commits.old + 1 }
+        ensures commits { commits.new ≡ commits.old + 1 }
+        ensures session { self.new ≡ Committing result }
+        ensures in_order { InOrder (keys_of B.Shape) latest.new.items }
+        ensures capacity { vec_capacity latest.old ≤ vec_capacity latest.new }
+        ensures grown { vec_len latest.new ≤ vec_len latest.old + added_by self.old }
+    {
+        views::take_over(latest, &self.added, &self.taken);
+        let number = *commits + 1;
+        *commits = number;
+        self.phase = Phase::Committing(number);
+        number
+    }
+
+    /// Answers its commit, sealed under this number.
+    fn committed(&mut self, number: u64) -> Reply<B>
+        ensures reply { result ≡ Reply.Committed number }
+        ensures session { self.new ≡ Idle }
+    {
+        self.phase = Phase::Idle;
+        Reply::Committed(number)
+    }
+
+    /// Answers its abort.
+    fn aborted(&mut self) -> Reply<B>
+        ensures reply { result ≡ Reply.Aborted }
+        ensures session { self.new ≡ Idle }
+    {
+        self.phase = Phase::Idle;
+        Reply::Aborted
+    }
+
     /// Seals its commit: the set becomes what its transaction sees, the number of commits rises by one and is the
     /// commit's, and its claims and predicates are free. None, and nothing changes, where it has no commit open.
     pub fn seal(&mut self, latest: &mut Vec<Entry<B>>, commits: &mut u64) -> Option<u64>
@@ -299,12 +344,7 @@ impl<B: Shape> Slot<B> {
         ensures in_order { InOrder (keys_of B.Shape) latest.new.items }
     {
         match self.phase {
-            Phase::Open(Some(Call::Commit)) => {
-                views::take_over(latest, &self.added, &self.taken);
-                *commits += 1;
-                self.phase = Phase::Committing(*commits);
-                Some(*commits)
-            }
+            Phase::Open(Some(Call::Commit)) => Some(self.seal_open(latest, commits)),
             _ => None,
         }
     }
@@ -358,19 +398,11 @@ impl<B: Shape> Slot<B> {
             Phase::Open(Some(Call::Search(query))) => self.search(query, latest),
             Phase::Open(Some(Call::Begin | Call::Abort)) => unreachable!(),
             Phase::Open(Some(Call::Commit)) => {
-                views::take_over(latest, &self.added, &self.taken);
-                self.phase = Phase::Idle;
-                *commits += 1;
-                Reply::Committed(*commits)
+                let number = self.seal_open(latest, commits);
+                self.committed(number)
             }
-            Phase::Committing(number) => {
-                self.phase = Phase::Idle;
-                Reply::Committed(number)
-            }
-            Phase::Aborting => {
-                self.phase = Phase::Idle;
-                Reply::Aborted
-            }
+            Phase::Committing(number) => self.committed(number),
+            Phase::Aborting => self.aborted(),
         }
     }
 }

@@ -1,5 +1,5 @@
 //! The pair of keys with which the two groups begin (Guttman 1984, PickSeeds).
-ghost use Rattle.std.specs.Prelude.{◌≡◌, ◌≤◌, ◌<◌, ◌+◌, ◌-◌, ◌^◌, length, slice_get};
+ghost use Rattle.std.specs.Prelude.{◌≡◌, ◌≤◌, ◌<◌, ◌+◌, ◌-◌, ◌-ℤ◌, ◌^◌, pos, length, slice_get};
 ghost use Rattle.gx_split.specs.Split.{measure, waste, waste_at, pair, worst_in_row, worst_in_rows, worst_pair};
 ghost use Rattle.gx_split.specs.Sizes.{IsSizes};
 
@@ -34,6 +34,16 @@ fn sizes_of<M: Measure>(keys: &[M]) -> ArrayVec<u128, 101>
     sizes
 }
 
+/// By how much a union of this size is larger than two keys of these sizes together.
+fn excess(union: u128, first: u128, second: u128) -> i128
+    requires union { union < 2 ^ 126 }
+    requires first { first < 2 ^ 126 }
+    requires second { second < 2 ^ 126 }
+    ensures { result ≡ (pos union -ℤ pos first) -ℤ pos second }
+{
+    union as i128 - first as i128 - second as i128
+}
+
 /// By how much the union of two keys, which have these sizes, is larger than both together.
 fn waste<M: Measure>(a: &M, b: &M, a_size: u128, b_size: u128) -> i128
     requires first { a_size ≡ M.extent a.now }
@@ -42,7 +52,7 @@ fn waste<M: Measure>(a: &M, b: &M, a_size: u128, b_size: u128) -> i128
     requires second_small { b_size < 2 ^ 126 }
     ensures { result ≡ waste (measure M.joined M.extent) a.now b.now }
 {
-    a.join(b).size() as i128 - a_size as i128 - b_size as i128
+    excess(a.join(b).size(), a_size, b_size)
 }
 
 /// The pair of these two slots, with its waste.

@@ -1,4 +1,4 @@
-use Rattle.std.proofs.Common.{not, ◌≡◌, ◌≤◌, true, length, sym, subst, arith, List}
+use Rattle.std.proofs.Common.{not, ◌≡◌, ◌≤◌, true, length, sym, ◌∙◌, subst, arith, List}
 use Rattle.std.specs.Prelude.{None}
 use Rattle.gx_machine.specs.declared.entry.Entry.{Entry}
 use Rattle.gx_machine.specs.Keys.{IsLawful, keys, same_entry}
@@ -6,6 +6,7 @@ use Rattle.gx_machine.specs.Sets.{has, InOrder}
 use Rattle.gx_machine.proofs.SetLaws.{in_order_filter}
 use Rattle.gx_session.specs.Slots.{TakesClaimed}
 use Rattle.gx_session.specs.declared.slot.Phase.TheVariants as phase
+use Rattle.gx_session.proofs.Parts.{delete_seen}
 use Rattle.gx_session.proofs.TakenAway.{takes_more, delete_fits, delete_claimed}
 use Rattle.gx_session.proofs.slot.Slot.delete.Goals as goal
 
@@ -36,3 +37,9 @@ invariant_of-self-2 g c =
           (takes_more k lawful c.args.e self.phase self.claims.items self.taken.items c.self.invariant.1 claimed.0),
       subst P (sym c.exclude.ensures.items) (in_order_filter k lawful (λ x. not (same_entry k c.args.e x)) self.added.items c.self.invariant.2),
     )
+
+pub returns-clause-session : goal.returns-clause-session
+returns-clause-session g c =
+    let k = keys g.B.Ord.cmp g.B.Shape.overlap g.B.Shape.inside in
+    let there = rw (c.deref.ensures.value, c.deref-2.ensures.value) at (sym c.has.ensures ∙ c.if-not-has.false) in
+    delete_seen c.self.inside.phase _ _ c.args.self.now c.self.view_is k c.args.e c.args.latest.now _ _ c.requires.open there c.exclude.ensures.items c.put.ensures.items

@@ -1,4 +1,4 @@
-use Rattle.std.proofs.Common.{◌≡◌, rules, sym, subst, arith, List}
+use Rattle.std.proofs.Common.{◌≡◌, rules, sym, ◌∙◌, subst, arith, List}
 use Rattle.std.specs.Prelude.{None}
 use Rattle.gx_machine.specs.declared.entry.Entry.{Entry}
 use Rattle.gx_machine.specs.Keys.{IsLawful, keys}
@@ -6,6 +6,7 @@ use Rattle.gx_machine.specs.Sets.{including, InOrder}
 use Rattle.gx_machine.proofs.SetLaws.{in_order_including}
 use Rattle.gx_session.specs.Slots.{TakesClaimed}
 use Rattle.gx_session.specs.declared.slot.Phase.TheVariants as phase
+use Rattle.gx_session.proofs.Parts.{insert_seen, insert_unseen}
 use Rattle.gx_session.proofs.TakenAway.{takes_less}
 use Rattle.gx_session.proofs.slot.Slot.insert.Goals as goal
 
@@ -21,3 +22,16 @@ invariant_of-self-2 g c =
           (takes_less k lawful c.args.e self.phase self.claims.items self.taken.items c.self.invariant.1),
       (let included : c.include.new.set.items ≡ including k c.args.e self.added.items = search rules in subst P (sym included) (in_order_including k lawful c.args.e self.added.items c.self.invariant.2)),
     )
+
+pub returns-then-has-clause-closes : goal.returns-then-has-clause-closes
+returns-then-has-clause-closes g c =
+    let k = keys g.B.Ord.cmp g.B.Shape.overlap g.B.Shape.inside in
+    let there = rw (c.deref.ensures.value, c.deref-2.ensures.value, c.deref-3.ensures.value) at (sym c.has.ensures ∙ c.if-has.true) in
+    insert_seen c.self.inside.phase _ _ c.args.self.now c.self.view_is k c.args.e c.args.latest.now.items c.requires.open there
+
+pub returns-clause-closes : goal.returns-clause-closes
+returns-clause-closes g c =
+    let k = keys g.B.Ord.cmp g.B.Shape.overlap g.B.Shape.inside in
+    let lacks = rw (c.deref.ensures.value, c.deref-2.ensures.value, c.deref-3.ensures.value) at (sym c.has.ensures ∙ c.if-has.false) in
+    let included : c.include.new.set.items ≡ including k c.args.e c.self.inside.added.items = search rules in
+    insert_unseen c.self.inside.phase _ _ c.args.self.now c.self.view_is k c.args.e c.args.latest.now.items _ _ c.requires.open lacks included c.exclude.ensures.items
