@@ -1,24 +1,23 @@
 -- `move_down` copies byte by byte behind the pointer, the first of them first.
-use Rattle.std.proofs.Common.{◌≡◌, ℕ, suc, ◌+◌, ◌-◌, ◌^◌, ◌<◌, ◌≤◌, List, [], ◌∷◌, length, drop as drop-list, set, get_or, refl, sym, ap, ◌∙◌, arith, lit<, nltb→le, length-drop, w8, w64}
+use Rattle.std.proofs.Common.{◌≡◌, ℕ, ◌+◌, ◌-◌, ◌^◌, ◌<◌, ◌≤◌, List, [], ◌∷◌, length, drop as drop-list, get_or, refl, sym, ap, ◌∙◌, arith, lit<, nltb→le, length-drop, w8, w64}
 use Rattle.std.proofs.lemmas.List.Edits.{length-paste, paste_none}
 use mathlib.Core.WellFounded.InvImage
-use Prim.Native.Nat.{zero}
 use lib.Dec.{ltb→lt}
 use lib.Seq.{paste}
 use lib.WfN.{lt-wf_rel}
-use mir.Syntax.{named, ty_int}
+use mir.Syntax.{named}
 use mir.Val.{Val, vint, vptr, vunit}
 use base.Fraction.{full_share}
-use base.Fml.{flft, fobs, fbor, ftrue, fsep, fat}
-use base.Logic.{SProp, ent, sep, id⊢}
+use base.Fml.{flft, fobs, fbor, ftrue, fsep}
+use base.Logic.{SProp, id⊢}
 use seplogic.Ra.Ura.{Ura}
 use prog.Wp.{Env, Out, Wp, Tables, at_return, after_seq, after_block, after_turn}
-use types.Logic.{Logic, sem}
+use types.Logic.{Logic}
 use types.Kit.{Item, Sq, any_q, runs, given, learn, ‵, raw, ◌⊛◌, later, some, at_ret, ◌$◌, ◌∵◌, !, qed, move, keep, drop, split, split3, join, group, pick, await, fsplit, fsplit3, fjoin, frame, feq_i, rewrite, suffices, use1, use2, done}
 use types.SemTy.{Body}
 use types.Part.{whole, sub, look_in}
 use types.Run.{stop, fld, store, load, look, bin, lit, of_opd, unit_lit, assigns_last, first, blocks, skips, jumps, branches, exec, returns, enter, loops, again, Below}
-use types.ByLocal.{alloc_all, pass_all, free_all, look_at, get, through, sets, sets_last, env, holding, forget_but, take_at, give_at}
+use types.ByLocal.{alloc_all, pass_all, free_all, look_at, get, through, sets, sets_last, env, holding, forget_but}
 use contract.Monad.{fact}
 use contract.Running.{tables, tables_of}
 use denote.Builtin.{u8, usize}
