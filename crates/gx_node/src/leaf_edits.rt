@@ -31,7 +31,7 @@ pub fn append<K: KeyClass>(page: &mut Page, entry: Entry<K::Key>, marked: bool)
     append_item(page, &bytes[..size]);
 }
 
-/// Sets or clears the mark of a slot's pair.
+/// Sets or clears the mark of a slot's pair: a pair is deleted by its mark (Kornacker, Mohan, Hellerstein 1997).
 pub fn set_mark<K: KeyClass>(page: &mut Page, slot: usize, marked: bool)
     requires leaf { is_leaf (format K.KEY K.reading K.start_key) page.old ≡ true }
     requires slot { slot < length (leaf_of (format K.KEY K.reading K.start_key) page.old).pairs }
@@ -44,7 +44,8 @@ pub fn set_mark<K: KeyClass>(page: &mut Page, slot: usize, marked: bool)
     page.set_byte(slot, K::KEY + 8, u8::from(marked));
 }
 
-/// Takes the marked pairs out that nobody claims.
+/// Takes the marked pairs out that nobody claims, as pairs that were deleted by their mark are removed later (Kornacker,
+/// Mohan, Hellerstein 1997).
 pub fn sweep<K: KeyClass, F: Fn(Entry<K::Key>) -> bool>(page: &mut Page, claimed: F)
     requires leaf { is_leaf (format K.KEY K.reading K.start_key) page.old ≡ true }
     requires claimed { F.IsAlwaysCallable claimed }
