@@ -34,7 +34,7 @@ shows_gated : (stage : Stage) (gated flight image : List ℕ) → stage ≡ Idle
 shows_gated stage gated flight image idle shows = (let P : Stage → Type 0 = λ s. Shows s gated flight image in subst P idle shows)
 
 -- a page lies behind the log's sectors
-page_is_apart : (first n s : ℕ) → 4168 ≤ first → IsOfLog s → IsOutside first n s
+pub page_is_apart : (first n s : ℕ) → 4168 ≤ first → IsOfLog s → IsOutside first n s
 page_is_apart first n s from (inl selector) = inl (omega arith)
 page_is_apart first n s from (inr log) = inl (omega (arith, log.1))
 

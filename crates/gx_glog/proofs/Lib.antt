@@ -5,4 +5,5 @@ pub mod Images
 pub mod Keeping
 pub mod Looking
 pub mod Stepping
+pub mod TurnBesides
 pub mod Turning

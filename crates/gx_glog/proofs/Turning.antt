@@ -146,9 +146,10 @@ turn_stays turn.Body extent used gated head filling before now result on (bytes,
     let at = placed to in
     let first = bodies_of to + 64 * 0 in
     let lies : IsOfOther extent first 64 = record { from = omega (arith, at.bodies); to = omega (arith, at.bodies) } in
-    stays turn.Body extent used gated head filling before now on writes.touches.size (other_kept extent first 64 before now lies writes.touches)
-    (other_selected extent first 64 before now lies writes.touches on.turn.0,
-    closed_kept before.seen now.seen before.pending now.pending to (λ k below. touched_kept first 64 (gates_of to + k) before now writes.touches (inl (omega (arith, at.bodies)))) on.turn.1)
+    stays turn.Body extent used gated head filling before now on writes.touches.size (other_kept extent first 64 before now lies writes.touches) (
+      other_selected extent first 64 before now lies writes.touches on.turn.0,
+      closed_kept before.seen now.seen before.pending now.pending to (λ k below. touched_kept first 64 (gates_of to + k) before now writes.touches (inl (omega (arith, at.bodies)))) on.turn.1,
+    )
     (other_touches extent first 64 before now lies writes.touches) writes.time
 turn_stays turn.BodySync extent used gated head filling before now result on syncs = rests turn.BodySync extent used gated head filling before now on result syncs (rested_within before now result syncs)
 turn_stays turn.Gate extent used gated head filling before now result on (bytes, is_gate, writes) =
@@ -156,10 +157,11 @@ turn_stays turn.Gate extent used gated head filling before now result on (bytes,
     let at = placed to in
     let first = gates_of to + 0 in
     let lies : IsOfOther extent first 1 = record { from = omega arith; to = omega arith } in
-    stays turn.Gate extent used gated head filling before now on writes.touches.size (other_kept extent first 1 before now lies writes.touches)
-    (other_selected extent first 1 before now lies writes.touches on.turn.0,
-    first_kept before.seen now.seen before.pending now.pending to head (λ k some below. touched_kept first 1 (gates_of to + k) before now writes.touches (inr (omega arith)))
-    (λ s within. touched_kept first 1 s before now writes.touches (inr (omega (arith, at.bodies, within.from)))) on.turn.1)
+    stays turn.Gate extent used gated head filling before now on writes.touches.size (other_kept extent first 1 before now lies writes.touches) (
+      other_selected extent first 1 before now lies writes.touches on.turn.0,
+      first_kept before.seen now.seen before.pending now.pending to head (λ k some below. touched_kept first 1 (gates_of to + k) before now writes.touches (inr (omega arith)))
+          (λ s within. touched_kept first 1 s before now writes.touches (inr (omega (arith, at.bodies, within.from)))) on.turn.1,
+    )
     (other_touches extent first 1 before now lies writes.touches) writes.time
 turn_stays turn.GateSync extent used gated head filling before now result on syncs = rests turn.GateSync extent used gated head filling before now on result syncs (rested_within before now result syncs)
 turn_stays turn.Selector extent used gated head filling before now result on (bytes, selector, writes) =
@@ -227,11 +229,14 @@ turn_on turn.Closed extent used gated head filling before now size some none (by
 turn_on turn.Body extent used gated head filling before now size some none (bytes, is_body, writes) on =
     goes_on turn.Body turn.BodySync extent used gated head filling now.seen now.pending on some none (on.turn.0, on.turn.1, body_read (other_of extent) head bytes before now is_body size writes.written)
 turn_on turn.BodySync extent used gated head filling before now size some none syncs on =
-    goes_on turn.BodySync turn.Gate extent used gated head filling now.seen now.pending on some none (on.turn.0, record {
-      records = on.turn.2;
-      body = λ s within. syncs.settled s;
-      closed = λ k from below. record { reads = on.turn.1 k below; settled = syncs.settled (gates_of (other_of extent) + k) };
-    })
+    goes_on turn.BodySync turn.Gate extent used gated head filling now.seen now.pending on some none (
+      on.turn.0,
+      record {
+        records = on.turn.2;
+        body = λ s within. syncs.settled s;
+        closed = λ k from below. record { reads = on.turn.1 k below; settled = syncs.settled (gates_of (other_of extent) + k) };
+      },
+    )
 turn_on turn.Gate extent used gated head filling before now size some none (bytes, is_gate, writes) on =
     goes_on turn.Gate turn.GateSync extent used gated head filling now.seen now.pending on some none (on.turn.0, on.turn.1, open_read (other_of extent) bytes before now is_gate size writes.written)
 turn_on turn.GateSync extent used gated head filling before now size some none syncs on =

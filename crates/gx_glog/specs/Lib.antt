@@ -8,4 +8,5 @@ pub mod Reading
 pub mod Standing
 pub mod State
 pub mod Steps
+pub mod TurnBeside
 pub mod Turning

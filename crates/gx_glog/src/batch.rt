@@ -120,7 +120,13 @@ impl Glog {
         ensures refusal { IfErr result (λ refusal. refusal ≡ Refusal.Device) }
     {
         match self.stage {
-            Stage::Body => write_body(disk, self.extent, self.gated, self.flight.body(), Stage::Body),
+            Stage::Body => write_body(
+                disk,
+                self.extent,
+                self.gated,
+                self.flight.body(),
+                Stage::Body,
+            ),
             Stage::Gate => write_gate(disk, self.extent, self.gated, Stage::Gate),
             Stage::BodySync | Stage::GateSync | Stage::Idle => settle(disk, self.stage),
         }

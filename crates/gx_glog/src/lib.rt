@@ -11,6 +11,7 @@ mod stage;
 #[cfg(test)]
 mod tests;
 mod turn;
+pub mod turn_caller;
 
 pub use extent::{BODY_SIZE, Extent, PLACES, read_extent, selected};
 pub use filling::{Appended, Glog};

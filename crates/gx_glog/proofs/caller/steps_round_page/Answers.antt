@@ -10,18 +10,18 @@ returns-in_err-step-clause-moments g c = (λ gated batch start honest beside. c.
 
 pub returns-in_err-write_page-clause-moments : goal.returns-in_err-write_page-clause-moments
 returns-in_err-write_page-clause-moments g c =
-  λ gated batch start honest beside.
-      leaves_joined (IsSafe gated batch c.args.first start) _ _ _ (c.step.ensures.moments gated batch start c.args.first honest beside)
-      (c.write_page.ensures.moments gated batch start (c.step.ensures.counts.honest ∙ honest) (c.step.ensures.beside gated batch start c.args.first honest beside))
+    λ gated batch start honest beside.
+    leaves_joined (IsSafe gated batch c.args.first start) _ _ _ (c.step.ensures.moments gated batch start c.args.first honest beside)
+    (c.write_page.ensures.moments gated batch start (c.step.ensures.counts.honest ∙ honest) (c.step.ensures.beside gated batch start c.args.first honest beside))
 
 pub returns-clause-moments : goal.returns-clause-moments
 returns-clause-moments g c =
-  λ gated batch start honest beside.
-      let there = c.step.ensures.beside gated batch start c.args.first honest beside in
-      let still = c.step.ensures.counts.honest ∙ honest in
-      leaves_joined (IsSafe gated batch c.args.first start) _ _ _ (c.step.ensures.moments gated batch start c.args.first honest beside)
-      (leaves_joined (IsSafe gated batch c.args.first start) _ _ _ (c.write_page.ensures.moments gated batch start still there)
-      (c.three_steps.ensures.moments gated batch start c.args.first (c.write_page.ensures.counts.honest ∙ still) (c.write_page.ensures.beside gated batch start still there)))
+    λ gated batch start honest beside.
+    let there = c.step.ensures.beside gated batch start c.args.first honest beside in
+    let still = c.step.ensures.counts.honest ∙ honest in
+    leaves_joined (IsSafe gated batch c.args.first start) _ _ _ (c.step.ensures.moments gated batch start c.args.first honest beside)
+    (leaves_joined (IsSafe gated batch c.args.first start) _ _ _ (c.write_page.ensures.moments gated batch start still there)
+    (c.three_steps.ensures.moments gated batch start c.args.first (c.write_page.ensures.counts.honest ∙ still) (c.write_page.ensures.beside gated batch start still there)))
 
 pub returns-clause-beside : goal.returns-clause-beside
 returns-clause-beside g c = λ gated batch start honest beside.

@@ -9,27 +9,27 @@ returns-in_err-step-clause-moments g c = (λ gated batch start first honest besi
 
 pub returns-in_err-step-2-clause-moments : goal.returns-in_err-step-2-clause-moments
 returns-in_err-step-2-clause-moments g c =
-  λ gated batch start first honest beside.
-      leaves_joined (IsSafe gated batch first start) _ _ _ (c.step.ensures.moments gated batch start first honest beside)
-      (c.step-2.ensures.moments gated batch start first (c.step.ensures.counts.honest ∙ honest) (c.step.ensures.beside gated batch start first honest beside))
+    λ gated batch start first honest beside.
+    leaves_joined (IsSafe gated batch first start) _ _ _ (c.step.ensures.moments gated batch start first honest beside)
+    (c.step-2.ensures.moments gated batch start first (c.step.ensures.counts.honest ∙ honest) (c.step.ensures.beside gated batch start first honest beside))
 
 pub returns-in_err-step-3-clause-moments : goal.returns-in_err-step-3-clause-moments
 returns-in_err-step-3-clause-moments g c =
-  λ gated batch start first honest beside.
-      let there = c.step.ensures.beside gated batch start first honest beside in
-      let still = c.step.ensures.counts.honest ∙ honest in
-      leaves_joined (IsSafe gated batch first start) _ _ _ (c.step.ensures.moments gated batch start first honest beside)
-      (leaves_joined (IsSafe gated batch first start) _ _ _ (c.step-2.ensures.moments gated batch start first still there)
-      (c.step-3.ensures.moments gated batch start first (c.step-2.ensures.counts.honest ∙ still) (c.step-2.ensures.beside gated batch start first still there)))
+    λ gated batch start first honest beside.
+    let there = c.step.ensures.beside gated batch start first honest beside in
+    let still = c.step.ensures.counts.honest ∙ honest in
+    leaves_joined (IsSafe gated batch first start) _ _ _ (c.step.ensures.moments gated batch start first honest beside)
+    (leaves_joined (IsSafe gated batch first start) _ _ _ (c.step-2.ensures.moments gated batch start first still there)
+    (c.step-3.ensures.moments gated batch start first (c.step-2.ensures.counts.honest ∙ still) (c.step-2.ensures.beside gated batch start first still there)))
 
 pub returns-clause-moments : goal.returns-clause-moments
 returns-clause-moments g c =
-  λ gated batch start first honest beside.
-      let there = c.step.ensures.beside gated batch start first honest beside in
-      let still = c.step.ensures.counts.honest ∙ honest in
-      leaves_joined (IsSafe gated batch first start) _ _ _ (c.step.ensures.moments gated batch start first honest beside)
-      (leaves_joined (IsSafe gated batch first start) _ _ _ (c.step-2.ensures.moments gated batch start first still there)
-      (c.step-3.ensures.moments gated batch start first (c.step-2.ensures.counts.honest ∙ still) (c.step-2.ensures.beside gated batch start first still there)))
+    λ gated batch start first honest beside.
+    let there = c.step.ensures.beside gated batch start first honest beside in
+    let still = c.step.ensures.counts.honest ∙ honest in
+    leaves_joined (IsSafe gated batch first start) _ _ _ (c.step.ensures.moments gated batch start first honest beside)
+    (leaves_joined (IsSafe gated batch first start) _ _ _ (c.step-2.ensures.moments gated batch start first still there)
+    (c.step-3.ensures.moments gated batch start first (c.step-2.ensures.counts.honest ∙ still) (c.step-2.ensures.beside gated batch start first still there)))
 
 pub returns-clause-beside : goal.returns-clause-beside
 returns-clause-beside g c = λ gated batch start first honest beside.
