@@ -1,0 +1,14 @@
+pub mod Lists
+pub mod Slots
+pub mod Keeping
+pub mod Asking
+pub mod Fresh
+pub mod Closing
+pub mod Marks
+pub mod Writing
+pub mod AskEvents
+pub mod MoveEvents
+pub mod Undoing
+pub mod Sealing
+pub mod SearchEvents
+pub mod Sweeping

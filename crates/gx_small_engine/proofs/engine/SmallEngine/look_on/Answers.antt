@@ -1,0 +1,142 @@
+use Rattle.std.proofs.Common.{◌≡◌, ◌-◌, List, sym, ap, subst}
+use Rattle.gx_machine.specs.Keys.{keys, IsLawful}
+use Rattle.gx_machine.specs.declared.entry.Entry.{Entry}
+use Rattle.gx_engine_laws.specs.declared.look.Listed.{Listed}
+use Rattle.gx_engine_laws.specs.Looks.{is_live}
+use Rattle.gx_small_engine.specs.declared.phase.Phase.{Phase}
+use Rattle.gx_small_engine.specs.Moves.{HasLook, HasGathered, LooksLater, IsNearer}
+use Rattle.gx_small_engine.specs.States.{State, phase_at}
+use Rattle.gx_small_engine.proofs.SearchEvents.{looks_on, look_ended, look_closes, still_looks}
+use Rattle.gx_small_engine.proofs.engine.SmallEngine.look_on.Goals as goal
+
+pub invariant_of-self : goal.invariant_of-self
+invariant_of-self g c =
+    let k = keys g.B.Ord.cmp g.B.Shape.overlap g.B.Shape.inside in
+    let lawful : IsLawful k = record { total = g.met.B.Ord.total; exact = g.met.B.Shape.same } in
+    let self = c.self.inside in
+    let old : State g.row.B.Denot = record { pairs = self.pairs.items; phases = self.phases.items; table = self.table; older = self.older.items; oldest = self.oldest } in
+    let now = c.args.self.now in
+    let q = phase_at (c.args.session - 1) self.phases.items in
+    let q' = phase_at (c.args.session - 1) c.read.new.phases.items in
+    let at : phase_at (c.args.session - 1) now.phases ≡ q = ap (λ (x : State g.row.B.Denot). phase_at (c.args.session - 1) x.phases) (sym c.self.view_is) in
+    let on = subst (λ (ps : List (Listed g.row.B.Denot)). LooksLater k (is_live k ps) q q') c.deref.ensures.value c.read.ensures.later in
+    let has = subst (λ (x : State g.row.B.Denot). HasLook (phase_at (c.args.session - 1) x.phases)) (sym c.self.view_is) c.requires.looks in
+    let nearer = subst (λ t. IsNearer t q q') c.in-Ok-true.field-0-test c.in-Ok-true.ensures.nearer in
+    (looks_on k lawful old now c.self.view_is c.self.invariant c.args.session c.requires.session q q' at on nearer c.read.new.phases.items c.read.ensures.others).1
+
+pub found-requires-clause-looks : goal.found-requires-clause-looks
+found-requires-clause-looks g c =
+    let k = keys g.B.Ord.cmp g.B.Shape.overlap g.B.Shape.inside in
+    let lawful : IsLawful k = record { total = g.met.B.Ord.total; exact = g.met.B.Shape.same } in
+    let self = c.self.inside in
+    let old : State g.row.B.Denot = record { pairs = self.pairs.items; phases = self.phases.items; table = self.table; older = self.older.items; oldest = self.oldest } in
+    let now = c.args.self.now in
+    let q = phase_at (c.args.session - 1) self.phases.items in
+    let q' = phase_at (c.args.session - 1) c.read.new.phases.items in
+    let at : phase_at (c.args.session - 1) now.phases ≡ q = ap (λ (x : State g.row.B.Denot). phase_at (c.args.session - 1) x.phases) (sym c.self.view_is) in
+    let on = subst (λ (ps : List (Listed g.row.B.Denot)). LooksLater k (is_live k ps) q q') c.deref.ensures.value c.read.ensures.later in
+    let has = subst (λ (x : State g.row.B.Denot). HasLook (phase_at (c.args.session - 1) x.phases)) (sym c.self.view_is) c.requires.looks in
+    subst (λ (ps : List (Phase g.row.B.Denot)). HasLook (phase_at (c.args.session - 1) ps)) (sym c.deref-in-Ok-false.ensures.value) (still_looks k (is_live k self.pairs.items) q q' on)
+
+pub invariant_of-self-in-Ok : goal.invariant_of-self-in-Ok
+invariant_of-self-in-Ok g c =
+    let k = keys g.B.Ord.cmp g.B.Shape.overlap g.B.Shape.inside in
+    let lawful : IsLawful k = record { total = g.met.B.Ord.total; exact = g.met.B.Shape.same } in
+    let self = c.self.inside in
+    let old : State g.row.B.Denot = record { pairs = self.pairs.items; phases = self.phases.items; table = self.table; older = self.older.items; oldest = self.oldest } in
+    let now = c.args.self.now in
+    let q = phase_at (c.args.session - 1) self.phases.items in
+    let q' = phase_at (c.args.session - 1) c.read.new.phases.items in
+    let at : phase_at (c.args.session - 1) now.phases ≡ q = ap (λ (x : State g.row.B.Denot). phase_at (c.args.session - 1) x.phases) (sym c.self.view_is) in
+    let on = subst (λ (ps : List (Listed g.row.B.Denot)). LooksLater k (is_live k ps) q q') c.deref.ensures.value c.read.ensures.later in
+    let has = subst (λ (x : State g.row.B.Denot). HasLook (phase_at (c.args.session - 1) x.phases)) (sym c.self.view_is) c.requires.looks in
+    let none = subst (λ t. IsNearer t q q') c.in-Ok-false.field-0-test c.in-Ok-false.ensures.nearer in
+    let gathered = subst (λ (ps : List (Phase g.row.B.Denot)). HasGathered k (phase_at (c.args.session - 1) ps) c.in-Ok.entries.items) c.deref-in-Ok-false.ensures.value c.in-Ok.ensures in
+    (look_ended k lawful old now c.self.view_is c.self.invariant c.args.session c.requires.session q q' at on none c.in-Ok.entries.items gathered c.read.new.phases.items c.set_phase.new.phases.items c.read.ensures.others c.set_phase.ensures).1
+
+pub invariant_of-self-in-Err-found : goal.invariant_of-self-in-Err-found
+invariant_of-self-in-Err-found g c =
+    let k = keys g.B.Ord.cmp g.B.Shape.overlap g.B.Shape.inside in
+    let lawful : IsLawful k = record { total = g.met.B.Ord.total; exact = g.met.B.Shape.same } in
+    let self = c.self.inside in
+    let old : State g.row.B.Denot = record { pairs = self.pairs.items; phases = self.phases.items; table = self.table; older = self.older.items; oldest = self.oldest } in
+    let now = c.args.self.now in
+    let q = phase_at (c.args.session - 1) self.phases.items in
+    let q' = phase_at (c.args.session - 1) c.read.new.phases.items in
+    let at : phase_at (c.args.session - 1) now.phases ≡ q = ap (λ (x : State g.row.B.Denot). phase_at (c.args.session - 1) x.phases) (sym c.self.view_is) in
+    let on = subst (λ (ps : List (Listed g.row.B.Denot)). LooksLater k (is_live k ps) q q') c.deref.ensures.value c.read.ensures.later in
+    let has = subst (λ (x : State g.row.B.Denot). HasLook (phase_at (c.args.session - 1) x.phases)) (sym c.self.view_is) c.requires.looks in
+    (look_closes k lawful old now c.self.view_is c.self.invariant c.args.session c.requires.session q q' at has c.read.new.phases.items c.set_phase-in-Err-found.new.phases.items c.read.ensures.others c.set_phase-in-Err-found.ensures).1
+
+pub invariant_of-self-in-Err : goal.invariant_of-self-in-Err
+invariant_of-self-in-Err g c =
+    let k = keys g.B.Ord.cmp g.B.Shape.overlap g.B.Shape.inside in
+    let lawful : IsLawful k = record { total = g.met.B.Ord.total; exact = g.met.B.Shape.same } in
+    let self = c.self.inside in
+    let old : State g.row.B.Denot = record { pairs = self.pairs.items; phases = self.phases.items; table = self.table; older = self.older.items; oldest = self.oldest } in
+    let now = c.args.self.now in
+    let q = phase_at (c.args.session - 1) self.phases.items in
+    let q' = phase_at (c.args.session - 1) c.read.new.phases.items in
+    let at : phase_at (c.args.session - 1) now.phases ≡ q = ap (λ (x : State g.row.B.Denot). phase_at (c.args.session - 1) x.phases) (sym c.self.view_is) in
+    let on = subst (λ (ps : List (Listed g.row.B.Denot)). LooksLater k (is_live k ps) q q') c.deref.ensures.value c.read.ensures.later in
+    let has = subst (λ (x : State g.row.B.Denot). HasLook (phase_at (c.args.session - 1) x.phases)) (sym c.self.view_is) c.requires.looks in
+    (look_closes k lawful old now c.self.view_is c.self.invariant c.args.session c.requires.session q q' at has c.read.new.phases.items c.set_phase-in-Err.new.phases.items c.read.ensures.others c.set_phase-in-Err.ensures).1
+
+pub returns-in-Ok-true : goal.returns-in-Ok-true
+returns-in-Ok-true g c =
+    let k = keys g.B.Ord.cmp g.B.Shape.overlap g.B.Shape.inside in
+    let lawful : IsLawful k = record { total = g.met.B.Ord.total; exact = g.met.B.Shape.same } in
+    let self = c.self.inside in
+    let old : State g.row.B.Denot = record { pairs = self.pairs.items; phases = self.phases.items; table = self.table; older = self.older.items; oldest = self.oldest } in
+    let now = c.args.self.now in
+    let q = phase_at (c.args.session - 1) self.phases.items in
+    let q' = phase_at (c.args.session - 1) c.read.new.phases.items in
+    let at : phase_at (c.args.session - 1) now.phases ≡ q = ap (λ (x : State g.row.B.Denot). phase_at (c.args.session - 1) x.phases) (sym c.self.view_is) in
+    let on = subst (λ (ps : List (Listed g.row.B.Denot)). LooksLater k (is_live k ps) q q') c.deref.ensures.value c.read.ensures.later in
+    let has = subst (λ (x : State g.row.B.Denot). HasLook (phase_at (c.args.session - 1) x.phases)) (sym c.self.view_is) c.requires.looks in
+    let nearer = subst (λ t. IsNearer t q q') c.in-Ok-true.field-0-test c.in-Ok-true.ensures.nearer in
+    (looks_on k lawful old now c.self.view_is c.self.invariant c.args.session c.requires.session q q' at on nearer c.read.new.phases.items c.read.ensures.others).0
+
+pub returns-in-Ok : goal.returns-in-Ok
+returns-in-Ok g c =
+    let k = keys g.B.Ord.cmp g.B.Shape.overlap g.B.Shape.inside in
+    let lawful : IsLawful k = record { total = g.met.B.Ord.total; exact = g.met.B.Shape.same } in
+    let self = c.self.inside in
+    let old : State g.row.B.Denot = record { pairs = self.pairs.items; phases = self.phases.items; table = self.table; older = self.older.items; oldest = self.oldest } in
+    let now = c.args.self.now in
+    let q = phase_at (c.args.session - 1) self.phases.items in
+    let q' = phase_at (c.args.session - 1) c.read.new.phases.items in
+    let at : phase_at (c.args.session - 1) now.phases ≡ q = ap (λ (x : State g.row.B.Denot). phase_at (c.args.session - 1) x.phases) (sym c.self.view_is) in
+    let on = subst (λ (ps : List (Listed g.row.B.Denot)). LooksLater k (is_live k ps) q q') c.deref.ensures.value c.read.ensures.later in
+    let has = subst (λ (x : State g.row.B.Denot). HasLook (phase_at (c.args.session - 1) x.phases)) (sym c.self.view_is) c.requires.looks in
+    let none = subst (λ t. IsNearer t q q') c.in-Ok-false.field-0-test c.in-Ok-false.ensures.nearer in
+    let gathered = subst (λ (ps : List (Phase g.row.B.Denot)). HasGathered k (phase_at (c.args.session - 1) ps) c.in-Ok.entries.items) c.deref-in-Ok-false.ensures.value c.in-Ok.ensures in
+    (look_ended k lawful old now c.self.view_is c.self.invariant c.args.session c.requires.session q q' at on none c.new.result (subst (λ (es : List (Entry g.row.B.Denot)). HasGathered k q' es) (sym c.new.ensures) gathered) c.read.new.phases.items c.set_phase.new.phases.items c.read.ensures.others c.set_phase.ensures).0
+
+pub returns-in-Err-found : goal.returns-in-Err-found
+returns-in-Err-found g c =
+    let k = keys g.B.Ord.cmp g.B.Shape.overlap g.B.Shape.inside in
+    let lawful : IsLawful k = record { total = g.met.B.Ord.total; exact = g.met.B.Shape.same } in
+    let self = c.self.inside in
+    let old : State g.row.B.Denot = record { pairs = self.pairs.items; phases = self.phases.items; table = self.table; older = self.older.items; oldest = self.oldest } in
+    let now = c.args.self.now in
+    let q = phase_at (c.args.session - 1) self.phases.items in
+    let q' = phase_at (c.args.session - 1) c.read.new.phases.items in
+    let at : phase_at (c.args.session - 1) now.phases ≡ q = ap (λ (x : State g.row.B.Denot). phase_at (c.args.session - 1) x.phases) (sym c.self.view_is) in
+    let on = subst (λ (ps : List (Listed g.row.B.Denot)). LooksLater k (is_live k ps) q q') c.deref.ensures.value c.read.ensures.later in
+    let has = subst (λ (x : State g.row.B.Denot). HasLook (phase_at (c.args.session - 1) x.phases)) (sym c.self.view_is) c.requires.looks in
+    (look_closes k lawful old now c.self.view_is c.self.invariant c.args.session c.requires.session q q' at has c.read.new.phases.items c.set_phase-in-Err-found.new.phases.items c.read.ensures.others c.set_phase-in-Err-found.ensures).0
+
+pub returns-in-Err : goal.returns-in-Err
+returns-in-Err g c =
+    let k = keys g.B.Ord.cmp g.B.Shape.overlap g.B.Shape.inside in
+    let lawful : IsLawful k = record { total = g.met.B.Ord.total; exact = g.met.B.Shape.same } in
+    let self = c.self.inside in
+    let old : State g.row.B.Denot = record { pairs = self.pairs.items; phases = self.phases.items; table = self.table; older = self.older.items; oldest = self.oldest } in
+    let now = c.args.self.now in
+    let q = phase_at (c.args.session - 1) self.phases.items in
+    let q' = phase_at (c.args.session - 1) c.read.new.phases.items in
+    let at : phase_at (c.args.session - 1) now.phases ≡ q = ap (λ (x : State g.row.B.Denot). phase_at (c.args.session - 1) x.phases) (sym c.self.view_is) in
+    let on = subst (λ (ps : List (Listed g.row.B.Denot)). LooksLater k (is_live k ps) q q') c.deref.ensures.value c.read.ensures.later in
+    let has = subst (λ (x : State g.row.B.Denot). HasLook (phase_at (c.args.session - 1) x.phases)) (sym c.self.view_is) c.requires.looks in
+    (look_closes k lawful old now c.self.view_is c.self.invariant c.args.session c.requires.session q q' at has c.read.new.phases.items c.set_phase-in-Err.new.phases.items c.read.ensures.others c.set_phase-in-Err.ensures).0

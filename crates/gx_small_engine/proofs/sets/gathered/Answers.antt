@@ -1,0 +1,19 @@
+use Rattle.std.proofs.Common.{◌≡◌, ◌<◌, ◌+◌, ℕ, List, ◌∷◌, ap, sym, ◌∙◌, drop, length, get_or}
+use Rattle.std.proofs.lemmas.List.{drop_more}
+use Rattle.gx_machine.specs.declared.entry.Entry.{Entry}
+use Rattle.gx_machine.specs.Keys.{Keys, keys}
+use Rattle.gx_machine.specs.Sets.{including, including_all}
+use Rattle.gx_small_engine.proofs.sets.gathered.Goals as goal
+
+-- adding the next entry first changes nothing of what is added in all
+next : {B : Type 0} (k : Keys B) (more set new : List (Entry B)) (i : ℕ) (e : Entry B) → i < length more → e ≡ get_or more i e → new ≡ including k e set
+    → including_all k (drop (i + 1) more) new ≡ including_all k (drop i more) set
+next k more set new i e h is placed =
+    ap (including_all k (drop (i + 1) more)) placed
+    ∙ sym (ap (λ s. including_all k s set) (drop_more more i e h ∙ ap (λ x. x ∷ drop (i + 1) more) (sym is)))
+
+pub loop-e-preserved : goal.loop-e-preserved
+loop-e-preserved g c =
+    next (keys g.B.Ord.cmp g.B.Shape.overlap g.B.Shape.inside) c.args.entries.now c.loop-e.set.items c.include.new.set.items c.loop-e.e-index
+    c.e-item.result c.loop-e-test.true c.e-item.is c.in_ok-include.ensures
+    ∙ c.loop-e.invariant

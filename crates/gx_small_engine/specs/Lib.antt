@@ -1,0 +1,4 @@
+pub mod States
+pub mod Moves
+pub mod Asked
+pub mod Standing
