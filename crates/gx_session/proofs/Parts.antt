@@ -52,7 +52,7 @@ module _ {B : Type 0} (p : Phase B) (locks : Locks B) (changes : Changes B) (s :
       → reply ≡ replies.Committed number → new ≡ Idle → SlotAnswers k s latest commits reply new latest commits
   commit_answered k number latest commits reply new committing said idle =
       subst (λ (x : Session B). SlotAnswers k x latest commits reply new latest commits)
-          (sym (ap (λ (q : Phase B). session_of q locks changes) committing) ∙ is) (said, idle, (refl, refl))
+      (sym (ap (λ (q : Phase B). session_of q locks changes) committing) ∙ is) (said, idle, (refl, refl))
 
   module _ (k : Keys B) (e : Entry B) (latest : List (Entry B)) where
     -- an insert of an entry that is seen
@@ -61,7 +61,7 @@ module _ {B : Type 0} (p : Phase B) (locks : Locks B) (changes : Changes B) (s :
     insert_seen going there =
         let given : answer_insert k e latest changes ≡ (replies.Refused Present, changes) = rw there refl in
         inl (open_parts (λ (h : Locks B) (c : Changes B). (replies.Refused Present ≡ (answer_insert k e latest c).0) × (Open locks changes None ≡ Open h (answer_insert k e latest c).1 None))
-              (sym (ap (λ (g : Reply B × Changes B). g.0) given), sym (ap (λ (g : Reply B × Changes B). Open locks g.1 None) given)) going)
+        (sym (ap (λ (g : Reply B × Changes B). g.0) given), sym (ap (λ (g : Reply B × Changes B). Open locks g.1 None) given)) going)
 
     module _ (added taken : List (Entry B)) where
       -- an insert of one that isn't
@@ -73,8 +73,8 @@ module _ {B : Type 0} (p : Phase B) (locks : Locks B) (changes : Changes B) (s :
           let now : Changes B = record { added = added; taken = taken } in
           let same : now ≡ after = rw (more, less) refl in
           inl (open_parts (λ (h : Locks B) (c : Changes B). (replies.Inserted ≡ (answer_insert k e latest c).0)
-                × (Open locks (record { added = added; taken = taken }) None ≡ Open h (answer_insert k e latest c).1 None))
-                (sym (ap (λ (g : Reply B × Changes B). g.0) given), ap (λ (d : Changes B). Open locks d None) same ∙ sym (ap (λ (g : Reply B × Changes B). Open locks g.1 None) given)) going)
+          × (Open locks (record { added = added; taken = taken }) None ≡ Open h (answer_insert k e latest c).1 None))
+          (sym (ap (λ (g : Reply B × Changes B). g.0) given), ap (λ (d : Changes B). Open locks d None) same ∙ sym (ap (λ (g : Reply B × Changes B). Open locks g.1 None) given)) going)
 
       -- a delete of an entry that is seen
       pub delete_seen : IsDeleting e s → has k e (view k latest changes) ≡ true → added ≡ excluding k e changes.added → taken ≡ including k e changes.taken
@@ -85,7 +85,7 @@ module _ {B : Type 0} (p : Phase B) (locks : Locks B) (changes : Changes B) (s :
           let now : Changes B = record { added = added; taken = taken } in
           let same : now ≡ after = rw (less, more) refl in
           open_parts (λ (h : Locks B) (c : Changes B). Open locks (record { added = added; taken = taken }) None ≡ Open h (answer_delete k e latest c).1 None)
-              (ap (λ (d : Changes B). Open locks d None) same ∙ sym (ap (λ (g : Reply B × Changes B). Open locks g.1 None) given)) (deleting_is_open e s deleting)
+          (ap (λ (d : Changes B). Open locks d None) same ∙ sym (ap (λ (g : Reply B × Changes B). Open locks g.1 None) given)) (deleting_is_open e s deleting)
 
 -- a transaction begins with nothing
 pub begun : {B : Type 0} (call : Call B) (claims : List (Entry B)) (predicates : List (Query B)) (added taken : List (Entry B)) → call ≡ Begin

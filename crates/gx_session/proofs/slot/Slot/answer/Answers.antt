@@ -6,4 +6,4 @@ pub returns-in-Committing-clause-answers : goal.returns-in-Committing-clause-ans
 returns-in-Committing-clause-answers g c =
     let k = keys g.B.Ord.cmp g.B.Shape.overlap g.B.Shape.inside in
     commit_answered c.self.inside.phase _ _ c.args.self.now c.self.view_is k c.in-Committing.number _ _ _ _ c.in-Committing.is
-        c.committed-in-Committing.ensures.reply c.committed-in-Committing.ensures.session
+    c.committed-in-Committing.ensures.reply c.committed-in-Committing.ensures.session
