@@ -34,3 +34,5 @@ mod reaches;
 mod records;
 #[cfg(test)]
 mod scripts;
+#[cfg(test)]
+mod turns;
