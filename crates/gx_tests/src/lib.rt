@@ -38,3 +38,5 @@ mod records;
 mod scripts;
 #[cfg(test)]
 mod trees;
+#[cfg(test)]
+mod turns;

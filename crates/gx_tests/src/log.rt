@@ -14,7 +14,7 @@ const SECTORS: usize = 4232;
 const OTHER: [u8; 512] = [0xA7; 512];
 
 /// Makes the next call of a batch.
-fn step(log: &mut Glog, disk: &mut MemDisk) -> Result<Stage, Fail> {
+pub(crate) fn step(log: &mut Glog, disk: &mut MemDisk) -> Result<Stage, Fail> {
     if disk.sectors() < 4168 {
         return Err("a small device".into());
     }
@@ -22,7 +22,7 @@ fn step(log: &mut Glog, disk: &mut MemDisk) -> Result<Stage, Fail> {
 }
 
 /// Puts a record into the log, and answers the place of its batch.
-fn append(log: &mut Glog, logged: &Record<'_>) -> Result<u64, Fail>
+pub(crate) fn append(log: &mut Glog, logged: &Record<'_>) -> Result<u64, Fail>
     requires { IsInRange (rec_of logged.now) }
 {
     if log.used() >= PLACES {
@@ -35,7 +35,7 @@ fn append(log: &mut Glog, logged: &Record<'_>) -> Result<u64, Fail>
 }
 
 /// How many batches are gated in the selected extent, and how many bytes of records the last one has.
-fn gated(rt: &HostRuntime, disk: &mut MemDisk) -> Result<(u8, usize), Fail> {
+pub(crate) fn gated(rt: &HostRuntime, disk: &mut MemDisk) -> Result<(u8, usize), Fail> {
     let mut body = Vec::new(rt.alloc());
     body.resize(BODY_SIZE, 0)?;
     let mut last = 0;
@@ -56,7 +56,7 @@ fn gated(rt: &HostRuntime, disk: &mut MemDisk) -> Result<(u8, usize), Fail> {
 }
 
 /// A device with a log of one batch, the counters of a fresh tree.
-fn with_counters(rt: &HostRuntime) -> Result<(MemDisk, Glog), Fail> {
+pub(crate) fn with_counters(rt: &HostRuntime) -> Result<(MemDisk, Glog), Fail> {
     let mut disk = MemDisk::new(rt.alloc(), SECTORS)?;
     let mut log = Glog::start(rt.alloc(), Extent::A, 0).ok().ok_or("start")?;
     let counters = Record::Counters {
