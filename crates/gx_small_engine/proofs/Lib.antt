@@ -12,3 +12,4 @@ pub mod Undoing
 pub mod Sealing
 pub mod SearchEvents
 pub mod Sweeping
+pub mod Playing

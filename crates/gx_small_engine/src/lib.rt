@@ -9,7 +9,9 @@ mod engine;
 mod looks;
 mod pairs;
 mod phase;
+mod plays;
 mod sets;
 mod standing;
 
 pub use engine::SmallEngine;
+pub use plays::{Act, play};
