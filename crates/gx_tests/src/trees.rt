@@ -34,6 +34,22 @@ fn a_box(rt: &impl Abort, corners: Corners) -> Box2 {
     Box2::new(x1, y1, x2, y2).ok().expect(rt, "a box")
 }
 
+/// A live row's bytes.
+fn pair_item(row: u64, key: Box2) -> [u8; 25] {
+    let mut item = [0; 25];
+    Box2Class::encode(key, &mut item[..16]);
+    item[16..24].copy_from_slice(&row.to_be_bytes());
+    item
+}
+
+/// A child's bytes.
+fn child_item(child: u32, key: Box2) -> [u8; 20] {
+    let mut item = [0; 20];
+    Box2Class::encode(key, &mut item[..16]);
+    item[16..].copy_from_slice(&child.to_be_bytes());
+    item
+}
+
 fn put(rt: &impl Abort, page: &mut Page, item: &[u8]) {
     assert!(rt; !item.is_empty() && item.len() <= 4060);
     let slot = page.count();
@@ -62,9 +78,7 @@ fn leaf<R: Abort + AllocGlobal>(
 ) -> Result<(), Fail> {
     let mut page = fresh(rt, 0, header)?;
     for (row, corners) in rows {
-        let mut item = [0; 25];
-        Box2Class::encode(a_box(rt, *corners), &mut item[..16]);
-        item[16..24].copy_from_slice(&row.to_be_bytes());
+        let item = pair_item(*row, a_box(rt, *corners));
         put(rt, &mut page, &item);
     }
     add(pages, page)?;
@@ -80,9 +94,7 @@ fn inner<R: Abort + AllocGlobal>(
 ) -> Result<(), Fail> {
     let mut page = fresh(rt, 0, header)?;
     for (child, corners) in children {
-        let mut item = [0; 20];
-        Box2Class::encode(a_box(rt, *corners), &mut item[..16]);
-        item[16..].copy_from_slice(&child.to_be_bytes());
+        let item = child_item(*child, a_box(rt, *corners));
         put(rt, &mut page, &item);
     }
     add(pages, page)?;
@@ -92,13 +104,33 @@ fn inner<R: Abort + AllocGlobal>(
 /// The tree of the nine boxes, four entries a node: four leaves, two nodes above them, and the root.
 fn nine_rows<R: Abort + AllocGlobal>(rt: &R) -> Result<MemoryPages<Box2Class>, Fail> {
     let mut pages = Vec::new(rt.alloc());
-    inner(rt, &mut pages, (2, 0, 0), &[(6, (10, 0, 41, 1)), (7, (50, 0, 91, 1))])?;
+    inner(
+        rt,
+        &mut pages,
+        (2, 0, 0),
+        &[(6, (10, 0, 41, 1)), (7, (50, 0, 91, 1))],
+    )?;
     leaf(rt, &mut pages, (0, 1, 3), &[(1, LINE[0]), (2, LINE[1])])?;
     leaf(rt, &mut pages, (0, 2, 4), &[(3, LINE[2]), (4, LINE[3])])?;
     leaf(rt, &mut pages, (0, 3, 5), &[(5, LINE[4]), (6, LINE[5])])?;
-    leaf(rt, &mut pages, (0, 0, 0), &[(7, LINE[6]), (8, LINE[7]), (9, LINE[8])])?;
-    inner(rt, &mut pages, (1, 0, 7), &[(2, (10, 0, 21, 1)), (3, (30, 0, 41, 1))])?;
-    inner(rt, &mut pages, (1, 0, 0), &[(4, (50, 0, 61, 1)), (5, (70, 0, 91, 1))])?;
+    leaf(
+        rt,
+        &mut pages,
+        (0, 0, 0),
+        &[(7, LINE[6]), (8, LINE[7]), (9, LINE[8])],
+    )?;
+    inner(
+        rt,
+        &mut pages,
+        (1, 0, 7),
+        &[(2, (10, 0, 21, 1)), (3, (30, 0, 41, 1))],
+    )?;
+    inner(
+        rt,
+        &mut pages,
+        (1, 0, 0),
+        &[(4, (50, 0, 61, 1)), (5, (70, 0, 91, 1))],
+    )?;
     Ok(MemoryPages::new(pages, 3, 16).expect(rt, "seven nodes"))
 }
 
@@ -239,7 +271,10 @@ fn a_seek_goes_right(rt: HostRuntime) -> Result<(), Fail> {
     let wanted = Wanted::entry(&Entry { row: 2, key });
     assert_eq!(rt; seek_step(&mut pages, &wanted, 2), Ok(Sought::Right(4)));
     assert_eq!(rt; seek_step(&mut pages, &wanted, 4), Ok(Sought::Right(3)));
-    assert_eq!(rt; seek_step(&mut pages, &wanted, 3), Ok(Sought::Here(0, false)));
+    assert_eq!(rt;
+        seek_step(&mut pages, &wanted, 3),
+        Ok(Sought::Here(0, false))
+    );
     assert_eq!(rt; seek_step(&mut pages, &wanted, 1), Err(StepFault::Damaged));
     assert_eq!(rt; seek_step(&mut pages, &wanted, 5), Err(StepFault::Damaged));
     Ok(())
@@ -261,8 +296,23 @@ fn a_descent_goes_down(rt: HostRuntime) -> Result<(), Fail> {
         _ => assert!(rt; false),
     }
     assert!(rt; matches!(way_step(&mut pages, &root, &near, 3), Ok(Way::FullInner)));
-    assert!(rt; matches!(way_step(&mut pages, &Item::new(2, 1), &near, 4), Ok(Way::Again)));
-    assert!(rt; matches!(way_step(&mut pages, &Item::new(2, 2), &near, 4), Ok(Way::Add)));
-    assert!(rt; matches!(way_step(&mut pages, &Item::new(4, 2), &near, 3), Ok(Way::FullLeaf)));
+    assert!(rt;
+        matches!(
+            way_step(&mut pages, &Item::new(2, 1), &near, 4),
+            Ok(Way::Again)
+        )
+    );
+    assert!(rt;
+        matches!(
+            way_step(&mut pages, &Item::new(2, 2), &near, 4),
+            Ok(Way::Add)
+        )
+    );
+    assert!(rt;
+        matches!(
+            way_step(&mut pages, &Item::new(4, 2), &near, 3),
+            Ok(Way::FullLeaf)
+        )
+    );
     Ok(())
 }

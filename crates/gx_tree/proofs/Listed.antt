@@ -1,10 +1,11 @@
 -- Pages in a list.
-use Rattle.std.proofs.Common.{◌≡◌, ℕ, zero, suc, ◌-◌, ◌<◌, ◌≤◌, Bool, true, List, [], ◌∷◌, length, map, get_or, refl, sym, ap, ◌∙◌, arith}
+use Rattle.std.proofs.Common.{◌≡◌, ℕ, zero, suc, ◌-◌, ◌<◌, ◌≤◌, Bool, true, false, ◌&&◌, ◌==◌, List, [], ◌∷◌, length, map, get_or, set, refl, sym, ap, ◌∙◌, arith}
 use Rattle.std.specs.List.{list_all}
 use Rattle.std.specs.Prelude.{if◌then◌else◌}
-use Rattle.std.proofs.lemmas.Bool.{and_parts, eq-eqb}
+use Rattle.std.proofs.lemmas.Bool.{and_parts, and_from, eq-eqb}
 use Rattle.gx_page.specs.Contents.{Contents}
 use Rattle.gx_node.specs.Reading.{Format, leaf_of, inner_of}
+use Rattle.gx_tree_laws.specs.Steps.{node_with}
 use Rattle.gx_tree_laws.specs.Trees.{Node}
 use Rattle.gx_tree.specs.Store.{Store, Stays, node_of, node_at, blank}
 
@@ -35,3 +36,21 @@ same_store steady old new stays is =
 -- a page of level 0 is read as a leaf
 pub leaf_node : {B : Type 0} (f : Format B) (page : Contents) → page.level ≡ 0 → node_of f page ≡ leaf_of f page
 leaf_node f page e = ap (λ b. if b then leaf_of f page else inner_of f page) (eq-eqb page.level 0 e)
+
+-- each passes still where one is replaced by one that does
+pub all_set : {X : Type 0} (test : X → Bool) (xs : List X) (k : ℕ) (y : X) → list_all test xs ≡ true → test y ≡ true → list_all test (set xs k y) ≡ true
+all_set test [] k y e h = refl
+all_set test (x ∷ xs) zero y e h = and_from (test y) (list_all test xs) h (and_parts (test x) (list_all test xs) e).1
+all_set test (x ∷ xs) (suc k) y e h =
+    let two = and_parts (test x) (list_all test xs) e in
+    and_from (test x) (list_all test (set xs k y)) two.0 (all_set test xs k y two.1 h)
+
+-- a page with another number and rightlink is read as its node with these
+pub linked_node : {B : Type 0} (f : Format B) (page : Contents) (number right : ℕ)
+    → node_of f (record page { nsn = number; right = right }) ≡ node_with (node_of f page) number right (node_of f page).pairs (node_of f page).children
+linked_node f page number right = by_level (page.level == 0)
+  where
+    by_level : (b : Bool) → (if b then leaf_of f (record page { nsn = number; right = right }) else inner_of f (record page { nsn = number; right = right }))
+        ≡ node_with (if b then leaf_of f page else inner_of f page) number right (if b then leaf_of f page else inner_of f page).pairs (if b then leaf_of f page else inner_of f page).children
+    by_level true = refl
+    by_level false = refl

@@ -1,5 +1,5 @@
 -- Pages as a tree's nodes.
-use Rattle.std.specs.Prelude.{◌≡◌, ℕ, zero, suc, ◌==◌, if◌then◌else◌, List, [], length, slice_index_or}
+use Rattle.std.specs.Prelude.{◌≡◌, ℕ, zero, suc, ◌==◌, if◌then◌else◌, List, [], length, slice_index_or, ◌-◌, slice_set}
 use Rattle.gx_page.specs.Contents.{Contents}
 use Rattle.gx_node.specs.Reading.{Format, leaf_of, inner_of}
 use Rattle.gx_tree_laws.specs.Trees.{Node, Tree}
@@ -27,6 +27,10 @@ node_at nodes (suc p) = slice_index_or nodes p blank
 -- the tree
 abbrev pub tree_of : {B : Type 0} → Store B → Tree B
 tree_of s = record { node = node_at s.nodes; used = length s.nodes; counter = s.counter }
+
+-- the store with another node for a page
+abbrev pub with_node : {B : Type 0} → Store B → ℕ → Node B → Store B
+with_node s p node = record { nodes = slice_set s.nodes (p - 1) node; counter = s.counter; room = s.room }
 
 -- pages were brought: as many are taken as before, and where what is read is what stands, no node has changed
 pub record Stays {B : Type 0} (steady : Type 0) (old new : Store B) : Type 0 where

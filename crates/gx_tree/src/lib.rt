@@ -12,6 +12,7 @@ mod pages;
 mod seek;
 mod wanted;
 mod whole;
+mod writing;
 
 pub use descent::{Way, way_step};
 pub use fault::StepFault;
@@ -23,3 +24,4 @@ pub use pages::Pages;
 pub use seek::{Sought, seek_step};
 pub use wanted::Wanted;
 pub use whole::search;
+pub use writing::{Edit, Link, PagesMut};

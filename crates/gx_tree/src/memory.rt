@@ -6,6 +6,7 @@ ghost use Rattle.gx_tree_laws.specs.Trees.{Used};
 ghost use Rattle.gx_tree.specs.Store.{node_of, tree_of};
 
 use crate::pages::Pages;
+use crate::writing::{Edit, PagesMut};
 use gx_class::KeyClass;
 use gx_node::is_node;
 use gx_page::Page;
@@ -86,5 +87,12 @@ impl<K: KeyClass> Pages<K> for MemoryPages<K> {
 
     fn page(&self, page: u32) -> &Page {
         &self.pages[page as usize - 1]
+    }
+}
+
+impl<K: KeyClass> PagesMut<K> for MemoryPages<K> {
+    fn change<E: Edit<K>>(&mut self, page: u32, edit: E) {
+        let room = self.room;
+        edit.apply(&mut self.pages[page as usize - 1], room);
     }
 }
