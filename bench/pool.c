@@ -86,7 +86,7 @@ static int frame_to_use(void) {
     if (i < 0)
         i = clean_between(0, frame_count, false);
     if (i >= 0)
-        hand = i;
+        hand = i + 1;
     return i;
 }
 

@@ -113,7 +113,7 @@ impl Frames {
     {
         let found = mark::frame_to_use(&self.marks, &self.held, self.hand);
         if let Some(i) = found {
-            self.hand = i;
+            self.hand = i + 1;
         }
         found
     }
