@@ -1,5 +1,5 @@
 -- What the small engine's calls do, as events.
-use Rattle.std.specs.Prelude.{ℕ, ◌≡◌, ◌⊎◌, ◌<◌, ◌≤◌, ◌+◌, ◌-◌, Bool, true, false, not, ◌||◌, if◌then◌else◌, filter, map, Option, None, Some, List, [], ◌∷◌, ◌++◌}
+use Rattle.std.specs.Prelude.{ℕ, ◌≡◌, ◌⊎◌, ◌<◌, ◌≤◌, ◌-◌, Bool, true, false, not, ◌||◌, if◌then◌else◌, filter, map, Option, None, Some, List, [], ◌∷◌, ◌++◌}
 use Rattle.gx_geom.specs.declared.refusal.Refusal.TheVariants.{Memory, HistoryFull, Present, Absent}
 use Rattle.gx_machine.specs.declared.limits.TheConstants.{LAST_NUMBER}
 use Rattle.gx_machine.specs.declared.entry.Entry.{Entry}

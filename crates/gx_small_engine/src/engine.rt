@@ -110,6 +110,8 @@ impl<B: Shape> SmallEngine<B> {
     /// that conflicts; `ClaimsFull` and `PredicatesFull` where the places are taken. A refused call changes nothing.
     pub fn ask(&mut self, session: u8, call: Call<B>) -> Asked<B>
         ensures gives { AskGives (keys_of B.Shape) session call self.old result self.new }
+        ensures full { is_session session ≡ true → (begins call (phase_at (session - 1) self.old.phases)
+            && nat_le LAST_NUMBER (last_number (engine_of (keys_of B.Shape) self.old))) ≡ true → result ≡ Asked.Now (Reply.Refused Refusal.HistoryFull) }
     {
         if !is_session(session) {
             return asks::refused(Refusal::BadSession);
@@ -159,13 +161,20 @@ impl<B: Shape> SmallEngine<B> {
         Some(Reply::Deleted)
     }
 
+    /// Whether the commit of a number is durable.
+    fn is_durable(&self, number: u64) -> bool
+        ensures { result ≡ nat_le number self.now.oldest }
+    {
+        number <= self.oldest
+    }
+
     /// A sealed commit: it is acknowledged once its number is durable.
     fn acknowledge(&mut self, session: u8, number: u64) -> Option<Reply<B>>
         requires session { is_session session ≡ true }
         requires waits { phase_at (session - 1) self.old.phases ≡ phase.Waiting number }
         ensures { Moves (keys_of B.Shape) session self.old result self.new }
     {
-        if number > self.oldest {
+        if !self.is_durable(number) {
             return None;
         }
         asks::set_phase(&mut self.phases, session, Phase::Free);

@@ -1,4 +1,4 @@
-use Rattle.std.proofs.Common.{◌≡◌, ◌-◌, ◌&&◌, nat_le, true, false, sym, ◌∙◌, subst}
+use Rattle.std.proofs.Common.{◌≡◌, ◌-◌, ◌&&◌, nat_le, true, false, true≢false, sym, ◌∙◌, subst}
 use Rattle.gx_machine.specs.Keys.{keys, IsLawful}
 use Rattle.gx_machine.specs.declared.reply.Asked.{Asked}
 use Rattle.gx_machine.specs.Machine.{is_session}
@@ -20,6 +20,7 @@ returns-then-lacks_numbers g c =
     record {
       gives = subst (λ (given : Asked g.row.B.Denot). AskGives k c.args.session c.args.call now given now) (sym c.refused-then-lacks_numbers.ensures)
           (full_gives k lawful now kept c.args.session is c.args.call (sym c.lacks_numbers.ensures ∙ c.if-lacks_numbers.true));
+      full = λ there used_up. c.refused-then-lacks_numbers.ensures;
     }
 
 pub invariant_of-self : goal.invariant_of-self
@@ -44,4 +45,5 @@ returns g c =
       gives = subst (λ (x : State g.row.B.Denot). AskGives k c.args.session c.args.call x c.ask_at.result
           (record { pairs = self.pairs.items; phases = c.ask_at.new.phases.items; table = c.ask_at.new.table; older = self.older.items; oldest = self.oldest })) c.self.view_is
           (ask_gives k lawful old c.self.invariant c.args.session is c.args.call c.ask_at.result c.ask_at.new.phases.items c.ask_at.new.table c.ask_at.ensures);
+      full = λ there used_up. absurd (true≢false (sym used_up ∙ sym c.lacks_numbers.ensures ∙ c.if-lacks_numbers.false));
     }

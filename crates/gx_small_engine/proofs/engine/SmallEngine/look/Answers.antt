@@ -1,4 +1,4 @@
-use Rattle.std.proofs.Common.{◌-◌, List, subst}
+use Rattle.std.proofs.Common.{List, subst}
 use Rattle.gx_machine.specs.Keys.{keys, IsLawful}
 use Rattle.gx_engine_laws.specs.declared.look.Listed.{Listed}
 use Rattle.gx_engine_laws.specs.Looks.{IsLooking, is_live}

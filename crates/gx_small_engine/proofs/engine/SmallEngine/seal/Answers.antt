@@ -1,4 +1,4 @@
-use Rattle.std.proofs.Common.{◌-◌, ◌+◌, List, [], ◌∷◌, ◌++◌, sym, ◌∙◌, ap, subst, arith}
+use Rattle.std.proofs.Common.{◌+◌, List, [], ◌∷◌, ◌++◌, sym, ◌∙◌, ap, subst, arith}
 use Rattle.gx_machine.specs.Keys.{keys, IsLawful}
 use Rattle.gx_engine_laws.specs.declared.look.Listed.{Listed}
 use Rattle.gx_engine_laws.specs.Engines.{last_number}
