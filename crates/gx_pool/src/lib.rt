@@ -8,8 +8,6 @@ pub mod laws;
 mod mark;
 mod passing;
 mod pool;
-#[cfg(test)]
-mod tests;
 
 pub use area::{AREA, PAGE_SECTORS, PAGES};
 pub use fault::PoolFault;

@@ -31,6 +31,8 @@ mod plain;
 #[cfg(test)]
 mod pool;
 #[cfg(test)]
+mod pool_calls;
+#[cfg(test)]
 mod reaches;
 #[cfg(test)]
 mod records;

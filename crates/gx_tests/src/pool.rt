@@ -13,7 +13,7 @@ use std::test::Fail;
 
 // Pages of level 0 pass.
 #[derive(Drop)]
-struct Leaves;
+pub(crate) struct Leaves;
 
 impl PageTest for Leaves {
     ghost passes = { λ test page. page.level == 0 };
@@ -31,7 +31,7 @@ struct Run {
 }
 
 // Whether the device has the page.
-fn is_there<D: SectorDisk>(disk: &D, page: u32) -> bool
+pub(crate) fn is_there<D: SectorDisk>(disk: &D, page: u32) -> bool
     ensures { OnTrue result (IsPage (D.state disk.now).sectors page) }
 {
     if page < 1 || page as usize > PAGES {

@@ -1,36 +1,19 @@
-//! The pool in use, over a device in memory.
-ghost use Rattle.std.specs.Prelude.{◌≡◌, ◌≤◌};
-ghost use Rattle.std.specs.Bool.{OnTrue};
-ghost use Rattle.gx_pool.specs.Area.{IsPage};
+//! Single calls of the frame pool over devices in memory: what is refused, what a fault leaves, and which frames are used.
+ghost use Rattle.std.specs.Prelude.{◌≡◌};
+ghost use Rattle.gx_pool.specs.Area.{first_of};
 
-use crate::{AREA, PAGE_SECTORS, PAGES, PageTest, Pool, PoolFault};
+use crate::pool::{Leaves, is_there};
 use gx_disk::{Fuse, FuseDisk, MemDisk, SectorDisk};
 use gx_page::Page;
+use gx_pool::{AREA, PAGE_SECTORS, PAGES, Pool, PoolFault};
 use std::alloc::Global;
 use std::test::Fail;
 
-// Pages of level 0 pass.
-#[derive(Drop)]
-struct Leaves;
-
-impl PageTest for Leaves {
-    ghost use Rattle.std.specs.Prelude.{◌==◌};
-
-    ghost passes = { λ test page. page.level == 0 };
-
-    fn passes(&self, page: &Page) -> bool {
-        page.level() == 0
-    }
-}
-
-// Whether the device has the page.
-fn is_there<D: SectorDisk>(disk: &D, page: u32) -> bool
-    ensures { OnTrue result (IsPage (D.state disk.now).sectors page) }
+// The sector at which a page begins.
+fn first_sector(page: u32) -> u64
+    ensures { result ≡ first_of page }
 {
-    if page < 1 || page as usize > PAGES {
-        return false;
-    }
-    disk.sectors() >= AREA + PAGE_SECTORS * u64::from(page)
+    AREA + PAGE_SECTORS * u64::from(page.saturating_sub(1))
 }
 
 // Writes the image of a fresh page to the sectors of a place.
@@ -41,8 +24,7 @@ fn lay<D: SectorDisk>(alloc: Global, disk: &mut D, place: u32, level: u16, numbe
     if !is_there(disk, place) {
         return false;
     }
-    disk.write(crate::area::first_sector(place), page.image())
-        .is_ok()
+    disk.write(first_sector(place), page.image()).is_ok()
 }
 
 fn bring<D: SectorDisk>(pool: &mut Pool<Leaves>, disk: &mut D, page: u32) -> Option<PoolFault> {
@@ -74,6 +56,17 @@ fn write<D: SectorDisk>(pool: &mut Pool<Leaves>, disk: &mut D, page: u32) -> Opt
     pool.write_page(disk, page).err()
 }
 
+// How many of the pages below a number are kept.
+fn kept_below(pool: &Pool<Leaves>, end: u32) -> u32 {
+    let mut kept = 0_u32;
+    for page in 1..end {
+        if nsn(pool, page).is_some() {
+            kept = kept.saturating_add(1);
+        }
+    }
+    kept
+}
+
 #[test]
 fn sixteen_changed_pages_leave_no_clean_frame(rt: HostRuntime) -> Result<(), Fail> {
     let mut disk = MemDisk::new(rt.alloc(), 4168 + 8 * 17)?;
@@ -100,6 +93,24 @@ fn sixteen_changed_pages_leave_no_clean_frame(rt: HostRuntime) -> Result<(), Fai
     assert_eq!(rt; nsn(&pool, 16), Some(16));
     assert_eq!(rt; bring(&mut pool, &mut disk, 1), None);
     assert_eq!(rt; nsn(&pool, 1), Some(1));
+    Ok(())
+}
+
+// Sixteen clean leaves take sixteen frames, and a seventeenth sends one of them away.
+#[test]
+fn clean_leaves_go_round_all_frames(rt: HostRuntime) -> Result<(), Fail> {
+    let mut disk = MemDisk::new(rt.alloc(), 4168 + 8 * 17)?;
+    let mut pool = Pool::with_capacity(rt.alloc(), 16, Leaves)?;
+    for p in 1..18_u32 {
+        assert!(rt; lay(rt.alloc(), &mut disk, p, 0, p));
+    }
+    for p in 1..17_u32 {
+        assert_eq!(rt; bring(&mut pool, &mut disk, p), None);
+        assert_eq!(rt; kept_below(&pool, 18), p);
+    }
+    assert_eq!(rt; bring(&mut pool, &mut disk, 17), None);
+    assert_eq!(rt; kept_below(&pool, 18), 16);
+    assert_eq!(rt; nsn(&pool, 17), Some(0));
     Ok(())
 }
 
@@ -144,43 +155,4 @@ fn what_is_no_such_page_is_damaged(rt: HostRuntime) -> Result<(), Fail> {
     assert_eq!(rt; pool.bring(&mut disk, &[]).err(), None);
     pool.release();
     Ok(())
-}
-
-// 20,000 steps over 1,000 pages in 16 frames, drawn by a generator of its own, against a list of what was last written to
-// each page's number.
-#[test]
-fn a_long_run_agrees_with_a_plain_list(rt: HostRuntime) -> Result<(), Fail> {
-    let mut disk = MemDisk::new(rt.alloc(), 4168 + 8 * 1000)?;
-    let mut pool = Pool::with_capacity(rt.alloc(), 16, Leaves)?;
-    let mut plain = vec![in rt.alloc(); 0_u64; 1001]?;
-    for p in 1..1001_u32 {
-        assert!(rt; lay(rt.alloc(), &mut disk, p, 0, p));
-    }
-    let mut seed = 7_u64;
-    for step in 1..20_001_u64 {
-        seed = seed
-            .wrapping_mul(6364136223846793005)
-            .wrapping_add(1442695040888963407);
-        let page = (1 + (seed >> 40) % 1000) as u32;
-        settle_one(&mut pool, &mut disk, step);
-        assert_eq!(rt; bring(&mut pool, &mut disk, page), None);
-        assert_eq!(rt; nsn(&pool, page), plain.get(page as usize).copied());
-        if (seed >> 20) % 3 == 0 {
-            assert!(rt; change(&mut pool, page, step, step));
-            if let Some(last) = plain.get_mut(page as usize) {
-                *last = step;
-            }
-        }
-    }
-    Ok(())
-}
-
-// Gates all before the step and writes a page, where one can be written.
-fn settle_one<D: SectorDisk>(pool: &mut Pool<Leaves>, disk: &mut D, step: u64) {
-    if step % 4 == 0 {
-        pool.gated(step);
-    }
-    if let Some(page) = pool.dirty() {
-        let _written = write(pool, disk, page);
-    }
 }
