@@ -139,7 +139,7 @@ impl KeyClass for Box2Class {
 
     ghost union_covers_second = { λ a b _ _. union_covers_second a b };
 
-    ghost union_is_least = { λ a b c _ _ _. union_is_least a b c };
+    ghost union_is_least = { λ a b c _ _. union_is_least a b c };
 
     ghost split_leaves_each = { λ xs least one enough _. split_leaves_each xs least one enough };
 

@@ -120,7 +120,7 @@ pub trait KeyClass {
     ghost union_covers_second: { (a b : Self.Key) → is_key a → is_key b → Self.Key.inside b (joined a b) ≡ true };
 
     /// Whatever covers both covers the union.
-    ghost union_is_least: { (a b c : Self.Key) → is_key a → is_key b → is_key c → Self.Key.inside a c ≡ true → Self.Key.inside b c ≡ true
+    ghost union_is_least: { (a b c : Self.Key) → is_key a → is_key b → Self.Key.inside a c ≡ true → Self.Key.inside b c ≡ true
         → Self.Key.inside (joined a b) c ≡ true };
 
     /// A split leaves each side its least number.

@@ -147,7 +147,7 @@ impl KeyClass for IntervalClass {
 
     ghost union_covers_second = { λ a b _ _. hull_covers_second a b };
 
-    ghost union_is_least = { λ a b c _ _ _. hull_is_least a b c };
+    ghost union_is_least = { λ a b c _ _. hull_is_least a b c };
 
     ghost split_leaves_each = { λ xs least one enough _. halves_leave_each xs least one enough };
 
