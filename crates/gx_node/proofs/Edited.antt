@@ -1,30 +1,16 @@
 -- Items put in, taken out and divided by sides.
-use Rattle.std.proofs.Common.{◌≡◌, ℕ, zero, suc, ◌+◌, ◌*◌, ◌<◌, ◌≤◌, List, [], ◌∷◌, ◌++◌, length, map, take, drop, get_or, set, length-append, refl, sym, ap, ◌∙◌, subst, arith, Bool, true, false, append_assoc, append-nil}
+use Rattle.std.proofs.Common.{◌≡◌, ℕ, zero, suc, ◌+◌, ◌<◌, ◌≤◌, List, [], ◌∷◌, ◌++◌, length, map, take, drop, get_or, set, length-append, refl, sym, ap, ◌∙◌, arith, Bool, true, false, append_assoc, append-nil}
 use Rattle.std.specs.List.{insert, remove, list_all}
 use Rattle.std.proofs.lemmas.Bool.{and_parts, and_from}
 use Rattle.std.proofs.lemmas.List.{take_more, drop_more, take_all, drop_all, length-take-le, get_or_at}
 use Rattle.std.proofs.lemmas.List.Edits.{insert_end}
-use Rattle.gx_page.specs.Format.{total, Fits}
-use Rattle.gx_page.proofs.Changes.{total-append}
-use Rattle.gx_tree_laws.specs.Lists.{staying, going}
+use Rattle.gx_tree_laws.specs.Lists.{staying}
 
 pub put_last : (items : List (List ℕ)) (item : List ℕ) → insert items (length items) item ≡ items ++ item ∷ []
 put_last items item = insert_end items item
 
 module _ {X : Type 0} where
   -- ---- sides, element by element
-
-  pub going_here : (sides : List Bool) (xs : List X) (slot : ℕ) (d : X) → length sides ≡ length xs → slot < length xs → get_or sides slot false ≡ true
-      → going (drop slot sides) (drop slot xs) ≡ get_or xs slot d ∷ going (drop (slot + 1) sides) (drop (slot + 1) xs)
-  going_here sides xs slot d long h e =
-      ap (λ s. going s (drop slot xs)) (drop_more sides slot false (omega arith) ∙ ap (λ b. b ∷ drop (slot + 1) sides) e)
-      ∙ ap (going (true ∷ drop (slot + 1) sides)) (drop_more xs slot d h)
-
-  pub going_past : (sides : List Bool) (xs : List X) (slot : ℕ) (d : X) → length sides ≡ length xs → slot < length xs → get_or sides slot false ≡ false
-      → going (drop slot sides) (drop slot xs) ≡ going (drop (slot + 1) sides) (drop (slot + 1) xs)
-  going_past sides xs slot d long h e =
-      ap (λ s. going s (drop slot xs)) (drop_more sides slot false (omega arith) ∙ ap (λ b. b ∷ drop (slot + 1) sides) e)
-      ∙ ap (going (false ∷ drop (slot + 1) sides)) (drop_more xs slot d h)
 
   pub staying_here : (sides : List Bool) (xs : List X) (slot : ℕ) (d : X) → length sides ≡ length xs → slot < length xs → get_or sides slot false ≡ false
       → staying (drop slot sides) (drop slot xs) ≡ get_or xs slot d ∷ staying (drop (slot + 1) sides) (drop (slot + 1) xs)
@@ -88,25 +74,11 @@ module _ {X : Type 0} where
 
   -- ---- the same of what is made of each, and tests of each
 
-  pub map-going : {Y : Type 0} (f : X → Y) (sides : List Bool) (xs : List X) → map f (going sides xs) ≡ going sides (map f xs)
-  map-going f sides [] = refl
-  map-going f [] (x ∷ xs) = refl
-  map-going f (true ∷ sides) (x ∷ xs) = ap (λ l. f x ∷ l) (map-going f sides xs)
-  map-going f (false ∷ sides) (x ∷ xs) = map-going f sides xs
-
   pub map-staying : {Y : Type 0} (f : X → Y) (sides : List Bool) (xs : List X) → map f (staying sides xs) ≡ staying sides (map f xs)
   map-staying f sides [] = refl
   map-staying f [] (x ∷ xs) = refl
   map-staying f (true ∷ sides) (x ∷ xs) = map-staying f sides xs
   map-staying f (false ∷ sides) (x ∷ xs) = ap (λ l. f x ∷ l) (map-staying f sides xs)
-
-  pub going_pass : (test : X → Bool) (sides : List Bool) (xs : List X) → list_all test xs ≡ true → list_all test (going sides xs) ≡ true
-  going_pass test sides [] e = refl
-  going_pass test [] (x ∷ xs) e = refl
-  going_pass test (true ∷ sides) (x ∷ xs) e =
-      let two = and_parts (test x) (list_all test xs) e in
-      and_from (test x) (list_all test (going sides xs)) two.0 (going_pass test sides xs two.1)
-  going_pass test (false ∷ sides) (x ∷ xs) e = going_pass test sides xs (and_parts (test x) (list_all test xs) e).1
 
   pub staying_pass : (test : X → Bool) (sides : List Bool) (xs : List X) → list_all test xs ≡ true → list_all test (staying sides xs) ≡ true
   staying_pass test sides [] e = refl
@@ -133,20 +105,3 @@ module _ {X : Type 0} where
   get_pass test [] slot d e h = absurd (omega arith)
   get_pass test (y ∷ xs) zero d e h = (and_parts (test y) (list_all test xs) e).0
   get_pass test (y ∷ xs) (suc slot) d e h = get_pass test xs slot d (and_parts (test y) (list_all test xs) e).1 (omega arith)
-
--- ---- room for what goes
-
-going_small : (sides : List Bool) (items : List (List ℕ)) → 4 * length (going sides items) + total (going sides items) ≤ 4 * length items + total items
-going_small sides [] = omega arith
-going_small [] (item ∷ items) = omega arith
-going_small (true ∷ sides) (item ∷ items) = omega (arith, going_small sides items)
-going_small (false ∷ sides) (item ∷ items) = omega (arith, going_small sides items)
-
--- an item that goes has room behind those that went before it
-pub going_fits : (sides : List Bool) (items front rest : List (List ℕ)) (item : List ℕ) → Fits items → front ++ (item ∷ rest) ≡ going sides items → Fits (insert front (length front) item)
-going_fits sides items front rest item fits is =
-    let small = going_small sides items in
-    let all : 4 * length (front ++ (item ∷ rest)) + total (front ++ (item ∷ rest)) ≤ 4 * length items + total items =
-    subst (λ l. 4 * length l + total l ≤ 4 * length items + total items) (sym is) small in
-    subst Fits (sym (insert_end front item))
-    (omega (arith, length-append front (item ∷ rest), total-append front (item ∷ rest), length-append front (item ∷ []), total-append front (item ∷ [])))

@@ -7,14 +7,14 @@ use Rattle.std.proofs.lemmas.List.{map-append, map-set, length-append}
 use Rattle.gx_page.specs.Bytes.{spell_32, number_32_at}
 use Rattle.gx_page.specs.Contents.{Contents}
 use Rattle.gx_page.specs.Edits.{blank, with_items}
-use Rattle.gx_tree_laws.specs.Lists.{staying, going}
+use Rattle.gx_tree_laws.specs.Lists.{staying}
 use Rattle.gx_tree_laws.specs.Trees.{Child}
 use Rattle.gx_node.specs.Edits.{with_children, bounded_by}
 use Rattle.gx_node.specs.Entries.{child_bytes, IsChild}
 use Rattle.gx_node.specs.Reading.{Format, has_key, is_child, child_of, are_pairs, are_children, is_leaf, is_inner, inner_of}
 use Rattle.gx_node.proofs.Parts.{IsLawful}
 use Rattle.gx_node.proofs.Children.{child_again}
-use Rattle.gx_node.proofs.Edited.{map-going, map-staying, going_pass, staying_pass, append_pass, set_pass, get_pass}
+use Rattle.gx_node.proofs.Edited.{map-staying, staying_pass, append_pass, set_pass, get_pass}
 
 -- the new page is an inner node with these children, and all else as it was
 pub record IsEdited {B : Type 0} (f : Format B) (used : ℕ) (page new : Contents) (children : List (Child B)) : Type 0 where
@@ -75,13 +75,6 @@ module _ {B : Type 0} (f : Format B) (used : ℕ) where
   inner_stays page new sides inner e =
       let two = inner_parts page inner in
       edited page new (staying sides page.items) (staying sides (inner_of f page).children) two.0 e (staying_pass (is_child f used) sides page.items two.1) (map-staying (child_of f) sides page.items)
-
-  pub inner_goes : (page other new : Contents) (sides : List Bool) → is_inner f used page ≡ true → 1 ≤ other.level → new ≡ with_items other (going sides page.items)
-      → IsEdited f used other new (going sides (inner_of f page).children)
-  inner_goes page other new sides inner level e =
-      let two = inner_parts page inner in
-      edited other new (going sides page.items) (going sides (inner_of f page).children) (ap not (ne_eqb other.level 0 (λ z. omega arith))) e
-      (going_pass (is_child f used) sides page.items two.1) (map-going (child_of f) sides page.items)
 
 -- how long a child's bytes are
 pub child_long : {B : Type 0} (IsKey : B → Type 0) (spelling : B → List ℕ) (f : Format B) → IsLawful IsKey spelling f → (c : Child B) → IsKey c.key → length (child_bytes spelling c) ≡ f.key + 4

@@ -8,14 +8,14 @@ use mir.Val.{bool_byte}
 use Rattle.gx_page.specs.Bytes.{spell_64, number_64, number_64_at}
 use Rattle.gx_page.specs.Contents.{Contents}
 use Rattle.gx_page.specs.Edits.{with_items}
-use Rattle.gx_tree_laws.specs.Lists.{staying, going}
+use Rattle.gx_tree_laws.specs.Lists.{staying}
 use Rattle.gx_tree_laws.specs.Trees.{Pair}
 use Rattle.gx_node.specs.Edits.{with_pairs, marked_as}
 use Rattle.gx_node.specs.Entries.{mark_byte, pair_bytes, IsPair}
 use Rattle.gx_node.specs.Reading.{Format, has_key, is_pair, pair_of, are_pairs, is_leaf, leaf_of}
 use Rattle.gx_node.proofs.Parts.{IsLawful}
 use Rattle.gx_node.proofs.Pairs.{pair_again, mark_small, mark_read, same_pair}
-use Rattle.gx_node.proofs.Edited.{map-going, map-staying, going_pass, staying_pass, append_pass, set_pass, get_pass}
+use Rattle.gx_node.proofs.Edited.{map-staying, staying_pass, append_pass, set_pass, get_pass}
 
 -- the new page is a leaf with these pairs, and all else as it was
 pub record IsEdited {B : Type 0} (f : Format B) (page new : Contents) (pairs : List (Pair B)) : Type 0 where
@@ -86,12 +86,6 @@ module _ {B : Type 0} (f : Format B) where
   leaf_stays page new sides leaf e =
       let two = leaf_parts page leaf in
       edited page new (staying sides page.items) (staying sides (leaf_of f page).pairs) two.0 e (staying_pass (is_pair f) sides page.items two.1) (map-staying (pair_of f) sides page.items)
-
-  pub leaf_goes : (page other new : Contents) (sides : List Bool) → is_leaf f page ≡ true → other.level ≡ 0 → new ≡ with_items other (going sides page.items)
-      → IsEdited f other new (going sides (leaf_of f page).pairs)
-  leaf_goes page other new sides leaf level e =
-      let two = leaf_parts page leaf in
-      edited other new (going sides page.items) (going sides (leaf_of f page).pairs) (eq-eqb other.level 0 level) e (going_pass (is_pair f) sides page.items two.1) (map-going (pair_of f) sides page.items)
 
 -- how long a pair's bytes are
 pub pair_long : {B : Type 0} (IsKey : B → Type 0) (spelling : B → List ℕ) (f : Format B) → IsLawful IsKey spelling f → (p : Pair B) → IsPair IsKey p → length (pair_bytes spelling p) ≡ f.key + 9

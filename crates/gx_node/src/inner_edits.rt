@@ -1,7 +1,7 @@
 //! Edits of an inner node in place. None takes memory, and each leaves an inner node of the same page number, level, sequence
 //! number and rightlink. The greatest page taken, `used`, isn't read: it says which test the page passed.
 ghost use Rattle.std.specs.Prelude.{◌≡◌, ◌<◌, ◌≤◌, ◌∷◌, ◌++◌, [], true, length, Some, slice_get, slice_set};
-ghost use Rattle.gx_tree_laws.specs.Lists.{staying, going};
+ghost use Rattle.gx_tree_laws.specs.Lists.{staying};
 ghost use Rattle.gx_tree_laws.specs.Trees.{Child};
 ghost use Rattle.gx_node.specs.Edits.{with_children, bounded_by};
 ghost use Rattle.gx_node.specs.Reading.{format, is_inner, inner_of};
@@ -9,7 +9,7 @@ ghost use Rattle.gx_node.specs.Seen.{child_seen};
 ghost use Rattle.gx_node.specs.declared.items.TheConstants.{MAX_ENTRIES};
 
 use crate::entry::{CHILD_TAIL, child_of, write_child};
-use crate::items::{append_going, append_item, keep_staying};
+use crate::items::{append_item, keep_staying};
 use gx_class::{KeyClass, MAX_KEY};
 use gx_page::Page;
 
@@ -48,21 +48,15 @@ pub fn set_bound<K: KeyClass>(page: &mut Page, slot: usize, bound: K::Key, _used
     page.replace(slot, &bytes[..size]);
 }
 
-/// Splits an inner node: the children whose side is `true` move, in their order, to another page of a level above 0, which
-/// has none.
-pub fn split<K: KeyClass>(page: &mut Page, sides: &[bool], other: &mut Page, _used: u32)
+/// Takes the children out whose side is `true`. A split keeps the one side on the node's page so, and the other on a copy of
+/// it.
+pub fn keep<K: KeyClass>(page: &mut Page, sides: &[bool], _used: u32)
     requires inner { is_inner (format K.KEY K.reading K.start_key) _used page.old ≡ true }
     requires sides { length sides.now ≡ length (inner_of (format K.KEY K.reading K.start_key) page.old).children }
-    requires empty { (1 ≤ other.old.level) × (other.old.items ≡ []) }
     ensures inner { is_inner (format K.KEY K.reading K.start_key) _used page.new ≡ true }
     ensures node { inner_of (format K.KEY K.reading K.start_key) page.new ≡ with_children (inner_of (format K.KEY K.reading K.start_key) page.old)
         (staying sides.now (inner_of (format K.KEY K.reading K.start_key) page.old).children) }
     ensures number { page.new.number ≡ page.old.number }
-    ensures other_inner { is_inner (format K.KEY K.reading K.start_key) _used other.new ≡ true }
-    ensures other_node { inner_of (format K.KEY K.reading K.start_key) other.new ≡ with_children (inner_of (format K.KEY K.reading K.start_key) other.old)
-        (going sides.now (inner_of (format K.KEY K.reading K.start_key) page.old).children) }
-    ensures other_number { other.new.number ≡ other.old.number }
 {
-    append_going(page, sides, other);
     keep_staying(page, sides);
 }

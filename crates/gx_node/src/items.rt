@@ -2,7 +2,7 @@
 ghost use Rattle.std.specs.Prelude.{◌≡◌, ◌<◌, ◌≤◌, [], ◌∷◌, ◌++◌, length};
 ghost use Rattle.gx_page.specs.Edits.{with_items};
 ghost use Rattle.gx_page.specs.Sizes.{NoneLonger};
-ghost use Rattle.gx_tree_laws.specs.Lists.{staying, going};
+ghost use Rattle.gx_tree_laws.specs.Lists.{staying};
 
 use gx_page::{Page, laws};
 
@@ -20,21 +20,6 @@ pub(crate) fn append_item(page: &mut Page, item: &[u8])
     let last = page.count();
     laws::few_fit(page, last, item, MAX_ENTRIES, item.len());
     page.insert(last, item);
-}
-
-/// Puts the items that go behind those of another page, which has room for as many as the first page has.
-pub(crate) fn append_going(page: &Page, sides: &[bool], other: &mut Page)
-    requires sides { length sides.now ≡ length page.now.items }
-    requires empty { other.old.items ≡ [] }
-    ensures { other.new ≡ with_items other.old (going sides.now page.now.items) }
-{
-    for slot in 0..page.count() {
-        if !sides[slot] {
-            continue;
-        }
-        let last = other.count();
-        other.insert(last, page.get(slot));
-    }
 }
 
 /// Takes the items that go out.

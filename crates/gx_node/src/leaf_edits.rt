@@ -2,7 +2,7 @@
 //! rightlink.
 ghost use Rattle.std.specs.Prelude.{◌≡◌, ◌<◌, ◌≤◌, ◌∷◌, ◌++◌, [], true, Bool, length, filter, Some, slice_get, slice_set};
 ghost use Rattle.gx_machine.specs.declared.entry.Entry.{Entry};
-ghost use Rattle.gx_tree_laws.specs.Lists.{staying, going};
+ghost use Rattle.gx_tree_laws.specs.Lists.{staying};
 ghost use Rattle.gx_tree_laws.specs.Steps.{spares};
 ghost use Rattle.gx_tree_laws.specs.Trees.{Pair};
 ghost use Rattle.gx_node.specs.Edits.{with_pairs, marked_as, entry_of};
@@ -11,7 +11,7 @@ ghost use Rattle.gx_node.specs.Seen.{pair_seen};
 ghost use Rattle.gx_node.specs.declared.items.TheConstants.{MAX_ENTRIES};
 
 use crate::entry::{PAIR_TAIL, pair_of, write_pair};
-use crate::items::{append_going, append_item, keep_staying};
+use crate::items::{append_item, keep_staying};
 use gx_class::{KeyClass, MAX_KEY};
 use gx_machine::Entry;
 use gx_page::Page;
@@ -67,20 +67,14 @@ pub fn sweep<K: KeyClass, F: Fn(Entry<K::Key>) -> bool>(page: &mut Page, claimed
     }
 }
 
-/// Splits a leaf: the pairs whose side is `true` move, in their order, to another leaf, which has none.
-pub fn split<K: KeyClass>(page: &mut Page, sides: &[bool], other: &mut Page)
+/// Takes the pairs out whose side is `true`. A split keeps the one side on the leaf's page so, and the other on a copy of it.
+pub fn keep<K: KeyClass>(page: &mut Page, sides: &[bool])
     requires leaf { is_leaf (format K.KEY K.reading K.start_key) page.old ≡ true }
     requires sides { length sides.now ≡ length (leaf_of (format K.KEY K.reading K.start_key) page.old).pairs }
-    requires empty { (other.old.level ≡ 0) × (other.old.items ≡ []) }
     ensures leaf { is_leaf (format K.KEY K.reading K.start_key) page.new ≡ true }
     ensures node { leaf_of (format K.KEY K.reading K.start_key) page.new ≡ with_pairs (leaf_of (format K.KEY K.reading K.start_key) page.old)
         (staying sides.now (leaf_of (format K.KEY K.reading K.start_key) page.old).pairs) }
     ensures number { page.new.number ≡ page.old.number }
-    ensures other_leaf { is_leaf (format K.KEY K.reading K.start_key) other.new ≡ true }
-    ensures other_node { leaf_of (format K.KEY K.reading K.start_key) other.new ≡ with_pairs (leaf_of (format K.KEY K.reading K.start_key) other.old)
-        (going sides.now (leaf_of (format K.KEY K.reading K.start_key) page.old).pairs) }
-    ensures other_number { other.new.number ≡ other.old.number }
 {
-    append_going(page, sides, other);
     keep_staying(page, sides);
 }
