@@ -1,6 +1,16 @@
+pub mod Changed
 pub mod Hits
 pub mod Lawful
+pub mod LeafSteps
 pub mod Listed
+pub mod Marking
+pub mod Named
+pub mod Parted
+pub mod Raised
+pub mod RootSplits
 pub mod Searched
+pub mod Sides
+pub mod Splits
 pub mod Turned
 pub mod Ways
+pub mod Widens

@@ -11,13 +11,13 @@ use Rattle.gx_tree_laws.proofs.Sums.{each_map, each_unmap, total_one}
 
 module _ {K : Type 0} where
   -- what holds of each entry holds of a slot's
-  each_slot : (P : Child K → Type 0) (cs : List (Child K)) (slot : ℕ) (c : Child K) → slice_get cs slot ≡ Some c → Each P cs → P c
+  pub each_slot : (P : Child K → Type 0) (cs : List (Child K)) (slot : ℕ) (c : Child K) → slice_get cs slot ≡ Some c → Each P cs → P c
   each_slot P [] slot c at e = cc
   each_slot P (d ∷ ds) zero c at e = let same : d ≡ c = cc in subst P same e.0
   each_slot P (d ∷ ds) (suc slot) c at e = each_slot P ds slot c at e.1
 
   -- a slot's entry is named
-  named : (cs : List (Child K)) (slot : ℕ) (c : Child K) → slice_get cs slot ≡ Some c → 0 < times c.page (map (λ d. d.page) cs)
+  pub named : (cs : List (Child K)) (slot : ℕ) (c : Child K) → slice_get cs slot ≡ Some c → 0 < times c.page (map (λ d. d.page) cs)
   named [] slot c at = cc
   named (d ∷ ds) zero c at =
       let same : d ≡ c = cc in
@@ -28,7 +28,7 @@ module _ {K : Type 0} where
       omega (arith, more)
 
   -- where one entry names a page, what holds of it holds of each that does
-  alone : (P : Child K → Type 0) (cs : List (Child K)) (slot : ℕ) (c : Child K) → slice_get cs slot ≡ Some c → P c
+  pub alone : (P : Child K → Type 0) (cs : List (Child K)) (slot : ℕ) (c : Child K) → slice_get cs slot ≡ Some c → P c
       → times c.page (map (λ d. d.page) cs) ≤ 1 → Each (λ d. d.page ≡ c.page → P d) cs
   alone P [] slot c at p once = tt
   alone P (d ∷ ds) zero c at p once =
@@ -45,12 +45,17 @@ module _ {K : Type 0} where
         alone P ds slot c at p (omega (arith, once)),
       )
 
+  -- a slot's entry is the only one of its node that names its page
+  pub named_once : (r : Rules K) (t : Tree K) → Legal r t → (a slot : ℕ) → Used t a → (c : Child K)
+      → slice_get (t.node a).children slot ≡ Some c → times c.page (child_pages (t.node a)) ≤ 1
+  named_once r t legal a slot used c at =
+      let fits : ChildFits r t (t.node a).level c = each_slot (ChildFits r t (t.node a).level) (t.node a).children slot c at (legal.pages a used).children in
+      let one : parents t c.page ≡ 1 = legal.parent c.page fits.low fits.used in
+      let here : times c.page (child_pages (t.node a)) ≤ parents t c.page = total_one (λ p. times c.page (child_pages (t.node p))) t.used a used.0 used.1 in
+      omega (arith, one, here)
+
   pub way_down : (r : Rules K) (coming : K) (t : Tree K) → Legal r t → (a slot : ℕ) → Used t a → (c : Child K)
       → slice_get (t.node a).children slot ≡ Some c → r.covers c.key coming ≡ true → IsDescent r t (record { page = c.page; seen = t.counter }) coming
   way_down r coming t legal a slot used c at covers =
-      let cs = (t.node a).children in
-      let fits : ChildFits r t (t.node a).level c = each_slot (ChildFits r t (t.node a).level) cs slot c at (legal.pages a used).children in
-      let one : parents t c.page ≡ 1 = legal.parent c.page fits.low fits.used in
-      let here : times c.page (child_pages (t.node a)) ≤ parents t c.page = total_one (λ p. times c.page (child_pages (t.node p))) t.used a used.0 used.1 in
-      descent_goes_down r coming t legal a c.page used (named cs slot c at)
-      (alone (λ d. r.covers d.key coming ≡ true) cs slot c at covers (omega (arith, one, here)))
+      descent_goes_down r coming t legal a c.page used (named (t.node a).children slot c at)
+      (alone (λ d. r.covers d.key coming ≡ true) (t.node a).children slot c at covers (named_once r t legal a slot used c at))

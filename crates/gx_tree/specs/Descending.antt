@@ -1,10 +1,16 @@
 -- What a descent does at a node.
-use Rattle.std.specs.Prelude.{◌≡◌, ◌≢◌, ℕ, ◌<◌, ◌≤◌, map, length, Some, slice_get}
+use Rattle.std.specs.Prelude.{◌≡◌, ◌≢◌, ℕ, ◌<◌, ◌≤◌, map, length, Option, Some, None, slice_get, slice_set}
 use Rattle.std.specs.List.{IsFirstBest}
 use Rattle.gx_node.specs.Hits.{costs_less}
-use Rattle.gx_tree_laws.specs.Trees.{Node}
+use Rattle.gx_node.specs.Edits.{bounded_by}
+use Rattle.gx_tree_laws.specs.Trees.{Child, Node}
+use Rattle.gx_tree_laws.specs.Steps.{ChangesOnly}
+use Rattle.gx_tree_laws.specs.Reach.{Item}
+use Rattle.gx_tree.specs.Store.{Store, tree_of}
 use Rattle.gx_tree.specs.declared.descent.Way.{Way}
 use Rattle.gx_tree.specs.declared.descent.Way.TheVariants.{Again, Add, FullLeaf, FullInner, Down, Widen}
+use Rattle.gx_tree.specs.declared.descent.Descended.{Descended}
+use Rattle.gx_tree.specs.declared.descent.Descended.TheVariants as did
 
 -- the entry of least penalty, and of such entries the first: its slot, its page and its bound; the node isn't full
 pub record IsChoice {B : Type 0} (cost : B → B → ℕ × ℕ) (most : ℕ) (node : Node B) (coming : B) (slot child : ℕ) (bound : B) : Type 0 where
@@ -21,3 +27,30 @@ Descends cost joined most node seen coming FullLeaf = (node.number ≤ seen) × 
 Descends cost joined most node seen coming FullInner = (node.number ≤ seen) × (0 < node.level) × (most ≤ length node.children)
 Descends {B} cost joined most node seen coming (Down slot child) = (node.number ≤ seen) × ((bound : B) × IsChoice cost most node coming slot child bound × (joined bound coming ≡ bound))
 Descends {B} cost joined most node seen coming (Widen slot child key) = (node.number ≤ seen) × ((bound : B) × IsChoice cost most node coming slot child bound × (key ≡ joined bound coming) × (key ≢ bound))
+
+-- the descent is at this item, and its page says this way
+abbrev pub WayAt : {B : Type 0} → (B → B → ℕ × ℕ) → (B → B → B) → ℕ → Store B → Item → B → Way B → Type 0
+WayAt cost joined most s item coming way = Descends cost joined most ((tree_of s).node item.page) item.seen coming way
+
+-- what a step of a descent did to the pages, and the item to which it went down
+abbrev pub StepsDown : {B : Type 0} → (B → B → ℕ × ℕ) → (B → B → B) → ℕ → Store B → Store B → Item → B → Descended B → Type 0
+StepsDown cost joined most old new item coming did.Again = WayAt cost joined most old item coming Again × (new ≡ old)
+StepsDown cost joined most old new item coming did.Leaf = WayAt cost joined most old item coming Add × (new ≡ old)
+StepsDown cost joined most old new item coming did.FullLeaf = WayAt cost joined most old item coming FullLeaf × (new ≡ old)
+StepsDown cost joined most old new item coming did.FullInner = WayAt cost joined most old item coming FullInner × (new ≡ old)
+StepsDown cost joined most old new item coming (did.Down next) =
+    ((slot : ℕ) × WayAt cost joined most old item coming (Down slot next.page)) × (next.seen ≡ old.counter) × (new ≡ old)
+StepsDown {B} cost joined most old new item coming (did.Widened next slot key) =
+    WayAt cost joined most old item coming (Widen slot next.page key) × (next.seen ≡ old.counter)
+    × ((c : Child B) → slice_get ((tree_of old).node item.page).children slot ≡ Some c
+    → ChangesOnly (tree_of old) (tree_of new) item.page ((tree_of old).node item.page).pairs
+    (slice_set ((tree_of old).node item.page).children slot (bounded_by key c)))
+
+-- the item to which it went down, if it did
+abbrev pub next_of : {B : Type 0} → Descended B → Option Item
+next_of (did.Down next) = Some next
+next_of (did.Widened next slot key) = Some next
+next_of did.Again = None
+next_of did.Leaf = None
+next_of did.FullLeaf = None
+next_of did.FullInner = None

@@ -1,7 +1,10 @@
 pub mod Descending
 pub mod Found
+pub mod Halved
 pub mod Keyed
 pub mod Looking
 pub mod Seeking
+pub mod Splitting
 pub mod Store
 pub mod Wants
+pub mod Writing

@@ -1,5 +1,5 @@
 -- Pages as a tree's nodes.
-use Rattle.std.specs.Prelude.{◌≡◌, ℕ, zero, suc, ◌==◌, if◌then◌else◌, List, [], length, slice_index_or, ◌-◌, slice_set}
+use Rattle.std.specs.Prelude.{◌≡◌, ℕ, zero, suc, ◌==◌, if◌then◌else◌, List, [], ◌∷◌, ◌++◌, length, slice_index_or, ◌-◌, slice_set}
 use Rattle.gx_page.specs.Contents.{Contents}
 use Rattle.gx_node.specs.Reading.{Format, leaf_of, inner_of}
 use Rattle.gx_tree_laws.specs.Trees.{Node, Tree}
@@ -31,6 +31,14 @@ tree_of s = record { node = node_at s.nodes; used = length s.nodes; counter = s.
 -- the store with another node for a page
 abbrev pub with_node : {B : Type 0} → Store B → ℕ → Node B → Store B
 with_node s p node = record { nodes = slice_set s.nodes (p - 1) node; counter = s.counter; room = s.room }
+
+-- the store with one page more, of this node
+abbrev pub with_page : {B : Type 0} → Store B → Node B → Store B
+with_page s node = record { nodes = s.nodes ++ node ∷ []; counter = s.counter; room = s.room }
+
+-- the store with one split more
+abbrev pub with_split : {B : Type 0} → Store B → Store B
+with_split s = record { nodes = s.nodes; counter = suc s.counter; room = s.room }
 
 -- pages were brought: as many are taken as before, and where what is read is what stands, no node has changed
 pub record Stays {B : Type 0} (steady : Type 0) (old new : Store B) : Type 0 where

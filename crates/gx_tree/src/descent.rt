@@ -1,14 +1,16 @@
 //! The way down to the leaf for a coming pair.
-ghost use Rattle.std.specs.Prelude.{◌≡◌, ◌≢◌, ◌≤◌, ◌<◌, length, true, Err, IfSome, IfNone, IfOk, ℕ};
+ghost use Rattle.std.specs.Prelude.{◌≡◌, ◌≢◌, ◌≤◌, ◌<◌, length, true, Err, IfSome, IfNone, IfOk, OnOk, OnErr, ℕ};
 ghost use Rattle.std.specs.Bool.{OnTrue, OnFalse};
 ghost use Rattle.gx_node.specs.Reading.{format, is_node};
 ghost use Rattle.gx_tree_laws.specs.Trees.{Used};
-ghost use Rattle.gx_tree.specs.Descending.{Descends};
+ghost use Rattle.gx_tree.specs.Descending.{Descends, StepsDown, next_of};
 ghost use Rattle.gx_tree.specs.Store.{node_of, tree_of, Stays};
 
+use crate::edits::SetBound;
 use crate::fault::StepFault;
 use crate::item::Item;
 use crate::pages::{Pages, bring_page};
+use crate::writing::PagesMut;
 use gx_class::KeyClass;
 use gx_geom::Shape;
 use gx_node::Inner;
@@ -30,6 +32,35 @@ pub enum Way<B> {
     Down(usize, u32),
     /// The same, once the bound is widened to this key.
     Widen(usize, u32, B),
+}
+
+/// What a step of a descent did.
+#[derive(Clone, Copy, Debug)]
+pub enum Descended<B> {
+    /// The page was split since its number was read: the descent begins again at the root. Nothing has changed.
+    Again,
+    /// A leaf that has room: the pair can be added.
+    Leaf,
+    /// A leaf that is full: it is swept, or else split.
+    FullLeaf,
+    /// An inner node that is full: it is split.
+    FullInner,
+    /// Down to this item, whose bound covers the coming key.
+    Down(Item),
+    /// The same, once the bound in this slot was widened to this key: the page has changed.
+    Widened(Item, usize, B),
+}
+
+impl<B: Shape> Descended<B> {
+    /// The item to which it went down, if it did.
+    pub fn next(&self) -> Option<Item>
+        ensures { result ≡ next_of self.now }
+    {
+        match self {
+            Descended::Down(next) | Descended::Widened(next, _, _) => Some(*next),
+            _ => None,
+        }
+    }
 }
 
 /// Whether two keys are the same.
@@ -106,7 +137,9 @@ pub fn way_step<K: KeyClass, P: Pages<K>>(
     ensures way { IfOk result (Descends K.cost K.joined most ((tree_of (P.store pages.new)).node item.now.page) item.now.seen coming.now) }
     ensures damaged { result ≡ Err StepFault.Damaged → Used (tree_of (P.store pages.new)) item.now.page
         → (0 < ((tree_of (P.store pages.new)).node item.now.page).level) × (length ((tree_of (P.store pages.new)).node item.now.page).children ≡ 0) }
+    ensures held { OnOk result (P.held pages.new item.now.page × Used (tree_of (P.store pages.new)) item.now.page) }
     ensures memory { result ≢ Err StepFault.Memory }
+    ensures full { result ≢ Err StepFault.PagesFull }
 {
     bring_page(pages, item.page())?;
     let room = pages.room();
@@ -114,5 +147,40 @@ pub fn way_step<K: KeyClass, P: Pages<K>>(
     match way_at::<K>(page, room, item.seen(), coming, most) {
         Some(way) => Ok(way),
         None => Err(StepFault::Damaged),
+    }
+}
+
+/// Makes a step of a descent for a coming key at the page of its item, as `way_step` says: it goes down, and where the
+/// child's bound doesn't cover the key it widens it first, to the union of the two.
+///
+/// Refused with `Pages` where the page could not be brought, or what the widening needs could not be had, and with `Damaged`
+/// exactly where `way_step` is: nothing has changed then.
+pub fn descend_step<K: KeyClass, P: PagesMut<K>>(
+    pages: &mut P,
+    item: &Item,
+    coming: &K::Key,
+    most: usize,
+) -> Result<Descended<K::Key>, StepFault<P::Fault>>
+    ensures steady { P.steady pages.old → P.steady pages.new }
+    ensures descended { P.steady pages.old → IfOk result (StepsDown K.cost K.joined most (P.store pages.old) (P.store pages.new) item.now coming.now) }
+    ensures refused { P.steady pages.old → OnErr result (P.store pages.new ≡ P.store pages.old) }
+    ensures damaged { P.steady pages.old → result ≡ Err StepFault.Damaged → Used (tree_of (P.store pages.old)) item.now.page
+        → (0 < ((tree_of (P.store pages.old)).node item.now.page).level) × (length ((tree_of (P.store pages.old)).node item.now.page).children ≡ 0) }
+    ensures memory { result ≢ Err StepFault.Memory }
+    ensures full { result ≢ Err StepFault.PagesFull }
+{
+    match way_step(pages, item, coming, most)? {
+        Way::Again => Ok(Descended::Again),
+        Way::Add => Ok(Descended::Leaf),
+        Way::FullLeaf => Ok(Descended::FullLeaf),
+        Way::FullInner => Ok(Descended::FullInner),
+        Way::Down(_, child) => Ok(Descended::Down(Item::new(child, pages.counter()))),
+        Way::Widen(slot, child, bound) => {
+            if let Err(fault) = pages.prepare(&[item.page()], 0) {
+                return Err(StepFault::Pages(fault));
+            }
+            pages.change(item.page(), SetBound { slot, bound });
+            Ok(Descended::Widened(Item::new(child, pages.counter()), slot, bound))
+        }
     }
 }

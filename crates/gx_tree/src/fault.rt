@@ -5,8 +5,11 @@
 pub enum StepFault<F> {
     /// Memory was refused.
     Memory,
-    /// A page is named that isn't taken. It never is in a legal tree.
+    /// What is on the pages isn't a tree: a page is named that isn't taken, or has another level. It never is so in a legal
+    /// tree.
     Damaged,
-    /// A page could not be brought.
+    /// A split needs more pages than are unused.
+    PagesFull,
+    /// A page could not be brought, or what a change needs could not be had.
     Pages(F),
 }

@@ -1,5 +1,5 @@
 //! Pages in memory alone.
-ghost use Rattle.std.specs.Prelude.{◌≡◌, ◌≤◌, ◌↔◌, true, map, length, IfSome, IsSome};
+ghost use Rattle.std.specs.Prelude.{◌≡◌, ◌<◌, ◌+◌, ◌-◌, ◌^◌, ◌⊎◌, true, false, map, length, ◌≤◌, ◌++◌, ◌∷◌, [], vec_len, vec_capacity, Err, IfOk, IfErr};
 ghost use Rattle.std.specs.List.{list_all};
 ghost use Rattle.gx_node.specs.Reading.{format, is_node};
 ghost use Rattle.gx_tree_laws.specs.Trees.{Used};
@@ -8,21 +8,24 @@ ghost use Rattle.gx_tree.specs.Store.{node_of, tree_of};
 use crate::pages::Pages;
 use crate::writing::{Edit, PagesMut};
 use gx_class::KeyClass;
+use gx_geom::Refusal;
 use gx_node::is_node;
 use gx_page::Page;
 use std::marker::{Model, PhantomData};
 
-/// The pages of a tree in memory, page 1 first. Nothing has to be brought.
+/// The pages of a tree in memory, page 1 first, and the pages that aren't taken yet. Nothing has to be brought, and a page is
+/// taken without memory.
 #[derive(Drop)]
 pub struct MemoryPages<K: KeyClass> {
     pages: Vec<Page>,
+    spare: Vec<Page>,
     counter: u64,
     room: u32,
     class: PhantomData<K>,
 }
 
 impl<K: KeyClass> Model for MemoryPages<K> {
-    ghost use Rattle.std.specs.Prelude.{map, length, ◌≤◌, ◌<◌, ◌^◌, ◌≡◌, true};
+    ghost use Rattle.std.specs.Prelude.{map, length, ◌+◌, ◌≤◌, ◌<◌, ◌^◌, ◌≡◌, true, vec_capacity};
     ghost use Rattle.std.specs.List.{list_all};
     ghost use Rattle.gx_node.specs.Reading.{format, is_node};
     ghost use Rattle.gx_tree.specs.Store.{Store, node_of};
@@ -31,7 +34,8 @@ impl<K: KeyClass> Model for MemoryPages<K> {
 
     ghost view = { λ m. record { nodes = map (node_of (format K.KEY K.reading K.start_key)) m.pages.items; counter = m.counter; room = m.room } };
 
-    ghost invariant = { λ m. (length m.pages.items ≤ m.room) × (m.room < 2 ^ 32) × (list_all (λ page. is_node (format K.KEY K.reading K.start_key) m.room page) m.pages.items ≡ true) };
+    ghost invariant = { λ m. (length m.pages.items + length m.spare.items ≡ m.room) × (m.room < 2 ^ 32) × (m.room ≤ vec_capacity m.pages)
+        × (list_all (λ page. is_node (format K.KEY K.reading K.start_key) m.room page) m.pages.items ≡ true) };
 }
 
 /// Whether each page is a node of the class.
@@ -41,18 +45,42 @@ fn are_nodes<K: KeyClass>(pages: &[Page], room: u32) -> bool
     pages.iter().all(|page| is_node::<K>(page, room))
 }
 
+/// Puts a page behind the last, where there is room for one.
+fn append(pages: &mut Vec<Page>, page: Page)
+    requires { vec_len pages.old < vec_capacity pages.old }
+    ensures items { pages.new.items ≡ pages.old.items ++ page ∷ [] }
+    ensures capacity { vec_capacity pages.old ≤ vec_capacity pages.new }
+{
+    let _ = pages.push(page);
+}
+
 impl<K: KeyClass> MemoryPages<K> {
-    /// These pages, page 1 first, with so many splits made, of so many pages in all. `None` where there are more of them, or
-    /// one isn't a node of the class.
-    pub fn new(pages: Vec<Page>, counter: u64, room: u32) -> Option<Self>
-        ensures pages { IfSome result (λ memory. memory ≡ record { nodes = map (node_of (format K.KEY K.reading K.start_key)) pages.items; counter = counter; room = room }) }
-        ensures some { IsSome result ↔ ((length pages.items ≤ room) × (list_all (λ page. is_node (format K.KEY K.reading K.start_key) room page) pages.items ≡ true)) }
+    /// These pages, page 1 first, with so many splits made, and others that can be taken, whatever they hold.
+    ///
+    /// Refused with `Damaged` where one of the first isn't a node of the class, or there are more than 2^32 - 1 in all, and
+    /// with `Memory`.
+    pub fn new(mut pages: Vec<Page>, spare: Vec<Page>, counter: u64) -> Result<Self, Refusal>
+        ensures pages { IfOk result (λ memory. memory ≡ record {
+          nodes = map (node_of (format K.KEY K.reading K.start_key)) pages.items;
+          counter = counter;
+          room = length pages.items + length spare.items;
+        }) }
+        ensures refused { IfErr result (λ why. (why ≡ Refusal.Memory) ⊎ (why ≡ Refusal.Damaged)) }
+        ensures damaged { result ≡ Err Refusal.Damaged → length pages.items + length spare.items < 2 ^ 32
+            → list_all (λ page. is_node (format K.KEY K.reading K.start_key) (length pages.items + length spare.items) page) pages.items ≡ false }
     {
-        if pages.len() > room as usize || !are_nodes::<K>(pages.as_slice(), room) {
-            return None;
+        let Ok(room) = u32::try_from(pages.len() + spare.len()) else {
+            return Err(Refusal::Damaged);
+        };
+        if !are_nodes::<K>(pages.as_slice(), room) {
+            return Err(Refusal::Damaged);
         }
-        Some(MemoryPages {
+        if pages.reserve(spare.len()).is_err() {
+            return Err(Refusal::Memory);
+        }
+        Ok(MemoryPages {
             pages,
+            spare,
             counter,
             room,
             class: PhantomData,
@@ -91,8 +119,27 @@ impl<K: KeyClass> Pages<K> for MemoryPages<K> {
 }
 
 impl<K: KeyClass> PagesMut<K> for MemoryPages<K> {
+    ghost ready = { λ s. s.room - length s.nodes };
+
+    fn prepare(&mut self, _changes: &[u32], _taken: u32) -> Result<(), ()> {
+        Ok(())
+    }
+
     fn change<E: Edit<K>>(&mut self, page: u32, edit: E) {
         let room = self.room;
         edit.apply(&mut self.pages[page as usize - 1], room);
+    }
+
+    fn take(&mut self, from: u32) {
+        let number = self.pages.len() as u32 + 1;
+        if let Some(mut page) = self.spare.pop() {
+            page.copy_from(&self.pages[from as usize - 1]);
+            page.set_number(number);
+            append(&mut self.pages, page);
+        }
+    }
+
+    fn count_split(&mut self) {
+        self.counter += 1;
     }
 }

@@ -63,6 +63,7 @@ pub(crate) fn bring_page<K: KeyClass, P: Pages<K>>(
     ensures steady { P.steady pages.old → P.steady pages.new }
     ensures damaged { result ≡ Err StepFault.Damaged → ¬ Used (tree_of (P.store pages.new)) page }
     ensures memory { result ≢ Err StepFault.Memory }
+    ensures full { result ≢ Err StepFault.PagesFull }
 {
     if page == 0 || pages.used() < page {
         return Err(StepFault::Damaged);

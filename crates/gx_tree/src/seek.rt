@@ -1,5 +1,5 @@
 //! The way to a pair that is there.
-ghost use Rattle.std.specs.Prelude.{◌≡◌, ◌≢◌, ◌≤◌, length, map, Err, IfOk};
+ghost use Rattle.std.specs.Prelude.{◌≡◌, ◌≢◌, ◌≤◌, length, map, Err, IfOk, OnOk};
 ghost use Rattle.gx_node.specs.Hits.{IsNextHit};
 ghost use Rattle.gx_tree_laws.specs.Trees.{Used};
 ghost use Rattle.gx_tree.specs.Seeking.{Seeks};
@@ -49,11 +49,13 @@ pub fn seek_step<K: Probing, P: Pages<K>>(
     wanted: &Wanted<K>,
     page: u32,
 ) -> Result<Sought, StepFault<P::Fault>>
+    ensures held { OnOk result (P.held pages.new page × Used (tree_of (P.store pages.new)) page) }
     ensures stays { Stays (P.steady pages.old) (P.store pages.old) (P.store pages.new) }
     ensures steady { P.steady pages.old → P.steady pages.new }
     ensures sought { IfOk result (Seeks (wants K.passes wanted.now.keys wanted.now.row) ((tree_of (P.store pages.new)).node page)) }
     ensures damaged { result ≡ Err StepFault.Damaged → Used (tree_of (P.store pages.new)) page → ((tree_of (P.store pages.new)).node page).level ≢ 0 }
     ensures memory { result ≢ Err StepFault.Memory }
+    ensures full { result ≢ Err StepFault.PagesFull }
 {
     bring_page(pages, page)?;
     let page = pages.page(page);

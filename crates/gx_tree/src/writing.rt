@@ -1,9 +1,9 @@
 //! What the steps that write ask of whoever keeps the pages.
-ghost use Rattle.std.specs.Prelude.{◌≡◌, ℕ, true};
+ghost use Rattle.std.specs.Prelude.{◌≡◌, ◌≤◌, ◌<◌, ◌+◌, ◌-◌, ◌^◌, suc, ℕ, true, length, OnOk};
 ghost use Rattle.gx_node.specs.Reading.{format, is_node};
-ghost use Rattle.gx_tree_laws.specs.Steps.{node_with};
+ghost use Rattle.gx_tree_laws.specs.Lists.{Each};
 ghost use Rattle.gx_tree_laws.specs.Trees.{Node};
-ghost use Rattle.gx_tree.specs.Store.{node_of, node_at, with_node};
+ghost use Rattle.gx_tree.specs.Store.{node_of, node_at, with_node, with_page, with_split};
 
 use crate::pages::Pages;
 use gx_class::KeyClass;
@@ -11,45 +11,61 @@ use gx_page::Page;
 
 /// A change of a node, made where it lies on its page.
 pub trait Edit<K: KeyClass> {
+    /// The nodes on which it can be made, where there are so many pages.
+    ghost fits: { Self → ℕ → Node K.Key → Type 0 };
+
     /// What may become of a node.
     ghost edits: { Self → Node K.Key → Node K.Key → Type 0 };
 
     /// Makes the change on a page that is a node, where `_room` is how many pages there are.
     fn apply(self, page: &mut Page, _room: u32)
-        requires { is_node (format K.KEY K.reading K.start_key) _room page.old ≡ true }
+        requires passes { is_node (format K.KEY K.reading K.start_key) _room page.old ≡ true }
+        requires fits { fits self _room (node_of (format K.KEY K.reading K.start_key) page.old) }
         ensures node { is_node (format K.KEY K.reading K.start_key) _room page.new ≡ true }
         ensures number { page.new.number ≡ page.old.number }
         ensures edits { edits self (node_of (format K.KEY K.reading K.start_key) page.old) (node_of (format K.KEY K.reading K.start_key) page.new) };
 }
 
-/// Pages that can be changed. What is changed is held, so a change doesn't fail.
+/// Pages that can be changed. A step first makes ready for all its changes, which may fail; from then on none fails.
 pub trait PagesMut<K: KeyClass>: Pages<K> {
+    /// How many pages can be taken.
+    ghost ready: { Self → ℕ };
+
+    /// Makes ready to change these pages, which are held, and to take so many: whatever that needs is had from here on, or
+    /// the step is refused here, before it has changed anything.
+    fn prepare(&mut self, changes: &[u32], taken: u32) -> Result<(), Self::Fault>
+        requires held { Each (Self.held self.old) changes.now }
+        requires room { 0 < taken → length (Self.store self.old).nodes + taken ≤ (Self.store self.old).room }
+        ensures ready { OnOk result (taken ≤ ready self.new) }
+        ensures same { Self.store self.new ≡ Self.store self.old }
+        ensures held { (q : ℕ) → Self.held self.old q → Self.held self.new q }
+        ensures steady { Self.steady self.old → Self.steady self.new };
+
     /// Changes a page that is held, and no other.
     fn change<E: Edit<K>>(&mut self, page: u32, edit: E)
-        requires { Self.held self.old page }
+        requires held { Self.held self.old page }
+        requires fits { E.fits edit (Self.store self.old).room (node_at (Self.store self.old).nodes page) }
         ensures edited { E.edits edit (node_at (Self.store self.old).nodes page) (node_at (Self.store self.new).nodes page) }
         ensures others { Self.store self.new ≡ with_node (Self.store self.old) page (node_at (Self.store self.new).nodes page) }
         ensures held { (q : ℕ) → Self.held self.old q → Self.held self.new q }
+        ensures ready { ready self.new ≡ ready self.old }
         ensures steady { Self.steady self.old → Self.steady self.new };
-}
 
-/// A sequence number and a rightlink for a node.
-#[derive(Clone, Copy, Debug, PartialEq, Eq)]
-pub struct Link {
-    /// The sequence number.
-    pub number: u64,
-    /// The rightlink, 0 for none.
-    pub right: u32,
-}
+    /// Takes the next page: a copy of one that is held, but for the page's own number. It is held.
+    fn take(&mut self, from: u32)
+        requires held { Self.held self.old from }
+        requires ready { 0 < ready self.old }
+        ensures taken { Self.store self.new ≡ with_page (Self.store self.old) (node_at (Self.store self.old).nodes from) }
+        ensures next { Self.held self.new (suc (length (Self.store self.old).nodes)) }
+        ensures held { (q : ℕ) → Self.held self.old q → Self.held self.new q }
+        ensures ready { ready self.old ≡ suc (ready self.new) }
+        ensures steady { Self.steady self.old → Self.steady self.new };
 
-impl<K: KeyClass> Edit<K> for Link {
-    ghost use Rattle.std.specs.Prelude.{◌≡◌};
-    ghost use Rattle.gx_tree_laws.specs.Steps.{node_with};
-
-    ghost edits = { λ link old new. new ≡ node_with old link.number link.right old.pairs old.children };
-
-    fn apply(self, page: &mut Page, _room: u32) {
-        page.set_nsn(self.number);
-        page.set_right(self.right);
-    }
+    /// Counts a split of a node other than the root.
+    fn count_split(&mut self)
+        requires { (Self.store self.old).counter + 1 < 2 ^ 64 }
+        ensures counted { Self.store self.new ≡ with_split (Self.store self.old) }
+        ensures held { (q : ℕ) → Self.held self.old q → Self.held self.new q }
+        ensures ready { ready self.new ≡ ready self.old }
+        ensures steady { Self.steady self.old → Self.steady self.new };
 }

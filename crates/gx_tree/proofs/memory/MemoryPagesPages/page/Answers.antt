@@ -29,4 +29,4 @@ returns-clause-passes g c =
     let room : c.args.self.now.room ≡ c.self.inside.room = ap (λ (s : Store g.row.K-Key.Denot). s.room) (sym c.self.view_is) in
     ap (λ n. is_node f n c.index.result.now) room
     ∙ ap (λ (p : Contents). is_node f c.self.inside.room p) here
-    ∙ each_at (λ (p : Contents). is_node f c.self.inside.room p) items (c.args.page - 1) c.index.result.now (omega (arith, low, high, long)) c.self.invariant.2
+    ∙ each_at (λ (p : Contents). is_node f c.self.inside.room p) items (c.args.page - 1) c.index.result.now (omega (arith, low, high, long)) c.self.invariant.3

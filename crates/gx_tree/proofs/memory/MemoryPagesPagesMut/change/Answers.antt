@@ -7,6 +7,23 @@ use Rattle.gx_tree.specs.Store.{Store, node_of, node_at, with_node}
 use Rattle.gx_tree.proofs.Listed.{node_in, all_set}
 use Rattle.gx_tree.proofs.memory.MemoryPagesPagesMut.change.Goals as goal
 
+pub apply-requires-clause-fits : goal.apply-requires-clause-fits
+apply-requires-clause-fits g c =
+    let f = format g.K.KeyClass.KEY g.K.KeyClass.reading g.K.KeyClass.start_key in
+    let items = c.self.inside.pages.items in
+    let was = c.index_mut.result.now in
+    let here : was ≡ get_or items (c.args.page - 1) was = search rules in
+    let low : 0 < c.args.page = c.requires.held.0 in
+    let high : c.args.page ≤ length c.args.self.now.nodes = c.requires.held.1 in
+    let long : length c.args.self.now.nodes ≡ length items = ap (λ (s : Store g.row.K-Key.Denot). length s.nodes) (sym c.self.view_is) ∙ length-map items (node_of f) in
+    let old : node_at c.args.self.now.nodes c.args.page ≡ node_of f was =
+    sym (ap (node_of f) here
+    ∙ node_in (node_of f) items c.args.page was low (omega (arith, high, long))
+    ∙ ap (λ (s : Store g.row.K-Key.Denot). node_at s.nodes c.args.page) c.self.view_is) in
+    let room : c.args.self.now.room ≡ c.self.inside.room = ap (λ (s : Store g.row.K-Key.Denot). s.room) (sym c.self.view_is) in
+    subst (λ r. g.E.Edit.fits c.args.edit r (node_of f was)) room
+    (subst (g.E.Edit.fits c.args.edit c.args.self.now.room) old c.requires.fits)
+
 pub invariant_of-self : goal.invariant_of-self
 invariant_of-self g c =
     let f = format g.K.KeyClass.KEY g.K.KeyClass.reading g.K.KeyClass.start_key in
@@ -15,7 +32,8 @@ invariant_of-self g c =
     let fits = c.self.invariant.0 in (
       omega (arith, length-set items k c.apply.new.page, fits),
       c.self.invariant.1,
-      all_set (λ (p : Contents). is_node f c.self.inside.room p) items k c.apply.new.page c.self.invariant.2 c.apply.ensures.node,
+      c.self.invariant.2,
+      all_set (λ (p : Contents). is_node f c.self.inside.room p) items k c.apply.new.page c.self.invariant.3 c.apply.ensures.node,
     )
 
 pub returns-clause-edited : goal.returns-clause-edited
@@ -26,8 +44,8 @@ returns-clause-edited g c =
     let was = c.index_mut.result.now in
     let is = c.apply.new.page in
     let here : was ≡ get_or items k was = search rules in
-    let low : 0 < c.args.page = c.requires.0 in
-    let high : c.args.page ≤ length c.args.self.now.nodes = c.requires.1 in
+    let low : 0 < c.args.page = c.requires.held.0 in
+    let high : c.args.page ≤ length c.args.self.now.nodes = c.requires.held.1 in
     let long : length c.args.self.now.nodes ≡ length items = ap (λ (s : Store g.row.K-Key.Denot). length s.nodes) (sym c.self.view_is) ∙ length-map items (node_of f) in
     let old : node_of f was ≡ node_at c.args.self.now.nodes c.args.page =
     ap (node_of f) here
@@ -46,8 +64,8 @@ returns-clause-others g c =
     let k = c.args.page - 1 in
     let was = c.index_mut.result.now in
     let is = c.apply.new.page in
-    let low : 0 < c.args.page = c.requires.0 in
-    let high : c.args.page ≤ length c.args.self.now.nodes = c.requires.1 in
+    let low : 0 < c.args.page = c.requires.held.0 in
+    let high : c.args.page ≤ length c.args.self.now.nodes = c.requires.held.1 in
     let long : length c.args.self.now.nodes ≡ length items = ap (λ (s : Store g.row.K-Key.Denot). length s.nodes) (sym c.self.view_is) ∙ length-map items (node_of f) in
     let after = node_at (map (node_of f) (set items k is)) c.args.page in
     let new : node_of f is ≡ after =

@@ -1,0 +1,101 @@
+-- What a step has done once it changed one leaf.
+use Rattle.std.proofs.Common.{◌≡◌, ℕ, ◌==◌, Bool, true, false, List, [], map, filter, refl, sym, ap, ◌∙◌, subst, Some}
+use Rattle.std.specs.Prelude.{if◌then◌else◌, slice_get, slice_set}
+use Rattle.std.specs.List.{list_any}
+use Rattle.gx_machine.specs.declared.entry.Entry.{Entry}
+use Rattle.gx_page.specs.Contents.{Contents}
+use Rattle.gx_node.specs.Edits.{with_pairs, marked_as, entry_of}
+use Rattle.gx_node.specs.Reading.{Format, leaf_of, inner_of}
+use Rattle.gx_tree_laws.specs.Lists.{staying}
+use Rattle.gx_tree_laws.specs.Steps.{ChangesOnly, node_with, spares}
+use Rattle.gx_tree_laws.specs.Trees.{Pair, Child, Node, Used}
+use Rattle.gx_tree_laws.specs.Writes.{is_sweepable}
+use Rattle.gx_tree.specs.Seeking.{Seeks}
+use Rattle.gx_tree.specs.Store.{Store, node_of, node_at, tree_of, with_node}
+use Rattle.gx_tree.specs.Writing.{SetsMark, Swept}
+use Rattle.gx_tree.specs.declared.seek.Sought.TheVariants.{Here}
+use Rattle.gx_tree.proofs.Changed.{changed_only}
+use Rattle.gx_tree.proofs.Listed.{leaf_node}
+use Rattle.gx_tree.proofs.Sides.{unpassing_stay, some_side, no_side, spares_others}
+
+module _ {B : Type 0} where
+  level_read : (f : Format B) (page : Contents) → (node_of f page).level ≡ page.level
+  level_read f page = by_level (page.level == 0)
+    where
+      by_level : (b : Bool) → (if b then leaf_of f page else inner_of f page).level ≡ page.level
+      by_level true = refl
+      by_level false = refl
+
+  -- a node that is a leaf is what is read of its page as a leaf
+  pub leaf_at : (f : Format B) (page : Contents) (node : Node B) → node_of f page ≡ node → node.level ≡ 0 → leaf_of f page ≡ node
+  leaf_at f page node is leaf =
+      let level : page.level ≡ 0 = sym (level_read f page) ∙ ap (λ (n : Node B). n.level) is ∙ leaf in
+      sym (leaf_node f page level) ∙ is
+
+  edited_only : (old new : Store B) (a : ℕ) (pairs : List (Pair B)) (children : List (Child B)) → Used (tree_of old) a
+      → new ≡ with_node old a (node_at new.nodes a)
+      → node_at new.nodes a ≡ node_with (node_at old.nodes a) (node_at old.nodes a).number (node_at old.nodes a).right pairs children
+      → ChangesOnly (tree_of old) (tree_of new) a pairs children
+  edited_only old new a pairs children used others edited =
+      subst (λ (s : Store B). ChangesOnly (tree_of old) (tree_of s) a pairs children) (sym others)
+      (changed_only old a (node_at new.nodes a) pairs children used edited)
+
+  -- the store was read, made ready and changed
+  pub mark_is_set : (wants : Pair B → Bool) (old read ready new : Store B) (a slot : ℕ) (before marked : Bool) → read ≡ old → ready ≡ read
+      → Used (tree_of read) a → Seeks wants (node_at read.nodes a) (Here slot before)
+      → ((x : Pair B) → slice_get (node_at ready.nodes a).pairs slot ≡ Some x
+      → node_at new.nodes a ≡ with_pairs (node_at ready.nodes a) (slice_set (node_at ready.nodes a).pairs slot (marked_as marked x)))
+      → new ≡ with_node ready a (node_at new.nodes a)
+      → SetsMark wants old new a marked (Here slot before)
+  mark_is_set wants old read ready new a slot before marked first second used seeks edited others =
+      let there : Used (tree_of ready) a = subst (λ (s : Store B). Used (tree_of s) a) (sym second) used in
+      let found : Seeks wants (node_at ready.nodes a) (Here slot before) =
+      subst (λ (s : Store B). Seeks wants (node_at s.nodes a) (Here slot before)) (sym second) seeks in
+      subst (λ (s : Store B). SetsMark wants s new a marked (Here slot before)) (second ∙ first) (
+        found,
+        λ x at. edited_only ready new a (slice_set (node_at ready.nodes a).pairs slot (marked_as marked x)) (node_at ready.nodes a).children there others (edited x at),
+      )
+
+  -- nothing is swept
+  pub is_unswept : (claimed : Entry B → Bool) (old read : Store B) (a : ℕ) (sides : List Bool) → read ≡ old
+      → (node_at read.nodes a).level ≡ 0 → sides ≡ map (is_sweepable (λ x. claimed (entry_of x))) (node_at read.nodes a).pairs
+      → list_any (λ b. b) sides ≡ false → Swept claimed old read a false
+  is_unswept claimed old read a sides same leaf chosen none =
+      let test = is_sweepable (λ (x : Pair B). claimed (entry_of x)) in
+      subst (λ (s : Store B). Swept claimed s read a false) same (record {
+        leaf = leaf;
+        some = λ yes. cc;
+        none = λ no. (refl, no_side test (node_at read.nodes a).pairs (ap (λ bs. list_any (λ b. b) bs) (sym chosen) ∙ none));
+      })
+
+  pub is_swept : (claimed : Entry B → Bool) (old read ready new : Store B) (a : ℕ) (sides : List Bool) → read ≡ old → ready ≡ read
+      → Used (tree_of read) a → (node_at read.nodes a).level ≡ 0 → (node_at read.nodes a).children ≡ []
+      → sides ≡ map (is_sweepable (λ x. claimed (entry_of x))) (node_at read.nodes a).pairs
+      → list_any (λ b. b) sides ≡ true
+      → node_at new.nodes a ≡ node_with (node_at ready.nodes a) (node_at ready.nodes a).number (node_at ready.nodes a).right
+      (staying sides (node_at ready.nodes a).pairs) (staying sides (node_at ready.nodes a).children)
+      → new ≡ with_node ready a (node_at new.nodes a)
+      → Swept claimed old new a true
+  is_swept claimed old read ready new a sides first second used leaf childless chosen any edited others =
+      let test = is_sweepable (λ (x : Pair B). claimed (entry_of x)) in
+      let stood = node_at read.nodes a in
+      let spared = filter (spares (λ (x : Pair B). claimed (entry_of x))) stood.pairs in
+      let stays : staying sides stood.pairs ≡ spared =
+      ap (λ bs. staying bs stood.pairs) chosen
+      ∙ unpassing_stay test (spares (λ (x : Pair B). claimed (entry_of x))) (λ x. spares_others (λ y. claimed (entry_of y)) x) stood.pairs in
+      let none : staying sides stood.children ≡ stood.children = ap (λ cs. staying sides cs) childless ∙ sym childless in
+      let changed : node_at new.nodes a ≡ node_with stood stood.number stood.right spared stood.children =
+      subst (λ (s : Store B). node_at new.nodes a ≡ node_with (node_at s.nodes a) (node_at s.nodes a).number (node_at s.nodes a).right
+      (staying sides (node_at s.nodes a).pairs) (staying sides (node_at s.nodes a).children)) second edited
+      ∙ ap (λ ps. node_with stood stood.number stood.right ps (staying sides stood.children)) stays
+      ∙ ap (λ cs. node_with stood stood.number stood.right spared cs) none in
+      let rest : new ≡ with_node read a (node_at new.nodes a) =
+      subst (λ (s : Store B). new ≡ with_node s a (node_at new.nodes a)) second others in
+      subst (λ (s : Store B). Swept claimed s new a true) first (record {
+        leaf = leaf;
+        some = λ yes. (
+          record { leaf = leaf; changes = edited_only read new a spared stood.children used rest changed },
+          some_side test stood.pairs (ap (λ bs. list_any (λ b. b) bs) (sym chosen) ∙ any),
+        );
+        none = λ no. cc;
+      })

@@ -1,0 +1,20 @@
+use Rattle.std.proofs.Common.{subst}
+use Rattle.gx_tree.specs.Seeking.{Seeks}
+use Rattle.gx_tree.specs.Store.{node_at}
+use Rattle.gx_tree.specs.Wants.{wants}
+use Rattle.gx_tree.specs.declared.seek.Sought.{Sought}
+use Rattle.gx_tree.proofs.LeafSteps.{mark_is_set}
+use Rattle.gx_tree.proofs.Listed.{same_store}
+use Rattle.gx_tree.proofs.leaf_steps.set_mark_step.Goals as goal
+
+pub returns-in_ok-prepare_page-in-Here-clause-marked :
+    goal.returns-in_ok-prepare_page-in-Here-clause-marked
+returns-in_ok-prepare_page-in-Here-clause-marked g c =
+    let old = g.P.Pages.store c.args.pages.now in
+    let read = g.P.Pages.store c.seek_step.new.pages in
+    let ready = g.P.Pages.store c.prepare_page.new.pages in
+    let new = g.P.Pages.store c.change.new.self in
+    λ steady. mark_is_set (wants g.K.Probing.passes c.args.wanted.now.keys c.args.wanted.now.row) old read ready new c.args.page c.in-Here.slot c.in-Here.before c.args.marked
+    (same_store (g.P.Pages.steady c.args.pages.now) old read c.seek_step.ensures.stays steady) c.prepare_page.ensures.same c.in_ok-slot.ensures.held.1
+    (subst (λ (s : Sought). Seeks (wants g.K.Probing.passes c.args.wanted.now.keys c.args.wanted.now.row) (node_at read.nodes c.args.page) s) c.in-Here.is c.in_ok-slot.ensures.sought)
+    c.change.ensures.edited c.change.ensures.others

@@ -1,0 +1,16 @@
+use Rattle.std.proofs.Common.{◌∙◌, subst}
+use Rattle.std.specs.Ordering.{is_eq}
+use Rattle.gx_tree_laws.specs.Trees.{Rules}
+use Rattle.gx_tree.specs.Splitting.{DidSplit}
+use Rattle.gx_tree.specs.Store.{Store}
+use Rattle.gx_tree.proofs.Listed.{same_store}
+use Rattle.gx_tree.proofs.split.split_step.Goals as goal
+
+pub returns-clause-split : goal.returns-clause-split
+returns-clause-split g c = λ steady.
+    let r : Rules g.row.K-Key.Denot = record { covers = λ a b. g.K.Key.Shape.inside b a; same = λ a b. is_eq (g.K.Key.Ord.cmp a b); most = c.args.most } in
+    let old = g.P.Pages.store c.args.pages.now in
+    let brought = g.P.Pages.store c.bring_both.new.pages in
+    subst (λ (s : Store g.row.K-Key.Denot). DidSplit r g.K.KeyClass.sides_of s (g.P.Pages.store c.make_split.new.pages) c.args.page c.args.parent c.make_split.result)
+    (c.prepare.ensures.same ∙ same_store (g.P.Pages.steady c.args.pages.now) old brought c.bring_both.ensures.stays steady)
+    c.make_split.ensures.split

@@ -1,0 +1,32 @@
+//! One side of a node.
+
+use crate::writing::Edit;
+use gx_class::KeyClass;
+use gx_node::{inner_edits, leaf_edits};
+use gx_page::Page;
+
+/// Takes the entries of a node out whose side is `true`.
+#[derive(Clone, Copy, Debug)]
+pub struct KeepSide<'a> {
+    /// A side for each entry.
+    pub sides: &'a [bool],
+}
+
+impl<'a, K: KeyClass> Edit<K> for KeepSide<'a> {
+    ghost use Rattle.std.specs.Prelude.{◌≡◌, length};
+    ghost use Rattle.gx_tree_laws.specs.Lists.{staying};
+    ghost use Rattle.gx_tree_laws.specs.Trees.{size};
+    ghost use Rattle.gx_tree_laws.specs.Steps.{node_with};
+
+    ghost fits = { λ e room node. length e.sides.now ≡ size node };
+
+    ghost edits = { λ e old new. new ≡ node_with old old.number old.right (staying e.sides.now old.pairs) (staying e.sides.now old.children) };
+
+    fn apply(self, page: &mut Page, _room: u32) {
+        if page.level() == 0 {
+            leaf_edits::keep::<K>(page, self.sides);
+        } else {
+            inner_edits::keep::<K>(page, self.sides, _room);
+        }
+    }
+}

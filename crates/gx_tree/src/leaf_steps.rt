@@ -1,0 +1,201 @@
+//! The steps that change one leaf.
+ghost use Rattle.std.specs.Prelude.{◌≡◌, ◌≢◌, ◌≤◌, ◌<◌, Bool, [], length, map, Some, slice_get, Err, OnOk, OnErr, IfOk};
+ghost use Rattle.std.specs.List.{list_any};
+ghost use Rattle.gx_machine.specs.declared.entry.Entry.{Entry};
+ghost use Rattle.gx_node.specs.Edits.{entry_of};
+ghost use Rattle.gx_node.specs.declared.items.TheConstants.{MAX_ENTRIES};
+ghost use Rattle.gx_tree_laws.specs.Trees.{Pair, Used};
+ghost use Rattle.gx_tree_laws.specs.Writes.{is_sweepable};
+ghost use Rattle.gx_tree.specs.Store.{tree_of};
+ghost use Rattle.gx_tree.specs.Wants.{wants};
+ghost use Rattle.gx_tree.specs.Writing.{Appends, SetsMark, Swept};
+
+use crate::edits::{AppendPair, KeepSide, SetMark};
+use crate::fault::StepFault;
+use crate::pages::bring_page;
+use crate::seek::{Sought, seek_step};
+use crate::wanted::Wanted;
+use crate::writing::PagesMut;
+use gx_class::{KeyClass, Probing};
+use gx_machine::Entry;
+use gx_node::{Leaf, MAX_ENTRIES};
+
+/// Brings the leaf on a page, and says how many pairs it has.
+///
+/// Refused with `Pages` where the page could not be brought, and with `Damaged` exactly where it isn't a leaf that is
+/// taken.
+#[tactic(auto, using(crate::proofs::Listed::same_store))]
+fn bring_leaf<K: KeyClass, P: PagesMut<K>>(
+    pages: &mut P,
+    page: u32,
+) -> Result<usize, StepFault<P::Fault>>
+    ensures held { OnOk result (P.held pages.new page) }
+    ensures used { OnOk result (Used (tree_of (P.store pages.new)) page) }
+    ensures leaf { OnOk result (((tree_of (P.store pages.new)).node page).level ≡ 0) }
+    ensures childless { OnOk result (((tree_of (P.store pages.new)).node page).children ≡ []) }
+    ensures count { IfOk result (λ count. count ≡ length ((tree_of (P.store pages.new)).node page).pairs) }
+    ensures same { P.steady pages.old → P.store pages.new ≡ P.store pages.old }
+    ensures steady { P.steady pages.old → P.steady pages.new }
+    ensures damaged { result ≡ Err StepFault.Damaged → Used (tree_of (P.store pages.new)) page → ((tree_of (P.store pages.new)).node page).level ≢ 0 }
+    ensures memory { result ≢ Err StepFault.Memory }
+    ensures full { result ≢ Err StepFault.PagesFull }
+{
+    bring_page(pages, page)?;
+    let page = pages.page(page);
+    if page.level() == 0 {
+        Ok(page.count())
+    } else {
+        Err(StepFault::Damaged)
+    }
+}
+
+/// Makes ready to change a page that is held. Refused with `Pages`.
+fn prepare_page<K: KeyClass, P: PagesMut<K>>(
+    pages: &mut P,
+    page: u32,
+) -> Result<(), StepFault<P::Fault>>
+    requires { P.held pages.old page }
+    ensures same { P.store pages.new ≡ P.store pages.old }
+    ensures held { P.held pages.new page }
+    ensures steady { P.steady pages.old → P.steady pages.new }
+    ensures damaged { result ≢ Err StepFault.Damaged }
+    ensures memory { result ≢ Err StepFault.Memory }
+    ensures full { result ≢ Err StepFault.PagesFull }
+{
+    match pages.prepare(&[page], 0) {
+        Ok(()) => Ok(()),
+        Err(fault) => Err(StepFault::Pages(fault)),
+    }
+}
+
+/// Puts a live pair behind the last of the leaf on a page, where a node has at most `most` entries, which is at most
+/// `MAX_ENTRIES`.
+///
+/// Refused with `Pages` where the page could not be brought or made ready, and with `Damaged` exactly where it isn't a leaf
+/// that is taken, or has no room. Nothing has changed then.
+pub fn add_step<K: KeyClass, P: PagesMut<K>>(
+    pages: &mut P,
+    page: u32,
+    entry: &Entry<K::Key>,
+    most: usize,
+) -> Result<(), StepFault<P::Fault>>
+    requires most { most ≤ MAX_ENTRIES }
+    ensures steady { P.steady pages.old → P.steady pages.new }
+    ensures added { P.steady pages.old → OnOk result (Appends most (tree_of (P.store pages.old)) (tree_of (P.store pages.new)) page entry.now) }
+    ensures refused { P.steady pages.old → OnErr result (P.store pages.new ≡ P.store pages.old) }
+    ensures damaged { P.steady pages.old → result ≡ Err StepFault.Damaged → Used (tree_of (P.store pages.old)) page
+        → ((tree_of (P.store pages.old)).node page).level ≡ 0 → most ≤ length ((tree_of (P.store pages.old)).node page).pairs }
+    ensures memory { result ≢ Err StepFault.Memory }
+    ensures full { result ≢ Err StepFault.PagesFull }
+{
+    if bring_leaf(pages, page)? >= most {
+        return Err(StepFault::Damaged);
+    }
+    prepare_page(pages, page)?;
+    pages.change(page, AppendPair { entry: *entry });
+    Ok(())
+}
+
+/// Sets or clears the mark of the wanted pair in the leaf on a page. A pair that was found in a leaf is there or further to
+/// the right; where it isn't in this leaf, the next one is told, as `seek_step` does.
+///
+/// Refused with `Pages` where the page could not be brought or made ready, and with `Damaged` exactly where it isn't a leaf
+/// that is taken. Nothing has changed then.
+pub fn set_mark_step<K: Probing, P: PagesMut<K>>(
+    pages: &mut P,
+    wanted: &Wanted<K>,
+    page: u32,
+    marked: bool,
+) -> Result<Sought, StepFault<P::Fault>>
+    ensures steady { P.steady pages.old → P.steady pages.new }
+    ensures marked { P.steady pages.old → IfOk result (SetsMark (wants K.passes wanted.now.keys wanted.now.row)
+        (P.store pages.old) (P.store pages.new) page marked) }
+    ensures refused { P.steady pages.old → OnErr result (P.store pages.new ≡ P.store pages.old) }
+    ensures damaged { P.steady pages.old → result ≡ Err StepFault.Damaged → Used (tree_of (P.store pages.old)) page
+        → ((tree_of (P.store pages.old)).node page).level ≢ 0 }
+    ensures memory { result ≢ Err StepFault.Memory }
+    ensures full { result ≢ Err StepFault.PagesFull }
+{
+    match seek_step(pages, wanted, page)? {
+        Sought::Here(slot, before) => {
+            prepare_page(pages, page)?;
+            pages.change(page, SetMark { slot, marked });
+            Ok(Sought::Here(slot, before))
+        }
+        Sought::Right(next) => Ok(Sought::Right(next)),
+    }
+}
+
+/// Whether a slot's pair is marked and nobody claims it.
+fn is_unclaimed<K: KeyClass, F: Fn(Entry<K::Key>) -> bool>(
+    leaf: &Leaf<K>,
+    slot: usize,
+    claimed: &F,
+) -> bool
+    requires slot { slot < length leaf.now.pairs }
+    requires claimed { F.IsAlwaysCallable claimed.now }
+    ensures { (test : Entry K.Key → Bool) → ((entry : Entry K.Key) (answer : Bool) → F.post claimed.now entry answer → answer ≡ test entry)
+        → (x : Pair K.Key) → slice_get leaf.now.pairs slot ≡ Some x → result ≡ is_sweepable (λ x. test (entry_of x)) x }
+{
+    let (entry, marked) = leaf.entry(slot);
+    marked && !claimed(entry)
+}
+
+/// Says of each pair of a leaf whether a sweep takes it: whether it is marked and nobody claims it.
+fn choose_sides<K: KeyClass, F: Fn(Entry<K::Key>) -> bool>(
+    leaf: &Leaf<K>,
+    claimed: &F,
+    sides: &mut [bool],
+)
+    requires sides { length sides.old ≡ length leaf.now.pairs }
+    requires claimed { F.IsAlwaysCallable claimed.now }
+    ensures { (test : Entry K.Key → Bool) → ((entry : Entry K.Key) (answer : Bool) → F.post claimed.now entry answer → answer ≡ test entry)
+        → sides.new ≡ map (is_sweepable (λ x. test (entry_of x))) leaf.now.pairs }
+{
+    for slot in 0..leaf.len() {
+        sides[slot] = is_unclaimed(leaf, slot, claimed);
+    }
+}
+
+/// Whether any side is `true`.
+fn has_any(sides: &[bool]) -> bool
+    ensures { result ≡ list_any (λ side. side) sides.now }
+{
+    sides.iter().any(|side| *side)
+}
+
+/// Takes the marked pairs that nobody claims out of the leaf on a page, as pairs that were deleted by their mark are
+/// removed later (Kornacker, Mohan, Hellerstein 1997). Whether there were any; where there were none the page isn't
+/// changed.
+///
+/// Refused with `Pages` where the page could not be brought or made ready, and with `Damaged` exactly where it isn't a leaf
+/// that is taken, or has more than `MAX_ENTRIES` pairs. Nothing has changed then.
+pub fn sweep_step<K: KeyClass, P: PagesMut<K>, F: Fn(Entry<K::Key>) -> bool>(
+    pages: &mut P,
+    page: u32,
+    claimed: F,
+) -> Result<bool, StepFault<P::Fault>>
+    requires claimed { F.IsAlwaysCallable claimed }
+    ensures steady { P.steady pages.old → P.steady pages.new }
+    ensures swept { P.steady pages.old → (test : Entry K.Key → Bool) → ((entry : Entry K.Key) (answer : Bool) → F.post claimed entry answer → answer ≡ test entry)
+        → IfOk result (Swept test (P.store pages.old) (P.store pages.new) page) }
+    ensures refused { P.steady pages.old → OnErr result (P.store pages.new ≡ P.store pages.old) }
+    ensures damaged { P.steady pages.old → result ≡ Err StepFault.Damaged → Used (tree_of (P.store pages.old)) page
+        → ((tree_of (P.store pages.old)).node page).level ≡ 0 → MAX_ENTRIES < length ((tree_of (P.store pages.old)).node page).pairs }
+    ensures memory { result ≢ Err StepFault.Memory }
+    ensures full { result ≢ Err StepFault.PagesFull }
+{
+    let count = bring_leaf(pages, page)?;
+    if count > MAX_ENTRIES {
+        return Err(StepFault::Damaged);
+    }
+    let mut all_sides = [false; MAX_ENTRIES];
+    let sides = all_sides.split_at_mut(count).0;
+    choose_sides(&Leaf::<K>::of(pages.page(page)), &claimed, sides);
+    if !has_any(sides) {
+        return Ok(false);
+    }
+    prepare_page(pages, page)?;
+    pages.change(page, KeepSide { sides });
+    Ok(true)
+}

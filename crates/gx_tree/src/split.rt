@@ -1,0 +1,253 @@
+//! The split of a node.
+ghost use Rattle.std.specs.Prelude.{◌≡◌, ◌≢◌, ◌<◌, ◌≤◌, ◌+◌, ◌^◌, ◌⊎◌, ℕ, suc, true, false, length, map, slice_index_or, ◌==◌, Err, IfOk, IfSome, IfNone, OnOk, OnErr};
+ghost use Rattle.gx_node.specs.Hits.{IsNextHit};
+ghost use Rattle.gx_node.specs.Reading.{format, is_node};
+ghost use Rattle.gx_node.specs.declared.items.TheConstants.{MAX_ENTRIES};
+ghost use Rattle.gx_tree_laws.specs.Legal.{Legal};
+ghost use Rattle.gx_tree_laws.specs.Trees.{Used, size, times, child_pages};
+ghost use Rattle.gx_tree.specs.Keyed.{rules_of};
+ghost use Rattle.gx_tree.specs.Splitting.{NamesOnce, CanSplit, DidSplit, HasNoPlace, Splits, parent_of};
+ghost use Rattle.gx_tree.specs.Store.{node_of, node_at, tree_of, Stays, with_node};
+
+use crate::edits::{AppendChild, Link, SetBound};
+use crate::fault::StepFault;
+use crate::halves::{Halves, halve};
+use crate::moving::{keep_side, take_side, turn};
+use crate::pages::Pages;
+use crate::writing::PagesMut;
+use gx_class::KeyClass;
+use gx_node::{Inner, MAX_ENTRIES};
+use gx_page::Page;
+
+/// What a split did.
+#[derive(Clone, Copy, Debug)]
+pub struct Split<B> {
+    /// The new sibling's page.
+    pub sibling: u32,
+    /// The node's slot in its parent.
+    pub slot: usize,
+    /// The node's bound.
+    pub left: B,
+    /// The sibling's.
+    pub right: B,
+}
+
+/// Whether a slot's child is on this page.
+#[tactic(auto, using(crate::proofs::Named::named_at))]
+fn is_named<K: KeyClass>(inner: &Inner<K>, page: u32, slot: usize) -> bool
+    requires { slot < length inner.now.children }
+    ensures { slice_index_or (map (λ c. c.page == page) inner.now.children) slot false ≡ result }
+{
+    inner.child(slot).1 == page
+}
+
+/// The first slot from a slot on whose child is on this page.
+fn next_named<K: KeyClass>(inner: &Inner<K>, page: u32, from: usize) -> Option<usize>
+    requires { from ≤ length inner.now.children }
+    ensures { IsNextHit (map (λ c. c.page == page) inner.now.children) from result }
+{
+    for slot in from..inner.len() {
+        if is_named(inner, page, slot) {
+            return Some(slot);
+        }
+    }
+    None
+}
+
+/// The slot of the one child on this page. `None` where none is, or more than one.
+fn slot_of<K: KeyClass>(inner: &Inner<K>, page: u32) -> Option<usize>
+    ensures once { IfSome result (NamesOnce inner.now.children page) }
+    ensures none { IfNone result (times page (child_pages inner.now) ≢ 1) }
+{
+    let count = inner.len();
+    let Some(slot) = next_named(inner, page, 0) else {
+        return None;
+    };
+    if slot + 1 == count {
+        return Some(slot);
+    }
+    match next_named(inner, page, slot + 1) {
+        Some(_) => None,
+        None => Some(slot),
+    }
+}
+
+/// The slot of the one child on a page, in a parent that isn't full. `None` where there is no such place.
+fn place_of<K: KeyClass>(above: &Page, room: u32, page: u32, most: usize) -> Option<usize>
+    requires node { is_node (format K.KEY K.reading K.start_key) room above.now ≡ true }
+    requires inner { 0 < (node_of (format K.KEY K.reading K.start_key) above.now).level }
+    ensures once { IfSome result (NamesOnce (node_of (format K.KEY K.reading K.start_key) above.now).children page) }
+    ensures few { IfSome result (λ _. size (node_of (format K.KEY K.reading K.start_key) above.now) < most) }
+    ensures none { IfNone result ((times page (child_pages (node_of (format K.KEY K.reading K.start_key) above.now)) ≢ 1)
+        ⊎ (most ≤ size (node_of (format K.KEY K.reading K.start_key) above.now))) }
+{
+    if above.count() >= most {
+        return None;
+    }
+    slot_of(&Inner::<K>::of(above, room), page)
+}
+
+/// Holds a node and its parent.
+fn bring_both<K: KeyClass, P: Pages<K>>(
+    pages: &mut P,
+    page: u32,
+    parent: u32,
+) -> Result<(), StepFault<P::Fault>>
+    ensures held { OnOk result (P.held pages.new page × P.held pages.new parent) }
+    ensures used { OnOk result (Used (tree_of (P.store pages.new)) page × Used (tree_of (P.store pages.new)) parent × (page ≢ parent)) }
+    ensures stays { Stays (P.steady pages.old) (P.store pages.old) (P.store pages.new) }
+    ensures steady { P.steady pages.old → P.steady pages.new }
+    ensures damaged { result ≡ Err StepFault.Damaged → Used (tree_of (P.store pages.new)) page → Used (tree_of (P.store pages.new)) parent → page ≡ parent }
+    ensures memory { result ≢ Err StepFault.Memory }
+    ensures full { result ≢ Err StepFault.PagesFull }
+{
+    let used = pages.used();
+    if page == 0 || used < page || parent == 0 || used < parent || page == parent {
+        return Err(StepFault::Damaged);
+    }
+    match pages.bring(&[page, parent]) {
+        Ok(()) => Ok(()),
+        Err(fault) => Err(StepFault::Pages(fault)),
+    }
+}
+
+/// Where and how a node that is held can be split. `None` where its parent has no place for that.
+///
+/// Refused with `PagesFull` where no page is left, and with `Damaged` where the parent is a leaf, the node isn't full, or
+/// the counter of splits is at its end. The node's keys are written over the first of `keys`.
+fn plan_split<K: KeyClass, P: PagesMut<K>>(
+    pages: &P,
+    page: u32,
+    parent: u32,
+    most: usize,
+    keys: &mut [K::Key],
+) -> Result<Option<(usize, Halves<K::Key>)>, StepFault<P::Fault>>
+    requires most { (4 ≤ most) × (most ≤ MAX_ENTRIES) }
+    requires space { MAX_ENTRIES ≤ length keys.old }
+    requires held { P.held pages.now page × P.held pages.now parent }
+    ensures some { IfOk result (λ plan. IfSome plan (λ p. CanSplit (rules_of K.Key.Shape most) K.sides_of (P.store pages.now) page parent p.0 p.1.sides p.1.left p.1.right)) }
+    ensures none { IfOk result (λ plan. IfNone plan (HasNoPlace (rules_of K.Key.Shape most) (tree_of (P.store pages.now)) page parent)) }
+    ensures full { result ≡ Err StepFault.PagesFull → (P.store pages.now).room ≤ length (P.store pages.now).nodes }
+    ensures damaged { result ≡ Err StepFault.Damaged → 0 < (node_at (P.store pages.now).nodes parent).level → (P.store pages.now).counter + 1 < 2 ^ 64
+        → (size (node_at (P.store pages.now).nodes page) < most) ⊎ (MAX_ENTRIES < size (node_at (P.store pages.now).nodes page)) }
+    ensures memory { result ≢ Err StepFault.Memory }
+{
+    let room = pages.room();
+    let above = pages.page(parent);
+    if above.level() == 0 || pages.counter() == u64::MAX {
+        return Err(StepFault::Damaged);
+    }
+    let Some(slot) = place_of::<K>(above, room, page, most) else {
+        return Ok(None);
+    };
+    if pages.used() >= room {
+        return Err(StepFault::PagesFull);
+    }
+    match halve::<K>(pages.page(page), room, most, keys) {
+        Some(halves) if halves.sides().len() <= MAX_ENTRIES => Ok(Some((slot, halves))),
+        _ => Err(StepFault::Damaged),
+    }
+}
+
+/// Gives a node's bound its place in the parent, and the sibling its entry behind the others.
+fn name_halves<K: KeyClass, P: PagesMut<K>>(
+    pages: &mut P,
+    parent: u32,
+    _page: u32,
+    bound: SetBound<K::Key>,
+    sibling: AppendChild<K::Key>,
+)
+    requires held { P.held pages.old parent }
+    requires inner { 0 < (node_at (P.store pages.old).nodes parent).level }
+    requires names { NamesOnce (node_at (P.store pages.old).nodes parent).children _page bound.slot }
+    requires few { length (node_at (P.store pages.old).nodes parent).children < MAX_ENTRIES }
+    requires sibling { (1 ≤ sibling.page) × (sibling.page ≤ (P.store pages.old).room) }
+    ensures named { P.store pages.new ≡ with_node (P.store pages.old) parent
+        (parent_of (node_at (P.store pages.old).nodes parent) _page bound.bound sibling.page sibling.bound) }
+    ensures held { (q : ℕ) → P.held pages.old q → P.held pages.new q }
+    ensures steady { P.steady pages.old → P.steady pages.new }
+{
+    pages.change(parent, bound);
+    pages.change(parent, sibling);
+}
+
+/// Makes a split for which all is ready. `_most` isn't read: it says which nodes are full.
+fn make_split<K: KeyClass, P: PagesMut<K>>(
+    pages: &mut P,
+    page: u32,
+    parent: u32,
+    slot: usize,
+    halves: &Halves<K::Key>,
+    _most: usize,
+) -> Split<K::Key>
+    requires held { P.held pages.old page × P.held pages.old parent }
+    requires used { Used (tree_of (P.store pages.old)) page × Used (tree_of (P.store pages.old)) parent × (page ≢ parent) }
+    requires ready { 0 < P.ready pages.old }
+    requires most { _most ≤ MAX_ENTRIES }
+    requires can { CanSplit (rules_of K.Key.Shape _most) K.sides_of (P.store pages.old) page parent slot halves.now.sides halves.now.left halves.now.right }
+    ensures split { DidSplit (rules_of K.Key.Shape _most) K.sides_of (P.store pages.old) (P.store pages.new) page parent result }
+    ensures steady { P.steady pages.old → P.steady pages.new }
+{
+    let sides = halves.sides();
+    let (left, right) = (halves.left(), halves.right());
+    let mut others = [false; MAX_ENTRIES];
+    let others = &mut others[..sides.len()];
+    turn(sides, others);
+    let sibling = take_side(pages, page, others);
+    let link = Link {
+        number: pages.counter() + 1,
+        right: sibling,
+    };
+    keep_side(pages, page, sides, link);
+    let bound = SetBound { slot, bound: left };
+    let child = AppendChild {
+        bound: right,
+        page: sibling,
+    };
+    name_halves(pages, parent, page, bound, child);
+    pages.count_split();
+    Split {
+        sibling,
+        slot,
+        left,
+        right,
+    }
+}
+
+/// Splits the node on a page, which is full, below its parent. The counter of splits rises by one. The node gets its new
+/// value as its sequence number, and a new sibling as its rightlink; the sibling gets the number and the rightlink that the
+/// node had, so that whoever remembers an older number goes on to it (Kornacker, Mohan, Hellerstein 1997). In the parent the
+/// node's entry gets the union of the keys that stay, and the sibling's entry is put behind the last. `None` where the parent
+/// doesn't name the page, names it twice, or is full: the descent begins again at the root.
+///
+/// Refused with `PagesFull` exactly where no page is left; with `Pages` where a page could not be brought, or what the changes
+/// need could not be had; and with `Damaged` where the two aren't a full node and an inner node above it, or the counter is at
+/// its end. Nothing has changed then. The node's keys are written over the first of `keys`.
+pub fn split_step<K: KeyClass, P: PagesMut<K>>(
+    pages: &mut P,
+    page: u32,
+    parent: u32,
+    most: usize,
+    keys: &mut [K::Key],
+) -> Result<Option<Split<K::Key>>, StepFault<P::Fault>>
+    requires most { (4 ≤ most) × (most ≤ MAX_ENTRIES) }
+    requires space { MAX_ENTRIES ≤ length keys.old }
+    ensures steady { P.steady pages.old → P.steady pages.new }
+    ensures split { P.steady pages.old → IfOk result (Splits (rules_of K.Key.Shape most) K.sides_of (P.store pages.old) (P.store pages.new) page parent) }
+    ensures refused { P.steady pages.old → OnErr result (P.store pages.new ≡ P.store pages.old) }
+    ensures full { P.steady pages.old → result ≡ Err StepFault.PagesFull → (P.store pages.old).room ≤ length (P.store pages.old).nodes }
+    ensures damaged { P.steady pages.old → result ≡ Err StepFault.Damaged → Legal (rules_of K.Key.Shape most) (tree_of (P.store pages.old))
+        → Used (tree_of (P.store pages.old)) page → Used (tree_of (P.store pages.old)) parent → page ≢ parent
+        → 0 < (node_at (P.store pages.old).nodes parent).level → most ≤ size (node_at (P.store pages.old).nodes page)
+        → (P.store pages.old).counter + 1 < 2 ^ 64 → ⊥ }
+    ensures memory { result ≢ Err StepFault.Memory }
+{
+    bring_both(pages, page, parent)?;
+    let Some((slot, halves)) = plan_split(pages, page, parent, most, keys)? else {
+        return Ok(None);
+    };
+    if let Err(fault) = pages.prepare(&[page, parent], 1) {
+        return Err(StepFault::Pages(fault));
+    }
+    Ok(Some(make_split(pages, page, parent, slot, &halves, most)))
+}

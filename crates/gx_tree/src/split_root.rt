@@ -1,0 +1,142 @@
+//! The split of the root.
+ghost use Rattle.std.specs.Prelude.{◌≡◌, ◌≢◌, ◌<◌, ◌≤◌, ◌+◌, ◌^◌, ◌⊎◌, length, Err, IfOk, OnErr};
+ghost use Rattle.gx_node.specs.declared.items.TheConstants.{MAX_ENTRIES};
+ghost use Rattle.gx_tree_laws.specs.Legal.{Legal};
+ghost use Rattle.gx_tree_laws.specs.Trees.{Used, size};
+ghost use Rattle.gx_tree.specs.Keyed.{rules_of};
+ghost use Rattle.gx_tree.specs.Splitting.{CanSplitRoot, DidSplitRoot};
+ghost use Rattle.gx_tree.specs.Store.{node_at, tree_of};
+
+use crate::edits::{AppendChild, Link, RaiseRoot};
+use crate::fault::StepFault;
+use crate::halves::{Halves, halve};
+use crate::moving::{take_side, turn};
+use crate::pages::bring_page;
+use crate::writing::PagesMut;
+use gx_class::KeyClass;
+use gx_node::MAX_ENTRIES;
+
+/// What a split of the root did.
+#[derive(Clone, Copy, Debug)]
+pub struct RootSplit<B> {
+    /// The page of the entries that stay on the left.
+    pub first: u32,
+    /// The page of those on the right.
+    pub second: u32,
+    /// The first page's bound.
+    pub left: B,
+    /// The second's.
+    pub right: B,
+}
+
+/// How the root, which is held, can be split.
+///
+/// Refused with `PagesFull` where fewer than two pages are left, and with `Damaged` where the root is a leaf, isn't full, or
+/// has the greatest level. The root's keys are written over the first of `keys`.
+fn plan_root<K: KeyClass, P: PagesMut<K>>(
+    pages: &P,
+    most: usize,
+    keys: &mut [K::Key],
+) -> Result<Halves<K::Key>, StepFault<P::Fault>>
+    requires most { (4 ≤ most) × (most ≤ MAX_ENTRIES) }
+    requires space { MAX_ENTRIES ≤ length keys.old }
+    requires held { P.held pages.now 1 }
+    ensures some { IfOk result (λ h. CanSplitRoot (rules_of K.Key.Shape most) K.sides_of (P.store pages.now) h.sides h.left h.right) }
+    ensures full { result ≡ Err StepFault.PagesFull → (P.store pages.now).room < length (P.store pages.now).nodes + 2 }
+    ensures damaged { result ≡ Err StepFault.Damaged → 0 < (node_at (P.store pages.now).nodes 1).level → (node_at (P.store pages.now).nodes 1).level + 1 < 2 ^ 16
+        → (size (node_at (P.store pages.now).nodes 1) < most) ⊎ (MAX_ENTRIES < size (node_at (P.store pages.now).nodes 1)) }
+    ensures memory { result ≢ Err StepFault.Memory }
+{
+    let room = pages.room();
+    let used = pages.used();
+    let root = pages.page(1);
+    if root.level() == 0 || root.level() == u16::MAX {
+        return Err(StepFault::Damaged);
+    }
+    if used >= room || used + 1 >= room {
+        return Err(StepFault::PagesFull);
+    }
+    match halve::<K>(root, room, most, keys) {
+        Some(halves) if halves.sides().len() <= MAX_ENTRIES => Ok(halves),
+        _ => Err(StepFault::Damaged),
+    }
+}
+
+/// Makes a split of the root for which all is ready. `_most` isn't read: it says which nodes are full.
+fn make_root_split<K: KeyClass, P: PagesMut<K>>(
+    pages: &mut P,
+    halves: &Halves<K::Key>,
+    _most: usize,
+) -> RootSplit<K::Key>
+    requires held { P.held pages.old 1 }
+    requires used { Used (tree_of (P.store pages.old)) 1 }
+    requires ready { 2 ≤ P.ready pages.old }
+    requires can { CanSplitRoot (rules_of K.Key.Shape _most) K.sides_of (P.store pages.old) halves.now.sides halves.now.left halves.now.right }
+    ensures split { DidSplitRoot (rules_of K.Key.Shape _most) K.sides_of (P.store pages.old) (P.store pages.new) result }
+    ensures steady { P.steady pages.old → P.steady pages.new }
+{
+    let sides = halves.sides();
+    let (left, right) = (halves.left(), halves.right());
+    let mut others = [false; MAX_ENTRIES];
+    let others = &mut others[..sides.len()];
+    turn(sides, others);
+    let first = take_side(pages, 1, sides);
+    let second = take_side(pages, 1, others);
+    let link = Link {
+        number: 0,
+        right: second,
+    };
+    pages.change(first, link);
+    let end = Link {
+        number: 0,
+        right: 0,
+    };
+    pages.change(second, end);
+    let raised = RaiseRoot {
+        first: AppendChild {
+            bound: left,
+            page: first,
+        },
+        second: AppendChild {
+            bound: right,
+            page: second,
+        },
+    };
+    pages.change(1, raised);
+    RootSplit {
+        first,
+        second,
+        left,
+        right,
+    }
+}
+
+/// Splits the root, which is full. Its entries move to two new pages of its level, with the sequence number 0, of which the
+/// first has the second as its rightlink; the root, a level higher, holds an entry for each. So the root stays on page 1,
+/// and the counter of splits is as it was: nobody goes on from the root to the right.
+///
+/// Refused with `PagesFull` exactly where fewer than two pages are left; with `Pages` where the root could not be brought, or
+/// what the changes need could not be had; and with `Damaged` where page 1 isn't a full inner node, or has the level 65535.
+/// Nothing has changed then. The root's keys are written over the first of `keys`.
+pub fn split_root_step<K: KeyClass, P: PagesMut<K>>(
+    pages: &mut P,
+    most: usize,
+    keys: &mut [K::Key],
+) -> Result<RootSplit<K::Key>, StepFault<P::Fault>>
+    requires most { (4 ≤ most) × (most ≤ MAX_ENTRIES) }
+    requires space { MAX_ENTRIES ≤ length keys.old }
+    ensures steady { P.steady pages.old → P.steady pages.new }
+    ensures split { P.steady pages.old → IfOk result (DidSplitRoot (rules_of K.Key.Shape most) K.sides_of (P.store pages.old) (P.store pages.new)) }
+    ensures refused { P.steady pages.old → OnErr result (P.store pages.new ≡ P.store pages.old) }
+    ensures full { P.steady pages.old → result ≡ Err StepFault.PagesFull → (P.store pages.old).room < length (P.store pages.old).nodes + 2 }
+    ensures damaged { P.steady pages.old → result ≡ Err StepFault.Damaged → Legal (rules_of K.Key.Shape most) (tree_of (P.store pages.old))
+        → most ≤ size (node_at (P.store pages.old).nodes 1) → (node_at (P.store pages.old).nodes 1).level + 1 < 2 ^ 16 → ⊥ }
+    ensures memory { result ≢ Err StepFault.Memory }
+{
+    bring_page(pages, 1)?;
+    let halves = plan_root(pages, most, keys)?;
+    if let Err(fault) = pages.prepare(&[1], 2) {
+        return Err(StepFault::Pages(fault));
+    }
+    Ok(make_root_split(pages, &halves, most))
+}
