@@ -1,0 +1,45 @@
+#!/bin/sh
+# Builds the program that makes the tree's steps on pages in memory, and the same in plain C, compares all pages' bytes and
+# what both find, and times both. The C is built twice: with `&&` between the four tests of a box, and with `&`, without jumps.
+# Times are processor time, the system's too, without what a run takes that is asked for nothing. CC names another compiler.
+# The argument, if there is one, is how many inserts a run has; it has three times as many queries and marks.
+set -eu
+top=$(cd "$(dirname "$0")/.." && pwd)
+many=${1:-100000}
+made=$(mktemp -d)
+trap 'rm -rf "$made"' EXIT
+cd "$top/crates/gx_tree_bench"
+if ! rt run -- inserts 10 >"$made/log" 2>&1; then
+    cat "$made/log"
+    exit 1
+fi
+"${CC:-gcc}" -O2 -o "$made/jumps" "$top/bench/tree.c"
+"${CC:-gcc}" -O2 -D'AND=&' -o "$made/no_jumps" "$top/bench/tree.c"
+cd "$made"
+python3 - "$many" "$top/crates/gx_tree_bench/out/gx_tree_bench" "$made/jumps" "$made/no_jumps" <<'P'
+import resource, statistics, subprocess, sys
+
+def run(program, kind, count):
+    before = resource.getrusage(resource.RUSAGE_CHILDREN)
+    printed = subprocess.run([program, kind, str(count)], check=True, capture_output=True, text=True).stdout
+    after = resource.getrusage(resource.RUSAGE_CHILDREN)
+    return after.ru_utime + after.ru_stime - before.ru_utime - before.ru_stime, printed
+
+def run_all(kind, count):
+    times, sums = zip(*[run(program, kind, count) for program in programs])
+    if len(set(sums)) > 1:
+        sys.exit(f"{kind} {count}: the sums differ: {sums}")
+    return times
+
+many, programs = int(sys.argv[1]), sys.argv[2:]
+run_all("pages", many)
+for kind, count in [("inserts", many), ("queries", 3 * many), ("marks", 3 * many)]:
+    rates, ratios = [], []
+    for _ in range(9):
+        took = [t - n for t, n in zip(run_all(kind, count), run_all(kind, 0))]
+        rates.append([count / t / 1e3 for t in took])
+        ratios.append([t / took[0] for t in took])
+    rate = [statistics.median(r[i] for r in rates) for i in range(3)]
+    ratio = [statistics.median(r[i] for r in ratios) for i in range(3)]
+    print(f"{kind}: proved {rate[0]:.0f} thousand a second; C {rate[1]:.0f}, ratio {ratio[1]:.2f}; without jumps {rate[2]:.0f}, ratio {ratio[2]:.2f}")
+P
