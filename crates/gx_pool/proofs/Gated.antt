@@ -1,5 +1,5 @@
 -- Why a write of one page leaves the others' sectors as they were.
-use Rattle.std.proofs.Common.{◌≡◌, ◌≢◌, ◌∙◌, sym, ap, subst, refl, inl, inr, ℕ, Bool, true, false, Result, arith}
+use Rattle.std.proofs.Common.{◌≡◌, ◌≢◌, ◌∙◌, sym, ap, subst, refl, inl, inr, ℕ, ◌≤◌, Bool, true, false, Result, arith}
 use Rattle.std.proofs.lemmas.Bool.{cases_lt}
 use Rattle.gx_disk.specs.Device.{Device}
 use Rattle.gx_disk.proofs.Leaving.{call_leaves, nothing_leaves}
@@ -13,11 +13,11 @@ true_false : (b : Bool) → b ≡ true → b ≡ false → ⊥
 true_false b is not_so = grind arith
 
 -- two pages have no sector in common
-pub pages_apart : (sectors page other : ℕ) → IsPage sectors page → IsPage sectors other → page ≢ other → AreApart (first_of page) 8 (first_of other) 8
-pages_apart sectors page other one two ne = elim (cases_lt page other) [
-  | inl below ↦ inl (omega (arith, below, one.from))
+pub pages_apart : (page other : ℕ) → 1 ≤ page → 1 ≤ other → page ≢ other → AreApart (first_of page) 8 (first_of other) 8
+pages_apart page other one two ne = elim (cases_lt page other) [
+  | inl below ↦ inl (omega (arith, below, one))
   | inr above ↦ elim (cases_lt other page) [
-    | inl below ↦ inr (omega (arith, below, two.from))
+    | inl below ↦ inr (omega (arith, below, two))
     | inr same ↦ absurd (ne (omega (arith, above, same)))
   ]
 ]
@@ -34,7 +34,7 @@ pub write_keeps_area : {A E : Type 0} → (named : ℕ → Bool) (d e : Device) 
 write_keeps_area named d e old new page k result honest there is settled wrote =
     let w = wrote.writes honest in
     let apart : (q : ℕ) → IsPage d.sectors q → named q ≡ false → AreApart (first_of page) 8 (first_of q) 8 =
-    λ q other unnamed. pages_apart d.sectors page q there other (named_apart named page q is unnamed) in
+    λ q other unnamed. pages_apart page q there.from other.from (named_apart named page q is unnamed) in
     let still : IsAreaSettled named e = λ q s other unnamed within.
     let was : IsPage d.sectors q = subst {A = ℕ} (λ n. IsPage n q) wrote.counts.sectors other in
     w.touches.settled s (apart_outside (first_of page) 8 (first_of q) 8 s (apart q was unnamed) within) (settled q s was unnamed within) in

@@ -55,6 +55,13 @@ forgotten_other places (Some q) page ne = get_or-set_other places q page None No
 forgotten_gone : (places : List (Option ℕ)) (o : Option ℕ) (page : ℕ) → o ≡ Some page → get_or (forgotten places o) page None ≡ None
 forgotten_gone places o page is = ap (λ k. get_or (forgotten places k) page None) is ∙ set_none places page
 
+forgotten_none : (places : List (Option ℕ)) (o : Option ℕ) (page : ℕ) → get_or places page None ≡ None → get_or (forgotten places o) page None ≡ None
+forgotten_none places None page none = none
+forgotten_none places (Some q) page none = elim (ℕ_discrete page q) [
+  | yes e ↦ ap (λ n. get_or (set places q None) n None) e ∙ set_none places q
+  | no ne ↦ get_or-set_other places q page None None ne ∙ none
+]
+
 forgotten_length : (places : List (Option ℕ)) (o : Option ℕ) → length (forgotten places o) ≡ length places
 forgotten_length places None = refl
 forgotten_length places (Some q) = length-set places q None
@@ -80,6 +87,7 @@ vacated_sound s i sound inside =
             let at = sound.back j page was in
             forgotten_other s.places o page (λ same. other.0 (one_of j i (place_of s page) at (sound.back i page same))) ∙ at
       ];
+      zero = forgotten_none s.places o 0 sound.zero;
     }
 
 pub with_page_sound : (s : State) (i : ℕ) (page : Contents) → IsSound s → IsSound (with_page s i page)
@@ -89,11 +97,12 @@ with_page_sound s i page sound = record {
   numbers = sound.numbers;
   there = sound.there;
   back = sound.back;
+  zero = sound.zero;
 }
 
-pub settled_sound : (s : State) (i page level : ℕ) (stamp : Option ℕ) → IsSound s → i < length s.marks → (mark_at s i).page ≡ None → page ≤ 65536 → place_of s page ≡ None
+pub settled_sound : (s : State) (i page level : ℕ) (stamp : Option ℕ) → IsSound s → i < length s.marks → (mark_at s i).page ≡ None → 1 ≤ page → page ≤ 65536 → place_of s page ≡ None
     → IsSound (settled s i page level stamp)
-settled_sound s i page level stamp sound inside free small absent =
+settled_sound s i page level stamp sound inside free positive small absent =
     let new : Mark = record { page = Some page; level = level; stamp = stamp } in
     let room : page < length s.places = omega (arith, sound.numbers) in
     record {
@@ -119,6 +128,7 @@ settled_sound s i page level stamp sound inside free small absent =
             let at = sound.back j q (ap (λ m. m.page) (sym other.1) ∙ is) in
             get_or-set_other s.places page q (Some i) None (λ e. not_both j (place_of s q) at (ap (place_of s) e ∙ absent)) ∙ at
       ];
+      zero = get_or-set_other s.places page 0 (Some i) None (λ e. omega (arith, e, positive)) ∙ sound.zero;
     }
 
 stamped_page : (s : State) (i j : ℕ) (stamp : Option ℕ) → i < length s.marks → (mark_at (stamped s i stamp) j).page ≡ (mark_at s j).page
@@ -136,10 +146,11 @@ stamped_sound s i stamp sound inside =
       numbers = sound.numbers;
       there = λ page j is. let old = sound.there page j is in (rw (length-set s.marks i new) old.0, stamped_page s i j stamp inside ∙ old.1);
       back = λ j page is. sound.back j page (sym (stamped_page s i j stamp inside) ∙ is);
+      zero = sound.zero;
     }
 
 pub held_sound : (s : State) (held : List ℕ) → IsSound s → IsSound (record s { held = held })
-held_sound s held sound = record { sizes = sound.sizes; few = sound.few; numbers = sound.numbers; there = sound.there; back = sound.back }
+held_sound s held sound = record { sizes = sound.sizes; few = sound.few; numbers = sound.numbers; there = sound.there; back = sound.back; zero = sound.zero }
 
 -- a page's frame is one
 pub placed_inside : (s : State) (page : ℕ) (o : Option ℕ) → IsSound s → place_of s page ≡ o → IfSome o (λ i. i < length s.marks)
@@ -314,6 +325,7 @@ empty_sound s sizes few numbers marks places = record {
   numbers = numbers;
   there = λ page i at. absurd (not_both i (place_of s page) at (places page));
   back = λ i page at. absurd (not_both page (mark_at s i).page at (ap (λ m. m.page) (marks i)));
+  zero = places 0;
 }
 
 -- ---- a change

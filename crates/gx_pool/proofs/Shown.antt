@@ -19,7 +19,7 @@ same_kept : (k l : Kept) → ◌≡◌ {A = Option Kept} (Some k) (Some l) → k
 unfolding kept_or
 same_kept k l e = ap (λ o. kept_or o k) e
 
-one_kept : (o : Option Kept) (k l : Kept) → o ≡ Some k → o ≡ Some l → k ≡ l
+pub one_kept : (o : Option Kept) (k l : Kept) → o ≡ Some k → o ≡ Some l → k ≡ l
 one_kept o k l first next = same_kept k l (sym first ∙ next)
 
 pub brings_backed : (passes : Contents → Bool) (seen : List ℕ) (s t : State) → Brings passes true seen s t → IsBacked s seen → IsBacked t seen

@@ -43,13 +43,14 @@ abbrev pub stamp_of : Option Kept → Option ℕ
 stamp_of None = None
 stamp_of (Some k) = k.stamp
 
--- frames and places name each other
+-- frames and places name each other, and no page has the number 0
 pub record IsSound (s : State) : Type 0 where
   pub sizes : length s.pages ≡ length s.marks
   pub few : length s.marks ≤ 4096
   pub numbers : length s.places ≡ 65537
   pub there : (page i : ℕ) → place_of s page ≡ Some i → (i < length s.marks) × ((mark_at s i).page ≡ Some page)
   pub back : (i page : ℕ) → (mark_at s i).page ≡ Some page → place_of s page ≡ Some i
+  pub zero : place_of s 0 ≡ None
 
 -- the page has changes, and all are in gated batches
 abbrev pub IsWritable : State → ℕ → Type 0

@@ -146,6 +146,7 @@ impl Frames {
     pub(crate) fn settle(&mut self, i: usize, page: u32, level: u16, stamp: Option<u64>)
         requires frame { (i < length self.old.marks) × ((mark_at self.old i).page ≡ None) }
         requires page { (page ≤ PAGES) × (place_of self.old page ≡ None) }
+        requires number { 1 ≤ page }
         ensures { self.new ≡ settled self.old i page level stamp }
     {
         self.marks[i] = Mark {
@@ -168,6 +169,7 @@ impl Frames {
     /// Gives a clean frame to a page that isn't kept: blank, and with a change of a batch.
     pub(crate) fn create(&mut self, page: u32, level: u16, batch: u64)
         requires page { (page ≤ PAGES) × (kept self.old page ≡ None) }
+        requires number { 1 ≤ page }
         requires frame { 0 < clean_count self.old }
         ensures { Creates self.old self.new page level batch }
     {

@@ -8,7 +8,8 @@ ghost use Rattle.gx_pool.specs.Marks.{clean, empty, is_gated};
 ghost use Rattle.gx_pool.specs.State.{State, Kept, IsEmpty, IsSound, NoneDirty, AllKept, clean_count, holding, kept, mark_at, place_of, stamp_of, NoneClean, SomeClean, IsWritable};
 ghost use Rattle.gx_pool.specs.Creating.{Creates};
 ghost use Rattle.gx_pool.specs.Gated.{IsAreaSettled, KeepsArea, NamesGated};
-ghost use Rattle.gx_pool.specs.Writing.{WritesPage};
+ghost use Rattle.gx_pool.specs.Laws.{IsBacked, IsPassed};
+ghost use Rattle.gx_pool.specs.Writing.{WritesPage, KeepsShown};
 ghost use Rattle.gx_pool.specs.Bringing.{Brings, BringsOne, ComesAlone, HasImage, OnlyRead, faults_of, BringsAll};
 
 use crate::area::{PAGES, first_sector};
@@ -73,6 +74,7 @@ impl<T: PageTest> Pool<T> {
     fn admit(&mut self, i: usize, page: u32) -> bool
         requires frame { (i < length self.old.frames.marks) × (clean self.old.frames.held (mark_at self.old.frames i) ≡ true) }
         requires page { (page ≤ 65536) × (kept self.old.frames page ≡ None) }
+        requires number { 1 ≤ page }
         ensures brings { (d : Bool) (seen : List ℕ) → (d ≡ true → bytes_of seen page ≡ self.old.buffer.value) → Brings (T.passes self.old.test) d seen self.old.frames self.new.frames }
         ensures alone { ComesAlone self.old.frames self.new.frames page }
         ensures admitted { OnTrue result (IsSome (kept self.new.frames page)) }
@@ -198,12 +200,19 @@ impl<T: PageTest> Pool<T> {
     /// Whether it succeeds or not, no sector of another page changes. So where the sectors of all pages but some are settled,
     /// and the pages that may be written are among those, a crash at any moment of the call leaves each other page's bytes.
     ///
+    /// Whether it succeeds or not, each page is shown as before, where each clean page is what an honest device has: as its
+    /// last change, or what the device has. And each clean page is so then too.
+    ///
     /// Refused with `Device` where the device failed. The page is then kept as it was, with its changes.
     pub fn write_page<D: SectorDisk>(&mut self, disk: &mut D, page: u32) -> Result<(), PoolFault>
         requires { IsPage (D.state disk.old).sectors page }
         ensures idle { is_gated self.old.frames.gated (stamp_of (kept self.old.frames page)) ≡ false → (result ≡ Ok tt) × (self.new ≡ self.old) × (disk.new ≡ disk.old) }
         ensures written { (k : Kept) → kept self.old.frames page ≡ Some k → is_gated self.old.frames.gated k.stamp ≡ true → WritesPage (D.state disk.old) (D.state disk.new) self.old.frames self.new.frames page k result }
         ensures area { (named : ℕ → Bool) → (D.state disk.old).honest ≡ true → NamesGated named self.old.frames → IsAreaSettled named (D.state disk.old) → KeepsArea named (D.state disk.old) (D.state disk.new) }
+        ensures shown { (D.state disk.old).honest ≡ true → IsBacked self.old.frames (D.state disk.old).seen → KeepsShown (D.state disk.old) (D.state disk.new) self.old.frames self.new.frames }
+        ensures device { ((D.state disk.new).sectors ≡ (D.state disk.old).sectors) × ((D.state disk.new).honest ≡ (D.state disk.old).honest) }
+        ensures faults { (D.state disk.new).faults ≡ (D.state disk.old).faults + faults_of result }
+        ensures passing { IsPassed (T.passes self.old.test) self.old.frames → IsPassed (T.passes self.old.test) self.new.frames }
         ensures fault { OnErr result (result ≡ Err PoolFault.Device) }
         ensures test { self.new.test ≡ self.old.test }
     {
