@@ -1,5 +1,5 @@
 //! A caller of the log, as small as one can be: a batch is written, and a page in the midst of it.
-ghost use Rattle.std.specs.Prelude.{◌≡◌, ◌+◌, ◌/◌, ◌≤◌, ◌<◌, ◌++◌, ℕ, List, [], true, length, OnOk};
+ghost use Rattle.std.specs.Prelude.{◌≡◌, ◌+◌, ◌/◌, ◌≤◌, ◌<◌, ◌++◌, ℕ, List, [], true, length, OnOk, IfErr, MatchResult};
 ghost use Rattle.gx_disk.specs.Device.{Counts, Writes};
 ghost use Rattle.gx_disk.specs.Moments.{Leaves};
 ghost use Rattle.gx_record.specs.Format.{IsInRange, spelling};
@@ -18,6 +18,7 @@ use gx_record::Record;
 fn step<D: SectorDisk>(log: &mut Glog, disk: &mut D) -> Result<Stage, Refusal>
     requires { 4168 ≤ (D.state disk.old).sectors }
     ensures counts { Counts (calls_of result) (D.state disk.old) (D.state disk.new) result }
+    ensures refused { IfErr result (λ refusal. refusal ≡ Refusal.Device) }
     ensures goes { Goes log.old log.new result }
     ensures beside { (gated batch start : List ℕ) (first : ℕ) → (D.state disk.old).honest ≡ true
         → Beside gated batch first start log.old (D.state disk.old).seen (D.state disk.old).pending
@@ -40,6 +41,7 @@ fn write_page<D: SectorDisk>(
     requires device { first + 8 ≤ (D.state disk.old).sectors }
     requires size { length page.now ≡ 4096 }
     ensures counts { Counts 1 (D.state disk.old) (D.state disk.new) result }
+    ensures refused { IfErr result (λ refusal. refusal ≡ Refusal.Device) }
     ensures beside { (gated batch start : List ℕ) → (D.state disk.old).honest ≡ true
         → Beside gated batch first start log.now (D.state disk.old).seen (D.state disk.old).pending
         → Beside gated batch first start log.now (D.state disk.new).seen (D.state disk.new).pending }
@@ -57,6 +59,8 @@ fn write_page<D: SectorDisk>(
 // Three steps of the log.
 fn three_steps<D: SectorDisk>(log: &mut Glog, disk: &mut D) -> Result<(), Refusal>
     requires { 4168 ≤ (D.state disk.old).sectors }
+    ensures refused { IfErr result (λ refusal. refusal ≡ Refusal.Device) }
+    ensures faults { MatchResult result (λ _. (D.state disk.new).faults ≡ (D.state disk.old).faults) (λ _. (D.state disk.new).faults ≡ (D.state disk.old).faults + 1) }
     ensures ends { log.old.stage ≡ Stage.BodySync → OnOk result (Ends log.old log.new) }
     ensures beside { (gated batch start : List ℕ) (first : ℕ) → (D.state disk.old).honest ≡ true
         → Beside gated batch first start log.old (D.state disk.old).seen (D.state disk.old).pending
@@ -81,6 +85,8 @@ fn steps_round_page<D: SectorDisk>(
     requires place { 4168 ≤ first }
     requires device { first + 8 ≤ (D.state disk.old).sectors }
     requires size { length page.now ≡ 4096 }
+    ensures refused { IfErr result (λ refusal. refusal ≡ Refusal.Device) }
+    ensures faults { MatchResult result (λ _. (D.state disk.new).faults ≡ (D.state disk.old).faults) (λ _. (D.state disk.new).faults ≡ (D.state disk.old).faults + 1) }
     ensures ends { log.old.stage ≡ Stage.Idle → 1 ≤ length log.old.filling → OnOk result ((log.new.stage ≡ Stage.Idle) × (log.new.filling ≡ [])) }
     ensures beside { (gated batch start : List ℕ) → (D.state disk.old).honest ≡ true
         → Beside gated batch first start log.old (D.state disk.old).seen (D.state disk.old).pending
@@ -109,6 +115,8 @@ pub fn write_beside<D: SectorDisk>(
     requires place { 4168 ≤ first }
     requires device { first + 8 ≤ (D.state disk.old).sectors }
     requires size { length page.now ≡ 4096 }
+    ensures refused { IfErr result (λ refusal. refusal ≡ Refusal.Device) }
+    ensures faults { MatchResult result (λ _. (D.state disk.new).faults ≡ (D.state disk.old).faults) (λ _. (D.state disk.new).faults ≡ (D.state disk.old).faults + 1) }
     ensures batch { (D.state disk.old).honest ≡ true → IsReady first log.old (D.state disk.old).seen (D.state disk.old).pending
         → length log.old.filling + length (spelling (rec_of logged.now)) ≤ 32764
         → OnOk result (IsDone (gated_of log.old (D.state disk.old).seen) (log.old.filling ++ spelling (rec_of logged.now)) log.new (gated_of log.new (D.state disk.new).seen)) }

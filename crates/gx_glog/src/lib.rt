@@ -8,8 +8,6 @@ mod extent;
 mod filling;
 pub mod laws;
 mod stage;
-#[cfg(test)]
-mod tests;
 mod turn;
 pub mod turn_caller;
 

@@ -1,5 +1,5 @@
 //! A caller of a turn, as small as one can be: a page is written before each of its calls.
-ghost use Rattle.std.specs.Prelude.{◌≡◌, ◌+◌, ◌/◌, ◌≤◌, ℕ, List, [], true, length};
+ghost use Rattle.std.specs.Prelude.{◌≡◌, ◌+◌, ◌/◌, ◌≤◌, ℕ, List, [], true, length, IfErr, MatchResult};
 ghost use Rattle.gx_disk.specs.Device.{Counts, Writes};
 ghost use Rattle.gx_disk.specs.Moments.{Leaves};
 ghost use Rattle.gx_glog.specs.State.{Turns};
@@ -16,6 +16,8 @@ fn step<D: SectorDisk>(log: &mut Glog, disk: &mut D) -> Result<Turn, Refusal>
     requires quiet { log.old.filling ≡ [] }
     requires head { 1 ≤ length log.old.flight }
     requires device { 4168 ≤ (D.state disk.old).sectors }
+    ensures refused { IfErr result (λ refusal. refusal ≡ Refusal.Device) }
+    ensures faults { MatchResult result (λ _. (D.state disk.new).faults ≡ (D.state disk.old).faults) (λ _. (D.state disk.new).faults ≡ (D.state disk.old).faults + 1) }
     ensures turns { Turns log.old log.new result }
     ensures beside { (gated head start : List ℕ) (first : ℕ) → (D.state disk.old).honest ≡ true
         → TurnBeside gated head first start log.old (D.state disk.old).seen (D.state disk.old).pending
@@ -42,6 +44,8 @@ pub fn turn_step_beside<D: SectorDisk>(
     requires place { 4168 ≤ first }
     requires device { first + 8 ≤ (D.state disk.old).sectors }
     requires size { length page.now ≡ 4096 }
+    ensures refused { IfErr result (λ refusal. refusal ≡ Refusal.Device) }
+    ensures faults { MatchResult result (λ _. (D.state disk.new).faults ≡ (D.state disk.old).faults) (λ _. (D.state disk.new).faults ≡ (D.state disk.old).faults + 1) }
     ensures turns { Turns log.old log.new result }
     ensures beside { (gated head start : List ℕ) → (D.state disk.old).honest ≡ true
         → TurnBeside gated head first start log.old (D.state disk.old).seen (D.state disk.old).pending
