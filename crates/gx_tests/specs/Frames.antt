@@ -1,11 +1,12 @@
 -- What a caller of the frame pool leaves of three pages.
-use Rattle.std.specs.Prelude.{◌≡◌, ◌≢◌, ℕ, List, [], ◌∷◌, ◌++◌, Bool, Ok, Some}
+use Rattle.std.specs.Prelude.{◌≡◌, ◌≢◌, ◌≤◌, ℕ, List, [], ◌∷◌, ◌++◌, Bool, Ok, Some}
 use Rattle.gx_disk.specs.Device.{Device}
 use Rattle.gx_page.specs.Contents.{Contents}
 use Rattle.gx_page.specs.Format.{image_of}
 use Rattle.gx_pool.specs.Bringing.{Brings, BringsAll, OnlyRead}
 use Rattle.gx_pool.specs.Creating.{Creates}
 use Rattle.gx_pool.specs.Edits.{later}
+use Rattle.gx_pool.specs.Laws.{IsBacked, shown}
 use Rattle.gx_pool.specs.State.{State, Kept, holding, kept, stamp_of}
 
 -- a page has other contents, with that batch among its stamps, and no other page changed
@@ -45,3 +46,10 @@ pub record AddsSibling (passes : Contents → Bool) (d e : Device) (old new : St
 pub record OnlyBrings (passes : Contents → Bool) (d e : Device) (old new : State) (pages : List ℕ) : Type 0 where
   pub brings : Brings passes d.honest d.seen (holding old pages) new
   pub only_read : OnlyRead d e
+
+-- One page is shown with that sequence number, and else as before, as is each other page; and each page that is kept clean is
+-- what the device has.
+pub record ReadsAgain (seen now : List ℕ) (old new : State) (page nsn : ℕ) : Type 0 where
+  pub backed : IsBacked new now
+  pub changed : shown new now page ≡ record (shown old seen page) { nsn = nsn }
+  pub others : (q : ℕ) → 1 ≤ q → q ≢ page → shown new now q ≡ shown old seen q

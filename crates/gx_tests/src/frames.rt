@@ -1,8 +1,10 @@
-//! A caller of the frame pool, proved from its contracts and its law of a change: what a split will do with three pages.
-ghost use Rattle.std.specs.Prelude.{◌≡◌, ◌≤◌, ◌++◌, ◌∷◌, [], ℕ, List, None, IsSome, OnOk, OnErr};
+//! Callers of the frame pool, proved from its contracts and laws: what a split will do with three pages, and a page that is
+//! changed, written, and brought again.
+ghost use Rattle.std.specs.Prelude.{◌≡◌, ◌≤◌, ◌++◌, ◌∷◌, [], ℕ, List, None, true, IsSome, IfOk, OnOk, OnErr};
 ghost use Rattle.gx_pool.specs.Area.{IsPage};
+ghost use Rattle.gx_pool.specs.Laws.{IsBacked};
 ghost use Rattle.gx_pool.specs.State.{kept};
-ghost use Rattle.gx_tests.specs.Frames.{AddsSibling, AreThree, ChangesOne, ChangesThree, LogsThree, OnlyBrings};
+ghost use Rattle.gx_tests.specs.Frames.{AddsSibling, AreThree, ChangesOne, ChangesThree, LogsThree, OnlyBrings, ReadsAgain};
 
 use gx_disk::SectorDisk;
 use gx_pool::{PAGES, PageTest, Pool, PoolFault};
@@ -96,4 +98,26 @@ pub fn add_sibling<T: PageTest, D: SectorDisk>(
     pool.create(sibling, 0, batch);
     change_three(pool, node, parent, sibling, nsn, batch);
     Ok(())
+}
+
+/// Sets a page's sequence number as a change of a batch, has it written, brings another page, for which its frame may be
+/// used, and reads the number of the page brought again.
+pub fn change_and_read_again<T: PageTest, D: SectorDisk>(
+    pool: &mut Pool<T>,
+    disk: &mut D,
+    page: u32,
+    other: u32,
+    nsn: u64,
+    batch: u64,
+) -> Result<u64, PoolFault>
+    requires pages { IsPage (D.state disk.old).sectors page × IsPage (D.state disk.old).sectors other }
+    ensures { (D.state disk.old).honest ≡ true → IsBacked pool.old.frames (D.state disk.old).seen → IfOk result (λ read. (read ≡ nsn) × ReadsAgain (D.state disk.old).seen (D.state disk.new).seen pool.old.frames pool.new.frames page nsn) }
+{
+    pool.bring(disk, &[page])?;
+    set_nsn(pool, page, nsn, batch);
+    pool.gated(batch);
+    pool.write_page(disk, page)?;
+    pool.bring(disk, &[other])?;
+    pool.bring(disk, &[page])?;
+    Ok(pool.page(page).nsn())
 }

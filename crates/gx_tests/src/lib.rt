@@ -11,6 +11,7 @@ mod claims;
 mod claims_run;
 #[cfg(test)]
 mod classes;
+pub mod descents;
 #[cfg(test)]
 mod faults;
 pub mod frames;
@@ -20,6 +21,10 @@ mod intervals;
 mod large;
 #[cfg(test)]
 mod log;
+#[cfg(test)]
+mod log_faults;
+#[cfg(test)]
+mod log_reads;
 #[cfg(test)]
 mod memory;
 #[cfg(test)]
@@ -38,6 +43,10 @@ mod reaches;
 mod records;
 #[cfg(test)]
 mod scripts;
+#[cfg(test)]
+mod tree_rows;
+#[cfg(test)]
+mod tree_runs;
 #[cfg(test)]
 mod trees;
 #[cfg(test)]

@@ -14,7 +14,7 @@ const SECTORS: usize = 4232;
 const OTHER: [u8; 512] = [0xA7; 512];
 
 /// Makes the next call of a batch.
-pub(crate) fn step(log: &mut Glog, disk: &mut MemDisk) -> Result<Stage, Fail> {
+pub(crate) fn step<D: SectorDisk>(log: &mut Glog, disk: &mut D) -> Result<Stage, Fail> {
     if disk.sectors() < 4168 {
         return Err("a small device".into());
     }
@@ -73,8 +73,8 @@ pub(crate) fn with_counters(rt: &HostRuntime) -> Result<(MemDisk, Glog), Fail> {
     Ok((disk, log))
 }
 
-/// The first bytes of a sector.
-fn front(disk: &mut MemDisk, sector: u64) -> Result<[u8; 512], Fail> {
+/// The bytes of a sector.
+pub(crate) fn front(disk: &mut MemDisk, sector: u64) -> Result<[u8; 512], Fail> {
     if sector >= disk.sectors() {
         return Err("a sector".into());
     }

@@ -111,11 +111,10 @@ fn sweep<K: KeyClass>(rt: &impl Abort, page: &mut Page) {
     leaf_edits::sweep::<K, _>(page, |entry| entry.row % 2 == 0);
 }
 
-/// Splits a leaf, to page 9.
-fn split_leaf<K: KeyClass>(rt: &impl Abort, page: &mut Page, sides: &[bool], other: &mut Page) {
+/// Takes the pairs out of a leaf whose side is `true`.
+fn keep_pairs<K: KeyClass>(rt: &impl Abort, page: &mut Page, sides: &[bool]) {
     assert!(rt; sides.len() == pairs::<K>(rt, page));
-    other.reset(0, 9);
-    leaf_edits::split::<K>(page, sides, other);
+    leaf_edits::keep::<K>(page, sides);
 }
 
 fn put_child<K: Numbered>(rt: &impl Abort, page: &mut Page, n: u8, child: u8) {
@@ -129,11 +128,10 @@ fn set_bound<K: Numbered>(rt: &impl Abort, page: &mut Page, slot: usize, n: u8) 
     inner_edits::set_bound::<K>(page, slot, K::key(rt, n), 200);
 }
 
-/// Splits an inner node of level 3, to page 9.
-fn split_inner<K: KeyClass>(rt: &impl Abort, page: &mut Page, sides: &[bool], other: &mut Page) {
+/// Takes the children out of an inner node whose side is `true`.
+fn keep_children<K: KeyClass>(rt: &impl Abort, page: &mut Page, sides: &[bool]) {
     assert!(rt; sides.len() == children::<K>(rt, page));
-    other.reset(3, 9);
-    inner_edits::split::<K>(page, sides, other, 200);
+    inner_edits::keep::<K>(page, sides, 200);
 }
 
 /// Page 2 with a sequence number and a rightlink.
@@ -183,11 +181,13 @@ fn leaf_is_split<K: Numbered>(rt: &impl Abort, alloc: Global) -> Result<(), Fail
     for count in [0, 1, 99, 100] {
         start(&mut page, 0);
         start(&mut wanted, 0);
-        wanted_other.reset(0, 9);
-        let mut sides = [false; 100];
+        start(&mut wanted_other, 0);
+        let mut going = [false; 100];
+        let mut staying = [false; 100];
         for n in 0..count {
             let goes = n % 5 < 2;
-            sides[usize::from(n)] = goes;
+            going[usize::from(n)] = goes;
+            staying[usize::from(n)] = !goes;
             put_pair::<K>(rt, &mut page, n, n, false);
             if goes {
                 write_pair(rt, &mut wanted_other, K::bytes(n), n, 0);
@@ -195,7 +195,9 @@ fn leaf_is_split<K: Numbered>(rt: &impl Abort, alloc: Global) -> Result<(), Fail
                 write_pair(rt, &mut wanted, K::bytes(n), n, 0);
             }
         }
-        split_leaf::<K>(rt, &mut page, &sides[..usize::from(count)], &mut other);
+        other.copy_from(&page);
+        keep_pairs::<K>(rt, &mut page, &going[..usize::from(count)]);
+        keep_pairs::<K>(rt, &mut other, &staying[..usize::from(count)]);
         assert_eq!(rt; page.image(), wanted.image(), "stays of {count}");
         assert_eq!(rt; other.image(), wanted_other.image(), "goes of {count}");
     }
@@ -217,11 +219,13 @@ fn inner_edits_write<K: Numbered>(rt: &impl Abort, alloc: Global) -> Result<(), 
         assert_eq!(rt; page.image(), wanted.image(), "{count} children");
 
         start(&mut wanted, 3);
-        wanted_other.reset(3, 9);
-        let mut sides = [false; 100];
+        start(&mut wanted_other, 3);
+        let mut going = [false; 100];
+        let mut staying = [false; 100];
         for n in 0..count {
             let goes = n % 5 < 2;
-            sides[usize::from(n)] = goes;
+            going[usize::from(n)] = goes;
+            staying[usize::from(n)] = !goes;
             set_bound::<K>(rt, &mut page, usize::from(n), n + 100);
             if goes {
                 write_child(rt, &mut wanted_other, K::bytes(n + 100), 200 - n);
@@ -229,7 +233,9 @@ fn inner_edits_write<K: Numbered>(rt: &impl Abort, alloc: Global) -> Result<(), 
                 write_child(rt, &mut wanted, K::bytes(n + 100), 200 - n);
             }
         }
-        split_inner::<K>(rt, &mut page, &sides[..usize::from(count)], &mut other);
+        other.copy_from(&page);
+        keep_children::<K>(rt, &mut page, &going[..usize::from(count)]);
+        keep_children::<K>(rt, &mut other, &staying[..usize::from(count)]);
         assert_eq!(rt; page.image(), wanted.image(), "stays of {count}");
         assert_eq!(rt; other.image(), wanted_other.image(), "goes of {count}");
     }

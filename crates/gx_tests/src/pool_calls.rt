@@ -4,7 +4,7 @@ ghost use Rattle.gx_pool.specs.Area.{first_of};
 
 use crate::pool::{Leaves, is_there};
 use gx_disk::{Fuse, FuseDisk, MemDisk, SectorDisk};
-use gx_page::Page;
+use gx_page::{PAGE_SIZE, Page};
 use gx_pool::{AREA, PAGE_SECTORS, PAGES, Pool, PoolFault};
 use std::alloc::Global;
 use std::test::Fail;
@@ -93,6 +93,87 @@ fn sixteen_changed_pages_leave_no_clean_frame(rt: HostRuntime) -> Result<(), Fai
     assert_eq!(rt; nsn(&pool, 16), Some(16));
     assert_eq!(rt; bring(&mut pool, &mut disk, 1), None);
     assert_eq!(rt; nsn(&pool, 1), Some(1));
+    Ok(())
+}
+
+// A page's sequence number as `view` lends it.
+fn viewed<D: SectorDisk>(
+    pool: &mut Pool<Leaves>,
+    disk: &mut D,
+    page: u32,
+) -> Result<u64, PoolFault> {
+    if !is_there(disk, page) {
+        return Err(PoolFault::Damaged);
+    }
+    Ok(pool.view(disk, page)?.nsn())
+}
+
+// Gives a page that `change` lends a sequence number.
+fn changed<D: SectorDisk>(
+    pool: &mut Pool<Leaves>,
+    disk: &mut D,
+    page: u32,
+    batch: u64,
+    nsn: u64,
+) -> Result<(), PoolFault> {
+    if !is_there(disk, page) {
+        return Err(PoolFault::Damaged);
+    }
+    pool.change(disk, page, batch)?.set_nsn(nsn);
+    Ok(())
+}
+
+// Whether the device has the image of a blank leaf with a sequence number, byte for byte.
+fn has_leaf<D: SectorDisk>(alloc: Global, disk: &mut D, number: u32, nsn: u64) -> bool {
+    let Ok(mut page) = Page::fresh(alloc, 0, number) else {
+        return false;
+    };
+    page.set_nsn(nsn);
+    if !is_there(disk, number) {
+        return false;
+    }
+    let mut bytes = [0_u8; PAGE_SIZE];
+    disk.read(first_sector(number), &mut bytes).is_ok() && page.image() == bytes.as_slice()
+}
+
+// The same by `view` and `change`, with the device's bytes: none changes before its batch is gated and the page is written.
+#[test]
+fn no_page_is_written_before_its_batch_is_gated(rt: HostRuntime) -> Result<(), Fail> {
+    let mut disk = MemDisk::new(rt.alloc(), 4168 + 8 * 17)?;
+    let mut pool = Pool::with_capacity(rt.alloc(), 16, Leaves)?;
+    for p in 1..18_u32 {
+        assert!(rt; lay(rt.alloc(), &mut disk, p, 0, p));
+    }
+    for p in 1..17_u32 {
+        assert_eq!(rt;
+            changed(&mut pool, &mut disk, p, 3, 100 + u64::from(p)),
+            Ok(())
+        );
+    }
+    pool.gated(2);
+    assert_eq!(rt;
+        viewed(&mut pool, &mut disk, 17),
+        Err(PoolFault::NoCleanFrame)
+    );
+    assert_eq!(rt; pool.dirty(), None);
+    for p in 1..18_u32 {
+        assert_eq!(rt; write(&mut pool, &mut disk, p), None);
+        assert!(rt; has_leaf(rt.alloc(), &mut disk, p, 0));
+    }
+    pool.gated(3);
+    assert_eq!(rt; pool.dirty(), Some(1));
+    assert_eq!(rt; write(&mut pool, &mut disk, 1), None);
+    assert!(rt; has_leaf(rt.alloc(), &mut disk, 1, 101));
+    for p in 2..18_u32 {
+        assert!(rt; has_leaf(rt.alloc(), &mut disk, p, 0));
+    }
+    assert_eq!(rt; viewed(&mut pool, &mut disk, 17), Ok(0));
+    assert_eq!(rt; pool.dirty(), Some(2));
+    for p in 2..17_u32 {
+        assert_eq!(rt; viewed(&mut pool, &mut disk, p), Ok(100 + u64::from(p)));
+    }
+    assert_eq!(rt; viewed(&mut pool, &mut disk, 1), Ok(101));
+    assert_eq!(rt; kept_below(&pool, 18), 16);
     Ok(())
 }
 

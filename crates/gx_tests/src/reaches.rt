@@ -135,7 +135,7 @@ impl KeyClass for ReachClass {
 
     ghost union_covers_second = { λ a b _ _. Prim.grind (arith, nat_tests) };
 
-    ghost union_is_least = { λ a b c _ _ _ p q. Prim.grind (arith, nat_tests) };
+    ghost union_is_least = { λ a b c _ _ p q. Prim.grind (arith, nat_tests) };
 
     ghost split_leaves_each = { λ xs least one enough _. halves_leave_each (length xs) least enough };
 

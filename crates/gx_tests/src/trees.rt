@@ -5,19 +5,20 @@ use gx_geom::Box2;
 use gx_machine::{Entry, Query};
 use gx_page::Page;
 use gx_tree::{
-    Item, Look, MemoryPages, Pages, Sought, StepFault, Wanted, Way, look_step, seek_step, way_step,
+    Descended, Item, Look, MemoryPages, Pages, Sought, StepFault, Wanted, Way, descend_step,
+    look_step, seek_step, way_step,
 };
 use std::alloc::AllocError;
 use std::process::Abort;
 use std::test::Fail;
 
-type Corners = (i32, i32, i32, i32);
+pub(crate) type Corners = (i32, i32, i32, i32);
 
 /// A page of a tree: level, sequence number, rightlink.
 type Header = (u16, u64, u32);
 
 /// Nine boxes in a line, of the rows 1 to 9.
-const LINE: [Corners; 9] = [
+pub(crate) const LINE: [Corners; 9] = [
     (10, 0, 11, 1),
     (20, 0, 21, 1),
     (30, 0, 31, 1),
@@ -29,7 +30,7 @@ const LINE: [Corners; 9] = [
     (90, 0, 91, 1),
 ];
 
-fn a_box(rt: &impl Abort, corners: Corners) -> Box2 {
+pub(crate) fn a_box(rt: &impl Abort, corners: Corners) -> Box2 {
     let (x1, y1, x2, y2) = corners;
     Box2::new(x1, y1, x2, y2).ok().expect(rt, "a box")
 }
@@ -101,8 +102,39 @@ fn inner<R: Abort + AllocGlobal>(
     Ok(())
 }
 
+/// Pages that can be taken, whatever they hold.
+fn spare<R: AllocGlobal>(rt: &R, count: usize) -> Result<Vec<Page>, Fail> {
+    let mut pages = Vec::new(rt.alloc());
+    for _ in 0..count {
+        pages.push(Page::fresh(rt.alloc(), 9, 9)?)?;
+    }
+    Ok(pages)
+}
+
+/// These nodes, page 1 first, with so many splits made, and so many pages that can be taken.
+fn tree_of<R: Abort + AllocGlobal>(
+    rt: &R,
+    pages: Vec<Page>,
+    counter: u64,
+    more: usize,
+) -> Result<MemoryPages<Box2Class>, Fail> {
+    let tree = MemoryPages::new(pages, spare(rt, more)?, counter);
+    Ok(tree.ok().expect(rt, "a tree"))
+}
+
+/// A fresh tree, with so many pages that can be taken: a root over an empty leaf.
+pub(crate) fn fresh_tree<R: Abort + AllocGlobal>(
+    rt: &R,
+    more: usize,
+) -> Result<MemoryPages<Box2Class>, Fail> {
+    let mut pages = Vec::new(rt.alloc());
+    inner(rt, &mut pages, (1, 0, 0), &[(2, (0, 0, 0, 0))])?;
+    leaf(rt, &mut pages, (0, 0, 0), &[])?;
+    tree_of(rt, pages, 0, more)
+}
+
 /// The tree of the nine boxes, four entries a node: four leaves, two nodes above them, and the root.
-fn nine_rows<R: Abort + AllocGlobal>(rt: &R) -> Result<MemoryPages<Box2Class>, Fail> {
+pub(crate) fn nine_rows<R: Abort + AllocGlobal>(rt: &R) -> Result<MemoryPages<Box2Class>, Fail> {
     let mut pages = Vec::new(rt.alloc());
     inner(
         rt,
@@ -131,7 +163,7 @@ fn nine_rows<R: Abort + AllocGlobal>(rt: &R) -> Result<MemoryPages<Box2Class>, F
         (1, 0, 0),
         &[(4, (50, 0, 61, 1)), (5, (70, 0, 91, 1))],
     )?;
-    Ok(MemoryPages::new(pages, 3, 16).expect(rt, "seven nodes"))
+    tree_of(rt, pages, 3, 9)
 }
 
 /// One step, which is made.
@@ -217,11 +249,11 @@ fn held<R: Abort + AllocGlobal>(rt: &R) -> Result<MemoryPages<Box2Class>, Fail> 
     inner(rt, &mut pages, (1, 0, 0), &[(2, (0, 0, 101, 5))])?;
     let rows = [(1, (100, 4, 101, 5)), (2, (0, 0, 1, 1))];
     leaf(rt, &mut pages, (0, 0, 0), &rows)?;
-    Ok(MemoryPages::new(pages, 0, 16).expect(rt, "two nodes"))
+    tree_of(rt, pages, 0, 14)
 }
 
 /// The same tree once others have added five rows and split page 2 twice.
-fn split_twice<R: Abort + AllocGlobal>(rt: &R) -> Result<MemoryPages<Box2Class>, Fail> {
+pub(crate) fn split_twice<R: Abort + AllocGlobal>(rt: &R) -> Result<MemoryPages<Box2Class>, Fail> {
     let children = [
         (2, (100, 2, 101, 5)),
         (3, (0, 0, 101, 1)),
@@ -239,7 +271,7 @@ fn split_twice<R: Abort + AllocGlobal>(rt: &R) -> Result<MemoryPages<Box2Class>,
     leaf(rt, &mut pages, (0, 2, 4), &second)?;
     leaf(rt, &mut pages, (0, 0, 0), &third)?;
     leaf(rt, &mut pages, (0, 1, 3), &fourth)?;
-    Ok(MemoryPages::new(pages, 2, 16).expect(rt, "four nodes"))
+    tree_of(rt, pages, 2, 12)
 }
 
 // The search has read the root when page 2 is split. It reads the pages 2, 4 and 3, and finds the row that was in page 2.
@@ -313,6 +345,48 @@ fn a_descent_goes_down(rt: HostRuntime) -> Result<(), Fail> {
             way_step(&mut pages, &Item::new(4, 2), &near, 3),
             Ok(Way::FullLeaf)
         )
+    );
+    Ok(())
+}
+
+/// A step of a descent: the page and the number of the item to which it goes down.
+fn goes_down(
+    pages: &mut MemoryPages<Box2Class>,
+    item: &Item,
+    coming: &Box2,
+    most: usize,
+) -> Result<Option<(u32, u64)>, StepFault<()>> {
+    match descend_step(pages, item, coming, most)? {
+        Descended::Down(next) | Descended::Widened(next, _, _) => {
+            Ok(Some((next.page(), next.seen())))
+        }
+        _ => Ok(None),
+    }
+}
+
+// A step of a descent widens the bound by which it goes down, once, and remembers the child with the counter as it is.
+#[test]
+fn a_descent_widens_a_bound(rt: HostRuntime) -> Result<(), Fail> {
+    let mut pages = split_twice(&rt)?;
+    let far = a_box(&rt, (100, 9, 102, 12));
+    let root = Item::new(1, 1);
+    let down = Ok(Some((4, 2)));
+    assert_eq!(rt; goes_down(&mut pages, &root, &far, 4), down);
+    let widened = child_item(4, a_box(&rt, (100, 6, 102, 12)));
+    assert!(rt; pages.used() > 0);
+    let page = pages.page(1);
+    assert!(rt; page.count() > 2);
+    assert_eq!(rt; page.get(2), widened.as_slice());
+    assert_eq!(rt; goes_down(&mut pages, &root, &far, 4), down);
+    assert_eq!(rt; pages.counter(), 2);
+    // a leaf, a root without room, a page that was split since, and one that isn't there
+    assert_eq!(rt; goes_down(&mut pages, &Item::new(4, 2), &far, 4), Ok(None));
+    assert_eq!(rt; goes_down(&mut pages, &root, &far, 3), Ok(None));
+    assert_eq!(rt; goes_down(&mut pages, &Item::new(2, 1), &far, 4), Ok(None));
+    let absent = Item::new(5, 2);
+    assert_eq!(rt;
+        goes_down(&mut pages, &absent, &far, 4),
+        Err(StepFault::Damaged)
     );
     Ok(())
 }
