@@ -24,15 +24,15 @@ module _ {K : Type 0} (keys : List K) (i : ℕ) (key : K) (within : i < length k
   counted_none p fails = count_by_more_no p (enumerate_from 0 keys) i (0, key) slots_within (ap p slotted_at ∙ fails)
 
   -- one more key has its side
-  pub side_more : (cmp : K → K → Ordering) → IsTotalOrder cmp → (sides : List Bool) (n : ℕ) → length sides ≡ length keys → n ≡ place_among cmp keys (i, key)
-      → take i sides ≡ take i (halves_by_order cmp keys)
-      → take (i + 1) (slice_set sides i (nat_le (first_half (length keys)) n)) ≡ take (i + 1) (halves_by_order cmp keys)
-  side_more cmp total sides n long place before =
+  pub side_more : (cmp : K → K → Ordering) → IsTotalOrder cmp → (sides : List Bool) (n : ℕ) (side : Bool) → length sides ≡ length keys → n ≡ place_among cmp keys (i, key)
+      → side ≡ nat_le (first_half (length keys)) n → take i sides ≡ take i (halves_by_order cmp keys)
+      → take (i + 1) (slice_set sides i side) ≡ take (i + 1) (halves_by_order cmp keys)
+  side_more cmp total sides n side long place is_side before =
       let halves_long = sides_long cmp total keys in
-      take_more_set sides i (nat_le (first_half (length keys)) n) (omega (arith, long))
-      ∙ ap (λ (l : List Bool). l ++ nat_le (first_half (length keys)) n ∷ []) before
+      take_more_set sides i side (omega (arith, long))
+      ∙ ap (λ (l : List Bool). l ++ side ∷ []) before
       ∙ ap (λ (s : Bool). take i (halves_by_order cmp keys) ++ s ∷ [])
-      (ap (nat_le (first_half (length keys))) (place ∙ ap (λ (x : K). place_among cmp keys (i, x)) is) ∙ sym (side_at cmp total keys i key true within))
+      (is_side ∙ ap (nat_le (first_half (length keys))) (place ∙ ap (λ (x : K). place_among cmp keys (i, x)) is) ∙ sym (side_at cmp total keys i key true within))
       ∙ sym (take_more (halves_by_order cmp keys) i true (omega (arith, halves_long)))
 
 pub all_counted : {K : Type 0} (keys : List K) (i : ℕ) → length keys ≤ i → take i (enumerate_from 0 keys) ≡ enumerate_from 0 keys

@@ -1,14 +1,15 @@
 -- What holds of boxes as keys.
-use Rattle.std.proofs.Common.{◌≡◌, ℕ, ◌+◌, ◌*◌, ◌^◌, ◌<◌, ◌≤◌, ℤ, pos, negsuc, FitsSigned, true, refl, ap, sym, ◌∙◌, subst, arith, List, length, [], ◌∷◌, ◌++◌, take, drop, Some, Result, Ok, Err, IsOk, IfOk}
+use Rattle.std.proofs.Common.{◌≡◌, ℕ, ◌+◌, ◌*◌, ◌≤◌, ℤ, pos, FitsSigned, true, ◌&&◌, int_eq, refl, ap, sym, ◌∙◌, subst, arith, List, length, [], ◌∷◌, ◌++◌, take, drop, Some, Result, Ok, Err, IsOk, IfOk, IfSome}
 use Rattle.std.specs.Result.{result_ok}
 use Rattle.gx_geom.specs.declared.refusal.Refusal.{Refusal}
-use Rattle.std.specs.Int.{w32, cast_signed, cast_unsigned, from_be_bytes}
+use Rattle.std.specs.Int.{w32, cast_signed, from_be_bytes}
 use Rattle.std.specs.Ordering.{is_eq}
 use Rattle.std.specs.declared.cmp.Ordering.{Ordering}
 use Rattle.std.specs.declared.cmp.Ordering.TheVariants.{Less, Equal as Same, Greater}
-use Rattle.std.proofs.lemmas.Int.{ints, to_z-of_z}
+use Rattle.std.proofs.lemmas.Int.{ints}
+use Rattle.std.proofs.lemmas.Grind.{common_steps}
 use Rattle.std.proofs.lemmas.Nat.{from_be_bytes-to_be_bytes_4}
-use Rattle.std.proofs.lemmas.List.{append_assoc, append-nil, drop_all, length-append}
+use Rattle.std.proofs.lemmas.List.{append_assoc, append-nil, drop_all, length-append, take-append-drop}
 use Rattle.std.proofs.lemmas.Slice.{drop-append-drop}
 use lib.Seq.{take-append_seam}
 use Rattle.gx_geom.specs.Rectangles.{Rectangle, IsBox, union, area, overlaps, within, rectangle_cmp, rectangle_of}
@@ -18,6 +19,7 @@ use Rattle.gx_machine.specs.declared.query.Query.TheVariants.{Overlap, Within, E
 use Rattle.gx_machine.specs.Keys.{keys, key_matches}
 use Rattle.gx_split.specs.Split.{measure, split_sides}
 use Rattle.gx_split.proofs.Wastes.{fair_split}
+use Rattle.gx_class.specs.Numbers.{read_back as number_read_back, same_number as number_same}
 use Rattle.gx_class.specs.Sides.{LeavesEach}
 use Rattle.gx_class.specs.Boxes.{may_match, number_bytes, spelling}
 
@@ -89,6 +91,10 @@ same_order Less e = cc
 same_order Same e = refl
 same_order Greater e = cc
 
+-- boxes are equal where their corners are
+pub equal_tells : (a b : Rectangle) → (int_eq a.x1 b.x1 && (int_eq a.y1 b.y1 && (int_eq a.x2 b.x2 && int_eq a.y2 b.y2))) ≡ is_eq (rectangle_cmp a b)
+equal_tells a b = grind (arith, common_steps)
+
 pub match_is_consistent : (q : Query Rectangle) (k b : Rectangle) → IsBox k → key_matches (keys rectangle_cmp overlaps within) q k ≡ true → within k b ≡ true
     → may_match q b ≡ true
 match_is_consistent (Overlap q) k b is matched inside = overlap_covered k b q matched inside
@@ -114,17 +120,14 @@ length-spelling b =
     let y2 = length-number_bytes b.y2 in
     simp length-append (omega arith)
 
-unsigned_below : (z : ℤ) → FitsSigned w32 z → cast_unsigned w32 z < 2 ^ 32
-unsigned_below (pos n) fits = let f = fits.sfits in omega arith
-unsigned_below (negsuc n) fits = omega arith
-
 -- a number's bytes read as the number
 pub read_back : (z : ℤ) → FitsSigned w32 z → cast_signed w32 (from_be_bytes w32 (number_bytes z)) ≡ z
 unfolding number_bytes
-read_back z fits = ap (cast_signed w32) (from_be_bytes-to_be_bytes_4 (cast_unsigned w32 z) (unsigned_below z fits)) ∙ to_z-of_z w32 z fits
+read_back = number_read_back w32 from_be_bytes-to_be_bytes_4
 
 same_number : (y z : ℤ) → FitsSigned w32 y → FitsSigned w32 z → number_bytes y ≡ number_bytes z → y ≡ z
-same_number y z fits fits' e = sym (read_back y fits) ∙ ap (λ l. cast_signed w32 (from_be_bytes w32 l)) e ∙ read_back z fits'
+unfolding number_bytes
+same_number = number_same w32 from_be_bytes-to_be_bytes_4
 
 pub same_halves : (xs ys us vs : List ℕ) → length xs ≡ length us → xs ++ ys ≡ us ++ vs → (xs ≡ us) × (ys ≡ vs)
 same_halves [] ys [] vs l e = (refl, e)
@@ -185,3 +188,13 @@ put_all out one two three four a b c d room la lb lc ld is1 is2 is3 is4 =
 pub answer_is : {A : Type 0} (r : Result A Refusal) (key : A) → IsOk r → IfOk r (λ a. a ≡ key) → result_ok r ≡ Some key
 answer_is (Ok a) key ok is = ap Some is
 answer_is (Err e) key ok is = cc
+
+-- what holds of the answer, if it is one
+pub holds_of_answer : {A : Type 0} (P : A → Type 0) (r : Result A Refusal) (key : A) → IfOk r (λ a. a ≡ key) → (IsOk r → P key) → IfSome (result_ok r) P
+holds_of_answer P (Ok a) key is holds = subst P (sym is) (holds refl)
+holds_of_answer P (Err e) key is holds = tt
+
+-- bytes in two halves
+pub halves_join : (bytes front back xs ys : List ℕ) (n : ℕ) → front ≡ take n bytes → back ≡ drop n bytes → front ≡ xs → back ≡ ys → bytes ≡ xs ++ ys
+halves_join bytes front back xs ys n is_front is_back first second =
+    sym (take-append-drop n bytes) ∙ ap (λ l. l ++ drop n bytes) (sym is_front ∙ first) ∙ ap (λ l. xs ++ l) (sym is_back ∙ second)

@@ -1,8 +1,8 @@
 -- What holds of intervals as keys.
-use Rattle.std.proofs.Common.{◌≡◌, ℕ, ◌*◌, ◌^◌, ◌<◌, ◌≤◌, ℤ, pos, negsuc, FitsSigned, true, refl, ap, sym, ◌∙◌, subst, arith, List, length}
+use Rattle.std.proofs.Common.{◌≡◌, ℕ, ◌*◌, ◌≤◌, ℤ, pos, FitsSigned, true, refl, ap, ◌∙◌, subst, arith, List, length}
 use Rattle.std.specs.Prelude.{◌≤ℤ◌, ◌-ℤ◌, unsigned_abs}
-use Rattle.std.specs.Int.{w64, int_min, int_max, cast_signed, cast_unsigned, from_be_bytes}
-use Rattle.std.proofs.lemmas.Int.{ints, to_z-of_z}
+use Rattle.std.specs.Int.{w64, int_min, int_max, cast_signed, from_be_bytes}
+use Rattle.std.proofs.lemmas.Int.{ints}
 use Rattle.std.proofs.lemmas.Nat.{from_be_bytes-to_be_bytes_8}
 use Rattle.std.proofs.lemmas.Cmp.{on_total, then_total, int_cmp_total}
 use Rattle.std.proofs.lemmas.List.{length-append}
@@ -17,6 +17,7 @@ use Rattle.gx_class.specs.BoxKeyLaws.{same_order, same_halves}
 use Rattle.gx_class.specs.Halving.{halves_by_order}
 use Rattle.gx_class.specs.HalvingLaws.{halved_in_order}
 use Rattle.gx_class.specs.Intervals.{may_match, long_bytes, spelling}
+use Rattle.gx_class.specs.Numbers.{read_back as number_read_back, same_number as number_same}
 use Rattle.gx_class.specs.Sides.{LeavesEach}
 
 pub start_is_interval : IsInterval (span_of (pos 0) (pos 0))
@@ -71,17 +72,14 @@ length-spelling a =
     let hi = length-long_bytes a.hi in
     simp length-append (omega arith)
 
-unsigned_below : (z : ℤ) → FitsSigned w64 z → cast_unsigned w64 z < 2 ^ 64
-unsigned_below (pos n) fits = let f = fits.sfits in omega arith
-unsigned_below (negsuc n) fits = omega arith
-
 -- a number's bytes read as the number
 pub read_back : (z : ℤ) → FitsSigned w64 z → cast_signed w64 (from_be_bytes w64 (long_bytes z)) ≡ z
 unfolding long_bytes
-read_back z fits = ap (cast_signed w64) (from_be_bytes-to_be_bytes_8 (cast_unsigned w64 z) (unsigned_below z fits)) ∙ to_z-of_z w64 z fits
+read_back = number_read_back w64 from_be_bytes-to_be_bytes_8
 
 same_number : (y z : ℤ) → FitsSigned w64 y → FitsSigned w64 z → long_bytes y ≡ long_bytes z → y ≡ z
-same_number y z fits fits' e = sym (read_back y fits) ∙ ap (λ l. cast_signed w64 (from_be_bytes w64 l)) e ∙ read_back z fits'
+unfolding long_bytes
+same_number = number_same w64 from_be_bytes-to_be_bytes_8
 
 -- ends whose numbers fit are those of their bytes
 pub same_spelling : (a b : Span) → FitsSigned w64 a.lo → FitsSigned w64 a.hi → IsInterval b → spelling a ≡ spelling b → a ≡ b

@@ -1,7 +1,8 @@
 -- Intervals as keys: which bounds may hold a match, what a choice costs, and how an interval is written.
-use Rattle.std.specs.Prelude.{ℕ, ◌-◌, ◌==◌, ℤ, int_le, Bool, ◌&&◌, if◌then◌else◌, List, ◌++◌, length, take, drop, Option, Some, None}
+use Rattle.std.specs.Prelude.{ℕ, ◌-◌, ◌==◌, ℤ, int_le, Bool, true, false, ◌&&◌, if◌then◌else◌, List, ◌++◌, length, take, drop, Option, Some, None}
 use Rattle.std.specs.Int.{w64, cast_unsigned, cast_signed, to_be_bytes, from_be_bytes}
-use Rattle.gx_geom.specs.Spans.{Span, span_of, meets, lies_in, hull, size}
+use Rattle.gx_geom.specs.Spans.{Span, span_of, span_cmp, meets, lies_in, hull, size}
+use Rattle.gx_machine.specs.Keys.{keys, key_matches}
 use Rattle.gx_machine.specs.declared.query.Query.{Query}
 use Rattle.gx_machine.specs.declared.query.Query.TheVariants.{Overlap, Within, Equal}
 
@@ -10,6 +11,11 @@ abbrev pub may_match : Query Span → Span → Bool
 may_match (Overlap q) bound = meets bound q
 may_match (Within q) bound = meets bound q
 may_match (Equal q) bound = lies_in q bound
+
+-- whether an interval passes, as a bound or as an entry's key
+abbrev pub interval_passes : (of_bounds : Bool) → Query Span → Span → Bool
+interval_passes true query bound = may_match query bound
+interval_passes false query key = key_matches (keys span_cmp meets lies_in) query key
 
 -- by how much the bound's size grows, and the bound's size
 abbrev pub cost : Span → Span → ℕ × ℕ

@@ -8,5 +8,6 @@ pub mod HalvingLaws
 pub mod IntervalKeyLaws
 pub mod IntervalReadings
 pub mod Intervals
+pub mod Numbers
 pub mod Probes
 pub mod Sides

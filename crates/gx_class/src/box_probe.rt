@@ -19,34 +19,35 @@ pub struct BoxProbe {
 }
 
 impl BoxProbe {
+    /// Passed by boxes of which each corner lies between its two limits.
+    fn between(low: [i32; 4], high: [i32; 4]) -> BoxProbe
+        ensures { limits result.low result.high ≡ limits low high }
+    {
+        BoxProbe { low, high }
+    }
+
     /// Passed by boxes that share a point with this one.
     fn meeting(q: &Box2) -> BoxProbe
         ensures { limits result.low result.high ≡ meeting q.now }
     {
-        BoxProbe {
-            low: [i32::MIN, i32::MIN, q.x1(), q.y1()],
-            high: [q.x2(), q.y2(), i32::MAX, i32::MAX],
-        }
+        let low = [i32::MIN, i32::MIN, q.x1(), q.y1()];
+        BoxProbe::between(low, [q.x2(), q.y2(), i32::MAX, i32::MAX])
     }
 
     /// Passed by boxes that lie in this one.
     fn lying_in(q: &Box2) -> BoxProbe
         ensures { limits result.low result.high ≡ lying_in q.now }
     {
-        BoxProbe {
-            low: [q.x1(), q.y1(), i32::MIN, i32::MIN],
-            high: [i32::MAX, i32::MAX, q.x2(), q.y2()],
-        }
+        let low = [q.x1(), q.y1(), i32::MIN, i32::MIN];
+        BoxProbe::between(low, [i32::MAX, i32::MAX, q.x2(), q.y2()])
     }
 
     /// Passed by boxes that this one lies in.
     fn covering(q: &Box2) -> BoxProbe
         ensures { limits result.low result.high ≡ covering q.now }
     {
-        BoxProbe {
-            low: [i32::MIN, i32::MIN, q.x2(), q.y2()],
-            high: [q.x1(), q.y1(), i32::MAX, i32::MAX],
-        }
+        let low = [i32::MIN, i32::MIN, q.x2(), q.y2()];
+        BoxProbe::between(low, [q.x1(), q.y1(), i32::MAX, i32::MAX])
     }
 
     /// Passed by this box alone.
@@ -54,10 +55,7 @@ impl BoxProbe {
         ensures { limits result.low result.high ≡ limits (corners q.now) (corners q.now) }
     {
         let corners = [q.x1(), q.y1(), q.x2(), q.y2()];
-        BoxProbe {
-            low: corners,
-            high: corners,
-        }
+        BoxProbe::between(corners, corners)
     }
 }
 

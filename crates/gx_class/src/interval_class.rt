@@ -1,5 +1,5 @@
 //! The class of intervals of whole numbers.
-ghost use Rattle.std.specs.Prelude.{◌≡◌, ◌+◌, ◌<◌, ◌≤◌, ◌/◌, ◌++◌, length, IsTrue, ◌↔◌};
+ghost use Rattle.std.specs.Prelude.{◌≡◌, ◌+◌, ◌<◌, ◌≤◌, ◌/◌, ◌++◌, length, nat_le, IsTrue, ◌↔◌};
 ghost use Rattle.gx_geom.specs.Spans.{IsInterval, span_of, span_cmp, hull, size};
 ghost use Rattle.gx_class.specs.Halving.{comes_before, place_among};
 ghost use Rattle.gx_class.specs.Intervals.{long_bytes, spelling, reading, may_match, cost};
@@ -41,6 +41,13 @@ fn place(keys: &[Interval], slot: usize, key: &Interval) -> usize
         }
     }
     before
+}
+
+/// Whether a place is past the first half.
+fn is_past(place: usize, first: usize) -> bool
+    ensures { result ≡ nat_le first place }
+{
+    place >= first
 }
 
 impl KeyClass for IntervalClass {
@@ -115,7 +122,7 @@ impl KeyClass for IntervalClass {
     fn pick_split(keys: &[Interval], _least: usize, sides: &mut [bool]) {
         let first = (keys.len() + 1) / 2;
         for (slot, key) in keys.iter().enumerate() {
-            sides[slot] = place(keys, slot, key) >= first;
+            sides[slot] = is_past(place(keys, slot, key), first);
         }
     }
 

@@ -5,6 +5,7 @@ mod box2_class;
 mod box_probe;
 mod class;
 mod interval_class;
+mod interval_probe;
 pub mod laws;
 mod probe;
 
@@ -12,4 +13,5 @@ pub use box_probe::BoxProbe;
 pub use box2_class::Box2Class;
 pub use class::{KeyClass, MAX_KEY};
 pub use interval_class::IntervalClass;
+pub use interval_probe::IntervalProbe;
 pub use probe::Probing;

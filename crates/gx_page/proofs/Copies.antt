@@ -1,5 +1,5 @@
 -- Bytes copied one by one: what the list is after each, and what waits of a block while its bytes are written.
-use Rattle.std.proofs.Common.{◌≡◌, ℕ, suc, ◌+◌, ◌-◌, ◌<◌, ◌≤◌, List, [], ◌∷◌, ◌++◌, length, take, drop, set, get_or, sym, ap, ◌∙◌, arith, append_assoc, length-append, length-take, length-drop}
+use Rattle.std.proofs.Common.{◌≡◌, ℕ, suc, ◌+◌, ◌-◌, ◌^◌, ◌<◌, ◌≤◌, List, [], ◌∷◌, ◌++◌, length, take, drop as drop-list, set, get_or, refl, sym, ap, ◌∙◌, arith, append_assoc, length-append, length-take, length-drop, w8}
 use Rattle.std.proofs.lemmas.List.{get_or-take, get_or-drop}
 use Rattle.std.proofs.lemmas.List.Edits.{drop-paste, paste_more}
 use lib.ListN.{get_or-append}
@@ -10,12 +10,16 @@ use base.Fml.{GName, Lft, Share, flft, fobor, fbor, fobs, fauth}
 use types.SemTy.{Body}
 use seplogic.Ra.Ura.{Ura}
 use types.Logic.{Logic, sem}
-use types.Kit.{‵, ◌⊛◌, ◌$◌, ◌∵◌, !, qed, move, split, split3, use1, use2, updating, now, done}
+use types.Kit.{Goal, Item, Step, step, ‵, ◌⊛◌, ◌$◌, ◌∵◌, !, qed, move, drop, split, split3, use1, use2, rewrite, updating, now, done}
 use types.Mut.{close_ref}
 use denote.Builtin.{u8}
-use denote.Index.{row}
-use denote.Memory.{mem, part_at}
+use denote.Index.{row, others, place_byte, elem_put}
+use denote.Laws.{Is}
+use denote.Memory.{cell_at, mem, part_at, shares}
+use denote.Plain.{uint_Makes}
 use denote.RattleType.{RattleType}
+use denote.Steps.{owned}
+use mir.Val.{vint}
 use denote.RawPtr.{block_ptr}
 use Rattle.gx_page.specs.Lending.{with_bytes}
 use Rattle.gx_page.specs.Ownership.{the_bytes}
@@ -29,7 +33,7 @@ R = block.the_row
 pub paste_before : (d s : List ℕ) (at n k : ℕ) → k < at → at ≤ length d → get_or (paste d at s n) k 0 ≡ get_or d k 0
 paste_before d s at n k low fits =
     let front = length-take at d in let both = length-append (take at d) (take n s) in
-    get_or-append (take at d ++ take n s) (drop (at + n) d) 0 k (omega arith) ∙ get_or-append (take at d) (take n s) 0 k (omega arith) ∙ get_or-take at d k 0 low
+    get_or-append (take at d ++ take n s) (drop-list (at + n) d) 0 k (omega arith) ∙ get_or-append (take at d) (take n s) 0 k (omega arith) ∙ get_or-take at d k 0 low
 
 pub paste_behind : (d s : List ℕ) (at n k : ℕ) → at + n ≤ k → at ≤ length d → n ≤ length s → get_or (paste d at s n) k 0 ≡ get_or d k 0
 paste_behind d s at n k high fits full =
@@ -39,35 +43,43 @@ paste_behind d s at n k high fits full =
 
 -- a paste goes on by one element at its front
 pub paste_front : (d : List ℕ) (f g f' g' n n' : ℕ) → f' ≡ suc f → g' ≡ suc g → n' ≡ suc n → f < length d → g < length d
-    → set (paste d g' (drop f' d) n) g (get_or d f 0) ≡ paste d g (drop f d) n'
+    → set (paste d g' (drop-list f' d) n) g (get_or d f 0) ≡ paste d g (drop-list f d) n'
 paste_front d f g f' g' n n' is_f is_g is_n inside room =
-    let a : List ℕ = take g d in let y : ℕ = get_or d g 0 in let x : ℕ = get_or d f 0 in let m : List ℕ = take n (drop (suc f) d) in let r : List ℕ = drop (suc g + n) d in
+    let a : List ℕ = take g d in let y : ℕ = get_or d g 0 in let x : ℕ = get_or d f 0 in let m : List ℕ = take n (drop-list (suc f) d) in let r : List ℕ = drop-list (suc g + n) d in
     let front : length a ≡ g = omega (arith, length-take g d) in
-    let cut : paste d g' (drop f' d) n ≡ a ++ y ∷ (m ++ r) = ap (λ (k : ℕ). paste d k (drop f' d) n) is_g ∙ ap (λ (k : ℕ). paste d (suc g) (drop k d) n) is_f
+    let cut : paste d g' (drop-list f' d) n ≡ a ++ y ∷ (m ++ r) = ap (λ (k : ℕ). paste d k (drop-list f' d) n) is_g ∙ ap (λ (k : ℕ). paste d (suc g) (drop-list k d) n) is_f
     ∙ ap (λ (l : List ℕ). (l ++ m) ++ r) (take-suc d g 0 room) ∙ ap (λ (l : List ℕ). l ++ r) (append_assoc a (y ∷ []) m) ∙ append_assoc a (y ∷ m) r in
-    let joined : (a ++ take (suc n) (drop f d)) ++ drop (suc g + n) d ≡ (a ++ x ∷ m) ++ r = ap (λ (l : List ℕ). (a ++ take (suc n) l) ++ r) (drop-cons d f 0 inside) in
+    let joined : (a ++ take (suc n) (drop-list f d)) ++ drop-list (suc g + n) d ≡ (a ++ x ∷ m) ++ r = ap (λ (l : List ℕ). (a ++ take (suc n) l) ++ r) (drop-cons d f 0 inside) in
     let end : g + n' ≡ suc g + n = omega (arith, is_n) in
     ap (λ (l : List ℕ). set l g x) cut ∙ set_at a y (m ++ r) x g front ∙ sym (append_assoc a (x ∷ m) r) ∙ sym joined
-    ∙ ap (λ (k : ℕ). (a ++ take (suc n) (drop f d)) ++ drop k d) (sym end) ∙ ap (λ (k : ℕ). (a ++ take k (drop f d)) ++ drop (g + n') d) (sym is_n)
+    ∙ ap (λ (k : ℕ). (a ++ take (suc n) (drop-list f d)) ++ drop-list k d) (sym end) ∙ ap (λ (k : ℕ). (a ++ take k (drop-list f d)) ++ drop-list (g + n') d) (sym is_n)
 
 -- a copy to a place that isn't above goes from the first byte on, so that it reads ahead of what it wrote
 pub down_more : (d : List ℕ) (from dest i : ℕ) → dest ≤ from → from + i < length d
-    → set (paste d dest (drop from d) i) (dest + i) (get_or (paste d dest (drop from d) i) (from + i) 0) ≡ paste d dest (drop from d) (i + 1)
+    → set (paste d dest (drop-list from d) i) (dest + i) (get_or (paste d dest (drop-list from d) i) (from + i) 0) ≡ paste d dest (drop-list from d) (i + 1)
 down_more d from dest i down inside =
     let rest = length-drop from d in
-    ap (set (paste d dest (drop from d) i) (dest + i)) (paste_behind d (drop from d) dest i (from + i) (omega arith) (omega arith) (omega arith) ∙ sym (get_or-drop from d i 0))
-    ∙ paste_more d dest (drop from d) i 0 (omega arith) (omega arith)
+    ap (set (paste d dest (drop-list from d) i) (dest + i)) (paste_behind d (drop-list from d) dest i (from + i) (omega arith) (omega arith) (omega arith) ∙ sym (get_or-drop from d i 0))
+    ∙ paste_more d dest (drop-list from d) i 0 (omega arith) (omega arith)
 
 -- a copy to a place that isn't below goes from the last byte back: the bytes from the one at i on are copied
 abbrev pub copied_back : List ℕ → ℕ → ℕ → ℕ → ℕ → List ℕ
-copied_back d from dest count i = paste d (dest + i) (drop (from + i) d) (count - i)
+copied_back d from dest count i = paste d (dest + i) (drop-list (from + i) d) (count - i)
 
 pub up_more : (d : List ℕ) (from dest count i : ℕ) → from ≤ dest → 0 < i → i ≤ count → dest + count ≤ length d
     → set (copied_back d from dest count i) (dest + (i - 1)) (get_or (copied_back d from dest count i) (from + (i - 1)) 0) ≡ copied_back d from dest count (i - 1)
 up_more d from dest count i up some within room =
     let j : ℕ = i - 1 in
-    ap (set (copied_back d from dest count i) (dest + j)) (paste_before d (drop (from + i) d) (dest + i) (count - i) (from + j) (omega arith) (omega arith))
+    ap (set (copied_back d from dest count i) (dest + j)) (paste_before d (drop-list (from + i) d) (dest + i) (count - i) (from + j) (omega arith) (omega arith))
     ∙ paste_front d (from + j) (dest + j) (from + i) (dest + i) (count - i) (count - j) (omega arith) (omega arith) (omega arith) (omega arith) (omega arith)
+
+-- a byte that was written behind the pointer goes back among the others
+module _ {M : Type 1} {𝓤 : Ura M} {𝓛 : Logic 𝓤} {K : Type 0} {Γ : List (Item 𝓤)} {G : Goal 𝓤 𝓛.H} where
+  pub byte_put : K → (bytes : List ℕ) (i x old b o : ℕ) → i < length bytes → x < 2 ^ 8
+      → Step K 𝓛 (‵ (row u8 full_share (set bytes i x) b o) ∷ Γ) G (‵ (cell_at full_share u8.mir (vint w8 x ∷ []) b (i + o)) ∷ ‵ (u8.own_val old (vint w8 old ∷ [])) ∷ ‵ (others (shares u8) full_share bytes i b o) ∷ Γ) G
+  byte_put t bytes i x old b o inside fits = step (λ s.
+      rewrite t 0 (λ (p : ℕ). ‵ (cell_at full_share u8.mir (vint w8 x ∷ []) b p)) (sym (place_byte o i)) refl $ move t (1 ∷ []) $ drop t $
+      owned t u8 (Is u8) (uint_Makes 𝓛 w8) x (vint w8 x ∷ []) (refl, fits) $ move t (1 ∷ 0 ∷ []) $ elem_put t u8 full_share bytes i x (vint w8 x ∷ []) b o inside $ s)
 
 -- what waits while the bytes of a block at (b, o) are written: the rest of it, and its borrow, which is open
 module _ {M : Type 1} {𝓤 : Ura M} (𝓛 : Logic 𝓤) (κ : Lft) (q : Share) (γ : GName) (d : R.Denot) (at : ℕ × ℕ) (b o : ℕ) where

@@ -1,6 +1,6 @@
 -- The tests of given bytes pass for images, and for nothing else.
 use Rattle.std.proofs.Common.{◌≡◌, ℕ, zero, suc, ◌+◌, ◌-◌, ◌*◌, ◌^◌, ◌<◌, ◌≤◌, Bool, true, false, ◌&&◌, cond, not, List, [], ◌∷◌, ◌++◌, Option, Some, None, inl, inr, length, take, drop, map, get_or, refl, sym, ap, ◌∙◌, subst, arith, length-take, length-drop, take-append-drop, eqb, leb, lit<, lit≤, eq-eqb}
-use Rattle.std.specs.Prelude.{◌↔◌, slice_range}
+use Rattle.std.specs.Prelude.{◌↔◌, slice_range, Result, Ok, Err, IfOk, IfErr}
 use lib.Seq.{take-add}
 use Rattle.std.proofs.lemmas.Bool.{eqb-true, leb-true, le-leb}
 use Rattle.std.proofs.lemmas.List.{drop-drop, get_or-take, get_or-drop, get_or_past, take_all}
@@ -238,6 +238,11 @@ image_faultless v w = faultless (image_of v) (record { size = length-image v w.f
 
 pub faultless_is_image : (bytes : List ℕ) → AreBytes bytes → (fault_of bytes ≡ None) ↔ IsImage bytes
 faultless_is_image bytes are = (is_image bytes are, λ i. ap fault_of (sym i.image) ∙ image_faultless (read_of bytes) i.well_formed)
+
+-- a block that became an image, or stayed one, is one
+pub load_keeps : (result : Result (Unit {0}) PageFault) (ys b b' : List ℕ) → AreBytes ys → IsImage b → IfOk result (λ _. (fault_of ys ≡ None) × (b' ≡ ys)) → IfErr result (λ fault. (fault_of ys ≡ Some fault) × (b' ≡ b)) → IsImage b'
+load_keeps (Ok _) ys b b' are i loaded kept = subst IsImage (sym loaded.1) (is_image ys are loaded.0)
+load_keeps (Err _) ys b b' are i loaded kept = subst IsImage (sym kept.1) i
 
 -- ---- where the free bytes are
 

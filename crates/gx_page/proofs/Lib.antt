@@ -1,6 +1,7 @@
 pub mod Changes
 pub mod Copies
 pub mod Faultless
+pub mod Firsts
 pub mod Images
 pub mod Memory
 pub mod Moves

@@ -27,9 +27,6 @@ pub number_in : (bytes : List ℕ) → number_32_at bytes 20 ≡ (read_of bytes)
 unfolding read_of
 number_in bytes = refl
 
-pub image_back : (bytes : List ℕ) → IsImage bytes → image_of (read_of bytes) ≡ bytes
-image_back bytes i = i.image
-
 pub image_fits : (bytes : List ℕ) → IsImage bytes → 32 + 4 * length (read_of bytes).items + total (read_of bytes).items ≤ 4096
 image_fits bytes i = i.well_formed.fits
 
@@ -52,11 +49,6 @@ total-take-suc [] zero = omega arith
 total-take-suc [] (suc j) = omega arith
 total-take-suc (x ∷ items) zero = omega arith
 total-take-suc (x ∷ items) (suc j) = omega (arith, total-take-suc items j)
-
-pub total-take-le : (items : List (List ℕ)) (n : ℕ) → total (take n items) ≤ total items
-total-take-le items zero = omega arith
-total-take-le [] (suc n) = omega arith
-total-take-le (x ∷ items) (suc n) = omega (arith, total-take-le items n)
 
 -- a slot of an image: where its bytes begin, and how many they are
 pub record Placed (bytes : List ℕ) (j : ℕ) : Type 0 where

@@ -11,7 +11,8 @@ use Rattle.gx_page.specs.Format.{image_of, header, directory, heap, total, Fits,
 use Rattle.gx_page.specs.Reading.{read_of, IsImage}
 use Rattle.gx_page.specs.Sizes.{AllOfLength}
 use Rattle.gx_page.proofs.Images.{length-heap, length-image, image_front, range_mid}
-use Rattle.gx_page.proofs.Parts.{total-take-le, total-take-suc}
+use Rattle.gx_page.proofs.Parts.{total-take-suc}
+use Rattle.gx_page.proofs.Slots.{total-take-le}
 use Rattle.gx_page.proofs.Changes.{heap-append, item_at}
 
 -- ---- the heap

@@ -43,13 +43,21 @@ pub lowest_none : (end : ℕ) → lowest end [] ≡ Some end
 unfolding lowest
 lowest_none end = refl
 
-pub lowest_more : (bytes : List ℕ) (n j end : ℕ) → j < n → 1 ≤ number_16_at bytes (32 + 4 * j + 2) → number_16_at bytes (32 + 4 * j) + number_16_at bytes (32 + 4 * j + 2) ≡ end
-    → lowest end (entries (n - j) (drop (32 + 4 * j) bytes)) ≡ lowest (number_16_at bytes (32 + 4 * j)) (entries (n - (j + 1)) (drop (32 + 4 * (j + 1)) bytes))
-lowest_more bytes n j end h a b = ap (λ (es : List (ℕ × ℕ)). lowest end es) (entry_here bytes n j h) ∙ lowest_first end _ _ _ a b
+-- the slot at j, with its place and its size as the code has read them: it is in order, and the rest goes on below it
+pub lowest_goes : (bytes : List ℕ) (n j end place size : ℕ) (wanted : Option ℕ) → j < n → place ≡ number_16_at bytes (32 + 4 * j) → size ≡ number_16_at bytes (32 + 4 * j + 2) → (size ≡ 0 → ⊥) → place + size ≡ end
+    → lowest end (entries (n - j) (drop (32 + 4 * j) bytes)) ≡ wanted → lowest place (entries (n - (j + 1)) (drop (32 + 4 * (j + 1)) bytes)) ≡ wanted
+lowest_goes bytes n j end place size wanted h p s some ends inv =
+    let es = entries (n - (j + 1)) (drop (32 + 4 * (j + 1)) bytes) in
+    sym (lowest_first end place size es (omega arith) ends) ∙ ap (λ (m : ℕ). lowest end ((m, size) ∷ es)) p ∙ ap (λ (m : ℕ). lowest end ((number_16_at bytes (32 + 4 * j), m) ∷ es)) s ∙
+    ap (λ (xs : List (ℕ × ℕ)). lowest end xs) (sym (entry_here bytes n j h)) ∙ inv
 
-pub lowest_stops : (bytes : List ℕ) (n j end : ℕ) → j < n → (1 ≤ number_16_at bytes (32 + 4 * j + 2) → number_16_at bytes (32 + 4 * j) + number_16_at bytes (32 + 4 * j + 2) ≡ end → ⊥)
-    → lowest end (entries (n - j) (drop (32 + 4 * j) bytes)) ≡ None
-lowest_stops bytes n j end h bad = ap (λ (es : List (ℕ × ℕ)). lowest end es) (entry_here bytes n j h) ∙ lowest_bad end _ _ _ bad
+-- or it isn't, and there is no lowest place
+pub lowest_ends : (bytes : List ℕ) (n j end place size : ℕ) (wanted : Option ℕ) → j < n → place ≡ number_16_at bytes (32 + 4 * j) → size ≡ number_16_at bytes (32 + 4 * j + 2) → ((size ≡ 0 → ⊥) → place + size ≡ end → ⊥)
+    → lowest end (entries (n - j) (drop (32 + 4 * j) bytes)) ≡ wanted → None ≡ wanted
+lowest_ends bytes n j end place size wanted h p s bad inv =
+    let es = entries (n - (j + 1)) (drop (32 + 4 * (j + 1)) bytes) in
+    sym (lowest_bad end place size es (λ some ends. bad (λ none. absurd (omega arith)) ends)) ∙ ap (λ (m : ℕ). lowest end ((m, size) ∷ es)) p ∙ ap (λ (m : ℕ). lowest end ((number_16_at bytes (32 + 4 * j), m) ∷ es)) s ∙
+    ap (λ (xs : List (ℕ × ℕ)). lowest end xs) (sym (entry_here bytes n j h)) ∙ inv
 
 -- ---- a slot by its number
 
@@ -79,10 +87,10 @@ pub record Slot (v : Contents) (bytes : List ℕ) (j : ℕ) : Type 0 where
   pub size : number_16_at bytes (32 + 4 * j + 2) ≡ length (get_or v.items j [])
   pub within : total (take (suc j) v.items) ≤ total v.items
 
-total-take : (items : List (List ℕ)) (n : ℕ) → total (take n items) ≤ total items
-total-take items zero = omega arith
-total-take [] (suc n) = omega arith
-total-take (x ∷ items) (suc n) = omega (arith, total-take items n)
+pub total-take-le : (items : List (List ℕ)) (n : ℕ) → total (take n items) ≤ total items
+total-take-le items zero = omega arith
+total-take-le [] (suc n) = omega arith
+total-take-le (x ∷ items) (suc n) = omega (arith, total-take-le items n)
 
 image_entries : (v : Contents) → IsWellFormed v → entries (length v.items) (drop 32 (image_of v)) ≡ slots 4096 v.items
 unfolding image_of
@@ -93,7 +101,7 @@ pub slot_of : (v : Contents) → IsWellFormed v → (bytes : List ℕ) → bytes
 slot_of v w bytes e j h =
     let same : (number_16_at bytes (32 + 4 * j), number_16_at bytes (32 + 4 * j + 2)) ≡ (4096 - total (take (suc j) v.items), length (get_or v.items j [])) =
     sym (get_or-entries (length v.items) bytes 32 j h) ∙ ap (λ (xs : List ℕ). get_or (entries (length v.items) (drop 32 xs)) j nowhere) e ∙ ap (λ (es : List (ℕ × ℕ)). get_or es j nowhere) (image_entries v w) ∙ get_or-slots v.items 4096 j h in
-    record { place = ap (λ (p : ℕ × ℕ). p.0) same; size = ap (λ (p : ℕ × ℕ). p.1) same; within = total-take v.items (suc j) }
+    record { place = ap (λ (p : ℕ × ℕ). p.0) same; size = ap (λ (p : ℕ × ℕ). p.1) same; within = total-take-le v.items (suc j) }
 
 -- the bytes between the directory and the heap, by numbers that are the count and the heap's start
 pub free_part : (bytes : List ℕ) (count start : ℕ) → count ≡ number_16_at bytes 2 → start ≡ number_16_at bytes 4 → all_zero (slice_range bytes (32 + 4 * count) start) ≡ is_free_zero bytes

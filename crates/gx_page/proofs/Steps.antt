@@ -115,14 +115,11 @@ item_some b i im h =
 pub whole_read : (b : List ℕ) → IsImage b → slice_range b 0 4096 ≡ image_of (read_of b)
 whole_read b i = let size = image_size b i in take_all 4096 b (omega arith) ∙ sym i.image
 
-pub whole_written : (b ys : List ℕ) → IsImage ys → length b ≡ 4096 → overwrite b 0 ys ≡ ys
-whole_written b ys i size = ap (λ (zs : List ℕ). ys ++ zs) (drop_all (0 + length ys) b (omega (arith, image_size ys i))) ∙ append-nil ys
-
-pub zeros_written : (ys : List ℕ) → IsImage ys → overwrite (zeros 4096) 0 ys ≡ ys
-zeros_written ys i = whole_written (zeros 4096) ys i (length-zeros 4096)
+pub whole_written : (b ys : List ℕ) → length b ≡ 4096 → length ys ≡ 4096 → overwrite b 0 ys ≡ ys
+whole_written b ys h k = ap (λ (zs : List ℕ). ys ++ zs) (drop_all (0 + length ys) b (omega arith)) ∙ append-nil ys
 
 pub cleared : (b : List ℕ) → IsImage b → overwrite b 0 (zeros 4096) ≡ zeros 4096
-cleared b i = ap (λ (zs : List ℕ). zeros 4096 ++ zs) (drop_all (0 + length (zeros 4096)) b (omega (arith, image_size b i, length-zeros 4096))) ∙ append-nil (zeros 4096)
+cleared b i = whole_written b (zeros 4096) (image_size b i) (length-zeros 4096)
 
 -- three writes over zeros make the image of a page with no items
 pub blank_goes : (b b₁ b₂ b₃ : List ℕ) (level number : ℕ) → b ≡ zeros 4096 → level < 2 ^ 16 → number < 2 ^ 32

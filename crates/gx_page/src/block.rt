@@ -119,7 +119,6 @@ impl Block {
     }
 
     /// The number that two bytes spell, the greater first.
-    #[tactic(auto, using(crate::proofs::Pieces::number_at))]
     pub(crate) fn u16_at(&self, at: usize) -> u16
         requires { at + 2 ≤ PAGE_SIZE }
         ensures { result ≡ number_16_at self.now.bytes at }
@@ -159,14 +158,13 @@ impl Block {
     /// The same for a whole image: by one loan of the block, so that std copies it at once.
     pub(crate) fn write_many(&mut self, at: usize, bytes: &[u8])
         requires { at + length bytes.now ≤ PAGE_SIZE }
-        ensures { self.new.bytes ≡ overwrite self.old.bytes at bytes.now }
+        ensures { (self.new.bytes ≡ overwrite self.old.bytes at bytes.now) × (length self.old.bytes ≡ PAGE_SIZE) }
     {
         let end = at + bytes.len();
         self.bytes_mut()[at..end].copy_from_slice(bytes);
     }
 
     /// Spells a number in two bytes, the greater first.
-    #[tactic(auto, using(crate::proofs::Pieces::two_written))]
     pub(crate) fn set_u16(&mut self, at: usize, value: u16)
         requires { at + 2 ≤ PAGE_SIZE }
         ensures { self.new.bytes ≡ overwrite self.old.bytes at (spell_16 value) }

@@ -1,5 +1,5 @@
 //! The tests of given bytes, in the order of their faults.
-ghost use Rattle.std.specs.Prelude.{◌≡◌, ℕ, ◌+◌, ◌*◌, ◌≤◌, length, drop, slice_range, Some, None, MatchResult, ⊤, true};
+ghost use Rattle.std.specs.Prelude.{◌≡◌, ℕ, ◌+◌, ◌*◌, ◌≤◌, length, drop, slice_range, Some, None, IfNone, MatchResult, ⊤, true};
 ghost use Rattle.gx_page.specs.Bytes.{all_zero as every_zero, number_16_at, number_32_at};
 ghost use Rattle.gx_page.specs.Faults.{fault_of, lowest, is_reserved_zero as reserved_zero, is_directory as right_directory, is_free_zero as free_zero};
 ghost use Rattle.gx_page.specs.Reading.{IsImage, read_of, entries};
@@ -8,7 +8,6 @@ use crate::block::PAGE_SIZE;
 use crate::fault::PageFault;
 use crate::layout::{COUNT, DIRECTORY, LENGTH, NSN, SLOT, START};
 
-#[tactic(auto, using(crate::proofs::Pieces::number_at))]
 fn u16_at(bytes: &[u8], at: usize) -> u16
     requires { at + 2 ≤ length bytes.now }
     ensures { result ≡ number_16_at bytes.now at }
@@ -35,7 +34,6 @@ fn all_zero(bytes: &[u8]) -> bool
     bits == 0
 }
 
-#[tactic(auto, unfolding(crate::specs::Faults::is_reserved_zero))]
 fn is_reserved_zero(bytes: &[u8]) -> bool
     requires { length bytes.now ≡ PAGE_SIZE }
     ensures { result ≡ reserved_zero bytes.now }
@@ -44,7 +42,6 @@ fn is_reserved_zero(bytes: &[u8]) -> bool
 }
 
 /// Where the last slot's bytes begin, if each slot has a byte and ends where the one before begins.
-#[tactic(auto, using(crate::proofs::Slots::lowest_more, crate::proofs::Slots::lowest_stops, crate::proofs::Slots::lowest_none))]
 fn lowest_place(bytes: &[u8], count: usize) -> Option<usize>
     requires { (length bytes.now ≡ PAGE_SIZE) × (32 + 4 * count ≤ PAGE_SIZE) }
     ensures { result ≡ lowest 4096 (entries count (drop 32 bytes.now)) }
@@ -79,7 +76,7 @@ fn is_directory(bytes: &[u8]) -> bool
     }
 }
 
-#[tactic(auto, using(crate::proofs::Faultless::directory_room, crate::proofs::Faultless::directory_within), unfolding(crate::specs::Faults::is_free_zero))]
+#[tactic(auto, using(crate::proofs::Faultless::directory_room, crate::proofs::Faultless::directory_within))]
 fn is_free_zero(bytes: &[u8]) -> bool
     requires { (length bytes.now ≡ PAGE_SIZE) × (right_directory bytes.now ≡ true) }
     ensures { result ≡ free_zero bytes.now }
@@ -88,16 +85,11 @@ fn is_free_zero(bytes: &[u8]) -> bool
     all_zero(&bytes[end..usize::from(u16_at(bytes, START))])
 }
 
-/// The first fault of the bytes, if they have one.
-pub(crate) fn first_fault(bytes: &[u8]) -> Option<PageFault>
-    ensures { result ≡ fault_of bytes.now }
+/// The first fault behind the header: of the directory, or of the free bytes.
+fn fault_behind(bytes: &[u8]) -> Option<PageFault>
+    requires { length bytes.now ≡ PAGE_SIZE }
+    ensures { reserved_zero bytes.now ≡ true → result ≡ fault_of bytes.now }
 {
-    if bytes.len() != PAGE_SIZE {
-        return Some(PageFault::Size);
-    }
-    if !is_reserved_zero(bytes) {
-        return Some(PageFault::Reserved);
-    }
     if !is_directory(bytes) {
         return Some(PageFault::Directory);
     }
@@ -105,4 +97,18 @@ pub(crate) fn first_fault(bytes: &[u8]) -> Option<PageFault>
         return Some(PageFault::Free);
     }
     None
+}
+
+/// The first fault of the bytes, if they have one.
+pub(crate) fn first_fault(bytes: &[u8]) -> Option<PageFault>
+    ensures fault { result ≡ fault_of bytes.now }
+    ensures size { IfNone result (length bytes.now ≡ PAGE_SIZE) }
+{
+    if bytes.len() != PAGE_SIZE {
+        return Some(PageFault::Size);
+    }
+    if !is_reserved_zero(bytes) {
+        return Some(PageFault::Reserved);
+    }
+    fault_behind(bytes)
 }

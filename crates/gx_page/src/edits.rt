@@ -1,13 +1,16 @@
 //! Edits of a block that is an image. Each leaves the image of the edited contents.
-ghost use Rattle.std.specs.Prelude.{◌≡◌, ℕ, ◌+◌, ◌*◌, ◌<◌, ◌≤◌, [], length, slice_index_or, slice_set};
+ghost use Rattle.std.specs.Prelude.{◌≡◌, ℕ, ◌+◌, ◌*◌, ◌<◌, ◌≤◌, [], length, IfOk, IfErr, None, Some, slice_index_or, slice_set};
 ghost use Rattle.gx_page.specs.Bytes.{zeros};
 ghost use Rattle.std.specs.List.{insert, remove};
 ghost use Rattle.gx_page.specs.Edits.{blank, with_items};
+ghost use Rattle.gx_page.specs.Faults.{fault_of};
 ghost use Rattle.gx_page.specs.Format.{total};
 ghost use Rattle.gx_page.specs.Reading.{IsImage, read_of};
 
 use crate::block::{Block, PAGE_SIZE};
+use crate::check::first_fault;
 use crate::directory::{close_slot, count_of, end_of, open_slot, place_of, size_of, start_of};
+use crate::fault::PageFault;
 use crate::layout::{COUNT, NUMBER, START};
 
 /// Writes a level and a number over zeros, which makes the image of a page with no items.
@@ -29,6 +32,18 @@ pub(crate) fn reset(block: &mut Block, level: u16, number: u32)
 {
     block.clear(0, PAGE_SIZE);
     write_blank(block, level, number);
+}
+
+/// Becomes the image that bytes are, or refuses them with their first fault and stays as it was.
+pub(crate) fn load(block: &mut Block, bytes: &[u8]) -> Result<(), PageFault>
+    ensures loaded { IfOk result (λ _. (fault_of bytes.now ≡ None) × (block.new.bytes ≡ bytes.now)) }
+    ensures fault { IfErr result (λ fault. (fault_of bytes.now ≡ Some fault) × (block.new.bytes ≡ block.old.bytes)) }
+{
+    if let Some(fault) = first_fault(bytes) {
+        return Err(fault);
+    }
+    block.write_many(0, bytes);
+    Ok(())
 }
 
 /// Puts an item in front of a slot, where it fits. The items from that slot on move down by one copy.

@@ -66,13 +66,14 @@ impl Page {
 
     /// The page whose image the bytes are.
     /// Refused with the first fault of the bytes, and after all tests with `Memory` where there is none for the block.
-    #[tactic(auto, using(crate::proofs::Steps::zeros_written))]
     pub fn from_image(alloc: Global, bytes: &[u8]) -> Result<Page, PageFault>
         ensures page { IfOk result (λ page. (fault_of bytes.now ≡ None) × IsImage bytes.now × (page ≡ read_of bytes.now)) }
         ensures fault { IfErr result (λ fault. (fault_of bytes.now ≡ Some fault) ⊎ ((fault_of bytes.now ≡ None) × (fault ≡ PageFault.Memory))) }
         ensures faultless { (fault_of bytes.now ≡ None) ↔ IsImage bytes.now }
     {
-        Page::check(bytes)?;
+        if let Some(fault) = first_fault(bytes) {
+            return Err(fault);
+        }
         let Ok(mut block) = Block::fresh(alloc) else {
             return Err(PageFault::Memory);
         };
@@ -82,15 +83,12 @@ impl Page {
 
     /// Becomes the page whose image the bytes are, with no memory taken.
     /// Refused with the first fault of the bytes, and the page is then as it was.
-    #[tactic(auto, using(crate::proofs::Steps::whole_written, crate::proofs::Parts::image_size))]
     pub fn load(&mut self, bytes: &[u8]) -> Result<(), PageFault>
         ensures loaded { IfOk result (λ _. (fault_of bytes.now ≡ None) × IsImage bytes.now × (self.new ≡ read_of bytes.now)) }
         ensures fault { IfErr result (λ fault. (fault_of bytes.now ≡ Some fault) × (self.new ≡ self.old)) }
         ensures faultless { (fault_of bytes.now ≡ None) ↔ IsImage bytes.now }
     {
-        Self::check(bytes)?;
-        self.block.write_many(0, bytes);
-        Ok(())
+        edits::load(&mut self.block, bytes)
     }
 
     /// The own number of the page whose image the bytes are, with no memory taken.
@@ -147,7 +145,6 @@ impl Page {
 
     /// Puts an item of 1 to 4,060 bytes in front of a slot, or behind the last.
     /// False where the page has no room for it and its slot, and the page is then as it was.
-    #[tactic(auto, using(crate::proofs::Steps::inserted_size))]
     pub fn insert(&mut self, slot: usize, bytes: &[u8]) -> bool
         requires slot { slot ≤ length self.old.items }
         requires item { (1 ≤ length bytes.now) × (length bytes.now ≤ 4060) }

@@ -1,5 +1,5 @@
 -- One placement: what is kept after it stands for the groups after it.
-use Rattle.std.proofs.Common.{◌≡◌, ℕ, suc, ◌+◌, ◌<◌, Bool, true, false, refl, ap, sym, ◌∙◌, subst, arith, add-one, List, length, [], ◌∷◌, ◌++◌, map, get_or, take, drop, Some, slice_get, slice_set, slice_index, remove, All}
+use Rattle.std.proofs.Common.{◌≡◌, ℕ, suc, ◌+◌, ◌<◌, Bool, true, false, refl, ap, sym, ◌∙◌, subst, arith, add-one, List, length, [], ◌∷◌, ◌++◌, map, get_or, take, drop, Some, slice_get, slice_index, remove, All}
 use Rattle.std.specs.Int.{abs_diff}
 use Rattle.std.proofs.lemmas.List.{get_or-map, length-map, map-append, take-map, drop-map}
 use Rattle.std.proofs.lemmas.List.Edits.{length-remove}
@@ -8,7 +8,7 @@ use Rattle.std.proofs.lemmas.Simd.{map-map}
 use Rattle.gx_split.specs.declared.waiting.Waiting.{Waiting}
 use Rattle.gx_split.specs.declared.waiting.Covers.{Covers}
 use Rattle.gx_split.specs.Split.{Measure, Groups, growth, growth_at, difference, first_greatest, goes_second, next_place, put, place_one, placed}
-use Rattle.gx_split.specs.Waiting.{slot_of, gap_of, with_first, with_second, groups_of, IsFresh, IsKept}
+use Rattle.gx_split.specs.Waiting.{slot_of, gap_of, covers_with, with_growth, sides_with, groups_of, IsFresh, IsKept}
 
 pub remove-map : {X Y : Type 0} (f : X → Y) (xs : List X) (i : ℕ) → remove (map f xs) i ≡ map f (remove xs i)
 remove-map f xs i =
@@ -62,64 +62,65 @@ pub next_is_fresh : {K : Type 0} (m : Measure K) (keys : List K) (c : Covers K) 
     → place < length ws → next ≡ get_or ws place next → IsFresh m keys c next
 next_is_fresh m keys c ws place next kept within is_next = subst (IsFresh m keys c) (sym is_next) (kept.fresh place next within)
 
-pub placed_second : {K : Type 0} (m : Measure K) (keys : List K) (c c' : Covers K) (ws ws' : List (Waiting K)) (sides : List Bool) (least place : ℕ) (next : Waiting K) → IsKept m keys c ws
-    → place < length ws → place ≡ first_greatest (map gap_of ws) → next ≡ get_or ws place next → true ≡ goes_second m (groups_of c ws []) least next.first next.second
-    → c' ≡ record c { second = m.join c.second next.key.now; in_second = c.in_second + 1 } → ws' ≡ map (with_second m c'.second) (remove ws place)
-    → groups_of c' ws' (slice_set sides next.slot true) ≡ place_one m keys least (groups_of c ws sides)
-placed_second m keys c c' ws ws' sides least place next kept within is_place is_next is_side covers waiting =
-    let is = next_is_fresh m keys c ws place next kept within is_next in
-    let rest : map slot_of ws' ≡ remove (map slot_of ws) place =
-    ap (map slot_of) waiting ∙ map-map slot_of (with_second m c'.second) (remove ws place) ∙ sym (remove-map slot_of ws place)
-    in
-    rw (chosen m keys c ws sides least place next true kept.fresh is within is_place is_next is_side, is.key, covers, rest)
+pub grown_second : {K : Type 0} (m : Measure K) (c : Covers K) (w : Waiting K) (n : ℕ) (t : Bool) → t ≡ true → n ≡ growth m c.second (Some w.key.now)
+    → record w { second = n } ≡ with_growth m t c w
+grown_second m c w n true is e = ap (λ k. record w { second = k }) e
+grown_second m c w n false is e = cc
 
-pub placed_first : {K : Type 0} (m : Measure K) (keys : List K) (c c' : Covers K) (ws ws' : List (Waiting K)) (sides : List Bool) (least place : ℕ) (next : Waiting K) → IsKept m keys c ws
-    → place < length ws → place ≡ first_greatest (map gap_of ws) → next ≡ get_or ws place next → false ≡ goes_second m (groups_of c ws []) least next.first next.second
-    → c' ≡ record c { first = m.join c.first next.key.now; in_first = c.in_first + 1 } → ws' ≡ map (with_first m c'.first) (remove ws place)
-    → groups_of c' ws' sides ≡ place_one m keys least (groups_of c ws sides)
-placed_first m keys c c' ws ws' sides least place next kept within is_place is_next is_side covers waiting =
+pub grown_first : {K : Type 0} (m : Measure K) (c : Covers K) (w : Waiting K) (n : ℕ) (t : Bool) → t ≡ false → n ≡ growth m c.first (Some w.key.now)
+    → record w { first = n } ≡ with_growth m t c w
+grown_first m c w n true is e = cc
+grown_first m c w n false is e = ap (λ k. record w { first = k }) e
+
+-- the slots that wait stay what they are, and the one at the place goes
+rest_is : {K : Type 0} (m : Measure K) (t : Bool) (c : Covers K) (ws : List (Waiting K)) (place : ℕ)
+    → map slot_of (map (with_growth m t c) (remove ws place)) ≡ remove (map slot_of ws) place
+rest_is m true c ws place = map-map slot_of (with_growth m true c) (remove ws place) ∙ sym (remove-map slot_of ws place)
+rest_is m false c ws place = map-map slot_of (with_growth m false c) (remove ws place) ∙ sym (remove-map slot_of ws place)
+
+put_is : {K : Type 0} (m : Measure K) (keys : List K) (c : Covers K) (ws ws' : List (Waiting K)) (sides : List Bool) (place slot : ℕ) (key : K) (t : Bool)
+    → slice_get keys slot ≡ Some key → map slot_of ws' ≡ remove (map slot_of ws) place
+    → groups_of (covers_with m t c key) ws' (sides_with t sides slot) ≡ put m keys (groups_of c ws sides) place slot t
+put_is m keys c ws ws' sides place slot key true is rest = rw (is, rest)
+put_is m keys c ws ws' sides place slot key false is rest = rw (is, rest)
+
+-- what is kept after a placement stands for the groups after it
+pub placed_by : {K : Type 0} (m : Measure K) (keys : List K) (c c' : Covers K) (ws ws' : List (Waiting K)) (sides sides' : List Bool) (least place : ℕ) (next : Waiting K) (t : Bool)
+    → IsKept m keys c ws → place < length ws → place ≡ first_greatest (map gap_of ws) → next ≡ get_or ws place next
+    → t ≡ goes_second m (groups_of c ws []) least next.first next.second
+    → c' ≡ covers_with m t c next.key.now → ws' ≡ map (with_growth m t c') (remove ws place) → sides' ≡ sides_with t sides next.slot
+    → groups_of c' ws' sides' ≡ place_one m keys least (groups_of c ws sides)
+placed_by m keys c c' ws ws' sides sides' least place next t kept within is_place is_next is_side covers waiting marks =
     let is = next_is_fresh m keys c ws place next kept within is_next in
-    let rest : map slot_of ws' ≡ remove (map slot_of ws) place =
-    ap (map slot_of) waiting ∙ map-map slot_of (with_first m c'.first) (remove ws place) ∙ sym (remove-map slot_of ws place)
-    in
-    rw (chosen m keys c ws sides least place next false kept.fresh is within is_place is_next is_side, is.key, covers, rest)
+    let rest = ap (map slot_of) waiting ∙ rest_is m t c' ws place in
+    ap (λ k. groups_of k ws' sides') covers ∙ ap (λ s. groups_of (covers_with m t c next.key.now) ws' s) marks
+    ∙ put_is m keys c ws ws' sides place next.slot next.key.now t is.key rest
+    ∙ sym (chosen m keys c ws sides least place next t kept.fresh is within is_place is_next is_side)
+
+-- a key is fresh beside the new cover of one group
+fresh_by : {K : Type 0} (m : Measure K) (keys : List K) (c : Covers K) (key : K) (t : Bool) (w : Waiting K) → IsFresh m keys c w
+    → IsFresh m keys (covers_with m t c key) (with_growth m t (covers_with m t c key) w)
+fresh_by m keys c key true w is = record { key = is.key; within = is.within; first = is.first; second = refl }
+fresh_by m keys c key false w is = record { key = is.key; within = is.within; first = refl; second = is.second }
+
+one_more : {K : Type 0} (m : Measure K) (c : Covers K) (key : K) (t : Bool) → (covers_with m t c key).in_first + (covers_with m t c key).in_second ≡ c.in_first + c.in_second + 1
+one_more m c key true = omega arith
+one_more m c key false = omega arith
 
 -- what is kept stays so
-pub kept_second : {K : Type 0} (m : Measure K) (keys : List K) (c c' : Covers K) (ws ws' : List (Waiting K)) (place : ℕ) (cover : K) → IsKept m keys c ws → place < length ws
-    → c' ≡ record c { second = cover; in_second = c.in_second + 1 } → ws' ≡ map (with_second m c'.second) (remove ws place)
-    → IsKept m keys c' ws'
-kept_second m keys c c' ws ws' place cover kept h covers waiting =
-    let n = length-remove ws place h in
-    let same_first : c'.first ≡ c.first = rw covers in
-    let first_count : c'.in_first ≡ c.in_first = rw covers in
-    let second_count : c'.in_second ≡ c.in_second + 1 = rw covers in
-    let same_length : length ws' ≡ length (remove ws place) = ap length waiting ∙ length-map (remove ws place) (with_second m c'.second) in
-    let again = All-weaker (IsFresh m keys c) (λ w. IsFresh m keys c' (with_second m c'.second w))
-    (λ w is. record { key = is.key; within = is.within; first = rw same_first is.first; second = refl })
-    (remove ws place) (All-remove (IsFresh m keys c) ws place kept.fresh)
-    in
-    record {
-      fresh = subst (All (IsFresh m keys c')) (sym waiting) (All-map (IsFresh m keys c') (with_second m c'.second) (remove ws place) again);
-      counted = let before = kept.counted in omega arith;
-    }
-
-pub kept_first : {K : Type 0} (m : Measure K) (keys : List K) (c c' : Covers K) (ws ws' : List (Waiting K)) (place : ℕ) (cover : K) → IsKept m keys c ws → place < length ws
-    → c' ≡ record c { first = cover; in_first = c.in_first + 1 } → ws' ≡ map (with_first m c'.first) (remove ws place)
-    → IsKept m keys c' ws'
-kept_first m keys c c' ws ws' place cover kept h covers waiting =
-    let n = length-remove ws place h in
-    let same_second : c'.second ≡ c.second = rw covers in
-    let first_count : c'.in_first ≡ c.in_first + 1 = rw covers in
-    let second_count : c'.in_second ≡ c.in_second = rw covers in
-    let same_length : length ws' ≡ length (remove ws place) = ap length waiting ∙ length-map (remove ws place) (with_first m c'.first) in
-    let again = All-weaker (IsFresh m keys c) (λ w. IsFresh m keys c' (with_first m c'.first w))
-    (λ w is. record { key = is.key; within = is.within; first = refl; second = rw same_second is.second })
-    (remove ws place) (All-remove (IsFresh m keys c) ws place kept.fresh)
-    in
-    record {
-      fresh = subst (All (IsFresh m keys c')) (sym waiting) (All-map (IsFresh m keys c') (with_first m c'.first) (remove ws place) again);
-      counted = let before = kept.counted in omega arith;
-    }
+pub kept_by : {K : Type 0} (m : Measure K) (keys : List K) (c c' : Covers K) (ws ws' : List (Waiting K)) (place : ℕ) (key : K) (t : Bool) → IsKept m keys c ws → place < length ws
+    → c' ≡ covers_with m t c key → ws' ≡ map (with_growth m t c') (remove ws place) → IsKept m keys c' ws'
+kept_by m keys c c' ws ws' place key t kept h covers waiting =
+    let after = covers_with m t c key in
+    let grown = with_growth m t after in
+    let left = remove ws place in
+    let all : ws' ≡ map grown left = waiting ∙ ap (λ k. map (with_growth m t k) left) covers in
+    let less = length-remove ws place h in
+    let more = one_more m c key t in
+    let before = kept.counted in
+    let again = All-weaker (IsFresh m keys c) (λ w. IsFresh m keys after (grown w)) (fresh_by m keys c key t) left (All-remove (IsFresh m keys c) ws place kept.fresh) in
+    subst (λ k. IsKept m keys k ws') (sym covers)
+    (subst (IsKept m keys after) (sym all) (record { fresh = All-map (IsFresh m keys after) grown left again; counted = omega (arith, less, length-map left grown, more, before) }))
 
 pub placed-none : {K : Type 0} (m : Measure K) (keys : List K) (least : ℕ) (g : Groups K) → placed m keys least g 0 ≡ g
 unfolding placed

@@ -1,19 +1,18 @@
 -- One step more of each fold of the split.
-use Rattle.std.proofs.Common.{◌≡◌, ℕ, ◌+◌, ◌-◌, ◌<◌, ℤ, ◌≤◌, slice_index, true, false, cond, refl, ap, sym, ◌∙◌, add-one, arith, List, length}
+use Rattle.std.proofs.Common.{◌≡◌, ℕ, ◌+◌, ◌-◌, ◌<◌, ℤ, slice_index, Bool, true, false, cond, refl, ap, sym, ◌∙◌, subst, add-one, arith, ◌^◌, List, length, [], ◌∷◌, ◌++◌, All, Some, map, slice_get, take, get_or}
 use Rattle.std.specs.Prelude.{int_lt, nat_lt}
-use Rattle.std.proofs.lemmas.Bool.Decides.{nat_tests}
+use Rattle.std.proofs.lemmas.List.{get_or-map, length-map, map-append, take_more}
+use Rattle.std.proofs.lemmas.List.Elements.{All-push}
+use Rattle.std.proofs.lemmas.Option.{slice_get-get_or}
+use Rattle.gx_split.specs.declared.choice.Spread.{Spread}
+use Rattle.gx_split.specs.declared.seeds.Candidate.{Candidate}
+use Rattle.gx_split.specs.Sizes.{IsSizes}
 use Rattle.gx_split.specs.Split.{Pair, pair, worse, worst_in_row, worst_in_rows, worst_pair, greatest_upto, first_greatest}
 
-nat_lt_yes : (a b : ℕ) → a < b → nat_lt a b ≡ true
-nat_lt_yes a b h = grind (arith, nat_tests)
-
-nat_lt_no : (a b : ℕ) → b ≤ a → nat_lt a b ≡ false
-nat_lt_no a b h = grind (arith, nat_tests)
-
-pub worse_second : (w : ℕ → ℕ → ℤ) (p q : Pair) (a b : ℤ) → a ≡ w p.lower p.higher → b ≡ w q.lower q.higher → int_lt a b ≡ true → worse w p q ≡ q
+worse_second : (w : ℕ → ℕ → ℤ) (p q : Pair) (a b : ℤ) → a ≡ w p.lower p.higher → b ≡ w q.lower q.higher → int_lt a b ≡ true → worse w p q ≡ q
 worse_second w p q a b pw qw h = ap (λ t. cond t q p) (ap (λ x. int_lt x (w q.lower q.higher)) (sym pw) ∙ ap (int_lt a) (sym qw) ∙ h)
 
-pub worse_first : (w : ℕ → ℕ → ℤ) (p q : Pair) (a b : ℤ) → a ≡ w p.lower p.higher → b ≡ w q.lower q.higher → int_lt a b ≡ false → worse w p q ≡ p
+worse_first : (w : ℕ → ℕ → ℤ) (p q : Pair) (a b : ℤ) → a ≡ w p.lower p.higher → b ≡ w q.lower q.higher → int_lt a b ≡ false → worse w p q ≡ p
 worse_first w p q a b pw qw h = ap (λ t. cond t q p) (ap (λ x. int_lt x (w q.lower q.higher)) (sym pw) ∙ ap (int_lt a) (sym qw) ∙ h)
 
 pub worst_in_row-none : (w : ℕ → ℕ → ℤ) (best : Pair) (i : ℕ) → worst_in_row w best i 0 ≡ best
@@ -36,16 +35,42 @@ pub worst_pair-is : (w : ℕ → ℕ → ℤ) (n : ℕ) → worst_pair w n ≡ w
 unfolding worst_pair
 worst_pair-is w n = refl
 
--- a row's loop takes the other pair, or keeps the worst
-pub row_takes : (w : ℕ → ℕ → ℤ) (best worst other : Pair) (i k : ℕ) (a b : ℤ) → worst ≡ worst_in_row w best i k → other ≡ pair i (i + 1 + k)
-    → a ≡ w worst.lower worst.higher → b ≡ w i (i + 1 + k) → int_lt a b ≡ true → other ≡ worst_in_row w best i (k + 1)
-row_takes w best worst other i k a b is_worst is_other aw bw h =
-    is_other ∙ sym (worse_second w worst (pair i (i + 1 + k)) a b aw bw h) ∙ ap (λ p. worse w p (pair i (i + 1 + k))) is_worst ∙ sym (worst_in_row-more w best i k)
+-- the first worst of a row so far, with its waste
+pub record IsWorstInRow (w : ℕ → ℕ → ℤ) (n : ℕ) (best : Pair) (i k : ℕ) (worst : Candidate) : Type 0 where
+  pub slots : pair worst.lower worst.higher ≡ worst_in_row w best i k
+  pub wastes : worst.waste ≡ w worst.lower worst.higher
+  pub in_order : worst.lower < worst.higher
+  pub within : worst.higher < n
 
-pub row_keeps : (w : ℕ → ℕ → ℤ) (best worst : Pair) (i k : ℕ) (a b : ℤ) → worst ≡ worst_in_row w best i k
-    → a ≡ w worst.lower worst.higher → b ≡ w i (i + 1 + k) → int_lt a b ≡ false → worst ≡ worst_in_row w best i (k + 1)
-row_keeps w best worst i k a b is_worst aw bw h =
-    sym (worse_first w worst (pair i (i + 1 + k)) a b aw bw h) ∙ ap (λ p. worse w p (pair i (i + 1 + k))) is_worst ∙ sym (worst_in_row-more w best i k)
+row_by : (w : ℕ → ℕ → ℤ) (n : ℕ) (best : Pair) (i k : ℕ) (worst other : Candidate) (t : Bool) → int_lt worst.waste other.waste ≡ t → IsWorstInRow w n best i k worst
+    → other.lower ≡ i → other.higher ≡ i + 1 + k → other.waste ≡ w other.lower other.higher → i + 1 + k < n → IsWorstInRow w n best i (k + 1) (cond t other worst)
+row_by w n best i k worst other true h is lower higher wastes inside = record {
+  slots =
+      sym (worse_second w (pair worst.lower worst.higher) (pair other.lower other.higher) worst.waste other.waste is.wastes wastes h)
+      ∙ ap (λ p. worse w p (pair other.lower other.higher)) is.slots
+      ∙ ap (λ j. worse w (worst_in_row w best i k) (pair j other.higher)) lower ∙ ap (λ j. worse w (worst_in_row w best i k) (pair i j)) higher
+      ∙ sym (worst_in_row-more w best i k);
+  wastes = wastes;
+  in_order = omega arith;
+  within = omega arith;
+}
+row_by w n best i k worst other false h is lower higher wastes inside = record {
+  slots =
+      sym (worse_first w (pair worst.lower worst.higher) (pair other.lower other.higher) worst.waste other.waste is.wastes wastes h)
+      ∙ ap (λ p. worse w p (pair other.lower other.higher)) is.slots
+      ∙ ap (λ j. worse w (worst_in_row w best i k) (pair j other.higher)) lower ∙ ap (λ j. worse w (worst_in_row w best i k) (pair i j)) higher
+      ∙ sym (worst_in_row-more w best i k);
+  wastes = is.wastes;
+  in_order = is.in_order;
+  within = is.within;
+}
+
+-- a row's loop takes the other pair, or keeps the worst
+pub row_goes_on : (w : ℕ → ℕ → ℤ) (n : ℕ) (best : Pair) (i k : ℕ) (worst other after : Candidate) → after ≡ cond (int_lt worst.waste other.waste) other worst
+    → IsWorstInRow w n best i k worst → other.lower ≡ i → other.higher ≡ i + 1 + k → other.waste ≡ w other.lower other.higher → i + 1 + k < n
+    → IsWorstInRow w n best i (k + 1) after
+row_goes_on w n best i k worst other after is before lower higher wastes inside =
+    subst (IsWorstInRow w n best i (k + 1)) (sym is) (row_by w n best i k worst other (int_lt worst.waste other.waste) refl before lower higher wastes inside)
 
 greatest_upto-more : (xs : List ℕ) (k : ℕ) → greatest_upto xs (k + 1) ≡ cond (nat_lt (slice_index xs (greatest_upto xs k)) (slice_index xs k)) k (greatest_upto xs k)
 unfolding greatest_upto
@@ -59,13 +84,54 @@ pub first_greatest-is : (xs : List ℕ) → first_greatest xs ≡ greatest_upto 
 unfolding first_greatest
 first_greatest-is xs = refl
 
--- the search for the greatest number goes to the next place, or stays
-pub greatest_moves : (xs : List ℕ) (place k best next : ℕ) → place ≡ greatest_upto xs k → best ≡ slice_index xs place → next ≡ slice_index xs k
-    → best < next → k ≡ greatest_upto xs (k + 1)
-greatest_moves xs place k best next is_place is_best is_next h =
-    rw (greatest_upto-more xs k, ← is_place, ← is_best, ← is_next, nat_lt_yes best next h)
+-- the place of the first greatest number so far, and that number
+pub record IsWidest (xs : List ℕ) (k : ℕ) (widest : Spread) : Type 0 where
+  pub place : widest.place ≡ greatest_upto xs k
+  pub apart : widest.apart ≡ slice_index xs widest.place
+  pub within : widest.place < length xs
 
-pub greatest_stays : (xs : List ℕ) (place k best next : ℕ) → place ≡ greatest_upto xs k → best ≡ slice_index xs place → next ≡ slice_index xs k
-    → next ≤ best → place ≡ greatest_upto xs (k + 1)
-greatest_stays xs place k best next is_place is_best is_next h =
-    rw (greatest_upto-more xs k, ← is_place, ← is_best, ← is_next, nat_lt_no best next h)
+test_is : (xs : List ℕ) (k : ℕ) (widest other : Spread) → IsWidest xs k widest → other.apart ≡ slice_index xs k
+    → nat_lt (slice_index xs (greatest_upto xs k)) (slice_index xs k) ≡ nat_lt widest.apart other.apart
+test_is xs k widest other is reads =
+    ap (λ a. nat_lt a (slice_index xs k)) (ap (slice_index xs) (sym is.place) ∙ sym is.apart) ∙ ap (nat_lt widest.apart) (sym reads)
+
+widest_by : (xs : List ℕ) (k : ℕ) (widest other : Spread) (t : Bool) → nat_lt widest.apart other.apart ≡ t → IsWidest xs k widest → other.place ≡ k → other.apart ≡ slice_index xs k
+    → k < length xs → IsWidest xs (k + 1) (cond t other widest)
+widest_by xs k widest other true h is at reads inside = record {
+  place = at ∙ sym (greatest_upto-more xs k ∙ ap (λ (t : Bool). cond t k (greatest_upto xs k)) (test_is xs k widest other is reads ∙ h));
+  apart = reads ∙ ap (slice_index xs) (sym at);
+  within = omega arith;
+}
+widest_by xs k widest other false h is at reads inside = record {
+  place = is.place ∙ sym (greatest_upto-more xs k ∙ ap (λ (t : Bool). cond t k (greatest_upto xs k)) (test_is xs k widest other is reads ∙ h));
+  apart = is.apart;
+  within = is.within;
+}
+
+-- the search goes to the next place, or stays
+pub widest_goes_on : (xs : List ℕ) (k : ℕ) (widest other after : Spread) → after ≡ cond (nat_lt widest.apart other.apart) other widest → IsWidest xs k widest
+    → other.place ≡ k → other.apart ≡ slice_index xs k → k < length xs → IsWidest xs (k + 1) after
+widest_goes_on xs k widest other after is before at reads inside =
+    subst (IsWidest xs (k + 1)) (sym is) (widest_by xs k widest other (nat_lt widest.apart other.apart) refl before at reads inside)
+
+-- one size more
+pub sizes_more : {K : Type 0} (size : K → ℕ) (keys : List K) (i : ℕ) (key : K) (s : ℕ) (sizes sizes' : List ℕ) → i < length keys → key ≡ get_or keys i key → s ≡ size key → size key < 2 ^ 126
+    → sizes' ≡ sizes ++ s ∷ [] → IsSizes size (take i keys) sizes → IsSizes size (take (i + 1) keys) sizes'
+sizes_more size keys i key s sizes sizes' within is is_size small pushed was = record {
+  each =
+      pushed ∙ ap (λ l. l ++ s ∷ []) was.each ∙ ap (λ z. map size (take i keys) ++ z ∷ []) (is_size ∙ ap size is)
+      ∙ sym (map-append size (take i keys) (get_or keys i key ∷ [])) ∙ ap (map size) (sym (take_more keys i key within));
+  small = subst (All (λ s. s < 2 ^ 126)) (sym pushed) (All-push (λ s. s < 2 ^ 126) sizes s was.small (omega arith));
+}
+
+pub sizes_long : {K : Type 0} (size : K → ℕ) (keys : List K) (sizes : List ℕ) → IsSizes size keys sizes → length sizes ≡ length keys
+sizes_long size keys sizes is = ap length is.each ∙ length-map keys size
+
+-- a key's size is at its slot
+pub size_at : {K : Type 0} (size : K → ℕ) (keys : List K) (sizes : List ℕ) (i : ℕ) (key : K) → IsSizes size keys sizes → slice_get keys i ≡ Some key → i < length keys
+    → (get_or sizes i 0 ≡ size key) × (get_or sizes i 0 < 2 ^ 126)
+size_at size keys sizes i key is at within =
+    let found : Some (get_or keys i key) ≡ Some key = sym (slice_get-get_or keys i key within) ∙ at in
+    let read : get_or keys i key ≡ key = cc in
+    let long = sizes_long size keys sizes is in
+    (ap (λ l. get_or l i 0) is.each ∙ get_or-map size keys i key 0 within ∙ ap size read, is.small i 0 (omega (arith, long, within)))

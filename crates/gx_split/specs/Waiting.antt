@@ -1,5 +1,5 @@
 -- The groups as they are kept: what covers each, and the keys that wait with their growths.
-use Rattle.std.specs.Prelude.{ℕ, ◌≡◌, ◌+◌, ◌<◌, Bool, List, All, Some, length, map, slice_get}
+use Rattle.std.specs.Prelude.{ℕ, ◌≡◌, ◌+◌, ◌<◌, Bool, true, false, List, All, Some, length, map, slice_get, slice_set}
 use Rattle.std.specs.Int.{abs_diff}
 use Rattle.gx_split.specs.declared.waiting.Waiting.{Waiting}
 use Rattle.gx_split.specs.declared.waiting.Covers.{Covers}
@@ -11,12 +11,20 @@ slot_of w = w.slot
 abbrev pub gap_of : {K : Type 0} → Waiting K → ℕ
 gap_of w = abs_diff w.first w.second
 
--- the same key, with its growth beside a new cover of one group
-abbrev pub with_first : {K : Type 0} → Measure K → K → Waiting K → Waiting K
-with_first m cover w = record w { first = growth m cover (Some w.key.now) }
+-- a key goes to a group, the second where the side is true
+abbrev pub covers_with : {K : Type 0} → Measure K → Bool → Covers K → K → Covers K
+covers_with m true c key = record c { second = m.join c.second key; in_second = c.in_second + 1 }
+covers_with m false c key = record c { first = m.join c.first key; in_first = c.in_first + 1 }
 
-abbrev pub with_second : {K : Type 0} → Measure K → K → Waiting K → Waiting K
-with_second m cover w = record w { second = growth m cover (Some w.key.now) }
+-- the same key, with its growth beside that group's cover
+abbrev pub with_growth : {K : Type 0} → Measure K → Bool → Covers K → Waiting K → Waiting K
+with_growth m true c w = record w { second = growth m c.second (Some w.key.now) }
+with_growth m false c w = record w { first = growth m c.first (Some w.key.now) }
+
+-- the sides with one more, where all are false at first
+abbrev pub sides_with : Bool → List Bool → ℕ → List Bool
+sides_with true sides slot = slice_set sides slot true
+sides_with false sides slot = sides
 
 -- the groups for which these are kept
 abbrev pub groups_of : {K : Type 0} → Covers K → List (Waiting K) → List Bool → Groups K

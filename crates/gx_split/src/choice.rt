@@ -1,5 +1,5 @@
 //! Which key is placed next, and on which side (Guttman 1984, PickNext).
-ghost use Rattle.std.specs.Prelude.{◌≡◌, ◌≤◌, ◌<◌, ◌+◌, ◌-◌, ◌^◌, ℕ, [], length, map, nat_lt, Some};
+ghost use Rattle.std.specs.Prelude.{◌≡◌, ◌≤◌, ◌<◌, ◌+◌, ◌-◌, ◌^◌, ℕ, [], length, map, nat_lt, nat_le, true, false, if◌then◌else◌, Some};
 ghost use Rattle.gx_split.specs.Split.{measure, growth, second_less, first_greatest, goes_second};
 ghost use Rattle.gx_split.specs.Waiting.{gap_of, groups_of};
 
@@ -20,32 +20,73 @@ fn gap<M>(waiting: &Waiting<'_, M>) -> u128
     waiting.first.abs_diff(waiting.second)
 }
 
+/// A place among the keys that wait, and how far apart the growths are there.
+#[derive(Clone, Copy)]
+struct Spread {
+    place: usize,
+    apart: u128,
+}
+
+/// The wider of two spreads, of two alike the first.
+fn wider(first: Spread, other: Spread) -> Spread
+    ensures { result ≡ if nat_lt first.apart other.apart then other else first }
+{
+    if other.apart > first.apart {
+        other
+    } else {
+        first
+    }
+}
+
 /// The place of the first key at which the growths are farthest apart.
 pub fn farthest<M>(waiting: &[Waiting<'_, M>]) -> usize
     requires { 0 < length waiting.now }
     ensures place { result ≡ first_greatest (map gap_of waiting.now) }
     ensures within { result < length waiting.now }
 {
-    let mut place = 0;
-    let mut greatest = gap(&waiting[0]);
-    for (k, other) in waiting.iter().enumerate() {
+    let mut widest = Spread {
+        place: 0,
+        apart: gap(&waiting[0]),
+    };
+    for (place, other) in waiting.iter().enumerate() {
         let apart = gap(other);
-        if apart > greatest {
-            place = k;
-            greatest = apart;
-        }
+        widest = wider(widest, Spread { place, apart });
     }
-    place
+    widest.place
+}
+
+/// A group as the next key finds it: how much its cover grows by the key, its cover's size, and how many keys it has.
+#[derive(Clone, Copy)]
+struct Offer {
+    grows: u128,
+    size: u128,
+    keys: usize,
 }
 
 /// Whether a key goes to the second group by growth, then by size, then by number.
-fn prefers_second(first: (u128, u128, usize), second: (u128, u128, usize)) -> bool
-    ensures { result ≡ second_less first.0 second.0 (second_less first.1 second.1 (nat_lt second.2 first.2)) }
+fn prefers_second(first: Offer, second: Offer) -> bool
+    ensures { result ≡ second_less first.grows second.grows (second_less first.size second.size (nat_lt second.keys first.keys)) }
 {
-    second < first
+    (second.grows, second.size, second.keys) < (first.grows, first.size, first.keys)
 }
 
-/// Whether the next key goes to the second group. A group that needs all that wait gets them.
+/// Whether a key goes to the second group. A group that needs all that wait gets them.
+fn takes_second(first: Offer, second: Offer, waiting: usize, least: usize) -> bool
+    requires first { first.keys + waiting < 2 ^ 64 }
+    requires second { second.keys + waiting < 2 ^ 64 }
+    ensures { result ≡ if nat_le (first.keys + waiting) least then false else (if nat_le (second.keys + waiting) least then true
+        else second_less first.grows second.grows (second_less first.size second.size (nat_lt second.keys first.keys))) }
+{
+    if first.keys + waiting <= least {
+        false
+    } else if second.keys + waiting <= least {
+        true
+    } else {
+        prefers_second(first, second)
+    }
+}
+
+/// Whether the next key goes to the second group.
 pub fn goes_second<M: Measure>(
     covers: &Covers<M>,
     waiting: &[Waiting<'_, M>],
@@ -56,14 +97,15 @@ pub fn goes_second<M: Measure>(
     requires second { covers.now.in_second + length waiting.now < 2 ^ 64 }
     ensures { result ≡ goes_second (measure M.joined M.extent) (groups_of covers.now waiting.now []) least next.now.first next.now.second }
 {
-    if covers.in_first + waiting.len() <= least {
-        false
-    } else if covers.in_second + waiting.len() <= least {
-        true
-    } else {
-        prefers_second(
-            (next.first, covers.first.size(), covers.in_first),
-            (next.second, covers.second.size(), covers.in_second),
-        )
-    }
+    let first = Offer {
+        grows: next.first,
+        size: covers.first.size(),
+        keys: covers.in_first,
+    };
+    let second = Offer {
+        grows: next.second,
+        size: covers.second.size(),
+        keys: covers.in_second,
+    };
+    takes_second(first, second, waiting.len(), least)
 }

@@ -1,52 +1,66 @@
 //! Placing one key more.
 ghost use Rattle.std.specs.Prelude.{◌≡◌, ◌≤◌, ◌<◌, ◌+◌, ◌*◌, ◌^◌, All, List, length, map};
 ghost use Rattle.gx_split.specs.Split.{measure, place_one};
-ghost use Rattle.gx_split.specs.Waiting.{groups_of, with_first, with_second, IsKept};
+ghost use Rattle.gx_split.specs.Waiting.{groups_of, covers_with, with_growth, sides_with, IsKept};
 
 use crate::Measure;
 use crate::choice::{farthest, goes_second, growth};
 use crate::waiting::{Covers, Waiting, WaitingList};
 
-/// The growths beside a new cover of the first group.
-fn refresh_first<M: Measure>(cover: &M, waiting: &mut [Waiting<'_, M>])
-    ensures { waiting.new ≡ map (with_first (measure M.joined M.extent) cover.now) waiting.old }
+/// A key is joined to a group, to the second where `second` says so.
+fn join_group<M: Measure>(second: bool, key: &M, covers: &mut Covers<M>)
+    requires first { covers.old.in_first + 1 < 2 ^ 64 }
+    requires second { covers.old.in_second + 1 < 2 ^ 64 }
+    ensures { covers.new ≡ covers_with (measure M.joined M.extent) second covers.old key.now }
 {
-    for other in waiting.iter_mut() {
-        other.first = growth(cover, other.key);
+    if second {
+        covers.second = covers.second.join(key);
+        covers.in_second += 1;
+    } else {
+        covers.first = covers.first.join(key);
+        covers.in_first += 1;
     }
 }
 
-/// The growths beside a new cover of the second group.
-fn refresh_second<M: Measure>(cover: &M, waiting: &mut [Waiting<'_, M>])
-    ensures { waiting.new ≡ map (with_second (measure M.joined M.extent) cover.now) waiting.old }
+/// A waiting key's growth beside a group's new cover.
+fn refresh<M: Measure>(second: bool, covers: &Covers<M>, waiting: &mut Waiting<'_, M>)
+    ensures { waiting.new ≡ with_growth (measure M.joined M.extent) second covers.now waiting.old }
 {
-    for other in waiting.iter_mut() {
-        other.second = growth(cover, other.key);
+    if second {
+        waiting.second = growth(&covers.second, waiting.key);
+    } else {
+        waiting.first = growth(&covers.first, waiting.key);
     }
 }
 
-/// A key goes to the first group.
-fn put_first<M: Measure>(key: &M, covers: &mut Covers<M>, waiting: &mut WaitingList<'_, M>)
-    requires { covers.old.in_first + 1 < 2 ^ 64 }
-    ensures covers { covers.new
-        ≡ record covers.old { first = M.joined covers.old.first key.now; in_first = covers.old.in_first + 1 } }
-    ensures waiting { waiting.new.items ≡ map (with_first (measure M.joined M.extent) covers.new.first) waiting.old.items }
+/// Each waiting key's growth beside a group's new cover.
+fn refresh_all<M: Measure>(second: bool, covers: &Covers<M>, waiting: &mut [Waiting<'_, M>])
+    ensures { waiting.new ≡ map (with_growth (measure M.joined M.extent) second covers.now) waiting.old }
 {
-    covers.first = covers.first.join(key);
-    covers.in_first += 1;
-    refresh_first(&covers.first, waiting);
+    for other in waiting.iter_mut() {
+        refresh(second, covers, other);
+    }
 }
 
-/// A key goes to the second group.
-fn put_second<M: Measure>(key: &M, covers: &mut Covers<M>, waiting: &mut WaitingList<'_, M>)
-    requires { covers.old.in_second + 1 < 2 ^ 64 }
-    ensures covers { covers.new
-        ≡ record covers.old { second = M.joined covers.old.second key.now; in_second = covers.old.in_second + 1 } }
-    ensures waiting { waiting.new.items ≡ map (with_second (measure M.joined M.extent) covers.new.second) waiting.old.items }
+/// A key goes to a group, and the others' growths are those beside its new cover.
+fn put<M: Measure>(second: bool, key: &M, covers: &mut Covers<M>, waiting: &mut WaitingList<'_, M>)
+    requires first { covers.old.in_first + 1 < 2 ^ 64 }
+    requires second { covers.old.in_second + 1 < 2 ^ 64 }
+    ensures covers { covers.new ≡ covers_with (measure M.joined M.extent) second covers.old key.now }
+    ensures waiting { waiting.new.items ≡ map (with_growth (measure M.joined M.extent) second covers.new) waiting.old.items }
 {
-    covers.second = covers.second.join(key);
-    covers.in_second += 1;
-    refresh_second(&covers.second, waiting);
+    join_group(second, key, covers);
+    refresh_all(second, covers, waiting);
+}
+
+/// A key's side is kept. All sides are the first group's at the beginning.
+fn mark(second: bool, slot: usize, sides: &mut [bool])
+    requires { slot < length sides.old }
+    ensures { sides.new ≡ sides_with second sides.old slot }
+{
+    if second {
+        sides[slot] = true;
+    }
 }
 
 /// The next key goes to its group.
@@ -71,10 +85,6 @@ pub fn place_next<M: Measure>(
     let next = all[place];
     let second = goes_second(covers, all, least, &next);
     waiting.remove(place);
-    if second {
-        put_second(next.key, covers, waiting);
-        sides[next.slot] = true;
-    } else {
-        put_first(next.key, covers, waiting);
-    }
+    put(second, next.key, covers, waiting);
+    mark(second, next.slot, sides);
 }

@@ -1,5 +1,5 @@
 //! The pair of keys with which the two groups begin (Guttman 1984, PickSeeds).
-ghost use Rattle.std.specs.Prelude.{◌≡◌, ◌≤◌, ◌<◌, ◌+◌, ◌-◌, ◌-ℤ◌, ◌^◌, pos, length, slice_get};
+ghost use Rattle.std.specs.Prelude.{◌≡◌, ◌≤◌, ◌<◌, ◌+◌, ◌-◌, ◌-ℤ◌, ◌^◌, pos, length, slice_get, int_lt, if◌then◌else◌};
 ghost use Rattle.gx_split.specs.Split.{measure, waste, waste_at, pair, worst_in_row, worst_in_rows, worst_pair};
 ghost use Rattle.gx_split.specs.Sizes.{IsSizes};
 
@@ -77,6 +77,17 @@ fn pair_of<M: Measure>(keys: &[M], sizes: &[u128], lower: usize, higher: usize) 
     }
 }
 
+/// The pair that wastes more, of two alike the first.
+fn worse(first: Candidate, other: Candidate) -> Candidate
+    ensures { result ≡ if int_lt first.waste other.waste then other else first }
+{
+    if other.waste > first.waste {
+        other
+    } else {
+        first
+    }
+}
+
 /// The first worst of a pair and of the pairs of one slot with each later one.
 fn worst_in_row<M: Measure>(keys: &[M], sizes: &[u128], lower: usize, best: Candidate) -> Candidate
     requires within { lower < length keys.now }
@@ -92,10 +103,7 @@ fn worst_in_row<M: Measure>(keys: &[M], sizes: &[u128], lower: usize, best: Cand
 {
     let mut worst = best;
     for k in 0..keys.len() - 1 - lower {
-        let other = pair_of(keys, sizes, lower, lower + 1 + k);
-        if other.waste > worst.waste {
-            worst = other;
-        }
+        worst = worse(worst, pair_of(keys, sizes, lower, lower + 1 + k));
     }
     worst
 }

@@ -1,8 +1,8 @@
 //! The split of a list of keys (Guttman 1984, the quadratic split).
-ghost use Rattle.std.specs.Prelude.{◌≡◌, ◌≤◌, ◌<◌, ◌+◌, ◌*◌, ◌||◌, nat_eq, All, length, map, replicate, false};
-ghost use Rattle.gx_split.specs.Split.{measure, pair, others, seeds, split_sides, waste_at};
+ghost use Rattle.std.specs.Prelude.{◌≡◌, ◌≤◌, ◌<◌, ◌+◌, ◌-◌, ◌*◌, ◌||◌, nat_eq, All, length, map, replicate, slice_set, false, true};
+ghost use Rattle.gx_split.specs.Split.{measure, pair, others, placed, seeds, split_sides, waste_at};
 ghost use Rattle.gx_split.specs.Fair.{IsFairSplit, IsFirstWorst};
-ghost use Rattle.gx_split.specs.Waiting.{slot_of, IsFresh};
+ghost use Rattle.gx_split.specs.Waiting.{slot_of, groups_of, IsFresh, IsKept};
 
 use crate::Measure;
 use crate::choice::growth;
@@ -42,11 +42,33 @@ fn waiting_beside<'a, M: Measure>(
     waiting
 }
 
-/// All keys are in the first group.
-fn clear(sides: &mut [bool])
-    ensures { sides.new ≡ replicate (length sides.old) false }
+/// All keys are in the first group but one seed.
+fn begin_sides(second: usize, sides: &mut [bool])
+    requires { second < length sides.old }
+    ensures { sides.new ≡ slice_set (replicate (length sides.old) false) second true }
 {
     sides.fill(false);
+    sides[second] = true;
+}
+
+/// Places the keys that wait: all but the two seeds.
+fn place_all<M: Measure>(
+    keys: &[M],
+    least: usize,
+    covers: &mut Covers<M>,
+    waiting: &mut WaitingList<'_, M>,
+    sides: &mut [bool],
+)
+    requires few { length keys.now ≤ 101 }
+    requires as_many { length sides.old ≡ length keys.now }
+    requires kept { IsKept (measure M.joined M.extent) keys.now covers.old waiting.old.items }
+    requires left { length waiting.old.items + 2 ≡ length keys.now }
+    ensures { groups_of covers.new waiting.new.items sides.new
+        ≡ placed (measure M.joined M.extent) keys.now least (groups_of covers.old waiting.old.items sides.old) (length keys.now - 2) }
+{
+    for _placed in 0..keys.len() - 2 {
+        place_next(least, covers, waiting, sides);
+    }
 }
 
 /// Splits 2 to 101 keys in two groups with at least `least` keys each. In `sides`, which has a place for each key,
@@ -72,9 +94,6 @@ pub fn split<M: Measure>(keys: &[M], least: usize, sides: &mut [bool])
         in_second: 1,
     };
     let mut waiting = waiting_beside(keys, &seeds, &covers);
-    clear(sides);
-    sides[seeds.higher] = true;
-    for _placed in 0..keys.len() - 2 {
-        place_next(least, &mut covers, &mut waiting, sides);
-    }
+    begin_sides(seeds.higher, sides);
+    place_all(keys, least, &mut covers, &mut waiting, sides);
 }

@@ -27,7 +27,7 @@ impl<'a, M> MadeWith<&'a M> for Waiting<'a, M> {
 }
 
 /// What covers each group, and how many keys each has.
-#[derive(Clone, Copy)]
+#[derive(Drop)]
 pub struct Covers<M> {
     pub first: M,
     pub second: M,

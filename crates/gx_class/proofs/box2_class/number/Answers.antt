@@ -1,17 +1,14 @@
-use Rattle.std.proofs.Common.{rules, ◌≡◌, sym, ap, ◌∙◌, to_z, of_z, FitsSigned}
-use Rattle.std.specs.Int.{w32, to_be_bytes}
-use Rattle.std.proofs.lemmas.Int.{to_z-of_z, of_z-to_z}
+use Rattle.std.proofs.Common.{rules, FitsSigned}
+use Rattle.std.specs.Int.{w32}
 use Rattle.std.proofs.lemmas.Nat.{be_bytes_4}
 use Rattle.gx_class.specs.Boxes.{number_bytes}
+use Rattle.gx_class.specs.Numbers.{bytes_kept}
 use Rattle.gx_class.proofs.box2_class.number.Goals as goal
 
 pub returns : goal.returns
 unfolding number_bytes
 returns c =
     let n = c.from_be_bytes.result in
-    let z = c.cast_signed.result in
-    let fits : FitsSigned w32 z = search rules in
-    let same : of_z w32 (to_z w32 (of_z w32 z)) ≡ n =
-    ap (of_z w32) (to_z-of_z w32 z fits) ∙ ap (of_z w32) c.cast_signed.ensures ∙ of_z-to_z w32 n c.from_be_bytes.type_inv
-    in
-    sym (be_bytes_4 c.args.bytes.now n c.requires (λ i. (c.type_inv.bytes i).fits) c.from_be_bytes.ensures) ∙ ap (to_be_bytes w32) (sym same)
+    let fits : FitsSigned w32 c.cast_signed.result = search rules in
+    let written = be_bytes_4 c.args.bytes.now n c.requires (λ i. (c.type_inv.bytes i).fits) c.from_be_bytes.ensures in
+    bytes_kept w32 c.args.bytes.now n c.cast_signed.result written c.cast_signed.ensures fits c.from_be_bytes.type_inv

@@ -2,7 +2,8 @@
 use Rattle.std.proofs.Common.{◌≡◌, ℕ, suc, ◌+◌, ◌-◌, [], length, take, get_or, sym, ap, ◌∙◌, arith}
 use Rattle.gx_page.specs.Format.{total}
 use Rattle.gx_page.specs.Reading.{read_of}
-use Rattle.gx_page.proofs.Parts.{total-take-suc, total-take-le}
+use Rattle.gx_page.proofs.Parts.{total-take-suc}
+use Rattle.gx_page.proofs.Slots.{total-take-le}
 use Rattle.gx_page.proofs.directory.end_of.Goals as goal
 
 pub returns-else-slot-eq0-clause-end : goal.returns-else-slot-eq0-clause-end

@@ -1,4 +1,4 @@
-use Rattle.std.proofs.Common.{◌≡◌, ◌<◌, true, false, length, ap, sym, ◌∙◌, arith, refl}
+use Rattle.std.proofs.Common.{◌≡◌, true, false, length, ap, sym, ◌∙◌, arith, refl}
 use Rattle.std.proofs.lemmas.List.{length-append}
 use Rattle.std.proofs.lemmas.List.Elements.{All-nil, All-push}
 use Rattle.std.proofs.lemmas.Option.{slice_get_read}
@@ -26,7 +26,7 @@ loop-slot-preserved g c =
       | then-not-is_seed w ↦
           let other : is_seed p c.loop-slot.slot ≡ false = sym c.is_seed.ensures ∙ w.if-not-is_seed.true in
           let longer = ap length w.push.ensures.items ∙ length-append c.loop-slot.waiting.items _ in
-          let within : c.loop-slot.slot < length c.args.keys.now = omega arith in
+          let within = c.loop-slot-test.true in
           let read = slice_get_read c.args.keys.now (length c.args.keys.now) c.loop-slot.slot c.index-keys-slot.result refl within c.index-keys-slot.is in
           let fresh = All-push (IsFresh m c.args.keys.now c.args.covers.now) c.loop-slot.waiting.items _ was.fresh
           (record { key = read; within = within; first = w.growth.ensures; second = w.growth-then-not-is_seed.ensures })

@@ -1,10 +1,9 @@
-use Rattle.std.proofs.Common.{◌≡◌, ◌++◌, length, drop, ◌≤ℤ◌, FitsSigned, Some, rules, subst, ap, sym, ◌∙◌}
+use Rattle.std.proofs.Common.{◌≡◌, length, ◌≤ℤ◌, FitsSigned, Some, rules, subst, ap, sym, ◌∙◌}
 use Rattle.std.specs.Int.{w32}
 use Rattle.std.proofs.lemmas.Int.{to_z-of_z}
-use Rattle.std.proofs.lemmas.List.{take-append-drop}
-use Rattle.gx_geom.specs.Rectangles.{rectangle_of}
-use Rattle.gx_class.specs.Boxes.{number_bytes, spelling}
-use Rattle.gx_class.specs.BoxKeyLaws.{length-spelling, same_spelling, answer_is}
+use Rattle.gx_geom.specs.Rectangles.{IsBox, rectangle_of}
+use Rattle.gx_class.specs.Boxes.{spelling}
+use Rattle.gx_class.specs.BoxKeyLaws.{length-spelling, same_spelling, answer_is, holds_of_answer, halves_join}
 use Rattle.gx_class.proofs.box2_class.Box2ClassKeyClass.decode.Goals as goal
 
 pub returns-then-bytes-ne-KEY-clause-back : goal.returns-then-bytes-ne-KEY-clause-back
@@ -12,22 +11,36 @@ returns-then-bytes-ne-KEY-clause-back c key is e =
     let long = ap length e ∙ length-spelling key in
     absurd (c.if-bytes-ne-KEY.true long)
 
+pub returns-clause-only : goal.returns-clause-only
+returns-clause-only c =
+    let x1 = c.numbers-x1.result.0 in
+    let y1 = c.numbers-x1.result.1 in
+    let x2 = c.numbers-x2.result.0 in
+    let y2 = c.numbers-x2.result.1 in
+    let x1_fits : FitsSigned w32 x1 = search rules in
+    let y1_fits : FitsSigned w32 y1 = search rules in
+    let x2_fits : FitsSigned w32 x2 = search rules in
+    let y2_fits : FitsSigned w32 y2 = search rules in
+    let a = rectangle_of x1 y1 x2 y2 in
+    let read : c.args.bytes.now ≡ spelling a = halves_join c.args.bytes.now _ _ _ _ 8 c.split_at.ensures.front c.split_at.ensures.back c.numbers-x1.ensures c.numbers-x2.ensures in
+    let ok = simp to_z-of_z at c.new.ensures.ok in
+    let corners = simp to_z-of_z at c.new.ensures.corners in
+    rw c.ok.ensures.value
+    (holds_of_answer (λ key. IsBox key × (c.args.bytes.now ≡ spelling key)) c.new.result a corners
+    (λ is. (record { x_in_order = (ok.0 is).0; y_in_order = (ok.0 is).1; x1_fits = x1_fits; y1_fits = y1_fits; x2_fits = x2_fits; y2_fits = y2_fits }, read)))
+
 pub returns-clause-back : goal.returns-clause-back
 returns-clause-back c key is e =
     let x1 = c.numbers-x1.result.0 in
     let y1 = c.numbers-x1.result.1 in
     let x2 = c.numbers-x2.result.0 in
     let y2 = c.numbers-x2.result.1 in
-    let bytes = c.args.bytes.now in
     let x1_fits : FitsSigned w32 x1 = search rules in
     let y1_fits : FitsSigned w32 y1 = search rules in
     let x2_fits : FitsSigned w32 x2 = search rules in
     let y2_fits : FitsSigned w32 y2 = search rules in
     let a = rectangle_of x1 y1 x2 y2 in
-    let read : bytes ≡ spelling a =
-    sym (take-append-drop 8 bytes) ∙ ap (λ l. l ++ drop 8 bytes) (sym c.split_at.ensures.front ∙ c.numbers-x1.ensures)
-    ∙ ap (λ l. (number_bytes x1 ++ number_bytes y1) ++ l) (sym c.split_at.ensures.back ∙ c.numbers-x2.ensures)
-    in
+    let read : c.args.bytes.now ≡ spelling a = halves_join c.args.bytes.now _ _ _ _ 8 c.split_at.ensures.front c.split_at.ensures.back c.numbers-x1.ensures c.numbers-x2.ensures in
     let same : a ≡ key = same_spelling a key x1_fits y1_fits x2_fits y2_fits is (sym read ∙ e) in
     let x_in_order : x1 ≤ℤ x2 = subst (λ b. b.x1 ≤ℤ b.x2) (sym same) is.x_in_order in
     let y_in_order : y1 ≤ℤ y2 = subst (λ b. b.y1 ≤ℤ b.y2) (sym same) is.y_in_order in

@@ -22,21 +22,21 @@ use contract.Monad.{fact}
 use contract.Running.{tables, tables_of}
 use denote.Builtin.{u8, usize}
 use denote.Exit.{yes}
-use denote.Index.{row, place_byte, elem_out, elem_back, elem_put}
+use denote.Index.{row, place_byte, elem_out, elem_back}
 use denote.Laws.{Is, shows}
 use denote.Memory.{mem, cell_at, part_at}
-use denote.Plain.{uint_Makes, uint_vals, uint_Tells}
+use denote.Plain.{uint_vals, uint_Tells}
 use denote.RattleType.{RattleType}
 use denote.RawPtr.{block_ptr}
 use denote.Ref.{MutRef, mut_vals, mut_Tells}
 use denote.Signature.{plain}
-use denote.Steps.{nothing, owned, heard, opens}
+use denote.Steps.{nothing, heard, opens}
 use denote.Triple.Walked.{says, Stays, stay_dropped, stay_ref, walk_of, ends_at, Goes-dropped, Goes-ref}
 use Rattle.std.proofs.VecSteps.Shapes.{after}
 use Rattle.std.proofs.raw_atomic.Walks.{proved}
 use Rattle.gx_page.specs.Lending.{with_bytes}
 use Rattle.gx_page.specs.Ownership.{the_bytes}
-use Rattle.gx_page.proofs.Copies.{Waits, written, down_more}
+use Rattle.gx_page.proofs.Copies.{byte_put, Waits, written, down_more}
 use Rattle.gx_page.proofs.Opened.{Rest, Lie, comes_apart, each_out}
 use Rattle.gx_page.specs.contracts.block.Block as block
 use Rattle.gx_page.specs.contracts.block.Block.move_down.{ended, clauses}
@@ -102,8 +102,7 @@ module _ {M : Type 1} {𝓤 : Ura M} (𝓛 : Logic 𝓤) (𝓣 : Tables 𝓤 �
         assigns_last ! (of_opd ! (get ! refl)) (through ! refl (stop !)) (store ! 0 refl (tt, record { fits = fits.1 })) $
         exec ! 𝓣.C 𝓣.Λ En (after 3 code.Mir.turn-1) (any_q (Turned t)) $ sets_last ! (bin ! (get ! refl) (lit ! tt) (record { fits = f₃ })) refl (tt, record { fits = f₃ }) $
         -- [the byte; what the old one owned; the other bytes; what waits]
-        rewrite ! 0 At (sym (place_byte o (dest + i))) refl $ move ! (1 ∷ []) $ drop ! $ owned ! u8 (Is u8) (uint_Makes 𝓛 w8) x (vint w8 x ∷ []) (refl, fits.1) $ move ! (1 ∷ 0 ∷ []) $
-        elem_put ! u8 full_share now (dest + i) x (vint w8 x ∷ []) b o room $
+        byte_put ! now (dest + i) x (get_or now (dest + i) 0) b o room fits.1 $
         rewrite ! 0 (λ (xs : List ℕ). ‵ (row u8 full_share xs b o)) (down_more bytes from dest i down (omega arith)) refl $
         forget_but ! En (1 ∷ 2 ∷ 3 ∷ 4 ∷ 5 ∷ 6 ∷ []) refl $ again ! Nearer Now t (i + 1, omega arith) (omega arith))))
         (λ over. let ge = nltb→le i count over in let all : i ≡ count = omega arith in

@@ -22,21 +22,21 @@ use contract.Monad.{fact}
 use contract.Running.{tables, tables_of}
 use denote.Builtin.{u8, usize}
 use denote.Exit.{yes}
-use denote.Index.{row, place_byte, elem_out, elem_back, elem_put}
+use denote.Index.{row, place_byte, elem_out, elem_back}
 use denote.Laws.{Is, shows}
 use denote.Memory.{mem, cell_at, part_at}
-use denote.Plain.{uint_Makes, uint_vals, uint_Tells}
+use denote.Plain.{uint_vals, uint_Tells}
 use denote.RattleType.{RattleType}
 use denote.RawPtr.{block_ptr}
 use denote.Ref.{MutRef, mut_vals, mut_Tells}
 use denote.Signature.{plain}
-use denote.Steps.{nothing, owned, heard, opens}
+use denote.Steps.{nothing, heard, opens}
 use denote.Triple.Walked.{says, Stays, stay_dropped, stay_ref, walk_of, ends_at, Goes-dropped, Goes-ref}
 use Rattle.std.proofs.VecSteps.Shapes.{after}
 use Rattle.std.proofs.raw_atomic.Walks.{proved}
 use Rattle.gx_page.specs.Lending.{with_bytes}
 use Rattle.gx_page.specs.Ownership.{the_bytes}
-use Rattle.gx_page.proofs.Copies.{Waits, written, copied_back, up_more}
+use Rattle.gx_page.proofs.Copies.{byte_put, Waits, written, copied_back, up_more}
 use Rattle.gx_page.proofs.Opened.{Rest, Lie, comes_apart, each_out}
 use Rattle.gx_page.specs.contracts.block.Block as block
 use Rattle.gx_page.specs.contracts.block.Block.move_up.{ended, clauses}
@@ -99,8 +99,7 @@ module _ {M : Type 1} {𝓤 : Ura M} (𝓛 : Logic 𝓤) (𝓣 : Tables 𝓤 �
         rewrite ! 0 Old (place_byte o (dest + j)) refl $
         assigns_last ! (of_opd ! (get ! refl)) (through ! refl (stop !)) (store ! 0 refl (tt, record { fits = fits.1 })) $
         -- [the byte; what the old one owned; the other bytes; what waits]
-        rewrite ! 0 At (sym (place_byte o (dest + j))) refl $ move ! (1 ∷ []) $ drop ! $ owned ! u8 (Is u8) (uint_Makes 𝓛 w8) x (vint w8 x ∷ []) (refl, fits.1) $ move ! (1 ∷ 0 ∷ []) $
-        elem_put ! u8 full_share now (dest + j) x (vint w8 x ∷ []) b o room $
+        byte_put ! now (dest + j) x (get_or now (dest + j) 0) b o room fits.1 $
         rewrite ! 0 (λ (xs : List ℕ). ‵ (row u8 full_share xs b o)) (up_more bytes from dest count i up h le within) refl $
         forget_but ! En (1 ∷ 2 ∷ 3 ∷ 4 ∷ 5 ∷ 6 ∷ []) refl $ again ! Fewer Now t (j, omega arith) (omega arith))))
         (λ over. let ge = nltb→le 0 i over in let none : i ≡ 0 = omega arith in

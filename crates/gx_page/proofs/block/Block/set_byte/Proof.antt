@@ -1,12 +1,12 @@
 -- `set_byte` writes one byte behind the pointer, and leaves the others.
-use Rattle.std.proofs.Common.{ℕ, ◌<◌, List, [], ◌∷◌, length, set, get_or, refl, sym, ◌∙◌, arith, w8, w64}
+use Rattle.std.proofs.Common.{ℕ, ◌<◌, List, [], ◌∷◌, length, set, get_or, refl, ◌∙◌, arith, w8, w64}
 use Rattle.std.proofs.lemmas.List.{length-set}
 use mir.Syntax.{named}
 use mir.Val.{Val, vint, vunit}
 use base.Fraction.{full_share}
 use base.Fml.{flft, ftrue, fsep}
 use base.Logic.{SProp}
-use types.Kit.{Item, given, learn, ‵, raw, ◌⊛◌, some, at_ret, ◌$◌, ◌∵◌, !, qed, move, keep, drop, split, join, group, pick, fsplit, fsplit3, fjoin, frame, feq_i, rewrite, suffices, use1, use2, done}
+use types.Kit.{Item, given, learn, ‵, raw, ◌⊛◌, some, at_ret, ◌$◌, ◌∵◌, !, qed, move, keep, split, join, group, pick, fsplit, fsplit3, fjoin, frame, feq_i, rewrite, suffices, use1, use2, done}
 use types.Mut.{close_ref}
 use types.Part.{whole, sub, look_in}
 use types.Run.{stop, fld, hop, addr, store, bin, of_opd, unit_lit, assigns_last, first, blocks, exec, returns, enter}
@@ -15,20 +15,21 @@ use contract.Monad.{fact}
 use contract.Running.{tables}
 use denote.Builtin.{u8, usize}
 use denote.Exit.{yes}
-use denote.Index.{row, place_byte, elem_out, elem_put}
+use denote.Index.{row, place_byte, elem_out}
 use denote.Laws.{Is, shows}
 use denote.Memory.{mem, cell_at, part_at}
-use denote.Plain.{uint_Makes, uint_vals, uint_Tells}
+use denote.Plain.{uint_vals, uint_Tells}
 use denote.RattleType.{RattleType}
 use denote.RawPtr.{block_ptr}
 use denote.Ref.{MutRef, mut_vals, mut_Tells}
 use denote.Signature.{plain}
-use denote.Steps.{nothing, owned, heard, opens}
+use denote.Steps.{nothing, heard, opens}
 use denote.Triple.Walked.{says, Stays, stay_dropped, stay_ref, walk_of, ends_at, Goes-dropped, Goes-ref}
 use Rattle.std.proofs.VecSteps.Shapes.{after}
 use Rattle.std.proofs.raw_atomic.Walks.{proved}
 use Rattle.gx_page.specs.Lending.{with_bytes}
 use Rattle.gx_page.specs.Ownership.{the_bytes}
+use Rattle.gx_page.proofs.Copies.{byte_put}
 use Rattle.gx_page.proofs.Opened.{Rest, Lie, comes_apart, closes_over, each_out, each_in}
 use Rattle.gx_page.specs.contracts.block.Block as block
 use Rattle.gx_page.specs.contracts.block.Block.set_byte.{ended, clauses}
@@ -62,12 +63,11 @@ set_byte_spec 𝓤 𝓛 𝓜 𝓡 wired =
     -- and then the byte at the place
     move ! (3 ∷ []) $ use1 𝓛 (‵ (row u8 full_share d.bytes at.0 at.1)) (each_out 𝓛 full_share d.bytes at.0 at.1) $
     elem_out ! u8 (Is u8) (shows 𝓛 u8) (uint_vals w8) (uint_Tells w8) full_share d.bytes i 0 at.0 at.1 low (λ fits.
-    let Old : ℕ → Item 𝓤 = λ p. ‵ (cell_at full_share u8.mir (vint w8 (get_or d.bytes i 0) ∷ []) at.0 p) in let New : ℕ → Item 𝓤 = λ p. ‵ (cell_at full_share u8.mir (vint w8 v ∷ []) at.0 p) in
+    let Old : ℕ → Item 𝓤 = λ p. ‵ (cell_at full_share u8.mir (vint w8 (get_or d.bytes i 0) ∷ []) at.0 p) in
     rewrite ! 0 Old (place_byte at.1 i) refl $ assigns_last ! (of_opd ! (get ! refl)) (through ! refl (stop !)) (store ! 0 refl (tt, record { fits = are.1.1.0.1 })) $
     exec ! 𝓣.C 𝓣.Λ Ev (after 1 code.function.body) (at_ret Ev Post) $ sets ! (of_opd ! (unit_lit !)) refl (tt, tt) $
     -- [the byte; what the old one owned; the other bytes; the right to free; the fields; the block's cell; the open borrow, in three entries; self's first part]
-    rewrite ! 0 New (sym (place_byte at.1 i)) refl $ move ! (1 ∷ []) $ drop ! $ owned ! u8 (Is u8) (uint_Makes 𝓛 w8) v (vint w8 v ∷ []) (refl, are.1.1.0.1) $ move ! (1 ∷ 0 ∷ []) $
-    elem_put ! u8 full_share d.bytes i v (vint w8 v ∷ []) at.0 at.1 low $ use1 𝓛 (‵ (part_at the_bytes full_share new at.0 at.1)) (each_in 𝓛 full_share new at.0 at.1 (length-set d.bytes i v ∙ lie.1)) $
+    byte_put ! d.bytes i v (get_or d.bytes i 0) at.0 at.1 low are.1.1.0.1 $ use1 𝓛 (‵ (part_at the_bytes full_share new at.0 at.1)) (each_in 𝓛 full_share new at.0 at.1 (length-set d.bytes i v ∙ lie.1)) $
     move ! (2 ∷ 3 ∷ []) $ fjoin ! $ move ! (2 ∷ 0 ∷ []) $ fjoin ! $ move ! (1 ∷ 0 ∷ []) $ use2 𝓛 (‵ ((mem R).own_at (with_bytes d new) b o)) (closes_over 𝓛 d b o at.0 at.1 lie.0 new) $
     close_ref ! tt (mem R) (with_bytes d new) {b = b} {o = o} $ returns ! (look_at ! 0 refl) $ free_all ! refl $
     -- [two parts of self; the token; self's first part]

@@ -23,22 +23,22 @@ use contract.Running.{tables, tables_of}
 use denote.Builtin.{u8, usize}
 use denote.Copied.{uint_Copied}
 use denote.Exit.{yes}
-use denote.Index.{row, place_byte, elem_out, elem_back, elem_put, looks_slice, shuts_slice}
+use denote.Index.{row, place_byte, elem_out, elem_back, looks_slice, shuts_slice}
 use denote.Laws.{Is, shows}
 use denote.Memory.{mem, cell_at, part_at}
-use denote.Plain.{uint_Makes, uint_vals, uint_Tells}
+use denote.Plain.{uint_vals, uint_Tells}
 use denote.RattleType.{RattleType}
 use denote.RawPtr.{block_ptr}
 use denote.Ref.{MutRef, mut_vals, mut_Tells}
 use denote.Signature.{plain, shr_slice_of}
 use denote.Slice.{ShrSlice, slice_val, shr_slice_vals, shr_slice_Tells, elements_shared}
-use denote.Steps.{nothing, owned, heard, opens}
+use denote.Steps.{nothing, heard, opens}
 use denote.Triple.Walked.{says, Stays, stay_dropped, stay_ref, walk_of, ends_at, Goes-dropped, Goes-ref}
 use Rattle.std.proofs.VecSteps.Shapes.{after}
 use Rattle.std.proofs.raw_atomic.Walks.{proved}
 use Rattle.gx_page.specs.Lending.{with_bytes}
 use Rattle.gx_page.specs.Ownership.{the_bytes}
-use Rattle.gx_page.proofs.Copies.{Waits, written}
+use Rattle.gx_page.proofs.Copies.{byte_put, Waits, written}
 use Rattle.gx_page.proofs.Opened.{Rest, Lie, comes_apart, each_out}
 use Rattle.gx_page.specs.contracts.block.Block as block
 use Rattle.gx_page.specs.contracts.block.Block.write.{ended, clauses}
@@ -111,8 +111,7 @@ module _ {M : Type 1} {𝓤 : Ura M} (𝓛 : Logic 𝓤) (𝓣 : Tables 𝓤 �
         assigns_last ! (of_opd ! (get ! refl)) (through ! refl (stop !)) (store ! 0 refl (tt, record { fits = fits.1 })) $
         exec ! 𝓣.C 𝓣.Λ En (after 4 code.Mir.turn-1) (any_q (Turned t)) $ sets_last ! (bin ! (get ! refl) (lit ! tt) (record { fits = f₃ })) refl (tt, record { fits = f₃ }) $
         -- [the byte; what the old one owned; the other bytes; what waits; the `&` to each byte of the slice; its token]
-        rewrite ! 0 At (sym (place_byte o (at + i))) refl $ move ! (1 ∷ []) $ drop ! $ owned ! u8 (Is u8) (uint_Makes 𝓛 w8) x (vint w8 x ∷ []) (refl, fits.1) $ move ! (1 ∷ 0 ∷ []) $
-        elem_put ! u8 full_share now (at + i) x (vint w8 x ∷ []) b o room $
+        byte_put ! now (at + i) x (get_or now (at + i) 0) b o room fits.1 $
         rewrite ! 0 (λ (ys : List ℕ). ‵ (row u8 full_share ys b o)) (paste_more bytes at xs i 0 (omega arith) h) refl $
         forget_but ! En (1 ∷ 2 ∷ 3 ∷ 4 ∷ 5 ∷ []) refl $ again ! Nearer Now t (i + 1, omega arith) (omega arith)))))
         (λ over. let ge = nltb→le i (length xs) over in let all : i ≡ length xs = omega arith in

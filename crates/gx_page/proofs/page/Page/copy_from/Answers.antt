@@ -7,8 +7,10 @@ use Rattle.gx_page.proofs.page.Page.copy_from.Goals as goal
 
 pub invariant_of-self : goal.invariant_of-self
 invariant_of-self c =
-    subst IsImage (sym (c.write_many.ensures ∙ whole_written c.self.inside.block.bytes c.bytes.result.now (subst IsImage (sym c.bytes.ensures) c.other.invariant) (image_size c.self.inside.block.bytes c.self.invariant) ∙ c.bytes.ensures)) c.other.invariant
+    let image : IsImage c.bytes.result.now = subst IsImage (sym c.bytes.ensures) c.other.invariant in
+    subst IsImage (sym (c.write_many.ensures.0 ∙ whole_written _ c.bytes.result.now c.write_many.ensures.1 (image_size c.bytes.result.now image))) image
 
 pub returns : goal.returns
 returns c =
-    ap read_of (c.write_many.ensures ∙ whole_written c.self.inside.block.bytes c.bytes.result.now (subst IsImage (sym c.bytes.ensures) c.other.invariant) (image_size c.self.inside.block.bytes c.self.invariant) ∙ c.bytes.ensures) ∙ c.other.view_is
+    let image : IsImage c.bytes.result.now = subst IsImage (sym c.bytes.ensures) c.other.invariant in
+    ap read_of (c.write_many.ensures.0 ∙ whole_written _ c.bytes.result.now c.write_many.ensures.1 (image_size c.bytes.result.now image) ∙ c.bytes.ensures) ∙ c.other.view_is

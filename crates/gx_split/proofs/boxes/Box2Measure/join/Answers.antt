@@ -13,3 +13,6 @@ returns-clause-no_smaller c =
     let a = c.args.self.now in
     let b = c.args.other.now in
     mul-le-mul (side a.x1 a.x2 b.x1 b.x2 c.know_box.ensures.x_in_order) (side a.y1 a.y2 b.y1 b.y2 c.know_box.ensures.y_in_order)
+
+pub returns-clause-value : goal.returns-clause-value
+returns-clause-value c = c.union.ensures
