@@ -7,8 +7,6 @@ mod fuse;
 mod memory;
 mod tally;
 mod tear;
-#[cfg(test)]
-mod tests;
 
 pub use device::{DiskFault, SECTOR_SIZE, SectorDisk};
 pub use file::FileDisk;

@@ -1,5 +1,5 @@
 -- Which log an image has, of a device that a log is on.
-use Rattle.std.proofs.Common.{◌≡◌, ◌∙◌, ap, refl, subst, ◌⊎◌, inl, inr, ⊎_elim, ℕ, ◌+◌, ◌<◌, ◌≤◌, List, ◌++◌, true, false, Bool, below_more, arith}
+use Rattle.std.proofs.Common.{◌≡◌, ◌∙◌, ap, refl, ◌⊎◌, inl, inr, ⊎_elim, ℕ, ◌+◌, ◌<◌, ◌≤◌, List, ◌++◌, true, false, Bool, below_more, arith}
 use Rattle.gx_disk.specs.Device.{IsImage}
 use Rattle.gx_glog.specs.declared.extent.Extent.{Extent}
 use Rattle.gx_glog.specs.declared.stage.Stage.{Stage}
@@ -8,7 +8,7 @@ use Rattle.gx_glog.specs.declared.stage.Turn.{Turn}
 use Rattle.gx_glog.specs.declared.stage.Turn.TheVariants as turn
 use Rattle.gx_glog.specs.Layout.{gates_of, other_of, selected_of, is_open, body_of, records_in, batches_of, log_of}
 use Rattle.gx_glog.specs.Bodies.{HasRecords}
-use Rattle.gx_glog.specs.State.{Log, IsSound, in_flight, turning}
+use Rattle.gx_glog.specs.State.{Log, in_flight, turning}
 use Rattle.gx_glog.specs.Standing.{IsGate, IsBodySettled, IsSelected, HasBatches, HasHead, Flies, Leads, On, gated_of, IsLogOf, Shows, ShowsIn}
 use Rattle.gx_glog.proofs.Gates.{either_extent, gate_same, selector_same, body_same, batches_same, batches_more, log_is}
 

@@ -5,5 +5,6 @@ pub mod Images
 pub mod Keeping
 pub mod Looking
 pub mod Stepping
+pub mod Told
 pub mod TurnBesides
 pub mod Turning

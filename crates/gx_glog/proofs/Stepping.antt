@@ -16,10 +16,10 @@ use Rattle.gx_glog.specs.declared.stage.Turn.TheVariants as turn
 use Rattle.gx_glog.specs.Layout.{gates_of, bodies_of, is_open, body_of, size_in, batches_of, log_of}
 use Rattle.gx_glog.specs.Reading.{IsSize}
 use Rattle.gx_glog.specs.Bodies.{HasRecords, IsBody, IsOpenGate}
-use Rattle.gx_glog.specs.State.{Log, IsSound, in_flight, turning, begun, done, Made, Goes}
+use Rattle.gx_glog.specs.State.{Log, IsSound, in_flight, turning, begun, done, Made}
 use Rattle.gx_glog.specs.Standing.{IsGate, IsBodySettled, IsSelected, HasBatches, On, gated_of, IsLogOf, Shows, IsKept}
 use Rattle.gx_glog.specs.Steps.{Calls, Keeps}
-use Rattle.gx_glog.proofs.Gates.{placed, selector_same, batches_more}
+use Rattle.gx_glog.proofs.Gates.{placed, batches_more}
 use Rattle.gx_glog.proofs.Images.{closed_log, either_log, image_gate, image_selects, selected_shows}
 use Rattle.gx_glog.proofs.Keeping.{touched_kept, gate_kept, body_settled, records_kept, selected_kept, batches_kept, gated_kept, on_kept, gated_stays, rested_kept, rested_leaves, touched_wider}
 

@@ -1,8 +1,7 @@
 -- A turn that goes on while pages are written.
-use Rattle.std.proofs.Common.{◌≡◌, ◌∙◌, sym, ap, subst, ◌⊎◌, inl, inr, ℕ, ◌+◌, ◌≤◌, List, Bool, Result, Ok, Err, arith}
+use Rattle.std.proofs.Common.{◌≡◌, ◌∙◌, sym, ap, subst, ◌⊎◌, inl, inr, ℕ, ◌≤◌, List, Bool, Result, Ok, Err, arith}
 use Rattle.gx_geom.specs.declared.refusal.Refusal.{Refusal}
-use Rattle.gx_disk.specs.Sectors.{IsOutside}
-use Rattle.gx_disk.specs.Device.{Device, IsImage, Elapses, Writes}
+use Rattle.gx_disk.specs.Device.{Device, IsImage, Writes}
 use Rattle.gx_disk.specs.Moments.{Leaves}
 use Rattle.gx_disk.proofs.Leaving.{call_leaves}
 use Rattle.gx_glog.specs.declared.stage.Stage.{Stage}

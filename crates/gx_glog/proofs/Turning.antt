@@ -1,9 +1,9 @@
 -- What each device call of a turn keeps.
-use Rattle.std.proofs.Common.{◌≡◌, ◌∙◌, sym, ap, refl, inl, inr, ℕ, ◌+◌, ◌*◌, ◌<◌, ◌≤◌, ◌==◌, List, [], length, take, drop, get_or, true, false, Bool, Result, Ok, Err, subst, if◌then◌else◌, arith}
+use Rattle.std.proofs.Common.{◌≡◌, ◌∙◌, sym, ap, inl, inr, ℕ, ◌+◌, ◌*◌, ◌<◌, ◌≤◌, ◌==◌, List, [], length, take, drop, get_or, true, false, Bool, Result, Ok, Err, subst, if◌then◌else◌, arith}
 use Rattle.std.proofs.lemmas.List.{get_or-take, get_or-drop}
 use Rattle.gx_geom.specs.declared.refusal.Refusal.{Refusal}
-use Rattle.gx_disk.specs.Sectors.{span_of, put, IsWithin}
-use Rattle.gx_disk.specs.Device.{Device, MayLeave, Elapses, Touches, Writes, Syncs, IsWritten}
+use Rattle.gx_disk.specs.Sectors.{span_of, IsWithin}
+use Rattle.gx_disk.specs.Device.{Device, MayLeave, Elapses, Touches, Syncs, IsWritten}
 use Rattle.gx_disk.specs.Moments.{Leaves}
 use Rattle.gx_disk.proofs.Leaving.{call_leaves, rested_touches}
 use Rattle.gx_disk.proofs.Spans.{put_back}
@@ -16,12 +16,12 @@ use Rattle.gx_glog.specs.declared.stage.Turn.TheVariants as turn
 use Rattle.gx_glog.specs.Layout.{gates_of, bodies_of, other_of, selected_of, is_open, body_of, size_in, batches_of}
 use Rattle.gx_glog.specs.Reading.{IsSize}
 use Rattle.gx_glog.specs.Bodies.{HasRecords, IsBody, IsOpenGate}
-use Rattle.gx_glog.specs.State.{Log, in_flight, turning, turned, Turns}
-use Rattle.gx_glog.specs.Standing.{IsGate, IsSelected, HasBatches, ReadsClosed, HasFirst, HasHead, Leads, On, gated_of, ShowsIn, IsKept}
+use Rattle.gx_glog.specs.State.{Log, turning, turned}
+use Rattle.gx_glog.specs.Standing.{IsGate, IsSelected, ReadsClosed, HasFirst, HasHead, Leads, On, gated_of, ShowsIn}
 use Rattle.gx_glog.specs.Turning.{AreClosedGates, selector_of, IsSelector, TurnCalls, Selects, TouchesIn, KeepsTurning}
 use Rattle.gx_glog.proofs.Gates.{placed, other_outside}
 use Rattle.gx_glog.proofs.Images.{head_batches, image_shows}
-use Rattle.gx_glog.proofs.Keeping.{KeptExtent, touched_kept, selected_kept, extent_batches, extent_gated, extent_body, closed_kept, first_kept, head_kept, on_kept, gated_stays, rested_leaves, touched_wider}
+use Rattle.gx_glog.proofs.Keeping.{KeptExtent, touched_kept, selected_kept, extent_batches, extent_gated, closed_kept, first_kept, head_kept, on_kept, gated_stays, rested_leaves, touched_wider}
 use Rattle.gx_glog.proofs.Stepping.{log_at}
 
 -- what was written is read

@@ -4,6 +4,7 @@ pub mod Bodies
 pub mod Laws
 pub mod Layout
 pub mod Looks
+pub mod Parameters
 pub mod Reading
 pub mod Standing
 pub mod State

@@ -1,4 +1,5 @@
-//! Laws of a log on a device. Each function is its contract alone.
+//! Laws of a log on a device, and of the sector of parameters. Each function is its contract alone.
+ghost use Rattle.gx_glog.specs.Parameters.{BytesTellParameters};
 ghost use Rattle.gx_glog.specs.Laws.{ImagesHaveTheLog, SelectorDecides, StartIsOn, AppendStaysOn, PutFirstStaysOn, ElsewhereStaysOn, ElsewhereKeepsBatches};
 
 /// Of a device that a log is on, the log of each image is what is gated, with what is in flight or without: without as long as
@@ -20,4 +21,9 @@ pub fn appends()
 pub fn calls_elsewhere()
     ensures on { ElsewhereStaysOn }
     ensures batches { ElsewhereKeepsBatches }
+{}
+
+/// The bytes of a device's parameters tell which they are.
+pub fn parameters()
+    ensures told { BytesTellParameters }
 {}

@@ -1,5 +1,5 @@
 //! Devices in use: what a crash leaves, a fuse at each call, and a real file.
-use crate::{DiskFault, FileDisk, Fuse, FuseDisk, MemDisk, SectorDisk, Torn};
+use gx_disk::{DiskFault, FileDisk, Fuse, FuseDisk, MemDisk, SectorDisk, Torn};
 use std::test::Fail;
 
 const A: [u8; 512] = [0xa1; 512];

@@ -1,0 +1,13 @@
+use Rattle.std.proofs.Common.{◌∙◌, [], ◌∷◌}
+use Rattle.gx_device_tests.proofs.Threes.{not_held, same_kept, sibling_added}
+use Rattle.gx_device_tests.proofs.frames.add_sibling.Goals as goal
+
+pub create-requires-clause-absent : goal.create-requires-clause-absent
+create-requires-clause-absent g c =
+    c.in_ok-bring.ensures.brought.alone c.args.sibling (not_held c.args.node c.args.parent c.args.sibling c.requires.apart)
+    (same_kept c.args.pool.now.frames (c.args.node ∷ c.args.parent ∷ []) c.args.sibling ∙ c.requires.sibling.2)
+
+pub returns-clause-added : goal.returns-clause-added
+returns-clause-added g c =
+    sibling_added _ (g.D.SectorDisk.state c.args.disk.now) (g.D.SectorDisk.state c.bring.new.disk) c.args.pool.now.frames c.bring.new.self.frames c.create.new.self.frames c.change_three.new.pool.frames
+    c.args.node c.args.parent c.args.sibling c.args.nsn c.args.batch c.in_ok-bring.ensures.brought c.create.ensures.created c.change_three.ensures

@@ -1,0 +1,123 @@
+//! Callers of the frame pool, proved from its contracts and laws: what a split will do with three pages, and a page that is
+//! changed, written, and brought again.
+ghost use Rattle.std.specs.Prelude.{◌≡◌, ◌≤◌, ◌++◌, ◌∷◌, [], ℕ, List, None, true, IsSome, IfOk, OnOk, OnErr};
+ghost use Rattle.gx_pool.specs.Area.{IsPage};
+ghost use Rattle.gx_pool.specs.Laws.{IsBacked};
+ghost use Rattle.gx_pool.specs.State.{kept};
+ghost use Rattle.gx_device_tests.specs.Frames.{AddsSibling, AreThree, ChangesOne, ChangesThree, LogsThree, OnlyBrings, ReadsAgain};
+
+use gx_disk::SectorDisk;
+use gx_pool::{PAGES, PageTest, Pool, PoolFault};
+
+/// A log that takes the images of three pages.
+pub trait ImageLog {
+    /// The images that were logged.
+    ghost logged: { Self → List (List ℕ) };
+
+    /// Logs three images behind those that were.
+    fn append(&mut self, first: &[u8], second: &[u8], third: &[u8])
+        ensures { logged self.new ≡ logged self.old ++ (first.now ∷ second.now ∷ third.now ∷ []) };
+}
+
+/// Sets a kept page's rightlink, as a change of a batch.
+pub fn set_right<T: PageTest>(pool: &mut Pool<T>, page: u32, right: u32, batch: u64)
+    requires page { page ≤ PAGES }
+    requires kept { IsSome (kept pool.old.frames page) }
+    ensures { ChangesOne pool.old.frames pool.new.frames page batch (λ c. record c { right = right }) }
+{
+    pool.change_kept(page, batch).set_right(right);
+}
+
+/// Sets a kept page's sequence number, as a change of a batch.
+pub fn set_nsn<T: PageTest>(pool: &mut Pool<T>, page: u32, nsn: u64, batch: u64)
+    requires page { page ≤ PAGES }
+    requires kept { IsSome (kept pool.old.frames page) }
+    ensures { ChangesOne pool.old.frames pool.new.frames page batch (λ c. record c { nsn = nsn }) }
+{
+    pool.change_kept(page, batch).set_nsn(nsn);
+}
+
+/// Links a node to its new sibling and gives the sibling and the parent a sequence number, all as changes of one batch.
+pub fn change_three<T: PageTest>(
+    pool: &mut Pool<T>,
+    node: u32,
+    parent: u32,
+    sibling: u32,
+    nsn: u64,
+    batch: u64,
+)
+    requires pages { (node ≤ PAGES) × (parent ≤ PAGES) × (sibling ≤ PAGES) }
+    requires apart { AreThree node parent sibling }
+    requires kept { IsSome (kept pool.old.frames node) × IsSome (kept pool.old.frames parent) × IsSome (kept pool.old.frames sibling) }
+    ensures { ChangesThree pool.old.frames pool.new.frames node parent sibling nsn batch }
+{
+    set_right(pool, node, sibling, batch);
+    set_nsn(pool, parent, nsn, batch);
+    set_nsn(pool, sibling, nsn, batch);
+}
+
+/// Logs the images of three kept pages, all lent at once.
+pub fn log_three<T: PageTest, L: ImageLog>(
+    pool: &Pool<T>,
+    log: &mut L,
+    node: u32,
+    parent: u32,
+    sibling: u32,
+)
+    requires pages { (node ≤ PAGES) × (parent ≤ PAGES) × (sibling ≤ PAGES) }
+    requires kept { IsSome (kept pool.now.frames node) × IsSome (kept pool.now.frames parent) × IsSome (kept pool.now.frames sibling) }
+    ensures { LogsThree pool.now.frames node parent sibling (L.logged log.old) (L.logged log.new) }
+{
+    let first = pool.page(node);
+    let second = pool.page(parent);
+    let third = pool.page(sibling);
+    log.append(first.image(), second.image(), third.image());
+}
+
+/// Brings a node and its parent, makes a sibling, and changes all three as of one batch. Where it is refused
+/// pages were brought, and nothing else was done.
+pub fn add_sibling<T: PageTest, D: SectorDisk>(
+    pool: &mut Pool<T>,
+    disk: &mut D,
+    node: u32,
+    parent: u32,
+    sibling: u32,
+    nsn: u64,
+    batch: u64,
+) -> Result<(), PoolFault>
+    requires pages { IsPage (D.state disk.old).sectors node × IsPage (D.state disk.old).sectors parent }
+    requires sibling { (1 ≤ sibling) × (sibling ≤ PAGES) × (kept pool.old.frames sibling ≡ None) }
+    requires apart { AreThree node parent sibling }
+    ensures added { OnOk result (AddsSibling (T.passes pool.old.test) (D.state disk.old) (D.state disk.new) pool.old.frames pool.new.frames node parent sibling nsn batch) }
+    ensures refused { OnErr result (OnlyBrings (T.passes pool.old.test) (D.state disk.old) (D.state disk.new) pool.old.frames pool.new.frames (node ∷ parent ∷ [])) }
+{
+    pool.bring(disk, &[node, parent])?;
+    if pool.clean_frames() == 0 {
+        return Err(PoolFault::NoCleanFrame);
+    }
+    pool.create(sibling, 0, batch);
+    change_three(pool, node, parent, sibling, nsn, batch);
+    Ok(())
+}
+
+/// Sets a page's sequence number as a change of a batch, has it written, brings another page, for which its frame may be
+/// used, and reads the number of the page brought again.
+pub fn change_and_read_again<T: PageTest, D: SectorDisk>(
+    pool: &mut Pool<T>,
+    disk: &mut D,
+    page: u32,
+    other: u32,
+    nsn: u64,
+    batch: u64,
+) -> Result<u64, PoolFault>
+    requires pages { IsPage (D.state disk.old).sectors page × IsPage (D.state disk.old).sectors other }
+    ensures { (D.state disk.old).honest ≡ true → IsBacked pool.old.frames (D.state disk.old).seen → IfOk result (λ read. (read ≡ nsn) × ReadsAgain (D.state disk.old).seen (D.state disk.new).seen pool.old.frames pool.new.frames page nsn) }
+{
+    pool.bring(disk, &[page])?;
+    set_nsn(pool, page, nsn, batch);
+    pool.gated(batch);
+    pool.write_page(disk, page)?;
+    pool.bring(disk, &[other])?;
+    pool.bring(disk, &[page])?;
+    Ok(pool.page(page).nsn())
+}

@@ -1,0 +1,5 @@
+use Rattle.gx_glog.proofs.Told.{told}
+use Rattle.gx_glog.proofs.laws.parameters.Goals as goal
+
+pub returns : goal.returns
+returns c = record { told = told }
