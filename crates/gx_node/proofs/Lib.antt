@@ -13,4 +13,3 @@ pub mod Pairs
 pub mod Parts
 pub mod Scanning
 pub mod Slots
-pub mod Sweeping

@@ -1,16 +1,14 @@
 //! Edits of a leaf in place. None takes memory, and each leaves a leaf of the same page number, level, sequence number and
 //! rightlink.
-ghost use Rattle.std.specs.Prelude.{◌≡◌, ◌<◌, ◌≤◌, ◌∷◌, ◌++◌, [], true, Bool, length, filter, Some, slice_get, slice_set};
-ghost use Rattle.gx_machine.specs.declared.entry.Entry.{Entry};
+ghost use Rattle.std.specs.Prelude.{◌≡◌, ◌<◌, ◌≤◌, ◌∷◌, ◌++◌, [], true, length, Some, slice_get, slice_set};
 ghost use Rattle.gx_tree_laws.specs.Lists.{staying};
-ghost use Rattle.gx_tree_laws.specs.Steps.{spares};
 ghost use Rattle.gx_tree_laws.specs.Trees.{Pair};
-ghost use Rattle.gx_node.specs.Edits.{with_pairs, marked_as, entry_of};
+ghost use Rattle.gx_node.specs.Edits.{with_pairs, marked_as};
 ghost use Rattle.gx_node.specs.Reading.{format, is_leaf, leaf_of};
 ghost use Rattle.gx_node.specs.Seen.{pair_seen};
 ghost use Rattle.gx_node.specs.declared.items.TheConstants.{MAX_ENTRIES};
 
-use crate::entry::{PAIR_TAIL, pair_of, write_pair};
+use crate::entry::{PAIR_TAIL, write_pair};
 use crate::items::{append_item, keep_staying};
 use gx_class::{KeyClass, MAX_KEY};
 use gx_machine::Entry;
@@ -42,29 +40,6 @@ pub fn set_mark<K: KeyClass>(page: &mut Page, slot: usize, marked: bool)
     ensures number { page.new.number ≡ page.old.number }
 {
     page.set_byte(slot, K::KEY + 8, u8::from(marked));
-}
-
-/// Takes the marked pairs out that nobody claims, as pairs that were deleted by their mark are removed later (Kornacker,
-/// Mohan, Hellerstein 1997).
-pub fn sweep<K: KeyClass, F: Fn(Entry<K::Key>) -> bool>(page: &mut Page, claimed: F)
-    requires leaf { is_leaf (format K.KEY K.reading K.start_key) page.old ≡ true }
-    requires claimed { F.IsAlwaysCallable claimed }
-    ensures leaf { is_leaf (format K.KEY K.reading K.start_key) page.new ≡ true }
-    ensures node { (test : Entry K.Key → Bool) → ((entry : Entry K.Key) (answer : Bool) → F.post claimed entry answer → answer ≡ test entry)
-        → leaf_of (format K.KEY K.reading K.start_key) page.new ≡ with_pairs (leaf_of (format K.KEY K.reading K.start_key) page.old)
-        (filter (spares (λ pair. test (entry_of pair))) (leaf_of (format K.KEY K.reading K.start_key) page.old).pairs) }
-    ensures number { page.new.number ≡ page.old.number }
-{
-    for slot in (0..page.count()).rev() {
-        let (entry, marked) = pair_of::<K>(page.get(slot));
-        if !marked {
-            continue;
-        }
-        if claimed(entry) {
-            continue;
-        }
-        page.remove(slot);
-    }
 }
 
 /// Takes the pairs out whose side is `true`. A split keeps the one side on the leaf's page so, and the other on a copy of it.

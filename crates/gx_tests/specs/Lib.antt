@@ -1,3 +1,2 @@
-pub mod Frames
 pub mod Halves
 pub mod OneByte

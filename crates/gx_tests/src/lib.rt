@@ -14,17 +14,10 @@ mod classes;
 pub mod descents;
 #[cfg(test)]
 mod faults;
-pub mod frames;
 #[cfg(test)]
 mod intervals;
 #[cfg(test)]
 mod large;
-#[cfg(test)]
-mod log;
-#[cfg(test)]
-mod log_faults;
-#[cfg(test)]
-mod log_reads;
 #[cfg(test)]
 mod memory;
 #[cfg(test)]
@@ -34,20 +27,20 @@ mod pages;
 #[cfg(test)]
 mod plain;
 #[cfg(test)]
-mod pool;
-#[cfg(test)]
-mod pool_calls;
-#[cfg(test)]
 mod reaches;
 #[cfg(test)]
-mod records;
-#[cfg(test)]
 mod scripts;
+#[cfg(test)]
+mod small_engine;
+#[cfg(test)]
+mod tree_drawn;
+#[cfg(test)]
+mod tree_held;
+#[cfg(test)]
+mod tree_legal;
 #[cfg(test)]
 mod tree_rows;
 #[cfg(test)]
 mod tree_runs;
 #[cfg(test)]
 mod trees;
-#[cfg(test)]
-mod turns;

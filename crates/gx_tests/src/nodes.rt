@@ -105,12 +105,6 @@ fn set_mark<K: KeyClass>(rt: &impl Abort, page: &mut Page, slot: usize, marked: 
     leaf_edits::set_mark::<K>(page, slot, marked);
 }
 
-/// Sweeps a leaf of which the pairs of even rows are claimed.
-fn sweep<K: KeyClass>(rt: &impl Abort, page: &mut Page) {
-    pairs::<K>(rt, page);
-    leaf_edits::sweep::<K, _>(page, |entry| entry.row % 2 == 0);
-}
-
 /// Takes the pairs out of a leaf whose side is `true`.
 fn keep_pairs<K: KeyClass>(rt: &impl Abort, page: &mut Page, sides: &[bool]) {
     assert!(rt; sides.len() == pairs::<K>(rt, page));
@@ -143,7 +137,6 @@ fn start(page: &mut Page, level: u16) {
 
 fn leaf_edits_write<K: Numbered>(rt: &impl Abort, alloc: Global) -> Result<(), Fail> {
     let mut page = Page::fresh(alloc, 0, 2)?;
-    let mut other = Page::fresh(alloc, 5, 7)?;
     let mut wanted = Page::fresh(alloc, 0, 2)?;
     for count in [0, 1, 99, 100] {
         start(&mut page, 0);
@@ -160,15 +153,6 @@ fn leaf_edits_write<K: Numbered>(rt: &impl Abort, alloc: Global) -> Result<(), F
             write_pair(rt, &mut wanted, K::bytes(n), 255 - n, u8::from(n % 3 == 1));
         }
         assert_eq!(rt; page.image(), wanted.image(), "marks of {count}");
-
-        start(&mut wanted, 0);
-        for n in 0..count {
-            if n % 3 != 1 || (255 - n) % 2 == 0 {
-                write_pair(rt, &mut wanted, K::bytes(n), 255 - n, u8::from(n % 3 == 1));
-            }
-        }
-        sweep::<K>(rt, &mut page);
-        assert_eq!(rt; page.image(), wanted.image(), "sweep of {count}");
     }
     Ok(())
 }

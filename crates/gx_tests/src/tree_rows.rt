@@ -1,24 +1,19 @@
 //! Trees that the steps make of known rows, page by page.
 
-use crate::tree_runs::{Run, insert};
-use crate::trees::{Corners, LINE, a_box, fresh_tree, nine_rows, split_twice};
+use crate::tree_runs::{Run, begin, insert};
+use crate::trees::{Corners, LINE, a_box, nine_rows, split_twice};
 use gx_class::Box2Class;
 use gx_machine::Entry;
 use gx_tree::{MemoryPages, Pages};
 use std::process::Abort;
 use std::test::Fail;
 
-/// A run on a fresh tree of four entries a node, with so many pages that can be taken.
-fn begin<R: Abort + AllocGlobal>(rt: &R, more: usize) -> Result<Run, Fail> {
-    Ok(Run {
-        tree: fresh_tree(rt, more)?,
-        pairs: Vec::new(rt.alloc()),
-        most: 4,
-    })
-}
-
 /// Two trees have the same counter and the same pages: level, sequence number, rightlink, and the items byte for byte.
-fn are_same(rt: &impl Abort, one: &MemoryPages<Box2Class>, other: &MemoryPages<Box2Class>) {
+pub(crate) fn are_same(
+    rt: &impl Abort,
+    one: &MemoryPages<Box2Class>,
+    other: &MemoryPages<Box2Class>,
+) {
     assert_eq!(rt;
         (one.used(), one.counter()),
         (other.used(), other.counter())
@@ -45,8 +40,8 @@ fn inserted<R: Abort + AllocGlobal>(
     boxes: &[Corners],
     more: usize,
     refused: usize,
-) -> Result<Run, Fail> {
-    let mut run = begin(rt, more)?;
+) -> Result<Run<Box2Class>, Fail> {
+    let mut run = begin(rt, 4, more)?;
     for (k, corners) in boxes.iter().enumerate() {
         let key = a_box(rt, *corners);
         let entry = Entry {

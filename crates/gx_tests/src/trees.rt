@@ -43,10 +43,11 @@ fn pair_item(row: u64, key: Box2) -> [u8; 25] {
     item
 }
 
-/// A child's bytes.
-fn child_item(child: u32, key: Box2) -> [u8; 20] {
+/// A child's bytes, of a class whose keys have sixteen.
+fn child_item<K: KeyClass>(rt: &impl Abort, child: u32, key: K::Key) -> [u8; 20] {
+    assert!(rt; K::KEY == 16);
     let mut item = [0; 20];
-    Box2Class::encode(key, &mut item[..16]);
+    K::encode(key, &mut item[..16]);
     item[16..].copy_from_slice(&child.to_be_bytes());
     item
 }
@@ -95,7 +96,7 @@ fn inner<R: Abort + AllocGlobal>(
 ) -> Result<(), Fail> {
     let mut page = fresh(rt, 0, header)?;
     for (child, corners) in children {
-        let item = child_item(*child, a_box(rt, *corners));
+        let item = child_item::<Box2Class>(rt, *child, a_box(rt, *corners));
         put(rt, &mut page, &item);
     }
     add(pages, page)?;
@@ -112,24 +113,27 @@ fn spare<R: AllocGlobal>(rt: &R, count: usize) -> Result<Vec<Page>, Fail> {
 }
 
 /// These nodes, page 1 first, with so many splits made, and so many pages that can be taken.
-fn tree_of<R: Abort + AllocGlobal>(
+fn tree_of<K: KeyClass, R: Abort + AllocGlobal>(
     rt: &R,
     pages: Vec<Page>,
     counter: u64,
     more: usize,
-) -> Result<MemoryPages<Box2Class>, Fail> {
+) -> Result<MemoryPages<K>, Fail> {
     let tree = MemoryPages::new(pages, spare(rt, more)?, counter);
     Ok(tree.ok().expect(rt, "a tree"))
 }
 
 /// A fresh tree, with so many pages that can be taken: a root over an empty leaf.
-pub(crate) fn fresh_tree<R: Abort + AllocGlobal>(
+pub(crate) fn fresh_tree<K: KeyClass, R: Abort + AllocGlobal>(
     rt: &R,
     more: usize,
-) -> Result<MemoryPages<Box2Class>, Fail> {
+) -> Result<MemoryPages<K>, Fail> {
     let mut pages = Vec::new(rt.alloc());
-    inner(rt, &mut pages, (1, 0, 0), &[(2, (0, 0, 0, 0))])?;
-    leaf(rt, &mut pages, (0, 0, 0), &[])?;
+    let mut root = fresh(rt, 1, (1, 0, 0))?;
+    let child = child_item::<K>(rt, 2, K::start());
+    put(rt, &mut root, &child);
+    add(&mut pages, root)?;
+    add(&mut pages, fresh(rt, 2, (0, 0, 0))?)?;
     tree_of(rt, pages, 0, more)
 }
 
@@ -244,7 +248,7 @@ fn pages_that_lead_nowhere_are_not_read(rt: HostRuntime) -> Result<(), Fail> {
 }
 
 /// A tree of two rows, when a search begins.
-fn held<R: Abort + AllocGlobal>(rt: &R) -> Result<MemoryPages<Box2Class>, Fail> {
+pub(crate) fn held<R: Abort + AllocGlobal>(rt: &R) -> Result<MemoryPages<Box2Class>, Fail> {
     let mut pages = Vec::new(rt.alloc());
     inner(rt, &mut pages, (1, 0, 0), &[(2, (0, 0, 101, 5))])?;
     let rows = [(1, (100, 4, 101, 5)), (2, (0, 0, 1, 1))];
@@ -372,7 +376,7 @@ fn a_descent_widens_a_bound(rt: HostRuntime) -> Result<(), Fail> {
     let root = Item::new(1, 1);
     let down = Ok(Some((4, 2)));
     assert_eq!(rt; goes_down(&mut pages, &root, &far, 4), down);
-    let widened = child_item(4, a_box(&rt, (100, 6, 102, 12)));
+    let widened = child_item::<Box2Class>(&rt, 4, a_box(&rt, (100, 6, 102, 12)));
     assert!(rt; pages.used() > 0);
     let page = pages.page(1);
     assert!(rt; page.count() > 2);

@@ -98,16 +98,16 @@ fn way_down<K: KeyClass>(inner: &Inner<K>, coming: &K::Key, most: usize) -> Opti
 fn way_at<K: KeyClass>(
     page: &Page,
     room: u32,
-    seen: u64,
+    item: &Item,
     coming: &K::Key,
     most: usize,
 ) -> Option<Way<K::Key>>
     requires { is_node (format K.KEY K.reading K.start_key) room page.now ≡ true }
-    ensures way { IfSome result (Descends K.cost K.joined most (node_of (format K.KEY K.reading K.start_key) page.now) seen coming.now) }
+    ensures way { IfSome result (Descends K.cost K.joined most (node_of (format K.KEY K.reading K.start_key) page.now) item.now.seen coming.now) }
     ensures none { IfNone result ((0 < (node_of (format K.KEY K.reading K.start_key) page.now).level)
         × (length (node_of (format K.KEY K.reading K.start_key) page.now).children ≡ 0)) }
 {
-    if page.nsn() > seen {
+    if item.was_split(page) {
         return Some(Way::Again);
     }
     if page.level() > 0 {
@@ -144,7 +144,7 @@ pub fn way_step<K: KeyClass, P: Pages<K>>(
     bring_page(pages, item.page())?;
     let room = pages.room();
     let page = pages.page(item.page());
-    match way_at::<K>(page, room, item.seen(), coming, most) {
+    match way_at::<K>(page, room, item, coming, most) {
         Some(way) => Ok(way),
         None => Err(StepFault::Damaged),
     }

@@ -1,6 +1,7 @@
 //! Items of a traversal.
-ghost use Rattle.std.specs.Prelude.{◌≡◌};
+ghost use Rattle.std.specs.Prelude.{◌≡◌, nat_lt};
 
+use gx_page::Page;
 use std::marker::Model;
 
 /// A page that is to be read, and the counter of splits as it was when the page's number was read (Kornacker, Mohan,
@@ -41,5 +42,12 @@ impl Item {
         ensures { result ≡ self.now.seen }
     {
         self.seen
+    }
+
+    /// Whether its page was split since its number was read: the page has a greater one than the counter was.
+    pub(crate) fn was_split(&self, page: &Page) -> bool
+        ensures { result ≡ nat_lt self.now.seen page.now.nsn }
+    {
+        page.nsn() > self.seen
     }
 }

@@ -151,7 +151,7 @@ fn read<K: Probing>(
     let Some(item) = look.stack.pop() else {
         return Ok(());
     };
-    if page.nsn() > item.seen() {
+    if item.was_split(page) {
         look.stack.push(Item::new(page.right(), item.seen()))?;
     }
     if page.level() == 0 {
@@ -182,6 +182,7 @@ pub fn look_step<K: Probing, P: Pages<K>>(
     ensures damaged { result ≡ Err StepFault.Damaged → (rest : List reach.Item) (item : reach.Item)
         → look.old.stack.items ≡ rest ++ item ∷ [] → ¬ Used (tree_of (P.store pages.new)) item.page }
     ensures refused { OnErr result (result ≢ Err StepFault.Memory → look.new ≡ look.old) }
+    ensures full { result ≢ Err StepFault.PagesFull }
 {
     let item = look.next();
     bring_page(pages, item.page())?;

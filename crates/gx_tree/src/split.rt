@@ -144,8 +144,8 @@ fn plan_split<K: KeyClass, P: PagesMut<K>>(
         return Err(StepFault::PagesFull);
     }
     match halve::<K>(pages.page(page), room, most, keys) {
-        Some(halves) if halves.sides().len() <= MAX_ENTRIES => Ok(Some((slot, halves))),
-        _ => Err(StepFault::Damaged),
+        Some(halves) => Ok(Some((slot, halves))),
+        None => Err(StepFault::Damaged),
     }
 }
 

@@ -57,8 +57,8 @@ fn plan_root<K: KeyClass, P: PagesMut<K>>(
         return Err(StepFault::PagesFull);
     }
     match halve::<K>(root, room, most, keys) {
-        Some(halves) if halves.sides().len() <= MAX_ENTRIES => Ok(halves),
-        _ => Err(StepFault::Damaged),
+        Some(halves) => Ok(halves),
+        None => Err(StepFault::Damaged),
     }
 }
 

@@ -38,6 +38,7 @@ where
     ensures same { P.store pages.new ≡ P.store pages.old }
     ensures steady { P.steady pages.new }
     ensures damaged { result ≢ Err StepFault.Damaged }
+    ensures full { result ≢ Err StepFault.PagesFull }
 {
     laws::keys_are_lawful::<K::Key>();
     let wanted = Wanted::<K>::matching(query);
