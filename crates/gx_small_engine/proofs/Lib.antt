@@ -1,5 +1,8 @@
 pub mod Lists
 pub mod Slots
+pub mod Places
+pub mod Stepping
+pub mod Passing
 pub mod Keeping
 pub mod Asking
 pub mod Fresh

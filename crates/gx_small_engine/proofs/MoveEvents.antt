@@ -1,5 +1,5 @@
 -- Each exit of a move is an event, and keeps what is kept. The state is given twice: by its parts, and as contracts see it.
-use Rattle.std.proofs.Common.{◌≡◌, ◌≢◌, ℕ, zero, suc, get_or, ◌-◌, ◌<◌, ◌≤◌, true, false, not, List, [], ◌∷◌, Option, Some, None, length, map, refl, ap, sym, ◌∙◌, arith, subst}
+use Rattle.std.proofs.Common.{◌≡◌, ◌≢◌, ℕ, ◌-◌, ◌<◌, ◌≤◌, true, false, not, List, Option, Some, None, map, refl, ap, sym, ◌∙◌, arith, subst}
 use Rattle.std.specs.Prelude.{slice_set}
 use Rattle.std.proofs.lemmas.List.{set-get_or}
 use Rattle.gx_geom.specs.declared.refusal.Refusal.TheVariants.{Memory, Present, Absent}
@@ -32,23 +32,6 @@ use Rattle.gx_small_engine.proofs.Closing.{is_closed, is_acknowledged, slot_is, 
 use Rattle.gx_small_engine.proofs.Keeping.{kept_by_one, numbers_left}
 use Rattle.gx_small_engine.proofs.Marks.{live_with_mark, live_revived, still_listed, revived_listed, listed_with_mark, live_listed}
 use Rattle.gx_small_engine.proofs.Writing.{insert_claims, delete_claims, is_written, written_placed, written_state, noted_held}
-
-any_default : {X : Type 0} (xs : List X) (i : ℕ) (d e : X) → i < length xs → get_or xs i d ≡ get_or xs i e
-any_default [] i d e low = absurd (omega arith)
-any_default (x ∷ xs) zero d e low = refl
-any_default (x ∷ xs) (suc i) d e low = any_default xs i d e (omega arith)
-
--- how far a session is, as the code reads it
-pub phase_in : {B : Type 0} (phases : List (Phase B)) (s : ℕ) → length phases ≡ 8 → is_session s ≡ true → (x : Phase B) (n : ℕ)
-    → x ≡ get_or phases (n - 1) x → n ≡ s → phase_at (s - 1) phases ≡ x
-phase_in phases s eight is x n read number =
-    let bounds : (0 < s) × (s < 9) = session_bounds s is in
-    any_default phases (s - 1) phase.Free x (omega (arith, eight)) ∙ ap (λ (m : ℕ). get_or phases (m - 1) x) (sym number) ∙ sym read
-
-pub phase_read : {B : Type 0} (k : Keys B) (old now : State B) → old ≡ now → IsKept k old → (s : ℕ) → is_session s ≡ true → (x : Phase B) (n : ℕ)
-    → x ≡ get_or old.phases (n - 1) x → n ≡ s → phase_at (s - 1) now.phases ≡ x
-phase_read k old now same kept s is x n read number =
-    ap (λ (y : State _). phase_at (s - 1) y.phases) (sym same) ∙ phase_in old.phases s kept.phases is x n read number
 
 -- nothing is done
 pub rests : {B : Type 0} (k : Keys B) (now : State B) (s : ℕ) → (is_session s ≡ true → IsWork now.oldest (phase_at (s - 1) now.phases) (phase_at (s - 1) now.phases)) → Moves k s now None now

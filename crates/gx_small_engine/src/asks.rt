@@ -1,5 +1,5 @@
 //! Asking, by how far a session is and by what it holds.
-ghost use Rattle.std.specs.Prelude.{◌≡◌, ◌-◌, true, length};
+ghost use Rattle.std.specs.Prelude.{◌≡◌, ◌<◌, ◌-◌, true, length};
 ghost use Rattle.std.specs.List.{slice_index_or};
 ghost use Rattle.gx_machine.specs.declared.limits.TheConstants.{SESSIONS};
 ghost use Rattle.gx_machine.specs.Keys.{keys_of};
@@ -19,13 +19,22 @@ pub fn refused<B>(why: Refusal) -> Asked<B>
     Asked::Now(Reply::Refused(why))
 }
 
+/// The place of a session in a list of all.
+pub fn place_of(session: u8) -> usize
+    requires { is_session session ≡ true }
+    ensures place { result ≡ session - 1 }
+    ensures within { result < SESSIONS }
+{
+    usize::from(session) - 1
+}
+
 /// Makes a session this far.
 pub fn set_phase<B: Shape>(phases: &mut Vec<Phase<B>>, session: u8, phase: Phase<B>)
     requires session { is_session session ≡ true }
     requires eight { length phases.old.items ≡ SESSIONS }
     ensures { phases.new.items ≡ with_phase session phase phases.old.items }
 {
-    phases[usize::from(session) - 1] = phase;
+    phases[place_of(session)] = phase;
 }
 
 /// Opens a call of a session that has its lock, or says why it lacks it.
@@ -111,7 +120,7 @@ pub fn ask_at<B: Shape>(
     ensures { AskedAt (keys_of B.Shape) session call (slice_index_or phases.old.items (session - 1) phase.Free)
         phases.old.items table.old result phases.new.items table.new }
 {
-    match &phases[usize::from(session) - 1] {
+    match &phases[place_of(session)] {
         Phase::Free => ask_free(phases, session, call),
         Phase::Working => ask_working(phases, table, session, call),
         Phase::Open(_) | Phase::Looking(_) | Phase::Undoing | Phase::Waiting(_) => {

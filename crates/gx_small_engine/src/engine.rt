@@ -98,7 +98,7 @@ impl<B: Shape> SmallEngine<B> {
         ensures { result ≡ (begins call.now (phase_at (session - 1) self.now.phases)
             && nat_le LAST_NUMBER (last_number (engine_of (keys_of B.Shape) self.now))) }
     {
-        begins(call, &self.phases[usize::from(session) - 1]) && self.last_number() >= LAST_NUMBER
+        begins(call, &self.phases[asks::place_of(session)]) && self.last_number() >= LAST_NUMBER
     }
 
     /// Asks a call of a session, from 1 to 8. It takes no memory.
@@ -228,7 +228,7 @@ impl<B: Shape> SmallEngine<B> {
         let alloc = *self.pairs.allocator();
         match looks::read(&mut self.phases, session, &self.pairs) {
             Ok(true) => None,
-            Ok(false) => match looks::found(alloc, &self.phases, session) {
+            Ok(false) => match looks::found(alloc, &self.phases[asks::place_of(session)]) {
                 Ok(entries) => {
                     asks::set_phase(&mut self.phases, session, Phase::Working);
                     Some(Reply::Found(Entries::new(entries)))
@@ -294,7 +294,7 @@ impl<B: Shape> SmallEngine<B> {
         if !is_session(session) {
             return None;
         }
-        match &self.phases[usize::from(session) - 1] {
+        match &self.phases[asks::place_of(session)] {
             Phase::Free => None,
             Phase::Working => None,
             Phase::Open(call) => {

@@ -8,6 +8,7 @@ ghost use Rattle.gx_small_engine.specs.Asked.{with_phase};
 ghost use Rattle.gx_small_engine.specs.Moves.{HasLook, LooksLater, IsNearer, HasGathered};
 ghost use Rattle.gx_small_engine.specs.States.{phase_at};
 
+use crate::asks::place_of;
 use crate::phase::Phase;
 use crate::sets;
 use gx_engine_laws::Listed;
@@ -23,9 +24,7 @@ fn step<B: Shape>(phase: &mut Phase<B>, pairs: &[Listed<B>]) -> Result<bool, All
 {
     match phase {
         Phase::Looking(look) => look.step(pairs),
-        Phase::Free | Phase::Working | Phase::Open(_) | Phase::Undoing | Phase::Waiting(_) => Ok(
-            false,
-        ),
+        _ => Ok(false),
     }
 }
 
@@ -43,32 +42,16 @@ pub fn read<B: Shape>(
     ensures nearer { IfOk result (λ more. IsNearer more (phase_at (session - 1) phases.old.items) (phase_at (session - 1) phases.new.items)) }
     ensures others { phases.new.items ≡ with_phase session (phase_at (session - 1) phases.new.items) phases.old.items }
 {
-    step(&mut phases[usize::from(session) - 1], pairs)
+    step(&mut phases[place_of(session)], pairs)
 }
 
 /// What a search has found, in order and each once.
-fn found_by<B: Shape>(alloc: Global, phase: &Phase<B>) -> Result<Vec<Entry<B>>, AllocError>
+pub fn found<B: Shape>(alloc: Global, phase: &Phase<B>) -> Result<Vec<Entry<B>>, AllocError>
     requires { HasLook phase.now }
     ensures { IfOk result (λ entries. HasGathered (keys_of B.Shape) phase.now entries.items) }
 {
     match phase {
         Phase::Looking(look) => sets::gathered(alloc, look.found()),
-        Phase::Free | Phase::Working | Phase::Open(_) | Phase::Undoing | Phase::Waiting(_) => {
-            Ok(Vec::new(alloc))
-        }
+        _ => Ok(Vec::new(alloc)),
     }
-}
-
-/// What a session's search has found, in order and each once.
-pub fn found<B: Shape>(
-    alloc: Global,
-    phases: &[Phase<B>],
-    session: u8,
-) -> Result<Vec<Entry<B>>, AllocError>
-    requires session { is_session session ≡ true }
-    requires eight { length phases.now ≡ SESSIONS }
-    requires looks { HasLook (phase_at (session - 1) phases.now) }
-    ensures { IfOk result (λ entries. HasGathered (keys_of B.Shape) (phase_at (session - 1) phases.now) entries.items) }
-{
-    found_by(alloc, &phases[usize::from(session) - 1])
 }

@@ -1,36 +1,29 @@
 //! A list of pairs with marks.
 ghost use Rattle.std.specs.Prelude.{◌≡◌, ◌||◌, filter, OnOk, OnErr};
-ghost use Rattle.gx_machine.specs.Keys.{keys_of, same_entry};
+ghost use Rattle.gx_machine.specs.Keys.{keys_of};
 ghost use Rattle.gx_txn.specs.Tables.{claimed_in};
 ghost use Rattle.gx_small_engine.specs.States.{is_listed};
 ghost use Rattle.gx_small_engine.specs.Moves.{mark_set, with_mark, revived, is_unrestored, first_unrestored};
 
+use crate::sets::is_same;
 use gx_engine_laws::{Listed, is_live};
 use gx_geom::Shape;
 use gx_machine::Entry;
 use gx_txn::{Note, Transactions};
 use std::alloc::AllocError;
-use std::cmp::Ordering;
-
-/// Whether a pair is of this entry.
-fn is_of<B: Shape>(pair: &Listed<B>, e: &Entry<B>) -> bool
-    ensures { result ≡ same_entry (keys_of B.Shape) e.now pair.now.entry }
-{
-    e.cmp(&pair.entry) == Ordering::Equal
-}
 
 /// Whether an entry has a pair, live or marked.
 pub fn is_listed<B: Shape>(pairs: &[Listed<B>], e: &Entry<B>) -> bool
     ensures { result ≡ is_listed (keys_of B.Shape) e.now pairs.now }
 {
-    pairs.iter().any(|pair| is_of(pair, e))
+    pairs.iter().any(|pair| is_same(e, &pair.entry))
 }
 
 /// A pair with this mark, where it is of the entry.
 fn with_mark<B: Shape>(pair: Listed<B>, e: &Entry<B>, live: bool) -> Listed<B>
     ensures { result ≡ mark_set (keys_of B.Shape) e.now live pair }
 {
-    if is_of(&pair, e) {
+    if is_same(e, &pair.entry) {
         Listed { live, ..pair }
     } else {
         pair

@@ -1,12 +1,19 @@
 //! Sets of entries as sorted vectors.
 ghost use Rattle.std.specs.Prelude.{insert, ◌≡◌, ◌≤◌, [], IfOk, OnOk, MatchOption, length, ⊤};
-ghost use Rattle.gx_machine.specs.Keys.{keys_of};
+ghost use Rattle.gx_machine.specs.Keys.{keys_of, same_entry};
 ghost use Rattle.gx_machine.specs.Sets.{including, including_all};
 
 use gx_geom::Shape;
 use gx_machine::Entry;
 use std::alloc::{AllocError, Global};
 use std::cmp::Ordering;
+
+/// Whether two entries are the same.
+pub fn is_same<B: Shape>(e: &Entry<B>, other: &Entry<B>) -> bool
+    ensures { result ≡ same_entry (keys_of B.Shape) e.now other.now }
+{
+    e.cmp(other) == Ordering::Equal
+}
 
 /// Where the entry goes in the set, or nothing where it is there.
 fn place<B: Shape>(e: &Entry<B>, set: &[Entry<B>]) -> Option<usize>

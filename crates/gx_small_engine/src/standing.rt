@@ -12,14 +12,13 @@ use gx_geom::Shape;
 use gx_machine::{Entries, Entry};
 use gx_txn::{Note, Transactions};
 use std::alloc::{AllocError, Global};
-use std::cmp::Ordering;
 
 /// Whether an entry was live before, where it is noted.
 fn was_live<B: Shape>(notes: &[Note<B>], e: &Entry<B>) -> Option<bool>
     ensures { result ≡ noted (keys_of B.Shape) e.now (map note_of notes.now) }
 {
     for note in notes {
-        if e.cmp(&note.entry) == Ordering::Equal {
+        if sets::is_same(e, &note.entry) {
             return Some(!note.before);
         }
     }
@@ -48,11 +47,14 @@ fn standing_entries<B: Shape>(
     requires { length table.now ≡ SESSIONS }
     ensures { IfOk result (λ entries. entries.items ≡ standing_entries (keys_of B.Shape) pairs.now table.now) }
 {
-    pairs
-        .iter()
-        .map(|pair| pair.entry)
-        .filter(|e| stands(pairs, table, e))
-        .collect(alloc)
+    let mut entries = Vec::new(alloc);
+    for pair in pairs {
+        if !stands(pairs, table, &pair.entry) {
+            continue;
+        }
+        entries.push(pair.entry)?;
+    }
+    Ok(entries)
 }
 
 /// Keeps the last committed set among the older ones. Where memory is refused, nothing changes.

@@ -35,3 +35,9 @@ returns g c =
     let read = subst (λ (x : State g.row.B.Denot). c.args.number ≤ x.oldest) (sym c.self.view_is) durable in
     (acknowledged k lawful old c.args.self.now c.self.view_is c.self.invariant c.args.session c.requires.session c.args.number c.requires.waits
     c.set_phase.new.phases.items c.set_phase.ensures read).0
+
+pub set_phase-requires-clause-session : goal.set_phase-requires-clause-session
+set_phase-requires-clause-session g c = c.requires.session
+
+pub set_phase-requires-clause-eight : goal.set_phase-requires-clause-eight
+set_phase-requires-clause-eight g c = c.self.invariant.phases

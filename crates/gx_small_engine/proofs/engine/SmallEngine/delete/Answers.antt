@@ -54,3 +54,18 @@ returns g c =
     let now = c.args.self.now in
     let live : is_live k old.pairs c.args.e ≡ true = ap (λ (ps : List (Listed g.row.B.Denot)). is_live k ps c.args.e) (sym c.deref.ensures.value) ∙ sym c.is_live.ensures ∙ c.if-not-is_live.false in
     (deleted k lawful old now c.self.view_is c.self.invariant c.args.session c.requires.session c.args.e c.requires.open live c.set_mark.new.pairs.items c.set_phase-2.new.phases.items c.note.new.self c.set_mark.ensures c.set_phase-2.ensures c.note.ensures).0
+
+pub set_phase-requires-clause-session : goal.set_phase-requires-clause-session
+set_phase-requires-clause-session g c = c.requires.session
+
+pub set_phase-requires-clause-eight : goal.set_phase-requires-clause-eight
+set_phase-requires-clause-eight g c = c.self.invariant.phases
+
+pub set_phase-requires-2-clause-session : goal.set_phase-requires-2-clause-session
+set_phase-requires-2-clause-session g c = c.requires.session
+
+pub set_phase-requires-2-clause-eight : goal.set_phase-requires-2-clause-eight
+set_phase-requires-2-clause-eight g c = c.self.invariant.phases
+
+pub note-requires-clause-session : goal.note-requires-clause-session
+note-requires-clause-session g c = c.requires.session

@@ -72,3 +72,24 @@ returns-in-Ok g c =
     let now = c.args.self.now in
     let live : is_live k old.pairs c.args.e ≡ false = ap (λ (ps : List (Listed g.row.B.Denot)). is_live k ps c.args.e) (sym c.deref.ensures.value) ∙ sym c.is_live.ensures ∙ c.if-is_live.false in
     (inserted k lawful old now c.self.view_is c.self.invariant c.args.session c.requires.session c.args.e c.requires.open live c.revive.new.pairs.items c.set_phase-in-Ok.new.phases.items c.note.new.self c.in-Ok.ensures.ok c.set_phase-in-Ok.ensures c.note.ensures).0
+
+pub set_phase-requires-clause-session : goal.set_phase-requires-clause-session
+set_phase-requires-clause-session g c = c.requires.session
+
+pub set_phase-requires-clause-eight : goal.set_phase-requires-clause-eight
+set_phase-requires-clause-eight g c = c.self.invariant.phases
+
+pub set_phase-requires-in-Err-clause-session : goal.set_phase-requires-in-Err-clause-session
+set_phase-requires-in-Err-clause-session g c = c.requires.session
+
+pub set_phase-requires-in-Err-clause-eight : goal.set_phase-requires-in-Err-clause-eight
+set_phase-requires-in-Err-clause-eight g c = c.self.invariant.phases
+
+pub set_phase-requires-in-Ok-clause-session : goal.set_phase-requires-in-Ok-clause-session
+set_phase-requires-in-Ok-clause-session g c = c.requires.session
+
+pub set_phase-requires-in-Ok-clause-eight : goal.set_phase-requires-in-Ok-clause-eight
+set_phase-requires-in-Ok-clause-eight g c = c.self.invariant.phases
+
+pub note-requires-clause-session : goal.note-requires-clause-session
+note-requires-clause-session g c = c.requires.session

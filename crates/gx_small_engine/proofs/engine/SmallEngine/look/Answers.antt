@@ -43,3 +43,15 @@ returns-in-Err g c =
     let old : State g.row.B.Denot = record { pairs = self.pairs.items; phases = self.phases.items; table = self.table; older = self.older.items; oldest = self.oldest } in
     let now = c.args.self.now in
     (search_lacks_memory k lawful old now c.self.view_is c.self.invariant c.args.session c.requires.session c.args.query c.requires.open c.set_phase-in-Err.new.phases.items c.set_phase-in-Err.ensures).0
+
+pub set_phase-requires-clause-session : goal.set_phase-requires-clause-session
+set_phase-requires-clause-session g c = c.requires.session
+
+pub set_phase-requires-clause-eight : goal.set_phase-requires-clause-eight
+set_phase-requires-clause-eight g c = c.self.invariant.phases
+
+pub set_phase-requires-in-Err-clause-session : goal.set_phase-requires-in-Err-clause-session
+set_phase-requires-in-Err-clause-session g c = c.requires.session
+
+pub set_phase-requires-in-Err-clause-eight : goal.set_phase-requires-in-Err-clause-eight
+set_phase-requires-in-Err-clause-eight g c = c.self.invariant.phases

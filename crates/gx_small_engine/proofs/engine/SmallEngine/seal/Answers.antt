@@ -56,3 +56,21 @@ returns-in-Err g c =
     let old : State g.row.B.Denot = record { pairs = self.pairs.items; phases = self.phases.items; table = self.table; older = self.older.items; oldest = self.oldest } in
     let now = c.args.self.now in
     (commit_closes k lawful old now c.self.view_is c.self.invariant c.args.session c.requires.session c.requires.open c.keep_standing.new.older.items c.set_phase-in-Err.new.phases.items c.in-Err.ensures.err c.set_phase-in-Err.ensures).0
+
+pub set_phase-requires-clause-session : goal.set_phase-requires-clause-session
+set_phase-requires-clause-session g c = c.requires.session
+
+pub set_phase-requires-clause-eight : goal.set_phase-requires-clause-eight
+set_phase-requires-clause-eight g c = c.self.invariant.phases
+
+pub set_phase-requires-in-Err-clause-session : goal.set_phase-requires-in-Err-clause-session
+set_phase-requires-in-Err-clause-session g c = c.requires.session
+
+pub set_phase-requires-in-Err-clause-eight : goal.set_phase-requires-in-Err-clause-eight
+set_phase-requires-in-Err-clause-eight g c = c.self.invariant.phases
+
+pub keep_standing-requires : goal.keep_standing-requires
+keep_standing-requires g c = c.self.invariant.table
+
+pub commit-requires : goal.commit-requires
+commit-requires g c = c.requires.session

@@ -58,3 +58,15 @@ returns-in-None g c =
     ∙ ap (λ (ns : List (txn.Note g.row.B.Denot)). first_unrestored k c.deref.result.now ns) (sym c.notes.ensures.notes)
     ∙ sym c.first_unrestored.ensures in
     (ended k lawful old now c.self.view_is c.self.invariant c.args.session c.requires.session c.requires.undoes (first ∙ c.in-None.is) c.set_phase.new.phases.items c.end.new.self c.set_phase.ensures c.end.ensures).0
+
+pub notes-requires : goal.notes-requires
+notes-requires g c = c.requires.session
+
+pub end-requires : goal.end-requires
+end-requires g c = c.requires.session
+
+pub set_phase-requires-clause-session : goal.set_phase-requires-clause-session
+set_phase-requires-clause-session g c = c.requires.session
+
+pub set_phase-requires-clause-eight : goal.set_phase-requires-clause-eight
+set_phase-requires-clause-eight g c = c.self.invariant.phases
