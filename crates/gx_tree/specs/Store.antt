@@ -1,5 +1,5 @@
 -- Pages as a tree's nodes.
-use Rattle.std.specs.Prelude.{◌≡◌, ℕ, zero, suc, ◌==◌, if◌then◌else◌, List, [], ◌∷◌, ◌++◌, length, slice_index_or, ◌-◌, slice_set}
+use Rattle.std.specs.Prelude.{◌≡◌, ℕ, zero, suc, ◌==◌, if◌then◌else◌, Bool, true, ◌&&◌, List, [], ◌∷◌, ◌++◌, length, slice_index_or, ◌-◌, slice_set}
 use Rattle.gx_page.specs.Contents.{Contents}
 use Rattle.gx_node.specs.Reading.{Format, leaf_of, inner_of}
 use Rattle.gx_tree_laws.specs.Trees.{Node, Tree}
@@ -14,6 +14,11 @@ pub record Store (B : Type 0) : Type 0 where
 -- the node that a page is read as
 abbrev pub node_of : {B : Type 0} → Format B → Contents → Node B
 node_of f page = if page.level == 0 then leaf_of f page else inner_of f page
+
+-- each page has its own number: the first this one, the next the next
+unfoldable pub numbered : ℕ → List Contents → Bool
+numbered n [] = true
+numbered n (page ∷ pages) = (page.number == n) && numbered (suc n) pages
 
 -- a page that isn't taken
 abbrev pub blank : {B : Type 0} → Node B

@@ -57,6 +57,7 @@ fn prepare_page<K: KeyClass, P: PagesMut<K>>(
     requires { P.held pages.old page }
     ensures same { P.store pages.new ≡ P.store pages.old }
     ensures held { P.held pages.new page }
+    ensures changing { OnOk result (P.changing pages.new page) }
     ensures steady { P.steady pages.old → P.steady pages.new }
     ensures damaged { result ≢ Err StepFault.Damaged }
     ensures memory { result ≢ Err StepFault.Memory }

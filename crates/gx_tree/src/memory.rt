@@ -1,9 +1,9 @@
 //! Pages in memory alone.
-ghost use Rattle.std.specs.Prelude.{◌≡◌, ◌<◌, ◌+◌, ◌-◌, ◌^◌, ◌⊎◌, true, false, map, length, ◌≤◌, ◌++◌, ◌∷◌, [], vec_len, vec_capacity, Err, IfOk, IfErr};
+ghost use Rattle.std.specs.Prelude.{◌≡◌, ◌<◌, ◌+◌, ◌-◌, ◌^◌, ◌⊎◌, ◌&&◌, true, false, map, length, ◌≤◌, ◌++◌, ◌∷◌, [], vec_len, vec_capacity, Err, IfOk, IfErr};
 ghost use Rattle.std.specs.List.{list_all};
 ghost use Rattle.gx_node.specs.Reading.{format, is_node};
 ghost use Rattle.gx_tree_laws.specs.Trees.{Used};
-ghost use Rattle.gx_tree.specs.Store.{node_of, tree_of};
+ghost use Rattle.gx_tree.specs.Store.{node_of, numbered, tree_of};
 
 use crate::pages::Pages;
 use crate::writing::{Edit, PagesMut};
@@ -11,9 +11,10 @@ use gx_class::KeyClass;
 use gx_geom::Refusal;
 use gx_node::is_node;
 use gx_page::Page;
+use std::convert::Infallible;
 use std::marker::{Model, PhantomData};
 
-/// The pages of a tree in memory, page 1 first, and the pages that aren't taken yet. Nothing has to be brought, and a page is
+/// The pages of a tree in memory, page 1 first, and the pages that aren't taken yet. Bringing a page can't fail, and a page is
 /// taken without memory.
 #[derive(Drop)]
 pub struct MemoryPages<K: KeyClass> {
@@ -28,14 +29,27 @@ impl<K: KeyClass> Model for MemoryPages<K> {
     ghost use Rattle.std.specs.Prelude.{map, length, ◌+◌, ◌≤◌, ◌<◌, ◌^◌, ◌≡◌, true, vec_capacity};
     ghost use Rattle.std.specs.List.{list_all};
     ghost use Rattle.gx_node.specs.Reading.{format, is_node};
-    ghost use Rattle.gx_tree.specs.Store.{Store, node_of};
+    ghost use Rattle.gx_tree.specs.Store.{Store, node_of, numbered};
 
     ghost Value = { Store K.Key };
 
     ghost view = { λ m. record { nodes = map (node_of (format K.KEY K.reading K.start_key)) m.pages.items; counter = m.counter; room = m.room } };
 
     ghost invariant = { λ m. (length m.pages.items + length m.spare.items ≡ m.room) × (m.room < 2 ^ 32) × (m.room ≤ vec_capacity m.pages)
-        × (list_all (λ page. is_node (format K.KEY K.reading K.start_key) m.room page) m.pages.items ≡ true) };
+        × (list_all (λ page. is_node (format K.KEY K.reading K.start_key) m.room page) m.pages.items ≡ true)
+        × (numbered 1 m.pages.items ≡ true) };
+}
+
+/// Whether each page has its own number, page 1 first.
+fn are_numbered(pages: &[Page]) -> bool
+    ensures { result ≡ numbered 1 pages.now }
+{
+    for (at, page) in pages.iter().enumerate() {
+        if page.number() as usize != at + 1 {
+            return false;
+        }
+    }
+    true
 }
 
 /// Whether each page is a node of the class.
@@ -43,6 +57,13 @@ fn are_nodes<K: KeyClass>(pages: &[Page], room: u32) -> bool
     ensures { result ≡ list_all (λ page. is_node (format K.KEY K.reading K.start_key) room page) pages.now }
 {
     pages.iter().all(|page| is_node::<K>(page, room))
+}
+
+/// Whether each page is a node of the class and has its own number.
+fn are_pages<K: KeyClass>(pages: &[Page], room: u32) -> bool
+    ensures { result ≡ (list_all (λ page. is_node (format K.KEY K.reading K.start_key) room page) pages.now && numbered 1 pages.now) }
+{
+    are_nodes::<K>(pages, room) && are_numbered(pages)
 }
 
 /// Puts a page behind the last, where there is room for one.
@@ -57,8 +78,8 @@ fn append(pages: &mut Vec<Page>, page: Page)
 impl<K: KeyClass> MemoryPages<K> {
     /// These pages, page 1 first, with so many splits made, and others that can be taken, whatever they hold.
     ///
-    /// Refused with `Damaged` where one of the first isn't a node of the class, or there are more than 2^32 - 1 in all, and
-    /// with `Memory`.
+    /// Refused with `Damaged` where one of the first isn't a node of the class or has another number than its own, or there
+    /// are more than 2^32 - 1 in all, and with `Memory`.
     pub fn new(mut pages: Vec<Page>, spare: Vec<Page>, counter: u64) -> Result<Self, Refusal>
         ensures pages { IfOk result (λ memory. memory ≡ record {
           nodes = map (node_of (format K.KEY K.reading K.start_key)) pages.items;
@@ -67,12 +88,12 @@ impl<K: KeyClass> MemoryPages<K> {
         }) }
         ensures refused { IfErr result (λ why. (why ≡ Refusal.Memory) ⊎ (why ≡ Refusal.Damaged)) }
         ensures damaged { result ≡ Err Refusal.Damaged → length pages.items + length spare.items < 2 ^ 32
-            → list_all (λ page. is_node (format K.KEY K.reading K.start_key) (length pages.items + length spare.items) page) pages.items ≡ false }
+            → (list_all (λ page. is_node (format K.KEY K.reading K.start_key) (length pages.items + length spare.items) page) pages.items && numbered 1 pages.items) ≡ false }
     {
         let Ok(room) = u32::try_from(pages.len() + spare.len()) else {
             return Err(Refusal::Damaged);
         };
-        if !are_nodes::<K>(pages.as_slice(), room) {
+        if !are_pages::<K>(pages.as_slice(), room) {
             return Err(Refusal::Damaged);
         }
         if pages.reserve(spare.len()).is_err() {
@@ -89,7 +110,7 @@ impl<K: KeyClass> MemoryPages<K> {
 }
 
 impl<K: KeyClass> Pages<K> for MemoryPages<K> {
-    type Fault = ();
+    type Fault = Infallible;
 
     ghost store = { λ s. s };
 
@@ -109,7 +130,7 @@ impl<K: KeyClass> Pages<K> for MemoryPages<K> {
         self.counter
     }
 
-    fn bring(&mut self, _pages: &[u32]) -> Result<(), ()> {
+    fn bring(&mut self, _pages: &[u32]) -> Result<(), Infallible> {
         Ok(())
     }
 
@@ -121,7 +142,9 @@ impl<K: KeyClass> Pages<K> for MemoryPages<K> {
 impl<K: KeyClass> PagesMut<K> for MemoryPages<K> {
     ghost ready = { λ s. s.room - length s.nodes };
 
-    fn prepare(&mut self, _changes: &[u32], _taken: u32) -> Result<(), ()> {
+    ghost changing = { λ s p. Unit };
+
+    fn prepare(&mut self, _changes: &[u32], _taken: u32) -> Result<(), Infallible> {
         Ok(())
     }
 

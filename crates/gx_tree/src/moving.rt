@@ -32,8 +32,9 @@ pub(crate) fn take_side<K: KeyClass, P: PagesMut<K>>(
     requires sides { length sides.now ≡ size (node_at (P.store pages.old).nodes from) }
     ensures page { result ≡ suc (length (P.store pages.old).nodes) }
     ensures taken { P.store pages.new ≡ with_page (P.store pages.old) (left_of sides.now (node_at (P.store pages.old).nodes from)) }
-    ensures next { P.held pages.new result }
+    ensures next { P.held pages.new result × P.changing pages.new result }
     ensures held { (q : ℕ) → P.held pages.old q → P.held pages.new q }
+    ensures changing { (q : ℕ) → P.changing pages.old q → P.changing pages.new q }
     ensures ready { P.ready pages.old ≡ suc (P.ready pages.new) }
     ensures steady { P.steady pages.old → P.steady pages.new }
 {
@@ -51,10 +52,12 @@ pub(crate) fn keep_side<K: KeyClass, P: PagesMut<K>>(
     link: Link,
 )
     requires held { P.held pages.old page }
+    requires changing { P.changing pages.old page }
     requires sides { length sides.now ≡ size (node_at (P.store pages.old).nodes page) }
     ensures kept { P.store pages.new ≡ with_node (P.store pages.old) page (node_with (node_at (P.store pages.old).nodes page) link.number link.right
         (staying sides.now (node_at (P.store pages.old).nodes page).pairs) (staying sides.now (node_at (P.store pages.old).nodes page).children)) }
     ensures held { (q : ℕ) → P.held pages.old q → P.held pages.new q }
+    ensures changing { (q : ℕ) → P.changing pages.old q → P.changing pages.new q }
     ensures steady { P.steady pages.old → P.steady pages.new }
 {
     pages.change(page, KeepSide { sides });

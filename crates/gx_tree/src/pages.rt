@@ -10,7 +10,7 @@ use gx_class::KeyClass;
 use gx_page::Page;
 
 /// The pages of a tree. A step first brings the pages that it uses, which may fail; from then on they are held, and
-/// reading them doesn't fail. Each page that is lent is a node of the class.
+/// reading them doesn't fail. Each page that is lent is a node of the class and has its own number.
 pub trait Pages<K: KeyClass> {
     /// Why pages could not be brought.
     type Fault;
@@ -47,6 +47,7 @@ pub trait Pages<K: KeyClass> {
     /// A page that is held.
     fn page(&self, page: u32) -> &Page
         requires { held self.now page }
+        ensures number { result.now.number ≡ page }
         ensures node { node_of (format K.KEY K.reading K.start_key) result.now ≡ node_at (store self.now).nodes page }
         ensures passes { is_node (format K.KEY K.reading K.start_key) (store self.now).room result.now ≡ true };
 }

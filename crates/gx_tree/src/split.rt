@@ -158,6 +158,7 @@ fn name_halves<K: KeyClass, P: PagesMut<K>>(
     sibling: AppendChild<K::Key>,
 )
     requires held { P.held pages.old parent }
+    requires changing { P.changing pages.old parent }
     requires inner { 0 < (node_at (P.store pages.old).nodes parent).level }
     requires names { NamesOnce (node_at (P.store pages.old).nodes parent).children _page bound.slot }
     requires few { length (node_at (P.store pages.old).nodes parent).children < MAX_ENTRIES }
@@ -165,6 +166,7 @@ fn name_halves<K: KeyClass, P: PagesMut<K>>(
     ensures named { P.store pages.new ≡ with_node (P.store pages.old) parent
         (parent_of (node_at (P.store pages.old).nodes parent) _page bound.bound sibling.page sibling.bound) }
     ensures held { (q : ℕ) → P.held pages.old q → P.held pages.new q }
+    ensures changing { (q : ℕ) → P.changing pages.old q → P.changing pages.new q }
     ensures steady { P.steady pages.old → P.steady pages.new }
 {
     pages.change(parent, bound);
@@ -181,6 +183,7 @@ fn make_split<K: KeyClass, P: PagesMut<K>>(
     _most: usize,
 ) -> Split<K::Key>
     requires held { P.held pages.old page × P.held pages.old parent }
+    requires changing { P.changing pages.old page × P.changing pages.old parent }
     requires used { Used (tree_of (P.store pages.old)) page × Used (tree_of (P.store pages.old)) parent × (page ≢ parent) }
     requires ready { 0 < P.ready pages.old }
     requires most { _most ≤ MAX_ENTRIES }

@@ -69,6 +69,7 @@ fn make_root_split<K: KeyClass, P: PagesMut<K>>(
     _most: usize,
 ) -> RootSplit<K::Key>
     requires held { P.held pages.old 1 }
+    requires changing { P.changing pages.old 1 }
     requires used { Used (tree_of (P.store pages.old)) 1 }
     requires ready { 2 ≤ P.ready pages.old }
     requires can { CanSplitRoot (rules_of K.Key.Shape _most) K.sides_of (P.store pages.old) halves.now.sides halves.now.left halves.now.right }

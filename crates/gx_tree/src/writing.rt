@@ -31,33 +31,40 @@ pub trait PagesMut<K: KeyClass>: Pages<K> {
     /// How many pages can be taken.
     ghost ready: { Self → ℕ };
 
+    /// Whether a page may be changed: a step has made ready for it.
+    ghost changing: { Self → ℕ → Type 0 };
+
     /// Makes ready to change these pages, which are held, and to take so many: whatever that needs is had from here on, or
     /// the step is refused here, before it has changed anything.
     fn prepare(&mut self, changes: &[u32], taken: u32) -> Result<(), Self::Fault>
         requires held { Each (Self.held self.old) changes.now }
         requires room { 0 < taken → length (Self.store self.old).nodes + taken ≤ (Self.store self.old).room }
         ensures ready { OnOk result (taken ≤ ready self.new) }
+        ensures changing { OnOk result (Each (changing self.new) changes.now) }
         ensures same { Self.store self.new ≡ Self.store self.old }
         ensures held { (q : ℕ) → Self.held self.old q → Self.held self.new q }
         ensures steady { Self.steady self.old → Self.steady self.new };
 
-    /// Changes a page that is held, and no other.
+    /// Changes a page that is held and made ready, and no other.
     fn change<E: Edit<K>>(&mut self, page: u32, edit: E)
         requires held { Self.held self.old page }
+        requires changing { changing self.old page }
         requires fits { E.fits edit (Self.store self.old).room (node_at (Self.store self.old).nodes page) }
         ensures edited { E.edits edit (node_at (Self.store self.old).nodes page) (node_at (Self.store self.new).nodes page) }
         ensures others { Self.store self.new ≡ with_node (Self.store self.old) page (node_at (Self.store self.new).nodes page) }
         ensures held { (q : ℕ) → Self.held self.old q → Self.held self.new q }
+        ensures changing { (q : ℕ) → changing self.old q → changing self.new q }
         ensures ready { ready self.new ≡ ready self.old }
         ensures steady { Self.steady self.old → Self.steady self.new };
 
-    /// Takes the next page: a copy of one that is held, but for the page's own number. It is held.
+    /// Takes the next page: a copy of one that is held, but for the page's own number. It is held and may be changed.
     fn take(&mut self, from: u32)
         requires held { Self.held self.old from }
         requires ready { 0 < ready self.old }
         ensures taken { Self.store self.new ≡ with_page (Self.store self.old) (node_at (Self.store self.old).nodes from) }
-        ensures next { Self.held self.new (suc (length (Self.store self.old).nodes)) }
+        ensures next { Self.held self.new (suc (length (Self.store self.old).nodes)) × changing self.new (suc (length (Self.store self.old).nodes)) }
         ensures held { (q : ℕ) → Self.held self.old q → Self.held self.new q }
+        ensures changing { (q : ℕ) → changing self.old q → changing self.new q }
         ensures ready { ready self.old ≡ suc (ready self.new) }
         ensures steady { Self.steady self.old → Self.steady self.new };
 
@@ -66,6 +73,7 @@ pub trait PagesMut<K: KeyClass>: Pages<K> {
         requires { (Self.store self.old).counter + 1 < 2 ^ 64 }
         ensures counted { Self.store self.new ≡ with_split (Self.store self.old) }
         ensures held { (q : ℕ) → Self.held self.old q → Self.held self.new q }
+        ensures changing { (q : ℕ) → changing self.old q → changing self.new q }
         ensures ready { ready self.new ≡ ready self.old }
         ensures steady { Self.steady self.old → Self.steady self.new };
 }
