@@ -35,11 +35,15 @@ const REFUSALS: [(Refusal, u8, &str); 21] = [
     (Refusal::HistoryFull, 20, "history full"),
 ];
 
+fn is_written(rt: &impl Abort, refusal: &Refusal, number: u8, text: &str) {
+    let written = refusal.text();
+    assert_eq!(rt; (refusal.number(), written.as_str()), (number, text));
+}
+
 #[test]
 fn refusals_have_numbers_and_texts(rt: HostRuntime) {
     for (refusal, number, text) in REFUSALS {
-        assert_eq!(rt; refusal.number(), number);
-        assert!(rt; refusal.text().as_str() == text);
+        is_written(&rt, &refusal, number, text);
     }
 }
 
@@ -78,11 +82,9 @@ fn boxes_overlap_and_cover(rt: HostRuntime) {
     for (first, second, overlap, within) in PAIRS {
         let a = make_box(&rt, first);
         let b = make_box(&rt, second);
-        assert_eq!(rt;
-            (a.overlaps(&b), a.within(&b), b.covers(&a)),
-            (overlap, within, within)
-        );
-        assert_eq!(rt; relations(&a, &b), (overlap, within, within));
+        let seen = (a.overlaps(&b), a.within(&b), b.covers(&a));
+        assert_eq!(rt; seen, (overlap, within, within));
+        assert_eq!(rt; relations(&a, &b), seen);
         assert_eq!(rt; b.overlaps(&a), overlap);
     }
 }

@@ -9,35 +9,57 @@ use gx_machine::Query;
 use std::process::Abort;
 use std::test::Fail;
 
-// The groups of a split, as `1` and `2`.
-fn check_split(rt: &impl Abort, boxes: &[Rectangle], least: usize, groups: &[u8]) {
+/// Fails unless the class splits these keys into these groups, written as `1` and `2`.
+pub fn check_split<K: KeyClass>(rt: &impl Abort, keys: &[K::Key], least: usize, groups: &[u8]) {
+    let n = keys.len();
+    assert!(rt; n <= 16 && 1 <= least && least <= n / 2);
+    let mut sides = [true; 16];
+    K::pick_split(keys, least, &mut sides[..n]);
+    are_sides(rt, &sides[..n], groups);
+}
+
+/// Fails unless these groups, written as `1` and `2`, are the sides.
+fn are_sides(rt: &impl Abort, sides: &[bool], groups: &[u8]) {
+    assert!(rt; sides.len() == groups.len());
+    for k in 0..sides.len() {
+        assert_eq!(rt; (k, sides[k]), (k, groups[k] == b'2'));
+    }
+}
+
+/// Fails unless `consistent` and `matches` answer so of the query at the bound.
+pub fn check_query<K: KeyClass>(
+    rt: &impl Abort,
+    bound: &K::Key,
+    query: &Query<K::Key>,
+    answers: (bool, bool),
+) {
+    assert_eq!(rt;
+        (K::consistent(query, bound), K::matches(query, bound)),
+        answers
+    );
+}
+
+fn check_boxes(rt: &impl Abort, boxes: &[Rectangle], least: usize, groups: &[u8]) {
     let n = boxes.len();
     assert!(rt; n <= 16);
     let mut keys = [Box2::point(0, 0); 16];
     for k in 0..n {
         keys[k] = make_box(rt, boxes[k]);
     }
-    let mut sides = [true; 16];
-    assert!(rt; 1 <= least && least <= 8);
-    assert!(rt; 2 * least <= n);
-    Box2Class::pick_split(&keys[..n], least, &mut sides[..n]);
-    assert_eq!(rt; groups.len(), n);
-    for k in 0..n {
-        assert_eq!(rt; sides[k], groups[k] == b'2', "slot {k}");
-    }
+    check_split::<Box2Class>(rt, &keys[..n], least, groups);
 }
 
 #[test]
 fn splits(rt: HostRuntime) {
     let unit = (0, 0, 1, 1);
-    check_split(&rt, &[unit, unit, unit, unit], 2, b"1212");
-    check_split(
+    check_boxes(&rt, &[unit, unit, unit, unit], 2, b"1212");
+    check_boxes(
         &rt,
         &[(100, 4, 101, 5), unit, (100, 2, 101, 3), (100, 0, 101, 1)],
         2,
         b"1212",
     );
-    check_split(
+    check_boxes(
         &rt,
         &[
             unit,
@@ -49,26 +71,26 @@ fn splits(rt: HostRuntime) {
         2,
         b"22112",
     );
-    check_split(&rt, &[(-5, -5, -5, -5), (7, 7, 7, 7)], 1, b"12");
+    check_boxes(&rt, &[(-5, -5, -5, -5), (7, 7, 7, 7)], 1, b"12");
 }
 
 // Each of these turns on one rule: the seeds' tie, the next key's, the smaller area, the fewer keys, the first
 // group, and a group that needs all that are left.
 #[test]
 fn ties(rt: HostRuntime) {
-    check_split(
+    check_boxes(
         &rt,
         &[(0, 0, 1, 1), (1, -2, 1, -1), (0, 0, 2, 1), (0, -2, 0, -2)],
         1,
         b"2121",
     );
-    check_split(
+    check_boxes(
         &rt,
         &[(0, 0, 0, 2), (0, 0, 2, 0), (1, 2, 2, 3), (1, 1, 1, 1)],
         1,
         b"1121",
     );
-    check_split(
+    check_boxes(
         &rt,
         &[
             (-2, 0, -1, 2),
@@ -79,7 +101,7 @@ fn ties(rt: HostRuntime) {
         1,
         b"1112",
     );
-    check_split(
+    check_boxes(
         &rt,
         &[
             (2, -1, 3, -1),
@@ -90,13 +112,13 @@ fn ties(rt: HostRuntime) {
         1,
         b"1221",
     );
-    check_split(
+    check_boxes(
         &rt,
         &[(-3, 2, 1, 6), (-2, 4, 1, 7), (-2, 5, -2, 6), (-2, 4, 1, 4)],
         1,
         b"1112",
     );
-    check_split(
+    check_boxes(
         &rt,
         &[(-5, -5, -4, -5), (2, 2, 3, 4), (-5, 5, 0, 6), (0, 2, 1, 6)],
         2,
@@ -106,7 +128,7 @@ fn ties(rt: HostRuntime) {
 
 #[test]
 fn larger_splits(rt: HostRuntime) {
-    check_split(
+    check_boxes(
         &rt,
         &[
             (-11, -10, -10, -5),
@@ -121,7 +143,7 @@ fn larger_splits(rt: HostRuntime) {
         3,
         b"11121221",
     );
-    check_split(
+    check_boxes(
         &rt,
         &[
             (-3, 3, 1, 4),
@@ -137,7 +159,7 @@ fn larger_splits(rt: HostRuntime) {
         4,
         b"221122112",
     );
-    check_split(
+    check_boxes(
         &rt,
         &[
             (i32::MIN, i32::MIN, i32::MAX, i32::MAX),
@@ -170,25 +192,38 @@ fn bytes(rt: HostRuntime) {
 
 #[test]
 fn calls(rt: HostRuntime) {
-    let start = Box2Class::start();
-    assert_eq!(rt; start, Box2::point(0, 0));
+    assert_eq!(rt;
+        (Box2Class::CLASS, Box2Class::KEY, Box2Class::start()),
+        (1, 16, Box2::point(0, 0))
+    );
     let bound = make_box(&rt, (0, 0, 10, 10));
     let key = make_box(&rt, (2, 2, 20, 3));
-    assert_eq!(rt; Box2Class::penalty(&bound, &key), (100, 100));
-    assert_eq!(rt; Box2Class::union(bound, key), make_box(&rt, (0, 0, 20, 10)));
+    let both = make_box(&rt, (0, 0, 20, 10));
+    assert_eq!(rt;
+        (
+            Box2Class::penalty(&bound, &key),
+            Box2Class::union(bound, key)
+        ),
+        ((100, 100), both)
+    );
+}
+
+#[test]
+fn queries(rt: HostRuntime) {
+    let bound = make_box(&rt, (0, 0, 10, 10));
+    let key = make_box(&rt, (2, 2, 20, 3));
+    let around = make_box(&rt, (-1, -1, 11, 11));
+    let beside = make_box(&rt, (11, 0, 12, 1));
     for (query, may, does) in [
         (Query::Overlap(key), true, true),
         (Query::Within(key), true, false),
         (Query::Equal(key), false, false),
         (Query::Equal(bound), true, true),
-        (Query::Within(make_box(&rt, (-1, -1, 11, 11))), true, true),
-        (Query::Overlap(make_box(&rt, (11, 0, 12, 1))), false, false),
+        (Query::Within(around), true, true),
+        (Query::Overlap(beside), false, false),
     ] {
-        assert_eq!(rt; Box2Class::consistent(&query, &bound), may);
-        assert_eq!(rt; Box2Class::matches(&query, &bound), does);
+        check_query::<Box2Class>(&rt, &bound, &query, (may, does));
     }
-    assert_eq!(rt; Box2Class::CLASS, 1);
-    assert_eq!(rt; Box2Class::KEY, 16);
 }
 
 // What code that knows only the trait can do: the union of two keys is written, read again and looked for.

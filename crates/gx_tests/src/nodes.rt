@@ -105,10 +105,11 @@ fn set_mark<K: KeyClass>(rt: &impl Abort, page: &mut Page, slot: usize, marked: 
     leaf_edits::set_mark::<K>(page, slot, marked);
 }
 
-/// Takes the pairs out of a leaf whose side is `true`.
-fn keep_pairs<K: KeyClass>(rt: &impl Abort, page: &mut Page, sides: &[bool]) {
-    assert!(rt; sides.len() == pairs::<K>(rt, page));
-    leaf_edits::keep::<K>(page, sides);
+/// Takes the pairs that go out of a leaf of so many, or those that stay.
+fn take_pairs_out<K: KeyClass>(rt: &impl Abort, page: &mut Page, count: u8, going: bool) {
+    let count = usize::from(count);
+    assert!(rt; count <= 100 && count == pairs::<K>(rt, page));
+    leaf_edits::keep::<K>(page, &sides(going)[..count]);
 }
 
 fn put_child<K: Numbered>(rt: &impl Abort, page: &mut Page, n: u8, child: u8) {
@@ -122,10 +123,38 @@ fn set_bound<K: Numbered>(rt: &impl Abort, page: &mut Page, slot: usize, n: u8) 
     inner_edits::set_bound::<K>(page, slot, K::key(rt, n), 200);
 }
 
-/// Takes the children out of an inner node whose side is `true`.
-fn keep_children<K: KeyClass>(rt: &impl Abort, page: &mut Page, sides: &[bool]) {
-    assert!(rt; sides.len() == children::<K>(rt, page));
-    inner_edits::keep::<K>(page, sides, 200);
+/// Takes the children that go out of an inner node of so many, or those that stay.
+fn take_children_out<K: KeyClass>(rt: &impl Abort, page: &mut Page, count: u8, going: bool) {
+    let count = usize::from(count);
+    assert!(rt; count <= 100 && count == children::<K>(rt, page));
+    inner_edits::keep::<K>(page, &sides(going)[..count], 200);
+}
+
+/// How many entries the nodes have that are edited.
+const COUNTS: [u8; 4] = [0, 1, 99, 100];
+
+/// Whether an entry goes when its node is split: of five the first two.
+fn goes(n: u8) -> bool {
+    n % 5 < 2
+}
+
+/// For each entry whether it goes, or whether it stays.
+fn sides(going: bool) -> [bool; 100] {
+    let mut sides = [false; 100];
+    for n in 0..100u8 {
+        sides[usize::from(n)] = goes(n) == going;
+    }
+    sides
+}
+
+/// The child of an entry.
+fn child_of(n: u8) -> u8 {
+    200u8.saturating_sub(n)
+}
+
+/// The number of the key that an entry's bound becomes.
+fn later(n: u8) -> u8 {
+    n.saturating_add(100)
 }
 
 /// Page 2 with a sequence number and a rightlink.
@@ -135,93 +164,129 @@ fn start(page: &mut Page, level: u16) {
     page.set_right(0x0a0b_0c0d);
 }
 
+/// Fails unless a page has the image that is wanted. The count says which of the nodes it is.
+fn is_alike(rt: &impl Abort, page: &Page, wanted: &Page, count: u8) {
+    assert_eq!(rt; (count, page.image() == wanted.image()), (count, true));
+}
+
+/// A leaf whose pairs of the numbers 0, 3, 6 and so on are marked.
+fn put_pairs<K: Numbered>(rt: &impl Abort, page: &mut Page, count: u8) {
+    start(page, 0);
+    for n in 0..count {
+        put_pair::<K>(rt, page, n, 255 - n, n % 3 == 0);
+    }
+}
+
+/// From then on those of 1, 4, 7 and so on are.
+fn mark_others<K: Numbered>(rt: &impl Abort, page: &mut Page, count: u8) {
+    for n in 0..count {
+        set_mark::<K>(rt, page, usize::from(n), n % 3 == 1);
+    }
+}
+
+/// A leaf whose pairs from a number on, each third, are marked.
+fn write_pairs<K: Numbered>(rt: &impl Abort, page: &mut Page, count: u8, first: u8) {
+    start(page, 0);
+    for n in 0..count {
+        write_pair(rt, page, K::bytes(n), 255 - n, u8::from(n % 3 == first));
+    }
+}
+
+fn leaf_is_edited<K: Numbered>(rt: &impl Abort, page: &mut Page, wanted: &mut Page, count: u8) {
+    put_pairs::<K>(rt, page, count);
+    write_pairs::<K>(rt, wanted, count, 0);
+    is_alike(rt, page, wanted, count);
+    mark_others::<K>(rt, page, count);
+    write_pairs::<K>(rt, wanted, count, 1);
+    is_alike(rt, page, wanted, count);
+}
+
 fn leaf_edits_write<K: Numbered>(rt: &impl Abort, alloc: Global) -> Result<(), Fail> {
     let mut page = Page::fresh(alloc, 0, 2)?;
     let mut wanted = Page::fresh(alloc, 0, 2)?;
-    for count in [0, 1, 99, 100] {
-        start(&mut page, 0);
-        start(&mut wanted, 0);
-        for n in 0..count {
-            put_pair::<K>(rt, &mut page, n, 255 - n, n % 3 == 0);
-            write_pair(rt, &mut wanted, K::bytes(n), 255 - n, u8::from(n % 3 == 0));
-        }
-        assert_eq!(rt; page.image(), wanted.image(), "{count} pairs");
-
-        start(&mut wanted, 0);
-        for n in 0..count {
-            set_mark::<K>(rt, &mut page, usize::from(n), n % 3 == 1);
-            write_pair(rt, &mut wanted, K::bytes(n), 255 - n, u8::from(n % 3 == 1));
-        }
-        assert_eq!(rt; page.image(), wanted.image(), "marks of {count}");
+    for count in COUNTS {
+        leaf_is_edited::<K>(rt, &mut page, &mut wanted, count);
     }
     Ok(())
+}
+
+/// Splits a leaf of so many pairs.
+fn split_leaf<K: Numbered>(rt: &impl Abort, page: &mut Page, other: &mut Page, count: u8) {
+    start(page, 0);
+    for n in 0..count {
+        put_pair::<K>(rt, page, n, n, false);
+    }
+    other.copy_from(page);
+    take_pairs_out::<K>(rt, page, count, true);
+    take_pairs_out::<K>(rt, other, count, false);
+}
+
+/// The entries of a split node that go, or those that stay: a leaf's pairs, or an inner node's children with later bounds.
+fn write_side<K: Numbered>(rt: &impl Abort, page: &mut Page, level: u16, count: u8, going: bool) {
+    start(page, level);
+    for n in 0..count {
+        if goes(n) == going && level == 0 {
+            write_pair(rt, page, K::bytes(n), n, 0);
+        } else if goes(n) == going {
+            write_child(rt, page, K::bytes(later(n)), child_of(n));
+        }
+    }
+}
+
+/// Fails unless these two pages hold what stays of a split node of so many entries, and what goes.
+fn are_sides<K: Numbered>(
+    rt: &impl Abort,
+    (page, other): (&Page, &Page),
+    wanted: &mut Page,
+    level: u16,
+    count: u8,
+) {
+    write_side::<K>(rt, wanted, level, count, false);
+    is_alike(rt, page, wanted, count);
+    write_side::<K>(rt, wanted, level, count, true);
+    is_alike(rt, other, wanted, count);
 }
 
 fn leaf_is_split<K: Numbered>(rt: &impl Abort, alloc: Global) -> Result<(), Fail> {
     let mut page = Page::fresh(alloc, 0, 2)?;
     let mut other = Page::fresh(alloc, 5, 7)?;
-    let mut wanted = Page::fresh(alloc, 0, 2)?;
-    let mut wanted_other = Page::fresh(alloc, 0, 9)?;
-    for count in [0, 1, 99, 100] {
-        start(&mut page, 0);
-        start(&mut wanted, 0);
-        start(&mut wanted_other, 0);
-        let mut going = [false; 100];
-        let mut staying = [false; 100];
-        for n in 0..count {
-            let goes = n % 5 < 2;
-            going[usize::from(n)] = goes;
-            staying[usize::from(n)] = !goes;
-            put_pair::<K>(rt, &mut page, n, n, false);
-            if goes {
-                write_pair(rt, &mut wanted_other, K::bytes(n), n, 0);
-            } else {
-                write_pair(rt, &mut wanted, K::bytes(n), n, 0);
-            }
-        }
-        other.copy_from(&page);
-        keep_pairs::<K>(rt, &mut page, &going[..usize::from(count)]);
-        keep_pairs::<K>(rt, &mut other, &staying[..usize::from(count)]);
-        assert_eq!(rt; page.image(), wanted.image(), "stays of {count}");
-        assert_eq!(rt; other.image(), wanted_other.image(), "goes of {count}");
+    let mut wanted = Page::fresh(alloc, 0, 9)?;
+    for count in COUNTS {
+        split_leaf::<K>(rt, &mut page, &mut other, count);
+        are_sides::<K>(rt, (&page, &other), &mut wanted, 0, count);
     }
     Ok(())
+}
+
+/// An inner node of so many children, compared with what is written by hand.
+fn inner_is_made<K: Numbered>(rt: &impl Abort, page: &mut Page, wanted: &mut Page, count: u8) {
+    start(page, 3);
+    start(wanted, 3);
+    for n in 0..count {
+        put_child::<K>(rt, page, n, child_of(n));
+        write_child(rt, wanted, K::bytes(n), child_of(n));
+    }
+    is_alike(rt, page, wanted, count);
+}
+
+/// Changes each bound of an inner node of so many children, and splits it.
+fn split_inner<K: Numbered>(rt: &impl Abort, page: &mut Page, other: &mut Page, count: u8) {
+    for n in 0..count {
+        set_bound::<K>(rt, page, usize::from(n), later(n));
+    }
+    other.copy_from(page);
+    take_children_out::<K>(rt, page, count, true);
+    take_children_out::<K>(rt, other, count, false);
 }
 
 fn inner_edits_write<K: Numbered>(rt: &impl Abort, alloc: Global) -> Result<(), Fail> {
     let mut page = Page::fresh(alloc, 1, 2)?;
     let mut other = Page::fresh(alloc, 5, 7)?;
-    let mut wanted = Page::fresh(alloc, 0, 2)?;
-    let mut wanted_other = Page::fresh(alloc, 0, 9)?;
-    for count in [0, 1, 99, 100] {
-        start(&mut page, 3);
-        start(&mut wanted, 3);
-        for n in 0..count {
-            put_child::<K>(rt, &mut page, n, 200 - n);
-            write_child(rt, &mut wanted, K::bytes(n), 200 - n);
-        }
-        assert_eq!(rt; page.image(), wanted.image(), "{count} children");
-
-        start(&mut wanted, 3);
-        start(&mut wanted_other, 3);
-        let mut going = [false; 100];
-        let mut staying = [false; 100];
-        for n in 0..count {
-            let goes = n % 5 < 2;
-            going[usize::from(n)] = goes;
-            staying[usize::from(n)] = !goes;
-            set_bound::<K>(rt, &mut page, usize::from(n), n + 100);
-            if goes {
-                write_child(rt, &mut wanted_other, K::bytes(n + 100), 200 - n);
-            } else {
-                write_child(rt, &mut wanted, K::bytes(n + 100), 200 - n);
-            }
-        }
-        other.copy_from(&page);
-        keep_children::<K>(rt, &mut page, &going[..usize::from(count)]);
-        keep_children::<K>(rt, &mut other, &staying[..usize::from(count)]);
-        assert_eq!(rt; page.image(), wanted.image(), "stays of {count}");
-        assert_eq!(rt; other.image(), wanted_other.image(), "goes of {count}");
+    let mut wanted = Page::fresh(alloc, 0, 9)?;
+    for count in COUNTS {
+        inner_is_made::<K>(rt, &mut page, &mut wanted, count);
+        split_inner::<K>(rt, &mut page, &mut other, count);
+        are_sides::<K>(rt, (&page, &other), &mut wanted, 3, count);
     }
     Ok(())
 }

@@ -1,9 +1,9 @@
 //! Pages byte for byte: images after each edit, each fault at its boundary, and each call once.
 
+use crate::boxes::make_box;
 use crate::callers::{key_at, move_item, put_entry, redo, redo_from};
 use crate::reaches::{Reach, ReachClass};
-use gx_class::Box2Class;
-use gx_geom::Box2;
+use gx_class::{Box2Class, KeyClass};
 use gx_page::{PAGE_SIZE, Page, PageFault};
 use std::process::Abort;
 use std::test::Fail;
@@ -27,14 +27,37 @@ fn block(rt: &impl Abort, parts: &[Part]) -> [u8; PAGE_SIZE] {
     bytes
 }
 
-/// Fails unless the page's image is zeros with these parts.
-fn shows(rt: &impl Abort, page: &Page, parts: &[Part]) {
-    assert_eq!(rt; page.image(), block(rt, parts).as_slice());
+/// Fails unless these bytes are the page's image.
+fn has_image(rt: &impl Abort, page: &Page, bytes: &[u8]) {
+    assert_eq!(rt; page.image(), bytes);
 }
 
-fn put(rt: &impl Abort, page: &mut Page, slot: usize, item: &[u8]) -> bool {
-    assert!(rt; slot <= page.count() && !item.is_empty() && item.len() <= 4060);
+/// Fails unless the page's image is zeros with these parts.
+fn shows(rt: &impl Abort, page: &Page, parts: &[Part]) {
+    has_image(rt, page, &block(rt, parts));
+}
+
+/// Fails unless these bytes are the page's heap.
+fn has_heap(rt: &impl Abort, page: &Page, bytes: &[u8]) {
+    assert_eq!(rt; page.heap(), bytes);
+}
+
+/// Fails unless the page has so many items, and this one at the slot.
+fn holds(rt: &impl Abort, page: &Page, count: usize, slot: usize, item: &[u8]) {
+    assert!(rt; page.count() == count && slot < count);
+    assert_eq!(rt; page.get(slot), item);
+}
+
+/// Puts the item in. False where the page has no room.
+fn try_put(rt: &impl Abort, page: &mut Page, slot: usize, item: &[u8]) -> bool {
+    assert!(rt; slot <= page.count());
+    assert!(rt; !item.is_empty() && item.len() <= 4060);
     page.insert(slot, item)
+}
+
+/// Puts the item in; fails where the page has no room.
+fn put(rt: &impl Abort, page: &mut Page, slot: usize, item: &[u8]) {
+    assert!(rt; try_put(rt, page, slot, item));
 }
 
 fn take_out(rt: &impl Abort, page: &mut Page, slot: usize) {
@@ -42,215 +65,266 @@ fn take_out(rt: &impl Abort, page: &mut Page, slot: usize) {
     page.remove(slot);
 }
 
+fn change_byte(rt: &impl Abort, page: &mut Page, slot: usize, index: usize, byte: u8) {
+    assert!(rt; slot < page.count() && index < page.get(slot).len());
+    page.set_byte(slot, index, byte);
+}
+
+fn change(rt: &impl Abort, page: &mut Page, slot: usize, item: &[u8]) {
+    assert!(rt; slot < page.count() && item.len() == page.get(slot).len());
+    page.replace(slot, item);
+}
+
+/// Fails unless the bytes' check gives this: the page's number, or the fault.
+fn check_gives(rt: &impl Abort, bytes: &[u8], given: Result<u32, PageFault>) {
+    assert_eq!(rt; Page::check(bytes), given);
+}
+
+/// The empty page 2.
+const FRESH: [Part<'static>; 2] = [(4, &[0x10]), (23, &[2])];
+
 /// The live entry 7 `0 0 10 10`.
 const ENTRY: [u8; 25] = [
     0, 0, 0, 0, 0, 0, 0, 0, 0, 0, 0, 10, 0, 0, 0, 10, 0, 0, 0, 0, 0, 0, 0, 7, 0,
 ];
 
+/// Page 2 with that entry.
+const ENTRY_PAGE: [Part<'static>; 4] = [
+    (0, &[0, 0, 0, 1, 0x0f, 0xe7, 0, 0]),
+    (20, &[0, 0, 0, 2]),
+    (32, &[0x0f, 0xe7, 0, 0x19]),
+    (4071, &ENTRY),
+];
+
 /// The image of page 2 with that entry, and a byte changed.
 fn entry_image(rt: &impl Abort, at: usize, byte: u8) -> [u8; PAGE_SIZE] {
-    let mut bytes = block(
-        rt,
-        &[
-            (0, &[0, 0, 0, 1, 0x0f, 0xe7, 0, 0]),
-            (20, &[0, 0, 0, 2]),
-            (32, &[0x0f, 0xe7, 0, 0x19]),
-            (4071, &ENTRY),
-        ],
-    );
+    let mut bytes = block(rt, &ENTRY_PAGE);
     write(rt, &mut bytes, at, &[byte]);
     bytes
 }
 
+/// Page 1, of level 1, with one entry that ends in a 2.
+const ROOT: [Part<'static>; 4] = [
+    (0, &[0, 1, 0, 1, 0x0f, 0xec]),
+    (23, &[1]),
+    (32, &[0x0f, 0xec, 0, 0x14]),
+    (4095, &[2]),
+];
+
 #[test]
 fn fresh_pages_and_a_first_item(rt: HostRuntime) -> Result<(), Fail> {
     let mut leaf = Page::fresh(rt.alloc(), 0, 2)?;
-    shows(&rt, &leaf, &[(4, &[0x10]), (23, &[2])]);
-    assert!(rt; put(&rt, &mut leaf, 0, &ENTRY));
-    assert_eq!(rt; leaf.image(), entry_image(&rt, 0, 0).as_slice());
+    shows(&rt, &leaf, &FRESH);
+    put(&rt, &mut leaf, 0, &ENTRY);
+    shows(&rt, &leaf, &ENTRY_PAGE);
     let mut root = Page::fresh(rt.alloc(), 1, 1)?;
     let entry = [0, 0, 0, 0, 0, 0, 0, 0, 0, 0, 0, 0, 0, 0, 0, 0, 0, 0, 0, 2];
-    assert!(rt; put(&rt, &mut root, 0, &entry));
-    let head = [0, 1, 0, 1, 0x0f, 0xec];
-    let slot = [0x0f, 0xec, 0, 0x14];
-    shows(
-        &rt,
-        &root,
-        &[(0, &head), (23, &[1]), (32, &slot), (4095, &[2])],
-    );
+    put(&rt, &mut root, 0, &entry);
+    shows(&rt, &root, &ROOT);
     root.reset(0, 2);
-    shows(&rt, &root, &[(4, &[0x10]), (23, &[2])]);
+    shows(&rt, &root, &FRESH);
     Ok(())
+}
+
+/// What page 2 shows of its items: their count and the heap's start, the directory, and the heap.
+type Items = (&'static [u8], &'static [u8], Part<'static>);
+
+/// The item `abc`, then `de` behind it, then `f` between the two, and then these without `abc`.
+const ONE: Items = (&[1, 0x0f, 0xfd], &[0x0f, 0xfd, 0, 3], (4093, b"abc"));
+
+const TWO: Items = (
+    &[2, 0x0f, 0xfb],
+    &[0x0f, 0xfd, 0, 3, 0x0f, 0xfb, 0, 2],
+    (4091, b"deabc"),
+);
+
+const THREE: Items = (
+    &[3, 0x0f, 0xfa],
+    &[0x0f, 0xfd, 0, 3, 0x0f, 0xfc, 0, 1, 0x0f, 0xfa, 0, 2],
+    (4090, b"defabc"),
+);
+
+const LEFT: Items = (
+    &[2, 0x0f, 0xfd],
+    &[0x0f, 0xff, 0, 1, 0x0f, 0xfd, 0, 2],
+    (4093, b"def"),
+);
+
+fn shows_items(rt: &impl Abort, page: &Page, (counts, directory, heap): Items) {
+    shows(rt, page, &[(3, counts), (23, &[2]), (32, directory), heap]);
 }
 
 #[test]
 fn three_inserts_and_a_removal(rt: HostRuntime) -> Result<(), Fail> {
     let mut page = Page::fresh(rt.alloc(), 0, 2)?;
-    assert!(rt; put(&rt, &mut page, 0, b"abc"));
-    let one = [0x0f, 0xfd, 0, 3];
-    shows(
-        &rt,
-        &page,
-        &[
-            (3, &[1, 0x0f, 0xfd]),
-            (23, &[2]),
-            (32, &one),
-            (4093, b"abc"),
-        ],
-    );
-    assert!(rt; put(&rt, &mut page, 1, b"de"));
-    let two = [0x0f, 0xfd, 0, 3, 0x0f, 0xfb, 0, 2];
-    shows(
-        &rt,
-        &page,
-        &[
-            (3, &[2, 0x0f, 0xfb]),
-            (23, &[2]),
-            (32, &two),
-            (4091, b"deabc"),
-        ],
-    );
-    assert!(rt; put(&rt, &mut page, 1, b"f"));
-    let three = [0x0f, 0xfd, 0, 3, 0x0f, 0xfc, 0, 1, 0x0f, 0xfa, 0, 2];
-    shows(
-        &rt,
-        &page,
-        &[
-            (3, &[3, 0x0f, 0xfa]),
-            (23, &[2]),
-            (32, &three),
-            (4090, b"defabc"),
-        ],
-    );
-    assert_eq!(rt; page.heap(), b"defabc".as_slice());
+    put(&rt, &mut page, 0, b"abc");
+    shows_items(&rt, &page, ONE);
+    put(&rt, &mut page, 1, b"de");
+    shows_items(&rt, &page, TWO);
+    put(&rt, &mut page, 1, b"f");
+    shows_items(&rt, &page, THREE);
+    has_heap(&rt, &page, b"defabc");
     take_out(&rt, &mut page, 0);
-    let left = [0x0f, 0xff, 0, 1, 0x0f, 0xfd, 0, 2];
-    shows(
-        &rt,
-        &page,
-        &[
-            (3, &[2, 0x0f, 0xfd]),
-            (23, &[2]),
-            (32, &left),
-            (4093, b"def"),
-        ],
-    );
+    shows_items(&rt, &page, LEFT);
     Ok(())
 }
+
+/// The longest item that a page takes.
+const LONGEST: [u8; 4060] = [7; 4060];
+
+/// Page 3 with that item.
+const FULL: [Part<'static>; 5] = [
+    (3, &[1, 0, 0x24]),
+    (23, &[3]),
+    (33, &[0x24]),
+    (34, &[0x0f, 0xdc]),
+    (36, &LONGEST),
+];
 
 #[test]
 fn the_longest_item_fills_a_page(rt: HostRuntime) -> Result<(), Fail> {
     let mut page = Page::fresh(rt.alloc(), 0, 3)?;
-    let longest = [7u8; 4060];
-    assert!(rt; put(&rt, &mut page, 0, &longest));
-    let full = [0x0f, 0xdc];
-    let parts: [Part; 5] = [
-        (3, &[1, 0, 0x24]),
-        (23, &[3]),
-        (33, &[0x24]),
-        (34, &full),
-        (36, &longest),
-    ];
-    shows(&rt, &page, &parts);
-    assert!(rt; !put(&rt, &mut page, 1, &[9]));
-    shows(&rt, &page, &parts);
+    put(&rt, &mut page, 0, &LONGEST);
+    shows(&rt, &page, &FULL);
+    assert!(rt; !try_put(&rt, &mut page, 1, &[9]));
+    shows(&rt, &page, &FULL);
     Ok(())
 }
 
+/// A byte of the entry's page and its new value, and what the check gives.
+const CHECKS: [(usize, u8, Result<u32, PageFault>); 13] = [
+    (6, 1, Err(PageFault::Reserved)),
+    (7, 1, Err(PageFault::Reserved)),
+    (24, 1, Err(PageFault::Reserved)),
+    (31, 1, Err(PageFault::Reserved)),
+    // the slot's length, none, its place, the heap's start, and a directory past the end
+    (35, 0x18, Err(PageFault::Directory)),
+    (35, 0, Err(PageFault::Directory)),
+    (33, 0xe8, Err(PageFault::Directory)),
+    (5, 0xe6, Err(PageFault::Directory)),
+    (2, 0x10, Err(PageFault::Directory)),
+    (3, 2, Err(PageFault::Directory)),
+    (36, 1, Err(PageFault::Free)),
+    (4070, 1, Err(PageFault::Free)),
+    (4071, 1, Ok(2)),
+];
+
 #[test]
 fn each_fault_at_its_boundary(rt: HostRuntime) {
-    for (at, byte, fault) in [
-        (6, 1, PageFault::Reserved),
-        (7, 1, PageFault::Reserved),
-        (24, 1, PageFault::Reserved),
-        (31, 1, PageFault::Reserved),
-        // the slot's length, none, its place, the heap's start, and a directory past the end
-        (35, 0x18, PageFault::Directory),
-        (35, 0, PageFault::Directory),
-        (33, 0xe8, PageFault::Directory),
-        (5, 0xe6, PageFault::Directory),
-        (2, 0x10, PageFault::Directory),
-        (3, 2, PageFault::Directory),
-        (36, 1, PageFault::Free),
-        (4070, 1, PageFault::Free),
-    ] {
-        assert_eq!(rt;
-            Page::check(&entry_image(&rt, at, byte)),
-            Err(fault),
-            "byte {at}"
-        );
+    for (at, byte, given) in CHECKS {
+        let image = entry_image(&rt, at, byte);
+        assert_eq!(rt; (at, Page::check(&image)), (at, given));
     }
-    assert_eq!(rt; Page::check(&entry_image(&rt, 4071, 1)), Ok(2));
-    assert_eq!(rt; Page::check(&[0u8; PAGE_SIZE - 1]), Err(PageFault::Size));
-    assert_eq!(rt; Page::check(&[0u8; PAGE_SIZE + 1]), Err(PageFault::Size));
-    let fresh: [Part; 2] = [(4, &[0x10]), (23, &[2])];
-    let mut bytes = block(&rt, &fresh);
-    assert_eq!(rt; Page::check(&bytes), Ok(2));
-    // faults one before another
-    write(&rt, &mut bytes, 40, &[1]);
-    assert_eq!(rt; Page::check(&bytes), Err(PageFault::Free));
-    write(&rt, &mut bytes, 4, &[0x0f, 0xff]);
-    assert_eq!(rt; Page::check(&bytes), Err(PageFault::Directory));
-    write(&rt, &mut bytes, 6, &[1]);
-    assert_eq!(rt; Page::check(&bytes), Err(PageFault::Reserved));
+    check_gives(&rt, &[0; PAGE_SIZE - 1], Err(PageFault::Size));
+    check_gives(&rt, &[0; PAGE_SIZE + 1], Err(PageFault::Size));
+}
+
+/// What is written over an empty page, one after the other, and the fault that comes first then.
+const FAULTS: [(usize, &[u8], PageFault); 3] = [
+    (40, &[1], PageFault::Free),
+    (4, &[0x0f, 0xff], PageFault::Directory),
+    (6, &[1], PageFault::Reserved),
+];
+
+#[test]
+fn one_fault_comes_before_another(rt: HostRuntime) {
+    let mut bytes = block(&rt, &FRESH);
+    check_gives(&rt, &bytes, Ok(2));
+    for (at, part, fault) in FAULTS {
+        write(&rt, &mut bytes, at, part);
+        check_gives(&rt, &bytes, Err(fault));
+    }
+}
+
+/// Fails unless a load of the bytes gives this.
+fn load_gives(rt: &impl Abort, page: &mut Page, bytes: &[u8], given: Result<(), PageFault>) {
+    assert_eq!(rt; page.load(bytes), given);
+}
+
+/// Fails unless the page has this number and so many items.
+fn counts(rt: &impl Abort, page: &Page, number: u32, count: usize) {
+    assert_eq!(rt; (page.number(), page.count()), (number, count));
 }
 
 #[test]
 fn images_given_and_taken(rt: HostRuntime) -> Result<(), Fail> {
     let bytes = entry_image(&rt, 0, 0);
     let page = Page::from_image(rt.alloc(), &bytes)?;
-    assert_eq!(rt; page.image(), bytes.as_slice());
+    has_image(&rt, &page, &bytes);
     let mut other = Page::fresh(rt.alloc(), 0, 9)?;
-    assert_eq!(rt; other.load(&entry_image(&rt, 36, 1)), Err(PageFault::Free));
-    assert_eq!(rt; (other.number(), other.count()), (9, 0));
-    assert_eq!(rt; other.load(&bytes), Ok(()));
-    assert_eq!(rt; (other.number(), other.count()), (2, 1));
+    let free = Err(PageFault::Free);
+    load_gives(&rt, &mut other, &entry_image(&rt, 36, 1), free);
+    counts(&rt, &other, 9, 0);
+    load_gives(&rt, &mut other, &bytes, Ok(()));
+    counts(&rt, &other, 2, 1);
     other.reset(5, 6);
     other.copy_from(&page);
-    assert_eq!(rt; other.image(), bytes.as_slice());
+    has_image(&rt, &other, &bytes);
     Ok(())
+}
+
+/// The bytes of the last three fields of a head that counts up from 1.
+const LAST: [u8; 16] = [3, 4, 5, 6, 7, 8, 9, 10, 11, 12, 13, 14, 15, 16, 17, 18];
+
+/// Fails unless the bytes of the page's level, and of its last three fields, count up from 1.
+fn counts_up(rt: &impl Abort, page: &Page) {
+    let image = page.image();
+    assert_eq!(rt;
+        (&image[..2], &image[8..24]),
+        ([1, 2].as_slice(), LAST.as_slice())
+    );
+}
+
+/// A page's level, sequence number, right neighbour and number.
+fn fields(page: &Page) -> (u16, u64, u32, u32) {
+    (page.level(), page.nsn(), page.right(), page.number())
 }
 
 #[test]
 fn each_call_once(rt: HostRuntime) -> Result<(), Fail> {
     let mut page = Page::fresh(rt.alloc(), 0, 3)?;
-    assert!(rt; put(&rt, &mut page, 0, b"mountain"));
-    assert!(rt; put(&rt, &mut page, 0, b"sea"));
-    assert_eq!(rt; page.count(), 2);
-    assert_eq!(rt; page.get(1).len(), 8);
-    page.set_byte(1, 0, b'f');
-    assert_eq!(rt; page.count(), 2);
-    assert_eq!(rt; page.get(1), b"fountain".as_slice());
-    assert_eq!(rt; page.get(1).len(), 8);
-    page.replace(1, b"curtains");
-    assert_eq!(rt; page.count(), 2);
-    assert_eq!(rt; page.get(1), b"curtains".as_slice());
+    put(&rt, &mut page, 0, b"mountain");
+    put(&rt, &mut page, 0, b"sea");
+    holds(&rt, &page, 2, 1, b"mountain");
+    change_byte(&rt, &mut page, 1, 0, b'f');
+    holds(&rt, &page, 2, 1, b"fountain");
+    change(&rt, &mut page, 1, b"curtains");
+    holds(&rt, &page, 2, 1, b"curtains");
     page.set_level(0x0102);
     page.set_nsn(0x0304_0506_0708_090a);
     page.set_right(0x0b0c_0d0e);
     page.set_number(0x0f10_1112);
-    let last = [3, 4, 5, 6, 7, 8, 9, 10, 11, 12, 13, 14, 15, 16, 17, 18];
-    assert_eq!(rt; &page.image()[..2], [1, 2].as_slice());
-    assert_eq!(rt; &page.image()[8..24], last.as_slice());
-    assert_eq!(rt; (page.level(), page.nsn()), (0x0102, 0x0304_0506_0708_090a));
-    assert_eq!(rt; (page.right(), page.number()), (0x0b0c_0d0e, 0x0f10_1112));
+    counts_up(&rt, &page);
+    let set = (0x0102, 0x0304_0506_0708_090a, 0x0b0c_0d0e, 0x0f10_1112);
+    assert_eq!(rt; fields(&page), set);
     Ok(())
+}
+
+/// Fails unless the first item, of an entry's length, begins with the key.
+fn has_key<K: KeyClass>(rt: &impl Abort, page: &Page, key: K::Key) {
+    assert!(rt; page.count() == 1 && page.get(0).len() == 25);
+    assert!(rt; K::KEY <= 25);
+    assert!(rt; key_at::<K>(page, 0) == Some(key));
+}
+
+/// Moves a page's only item behind the only one of another.
+fn move_the_only_item(rt: &impl Abort, from: &mut Page, to: &mut Page) {
+    assert!(rt; (from.count(), to.count()) == (1, 1));
+    let moved = move_item(from, 0, to);
+    assert_eq!(rt; (moved, from.count(), to.count()), (true, 0, 2));
 }
 
 #[test]
 fn callers_of_pages_and_classes(rt: HostRuntime) -> Result<(), Fail> {
     let mut page = Page::from_image(rt.alloc(), &entry_image(&rt, 0, 0))?;
+    has_key::<Box2Class>(&rt, &page, make_box(&rt, (0, 0, 10, 10)));
+    has_key::<ReachClass>(&rt, &page, Reach(0));
     let mut other = Page::fresh(rt.alloc(), 0, 9)?;
-    assert!(rt; page.count() == 1 && page.get(0).len() == 25);
-    assert_eq!(rt; key_at::<Box2Class>(&page, 0), Box2::new(0, 0, 10, 10).ok());
-    assert_eq!(rt; key_at::<ReachClass>(&page, 0), Some(Reach(0)));
     put_entry::<Box2Class>(&mut other, 0, &ENTRY);
-    assert_eq!(rt; other.count(), 1);
-    assert!(rt; move_item(&mut page, 0, &mut other));
-    assert_eq!(rt; (page.count(), other.count()), (0, 2));
+    move_the_only_item(&rt, &mut page, &mut other);
     assert!(rt; !redo(&mut page, &[]));
     redo_from(&mut page, &other);
-    assert_eq!(rt; page.image(), other.image());
+    has_image(&rt, &page, other.image());
     Ok(())
 }
 

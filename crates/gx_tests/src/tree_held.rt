@@ -10,7 +10,7 @@ use crate::trees::{Corners, a_box, held, split_twice};
 use gx_class::{Box2Class, IntervalClass, Probing};
 use gx_geom::Box2;
 use gx_machine::{Entry, Query};
-use gx_tree::{Look, Pages, Sought, Wanted, set_mark_step};
+use gx_tree::{Look, MemoryPages, Pages, Sought, Wanted, set_mark_step};
 use std::process::Abort;
 use std::test::Fail;
 
@@ -128,6 +128,42 @@ fn chosen(step: u64, state: &mut u32) -> usize {
     }
 }
 
+/// A step of one of the inserts; one whose pair was added makes place for the next row's.
+fn step_of_one<K: Drawn, R: Abort + AllocGlobal>(
+    rt: &R,
+    run: &mut Run<K>,
+    inserts: &mut Vec<Option<Open<K::Key>>>,
+    row: u64,
+    state: &mut u32,
+) -> Result<(), Fail>
+where
+    K::Probe: Drop,
+{
+    let insert = inserts.get_mut(chosen(row, state)).expect(rt, "an insert");
+    *insert = match *insert {
+        Some(open) => go_on(rt, run, open)?,
+        None => Some(Open {
+            entry: Entry {
+                row,
+                key: K::drawn(state),
+            },
+            place: top(run),
+        }),
+    };
+    Ok(())
+}
+
+/// A search finds all pairs that stand.
+fn all_are_found<K: Drawn, R: Abort + AllocGlobal>(rt: &R, run: &mut Run<K>) -> Result<(), Fail>
+where
+    K::Probe: Drop,
+{
+    let all = K::all();
+    let look = look_for(rt, run, &Wanted::<K>::matching(&Query::Overlap(all)))?;
+    finds_all(rt, run, &look, &all);
+    Ok(())
+}
+
 /// So many steps of inserts that are open side by side, of which one is held for long between its steps, in a tree that
 /// begins without pairs. How many came to a page that was split since, and how many found no place for a split.
 fn storm<K: Drawn, R: Abort + AllocGlobal>(
@@ -139,28 +175,15 @@ fn storm<K: Drawn, R: Abort + AllocGlobal>(
 where
     K::Probe: Drop,
 {
-    let mut run = begin::<K, R>(rt, most, PAGES - 3)?;
     let mut inserts = Vec::new(rt.alloc());
     for _ in 0..OPEN {
         inserts.push(None)?;
     }
+    let mut run = begin::<K, R>(rt, most, PAGES - 3)?;
     for row in 0..steps {
-        let chosen = chosen(row, state);
-        let insert = inserts.get_mut(chosen).expect(rt, "an insert");
-        *insert = match *insert {
-            Some(open) => go_on(rt, &mut run, open)?,
-            None => Some(Open {
-                entry: Entry {
-                    row,
-                    key: K::drawn(state),
-                },
-                place: top(&run),
-            }),
-        };
+        step_of_one(rt, &mut run, &mut inserts, row, state)?;
     }
-    let all = K::all();
-    let look = look_for(rt, &mut run, &Wanted::<K>::matching(&Query::Overlap(all)))?;
-    finds_all(rt, &run, &look, &all);
+    all_are_found(rt, &mut run)?;
     Ok((run.began_again, run.found_no_place))
 }
 
@@ -211,39 +234,94 @@ fn pair(rt: &impl Abort, row: u64, corners: Corners) -> Entry<Box2> {
 }
 
 /// A step of an insert that isn't its last: the page to which it goes, and the number that it remembers.
-fn goes_to<R: Abort + AllocGlobal>(
+fn goes_to<K: Probing, R: Abort + AllocGlobal>(
     rt: &R,
-    run: &mut Run<Box2Class>,
-    open: &mut Open<Box2>,
-) -> Result<(u32, u64), Fail> {
+    run: &mut Run<K>,
+    open: &mut Open<K::Key>,
+) -> Result<(u32, u64), Fail>
+where
+    K::Probe: Drop,
+{
     *open = go_on(rt, run, *open)?.expect(rt, "a further step");
     Ok((open.place.item.page(), open.place.item.seen()))
+}
+
+/// Others insert these pairs, which make this tree, and mark the first of the list.
+fn change<K: Probing, R: Abort + AllocGlobal>(
+    rt: &R,
+    run: &mut Run<K>,
+    later: &[Entry<K::Key>],
+    tree: &MemoryPages<K>,
+    first: &Entry<K::Key>,
+) -> Result<(), Fail>
+where
+    K::Probe: Drop,
+{
+    for entry in later {
+        assert!(rt; insert(rt, run, *entry)?);
+    }
+    are_same(rt, &run.tree, tree);
+    set_mark(rt, run, first, true)?;
+    assert!(rt; run.pairs.len() > 0);
+    run.pairs.swap_remove(0);
+    Ok(())
+}
+
+/// The last steps of an insert: it begins again at the root, goes to page 3, and adds its pair there, where this marked one
+/// stands.
+fn begins_again<K: Probing, R: Abort + AllocGlobal>(
+    rt: &R,
+    run: &mut Run<K>,
+    open: &mut Open<K::Key>,
+    marked: &Entry<K::Key>,
+) -> Result<(), Fail>
+where
+    K::Probe: Drop,
+{
+    assert_eq!(rt; goes_to(rt, run, open)?, (1, 2));
+    assert_eq!(rt; goes_to(rt, run, open)?, (3, 2));
+    assert!(rt; go_on(rt, run, *open)?.is_none());
+    assert_eq!(rt; leaf_of(rt, run, &open.entry, false)?, 3);
+    assert_eq!(rt; leaf_of(rt, run, marked, true)?, 3);
+    Ok(())
+}
+
+/// An insert that has read the root, from which it goes to page 2, when others change the tree.
+fn is_held<K: Probing, R: Abort + AllocGlobal>(
+    rt: &R,
+    run: &mut Run<K>,
+    entry: Entry<K::Key>,
+    later: &[Entry<K::Key>],
+    tree: &MemoryPages<K>,
+) -> Result<(), Fail>
+where
+    K::Probe: Drop,
+{
+    let first = *run.pairs.first().expect(rt, "a pair");
+    let place = top(run);
+    let mut open = Open { entry, place };
+    assert_eq!(rt; goes_to(rt, run, &mut open)?, (2, 0));
+    change(rt, run, later, tree, &first)?;
+    begins_again(rt, run, &mut open, &first)
+}
+
+/// The tree of two rows, with its pairs.
+fn two_rows<R: Abort + AllocGlobal>(rt: &R) -> Result<Run<Box2Class>, Fail> {
+    let mut run = run_on(rt, held(rt)?, 4)?;
+    run.pairs.push(pair(rt, 2, (0, 0, 1, 1)))?;
+    run.pairs.push(pair(rt, 1, (100, 4, 101, 5)))?;
+    Ok(run)
 }
 
 // An insert has read the root when page 2, to which it goes, is split twice, and a pair that went from there to page 3 is
 // marked. It begins again at the root, goes to page 3, and adds its pair there.
 #[test]
 fn a_held_insert_begins_again(rt: HostRuntime) -> Result<(), Fail> {
-    let mut run = run_on(&rt, held(&rt)?, 4)?;
-    let second = pair(&rt, 2, (0, 0, 1, 1));
-    run.pairs.push(second)?;
-    run.pairs.push(pair(&rt, 1, (100, 4, 101, 5)))?;
-    let mut open = Open {
-        entry: pair(&rt, 8, (0, 0, 2, 2)),
-        place: top(&run),
-    };
-    assert_eq!(rt; goes_to(&rt, &mut run, &mut open)?, (2, 0));
-    for (row, corners) in LATER {
-        assert!(rt; insert(&rt, &mut run, pair(&rt, row, corners))?);
+    let entry = pair(&rt, 8, (0, 0, 2, 2));
+    let mut later = [entry; 5];
+    for (k, (row, corners)) in LATER.iter().enumerate() {
+        later[k] = pair(&rt, *row, *corners);
     }
-    are_same(&rt, &run.tree, &split_twice(&rt)?);
-    set_mark(&rt, &mut run, &second, true)?;
-    assert!(rt; run.pairs.len() > 0);
-    run.pairs.swap_remove(0);
-    assert_eq!(rt; goes_to(&rt, &mut run, &mut open)?, (1, 2));
-    assert_eq!(rt; goes_to(&rt, &mut run, &mut open)?, (3, 2));
-    assert!(rt; go_on(&rt, &mut run, open)?.is_none());
-    assert_eq!(rt; leaf_of(&rt, &mut run, &open.entry, false)?, 3);
-    assert_eq!(rt; leaf_of(&rt, &mut run, &second, true)?, 3);
-    Ok(())
+    let mut run = two_rows(&rt)?;
+    is_held(&rt, &mut run, entry, &later, &split_twice(&rt)?)
 }

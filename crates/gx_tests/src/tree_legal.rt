@@ -72,6 +72,17 @@ fn node_is_legal<K: KeyClass>(
     }
 }
 
+/// How many pairs of a leaf are live.
+fn live_pairs<K: KeyClass>(leaf: &Leaf<K>) -> usize {
+    let mut live = 0usize;
+    for slot in 0..leaf.len() {
+        if !leaf.is_marked(slot) {
+            live = live.saturating_add(1);
+        }
+    }
+    live
+}
+
 /// How many leaves the rightlinks lead over from page 2 on, and how many live pairs these have.
 fn chain<K: KeyClass>(rt: &impl Abort, tree: &MemoryPages<K>) -> (u32, usize) {
     let (mut at, mut leaves, mut live) = (2, 0, 0);
@@ -80,10 +91,7 @@ fn chain<K: KeyClass>(rt: &impl Abort, tree: &MemoryPages<K>) -> (u32, usize) {
             break;
         }
         let node = leaf(rt, tree, at);
-        let here = (0..node.len())
-            .filter(|slot| !node.is_marked(*slot))
-            .count();
-        live = here.saturating_add(live);
+        live = live_pairs(&node).saturating_add(live);
         (at, leaves) = (node.right(), n + 1);
     }
     assert!(rt; at == 0);

@@ -13,6 +13,7 @@ use gx_tree::{
     Descended, Item, Look, MemoryPages, Pages, Sought, StepFault, Wanted, add_step, descend_step,
     look_step, set_mark_step, split_root_step, split_step, sweep_step,
 };
+use std::convert::Infallible;
 use std::process::Abort;
 use std::test::Fail;
 
@@ -95,19 +96,31 @@ pub(crate) fn top<K: KeyClass>(run: &Run<K>) -> Place {
     }
 }
 
-/// Splits a full node, below its parent or the root itself; then the descent begins again.
+/// Splits a full node, below its parent or the root itself. Whether there was a place for the split.
+fn split_node<K: KeyClass>(
+    rt: &impl Abort,
+    tree: &mut MemoryPages<K>,
+    place: Place,
+    most: usize,
+    keys: &mut [K::Key],
+) -> Result<bool, StepFault<Infallible>> {
+    assert!(rt; most >= 4 && most <= MAX_ENTRIES && keys.len() >= MAX_ENTRIES);
+    let page = place.item.page();
+    if page == 1 {
+        split_root_step(tree, most, keys)?;
+        return Ok(true);
+    }
+    Ok(split_step(tree, page, place.parent, most, keys)?.is_some())
+}
+
+/// Splits a full node; then the descent begins again.
 fn split<K: KeyClass>(
     rt: &impl Abort,
     run: &mut Run<K>,
     place: Place,
-) -> Result<Option<Place>, StepFault<()>> {
-    let most = most_of(rt, run);
-    assert!(rt; run.keys.len() >= MAX_ENTRIES);
+) -> Result<Option<Place>, StepFault<Infallible>> {
     let keys = run.keys.as_mut_slice();
-    let page = place.item.page();
-    if page == 1 {
-        split_root_step(&mut run.tree, most, keys)?;
-    } else if split_step(&mut run.tree, page, place.parent, most, keys)?.is_none() {
+    if !split_node(rt, &mut run.tree, place, run.most, keys)? {
         run.found_no_place = run.found_no_place.saturating_add(1);
     }
     Ok(Some(top(run)))
@@ -119,7 +132,7 @@ pub(crate) fn insert_step<K: KeyClass>(
     run: &mut Run<K>,
     place: Place,
     entry: &Entry<K::Key>,
-) -> Result<Option<Place>, StepFault<()>> {
+) -> Result<Option<Place>, StepFault<Infallible>> {
     let most = most_of(rt, run);
     let page = place.item.page();
     match descend_step(&mut run.tree, &place.item, &entry.key, most)? {
@@ -222,15 +235,16 @@ pub(crate) fn finds_all<K: KeyClass>(
     look: &Look<K::Key>,
     square: &K::Key,
 ) {
-    let wanted = run
-        .pairs
-        .iter()
-        .filter(|entry| entry.key.overlaps(square))
-        .count();
+    let mut wanted = 0usize;
+    for entry in run.pairs.as_slice() {
+        if entry.key.overlaps(square) {
+            wanted = wanted.saturating_add(1);
+        }
+    }
     assert_eq!(rt; look.found().len(), wanted);
     for found in look.found() {
-        let is_found = run.pairs.iter().any(|entry| *entry == found.entry);
-        assert!(rt; is_found && !found.marked && found.entry.key.overlaps(square));
+        let stands = run.pairs.as_slice().contains(&found.entry);
+        assert!(rt; stands && !found.marked && found.entry.key.overlaps(square));
     }
 }
 
@@ -250,6 +264,62 @@ where
     }
 }
 
+/// A search at work: what it wants, and how far its look has come.
+#[derive(Drop)]
+struct Search<K: KeyClass> {
+    square: K::Key,
+    look: Look<K::Key>,
+}
+
+/// A search of a drawn square that begins.
+fn begin_search<K: Drawn, R: AllocGlobal>(
+    rt: &R,
+    run: &Run<K>,
+    state: &mut u32,
+) -> Result<Search<K>, Fail> {
+    let square = K::drawn(state);
+    let look = look_from_root(rt, run)?;
+    Ok(Search { square, look })
+}
+
+/// A search reads a page. One that is done has found all that it wants, and another begins.
+fn search_on<K: Drawn, R: Abort + AllocGlobal>(
+    rt: &R,
+    run: &mut Run<K>,
+    at_work: &mut Search<K>,
+    state: &mut u32,
+) -> Result<(), Fail>
+where
+    K::Probe: Drop,
+{
+    if at_work.look.is_done() {
+        finds_all(rt, run, &at_work.look, &at_work.square);
+        *at_work = begin_search(rt, run, state)?;
+    }
+    let wanted = Wanted::<K>::matching(&Query::Overlap(at_work.square));
+    look_on(rt, run, &wanted, &mut at_work.look);
+    Ok(())
+}
+
+/// Inserts a drawn key that a search doesn't want, and now and then marks one.
+fn insert_drawn<K: Drawn, R: Abort>(
+    rt: &R,
+    run: &mut Run<K>,
+    row: u64,
+    square: &K::Key,
+    state: &mut u32,
+) -> Result<(), Fail>
+where
+    K::Probe: Drop,
+{
+    let key = K::drawn(state);
+    if !key.overlaps(square) {
+        assert!(rt; insert(rt, run, Entry { row, key })?);
+    }
+    delete_some(rt, run, square, state);
+    Ok(())
+}
+
 /// A run of so many inserts of drawn keys, with deletes between them. All the while a search is at work, a page between two
 /// inserts, which others' steps keep: they leave alone what it wants, as claims see to it.
 fn runs<K: Drawn, R: Abort + AllocGlobal>(
@@ -263,21 +333,10 @@ where
 {
     let mut state = seed;
     let mut run = begin::<K, R>(rt, most, PAGES - 3)?;
-    let mut square = K::drawn(&mut state);
-    let mut look = look_from_root(rt, &run)?;
+    let mut at_work = begin_search(rt, &run, &mut state)?;
     for row in 0..rows {
-        let key = K::drawn(&mut state);
-        if !key.overlaps(&square) {
-            assert!(rt; insert(rt, &mut run, Entry { row, key })?);
-        }
-        delete_some(rt, &mut run, &square, &mut state);
-        if look.is_done() {
-            finds_all(rt, &run, &look, &square);
-            square = K::drawn(&mut state);
-            look = look_from_root(rt, &run)?;
-        }
-        let wanted = Wanted::<K>::matching(&Query::Overlap(square));
-        look_on(rt, &mut run, &wanted, &mut look);
+        insert_drawn(rt, &mut run, row, &at_work.square, &mut state)?;
+        search_on(rt, &mut run, &mut at_work, &mut state)?;
     }
     Ok(())
 }

@@ -1,7 +1,8 @@
 //! Looks, seeks and descents, a page a step, at trees that were built by hand.
 
-use gx_class::{Box2Class, KeyClass};
-use gx_geom::Box2;
+use crate::tree_legal::page;
+use gx_class::{Box2Class, KeyClass, Probing};
+use gx_geom::{Box2, Refusal};
 use gx_machine::{Entry, Query};
 use gx_page::Page;
 use gx_tree::{
@@ -9,16 +10,20 @@ use gx_tree::{
     look_step, seek_step, way_step,
 };
 use std::alloc::AllocError;
+use std::convert::Infallible;
 use std::process::Abort;
 use std::test::Fail;
 
 pub(crate) type Corners = (i32, i32, i32, i32);
 
-/// A page of a tree: level, sequence number, rightlink.
+/// The head of a tree's page: level, sequence number, rightlink.
 type Header = (u16, u64, u32);
 
+/// A page of a tree, and each box of it with a leaf's row or an inner node's child.
+type Node<'a> = (Header, &'a [(u32, Corners)]);
+
 /// Nine boxes in a line, of the rows 1 to 9.
-pub(crate) const LINE: [Corners; 9] = [
+const LINE: [Corners; 9] = [
     (10, 0, 11, 1),
     (20, 0, 21, 1),
     (30, 0, 31, 1),
@@ -63,7 +68,13 @@ fn add(pages: &mut Vec<Page>, page: Page) -> Result<(), AllocError> {
     Ok(())
 }
 
-/// The next page of a tree, with no entries.
+/// The number of the next page of a tree.
+fn next_number(rt: &impl Abort, pages: &[Page]) -> u32 {
+    assert!(rt; pages.len() < 1000);
+    pages.len() as u32 + 1
+}
+
+/// A page of a tree, with no entries.
 fn fresh<R: Abort + AllocGlobal>(rt: &R, number: u32, header: Header) -> Result<Page, Fail> {
     let mut page = Page::fresh(rt.alloc(), header.0, number)?;
     page.set_nsn(header.1);
@@ -71,36 +82,37 @@ fn fresh<R: Abort + AllocGlobal>(rt: &R, number: u32, header: Header) -> Result<
     Ok(page)
 }
 
-/// The next page of a tree: a leaf of live rows.
-fn leaf<R: Abort + AllocGlobal>(
+fn put_entry(rt: &impl Abort, page: &mut Page, number: u32, corners: Corners) {
+    let key = a_box(rt, corners);
+    if page.level() == 0 {
+        put(rt, page, &pair_item(u64::from(number), key));
+    } else {
+        put(rt, page, &child_item::<Box2Class>(rt, number, key));
+    }
+}
+
+/// The next page of a tree.
+fn add_node<R: Abort + AllocGlobal>(
     rt: &R,
     pages: &mut Vec<Page>,
-    header: Header,
-    rows: &[(u64, Corners)],
+    node: &Node,
 ) -> Result<(), Fail> {
-    let mut page = fresh(rt, 0, header)?;
-    for (row, corners) in rows {
-        let item = pair_item(*row, a_box(rt, *corners));
-        put(rt, &mut page, &item);
+    let (header, entries) = node;
+    let mut page = fresh(rt, next_number(rt, pages), *header)?;
+    for (number, corners) in *entries {
+        put_entry(rt, &mut page, *number, *corners);
     }
     add(pages, page)?;
     Ok(())
 }
 
-/// The next page of a tree: an inner node of these children.
-fn inner<R: Abort + AllocGlobal>(
-    rt: &R,
-    pages: &mut Vec<Page>,
-    header: Header,
-    children: &[(u32, Corners)],
-) -> Result<(), Fail> {
-    let mut page = fresh(rt, 0, header)?;
-    for (child, corners) in children {
-        let item = child_item::<Box2Class>(rt, *child, a_box(rt, *corners));
-        put(rt, &mut page, &item);
+/// The pages of a tree, page 1 first.
+fn pages_of<R: Abort + AllocGlobal>(rt: &R, nodes: &[Node]) -> Result<Vec<Page>, Fail> {
+    let mut pages = Vec::new(rt.alloc());
+    for node in nodes {
+        add_node(rt, &mut pages, node)?;
     }
-    add(pages, page)?;
-    Ok(())
+    Ok(pages)
 }
 
 /// Pages that can be taken, whatever they hold.
@@ -123,81 +135,84 @@ fn tree_of<K: KeyClass, R: Abort + AllocGlobal>(
     Ok(tree.ok().expect(rt, "a tree"))
 }
 
+/// A root with this child's bytes, over an empty leaf.
+fn root_and_leaf<R: Abort + AllocGlobal>(rt: &R, child: &[u8]) -> Result<Vec<Page>, Fail> {
+    let mut pages = pages_of(rt, &[((1, 0, 0), &[]), ((0, 0, 0), &[])])?;
+    put(rt, pages.first_mut().expect(rt, "a root"), child);
+    Ok(pages)
+}
+
 /// A fresh tree, with so many pages that can be taken: a root over an empty leaf.
 pub(crate) fn fresh_tree<K: KeyClass, R: Abort + AllocGlobal>(
     rt: &R,
     more: usize,
 ) -> Result<MemoryPages<K>, Fail> {
-    let mut pages = Vec::new(rt.alloc());
-    let mut root = fresh(rt, 1, (1, 0, 0))?;
     let child = child_item::<K>(rt, 2, K::start());
-    put(rt, &mut root, &child);
-    add(&mut pages, root)?;
-    add(&mut pages, fresh(rt, 2, (0, 0, 0))?)?;
-    tree_of(rt, pages, 0, more)
+    tree_of(rt, root_and_leaf(rt, &child)?, 0, more)
 }
 
-/// The tree of the nine boxes, four entries a node: four leaves, two nodes above them, and the root.
-pub(crate) fn nine_rows<R: Abort + AllocGlobal>(rt: &R) -> Result<MemoryPages<Box2Class>, Fail> {
-    let mut pages = Vec::new(rt.alloc());
-    inner(
-        rt,
-        &mut pages,
-        (2, 0, 0),
-        &[(6, (10, 0, 41, 1)), (7, (50, 0, 91, 1))],
-    )?;
-    leaf(rt, &mut pages, (0, 1, 3), &[(1, LINE[0]), (2, LINE[1])])?;
-    leaf(rt, &mut pages, (0, 2, 4), &[(3, LINE[2]), (4, LINE[3])])?;
-    leaf(rt, &mut pages, (0, 3, 5), &[(5, LINE[4]), (6, LINE[5])])?;
-    leaf(
-        rt,
-        &mut pages,
+/// The nine boxes, four entries a node: four leaves, two nodes above them, and the root.
+const NINE_ROWS: [Node<'static>; 7] = [
+    ((2, 0, 0), &[(6, (10, 0, 41, 1)), (7, (50, 0, 91, 1))]),
+    ((0, 1, 3), &[(1, (10, 0, 11, 1)), (2, (20, 0, 21, 1))]),
+    ((0, 2, 4), &[(3, (30, 0, 31, 1)), (4, (40, 0, 41, 1))]),
+    ((0, 3, 5), &[(5, (50, 0, 51, 1)), (6, (60, 0, 61, 1))]),
+    (
         (0, 0, 0),
-        &[(7, LINE[6]), (8, LINE[7]), (9, LINE[8])],
-    )?;
-    inner(
-        rt,
-        &mut pages,
-        (1, 0, 7),
-        &[(2, (10, 0, 21, 1)), (3, (30, 0, 41, 1))],
-    )?;
-    inner(
-        rt,
-        &mut pages,
-        (1, 0, 0),
-        &[(4, (50, 0, 61, 1)), (5, (70, 0, 91, 1))],
-    )?;
-    tree_of(rt, pages, 3, 9)
+        &[
+            (7, (70, 0, 71, 1)),
+            (8, (80, 0, 81, 1)),
+            (9, (90, 0, 91, 1)),
+        ],
+    ),
+    ((1, 0, 7), &[(2, (10, 0, 21, 1)), (3, (30, 0, 41, 1))]),
+    ((1, 0, 0), &[(4, (50, 0, 61, 1)), (5, (70, 0, 91, 1))]),
+];
+
+/// The tree of the nine boxes.
+pub(crate) fn nine_rows<R: Abort + AllocGlobal>(rt: &R) -> Result<MemoryPages<Box2Class>, Fail> {
+    tree_of(rt, pages_of(rt, &NINE_ROWS)?, 3, 9)
 }
 
 /// One step, which is made.
-fn step<R: Abort>(
-    rt: &R,
-    pages: &mut MemoryPages<Box2Class>,
-    wanted: &Wanted<Box2Class>,
-    look: &mut Look<Box2>,
+fn step<K: Probing>(
+    rt: &impl Abort,
+    pages: &mut MemoryPages<K>,
+    wanted: &Wanted<K>,
+    look: &mut Look<K::Key>,
 ) {
     assert!(rt; !look.is_done());
     assert!(rt; look_step(pages, wanted, look).is_ok());
 }
 
-/// The rows that a look from the root to its end finds, and how many pages it reads.
-fn rows_found<R: Abort + AllocGlobal>(
-    rt: &R,
-    pages: &mut MemoryPages<Box2Class>,
-    wanted: &Wanted<Box2Class>,
-) -> Result<(Vec<u64>, usize), Fail> {
-    let root = Item::new(1, pages.counter());
-    let mut look = Look::new(rt.alloc(), root)?;
-    let mut reads = 0;
+/// How many steps a look takes to its end.
+fn steps_to_the_end<K: Probing>(
+    rt: &impl Abort,
+    pages: &mut MemoryPages<K>,
+    wanted: &Wanted<K>,
+    look: &mut Look<K::Key>,
+) -> usize {
+    let mut steps = 0;
     for n in 0..20usize {
         if look.is_done() {
             break;
         }
-        step(rt, pages, wanted, &mut look);
-        reads = n + 1;
+        step(rt, pages, wanted, look);
+        steps = n + 1;
     }
     assert!(rt; look.is_done());
+    steps
+}
+
+/// The rows that a look from the root to its end finds, and how many pages it reads.
+fn rows_found<K: Probing, R: Abort + AllocGlobal>(
+    rt: &R,
+    pages: &mut MemoryPages<K>,
+    wanted: &Wanted<K>,
+) -> Result<(Vec<u64>, usize), Fail> {
+    let root = Item::new(1, pages.counter());
+    let mut look = Look::new(rt.alloc(), root)?;
+    let reads = steps_to_the_end(rt, pages, wanted, &mut look);
     let mut rows = Vec::new(rt.alloc());
     for found in look.found() {
         rows.push(found.entry.row)?;
@@ -205,161 +220,305 @@ fn rows_found<R: Abort + AllocGlobal>(
     Ok((rows, reads))
 }
 
+#[test]
+fn a_page_of_another_number_is_no_tree(rt: HostRuntime) -> Result<(), Fail> {
+    let mut pages = Vec::new(rt.alloc());
+    add(&mut pages, fresh(&rt, 2, (0, 0, 0))?)?;
+    let tree = MemoryPages::<Box2Class>::new(pages, Vec::new(rt.alloc()), 0);
+    assert_eq!(rt; tree.err(), Some(Refusal::Damaged));
+    Ok(())
+}
+
+/// How often a row stands in a list.
+fn times(rows: &[u64], row: u64) -> usize {
+    let mut times = 0usize;
+    for one in rows {
+        if *one == row {
+            times = times.saturating_add(1);
+        }
+    }
+    times
+}
+
+/// Fails unless these are so many, and of the rows of the keys, from 1 on, once each whose key matches the query.
+fn are_filtered<K: KeyClass>(
+    rt: &impl Abort,
+    rows: &[u64],
+    keys: &[K::Key],
+    query: &Query<K::Key>,
+    count: usize,
+) {
+    assert_eq!(rt; rows.len(), count);
+    for (k, key) in keys.iter().enumerate() {
+        let times = times(rows, k as u64 + 1);
+        assert_eq!(rt; times, usize::from(K::matches(query, key)));
+    }
+}
+
+/// Fails unless each query finds of these keys what a filter finds, and as many as stand beside it.
+fn find_what_a_filter_finds<K: Probing, R: Abort + AllocGlobal>(
+    rt: &R,
+    pages: &mut MemoryPages<K>,
+    keys: &[K::Key],
+    queries: &[(Query<K::Key>, usize)],
+) -> Result<(), Fail>
+where
+    K::Probe: Drop,
+{
+    for (query, count) in queries {
+        let (rows, _) = rows_found(rt, pages, &Wanted::matching(query))?;
+        are_filtered::<K>(rt, rows.as_slice(), keys, query, *count);
+    }
+    Ok(())
+}
+
+/// The boxes of the line.
+pub(crate) fn line(rt: &impl Abort) -> [Box2; 9] {
+    let mut line = [Box2::point(0, 0); 9];
+    for (k, corners) in LINE.iter().enumerate() {
+        line[k] = a_box(rt, *corners);
+    }
+    line
+}
+
+/// Queries of the line, and how many rows each finds.
+fn queries(rt: &impl Abort) -> [(Query<Box2>, usize); 8] {
+    let all = a_box(rt, (0, 0, 100, 100));
+    let some = a_box(rt, (21, 1, 50, 9));
+    [
+        (Query::Overlap(all), 9),
+        (Query::Overlap(some), 4),
+        (Query::Overlap(a_box(rt, (12, 0, 19, 1))), 0),
+        (Query::Within(all), 9),
+        (Query::Within(some), 0),
+        (Query::Within(a_box(rt, (20, 0, 51, 1))), 4),
+        (Query::Equal(a_box(rt, LINE[4])), 1),
+        (Query::Equal(some), 0),
+    ]
+}
+
 // A search finds each row of the line that a plain filter finds, once, and no other.
 #[test]
 fn searches_find_what_a_filter_finds(rt: HostRuntime) -> Result<(), Fail> {
-    let mut pages = nine_rows(&rt)?;
-    let all = a_box(&rt, (0, 0, 100, 100));
-    let some = a_box(&rt, (21, 1, 50, 9));
-    let queries = [
-        (Query::Overlap(all), 9),
-        (Query::Overlap(some), 4),
-        (Query::Overlap(a_box(&rt, (12, 0, 19, 1))), 0),
-        (Query::Within(all), 9),
-        (Query::Within(some), 0),
-        (Query::Within(a_box(&rt, (20, 0, 51, 1))), 4),
-        (Query::Equal(a_box(&rt, LINE[4])), 1),
-        (Query::Equal(some), 0),
-    ];
-    for (query, count) in &queries {
-        let (rows, _) = rows_found(&rt, &mut pages, &Wanted::matching(query))?;
-        assert_eq!(rt; rows.len(), *count);
-        for (k, corners) in LINE.iter().enumerate() {
-            let times = rows.iter().filter(|row| **row == k as u64 + 1).count();
-            let wanted = Box2Class::matches(query, &a_box(&rt, *corners));
-            assert_eq!(rt; times, usize::from(wanted));
-        }
+    let (line, queries) = (line(&rt), queries(&rt));
+    find_what_a_filter_finds(&rt, &mut nine_rows(&rt)?, &line, &queries)
+}
+
+/// Fails unless a look finds so many rows and reads so many pages.
+fn finds<K: Probing, R: Abort + AllocGlobal>(
+    rt: &R,
+    pages: &mut MemoryPages<K>,
+    query: &Query<K::Key>,
+    counts: (usize, usize),
+) -> Result<(), Fail>
+where
+    K::Probe: Drop,
+{
+    let (rows, reads) = rows_found(rt, pages, &Wanted::matching(query))?;
+    assert_eq!(rt; (rows.len(), reads), counts);
+    Ok(())
+}
+
+/// Fails unless a look for each row with this key finds these rows and reads three pages.
+fn find_rows<K: Probing, R: Abort + AllocGlobal>(
+    rt: &R,
+    pages: &mut MemoryPages<K>,
+    key: K::Key,
+    found: &[(u64, &[u64])],
+) -> Result<(), Fail>
+where
+    K::Probe: Drop,
+{
+    for (row, wanted) in found {
+        let row = *row;
+        let (rows, reads) = rows_found(rt, pages, &Wanted::entry(&Entry { row, key }))?;
+        assert_eq!(rt; (rows.as_slice(), reads), (*wanted, 3));
     }
     Ok(())
 }
 
 #[test]
 fn pages_that_lead_nowhere_are_not_read(rt: HostRuntime) -> Result<(), Fail> {
-    let mut pages = nine_rows(&rt)?;
     let all = Query::Overlap(a_box(&rt, (0, 0, 100, 100)));
-    assert_eq!(rt; rows_found(&rt, &mut pages, &Wanted::matching(&all))?.1, 7);
     let key = a_box(&rt, LINE[4]);
-    let (rows, reads) = rows_found(&rt, &mut pages, &Wanted::entry(&Entry { row: 5, key }))?;
-    assert_eq!(rt; rows.as_slice(), [5u64].as_slice());
-    assert_eq!(rt; reads, 3);
-    let (rows, _) = rows_found(&rt, &mut pages, &Wanted::entry(&Entry { row: 6, key }))?;
-    assert_eq!(rt; rows.len(), 0);
-    Ok(())
+    let mut pages = nine_rows(&rt)?;
+    finds(&rt, &mut pages, &all, (9, 7))?;
+    find_rows(&rt, &mut pages, key, &[(5, &[5]), (6, &[])])
 }
+
+/// Two rows in one leaf.
+const HELD: [Node<'static>; 2] = [
+    ((1, 0, 0), &[(2, (0, 0, 101, 5))]),
+    ((0, 0, 0), &[(1, (100, 4, 101, 5)), (2, (0, 0, 1, 1))]),
+];
 
 /// A tree of two rows, when a search begins.
 pub(crate) fn held<R: Abort + AllocGlobal>(rt: &R) -> Result<MemoryPages<Box2Class>, Fail> {
-    let mut pages = Vec::new(rt.alloc());
-    inner(rt, &mut pages, (1, 0, 0), &[(2, (0, 0, 101, 5))])?;
-    let rows = [(1, (100, 4, 101, 5)), (2, (0, 0, 1, 1))];
-    leaf(rt, &mut pages, (0, 0, 0), &rows)?;
-    tree_of(rt, pages, 0, 14)
+    tree_of(rt, pages_of(rt, &HELD)?, 0, 14)
 }
+
+/// These two and five others in three leaves.
+const SPLIT_TWICE: [Node<'static>; 4] = [
+    (
+        (1, 0, 0),
+        &[
+            (2, (100, 2, 101, 5)),
+            (3, (0, 0, 101, 1)),
+            (4, (100, 6, 101, 11)),
+        ],
+    ),
+    ((0, 2, 4), &[(1, (100, 4, 101, 5)), (3, (100, 2, 101, 3))]),
+    ((0, 0, 0), &[(2, (0, 0, 1, 1)), (4, (100, 0, 101, 1))]),
+    (
+        (0, 1, 3),
+        &[
+            (5, (100, 6, 101, 7)),
+            (6, (100, 8, 101, 9)),
+            (7, (100, 10, 101, 11)),
+        ],
+    ),
+];
 
 /// The same tree once others have added five rows and split page 2 twice.
 pub(crate) fn split_twice<R: Abort + AllocGlobal>(rt: &R) -> Result<MemoryPages<Box2Class>, Fail> {
-    let children = [
-        (2, (100, 2, 101, 5)),
-        (3, (0, 0, 101, 1)),
-        (4, (100, 6, 101, 11)),
-    ];
-    let second = [(1, (100, 4, 101, 5)), (3, (100, 2, 101, 3))];
-    let third = [(2, (0, 0, 1, 1)), (4, (100, 0, 101, 1))];
-    let fourth = [
-        (5, (100, 6, 101, 7)),
-        (6, (100, 8, 101, 9)),
-        (7, (100, 10, 101, 11)),
-    ];
-    let mut pages = Vec::new(rt.alloc());
-    inner(rt, &mut pages, (1, 0, 0), &children)?;
-    leaf(rt, &mut pages, (0, 2, 4), &second)?;
-    leaf(rt, &mut pages, (0, 0, 0), &third)?;
-    leaf(rt, &mut pages, (0, 1, 3), &fourth)?;
-    tree_of(rt, pages, 2, 12)
+    tree_of(rt, pages_of(rt, &SPLIT_TWICE)?, 2, 12)
 }
 
-// The search has read the root when page 2 is split. It reads the pages 2, 4 and 3, and finds the row that was in page 2.
-#[test]
-fn a_held_search_follows_rightlinks(rt: HostRuntime) -> Result<(), Fail> {
-    let wanted = Wanted::matching(&Query::Overlap(a_box(&rt, (0, 0, 5, 5))));
+/// A look that has read the root.
+fn begun<K: Probing, R: Abort + AllocGlobal>(
+    rt: &R,
+    pages: &mut MemoryPages<K>,
+    wanted: &Wanted<K>,
+) -> Result<Look<K::Key>, Fail> {
     let mut look = Look::new(rt.alloc(), Item::new(1, 0))?;
-    step(&rt, &mut held(&rt)?, &wanted, &mut look);
-    let mut pages = split_twice(&rt)?;
-    step(&rt, &mut pages, &wanted, &mut look);
-    step(&rt, &mut pages, &wanted, &mut look);
+    step(rt, pages, wanted, &mut look);
+    Ok(look)
+}
+
+/// Three further steps of a look, its last ones, of which the third alone finds a pair: row 2, live, in page 3.
+fn the_third_step_finds<K: Probing>(
+    rt: &impl Abort,
+    pages: &mut MemoryPages<K>,
+    wanted: &Wanted<K>,
+    look: &mut Look<K::Key>,
+) {
+    step(rt, pages, wanted, look);
+    step(rt, pages, wanted, look);
     assert_eq!(rt; look.found().len(), 0);
-    step(&rt, &mut pages, &wanted, &mut look);
-    assert!(rt; look.is_done());
-    assert_eq!(rt; look.found().len(), 1);
+    step(rt, pages, wanted, look);
+    assert!(rt; look.is_done() && look.found().len() == 1);
     for found in look.found() {
         assert_eq!(rt; (found.entry.row, found.marked, found.leaf), (2, false, 3));
     }
-    // one that begins now reads the root and page 3 alone
-    assert_eq!(rt; rows_found(&rt, &mut pages, &wanted)?.1, 2);
-    Ok(())
+}
+
+// The search has read the root when page 2 is split. It reads the pages 2, 4 and 3, and finds the row that was in page 2.
+// One that begins then reads the root and page 3 alone.
+#[test]
+fn a_held_search_follows_rightlinks(rt: HostRuntime) -> Result<(), Fail> {
+    let query = Query::Overlap(a_box(&rt, (0, 0, 5, 5)));
+    let wanted = Wanted::matching(&query);
+    let mut look = begun(&rt, &mut held(&rt)?, &wanted)?;
+    let mut pages = split_twice(&rt)?;
+    the_third_step_finds(&rt, &mut pages, &wanted, &mut look);
+    finds(&rt, &mut pages, &query, (1, 2))
+}
+
+/// A page, and what a seek's step says there of the row 2.
+const SEEKS: [(u32, Result<Sought, StepFault<Infallible>>); 5] = [
+    (2, Ok(Sought::Right(4))),
+    (4, Ok(Sought::Right(3))),
+    (3, Ok(Sought::Here(0, false))),
+    (1, Err(StepFault::Damaged)),
+    (5, Err(StepFault::Damaged)),
+];
+
+fn seeks_go_right<K: Probing>(rt: &impl Abort, pages: &mut MemoryPages<K>, wanted: &Wanted<K>) {
+    for (page, said) in SEEKS {
+        assert_eq!(rt; (page, seek_step(pages, wanted, page)), (page, said));
+    }
 }
 
 // A pair is sought from the leaf in which it was, and is found two leaves to the right.
 #[test]
 fn a_seek_goes_right(rt: HostRuntime) -> Result<(), Fail> {
-    let mut pages = split_twice(&rt)?;
     let key = a_box(&rt, (0, 0, 1, 1));
     let wanted = Wanted::entry(&Entry { row: 2, key });
-    assert_eq!(rt; seek_step(&mut pages, &wanted, 2), Ok(Sought::Right(4)));
-    assert_eq!(rt; seek_step(&mut pages, &wanted, 4), Ok(Sought::Right(3)));
-    assert_eq!(rt;
-        seek_step(&mut pages, &wanted, 3),
-        Ok(Sought::Here(0, false))
-    );
-    assert_eq!(rt; seek_step(&mut pages, &wanted, 1), Err(StepFault::Damaged));
-    assert_eq!(rt; seek_step(&mut pages, &wanted, 5), Err(StepFault::Damaged));
+    seeks_go_right(&rt, &mut split_twice(&rt)?, &wanted);
     Ok(())
+}
+
+const NEAR: Corners = (100, 3, 101, 4);
+
+const FAR: Corners = (100, 9, 102, 12);
+
+/// What page 4's bound becomes by that box.
+const WIDER: Corners = (100, 6, 102, 12);
+
+/// The page and the number of an item, a box that comes, how many entries a node may have, and what a step of a descent
+/// says: a word, with the slot, the page and the bound.
+type Said = (
+    (u32, u64),
+    Corners,
+    usize,
+    (&'static str, usize, u32, Option<Corners>),
+);
+
+const WAYS: [Said; 6] = [
+    ((1, 2), NEAR, 4, ("down", 0, 2, None)),
+    ((1, 2), FAR, 4, ("widen", 2, 4, Some(WIDER))),
+    ((1, 2), NEAR, 3, ("full inner", 0, 0, None)),
+    ((2, 1), NEAR, 4, ("again", 0, 0, None)),
+    ((2, 2), NEAR, 4, ("add", 0, 0, None)),
+    ((4, 2), NEAR, 3, ("full leaf", 0, 0, None)),
+];
+
+fn way<K: KeyClass>(
+    pages: &mut MemoryPages<K>,
+    item: &Item,
+    coming: &K::Key,
+    most: usize,
+) -> (&'static str, usize, u32, Option<K::Key>) {
+    match way_step(pages, item, coming, most) {
+        Ok(Way::Down(slot, page)) => ("down", slot, page, None),
+        Ok(Way::Widen(slot, page, bound)) => ("widen", slot, page, Some(bound)),
+        Ok(Way::FullInner) => ("full inner", 0, 0, None),
+        Ok(Way::Again) => ("again", 0, 0, None),
+        Ok(Way::Add) => ("add", 0, 0, None),
+        Ok(Way::FullLeaf) => ("full leaf", 0, 0, None),
+        Err(_) => ("fault", 0, 0, None),
+    }
+}
+
+/// Fails unless a descent's step says this.
+fn says(rt: &impl Abort, pages: &mut MemoryPages<Box2Class>, said: &Said) {
+    let ((page, seen), coming, most, (word, slot, child, bound)) = *said;
+    let item = Item::new(page, seen);
+    let bound = match bound {
+        Some(corners) => Some(a_box(rt, corners)),
+        None => None,
+    };
+    let wanted = (word, slot, child, bound);
+    assert_eq!(rt; way(pages, &item, &a_box(rt, coming), most), wanted);
 }
 
 // A descent goes to the child of least enlargement, begins again where a page was split since, and says what is full.
 #[test]
 fn a_descent_goes_down(rt: HostRuntime) -> Result<(), Fail> {
     let mut pages = split_twice(&rt)?;
-    let near = a_box(&rt, (100, 3, 101, 4));
-    let far = a_box(&rt, (100, 9, 102, 12));
-    let wider = a_box(&rt, (100, 6, 102, 12));
-    let root = Item::new(1, 2);
-    assert!(rt; matches!(way_step(&mut pages, &root, &near, 4), Ok(Way::Down(0, 2))));
-    match way_step(&mut pages, &root, &far, 4) {
-        Ok(Way::Widen(slot, page, bound)) => {
-            assert_eq!(rt; (slot, page, bound), (2, 4, wider));
-        }
-        _ => assert!(rt; false),
+    for said in &WAYS {
+        says(&rt, &mut pages, said);
     }
-    assert!(rt; matches!(way_step(&mut pages, &root, &near, 3), Ok(Way::FullInner)));
-    assert!(rt;
-        matches!(
-            way_step(&mut pages, &Item::new(2, 1), &near, 4),
-            Ok(Way::Again)
-        )
-    );
-    assert!(rt;
-        matches!(
-            way_step(&mut pages, &Item::new(2, 2), &near, 4),
-            Ok(Way::Add)
-        )
-    );
-    assert!(rt;
-        matches!(
-            way_step(&mut pages, &Item::new(4, 2), &near, 3),
-            Ok(Way::FullLeaf)
-        )
-    );
     Ok(())
 }
 
 /// A step of a descent: the page and the number of the item to which it goes down.
-fn goes_down(
-    pages: &mut MemoryPages<Box2Class>,
+fn goes_down<K: KeyClass>(
+    pages: &mut MemoryPages<K>,
     item: &Item,
-    coming: &Box2,
+    coming: &K::Key,
     most: usize,
-) -> Result<Option<(u32, u64)>, StepFault<()>> {
+) -> Result<Option<(u32, u64)>, StepFault<Infallible>> {
     match descend_step(pages, item, coming, most)? {
         Descended::Down(next) | Descended::Widened(next, _, _) => {
             Ok(Some((next.page(), next.seen())))
@@ -368,29 +527,63 @@ fn goes_down(
     }
 }
 
+/// The page and the number of an item, how many entries a node may have, and to which item a descent goes down.
+type Step = (
+    (u32, u64),
+    usize,
+    Result<Option<(u32, u64)>, StepFault<Infallible>>,
+);
+
+/// By this step a bound is widened.
+const WIDENS: Step = ((1, 1), 4, Ok(Some((4, 2))));
+
+// a leaf, a root without room, a page that was split since, and one that isn't there
+const STOPS: [Step; 4] = [
+    ((4, 2), 4, Ok(None)),
+    ((1, 1), 3, Ok(None)),
+    ((2, 1), 4, Ok(None)),
+    ((5, 2), 4, Err(StepFault::Damaged)),
+];
+
+/// Fails unless a descent for the coming key goes down so.
+fn goes<K: KeyClass>(
+    rt: &impl Abort,
+    pages: &mut MemoryPages<K>,
+    coming: &K::Key,
+    (item, most, wanted): Step,
+) {
+    let item = Item::new(item.0, item.1);
+    assert_eq!(rt; goes_down(pages, &item, coming, most), wanted);
+}
+
+/// Fails unless the root's third child is this one.
+fn has_third<K: KeyClass>(rt: &impl Abort, pages: &MemoryPages<K>, child: &[u8]) {
+    let root = page(rt, pages, 1);
+    assert!(rt; root.count() > 2);
+    assert_eq!(rt; root.get(2), child);
+}
+
+/// Fails unless the bound is widened once, and the other steps stop.
+fn widens_and_stops<K: KeyClass>(
+    rt: &impl Abort,
+    pages: &mut MemoryPages<K>,
+    coming: &K::Key,
+    widened: &[u8],
+) {
+    goes(rt, pages, coming, WIDENS);
+    has_third(rt, pages, widened);
+    goes(rt, pages, coming, WIDENS);
+    assert_eq!(rt; pages.counter(), 2);
+    for step in STOPS {
+        goes(rt, pages, coming, step);
+    }
+}
+
 // A step of a descent widens the bound by which it goes down, once, and remembers the child with the counter as it is.
 #[test]
 fn a_descent_widens_a_bound(rt: HostRuntime) -> Result<(), Fail> {
-    let mut pages = split_twice(&rt)?;
-    let far = a_box(&rt, (100, 9, 102, 12));
-    let root = Item::new(1, 1);
-    let down = Ok(Some((4, 2)));
-    assert_eq!(rt; goes_down(&mut pages, &root, &far, 4), down);
-    let widened = child_item::<Box2Class>(&rt, 4, a_box(&rt, (100, 6, 102, 12)));
-    assert!(rt; pages.used() > 0);
-    let page = pages.page(1);
-    assert!(rt; page.count() > 2);
-    assert_eq!(rt; page.get(2), widened.as_slice());
-    assert_eq!(rt; goes_down(&mut pages, &root, &far, 4), down);
-    assert_eq!(rt; pages.counter(), 2);
-    // a leaf, a root without room, a page that was split since, and one that isn't there
-    assert_eq!(rt; goes_down(&mut pages, &Item::new(4, 2), &far, 4), Ok(None));
-    assert_eq!(rt; goes_down(&mut pages, &root, &far, 3), Ok(None));
-    assert_eq!(rt; goes_down(&mut pages, &Item::new(2, 1), &far, 4), Ok(None));
-    let absent = Item::new(5, 2);
-    assert_eq!(rt;
-        goes_down(&mut pages, &absent, &far, 4),
-        Err(StepFault::Damaged)
-    );
+    let far = a_box(&rt, FAR);
+    let widened = child_item::<Box2Class>(&rt, 4, a_box(&rt, WIDER));
+    widens_and_stops(&rt, &mut split_twice(&rt)?, &far, &widened);
     Ok(())
 }
