@@ -28,33 +28,44 @@ fn firsts<D: SectorDisk + Drop>(mut disk: D) -> [u8; 4] {
     [zero, one, two, first_of(&mut disk, 3)]
 }
 
+// Writes a sector, if the device has it.
+fn write<D: SectorDisk>(disk: &mut D, s: u64, bytes: &[u8; 512]) -> Result<(), DiskFault> {
+    if s >= disk.sectors() {
+        return Err(DiskFault::File);
+    }
+    disk.write(s, bytes)
+}
+
 // Sector 1 is A since the last sync, then sectors 1 to 3 were written, sector 2 twice.
 fn written(rt: &HostRuntime) -> Result<MemDisk, Fail> {
     let mut disk = MemDisk::new(rt.alloc(), 4)?;
-    disk.write(1, &A).ok().ok_or("write")?;
-    disk.sync().ok().ok_or("sync")?;
-    disk.write(2, &A).ok().ok_or("write")?;
-    disk.write(1, &B).ok().ok_or("write")?;
-    disk.write(2, &B).ok().ok_or("write")?;
-    disk.write(3, &C).ok().ok_or("write")?;
+    write(&mut disk, 1, &A)?;
+    disk.sync()?;
+    for (s, bytes) in [(2, &A), (1, &B), (2, &B), (3, &C)] {
+        write(&mut disk, s, bytes)?;
+    }
     Ok(disk)
+}
+
+// How many sectors aren't synced, and the first bytes of the first four.
+fn seen(disk: MemDisk) -> (usize, [u8; 4]) {
+    (disk.unsynced(), firsts(disk))
+}
+
+// The same after a crash by these choices.
+fn after_crash(rt: &HostRuntime, choices: &[Torn]) -> Result<(usize, [u8; 4]), Fail> {
+    let mut disk = written(rt)?;
+    disk.crash(choices);
+    Ok(seen(disk))
 }
 
 #[test]
 fn a_crash_by_each_choice(rt: HostRuntime) -> Result<(), Fail> {
-    let disk = written(&rt)?;
-    assert_eq!(rt; disk.unsynced(), 3);
-    assert_eq!(rt; firsts(disk), [0, 0xb2, 0xb2, 0xc3]);
-    let mut old = written(&rt)?;
-    old.crash(&[]);
-    assert_eq!(rt; old.unsynced(), 0);
-    assert_eq!(rt; firsts(old), [0, 0xa1, 0, 0]);
-    let mut new = written(&rt)?;
-    new.crash(&[Torn::New]);
-    assert_eq!(rt; firsts(new), [0, 0xb2, 0xb2, 0xc3]);
-    let mut turns = written(&rt)?;
-    turns.crash(&[Torn::Old, Torn::Bytes([0xa7; 512])]);
-    assert_eq!(rt; firsts(turns), [0, 0xa1, 0xa7, 0]);
+    assert_eq!(rt; seen(written(&rt)?), (3, [0, 0xb2, 0xb2, 0xc3]));
+    let mixed = [Torn::Old, Torn::Bytes([0xa7; 512])];
+    assert_eq!(rt; after_crash(&rt, &[])?, (0, [0, 0xa1, 0, 0]));
+    assert_eq!(rt; after_crash(&rt, &[Torn::New])?, (0, [0, 0xb2, 0xb2, 0xc3]));
+    assert_eq!(rt; after_crash(&rt, &mixed)?, (0, [0, 0xa1, 0xa7, 0]));
     Ok(())
 }
 
@@ -62,52 +73,54 @@ fn a_crash_by_each_choice(rt: HostRuntime) -> Result<(), Fail> {
 fn a_reserved_record_takes_no_memory(rt: HostRuntime) -> Result<(), Fail> {
     let mut disk = MemDisk::new(rt.alloc(), 4)?;
     disk.reserve(2, 2)?;
-    assert!(rt; disk.write(0, &A).is_ok());
-    assert!(rt; disk.sync().is_ok());
+    assert_eq!(rt; (disk.write(0, &A), disk.sync()), (Ok(()), Ok(())));
     disk.cut(4);
     assert_eq!(rt; disk.sectors(), 4);
     Ok(())
 }
 
 #[test]
-fn a_fuse_blows_once_or_for_ever(rt: HostRuntime) -> Result<(), Fail> {
-    let mut once = FuseDisk::new(written(&rt)?, 1, Fuse::Once, false);
-    if once.sectors() < 4 {
-        return Ok(());
-    }
-    assert!(rt; once.sync().is_ok());
-    assert_eq!(rt; once.write(0, &A), Err(DiskFault::Fuse));
-    assert!(rt; once.sync().is_ok());
-    assert_eq!(rt; firsts(once.into_inner()), [0, 0xb2, 0xb2, 0xc3]);
-    let mut done = FuseDisk::new(written(&rt)?, 0, Fuse::ForEver, true);
-    if done.sectors() < 4 {
-        return Ok(());
-    }
-    assert_eq!(rt; done.write(0, &A), Err(DiskFault::Fuse));
-    assert_eq!(rt; done.sync(), Err(DiskFault::Fuse));
-    let inner = done.into_inner();
-    assert_eq!(rt; inner.unsynced(), 4);
-    assert_eq!(rt; firsts(inner), [0xa1, 0xb2, 0xb2, 0xc3]);
+fn a_fuse_blows_once(rt: HostRuntime) -> Result<(), Fail> {
+    let mut disk = FuseDisk::new(written(&rt)?, 1, Fuse::Once, false);
+    let answers = [disk.sync(), write(&mut disk, 0, &A), disk.sync()];
+    let left = firsts(disk.into_inner());
+    assert_eq!(rt; answers, [Ok(()), Err(DiskFault::Fuse), Ok(())]);
+    assert_eq!(rt; left, [0, 0xb2, 0xb2, 0xc3]);
     Ok(())
+}
+
+#[test]
+fn a_fuse_blows_for_ever(rt: HostRuntime) -> Result<(), Fail> {
+    let mut disk = FuseDisk::new(written(&rt)?, 0, Fuse::ForEver, true);
+    let answers = [write(&mut disk, 0, &A), disk.sync()];
+    let left = seen(disk.into_inner());
+    assert_eq!(rt; answers, [Err(DiskFault::Fuse), Err(DiskFault::Fuse)]);
+    assert_eq!(rt; left, (4, [0xa1, 0xb2, 0xb2, 0xc3]));
+    Ok(())
+}
+
+// How many sectors a file has, and the first bytes of the first four.
+fn of_file(disk: Result<FileDisk, DiskFault>) -> Result<(u64, [u8; 4]), DiskFault> {
+    let disk = disk?;
+    Ok((disk.sectors(), firsts(disk)))
+}
+
+// Writes and syncs a file that is created with four sectors, and answers why it can't be opened besides.
+fn write_file(rt: &HostRuntime, path: &str) -> Result<Option<DiskFault>, DiskFault> {
+    let mut disk = FileDisk::create(rt, path, 4)?;
+    write(&mut disk, 2, &C)?;
+    disk.sync()?;
+    Ok(FileDisk::open(rt, path).err())
 }
 
 #[test]
 fn a_file_is_written_synced_and_opened_again(rt: HostRuntime) -> Result<(), Fail> {
     let path = "gx_disk_test.img";
-    let mut disk = FileDisk::create(&rt, path, 4).ok().ok_or("create")?;
-    if disk.sectors() < 4 {
-        return Ok(());
-    }
-    assert!(rt; disk.write(2, &C).is_ok());
-    assert!(rt; disk.sync().is_ok());
-    assert_eq!(rt; FileDisk::open(&rt, path).err(), Some(DiskFault::InUse));
-    drop(disk);
-    let again = FileDisk::open(&rt, path).ok().ok_or("open")?;
-    assert_eq!(rt; again.sectors(), 4);
-    assert_eq!(rt; firsts(again), [0, 0, 0xc3, 0]);
-    let longer = FileDisk::create(&rt, path, 5).ok().ok_or("create")?;
-    assert_eq!(rt; longer.sectors(), 5);
-    assert_eq!(rt; firsts(longer), [0, 0, 0xc3, 0]);
+    assert_eq!(rt; write_file(&rt, path), Ok(Some(DiskFault::InUse)));
+    let opened = of_file(FileDisk::open(&rt, path));
+    assert_eq!(rt; opened, Ok((4, [0, 0, 0xc3, 0])));
+    let longer = of_file(FileDisk::create(&rt, path, 5));
+    assert_eq!(rt; longer, Ok((5, [0, 0, 0xc3, 0])));
     std::fs::remove_file(&rt, path)?;
     assert_eq!(rt; FileDisk::open(&rt, path).err(), Some(DiskFault::File));
     Ok(())

@@ -5,6 +5,7 @@ ghost use Rattle.gx_record.specs.Seen.{rec_of};
 use gx_disk::{MemDisk, SectorDisk, Torn};
 use gx_glog::{Appended, BODY_SIZE, Extent, Glog, PLACES, Stage, read_extent, selected};
 use gx_record::Record;
+use std::process::Abort;
 use std::test::Fail;
 
 /// Up to the last page of a device with eight pages.
@@ -32,6 +33,27 @@ pub(crate) fn append(log: &mut Glog, logged: &Record<'_>) -> Result<u64, Fail>
         Appended::At(place) => Ok(place),
         Appended::NoRoom => Err("room".into()),
     }
+}
+
+/// Makes so many calls of a batch.
+fn steps<D: SectorDisk>(log: &mut Glog, disk: &mut D, calls: u8) -> Result<(), Fail> {
+    for _call in 0..calls {
+        step(log, disk)?;
+    }
+    Ok(())
+}
+
+/// Writes a batch with this record, and answers its place.
+pub(crate) fn append_batch(
+    log: &mut Glog,
+    disk: &mut MemDisk,
+    logged: &Record<'_>,
+) -> Result<u64, Fail>
+    requires { IsInRange (rec_of logged.now) }
+{
+    let place = append(log, logged)?;
+    steps(log, disk, 4)?;
+    Ok(place)
 }
 
 /// How many batches are gated in the selected extent, and how many bytes of records the last one has.
@@ -65,11 +87,7 @@ pub(crate) fn with_counters(rt: &HostRuntime) -> Result<(MemDisk, Glog), Fail> {
         used: 2,
         next: 1,
     };
-    append(&mut log, &counters)?;
-    step(&mut log, &mut disk)?;
-    step(&mut log, &mut disk)?;
-    step(&mut log, &mut disk)?;
-    step(&mut log, &mut disk)?;
+    append_batch(&mut log, &mut disk, &counters)?;
     Ok((disk, log))
 }
 
@@ -83,23 +101,42 @@ pub(crate) fn front(disk: &mut MemDisk, sector: u64) -> Result<[u8; 512], Fail> 
     Ok(bytes)
 }
 
+/// A sector with these bytes at their places, and zeros.
+pub(crate) fn sector(bytes: &[(usize, u8)]) -> [u8; 512] {
+    let mut sector = [0; 512];
+    for (at, byte) in bytes {
+        if let Some(place) = sector.get_mut(*at) {
+            *place = *byte;
+        }
+    }
+    sector
+}
+
+/// A sector has these bytes at their places, and zeros.
+pub(crate) fn has(
+    rt: &impl Abort,
+    disk: &mut MemDisk,
+    number: u64,
+    bytes: &[(usize, u8)],
+) -> Result<(), Fail> {
+    assert!(rt; front(disk, number)? == sector(bytes), "sector {number}");
+    Ok(())
+}
+
+/// Body 0 has the counters, and its gate alone is open.
+fn has_first_body(rt: &impl Abort, disk: &mut MemDisk) -> Result<(), Fail> {
+    has(rt, disk, 40, &[(3, 0x1d), (4, 5), (24, 2), (32, 1)])?;
+    has(rt, disk, 103, &[])?;
+    has(rt, disk, 8, &[(0, 0xA7)])?;
+    has(rt, disk, 9, &[])
+}
+
 #[test]
 fn the_first_body_and_its_gate(rt: HostRuntime) -> Result<(), Fail> {
     let (mut disk, log) = with_counters(&rt)?;
-    assert_eq!(rt; log.used(), 1);
-    let body = front(&mut disk, 40)?;
-    let mut spelled = [0; 512];
-    spelled[3] = 0x1d;
-    spelled[4] = 5;
-    spelled[24] = 2;
-    spelled[32] = 1;
-    assert!(rt; body == spelled);
-    assert!(rt; front(&mut disk, 103)? == [0; 512]);
-    let mut gate = [0; 512];
-    gate[0] = 0xA7;
-    assert!(rt; front(&mut disk, 8)? == gate);
-    assert!(rt; front(&mut disk, 9)? == [0; 512]);
-    assert_eq!(rt; gated(&rt, &mut disk)?, (1, 29));
+    has_first_body(&rt, &mut disk)?;
+    let seen = (log.used(), gated(&rt, &mut disk)?);
+    assert_eq!(rt; seen, (1, (1, 29)));
     Ok(())
 }
 
@@ -107,9 +144,7 @@ fn the_first_body_and_its_gate(rt: HostRuntime) -> Result<(), Fail> {
 fn after_crash(rt: &HostRuntime, calls: u8, left: &[Torn]) -> Result<(u8, usize), Fail> {
     let (mut disk, mut log) = with_counters(rt)?;
     append(&mut log, &Record::Commit { tx: 1, n: 1 })?;
-    for _call in 0..calls {
-        step(&mut log, &mut disk)?;
-    }
+    steps(&mut log, &mut disk, calls)?;
     disk.crash(left);
     gated(rt, &mut disk)
 }

@@ -43,6 +43,37 @@ fn turn_fails<D: SectorDisk>(log: &mut Glog, disk: &mut D) -> Result<bool, Fail>
     is_device(log.turn_step(disk))
 }
 
+/// What is made call by call.
+#[derive(Clone, Copy)]
+enum Work {
+    Batch,
+    Turn,
+}
+
+/// Makes the next call, and answers whether the device failed.
+fn call_fails<D: SectorDisk>(work: Work, log: &mut Glog, disk: &mut D) -> Result<bool, Fail> {
+    match work {
+        Work::Batch => step_fails(log, disk),
+        Work::Turn => turn_fails(log, disk),
+    }
+}
+
+/// Makes so many calls, of which one fails.
+fn make_calls<D: SectorDisk>(
+    work: Work,
+    log: &mut Glog,
+    disk: &mut D,
+    failing: Failing,
+    calls: u64,
+) -> Result<(), Fail> {
+    for call in 0..calls {
+        if call_fails(work, log, disk)? != (call == failing.call) {
+            return Err("a fault at another call".into());
+        }
+    }
+    Ok(())
+}
+
 /// The batches that are gated after so many calls of a second batch, one of which fails, and a crash that leaves this of what wasn't synced.
 fn after_steps(
     rt: &HostRuntime,
@@ -53,11 +84,7 @@ fn after_steps(
     let (inner, mut log) = with_counters(rt)?;
     append(&mut log, &Record::Commit { tx: 1, n: 1 })?;
     let mut disk = FuseDisk::new(inner, failing.call, Fuse::Once, failing.done);
-    for call in 0..calls {
-        if step_fails(&mut log, &mut disk)? != (call == failing.call) {
-            return Err("a fault at another call".into());
-        }
-    }
+    make_calls(Work::Batch, &mut log, &mut disk, failing, calls)?;
     let mut inner = disk.into_inner();
     inner.crash(left);
     gated(rt, &mut inner)
@@ -101,11 +128,7 @@ fn after_turns(
 ) -> Result<(Extent, u8, usize), Fail> {
     let (inner, mut log) = ready(rt)?;
     let mut disk = FuseDisk::new(inner, failing.call, Fuse::Once, failing.done);
-    for call in 0..calls {
-        if turn_fails(&mut log, &mut disk)? != (call == failing.call) {
-            return Err("a fault at another call".into());
-        }
-    }
+    make_calls(Work::Turn, &mut log, &mut disk, failing, calls)?;
     let mut inner = disk.into_inner();
     inner.crash(left);
     log_of(rt, &mut inner)

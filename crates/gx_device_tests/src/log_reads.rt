@@ -3,6 +3,7 @@ use gx_disk::{MemDisk, SectorDisk};
 use gx_geom::Refusal;
 use gx_glog::{Appended, BODY_SIZE, Extent, Glog, PLACES, read_extent, selected};
 use gx_record::Record;
+use std::process::Abort;
 use std::test::Fail;
 
 /// The selector.
@@ -25,6 +26,11 @@ fn write(disk: &mut MemDisk, sector: u64, front: [u8; 4]) -> Result<(), Fail> {
     Ok(())
 }
 
+/// A device of zeros, up to the first page.
+fn blank(rt: &HostRuntime) -> Result<MemDisk, Fail> {
+    Ok(MemDisk::new(rt.alloc(), 4168)?)
+}
+
 /// The extent that a device selects.
 fn extent_of(disk: &mut MemDisk) -> Result<Extent, Fail> {
     if disk.sectors() < 4168 {
@@ -33,8 +39,20 @@ fn extent_of(disk: &mut MemDisk) -> Result<Extent, Fail> {
     Ok(selected(disk).ok().ok_or("a selector")?)
 }
 
-/// How many bytes of records place 3 of extent B has, None where its gate is closed.
-fn read(rt: &HostRuntime, disk: &mut MemDisk) -> Result<Result<Option<usize>, Refusal>, Fail> {
+/// The same once its selector begins with this byte.
+fn extent_by(disk: &mut MemDisk, byte: u8) -> Result<Extent, Fail> {
+    write(disk, SELECTOR, [byte, 0x5A, 0x5A, 0x5A])?;
+    extent_of(disk)
+}
+
+/// How many bytes of records place 3 of extent B has, None where its gate is closed, once this is written to a sector.
+fn read_with(
+    rt: &HostRuntime,
+    disk: &mut MemDisk,
+    sector: u64,
+    front: [u8; 4],
+) -> Result<Result<Option<usize>, Refusal>, Fail> {
+    write(disk, sector, front)?;
     let mut body = Vec::new(rt.alloc());
     body.resize(BODY_SIZE, 0)?;
     if disk.sectors() < 4168 || body.len() != BODY_SIZE {
@@ -45,7 +63,7 @@ fn read(rt: &HostRuntime, disk: &mut MemDisk) -> Result<Result<Option<usize>, Re
 
 #[test]
 fn the_selectors_first_byte_is_read(rt: HostRuntime) -> Result<(), Fail> {
-    let mut disk = MemDisk::new(rt.alloc(), 4168)?;
+    let mut disk = blank(&rt)?;
     assert_eq!(rt; extent_of(&mut disk)?, Extent::A);
     for (byte, extent) in [
         (0x5A, Extent::B),
@@ -54,17 +72,15 @@ fn the_selectors_first_byte_is_read(rt: HostRuntime) -> Result<(), Fail> {
         (0xA7, Extent::A),
         (0xFF, Extent::A),
     ] {
-        write(&mut disk, SELECTOR, [byte, 0x5A, 0x5A, 0x5A])?;
-        assert_eq!(rt; extent_of(&mut disk)?, extent);
+        assert_eq!(rt; extent_by(&mut disk, byte)?, extent);
     }
     Ok(())
 }
 
 #[test]
 fn a_gates_first_byte_is_read(rt: HostRuntime) -> Result<(), Fail> {
-    let mut disk = MemDisk::new(rt.alloc(), 4168)?;
-    write(&mut disk, BODY, [0, 0, 0, 17])?;
-    assert_eq!(rt; read(&rt, &mut disk)?, Ok(None));
+    let mut disk = blank(&rt)?;
+    assert_eq!(rt; read_with(&rt, &mut disk, BODY, [0, 0, 0, 17])?, Ok(None));
     for (byte, size) in [
         (0xA7, Some(17)),
         (0xA6, None),
@@ -72,26 +88,25 @@ fn a_gates_first_byte_is_read(rt: HostRuntime) -> Result<(), Fail> {
         (0x5A, None),
         (0xFF, None),
     ] {
-        write(&mut disk, GATE, [byte, 0xA7, 0xA7, 0xA7])?;
-        assert_eq!(rt; read(&rt, &mut disk)?, Ok(size));
+        let front = [byte, 0xA7, 0xA7, 0xA7];
+        assert_eq!(rt; read_with(&rt, &mut disk, GATE, front)?, Ok(size));
     }
     Ok(())
 }
 
 #[test]
 fn a_body_has_from_1_to_32764_bytes_of_records(rt: HostRuntime) -> Result<(), Fail> {
-    let mut disk = MemDisk::new(rt.alloc(), 4168)?;
-    write(&mut disk, GATE, [0xA7, 0, 0, 0])?;
-    assert_eq!(rt; read(&rt, &mut disk)?, Err(Refusal::Damaged));
+    let mut disk = blank(&rt)?;
+    let damaged = Err(Refusal::Damaged);
+    assert_eq!(rt; read_with(&rt, &mut disk, GATE, [0xA7, 0, 0, 0])?, damaged);
     for (front, answer) in [
         ([0, 0, 0, 1], Ok(Some(1))),
         ([0, 0, 1, 2], Ok(Some(258))),
         ([0, 0, 0x7F, 0xFC], Ok(Some(32_764))),
-        ([0, 0, 0x7F, 0xFD], Err(Refusal::Damaged)),
-        ([1, 0, 0, 1], Err(Refusal::Damaged)),
+        ([0, 0, 0x7F, 0xFD], damaged),
+        ([1, 0, 0, 1], damaged),
     ] {
-        write(&mut disk, BODY, front)?;
-        assert_eq!(rt; read(&rt, &mut disk)?, answer);
+        assert_eq!(rt; read_with(&rt, &mut disk, BODY, front)?, answer);
     }
     Ok(())
 }
@@ -104,16 +119,31 @@ fn append(log: &mut Glog) -> Result<Appended, Fail> {
     Ok(log.append(&Record::Commit { tx: 1, n: 1 }))
 }
 
+/// Records that fill the buffer but for five bytes go with the batch of place 5.
+fn fill(rt: &impl Abort, log: &mut Glog) -> Result<(), Fail> {
+    for _record in 0..1_927 {
+        assert_eq!(rt; append(log)?, Appended::At(5));
+    }
+    Ok(())
+}
+
+/// A log of which five places are used.
+fn five_used(rt: &HostRuntime) -> Result<Glog, Fail> {
+    Ok(Glog::start(rt.alloc(), Extent::A, 5).ok().ok_or("start")?)
+}
+
+/// How many places are used, and how many bytes of the buffer are free.
+fn room(log: &Glog) -> (u8, usize) {
+    (log.used(), log.free())
+}
+
 #[test]
 fn records_fill_the_buffer(rt: HostRuntime) -> Result<(), Fail> {
-    let mut log = Glog::start(rt.alloc(), Extent::A, 5).ok().ok_or("start")?;
-    assert_eq!(rt; log.used(), 5);
-    assert_eq!(rt; log.free(), 32_764);
-    for _record in 0..1_927 {
-        assert_eq!(rt; append(&mut log)?, Appended::At(5));
-    }
-    assert_eq!(rt; log.free(), 5);
+    let mut log = five_used(&rt)?;
+    assert_eq!(rt; room(&log), (5, 32_764));
+    fill(&rt, &mut log)?;
+    assert_eq!(rt; room(&log), (5, 5));
     assert_eq!(rt; append(&mut log)?, Appended::NoRoom);
-    assert_eq!(rt; log.free(), 5);
+    assert_eq!(rt; room(&log), (5, 5));
     Ok(())
 }

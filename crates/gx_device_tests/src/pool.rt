@@ -9,6 +9,7 @@ use gx_pool::{AREA, PAGE_SECTORS, PAGES, PageTest, Pool, PoolFault};
 use rand_core::utils::NextWord;
 use rand_pcg::Pcg32;
 use std::alloc::{AllocError, Global};
+use std::process::Abort;
 use std::test::Fail;
 
 // Pages of level 0 pass.
@@ -165,33 +166,46 @@ fn a_long_run_agrees_with_a_plain_list(rt: HostRuntime) -> Result<(), Fail> {
     Ok(())
 }
 
-// Of 30 steps over 20 pages on a device that fails once, at its k-th call, one and no more answers that the device failed;
-// all other steps, and that one taken again, give what was last written, and so does the device in the end.
+// A step, taken again where the device fails at it, and how often it failed.
+fn take_step_again<D: SectorDisk>(
+    rt: &impl Abort,
+    run: &mut Run,
+    disk: &mut D,
+    page: u32,
+    step: u64,
+    changes: bool,
+) -> u32 {
+    if take_step(run, disk, page, step, changes) != Some(PoolFault::Device) {
+        return 0;
+    }
+    assert_eq!(rt; take_step(run, disk, page, step, changes), None);
+    1
+}
+
+// In how many of 30 steps over 20 pages the device failed, which fails once, at its k-th call, and whether the run ended well.
+fn run_with_fault(rt: &impl Abort, alloc: Global, k: u64) -> Result<(u32, bool), AllocError> {
+    let inner = MemDisk::new(alloc, 4168 + 8 * 20)?;
+    let mut disk = FuseDisk::new(inner, k, Fuse::Once, k % 2 == 0);
+    let mut run = start(alloc, 21)?;
+    let mut draw = Pcg32::new(7, k);
+    let mut faults = 0_u32;
+    for step in 1..31_u64 {
+        let word = draw.next_word();
+        let page = 1 + (word >> 8) % 20;
+        let failed = take_step_again(rt, &mut run, &mut disk, page, step, word % 2 == 0);
+        faults = faults.saturating_add(failed);
+    }
+    Ok((faults, ends_well(&mut run, &mut disk, 30, 21)))
+}
+
+// One step and no more answers that the device failed; all other steps, and that one taken again, give what was last written,
+// and so does the device in the end.
 #[test]
 fn a_call_that_fails_loses_nothing(rt: HostRuntime) -> Result<(), Fail> {
     let mut passed = 0_u32;
     for k in 0..40_u64 {
-        let inner = MemDisk::new(rt.alloc(), 4168 + 8 * 20)?;
-        let mut disk = FuseDisk::new(inner, k, Fuse::Once, k % 2 == 0);
-        let mut run = start(rt.alloc(), 21)?;
-        let mut draw = Pcg32::new(7, k);
-        let mut faults = 0_u32;
-        for step in 1..31_u64 {
-            let word = draw.next_word();
-            let page = 1 + (word >> 8) % 20;
-            if take_step(&mut run, &mut disk, page, step, word % 2 == 0)
-                == Some(PoolFault::Device)
-            {
-                faults = faults.saturating_add(1);
-                assert_eq!(rt;
-                    take_step(&mut run, &mut disk, page, step, word % 2 == 0),
-                    None
-                );
-            }
-        }
-        assert!(rt; faults <= 1);
-        let well = ends_well(&mut run, &mut disk, 30, 21);
-        assert!(rt; well || faults == 0);
+        let (faults, well) = run_with_fault(&rt, rt.alloc(), k)?;
+        assert!(rt; faults <= 1 && (well || faults == 0));
         if well && faults == 0 {
             passed = passed.saturating_add(1);
         }

@@ -4,6 +4,7 @@ ghost use Rattle.gx_record.specs.Seen.{rec_of};
 
 use gx_page::Page;
 use gx_record::{Mark, PageImage, PageImages, Record};
+use std::alloc::Global;
 use std::process::Abort;
 use std::test::Fail;
 
@@ -17,11 +18,11 @@ const KEY_BYTES: [u8; KEY] = [0, 0, 0, 0, 0, 0, 0, 0, 0, 0, 0, 10, 0, 0, 0, 10];
 type Part<'a> = (usize, &'a [u8]);
 
 /// The record is read from the front of the bytes, which have something behind it, and from no front of its spelling.
-fn reads_back(rt: &impl Abort, record: &Record<'_>, bytes: &[u8], size: usize) {
+fn reads_back(rt: &impl Abort, given: &Record<'_>, bytes: &[u8], size: usize) {
     assert!(rt; size < bytes.len());
     for end in [size, bytes.len()] {
         assert!(rt;
-            matches!(Record::decode(&bytes[..end], KEY), Some((read, taken)) if read == *record && taken == size)
+            matches!(Record::decode(&bytes[..end], KEY), Some((read, taken)) if read == *given && taken == size)
         );
     }
     for end in 0..size {
@@ -36,16 +37,16 @@ fn stand(rt: &impl Abort, bytes: &[u8; ROOM], at: usize, part: &[u8]) {
 }
 
 /// The record's spelling has this length and these parts, and is read back.
-fn is_spelled(rt: &impl Abort, record: &Record<'_>, size: usize, parts: &[Part]) -> [u8; ROOM]
-    requires { IsInRange (rec_of record.now) }
+fn is_spelled(rt: &impl Abort, given: &Record<'_>, size: usize, parts: &[Part]) -> [u8; ROOM]
+    requires { IsInRange (rec_of given.now) }
 {
     let mut out = [0xee; ROOM];
-    assert_eq!(rt; record.length(), size);
-    assert_eq!(rt; record.encode_into(&mut out), Some(size));
+    assert_eq!(rt; given.length(), size);
+    assert_eq!(rt; given.encode_into(&mut out), Some(size));
     for (at, part) in parts {
         stand(rt, &out, *at, part);
     }
-    reads_back(rt, record, &out, size);
+    reads_back(rt, given, &out, size);
     out
 }
 
@@ -140,6 +141,24 @@ fn a_write_is_spelled_with_its_leaf(rt: HostRuntime) -> Result<(), Fail> {
     Ok(())
 }
 
+/// The spelling of three pages has their images, and the numbers of the second and the third, 2 and the greatest, before them.
+fn stand_one_by_one(rt: &impl Abort, out: &[u8; ROOM], first: &Page, second: &Page, third: &Page) {
+    stand(rt, out, 18, first.image());
+    stand(rt, out, 4114, &[0, 0, 0, 2]);
+    stand(rt, out, 4118, second.image());
+    stand(rt, out, 8214, &[0xff; 4]);
+    stand(rt, out, 8218, third.image());
+    let changes = [(13, 0), (13, 4), (4117, 1), (4141, 1), (8000, 1)];
+    are_refused(rt, out, &changes);
+}
+
+/// Of three pages this is the second one.
+fn is_second(rt: &impl Abort, pages: &PageImages<'_>, second: &Page) {
+    assert_eq!(rt; pages.count(), 3);
+    assert_eq!(rt; pages.get(1), Some(PageImage::of(second)));
+    assert_eq!(rt; pages.get(3), None);
+}
+
 #[test]
 fn three_pages_are_spelled_one_by_one(rt: HostRuntime) -> Result<(), Fail> {
     let first = Page::fresh(rt.alloc(), 1, 0)?;
@@ -157,42 +176,44 @@ fn three_pages_are_spelled_one_by_one(rt: HostRuntime) -> Result<(), Fail> {
     };
     let head = [1, 0, 0, 0, 0, 0, 0, 0, 5, 0, 0, 0, 3, 3, 0, 0, 0, 0];
     let out = is_spelled(&rt, &record, 12_314, &[(0, &head)]);
-    stand(&rt, &out, 18, first.image());
-    stand(&rt, &out, 4114, &[0, 0, 0, 2]);
-    stand(&rt, &out, 4118, second.image());
-    stand(&rt, &out, 8214, &[0xff; 4]);
-    stand(&rt, &out, 8218, third.image());
-    let changes = [(13, 0), (13, 4), (4117, 1), (4141, 1), (8000, 1)];
-    are_refused(&rt, &out, &changes);
-    assert_eq!(rt; pages.count(), 3);
-    assert_eq!(rt; pages.get(1), Some(PageImage::of(&second)));
-    assert_eq!(rt; pages.get(3), None);
+    stand_one_by_one(&rt, &out, &first, &second, &third);
+    is_second(&rt, &pages, &second);
     Ok(())
+}
+
+/// The spelling of pages 2 and 3.
+fn two_pages(rt: &impl Abort, alloc: Global) -> Result<[u8; ROOM], Fail> {
+    let low = Page::fresh(alloc, 0, 2)?;
+    let high = Page::fresh(alloc, 0, 3)?;
+    let record = Record::Pages {
+        counter: 5,
+        used: 3,
+        pages: PageImages::Two(PageImage::of(&low), PageImage::of(&high)),
+    };
+    Ok(is_spelled(rt, &record, 8214, &[]))
+}
+
+/// How many bytes a record at the front of these has, if one is spelled there.
+fn taken(bytes: &[u8; ROOM]) -> Option<usize> {
+    let (_, taken) = Record::decode(bytes, KEY)?;
+    Some(taken)
 }
 
 #[test]
 fn pages_that_do_not_rise_are_no_spelling(rt: HostRuntime) -> Result<(), Fail> {
-    let low = Page::fresh(rt.alloc(), 0, 2)?;
-    let high = Page::fresh(rt.alloc(), 0, 3)?;
-    let pages = PageImages::Two(PageImage::of(&low), PageImage::of(&high));
-    let record = Record::Pages {
-        counter: 5,
-        used: 3,
-        pages,
-    };
-    let mut out = is_spelled(&rt, &record, 8214, &[]);
+    let mut out = two_pages(&rt, rt.alloc())?;
     // one page alone
     out[13] = 1;
-    assert!(rt; matches!(Record::decode(&out, KEY), Some((_, 4114))));
+    assert_eq!(rt; taken(&out), Some(4114));
     out[13] = 2;
     // the same page twice
     out[4117] = 2;
     out[4141] = 2;
-    assert!(rt; Record::decode(&out, KEY).is_none());
+    assert_eq!(rt; taken(&out), None);
     // the lower page last
     out[17] = 3;
     out[41] = 3;
-    assert!(rt; Record::decode(&out, KEY).is_none());
+    assert_eq!(rt; taken(&out), None);
     Ok(())
 }
 

@@ -1,5 +1,5 @@
 //! The turn to the other extent: its sectors byte for byte, and the log read back after it and after a crash at each of its calls.
-use crate::log::{append, front, gated, step, with_counters};
+use crate::log::{append_batch, front, gated, has, sector, with_counters};
 use gx_disk::{MemDisk, SectorDisk, Torn};
 use gx_glog::{Appended, BODY_SIZE, Extent, Glog, PLACES, Turn, read_extent, selected};
 use gx_record::Record;
@@ -48,12 +48,7 @@ pub(crate) fn ready(rt: &HostRuntime) -> Result<(MemDisk, Glog), Fail> {
 
 /// Writes a batch with the record of a commit of this number, and answers its place.
 fn append_commit(log: &mut Glog, disk: &mut MemDisk, n: u64) -> Result<u64, Fail> {
-    let place = append(log, &Record::Commit { tx: 1, n })?;
-    step(log, disk)?;
-    step(log, disk)?;
-    step(log, disk)?;
-    step(log, disk)?;
-    Ok(place)
+    append_batch(log, disk, &Record::Commit { tx: 1, n })
 }
 
 /// The extent that a device selects, how many batches are gated in it, and how many bytes of records the last one has.
@@ -125,62 +120,86 @@ fn counters<'a>(n: u64) -> Record<'a> {
     }
 }
 
-#[test]
-fn records_after_a_turn_are_read_behind_its_head(rt: HostRuntime) -> Result<(), Fail> {
-    let (mut disk, mut log) = ready(&rt)?;
+/// A device whose log turned to extent B.
+fn turned(rt: &HostRuntime) -> Result<(MemDisk, Glog), Fail> {
+    let (mut disk, mut log) = ready(rt)?;
     turns(&mut log, &mut disk, 7)?;
-    assert_eq!(rt; append_commit(&mut log, &mut disk, 2)?, 1);
-    disk.crash(&[]);
-    assert_eq!(rt; log_of(&rt, &mut disk)?, (Extent::B, 2, 17));
-    assert!(rt; has_alone(&rt, &mut disk, 0, &counters(1))?);
-    assert!(rt; has_alone(&rt, &mut disk, 1, &Record::Commit { tx: 1, n: 2 })?);
-    Ok(())
+    Ok((disk, log))
 }
 
 /// A device whose log turned to extent B, has a batch there, and turned back to extent A.
 fn turned_back(rt: &HostRuntime) -> Result<(MemDisk, Glog), Fail> {
-    let (mut disk, mut log) = ready(rt)?;
-    turns(&mut log, &mut disk, 7)?;
+    let (mut disk, mut log) = turned(rt)?;
     append_commit(&mut log, &mut disk, 2)?;
     put_counters(&mut log, 2)?;
     turns(&mut log, &mut disk, 7)?;
     Ok((disk, log))
 }
 
-#[test]
-fn a_second_turn_goes_back_to_extent_a(rt: HostRuntime) -> Result<(), Fail> {
-    let (mut disk, log) = turned_back(&rt)?;
-    assert_eq!(rt; log.used(), 1);
+/// Whether a crash leaves the head of the number before this one, and behind it a batch of the commit of this number, the
+/// last of the log, in this extent.
+fn is_behind_head(
+    rt: &HostRuntime,
+    disk: &mut MemDisk,
+    extent: Extent,
+    n: u64,
+) -> Result<bool, Fail> {
     disk.crash(&[]);
-    assert_eq!(rt; log_of(&rt, &mut disk)?, (Extent::A, 1, 29));
-    assert!(rt; has_alone(&rt, &mut disk, 0, &counters(2))?);
-    assert!(rt; front(&mut disk, 2)? == [0; 512]);
-    assert!(rt; are_gates(&mut disk, 8, 1)?);
-    assert!(rt; are_gates(&mut disk, 2088, 2)?);
+    Ok(
+        log_of(rt, disk)? == (extent, 2, 17)
+            && has_alone(rt, disk, 0, &counters(n.saturating_sub(1)))?
+            && has_alone(rt, disk, 1, &Record::Commit { tx: 1, n })?,
+    )
+}
+
+/// Whether a batch of a commit that is written after a turn goes behind the head.
+fn goes_behind_head(
+    rt: &HostRuntime,
+    turned: (MemDisk, Glog),
+    extent: Extent,
+    n: u64,
+) -> Result<bool, Fail> {
+    let (mut disk, mut log) = turned;
+    let place = append_commit(&mut log, &mut disk, n)?;
+    Ok(place == 1 && is_behind_head(rt, &mut disk, extent, n)?)
+}
+
+#[test]
+fn records_after_a_turn_are_read_behind_its_head(rt: HostRuntime) -> Result<(), Fail> {
+    assert!(rt; goes_behind_head(&rt, turned(&rt)?, Extent::B, 2)?);
     Ok(())
 }
 
 #[test]
 fn records_after_a_second_turn_are_read_behind_its_head(rt: HostRuntime) -> Result<(), Fail> {
-    let (mut disk, mut log) = turned_back(&rt)?;
-    assert_eq!(rt; append_commit(&mut log, &mut disk, 3)?, 1);
-    disk.crash(&[]);
-    assert_eq!(rt; log_of(&rt, &mut disk)?, (Extent::A, 2, 17));
-    assert!(rt; has_alone(&rt, &mut disk, 1, &Record::Commit { tx: 1, n: 3 })?);
+    assert!(rt; goes_behind_head(&rt, turned_back(&rt)?, Extent::A, 3)?);
     Ok(())
 }
 
-/// A sector with this first byte, and zeros.
-fn sector(first: u8) -> [u8; 512] {
-    let mut bytes = [0; 512];
-    bytes[0] = first;
-    bytes
+/// Whether a crash leaves the head alone in extent A, an open gate there, two open gates in extent B, and no byte in the
+/// selector.
+fn is_back(rt: &HostRuntime, disk: &mut MemDisk) -> Result<bool, Fail> {
+    disk.crash(&[]);
+    Ok(
+        log_of(rt, disk)? == (Extent::A, 1, 29)
+            && has_alone(rt, disk, 0, &counters(2))?
+            && front(disk, 2)? == [0; 512]
+            && are_gates(disk, 8, 1)?
+            && are_gates(disk, 2088, 2)?,
+    )
+}
+
+#[test]
+fn a_second_turn_goes_back_to_extent_a(rt: HostRuntime) -> Result<(), Fail> {
+    let (mut disk, log) = turned_back(&rt)?;
+    assert_eq!(rt; (log.used(), is_back(&rt, &mut disk)?), (1, true));
+    Ok(())
 }
 
 /// Whether of the 32 gates from a sector on the first so many are written open, and the others closed.
 fn are_gates(disk: &mut MemDisk, first: u64, open: u64) -> Result<bool, Fail> {
     for k in 0..32_u64 {
-        let gate = sector(if k < open { 0xA7 } else { 0 });
+        let gate = sector(&[(0, if k < open { 0xA7 } else { 0 })]);
         if front(disk, first.saturating_add(k))? != gate {
             return Ok(false);
         }
@@ -201,17 +220,6 @@ fn soil(rt: &HostRuntime, disk: &mut MemDisk) -> Result<(), Fail> {
     Ok(())
 }
 
-/// The bytes of the body's first sector, with the counters alone.
-fn head_sector() -> [u8; 512] {
-    let mut bytes = [0; 512];
-    bytes[3] = 29;
-    bytes[4] = 5;
-    bytes[12] = 1;
-    bytes[24] = 2;
-    bytes[32] = 2;
-    bytes
-}
-
 /// A device with other bytes before, after so many calls of a turn.
 fn turned_by(rt: &HostRuntime, calls: u8) -> Result<MemDisk, Fail> {
     let (mut disk, mut log) = ready(rt)?;
@@ -224,8 +232,9 @@ fn turned_by(rt: &HostRuntime, calls: u8) -> Result<MemDisk, Fail> {
 fn a_turn_closes_all_gates_and_opens_the_first(rt: HostRuntime) -> Result<(), Fail> {
     for (calls, open) in [(1, 0), (3, 0), (4, 1), (7, 1)] {
         let mut disk = turned_by(&rt, calls)?;
-        assert!(rt; are_gates(&mut disk, 2088, open)?);
-        assert!(rt; are_gates(&mut disk, 8, 2)?);
+        let closed = are_gates(&mut disk, 2088, open)?;
+        let kept = are_gates(&mut disk, 8, 2)?;
+        assert_eq!(rt; (closed, kept), (true, true), "{calls} calls");
     }
     Ok(())
 }
@@ -233,16 +242,18 @@ fn a_turn_closes_all_gates_and_opens_the_first(rt: HostRuntime) -> Result<(), Fa
 #[test]
 fn a_turn_writes_the_head_over_body_0(rt: HostRuntime) -> Result<(), Fail> {
     let mut disk = turned_by(&rt, 2)?;
-    assert!(rt; front(&mut disk, 2120)? == head_sector());
+    let head = [(3, 29), (4, 5), (12, 1), (24, 2), (32, 2)];
+    has(&rt, &mut disk, 2120, &head)?;
     for sector in 2121..2184_u64 {
-        assert!(rt; front(&mut disk, sector)? == [0; 512]);
+        has(&rt, &mut disk, sector, &[])?;
     }
     Ok(())
 }
 
 #[test]
 fn a_turn_writes_the_selector_behind_the_gates_sync(rt: HostRuntime) -> Result<(), Fail> {
-    for (calls, selector) in [(0, OTHER), (5, OTHER), (6, sector(0x5A)), (7, sector(0x5A))] {
+    let other = sector(&[(0, 0x5A)]);
+    for (calls, selector) in [(0, OTHER), (5, OTHER), (6, other), (7, other)] {
         let mut disk = turned_by(&rt, calls)?;
         assert!(rt; front(&mut disk, 2)? == selector);
     }
