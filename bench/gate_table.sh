@@ -1,24 +1,27 @@
 #!/usr/bin/env bash
-# Makes a table of a log of `gate_times.sh`: for each crate the processor seconds of its proof, its tests and its edits,
-# and the five slowest edits of each.
+# Makes a table of a log of `gate_times.sh`, beside that of an earlier revision where a second log is given: for each crate
+# the processor seconds of its proof, its tests, its stored runs and its edits; then the slowest edits of all.
 set -euo pipefail
 log="${1:?the log}"
-echo '| Crate | Proof | Tests | Edits | How many | All |'
-echo '|---|---|---|---|---|---|'
+before="${2:-/dev/null}"
+echo '| Crate | Proof | Tests | Runs | Edits | How many | All | Before |'
+echo '|---|---|---|---|---|---|---|---|'
 awk '
+    FILENAME == ARGV[1] { before[$2] += $3; was += $3 }
+    FILENAME == ARGV[2] { of[$1, $2] += $3; all[$2] += $3; sum[$1] += $3; whole += $3 }
+    FILENAME == ARGV[2] && $1 == "edit" { many[$2]++; edits++ }
     !($2 in seen) { seen[$2] = 1; order[++crates] = $2 }
-    { of[$1, $2] += $3; all[$2] += $3; sum[$1] += $3; whole += $3 }
-    $1 == "edit" { many[$2]++; edits++ }
+    function cell(x) { return x ? sprintf("%.0f", x) : "" }
+    function row(name, proof, tests, runs, edit, many, all, was) {
+        printf "| %s | %s | %s | %s | %s | %s | %s | %s |\n", name, cell(proof), cell(tests), cell(runs), cell(edit), many, cell(all), cell(was)
+    }
     END {
         for (i = 1; i <= crates; i++) {
             c = order[i]
-            printf "| `%s` | %.0f | %.0f | %.0f | %d | %.0f |\n", c, of["proof", c], of["tests", c], of["edit", c], many[c], all[c]
+            row("`" c "`", of["proof", c], of["tests", c], of["runs", c], of["edit", c], many[c], all[c], before[c])
         }
-        printf "| all | %.0f | %.0f | %.0f | %d | %.0f |\n", sum["proof"], sum["tests"], sum["edit"], edits, whole
-    }' "$log"
-awk '{ print $2 }' "$log" | awk '!seen[$0]++' | while read -r crate; do
-    echo
-    echo "The slowest edits of \`$crate\`:"
-    awk -v c="$crate" '$1 == "edit" && $2 == c { print $3, $4 }' "$log" | sort -rn | head -5 \
-        | awk '{ printf "- `%s`, %s s\n", $2, $1 }'
-done
+        row("all", sum["proof"], sum["tests"], sum["runs"], sum["edit"], edits, whole, was)
+    }' "$before" "$log" | LC_ALL=C sort
+echo
+echo 'The slowest edits, in processor seconds:'
+awk '$1 == "edit" { print $3, $2, $4 }' "$log" | sort -rn | head -10 | awk '{ printf "- `%s`, `%s`: %s\n", $2, $3, $1 }'
