@@ -5,6 +5,7 @@ pub mod LeafSteps
 pub mod Listed
 pub mod Marking
 pub mod Named
+pub mod Owner
 pub mod Parted
 pub mod Raised
 pub mod RootSplits

@@ -1,9 +1,11 @@
 -- A split of the root, from the changes that make it.
-use Rattle.std.proofs.Common.{◌≡◌, ℕ, suc, ◌-◌, ◌<◌, Bool, not, List, [], ◌∷◌, length, map, refl, sym, ap, ◌∙◌, subst, arith}
+use Rattle.std.proofs.Common.{◌≡◌, ℕ, suc, ◌+◌, ◌-◌, ◌^◌, ◌<◌, ◌≤◌, ◌⊎◌, inl, inr, Bool, not, List, [], ◌∷◌, length, map, refl, sym, ap, ◌∙◌, subst, arith}
 use Rattle.std.proofs.lemmas.List.{length-set, length-append}
 use Rattle.gx_tree_laws.specs.Lists.{staying, going}
 use Rattle.gx_tree_laws.specs.Trees.{Node, Rules, Used, size}
+use Rattle.gx_tree_laws.specs.Legal.{Legal}
 use Rattle.gx_tree_laws.specs.Steps.{IsUnion, IsRootSplit, node_with}
+use Rattle.gx_node.specs.declared.items.TheConstants.{MAX_ENTRIES}
 use Rattle.gx_tree.specs.Store.{Store, node_at, tree_of, with_node, with_page}
 use Rattle.gx_tree.specs.Splitting.{left_of, right_of, least_of, keys_in, CanSplitRoot, DidSplitRoot}
 use Rattle.gx_tree.proofs.Splits.{other_half, at_changed, at_other, at_taken, at_untaken, union_alike}
@@ -152,3 +154,19 @@ module _ {B : Type 0} where
         second = refl;
         room = refl;
       })
+
+-- a size that is at most the limit, and no less, is neither below nor above it
+neither : (n most max : ℕ) → most ≤ n → n ≤ most → most ≤ max → (n < most) ⊎ (max < n) → ⊥
+neither n most max full room few (inl less) = omega (arith, less, full)
+neither n most max full room few (inr more) = omega (arith, more, room, few)
+
+-- a full root of a legal tree can be split, but for its level
+pub root_is_whole : {B : Type 0} (r : Rules B) (old now : Store B) → now ≡ old → r.most ≤ MAX_ENTRIES → Legal r (tree_of old)
+    → r.most ≤ size (node_at old.nodes 1) → (node_at old.nodes 1).level + 1 < 2 ^ 16
+    → (0 < (node_at now.nodes 1).level → (node_at now.nodes 1).level + 1 < 2 ^ 16
+    → (size (node_at now.nodes 1) < r.most) ⊎ (MAX_ENTRIES < size (node_at now.nodes 1))) → ⊥
+root_is_whole r old now same few legal full level fails =
+    let used : Used (tree_of old) 1 = (omega arith, omega (arith, legal.counter)) in
+    let is = subst (λ s. 0 < (node_at s.nodes 1).level → (node_at s.nodes 1).level + 1 < 2 ^ 16
+    → (size (node_at s.nodes 1) < r.most) ⊎ (MAX_ENTRIES < size (node_at s.nodes 1))) same fails in
+    neither (size (node_at old.nodes 1)) r.most MAX_ENTRIES full (legal.pages 1 used).room few (is legal.root level)

@@ -1,5 +1,5 @@
 -- What a descent does at a node.
-use Rattle.std.specs.Prelude.{◌≡◌, ◌≢◌, ℕ, ◌<◌, ◌≤◌, map, length, Option, Some, None, slice_get, slice_set}
+use Rattle.std.specs.Prelude.{◌≡◌, ◌≢◌, ℕ, Bool, true, false, ◌<◌, ◌≤◌, map, length, Option, Some, None, slice_get, slice_set}
 use Rattle.std.specs.List.{IsFirstBest}
 use Rattle.gx_node.specs.Hits.{costs_less}
 use Rattle.gx_node.specs.Edits.{bounded_by}
@@ -45,6 +45,15 @@ StepsDown {B} cost joined most old new item coming (did.Widened next slot key) =
     × ((c : Child B) → slice_get ((tree_of old).node item.page).children slot ≡ Some c
     → ChangesOnly (tree_of old) (tree_of new) item.page ((tree_of old).node item.page).pairs
     (slice_set ((tree_of old).node item.page).children slot (bounded_by key c)))
+
+-- whether a bound was widened, so that the page has changed
+abbrev pub is_widened : {B : Type 0} → Descended B → Bool
+is_widened (did.Widened next slot key) = true
+is_widened (did.Down next) = false
+is_widened did.Again = false
+is_widened did.Leaf = false
+is_widened did.FullLeaf = false
+is_widened did.FullInner = false
 
 -- the item to which it went down, if it did
 abbrev pub next_of : {B : Type 0} → Descended B → Option Item

@@ -3,6 +3,7 @@ pub mod Found
 pub mod Halved
 pub mod Keyed
 pub mod Looking
+pub mod Owner
 pub mod Seeking
 pub mod Splitting
 pub mod Store

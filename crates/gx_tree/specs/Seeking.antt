@@ -1,9 +1,14 @@
 -- What a seek comes to at a leaf.
-use Rattle.std.specs.Prelude.{◌≡◌, Bool, true, Some, slice_get}
+use Rattle.std.specs.Prelude.{◌≡◌, Bool, true, false, Some, slice_get}
 use Rattle.gx_tree_laws.specs.Lists.{how_many}
 use Rattle.gx_tree_laws.specs.Trees.{Pair, Node}
 use Rattle.gx_tree.specs.declared.seek.Sought.{Sought}
 use Rattle.gx_tree.specs.declared.seek.Sought.TheVariants.{Here, Right}
+
+-- whether the pair stands in the leaf
+abbrev pub is_here : Sought → Bool
+is_here (Here slot marked) = true
+is_here (Right page) = false
 
 -- the node is a leaf; its pair in that slot is wanted and has that mark, or none is wanted, and that is its rightlink
 abbrev pub Seeks : {B : Type 0} → (Pair B → Bool) → Node B → Sought → Type 0

@@ -1,9 +1,10 @@
 //! The way down to the leaf for a coming pair.
-ghost use Rattle.std.specs.Prelude.{◌≡◌, ◌≢◌, ◌≤◌, ◌<◌, length, true, Err, IfSome, IfNone, IfOk, OnOk, OnErr, ℕ};
+ghost use Rattle.std.specs.Prelude.{◌≡◌, ◌≢◌, ◌≤◌, ◌<◌, length, true, false, Err, IfSome, IfNone, IfOk, IfErr, OnOk, OnErr, ℕ};
 ghost use Rattle.std.specs.Bool.{OnTrue, OnFalse};
 ghost use Rattle.gx_node.specs.Reading.{format, is_node};
 ghost use Rattle.gx_tree_laws.specs.Trees.{Used};
-ghost use Rattle.gx_tree.specs.Descending.{Descends, StepsDown, next_of};
+ghost use Rattle.gx_tree.specs.Descending.{Descends, StepsDown, is_widened, next_of};
+ghost use Rattle.gx_tree.specs.Owner.{KeepsSince, KeepsSinceBut, IsWhy, IsWhyLater};
 ghost use Rattle.gx_tree.specs.Store.{node_of, tree_of, Stays};
 
 use crate::edits::SetBound;
@@ -124,7 +125,7 @@ fn way_at<K: KeyClass>(
 /// entries: it begins again where the page was split since; it goes down to the child whose bound has the least penalty
 /// for the key, and of such children the first, once that bound covers the key too; a full node is in its way.
 ///
-/// Refused with `Pages` where the page could not be brought, and with `Damaged` exactly where it isn't taken, or has a
+/// Refused with `Pages` where the page could not be brought, and with `Damaged` only where it isn't taken, or has a
 /// level above 0 and no entries.
 pub fn way_step<K: KeyClass, P: Pages<K>>(
     pages: &mut P,
@@ -134,6 +135,9 @@ pub fn way_step<K: KeyClass, P: Pages<K>>(
 ) -> Result<Way<K::Key>, StepFault<P::Fault>>
     ensures stays { Stays (P.steady pages.old) (P.store pages.old) (P.store pages.new) }
     ensures steady { P.steady pages.old → P.steady pages.new }
+    ensures since { KeepsSince P.since pages.old pages.new }
+    ensures why { IfErr result (IsWhy (P.why pages.old pages.new)) }
+    ensures later { OnOk result (IsWhyLater P.why pages.old pages.new) }
     ensures way { IfOk result (Descends K.cost K.joined most ((tree_of (P.store pages.new)).node item.now.page) item.now.seen coming.now) }
     ensures damaged { result ≡ Err StepFault.Damaged → Used (tree_of (P.store pages.new)) item.now.page
         → (0 < ((tree_of (P.store pages.new)).node item.now.page).level) × (length ((tree_of (P.store pages.new)).node item.now.page).children ≡ 0) }
@@ -154,7 +158,7 @@ pub fn way_step<K: KeyClass, P: Pages<K>>(
 /// child's bound doesn't cover the key it widens it first, to the union of the two.
 ///
 /// Refused with `Pages` where the page could not be brought, or what the widening needs could not be had, and with `Damaged`
-/// exactly where `way_step` is: nothing has changed then.
+/// only where `way_step` is: nothing has changed then.
 pub fn descend_step<K: KeyClass, P: PagesMut<K>>(
     pages: &mut P,
     item: &Item,
@@ -162,6 +166,12 @@ pub fn descend_step<K: KeyClass, P: PagesMut<K>>(
     most: usize,
 ) -> Result<Descended<K::Key>, StepFault<P::Fault>>
     ensures steady { P.steady pages.old → P.steady pages.new }
+    ensures since { KeepsSinceBut P.since item.now.page pages.old pages.new }
+    ensures kept { OnErr result (KeepsSince P.since pages.old pages.new) }
+    ensures read { IfOk result (λ did. is_widened did ≡ false → KeepsSince P.since pages.old pages.new) }
+    ensures why { IfErr result (IsWhy (P.why pages.old pages.new)) }
+    ensures held { OnOk result (P.held pages.new item.now.page) }
+    ensures changing { IfOk result (λ did. is_widened did ≡ true → P.changing pages.new item.now.page) }
     ensures descended { P.steady pages.old → IfOk result (StepsDown K.cost K.joined most (P.store pages.old) (P.store pages.new) item.now coming.now) }
     ensures refused { P.steady pages.old → OnErr result (P.store pages.new ≡ P.store pages.old) }
     ensures damaged { P.steady pages.old → result ≡ Err StepFault.Damaged → Used (tree_of (P.store pages.old)) item.now.page

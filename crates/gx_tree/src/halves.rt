@@ -88,6 +88,7 @@ fn halves_of<K: KeyClass>(keys: &[K::Key], most: usize) -> Option<Halves<K::Key>
     requires few { length keys.now ≤ MAX_ENTRIES }
     ensures halves { IfSome result (HalvesKeys K.Key.inside (K.sides_of keys.now (least_of most)) keys.now) }
     ensures few { IfSome result (λ h. length h.sides ≤ MAX_ENTRIES) }
+    ensures full { IfSome result (λ _. most ≤ length keys.now) }
     ensures none { IfNone result (length keys.now < most) }
 {
     let count = keys.len();
@@ -155,6 +156,7 @@ pub(crate) fn halve<K: KeyClass>(
     requires space { MAX_ENTRIES ≤ length keys.old }
     ensures halves { IfSome result (λ h. AreHalves (rules_of K.Key.Shape most) K.sides_of (node_of (format K.KEY K.reading K.start_key) page.now) h.sides h.left h.right) }
     ensures few { IfSome result (λ h. length h.sides ≤ MAX_ENTRIES) }
+    ensures full { IfSome result (λ _. most ≤ size (node_of (format K.KEY K.reading K.start_key) page.now)) }
     ensures none { IfNone result ((size (node_of (format K.KEY K.reading K.start_key) page.now) < most) ⊎ (MAX_ENTRIES < size (node_of (format K.KEY K.reading K.start_key) page.now))) }
 {
     let count = page.count();

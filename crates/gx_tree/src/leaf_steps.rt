@@ -1,11 +1,13 @@
 //! The steps that change one leaf.
-ghost use Rattle.std.specs.Prelude.{◌≡◌, ◌≢◌, ◌≤◌, ◌<◌, Bool, [], length, map, Some, slice_get, Err, OnOk, OnErr, IfOk};
+ghost use Rattle.std.specs.Prelude.{◌≡◌, ◌≢◌, ◌≤◌, ◌<◌, Bool, true, false, [], length, map, Some, slice_get, Err, OnOk, OnErr, IfOk, IfErr};
 ghost use Rattle.std.specs.List.{list_any};
 ghost use Rattle.gx_machine.specs.declared.entry.Entry.{Entry};
 ghost use Rattle.gx_node.specs.Edits.{entry_of};
 ghost use Rattle.gx_node.specs.declared.items.TheConstants.{MAX_ENTRIES};
 ghost use Rattle.gx_tree_laws.specs.Trees.{Pair, Used};
 ghost use Rattle.gx_tree_laws.specs.Writes.{is_sweepable};
+ghost use Rattle.gx_tree.specs.Owner.{KeepsSince, KeepsSinceBut, IsWhy, IsWhyLater};
+ghost use Rattle.gx_tree.specs.Seeking.{is_here};
 ghost use Rattle.gx_tree.specs.Store.{tree_of};
 ghost use Rattle.gx_tree.specs.Wants.{wants};
 ghost use Rattle.gx_tree.specs.Writing.{Appends, SetsMark, Swept};
@@ -22,7 +24,7 @@ use gx_node::{Leaf, MAX_ENTRIES};
 
 /// Brings the leaf on a page, and says how many pairs it has.
 ///
-/// Refused with `Pages` where the page could not be brought, and with `Damaged` exactly where it isn't a leaf that is
+/// Refused with `Pages` where the page could not be brought, and with `Damaged` only where it isn't a leaf that is
 /// taken.
 #[tactic(auto, using(crate::proofs::Listed::same_store))]
 fn bring_leaf<K: KeyClass, P: PagesMut<K>>(
@@ -36,6 +38,9 @@ fn bring_leaf<K: KeyClass, P: PagesMut<K>>(
     ensures count { IfOk result (λ count. count ≡ length ((tree_of (P.store pages.new)).node page).pairs) }
     ensures same { P.steady pages.old → P.store pages.new ≡ P.store pages.old }
     ensures steady { P.steady pages.old → P.steady pages.new }
+    ensures since { KeepsSince P.since pages.old pages.new }
+    ensures why { IfErr result (IsWhy (P.why pages.old pages.new)) }
+    ensures later { OnOk result (IsWhyLater P.why pages.old pages.new) }
     ensures damaged { result ≡ Err StepFault.Damaged → Used (tree_of (P.store pages.new)) page → ((tree_of (P.store pages.new)).node page).level ≢ 0 }
     ensures memory { result ≢ Err StepFault.Memory }
     ensures full { result ≢ Err StepFault.PagesFull }
@@ -59,6 +64,8 @@ fn prepare_page<K: KeyClass, P: PagesMut<K>>(
     ensures held { P.held pages.new page }
     ensures changing { OnOk result (P.changing pages.new page) }
     ensures steady { P.steady pages.old → P.steady pages.new }
+    ensures since { KeepsSince P.since pages.old pages.new }
+    ensures why { IfErr result (IsWhy (P.why pages.old pages.new)) }
     ensures damaged { result ≢ Err StepFault.Damaged }
     ensures memory { result ≢ Err StepFault.Memory }
     ensures full { result ≢ Err StepFault.PagesFull }
@@ -72,7 +79,7 @@ fn prepare_page<K: KeyClass, P: PagesMut<K>>(
 /// Puts a live pair behind the last of the leaf on a page, where a node has at most `most` entries, which is at most
 /// `MAX_ENTRIES`.
 ///
-/// Refused with `Pages` where the page could not be brought or made ready, and with `Damaged` exactly where it isn't a leaf
+/// Refused with `Pages` where the page could not be brought or made ready, and with `Damaged` only where it isn't a leaf
 /// that is taken, or has no room. Nothing has changed then.
 pub fn add_step<K: KeyClass, P: PagesMut<K>>(
     pages: &mut P,
@@ -82,6 +89,10 @@ pub fn add_step<K: KeyClass, P: PagesMut<K>>(
 ) -> Result<(), StepFault<P::Fault>>
     requires most { most ≤ MAX_ENTRIES }
     ensures steady { P.steady pages.old → P.steady pages.new }
+    ensures since { KeepsSinceBut P.since page pages.old pages.new }
+    ensures kept { OnErr result (KeepsSince P.since pages.old pages.new) }
+    ensures why { IfErr result (IsWhy (P.why pages.old pages.new)) }
+    ensures held { OnOk result (P.held pages.new page × P.changing pages.new page) }
     ensures added { P.steady pages.old → OnOk result (Appends most (tree_of (P.store pages.old)) (tree_of (P.store pages.new)) page entry.now) }
     ensures refused { P.steady pages.old → OnErr result (P.store pages.new ≡ P.store pages.old) }
     ensures damaged { P.steady pages.old → result ≡ Err StepFault.Damaged → Used (tree_of (P.store pages.old)) page
@@ -100,7 +111,7 @@ pub fn add_step<K: KeyClass, P: PagesMut<K>>(
 /// Sets or clears the mark of the wanted pair in the leaf on a page. A pair that was found in a leaf is there or further to
 /// the right; where it isn't in this leaf, the next one is told, as `seek_step` does.
 ///
-/// Refused with `Pages` where the page could not be brought or made ready, and with `Damaged` exactly where it isn't a leaf
+/// Refused with `Pages` where the page could not be brought or made ready, and with `Damaged` only where it isn't a leaf
 /// that is taken. Nothing has changed then.
 pub fn set_mark_step<K: Probing, P: PagesMut<K>>(
     pages: &mut P,
@@ -109,6 +120,12 @@ pub fn set_mark_step<K: Probing, P: PagesMut<K>>(
     marked: bool,
 ) -> Result<Sought, StepFault<P::Fault>>
     ensures steady { P.steady pages.old → P.steady pages.new }
+    ensures since { KeepsSinceBut P.since page pages.old pages.new }
+    ensures kept { OnErr result (KeepsSince P.since pages.old pages.new) }
+    ensures passed { IfOk result (λ sought. is_here sought ≡ false → KeepsSince P.since pages.old pages.new) }
+    ensures why { IfErr result (IsWhy (P.why pages.old pages.new)) }
+    ensures held { OnOk result (P.held pages.new page) }
+    ensures changing { IfOk result (λ sought. is_here sought ≡ true → P.changing pages.new page) }
     ensures marked { P.steady pages.old → IfOk result (SetsMark (wants K.passes wanted.now.keys wanted.now.row)
         (P.store pages.old) (P.store pages.new) page marked) }
     ensures refused { P.steady pages.old → OnErr result (P.store pages.new ≡ P.store pages.old) }
@@ -169,7 +186,7 @@ fn has_any(sides: &[bool]) -> bool
 /// removed later (Kornacker, Mohan, Hellerstein 1997). Whether there were any; where there were none the page isn't
 /// changed.
 ///
-/// Refused with `Pages` where the page could not be brought or made ready, and with `Damaged` exactly where it isn't a leaf
+/// Refused with `Pages` where the page could not be brought or made ready, and with `Damaged` only where it isn't a leaf
 /// that is taken, or has more than `MAX_ENTRIES` pairs. Nothing has changed then.
 pub fn sweep_step<K: KeyClass, P: PagesMut<K>, F: Fn(Entry<K::Key>) -> bool>(
     pages: &mut P,
@@ -178,6 +195,12 @@ pub fn sweep_step<K: KeyClass, P: PagesMut<K>, F: Fn(Entry<K::Key>) -> bool>(
 ) -> Result<bool, StepFault<P::Fault>>
     requires claimed { F.IsAlwaysCallable claimed }
     ensures steady { P.steady pages.old → P.steady pages.new }
+    ensures since { KeepsSinceBut P.since page pages.old pages.new }
+    ensures kept { OnErr result (KeepsSince P.since pages.old pages.new) }
+    ensures spared { IfOk result (λ any. any ≡ false → KeepsSince P.since pages.old pages.new) }
+    ensures why { IfErr result (IsWhy (P.why pages.old pages.new)) }
+    ensures held { OnOk result (P.held pages.new page) }
+    ensures changing { IfOk result (λ any. any ≡ true → P.changing pages.new page) }
     ensures swept { P.steady pages.old → (test : Entry K.Key → Bool) → ((entry : Entry K.Key) (answer : Bool) → F.post claimed entry answer → answer ≡ test entry)
         → IfOk result (Swept test (P.store pages.old) (P.store pages.new) page) }
     ensures refused { P.steady pages.old → OnErr result (P.store pages.new ≡ P.store pages.old) }

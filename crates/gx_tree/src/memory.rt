@@ -3,7 +3,7 @@ ghost use Rattle.std.specs.Prelude.{◌≡◌, ◌<◌, ◌+◌, ◌-◌, ◌^�
 ghost use Rattle.std.specs.List.{list_all};
 ghost use Rattle.gx_node.specs.Reading.{format, is_node};
 ghost use Rattle.gx_tree_laws.specs.Trees.{Used};
-ghost use Rattle.gx_tree.specs.Store.{node_of, numbered, tree_of};
+ghost use Rattle.gx_tree.specs.Store.{node_at, node_of, numbered, tree_of};
 
 use crate::pages::Pages;
 use crate::writing::{Edit, PagesMut};
@@ -117,6 +117,10 @@ impl<K: KeyClass> Pages<K> for MemoryPages<K> {
     ghost held = { λ s p. Used (tree_of s) p };
 
     ghost steady = { λ s. Unit };
+
+    ghost since = { λ was s q. node_at s.nodes q ≡ node_at was.nodes q };
+
+    ghost why = { λ old new fault. ⊥ };
 
     fn used(&self) -> u32 {
         self.pages.len() as u32

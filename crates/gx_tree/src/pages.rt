@@ -1,8 +1,9 @@
 //! What the steps ask of whoever keeps the pages.
-ghost use Rattle.std.specs.Prelude.{◌≡◌, ◌≢◌, ◌≤◌, ℕ, true, length, Err, OnOk};
+ghost use Rattle.std.specs.Prelude.{◌≡◌, ◌≢◌, ◌≤◌, ℕ, true, length, Err, IfErr, OnOk};
 ghost use Rattle.gx_node.specs.Reading.{format, is_node};
 ghost use Rattle.gx_tree_laws.specs.Lists.{Each};
 ghost use Rattle.gx_tree_laws.specs.Trees.{Used};
+ghost use Rattle.gx_tree.specs.Owner.{KeepsSince, IsWhy, IsWhyLater};
 ghost use Rattle.gx_tree.specs.Store.{Store, Stays, node_of, node_at, tree_of};
 
 use crate::fault::StepFault;
@@ -24,6 +25,13 @@ pub trait Pages<K: KeyClass> {
     /// What is read of a page is what stands there, so that bringing it changes nothing.
     ghost steady: { Self → Type 0 };
 
+    /// Since a moment a page, and all that is no page, has only gone on: a step keeps it for each page that it doesn't change,
+    /// so whoever keeps pages learns here what a step leaves of all else.
+    ghost since: { Self → Self → ℕ → Type 0 };
+
+    /// Why pages were refused between two moments.
+    ghost why: { Self → Self → Self.Fault → Type 0 };
+
     /// The greatest page that is taken.
     fn used(&self) -> u32
         ensures { result ≡ length (store self.now).nodes };
@@ -42,7 +50,10 @@ pub trait Pages<K: KeyClass> {
         requires used { Each (Used (tree_of (store self.old))) pages.now }
         ensures held { OnOk result (Each (held self.new) pages.now) }
         ensures stays { Stays (steady self.old) (store self.old) (store self.new) }
-        ensures steady { steady self.old → steady self.new };
+        ensures steady { steady self.old → steady self.new }
+        ensures since { KeepsSince since self.old self.new }
+        ensures why { IfErr result (why self.old self.new) }
+        ensures later { OnOk result (IsWhyLater why self.old self.new) };
 
     /// A page that is held.
     fn page(&self, page: u32) -> &Page
@@ -54,7 +65,7 @@ pub trait Pages<K: KeyClass> {
 
 /// Brings one page, which a step names.
 ///
-/// Refused with `Pages` where it could not be brought, and with `Damaged` exactly where it isn't taken.
+/// Refused with `Pages` where it could not be brought, and with `Damaged` only where it isn't taken.
 pub(crate) fn bring_page<K: KeyClass, P: Pages<K>>(
     pages: &mut P,
     page: u32,
@@ -62,6 +73,9 @@ pub(crate) fn bring_page<K: KeyClass, P: Pages<K>>(
     ensures held { OnOk result (P.held pages.new page × Used (tree_of (P.store pages.new)) page) }
     ensures stays { Stays (P.steady pages.old) (P.store pages.old) (P.store pages.new) }
     ensures steady { P.steady pages.old → P.steady pages.new }
+    ensures since { KeepsSince P.since pages.old pages.new }
+    ensures why { IfErr result (IsWhy (P.why pages.old pages.new)) }
+    ensures later { OnOk result (IsWhyLater P.why pages.old pages.new) }
     ensures damaged { result ≡ Err StepFault.Damaged → ¬ Used (tree_of (P.store pages.new)) page }
     ensures memory { result ≢ Err StepFault.Memory }
     ensures full { result ≢ Err StepFault.PagesFull }

@@ -1,7 +1,8 @@
 //! The way to a pair that is there.
-ghost use Rattle.std.specs.Prelude.{◌≡◌, ◌≢◌, ◌≤◌, length, map, Err, IfOk, OnOk};
+ghost use Rattle.std.specs.Prelude.{◌≡◌, ◌≢◌, ◌≤◌, length, map, Err, IfOk, IfErr, OnOk};
 ghost use Rattle.gx_node.specs.Hits.{IsNextHit};
 ghost use Rattle.gx_tree_laws.specs.Trees.{Used};
+ghost use Rattle.gx_tree.specs.Owner.{KeepsSince, IsWhy, IsWhyLater};
 ghost use Rattle.gx_tree.specs.Seeking.{Seeks};
 ghost use Rattle.gx_tree.specs.Store.{tree_of, Stays};
 ghost use Rattle.gx_tree.specs.Wants.{wants};
@@ -42,7 +43,7 @@ fn next_wanted<K: Probing>(leaf: &Leaf<K>, wanted: &Wanted<K>, from: usize) -> O
 /// Looks for a pair in the leaf on a page, by `Wanted::entry`. A pair that was found in a leaf is there or further to the
 /// right, since splits move pairs to the right only (Lehman, Yao 1981); where it isn't in this leaf, the next one is told.
 ///
-/// Refused with `Pages` where the page could not be brought, and with `Damaged` exactly where it isn't a leaf that is
+/// Refused with `Pages` where the page could not be brought, and with `Damaged` only where it isn't a leaf that is
 /// taken.
 pub fn seek_step<K: Probing, P: Pages<K>>(
     pages: &mut P,
@@ -52,6 +53,9 @@ pub fn seek_step<K: Probing, P: Pages<K>>(
     ensures held { OnOk result (P.held pages.new page × Used (tree_of (P.store pages.new)) page) }
     ensures stays { Stays (P.steady pages.old) (P.store pages.old) (P.store pages.new) }
     ensures steady { P.steady pages.old → P.steady pages.new }
+    ensures since { KeepsSince P.since pages.old pages.new }
+    ensures why { IfErr result (IsWhy (P.why pages.old pages.new)) }
+    ensures later { OnOk result (IsWhyLater P.why pages.old pages.new) }
     ensures sought { IfOk result (Seeks (wants K.passes wanted.now.keys wanted.now.row) ((tree_of (P.store pages.new)).node page)) }
     ensures damaged { result ≡ Err StepFault.Damaged → Used (tree_of (P.store pages.new)) page → ((tree_of (P.store pages.new)).node page).level ≢ 0 }
     ensures memory { result ≢ Err StepFault.Memory }

@@ -1,11 +1,12 @@
 //! The split of a node.
-ghost use Rattle.std.specs.Prelude.{◌≡◌, ◌≢◌, ◌<◌, ◌≤◌, ◌+◌, ◌^◌, ◌⊎◌, ℕ, suc, true, false, length, map, slice_index_or, ◌==◌, Err, IfOk, IfSome, IfNone, OnOk, OnErr};
+ghost use Rattle.std.specs.Prelude.{◌≡◌, ◌≢◌, ◌<◌, ◌≤◌, ◌+◌, ◌^◌, ◌⊎◌, ℕ, suc, true, false, length, map, slice_index_or, ◌==◌, Err, IfOk, IfErr, IfSome, IfNone, OnOk, OnErr};
 ghost use Rattle.gx_node.specs.Hits.{IsNextHit};
 ghost use Rattle.gx_node.specs.Reading.{format, is_node};
 ghost use Rattle.gx_node.specs.declared.items.TheConstants.{MAX_ENTRIES};
 ghost use Rattle.gx_tree_laws.specs.Legal.{Legal};
 ghost use Rattle.gx_tree_laws.specs.Trees.{Used, size, times, child_pages};
 ghost use Rattle.gx_tree.specs.Keyed.{rules_of};
+ghost use Rattle.gx_tree.specs.Owner.{KeepsSince, KeepsSinceBut, IsWhy, IsWhyLater};
 ghost use Rattle.gx_tree.specs.Splitting.{NamesOnce, CanSplit, DidSplit, HasNoPlace, Splits, parent_of};
 ghost use Rattle.gx_tree.specs.Store.{node_of, node_at, tree_of, Stays, with_node};
 
@@ -97,6 +98,9 @@ fn bring_both<K: KeyClass, P: Pages<K>>(
     ensures used { OnOk result (Used (tree_of (P.store pages.new)) page × Used (tree_of (P.store pages.new)) parent × (page ≢ parent)) }
     ensures stays { Stays (P.steady pages.old) (P.store pages.old) (P.store pages.new) }
     ensures steady { P.steady pages.old → P.steady pages.new }
+    ensures since { KeepsSince P.since pages.old pages.new }
+    ensures why { IfErr result (IsWhy (P.why pages.old pages.new)) }
+    ensures later { OnOk result (IsWhyLater P.why pages.old pages.new) }
     ensures damaged { result ≡ Err StepFault.Damaged → Used (tree_of (P.store pages.new)) page → Used (tree_of (P.store pages.new)) parent → page ≡ parent }
     ensures memory { result ≢ Err StepFault.Memory }
     ensures full { result ≢ Err StepFault.PagesFull }
@@ -128,6 +132,9 @@ fn plan_split<K: KeyClass, P: PagesMut<K>>(
     ensures some { IfOk result (λ plan. IfSome plan (λ p. CanSplit (rules_of K.Key.Shape most) K.sides_of (P.store pages.now) page parent p.0 p.1.sides p.1.left p.1.right)) }
     ensures none { IfOk result (λ plan. IfNone plan (HasNoPlace (rules_of K.Key.Shape most) (tree_of (P.store pages.now)) page parent)) }
     ensures full { result ≡ Err StepFault.PagesFull → (P.store pages.now).room ≤ length (P.store pages.now).nodes }
+    ensures why { IfErr result (IsWhy (λ _. ⊥)) }
+    ensures placed { result ≡ Err StepFault.PagesFull → ¬ HasNoPlace (rules_of K.Key.Shape most) (tree_of (P.store pages.now)) page parent }
+    ensures only_full { IfOk result (λ plan. IfSome plan (λ _. most ≤ size (node_at (P.store pages.now).nodes page))) }
     ensures damaged { result ≡ Err StepFault.Damaged → 0 < (node_at (P.store pages.now).nodes parent).level → (P.store pages.now).counter + 1 < 2 ^ 64
         → (size (node_at (P.store pages.now).nodes page) < most) ⊎ (MAX_ENTRIES < size (node_at (P.store pages.now).nodes page)) }
     ensures memory { result ≢ Err StepFault.Memory }
@@ -168,6 +175,7 @@ fn name_halves<K: KeyClass, P: PagesMut<K>>(
     ensures held { (q : ℕ) → P.held pages.old q → P.held pages.new q }
     ensures changing { (q : ℕ) → P.changing pages.old q → P.changing pages.new q }
     ensures steady { P.steady pages.old → P.steady pages.new }
+    ensures since { KeepsSinceBut P.since parent pages.old pages.new }
 {
     pages.change(parent, bound);
     pages.change(parent, sibling);
@@ -190,6 +198,10 @@ fn make_split<K: KeyClass, P: PagesMut<K>>(
     requires can { CanSplit (rules_of K.Key.Shape _most) K.sides_of (P.store pages.old) page parent slot halves.now.sides halves.now.left halves.now.right }
     ensures split { DidSplit (rules_of K.Key.Shape _most) K.sides_of (P.store pages.old) (P.store pages.new) page parent result }
     ensures steady { P.steady pages.old → P.steady pages.new }
+    ensures since { (was : P) (q : ℕ) → q ≢ page → q ≢ parent → q ≢ suc (length (P.store pages.old).nodes) → P.since was pages.old q → P.since was pages.new q }
+    ensures held { P.held pages.new page × P.held pages.new parent × P.held pages.new result.sibling }
+    ensures changing { P.changing pages.new page × P.changing pages.new parent × P.changing pages.new result.sibling }
+    ensures sibling { result.sibling ≡ suc (length (P.store pages.old).nodes) }
 {
     let sides = halves.sides();
     let (left, right) = (halves.left(), halves.right());
@@ -223,9 +235,10 @@ fn make_split<K: KeyClass, P: PagesMut<K>>(
 /// node's entry gets the union of the keys that stay, and the sibling's entry is put behind the last. `None` where the parent
 /// doesn't name the page, names it twice, or is full: the descent begins again at the root.
 ///
-/// Refused with `PagesFull` exactly where no page is left; with `Pages` where a page could not be brought, or what the changes
+/// Refused with `PagesFull` only where no page is left; with `Pages` where a page could not be brought, or what the changes
 /// need could not be had; and with `Damaged` where the two aren't a full node and an inner node above it, or the counter is at
 /// its end. Nothing has changed then. The node's keys are written over the first of `keys`.
+#[tactic(auto, using(crate::proofs::Owner::why_any))]
 pub fn split_step<K: KeyClass, P: PagesMut<K>>(
     pages: &mut P,
     page: u32,
@@ -236,6 +249,16 @@ pub fn split_step<K: KeyClass, P: PagesMut<K>>(
     requires most { (4 ≤ most) × (most ≤ MAX_ENTRIES) }
     requires space { MAX_ENTRIES ≤ length keys.old }
     ensures steady { P.steady pages.old → P.steady pages.new }
+    ensures since { (was : P) (q : ℕ) → q ≢ page → q ≢ parent → q ≢ suc (length (P.store pages.old).nodes) → P.since was pages.old q → P.since was pages.new q }
+    ensures kept { OnErr result (KeepsSince P.since pages.old pages.new) }
+    ensures none { IfOk result (λ did. IfNone did (KeepsSince P.since pages.old pages.new)) }
+    ensures why { IfErr result (IsWhy (P.why pages.old pages.new)) }
+    ensures held { IfOk result (λ did. IfSome did (λ split. P.held pages.new page × P.held pages.new parent × P.held pages.new split.sibling)) }
+    ensures changing { IfOk result (λ did. IfSome did (λ split. P.changing pages.new page × P.changing pages.new parent × P.changing pages.new split.sibling)) }
+    ensures sibling { IfOk result (λ did. IfSome did (λ split. split.sibling ≡ suc (length (P.store pages.old).nodes))) }
+    ensures apart { IfOk result (λ did. IfSome did (λ split. (page ≢ parent) × (split.sibling ≢ page) × (split.sibling ≢ parent))) }
+    ensures only_full { P.steady pages.old → IfOk result (λ did. IfSome did (λ _. most ≤ size (node_at (P.store pages.old).nodes page))) }
+    ensures placed { P.steady pages.old → result ≡ Err StepFault.PagesFull → ¬ HasNoPlace (rules_of K.Key.Shape most) (tree_of (P.store pages.old)) page parent }
     ensures split { P.steady pages.old → IfOk result (Splits (rules_of K.Key.Shape most) K.sides_of (P.store pages.old) (P.store pages.new) page parent) }
     ensures refused { P.steady pages.old → OnErr result (P.store pages.new ≡ P.store pages.old) }
     ensures full { P.steady pages.old → result ≡ Err StepFault.PagesFull → (P.store pages.old).room ≤ length (P.store pages.old).nodes }

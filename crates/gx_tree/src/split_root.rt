@@ -1,9 +1,10 @@
 //! The split of the root.
-ghost use Rattle.std.specs.Prelude.{◌≡◌, ◌≢◌, ◌<◌, ◌≤◌, ◌+◌, ◌^◌, ◌⊎◌, length, Err, IfOk, OnErr};
+ghost use Rattle.std.specs.Prelude.{◌≡◌, ◌≢◌, ◌<◌, ◌≤◌, ◌+◌, ◌^◌, ◌⊎◌, ℕ, suc, length, Err, IfOk, IfErr, OnOk, OnErr};
 ghost use Rattle.gx_node.specs.declared.items.TheConstants.{MAX_ENTRIES};
 ghost use Rattle.gx_tree_laws.specs.Legal.{Legal};
 ghost use Rattle.gx_tree_laws.specs.Trees.{Used, size};
 ghost use Rattle.gx_tree.specs.Keyed.{rules_of};
+ghost use Rattle.gx_tree.specs.Owner.{KeepsSince, IsWhy};
 ghost use Rattle.gx_tree.specs.Splitting.{CanSplitRoot, DidSplitRoot};
 ghost use Rattle.gx_tree.specs.Store.{node_at, tree_of};
 
@@ -42,6 +43,8 @@ fn plan_root<K: KeyClass, P: PagesMut<K>>(
     requires space { MAX_ENTRIES ≤ length keys.old }
     requires held { P.held pages.now 1 }
     ensures some { IfOk result (λ h. CanSplitRoot (rules_of K.Key.Shape most) K.sides_of (P.store pages.now) h.sides h.left h.right) }
+    ensures why { IfErr result (IsWhy (λ _. ⊥)) }
+    ensures only_full { OnOk result (most ≤ size (node_at (P.store pages.now).nodes 1)) }
     ensures full { result ≡ Err StepFault.PagesFull → (P.store pages.now).room < length (P.store pages.now).nodes + 2 }
     ensures damaged { result ≡ Err StepFault.Damaged → 0 < (node_at (P.store pages.now).nodes 1).level → (node_at (P.store pages.now).nodes 1).level + 1 < 2 ^ 16
         → (size (node_at (P.store pages.now).nodes 1) < most) ⊎ (MAX_ENTRIES < size (node_at (P.store pages.now).nodes 1)) }
@@ -75,6 +78,10 @@ fn make_root_split<K: KeyClass, P: PagesMut<K>>(
     requires can { CanSplitRoot (rules_of K.Key.Shape _most) K.sides_of (P.store pages.old) halves.now.sides halves.now.left halves.now.right }
     ensures split { DidSplitRoot (rules_of K.Key.Shape _most) K.sides_of (P.store pages.old) (P.store pages.new) result }
     ensures steady { P.steady pages.old → P.steady pages.new }
+    ensures since { (was : P) (q : ℕ) → q ≢ 1 → q ≢ suc (length (P.store pages.old).nodes) → q ≢ suc (suc (length (P.store pages.old).nodes)) → P.since was pages.old q → P.since was pages.new q }
+    ensures held { P.held pages.new 1 × P.held pages.new result.first × P.held pages.new result.second }
+    ensures changing { P.changing pages.new 1 × P.changing pages.new result.first × P.changing pages.new result.second }
+    ensures places { (result.first ≡ suc (length (P.store pages.old).nodes)) × (result.second ≡ suc (suc (length (P.store pages.old).nodes))) }
 {
     let sides = halves.sides();
     let (left, right) = (halves.left(), halves.right());
@@ -116,9 +123,10 @@ fn make_root_split<K: KeyClass, P: PagesMut<K>>(
 /// first has the second as its rightlink; the root, a level higher, holds an entry for each. So the root stays on page 1,
 /// and the counter of splits is as it was: nobody goes on from the root to the right.
 ///
-/// Refused with `PagesFull` exactly where fewer than two pages are left; with `Pages` where the root could not be brought, or
+/// Refused with `PagesFull` only where fewer than two pages are left; with `Pages` where the root could not be brought, or
 /// what the changes need could not be had; and with `Damaged` where page 1 isn't a full inner node, or has the level 65535.
 /// Nothing has changed then. The root's keys are written over the first of `keys`.
+#[tactic(auto, using(crate::proofs::Owner::why_any))]
 pub fn split_root_step<K: KeyClass, P: PagesMut<K>>(
     pages: &mut P,
     most: usize,
@@ -127,6 +135,13 @@ pub fn split_root_step<K: KeyClass, P: PagesMut<K>>(
     requires most { (4 ≤ most) × (most ≤ MAX_ENTRIES) }
     requires space { MAX_ENTRIES ≤ length keys.old }
     ensures steady { P.steady pages.old → P.steady pages.new }
+    ensures since { (was : P) (q : ℕ) → q ≢ 1 → q ≢ suc (length (P.store pages.old).nodes) → q ≢ suc (suc (length (P.store pages.old).nodes)) → P.since was pages.old q → P.since was pages.new q }
+    ensures kept { OnErr result (KeepsSince P.since pages.old pages.new) }
+    ensures why { IfErr result (IsWhy (P.why pages.old pages.new)) }
+    ensures held { IfOk result (λ did. P.held pages.new 1 × P.held pages.new did.first × P.held pages.new did.second) }
+    ensures changing { IfOk result (λ did. P.changing pages.new 1 × P.changing pages.new did.first × P.changing pages.new did.second) }
+    ensures places { IfOk result (λ did. (did.first ≡ suc (length (P.store pages.old).nodes)) × (did.second ≡ suc (suc (length (P.store pages.old).nodes)))) }
+    ensures only_full { P.steady pages.old → OnOk result (most ≤ size (node_at (P.store pages.old).nodes 1)) }
     ensures split { P.steady pages.old → IfOk result (DidSplitRoot (rules_of K.Key.Shape most) K.sides_of (P.store pages.old) (P.store pages.new)) }
     ensures refused { P.steady pages.old → OnErr result (P.store pages.new ≡ P.store pages.old) }
     ensures full { P.steady pages.old → result ≡ Err StepFault.PagesFull → (P.store pages.old).room < length (P.store pages.old).nodes + 2 }

@@ -1,11 +1,12 @@
 //! A whole search by the steps of a look.
-ghost use Rattle.std.specs.Prelude.{◌≡◌, ◌≢◌, ◌≤◌, ℕ, Bool, not, ◌&&◌, true, Err, IfOk};
+ghost use Rattle.std.specs.Prelude.{◌≡◌, ◌≢◌, ◌≤◌, ℕ, Bool, not, ◌&&◌, true, Err, IfOk, IfErr};
 ghost use Rattle.gx_machine.specs.Keys.{keys_of, key_matches};
 ghost use Rattle.gx_tree_laws.specs.Lists.{how_many};
 ghost use Rattle.gx_tree_laws.specs.Trees.{Pair, standing};
 ghost use Rattle.gx_tree_laws.specs.Legal.{Legal};
 ghost use Rattle.gx_tree.specs.Found.{pairs_found};
 ghost use Rattle.gx_tree.specs.Keyed.{rules_of, AreKeys};
+ghost use Rattle.gx_tree.specs.Owner.{KeepsSince, IsWhy};
 ghost use Rattle.gx_tree.specs.Store.{tree_of, Stays};
 
 use crate::fault::StepFault;
@@ -37,6 +38,8 @@ where
         ≡ standing (λ x. (not x.marked && key_matches (keys_of K.Key.Shape) query.now x.key) && test x) (tree_of (P.store pages.old))) }
     ensures same { P.store pages.new ≡ P.store pages.old }
     ensures steady { P.steady pages.new }
+    ensures since { KeepsSince P.since pages.old pages.new }
+    ensures why { IfErr result (IsWhy (P.why pages.old pages.new)) }
     ensures damaged { result ≢ Err StepFault.Damaged }
     ensures full { result ≢ Err StepFault.PagesFull }
 {

@@ -25,6 +25,8 @@ pages-init g c =
     record {
       same = refl;
       steady = c.requires.steady;
+      goes_on = λ was q h. h;
+      later = λ later fault h. h;
       look = subst (λ is. IsLook t w is (pairs_found c.in-Ok.look.found.items)) (sym stack)
           (subst (λ fs. IsLook t w (from_root t ∷ []) (pairs_found fs)) (sym c.in-Ok.ensures.1) (look_begins r t c.requires.most.2 w));
     }
@@ -61,6 +63,8 @@ pages-preserved g c =
     record {
       same = same;
       steady = done.steady inv.steady;
+      goes_on = λ was q h. done.since was q (inv.goes_on was q h);
+      later = λ later fault h. inv.later later fault (done.later later fault h);
       look = goes_on r t c.requires.most.2 w leads law lead c.pages.look.stack.items c.look_step.new.look.stack.items c.pages.look.found.items c.look_step.new.look.found.items some inv.look step;
     }
 

@@ -2,6 +2,7 @@ use Rattle.std.proofs.Common.{◌≡◌}
 use Rattle.gx_tree_laws.specs.Looks.{IsLook}
 use Rattle.gx_tree_laws.specs.Reach.{pages_ahead}
 use Rattle.gx_tree.specs.Found.{pairs_found}
+use Rattle.gx_tree.specs.Owner.{KeepsSince, IsWhyLater}
 use Rattle.gx_tree.specs.Store.{tree_of}
 use Rattle.gx_tree.specs.Wants.{wants}
 use Rattle.gx_tree.proofs.whole.search.Given as goal
@@ -10,6 +11,8 @@ abbrev pub invariant-pages : goal.invariant-pages
 invariant-pages g l = record {
   same : g.P.Pages.store l.pages ≡ g.P.Pages.store l.fn.pages;
   steady : g.P.Pages.steady l.pages;
+  goes_on : KeepsSince g.P.Pages.since l.fn.pages l.pages;
+  later : IsWhyLater g.P.Pages.why l.fn.pages l.pages;
   look : IsLook (tree_of (g.P.Pages.store l.fn.pages)) (wants g.K.Probing.passes l.wanted.keys l.wanted.row) l.look.stack.items (pairs_found l.look.found.items);
 }
 

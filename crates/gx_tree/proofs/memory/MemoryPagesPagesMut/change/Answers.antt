@@ -4,6 +4,7 @@ use Rattle.gx_page.specs.Contents.{Contents}
 use Rattle.gx_tree_laws.specs.Trees.{Node}
 use Rattle.gx_node.specs.Reading.{format, is_node}
 use Rattle.gx_tree.specs.Store.{Store, node_of, node_at, with_node}
+use Rattle.gx_tree.proofs.Changed.{set_elsewhere}
 use Rattle.gx_tree.proofs.Listed.{in_items, node_in, all_set, number_at, numbered_set}
 use Rattle.gx_tree.proofs.memory.MemoryPagesPagesMut.change.Goals as goal
 
@@ -77,3 +78,9 @@ returns-clause-others g c =
     ∙ node_in (node_of f) (set items k is) c.args.page was low (omega (arith, high, length-set items k is)) in
     ap (λ ns. record { nodes = ns; counter = c.self.inside.counter; room = c.self.inside.room }) (map-set (node_of f) items k is ∙ ap (λ n. set (map (node_of f) items) k n) new)
     ∙ ap (λ (s : Store g.row.K-Key.Denot). with_node s c.args.page after) c.self.view_is
+
+pub returns-clause-since : goal.returns-clause-since
+returns-clause-since g c = λ was q other before.
+    ap (λ (s : Store g.row.K-Key.Denot). node_at s.nodes q) (returns-clause-others g c)
+    ∙ set_elsewhere c.args.self.now.nodes c.args.page q _ c.requires.held.0 other
+    ∙ before
