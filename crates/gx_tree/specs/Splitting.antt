@@ -79,6 +79,11 @@ abbrev pub Splits : {B : Type 0} → Rules B → (List B → ℕ → List Bool) 
 Splits r sides_of old new page parent None = (new ≡ old) × HasNoPlace r (tree_of old) page parent
 Splits r sides_of old new page parent (Some did) = DidSplit r sides_of old new page parent did
 
+-- whether a node was split below its parent
+abbrev pub has_split : {B : Type 0} → Option (Split B) → Bool
+has_split None = false
+has_split (Some did) = true
+
 -- a split of the root that can be made
 pub record CanSplitRoot {B : Type 0} (r : Rules B) (sides_of : List B → ℕ → List Bool) (s : Store B) (sides : List Bool) (left right : B) : Type 0 where
   pub inner : 0 < (node_at s.nodes 1).level

@@ -1,10 +1,10 @@
 //! The way down to the leaf for a coming pair.
-ghost use Rattle.std.specs.Prelude.{◌≡◌, ◌≢◌, ◌≤◌, ◌<◌, length, true, false, Err, IfSome, IfNone, IfOk, IfErr, OnOk, OnErr, ℕ};
+ghost use Rattle.std.specs.Prelude.{◌≡◌, ◌≢◌, ◌≤◌, ◌<◌, length, true, false, Err, IfSome, IfNone, IfOk, IfErr, OnOk, OnErr, ℕ, [], ◌∷◌};
 ghost use Rattle.std.specs.Bool.{OnTrue, OnFalse};
 ghost use Rattle.gx_node.specs.Reading.{format, is_node};
 ghost use Rattle.gx_tree_laws.specs.Trees.{Used};
 ghost use Rattle.gx_tree.specs.Descending.{Descends, StepsDown, is_widened, next_of};
-ghost use Rattle.gx_tree.specs.Owner.{KeepsSince, KeepsSinceBut, IsWhy, IsWhyLater};
+ghost use Rattle.gx_tree.specs.Owner.{KeepsSince, KeepsSinceBut, IsWhy, IsWhyLater, Brings, AsksAtMost, AsksToWrite, Asks, to_write};
 ghost use Rattle.gx_tree.specs.Store.{node_of, tree_of, Stays};
 
 use crate::edits::SetBound;
@@ -136,6 +136,8 @@ pub fn way_step<K: KeyClass, P: Pages<K>>(
     ensures stays { Stays (P.steady pages.old) (P.store pages.old) (P.store pages.new) }
     ensures steady { P.steady pages.old → P.steady pages.new }
     ensures since { KeepsSince P.since pages.old pages.new }
+    ensures asked { OnOk result (Asks P.asked (Brings (item.now.page ∷ []) ∷ []) pages.old pages.new) }
+    ensures tried { OnErr result (AsksAtMost P.asked (item.now.page ∷ []) pages.old pages.new) }
     ensures why { IfErr result (IsWhy (P.why pages.old pages.new)) }
     ensures later { OnOk result (IsWhyLater P.why pages.old pages.new) }
     ensures way { IfOk result (Descends K.cost K.joined most ((tree_of (P.store pages.new)).node item.now.page) item.now.seen coming.now) }
@@ -168,6 +170,8 @@ pub fn descend_step<K: KeyClass, P: PagesMut<K>>(
     ensures steady { P.steady pages.old → P.steady pages.new }
     ensures since { KeepsSinceBut P.since item.now.page pages.old pages.new }
     ensures kept { OnErr result (KeepsSince P.since pages.old pages.new) }
+    ensures asked { IfOk result (λ did. Asks P.asked (to_write (is_widened did) (item.now.page ∷ []) 0) pages.old pages.new) }
+    ensures tried { OnErr result (AsksToWrite P.asked (item.now.page ∷ []) 0 pages.old pages.new) }
     ensures read { IfOk result (λ did. is_widened did ≡ false → KeepsSince P.since pages.old pages.new) }
     ensures why { IfErr result (IsWhy (P.why pages.old pages.new)) }
     ensures held { OnOk result (P.held pages.new item.now.page) }

@@ -1,12 +1,12 @@
 //! The steps that change one leaf.
-ghost use Rattle.std.specs.Prelude.{◌≡◌, ◌≢◌, ◌≤◌, ◌<◌, Bool, true, false, [], length, map, Some, slice_get, Err, OnOk, OnErr, IfOk, IfErr};
+ghost use Rattle.std.specs.Prelude.{◌≡◌, ◌≢◌, ◌≤◌, ◌<◌, Bool, true, false, [], length, map, Some, slice_get, Err, OnOk, OnErr, IfOk, IfErr, ◌∷◌};
 ghost use Rattle.std.specs.List.{list_any};
 ghost use Rattle.gx_machine.specs.declared.entry.Entry.{Entry};
 ghost use Rattle.gx_node.specs.Edits.{entry_of};
 ghost use Rattle.gx_node.specs.declared.items.TheConstants.{MAX_ENTRIES};
 ghost use Rattle.gx_tree_laws.specs.Trees.{Pair, Used};
 ghost use Rattle.gx_tree_laws.specs.Writes.{is_sweepable};
-ghost use Rattle.gx_tree.specs.Owner.{KeepsSince, KeepsSinceBut, IsWhy, IsWhyLater};
+ghost use Rattle.gx_tree.specs.Owner.{KeepsSince, KeepsSinceBut, IsWhy, IsWhyLater, Brings, Prepares, AsksAtMost, AsksToWrite, Asks, to_write};
 ghost use Rattle.gx_tree.specs.Seeking.{is_here};
 ghost use Rattle.gx_tree.specs.Store.{tree_of};
 ghost use Rattle.gx_tree.specs.Wants.{wants};
@@ -39,6 +39,8 @@ fn bring_leaf<K: KeyClass, P: PagesMut<K>>(
     ensures same { P.steady pages.old → P.store pages.new ≡ P.store pages.old }
     ensures steady { P.steady pages.old → P.steady pages.new }
     ensures since { KeepsSince P.since pages.old pages.new }
+    ensures asked { OnOk result (Asks P.asked (Brings (page ∷ []) ∷ []) pages.old pages.new) }
+    ensures tried { OnErr result (AsksAtMost P.asked (page ∷ []) pages.old pages.new) }
     ensures why { IfErr result (IsWhy (P.why pages.old pages.new)) }
     ensures later { OnOk result (IsWhyLater P.why pages.old pages.new) }
     ensures damaged { result ≡ Err StepFault.Damaged → Used (tree_of (P.store pages.new)) page → ((tree_of (P.store pages.new)).node page).level ≢ 0 }
@@ -65,6 +67,7 @@ fn prepare_page<K: KeyClass, P: PagesMut<K>>(
     ensures changing { OnOk result (P.changing pages.new page) }
     ensures steady { P.steady pages.old → P.steady pages.new }
     ensures since { KeepsSince P.since pages.old pages.new }
+    ensures asked { Asks P.asked (Prepares (page ∷ []) 0 ∷ []) pages.old pages.new }
     ensures why { IfErr result (IsWhy (P.why pages.old pages.new)) }
     ensures damaged { result ≢ Err StepFault.Damaged }
     ensures memory { result ≢ Err StepFault.Memory }
@@ -91,6 +94,8 @@ pub fn add_step<K: KeyClass, P: PagesMut<K>>(
     ensures steady { P.steady pages.old → P.steady pages.new }
     ensures since { KeepsSinceBut P.since page pages.old pages.new }
     ensures kept { OnErr result (KeepsSince P.since pages.old pages.new) }
+    ensures asked { OnOk result (Asks P.asked (to_write true (page ∷ []) 0) pages.old pages.new) }
+    ensures tried { OnErr result (AsksToWrite P.asked (page ∷ []) 0 pages.old pages.new) }
     ensures why { IfErr result (IsWhy (P.why pages.old pages.new)) }
     ensures held { OnOk result (P.held pages.new page × P.changing pages.new page) }
     ensures added { P.steady pages.old → OnOk result (Appends most (tree_of (P.store pages.old)) (tree_of (P.store pages.new)) page entry.now) }
@@ -122,6 +127,8 @@ pub fn set_mark_step<K: Probing, P: PagesMut<K>>(
     ensures steady { P.steady pages.old → P.steady pages.new }
     ensures since { KeepsSinceBut P.since page pages.old pages.new }
     ensures kept { OnErr result (KeepsSince P.since pages.old pages.new) }
+    ensures asked { IfOk result (λ sought. Asks P.asked (to_write (is_here sought) (page ∷ []) 0) pages.old pages.new) }
+    ensures tried { OnErr result (AsksToWrite P.asked (page ∷ []) 0 pages.old pages.new) }
     ensures passed { IfOk result (λ sought. is_here sought ≡ false → KeepsSince P.since pages.old pages.new) }
     ensures why { IfErr result (IsWhy (P.why pages.old pages.new)) }
     ensures held { OnOk result (P.held pages.new page) }
@@ -197,6 +204,8 @@ pub fn sweep_step<K: KeyClass, P: PagesMut<K>, F: Fn(Entry<K::Key>) -> bool>(
     ensures steady { P.steady pages.old → P.steady pages.new }
     ensures since { KeepsSinceBut P.since page pages.old pages.new }
     ensures kept { OnErr result (KeepsSince P.since pages.old pages.new) }
+    ensures asked { IfOk result (λ any. Asks P.asked (to_write any (page ∷ []) 0) pages.old pages.new) }
+    ensures tried { OnErr result (AsksToWrite P.asked (page ∷ []) 0 pages.old pages.new) }
     ensures spared { IfOk result (λ any. any ≡ false → KeepsSince P.since pages.old pages.new) }
     ensures why { IfErr result (IsWhy (P.why pages.old pages.new)) }
     ensures held { OnOk result (P.held pages.new page) }

@@ -120,6 +120,8 @@ impl<K: KeyClass> Pages<K> for MemoryPages<K> {
 
     ghost since = { λ was s q. node_at s.nodes q ≡ node_at was.nodes q };
 
+    ghost asked = { λ old new asked. Unit };
+
     ghost why = { λ old new fault. ⊥ };
 
     fn used(&self) -> u32 {
@@ -141,6 +143,8 @@ impl<K: KeyClass> Pages<K> for MemoryPages<K> {
     fn page(&self, page: u32) -> &Page {
         &self.pages[page as usize - 1]
     }
+
+    ghost asked_nothing = { λ a. tt };
 }
 
 impl<K: KeyClass> PagesMut<K> for MemoryPages<K> {

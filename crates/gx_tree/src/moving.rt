@@ -1,9 +1,9 @@
 //! Entries that move by sides, as a node is split.
-ghost use Rattle.std.specs.Prelude.{◌≡◌, ◌<◌, ◌≤◌, ℕ, suc, map, not, length};
+ghost use Rattle.std.specs.Prelude.{◌≡◌, ◌<◌, ◌≤◌, ℕ, suc, map, not, length, []};
 ghost use Rattle.gx_tree_laws.specs.Lists.{staying};
 ghost use Rattle.gx_tree_laws.specs.Trees.{size};
 ghost use Rattle.gx_tree_laws.specs.Steps.{node_with};
-ghost use Rattle.gx_tree.specs.Owner.{KeepsSinceBut};
+ghost use Rattle.gx_tree.specs.Owner.{KeepsSinceBut, Asks};
 ghost use Rattle.gx_tree.specs.Splitting.{left_of};
 ghost use Rattle.gx_tree.specs.Store.{node_at, with_node, with_page};
 
@@ -39,6 +39,7 @@ pub(crate) fn take_side<K: KeyClass, P: PagesMut<K>>(
     ensures ready { P.ready pages.old ≡ suc (P.ready pages.new) }
     ensures steady { P.steady pages.old → P.steady pages.new }
     ensures since { KeepsSinceBut P.since result pages.old pages.new }
+    ensures asked { Asks P.asked [] pages.old pages.new }
 {
     pages.take(from);
     let page = pages.used();
@@ -62,6 +63,7 @@ pub(crate) fn keep_side<K: KeyClass, P: PagesMut<K>>(
     ensures changing { (q : ℕ) → P.changing pages.old q → P.changing pages.new q }
     ensures steady { P.steady pages.old → P.steady pages.new }
     ensures since { KeepsSinceBut P.since page pages.old pages.new }
+    ensures asked { Asks P.asked [] pages.old pages.new }
 {
     pages.change(page, KeepSide { sides });
     pages.change(page, link);

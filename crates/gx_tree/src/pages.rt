@@ -1,9 +1,9 @@
 //! What the steps ask of whoever keeps the pages.
-ghost use Rattle.std.specs.Prelude.{◌≡◌, ◌≢◌, ◌≤◌, ℕ, true, length, Err, IfErr, OnOk};
+ghost use Rattle.std.specs.Prelude.{◌≡◌, ◌≢◌, ◌≤◌, ℕ, true, List, [], ◌∷◌, length, Err, IfErr, OnOk, OnErr};
 ghost use Rattle.gx_node.specs.Reading.{format, is_node};
 ghost use Rattle.gx_tree_laws.specs.Lists.{Each};
 ghost use Rattle.gx_tree_laws.specs.Trees.{Used};
-ghost use Rattle.gx_tree.specs.Owner.{KeepsSince, IsWhy, IsWhyLater};
+ghost use Rattle.gx_tree.specs.Owner.{Asking, Brings, AsksAtMost, KeepsSince, IsWhy, IsWhyLater, Asks};
 ghost use Rattle.gx_tree.specs.Store.{Store, Stays, node_of, node_at, tree_of};
 
 use crate::fault::StepFault;
@@ -29,6 +29,9 @@ pub trait Pages<K: KeyClass> {
     /// so whoever keeps pages learns here what a step leaves of all else.
     ghost since: { Self → Self → ℕ → Type 0 };
 
+    /// What was asked since a moment, the last first.
+    ghost asked: { Self → Self → List Asking → Type 0 };
+
     /// Why pages were refused between two moments.
     ghost why: { Self → Self → Self.Fault → Type 0 };
 
@@ -52,6 +55,7 @@ pub trait Pages<K: KeyClass> {
         ensures stays { Stays (steady self.old) (store self.old) (store self.new) }
         ensures steady { steady self.old → steady self.new }
         ensures since { KeepsSince since self.old self.new }
+        ensures asked { Asks asked (Brings pages.now ∷ []) self.old self.new }
         ensures why { IfErr result (why self.old self.new) }
         ensures later { OnOk result (IsWhyLater why self.old self.new) };
 
@@ -61,6 +65,9 @@ pub trait Pages<K: KeyClass> {
         ensures number { result.now.number ≡ page }
         ensures node { node_of (format K.KEY K.reading K.start_key) result.now ≡ node_at (store self.now).nodes page }
         ensures passes { is_node (format K.KEY K.reading K.start_key) (store self.now).room result.now ≡ true };
+
+    /// Between a moment and itself nothing was asked.
+    ghost asked_nothing: { (a : Self) → asked a a [] };
 }
 
 /// Brings one page, which a step names.
@@ -74,6 +81,8 @@ pub(crate) fn bring_page<K: KeyClass, P: Pages<K>>(
     ensures stays { Stays (P.steady pages.old) (P.store pages.old) (P.store pages.new) }
     ensures steady { P.steady pages.old → P.steady pages.new }
     ensures since { KeepsSince P.since pages.old pages.new }
+    ensures asked { OnOk result (Asks P.asked (Brings (page ∷ []) ∷ []) pages.old pages.new) }
+    ensures tried { OnErr result (AsksAtMost P.asked (page ∷ []) pages.old pages.new) }
     ensures why { IfErr result (IsWhy (P.why pages.old pages.new)) }
     ensures later { OnOk result (IsWhyLater P.why pages.old pages.new) }
     ensures damaged { result ≡ Err StepFault.Damaged → ¬ Used (tree_of (P.store pages.new)) page }

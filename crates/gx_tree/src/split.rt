@@ -1,13 +1,13 @@
 //! The split of a node.
-ghost use Rattle.std.specs.Prelude.{◌≡◌, ◌≢◌, ◌<◌, ◌≤◌, ◌+◌, ◌^◌, ◌⊎◌, ℕ, suc, true, false, length, map, slice_index_or, ◌==◌, Err, IfOk, IfErr, IfSome, IfNone, OnOk, OnErr};
+ghost use Rattle.std.specs.Prelude.{◌≡◌, ◌≢◌, ◌<◌, ◌≤◌, ◌+◌, ◌^◌, ◌⊎◌, ℕ, suc, true, false, length, map, slice_index_or, ◌==◌, Err, IfOk, IfErr, IfSome, IfNone, OnOk, OnErr, [], ◌∷◌};
 ghost use Rattle.gx_node.specs.Hits.{IsNextHit};
 ghost use Rattle.gx_node.specs.Reading.{format, is_node};
 ghost use Rattle.gx_node.specs.declared.items.TheConstants.{MAX_ENTRIES};
 ghost use Rattle.gx_tree_laws.specs.Legal.{Legal};
 ghost use Rattle.gx_tree_laws.specs.Trees.{Used, size, times, child_pages};
 ghost use Rattle.gx_tree.specs.Keyed.{rules_of};
-ghost use Rattle.gx_tree.specs.Owner.{KeepsSince, KeepsSinceBut, IsWhy, IsWhyLater};
-ghost use Rattle.gx_tree.specs.Splitting.{NamesOnce, CanSplit, DidSplit, HasNoPlace, Splits, parent_of};
+ghost use Rattle.gx_tree.specs.Owner.{KeepsSince, KeepsSinceBut, IsWhy, IsWhyLater, Brings, AsksAtMost, AsksToWrite, Asks, to_write};
+ghost use Rattle.gx_tree.specs.Splitting.{NamesOnce, CanSplit, DidSplit, HasNoPlace, Splits, parent_of, has_split};
 ghost use Rattle.gx_tree.specs.Store.{node_of, node_at, tree_of, Stays, with_node};
 
 use crate::edits::{AppendChild, Link, SetBound};
@@ -99,6 +99,8 @@ fn bring_both<K: KeyClass, P: Pages<K>>(
     ensures stays { Stays (P.steady pages.old) (P.store pages.old) (P.store pages.new) }
     ensures steady { P.steady pages.old → P.steady pages.new }
     ensures since { KeepsSince P.since pages.old pages.new }
+    ensures asked { OnOk result (Asks P.asked (Brings (page ∷ parent ∷ []) ∷ []) pages.old pages.new) }
+    ensures tried { OnErr result (AsksAtMost P.asked (page ∷ parent ∷ []) pages.old pages.new) }
     ensures why { IfErr result (IsWhy (P.why pages.old pages.new)) }
     ensures later { OnOk result (IsWhyLater P.why pages.old pages.new) }
     ensures damaged { result ≡ Err StepFault.Damaged → Used (tree_of (P.store pages.new)) page → Used (tree_of (P.store pages.new)) parent → page ≡ parent }
@@ -176,6 +178,7 @@ fn name_halves<K: KeyClass, P: PagesMut<K>>(
     ensures changing { (q : ℕ) → P.changing pages.old q → P.changing pages.new q }
     ensures steady { P.steady pages.old → P.steady pages.new }
     ensures since { KeepsSinceBut P.since parent pages.old pages.new }
+    ensures asked { Asks P.asked [] pages.old pages.new }
 {
     pages.change(parent, bound);
     pages.change(parent, sibling);
@@ -202,6 +205,7 @@ fn make_split<K: KeyClass, P: PagesMut<K>>(
     ensures held { P.held pages.new page × P.held pages.new parent × P.held pages.new result.sibling }
     ensures changing { P.changing pages.new page × P.changing pages.new parent × P.changing pages.new result.sibling }
     ensures sibling { result.sibling ≡ suc (length (P.store pages.old).nodes) }
+    ensures asked { Asks P.asked [] pages.old pages.new }
 {
     let sides = halves.sides();
     let (left, right) = (halves.left(), halves.right());
@@ -251,6 +255,8 @@ pub fn split_step<K: KeyClass, P: PagesMut<K>>(
     ensures steady { P.steady pages.old → P.steady pages.new }
     ensures since { (was : P) (q : ℕ) → q ≢ page → q ≢ parent → q ≢ suc (length (P.store pages.old).nodes) → P.since was pages.old q → P.since was pages.new q }
     ensures kept { OnErr result (KeepsSince P.since pages.old pages.new) }
+    ensures asked { IfOk result (λ did. Asks P.asked (to_write (has_split did) (page ∷ parent ∷ []) 1) pages.old pages.new) }
+    ensures tried { OnErr result (AsksToWrite P.asked (page ∷ parent ∷ []) 1 pages.old pages.new) }
     ensures none { IfOk result (λ did. IfNone did (KeepsSince P.since pages.old pages.new)) }
     ensures why { IfErr result (IsWhy (P.why pages.old pages.new)) }
     ensures held { IfOk result (λ did. IfSome did (λ split. P.held pages.new page × P.held pages.new parent × P.held pages.new split.sibling)) }

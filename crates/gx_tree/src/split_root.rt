@@ -1,10 +1,10 @@
 //! The split of the root.
-ghost use Rattle.std.specs.Prelude.{◌≡◌, ◌≢◌, ◌<◌, ◌≤◌, ◌+◌, ◌^◌, ◌⊎◌, ℕ, suc, length, Err, IfOk, IfErr, OnOk, OnErr};
+ghost use Rattle.std.specs.Prelude.{◌≡◌, ◌≢◌, ◌<◌, ◌≤◌, ◌+◌, ◌^◌, ◌⊎◌, ℕ, suc, length, Err, IfOk, IfErr, OnOk, OnErr, [], ◌∷◌};
 ghost use Rattle.gx_node.specs.declared.items.TheConstants.{MAX_ENTRIES};
 ghost use Rattle.gx_tree_laws.specs.Legal.{Legal};
 ghost use Rattle.gx_tree_laws.specs.Trees.{Used, size};
 ghost use Rattle.gx_tree.specs.Keyed.{rules_of};
-ghost use Rattle.gx_tree.specs.Owner.{KeepsSince, IsWhy};
+ghost use Rattle.gx_tree.specs.Owner.{KeepsSince, IsWhy, AsksToWrite, Asks, to_write};
 ghost use Rattle.gx_tree.specs.Splitting.{CanSplitRoot, DidSplitRoot};
 ghost use Rattle.gx_tree.specs.Store.{node_at, tree_of};
 
@@ -81,6 +81,7 @@ fn make_root_split<K: KeyClass, P: PagesMut<K>>(
     ensures since { (was : P) (q : ℕ) → q ≢ 1 → q ≢ suc (length (P.store pages.old).nodes) → q ≢ suc (suc (length (P.store pages.old).nodes)) → P.since was pages.old q → P.since was pages.new q }
     ensures held { P.held pages.new 1 × P.held pages.new result.first × P.held pages.new result.second }
     ensures changing { P.changing pages.new 1 × P.changing pages.new result.first × P.changing pages.new result.second }
+    ensures asked { Asks P.asked [] pages.old pages.new }
     ensures places { (result.first ≡ suc (length (P.store pages.old).nodes)) × (result.second ≡ suc (suc (length (P.store pages.old).nodes))) }
 {
     let sides = halves.sides();
@@ -137,6 +138,8 @@ pub fn split_root_step<K: KeyClass, P: PagesMut<K>>(
     ensures steady { P.steady pages.old → P.steady pages.new }
     ensures since { (was : P) (q : ℕ) → q ≢ 1 → q ≢ suc (length (P.store pages.old).nodes) → q ≢ suc (suc (length (P.store pages.old).nodes)) → P.since was pages.old q → P.since was pages.new q }
     ensures kept { OnErr result (KeepsSince P.since pages.old pages.new) }
+    ensures asked { OnOk result (Asks P.asked (to_write true (1 ∷ []) 2) pages.old pages.new) }
+    ensures tried { OnErr result (AsksToWrite P.asked (1 ∷ []) 2 pages.old pages.new) }
     ensures why { IfErr result (IsWhy (P.why pages.old pages.new)) }
     ensures held { IfOk result (λ did. P.held pages.new 1 × P.held pages.new did.first × P.held pages.new did.second) }
     ensures changing { IfOk result (λ did. P.changing pages.new 1 × P.changing pages.new did.first × P.changing pages.new did.second) }

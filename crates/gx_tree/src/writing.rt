@@ -1,9 +1,9 @@
 //! What the steps that write ask of whoever keeps the pages.
-ghost use Rattle.std.specs.Prelude.{◌≡◌, ◌≤◌, ◌<◌, ◌+◌, ◌-◌, ◌^◌, suc, ℕ, true, length, IfErr, OnOk};
+ghost use Rattle.std.specs.Prelude.{◌≡◌, ◌≤◌, ◌<◌, ◌+◌, ◌-◌, ◌^◌, suc, ℕ, true, [], ◌∷◌, length, IfErr, OnOk};
 ghost use Rattle.gx_node.specs.Reading.{format, is_node};
 ghost use Rattle.gx_tree_laws.specs.Lists.{Each};
 ghost use Rattle.gx_tree_laws.specs.Trees.{Node};
-ghost use Rattle.gx_tree.specs.Owner.{KeepsSince, KeepsSinceBut};
+ghost use Rattle.gx_tree.specs.Owner.{Prepares, KeepsSince, KeepsSinceBut, Asks};
 ghost use Rattle.gx_tree.specs.Store.{node_of, node_at, with_node, with_page, with_split};
 
 use crate::pages::Pages;
@@ -46,6 +46,7 @@ pub trait PagesMut<K: KeyClass>: Pages<K> {
         ensures held { (q : ℕ) → Self.held self.old q → Self.held self.new q }
         ensures steady { Self.steady self.old → Self.steady self.new }
         ensures since { KeepsSince Self.since self.old self.new }
+        ensures asked { Asks Self.asked (Prepares changes.now taken ∷ []) self.old self.new }
         ensures why { IfErr result (Self.why self.old self.new) };
 
     /// Changes a page that is held and made ready, and no other.
@@ -59,7 +60,8 @@ pub trait PagesMut<K: KeyClass>: Pages<K> {
         ensures changing { (q : ℕ) → changing self.old q → changing self.new q }
         ensures ready { ready self.new ≡ ready self.old }
         ensures steady { Self.steady self.old → Self.steady self.new }
-        ensures since { KeepsSinceBut Self.since page self.old self.new };
+        ensures since { KeepsSinceBut Self.since page self.old self.new }
+        ensures asked { Asks Self.asked [] self.old self.new };
 
     /// Takes the next page: a copy of one that is held, but for the page's own number. It is held and may be changed.
     fn take(&mut self, from: u32)
@@ -71,7 +73,8 @@ pub trait PagesMut<K: KeyClass>: Pages<K> {
         ensures changing { (q : ℕ) → changing self.old q → changing self.new q }
         ensures ready { ready self.old ≡ suc (ready self.new) }
         ensures steady { Self.steady self.old → Self.steady self.new }
-        ensures since { KeepsSinceBut Self.since (suc (length (Self.store self.old).nodes)) self.old self.new };
+        ensures since { KeepsSinceBut Self.since (suc (length (Self.store self.old).nodes)) self.old self.new }
+        ensures asked { Asks Self.asked [] self.old self.new };
 
     /// Counts a split of a node other than the root.
     fn count_split(&mut self)
@@ -81,5 +84,6 @@ pub trait PagesMut<K: KeyClass>: Pages<K> {
         ensures changing { (q : ℕ) → changing self.old q → changing self.new q }
         ensures ready { ready self.new ≡ ready self.old }
         ensures steady { Self.steady self.old → Self.steady self.new }
-        ensures since { KeepsSince Self.since self.old self.new };
+        ensures since { KeepsSince Self.since self.old self.new }
+        ensures asked { Asks Self.asked [] self.old self.new };
 }
