@@ -42,19 +42,15 @@ impl Left {
     }
 }
 
-/// Which call fails, and whether it is made none the less where it is a write.
-#[derive(Clone, Copy)]
-struct Failing {
-    call: u64,
-    done: bool,
-}
-
 /// So many calls, of which one may fail, and then a crash.
 #[derive(Clone, Copy)]
 struct Case {
     work: Work,
-    failing: Option<Failing>,
     calls: u64,
+    /// Which call fails, if it is one of these.
+    fault: u64,
+    /// Whether that call is made none the less where it is a write.
+    done: bool,
     left: Left,
 }
 
@@ -73,19 +69,11 @@ impl Case {
         Ok(())
     }
 
-    /// Whether the call of this number is to fail.
-    fn fails_at(self, call: u64) -> bool {
-        match self.failing {
-            Some(failing) => failing.call == call,
-            None => false,
-        }
-    }
-
     /// Makes the calls, each of which is made or fails as it is to.
     fn make_all(self, logged: &mut Logged) -> Result<(), RunFault> {
         let Logged { disk, log } = logged;
         for call in 0..self.calls {
-            if make(self.work, log, disk)? == self.fails_at(call) {
+            if make(self.work, log, disk)? == (call == self.fault) {
                 return Err(RunFault::Unexpected);
             }
         }
@@ -95,15 +83,7 @@ impl Case {
     /// The log that is read back after the crash.
     fn run(self, alloc: Global, logged: &mut Logged) -> Result<Seen, RunFault> {
         self.prepare(logged)?;
-        if let Some(failing) = self.failing {
-            set_fuse(
-                &mut logged.disk,
-                alloc,
-                failing.call,
-                Fuse::Once,
-                failing.done,
-            );
-        }
+        set_fuse(&mut logged.disk, alloc, self.fault, Fuse::Once, self.done);
         self.make_all(logged)?;
         self.left.crash(&mut logged.disk, alloc);
         log_of(alloc, &mut logged.disk)
@@ -115,20 +95,9 @@ impl Case {
         self.run(alloc, &mut logged)
     }
 
-    /// Prints a line of the case and of the log that it leaves.
+    /// Prints what the crash leaves, and the log after it.
     fn say<R: Print>(self, rt: &R, alloc: Global) -> Result<(), RunFault> {
-        let calls = self.calls;
         let left = self.left.name();
-        print!(rt; "  {calls} calls,")?;
-        if let Some(failing) = self.failing {
-            let call = failing.call;
-            let done = if failing.done {
-                "and is done"
-            } else {
-                "and isn't done"
-            };
-            print!(rt; " call {call} fails {done},")?;
-        }
         print!(rt; " {left} sectors:")?;
         say_seen(rt, self.seen(alloc)?)
     }
@@ -140,38 +109,56 @@ fn crashes<R: Print>(rt: &R, alloc: Global, work: Work) -> Result<(), RunFault> 
         for left in ALL {
             let case = Case {
                 work,
-                failing: None,
                 calls,
+                fault: u64::MAX,
+                done: false,
                 left,
             };
+            print!(rt; "  {calls} calls,")?;
             case.say(rt, alloc)?;
         }
     }
     Ok(())
 }
 
+/// Prints a case in which a call fails, and the log after it.
+fn say_fault<R: Print>(rt: &R, alloc: Global, case: Case) -> Result<(), RunFault> {
+    let calls = case.calls;
+    let fault = case.fault;
+    let done = if case.done { "is" } else { "isn't" };
+    print!(rt; "  {calls} calls, call {fault} fails and {done} done,")?;
+    case.say(rt, alloc)
+}
+
 /// A fault at a call: a crash behind it, and a crash once all was made.
-fn fails<R: Print>(rt: &R, alloc: Global, work: Work, failing: Failing) -> Result<(), RunFault> {
+fn fails<R: Print>(
+    rt: &R,
+    alloc: Global,
+    work: Work,
+    fault: u64,
+    done: bool,
+) -> Result<(), RunFault> {
     let mut case = Case {
         work,
-        failing: Some(failing),
-        calls: failing.call.saturating_add(1),
+        calls: fault.saturating_add(1),
+        fault,
+        done,
         left: Left::Old,
     };
     for left in ALL {
         case.left = left;
-        case.say(rt, alloc)?;
+        say_fault(rt, alloc, case)?;
     }
     case.left = Left::Old;
     case.calls = work.calls().saturating_add(1);
-    case.say(rt, alloc)
+    say_fault(rt, alloc, case)
 }
 
 /// A fault at each call, done or not.
 fn faults<R: Print>(rt: &R, alloc: Global, work: Work) -> Result<(), RunFault> {
-    for call in 0..work.calls() {
+    for fault in 0..work.calls() {
         for done in [false, true] {
-            fails(rt, alloc, work, Failing { call, done })?;
+            fails(rt, alloc, work, fault, done)?;
         }
     }
     Ok(())

@@ -4,7 +4,6 @@ use crate::fault::RunFault;
 use crate::sectors::{told, write};
 use crate::words::{number, say, word};
 use gx_disk::{DiskFault, FileDisk, SectorDisk};
-use std::fs::{File, Files};
 use std::str::SplitWhitespace;
 
 /// The file.
@@ -27,7 +26,7 @@ fn say_file<R: Print>(rt: &R, disk: Result<FileDisk, DiskFault>) -> Result<(), R
 }
 
 /// Writes and syncs sector 2 of a file that is created with four sectors, and answers why it can't be opened besides.
-fn write_file<R: Files<File = File>>(rt: &R) -> Result<Option<DiskFault>, DiskFault> {
+fn write_file(rt: &HostRuntime) -> Result<Option<DiskFault>, DiskFault> {
     let mut disk = FileDisk::create(rt, FILE, 4)?;
     write(&mut disk, 2, &[0xc3; 512])?;
     disk.sync()?;
@@ -35,10 +34,7 @@ fn write_file<R: Files<File = File>>(rt: &R) -> Result<Option<DiskFault>, DiskFa
 }
 
 /// A line about the file.
-pub(crate) fn call<R: Files<File = File> + Print>(
-    rt: &R,
-    mut words: SplitWhitespace<'_>,
-) -> Result<(), RunFault> {
+pub(crate) fn call(rt: &HostRuntime, mut words: SplitWhitespace<'_>) -> Result<(), RunFault> {
     match word(&mut words)? {
         "write" => match write_file(rt) {
             Ok(Some(besides)) => say(rt, told(Err(besides))),

@@ -23,7 +23,6 @@ use logs::Logged;
 use pools::Leaves;
 use records::ROOM;
 use std::alloc::Global;
-use std::fs::{File, Files};
 use std::process::ExitCode;
 use words::word;
 
@@ -48,11 +47,7 @@ impl Bench {
 }
 
 /// Takes a line about the device or the log. False where it is about something else.
-fn on_log<R: AllocGlobal + Print>(
-    rt: &R,
-    logged: &mut Logged,
-    line: &str,
-) -> Result<bool, RunFault> {
+fn on_log(rt: &HostRuntime, logged: &mut Logged, line: &str) -> Result<bool, RunFault> {
     let mut words = line.split_whitespace();
     let Logged { disk, log } = logged;
     let alloc = rt.alloc();
@@ -72,11 +67,7 @@ fn on_log<R: AllocGlobal + Print>(
 }
 
 /// Takes a line about frames, records or a file.
-fn on_pages<R: AllocGlobal + Files<File = File> + Print>(
-    rt: &R,
-    bench: &mut Bench,
-    line: &str,
-) -> Result<(), RunFault> {
+fn on_pages(rt: &HostRuntime, bench: &mut Bench, line: &str) -> Result<(), RunFault> {
     let mut words = line.split_whitespace();
     let Bench { logged, pool, text } = bench;
     let disk = &mut logged.disk;
@@ -100,11 +91,7 @@ fn is_title(line: &str) -> bool {
 }
 
 /// Prints a line, and behind it what is answered.
-fn take_line<R: AllocGlobal + Files<File = File> + Print>(
-    rt: &R,
-    bench: &mut Bench,
-    line: &str,
-) -> Result<(), RunFault> {
+fn take_line(rt: &HostRuntime, bench: &mut Bench, line: &str) -> Result<(), RunFault> {
     if is_title(line) {
         println!(rt; "{line}")?;
         return Ok(());
@@ -117,17 +104,14 @@ fn take_line<R: AllocGlobal + Files<File = File> + Print>(
 }
 
 /// Takes each line of the input.
-fn take_lines<R: AllocGlobal + Files<File = File> + Input + Print>(
-    rt: &R,
-    bench: &mut Bench,
-) -> Result<(), RunFault> {
+fn take_lines(rt: &HostRuntime, bench: &mut Bench) -> Result<(), RunFault> {
     for line in rt.lines(rt.alloc()) {
         take_line(rt, bench, line?.as_str())?;
     }
     Ok(())
 }
 
-fn run<R: AllocGlobal + Files<File = File> + Input + Print>(rt: &R) -> Result<(), RunFault> {
+fn run(rt: &HostRuntime) -> Result<(), RunFault> {
     let mut bench = Bench::new(rt.alloc())?;
     take_lines(rt, &mut bench)
 }
