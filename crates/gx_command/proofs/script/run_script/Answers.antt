@@ -5,8 +5,8 @@ use Rattle.gx_plain.specs.Boxes.{box_keys}
 use Rattle.gx_plain.specs.Index.{Index, fresh_index, CallsIndex}
 use Rattle.gx_plain.specs.Runs.{IsPlain}
 use Rattle.gx_plain.proofs.CallRuns.{script_run}
-use Rattle.gx_front.specs.Endings.{RanScript}
-use Rattle.gx_front.proofs.program.plain.Goals as goal
+use Rattle.gx_command.specs.Endings.{RanScript}
+use Rattle.gx_command.proofs.script.run_script.Goals as goal
 
 -- a script that ran to its end on a fresh index is one run
 ran : (had left held holds : Option (List ℕ)) (old new : Index Rectangle) → old ≡ fresh_index → IsDone (CallsIndex box_keys) had left held holds old new
