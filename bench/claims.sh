@@ -6,21 +6,21 @@ top=$(cd "$(dirname "$0")/.." && pwd)
 asks=${1:-3000000}
 made=$(mktemp -d)
 trap 'rm -rf "$made"' EXIT
-cd "$top/crates/gx_txn_bench"
-if ! rt run -- claims 1000 >"$made/log" 2>&1; then
+cd "$top/crates/gx_bench_runs"
+if ! rt run -- claims claims 1 >"$made/log" 2>&1; then
     cat "$made/log"
     exit 1
 fi
 "${CC:-gcc}" -O2 -o "$made/claims" "$top/bench/claims.c"
-python3 - "$top/crates/gx_txn_bench/out/gx_txn_bench" "$made/claims" "$asks" <<'P'
+python3 - "$top/crates/gx_bench_runs/out/gx_bench_runs" "$made/claims" "$asks" <<'P'
 import resource, subprocess, sys
 
 def run(program, kind, asks):
     before = resource.getrusage(resource.RUSAGE_CHILDREN).ru_utime
-    printed = subprocess.run([program, kind, str(asks)], check=True, capture_output=True, text=True).stdout
+    printed = subprocess.run([*program, kind, str(asks)], check=True, capture_output=True, text=True).stdout
     return resource.getrusage(resource.RUSAGE_CHILDREN).ru_utime - before, printed
 
-proved, plain, asks = sys.argv[1], sys.argv[2], int(sys.argv[3])
+proved, plain, asks = [sys.argv[1], "claims"], [sys.argv[2]], int(sys.argv[3])
 for kind in ["claims", "searches", "sweeps"]:
     best = [1e9, 1e9]
     for _ in range(5):

@@ -7,9 +7,10 @@ before="${2:-/dev/null}"
 echo '| Crate | Proof | Tests | Runs | Edits | How many | All | Before |'
 echo '|---|---|---|---|---|---|---|---|'
 awk '
+    $1 == "gate" { next }
     FILENAME == ARGV[1] { before[$2] += $3; was += $3 }
     FILENAME == ARGV[2] { of[$1, $2] += $3; all[$2] += $3; sum[$1] += $3; whole += $3 }
-    FILENAME == ARGV[2] && $1 == "edit" { many[$2]++; edits++ }
+    FILENAME == ARGV[2] && $1 == "edit" && $4 != "(none)" { many[$2]++; edits++ }
     !($2 in seen) { seen[$2] = 1; order[++crates] = $2 }
     function cell(x) { return x ? sprintf("%.0f", x) : "" }
     function row(name, proof, tests, runs, edit, many, all, was) {

@@ -1,87 +1,80 @@
 #!/usr/bin/env bash
-# Logs what the gate's parts take, in processor seconds, of the crates named, or of all: each crate's proof from nothing,
-# the same with its tests, each program's stored run as two compilers build it, and each must-fail edit over kept work, with
-# the first line that refuses it. Works on copies, one a lane; LANES says how many crates are measured side by side (as many
-# as there are processors). Its log goes to standard output, and `gate_table.sh` makes a table of it. Run it alone on the
-# machine; it says so where an edit isn't refused.
+# Runs the gate on a fresh clone, and logs what its parts take, in processor seconds: each crate's proof, the second proof of
+# its tests, the build of each program by two compilers, and each must-fail edit (the first of a crate proves the crate again,
+# and `(none)` is the check behind the last). The last line has the whole gate's processor seconds, its time by the clock, and
+# its own last line. `gate_table.sh` makes a table of it. The argument, if there is one, is the revision; RT_JOBS says how many
+# crates are proved side by side (as many as there are processors). Run it alone on the machine. The gate's own output goes to
+# the file GATE_OUTPUT, if one is named.
 set -euo pipefail
 top="$(cd "$(dirname "${BASH_SOURCE[0]}")/.." && pwd)"
-TIMEFORMAT='%U %S'
+made="$(mktemp -d)"
+trap 'rm -rf "$made"' EXIT
+git clone -q "$top" "$made/gate"
+git -C "$made/gate" checkout -q "${1:-HEAD}"
+python3 - "$made/gate" "${GATE_OUTPUT:-/dev/null}" <<'P'
+import collections, glob, os, re, resource, subprocess, sys, time
 
-# Runs a command in a crate's folder, and leaves its processor seconds in `took`, whether it passed in `well` and what it
-# printed in the file `said`.
-took() {
-    local crate=$1 input=/dev/null times
-    shift
-    [ ! -e "crates/$crate/stdin" ] || input="$PWD/crates/$crate/stdin"
-    well=yes
-    times="$( { time (cd "crates/$crate" && "$@" > ../../said 2>&1 < "$input") || echo refused > refused; } 2>&1)"
-    if [ -e refused ]; then well=no; rm refused; fi
-    took="$(awk '{ printf "%.1f", $1 + $2 }' <<< "$times")"
-}
+folder, output = sys.argv[1:]
+tick = os.sysconf("SC_CLK_TCK")
+seen = {}  # of each process of the prover: what it is for, when it began, and the seconds that it has taken
 
-# Applies an edit to a crate's folder: each `old` text stands in its file once.
-apply() {
-    perl -CSD -e '
-        my ($folder, $edit) = @ARGV; my ($file, $old);
-        open my $lines, "<", $edit or die;
-        while (<$lines>) {
-            chomp;
-            if (/^file: (.*)/) { $file = "$folder/$1" } elsif (/^old: (.*)/) { $old = $1 }
-            elsif (/^new: ?(.*)/) {
-                my $new = $1; local $/; open my $in, "<", $file or die; my $text = <$in>; close $in;
-                my $at = index $text, $old; die "no such text: $old" if $at < 0;
-                substr($text, $at, length $old) = $new;
-                open my $out, ">", $file or die; print $out $text;
-            }
-        }' "$1" "$2"
-}
+def kind_of(words, room):
+    crate = words[words.index("--crate-name") + 1]
+    if os.path.basename(room).startswith("rt-edit-"):
+        return "edit", crate, room
+    if "--crate-checked" in words:
+        return "runs", crate, words[words.index("--backend") + 1]
+    return ("tests" if any(word.endswith("_tests.o") for word in words) else "proof"), crate, ""
 
-# Moves what a check reads of a crate aside, leaving a copy in its place, or back.
-aside() { for part in src specs proofs; do if [ -d "crates/$1/$part" ]; then cp -r "crates/$1/$part" "kept_$part"; fi; done; }
-back() { for part in src specs proofs; do if [ -d "kept_$part" ]; then rm -rf "crates/$1/$part"; mv "kept_$part" "crates/$1/$part"; fi; done; }
+def look(pid):
+    with open(f"/proc/{pid}/cmdline", encoding="utf-8") as it:
+        words = it.read().split("\0")
+    if not words[0].endswith("/bin/rattle") or "--crate-name" not in words:
+        return
+    room = os.readlink(f"/proc/{pid}/cwd")
+    if not room.startswith((folder, "/tmp/rt-edit-")):
+        return
+    with open(f"/proc/{pid}/stat", encoding="utf-8") as it:
+        fields = it.read().rpartition(")")[2].split()
+    began = int(fields[19])
+    seen[pid, began] = kind_of(words, room), began, (int(fields[11]) + int(fields[12])) / tick
 
-# Measures one crate in the copy of its lane.
-measure() {
-    local crate=$1 edit words=()
-    cd "$copies/${LANE:-0}"
-    rm -rf "crates/$crate/out"
-    took "$crate" rt check --jobs 1
-    echo "proof $crate $took"
-    [ "$well" = yes ] || { echo "$crate isn't proved" >&2; exit 255; }
-    if grep -rqs '#\[test\]' "crates/$crate/src"; then
-        took "$crate" rt test --jobs 1
-        echo "tests $crate $took"
-    fi
-    if [ -e "crates/$crate/src/main.rt" ]; then
-        [ ! -e "crates/$crate/args" ] || mapfile -t words < "crates/$crate/args"
-        for backend in llvm rattle; do
-            took "$crate" rt run --jobs 1 --backend "$backend" -- "${words[@]}"
-            echo "runs $crate $took $backend"
-        done
-    fi
-    for edit in "crates/$crate"/must-fail/*.edit; do
-        [ -e "$edit" ] || continue
-        aside "$crate"
-        apply "crates/$crate" "$edit"
-        took "$crate" rt check --jobs 1
-        echo "edit $crate $took $(basename "$edit" .edit) $(grep -m1 -E '^(note: )?(\./)?[^ ]+:[0-9]+:[0-9]+: ' said | cut -c1-220)"
-        [ "$well" = no ] || echo "$edit isn't refused" >&2
-        back "$crate"
-    done
-}
+def sample():
+    for pid in filter(str.isdigit, os.listdir("/proc")):
+        try:
+            look(pid)
+        except (OSError, ValueError, IndexError):
+            pass
 
-if [ "${1:-}" = --measure ]; then measure "$2"; exit; fi
+began = time.time()
+with open(output, "w+", encoding="utf-8") as told:
+    gate = subprocess.Popen([".ci/run"], cwd=folder, stdin=subprocess.DEVNULL, stdout=subprocess.PIPE, stderr=subprocess.STDOUT)
+    os.set_blocking(gate.stdout.fileno(), False)
+    text = b""
+    while gate.poll() is None:
+        sample()
+        text += gate.stdout.read() or b""
+        time.sleep(0.2)
+    text += gate.stdout.read() or b""
+    told.write(text.decode(errors="replace"))
+clock = time.time() - began
+used = resource.getrusage(resource.RUSAGE_CHILDREN)
+last = text.decode(errors="replace").rstrip("\n").rpartition("\n")[2]
 
-lanes="${LANES:-$(nproc)}"
-copies="$(mktemp -d)"
-trap 'rm -rf "$copies"' EXIT
-export copies
-# the crates with the most lines first, so that the lanes end together
-[ $# -gt 0 ] || set -- $(cd "$top" && for crate in $(sed -n 's/^\([a-z0-9_]*\).*:.*/\1/p' crates.txt); do
-    echo "$(find "crates/$crate" \( -name '*.rt' -o -name '*.antt' -o -name '*.edit' \) -exec cat {} + | wc -l) $crate"
-done | sort -rn | cut -d' ' -f2)
-cp -a "$top/." "$copies/0"
-(cd "$copies/0" && rt all check --jobs "$lanes" > "$copies/said" 2>&1) || { tail -n 5 "$copies/said" >&2; exit 1; }
-for ((lane = 1; lane < lanes; lane++)); do cp -a "$copies/0" "$copies/$lane"; done
-printf '%s\n' "$@" | xargs -P "$lanes" -n 1 --process-slot-var=LANE "$0" --measure
+parts, first = collections.Counter(), {}
+for kind, start, seconds in seen.values():
+    parts[kind] += seconds
+    first[kind] = min(start, first.get(kind, start))
+rooms = collections.defaultdict(list)
+for kind in sorted(parts, key=first.get):
+    name, crate, room = kind
+    if name == "edit":
+        rooms[crate].append(parts[kind])
+    else:
+        print(f"{name} {crate} {parts[kind]:.1f} {room}".rstrip())
+for crate, times in rooms.items():
+    edits = sorted(os.path.basename(it)[:-len(".edit")] for it in glob.glob(f"{folder}/crates/{crate}/must-fail/*.edit"))
+    for name, seconds in zip([*edits, "(none)"] if len(times) > len(edits) else edits, times):
+        print(f"edit {crate} {seconds:.1f} {name}")
+print(f"gate all {used.ru_utime + used.ru_stime:.0f} {clock:.0f} {last}")
+P

@@ -8,16 +8,15 @@ top=$(cd "$(dirname "$0")/.." && pwd)
 rounds=${1:-10}
 made=$(mktemp -d ${2:+-p "$2"})
 trap 'rm -rf "$made"' EXIT
-cd "$top/crates/gx_log_bench"
-if ! rt run -- commit 1 >"$made/log" 2>&1; then
+cd "$top/crates/gx_bench_runs"
+if ! rt run -- claims claims 1 >"$made/log" 2>&1; then
     cat "$made/log"
     exit 1
 fi
-rm -f log.device
 "${CC:-gcc}" -O2 -o "$made/calls" "$top/bench/log.c"
 cd "$made"
 df -T . | tail -1 | awk '{ print "on " $2 }'
-python3 - "$top/crates/gx_log_bench/out/gx_log_bench" "$made/calls" "$rounds" <<'P'
+python3 - "$top/crates/gx_bench_runs/out/gx_bench_runs" "$made/calls" "$rounds" <<'P'
 import statistics, subprocess, sys, time
 
 def run(words):
@@ -30,7 +29,7 @@ batches = 32 * rounds
 for kind in ["commit", "notes", "leaves"]:
     rates, ratios = [], []
     for _ in range(9):
-        took = [run([proved, kind, str(rounds)]) - run([proved, kind, "0"]), run([plain, str(rounds)]) - run([plain, "0"])]
+        took = [run([proved, "log", kind, str(rounds)]) - run([proved, "log", kind, "0"]), run([plain, str(rounds)]) - run([plain, "0"])]
         rates.append([batches / t for t in took])
         ratios.append(took[1] / took[0])
     middle = [statistics.median(r[i] for r in rates) for i in (0, 1)]

@@ -1,4 +1,4 @@
-// Looks at pages of a file through frames in plain C, beside the proved pool of gx_pool_bench. The words are `hits`, where
+// Looks at pages of a file through frames in plain C, beside the proved pool of gx_bench_runs. The words are `hits`, where
 // each page is in a frame, or `misses`, where few are, and how often. It prints a sum of what the pages say.
 // A page that comes in is tested as the proved pool tests it: the whole image, its own number, and that it is a leaf.
 #include <fcntl.h>

@@ -7,24 +7,23 @@ top=$(cd "$(dirname "$0")/.." && pwd)
 looks=${1:-50000000}
 made=$(mktemp -d)
 trap 'rm -rf "$made"' EXIT
-cd "$top/crates/gx_pool_bench"
-if ! rt run -- misses 10 >"$made/log" 2>&1; then
+cd "$top/crates/gx_bench_runs"
+if ! rt run -- claims claims 1 >"$made/log" 2>&1; then
     cat "$made/log"
     exit 1
 fi
-rm -f pages.device
 "${CC:-gcc}" -O2 -o "$made/pool" "$top/bench/pool.c"
 cd "$made"
-python3 - "$top/crates/gx_pool_bench/out/gx_pool_bench" "$made/pool" "$looks" <<'P'
+python3 - "$top/crates/gx_bench_runs/out/gx_bench_runs" "$made/pool" "$looks" <<'P'
 import resource, statistics, subprocess, sys
 
 def run(program, kind, looks):
     before = resource.getrusage(resource.RUSAGE_CHILDREN)
-    printed = subprocess.run([program, kind, str(looks)], check=True, capture_output=True, text=True).stdout
+    printed = subprocess.run([*program, kind, str(looks)], check=True, capture_output=True, text=True).stdout
     after = resource.getrusage(resource.RUSAGE_CHILDREN)
     return after.ru_utime + after.ru_stime - before.ru_utime - before.ru_stime, printed
 
-proved, plain, many = sys.argv[1], sys.argv[2], int(sys.argv[3])
+proved, plain, many = [sys.argv[1], "pool"], [sys.argv[2]], int(sys.argv[3])
 for kind, looks in [("hits", many), ("misses", many // 50)]:
     rates, ratios = [], []
     for _ in range(7):

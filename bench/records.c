@@ -1,4 +1,4 @@
-// Records of the log written and read in plain C, beside the proved ones of gx_record_bench.
+// Records of the log written and read in plain C, beside the proved ones of gx_bench.
 // It compares what both write, and how far both read streams of records, whole ones and ones with a byte changed.
 // Then it times both over the same records.
 #include <stdbool.h>

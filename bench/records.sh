@@ -5,10 +5,10 @@ set -eu
 top=$(cd "$(dirname "$0")/.." && pwd)
 made=$(mktemp -d)
 trap 'rm -rf "$made"' EXIT
-cd "$top/crates/gx_record_bench"
+cd "$top/crates/gx_bench"
 if ! rt lib >"$made/log" 2>&1; then
     cat "$made/log"
     exit 1
 fi
-"${CC:-gcc}" -O2 -o "$made/records" "$top/bench/records.c" out/libgx_record_bench.a
+"${CC:-gcc}" -O2 -o "$made/records" "$top/bench/records.c" out/libgx_bench.a "$(dirname "$(rt doc)")/c/liblibc_c.a"
 "$made/records" "$@"

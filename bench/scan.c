@@ -1,4 +1,4 @@
-// Keys of nodes scanned in plain C, beside the proved scan of gx_node_bench: live pairs of leaves that overlap a box, and
+// Keys of nodes scanned in plain C, beside the proved scan of gx_bench: live pairs of leaves that overlap a box, and
 // the child of an inner node that needs least enlargement for a box.
 // It compares what both find, and then times both over the same bytes, the one and the other in turn.
 #include <stdbool.h>

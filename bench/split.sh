@@ -10,5 +10,5 @@ if ! rt lib >"$made/log" 2>&1; then
     cat "$made/log"
     exit 1
 fi
-"${CC:-gcc}" -O2 -o "$made/split" "$top/bench/split.c" out/libgx_bench.a
+"${CC:-gcc}" -O2 -o "$made/split" "$top/bench/split.c" out/libgx_bench.a "$(dirname "$(rt doc)")/c/liblibc_c.a"
 "$made/split" "$@"

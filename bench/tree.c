@@ -1,4 +1,4 @@
-// A tree of boxes in plain C, beside the proved steps of gx_tree_bench: the same rules over the same pages of 4,096 bytes.
+// A tree of boxes in plain C, beside the proved steps of gx_bench_runs: the same rules over the same pages of 4,096 bytes.
 // The words are what is asked and how often: `inserts`, so many boxes in a new tree; `pages`, the same, and a sum of all
 // pages' bytes; `queries`, so many windows looked for in a tree of a hundred thousand boxes; `marks`, so many of its pairs
 // looked for and marked. It prints a sum of what was done.

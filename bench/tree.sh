@@ -8,20 +8,20 @@ top=$(cd "$(dirname "$0")/.." && pwd)
 many=${1:-100000}
 made=$(mktemp -d)
 trap 'rm -rf "$made"' EXIT
-cd "$top/crates/gx_tree_bench"
-if ! rt run -- inserts 10 >"$made/log" 2>&1; then
+cd "$top/crates/gx_bench_runs"
+if ! rt run -- claims claims 1 >"$made/log" 2>&1; then
     cat "$made/log"
     exit 1
 fi
 "${CC:-gcc}" -O2 -o "$made/jumps" "$top/bench/tree.c"
 "${CC:-gcc}" -O2 -D'AND=&' -o "$made/no_jumps" "$top/bench/tree.c"
 cd "$made"
-python3 - "$many" "$top/crates/gx_tree_bench/out/gx_tree_bench" "$made/jumps" "$made/no_jumps" <<'P'
+python3 - "$many" "$top/crates/gx_bench_runs/out/gx_bench_runs" "$made/jumps" "$made/no_jumps" <<'P'
 import resource, statistics, subprocess, sys
 
 def run(program, kind, count):
     before = resource.getrusage(resource.RUSAGE_CHILDREN)
-    printed = subprocess.run([program, kind, str(count)], check=True, capture_output=True, text=True).stdout
+    printed = subprocess.run([*program, kind, str(count)], check=True, capture_output=True, text=True).stdout
     after = resource.getrusage(resource.RUSAGE_CHILDREN)
     return after.ru_utime + after.ru_stime - before.ru_utime - before.ru_stime, printed
 
@@ -31,7 +31,7 @@ def run_all(kind, count):
         sys.exit(f"{kind} {count}: the sums differ: {sums}")
     return times
 
-many, programs = int(sys.argv[1]), sys.argv[2:]
+many, programs = int(sys.argv[1]), [[sys.argv[2], "tree"], *([program] for program in sys.argv[3:])]
 run_all("pages", many)
 for kind, count in [("inserts", many), ("queries", 3 * many), ("marks", 3 * many)]:
     rates, ratios = [], []

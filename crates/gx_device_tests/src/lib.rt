@@ -1,23 +1,6 @@
-//! Callers of device, frames and log as the layers above will be, and the tests of what no contract says. Nothing here
-//! looks into a crate: it is all by public calls.
+//! Callers of frames over a device as the layers above will be, proved from contracts and laws alone. Nothing here looks into
+//! a crate: it is all by public calls. What no contract says of devices, records, frames and the log is run by
+//! `gx_device_runs`.
 #![tactic(auto)]
 
-#[cfg(test)]
-mod devices;
 pub mod frames;
-#[cfg(test)]
-mod log;
-#[cfg(test)]
-mod log_faults;
-#[cfg(test)]
-mod log_reads;
-#[cfg(test)]
-mod parameters;
-#[cfg(test)]
-mod pool;
-#[cfg(test)]
-mod pool_calls;
-#[cfg(test)]
-mod records;
-#[cfg(test)]
-mod turns;

@@ -1,13 +1,12 @@
 //! The program `gist`.
 #![tactic(auto)]
 
-mod faults;
 mod program;
 #[cfg(test)]
 mod tests;
 mod words;
 
-pub use faults::Noted;
+use gx_command::Noted;
 pub use program::gist;
 use std::process::ExitCode;
 pub use words::WordsFault;

@@ -1,5 +1,5 @@
 -- A batch that is written while a page is.
-use Rattle.std.proofs.Common.{◌≡◌, ◌∙◌, sym, ap, refl, subst, ◌⊎◌, inl, inr, ⊎_elim, ℕ, ◌+◌, ◌<◌, ◌≤◌, List, [], ◌++◌, length, Bool, Result, Ok, Err, arith}
+use Rattle.std.proofs.Common.{◌≡◌, ◌∙◌, sym, ap, refl, subst, ◌⊎◌, inl, inr, ⊎_elim, ℕ, ◌+◌, ◌<◌, ◌≤◌, List, [], ◌++◌, length, length-append, Bool, Result, Ok, Err, arith}
 use Rattle.std.specs.Prelude.{OnOk}
 use Rattle.gx_geom.specs.declared.refusal.Refusal.{Refusal}
 use Rattle.gx_record.specs.Format.{spelling}
@@ -196,7 +196,7 @@ step_moments gated batch first start log new old now result goes kept beside =
     safe_moments gated batch first start new old now (kept beside.on).time (step_beside gated batch first start log new old now result goes kept beside)
 
 -- a record that was appended waits
-pub appended_beside : (first : ℕ) (log : Log) (bytes seen : List ℕ) (pending : ℕ → Bool) → log.used < 32 → length log.filling + length bytes ≤ 32764 → IsReady first log seen pending
+appended_beside : (first : ℕ) (log : Log) (bytes seen : List ℕ) (pending : ℕ → Bool) → log.used < 32 → length log.filling + length bytes ≤ 32764 → IsReady first log seen pending
     → Beside (gated_of log seen) (log.filling ++ bytes) first seen (record log { filling = log.filling ++ bytes }) seen pending
 appended_beside first log bytes seen pending place fits ready = record {
   on = append_on log bytes seen pending ready.still place fits ready.on;
@@ -204,6 +204,15 @@ appended_beside first log bytes seen pending place fits ready = record {
   batch_is = inl (record { stage = ready.idle; gated = refl; filling = refl });
   others = record { same = λ s from out. refl; settled = ready.settled };
 }
+
+-- and what an append leaves does
+pub append_beside : (first : ℕ) (log new : Log) (bytes seen : List ℕ) (pending : ℕ → Bool) → log.used < 32 → length log.filling + length bytes ≤ 32764 → new ≡ record log { filling = log.filling ++ bytes }
+    → IsReady first log seen pending → Beside (gated_of log seen) (log.filling ++ bytes) first seen new seen pending
+append_beside first log new bytes seen pending place fits is ready = rw is (appended_beside first log bytes seen pending place fits ready)
+
+-- something fills it
+pub append_fills : (log new : Log) (bytes : List ℕ) → new ≡ record log { filling = log.filling ++ bytes } → log.stage ≡ Idle → 1 ≤ length bytes → (new.stage ≡ Idle) × (1 ≤ length new.filling)
+append_fills log new bytes is idle some = rw is (idle, omega (arith, length-append log.filling bytes, some))
 
 pub page_moments : {T E : Type 0} (gated batch : List ℕ) (first : ℕ) (start : List ℕ) (log : Log) (old new : Device) (bytes : List ℕ) (n : ℕ) (result : Result T E) → n ≡ 8 → 4168 ≤ first → Writes first n bytes old new result
     → Beside gated batch first start log old.seen old.pending → Leaves (IsSafe gated batch first start) old new

@@ -1,5 +1,5 @@
 //! Reading an extent of the log.
-ghost use Rattle.std.specs.Prelude.{◌≡◌, ◌+◌, ◌≤◌, ◌<◌, ℕ, true, false, length, OnOk, IfOk, IfErr, slice_index};
+ghost use Rattle.std.specs.Prelude.{◌≡◌, ◌==◌, ◌+◌, ◌≤◌, ◌<◌, ℕ, true, false, length, OnOk, IfOk, IfErr, slice_index, if◌then◌else◌};
 ghost use Rattle.gx_disk.specs.Device.{Counts};
 ghost use Rattle.gx_disk.specs.Sectors.{span_of};
 ghost use Rattle.gx_glog.specs.Layout.{gates_of, bodies_of, other_of, selected_of, is_open, body_of, size_in};
@@ -54,11 +54,7 @@ pub fn selected<D: SectorDisk>(disk: &mut D) -> Result<Extent, Refusal>
     ensures refusal { IfErr result (λ refusal. refusal ≡ Refusal.Device) }
 {
     match first_byte(disk, SELECTOR) {
-        Ok(byte) => Ok(if byte == SELECTS_B {
-            Extent::B
-        } else {
-            Extent::A
-        }),
+        Ok(byte) => Ok(Extent::selected_by(byte)),
         Err(refusal) => Err(refusal),
     }
 }
@@ -81,6 +77,17 @@ impl Extent {
         match self {
             Extent::A => Extent::B,
             Extent::B => Extent::A,
+        }
+    }
+
+    /// The extent that a selector's first byte selects.
+    fn selected_by(byte: u8) -> Extent
+        ensures { result ≡ (if byte == 0x5A then Extent.B else Extent.A) }
+    {
+        if byte == SELECTS_B {
+            Extent::B
+        } else {
+            Extent::A
         }
     }
 

@@ -239,7 +239,6 @@ impl Frames {
     }
 
     /// The least page that may be written.
-    #[tactic(auto, using(crate::proofs::Places::least_found, crate::proofs::Places::least_none))]
     pub(crate) fn dirty(&self) -> Option<u32>
         ensures found { IfSome result (λ page. IsWritable self.now page × ((q : ℕ) → IsWritable self.now q → page ≤ q)) }
         ensures none { IfNone result ((q : ℕ) → IsWritable self.now q → ⊥) }

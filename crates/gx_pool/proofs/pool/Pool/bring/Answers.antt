@@ -1,6 +1,6 @@
 use Rattle.std.proofs.Common.{◌∙◌, refl}
 use Rattle.gx_pool.specs.State.{holding}
-use Rattle.gx_pool.proofs.Bringing.{idle_next, one_more, one_refused, refused_as}
+use Rattle.gx_pool.proofs.Bringing.{idle_next, none_brought, one_more, one_refused, refused_as}
 use Rattle.gx_pool.proofs.pool.Pool.bring.Goals as goal
 
 pub returns-in_err-bring_one-clause-brought : goal.returns-in_err-bring_one-clause-brought
@@ -8,6 +8,13 @@ returns-in_err-bring_one-clause-brought g c =
     let all = one_refused _ (g.D.SectorDisk.state c.args.disk.now) (g.D.SectorDisk.state c.loop-page.disk) (g.D.SectorDisk.state c.bring_one.new.disk) (holding c.args.self.now.frames c.args.pages.now)
     c.loop-page.self.frames c.bring_one.new.self.frames c.args.pages.now c.loop-page.page-index _ _ refl c.loop-page-test.true refl c.loop-page.invariant.2 (rw (← c.loop-page.invariant.0) c.in_err-bring_one.ensures.brought) in
     refused_as _ _ _ _ _ _ c.from_residual.result _ _ c.from_residual.ensures.1 (λ fault is. is) all
+
+pub loop-page-init : goal.loop-page-init
+loop-page-init g c = (
+  refl,
+  λ idle. (c.hold.ensures, refl),
+  none_brought _ (g.D.SectorDisk.state c.args.disk.now) (holding c.args.self.now.frames c.args.pages.now) c.hold.new.self c.args.pages.now c.hold.ensures,
+)
 
 pub loop-page-preserved : goal.loop-page-preserved
 loop-page-preserved g c = (

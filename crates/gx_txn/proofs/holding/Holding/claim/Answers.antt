@@ -1,3 +1,4 @@
+use Rattle.std.proofs.Common.{arith}
 use Rattle.gx_machine.specs.Keys.{IsLawful, keys}
 use Rattle.gx_txn.proofs.Keeping.{claim_put}
 use Rattle.gx_txn.proofs.holding.Holding.claim.Goals as goal
@@ -9,6 +10,6 @@ invariant_of-self g c =
     let self = c.self.inside in (
       c.self.invariant.0,
       claim_put k lawful self.claims self.predicates self.notes.items c.args.self.now c.self.view_is c.self.invariant.1
-          c.args.e c.put.new.self c.in-Err.field-0 c.args.spent c.requires c.if-spent-ge-MAX_CLAIMS.false
+          c.args.e c.put.new.self c.in-Err.field-0 c.args.spent c.requires (omega arith)
           c.in-Err.ensures.place.2 c.put.ensures,
     )

@@ -1,0 +1,4 @@
+pub mod Chosen
+pub mod Counting
+pub mod Hits
+pub mod Rests

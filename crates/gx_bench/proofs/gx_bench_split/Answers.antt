@@ -1,8 +1,0 @@
--- The keys are split that the boxes stand for.
-use Rattle.std.proofs.Common.{List, ap, ◌∙◌}
-use Rattle.gx_geom.specs.Rectangles.{Rectangle, union, area}
-use Rattle.gx_split.specs.Split.{measure, split_sides}
-use Rattle.gx_bench.proofs.gx_bench_split.Goals as goal
-
-pub returns : goal.returns
-returns c = c.split.ensures.sides ∙ ap (λ (keys : List Rectangle). split_sides (measure union area) keys c.args.least) c.write_keys.ensures

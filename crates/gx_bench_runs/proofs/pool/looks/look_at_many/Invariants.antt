@@ -1,0 +1,5 @@
+use Rattle.std.proofs.Common.{◌≤◌, ◌+◌, ◌*◌}
+use Rattle.gx_bench_runs.proofs.pool.looks.look_at_many.Given as goal
+
+abbrev pub invariant-loop-look : goal.invariant-loop-look
+invariant-loop-look g l = 4168 + 8 * l.pages ≤ (g.D.SectorDisk.state l.disk).sectors

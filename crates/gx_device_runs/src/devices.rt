@@ -1,0 +1,166 @@
+//! The device in memory behind a fuse, and what becomes of it.
+use crate::fault::RunFault;
+use crate::words::{byte, count, number, word};
+use gx_disk::{Fuse, FuseDisk, MemDisk, SectorDisk, Torn};
+use std::alloc::{AllocError, Global};
+use std::mem;
+use std::str::SplitWhitespace;
+
+/// A device in memory behind a fuse.
+pub(crate) type Device = FuseDisk<MemDisk>;
+
+/// The device behind a fuse that never blows.
+fn whole(inner: MemDisk) -> Device {
+    FuseDisk::new(inner, u64::MAX, Fuse::Once, false)
+}
+
+/// A device of zeros.
+pub(crate) fn blank(alloc: Global, sectors: usize) -> Result<Device, AllocError> {
+    Ok(whole(MemDisk::new(alloc, sectors)?))
+}
+
+/// Takes the device from behind its fuse, and leaves one without sectors.
+fn take(disk: &mut Device, alloc: Global) -> MemDisk {
+    let none = whole(MemDisk::from_bytes(alloc, Vec::new(alloc)));
+    mem::replace(disk, none).into_inner()
+}
+
+/// Puts the device behind another fuse.
+pub(crate) fn set_fuse(disk: &mut Device, alloc: Global, calls: u64, fuse: Fuse, done: bool) {
+    let inner = take(disk, alloc);
+    *disk = FuseDisk::new(inner, calls, fuse, done);
+}
+
+/// A crash that leaves this of what wasn't synced. The fuse is gone after it.
+pub(crate) fn crash(disk: &mut Device, alloc: Global, left: &[Torn]) {
+    let mut inner = take(disk, alloc);
+    inner.crash(left);
+    *disk = whole(inner);
+}
+
+/// Another device.
+fn renew(disk: &mut Device, alloc: Global, mut words: SplitWhitespace<'_>) -> Result<(), RunFault> {
+    *disk = blank(alloc, count(&mut words)?)?;
+    Ok(())
+}
+
+/// A fuse by its words: behind how many calls, how often, and whether a write is done that fails.
+fn fuse_by(
+    disk: &mut Device,
+    alloc: Global,
+    mut words: SplitWhitespace<'_>,
+) -> Result<(), RunFault> {
+    let calls = number(&mut words)?;
+    let fuse = match word(&mut words)? {
+        "once" => Fuse::Once,
+        "ever" => Fuse::ForEver,
+        _ => return Err(RunFault::BadLine),
+    };
+    let done = words.next().is_some();
+    set_fuse(disk, alloc, calls, fuse, done);
+    Ok(())
+}
+
+/// What a crash leaves of a sector: its old bytes, its new bytes, or a byte all over.
+fn choice(word: &str) -> Result<Torn, RunFault> {
+    match word {
+        "old" => Ok(Torn::Old),
+        "new" => Ok(Torn::New),
+        _ => {
+            let byte = byte(word)?;
+            Ok(Torn::Bytes([byte; 512]))
+        }
+    }
+}
+
+fn choices(alloc: Global, words: SplitWhitespace<'_>) -> Result<Vec<Torn>, RunFault> {
+    let mut choices = Vec::new(alloc);
+    for word in words {
+        choices.push(choice(word)?)?;
+    }
+    Ok(choices)
+}
+
+fn crash_by(disk: &mut Device, alloc: Global, words: SplitWhitespace<'_>) -> Result<(), RunFault> {
+    let left = choices(alloc, words)?;
+    crash(disk, alloc, &left);
+    Ok(())
+}
+
+/// Reserves memory for so many calls on so many sectors.
+fn reserve(
+    disk: &mut Device,
+    alloc: Global,
+    mut words: SplitWhitespace<'_>,
+) -> Result<(), RunFault> {
+    let calls = count(&mut words)?;
+    let sectors = count(&mut words)?;
+    let mut inner = take(disk, alloc);
+    let reserved = inner.reserve(calls, sectors);
+    *disk = whole(inner);
+    reserved?;
+    Ok(())
+}
+
+/// Cuts the device off behind so many sectors.
+fn cut(disk: &mut Device, alloc: Global, mut words: SplitWhitespace<'_>) -> Result<(), RunFault> {
+    let sectors = count(&mut words)?;
+    let mut inner = take(disk, alloc);
+    if sectors as u64 <= inner.sectors() {
+        inner.cut(sectors);
+    }
+    *disk = whole(inner);
+    Ok(())
+}
+
+/// A sector's first byte, 0 where it can't be read.
+pub(crate) fn first_of<D: SectorDisk>(disk: &mut D, sector: u64) -> u8 {
+    if sector >= disk.sectors() {
+        return 0;
+    }
+    let mut bytes = [0; 512];
+    match disk.read(sector, &mut bytes) {
+        Ok(()) => bytes[0],
+        Err(_) => 0,
+    }
+}
+
+/// The first bytes of the first four sectors.
+pub(crate) fn firsts<D: SectorDisk>(disk: &mut D) -> [u8; 4] {
+    let zero = first_of(disk, 0);
+    let one = first_of(disk, 1);
+    let two = first_of(disk, 2);
+    [zero, one, two, first_of(disk, 3)]
+}
+
+/// Prints how many sectors aren't synced, and the first bytes of the first four. The fuse is gone after it.
+fn say_firsts<R: Print>(rt: &R, disk: &mut Device, alloc: Global) -> Result<(), RunFault> {
+    let mut inner = take(disk, alloc);
+    let unsynced = inner.unsynced();
+    let [zero, one, two, three] = firsts(&mut inner);
+    *disk = whole(inner);
+    println!(rt; " {unsynced} unsynced, {zero:02x} {one:02x} {two:02x} {three:02x}")?;
+    Ok(())
+}
+
+/// A line about the device.
+pub(crate) fn call<R: Print>(
+    rt: &R,
+    disk: &mut Device,
+    alloc: Global,
+    mut words: SplitWhitespace<'_>,
+) -> Result<(), RunFault> {
+    let called = match word(&mut words)? {
+        "new" => renew(disk, alloc, words),
+        "fuse" => fuse_by(disk, alloc, words),
+        "crash" => crash_by(disk, alloc, words),
+        "reserve" => reserve(disk, alloc, words),
+        "cut" => cut(disk, alloc, words),
+        "firsts" => return say_firsts(rt, disk, alloc),
+        _ => Err(RunFault::BadLine),
+    };
+    called?;
+    let sectors = disk.sectors();
+    println!(rt; " {sectors} sectors")?;
+    Ok(())
+}

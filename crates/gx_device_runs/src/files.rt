@@ -1,0 +1,52 @@
+//! A device over a real file, which lies where the program runs.
+use crate::devices::firsts;
+use crate::fault::RunFault;
+use crate::sectors::{told, write};
+use crate::words::{number, say, word};
+use gx_disk::{DiskFault, FileDisk, SectorDisk};
+use std::str::SplitWhitespace;
+
+/// The file.
+const FILE: &str = "runs.device";
+
+/// Prints how many sectors a device has, and the first bytes of the first four.
+fn say_sectors<R: Print, D: SectorDisk>(rt: &R, disk: &mut D) -> Result<(), RunFault> {
+    let sectors = disk.sectors();
+    let [zero, one, two, three] = firsts(disk);
+    println!(rt; " {sectors} sectors, {zero:02x} {one:02x} {two:02x} {three:02x}")?;
+    Ok(())
+}
+
+/// Prints what a file has, or why it can't be opened.
+fn say_file<R: Print>(rt: &R, disk: Result<FileDisk, DiskFault>) -> Result<(), RunFault> {
+    match disk {
+        Ok(mut disk) => say_sectors(rt, &mut disk),
+        Err(fault) => say(rt, told(Err(fault))),
+    }
+}
+
+/// Writes and syncs sector 2 of a file that is created with four sectors, and answers why it can't be opened besides.
+fn write_file(rt: &HostRuntime) -> Result<Option<DiskFault>, DiskFault> {
+    let mut disk = FileDisk::create(rt, FILE, 4)?;
+    write(&mut disk, 2, &[0xc3; 512])?;
+    disk.sync()?;
+    Ok(FileDisk::open(rt, FILE).err())
+}
+
+/// A line about the file.
+pub(crate) fn call(rt: &HostRuntime, mut words: SplitWhitespace<'_>) -> Result<(), RunFault> {
+    match word(&mut words)? {
+        "write" => match write_file(rt) {
+            Ok(Some(besides)) => say(rt, told(Err(besides))),
+            Ok(None) => say(rt, "opened besides"),
+            Err(_) => say(rt, "not written"),
+        },
+        "open" => say_file(rt, FileDisk::open(rt, FILE)),
+        "create" => say_file(rt, FileDisk::create(rt, FILE, number(&mut words)?)),
+        "remove" => {
+            std::fs::remove_file(rt, FILE)?;
+            say(rt, "done")
+        }
+        _ => Err(RunFault::BadLine),
+    }
+}

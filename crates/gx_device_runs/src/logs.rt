@@ -1,0 +1,224 @@
+//! A log on a device: records appended, and the calls of its batches and turns.
+ghost use Rattle.gx_record.specs.Format.{IsInRange};
+ghost use Rattle.gx_record.specs.Seen.{rec_of};
+
+use crate::devices::{Device, blank};
+use crate::fault::RunFault;
+use crate::words::{number, place, say_number, word};
+use gx_disk::SectorDisk;
+use gx_geom::Refusal;
+use gx_glog::{Appended, Extent, Glog, PLACES};
+use gx_record::Record;
+use std::alloc::Global;
+use std::str::SplitWhitespace;
+
+/// A device with a log.
+#[derive(Drop)]
+pub(crate) struct Logged {
+    pub(crate) disk: Device,
+    pub(crate) log: Glog,
+}
+
+impl Logged {
+    /// A device of zeros, and a log that begins in extent A.
+    pub(crate) fn new(alloc: Global, sectors: usize) -> Result<Logged, RunFault> {
+        let log = Glog::start(alloc, Extent::A, 0)?;
+        let disk = blank(alloc, sectors)?;
+        Ok(Logged { disk, log })
+    }
+}
+
+/// What is made call by call.
+#[derive(Clone, Copy)]
+pub(crate) enum Work {
+    Batch,
+    Turn,
+}
+
+impl Work {
+    /// How many device calls it has.
+    pub(crate) fn calls(self) -> u64 {
+        match self {
+            Work::Batch => 4,
+            Work::Turn => 7,
+        }
+    }
+}
+
+/// Whether a call was made; not where the device failed.
+fn is_made<T: Copy>(answer: Result<T, Refusal>) -> Result<bool, RunFault> {
+    match answer {
+        Ok(_) => Ok(true),
+        Err(Refusal::Device) => Ok(false),
+        Err(_) => Err(RunFault::Unexpected),
+    }
+}
+
+/// Makes the next call of a batch.
+fn step<D: SectorDisk>(log: &mut Glog, disk: &mut D) -> Result<bool, RunFault> {
+    if disk.sectors() < 4168 {
+        return Err(RunFault::BadLine);
+    }
+    is_made(log.log_step(disk))
+}
+
+/// Makes the next call of a turn.
+fn turn<D: SectorDisk>(log: &mut Glog, disk: &mut D) -> Result<bool, RunFault> {
+    if disk.sectors() < 4168 || !log.is_idle() || !log.has_head() {
+        return Err(RunFault::BadLine);
+    }
+    is_made(log.turn_step(disk))
+}
+
+/// Makes the next call.
+pub(crate) fn make<D: SectorDisk>(
+    work: Work,
+    log: &mut Glog,
+    disk: &mut D,
+) -> Result<bool, RunFault> {
+    match work {
+        Work::Batch => step(log, disk),
+        Work::Turn => turn(log, disk),
+    }
+}
+
+/// Makes the next calls, and answers of how many the device made.
+pub(crate) fn make_calls<D: SectorDisk>(
+    work: Work,
+    log: &mut Glog,
+    disk: &mut D,
+    calls: u64,
+) -> Result<u64, RunFault> {
+    let mut made = 0_u64;
+    for _call in 0..calls {
+        if make(work, log, disk)? {
+            made = made.wrapping_add(1);
+        }
+    }
+    Ok(made)
+}
+
+/// Puts a record into the log.
+fn append(log: &mut Glog, logged: &Record<'_>) -> Result<Appended, RunFault>
+    requires { IsInRange (rec_of logged.now) }
+{
+    if log.used() >= PLACES {
+        return Err(RunFault::BadLine);
+    }
+    Ok(log.append(logged))
+}
+
+/// Puts the record of a commit into the log.
+pub(crate) fn append_commit(log: &mut Glog, n: u64) -> Result<Appended, RunFault> {
+    append(log, &Record::Commit { tx: 1, n })
+}
+
+/// Puts the counters of a fresh tree into the log.
+pub(crate) fn append_counters(log: &mut Glog) -> Result<Appended, RunFault> {
+    let counters = Record::Counters {
+        n: 0,
+        counter: 0,
+        used: 2,
+        next: 1,
+    };
+    append(log, &counters)
+}
+
+/// Puts the counters, with this commit number, first into the other extent.
+pub(crate) fn put_head(log: &mut Glog, n: u64) -> Result<Appended, RunFault> {
+    let counters = Record::Counters {
+        n,
+        counter: 0,
+        used: 2,
+        next: 2,
+    };
+    if !log.is_idle() {
+        return Err(RunFault::BadLine);
+    }
+    Ok(log.put_first(&counters))
+}
+
+/// Puts so many commits into the log, and answers how many went with the batch of the next place.
+fn fill(log: &mut Glog, records: u64) -> Result<u64, RunFault> {
+    let next = Appended::At(u64::from(log.used()));
+    let mut filled = 0_u64;
+    for _record in 0..records {
+        if append_commit(log, 1)? == next {
+            filled = filled.wrapping_add(1);
+        }
+    }
+    Ok(filled)
+}
+
+/// An extent by its name.
+pub(crate) fn extent(name: &str) -> Result<Extent, RunFault> {
+    match name {
+        "A" => Ok(Extent::A),
+        "B" => Ok(Extent::B),
+        _ => Err(RunFault::BadLine),
+    }
+}
+
+/// Begins a log in an extent of which so many places are used.
+fn start(alloc: Global, mut words: SplitWhitespace<'_>) -> Result<Glog, RunFault> {
+    let extent = extent(word(&mut words)?)?;
+    let used = place(&mut words)?;
+    if used > PLACES {
+        return Err(RunFault::BadLine);
+    }
+    Ok(Glog::start(alloc, extent, used)?)
+}
+
+/// Prints the place that a record went to.
+fn say_appended<R: Print>(rt: &R, appended: Appended) -> Result<(), RunFault> {
+    match appended {
+        Appended::At(place) => println!(rt; " at {place}")?,
+        Appended::NoRoom => println!(rt; " no room")?,
+    }
+    Ok(())
+}
+
+/// A line that puts a record into the log.
+pub(crate) fn put<R: Print>(
+    rt: &R,
+    log: &mut Glog,
+    mut words: SplitWhitespace<'_>,
+) -> Result<(), RunFault> {
+    let appended = match word(&mut words)? {
+        "counters" => append_counters(log),
+        "commit" => append_commit(log, number(&mut words)?),
+        "head" => put_head(log, number(&mut words)?),
+        _ => Err(RunFault::BadLine),
+    };
+    say_appended(rt, appended?)
+}
+
+/// Prints how many places are used, and how many bytes of the buffer are free.
+fn say_room<R: Print>(rt: &R, log: &Glog) -> Result<(), RunFault> {
+    let used = log.used();
+    let free = log.free();
+    println!(rt; " {used} used, {free} bytes free")?;
+    Ok(())
+}
+
+/// A line about the log.
+pub(crate) fn call<R: Print>(
+    rt: &R,
+    alloc: Global,
+    disk: &mut Device,
+    log: &mut Glog,
+    mut words: SplitWhitespace<'_>,
+) -> Result<(), RunFault> {
+    let made = match word(&mut words)? {
+        "start" => {
+            *log = start(alloc, words)?;
+            return say_room(rt, log);
+        }
+        "room" => return say_room(rt, log),
+        "fill" => fill(log, number(&mut words)?),
+        "steps" => make_calls(Work::Batch, log, disk, number(&mut words)?),
+        "turns" => make_calls(Work::Turn, log, disk, number(&mut words)?),
+        _ => Err(RunFault::BadLine),
+    };
+    say_number(rt, made?)
+}

@@ -1,0 +1,310 @@
+//! Frames over a device, call by call.
+ghost use Rattle.std.specs.Prelude.{◌≡◌, ◌==◌, ◌≤◌};
+ghost use Rattle.std.specs.Bool.{OnTrue};
+ghost use Rattle.gx_pool.specs.Area.{IsPage, first_of};
+
+use crate::fault::RunFault;
+use crate::words::{count, number_or_zero, say, say_number, word};
+use gx_disk::SectorDisk;
+use gx_page::{PAGE_SIZE, Page};
+use gx_pool::{AREA, FRAMES, PAGE_SECTORS, PAGES, PageTest, Pool, PoolFault};
+use std::alloc::Global;
+use std::str::SplitWhitespace;
+
+/// Pages of level 0 pass.
+#[derive(Drop)]
+pub(crate) struct Leaves;
+
+impl PageTest for Leaves {
+    ghost passes = { λ test page. page.level == 0 };
+
+    fn passes(&self, page: &Page) -> bool {
+        page.level() == 0
+    }
+}
+
+/// The number that a call gives, if any.
+type Answer = Result<Option<u64>, PoolFault>;
+
+const DONE: Answer = Ok(None);
+
+/// The numbers of a line, 0 where it ends before.
+#[derive(Clone, Copy)]
+struct Numbers {
+    page: u32,
+    second: u64,
+    third: u64,
+}
+
+/// Whether the device has the page.
+pub(crate) fn is_there<D: SectorDisk>(disk: &D, page: u32) -> bool
+    ensures { OnTrue result (IsPage (D.state disk.now).sectors page) }
+{
+    if page < 1 || page as usize > PAGES {
+        return false;
+    }
+    disk.sectors() >= AREA + PAGE_SECTORS * u64::from(page)
+}
+
+/// The sector at which a page begins.
+fn first_sector(page: u32) -> u64
+    ensures { result ≡ first_of page }
+{
+    AREA + PAGE_SECTORS * u64::from(page.saturating_sub(1))
+}
+
+/// Writes the image of a fresh page to the sectors of a place.
+fn lay<D: SectorDisk>(
+    alloc: Global,
+    disk: &mut D,
+    place: u32,
+    level: u64,
+    number: u64,
+) -> Result<(), RunFault> {
+    let level = u16::try_from(level).ok().ok_or(RunFault::BadLine)?;
+    let number = u32::try_from(number).ok().ok_or(RunFault::BadLine)?;
+    if !is_there(disk, place) {
+        return Err(RunFault::BadLine);
+    }
+    let page = Page::fresh(alloc, level, number)?;
+    match disk.write(first_sector(place), page.image()) {
+        Ok(()) => Ok(()),
+        Err(_) => Err(RunFault::Device),
+    }
+}
+
+fn bring<D: SectorDisk>(pool: &mut Pool<Leaves>, disk: &mut D, page: u32) -> Answer {
+    if !is_there(disk, page) {
+        return Err(PoolFault::Damaged);
+    }
+    pool.bring_one(disk, page)?;
+    DONE
+}
+
+/// A page's sequence number as `view` lends it.
+fn view<D: SectorDisk>(pool: &mut Pool<Leaves>, disk: &mut D, page: u32) -> Answer {
+    if !is_there(disk, page) {
+        return Err(PoolFault::Damaged);
+    }
+    Ok(Some(pool.view(disk, page)?.nsn()))
+}
+
+/// Gives a page that `change` lends a sequence number, as a change of a batch.
+fn change<D: SectorDisk>(
+    pool: &mut Pool<Leaves>,
+    disk: &mut D,
+    page: u32,
+    batch: u64,
+    nsn: u64,
+) -> Answer {
+    if !is_there(disk, page) {
+        return Err(PoolFault::Damaged);
+    }
+    pool.change(disk, page, batch)?.set_nsn(nsn);
+    DONE
+}
+
+/// The same of a page that is kept.
+fn change_kept(pool: &mut Pool<Leaves>, page: u32, batch: u64, nsn: u64) -> Answer {
+    if page as usize > PAGES || !pool.is_kept(page) {
+        return Err(PoolFault::Damaged);
+    }
+    pool.change_kept(page, batch).set_nsn(nsn);
+    DONE
+}
+
+fn write<D: SectorDisk>(pool: &mut Pool<Leaves>, disk: &mut D, page: u32) -> Answer {
+    if !is_there(disk, page) {
+        return Err(PoolFault::Damaged);
+    }
+    pool.write_page(disk, page)?;
+    DONE
+}
+
+/// Holds no page, and lets go of what was held.
+fn hold_none<D: SectorDisk>(pool: &mut Pool<Leaves>, disk: &mut D) -> Answer {
+    pool.bring(disk, &[])?;
+    pool.release();
+    DONE
+}
+
+/// Says up to which batch all are gated.
+fn gate(pool: &mut Pool<Leaves>, batch: u64) -> Answer {
+    pool.gated(batch);
+    DONE
+}
+
+/// A kept page's sequence number.
+fn nsn(pool: &Pool<Leaves>, page: u32) -> Option<u64> {
+    if page as usize > PAGES || !pool.is_kept(page) {
+        return None;
+    }
+    Some(pool.page(page).nsn())
+}
+
+/// How many of the pages below a number are kept.
+fn kept_below(pool: &Pool<Leaves>, end: u32) -> u64 {
+    let mut kept = 0_u64;
+    for page in 1..end {
+        if nsn(pool, page).is_some() {
+            kept = kept.wrapping_add(1);
+        }
+    }
+    kept
+}
+
+/// Whether the device has this page, byte for byte.
+fn has_page<D: SectorDisk>(disk: &mut D, page: &Page) -> bool {
+    let number = page.number();
+    if !is_there(disk, number) {
+        return false;
+    }
+    let mut bytes = [0_u8; PAGE_SIZE];
+    disk.read(first_sector(number), &mut bytes).is_ok() && page.image() == bytes.as_slice()
+}
+
+/// How many of the pages below a number the device has as blank leaves of a sequence number.
+fn leaves_below<D: SectorDisk>(
+    alloc: Global,
+    disk: &mut D,
+    end: u32,
+    nsn: u64,
+) -> Result<u64, RunFault> {
+    let mut leaves = 0_u64;
+    for number in 1..end {
+        let mut page = Page::fresh(alloc, 0, number)?;
+        page.set_nsn(nsn);
+        if has_page(disk, &page) {
+            leaves = leaves.wrapping_add(1);
+        }
+    }
+    Ok(leaves)
+}
+
+/// A pool of so many empty frames.
+pub(crate) fn empty(alloc: Global, frames: usize) -> Result<Pool<Leaves>, RunFault> {
+    if frames > FRAMES {
+        return Err(RunFault::BadLine);
+    }
+    Ok(Pool::with_capacity(alloc, frames, Leaves)?)
+}
+
+/// Reads a line's numbers.
+fn read_numbers(mut words: SplitWhitespace<'_>) -> Result<Numbers, RunFault> {
+    let page = number_or_zero(&mut words)?;
+    let second = number_or_zero(&mut words)?;
+    let third = number_or_zero(&mut words)?;
+    Ok(Numbers {
+        page: u32::try_from(page).ok().ok_or(RunFault::BadLine)?,
+        second,
+        third,
+    })
+}
+
+/// Makes a call of the pool, if it has one of this name.
+fn make<D: SectorDisk>(
+    pool: &mut Pool<Leaves>,
+    disk: &mut D,
+    name: &str,
+    numbers: Numbers,
+) -> Option<Answer> {
+    let Numbers {
+        page,
+        second,
+        third,
+    } = numbers;
+    match name {
+        "bring" => Some(bring(pool, disk, page)),
+        "view" => Some(view(pool, disk, page)),
+        "change" => Some(change(pool, disk, page, second, third)),
+        "change-kept" => Some(change_kept(pool, page, second, third)),
+        "gated" => Some(gate(pool, u64::from(page))),
+        "write" => Some(write(pool, disk, page)),
+        "hold-none" => Some(hold_none(pool, disk)),
+        _ => None,
+    }
+}
+
+fn say_answer<R: Print>(rt: &R, answer: Answer) -> Result<(), RunFault> {
+    match answer {
+        Ok(None) => say(rt, "done"),
+        Ok(Some(number)) => say_number(rt, number),
+        Err(PoolFault::NoCleanFrame) => say(rt, "no clean frame"),
+        Err(PoolFault::Device) => say(rt, "device"),
+        Err(PoolFault::Damaged) => say(rt, "damaged"),
+    }
+}
+
+/// A line that calls the pool.
+pub(crate) fn call<R: Print, D: SectorDisk>(
+    rt: &R,
+    pool: &mut Pool<Leaves>,
+    disk: &mut D,
+    mut words: SplitWhitespace<'_>,
+) -> Result<(), RunFault> {
+    let name = word(&mut words)?;
+    let numbers = read_numbers(words)?;
+    match make(pool, disk, name, numbers) {
+        Some(answer) => say_answer(rt, answer),
+        None => Err(RunFault::BadLine),
+    }
+}
+
+fn say_look<R: Print>(rt: &R, found: Option<u64>) -> Result<(), RunFault> {
+    match found {
+        Some(number) => say_number(rt, number),
+        None => say(rt, "none"),
+    }
+}
+
+/// A line that looks at the pool: a page's sequence number, the least page that may be written, how many are kept.
+pub(crate) fn look<R: Print>(
+    rt: &R,
+    pool: &Pool<Leaves>,
+    mut words: SplitWhitespace<'_>,
+) -> Result<(), RunFault> {
+    let name = word(&mut words)?;
+    let Numbers { page, .. } = read_numbers(words)?;
+    match name {
+        "dirty" => say_look(rt, pool.dirty().map(|page| u64::from(page))),
+        "nsn" => say_look(rt, nsn(pool, page)),
+        "kept" => say_number(rt, kept_below(pool, page)),
+        _ => Err(RunFault::BadLine),
+    }
+}
+
+/// A line about pages on the device itself.
+pub(crate) fn on_device<R: Print, D: SectorDisk>(
+    rt: &R,
+    alloc: Global,
+    disk: &mut D,
+    mut words: SplitWhitespace<'_>,
+) -> Result<(), RunFault> {
+    let name = word(&mut words)?;
+    let Numbers {
+        page,
+        second,
+        third,
+    } = read_numbers(words)?;
+    match name {
+        "lay" => {
+            lay(alloc, disk, page, second, third)?;
+            say(rt, "done")
+        }
+        "leaves" => say_number(rt, leaves_below(alloc, disk, page, second)?),
+        _ => Err(RunFault::BadLine),
+    }
+}
+
+/// Another pool, of so many frames.
+pub(crate) fn renew<R: Print>(
+    rt: &R,
+    alloc: Global,
+    pool: &mut Pool<Leaves>,
+    mut words: SplitWhitespace<'_>,
+) -> Result<(), RunFault> {
+    *pool = empty(alloc, count(&mut words)?)?;
+    let clean = pool.clean_frames();
+    println!(rt; " {clean} clean frames")?;
+    Ok(())
+}

@@ -1,0 +1,333 @@
+//! Records spelled byte for byte, and bytes read as records.
+ghost use Rattle.gx_record.specs.Format.{IsInRange};
+ghost use Rattle.gx_record.specs.Seen.{rec_of};
+
+use crate::fault::RunFault;
+use crate::words::{byte, count, level, number, page, say_bytes, word};
+use gx_page::Page;
+use gx_record::{Mark, PageImage, PageImages, Record};
+use std::alloc::Global;
+use std::str::SplitWhitespace;
+
+/// How many bytes a key has.
+const KEY: usize = 16;
+
+/// How many bytes there are to spell a record in.
+pub(crate) const ROOM: usize = 12_400;
+
+/// The key of all records that have one.
+const KEY_BYTES: [u8; KEY] = [0, 0, 0, 0, 0, 0, 0, 0, 0, 0, 0, 10, 0, 0, 0, 10];
+
+/// Whether the record is read from the front of the bytes, and is so long.
+fn is_read(given: &Record<'_>, bytes: &[u8], size: usize) -> bool {
+    matches!(Record::decode(bytes, KEY), Some((read, taken)) if read == *given && taken == size)
+}
+
+/// Whether the record is read from its spelling, with nothing and with something behind it, and nothing from a shorter front.
+fn reads_back(given: &Record<'_>, text: &[u8], size: usize) -> bool {
+    if size >= text.len() {
+        return false;
+    }
+    for end in 0..size {
+        if Record::decode(&text[..end], KEY).is_some() {
+            return false;
+        }
+    }
+    is_read(given, &text[..size], size) && is_read(given, text, size)
+}
+
+/// Spells a record over bytes that are all ee, and prints its length, whether it is read back, and all bytes.
+fn spell<R: Print>(rt: &R, given: &Record<'_>, text: &mut [u8]) -> Result<(), RunFault>
+    requires { IsInRange (rec_of given.now) }
+{
+    let length = given.length();
+    text.fill(0xee);
+    match given.encode_into(text) {
+        Some(size) if size == length => {
+            let back = if reads_back(given, text, size) {
+                "read back"
+            } else {
+                "not read back"
+            };
+            print!(rt; " {size} bytes, {back}:")?;
+        }
+        Some(_) => print!(rt; " of another length:")?,
+        None => print!(rt; " no room:")?,
+    }
+    say_bytes(rt, text)
+}
+
+/// A mark by its name.
+fn mark(name: &str) -> Result<Mark, RunFault> {
+    match name {
+        "live" => Ok(Mark::Live),
+        "marked" => Ok(Mark::Marked),
+        _ => Err(RunFault::BadLine),
+    }
+}
+
+fn commit<R: Print>(
+    rt: &R,
+    text: &mut [u8],
+    mut words: SplitWhitespace<'_>,
+) -> Result<(), RunFault> {
+    let tx = number(&mut words)?;
+    let n = number(&mut words)?;
+    spell(rt, &Record::Commit { tx, n }, text)
+}
+
+fn end<R: Print>(rt: &R, text: &mut [u8], mut words: SplitWhitespace<'_>) -> Result<(), RunFault> {
+    let tx = number(&mut words)?;
+    spell(rt, &Record::End { tx }, text)
+}
+
+fn counters<R: Print>(
+    rt: &R,
+    text: &mut [u8],
+    mut words: SplitWhitespace<'_>,
+) -> Result<(), RunFault> {
+    let n = number(&mut words)?;
+    let counter = number(&mut words)?;
+    let used = page(&mut words)?;
+    let next = number(&mut words)?;
+    let counters = Record::Counters {
+        n,
+        counter,
+        used,
+        next,
+    };
+    spell(rt, &counters, text)
+}
+
+fn note<R: Print>(rt: &R, text: &mut [u8], mut words: SplitWhitespace<'_>) -> Result<(), RunFault> {
+    let tx = number(&mut words)?;
+    let row = number(&mut words)?;
+    let before = mark(word(&mut words)?)?;
+    let leaf = page(&mut words)?;
+    let note = Record::Note {
+        tx,
+        row,
+        key: &KEY_BYTES,
+        before,
+        leaf,
+    };
+    spell(rt, &note, text)
+}
+
+/// A write's numbers and marks.
+#[derive(Clone, Copy)]
+struct Written {
+    tx: u64,
+    row: u64,
+    before: Mark,
+    after: Mark,
+}
+
+/// A write that leaves a leaf as it is.
+fn spell_write<R: Print>(
+    rt: &R,
+    text: &mut [u8],
+    written: Written,
+    leaf: &Page,
+) -> Result<(), RunFault> {
+    let Written {
+        tx,
+        row,
+        before,
+        after,
+    } = written;
+    let leaf = PageImage::of(leaf);
+    let write = Record::Write {
+        tx,
+        row,
+        key: &KEY_BYTES,
+        before,
+        after,
+        leaf: leaf.page,
+        image: leaf.image,
+    };
+    spell(rt, &write, text)
+}
+
+/// A write whose leaf is a fresh page.
+fn write<R: Print>(
+    rt: &R,
+    alloc: Global,
+    text: &mut [u8],
+    mut words: SplitWhitespace<'_>,
+) -> Result<(), RunFault> {
+    let written = Written {
+        tx: number(&mut words)?,
+        row: number(&mut words)?,
+        before: mark(word(&mut words)?)?,
+        after: mark(word(&mut words)?)?,
+    };
+    let leaf = page(&mut words)?;
+    let page = Page::fresh(alloc, 0, leaf)?;
+    spell_write(rt, text, written, &page)
+}
+
+/// A fresh page by its level and its number.
+fn fresh(alloc: Global, words: &mut SplitWhitespace<'_>) -> Result<Page, RunFault> {
+    let level = level(words)?;
+    let number = page(words)?;
+    Ok(Page::fresh(alloc, level, number)?)
+}
+
+/// Pages as counter 5 and 3 pages in use leave them.
+fn spell_two<R: Print>(rt: &R, text: &mut [u8], low: &Page, high: &Page) -> Result<(), RunFault> {
+    let low = PageImage::of(low);
+    let high = PageImage::of(high);
+    if low.page >= high.page {
+        return Err(RunFault::BadLine);
+    }
+    let record = Record::Pages {
+        counter: 5,
+        used: 3,
+        pages: PageImages::Two(low, high),
+    };
+    spell(rt, &record, text)
+}
+
+/// Prints how many pages there are, whether the one at place 1 is this one, and whether there is none behind the last.
+fn say_second<R: Print>(
+    rt: &R,
+    pages: &PageImages<'_>,
+    second: &PageImage<'_>,
+) -> Result<(), RunFault> {
+    let count = pages.count();
+    let is_second = pages.get(1) == Some(*second);
+    let ends = pages.get(count).is_none();
+    print!(rt; " {count} pages, the second is right: {is_second}, none behind: {ends},")?;
+    Ok(())
+}
+
+/// The same of three pages.
+fn spell_three<R: Print>(
+    rt: &R,
+    text: &mut [u8],
+    first: &Page,
+    second: &Page,
+    third: &Page,
+) -> Result<(), RunFault> {
+    let first = PageImage::of(first);
+    let second = PageImage::of(second);
+    let third = PageImage::of(third);
+    if first.page >= second.page || second.page >= third.page {
+        return Err(RunFault::BadLine);
+    }
+    let pages = PageImages::Three(first, second, third);
+    say_second(rt, &pages, &second)?;
+    let record = Record::Pages {
+        counter: 5,
+        used: 3,
+        pages,
+    };
+    spell(rt, &record, text)
+}
+
+fn two_pages<R: Print>(
+    rt: &R,
+    alloc: Global,
+    text: &mut [u8],
+    mut words: SplitWhitespace<'_>,
+) -> Result<(), RunFault> {
+    let low = fresh(alloc, &mut words)?;
+    let high = fresh(alloc, &mut words)?;
+    spell_two(rt, text, &low, &high)
+}
+
+fn three_pages<R: Print>(
+    rt: &R,
+    alloc: Global,
+    text: &mut [u8],
+    mut words: SplitWhitespace<'_>,
+) -> Result<(), RunFault> {
+    let first = fresh(alloc, &mut words)?;
+    let second = fresh(alloc, &mut words)?;
+    let third = fresh(alloc, &mut words)?;
+    spell_three(rt, text, &first, &second, &third)
+}
+
+/// The record of the first commit where there are so many bytes.
+fn short<R: Print>(
+    rt: &R,
+    text: &mut [u8],
+    mut words: SplitWhitespace<'_>,
+) -> Result<(), RunFault> {
+    let room = count(&mut words)?;
+    match text.get_mut(..room) {
+        Some(front) => spell(rt, &Record::Commit { tx: 1, n: 1 }, front),
+        None => Err(RunFault::BadLine),
+    }
+}
+
+/// A line that spells a record.
+pub(crate) fn call<R: Print>(
+    rt: &R,
+    alloc: Global,
+    text: &mut [u8],
+    mut words: SplitWhitespace<'_>,
+) -> Result<(), RunFault> {
+    match word(&mut words)? {
+        "commit" => commit(rt, text, words),
+        "end" => end(rt, text, words),
+        "counters" => counters(rt, text, words),
+        "note" => note(rt, text, words),
+        "write" => write(rt, alloc, text, words),
+        "two" => two_pages(rt, alloc, text, words),
+        "three" => three_pages(rt, alloc, text, words),
+        "short" => short(rt, text, words),
+        _ => Err(RunFault::BadLine),
+    }
+}
+
+/// Prints the record at the front of the bytes, and how many bytes it has.
+pub(crate) fn say_record<R: Print>(rt: &R, bytes: &[u8]) -> Result<(), RunFault> {
+    match Record::decode(bytes, KEY) {
+        None => println!(rt; " none")?,
+        Some((Record::Commit { tx, n }, taken)) => {
+            println!(rt; " commit {n} of {tx}, {taken} bytes")?
+        }
+        Some(
+            (
+                Record::Counters {
+                    n,
+                    counter,
+                    used,
+                    next,
+                },
+                taken,
+            ),
+        ) => { println!(rt; " counters {n} {counter} {used} {next}, {taken} bytes")? }
+        Some((_, taken)) => println!(rt; " {taken} bytes")?,
+    }
+    Ok(())
+}
+
+/// Sets one byte of the text.
+fn set(text: &mut [u8], mut words: SplitWhitespace<'_>) -> Result<(), RunFault> {
+    let at = count(&mut words)?;
+    let byte = byte(word(&mut words)?)?;
+    let place = text.get_mut(at).ok_or(RunFault::BadLine)?;
+    *place = byte;
+    Ok(())
+}
+
+/// A line that reads the text, of which a byte is set before, or all bytes are zeros, or a front of it.
+pub(crate) fn read<R: Print>(
+    rt: &R,
+    text: &mut [u8],
+    mut words: SplitWhitespace<'_>,
+) -> Result<(), RunFault> {
+    match word(&mut words)? {
+        "set" => set(text, words)?,
+        "zeros" => text.fill(0),
+        "front" => {
+            let front = text.get(..count(&mut words)?).ok_or(RunFault::BadLine)?;
+            return say_record(rt, front);
+        }
+        _ => return Err(RunFault::BadLine),
+    }
+    say_record(rt, text)
+}

@@ -1,0 +1,152 @@
+//! Calls of the device: sectors written, synced, and shown.
+use crate::fault::RunFault;
+use crate::words::{byte, number, say, say_bytes, say_number, word};
+use gx_disk::{DiskFault, SectorDisk};
+use std::str::SplitWhitespace;
+
+/// What a call answers, as a word.
+pub(crate) fn told(answer: Result<(), DiskFault>) -> &'static str {
+    match answer {
+        Ok(()) => "done",
+        Err(DiskFault::Memory) => "memory",
+        Err(DiskFault::Fuse) => "fuse",
+        Err(DiskFault::File) => "file",
+        Err(DiskFault::InUse) => "in use",
+    }
+}
+
+/// Writes a sector, if the device has it.
+pub(crate) fn write<D: SectorDisk>(
+    disk: &mut D,
+    sector: u64,
+    bytes: &[u8; 512],
+) -> Result<(), DiskFault> {
+    if sector >= disk.sectors() {
+        return Err(DiskFault::File);
+    }
+    disk.write(sector, bytes)
+}
+
+/// The bytes of a sector.
+pub(crate) fn read<D: SectorDisk>(disk: &mut D, sector: u64) -> Result<[u8; 512], RunFault> {
+    if sector >= disk.sectors() {
+        return Err(RunFault::BadLine);
+    }
+    let mut bytes = [0; 512];
+    match disk.read(sector, &mut bytes) {
+        Ok(()) => Ok(bytes),
+        Err(_) => Err(RunFault::Device),
+    }
+}
+
+/// Writes so many sectors, all of one byte.
+fn fill<D: SectorDisk>(disk: &mut D, first: u64, byte: u8, count: u64) -> Result<(), DiskFault> {
+    let bytes = [byte; 512];
+    for sector in first..first.saturating_add(count) {
+        write(disk, sector, &bytes)?;
+    }
+    Ok(())
+}
+
+/// The byte that a line asks for, in how many sectors, one if it doesn't say.
+fn fill_by<D: SectorDisk>(
+    disk: &mut D,
+    mut words: SplitWhitespace<'_>,
+) -> Result<&'static str, RunFault> {
+    let first = number(&mut words)?;
+    let byte = byte(word(&mut words)?)?;
+    let count = match words.next() {
+        Some(word) => word.parse::<u64>().ok().ok_or(RunFault::BadLine)?,
+        None => 1,
+    };
+    Ok(told(fill(disk, first, byte, count)))
+}
+
+/// Writes the bytes of a line over the first ones.
+fn overlay(bytes: &mut [u8], words: SplitWhitespace<'_>) -> Result<(), RunFault> {
+    let mut at: usize = 0;
+    for word in words {
+        let Some(place) = bytes.get_mut(at) else {
+            return Err(RunFault::BadLine);
+        };
+        *place = byte(word)?;
+        at = at.wrapping_add(1);
+    }
+    Ok(())
+}
+
+/// Writes a sector again with other bytes at its front.
+fn front_by<D: SectorDisk>(
+    disk: &mut D,
+    mut words: SplitWhitespace<'_>,
+) -> Result<&'static str, RunFault> {
+    let sector = number(&mut words)?;
+    let mut bytes = read(disk, sector)?;
+    overlay(&mut bytes, words)?;
+    Ok(told(write(disk, sector, &bytes)))
+}
+
+/// A gate that is written open.
+fn open_gate() -> [u8; 512] {
+    let mut gate = [0; 512];
+    gate[0] = 0xA7;
+    gate
+}
+
+/// Prints how many of the 32 gates from a sector on are written open, and how many behind these closed.
+fn say_gates<R: Print, D: SectorDisk>(rt: &R, disk: &mut D, first: u64) -> Result<(), RunFault> {
+    let mut open = 0_u32;
+    let mut closed = 0_u32;
+    for k in 0..32_u64 {
+        let gate = read(disk, first.saturating_add(k))?;
+        if gate == [0; 512] {
+            closed = closed.wrapping_add(1);
+        } else if closed == 0 && gate == open_gate() {
+            open = open.wrapping_add(1);
+        }
+    }
+    println!(rt; " {open} open, {closed} closed")?;
+    Ok(())
+}
+
+/// How many of so many sectors from a first one on are all zeros.
+fn zeros<D: SectorDisk>(disk: &mut D, first: u64, count: u64) -> Result<u64, RunFault> {
+    let mut zeros = 0_u64;
+    for k in 0..count {
+        if read(disk, first.saturating_add(k))? == [0; 512] {
+            zeros = zeros.wrapping_add(1);
+        }
+    }
+    Ok(zeros)
+}
+
+/// A line that asks for a call of the device.
+pub(crate) fn call<R: Print, D: SectorDisk>(
+    rt: &R,
+    disk: &mut D,
+    mut words: SplitWhitespace<'_>,
+) -> Result<(), RunFault> {
+    let answer = match word(&mut words)? {
+        "fill" => fill_by(disk, words),
+        "front" => front_by(disk, words),
+        "sync" => Ok(told(disk.sync())),
+        _ => Err(RunFault::BadLine),
+    };
+    say(rt, answer?)
+}
+
+/// A line that looks at sectors.
+pub(crate) fn look<R: Print, D: SectorDisk>(
+    rt: &R,
+    disk: &mut D,
+    mut words: SplitWhitespace<'_>,
+) -> Result<(), RunFault> {
+    let looked = word(&mut words)?;
+    let first = number(&mut words)?;
+    match looked {
+        "sector" => say_bytes(rt, &read(disk, first)?),
+        "gates" => say_gates(rt, disk, first),
+        "zeros" => say_number(rt, zeros(disk, first, number(&mut words)?)?),
+        _ => Err(RunFault::BadLine),
+    }
+}

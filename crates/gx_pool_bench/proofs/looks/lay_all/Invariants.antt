@@ -1,5 +1,0 @@
-use Rattle.std.proofs.Common.{◌≡◌}
-use Rattle.gx_pool_bench.proofs.looks.lay_all.Given as goal
-
-abbrev pub invariant-loop-page : goal.invariant-loop-page
-invariant-loop-page g l = (g.D.SectorDisk.state l.disk).sectors ≡ (g.D.SectorDisk.state l.fn.disk).sectors

@@ -1,5 +1,0 @@
-use Rattle.std.proofs.Common.{◌≤◌, ◌+◌, ◌*◌}
-use Rattle.gx_pool_bench.proofs.looks.look_at_many.Given as goal
-
-abbrev pub invariant-loop-look : goal.invariant-loop-look
-invariant-loop-look g l = 4168 + 8 * l.pages ≤ (g.D.SectorDisk.state l.disk).sectors
