@@ -8,6 +8,7 @@ use clap::error::ErrorKind;
 use gx_command::{Noted, refuse_memory, run_script};
 use std::alloc::Global;
 use std::convert::AsStr;
+use std::fmt::Display;
 use std::io::{Read, Write};
 
 /// Status: wrong words, or a call for help.
@@ -36,15 +37,20 @@ pub fn gist<S: AsStr, R: Read, W: Write, E: Write>(
         Ok(given) => match words::read(alloc, given) {
             Ok(()) => run_script(alloc, reader, writer, faults),
             Err(error) if error.kind() == ErrorKind::OutOfMemory => refuse_memory(writer),
-            Err(error) => {
-                let _ = write!(faults, "{error}");
-                WRONG_WORDS
-            }
+            Err(error) => refuse_words(faults, &error),
         },
         Err(WordsFault::Memory) => refuse_memory(writer),
-        Err(WordsFault::NotText(place)) => {
-            let _ = writeln!(faults, "error: word {place} isn't UTF-8 text");
-            WRONG_WORDS
-        }
+        Err(WordsFault::NotText(place)) => refuse_words(
+            faults,
+            &format_args!("error: word {place} isn't UTF-8 text\n"),
+        ),
     }
+}
+
+// Tells what is wrong with the words, and answers the status.
+fn refuse_words<E: Write, D: Display>(faults: &mut E, why: &D) -> u8
+    ensures { result ≡ 2 }
+{
+    let _ = write!(faults, "{why}");
+    WRONG_WORDS
 }
