@@ -10,5 +10,6 @@ pub mod AloneRuns
 pub mod RunLemmas
 pub mod Answered
 pub mod Survival
+pub mod Transactions
 pub mod SetsByTests
 pub mod WorkedRun

@@ -15,7 +15,7 @@ use Rattle.gx_machine.specs.declared.reply.Asked.TheVariants.{Now}
 use Rattle.gx_machine.specs.Keys.{Keys, IsLawful, matches, same_entry, same_query}
 use Rattle.gx_machine.specs.Sets.{has, including, including_all, excluding_all, found, InOrder}
 use Rattle.gx_machine.specs.Sessions.{Session, Idle, Open, Aborting, Committing, Locks, Changes, locks_of, has_query, view, answer_call, answer_session, sealed_set}
-use Rattle.gx_machine.specs.Machine.{Machine, newest, kept_sets, is_session, session_at, with_session, answer, seal, crash}
+use Rattle.gx_machine.specs.Machine.{Machine, newest, is_session, session_at, with_session, answer, seal, crash}
 use Rattle.gx_machine.specs.Runs.{Step, Asks, Answers, IsStep, IsRun}
 use Rattle.gx_machine.specs.Invariants.{KeptInOrder, AllIdle, Apart, Covered, HoldsFor, AreClaimed, IsSound}
 use Rattle.gx_machine.specs.Outcomes.{NoneConflicts}
@@ -24,7 +24,7 @@ use Rattle.gx_machine.proofs.SetLaws.{in_order_filter, filter_including_all, has
 use Rattle.gx_machine.proofs.SessionMoves.{Move, stays, begins, asks, claims, watches, aborts, answers, ends, included_covers, or_first, or_second, same_itself, insert_answered, delete_answered}
 use Rattle.gx_machine.proofs.SessionsApart.{not_claimed, predicate_matches}
 use Rattle.gx_machine.proofs.Places.{session_there, at_same, at_set, at_idle}
-use Rattle.gx_machine.proofs.StepEffects.{Effect, quiet, moved, sealed, settled, crashed, Began, step_effect, sealed_view, mapped}
+use Rattle.gx_machine.proofs.StepEffects.{Effect, quiet, moved, sealed, settled, crashed, Began, step_effect, sealed_view, with_set, mapped}
 use Rattle.gx_machine.proofs.StepsKeep.{Invariant, idle_invariant, step_invariant, run_invariant}
 
 -- a call sees no difference between two sets: a write whether its entry is there, a search the matching entries
@@ -267,12 +267,8 @@ module _ {B : Type 0} (k : Keys B) (l : IsLawful k) where
       → (locks : Locks B) × (changes : Changes B) × (session_at s before.sessions ≡ Open locks changes (Some Commit)) × (after.latest ≡ view k before.latest changes)
       × (after.sessions ≡ slice_set before.sessions (s - 1) (Committing (newest before + 1)))
   sealed_open s before after is =
-      let set = mapped (λ (set : List (Entry B)). record before {
-        older = kept_sets before;
-        latest = set;
-        sessions = slice_set before.sessions (s - 1) (Committing (newest before + 1));
-      }) (sealed_set k before.latest (session_at s before.sessions)) after is in
-      let of = sealed_view k l before.latest set.0 (session_at s before.sessions) set.1 in
+      let set = mapped (with_set s before) (sealed_set k before.latest (session_at s before.sessions)) after is in
+      let of = sealed_view k before.latest set.0 (session_at s before.sessions) set.1 in
       (of.0, of.1, of.2, sym (ap (λ (m : Machine B). m.latest) set.2) ∙ of.3, sym (ap (λ (m : Machine B). m.sessions) set.2))
 
   -- What a transaction sees stays as long as it holds its locks: a call whose lock it holds sees no difference after any

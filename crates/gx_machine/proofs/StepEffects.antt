@@ -18,13 +18,17 @@ use Rattle.gx_machine.specs.Outcomes.{NoneConflicts}
 use Rattle.gx_machine.proofs.SessionMoves.{Move, ask_move, answer_move, close_move, value_of}
 use Rattle.gx_machine.proofs.Places.{session_there, others_clear}
 
--- the machine once the commit of this session is sealed
-abbrev pub sealed_machine : {B : Type 0} → Keys B → ℕ → Changes B → Machine B → Machine B
-sealed_machine k s changes m = record m {
+-- the machine once this session's commit has added this set
+abbrev pub with_set : {B : Type 0} → ℕ → Machine B → List (Entry B) → Machine B
+with_set s m set = record m {
   older = kept_sets m;
-  latest = view k m.latest changes;
+  latest = set;
   sessions = slice_set m.sessions (s - 1) (Committing (newest m + 1));
 }
+
+-- the machine once the commit of this session is sealed
+abbrev pub sealed_machine : {B : Type 0} → Keys B → ℕ → Changes B → Machine B → Machine B
+sealed_machine k s changes m = with_set s m (view k m.latest changes)
 
 -- a step changes nothing but whether a fault has made the machine fail; or moves one session; or seals a commit; or
 -- drops sets; or is a crash
@@ -52,7 +56,7 @@ asked_there k s call m there =
     if there then (let r = asked_session k s call m in (r.0, with_session s r.1 m))
     else (asked.Now (reply.Refused refusal.BadSession), m)
 
-module _ {B : Type 0} (k : Keys B) (l : IsLawful k) where
+module _ {B : Type 0} (k : Keys B) where
   -- what a sealed set is of
   pub sealed_view : (latest set : List (Entry B)) (x : Session B) → sealed_set k latest x ≡ Some set
       → (locks : Locks B) × (changes : Changes B) × (x ≡ Open locks changes (Some Commit)) × (set ≡ view k latest changes)
@@ -67,6 +71,7 @@ module _ {B : Type 0} (k : Keys B) (l : IsLawful k) where
   sealed_view latest set (Aborting g) h = let no : ⊥ = cc in absurd no
   sealed_view latest set (Committing number) h = let no : ⊥ = cc in absurd no
 
+module _ {B : Type 0} (k : Keys B) (l : IsLawful k) where
   module _ (begun : ℕ → Type 0) (old new : Machine B) where
     ask_by : (s : ℕ) (call : Call B) (r : Asked B) (there : Bool) → is_session s ≡ there → asked_there k s call old there ≡ (r, new)
         → (call ≡ Begin → r ≡ asked.Now reply.Ok → begun s) → Effect k begun old new
@@ -100,19 +105,12 @@ module _ {B : Type 0} (k : Keys B) (l : IsLawful k) where
         (close_move k l (λ call. NoneConflicts k s call old.sessions) (begun s) (session_at s old.sessions) found.0 found.1)
         (sym found.2)
 
-    abbrev with_set : ℕ → List (Entry B) → Machine B
-    with_set s set = record old {
-      older = kept_sets old;
-      latest = set;
-      sessions = slice_set old.sessions (s - 1) (Committing (newest old + 1));
-    }
-
     seal_effect : (s : ℕ) → seal k s old ≡ Some new → Effect k begun old new
     seal_effect s h =
-        let found = mapped (with_set s) (sealed_set k old.latest (session_at s old.sessions)) new h in
-        let of = sealed_view old.latest found.0 (session_at s old.sessions) found.1 in
+        let found = mapped (with_set s old) (sealed_set k old.latest (session_at s old.sessions)) new h in
+        let of = sealed_view k old.latest found.0 (session_at s old.sessions) found.1 in
         let busy : ¬ (session_at s old.sessions ≡ Idle) = λ idle. (let both : Idle ≡ Open of.0 of.1 (Some Commit) = sym idle ∙ of.2 in cc) in
-        sealed s of.0 of.1 (session_there s old.sessions busy (is_session s) refl) of.2 (sym found.2 ∙ ap (with_set s) of.3)
+        sealed s of.0 of.1 (session_there s old.sessions busy (is_session s) refl) of.2 (sym found.2 ∙ ap (with_set s old) of.3)
 
     fault_effect : (why : Refusal) → MeetsFault why old new → Effect k begun old new
     fault_effect refusal.Device h = quiet true h.1

@@ -1,18 +1,16 @@
 -- Commits that were acknowledged are left by every crash.
-use Rattle.std.proofs.Common.{◌≡◌, ℕ, ◌+◌, ◌-◌, ◌≤◌, Bool, true, false, List, [], ◌∷◌, Some, ap, sym, ◌∙◌, subst, arith}
-use Rattle.std.specs.Prelude.{slice_set}
+use Rattle.std.proofs.Common.{◌≡◌, ℕ, ◌≤◌, Bool, true, false, List, [], ◌∷◌, Some, ap, sym, ◌∙◌, subst, arith}
 use Rattle.gx_geom.specs.declared.refusal.Refusal.{Refusal}
 use Rattle.gx_geom.specs.declared.refusal.Refusal.TheVariants as refusal
-use Rattle.gx_machine.specs.declared.entry.Entry.{Entry}
 use Rattle.gx_machine.specs.declared.call.Call.{Call}
 use Rattle.gx_machine.specs.declared.reply.Reply.{Reply}
 use Rattle.gx_machine.specs.declared.reply.Reply.TheVariants as reply
 use Rattle.gx_machine.specs.declared.reply.Asked.{Asked}
 use Rattle.gx_machine.specs.Keys.{Keys}
-use Rattle.gx_machine.specs.Sessions.{Session, Committing, answer_session, sealed_set, closed_session}
-use Rattle.gx_machine.specs.Machine.{Machine, newest, kept_sets, is_session, session_at, with_session, answer, failed_machine}
+use Rattle.gx_machine.specs.Sessions.{Session, answer_session, sealed_set, closed_session}
+use Rattle.gx_machine.specs.Machine.{Machine, is_session, session_at, with_session, answer, failed_machine}
 use Rattle.gx_machine.specs.Runs.{Step, Asks, Answers, Seals, Durable, Closes, RefusesAsk, RefusesCall, Fails, Crashes, Nothing, IsStep, IsRun, AskRefused, MeetsFault}
-use Rattle.gx_machine.proofs.StepEffects.{mapped, asked_there}
+use Rattle.gx_machine.proofs.StepEffects.{mapped, with_set, asked_there}
 use Rattle.gx_machine.proofs.Answered.{durable_commit}
 
 module _ {B : Type 0} (k : Keys B) where
@@ -41,12 +39,8 @@ module _ {B : Type 0} (k : Keys B) where
       let found = mapped (λ (p : Reply B × Session B). (p.0, with_session s p.1 old)) (answer_session k old.latest old.oldest (session_at s old.sessions)) (r, new) h.1 in
       along old new (with_session s found.0.1 old) (ap (λ (p : Reply B × Machine B). p.1) found.2) (omega arith)
   oldest_rises old new (Seals s number) h =
-      let found = mapped (λ (set : List (Entry B)). record old {
-        older = kept_sets old;
-        latest = set;
-        sessions = slice_set old.sessions (s - 1) (Committing (newest old + 1));
-      }) (sealed_set k old.latest (session_at s old.sessions)) new h.2 in
-      along old new (record old { older = kept_sets old; latest = found.0; sessions = slice_set old.sessions (s - 1) (Committing (newest old + 1)) }) found.2 (omega arith)
+      let found = mapped (with_set s old) (sealed_set k old.latest (session_at s old.sessions)) new h.2 in
+      along old new (with_set s old found.0) found.2 (omega arith)
   oldest_rises old new (Durable number) h = subst (λ (z : Machine B). old.oldest ≤ z.oldest) (sym h.3) h.1
   oldest_rises old new (Closes s why) h =
       let found = mapped (λ (x : Session B). with_session s x old) (closed_session (session_at s old.sessions)) new h.2 in

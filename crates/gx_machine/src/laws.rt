@@ -11,11 +11,11 @@ ghost use Rattle.gx_machine.specs.declared.reply.Reply.TheVariants.{Committed, F
 ghost use Rattle.gx_machine.specs.Keys.{Keys, IsLawful, keys_of};
 ghost use Rattle.gx_machine.specs.Sets.{has, InOrder};
 ghost use Rattle.gx_machine.specs.Sessions.{Changes, no_changes, view};
-ghost use Rattle.gx_machine.specs.Machine.{Machine, ask, fresh_machine, newest, set_of};
-ghost use Rattle.gx_machine.specs.Runs.{Step, Answers, Durable, Crashes, IsStep, IsRun};
+ghost use Rattle.gx_machine.specs.Machine.{Machine, ask, fresh_machine, newest, session_at, set_of};
+ghost use Rattle.gx_machine.specs.Runs.{Step, Answers, Closes, Seals, RefusesAsk, RefusesCall, Fails, Durable, Crashes, IsStep, IsRun};
 ghost use Rattle.gx_machine.specs.Records.{RunsUnseen};
 ghost use Rattle.gx_machine.specs.Invariants.{KeptInOrder, AllIdle, LocksApart, SessionsHold, changes_sets, SameSets};
-ghost use Rattle.gx_machine.specs.Outcomes.{IsLeastConflict, NoneConflicts, IsAnswered};
+ghost use Rattle.gx_machine.specs.Outcomes.{IsLeastConflict, NoneConflicts, IsAnswered, KeepsTransaction, IsSealed};
 ghost use Rattle.gx_machine.specs.Worked.{number_keys, first_entry, first_added, worked_steps, worked_end};
 ghost use Rattle.gx_machine.specs.Alone.{CommittedRunAlone};
 ghost use Rattle.gx_machine.specs.Serial.{IsSerial, AnsweredThenSealed};
@@ -40,6 +40,34 @@ pub fn limits()
 pub fn refused_ask_changes_nothing<B>()
     ensures { (k : Keys B) (s : ℕ) (call : Call B) (m : Machine B) (why : Refusal)
         → (ask k s call m).0 ≡ asked.Now (Refused why) → (ask k s call m).1 ≡ m }
+{}
+
+/// Where an open call is refused or closed, each session keeps its locks and what its transaction has added and taken
+/// away: at most that call is gone.
+pub fn refusals_keep_transactions<B>()
+    ensures answered { (k : Keys B) (old new : Machine B) (s : ℕ) (why : Refusal) → length old.sessions ≡ SESSIONS
+        → IsStep k old (Answers s (Refused why)) new
+        → (a : ℕ) → KeepsTransaction (session_at a old.sessions) (session_at a new.sessions) }
+    ensures closed { (k : Keys B) (old new : Machine B) (s : ℕ) (why : Refusal) → length old.sessions ≡ SESSIONS
+        → IsStep k old (Closes s why) new
+        → (a : ℕ) → KeepsTransaction (session_at a old.sessions) (session_at a new.sessions) }
+{}
+
+/// A fault changes no session, and no refusal that comes from outside of the machine does: what was open stays open, with
+/// its locks and changes, until a crash.
+pub fn faults_change_no_session<B>()
+    ensures asked { (k : Keys B) (old new : Machine B) (s : ℕ) (call : Call B) (why : Refusal)
+        → IsStep k old (RefusesAsk s call why) new → new.sessions ≡ old.sessions }
+    ensures called { (k : Keys B) (old new : Machine B) (s : ℕ) (why : Refusal)
+        → IsStep k old (RefusesCall s why) new → new.sessions ≡ old.sessions }
+    ensures unseen { (k : Keys B) (old new : Machine B) → IsStep k old Fails new → new.sessions ≡ old.sessions }
+{}
+
+/// Only a session whose commit is open is sealed: its view becomes the last committed set, under the next number, and no
+/// other session changes.
+pub fn only_open_commits_are_sealed<B>()
+    ensures { (k : Keys B) (old new : Machine B) (s number : ℕ) → length old.sessions ≡ SESSIONS
+        → IsStep k old (Seals s number) new → IsSealed k s number old new }
 {}
 
 /// A call is refused as busy only with the least other session that conflicts; and one that is open met no other
