@@ -28,6 +28,8 @@ for kind in ["claims", "searches", "sweeps"]:
         if answers[0] != answers[1]:
             sys.exit(f"{kind}: the sums of answers differ: {answers}")
         best = [min(b, t) for b, t in zip(best, times)]
+    if min(best) <= 0:
+        sys.exit(f"{kind}: {asks} of them take no time that could be told: ask for more")
     rates = [asks / t / 1e6 for t in best]
     print(f"{kind}: proved {rates[0]:.2f}, plain C {rates[1]:.2f} million a second, ratio {rates[0] / rates[1]:.2f}")
 P
