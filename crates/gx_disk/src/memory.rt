@@ -168,7 +168,7 @@ impl MemDisk {
         self.kept.reserve(size)
     }
 
-    /// Cuts the device to its first sectors, with nothing pending. Its record begins anew.
+    /// Cuts the device to its first sectors, with nothing pending. Its record begins anew; faults and calls are counted on.
     #[tactic(auto, unfolding(crate::specs::Memory::total_kept, crate::specs::Memory::pending_after, crate::specs::Memory::fit_all))]
     pub fn cut(&mut self, sectors: usize)
         requires { sectors ≤ self.old.sectors }
@@ -176,6 +176,7 @@ impl MemDisk {
         ensures bytes { self.new.bytes.items ≡ take (512 * sectors) self.old.bytes.items }
         ensures past { self.new.past.items ≡ [] }
         ensures room { (c n : ℕ) → HasRoom c n self.old.past self.old.kept → HasRoom c n self.new.past self.new.kept }
+        ensures counts { (self.new.faults ≡ self.old.faults) × (self.new.calls ≡ self.old.calls) }
     {
         self.bytes.truncate(SECTOR_SIZE * sectors);
         self.sectors = sectors;
@@ -194,7 +195,7 @@ impl MemDisk {
 
     #[tactic(auto, unfolding(crate::specs::Memory::total_kept, crate::specs::Memory::pending_after, crate::specs::Memory::fit_all))]
     /// A crash. The i-th unsynced sector by number takes the choice i mod the number of choices; with none all are old.
-    /// Afterwards nothing is pending, and the record begins anew.
+    /// Afterwards nothing is pending, and the record begins anew; faults and calls are counted on.
     pub fn crash(&mut self, torn: &[Torn])
         ensures crash { IsCrash self.old.sectors (pending_after self.old.past.items false) torn.now
             (bytes_at self.old.synced self.old.past.items self.old.kept.items self.old.bytes.items) self.old.bytes.items self.new.bytes.items }
@@ -202,6 +203,7 @@ impl MemDisk {
         ensures past { self.new.past.items ≡ [] }
         ensures sectors { self.new.sectors ≡ self.old.sectors }
         ensures room { (c n : ℕ) → HasRoom c n self.old.past self.old.kept → HasRoom c n self.new.past self.new.kept }
+        ensures counts { (self.new.faults ≡ self.old.faults) × (self.new.calls ≡ self.old.calls) }
     {
         let calls = behind(&self.past, self.synced);
         let kept = behind(&self.kept, self.synced_size);

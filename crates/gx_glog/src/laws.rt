@@ -1,4 +1,6 @@
 //! Laws of a log on a device, and of the sector of parameters. Each function is its contract alone.
+ghost use Rattle.std.specs.Prelude.{◌≡◌};
+ghost use Rattle.gx_glog.specs.declared.parameters.TheConstants.{PARAMETERS};
 ghost use Rattle.gx_glog.specs.Parameters.{BytesTellParameters};
 ghost use Rattle.gx_glog.specs.Laws.{ImagesHaveTheLog, SelectorDecides, StartIsOn, AppendStaysOn, PutFirstStaysOn, ElsewhereStaysOn, ElsewhereKeepsBatches};
 
@@ -23,7 +25,8 @@ pub fn calls_elsewhere()
     ensures batches { ElsewhereKeepsBatches }
 {}
 
-/// The bytes of a device's parameters tell which they are.
+/// The bytes of a device's parameters tell which they are, and stand in sector 1.
 pub fn parameters()
     ensures told { BytesTellParameters }
+    ensures sector { PARAMETERS ≡ 1 }
 {}

@@ -3,7 +3,6 @@ use Rattle.std.specs.Prelude.{◌≡◌, ℕ, ◌+◌, ◌^◌, ◌<◌, ◌≤�
 use Rattle.gx_page.specs.Reading.{IsImage, read_of}
 use Rattle.gx_record.specs.Bytes.{u64_bytes, u32_bytes, mark_byte}
 use Rattle.gx_record.specs.Rec.{Rec, Pages, Write, Commit, End, Counters, Note}
-use Rattle.gx_record.specs.declared.tags.TheConstants.{PAGES, WRITE, COMMIT, END, COUNTERS, NOTE}
 
 -- pages, each a number and an image
 abbrev pub pages_bytes : List (ℕ × List ℕ) → List ℕ
@@ -14,14 +13,14 @@ pages_bytes (p ∷ pages) = u32_bytes p.0 ++ (p.1 ++ pages_bytes pages)
 abbrev pub entry_bytes : ℕ → ℕ → List ℕ → List ℕ
 entry_bytes tx row key = u64_bytes tx ++ (u64_bytes row ++ key)
 
--- a byte for the kind, and the fields in their order
+-- a byte for the kind, from 1 to 6, and the fields in their order
 abbrev pub spelling : Rec → List ℕ
-spelling (Pages counter used pages) = PAGES ∷ (u64_bytes counter ++ (u32_bytes used ++ (length pages ∷ pages_bytes pages)))
-spelling (Write tx row key before after leaf image) = WRITE ∷ (entry_bytes tx row key ++ (mark_byte before ∷ mark_byte after ∷ (u32_bytes leaf ++ image)))
-spelling (Commit tx n) = COMMIT ∷ (u64_bytes tx ++ u64_bytes n)
-spelling (End tx) = END ∷ u64_bytes tx
-spelling (Counters n counter used next) = COUNTERS ∷ (u64_bytes n ++ (u64_bytes counter ++ (u32_bytes used ++ u64_bytes next)))
-spelling (Note tx row key before leaf) = NOTE ∷ (entry_bytes tx row key ++ (mark_byte before ∷ u32_bytes leaf))
+spelling (Pages counter used pages) = 1 ∷ (u64_bytes counter ++ (u32_bytes used ++ (length pages ∷ pages_bytes pages)))
+spelling (Write tx row key before after leaf image) = 2 ∷ (entry_bytes tx row key ++ (mark_byte before ∷ mark_byte after ∷ (u32_bytes leaf ++ image)))
+spelling (Commit tx n) = 3 ∷ (u64_bytes tx ++ u64_bytes n)
+spelling (End tx) = 4 ∷ u64_bytes tx
+spelling (Counters n counter used next) = 5 ∷ (u64_bytes n ++ (u64_bytes counter ++ (u32_bytes used ++ u64_bytes next)))
+spelling (Note tx row key before leaf) = 6 ∷ (entry_bytes tx row key ++ (mark_byte before ∷ u32_bytes leaf))
 
 -- whole records, one after the other
 abbrev pub spellings : List Rec → List ℕ

@@ -5,6 +5,7 @@ use Rattle.gx_page.specs.Contents.{Contents}
 use Rattle.gx_page.specs.Format.{image_of, IsWellFormed}
 use Rattle.gx_record.specs.Rec.{Rec}
 use Rattle.gx_record.specs.Format.{spelling, spellings, IsImageOf, IsRecord, BeginsWith}
+use Rattle.gx_record.specs.Writing.{size_of}
 
 -- No spelling begins another: records whose spellings begin the same bytes are equal, and the same bytes follow them.
 abbrev pub NoSpellingBeginsAnother : Type 0
@@ -22,7 +23,11 @@ SpellingsTell = (key : ℕ) (rs ss : List Rec) → AllByRecursion (IsRecord key)
 abbrev pub SpellingsJoin : Type 0
 SpellingsJoin = (rs ss : List Rec) → spellings (rs ++ ss) ≡ spellings rs ++ spellings ss
 
--- how long a spelling is
+-- how long each kind's spelling is
+abbrev pub SpellingsHaveSizes : Type 0
+SpellingsHaveSizes = (key : ℕ) (r : Rec) → IsRecord key r → length (spelling r) ≡ size_of r
+
+-- how long a spelling is at least and at most
 abbrev pub SpellingsAreShort : Type 0
 SpellingsAreShort = (key : ℕ) (r : Rec) → IsRecord key r → (9 ≤ length (spelling r)) × (length (spelling r) ≤ 12314 + key)
 

@@ -2,10 +2,8 @@
 use Rattle.std.specs.Prelude.{◌≡◌, ℕ, zero, suc, ◌+◌, ◌==◌, ◌&&◌, Bool, true, false, List, [], ◌∷◌, length, take, drop, Option, Some, None, nat_lt, is_none, if◌then◌else◌}
 use Rattle.gx_page.specs.Faults.{fault_of}
 use Rattle.gx_page.specs.Reading.{read_of}
-use Rattle.gx_page.specs.declared.block.TheConstants.{PAGE_SIZE}
 use Rattle.gx_record.specs.Bytes.{u64_of, u32_of}
 use Rattle.gx_record.specs.Rec.{Rec, Pages, Write, Commit, End, Counters, Note}
-use Rattle.gx_record.specs.declared.tags.TheConstants.{PAGES, WRITE, COMMIT, END, COUNTERS, NOTE}
 
 infixl 10 ◌>>=◌
 abbrev pub ◌>>=◌ : {A B : Type 0} → Option A → (A → Option B) → Option B
@@ -47,7 +45,7 @@ is_image_of page image = is_none (fault_of image) && ((read_of image).number == 
 
 unfoldable pub image_at : ℕ → List ℕ → Option (List ℕ × List ℕ)
 image_at page bytes = do
-  image ← bytes_at PAGE_SIZE bytes
+  image ← bytes_at 4096 bytes
   if is_image_of page image.0 then Some image else None
 
 -- a page with its image
@@ -126,12 +124,12 @@ note_at size bytes = do
 -- the fields behind a byte for the kind
 unfoldable pub fields_at : ℕ → ℕ → List ℕ → Option (Rec × List ℕ)
 fields_at size tag bytes =
-    if tag == PAGES then pages_at bytes
-    else (if tag == WRITE then write_at size bytes
-    else (if tag == COMMIT then commit_at bytes
-    else (if tag == END then end_at bytes
-    else (if tag == COUNTERS then counters_at bytes
-    else (if tag == NOTE then note_at size bytes else None)))))
+    if tag == 1 then pages_at bytes
+    else (if tag == 2 then write_at size bytes
+    else (if tag == 3 then commit_at bytes
+    else (if tag == 4 then end_at bytes
+    else (if tag == 5 then counters_at bytes
+    else (if tag == 6 then note_at size bytes else None)))))
 
 unfoldable pub record_at : ℕ → List ℕ → Option (Rec × List ℕ)
 record_at size [] = None

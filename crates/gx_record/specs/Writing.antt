@@ -2,7 +2,6 @@
 use Rattle.std.specs.Prelude.{◌≡◌, ℕ, ◌+◌, ◌*◌, ◌≤◌, List, length}
 use Rattle.std.specs.List.{AllByRecursion}
 use Rattle.gx_page.specs.Bytes.{overwrite}
-use Rattle.gx_page.specs.declared.block.TheConstants.{PAGE_SIZE}
 use Rattle.gx_record.specs.Rec.{Rec, Pages, Write, Commit, End, Counters, Note}
 
 -- a text stands from a place on up to another one, and all else is as it was
@@ -21,10 +20,10 @@ size_of (Counters n counter used next) = 29
 size_of (Note tx row key before leaf) = 22 + length key
 
 abbrev pub IsWhole : ℕ × List ℕ → Type 0
-IsWhole p = length p.1 ≡ PAGE_SIZE
+IsWhole p = length p.1 ≡ 4096
 
 -- each image has a page's size
 abbrev pub HasWholeImages : Rec → Type 0
 HasWholeImages (Pages counter used pages) = AllByRecursion IsWhole pages
-HasWholeImages (Write tx row key before after leaf image) = length image ≡ PAGE_SIZE
+HasWholeImages (Write tx row key before after leaf image) = length image ≡ 4096
 HasWholeImages _ = Unit {0}
