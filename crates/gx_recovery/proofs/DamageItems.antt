@@ -6,7 +6,7 @@ use Rattle.std.proofs.lemmas.List.{append-nil}
 use Rattle.gx_recovery.specs.Known.{Known}
 use Rattle.gx_recovery.specs.Records.{Image, Record, Pages, Write, Commit, End, Counters, Note, Touch, settled, any_number}
 use Rattle.gx_recovery.specs.Analysis.{Analysis, analysis}
-use Rattle.gx_recovery.specs.Damage.{is_transaction, is_page, apart, transactions, fits, is_open, may_follow, follows, follow, is_note, is_head, records_of, is_undamaged, Place, bodies_read, opened, IsLog}
+use Rattle.gx_recovery.specs.Damage.{is_transaction, is_page, apart, transactions, fits, is_open, may_follow, follows, follow, is_note, note_fits, is_head, records_of, is_undamaged, Place, bodies_read, opened, IsLog}
 use Rattle.gx_recovery.specs.Damages.{Damage, NoHead, NotDevice, PageNumber, OwnNumber, LeafNumber, NoEntry, LastNumber, Closed, CommitNumber, CounterFalls, UsedFalls, Shared, TooManyOpen, TooManyTouched, unless, misfits, unopened, unfollowing, faults_after, faults_from, damages, is_none}
 use Rattle.gx_recovery.proofs.Tests.{and_first, and_second}
 use Rattle.gx_recovery.proofs.Logs.{untrue}
@@ -62,28 +62,39 @@ and_left_most : (a b c d e : Bool) → (a && (b && (c && (d && e)))) ≡ ((a && 
 and_left_most true b c d e = and_left_more b c d e
 and_left_most false b c d e = refl
 
+and_out : (a b c d e f : Bool) → (a && (b && (c && ((d && e) && f)))) ≡ (d && (a && (b && (c && (e && f)))))
+and_out true true true d e f = sym (and_left d e f)
+and_out true true false true e f = refl
+and_out true true false false e f = refl
+and_out true false c true e f = refl
+and_out true false c false e f = refl
+and_out false b c true e f = refl
+and_out false b c false e f = refl
+
 and_true_last : (a b : Bool) → (a && (b && true)) ≡ (a && b)
 and_true_last true true = refl
 and_true_last true false = refl
 and_true_last false b = refl
 
 module _ {E P : Type 0} (k : Known E P) where
-  none_misfit : (a : Analysis E) → is_none (misfits k a) ≡ fits k a
-  none_misfit a =
+  none_misfit : (leaves : Bool) (a : Analysis E) → is_none (misfits k leaves a) ≡ (leaves && fits k a)
+  none_misfit leaves a =
       let device : Bool = nat_le a.used k.pages in
       let number : Touch E → Bool = λ t. is_transaction t.transaction in
       let entry : Touch E → Bool = λ t. k.is_entry t.entry in
       let leaf : Touch E → Bool = λ t. is_page a.used t.leaf in
       let few : Bool = nat_le (transactions a.touched) TRANSACTIONS in
       let short : Bool = nat_le (length a.touched) TOUCHED in
-      none_unless device NotDevice (unless (list_all number a.touched) LastNumber (unless (list_all entry a.touched) NoEntry (unless (list_all leaf a.touched) LeafNumber (unless (apart k a.touched) Shared (unless few TooManyOpen (unless short TooManyTouched []))))))
-      ∙ ap (λ b. device && b) (none_unless (list_all number a.touched) LastNumber (unless (list_all entry a.touched) NoEntry (unless (list_all leaf a.touched) LeafNumber (unless (apart k a.touched) Shared (unless few TooManyOpen (unless short TooManyTouched []))))))
-      ∙ ap (λ b. device && (list_all number a.touched && b)) (none_unless (list_all entry a.touched) NoEntry (unless (list_all leaf a.touched) LeafNumber (unless (apart k a.touched) Shared (unless few TooManyOpen (unless short TooManyTouched [])))))
-      ∙ ap (λ b. device && (list_all number a.touched && (list_all entry a.touched && b))) (none_unless (list_all leaf a.touched) LeafNumber (unless (apart k a.touched) Shared (unless few TooManyOpen (unless short TooManyTouched []))))
-      ∙ ap (λ b. device && (list_all number a.touched && (list_all entry a.touched && (list_all leaf a.touched && b))))
+      let on : Bool = leaves && list_all leaf a.touched in
+      none_unless device NotDevice (unless (list_all number a.touched) LastNumber (unless (list_all entry a.touched) NoEntry (unless on LeafNumber (unless (apart k a.touched) Shared (unless few TooManyOpen (unless short TooManyTouched []))))))
+      ∙ ap (λ b. device && b) (none_unless (list_all number a.touched) LastNumber (unless (list_all entry a.touched) NoEntry (unless on LeafNumber (unless (apart k a.touched) Shared (unless few TooManyOpen (unless short TooManyTouched []))))))
+      ∙ ap (λ b. device && (list_all number a.touched && b)) (none_unless (list_all entry a.touched) NoEntry (unless on LeafNumber (unless (apart k a.touched) Shared (unless few TooManyOpen (unless short TooManyTouched [])))))
+      ∙ ap (λ b. device && (list_all number a.touched && (list_all entry a.touched && b))) (none_unless on LeafNumber (unless (apart k a.touched) Shared (unless few TooManyOpen (unless short TooManyTouched []))))
+      ∙ ap (λ b. device && (list_all number a.touched && (list_all entry a.touched && (on && b))))
       (none_unless (apart k a.touched) Shared (unless few TooManyOpen (unless short TooManyTouched []))
       ∙ ap (λ b. apart k a.touched && b) (none_unless few TooManyOpen (unless short TooManyTouched []) ∙ ap (λ b. few && b) (none_unless short TooManyTouched []) ∙ and_true_last few short))
-      ∙ ap (λ b. device && b)
+      ∙ and_out device (list_all number a.touched) (list_all entry a.touched) leaves (list_all leaf a.touched) (apart k a.touched && (few && short))
+      ∙ ap (λ b. leaves && (device && b))
       (and_left_more (list_all number a.touched) (list_all entry a.touched) (list_all leaf a.touched) (apart k a.touched && (few && short))
       ∙ ap (λ b. b && (apart k a.touched && (few && short))) (sym (all_three number entry leaf a.touched)))
 
@@ -117,9 +128,9 @@ module _ {E P : Type 0} (k : Known E P) where
   none_after : (log rs : List (Record E P)) → is_none (faults_after k log rs) ≡ follow k log rs
   none_after log [] = refl
   none_after log (r ∷ rs) =
-      none_append (unfollowing k log (analysis k log) r (misfits k (analysis k (log ++ r ∷ [])))) (faults_after k (log ++ r ∷ []) rs)
+      none_append (unfollowing k log (analysis k log) r (misfits k true (analysis k (log ++ r ∷ [])))) (faults_after k (log ++ r ∷ []) rs)
       ∙ ap (λ b. b && is_none (faults_after k (log ++ r ∷ []) rs))
-      (none_unfollowing log (analysis k log) r (misfits k (analysis k (log ++ r ∷ []))) ∙ ap (λ b. may_follow k log (analysis k log) r && b) (none_misfit (analysis k (log ++ r ∷ []))))
+      (none_unfollowing log (analysis k log) r (misfits k true (analysis k (log ++ r ∷ []))) ∙ ap (λ b. may_follow k log (analysis k log) r && b) (none_misfit true (analysis k (log ++ r ∷ []))))
       ∙ ap (λ b. follows k log r && b) (none_after (log ++ r ∷ []) rs)
 
   none_noted : (test : Bool) (xs : List Damage) (fit later : Bool) → is_none xs ≡ (fit && later) → is_none (if test then xs else NoHead ∷ []) ≡ ((test && fit) && later)
@@ -130,9 +141,10 @@ module _ {E P : Type 0} (k : Known E P) where
   none_from [] later = refl
   none_from (Counters number counter used next ∷ notes) later =
       let head : List (Record E P) = Counters number counter used next ∷ notes in
-      none_noted (list_all is_note notes) (misfits k (analysis k head) ++ faults_after k head later) (fits k (analysis k head)) (follow k head later)
-      (none_append (misfits k (analysis k head)) (faults_after k head later) ∙ ap (λ b. b && is_none (faults_after k head later)) (none_misfit (analysis k head))
-      ∙ ap (λ b. fits k (analysis k head) && b) (none_after head later))
+      let leaves : Bool = list_all (note_fits used) notes in
+      none_noted (list_all is_note notes) (misfits k leaves (analysis k head) ++ faults_after k head later) (leaves && fits k (analysis k head)) (follow k head later)
+      (none_append (misfits k leaves (analysis k head)) (faults_after k head later) ∙ ap (λ b. b && is_none (faults_after k head later)) (none_misfit leaves (analysis k head))
+      ∙ ap (λ b. (leaves && fits k (analysis k head)) && b) (none_after head later))
   none_from (Pages images counter used ∷ rs) later = refl
   none_from (Write transaction entry mark after leaf content ∷ rs) later = refl
   none_from (Commit transaction number ∷ rs) later = refl

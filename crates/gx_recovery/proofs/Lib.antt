@@ -15,3 +15,7 @@ pub mod MachineSteps
 pub mod DamageItems
 pub mod WorkedProofs
 pub mod Numbers
+pub mod SoundRecords
+pub mod Unnamed
+pub mod Bodies
+pub mod Listing

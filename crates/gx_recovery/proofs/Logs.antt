@@ -7,7 +7,7 @@ use Rattle.std.proofs.lemmas.List.{append-nil}
 use Rattle.gx_recovery.specs.Known.{Known, IsLawful}
 use Rattle.gx_recovery.specs.Records.{Record, Pages, Write, Commit, End, Counters, Note, Touch, settled, any_number}
 use Rattle.gx_recovery.specs.Analysis.{Analysis, analysis, read, read_on, touching, lists}
-use Rattle.gx_recovery.specs.Damage.{touch_fits, apart, transactions, fits, is_transaction, is_open, may_follow, follows, follow, is_note, is_head, IsLog}
+use Rattle.gx_recovery.specs.Damage.{touch_fits, apart, transactions, fits, is_transaction, is_open, may_follow, follows, follow, is_note, note_fits, is_head, IsLog}
 use Rattle.gx_recovery.specs.declared.TheConstants.{TRANSACTIONS, TOUCHED}
 use Rattle.gx_recovery.proofs.Tests.{and_first, and_second}
 use Rattle.gx_recovery.proofs.Folds.{analysis-snoc, settled-snoc}
@@ -94,8 +94,10 @@ module _ {E P : Type 0} (k : Known E P) (l : IsLawful k) where
   fair_head [] h = cc
   fair_head (Counters number counter used next ∷ notes) h =
       let r : Record E P = Counters number counter used next in
-      let fit : fits k (analysis k (r ∷ notes)) ≡ true = and_second (list_all is_note notes) (fits k (analysis k (r ∷ notes))) h in
-      (refl, fair_notes (r ∷ []) notes (λ t. refl) (and_first (list_all is_note notes) (fits k (analysis k (r ∷ notes))) h) (fits_apart (analysis k (r ∷ notes)) fit))
+      let leaves : Bool = list_all (note_fits used) notes in
+      let fit : fits k (analysis k (r ∷ notes)) ≡ true =
+      and_second leaves (fits k (analysis k (r ∷ notes))) (and_second (list_all is_note notes) (leaves && fits k (analysis k (r ∷ notes))) h) in
+      (refl, fair_notes (r ∷ []) notes (λ t. refl) (and_first (list_all is_note notes) (leaves && fits k (analysis k (r ∷ notes))) h) (fits_apart (analysis k (r ∷ notes)) fit))
   fair_head (Pages images counter used ∷ rs) h = cc
   fair_head (Write transaction entry mark after leaf content ∷ rs) h = cc
   fair_head (Commit transaction number ∷ rs) h = cc
@@ -111,7 +113,7 @@ module _ {E P : Type 0} (k : Known E P) (l : IsLawful k) where
   told_log log is =
       subst (Told k) (sym is.parts) (kept_by_fair k (Told k) (told_step k l) [] (is.head ++ is.later) (told_nothing k l) (fair_log log is))
 
-  follow-append : (log xs ys : List (Record E P)) → follow k log xs ≡ true → follow k (log ++ xs) ys ≡ true → follow k log (xs ++ ys) ≡ true
+  pub follow-append : (log xs ys : List (Record E P)) → follow k log xs ≡ true → follow k (log ++ xs) ys ≡ true → follow k log (xs ++ ys) ≡ true
   follow-append log [] ys p q = ap (λ b. follow k b ys) (sym (append-nil log)) ∙ q
   follow-append log (x ∷ xs) ys p q =
       and_all (follows k log x) (follow k (log ++ x ∷ []) (xs ++ ys)) (and_first (follows k log x) (follow k (log ++ x ∷ []) xs) p)

@@ -13,7 +13,7 @@ use Rattle.std.proofs.Math.Seq.{get_or-append_seam}
 use Rattle.std.proofs.lemmas.List.{get_or-drop, drop-append-le, length-drop, length-append}
 use Rattle.gx_machine.specs.declared.entry.Entry.{Entry}
 use Rattle.gx_machine.specs.Keys as keys
-use Rattle.gx_machine.specs.Sets.{has, InOrder, Before}
+use Rattle.gx_machine.specs.Sets.{has, InOrder, Before, IsSetOf}
 use Rattle.gx_machine.specs.Sessions as sessions
 use Rattle.gx_machine.specs.Machine as machine
 use Rattle.gx_machine.proofs.SetLaws.{has-view, has-filter, in_order_filter}
@@ -25,7 +25,7 @@ use Rattle.gx_recovery.specs.Redo.{tree_of}
 use Rattle.gx_recovery.specs.Standing.{own_before, set_of, view_of}
 use Rattle.gx_recovery.specs.Damage.{IsLog}
 use Rattle.gx_recovery.specs.Life.{Kept, Move, Stays, Durable, Seals, Crashes, IsMove, AreSame, AreFewer, IsAdded, IsOneLeft}
-use Rattle.gx_recovery.specs.Machines.{IsSetOf, KeepsSets, IsMachineStep, entries_of, changes_of}
+use Rattle.gx_recovery.specs.Machines.{KeepsSets, is_working, IsMachineStep, entries_of, changes_of}
 use Rattle.gx_recovery.proofs.Tests.{true_or_false}
 use Rattle.gx_recovery.proofs.Touches as touches
 use Rattle.gx_recovery.proofs.Told.{Told}
@@ -181,14 +181,14 @@ module _ {B : Type 0} (k : keys.Keys B) where
         )
 
     -- each move of the kept sets is a step of the machine
-    pub machine_step : (old new : Kept (Entry B)) (move : Move (Entry B)) (m : machine.Machine B) → m.failed ≡ false → KeepsSets k old m → IsMove old move new → IsMachineStep k m move new
+    pub machine_step : (old new : Kept (Entry B)) (move : Move (Entry B)) (m : machine.Machine B) → (is_working move ≡ true → m.failed ≡ false) → KeepsSets k old m → IsMove old move new → IsMachineStep k m move new
     machine_step old new Stays m works keeps is = (refl, stays old new m keeps is)
-    machine_step old new Durable m works keeps is = fewer_sets old new m works keeps is
-    machine_step old new (Seals view) m works keeps is = added_set old new m view works keeps is
+    machine_step old new Durable m works keeps is = fewer_sets old new m (works refl) keeps is
+    machine_step old new (Seals view) m works keeps is = added_set old new m view (works refl) keeps is
     machine_step old new Crashes m works keeps is = one_left old new m keeps is
 
 module _ {B P : Type 0} (k : keys.Keys B) (l : keys.IsLawful k) (known : Known (Entry B) P) (kl : IsLawful known) (cmp : known.cmp ≡ keys.entry_cmp k) where
-  same_test : (a b : Entry B) → same known a b ≡ keys.same_entry k a b
+  pub same_test : (a b : Entry B) → same known a b ≡ keys.same_entry k a b
   same_test a b = ap (λ (c : Entry B → Entry B → Ordering). is_eq (c a b)) cmp
 
   entry_listed : (t : ℕ) (e : Entry B) (xs : List (Touch (Entry B))) → has k e (entries_of t xs) ≡ lists known t e xs

@@ -1,5 +1,6 @@
 -- The log that a checkpoint or an opening writes: it tells the same, and stands for the same set.
-use Rattle.std.proofs.Common.{◌≡◌, ℕ, Bool, true, not, List, [], ◌∷◌, ◌++◌, refl, ap, sym, ◌∙◌, subst, append_assoc}
+use Rattle.std.proofs.Common.{◌≡◌, ℕ, Bool, true, not, ◌&&◌, List, [], ◌∷◌, ◌++◌, refl, ap, sym, ◌∙◌, subst, append_assoc}
+use Rattle.std.specs.Prelude.{nat_le, length}
 use Rattle.std.specs.List.{list_all}
 use Rattle.std.specs.declared.cmp.Ordering.{Ordering}
 use Rattle.std.specs.declared.cmp.Ordering.TheVariants.{Less, Equal, Greater}
@@ -12,7 +13,8 @@ use Rattle.gx_recovery.specs.Records.{Record, Pages, Write, Commit, End, Counter
 use Rattle.gx_recovery.specs.Analysis.{Analysis, unread, analysis, read, read_on, touch_cmp, touching, number_of}
 use Rattle.gx_recovery.specs.Redo.{redone, tree_of}
 use Rattle.gx_recovery.specs.Standing.{first_before, counting, by_mark, set_of, stands_for}
-use Rattle.gx_recovery.specs.Damage.{fits, follows, follow, may_follow, is_note, is_head, IsLog}
+use Rattle.gx_recovery.specs.Damage.{is_transaction, is_page, touch_fits, apart, transactions, fits, follows, follow, may_follow, is_note, note_fits, is_head, IsLog}
+use Rattle.gx_recovery.specs.declared.TheConstants.{TRANSACTIONS, TOUCHED}
 use Rattle.gx_recovery.specs.Coming.{Placed, IsGood}
 use Rattle.gx_recovery.specs.Logged.{latest, kept, IsHealthy}
 use Rattle.gx_recovery.specs.Renewal.{notes_of, renewed, renewed_over}
@@ -57,6 +59,20 @@ module _ {E P : Type 0} (k : Known E P) (l : IsLawful k) where
   all_notes [] = refl
   all_notes (n ∷ ns) = all_notes ns
 
+  touches_fit : (a : Analysis E) → fits k a ≡ true → list_all (touch_fits k a.used) a.touched ≡ true
+  touches_fit a h =
+      let rest : Bool = apart k a.touched && (nat_le (transactions a.touched) TRANSACTIONS && nat_le (length a.touched) TOUCHED) in
+      and_first (list_all (touch_fits k a.used) a.touched) rest (and_second (nat_le a.used k.pages) (list_all (touch_fits k a.used) a.touched && rest) h)
+
+  -- notes of touches that fit are on leaves that are in use
+  notes_fit : (used : ℕ) (ns : List (Touch E)) → list_all (touch_fits k used) ns ≡ true → list_all {X = Record E P} (note_fits used) (notes_of ns) ≡ true
+  notes_fit used [] h = refl
+  notes_fit used (n ∷ ns) h =
+      let first = and_first (touch_fits k used n) (list_all (touch_fits k used) ns) h in
+      and_all (is_page used n.leaf) (list_all {X = Record E P} (note_fits used) (notes_of ns))
+      (and_second (k.is_entry n.entry) (is_page used n.leaf) (and_second (is_transaction n.transaction) (k.is_entry n.entry && is_page used n.leaf) first))
+      (notes_fit used ns (and_second (touch_fits k used n) (list_all (touch_fits k used) ns) h))
+
   no_pages : (area : ℕ → P) (ns : List (Touch E)) → redone {E = E} area (notes_of ns) ≡ area
   no_pages area [] = refl
   no_pages area (n ∷ ns) = no_pages area ns
@@ -71,7 +87,9 @@ module _ {E P : Type 0} (k : Known E P) (l : IsLawful k) where
 
   fits_head : (head : List (Record E P)) → is_head k head ≡ true → fits k (analysis k head) ≡ true
   fits_head [] h = cc
-  fits_head (Counters number counter used next ∷ notes) h = and_second (list_all is_note notes) (fits k (analysis k (Counters number counter used next ∷ notes))) h
+  fits_head (Counters number counter used next ∷ notes) h =
+      let fit : Bool = fits k (analysis k (Counters number counter used next ∷ notes)) in
+      and_second (list_all (note_fits used) notes) fit (and_second (list_all is_note notes) (list_all (note_fits used) notes && fit) h)
   fits_head (Pages images counter used ∷ rs) h = cc
   fits_head (Write transaction entry mark after leaf content ∷ rs) h = cc
   fits_head (Commit transaction number ∷ rs) h = cc
@@ -102,14 +120,15 @@ module _ {E P : Type 0} (k : Known E P) (l : IsLawful k) where
         ap (λ (u : ℕ). fits k (told_of u (analysis k (renewed k log)).touched)) numbers.2
         ∙ ap (λ (xs : List (Touch E)). fits k (told_of (analysis k log).used xs)) same_touched ∙ log_fits log is
 
+    pub renewed_is_head : is_head k (renewed k log) ≡ true
+    renewed_is_head =
+        and_all (list_all {X = Record E P} is_note (notes_of (analysis k log).touched))
+        (list_all {X = Record E P} (note_fits (analysis k log).used) (notes_of (analysis k log).touched) && fits k (analysis k (renewed k log))) (all_notes (analysis k log).touched)
+        (and_all (list_all {X = Record E P} (note_fits (analysis k log).used) (notes_of (analysis k log).touched)) (fits k (analysis k (renewed k log)))
+        (notes_fit (analysis k log).used (analysis k log).touched (touches_fit (analysis k log) (log_fits log is))) fits_still)
+
     pub renewed_is_log : IsLog k (renewed k log)
-    renewed_is_log = record {
-      head = renewed k log;
-      later = [];
-      parts = sym (append-nil (renewed k log));
-      begins = and_all (list_all {X = Record E P} is_note (notes_of (analysis k log).touched)) (fits k (analysis k (renewed k log))) (all_notes (analysis k log).touched) fits_still;
-      goes_on = refl;
-    }
+    renewed_is_log = record { head = renewed k log; later = []; parts = sym (append-nil (renewed k log)); begins = renewed_is_head; goes_on = refl }
 
     -- over the pages after the log, the new log's tree is the old one's
     pub same_tree : tree_of k (redone area log) (renewed k log) ≡ tree_of k area log

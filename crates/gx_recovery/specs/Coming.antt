@@ -1,11 +1,13 @@
 -- What a running index owes for each record that it appends.
-use Rattle.std.specs.Prelude.{◌≡◌, ℕ, Bool, true, false, not, Some, List, [], ◌∷◌, ◌++◌}
+use Rattle.std.specs.Prelude.{◌≡◌, ℕ, ◌≤◌, Bool, true, false, not, Some, List, [], ◌∷◌, ◌++◌, length, filter}
+use Rattle.std.specs.List.{list_all}
 use Rattle.gx_recovery.specs.Known.{Known, Tree, same}
-use Rattle.gx_recovery.specs.Records.{Record, Pages, Write, Commit, End, Counters, Note, Touch}
-use Rattle.gx_recovery.specs.Analysis.{analysis}
+use Rattle.gx_recovery.specs.Records.{Image, Record, Pages, Write, Commit, End, Counters, Note, Touch}
+use Rattle.gx_recovery.specs.Analysis.{analysis, touching, lists}
 use Rattle.gx_recovery.specs.Redo.{tree_of}
 use Rattle.gx_recovery.specs.Standing.{own_before}
-use Rattle.gx_recovery.specs.Damage.{follows}
+use Rattle.gx_recovery.specs.Damage.{transactions, is_page, image_fits, is_open, follows}
+use Rattle.gx_recovery.specs.declared.TheConstants.{TRANSACTIONS, TOUCHED}
 
 -- no entry's being live differs
 abbrev pub LiveAlike : {E P : Type 0} → Known E P → Tree P → Tree P → Type 0
@@ -51,3 +53,43 @@ pub record MayCome {E P : Type 0} (k : Known E P) (area : ℕ → P) (log : List
 abbrev pub MayComeAll : {E P : Type 0} → Known E P → (ℕ → P) → List (Record E P) → List (Record E P) → Type 0
 MayComeAll k area log [] = Unit {0}
 MayComeAll k area log (r ∷ rs) = MayCome k area log r × MayComeAll k area (log ++ r ∷ []) rs
+
+-- there is room for what is touched: by so many transactions, and so many entries in all
+pub record HasRoom {E : Type 0} (xs : List (Touch E)) : Type 0 where
+  pub few : transactions xs ≤ TRANSACTIONS
+  pub short : length xs ≤ TOUCHED
+
+-- no other transaction has touched the entry
+abbrev pub IsAlone : {E P : Type 0} → Known E P → ℕ → E → List (Touch E) → Type 0
+IsAlone k t e xs = (u : ℕ) → lists k u e xs ≡ true → u ≡ t
+
+-- what is touched beside this entry
+abbrev pub beside : {E P : Type 0} → Known E P → E → List (Touch E) → List (Touch E)
+beside k e xs = filter (λ x. not (same k x.entry e)) xs
+
+-- A write that is sound: its transaction is open; its entry is one of the class, and no other open transaction has touched
+-- it; the content is of its own leaf, which is in use; there is room for one touch more; it changes its entry alone; and
+-- the tree after it is sound, with the entry on that leaf or to the right of it, and all else that is touched in its place.
+pub record IsSoundWrite {E P : Type 0} (k : Known E P) (area : ℕ → P) (log : List (Record E P)) (t : ℕ) (entry : E) (before after : Bool) (leaf : ℕ) (content : P) : Type 0 where
+  pub open_yet : is_open t log ≡ true
+  pub of_class : k.is_entry entry ≡ true
+  pub alone : IsAlone k t entry (analysis k log).touched
+  pub own : k.own content ≡ leaf
+  pub in_use : is_page (analysis k log).used leaf ≡ true
+  pub room : HasRoom (touching k (record { transaction = t; entry = entry; before = before; leaf = leaf }) (analysis k log).touched)
+  pub exact : WritesOne k entry before after (tree_of k area log) (tree_of k area (log ++ Write t entry before after leaf content ∷ []))
+  pub sound : k.sound (tree_of k area (log ++ Write t entry before after leaf content ∷ []))
+  pub placed : k.placed (tree_of k area (log ++ Write t entry before after leaf content ∷ [])) entry leaf
+  pub others : Placed k (tree_of k area (log ++ Write t entry before after leaf content ∷ [])) (beside k entry (analysis k log).touched)
+
+-- Pages that are sound: neither the counter nor the pages in use fall, and the device has those; each image is of a page
+-- in use, with its own number; every entry is as live as it was; and the tree after them is sound, with all that is
+-- touched in its place.
+pub record AreSoundPages {E P : Type 0} (k : Known E P) (area : ℕ → P) (log : List (Record E P)) (images : List (Image P)) (counter used : ℕ) : Type 0 where
+  pub counter_stays : (analysis k log).counter ≤ counter
+  pub used_stays : (analysis k log).used ≤ used
+  pub on_device : used ≤ k.pages
+  pub fitting : list_all (image_fits k used) images ≡ true
+  pub exact : LiveAlike k (tree_of k area log) (tree_of k area (log ++ Pages images counter used ∷ []))
+  pub sound : k.sound (tree_of k area (log ++ Pages images counter used ∷ []))
+  pub placed : Placed k (tree_of k area (log ++ Pages images counter used ∷ [])) (analysis k log).touched

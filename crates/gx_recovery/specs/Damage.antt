@@ -69,9 +69,19 @@ is_note (End transaction) = false
 is_note (Counters number counter used next) = false
 is_note (Note transaction entry before leaf) = true
 
--- a log's head: the numbers, and then notes alone
+-- a note's leaf is in use; of two notes of one entry the analysis keeps the last one's leaf alone, so each is tested by itself
+abbrev pub note_fits : {E P : Type 0} → ℕ → Record E P → Bool
+note_fits used (Pages images counter now) = true
+note_fits used (Write transaction entry before after leaf content) = true
+note_fits used (Commit transaction number) = true
+note_fits used (End transaction) = true
+note_fits used (Counters number counter now next) = true
+note_fits used (Note transaction entry before leaf) = is_page used leaf
+
+-- a log's head: the numbers, and then notes alone, each on a leaf that is in use
 abbrev pub is_head : {E P : Type 0} → Known E P → List (Record E P) → Bool
-is_head k (Counters number counter used next ∷ notes) = list_all is_note notes && fits k (analysis k (Counters number counter used next ∷ notes))
+is_head k (Counters number counter used next ∷ notes) =
+    list_all is_note notes && (list_all (note_fits used) notes && fits k (analysis k (Counters number counter used next ∷ notes)))
 is_head k log = false
 
 -- the records of these bodies

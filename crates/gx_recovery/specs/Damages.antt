@@ -1,10 +1,10 @@
 -- What is wrong with given bodies, item by item: all that the tests of a log refuse.
-use Rattle.std.specs.Prelude.{ℕ, ◌+◌, Bool, true, false, not, nat_le, ◌==◌, if◌then◌else◌, length, List, [], ◌∷◌, ◌++◌}
+use Rattle.std.specs.Prelude.{ℕ, ◌+◌, Bool, true, false, not, ◌&&◌, nat_le, ◌==◌, if◌then◌else◌, length, List, [], ◌∷◌, ◌++◌}
 use Rattle.std.specs.List.{list_all}
 use Rattle.gx_recovery.specs.Known.{Known}
 use Rattle.gx_recovery.specs.Records.{Record, Pages, Write, Commit, End, Counters, Note, settled, any_number}
 use Rattle.gx_recovery.specs.Analysis.{Analysis, analysis}
-use Rattle.gx_recovery.specs.Damage.{is_transaction, is_page, apart, transactions, is_note, records_of}
+use Rattle.gx_recovery.specs.Damage.{is_transaction, is_page, apart, transactions, is_note, note_fits, records_of}
 use Rattle.gx_recovery.specs.declared.TheConstants.{TRANSACTIONS, TOUCHED}
 
 -- The items. NoBody: the first gate is closed. NoHead: the first body isn't Counters and then notes alone. HeadLater: they
@@ -35,13 +35,13 @@ pub data Damage : Type 0 where
 abbrev pub unless : Bool → Damage → List Damage → List Damage
 unless test item items = if test then items else item ∷ items
 
--- what is wrong with what a log tells at a record's end
-abbrev pub misfits : {E P : Type 0} → Known E P → Analysis E → List Damage
-misfits k a =
+-- what is wrong with what a log tells at a record's end, where leaves says whether leaves are in use beside those it tells
+abbrev pub misfits : {E P : Type 0} → Known E P → Bool → Analysis E → List Damage
+misfits k leaves a =
     unless (nat_le a.used k.pages) NotDevice
     (unless (list_all (λ t. is_transaction t.transaction) a.touched) LastNumber
     (unless (list_all (λ t. k.is_entry t.entry) a.touched) NoEntry
-    (unless (list_all (λ t. is_page a.used t.leaf) a.touched) LeafNumber
+    (unless (leaves && list_all (λ t. is_page a.used t.leaf) a.touched) LeafNumber
     (unless (apart k a.touched) Shared
     (unless (nat_le (transactions a.touched) TRANSACTIONS) TooManyOpen
     (unless (nat_le (length a.touched) TOUCHED) TooManyTouched []))))))
@@ -67,13 +67,13 @@ unfollowing k log a (Note transaction entry before leaf) more = HeadLater ∷ mo
 abbrev pub faults_after : {E P : Type 0} → Known E P → List (Record E P) → List (Record E P) → List Damage
 faults_after k log [] = []
 faults_after k log (r ∷ rs) =
-    unfollowing k log (analysis k log) r (misfits k (analysis k (log ++ r ∷ []))) ++ faults_after k (log ++ r ∷ []) rs
+    unfollowing k log (analysis k log) r (misfits k true (analysis k (log ++ r ∷ []))) ++ faults_after k (log ++ r ∷ []) rs
 
 -- what is wrong with the first body, and then with the records of the others; nothing more is read of a first body that
 -- isn't a head
 abbrev pub faults_from : {E P : Type 0} → Known E P → List (Record E P) → List (Record E P) → List Damage
 faults_from k (Counters number counter used next ∷ notes) later =
-    if list_all is_note notes then misfits k (analysis k (Counters number counter used next ∷ notes)) ++ faults_after k (Counters number counter used next ∷ notes) later
+    if list_all is_note notes then misfits k (list_all (note_fits used) notes) (analysis k (Counters number counter used next ∷ notes)) ++ faults_after k (Counters number counter used next ∷ notes) later
     else NoHead ∷ []
 faults_from k head later = NoHead ∷ []
 

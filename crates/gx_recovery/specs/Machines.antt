@@ -1,9 +1,9 @@
 -- Kept sets of a log as those of the set machine, which are lists in order; and a transaction's changes, read from a log.
-use Rattle.std.specs.Prelude.{◌≡◌, ℕ, ◌≤◌, Bool, true, not, ◌==◌, filter, map, Some, List}
+use Rattle.std.specs.Prelude.{◌≡◌, ℕ, ◌≤◌, Bool, true, false, not, ◌==◌, filter, map, Some, List}
 use Rattle.gx_machine.specs.declared.entry.Entry.{Entry}
 use Rattle.gx_machine.specs.declared.call.Call.TheVariants as call
 use Rattle.gx_machine.specs.Keys.{Keys}
-use Rattle.gx_machine.specs.Sets.{has, InOrder}
+use Rattle.gx_machine.specs.Sets.{has, IsSetOf}
 use Rattle.gx_machine.specs.Sessions as sessions
 use Rattle.gx_machine.specs.Machine as machine
 use Rattle.gx_machine.specs.Runs as runs
@@ -12,11 +12,6 @@ use Rattle.gx_recovery.specs.Records.{Record, Touch}
 use Rattle.gx_recovery.specs.Analysis.{analysis}
 use Rattle.gx_recovery.specs.Redo.{tree_of}
 use Rattle.gx_recovery.specs.Life.{Kept, Move, Stays, Durable, Seals, Crashes}
-
--- a list in order has what passes a test, and nothing else
-pub record IsSetOf {B : Type 0} (k : Keys B) (test : Entry B → Bool) (set : List (Entry B)) : Type 0 where
-  pub in_order : InOrder k set
-  pub members : (e : Entry B) → has k e set ≡ test e
 
 -- a machine keeps these sets, under the same numbers
 pub record KeepsSets {B : Type 0} (k : Keys B) (kept : Kept (Entry B)) (m : machine.Machine B) : Type 0 where
@@ -31,6 +26,13 @@ pub record AsksToCommit {B : Type 0} (k : Keys B) (added : Entry B → Bool) (s 
   pub changes : sessions.Changes B
   pub session : machine.session_at s m.sessions ≡ sessions.Open locks changes (Some call.Commit)
   pub view : (e : Entry B) → has k e (sessions.view k m.latest changes) ≡ added e
+
+-- the moves that a machine makes only while it hasn't failed: a crash comes also of one that has
+abbrev pub is_working : {E : Type 0} → Move E → Bool
+is_working Stays = false
+is_working Durable = true
+is_working (Seals view) = true
+is_working Crashes = false
 
 -- A move of the kept sets is a step of the machine that keeps them: nothing; durable up to the new first number; the
 -- seal of any session that asks to commit the view; a crash that leaves the new number.

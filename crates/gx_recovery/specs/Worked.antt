@@ -97,6 +97,8 @@ rows =
     ∷ later (Write 1 7 true false 3 (leaf 3 []) ∷ []) (LeafNumber ∷ [])
     ∷ first (fresh_head ∷ Note 1 7 true 3 ∷ []) (LeafNumber ∷ [])
     ∷ first (fresh_head ∷ Note 1 7 true 0 ∷ []) (LeafNumber ∷ [])
+    -- so of the first of two notes of one entry
+    ∷ first (fresh_head ∷ Note 1 7 true 9 ∷ Note 1 7 true 2 ∷ []) (LeafNumber ∷ [])
     -- a key that isn't one of the class
     ∷ later (insert 1 7000 ∷ []) (NoEntry ∷ [])
     -- the number that none can follow, of a write, a commit, an end and a note

@@ -1,14 +1,14 @@
 //! What holds of every log.
-ghost use Rattle.std.specs.Prelude.{◌≡◌, ℕ, ◌+◌, ◌<◌, ◌≤◌, Bool, true, false, not, if◌then◌else◌, Some, List, [], ◌∷◌, ◌++◌};
+ghost use Rattle.std.specs.Prelude.{◌≡◌, ℕ, ◌+◌, ◌<◌, ◌≤◌, Bool, true, false, not, if◌then◌else◌, None, Some, List, [], ◌∷◌, ◌++◌};
 ghost use Rattle.std.specs.List.{list_all, list_any};
 ghost use Rattle.gx_recovery.specs.Known.{Tree, IsLawful};
-ghost use Rattle.gx_recovery.specs.Records.{Record, Write, Commit, End, names};
+ghost use Rattle.gx_recovery.specs.Records.{Image, Record, Pages, Write, Commit, End, settled, any_number, names};
 ghost use Rattle.gx_recovery.specs.Analysis.{analysis, number_of};
 ghost use Rattle.gx_recovery.specs.Redo.{redone, tree_of};
 ghost use Rattle.gx_recovery.specs.Standing.{own_before, stands_for};
 ghost use Rattle.gx_recovery.specs.Damage.{is_open, follows, records_of, is_undamaged, Place, opened, bodies_read, IsLog};
 ghost use Rattle.gx_recovery.specs.Damages.{damages, is_none};
-ghost use Rattle.gx_recovery.specs.Coming.{WritesOne, Restored, IsGood, MayCome};
+ghost use Rattle.gx_recovery.specs.Coming.{WritesOne, Restored, IsGood, MayCome, MayComeAll, IsSoundWrite, AreSoundPages};
 ghost use Rattle.gx_recovery.specs.Logged.{Logged, all_records, latest, kept, IsHealthy, appended, begun, gate_synced, AgreesBeside, IsLeft, StandsForKept};
 ghost use Rattle.gx_recovery.specs.Renewal.{renewed, renewed_over, found};
 ghost use Rattle.gx_recovery.specs.Life.{IsMove, Stays, Durable, kept_of, append_move, AllWritten, LogStep, IsLogStep, move_of, IsLife, moves_of, AreMoves};
@@ -120,6 +120,27 @@ pub fn commit_and_end_may_come<M: Meaning>()
         → ((e : M.Entry) → Restored M.known t (tree_of M.known area log) log e) → MayCome M.known area log (End t) }
 {}
 
+/// A write, or pages, that are exact and sound may come: what the log then tells still fits.
+pub fn sound_records_may_come<M: Meaning>()
+    ensures write { IsLawful M.known → (area : ℕ → M.Page) (log : List (Record M.Entry M.Page)) → IsLog M.known log
+        → (t : ℕ) (entry : M.Entry) (before after : Bool) (leaf : ℕ) (content : M.Page) → IsSoundWrite M.known area log t entry before after leaf content
+        → MayCome M.known area log (Write t entry before after leaf content) }
+    ensures pages { IsLawful M.known → (area : ℕ → M.Page) (log : List (Record M.Entry M.Page)) → IsLog M.known log
+        → (images : List (Image M.Page)) (counter used : ℕ) → AreSoundPages M.known area log images counter used
+        → MayCome M.known area log (Pages images counter used) }
+{}
+
+/// A transaction that a log doesn't name is open in it and has touched nothing. A renewed log closes no transaction, and
+/// those that were open have their first marks before as they had.
+pub fn unnamed_and_renewed_are_open<M: Meaning>()
+    ensures open_yet { (log : List (Record M.Entry M.Page)) (t : ℕ) → list_any (names t) log ≡ false → settled any_number t log ≡ false }
+    ensures untouched { (log : List (Record M.Entry M.Page)) (t : ℕ) (e : M.Entry) → list_any (names t) log ≡ false
+        → own_before M.known t e log ≡ None }
+    ensures renewed { (log : List (Record M.Entry M.Page)) (t : ℕ) → settled any_number t (renewed M.known log) ≡ false }
+    ensures marks { IsLawful M.known → (area : ℕ → M.Page) (log : List (Record M.Entry M.Page)) → IsLog M.known log → (t : ℕ) (e : M.Entry)
+        → settled any_number t log ≡ false → own_before M.known t e (renewed M.known log) ≡ own_before M.known t e log }
+{}
+
 /// Each step of a log is a move of the kept sets: they stay, some go from the front, a commit's view is added, or a crash
 /// and its opening leave one. So it is over whole lives, and no commit that is durable is ever lost.
 pub fn a_life_moves_the_kept_sets<M: Meaning>()
@@ -137,6 +158,15 @@ pub fn a_life_moves_the_kept_sets<M: Meaning>()
 pub fn undamaged_bodies_are_a_log<M: Meaning>()
     ensures log { (bodies : List (List (Record M.Entry M.Page))) → is_undamaged M.known bodies ≡ true → IsLog M.known (records_of bodies) }
     ensures items { (bodies : List (List (Record M.Entry M.Page))) → is_none (damages M.known bodies) ≡ is_undamaged M.known bodies }
+{}
+
+/// Undamaged bodies stay so with a batch whose records may come, and a renewed log alone is undamaged. Which records the
+/// first body has matters: the same ones, cut in another way, may be damaged.
+pub fn bodies_stay_undamaged<M: Meaning>()
+    ensures batch { IsLawful M.known → (area : ℕ → M.Page) (bodies : List (List (Record M.Entry M.Page))) (body : List (Record M.Entry M.Page))
+        → is_undamaged M.known bodies ≡ true → MayComeAll M.known area (records_of bodies) body → is_undamaged M.known (bodies ++ body ∷ []) ≡ true }
+    ensures renewed { IsLawful M.known → (area : ℕ → M.Page) (log : List (Record M.Entry M.Page)) → IsLog M.known log
+        → is_undamaged M.known (renewed M.known log ∷ []) ≡ true }
 {}
 
 /// Of places with open gates, one whose gate is open or not, and then closed ones, the open bodies are read, with the
