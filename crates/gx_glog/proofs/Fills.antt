@@ -7,6 +7,8 @@ use Rattle.gx_disk.proofs.Spans.{length-put, put_back, put_behind}
 use Rattle.gx_record.specs.Bytes.{u32_bytes, u32_of}
 use Rattle.gx_record.proofs.Numbers.{length-u32_bytes, u32_again}
 use Rattle.gx_glog.specs.declared.extent.Extent.{Extent}
+use Rattle.gx_glog.specs.declared.extent.Extent.TheVariants.{A, B}
+use Rattle.gx_glog.specs.First.{selector_bytes}
 use Rattle.gx_glog.specs.Layout.{size_in, records_in}
 use Rattle.gx_glog.specs.Turning.{selector_of, IsSelector}
 use Rattle.gx_glog.specs.Bodies.{IsZero, IsFilled, IsBody, IsOpenGate}
@@ -131,6 +133,11 @@ gate_is n bytes whole is = let is_marked = marked n 0xA7 bytes whole is in recor
 
 pub selector_is : (extent : Extent) (n byte : ℕ) (bytes : List ℕ) → n ≡ 512 → byte ≡ selector_of extent → bytes ≡ slice_set (replicate n 0) 0 byte → IsSelector extent bytes
 selector_is extent n byte bytes whole selects is = let is_marked = marked n byte bytes whole is in record { whole = is_marked.whole; selects = is_marked.first ∙ selects; zeros = is_marked.zeros }
+
+-- a selector's sector, byte by byte
+pub selector_spelled : (extent : Extent) (byte : ℕ) → byte ≡ selector_of extent → slice_set (replicate 512 0) 0 byte ≡ selector_bytes extent
+selector_spelled A byte is = rw is refl
+selector_spelled B byte is = rw is refl
 
 -- a part has as many bytes as lie between its ends
 pub part_size : (from to : ℕ) (xs : List ℕ) → from ≤ to → to ≤ length xs → length (take (to - from) (drop from xs)) ≡ to - from

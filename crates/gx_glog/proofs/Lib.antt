@@ -1,5 +1,6 @@
 pub mod Besides
 pub mod Fills
+pub mod FirstLog
 pub mod Gates
 pub mod Images
 pub mod Keeping

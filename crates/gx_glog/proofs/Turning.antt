@@ -174,7 +174,7 @@ turn_stays turn.Selector extent used gated head filling before now result on (by
 turn_stays turn.Done extent used gated head filling before now result on syncs = rests turn.Done extent used gated head filling before now on result syncs (rested_within before now result syncs)
 
 -- the head is the first batch of the other extent, once its gate is synced
-head_stands : (extent : Extent) (head seen : List ℕ) (pending : ℕ → Bool) → 2134016 ≤ length seen → IsSize (length head) → HasFirst extent head seen pending → IsGate true seen pending extent 0 → HasHead extent head seen pending
+pub head_stands : (extent : Extent) (head seen : List ℕ) (pending : ℕ → Bool) → 2134016 ≤ length seen → IsSize (length head) → HasFirst extent head seen pending → IsGate true seen pending extent 0 → HasHead extent head seen pending
 head_stands extent head seen pending size fits has gate =
     let zero_is : (k : ℕ) → k < 1 → 0 ≡ k = λ k less. omega arith in
     let G : ℕ → Type 0 = λ k. IsGate true seen pending extent k in

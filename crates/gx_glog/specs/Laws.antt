@@ -2,9 +2,11 @@
 use Rattle.std.specs.Prelude.{◌≡◌, ℕ, ◌+◌, ◌<◌, ◌≤◌, Bool, List, [], ◌++◌, length}
 use Rattle.gx_disk.specs.Device.{IsImage}
 use Rattle.gx_glog.specs.declared.extent.Extent.{Extent}
+use Rattle.gx_glog.specs.declared.extent.Extent.TheVariants.{A}
 use Rattle.gx_glog.specs.declared.stage.Stage.TheVariants.{Idle}
 use Rattle.gx_glog.specs.declared.stage.Turn.TheVariants.{Closed}
-use Rattle.gx_glog.specs.Layout.{selected_of}
+use Rattle.gx_glog.specs.First.{first_record, HasFirstLog, IsFirstSettled}
+use Rattle.gx_glog.specs.Layout.{selected_of, log_of}
 use Rattle.gx_glog.specs.State.{Log}
 use Rattle.gx_glog.specs.Standing.{IsSelected, HasBatches, On, gated_of, Shows, ShowsIn, LeavesLog}
 
@@ -22,6 +24,18 @@ SelectorDecides = (log : Log) (seen : List ℕ) (pending : ℕ → Bool) (image 
 abbrev pub StartIsOn : Type 0
 StartIsOn = (extent : Extent) (used : ℕ) (seen : List ℕ) (pending : ℕ → Bool) → used ≤ 32 → IsSelected extent seen pending → HasBatches extent used used seen pending
     → On (record { extent = extent; used = used; gated = used; stage = Idle; turn = Closed; flight = []; filling = [] }) seen pending
+
+-- the first log of a device that it was laid down on
+abbrev pub FirstLogIs : Type 0
+FirstLogIs = (seen : List ℕ) → HasFirstLog seen → log_of seen ≡ first_record
+
+-- a log with one place taken is on that device, and each image has the first log
+abbrev pub FirstLogIsOn : Type 0
+FirstLogIsOn = (seen : List ℕ) (pending : ℕ → Bool) → HasFirstLog seen → IsFirstSettled pending
+    → On (record { extent = A; used = 1; gated = 1; stage = Idle; turn = Closed; flight = []; filling = [] }) seen pending
+
+abbrev pub ImagesHaveTheFirstLog : Type 0
+ImagesHaveTheFirstLog = (seen : List ℕ) (pending : ℕ → Bool) (image : List ℕ) → HasFirstLog seen → IsFirstSettled pending → IsImage seen pending image → HasFirstLog image
 
 -- a record more that fills changes nothing of it, where no turn is under way
 abbrev pub AppendStaysOn : Type 0

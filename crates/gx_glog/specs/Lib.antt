@@ -1,6 +1,7 @@
 pub mod Appending
 pub mod Beside
 pub mod Bodies
+pub mod First
 pub mod Laws
 pub mod Layout
 pub mod Looks

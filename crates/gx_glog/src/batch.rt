@@ -3,6 +3,7 @@ ghost use Rattle.std.specs.Prelude.{◌≡◌, ◌≢◌, ◌+◌, ◌*◌, ◌�
 ghost use Rattle.gx_disk.specs.Device.{Counts, Writes, Syncs};
 ghost use Rattle.gx_glog.specs.Layout.{gates_of, bodies_of};
 ghost use Rattle.gx_glog.specs.Bodies.{IsBody, IsOpenGate};
+ghost use Rattle.gx_glog.specs.First.{open_gate_bytes};
 ghost use Rattle.gx_glog.specs.State.{begun, done, in_flight, calls_of, Made, Goes};
 ghost use Rattle.gx_glog.specs.Standing.{On};
 ghost use Rattle.gx_glog.specs.Steps.{Calls, CallOf, Keeps};
@@ -14,9 +15,10 @@ use gx_disk::{SECTOR_SIZE, SectorDisk};
 use gx_geom::Refusal;
 use std::mem;
 
-// The sector of an open gate.
-fn open_gate() -> [u8; SECTOR_SIZE]
-    ensures { IsOpenGate result }
+/// The sector of an open gate.
+pub fn open_gate() -> [u8; SECTOR_SIZE]
+    ensures gate { IsOpenGate result }
+    ensures bytes { result ≡ open_gate_bytes }
 {
     let mut bytes = [0; SECTOR_SIZE];
     bytes[0] = OPEN;

@@ -16,7 +16,8 @@ pub const BODY_SIZE: usize = 32768;
 /// How many batches an extent has places for.
 pub const PLACES: u8 = 32;
 
-pub(crate) const SELECTOR: u64 = 2;
+/// The sector of the selector.
+pub const SELECTOR: u64 = 2;
 
 const SELECTS_B: u8 = 0x5A;
 
@@ -60,8 +61,8 @@ pub fn selected<D: SectorDisk>(disk: &mut D) -> Result<Extent, Refusal>
 }
 
 impl Extent {
-    /// The sector of its first gate.
-    pub(crate) fn gates(self) -> u64
+    /// The sector of its first gate; the others stand behind it.
+    pub fn gates(self) -> u64
         ensures { result ≡ gates_of self }
     {
         match self {
@@ -101,8 +102,8 @@ impl Extent {
         }
     }
 
-    /// The first sector of its first body.
-    pub(crate) fn bodies(self) -> u64
+    /// The first sector of its first body, which has 64; the others stand behind it.
+    pub fn bodies(self) -> u64
         ensures { result ≡ bodies_of self }
     {
         match self {

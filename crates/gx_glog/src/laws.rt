@@ -1,8 +1,10 @@
 //! Laws of a log on a device, and of the sector of parameters. Each function is its contract alone.
 ghost use Rattle.std.specs.Prelude.{◌≡◌};
+ghost use Rattle.gx_glog.specs.declared.extent.TheConstants.{SELECTOR};
 ghost use Rattle.gx_glog.specs.declared.parameters.TheConstants.{PARAMETERS};
 ghost use Rattle.gx_glog.specs.Parameters.{BytesTellParameters};
-ghost use Rattle.gx_glog.specs.Laws.{ImagesHaveTheLog, SelectorDecides, StartIsOn, AppendStaysOn, PutFirstStaysOn, ElsewhereStaysOn, ElsewhereKeepsBatches};
+ghost use Rattle.gx_glog.specs.First.{FirstIsSpelled};
+ghost use Rattle.gx_glog.specs.Laws.{FirstLogIs, FirstLogIsOn, ImagesHaveTheFirstLog, ImagesHaveTheLog, SelectorDecides, StartIsOn, AppendStaysOn, PutFirstStaysOn, ElsewhereStaysOn, ElsewhereKeepsBatches};
 
 /// Of a device that a log is on, the log of each image is what is gated, with what is in flight or without: without as long as
 /// its gate isn't written. From a turn's write of the selector on it is what is gated or the head, as the image's selector says.
@@ -23,6 +25,16 @@ pub fn appends()
 pub fn calls_elsewhere()
     ensures on { ElsewhereStaysOn }
     ensures batches { ElsewhereKeepsBatches }
+{}
+
+/// The first log of a device that holds what is laid down of it: its one record, spelled; a running log with one place taken is on
+/// that device; and each image of it holds the same.
+pub fn first_log()
+    ensures spelled { FirstIsSpelled }
+    ensures selector { SELECTOR ≡ 2 }
+    ensures log { FirstLogIs }
+    ensures on { FirstLogIsOn }
+    ensures images { ImagesHaveTheFirstLog }
 {}
 
 /// The bytes of a device's parameters tell which they are, and stand in sector 1.

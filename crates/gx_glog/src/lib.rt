@@ -6,13 +6,17 @@ mod buffer;
 pub mod caller;
 mod extent;
 mod filling;
+mod first;
 pub mod laws;
 mod parameters;
 mod stage;
 mod turn;
 pub mod turn_caller;
 
-pub use extent::{BODY_SIZE, Extent, PLACES, read_extent, selected};
+pub use batch::open_gate;
+pub use extent::{BODY_SIZE, Extent, PLACES, SELECTOR, read_extent, selected};
 pub use filling::{Appended, Glog};
+pub use first::first_body;
 pub use parameters::{PARAMETERS, Parameters};
 pub use stage::{Stage, Turn};
+pub use turn::{GATES_SIZE, closed_gates, selecting};

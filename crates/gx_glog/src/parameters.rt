@@ -19,7 +19,7 @@ pub struct Parameters {
 }
 
 // Writes bytes over those from a place on.
-fn put(sector: &mut [u8], at: usize, bytes: &[u8])
+pub(crate) fn put(sector: &mut [u8], at: usize, bytes: &[u8])
     requires { at + length bytes.now ≤ length sector.old }
     ensures { sector.new ≡ take at sector.old ++ (bytes.now ++ drop (at + length bytes.now) sector.old) }
 {

@@ -1,10 +1,11 @@
 //! The turn to the other extent, one device call a step.
-ghost use Rattle.std.specs.Prelude.{◌≡◌, ◌≤◌, ◌<◌, ℕ, [], true, length, IfErr, IfOk};
+ghost use Rattle.std.specs.Prelude.{◌≡◌, ◌≤◌, ◌<◌, ℕ, [], true, length, replicate, IfErr, IfOk};
 ghost use Rattle.gx_disk.specs.Device.{Counts, Writes};
 ghost use Rattle.gx_record.specs.Format.{IsInRange, spelling};
 ghost use Rattle.gx_record.specs.Seen.{rec_of};
 ghost use Rattle.gx_glog.specs.Layout.{other_of};
 ghost use Rattle.gx_glog.specs.Bodies.{IsZero};
+ghost use Rattle.gx_glog.specs.First.{closed_gates_bytes, selector_bytes};
 ghost use Rattle.gx_glog.specs.State.{turned, Turns};
 ghost use Rattle.gx_glog.specs.Standing.{On};
 ghost use Rattle.gx_glog.specs.Turning.{PutsFirst, AreClosedGates, IsSelector, TurnCalls, KeepsTurning};
@@ -17,27 +18,30 @@ use gx_disk::{SECTOR_SIZE, SectorDisk};
 use gx_geom::Refusal;
 use gx_record::Record;
 
-// How many bytes the gates of an extent have.
-const GATES_SIZE: usize = 16384;
+/// How many bytes the gates of an extent have.
+pub const GATES_SIZE: usize = 16384;
 
 // So many zeros.
 fn zeroed<const N: usize>() -> [u8; N]
+    ensures bytes { result ≡ replicate N 0 }
     ensures size { length result ≡ N }
     ensures zeros { IsZero result }
 {
     [0; N]
 }
 
-// The sectors of an extent's gates, all closed.
-fn closed_gates() -> [u8; GATES_SIZE]
-    ensures { AreClosedGates result }
+/// The sectors of an extent's 32 gates, all closed.
+pub fn closed_gates() -> [u8; GATES_SIZE]
+    ensures gates { AreClosedGates result }
+    ensures bytes { result ≡ closed_gates_bytes }
 {
     zeroed()
 }
 
-// The sector of a selector.
-fn selecting(extent: Extent) -> [u8; SECTOR_SIZE]
-    ensures { IsSelector extent result }
+/// The selector's sector, as it is written to select an extent.
+pub fn selecting(extent: Extent) -> [u8; SECTOR_SIZE]
+    ensures selector { IsSelector extent result }
+    ensures bytes { result ≡ selector_bytes extent }
 {
     let mut bytes = [0; SECTOR_SIZE];
     bytes[0] = extent.selector();
