@@ -1,5 +1,5 @@
 -- What each device call of a turn keeps.
-use Rattle.std.proofs.Common.{◌≡◌, ◌∙◌, sym, ap, inl, inr, ℕ, ◌+◌, ◌*◌, ◌<◌, ◌≤◌, ◌==◌, List, [], length, take, drop, get_or, true, false, Bool, Result, Ok, Err, subst, if◌then◌else◌, arith}
+use Rattle.std.proofs.Common.{◌≡◌, ◌∙◌, sym, ap, refl, inl, inr, ℕ, ◌+◌, ◌*◌, ◌<◌, ◌≤◌, ◌==◌, List, [], length, take, drop, get_or, true, false, Bool, Result, Ok, Err, subst, if◌then◌else◌, arith}
 use Rattle.std.proofs.lemmas.List.{get_or-take, get_or-drop}
 use Rattle.gx_geom.specs.declared.refusal.Refusal.{Refusal}
 use Rattle.gx_disk.specs.Sectors.{span_of, IsWithin}
@@ -155,7 +155,7 @@ turn_stays turn.Gate extent head before now result leads (bytes, is_gate, writes
       leads = (
         other_selected extent first 1 before now lies writes.touches leads.0,
         first_kept before.seen now.seen before.pending now.pending to head (λ k some below. touched_kept first 1 (gates_of to + k) before now writes.touches (inr (omega arith)))
-        (λ s within. touched_kept first 1 s before now writes.touches (inr (omega (arith, at.bodies, within.from)))) leads.1,
+            (λ s within. touched_kept first 1 s before now writes.touches (inr (omega (arith, at.bodies, within.from)))) leads.1,
       );
       touches = other_touches extent first 1 before now lies writes.touches;
       time = writes.time;
