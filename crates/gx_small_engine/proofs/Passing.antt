@@ -1,16 +1,12 @@
 -- What a loop over a list has passed, one element more.
 use Rattle.std.proofs.Common.{◌≡◌, ◌≤◌, ◌<◌, ◌+◌, ◌-◌, ℕ, Bool, true, false, not, List, [], ◌∷◌, ◌++◌, Option, Some, None, map, take, drop, length, get_or, ap, sym, ◌∙◌, arith}
-use Rattle.std.specs.Prelude.{if◌then◌else◌, insert, cond, filter}
+use Rattle.std.specs.Prelude.{if◌then◌else◌, cond, filter}
 use Rattle.std.specs.Prelude.{unwrap_or}
 use Rattle.std.specs.Option.{option_or}
-use Rattle.std.specs.Ordering.{match_ordering}
-use Rattle.std.specs.declared.cmp.Ordering.{Ordering}
-use Rattle.std.specs.declared.cmp.Ordering.TheVariants.{Less, Equal, Greater}
-use Rattle.std.proofs.lemmas.List.{drop_more, take_more, drop_all, take-append-drop, append_assoc, append-nil, map-append}
+use Rattle.std.proofs.lemmas.List.{drop_more, take_more, drop_all, append-nil, map-append}
 use Rattle.std.proofs.lemmas.List.Elements.{filter-append}
 use Rattle.gx_machine.specs.declared.entry.Entry.{Entry}
-use Rattle.gx_machine.specs.Keys.{Keys, entry_cmp, same_entry}
-use Rattle.gx_machine.specs.Sets.{including}
+use Rattle.gx_machine.specs.Keys.{Keys, same_entry}
 use Rattle.gx_txn.specs.declared.note.Note as txn
 use Rattle.gx_txn.specs.Tables.{Held, nothing_held}
 use Rattle.gx_engine_laws.specs.declared.look.Listed.{Listed}
