@@ -1,0 +1,16 @@
+pub mod Tools
+pub mod Living
+pub mod Leaving
+pub mod Claims
+pub mod Room
+pub mod Standing
+pub mod Writing
+pub mod Happens
+pub mod Quiet
+pub mod Answering
+pub mod Entering
+pub mod Paging
+pub mod Closing
+pub mod Logging
+pub mod AskedCalls
+pub mod FreshIndex
