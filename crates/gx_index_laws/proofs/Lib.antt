@@ -13,4 +13,8 @@ pub mod Paging
 pub mod Closing
 pub mod Logging
 pub mod AskedCalls
+pub mod Noting
+pub mod AlikeTrees
+pub mod Stepping
 pub mod FreshIndex
+pub mod Joins

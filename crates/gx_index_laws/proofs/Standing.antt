@@ -55,7 +55,7 @@ each_listed k l Q (x ∷ xs) all =
       each_listed k l Q xs (λ y listed. all y (or_second (x.transaction == y.transaction && same k y.entry x.entry) (lists k y.transaction y.entry xs) listed)),
     )
 
-some_mapped : (o : Option Bool) → is_some (option_map not o) ≡ is_some o
+pub some_mapped : (o : Option Bool) → is_some (option_map not o) ≡ is_some o
 some_mapped None = refl
 some_mapped (Some b) = refl
 

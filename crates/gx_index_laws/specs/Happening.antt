@@ -1,5 +1,5 @@
 -- What happens to an index.
-use Rattle.std.specs.Prelude.{ℕ, suc, Bool, true, ◌==◌, if◌then◌else◌, None, List, [], ◌∷◌}
+use Rattle.std.specs.Prelude.{ℕ, suc, ◌≡◌, Bool, true, ◌==◌, if◌then◌else◌, None, List, [], ◌∷◌}
 use Rattle.gx_machine.specs.declared.entry.Entry.{Entry}
 use Rattle.gx_machine.specs.declared.call.Call.{Call}
 use Rattle.gx_machine.specs.declared.call.Call.TheVariants.{Begin, Insert, Delete, Search, Commit, Abort}
@@ -69,3 +69,8 @@ with_transaction a s = record (slotted a (Working no_locks [] None) Rests s) { t
 -- a fault has made the index fail
 abbrev pub failed_state : {B : Type 0} → State B → State B
 failed_state s = record s { failed = true }
+
+-- from old, these events lead to new, one after another
+abbrev pub AreHappening : {B : Type 0} → Class B → State B → List (Event B) → State B → Type 0
+AreHappening c old [] new = new ≡ old
+AreHappening {B} c old (event ∷ events) new = (middle : State B) × Happens c old event middle × AreHappening c middle events new

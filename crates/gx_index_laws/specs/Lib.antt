@@ -4,3 +4,4 @@ pub mod Steps
 pub mod Working
 pub mod Whole
 pub mod Happening
+pub mod Alike

@@ -9,4 +9,6 @@ pub mod looks;
 pub mod writes;
 pub mod endings;
 pub mod logged;
+pub mod pages;
+pub mod runs;
 

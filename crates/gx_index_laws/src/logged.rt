@@ -41,10 +41,11 @@ pub fn the_log_goes_on<B>()
         }) }
 {}
 
-/// A checkpoint's new log, of numbers and notes, takes the old one's place, where all is gated and all pages are written.
+/// A checkpoint's new log, of numbers and notes, takes the old one's place, where all is gated and all pages are written. It
+/// carries the next transaction's number, which may be above what the old log told.
 pub fn a_log_is_renewed<B>()
     ensures { (c : Class B) → IsLawful c → (old : State B) → IsWhole c old → old.log.flight ≡ [] → old.log.filling ≡ [] → AllWritten old.log
-        → Happens c old Works (record old { log = record old.log { gated = renewed (known_of c) old.log.gated } }) }
+        → Happens c old Works (record old { log = record old.log { gated = renewed (known_of c) old.next old.log.gated } }) }
 {}
 
 /// A fault makes an index fail, whether a session sees it or not, and changes nothing else. A failed index refuses.

@@ -1,5 +1,5 @@
 //! A session's look, descent or seek at work, and the answers that it comes to.
-ghost use Rattle.std.specs.Prelude.{◌≡◌, ◌<◌, ℕ, Bool, true, false, not, ◌&&◌, Some, None, List, [], ◌∷◌, map};
+ghost use Rattle.std.specs.Prelude.{◌≡◌, ◌<◌, ℕ, Bool, true, false, not, ◌&&◌, Some, None, List, [], ◌∷◌, ◌++◌, map};
 ghost use Rattle.gx_geom.specs.declared.refusal.Refusal.{Refusal};
 ghost use Rattle.gx_machine.specs.declared.entry.Entry.{Entry};
 ghost use Rattle.gx_machine.specs.declared.query.Query.{Query};
@@ -11,11 +11,14 @@ ghost use Rattle.gx_tree_laws.specs.Lists.{how_many};
 ghost use Rattle.gx_tree_laws.specs.Trees.{Pair, Used, standing};
 ghost use Rattle.gx_tree_laws.specs.Reach.{Item};
 ghost use Rattle.gx_tree_laws.specs.Looks.{LeadsTo, stacked, found_with, from_root};
-ghost use Rattle.gx_engine_laws.specs.Slots.{Note, Working, slot_at};
+ghost use Rattle.gx_engine_laws.specs.Slots.{Note, Working, Undoing, slot_at, noted};
 ghost use Rattle.gx_engine_laws.specs.Engines.{gathered};
 ghost use Rattle.gx_engine_laws.specs.Events.{Finds, FindsPresent, FindsAbsent, Closes, Works};
 ghost use Rattle.gx_engine_laws.specs.Wants.{slot_wants};
-ghost use Rattle.gx_index_laws.specs.Classes.{Class, IsLawful, entry_of, is_of};
+ghost use Rattle.gx_recovery.specs.Records.{Touch};
+ghost use Rattle.gx_recovery.specs.Analysis.{analysis, lists};
+ghost use Rattle.gx_recovery.specs.Logged.{all_records};
+ghost use Rattle.gx_index_laws.specs.Classes.{Class, IsLawful, entry_of, is_of, known_of};
 ghost use Rattle.gx_index_laws.specs.States.{State, Work, Rests, Looks, Descends, Seeks, tree_now};
 ghost use Rattle.gx_index_laws.specs.Working.{wants_pair, open_call, DoesWork};
 ghost use Rattle.gx_index_laws.specs.Whole.{IsWhole};
@@ -52,6 +55,18 @@ pub fn a_look_turns_into_a_descent_or_a_seek<B>()
     ensures right { (c : Class B) → IsLawful c → (old : State B) → IsWhole c old → (s : ℕ) (e : Entry B) (leaf : ℕ)
         → old.work s ≡ Seeks e leaf → how_many (is_of c e) ((tree_now c old).node leaf).pairs ≡ 0
         → DoesWork c (tree_now c old) (slot_at s old.slots) (Seeks e ((tree_now c old).node leaf).right) }
+{}
+
+/// An undo's seek of an entry that it has noted begins with its note's leaf, as the log tells it: each noted entry is among what
+/// the transaction has touched, and stands on that touch's leaf or to the right of it.
+pub fn an_undo_seeks_from_its_notes_leaf<B>()
+    ensures touched { (c : Class B) → IsLawful c → (old : State B) → IsWhole c old → (s : ℕ) (locks : Locks B) (notes : List (Note B))
+        → slot_at s old.slots ≡ Undoing locks notes → (e : Entry B) (was : Bool) → noted c.keys e notes ≡ Some was
+        → lists (known_of c) (old.transaction s) e (analysis (known_of c) (all_records old.log)).touched ≡ true }
+    ensures seeks { (c : Class B) → IsLawful c → (old : State B) → IsWhole c old → (s : ℕ) (locks : Locks B) (notes : List (Note B))
+        → slot_at s old.slots ≡ Undoing locks notes → (before after : List (Touch (Entry B))) (x : Touch (Entry B))
+        → (analysis (known_of c) (all_records old.log)).touched ≡ before ++ x ∷ after → x.transaction ≡ old.transaction s
+        → DoesWork c (tree_now c old) (slot_at s old.slots) (Seeks x.entry x.leaf) }
 {}
 
 /// A search's look that has ended is the answer: what it found, in order and without repeats, is what the machine finds.
