@@ -1,6 +1,6 @@
 -- Trees that agree on their pages are alike: in legality, in their pairs, and in seeks.
-use Rattle.std.proofs.Common.{◌≡◌, ◌≢◌, ℕ, suc, ◌+◌, ◌<◌, ◌≤◌, Bool, true, List, [], ◌∷◌, refl, ap, sym, ◌∙◌, subst, arith}
-use Rattle.gx_tree_laws.specs.Lists.{sum_over, how_many, Each, total}
+use Rattle.std.proofs.Common.{◌≡◌, ℕ, suc, ◌+◌, ◌<◌, ◌≤◌, Bool, List, [], ◌∷◌, refl, ap, sym, ◌∙◌, subst, arith}
+use Rattle.gx_tree_laws.specs.Lists.{how_many, total}
 use Rattle.gx_tree_laws.specs.Trees.{Pair, Child, Node, Tree, Rules, Used, times, child_pages, parents, walk, leaves, passing, standing, is_entry}
 use Rattle.gx_tree_laws.specs.Legal.{Bounds, ChildFits, NodeFits, Linked, Legal}
 use Rattle.gx_tree_laws.specs.Writes.{IsSeek}
@@ -53,7 +53,7 @@ module _ {B : Type 0} (r : Rules B) (one other : Tree B) (agree : AgreeOnUsed on
     parents_too q =
         ap (total (λ p. times q (child_pages (other.node p)))) agree.used
         ∙ total_same (λ p. times q (child_pages (other.node p))) (λ p. times q (child_pages (one.node p))) one.used
-          (λ p low high. ap (λ (n : Node B). times q (child_pages n)) (agree.nodes p (low, high)))
+        (λ p low high. ap (λ (n : Node B). times q (child_pages n)) (agree.nodes p (low, high)))
 
     child_too : (above : ℕ) (x : Child B) → ChildFits r one above x → ChildFits r other above x
     child_too above x f =

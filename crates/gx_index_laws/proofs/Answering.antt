@@ -1,20 +1,17 @@
 -- What a session's look, descent or seek comes to.
-use Rattle.std.proofs.Common.{◌≡◌, ◌≢◌, ℕ, ◌+◌, ◌<◌, ◌≤◌, Bool, true, false, not, ◌&&◌, ◌||◌, inl, inr, List, [], ◌∷◌, ◌++◌, map, Option, Some, None, refl, ap, sym, ◌∙◌, subst, arith}
+use Rattle.std.proofs.Common.{◌≡◌, ℕ, ◌+◌, ◌<◌, ◌≤◌, Bool, true, false, not, ◌&&◌, ◌||◌, inl, inr, List, [], ◌∷◌, map, Some, None, refl, ap, sym, ◌∙◌, subst, arith}
 use Rattle.std.specs.Prelude.{nat_lt}
 use Rattle.std.proofs.lemmas.Bool.{lt-ltb, ltb-true}
-use Rattle.gx_geom.specs.declared.refusal.Refusal.{Refusal}
 use Rattle.gx_machine.specs.declared.entry.Entry.{Entry}
 use Rattle.gx_machine.specs.declared.query.Query.{Query}
 use Rattle.gx_machine.specs.declared.call.Call.{Call}
-use Rattle.gx_machine.specs.declared.call.Call.TheVariants.{Begin, Insert, Delete, Search, Commit, Abort}
+use Rattle.gx_machine.specs.declared.call.Call.TheVariants.{Insert, Delete, Search}
 use Rattle.gx_machine.specs.Keys.{same_entry, matches}
-use Rattle.gx_machine.specs.Sets.{has, IsSetOf}
+use Rattle.gx_machine.specs.Sets.{has}
 use Rattle.gx_machine.specs.Sessions.{Locks}
-use Rattle.gx_machine.specs.Machine.{is_session}
-use Rattle.gx_machine.specs.Runs.{may_close}
 use Rattle.gx_machine.proofs.SetLaws.{same_is}
 use Rattle.gx_machine.proofs.SetsByTests.{set_of_a_test_that_agrees, set_that_is_gathered}
-use Rattle.gx_tree_laws.specs.Lists.{one_if, how_many, sum_over}
+use Rattle.gx_tree_laws.specs.Lists.{one_if, how_many}
 use Rattle.gx_tree_laws.specs.Trees.{Pair, Tree, Used, leaves, passing, standing}
 use Rattle.gx_tree_laws.specs.Legal.{Legal}
 use Rattle.gx_tree_laws.specs.Reach.{Item}
@@ -122,26 +119,26 @@ module _ {B : Type 0} (c : Class B) (l : IsLawful c) where
       let count : how_many (is_of c e) found + 0 ≡ standing wanted t = look.complete (is_of c e) in
       both_ways (has c.keys e (map entry_of found)) (matches c.keys query e) (is_live c t e)
       (λ h.
-        let some = has_counted e found h in
-        let live : is_live c t e ≡ true = counted_live t e
-            (let more = standing_le t wanted (is_live_of c e) (λ x is.
-              and_all (is_of c e x) (not x.marked) (and_second (not x.marked && matches c.keys query (entry_of x)) (is_of c e x) is)
-              (and_first (not x.marked) (matches c.keys query (entry_of x)) (and_first (not x.marked && matches c.keys query (entry_of x)) (is_of c e x) is))) in
-            omega (arith, some, count, more)) in
-        elim (true_or_false (matches c.keys query e)) [
-          | inl is ↦ and_all (matches c.keys query e) (is_live c t e) is live
-          | inr other ↦
-              (let none = standing_none t wanted (λ x. unmatched query e x other) in absurd (omega (arith, some, count, none)))
-        ])
+      let some = has_counted e found h in
+      let live : is_live c t e ≡ true = counted_live t e
+      (let more = standing_le t wanted (is_live_of c e) (λ x is.
+      and_all (is_of c e x) (not x.marked) (and_second (not x.marked && matches c.keys query (entry_of x)) (is_of c e x) is)
+      (and_first (not x.marked) (matches c.keys query (entry_of x)) (and_first (not x.marked && matches c.keys query (entry_of x)) (is_of c e x) is))) in
+      omega (arith, some, count, more)) in
+      elim (true_or_false (matches c.keys query e)) [
+        | inl is ↦ and_all (matches c.keys query e) (is_live c t e) is live
+        | inr other ↦
+            (let none = standing_none t wanted (λ x. unmatched query e x other) in absurd (omega (arith, some, count, none)))
+      ])
       (λ both.
-        counted_has e found
-        (let some = live_counted t e (and_second (matches c.keys query e) (is_live c t e) both) in
-        let more = standing_le t (is_live_of c e) wanted (λ x is.
-          let of : is_of c e x ≡ true = and_first (is_of c e x) (not x.marked) is in
-          and_all (not x.marked && matches c.keys query (entry_of x)) (is_of c e x)
-          (and_all (not x.marked) (matches c.keys query (entry_of x)) (and_second (is_of c e x) (not x.marked) is)
-          (subst (λ y. matches c.keys query y ≡ true) (sym (pair_is c l e x of)) (and_first (matches c.keys query e) (is_live c t e) both))) of) in
-        omega (arith, some, count, more)))
+      counted_has e found
+      (let some = live_counted t e (and_second (matches c.keys query e) (is_live c t e) both) in
+      let more = standing_le t (is_live_of c e) wanted (λ x is.
+      let of : is_of c e x ≡ true = and_first (is_of c e x) (not x.marked) is in
+      and_all (not x.marked && matches c.keys query (entry_of x)) (is_of c e x)
+      (and_all (not x.marked) (matches c.keys query (entry_of x)) (and_second (is_of c e x) (not x.marked) is)
+      (subst (λ y. matches c.keys query y ≡ true) (sym (pair_is c l e x of)) (and_first (matches c.keys query e) (is_live c t e) both))) of) in
+      omega (arith, some, count, more)))
 
   module _ (old : State B) (w : IsWhole c old) where
     abbrev t : Tree B
@@ -222,7 +219,7 @@ module _ {B : Type 0} (c : Class B) (l : IsLawful c) where
         closed (events.Finds s query (gathered c.keys (map entry_of found))) s locks notes (Search query) works at
         (λ is. (
           set_of_a_test_that_agrees c.keys l.keys (λ e. has c.keys e (map entry_of found)) (λ e. matches c.keys query e && is_live c t e) (gathered c.keys (map entry_of found))
-            (found_is_live t query found look) (set_that_is_gathered c.keys l.keys (map entry_of found)),
+              (found_is_live t query found look) (set_that_is_gathered c.keys l.keys (map entry_of found)),
           is,
         )) refl
 

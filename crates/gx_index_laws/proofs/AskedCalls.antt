@@ -1,6 +1,6 @@
 -- Calls that are asked: a transaction begins, a call opens, an ask is refused; and faults.
-use Rattle.std.proofs.Common.{◌≡◌, ◌≢◌, ℕ, suc, ◌+◌, ◌<◌, ◌≤◌, Bool, true, false, not, ◌&&◌, inl, inr, List, [], ◌∷◌, Option, Some, None, refl, ap, sym, ◌∙◌, subst, arith}
-use Rattle.std.specs.Prelude.{Result, Ok, Err, is_some, option_map, if◌then◌else◌}
+use Rattle.std.proofs.Common.{◌≡◌, ◌≢◌, ℕ, suc, ◌<◌, ◌≤◌, Bool, true, false, not, ◌&&◌, inl, inr, List, [], Option, Some, None, refl, ap, sym, ◌∙◌, subst, arith}
+use Rattle.std.specs.Prelude.{Result, Ok, Err, option_map, if◌then◌else◌}
 use Rattle.std.specs.List.{list_any}
 use Rattle.gx_geom.specs.declared.refusal.Refusal.{Refusal}
 use Rattle.gx_geom.specs.declared.refusal.Refusal.TheVariants as refusal
@@ -13,12 +13,10 @@ use Rattle.gx_machine.specs.declared.reply.Asked.TheVariants.{Now, Open}
 use Rattle.gx_machine.specs.Keys.{Keys}
 use Rattle.gx_machine.specs.Sessions.{Locks, no_locks, lock_for}
 use Rattle.gx_machine.specs.Machine.{is_session}
-use Rattle.gx_tree_laws.specs.Trees.{Tree}
-use Rattle.gx_tree_laws.specs.Looks.{from_root}
 use Rattle.gx_tree_laws.proofs.OwnLook.{look_begins}
-use Rattle.gx_engine_laws.specs.Slots.{Note, Slot, Free, Working, Undoing, Waiting, notes_kept, slot_at, with_slot, noted, is_unanswered}
+use Rattle.gx_engine_laws.specs.Slots.{Note, Slot, Free, Working, Undoing, Waiting, notes_kept, slot_at, with_slot, noted}
 use Rattle.gx_engine_laws.specs.Engines.{Engine, IsSame}
-use Rattle.gx_engine_laws.specs.Asking.{least_barring, claims_held, refused, asked_with, ask_working, ask_free, ask_slot, ask_in, ask}
+use Rattle.gx_engine_laws.specs.Asking.{least_barring, claims_held, asked_with, ask_working, ask_free, ask_slot, ask_in, ask}
 use Rattle.gx_engine_laws.specs.Events as events
 use Rattle.gx_engine_laws.specs.Events.{Event, IsEvent, MeetsFault, failed_engine}
 use Rattle.gx_engine_laws.specs.Kinds.{changes_what_stood}
@@ -27,7 +25,6 @@ use Rattle.gx_engine_laws.proofs.Asks.{asks_keep_notes}
 use Rattle.gx_engine_laws.proofs.Standing.{waiting_there}
 use Rattle.gx_recovery.specs.Known.{Known}
 use Rattle.gx_recovery.specs.Records.{settled, any_number, names}
-use Rattle.gx_recovery.specs.Analysis.{analysis}
 use Rattle.gx_recovery.specs.Standing.{own_before}
 use Rattle.gx_recovery.specs.Damage.{is_transaction}
 use Rattle.gx_recovery.specs.Logged.{all_records}
@@ -35,10 +32,10 @@ use Rattle.gx_recovery.proofs.Tests.{true_or_false}
 use Rattle.gx_recovery.proofs.Unnamed.{unnamed_open, unnamed_untouched}
 use Rattle.gx_recovery.proofs.Numbers.{next_above}
 use Rattle.gx_index_laws.specs.Classes.{Class, Page, IsLawful, known_of}
-use Rattle.gx_index_laws.specs.States.{State, Work, Rests, Looks, tree_now, engine_of}
+use Rattle.gx_index_laws.specs.States.{State, Rests, tree_now, engine_of}
 use Rattle.gx_index_laws.specs.Working.{DoesWork, wants_pair}
-use Rattle.gx_index_laws.specs.Whole.{is_busy, HasTransaction, IsHad, IsTied, KeepsSets, IsWhole}
-use Rattle.gx_index_laws.specs.Happening.{Happens, changed_at, slotted, first_work, with_transaction, failed_state}
+use Rattle.gx_index_laws.specs.Whole.{is_busy, HasTransaction, IsHad, IsTied, IsWhole}
+use Rattle.gx_index_laws.specs.Happening.{Happens, slotted, first_work, with_transaction, failed_state}
 use Rattle.gx_index_laws.proofs.Tools.{changed_here, changed_beside, by_session, not_true}
 use Rattle.gx_index_laws.proofs.Standing.{known_lawful, is_log, is_legal}
 use Rattle.gx_index_laws.proofs.Happens.{happens, sets_stay, same_sets}
@@ -168,10 +165,12 @@ module _ {B : Type 0} (c : Class B) (l : IsLawful c) (old : State B) (w : IsWhol
       let busy = opens_busy c.keys call (least_barring c.keys call s 1 old.slots) (claims_held old.slots) (slot_at s old.slots) given in
       quietly c l old w s is x (first_work (tree_now c old) call) (busy.0 ∙ sym busy.1)
       (asks_keep_notes c.keys l.keys call (least_barring c.keys call s 1 old.slots) (claims_held old.slots) (slot_at s old.slots))
-      (first_does s call x) (events.Asks s call Open)
-      (works, ap (λ (r : Asked B × Engine B). r.0) (asks s call is) ∙ given,
+      (first_does s call x) (events.Asks s call Open) (
+        works,
+        ap (λ (r : Asked B × Engine B). r.0) (asks s call is) ∙ given,
         subst (λ (r : Asked B × Engine B). IsSame (engine_of c (slotted s x (first_work (tree_now c old) call) old)) r.1) (sym (asks s call is))
-          (as_it_is (engine_of c (slotted s x (first_work (tree_now c old) call) old)))) refl
+            (as_it_is (engine_of c (slotted s x (first_work (tree_now c old) call) old))),
+      ) refl
 
   -- A commit that is durable is acknowledged.
   pub acknowledged : old.failed ≡ false → (s number : ℕ) → slot_at s old.slots ≡ Waiting number → number ≤ old.oldest
@@ -228,14 +227,14 @@ module _ {B : Type 0} (c : Class B) (l : IsLawful c) (old : State B) (w : IsWhol
               ∙ sym (ap (option_map not) (ap (λ t. own_before k t e (all_records old.log)) number_now ∙ unnamed_untouched k old.next e (all_records old.log) unnamed));
         })
         (λ a ne now.
-          let h : HasTransaction c old a = w.tied.each a (was_busy a ne now) in
-          record {
-            open_yet = ap (λ t. is_transaction t && not (settled any_number t (all_records old.log))) (number_beside a ne) ∙ h.open_yet;
-            below = (let b = h.below in let same = number_beside a ne in omega (arith, b, same));
-            notes = λ e.
-                ap (λ (y : Slot B). noted c.keys e (notes_kept y)) (beside_now a ne) ∙ h.notes e
-                ∙ sym (ap (λ t. option_map not (own_before k t e (all_records old.log))) (number_beside a ne));
-          })
+        let h : HasTransaction c old a = w.tied.each a (was_busy a ne now) in
+        record {
+          open_yet = ap (λ t. is_transaction t && not (settled any_number t (all_records old.log))) (number_beside a ne) ∙ h.open_yet;
+          below = (let b = h.below in let same = number_beside a ne in omega (arith, b, same));
+          notes = λ e.
+              ap (λ (y : Slot B). noted c.keys e (notes_kept y)) (beside_now a ne) ∙ h.notes e
+              ∙ sym (ap (λ t. option_map not (own_before k t e (all_records old.log))) (number_beside a ne));
+        })
 
     never_next : (a : ℕ) → a ≢ s → is_busy (slot_at a later.slots) ≡ true → old.transaction a ≢ old.next
     never_next a ne now same = let b = (w.tied.each a (was_busy a ne now)).below in absurd (omega (arith, b, same))
@@ -243,11 +242,11 @@ module _ {B : Type 0} (c : Class B) (l : IsLawful c) (old : State B) (w : IsWhol
     one_each : (a b : ℕ) → is_busy (slot_at a later.slots) ≡ true → is_busy (slot_at b later.slots) ≡ true → later.transaction a ≡ later.transaction b → a ≡ b
     one_each = by_session (λ a. (b : ℕ) → is_busy (slot_at a later.slots) ≡ true → is_busy (slot_at b later.slots) ≡ true → later.transaction a ≡ later.transaction b → a ≡ b) s
         (by_session (λ b. is_busy (slot_at s later.slots) ≡ true → is_busy (slot_at b later.slots) ≡ true → later.transaction s ≡ later.transaction b → s ≡ b) s
-          (λ first second same. refl)
-          (λ b ne first second same. absurd (never_next b ne second (sym (number_beside b ne) ∙ sym same ∙ number_now))))
+        (λ first second same. refl)
+        (λ b ne first second same. absurd (never_next b ne second (sym (number_beside b ne) ∙ sym same ∙ number_now))))
         (λ a ne_a. by_session (λ b. is_busy (slot_at a later.slots) ≡ true → is_busy (slot_at b later.slots) ≡ true → later.transaction a ≡ later.transaction b → a ≡ b) s
-          (λ first second same. absurd (never_next a ne_a first (sym (number_beside a ne_a) ∙ same ∙ number_now)))
-          (λ b ne first second same. w.tied.own a b (was_busy a ne_a first) (was_busy b ne second) (sym (number_beside a ne_a) ∙ same ∙ number_beside b ne)))
+        (λ first second same. absurd (never_next a ne_a first (sym (number_beside a ne_a) ∙ same ∙ number_now)))
+        (λ b ne first second same. w.tied.own a b (was_busy a ne_a first) (was_busy b ne second) (sym (number_beside a ne_a) ∙ same ∙ number_beside b ne)))
 
     begun_tied : IsTied c later
     begun_tied = record {

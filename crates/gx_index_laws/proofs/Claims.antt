@@ -1,5 +1,5 @@
 -- Events keep the claims held in all at most 512.
-use Rattle.std.proofs.Common.{◌≡◌, ◌≢◌, ℕ, zero, suc, ◌+◌, ◌-◌, ◌<◌, ◌≤◌, Bool, true, false, ◌⊎◌, inl, inr, List, [], ◌∷◌, ◌++◌, Option, None, Some, length, refl, ap, sym, ◌∙◌, subst, arith}
+use Rattle.std.proofs.Common.{◌≡◌, ℕ, zero, suc, ◌+◌, ◌-◌, ◌<◌, ◌≤◌, Bool, true, false, ◌⊎◌, inl, inr, List, [], ◌∷◌, ◌++◌, Option, None, Some, length, refl, ap, sym, ◌∙◌, subst, arith}
 use Rattle.std.specs.Prelude.{Result, Ok, Err, nat_lt, if◌then◌else◌, slice_set, replicate}
 use Rattle.std.specs.List.{slice_index_or}
 use Rattle.std.proofs.lemmas.Bool.{ltb-true}
@@ -27,7 +27,6 @@ use Rattle.gx_engine_laws.specs.Engines.{Engine, IsSound}
 use Rattle.gx_engine_laws.specs.Asking.{least_barring, claims_held, asked_with, ask_working, ask_free, ask_slot, ask_in, ask}
 use Rattle.gx_engine_laws.specs.Events as events
 use Rattle.gx_engine_laws.specs.Events.{Event, IsEvent, MeetsFault, AskRefused, IsClosed, IsWritten}
-use Rattle.gx_engine_laws.proofs.Places.{slot_free, slot_set}
 use Rattle.gx_engine_laws.proofs.Standing.{working_there, waiting_there, undoing_there}
 
 -- the claims of a slot

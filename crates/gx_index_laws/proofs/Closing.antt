@@ -1,8 +1,8 @@
 -- A commit, and an abort's end: a record that closes the session's transaction.
-use Rattle.std.proofs.Common.{◌≡◌, ◌≢◌, ℕ, zero, suc, ◌+◌, ◌-◌, ◌<◌, ◌≤◌, max, Bool, true, false, not, ◌&&◌, ◌||◌, inl, inr, List, [], ◌∷◌, ◌++◌, length, Option, Some, None, refl, ap, sym, ◌∙◌, subst, arith}
-use Rattle.std.specs.Prelude.{is_some, option_map, ◌==◌, if◌then◌else◌, nat_lt}
+use Rattle.std.proofs.Common.{◌≡◌, ◌≢◌, ℕ, ◌+◌, ◌<◌, ◌≤◌, max, Bool, true, false, not, ◌&&◌, ◌||◌, List, [], ◌∷◌, ◌++◌, length, Option, Some, None, refl, ap, sym, ◌∙◌, subst, arith}
+use Rattle.std.specs.Prelude.{is_some, option_map, ◌==◌, if◌then◌else◌}
 use Rattle.std.specs.List.{slice_index_or}
-use Rattle.std.proofs.lemmas.Bool.{eqb-true, eq-eqb, ne_eqb}
+use Rattle.std.proofs.lemmas.Bool.{eq-eqb, ne_eqb}
 use Rattle.std.proofs.lemmas.List.{get_or_append_left, length-append}
 use Rattle.std.proofs.Math.Seq.{get_or-append_seam}
 use Rattle.std.proofs.Math.Decide.{ℕ_discrete}
@@ -14,35 +14,34 @@ use Rattle.gx_machine.specs.Machine.{is_session}
 use Rattle.gx_machine.proofs.SetsByTests.{set_of_a_test_that_agrees}
 use Rattle.gx_tree_laws.specs.Trees.{Tree}
 use Rattle.gx_engine_laws.specs.Slots.{Note, Slot, Free, Working, Undoing, Waiting, notes_kept, slot_at, with_slot, noted}
-use Rattle.gx_engine_laws.specs.Engines.{Engine, stood, last_number}
+use Rattle.gx_engine_laws.specs.Engines.{stood}
 use Rattle.gx_engine_laws.specs.Events as events
 use Rattle.gx_engine_laws.specs.Events.{Event, IsEvent, IsSealed, IsRestored}
 use Rattle.gx_engine_laws.proofs.Standing.{working_there, undoing_there}
 use Rattle.gx_engine_laws.proofs.WhatStood.{commit_stood}
 use Rattle.gx_recovery.specs.Known.{Known}
 use Rattle.gx_recovery.specs.Records.{Record, Commit, End, touch_of, closes, settled, any_number}
-use Rattle.gx_recovery.specs.Analysis.{Analysis, analysis, read, number_of}
+use Rattle.gx_recovery.specs.Analysis.{Analysis, analysis, read}
 use Rattle.gx_recovery.specs.Redo.{tree_of, redone, redo}
 use Rattle.std.specs.Option.{option_or}
-use Rattle.gx_recovery.specs.Standing.{mark_before, own_before, set_of, view_of}
+use Rattle.gx_recovery.specs.Standing.{mark_before, own_before, view_of}
 use Rattle.gx_recovery.specs.Damage.{is_transaction}
-use Rattle.gx_recovery.specs.Coming.{MayCome, Restored}
-use Rattle.gx_recovery.specs.Known as known
-use Rattle.gx_recovery.specs.Logged.{Logged, all_records, appended, latest, kept}
-use Rattle.gx_recovery.specs.Life.{kept_of, AreSame, IsAdded}
-use Rattle.gx_recovery.proofs.Tests.{true_or_false, or_none_first, or_none_second}
+use Rattle.gx_recovery.specs.Coming.{MayCome}
+use Rattle.gx_recovery.specs.Logged.{all_records, appended, latest, kept}
+use Rattle.gx_recovery.specs.Life.{kept_of, IsAdded}
+use Rattle.gx_recovery.proofs.Tests.{or_none_first, or_none_second}
 use Rattle.gx_recovery.proofs.Folds.{or-none, analysis-snoc, first-snoc, settled-snoc, tree-snoc}
 use Rattle.gx_recovery.proofs.Undo.{commit_may_come, end_may_come}
 use Rattle.gx_recovery.proofs.Lives.{appended_healthy, appended_moves}
 use Rattle.gx_index_laws.specs.Classes.{Class, Page, IsLawful, is_live, tree_in, known_of}
-use Rattle.gx_index_laws.specs.States.{State, Work, Rests, tree_after, tree_now, engine_of}
+use Rattle.gx_index_laws.specs.States.{State, Rests, tree_after, tree_now, engine_of}
 use Rattle.gx_index_laws.specs.Working.{DoesWork, AreRestored}
-use Rattle.gx_index_laws.specs.Whole.{is_busy, HasTransaction, IsHad, IsTied, KeepsSets, IsWhole}
+use Rattle.gx_index_laws.specs.Whole.{is_busy, HasTransaction, IsHad, IsTied, IsWhole}
 use Rattle.gx_index_laws.specs.Happening.{Comes, changed_at, with_record, slotted}
-use Rattle.gx_index_laws.proofs.Tools.{by_session, not_true}
+use Rattle.gx_index_laws.proofs.Tools.{not_true}
 use Rattle.gx_index_laws.proofs.Standing.{grown, known_lawful, is_log, is_good}
 use Rattle.gx_index_laws.proofs.Happens.{happens, sets_stay}
-use Rattle.gx_index_laws.proofs.Quiet.{here, beside, slotted_works, slotted_restored, as_it_is}
+use Rattle.gx_index_laws.proofs.Quiet.{here, beside, slotted_works, slotted_restored}
 
 and_true : (b : Bool) → (b && true) ≡ b
 and_true true = refl
@@ -213,7 +212,7 @@ module _ {B : Type 0} (c : Class B) (l : IsLawful c) (old : State B) (w : IsWhol
             stands = λ e.
                 commit_stood c.keys l.keys (engine_of c old) w.sound s set number (engine_of c later) is_sealed e
                 ∙ ap (λ b. if b then is_live c (tree_now c old) e else stood c.keys (engine_of c old) e)
-                  (ap is_some ((w.tied.each s busy).notes e) ∙ some_mapped (own_before k t e log))
+                (ap is_some ((w.tied.each s busy).notes e) ∙ some_mapped (own_before k t e log))
                 ∙ ap (λ b. if is_some (own_before k t e log) then is_live c (tree_now c old) e else b) (w.sets.stands e)
                 ∙ sym (adds.added e);
           };
@@ -237,7 +236,7 @@ module _ {B : Type 0} (c : Class B) (l : IsLawful c) (old : State B) (w : IsWhol
       end_comes : MayCome k old.log.area log done
       end_comes = end_may_come k (known_lawful c l) old.log.area log (is_log c l old w) (is_good c l old w) (old.transaction s) (w.tied.each s busy_end).open_yet
           (λ e before own. restored_each e (not before)
-            (ap (λ (x : Slot B). noted c.keys e (notes_kept x)) (sym at) ∙ (w.tied.each s busy_end).notes e ∙ ap (option_map not) own))
+          (ap (λ (x : Slot B). noted c.keys e (notes_kept x)) (sym at) ∙ (w.tied.each s busy_end).notes e ∙ ap (option_map not) own))
 
       end_tree : tree_of k old.log.area (all_records (appended done old.log)) ≡ tree_of k old.log.area log
       end_tree = quiet_tree done refl refl refl

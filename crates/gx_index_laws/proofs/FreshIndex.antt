@@ -1,21 +1,18 @@
 -- A fresh index is whole.
-use Rattle.std.proofs.Common.{◌≡◌, ℕ, ◌<◌, ◌≤◌, Bool, true, false, ◌&&◌, List, [], ◌∷◌, refl, ap, sym, ◌∙◌, subst, arith, le-leb}
-use Rattle.std.specs.Prelude.{nat_lt, nat_le, replicate}
+use Rattle.std.proofs.Common.{◌≡◌, ℕ, ◌≤◌, true, false, ◌&&◌, [], refl, ap, sym, subst, arith, le-leb}
 use Rattle.gx_machine.specs.declared.entry.Entry.{Entry}
 use Rattle.gx_machine.specs.Machine.{fresh_machine}
-use Rattle.gx_tree_laws.specs.Trees.{standing, fresh_tree}
+use Rattle.gx_tree_laws.specs.Trees.{fresh_tree}
 use Rattle.gx_tree_laws.proofs.Fresh.{fresh_legal}
-use Rattle.gx_engine_laws.specs.Slots.{Slot, Free, slot_at}
-use Rattle.gx_engine_laws.specs.Engines.{Engine, SeenAs, IsSound, IsSame, opened_engine}
+use Rattle.gx_engine_laws.specs.Slots.{Slot, slot_at}
+use Rattle.gx_engine_laws.specs.Engines.{Engine, SeenAs, IsSound, opened_engine}
 use Rattle.gx_engine_laws.proofs.Places.{slot_free}
 use Rattle.gx_engine_laws.proofs.Standing.{is_one}
 use Rattle.gx_engine_laws.proofs.Views.{opened_sound, opened_seen}
-use Rattle.gx_recovery.specs.Damage.{IsLog}
-use Rattle.gx_recovery.specs.Logged.{IsHealthy}
 use Rattle.gx_recovery.proofs.Tests.{clash}
-use Rattle.gx_index_laws.specs.Classes.{Class, IsLawful, is_live, is_live_of, known_of}
-use Rattle.gx_index_laws.specs.States.{State, engine_of, fresh_state}
-use Rattle.gx_index_laws.specs.Working.{DoesWork, AreRestored}
+use Rattle.gx_index_laws.specs.Classes.{Class, IsLawful, is_live}
+use Rattle.gx_index_laws.specs.States.{engine_of, fresh_state}
+use Rattle.gx_index_laws.specs.Working.{AreRestored}
 use Rattle.gx_index_laws.specs.Whole.{is_busy, IsWhole}
 
 module _ {B : Type 0} (c : Class B) (start : B) where

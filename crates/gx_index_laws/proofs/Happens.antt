@@ -1,21 +1,18 @@
 -- What happens, from its parts: the engine's event, and what the event leaves of the log, the tree and the tables.
-use Rattle.std.proofs.Common.{◌≡◌, ℕ, ◌+◌, ◌<◌, ◌≤◌, Bool, true, false, List, [], ◌∷◌, length, refl, ap, sym, ◌∙◌, subst, arith}
+use Rattle.std.proofs.Common.{◌≡◌, ℕ, ◌+◌, ◌<◌, ◌≤◌, false, List, [], ◌∷◌, length, refl, ap, sym, ◌∙◌, subst, arith}
 use Rattle.std.specs.List.{slice_index_or}
 use Rattle.gx_machine.specs.declared.entry.Entry.{Entry}
-use Rattle.gx_machine.specs.Machine.{Machine}
 use Rattle.gx_machine.specs.Sets.{IsSetOf}
 use Rattle.gx_machine.proofs.SetsByTests.{set_of_a_test_that_agrees}
-use Rattle.gx_engine_laws.specs.Slots.{Slot, slot_at, with_slot}
-use Rattle.gx_engine_laws.specs.Engines.{Engine, stood, SeenAs, IsSound}
+use Rattle.gx_engine_laws.specs.Slots.{slot_at}
 use Rattle.gx_engine_laws.specs.Events.{Event, IsEvent, step_of}
-use Rattle.gx_engine_laws.specs.Runs.{RunsAs}
 use Rattle.gx_engine_laws.specs.Kinds.{changes_what_stood}
 use Rattle.gx_engine_laws.proofs.Follow.{Follows}
 use Rattle.gx_engine_laws.proofs.Faults.{event_follows}
 use Rattle.gx_engine_laws.proofs.EventRuns.{still_sound, run_follows}
 use Rattle.gx_engine_laws.proofs.WhatStood.{event_stood}
 use Rattle.gx_recovery.specs.Analysis.{analysis}
-use Rattle.gx_recovery.specs.Logged.{all_records, latest, kept, IsHealthy}
+use Rattle.gx_recovery.specs.Logged.{all_records, kept, IsHealthy}
 use Rattle.gx_recovery.specs.Life.{kept_of, AreSame}
 use Rattle.gx_index_laws.specs.Classes.{Class, IsLawful, known_of}
 use Rattle.gx_index_laws.specs.States.{State, tree_now, engine_of}

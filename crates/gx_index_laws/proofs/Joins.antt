@@ -1,5 +1,5 @@
 -- Events one after another are a run.
-use Rattle.std.proofs.Common.{◌≡◌, ◌≤◌, List, [], ◌∷◌, ap, sym, subst}
+use Rattle.std.proofs.Common.{◌≤◌, List, [], ◌∷◌, ap, sym, subst}
 use Rattle.gx_machine.specs.Machine.{Machine, fresh_machine}
 use Rattle.gx_engine_laws.specs.Engines.{SeenAs}
 use Rattle.gx_engine_laws.specs.Events.{Event}

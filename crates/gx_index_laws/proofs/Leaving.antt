@@ -1,10 +1,9 @@
 -- What a step leaves of what others are at.
-use Rattle.std.proofs.Common.{◌≡◌, ◌≢◌, ℕ, Bool, true, false, not, ◌&&◌, inl, inr, List, [], ◌∷◌, refl, ap, sym, ◌∙◌, subst}
+use Rattle.std.proofs.Common.{◌≡◌, ◌≢◌, ℕ, Bool, true, false, not, List, [], refl, ap, sym, ◌∙◌, subst}
 use Rattle.gx_machine.specs.declared.entry.Entry.{Entry}
 use Rattle.gx_machine.specs.Sets.{has}
 use Rattle.gx_tree_laws.specs.Trees.{Pair, Tree, Rules, is_entry}
 use Rattle.gx_tree_laws.specs.Legal.{Legal}
-use Rattle.gx_tree_laws.specs.Looks.{IsLook}
 use Rattle.gx_tree_laws.specs.Steps.{Step, Splits, SplitsRoot, Widens, Adds, Marks, Sweeps, IsStep, LeavesAlone}
 use Rattle.gx_tree_laws.proofs.LookSteps.{look_step}
 use Rattle.gx_tree_laws.proofs.DescentSteps.{descent_step}
@@ -13,12 +12,10 @@ use Rattle.gx_engine_laws.specs.Slots.{Slot, locks_held, slot_at}
 use Rattle.gx_engine_laws.specs.Engines.{Engine, IsSound}
 use Rattle.gx_engine_laws.specs.Wants.{slot_wants, is_claimed}
 use Rattle.gx_engine_laws.proofs.Apart.{claimed_is_unwanted, wanted_is_spared}
-use Rattle.gx_recovery.proofs.Tests.{true_or_false}
 use Rattle.gx_index_laws.specs.Classes.{Class, IsLawful, entry_of, pair_of, is_of}
 use Rattle.gx_index_laws.specs.Steps.{IsPageStep, SparesClaims, IsWriteOf}
 use Rattle.gx_index_laws.specs.States.{Work, Rests, Looks, Descends, Seeks}
-use Rattle.gx_index_laws.specs.Working.{wants_pair, DescendsFor, SeeksFor, DoesWork}
-use Rattle.gx_index_laws.proofs.Tools.{not_true}
+use Rattle.gx_index_laws.specs.Working.{wants_pair, DoesWork}
 use Rattle.gx_index_laws.proofs.Living.{pair_is}
 
 -- a step that leaves a test's pairs alone leaves those of a narrower one

@@ -1,15 +1,15 @@
 -- Which entries are live: as the pair that stands is marked, and after each step.
-use Rattle.std.proofs.Common.{◌≡◌, ◌≢◌, ℕ, zero, suc, ◌+◌, ◌<◌, ◌≤◌, Bool, true, false, not, ◌&&◌, inl, inr, List, [], ◌∷◌, ◌++◌, refl, ap, sym, ◌∙◌, subst, arith}
-use Rattle.std.specs.Prelude.{if◌then◌else◌, ◌==◌, nat_lt}
+use Rattle.std.proofs.Common.{◌≡◌, ℕ, ◌+◌, ◌≤◌, Bool, true, false, not, ◌&&◌, inl, inr, List, ◌∷◌, ◌++◌, refl, ap, sym, ◌∙◌, subst, arith}
+use Rattle.std.specs.Prelude.{◌==◌, nat_lt}
 use Rattle.std.specs.Ordering.{is_eq}
 use Rattle.std.proofs.lemmas.Bool.{eqb-true, eq-eqb, lt-ltb}
 use Rattle.gx_machine.specs.declared.entry.Entry.{Entry}
 use Rattle.gx_machine.specs.Keys.{same_entry}
-use Rattle.gx_machine.proofs.SetLaws.{entry_itself, same_is}
-use Rattle.gx_tree_laws.specs.Lists.{sum_over, one_if, how_many}
-use Rattle.gx_tree_laws.specs.Trees.{Pair, Tree, Rules, Used, times, leaves, passing, standing, is_entry}
+use Rattle.gx_machine.proofs.SetLaws.{entry_itself}
+use Rattle.gx_tree_laws.specs.Lists.{one_if, how_many}
+use Rattle.gx_tree_laws.specs.Trees.{Pair, Tree, Used, leaves, passing, standing}
 use Rattle.gx_tree_laws.specs.Legal.{Legal}
-use Rattle.gx_tree_laws.specs.Steps.{IsAdding, IsMarking, IsSweep, Step, Splits, SplitsRoot, Widens, Adds, Marks, Sweeps, IsStep}
+use Rattle.gx_tree_laws.specs.Steps.{IsAdding, IsMarking, Step, Splits, SplitsRoot, Widens, Adds, Marks, Sweeps, IsStep}
 use Rattle.gx_tree_laws.proofs.Sums.{sum_over_add, sum_over_same, each_always}
 use Rattle.gx_tree_laws.proofs.Splits.{standing_split}
 use Rattle.gx_tree_laws.proofs.Roots.{standing_root}
@@ -18,7 +18,7 @@ use Rattle.gx_recovery.proofs.Tests.{true_or_false, and_first, and_second}
 use Rattle.gx_recovery.proofs.Logs.{and_all}
 use Rattle.gx_index_laws.specs.Classes.{Class, IsLawful, entry_of, is_of, is_live_of, is_live}
 use Rattle.gx_index_laws.specs.Steps.{IsPageStep}
-use Rattle.gx_index_laws.proofs.Tools.{not_true, SomeIn, some_in, counted_in, halves, none_pass, less_pass, one_counts}
+use Rattle.gx_index_laws.proofs.Tools.{not_true, counted_in, halves, none_pass, one_counts}
 
 swept_dead : (a m n : Bool) → ((a && not m) && (m && n)) ≡ false
 swept_dead true true n = refl
@@ -54,8 +54,8 @@ module _ {B : Type 0} (c : Class B) (l : IsLawful c) where
   passing_halves t p q pages =
       sym (sum_over_add (λ a. how_many (λ x. p x && q x) (t.node a).pairs) (λ a. how_many (λ x. p x && not (q x)) (t.node a).pairs) pages)
       ∙ sum_over_same (λ a. how_many (λ x. p x && q x) (t.node a).pairs + how_many (λ x. p x && not (q x)) (t.node a).pairs) (λ a. how_many p (t.node a).pairs) pages
-        (each_always (λ a. how_many (λ x. p x && q x) (t.node a).pairs + how_many (λ x. p x && not (q x)) (t.node a).pairs ≡ how_many p (t.node a).pairs)
-        (λ a. halves p q (t.node a).pairs) pages)
+      (each_always (λ a. how_many (λ x. p x && q x) (t.node a).pairs + how_many (λ x. p x && not (q x)) (t.node a).pairs ≡ how_many p (t.node a).pairs)
+      (λ a. halves p q (t.node a).pairs) pages)
 
   pub in_leaf : (t : Tree B) → Legal c.rules t → (test : Pair B → Bool) (a : ℕ) → Used t a → (t.node a).level ≡ 0
       → how_many test (t.node a).pairs ≤ standing test t

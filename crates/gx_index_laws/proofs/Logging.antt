@@ -1,5 +1,5 @@
 -- The log goes on: a batch begins, pages are written, a gate is synced, a new log is put in its place.
-use Rattle.std.proofs.Common.{◌≡◌, ◌≢◌, ℕ, ◌+◌, ◌-◌, ◌<◌, ◌≤◌, Bool, true, false, not, ◌&&◌, List, [], ◌∷◌, ◌++◌, length, Option, Some, None, refl, ap, sym, ◌∙◌, subst, arith}
+use Rattle.std.proofs.Common.{◌≡◌, ℕ, ◌+◌, ◌-◌, ◌<◌, ◌≤◌, Bool, true, false, not, ◌&&◌, List, [], ◌++◌, length, refl, ap, sym, ◌∙◌, subst, arith}
 use Rattle.std.specs.Prelude.{is_some, option_map, drop}
 use Rattle.std.specs.List.{slice_index_or}
 use Rattle.std.proofs.lemmas.List.{append-nil, get_or-drop}
@@ -8,17 +8,17 @@ use Rattle.gx_machine.specs.declared.entry.Entry.{Entry}
 use Rattle.gx_machine.specs.Sets.{IsSetOf}
 use Rattle.gx_machine.proofs.SetsByTests.{set_of_a_test_that_agrees}
 use Rattle.gx_tree_laws.specs.Trees.{Tree}
-use Rattle.gx_engine_laws.specs.Slots.{slot_at, noted}
-use Rattle.gx_engine_laws.specs.Engines.{Engine, IsSame, last_number}
+use Rattle.gx_engine_laws.specs.Slots.{slot_at}
+use Rattle.gx_engine_laws.specs.Engines.{IsSame, last_number}
 use Rattle.gx_engine_laws.specs.Events as events
 use Rattle.gx_engine_laws.specs.Events.{Event, IsEvent, IsDurable}
 use Rattle.gx_engine_laws.proofs.WhatStood.{event_stood}
 use Rattle.gx_recovery.specs.Known.{Known}
 use Rattle.gx_recovery.specs.Records.{Record, settled, any_number}
-use Rattle.gx_recovery.specs.Analysis.{Analysis, analysis, lists}
+use Rattle.gx_recovery.specs.Analysis.{analysis, lists}
 use Rattle.gx_recovery.specs.Redo.{tree_of, redone}
 use Rattle.gx_recovery.specs.Standing.{own_before}
-use Rattle.gx_recovery.specs.Damage.{is_transaction, IsLog}
+use Rattle.gx_recovery.specs.Damage.{is_transaction}
 use Rattle.gx_recovery.specs.Logged.{Logged, all_records, durable, latest, kept, IsHealthy, begun, gate_synced, AgreesBeside}
 use Rattle.gx_recovery.specs.Renewal.{renewed}
 use Rattle.gx_recovery.specs.Life.{kept_of, AreSame, AreFewer, AllWritten}
@@ -34,9 +34,9 @@ use Rattle.gx_recovery.proofs.Numbers.{next_renewed}
 use Rattle.gx_index_laws.specs.Classes.{Class, Page, IsLawful, is_live, tree_in, known_of}
 use Rattle.gx_index_laws.specs.States.{State, tree_after, tree_now, engine_of}
 use Rattle.gx_index_laws.specs.Working.{DoesWork, AreRestored}
-use Rattle.gx_index_laws.specs.Whole.{is_busy, HasTransaction, IsHad, IsTied, KeepsSets, IsWhole}
+use Rattle.gx_index_laws.specs.Whole.{HasTransaction, IsHad, IsTied, KeepsSets, IsWhole}
 use Rattle.gx_index_laws.specs.Happening.{Happens}
-use Rattle.gx_index_laws.proofs.Standing.{known_lawful, is_log, tells}
+use Rattle.gx_index_laws.proofs.Standing.{known_lawful, tells}
 use Rattle.gx_index_laws.proofs.Happens.{happens, sets_stay}
 use Rattle.gx_index_laws.proofs.Paging.{tied_alike}
 

@@ -1,5 +1,5 @@
 -- An undo's seek begins with its note's leaf, as the log tells it.
-use Rattle.std.proofs.Common.{◌≡◌, ℕ, Bool, true, false, not, ◌&&◌, ◌||◌, inl, inr, List, [], ◌∷◌, ◌++◌, Option, Some, None, refl, ap, sym, ◌∙◌, subst}
+use Rattle.std.proofs.Common.{◌≡◌, ℕ, Bool, true, false, not, ◌&&◌, ◌||◌, List, [], ◌∷◌, ◌++◌, Some, ap, sym, ◌∙◌, subst}
 use Rattle.std.specs.Prelude.{is_some, option_map, ◌==◌}
 use Rattle.gx_machine.specs.declared.entry.Entry.{Entry}
 use Rattle.gx_machine.specs.Sets.{has}
@@ -15,10 +15,10 @@ use Rattle.gx_recovery.specs.Standing.{own_before}
 use Rattle.gx_recovery.specs.Damage.{is_transaction}
 use Rattle.gx_recovery.specs.Coming.{Placed}
 use Rattle.gx_recovery.specs.Logged.{all_records}
-use Rattle.gx_recovery.proofs.Tests.{and_first, and_second, or_second, itself}
+use Rattle.gx_recovery.proofs.Tests.{and_second, or_second, itself}
 use Rattle.gx_recovery.proofs.Logs.{untrue, and_all}
 use Rattle.gx_recovery.proofs.Touches.{same_itself}
-use Rattle.gx_index_laws.specs.Classes.{Class, Page, IsLawful, tree_in, known_of}
+use Rattle.gx_index_laws.specs.Classes.{Class, Page, IsLawful, known_of}
 use Rattle.gx_index_laws.specs.States.{State, tree_now}
 use Rattle.gx_index_laws.specs.Working.{SeeksFor}
 use Rattle.gx_index_laws.specs.Whole.{is_busy, HasTransaction, IsWhole}

@@ -1,8 +1,6 @@
 -- Events that change a session's slot and work, and nothing of the log.
-use Rattle.std.proofs.Common.{◌≡◌, ◌≢◌, ℕ, Bool, true, false, inl, inr, List, [], ◌∷◌, Option, Some, None, refl, ap, sym, ◌∙◌, subst, arith}
-use Rattle.std.specs.Prelude.{is_some, option_map}
+use Rattle.std.proofs.Common.{◌≡◌, ◌≢◌, ℕ, Bool, true, false, List, [], refl, ap, sym, ◌∙◌, subst}
 use Rattle.gx_machine.specs.declared.entry.Entry.{Entry}
-use Rattle.gx_machine.specs.Sets.{has}
 use Rattle.gx_machine.specs.Machine.{is_session}
 use Rattle.gx_engine_laws.specs.Slots.{Slot, Free, Working, Undoing, Waiting, notes_kept, slot_at, with_slot, noted}
 use Rattle.gx_engine_laws.specs.Events.{Event, IsEvent}
@@ -10,15 +8,13 @@ use Rattle.gx_engine_laws.specs.Engines.{Engine, IsSame}
 use Rattle.gx_engine_laws.specs.Kinds.{changes_what_stood}
 use Rattle.gx_engine_laws.specs.Events as events
 use Rattle.gx_engine_laws.proofs.Places.{slot_same, slot_other}
-use Rattle.gx_recovery.specs.Logged.{all_records}
-use Rattle.gx_recovery.specs.Standing.{own_before}
-use Rattle.gx_index_laws.specs.Classes.{Class, IsLawful, known_of, is_live}
+use Rattle.gx_index_laws.specs.Classes.{Class, IsLawful, is_live}
 use Rattle.gx_index_laws.specs.States.{State, Work, tree_now, engine_of}
 use Rattle.gx_index_laws.specs.Working.{DoesWork, AreRestored}
-use Rattle.gx_index_laws.specs.Whole.{is_busy, HasTransaction, IsHad, IsTied, KeepsSets, IsWhole}
+use Rattle.gx_index_laws.specs.Whole.{is_busy, HasTransaction, IsHad, IsTied, IsWhole}
 use Rattle.gx_index_laws.specs.Happening.{Happens, changed_at, with_work, slotted}
 use Rattle.gx_index_laws.proofs.Tools.{changed_here, changed_beside, by_session, not_true}
-use Rattle.gx_index_laws.proofs.Happens.{Leaves, happens, sets_stay, same_sets}
+use Rattle.gx_index_laws.proofs.Happens.{happens, sets_stay, same_sets}
 
 -- nothing is restored
 pub none_restored : {B : Type 0} (c : Class B) (live : Entry B → Bool) (slot : Slot B) → AreRestored c.keys live slot []
@@ -65,7 +61,7 @@ module _ {B : Type 0} (c : Class B) (l : IsLawful c) (old : State B) (w : IsWhol
         (subst (λ (y : Slot B). DoesWork c (tree_now c old) y (changed_at s work old.work s)) (sym here)
         (subst (λ (y : Work B). DoesWork c (tree_now c old) x y) (sym (changed_here s work old.work s refl)) does))
         (λ a ne. subst (λ (y : Slot B). DoesWork c (tree_now c old) y (changed_at s work old.work a)) (sym (beside a ne))
-          (subst (λ (y : Work B). DoesWork c (tree_now c old) (slot_at a old.slots) y) (sym (changed_beside s work old.work a ne)) (w.works a)))
+        (subst (λ (y : Work B). DoesWork c (tree_now c old) (slot_at a old.slots) y) (sym (changed_beside s work old.work a ne)) (w.works a)))
 
     pub slotted_restored : (a : ℕ) → AreRestored c.keys (is_live c (tree_now c old)) (slot_at a (with_slot s x old.slots)) (changed_at s [] old.restored a)
     slotted_restored =
@@ -73,7 +69,7 @@ module _ {B : Type 0} (c : Class B) (l : IsLawful c) (old : State B) (w : IsWhol
         (subst (λ (y : List (Entry B)). AreRestored c.keys (is_live c (tree_now c old)) (slot_at s (with_slot s x old.slots)) y) (sym (changed_here s [] old.restored s refl))
         (none_restored c (is_live c (tree_now c old)) (slot_at s (with_slot s x old.slots))))
         (λ a ne. subst (λ (y : Slot B). AreRestored c.keys (is_live c (tree_now c old)) y (changed_at s [] old.restored a)) (sym (beside a ne))
-          (subst (λ (y : List (Entry B)). AreRestored c.keys (is_live c (tree_now c old)) (slot_at a old.slots) y) (sym (changed_beside s [] old.restored a ne)) (w.restored a)))
+        (subst (λ (y : List (Entry B)). AreRestored c.keys (is_live c (tree_now c old)) (slot_at a old.slots) y) (sym (changed_beside s [] old.restored a ne)) (w.restored a)))
 
     module _ (busy : is_busy x ≡ is_busy (slot_at s old.slots)) (notes : notes_kept x ≡ notes_kept (slot_at s old.slots)) (does : DoesWork c (tree_now c old) x work) where
       busy_alike : (a : ℕ) → is_busy (slot_at a (with_slot s x old.slots)) ≡ is_busy (slot_at a old.slots)

@@ -4,17 +4,14 @@ use Rattle.std.proofs.Common.{◌≡◌, ◌≢◌, ℕ, zero, suc, ◌+◌, ◌
 use Rattle.std.specs.Prelude.{◌==◌, if◌then◌else◌}
 use Rattle.std.specs.List.{list_any, slice_index_or}
 use Rattle.std.proofs.lemmas.Bool.{eqb-true, eq-eqb}
-use Rattle.std.specs.declared.cmp.Ordering.TheVariants.{Less}
 use Rattle.std.proofs.Math.Decide.{ℕ_discrete}
 use Rattle.gx_machine.specs.declared.entry.Entry.{Entry}
-use Rattle.gx_machine.specs.Sets.{has}
 use Rattle.gx_machine.specs.Machine.{is_session}
 use Rattle.gx_machine.proofs.Places.{session_bounds}
 use Rattle.gx_engine_laws.specs.Slots.{Slot, Free, locks_held, slot_at}
 use Rattle.gx_engine_laws.specs.Asking.{claims_held}
 use Rattle.gx_recovery.specs.Known.{Known, IsLawful, same}
 use Rattle.gx_recovery.specs.Records.{Touch}
-use Rattle.gx_recovery.specs.Analysis.{touch_cmp}
 use Rattle.gx_recovery.specs.Damage.{transactions}
 use Rattle.gx_recovery.specs.Coming.{HasRoom}
 use Rattle.gx_recovery.proofs.Tests.{true_or_false, and_first, and_second, either_of, or_second, or_none_first, or_none_second}
@@ -165,12 +162,12 @@ module _ {B P : Type 0} (k : Known (Entry B) P) (l : IsLawful k) where
   apart_rest x [] before = tt
   apart_rest x (z ∷ zs) before = (
     (λ y is.
-      elim (true_or_false (claims z y)) [
-        | inl both ↦ apart_if_less k l x z before.0
-            (sym (eqb-true y.0 x.transaction (and_first (y.0 == x.transaction) (same k x.entry y.1) is)) ∙ eqb-true y.0 z.transaction (and_first (y.0 == z.transaction) (same k z.entry y.1) both))
-            (same_is k l x.entry y.1 (and_second (y.0 == x.transaction) (same k x.entry y.1) is) ∙ sym (same_is k l z.entry y.1 (and_second (y.0 == z.transaction) (same k z.entry y.1) both)))
-        | inr other ↦ other
-      ]),
+        elim (true_or_false (claims z y)) [
+          | inl both ↦ apart_if_less k l x z before.0
+              (sym (eqb-true y.0 x.transaction (and_first (y.0 == x.transaction) (same k x.entry y.1) is)) ∙ eqb-true y.0 z.transaction (and_first (y.0 == z.transaction) (same k z.entry y.1) both))
+              (same_is k l x.entry y.1 (and_second (y.0 == x.transaction) (same k x.entry y.1) is) ∙ sym (same_is k l z.entry y.1 (and_second (y.0 == z.transaction) (same k z.entry y.1) both)))
+          | inr other ↦ other
+        ]),
     apart_rest x zs before.1,
   )
 

@@ -1,20 +1,17 @@
 -- What follows of a whole index: of its log, its tree, and what open transactions have touched.
-use Rattle.std.proofs.Common.{◌≡◌, ◌≢◌, ℕ, zero, suc, ◌-◌, ◌<◌, ◌≤◌, Bool, true, false, not, cond, ◌&&◌, ◌||◌, inl, inr, List, [], ◌∷◌, ◌++◌, filter, length, Option, Some, None, refl, ap, sym, ◌∙◌, subst, append_assoc, arith}
+use Rattle.std.proofs.Common.{◌≡◌, ℕ, zero, suc, ◌-◌, Bool, true, false, not, cond, ◌&&◌, ◌||◌, List, [], ◌∷◌, ◌++◌, Option, Some, None, refl, ap, sym, ◌∙◌, append_assoc}
 use Rattle.std.specs.Prelude.{is_some, option_map, ◌==◌, if◌then◌else◌}
-use Rattle.std.specs.List.{list_any, slice_index_or}
-
+use Rattle.std.specs.List.{slice_index_or}
 use Rattle.std.proofs.Math.Decide.{ℕ_discrete}
 use Rattle.gx_machine.specs.declared.entry.Entry.{Entry}
-use Rattle.gx_machine.specs.Keys.{entry_cmp, same_entry}
 use Rattle.gx_machine.specs.Sets.{has}
 use Rattle.gx_machine.specs.Machine.{is_session}
 use Rattle.gx_machine.proofs.SetLaws.{entry_total, entry_exact}
 use Rattle.gx_tree_laws.specs.Lists.{Each}
-use Rattle.gx_tree_laws.specs.Trees.{Tree}
 use Rattle.gx_tree_laws.specs.Legal.{Legal}
 use Rattle.gx_tree_laws.specs.Steps.{Step, IsStep, LeavesAlone}
 use Rattle.gx_tree_laws.proofs.SeekSteps.{seek_step}
-use Rattle.gx_engine_laws.specs.Slots.{Note, Slot, Free, Working, Undoing, Waiting, locks_held, notes_kept, slot_at, entries_of, noted}
+use Rattle.gx_engine_laws.specs.Slots.{Slot, Free, locks_held, notes_kept, slot_at}
 use Rattle.gx_engine_laws.specs.Wants.{is_claimed}
 use Rattle.gx_engine_laws.proofs.Noted.{noted_has}
 use Rattle.gx_engine_laws.proofs.Places.{is_there}
@@ -27,8 +24,8 @@ use Rattle.gx_recovery.specs.Redo.{tree_of}
 use Rattle.gx_recovery.specs.Standing.{own_before}
 use Rattle.gx_recovery.specs.Damage.{IsLog}
 use Rattle.gx_recovery.specs.Coming.{Placed, IsGood, beside}
-use Rattle.gx_recovery.specs.Logged.{Logged, all_records, appended, IsHealthy}
-use Rattle.gx_recovery.proofs.Tests.{true_or_false, and_first, and_second, either_of, or_second, itself}
+use Rattle.gx_recovery.specs.Logged.{Logged, all_records, appended}
+use Rattle.gx_recovery.proofs.Tests.{and_first, and_second, or_second, itself}
 use Rattle.gx_recovery.proofs.Logs.{untrue, told_log}
 use Rattle.gx_recovery.proofs.States.{coming_good}
 use Rattle.gx_recovery.proofs.Lives.{whole_log}

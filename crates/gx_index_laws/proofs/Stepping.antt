@@ -1,11 +1,11 @@
 -- A step of the store's tree is one of the log's: the two agree on pages in use, before and after.
-use Rattle.std.proofs.Common.{◌≡◌, ◌≢◌, ℕ, suc, ◌<◌, ◌≤◌, Bool, true, false, ◌⊎◌, inl, inr, List, [], ◌∷◌, ◌++◌, map, filter, refl, ap, sym, ◌∙◌, subst, arith}
+use Rattle.std.proofs.Common.{◌≡◌, ℕ, suc, ◌<◌, ◌≤◌, Bool, true, false, ◌⊎◌, inl, inr, List, [], ◌∷◌, ◌++◌, filter, refl, ap, sym, ◌∙◌, subst, arith}
 use Rattle.std.specs.Prelude.{nat_lt, nat_le}
 use Rattle.std.proofs.lemmas.Bool.{lt-ltb, ltb-true, le-leb, leb-true}
 use Rattle.gx_tree_laws.specs.Lists.{Each, staying, going}
-use Rattle.gx_tree_laws.specs.Trees.{Pair, Child, Node, Tree, Rules, IsLawful, Used, size, times, child_pages, standing, is_entry}
+use Rattle.gx_tree_laws.specs.Trees.{Pair, Child, Node, Tree, Rules, IsLawful, Used, size, times, child_pages, is_entry}
 use Rattle.gx_tree_laws.specs.Legal.{Legal}
-use Rattle.gx_tree_laws.specs.Steps.{IsUnion, with_key, EntriesCover, node_with, IsSplit, IsRootSplit, ChangesOnly, IsWidening, IsAdding, with_mark, IsMarking, spares, IsSweep, Step, Splits, SplitsRoot, Widens, Adds, Marks, Sweeps, IsStep}
+use Rattle.gx_tree_laws.specs.Steps.{IsUnion, with_key, EntriesCover, node_with, ChangesOnly, with_mark, spares, Step, Splits, SplitsRoot, Widens, Adds, Marks, Sweeps, IsStep}
 use Rattle.gx_tree_laws.proofs.Splits.{split_used}
 use Rattle.gx_index_laws.specs.Alike.{AgreeOnUsed}
 use Rattle.gx_index_laws.proofs.Tools.{not_true}
@@ -74,7 +74,7 @@ module _ {B : Type 0} (r : Rules B) (law : IsLawful r) (one one_then other other
             ∙ (λ i. node_with (sym node i) (sym node i).number (sym node i).right (going sides (sym node i).pairs) (going sides (sym node i).children));
         named = after.nodes p new_p ∙ is.named
             ∙ (λ i. node_with (sym parent i) (sym parent i).number (sym parent i).right (sym parent i).pairs
-              (with_key n left (sym parent i).children ++ record { key = right; page = suc (sym before.used i) } ∷ []));
+            (with_key n left (sym parent i).children ++ record { key = right; page = suc (sym before.used i) } ∷ []));
         others = λ q ne_n ne_p ne_s. same_beside q (λ u.
             let inside : Used one q = (u.0, (let m = is.used in let h = u.1 in let s = before.used in omega (arith, m, h, ne_s, s))) in
             (inside, is.others q ne_n ne_p (λ e. ne_s (e ∙ sym sibling))));

@@ -1,13 +1,12 @@
 -- Small facts: what is changed at one session, what is counted in a list, what is listed.
-use Rattle.std.proofs.Common.{◌≡◌, ◌≢◌, ℕ, zero, suc, ◌+◌, ◌<◌, ◌≤◌, Bool, true, false, not, ◌&&◌, ◌||◌, ◌⊎◌, inl, inr, List, [], ◌∷◌, ◌++◌, filter, length, refl, ap, sym, ◌∙◌, subst, arith}
-use Rattle.std.specs.Prelude.{if◌then◌else◌, ◌==◌}
-use Rattle.std.specs.List.{list_any}
+use Rattle.std.proofs.Common.{◌≡◌, ◌≢◌, ℕ, ◌+◌, ◌<◌, ◌≤◌, Bool, true, false, not, ◌&&◌, inl, inr, List, [], ◌∷◌, ◌++◌, refl, ap, sym, ◌∙◌, subst, arith}
+use Rattle.std.specs.Prelude.{if◌then◌else◌}
 use Rattle.std.proofs.lemmas.Bool.{eq-eqb, ne_eqb}
 use Rattle.std.proofs.Math.Decide.{ℕ_discrete}
-use Rattle.gx_tree_laws.specs.Lists.{sum_over, one_if, how_many, Each}
+use Rattle.gx_tree_laws.specs.Lists.{sum_over, one_if, how_many}
 use Rattle.gx_tree_laws.specs.Trees.{times}
 use Rattle.gx_tree_laws.proofs.Sums.{sum_over_add, sum_over_same, each_always}
-use Rattle.gx_tree_laws.proofs.Chains.{one_at, one_off}
+use Rattle.gx_tree_laws.proofs.Chains.{one_off}
 use Rattle.gx_recovery.proofs.Tests.{true_or_false}
 use Rattle.gx_index_laws.specs.Happening.{changed_at}
 
@@ -20,7 +19,7 @@ module _ {X : Type 0} (s : ℕ) (x : X) (by : ℕ → X) where
 
 -- what holds where it is changed and elsewhere holds of all
 pub by_session : (P : ℕ → Type 0) (s : ℕ) → P s → ((a : ℕ) → a ≢ s → P a) → (a : ℕ) → P a
-by_session P s here there a = elim (ℕ_discrete a s) [ | yes e ↦ subst P (sym e) here | no ne ↦ there a ne ]
+by_session P s here there a = elim (ℕ_discrete a s) [ yes e ↦ subst P (sym e) here | no ne ↦ there a ne ]
 
 -- of a value that isn't the first, an equation says the second
 pub not_true : {A : Type 0} → (b : Bool) → b ≡ true → b ≡ false → A
@@ -60,7 +59,7 @@ module _ {X : Type 0} where
   halves p q xs =
       sym (sum_over_add (λ x. one_if (p x && q x)) (λ x. one_if (p x && not (q x))) xs)
       ∙ sum_over_same (λ x. one_if (p x && q x) + one_if (p x && not (q x))) (λ x. one_if (p x)) xs
-        (each_always (λ x. one_if (p x && q x) + one_if (p x && not (q x)) ≡ one_if (p x)) (λ x. half (p x) (q x)) xs)
+      (each_always (λ x. one_if (p x && q x) + one_if (p x && not (q x)) ≡ one_if (p x)) (λ x. half (p x) (q x)) xs)
 
   pub none_pass : (test : X → Bool) → ((x : X) → test x ≡ false) → (xs : List X) → how_many test xs ≡ 0
   none_pass test none [] = refl

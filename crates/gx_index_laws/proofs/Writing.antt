@@ -1,27 +1,26 @@
 -- A write of one entry by its session: its record may come, and what the write leaves.
-use Rattle.std.proofs.Common.{◌≡◌, ◌≢◌, ℕ, ◌+◌, ◌<◌, ◌≤◌, max, Bool, true, false, not, ◌&&◌, ◌||◌, inl, inr, List, [], ◌∷◌, ◌++◌, Option, Some, None, refl, ap, sym, ◌∙◌, subst, arith}
+use Rattle.std.proofs.Common.{◌≡◌, ◌≢◌, ℕ, ◌≤◌, Bool, true, false, not, ◌&&◌, inl, inr, List, [], ◌∷◌, ◌++◌, Option, Some, None, refl, ap, sym, ◌∙◌, subst, arith}
 use Rattle.std.specs.Prelude.{is_some, option_map, ◌==◌, if◌then◌else◌, nat_lt, nat_le}
 use Rattle.std.specs.Option.{option_or}
 use Rattle.std.proofs.lemmas.Bool.{eqb-true, eq-eqb, ne_eqb, lt-ltb, le-leb}
 use Rattle.gx_machine.specs.declared.entry.Entry.{Entry}
 use Rattle.gx_machine.specs.Keys.{same_entry}
 use Rattle.gx_machine.specs.Sets.{has}
-use Rattle.gx_tree_laws.specs.Lists.{Each}
 use Rattle.gx_tree_laws.specs.Trees.{Tree, Used}
 use Rattle.gx_tree_laws.specs.Legal.{Legal}
 use Rattle.gx_tree_laws.specs.Steps.{Step, IsStep, LeavesAlone}
 use Rattle.gx_tree_laws.specs.Writes.{IsSeek}
 use Rattle.gx_tree_laws.proofs.AllSteps.{legal_step}
-use Rattle.gx_engine_laws.specs.Slots.{Note, Slot, Free, Working, Undoing, Waiting, locks_held, notes_kept, slot_at, entries_of, noted}
+use Rattle.gx_engine_laws.specs.Slots.{Slot, Free, Working, Undoing, Waiting, locks_held, notes_kept, slot_at, entries_of, noted}
 use Rattle.gx_engine_laws.proofs.Noted.{has_noted}
 use Rattle.gx_engine_laws.proofs.Locking.{noted_is_claimed}
 use Rattle.gx_recovery.specs.Known.{Known, same}
-use Rattle.gx_recovery.specs.Records.{Record, Write, Touch, settled, any_number}
+use Rattle.gx_recovery.specs.Records.{Said, Record, Write, Touch, settled, any_number}
 use Rattle.gx_recovery.specs.Analysis.{Analysis, analysis, touching, lists}
 use Rattle.gx_recovery.specs.Redo.{tree_of}
 use Rattle.gx_recovery.specs.Standing.{own_before}
-use Rattle.gx_recovery.specs.Damage.{is_transaction, is_open}
-use Rattle.gx_recovery.specs.Coming.{MayCome, IsSoundWrite}
+use Rattle.gx_recovery.specs.Damage.{is_transaction}
+use Rattle.gx_recovery.specs.Coming.{IsSaid, MayCome}
 use Rattle.gx_recovery.specs.Logged.{all_records, appended}
 use Rattle.gx_recovery.specs.Life.{kept_of, AreSame}
 use Rattle.gx_recovery.proofs.Tests.{true_or_false, and_first, and_second, either_of}
@@ -30,7 +29,7 @@ use Rattle.gx_recovery.proofs.Folds.{analysis-snoc, first-snoc}
 use Rattle.gx_recovery.proofs.Touches.{in_order_touching, lists-touching, same_is}
 use Rattle.gx_recovery.proofs.Told.{settled_shut}
 use Rattle.gx_recovery.proofs.SoundRecords.{write_may_come}
-use Rattle.gx_recovery.proofs.Lives.{appended_healthy, appended_moves}
+use Rattle.gx_recovery.proofs.Lives.{appended_moves}
 use Rattle.gx_index_laws.specs.Classes.{Class, IsLawful, Page, is_of, is_live, tree_in, known_of}
 use Rattle.gx_index_laws.specs.Steps.{IsWriteOf}
 use Rattle.gx_index_laws.specs.States.{State, Work, tree_after, tree_now, engine_of}
@@ -70,9 +69,9 @@ module _ {B : Type 0} (c : Class B) (l : IsLawful c) (old : State B) (w : IsWhol
   abbrev log : List (Record (Entry B) (Page B))
   log = all_records old.log
 
-  module _ (s : ℕ) (busy : is_busy (slot_at s old.slots) ≡ true) (e : Entry B) (before after : Bool) (leaf : ℕ) (content : Page B) where
+  module _ (s : ℕ) (busy : is_busy (slot_at s old.slots) ≡ true) (e : Entry B) (before after : Bool) (leaf : ℕ) (said : Said (Page B)) where
     abbrev r : Record (Entry B) (Page B)
-    r = Write (old.transaction s) e before after leaf content
+    r = Write (old.transaction s) e before after leaf said
 
     abbrev n : Touch (Entry B)
     n = record { transaction = old.transaction s; entry = e; before = before; leaf = leaf }
@@ -80,11 +79,11 @@ module _ {B : Type 0} (c : Class B) (l : IsLawful c) (old : State B) (w : IsWhol
     has_tx : HasTransaction c old s
     has_tx = w.tied.each s busy
 
-    module _ (claimed : has c.keys e (locks_held (slot_at s old.slots)).claims ≡ true) (of_class : c.is_key e.key ≡ true) (own : content.own ≡ leaf) where
+    module _ (claimed : has c.keys e (locks_held (slot_at s old.slots)).claims ≡ true) (of_class : c.is_key e.key ≡ true) (own : IsSaid k leaf said log) where
       room_claimed : (x : Touch (Entry B)) → lists k x.transaction x.entry (touching k n (analysis k log).touched) ≡ true → IsClaimed k (known_lawful c l) old.transaction old.slots x
       room_claimed x listed =
           elim (either_of (n.transaction == x.transaction && same k x.entry n.entry) (lists k x.transaction x.entry (analysis k log).touched)
-              (sym (lists-touching k (known_lawful c l) x.transaction x.entry n (analysis k log).touched) ∙ listed)) [
+          (sym (lists-touching k (known_lawful c l) x.transaction x.entry n (analysis k log).touched) ∙ listed)) [
             | inl here ↦
                 (let at : x.entry ≡ e = same_is k (known_lawful c l) x.entry e (and_second (n.transaction == x.transaction) (same k x.entry n.entry) here) in
                 record {
@@ -104,7 +103,7 @@ module _ {B : Type 0} (c : Class B) (l : IsLawful c) (old : State B) (w : IsWhol
         beside_left x ne = write_spares c l e (is_of c x.entry) wrote_then.step wrote_then.of_entry (λ y at. other_pair c l e x.entry y at ne)
 
         pub write_comes : MayCome k old.log.area log r
-        write_comes = write_may_come k (known_lawful c l) old.log.area log (is_log c l old w) (old.transaction s) e before after leaf content (record {
+        write_comes = write_may_come k (known_lawful c l) old.log.area log (is_log c l old w) (old.transaction s) e before after leaf said (record {
           open_yet = has_tx.open_yet;
           of_class = of_class;
           alone = λ u listed.
@@ -154,7 +153,7 @@ module _ {B : Type 0} (c : Class B) (l : IsLawful c) (old : State B) (w : IsWhol
         module _ (slots : List (Slot B)) (work : ℕ → Work B) (restored : ℕ → List (Entry B)) (others : (a : ℕ) → a ≢ s → slot_at a slots ≡ slot_at a old.slots)
             (still : is_busy (slot_at s slots) ≡ true)
             (noting : (x : Entry B) → noted c.keys x (notes_kept (slot_at s slots))
-              ≡ option_or (noted c.keys x (notes_kept (slot_at s old.slots))) (if same_entry c.keys x e then Some (not before) else None)) where
+            ≡ option_or (noted c.keys x (notes_kept (slot_at s old.slots))) (if same_entry c.keys x e then Some (not before) else None)) where
           abbrev log_then : List (Record (Entry B) (Page B))
           log_then = all_records (appended r old.log)
 
@@ -183,12 +182,12 @@ module _ {B : Type 0} (c : Class B) (l : IsLawful c) (old : State B) (w : IsWhol
               notes_by : (a : ℕ) → is_busy (slot_at a slots) ≡ true → (x : Entry B) → noted c.keys x (notes_kept (slot_at a slots)) ≡ option_map not (own_before k (old.transaction a) x log_then)
               notes_by = by_session (λ a. is_busy (slot_at a slots) ≡ true → (x : Entry B) → noted c.keys x (notes_kept (slot_at a slots)) ≡ option_map not (own_before k (old.transaction a) x log_then)) s
                   (λ now x.
-                    note_marks (own_before k (old.transaction s) x log) (noted c.keys x (notes_kept (slot_at s old.slots))) (noted c.keys x (notes_kept (slot_at s slots)))
-                    (same_entry c.keys x e) (has_tx.notes x) (noting x)
-                    ∙ sym (ap (option_map not) (own_here x)))
+                  note_marks (own_before k (old.transaction s) x log) (noted c.keys x (notes_kept (slot_at s old.slots))) (noted c.keys x (notes_kept (slot_at s slots)))
+                  (same_entry c.keys x e) (has_tx.notes x) (noting x)
+                  ∙ sym (ap (option_map not) (own_here x)))
                   (λ a ne now x.
-                    ap (λ (y : Slot B). noted c.keys x (notes_kept y)) (others a ne) ∙ (w.tied.each a (busy_before a now)).notes x
-                    ∙ sym (ap (option_map not) (own_other (old.transaction a) x (λ p. ne (w.tied.own a s (busy_before a now) busy (sym p))))))
+                  ap (λ (y : Slot B). noted c.keys x (notes_kept y)) (others a ne) ∙ (w.tied.each a (busy_before a now)).notes x
+                  ∙ sym (ap (option_map not) (own_other (old.transaction a) x (λ p. ne (w.tied.own a s (busy_before a now) busy (sym p))))))
 
           had_by : (t : ℕ) (x : Entry B) (mine : Bool) → (old.transaction s == t) ≡ mine → settled any_number t log_then ≡ false → is_some (own_before k t x log_then) ≡ true
               → IsHad (record old { log = appended r old.log; slots = slots; work = work; restored = restored }) t
@@ -228,14 +227,14 @@ module _ {B : Type 0} (c : Class B) (l : IsLawful c) (old : State B) (w : IsWhol
           written_works own_work rest =
               by_session (λ a. DoesWork c (tree_after c (appended r old.log)) (slot_at a slots) (work a)) s own_work
               (λ a ne. subst (λ (x : Slot B). DoesWork c (tree_after c (appended r old.log)) x (work a)) (sym (others a ne))
-                (subst (λ (x : Work B). DoesWork c (tree_after c (appended r old.log)) (slot_at a old.slots) x) (sym (rest a ne))
-                (work_kept c l (tree_now c old) (tree_after c (appended r old.log)) wrote.step (slot_at a old.slots) (old.work a) stays_legal wrote.is_step
-                (write_leaves c l (engine_of c old) w.sound s e wrote.step wrote.of_entry claimed a ne) (w.works a))))
+              (subst (λ (x : Work B). DoesWork c (tree_after c (appended r old.log)) (slot_at a old.slots) x) (sym (rest a ne))
+              (work_kept c l (tree_now c old) (tree_after c (appended r old.log)) wrote.step (slot_at a old.slots) (old.work a) stays_legal wrote.is_step
+              (write_leaves c l (engine_of c old) w.sound s e wrote.step wrote.of_entry claimed a ne) (w.works a))))
 
           pub written_restored : AreRestored c.keys (is_live c (tree_after c (appended r old.log))) (slot_at s slots) (restored s) → ((a : ℕ) → a ≢ s → restored a ≡ old.restored a)
               → (a : ℕ) → AreRestored c.keys (is_live c (tree_after c (appended r old.log))) (slot_at a slots) (restored a)
           written_restored own_restored rest =
               by_session (λ a. AreRestored c.keys (is_live c (tree_after c (appended r old.log))) (slot_at a slots) (restored a)) s own_restored
               (λ a ne. subst (λ (x : Slot B). AreRestored c.keys (is_live c (tree_after c (appended r old.log))) x (restored a)) (sym (others a ne))
-                (subst (λ (x : List (Entry B)). AreRestored c.keys (is_live c (tree_after c (appended r old.log))) (slot_at a old.slots) x) (sym (rest a ne))
-                (restored_kept c (slot_at a old.slots) (is_live c (tree_now c old)) (is_live c (tree_after c (appended r old.log))) (old.restored a) (unclaimed_there a ne) (w.restored a))))
+              (subst (λ (x : List (Entry B)). AreRestored c.keys (is_live c (tree_after c (appended r old.log))) (slot_at a old.slots) x) (sym (rest a ne))
+              (restored_kept c (slot_at a old.slots) (is_live c (tree_now c old)) (is_live c (tree_after c (appended r old.log))) (old.restored a) (unclaimed_there a ne) (w.restored a))))

@@ -11,7 +11,7 @@ use Rattle.gx_engine_laws.specs.Slots.{Slot, Working, with_slot}
 use Rattle.gx_engine_laws.specs.Engines.{SeenAs}
 use Rattle.gx_engine_laws.specs.Events.{Event, IsEvent, step_of}
 use Rattle.gx_engine_laws.specs.Runs.{RunsAs}
-use Rattle.gx_recovery.specs.Records.{Record, Write}
+use Rattle.gx_recovery.specs.Records.{Said, Record, Write}
 use Rattle.gx_recovery.specs.Coming.{MayCome}
 use Rattle.gx_recovery.specs.Logged.{all_records, appended}
 use Rattle.gx_index_laws.specs.Classes.{Class, Page, known_of}
@@ -50,8 +50,8 @@ abbrev pub with_restored : {B : Type 0} → ℕ → Entry B → State B → Stat
 with_restored a e s = record s { work = changed_at a Rests s.work; restored = changed_at a (e ∷ s.restored a) s.restored }
 
 -- the record of a write by a session
-abbrev pub write_of : {B : Type 0} → State B → ℕ → Entry B → Bool → Bool → ℕ → Page B → Record (Entry B) (Page B)
-write_of s a e before after leaf content = Write (s.transaction a) e before after leaf content
+abbrev pub write_of : {B : Type 0} → State B → ℕ → Entry B → Bool → Bool → ℕ → Said (Page B) → Record (Entry B) (Page B)
+write_of s a e before after leaf said = Write (s.transaction a) e before after leaf said
 
 -- what a call that opens begins with: a look from the root, or nothing of the tree
 abbrev pub first_work : {B : Type 0} → Tree B → Call B → Work B

@@ -1,5 +1,5 @@
 -- The tree's steps by what the log and other sessions see of them.
-use Rattle.std.specs.Prelude.{◌≡◌, Bool, true, List}
+use Rattle.std.specs.Prelude.{◌≡◌, true, List}
 use Rattle.gx_machine.specs.declared.entry.Entry.{Entry}
 use Rattle.gx_tree_laws.specs.Trees.{Pair}
 use Rattle.gx_tree_laws.specs.Steps.{Step, Splits, SplitsRoot, Widens, Adds, Marks, Sweeps}

@@ -1,5 +1,5 @@
 -- What every index keeps.
-use Rattle.std.specs.Prelude.{ℕ, ◌≡◌, ◌+◌, ◌<◌, ◌≤◌, Bool, true, false, not, option_map, is_some, length, List, []}
+use Rattle.std.specs.Prelude.{ℕ, ◌≡◌, ◌+◌, ◌<◌, ◌≤◌, Bool, true, false, not, option_map, is_some, length, []}
 use Rattle.std.specs.List.{slice_index_or}
 use Rattle.gx_machine.specs.declared.limits.TheConstants.{MAX_CLAIMS}
 use Rattle.gx_machine.specs.declared.entry.Entry.{Entry}

@@ -1,5 +1,5 @@
 -- What holds of a session's work: what the tree's laws say of it, for what its slot wants.
-use Rattle.std.specs.Prelude.{ℕ, ◌≡◌, Bool, true, false, Option, None, Some, List, []}
+use Rattle.std.specs.Prelude.{ℕ, ◌≡◌, Bool, true, Option, None, Some, List, []}
 use Rattle.gx_machine.specs.declared.entry.Entry.{Entry}
 use Rattle.gx_machine.specs.declared.call.Call.{Call}
 use Rattle.gx_machine.specs.declared.call.Call.TheVariants.{Insert}
@@ -9,7 +9,7 @@ use Rattle.gx_tree_laws.specs.Trees.{Pair, Tree}
 use Rattle.gx_tree_laws.specs.Reach.{Item}
 use Rattle.gx_tree_laws.specs.Looks.{IsLook}
 use Rattle.gx_tree_laws.specs.Writes.{IsDescent, IsSeek}
-use Rattle.gx_engine_laws.specs.Slots.{Note, Slot, Free, Working, Undoing, Waiting, noted}
+use Rattle.gx_engine_laws.specs.Slots.{Slot, Free, Working, Undoing, Waiting, noted}
 use Rattle.gx_engine_laws.specs.Wants.{slot_wants}
 use Rattle.gx_index_laws.specs.Classes.{Class, pair_of}
 use Rattle.gx_index_laws.specs.States.{Work, Rests, Looks, Descends, Seeks}

@@ -21,7 +21,7 @@ pub fn a_commit_is_sealed<B>()
         → slot_at s old.slots ≡ Working locks notes (Some CommitCall) → (set : List (Entry B)) → IsSetOf c.keys (stood c.keys (engine_of c old)) set
         → Comes c old (Commit (old.transaction s) (latest (known_of c) old.log + 1)) (Seals s set (latest (known_of c) old.log + 1))
         (record (slotted s (Waiting (latest (known_of c) old.log + 1)) Rests (with_record (Commit (old.transaction s) (latest (known_of c) old.log + 1)) old)) {
-          older = old.older ++ set ∷ []
+          older = old.older ++ set ∷ [];
         }) }
     ensures stood { (c : Class B) (old : State B) → (whole : IsWhole c old) → IsSetOf c.keys (stood c.keys (engine_of c old)) whole.machine.latest }
 {}

@@ -5,10 +5,9 @@
 #![tactic(auto)]
 
 pub mod beginnings;
-pub mod looks;
-pub mod writes;
 pub mod endings;
 pub mod logged;
+pub mod looks;
 pub mod pages;
 pub mod runs;
-
+pub mod writes;

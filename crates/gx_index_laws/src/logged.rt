@@ -6,9 +6,10 @@ ghost use Rattle.gx_machine.specs.declared.call.Call.{Call};
 ghost use Rattle.gx_tree_laws.specs.Steps.{Step, IsStep};
 ghost use Rattle.gx_engine_laws.specs.Slots.{slot_at, is_unanswered};
 ghost use Rattle.gx_engine_laws.specs.Events.{Durable, Works, Fails, RefusesAsk, RefusesCall};
-ghost use Rattle.gx_recovery.specs.Records.{Image, Pages};
+ghost use Rattle.gx_recovery.specs.Records.{Image, Change, Pages, Adjust};
 ghost use Rattle.gx_recovery.specs.Damage.{image_fits};
-ghost use Rattle.gx_recovery.specs.Logged.{durable, begun, gate_synced, AgreesBeside};
+ghost use Rattle.gx_recovery.specs.Given.{given, change_fits};
+ghost use Rattle.gx_recovery.specs.Logged.{all_records, durable, begun, gate_synced, AgreesBeside};
 ghost use Rattle.gx_recovery.specs.Life.{AllWritten};
 ghost use Rattle.gx_recovery.specs.Renewal.{renewed};
 ghost use Rattle.gx_index_laws.specs.Classes.{Class, Page, IsLawful, known_of};
@@ -18,12 +19,17 @@ ghost use Rattle.gx_index_laws.specs.Whole.{IsWhole};
 ghost use Rattle.gx_index_laws.specs.Happening.{Happens, Comes, with_record, failed_state};
 
 /// A split, a root split, a widening or a sweep is one record of pages, and no event that any session sees: nothing that is live
-/// changes, and each look, descent and seek that is at work goes on. A sweep spares what any session claims.
+/// changes, and each look, descent and seek that is at work goes on. A sweep spares what any session claims. Where the log gives
+/// the page that a step changes, the record may say the change alone.
 pub fn a_page_step_is_no_event<B>()
-    ensures { (c : Class B) → IsLawful c → (old : State B) → IsWhole c old → (images : List (Image (Page B))) (counter used : ℕ) (step : Step B)
+    ensures whole { (c : Class B) → IsLawful c → (old : State B) → IsWhole c old → (images : List (Image (Page B))) (counter used : ℕ) (step : Step B)
         → IsPageStep step → SparesClaims c old.slots step → used ≤ c.pages → list_all (image_fits (known_of c) used) images ≡ true
         → IsStep c.rules (tree_now c old) step (tree_now c (with_record (Pages images counter used) old))
         → Comes c old (Pages images counter used) Works (with_record (Pages images counter used) old) }
+    ensures small { (c : Class B) → IsLawful c → (old : State B) → IsWhole c old → (page : ℕ) (change : Change (Page B)) (step : Step B)
+        → IsPageStep step → SparesClaims c old.slots step → change_fits change (given page (all_records old.log)) ≡ true
+        → IsStep c.rules (tree_now c old) step (tree_now c (with_record (Adjust page change) old))
+        → Comes c old (Adjust page change) Works (with_record (Adjust page change) old) }
 {}
 
 /// The log goes on: the filling batch begins, where none is in flight; pages are written that gated records give whole, whole or
@@ -37,7 +43,7 @@ pub fn the_log_goes_on<B>()
         → Happens c old (Durable (durable (known_of c) (gate_synced old.log))) (record old {
           log = gate_synced old.log;
           older = drop (durable (known_of c) (gate_synced old.log) - old.oldest) old.older;
-          oldest = durable (known_of c) (gate_synced old.log)
+          oldest = durable (known_of c) (gate_synced old.log);
         }) }
 {}
 
