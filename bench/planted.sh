@@ -25,10 +25,9 @@ with_those_below() {
     ' "$top/crates.txt"
 }
 
-# Prints a crate's lines, once its last edit is tried.
+# Prints a crate's lines, each as its edit is tried.
 try_edits() {
-    rt must-fail "$1" 2>&1 | sed -E -e 's/^rt: must-fail ([^ ]*)\.edit: /\1: /' -e 's/refused, as it must be/refused/' > "said/$1"
-    cat "said/$1"
+    PYTHONUNBUFFERED=1 rt must-fail "$1" 2>&1 | sed -u -E -e 's/^rt: must-fail ([^ ]*)\.edit: /\1: /' -e 's/refused, as it must be/refused/' | tee "said/$1"
 }
 export -f try_edits
 
