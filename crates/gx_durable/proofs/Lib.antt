@@ -1,0 +1,9 @@
+pub mod Appending
+pub mod Areas
+pub mod BodyLists
+pub mod Crashes
+pub mod Images
+pub mod Moving
+pub mod Spellings
+pub mod Stamping
+pub mod Stepping

@@ -1,0 +1,30 @@
+//! What holds of bytes and records. Each function is its contract alone.
+ghost use Rattle.gx_durable.specs.Laws.{OneWay, PartsJoin, SpellingAdds, NoneAreNone, OnlyNoneAreNone, BodiesOneWay, BodyAdds, BodiesJoin, LogIsItsBodies, ACrashLeavesAKeptSet, StandsOfBefore};
+
+use crate::Spelled;
+
+/// Bytes are records in one way only. Parts join, a spelling behind bytes adds its record, and no bytes are no records.
+pub fn bytes_are_records<M: Spelled>()
+    ensures one_way { OneWay M.reading }
+    ensures parts { PartsJoin M.reading }
+    ensures adds { SpellingAdds M.reading }
+    ensures none { NoneAreNone M.reading }
+    ensures only_none { OnlyNoneAreNone M.reading }
+{}
+
+/// The log of an image is its open bodies in a row. Bodies are told one by one, in one way only, and their records in a row are
+/// the log's.
+pub fn bodies_are_told<M: Spelled>()
+    ensures log { LogIsItsBodies }
+    ensures one_way { BodiesOneWay M.reading }
+    ensures adds { BodyAdds M.reading }
+    ensures records { BodiesJoin M.reading }
+{}
+
+/// Of a device that a log is up on, whatever a crash leaves is an undamaged log over a page area that is good for it, and stands
+/// for the kept set of its own last commit, which is none before the durable one. So it does for a state before that one which
+/// had the same sets.
+pub fn a_crash_leaves_a_kept_set<M: Spelled>()
+    ensures kept { ACrashLeavesAKeptSet M.known M.reading }
+    ensures before { StandsOfBefore M.known M.reading }
+{}
