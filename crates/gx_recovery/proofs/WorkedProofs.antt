@@ -1,5 +1,5 @@
 -- The worked life meets the definitions, step by step.
-use Rattle.std.proofs.Common.{◌≡◌, ℕ, Bool, true, false, not, ◌||◌, inl, [], ◌∷◌, Option, Some, None, refl, ap, sym}
+use Rattle.std.proofs.Common.{◌≡◌, ℕ, ◌≤◌, Bool, true, false, not, ◌||◌, inl, [], ◌∷◌, Option, Some, None, refl, ap, sym, le_refl, arith}
 use Rattle.std.specs.Prelude.{◌==◌, if◌then◌else◌}
 use Rattle.std.specs.Option.{option_or}
 use Rattle.std.specs.Ordering.{is_eq, nat_cmp}
@@ -21,6 +21,9 @@ fresh_healthy = record {
   good = record { sound = (refl, refl); placed = tt };
   coming = tt;
 }
+
+three_five : 3 ≤ 5
+three_five = omega arith
 
 abbrev is : ℕ → ℕ → Bool
 is e n = is_eq (nat_cmp e n)
@@ -167,7 +170,7 @@ worked_life = (
                     (torn_agrees, refl),
                     (
                       reopened,
-                      (record { area_agrees = λ p h. refl; log_read = inl refl }, refl),
+                      (record { area_agrees = λ p h. refl; log_read = inl refl }, le_refl 3, refl),
                       (
                         state_6,
                         (comes_6, refl),
@@ -183,7 +186,7 @@ worked_life = (
                               (
                                 undone,
                                 refl,
-                                (written, (written_agrees, refl), (renewed_last, (refl, refl, written_all, refl), refl)),
+                                (written, (written_agrees, refl), (renewed_last, (refl, refl, written_all, three_five, refl), refl)),
                               ),
                             ),
                           ),

@@ -62,7 +62,7 @@ half_written = record losing { area = torn }
 
 -- a crash, and an opening; then undo, and all of it gated
 abbrev pub reopened : Logged ℕ Content
-reopened = renewed_over worked torn losing.gated
+reopened = renewed_over worked 3 torn losing.gated
 
 -- in the midst of undo: entry 7 is restored, entry 8 isn't yet
 abbrev pub undoing : Logged ℕ Content
@@ -71,7 +71,7 @@ undoing = appended restore_7 reopened
 abbrev pub undone : Logged ℕ Content
 undone = gate_synced (begun (appended end_2 (appended restore_8 (appended restore_7 reopened))))
 
--- all pages are written; and a checkpoint
+-- all pages are written; and a checkpoint, while transactions 3 and 4 have begun and written nothing
 abbrev pub all_written : ℕ → Content
 all_written p = if 3 == p then leaf 3 (marked 8 ∷ []) else if 2 == p then leaf 2 (live 7 ∷ []) else reopened.area p
 
@@ -79,15 +79,15 @@ abbrev pub written : Logged ℕ Content
 written = record undone { area = all_written }
 
 abbrev pub renewed_last : Logged ℕ Content
-renewed_last = record written { gated = renewed worked written.gated }
+renewed_last = record written { gated = renewed worked 5 written.gated }
 
 -- the steps of this life
 abbrev pub worked_steps : List (LogStep ℕ Content)
 worked_steps =
     Appends insert_7 ∷ Appends commit_1 ∷ Begins ∷ Syncs
     ∷ Appends insert_8 ∷ Appends split ∷ Appends delete_7 ∷ Begins ∷ Syncs ∷ WritesPages torn
-    ∷ Restarts torn losing.gated
-    ∷ Appends restore_7 ∷ Appends restore_8 ∷ Appends end_2 ∷ Begins ∷ Syncs ∷ WritesPages all_written ∷ Renews ∷ []
+    ∷ Restarts 3 torn losing.gated
+    ∷ Appends restore_7 ∷ Appends restore_8 ∷ Appends end_2 ∷ Begins ∷ Syncs ∷ WritesPages all_written ∷ Renews 5 ∷ []
 
 -- the entries among 6 to 9 that pass a test
 abbrev pub members : (ℕ → Bool) → List ℕ

@@ -39,7 +39,7 @@ pub fn the_sets_of_the_worked_life()
     ensures undoing { sets_of undoing ≡ (7 ∷ []) ∷ [] }
     ensures undone { sets_of undone ≡ (7 ∷ []) ∷ [] }
     ensures either { stood_for written.area renewed_last.gated ≡ stood_for written.area written.gated }
-    ensures renewed { renewed_last.gated ≡ Counters 1 1 3 3 ∷ [] }
+    ensures renewed { renewed_last.gated ≡ Counters 1 1 3 5 ∷ [] }
 {}
 
 /// What would go wrong. With nothing committed, a crash leaves entry 7 where its page is written before its record is
