@@ -48,5 +48,5 @@ module _ {E P : Type 0} (k : Known E P) (r : Reading E P) (x : Rec) (old new : L
   pub append_stamped : (result : Appended) → Appends (spelling x) old new result → AppendStaysStamped r x old new result
   append_stamped (At place) appends frames s stamped =
       let S : Log → Type 0 = λ g. Stamped g frames (appended (record_read r x) s) in
-      subst S (sym appends.2) (record { behind = stamped.behind; gated = stamped.gated; flight = stamped.flight })
+      subst S (sym appends.2) (record { behind = stamped.behind; places = stamped.places; gated = stamped.gated; flight = stamped.flight })
   append_stamped NoRoom appends frames s stamped = let S : Log → Type 0 = λ g. Stamped g frames s in subst S (sym appends.1) stamped

@@ -25,7 +25,7 @@ use Rattle.gx_recovery.proofs.DamageItems.{records_append}
 use Rattle.gx_durable.specs.Spelled.{Reading, AreRecords}
 use Rattle.gx_durable.specs.Bodies.{bodies_in, open_bodies, AreBodies}
 use Rattle.gx_durable.specs.Area.{area_of}
-use Rattle.gx_durable.specs.Standing.{batch_of, Turns, Carries, Up, Stands}
+use Rattle.gx_durable.specs.Standing.{batch_of, MayRenew, Carries, Up, Stands}
 use Rattle.gx_durable.specs.Steps.{GoesOn}
 use Rattle.gx_durable.specs.Laws.{ACrashLeavesAKeptSet, StandsOfBefore}
 use Rattle.gx_durable.proofs.Areas.{image_agrees, image_page}
@@ -69,37 +69,37 @@ module _ {E P : Type 0} (k : Known E P) (l : IsLawful k) (r : Reading E P) (log 
       }
 
   -- while a turn is under way, an image has each page
-  same_area : Turns k r log.flight sectors pending s → area_of r k.pages image ≡ s.area
+  same_area : MayRenew k r log.flight sectors pending s → area_of r k.pages image ≡ s.area
   same_area t = fun_ext (λ p. image_page r k.pages sectors c.has_pages (λ q. false) seen pending image t.settled may p refl ∙ sym (c.area p))
 
-  all_gated : Turns k r log.flight sectors pending s → all_records s ≡ s.gated
+  all_gated : MayRenew k r log.flight sectors pending s → all_records s ≡ s.gated
   all_gated t = ap (λ (x : List (Record E P)). s.gated ++ (x ++ s.filling)) t.no_flight ∙ ap (λ (x : List (Record E P)). s.gated ++ x) t.no_filling ∙ append-nil s.gated
 
-  head_kept : (t : Turns k r log.flight sectors pending s) → StandsForKept k s s.area (renewed k s.gated)
+  head_kept : (t : MayRenew k r log.flight sectors pending s) → StandsForKept k s s.area (renewed k t.next s.gated)
   head_kept t =
-      let new = checkpoint_healthy k l s c.healthy t.no_flight t.no_filling t.written in
-      let number : number_of k (renewed k s.gated) ≡ number_of k s.gated = same_number k l s.area s.gated c.healthy.gated in
+      let new = checkpoint_healthy k l s c.healthy t.no_flight t.no_filling t.written t.next in
+      let number : number_of k (renewed k t.next s.gated) ≡ number_of k s.gated = same_number k l t.next s.area s.gated c.healthy.gated in
       let last : latest k s ≡ number_of k s.gated = ap (λ (x : List (Record E P)). number_of k x) (all_gated t) in
       let left = left_stands k l s c.healthy s.area s.gated (record { area_agrees = λ p h. refl; log_read = inl refl }) in
       record {
         at_least = omega (arith, number);
         at_most = omega (arith, number, last);
         same_set = λ e.
-            checkpoint_stands k l s c.healthy t.no_flight t.no_filling t.written e ∙ left.same_set e ∙ ap (λ n. kept k s n e) (sym number);
+            checkpoint_stands k l s c.healthy t.no_flight t.no_filling t.written t.next e ∙ left.same_set e ∙ ap (λ n. kept k s n e) (sym number);
         is_log = new.gated;
         good = new.good;
       }
 
-  headed_stands : Turns k r log.flight sectors pending s → open_bodies image ≡ log.flight ∷ [] → Stands k r s image
+  headed_stands : MayRenew k r log.flight sectors pending s → open_bodies image ≡ log.flight ∷ [] → Stands k r s image
   headed_stands t is =
-      let B : List (List ℕ) → Type 0 = λ b. AreBodies r b (renewed k s.gated ∷ []) in
+      let B : List (List ℕ) → Type 0 = λ b. AreBodies r b (renewed k t.next s.gated ∷ []) in
       let S : List (Record E P) → Type 0 = λ x. StandsForKept k s (area_of r k.pages image) x in
-      let A : (ℕ → P) → Type 0 = λ area. StandsForKept k s area (renewed k s.gated) in
+      let A : (ℕ → P) → Type 0 = λ area. StandsForKept k s area (renewed k t.next s.gated) in
       record {
-        bodies = renewed k s.gated ∷ [];
+        bodies = renewed k t.next s.gated ∷ [];
         told = subst B (sym is) (t.head_is, tt);
-        undamaged = renewed_undamaged k l s.area s.gated c.healthy.gated;
-        stands = subst S (sym (append-nil (renewed k s.gated))) (subst A (sym (same_area t)) (head_kept t));
+        undamaged = renewed_undamaged k l t.next s.area s.gated c.healthy.gated;
+        stands = subst S (sym (append-nil (renewed k t.next s.gated))) (subst A (sym (same_area t)) (head_kept t));
       }
 
   pub shown_stands : BodiesShown log seen image → Stands k r s image

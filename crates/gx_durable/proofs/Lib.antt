@@ -4,6 +4,11 @@ pub mod BodyLists
 pub mod Crashes
 pub mod Images
 pub mod Moving
+pub mod Paging
+pub mod Reading
+pub mod Running
 pub mod Spellings
 pub mod Stamping
 pub mod Stepping
+pub mod TurnRunning
+pub mod Turning

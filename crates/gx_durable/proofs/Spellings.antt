@@ -24,11 +24,11 @@ module _ {E P : Type 0} (r : Reading E P) where
       sym a.read ∙ ap (λ (l : List Rec). records_read r l) same ∙ b.read
 
   pub parts_join : PartsJoin r
-  parts_join as bs xs ys a b = record {
+  parts_join first next xs ys a b = record {
     spelled = a.spelled ++ b.spelled;
     in_range = all-append (IsRecord r.key) a.spelled b.spelled a.in_range b.in_range;
     bytes_are =
-        spellings_join a.spelled b.spelled ∙ ap (λ (l : List ℕ). l ++ spellings b.spelled) a.bytes_are ∙ ap (λ (l : List ℕ). as ++ l) b.bytes_are;
+        spellings_join a.spelled b.spelled ∙ ap (λ (l : List ℕ). l ++ spellings b.spelled) a.bytes_are ∙ ap (λ (l : List ℕ). first ++ l) b.bytes_are;
     read =
         read-append a.spelled b.spelled ∙ ap (λ (l : List (Record E P)). l ++ records_read r b.spelled) a.read ∙ ap (λ (l : List (Record E P)). xs ++ l) b.read;
   }

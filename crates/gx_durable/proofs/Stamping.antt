@@ -11,17 +11,16 @@ use Rattle.gx_recovery.specs.Logged.{Logged, all_records, gate_synced}
 use Rattle.gx_recovery.specs.Logged as logged
 use Rattle.gx_durable.specs.Area.{is_given}
 use Rattle.gx_durable.specs.Stamps.{Stamped, AllSaid}
-use Rattle.gx_durable.specs.Steps.{with_batch, stepped}
+use Rattle.gx_durable.specs.Steps.{with_batch, stepped, told}
 use Rattle.gx_durable.proofs.Moving.{given_more}
 
--- what a pool is told after a step
+-- what a pool is told after a step that may have failed
 abbrev pub told_frames : Result Stage Refusal → Log → State → State
-told_frames (Ok GateSync) new frames = record frames { gated = new.used - 1 }
-told_frames (Ok Body) new frames = frames
-told_frames (Ok BodySync) new frames = frames
-told_frames (Ok Gate) new frames = frames
-told_frames (Ok Idle) new frames = frames
+told_frames (Ok stage) new frames = told stage new.used frames
 told_frames (Err refusal) new frames = frames
+
+pub told_at : (stage : Stage) (used : ℕ) (new : Log) (frames frames' : State) → frames' ≡ told stage used frames → used ≡ new.used → frames' ≡ told_frames (Ok stage) new frames
+told_at stage used new frames frames' is same = is ∙ ap (λ n. told stage n frames) same
 
 kept_there : (s : State) (n : ℕ) (o : Option ℕ) → kept_at (record s { gated = n }) o ≡ kept_at s o
 kept_there s n None = refl
@@ -47,6 +46,7 @@ module _ {E P : Type 0} (frames : State) where
   begun_stamped : (old : Log) (s : Logged E P) → s.flight ≡ [] → Stamped old frames s → AllSaid frames s → Stamped (begun old) frames (logged.begun s)
   begun_stamped old s none stamped said = record {
     behind = stamped.behind;
+    places = omega (arith, stamped.places);
     gated = stamped.gated;
     flight = λ p place is less. sym (ap (λ (x : List (Record E P)). is_given (s.gated ++ (x ++ s.filling)) p) none) ∙ said p place is;
   }
@@ -58,13 +58,14 @@ module _ {E P : Type 0} (frames : State) where
       → Stamped (record due { gated = due.used; stage = Idle; flight = [] }) (record frames { gated = due.used - 1 }) (gate_synced s)
   synced_stamped due s places stamped = record {
     behind = omega (arith, places);
+    places = omega arith;
     gated = λ p place is less. stamped.flight p place (told_stamp frames (due.used - 1) p place is) less;
     flight = λ p place is less. given_more (s.gated ++ s.flight) [] p (stamped.flight p place (told_stamp frames (due.used - 1) p place is) less);
   }
 
   -- a log with another stage
   staged : (due : Log) (stage : Stage) (s : Logged E P) → Stamped due frames s → Stamped (record due { stage = stage }) frames s
-  staged due stage s stamped = record { behind = stamped.behind; gated = stamped.gated; flight = stamped.flight }
+  staged due stage s stamped = record { behind = stamped.behind; places = stamped.places; gated = stamped.gated; flight = stamped.flight }
 
   by_stage : (due : Log) (stage : Stage) (s : Logged E P) → stage ≡ due.stage → in_flight due.stage ≡ 1 → due.used ≡ due.gated + 1 → Stamped due frames s
       → Stamped (after stage due) (told_frames (Ok stage) (after stage due) frames) (stepped (Ok stage) s)

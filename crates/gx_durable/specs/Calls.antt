@@ -26,7 +26,7 @@ pub record Runs {E P : Type 0} (k : Known E P) (r : Reading E P) (log : Log) (fr
 
 -- a call led from one state to another: no set changes, and at each moment within it what a crash may leave stands for a kept
 -- set of the state before
-pub record Leads {E P : Type 0} (k : Known E P) (r : Reading E P) (d e : Device) (s t : Logged E P) : Type 0 where
+pub record GoesSafely {E P : Type 0} (k : Known E P) (r : Reading E P) (d e : Device) (s t : Logged E P) : Type 0 where
   pub goes : GoesOn k s t
   pub leaves : Leaves (Stands k r s) d e
 
@@ -44,7 +44,7 @@ AppendStaysStamped {E} {P} r x old new result = (frames : State) (s : Logged E P
 pub record AfterStep {E P : Type 0} (k : Known E P) (r : Reading E P) (log : Log) (frames : State) (d e : Device) (bodies : List (List (Record E P))) (s t : Logged E P) (result : Result Stage Refusal) : Type 0 where
   pub runs : Runs k r log frames e (bodies_stepped result bodies t) (stepped result t)
   pub said : AllSaid frames (stepped result t)
-  pub leads : Leads k r d e s (stepped result t)
+  pub safely : GoesSafely k r d e s (stepped result t)
 
 -- A step of the log, where each dirty page is given by some record.
 abbrev pub StepKeepsRunning : {E P : Type 0} → Known E P → Reading E P → Log → Log → State → State → Device → Device → Result Stage Refusal → Type 0

@@ -21,7 +21,7 @@ module _ {E P : Type 0} (r : Reading E P) where
 
   -- parts join
   abbrev pub PartsJoin : Type 0
-  PartsJoin = (as bs : List ℕ) (xs ys : List (Record E P)) → AreRecords r as xs → AreRecords r bs ys → AreRecords r (as ++ bs) (xs ++ ys)
+  PartsJoin = (first next : List ℕ) (xs ys : List (Record E P)) → AreRecords r first xs → AreRecords r next ys → AreRecords r (first ++ next) (xs ++ ys)
 
   -- a spelling behind them adds its record
   abbrev pub SpellingAdds : Type 0

@@ -2,7 +2,10 @@ pub mod Area
 pub mod Bodies
 pub mod Calls
 pub mod Laws
+pub mod Pages
+pub mod PoolLaws
 pub mod Spelled
 pub mod Stamps
 pub mod Standing
 pub mod Steps
+pub mod Turns

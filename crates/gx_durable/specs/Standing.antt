@@ -6,6 +6,7 @@ use Rattle.gx_glog.specs.State.{Log, turning}
 use Rattle.gx_glog.specs.Standing.{On}
 use Rattle.gx_recovery.specs.Known.{Known}
 use Rattle.gx_recovery.specs.Records.{Record}
+use Rattle.gx_recovery.specs.Analysis.{analysis}
 use Rattle.gx_recovery.specs.Damage.{records_of, is_undamaged}
 use Rattle.gx_recovery.specs.Logged.{Logged, IsHealthy, StandsForKept}
 use Rattle.gx_recovery.specs.Life.{AllWritten}
@@ -30,13 +31,15 @@ pub record Tells {E P : Type 0} (r : Reading E P) (log : Log) (seen : List ℕ) 
   pub filling : AreRecords r log.filling s.filling
 
 -- A turn may be under way with this head: nothing is in flight or fills, each page is written and settled, and the head is the
--- renewed log.
-pub record Turns {E P : Type 0} (k : Known E P) (r : Reading E P) (head : List ℕ) (sectors : ℕ) (pending : ℕ → Bool) (s : Logged E P) : Type 0 where
+-- renewed log, with a next transaction's number that covers what the log tells.
+pub record MayRenew {E P : Type 0} (k : Known E P) (r : Reading E P) (head : List ℕ) (sectors : ℕ) (pending : ℕ → Bool) (s : Logged E P) : Type 0 where
   pub no_flight : s.flight ≡ []
   pub no_filling : s.filling ≡ []
   pub written : AllWritten s
   pub settled : IsSettledBut (λ p. false) sectors pending
-  pub head_is : AreRecords r head (renewed k s.gated)
+  pub next : ℕ
+  pub covers : (analysis k s.gated).next ≤ next
+  pub head_is : AreRecords r head (renewed k next s.gated)
 
 -- What a device carries, as it reads and with what is pending on it: the bodies of a log that is undamaged, the records of a
 -- healthy state, and its page area, of which a crash leaves each page that no gated record gives.
@@ -47,7 +50,7 @@ pub record Carries {E P : Type 0} (k : Known E P) (r : Reading E P) (log : Log) 
   pub has_pages : HasPages k.pages sectors
   pub area : (p : ℕ) → s.area p ≡ area_of r k.pages seen p
   pub settled : IsSettledBut (is_given s.gated) sectors pending
-  pub turn : 1 ≤ turning log.turn → Turns k r log.flight sectors pending s
+  pub turn : 1 ≤ turning log.turn → MayRenew k r log.flight sectors pending s
 
 -- A log is up on a device: it is on it, and the device carries this state.
 pub record Up {E P : Type 0} (k : Known E P) (r : Reading E P) (log : Log) (sectors : ℕ) (seen : List ℕ) (pending : ℕ → Bool) (bodies : List (List (Record E P))) (s : Logged E P) : Type 0 where

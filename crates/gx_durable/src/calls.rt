@@ -1,10 +1,13 @@
 //! The calls of a log and a pool, each with what it makes of the state that the device carries.
-ghost use Rattle.std.specs.Prelude.{◌≡◌, ◌<◌, ◌≤◌};
-ghost use Rattle.gx_disk.specs.Device.{Counts};
+ghost use Rattle.std.specs.Prelude.{◌≡◌, ◌<◌, ◌≤◌, true, OnOk, IfErr};
+ghost use Rattle.gx_disk.specs.Device.{Counts, IsSettled};
 ghost use Rattle.gx_record.specs.Format.{IsInRange, spelling};
 ghost use Rattle.gx_record.specs.Seen.{rec_of};
 ghost use Rattle.gx_glog.specs.Appending.{Appends};
 ghost use Rattle.gx_glog.specs.State.{calls_of, Goes};
+ghost use Rattle.gx_recovery.specs.Known.{Limits};
+ghost use Rattle.gx_durable.specs.Steps.{told};
+ghost use Rattle.gx_durable.specs.PoolLaws.{StaysUp};
 ghost use Rattle.gx_durable.specs.Calls.{AppendStaysUp, AppendStaysStamped, StepKeepsRunning};
 
 use crate::Spelled;
@@ -20,10 +23,21 @@ pub fn append<M: Spelled>(log: &mut Glog, logged: &Record<'_>) -> Appended
     requires in_range { IsInRange (rec_of logged.now) }
     requires place { log.old.used < 32 }
     ensures appends { Appends (spelling (rec_of logged.now)) log.old log.new result }
-    ensures up { AppendStaysUp M.known M.reading (rec_of logged.now) log.old log.new result }
+    ensures up { (d : Limits) → AppendStaysUp (M.known d) M.reading (rec_of logged.now) log.old log.new result }
     ensures stamped { AppendStaysStamped M.reading (rec_of logged.now) log.old log.new result }
 {
     log.append(logged)
+}
+
+// Tells the pool of the last batch, where its gate was synced.
+fn tell<T: PageTest>(pool: &mut Pool<T>, stage: Stage, used: u8)
+    ensures frames { pool.new.frames ≡ told stage used pool.old.frames }
+    ensures test { pool.new.test ≡ pool.old.test }
+{
+    match stage {
+        Stage::GateSync => pool.gated(u64::from(used).saturating_sub(1)),
+        Stage::Body | Stage::BodySync | Stage::Gate | Stage::Idle => {}
+    }
 }
 
 /// Makes the log's next device call, and tells the pool of a batch whose gate is synced. Answers which call it was, and Idle
@@ -40,13 +54,23 @@ pub fn log_step<M: Spelled, T: PageTest, D: SectorDisk>(
     requires { 4168 ≤ (D.state disk.old).sectors }
     ensures counts { Counts (calls_of result) (D.state disk.old) (D.state disk.new) result }
     ensures goes { Goes log.old log.new result }
-    ensures runs { StepKeepsRunning M.known M.reading log.old log.new pool.old.frames pool.new.frames (D.state disk.old) (D.state disk.new) result }
+    ensures runs { (d : Limits) → StepKeepsRunning (M.known d) M.reading log.old log.new pool.old.frames pool.new.frames (D.state disk.old) (D.state disk.new) result }
 {
-    match log.log_step(disk) {
-        Ok(Stage::GateSync) => {
-            pool.gated(u64::from(log.used()).saturating_sub(1));
-            Ok(Stage::GateSync)
-        }
-        made => made,
+    let stage = log.log_step(disk)?;
+    tell(pool, stage, log.used());
+    Ok(stage)
+}
+
+/// Settles all that was written. Whether it succeeds or not, the log stays up, and at each moment what a crash may leave stands
+/// for a kept set. Refused where the device call fails (`Device`).
+pub fn sync<M: Spelled, D: SectorDisk>(disk: &mut D) -> Result<(), Refusal>
+    ensures counts { Counts 1 (D.state disk.old) (D.state disk.new) result }
+    ensures settled { (D.state disk.old).honest ≡ true → OnOk result (IsSettled (D.state disk.new)) }
+    ensures up { (d : Limits) → StaysUp (M.known d) M.reading (D.state disk.old) (D.state disk.new) }
+    ensures refusal { IfErr result (λ refusal. refusal ≡ Refusal.Device) }
+{
+    match disk.sync() {
+        Ok(()) => Ok(()),
+        Err(_) => Err(Refusal::Device),
     }
 }

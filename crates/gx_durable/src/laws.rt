@@ -1,7 +1,10 @@
 //! What holds of bytes and records. Each function is its contract alone.
+ghost use Rattle.gx_recovery.specs.Known.{Limits};
+ghost use Rattle.gx_durable.specs.PoolLaws.{LaterStampsStay, BringingIsClean, CreatingIsLater, ChangeIsLater, RecordSays, ReadsStayUp};
 ghost use Rattle.gx_durable.specs.Laws.{OneWay, PartsJoin, SpellingAdds, NoneAreNone, OnlyNoneAreNone, BodiesOneWay, BodyAdds, BodiesJoin, LogIsItsBodies, ACrashLeavesAKeptSet, StandsOfBefore};
 
 use crate::Spelled;
+use gx_disk::SectorDisk;
 
 /// Bytes are records in one way only. Parts join, a spelling behind bytes adds its record, and no bytes are no records.
 pub fn bytes_are_records<M: Spelled>()
@@ -25,6 +28,21 @@ pub fn bodies_are_told<M: Spelled>()
 /// for the kept set of its own last commit, which is none before the durable one. So it does for a state before that one which
 /// had the same sets.
 pub fn a_crash_leaves_a_kept_set<M: Spelled>()
-    ensures kept { ACrashLeavesAKeptSet M.known M.reading }
-    ensures before { StandsOfBefore M.known M.reading }
+    ensures kept { (d : Limits) → ACrashLeavesAKeptSet (M.known d) M.reading }
+    ensures before { (d : Limits) → StandsOfBefore (M.known d) M.reading }
+{}
+
+/// A pool's stamps stay places of batches where what is dirty was so before, or was changed as of the batch that fills. That is
+/// so of what is brought, made and changed. Once the record that gives what was changed is appended, each dirty page is given.
+pub fn stamps_stay<M: Spelled>()
+    ensures later { LaterStampsStay M.Entry M.Page }
+    ensures brought { BringingIsClean }
+    ensures created { CreatingIsLater }
+    ensures changed { ChangeIsLater }
+    ensures said { RecordSays M.Entry M.Page }
+{}
+
+/// A log that is up on a device is up after reads, and within them too what a crash may leave stands for a kept set.
+pub fn reads_stay_up<M: Spelled, D: SectorDisk>()
+    ensures { (l : Limits) (a b : D) → ReadsStayUp (M.known l) M.reading (D.state a) (D.state b) }
 {}

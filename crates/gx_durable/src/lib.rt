@@ -11,6 +11,8 @@ use gx_recovery::Meaning;
 
 pub mod calls;
 pub mod laws;
+pub mod pages;
+pub mod turn;
 
 /// Entries and pages that stand in bytes: how a key is read as an entry, and an image as a page's content.
 pub trait Spelled: Meaning {
