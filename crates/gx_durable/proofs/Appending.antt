@@ -45,6 +45,7 @@ module _ {E P : Type 0} (k : Known E P) (r : Reading E P) (x : Rec) (old new : L
   append_up NoRoom range room appends sectors seen pending bodies s l still key may up =
       let U : Log → Type 0 = λ g. Up k r g sectors seen pending bodies s in subst U (sym appends.1) up
 
+module _ {E P : Type 0} (r : Reading E P) (x : Rec) (old new : Log) where
   pub append_stamped : (result : Appended) → Appends (spelling x) old new result → AppendStaysStamped r x old new result
   append_stamped (At place) appends frames s stamped =
       let S : Log → Type 0 = λ g. Stamped g frames (appended (record_read r x) s) in

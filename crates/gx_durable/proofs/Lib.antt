@@ -1,5 +1,6 @@
 pub mod Appending
 pub mod Areas
+pub mod Beginning
 pub mod BodyLists
 pub mod Crashes
 pub mod Images

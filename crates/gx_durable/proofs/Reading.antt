@@ -40,8 +40,8 @@ pub bringing_clean : BringingIsClean
 bringing_clean passes honest seen old new place brings p stamp is = elim (brings.fates p) [
   | inl same ↦ inl (sym (ap stamp_of same) ∙ is)
   | inr went ↦ elim went [
-    | inl left ↦ absurd (let never : None ≡ Some stamp = sym (ap stamp_of left.is) ∙ is in cc)
-    | inr came ↦ absurd (let never : None ≡ Some stamp = sym (ap stamp_of came.is) ∙ is in cc)
+    | inl left ↦ absurd (let never : ◌≡◌ {A = Option ℕ} None (Some stamp) = sym (ap stamp_of left.is) ∙ is in cc)
+    | inr came ↦ absurd (let never : ◌≡◌ {A = Option ℕ} None (Some stamp) = sym (ap stamp_of came.is) ∙ is in cc)
   ]
 ]
 

@@ -12,10 +12,11 @@ use Rattle.gx_recovery.specs.Known.{Known}
 use Rattle.gx_recovery.specs.Records.{Record}
 use Rattle.gx_recovery.specs.Logged.{Logged}
 use Rattle.gx_durable.specs.Spelled.{Reading}
-use Rattle.gx_durable.specs.Steps.{with_batch, stepped}
+use Rattle.gx_durable.specs.Steps.{with_batch, stepped, told_frames}
+use Rattle.gx_durable.specs.Stamps.{Stamped, AllSaid}
 use Rattle.gx_durable.specs.Calls.{Runs, StepKeepsRunning}
 use Rattle.gx_durable.proofs.Stepping.{none_flies, step_up, step_goes, call_stands}
-use Rattle.gx_durable.proofs.Stamping.{told_frames, step_said, step_stamped}
+use Rattle.gx_durable.proofs.Stamping.{step_said, step_stamped}
 
 module _ {E P : Type 0} (k : Known E P) (r : Reading E P) where
   -- a step of the log, after which the pool is told

@@ -11,13 +11,8 @@ use Rattle.gx_recovery.specs.Logged.{Logged, all_records, gate_synced}
 use Rattle.gx_recovery.specs.Logged as logged
 use Rattle.gx_durable.specs.Area.{is_given}
 use Rattle.gx_durable.specs.Stamps.{Stamped, AllSaid}
-use Rattle.gx_durable.specs.Steps.{with_batch, stepped, told}
+use Rattle.gx_durable.specs.Steps.{with_batch, stepped, told, told_frames}
 use Rattle.gx_durable.proofs.Moving.{given_more}
-
--- what a pool is told after a step that may have failed
-abbrev pub told_frames : Result Stage Refusal → Log → State → State
-told_frames (Ok stage) new frames = told stage new.used frames
-told_frames (Err refusal) new frames = frames
 
 pub told_at : (stage : Stage) (used : ℕ) (new : Log) (frames frames' : State) → frames' ≡ told stage used frames → used ≡ new.used → frames' ≡ told_frames (Ok stage) new frames
 told_at stage used new frames frames' is same = is ∙ ap (λ n. told stage n frames) same

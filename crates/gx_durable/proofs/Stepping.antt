@@ -64,13 +64,13 @@ synced_body GateSync extent n flight before now result is calls =
     body_kept before.seen now.seen before.pending now.pending extent n (λ s within. rested_kept s before now calls.rests)
 
 -- what a step finds: a batch in flight or about to be, whose state the device carries
-record Due {E P : Type 0} (k : Known E P) (r : Reading E P) (due : Log) (before : Device) (bodies : List (List (Record E P))) (s : Logged E P) : Type 0 where
-  carries : Carries k r due before.sectors before.seen before.pending bodies s
-  flying : in_flight due.stage ≡ 1
-  still : turning due.turn ≡ 0
-  places : due.used ≡ due.gated + 1
-  few : due.gated < 32
-  body : due.stage ≡ GateSync → HasRecords due.flight (body_of before.seen due.extent due.gated)
+pub record Due {E P : Type 0} (k : Known E P) (r : Reading E P) (due : Log) (before : Device) (bodies : List (List (Record E P))) (s : Logged E P) : Type 0 where
+  pub carries : Carries k r due before.sectors before.seen before.pending bodies s
+  pub flying : in_flight due.stage ≡ 1
+  pub still : turning due.turn ≡ 0
+  pub places : due.used ≡ due.gated + 1
+  pub few : due.gated < 32
+  pub body : due.stage ≡ GateSync → HasRecords due.flight (body_of before.seen due.extent due.gated)
 
 module _ {E P : Type 0} (k : Known E P) (l : IsLawful k) (r : Reading E P) (due : Log) (before now : Device) (bodies : List (List (Record E P))) (s : Logged E P)
     (d : Due k r due before bodies s) (touches : Touches 8 4160 before now) where
@@ -171,7 +171,7 @@ module _ {E P : Type 0} (k : Known E P) (l : IsLawful k) (r : Reading E P) (old 
       subst L (sym same) (subst D (sym rests) c)
 
   module _ (up : Up k r old before.sectors before.seen before.pending bodies s) where
-    none_flies : old.stage ≡ Idle → s.flight ≡ []
+    pub none_flies : old.stage ≡ Idle → s.flight ≡ []
     none_flies idle =
         let A : Stage → Type 0 = λ t. AreRecords r (batch_of t old.flight) s.flight in
         one_way r [] s.flight [] (subst A idle up.carries.told.flight) (none_are r)
@@ -197,7 +197,7 @@ module _ {E P : Type 0} (k : Known E P) (l : IsLawful k) (r : Reading E P) (old 
           still = refl;
           places = omega (arith, up.on.sound.places);
           few = omega (arith, up.on.sound.places);
-          body = λ is. cc;
+          body = λ is. absurd cc;
         }
 
     due_flying : in_flight old.stage ≡ 1 → Due k r old before bodies s

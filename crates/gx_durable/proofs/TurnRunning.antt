@@ -26,7 +26,7 @@ use Rattle.gx_durable.specs.Standing.{batch_of, MayRenew, Up}
 use Rattle.gx_durable.specs.Steps.{bodies_turned}
 use Rattle.gx_durable.specs.Steps as steps
 use Rattle.gx_durable.specs.Calls.{Runs}
-use Rattle.gx_durable.specs.Turns.{HeadGrows, HeadStaysUp, TurnKeepsRunning, Until, told_turn}
+use Rattle.gx_durable.specs.Turns.{HeadGrows, HeadStaysUp, TurnKeepsRunning, Until, told_turn, told_result}
 use Rattle.gx_durable.proofs.Moving.{settled_elsewhere}
 use Rattle.gx_durable.proofs.Spellings.{spelling_adds}
 use Rattle.gx_durable.proofs.Stamping.{told_kept}
@@ -60,11 +60,6 @@ module _ {E P : Type 0} (r : Reading E P) (x : Rec) (old new : Log) where
         };
       })
   head_up k NoRoom idle puts sectors seen pending bodies s still up = let U : Log → Type 0 = λ g. Up k r g sectors seen pending bodies s in subst U (sym puts.1) up
-
--- what a pool is told after a call that may have failed
-abbrev pub told_result : Result Turn Refusal → State → State
-told_result (Ok call) frames = told_turn call frames
-told_result (Err refusal) frames = frames
 
 none_dirty : (frames : State) (p place : ℕ) {X : Type 0} → NoneDirty frames → stamp_of (kept frames p) ≡ Some place → X
 none_dirty frames p place clean is = absurd (let never : ◌≡◌ {A = Option ℕ} None (Some place) = sym (clean p) ∙ is in cc)

@@ -65,7 +65,7 @@ turn_bodies turn.Selector extent head before now result call j less =
 turn_bodies turn.Done extent head before now result call j less = synced_apart extent before now call.rests j
 
 -- the only body of the extent that is selected at last is the head
-head_body : (extent : Extent) (seen head : List ℕ) → batches_of seen extent 1 ≡ head → bodies_in seen extent 1 ≡ head ∷ []
+pub head_body : (extent : Extent) (seen head : List ℕ) → batches_of seen extent 1 ≡ head → bodies_in seen extent 1 ≡ head ∷ []
 unfolding bodies_in batches_of
 head_body extent seen head is = ap (λ (body : List ℕ). body ∷ []) is
 

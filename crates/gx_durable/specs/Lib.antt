@@ -1,4 +1,5 @@
 pub mod Area
+pub mod Beginning
 pub mod Bodies
 pub mod Calls
 pub mod Laws

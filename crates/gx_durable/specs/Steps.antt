@@ -7,6 +7,7 @@ use Rattle.gx_glog.specs.declared.stage.Stage.{Stage}
 use Rattle.gx_glog.specs.declared.stage.Stage.TheVariants.{Body, BodySync, Gate, GateSync, Idle}
 use Rattle.gx_glog.specs.declared.stage.Turn.{Turn}
 use Rattle.gx_glog.specs.declared.stage.Turn.TheVariants as turn
+use Rattle.gx_glog.specs.State.{Log}
 use Rattle.gx_pool.specs.State.{State}
 use Rattle.gx_recovery.specs.Known.{Known}
 use Rattle.gx_recovery.specs.Records.{Record}
@@ -52,6 +53,11 @@ told Body used frames = frames
 told BodySync used frames = frames
 told Gate used frames = frames
 told Idle used frames = frames
+
+-- the same of a step that may have failed
+abbrev pub told_frames : Result Stage Refusal → Log → State → State
+told_frames (Ok stage) new frames = told stage new.used frames
+told_frames (Err refusal) new frames = frames
 
 -- No set changes and none is added, and durable doesn't fall.
 pub record GoesOn {E P : Type 0} (k : Known E P) (old new : Logged E P) : Type 0 where

@@ -41,6 +41,11 @@ told_turn turn.Gate frames = frames
 told_turn turn.GateSync frames = frames
 told_turn turn.Selector frames = frames
 
+-- the same of a call that may have failed
+abbrev pub told_result : Result Turn Refusal → State → State
+told_result (Ok call) frames = told_turn call frames
+told_result (Err refusal) frames = frames
+
 -- what holds as long as the turn hasn't ended
 abbrev pub Until : Result Turn Refusal → Type 0 → Type 0
 Until (Ok turn.Done) X = Unit {0}

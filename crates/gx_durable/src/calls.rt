@@ -6,7 +6,7 @@ ghost use Rattle.gx_record.specs.Seen.{rec_of};
 ghost use Rattle.gx_glog.specs.Appending.{Appends};
 ghost use Rattle.gx_glog.specs.State.{calls_of, Goes};
 ghost use Rattle.gx_recovery.specs.Known.{Limits};
-ghost use Rattle.gx_durable.specs.Steps.{told};
+ghost use Rattle.gx_durable.specs.Steps.{told, told_frames};
 ghost use Rattle.gx_durable.specs.PoolLaws.{StaysUp};
 ghost use Rattle.gx_durable.specs.Calls.{AppendStaysUp, AppendStaysStamped, StepKeepsRunning};
 
@@ -54,11 +54,17 @@ pub fn log_step<M: Spelled, T: PageTest, D: SectorDisk>(
     requires { 4168 ≤ (D.state disk.old).sectors }
     ensures counts { Counts (calls_of result) (D.state disk.old) (D.state disk.new) result }
     ensures goes { Goes log.old log.new result }
+    ensures told { pool.new.frames ≡ told_frames result log.new pool.old.frames }
+    ensures test { pool.new.test ≡ pool.old.test }
     ensures runs { (d : Limits) → StepKeepsRunning (M.known d) M.reading log.old log.new pool.old.frames pool.new.frames (D.state disk.old) (D.state disk.new) result }
 {
-    let stage = log.log_step(disk)?;
-    tell(pool, stage, log.used());
-    Ok(stage)
+    match log.log_step(disk) {
+        Ok(stage) => {
+            tell(pool, stage, log.used());
+            Ok(stage)
+        }
+        Err(refusal) => Err(refusal),
+    }
 }
 
 /// Settles all that was written. Whether it succeeds or not, the log stays up, and at each moment what a crash may leave stands

@@ -1,5 +1,6 @@
 //! What holds of bytes and records. Each function is its contract alone.
 ghost use Rattle.gx_recovery.specs.Known.{Limits};
+ghost use Rattle.gx_durable.specs.Beginning.{FirstIsUp, HeadsFit};
 ghost use Rattle.gx_durable.specs.PoolLaws.{LaterStampsStay, BringingIsClean, CreatingIsLater, ChangeIsLater, RecordSays, ReadsStayUp};
 ghost use Rattle.gx_durable.specs.Laws.{OneWay, PartsJoin, SpellingAdds, NoneAreNone, OnlyNoneAreNone, BodiesOneWay, BodyAdds, BodiesJoin, LogIsItsBodies, ACrashLeavesAKeptSet, StandsOfBefore};
 
@@ -45,4 +46,14 @@ pub fn stamps_stay<M: Spelled>()
 /// A log that is up on a device is up after reads, and within them too what a crash may leave stands for a kept set.
 pub fn reads_stay_up<M: Spelled, D: SectorDisk>()
     ensures { (l : Limits) (a b : D) → ReadsStayUp (M.known l) M.reading (D.state a) (D.state b) }
+{}
+
+/// A log that starts on a device as it was laid down is up there, where its two pages are a sound tree.
+pub fn a_new_device_is_up<M: Spelled>()
+    ensures { (l : Limits) → FirstIsUp (M.known l) M.reading }
+{}
+
+/// A renewed log fits one body, where keys have up to 41 bytes: 29 bytes for its numbers, and up to 63 for each of 512 notes.
+pub fn heads_fit_a_body<M: Spelled>()
+    ensures { (l : Limits) → HeadsFit (M.known l) M.reading }
 {}

@@ -7,7 +7,7 @@ ghost use Rattle.gx_glog.specs.State.{Turns};
 ghost use Rattle.gx_glog.specs.Turning.{PutsFirst};
 ghost use Rattle.gx_pool.specs.State.{NoneDirty};
 ghost use Rattle.gx_recovery.specs.Known.{Limits};
-ghost use Rattle.gx_durable.specs.Turns.{HeadGrows, HeadStaysUp, TurnKeepsRunning, told_turn};
+ghost use Rattle.gx_durable.specs.Turns.{HeadGrows, HeadStaysUp, TurnKeepsRunning, told_turn, told_result};
 
 use crate::Spelled;
 use gx_disk::SectorDisk;
@@ -64,9 +64,15 @@ pub fn turn_step<M: Spelled, T: PageTest, D: SectorDisk>(
     requires device { 4168 ≤ (D.state disk.old).sectors }
     ensures counts { Counts 1 (D.state disk.old) (D.state disk.new) result }
     ensures turns { Turns log.old log.new result }
+    ensures told { pool.new.frames ≡ told_result result pool.old.frames }
+    ensures test { pool.new.test ≡ pool.old.test }
     ensures runs { (l : Limits) → TurnKeepsRunning (M.known l) M.reading log.old log.new pool.old.frames pool.new.frames (D.state disk.old) (D.state disk.new) result }
 {
-    let call = log.turn_step(disk)?;
-    tell_turned(pool, call);
-    Ok(call)
+    match log.turn_step(disk) {
+        Ok(call) => {
+            tell_turned(pool, call);
+            Ok(call)
+        }
+        Err(refusal) => Err(refusal),
+    }
 }
