@@ -91,14 +91,11 @@ module _ {E P : Type 0} where
   one_more : (s : Logged E P) (r : Record E P) → all_records (appended r s) ≡ all_records s ++ r ∷ []
   one_more s r = ap (λ (x : List (Record E P)). s.gated ++ x) (sym (append_assoc s.flight s.filling (r ∷ []))) ∙ sym (append_assoc s.gated (s.flight ++ s.filling) (r ∷ []))
 
-  last_given : (log : List (Record E P)) (r : Record E P) (p : ℕ) → gives p r ≡ true → is_given (log ++ r ∷ []) p ≡ true
-  last_given log r p is = list_any-append (gives p) log (r ∷ []) ∙ or_second (is_given log p) (gives p r || false) (ap (λ b. b || false) is)
-
 pub record_says : (E P : Type 0) → RecordSays E P
 record_says E P changed frames s r gives_them said p place is =
     let all : is_given (all_records (appended r s)) p ≡ is_given (all_records s ++ r ∷ []) p = ap (λ (x : List (Record E P)). is_given x p) (one_more s r) in
     elim (true_or_false (changed p)) [
-      | inl was ↦ all ∙ last_given (all_records s) r p (gives_them p was)
+      | inl was ↦ all ∙ gives_them p was
       | inr other ↦ all ∙ given_more (all_records s) (r ∷ []) p (said p place is other)
     ]
 

@@ -1,5 +1,5 @@
 -- What reads, changes and creations of a pool leave of its stamps, and of a log that is up.
-use Rattle.std.specs.Prelude.{◌≡◌, ◌⊎◌, ℕ, ◌≤◌, Bool, true, false, Some, List, [], ◌∷◌}
+use Rattle.std.specs.Prelude.{◌≡◌, ◌⊎◌, ℕ, ◌≤◌, Bool, true, false, Some, List, [], ◌∷◌, ◌++◌}
 use Rattle.gx_disk.specs.Device.{Device}
 use Rattle.gx_page.specs.Contents.{Contents}
 use Rattle.gx_glog.specs.State.{Log}
@@ -8,9 +8,10 @@ use Rattle.gx_pool.specs.Edits.{changed}
 use Rattle.gx_pool.specs.Bringing.{Brings, OnlyRead}
 use Rattle.gx_pool.specs.Creating.{Creates}
 use Rattle.gx_recovery.specs.Known.{Known, IsLawful}
-use Rattle.gx_recovery.specs.Records.{Record, gives}
-use Rattle.gx_recovery.specs.Logged.{Logged, appended}
+use Rattle.gx_recovery.specs.Records.{Record}
+use Rattle.gx_recovery.specs.Logged.{Logged, all_records, appended}
 use Rattle.gx_durable.specs.Spelled.{Reading}
+use Rattle.gx_durable.specs.Area.{is_given}
 use Rattle.gx_durable.specs.Stamps.{Stamped, AllSaid, SaidBut, OnlyLater}
 use Rattle.gx_durable.specs.Standing.{Up}
 use Rattle.gx_durable.specs.Calls.{GoesSafely}
@@ -30,9 +31,10 @@ CreatingIsLater = (old new : State) (page level batch place : ℕ) → Creates o
 abbrev pub ChangeIsLater : Type 0
 ChangeIsLater = (s : State) (page batch place : ℕ) (contents : Contents) → IsSound s → place ≤ batch → OnlyLater place s (changed s page batch contents)
 
--- once the record of what was changed is appended, each dirty page is given by some record
+-- Once the record of what was changed is appended, each dirty page is given by some record: this one, or one before it that a
+-- small change is of.
 abbrev pub RecordSays : (E P : Type 0) → Type 0
-RecordSays E P = (changed : ℕ → Bool) (frames : State) (s : Logged E P) (r : Record E P) → ((p : ℕ) → changed p ≡ true → gives p r ≡ true)
+RecordSays E P = (changed : ℕ → Bool) (frames : State) (s : Logged E P) (r : Record E P) → ((p : ℕ) → changed p ≡ true → is_given (all_records s ++ r ∷ []) p ≡ true)
     → SaidBut changed frames s → AllSaid frames (appended r s)
 
 -- A device carries after a call what it carried before, and at each moment within it what a crash may leave stands for a kept

@@ -4,7 +4,7 @@ use Rattle.std.specs.List.{AllByRecursion}
 use Rattle.gx_record.specs.Rec.{Rec}
 use Rattle.gx_record.specs.Rec as rec
 use Rattle.gx_record.specs.Format.{spellings, IsRecord}
-use Rattle.gx_recovery.specs.Records.{Image, Record, Pages, Write, Commit, End, Counters, Note}
+use Rattle.gx_recovery.specs.Records.{Image, Whole, Record, Pages, Write, Commit, End, Counters, Note}
 
 -- How bytes are read: how many bytes a key has; the entry of a row and a key's bytes; the content of a page's 4,096 bytes;
 -- and what stands for a page that the device doesn't have.
@@ -25,7 +25,7 @@ images_read r (p ∷ pages) = image_read r p ∷ images_read r pages
 -- a record, its key and its images read
 abbrev pub record_read : {E P : Type 0} → Reading E P → Rec → Record E P
 record_read r (rec.Pages counter used pages) = Pages (images_read r pages) counter used
-record_read r (rec.Write tx row key before after leaf image) = Write tx (r.entry row key) before after leaf (r.content image)
+record_read r (rec.Write tx row key before after leaf image) = Write tx (r.entry row key) before after leaf (Whole (r.content image))
 record_read r (rec.Commit tx n) = Commit tx n
 record_read r (rec.End tx) = End tx
 record_read r (rec.Counters n counter used next) = Counters n counter used next

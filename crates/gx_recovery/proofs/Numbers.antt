@@ -10,7 +10,7 @@ use Rattle.std.proofs.lemmas.Bool.{eqb-true}
 use Rattle.std.proofs.lemmas.List.{append-nil}
 use Rattle.std.proofs.lemmas.List.Folds.{list_any-append}
 use Rattle.gx_recovery.specs.Known.{Known, IsLawful}
-use Rattle.gx_recovery.specs.Records.{Record, Pages, Write, Commit, End, Counters, Note, Touch, names}
+use Rattle.gx_recovery.specs.Records.{Record, Pages, Adjust, Write, Commit, End, Counters, Note, Touch, names}
 use Rattle.gx_recovery.specs.Analysis.{Analysis, unread, analysis, read, read_on, touch_cmp, touching}
 use Rattle.gx_recovery.specs.Damage.{follows, IsLog}
 use Rattle.gx_recovery.specs.Coming.{MayComeAll}
@@ -99,8 +99,10 @@ module _ {E P : Type 0} (k : Known E P) where
   numbered_step : (log : List (Record E P)) (r : Record E P) → Numbered k log → IsFair k log r → Numbered k (log ++ r ∷ [])
   numbered_step log (Pages images counter used) i fair =
       numbered_at log (Pages images counter used) (named_more log (Pages images counter used) (analysis k log).next (le_refl (analysis k log).next) (λ t h. cc) i.named) i.touched
-  numbered_step log (Write transaction entry mark after leaf content) i fair =
-      let r : Record E P = Write transaction entry mark after leaf content in
+  numbered_step log (Adjust page change) i fair =
+      numbered_at log (Adjust page change) (named_more log (Adjust page change) (analysis k log).next (le_refl (analysis k log).next) (λ t h. cc) i.named) i.touched
+  numbered_step log (Write transaction entry mark after leaf said) i fair =
+      let r : Record E P = Write transaction entry mark after leaf said in
       let n : ℕ = max (analysis k log).next (transaction + 1) in
       numbered_at log r (named_more log r n (max_up (analysis k log).next transaction) (λ t h. max_right (analysis k log).next transaction t (eqb-true transaction t h)) i.named)
       (below_touching n (record { transaction = transaction; entry = entry; before = mark; leaf = leaf }) (analysis k log).touched (max_right (analysis k log).next transaction transaction refl)
@@ -128,7 +130,8 @@ module _ {E P : Type 0} (k : Known E P) where
   -- a next number never falls
   next_by : (log : List (Record E P)) (r : Record E P) → IsFair k log r → follows k log r ≡ true → (analysis k log).next ≤ (read k (analysis k log) r).next
   next_by log (Pages images counter used) fair f = le_refl (analysis k log).next
-  next_by log (Write transaction entry mark after leaf content) fair f = max_up (analysis k log).next transaction
+  next_by log (Adjust page change) fair f = le_refl (analysis k log).next
+  next_by log (Write transaction entry mark after leaf said) fair f = max_up (analysis k log).next transaction
   next_by log (Commit transaction number) fair f = max_up (analysis k log).next transaction
   next_by log (End transaction) fair f = max_up (analysis k log).next transaction
   next_by log (Counters number counter used next) fair f = cc

@@ -9,7 +9,7 @@ use Rattle.std.proofs.Math.Path.{fun_ext}
 use Rattle.std.proofs.Math.Bool.{and-true}
 use Rattle.std.proofs.lemmas.List.{append-nil}
 use Rattle.gx_recovery.specs.Known.{Known, IsLawful, Tree}
-use Rattle.gx_recovery.specs.Records.{Record, Pages, Write, Commit, End, Counters, Note, Touch, settled, any_number}
+use Rattle.gx_recovery.specs.Records.{Record, Pages, Adjust, Write, Commit, End, Counters, Note, Touch, settled, any_number}
 use Rattle.gx_recovery.specs.Analysis.{Analysis, unread, analysis, read, read_on, touch_cmp, touching, number_of}
 use Rattle.gx_recovery.specs.Redo.{redone, tree_of}
 use Rattle.gx_recovery.specs.Standing.{first_before, counting, by_mark, set_of, stands_for}
@@ -59,7 +59,7 @@ module _ {E P : Type 0} (k : Known E P) (l : IsLawful k) where
   all_notes [] = refl
   all_notes (n ∷ ns) = all_notes ns
 
-  touches_fit : (a : Analysis E) → fits k a ≡ true → list_all (touch_fits k a.used) a.touched ≡ true
+  pub touches_fit : (a : Analysis E) → fits k a ≡ true → list_all (touch_fits k a.used) a.touched ≡ true
   touches_fit a h =
       let rest : Bool = apart k a.touched && (nat_le (transactions a.touched) TRANSACTIONS && nat_le (length a.touched) TOUCHED) in
       and_first (list_all (touch_fits k a.used) a.touched) rest (and_second (nat_le a.used k.pages) (list_all (touch_fits k a.used) a.touched && rest) h)
@@ -91,7 +91,8 @@ module _ {E P : Type 0} (k : Known E P) (l : IsLawful k) where
       let fit : Bool = fits k (analysis k (Counters number counter used next ∷ notes)) in
       and_second (list_all (note_fits used) notes) fit (and_second (list_all is_note notes) (list_all (note_fits used) notes && fit) h)
   fits_head (Pages images counter used ∷ rs) h = cc
-  fits_head (Write transaction entry mark after leaf content ∷ rs) h = cc
+  fits_head (Adjust page change ∷ rs) h = cc
+  fits_head (Write transaction entry mark after leaf said ∷ rs) h = cc
   fits_head (Commit transaction number ∷ rs) h = cc
   fits_head (End transaction ∷ rs) h = cc
   fits_head (Note transaction entry mark leaf ∷ rs) h = cc

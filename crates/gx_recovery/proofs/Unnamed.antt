@@ -6,7 +6,7 @@ use Rattle.std.specs.Option.{option_or}
 use Rattle.std.proofs.Math.Path.{fun_ext}
 use Rattle.std.proofs.lemmas.Bool.{eqb-true}
 use Rattle.gx_recovery.specs.Known.{Known, IsLawful, same}
-use Rattle.gx_recovery.specs.Records.{Record, Pages, Write, Commit, End, Counters, Note, Touch, touch_of, closes, settled, any_number, names}
+use Rattle.gx_recovery.specs.Records.{Record, Pages, Adjust, Write, Commit, End, Counters, Note, Touch, touch_of, closes, settled, any_number, names}
 use Rattle.gx_recovery.specs.Analysis.{analysis}
 use Rattle.gx_recovery.specs.Standing.{first_before, mark_before, own_before}
 use Rattle.gx_recovery.specs.Damage.{IsLog}
@@ -26,7 +26,8 @@ counted false false h = refl
 module _ {E P : Type 0} (k : Known E P) where
   unclosed : (t : ℕ) (r : Record E P) → names t r ≡ false → closes any_number t r ≡ false
   unclosed t (Pages images counter used) h = refl
-  unclosed t (Write transaction entry before after leaf content) h = refl
+  unclosed t (Adjust page change) h = refl
+  unclosed t (Write transaction entry before after leaf said) h = refl
   unclosed t (Commit transaction number) h = ap (λ b. b && true) h
   unclosed t (End transaction) h = h
   unclosed t (Counters number counter used next) h = refl
@@ -34,7 +35,8 @@ module _ {E P : Type 0} (k : Known E P) where
 
   unmarked : (t : ℕ) (e : E) (r : Record E P) → names t r ≡ false → mark_before k (λ u. u == t) e (touch_of r) ≡ None
   unmarked t e (Pages images counter used) h = refl
-  unmarked t e (Write transaction entry before after leaf content) h = ap (λ b. if b && same k e entry then Some before else None) h
+  unmarked t e (Adjust page change) h = refl
+  unmarked t e (Write transaction entry before after leaf said) h = ap (λ b. if b && same k e entry then Some before else None) h
   unmarked t e (Commit transaction number) h = refl
   unmarked t e (End transaction) h = refl
   unmarked t e (Counters number counter used next) h = refl

@@ -1,7 +1,7 @@
 -- The kept sets of a log, what each step of the log does to them, and lives: lists of such steps.
 use Rattle.std.specs.Prelude.{◌≡◌, ℕ, ◌+◌, ◌≤◌, Bool, List, [], ◌∷◌}
 use Rattle.gx_recovery.specs.Known.{Known}
-use Rattle.gx_recovery.specs.Records.{Record, Pages, Write, Commit, End, Counters, Note}
+use Rattle.gx_recovery.specs.Records.{Record, Pages, Adjust, Write, Commit, End, Counters, Note}
 use Rattle.gx_recovery.specs.Analysis.{analysis}
 use Rattle.gx_recovery.specs.Redo.{redone}
 use Rattle.gx_recovery.specs.Standing.{view_of}
@@ -90,7 +90,8 @@ IsLogStep k old (Restarts next area log) new = IsLeft old area log × ((analysis
 -- what appending a record does to the kept sets: a commit adds the view of its transaction
 abbrev pub append_move : {E P : Type 0} → Known E P → Logged E P → Record E P → Move E
 append_move k s (Pages images counter used) = Stays
-append_move k s (Write transaction entry before after leaf content) = Stays
+append_move k s (Adjust page change) = Stays
+append_move k s (Write transaction entry before after leaf said) = Stays
 append_move k s (Commit transaction number) = Seals (view_of k transaction s.area (all_records s))
 append_move k s (End transaction) = Stays
 append_move k s (Counters number counter used next) = Stays

@@ -1,14 +1,15 @@
 //! What holds of every log.
-ghost use Rattle.std.specs.Prelude.{◌≡◌, ℕ, ◌+◌, ◌<◌, ◌≤◌, Bool, true, false, not, if◌then◌else◌, None, Some, List, [], ◌∷◌, ◌++◌};
+ghost use Rattle.std.specs.Prelude.{◌≡◌, ℕ, ◌+◌, ◌<◌, ◌≤◌, Bool, true, false, not, if◌then◌else◌, is_some, unwrap_or, None, Some, List, [], ◌∷◌, ◌++◌};
 ghost use Rattle.std.specs.List.{list_all, list_any};
 ghost use Rattle.gx_recovery.specs.Known.{Tree, Limits, IsLawful};
-ghost use Rattle.gx_recovery.specs.Records.{Image, Record, Pages, Write, Commit, End, settled, any_number, names};
+ghost use Rattle.gx_recovery.specs.Records.{Image, Change, Said, Record, Pages, Adjust, Write, Commit, End, settled, any_number, gives, speaks_of, names};
 ghost use Rattle.gx_recovery.specs.Analysis.{analysis, number_of};
 ghost use Rattle.gx_recovery.specs.Redo.{redone, tree_of};
+ghost use Rattle.gx_recovery.specs.Given.{given};
 ghost use Rattle.gx_recovery.specs.Standing.{own_before, stands_for};
 ghost use Rattle.gx_recovery.specs.Damage.{is_open, follows, records_of, is_undamaged, Place, opened, bodies_read, IsLog};
 ghost use Rattle.gx_recovery.specs.Damages.{damages, is_none};
-ghost use Rattle.gx_recovery.specs.Coming.{WritesOne, Restored, IsGood, MayCome, MayComeAll, IsSoundWrite, AreSoundPages};
+ghost use Rattle.gx_recovery.specs.Coming.{WritesOne, Restored, IsGood, MayCome, MayComeAll, IsSoundWrite, AreSoundPages, IsSoundChange};
 ghost use Rattle.gx_recovery.specs.Logged.{Logged, all_records, latest, kept, IsHealthy, appended, begun, gate_synced, AgreesBeside, IsLeft, StandsForKept};
 ghost use Rattle.gx_recovery.specs.Renewal.{renewed, renewed_over, found};
 ghost use Rattle.gx_recovery.specs.Life.{IsMove, Stays, Durable, kept_of, append_move, AllWritten, LogStep, IsLogStep, move_of, IsLife, moves_of, AreMoves};
@@ -66,11 +67,28 @@ pub fn checkpoint_keeps_the_set<M: Meaning>()
 {}
 
 /// Redo may be cut off at any point and made again: over pages of which the log gives some whole, whatever is on those,
-/// it leaves the same pages. It leaves all others as they are, and made twice it is made once.
+/// it leaves the same pages. Where the log passes its tests it leaves all others as they are, and made twice it is made once:
+/// else a small change could be made of a page that the log doesn't give, and made again.
 pub fn redo_may_be_made_again<M: Meaning>()
     ensures again { (log : List (Record M.Entry M.Page)) (old new : ℕ → M.Page) → AgreesBeside log old new → redone new log ≡ redone old log }
-    ensures others { (log : List (Record M.Entry M.Page)) (area : ℕ → M.Page) → AgreesBeside log area (redone area log) }
-    ensures twice { (log : List (Record M.Entry M.Page)) (area : ℕ → M.Page) → redone (redone area log) log ≡ redone area log }
+    ensures others { (d : Limits) → (log : List (Record M.Entry M.Page)) (area : ℕ → M.Page) → IsLog (M.known d) log → AgreesBeside log area (redone area log) }
+    ensures twice { (d : Limits) → (log : List (Record M.Entry M.Page)) (area : ℕ → M.Page) → IsLog (M.known d) log → redone (redone area log) log ≡ redone area log }
+{}
+
+/// What a log by itself gives of a page, the last whole content with the small changes since, is that page after it; and a
+/// page of which it gives nothing is as it was. So whoever tests a log record by record has, in what is given, the pages
+/// that redo writes. Of what a log says anything it gives the whole: an image comes first. So a page may be written once
+/// all its records are gated, as the gated records then give it. A renewed log gives nothing: each page's image comes anew.
+pub fn a_log_gives_what_it_speaks_of<M: Meaning>()
+    ensures given { (log : List (Record M.Entry M.Page)) (p : ℕ) (area : ℕ → M.Page) (content : M.Page) → given p log ≡ Some content
+        → redone area log p ≡ content }
+    ensures pages { (d : Limits) → (log : List (Record M.Entry M.Page)) (p : ℕ) (area : ℕ → M.Page) → IsLog (M.known d) log
+        → redone area log p ≡ unwrap_or (given p log) (area p) }
+    ensures whole { (log : List (Record M.Entry M.Page)) (p : ℕ) → list_any (gives p) log ≡ true → is_some (given p log) ≡ true }
+    ensures nothing { (log : List (Record M.Entry M.Page)) (p : ℕ) → list_any (gives p) log ≡ false → given p log ≡ None }
+    ensures spoken { (d : Limits) → (log : List (Record M.Entry M.Page)) (p : ℕ) → IsLog (M.known d) log → list_any (speaks_of p) log ≡ true
+        → list_any (gives p) log ≡ true }
+    ensures renewed { (d : Limits) → (next : ℕ) (log : List (Record M.Entry M.Page)) (p : ℕ) → given p (renewed (M.known d) next log) ≡ None }
 {}
 
 /// A log as it is found, undamaged and over pages that are good for it, is a healthy state with nothing in flight, which
@@ -103,11 +121,11 @@ pub fn opened_log_keeps_its_set<M: Meaning>()
 /// restored stays so.
 pub fn undo_keeps_the_restored<M: Meaning>()
     ensures restores { (d : Limits) → IsLawful (M.known d) → (log : List (Record M.Entry M.Page)) (t : ℕ) (entry : M.Entry) (mark first : Bool) (leaf : ℕ)
-        (content : M.Page) (old new : Tree M.Page) → own_before (M.known d) t entry log ≡ Some first → WritesOne (M.known d) entry mark first old new
-        → Restored (M.known d) t new (log ++ Write t entry mark first leaf content ∷ []) entry }
+        (said : Said M.Page) (old new : Tree M.Page) → own_before (M.known d) t entry log ≡ Some first → WritesOne (M.known d) entry mark first old new
+        → Restored (M.known d) t new (log ++ Write t entry mark first leaf said ∷ []) entry }
     ensures others { (d : Limits) → IsLawful (M.known d) → (log : List (Record M.Entry M.Page)) (t : ℕ) (entry : M.Entry) (mark first : Bool) (leaf : ℕ)
-        (content : M.Page) (old new : Tree M.Page) → own_before (M.known d) t entry log ≡ Some first → WritesOne (M.known d) entry mark first old new
-        → (e : M.Entry) → Restored (M.known d) t old log e → Restored (M.known d) t new (log ++ Write t entry mark first leaf content ∷ []) e }
+        (said : Said M.Page) (old new : Tree M.Page) → own_before (M.known d) t entry log ≡ Some first → WritesOne (M.known d) entry mark first old new
+        → (e : M.Entry) → Restored (M.known d) t old log e → Restored (M.known d) t new (log ++ Write t entry mark first leaf said ∷ []) e }
 {}
 
 /// An open transaction may commit at once, with the next number; and once all that it touched is restored, it may end.
@@ -120,14 +138,17 @@ pub fn commit_and_end_may_come<M: Meaning>()
         → ((e : M.Entry) → Restored (M.known d) t (tree_of (M.known d) area log) log e) → MayCome (M.known d) area log (End t) }
 {}
 
-/// A write, or pages, that are exact and sound may come: what the log then tells still fits.
+/// A write, pages, or a small change of no transaction, that are exact and sound may come: what the log then tells still
+/// fits.
 pub fn sound_records_may_come<M: Meaning>()
     ensures write { (d : Limits) → IsLawful (M.known d) → (area : ℕ → M.Page) (log : List (Record M.Entry M.Page)) → IsLog (M.known d) log
-        → (t : ℕ) (entry : M.Entry) (before after : Bool) (leaf : ℕ) (content : M.Page) → IsSoundWrite (M.known d) area log t entry before after leaf content
-        → MayCome (M.known d) area log (Write t entry before after leaf content) }
+        → (t : ℕ) (entry : M.Entry) (before after : Bool) (leaf : ℕ) (said : Said M.Page) → IsSoundWrite (M.known d) area log t entry before after leaf said
+        → MayCome (M.known d) area log (Write t entry before after leaf said) }
     ensures pages { (d : Limits) → IsLawful (M.known d) → (area : ℕ → M.Page) (log : List (Record M.Entry M.Page)) → IsLog (M.known d) log
         → (images : List (Image M.Page)) (counter used : ℕ) → AreSoundPages (M.known d) area log images counter used
         → MayCome (M.known d) area log (Pages images counter used) }
+    ensures change { (d : Limits) → IsLawful (M.known d) → (area : ℕ → M.Page) (log : List (Record M.Entry M.Page)) → IsLog (M.known d) log
+        → (page : ℕ) (change : Change M.Page) → IsSoundChange (M.known d) area log page change → MayCome (M.known d) area log (Adjust page change) }
 {}
 
 /// A transaction that a log doesn't name is open in it and has touched nothing. A renewed log closes no transaction, and
