@@ -48,7 +48,7 @@ module _ {E P : Type 0} (k : Known E P) (r : Reading E P) (d e : Device) (log : 
       let at = placed log.extent in
       bodies_same e.seen d.seen log.extent log.gated
       (λ j less. body_kept d.seen e.seen d.pending e.pending log.extent j
-          (λ n within. leaves.kept n (inr (omega (arith, at.bodies, at.from, within.from), omega (arith, at.to, less, few, within.below)))))
+      (λ n within. leaves.kept n (inr (omega (arith, at.bodies, at.from, within.from), omega (arith, at.to, less, few, within.below)))))
 
   -- what agrees outside the pages that are given agrees beside them
   outside_beside : (up : Up k r log d.sectors d.seen d.pending bodies s) → AgreesOutside (is_given s.gated) d.sectors d.seen e.seen → AgreesBeside s.gated s.area (area_of r k.pages e.seen)

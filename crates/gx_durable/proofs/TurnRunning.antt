@@ -128,13 +128,13 @@ module _ {E P : Type 0} (k : Known E P) (r : Reading E P) where
       record {
         runs = record { up = up; stamped = subst S (sym tells) (turned_stamped old new frames t result turns runs.stamped.behind runs.stamped.places clean) };
         goes_on = same_head old new result M turns (subst N (sym counts.sectors) (record {
-            no_flight = may.no_flight;
-            no_filling = may.no_filling;
-            written = may.written;
-            settled = settled_elsewhere f.first f.n d.sectors d e f.front f.touches (λ p. false) may.settled;
-            next = may.next;
-            covers = may.covers;
-            head_is = may.head_is;
+          no_flight = may.no_flight;
+          no_filling = may.no_filling;
+          written = may.written;
+          settled = settled_elsewhere f.first f.n d.sectors d e f.front f.touches (λ p. false) may.settled;
+          next = may.next;
+          covers = may.covers;
+          head_is = may.head_is;
         }));
         safely = record { goes = goes; leaves = call_stands k l r new d e (bodies_turned k may.next result bodies s) s t kept_so.time goes up };
       }

@@ -37,12 +37,8 @@ fn tell_turned<T: PageTest>(pool: &mut Pool<T>, call: Turn)
 {
     match call {
         Turn::Done => pool.turned(),
-        Turn::Closed
-        | Turn::Body
-        | Turn::BodySync
-        | Turn::Gate
-        | Turn::GateSync
-        | Turn::Selector => {}
+        Turn::Closed | Turn::Body | Turn::BodySync | Turn::Gate | Turn::GateSync | Turn::Selector =>
+            {}
     }
 }
 
