@@ -11,5 +11,6 @@ pub mod Running
 pub mod Spellings
 pub mod Stamping
 pub mod Stepping
+pub mod Storing
 pub mod TurnRunning
 pub mod Turning

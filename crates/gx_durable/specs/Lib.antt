@@ -9,4 +9,5 @@ pub mod Spelled
 pub mod Stamps
 pub mod Standing
 pub mod Steps
+pub mod Stored
 pub mod Turns

@@ -2,6 +2,7 @@
 ghost use Rattle.gx_recovery.specs.Known.{Limits};
 ghost use Rattle.gx_durable.specs.Beginning.{FirstIsUp, HeadsFit};
 ghost use Rattle.gx_durable.specs.PoolLaws.{LaterStampsStay, BringingIsClean, CreatingIsLater, ChangeIsLater, RecordSays, ReadsStayUp};
+ghost use Rattle.gx_durable.specs.Stored.{NothingDirtyIsWritten, BringingStoresTheSame};
 ghost use Rattle.gx_durable.specs.Laws.{OneWay, PartsJoin, SpellingAdds, NoneAreNone, OnlyNoneAreNone, BodiesOneWay, BodyAdds, BodiesJoin, LogIsItsBodies, ACrashLeavesAKeptSet, StandsOfBefore};
 
 use crate::Spelled;
@@ -56,4 +57,11 @@ pub fn a_new_device_is_up<M: Spelled>()
 /// A renewed log fits one body, where keys have up to 41 bytes: 29 bytes for its numbers, and up to 63 for each of 512 notes.
 pub fn heads_fit_a_body<M: Spelled>()
     ensures { (l : Limits) → HeadsFit (M.known l) M.reading }
+{}
+
+/// Pages are *stored* as all records leave them: in a frame, or else on the device. What is brought changes nothing of that. Where
+/// nothing is dirty, in flight or filling, each page is written: so a turn may begin, once they are settled.
+pub fn pages_are_stored<M: Spelled>()
+    ensures written { NothingDirtyIsWritten M.reading }
+    ensures brought { BringingStoresTheSame M.reading }
 {}
