@@ -1,10 +1,9 @@
 -- Pages whose sectors are kept read the same.
-use Rattle.std.proofs.Common.{◌≡◌, ◌∙◌, sym, ap, refl, inl, inr, ℕ, ◌<◌, ◌≤◌, Bool, true, false, ◌&&◌, List, arith}
+use Rattle.std.proofs.Common.{◌≡◌, ◌∙◌, sym, ap, refl, ℕ, ◌<◌, ◌≤◌, Bool, true, false, ◌&&◌, List, arith}
 use Rattle.std.specs.Prelude.{if◌then◌else◌, nat_le, nat_lt}
 use Rattle.std.proofs.lemmas.Bool.{ltb-true, leb-true}
-use Rattle.gx_disk.specs.Sectors.{sector_of, IsWithin}
 use Rattle.gx_disk.specs.Device.{IsImage}
-use Rattle.gx_disk.proofs.Spans.{spans_same, image_span}
+use Rattle.gx_disk.proofs.Spans.{image_span}
 use Rattle.gx_pool.specs.Area.{bytes_of, first_of, IsPage}
 use Rattle.gx_recovery.specs.Records.{Record}
 use Rattle.gx_recovery.specs.Logged.{AgreesBeside}

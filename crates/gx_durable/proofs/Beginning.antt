@@ -1,10 +1,9 @@
 -- A log that begins.
-use Rattle.std.proofs.Common.{◌≡◌, ◌∙◌, sym, ap, refl, subst, ℕ, ◌+◌, ◌*◌, ◌≤◌, Bool, true, false, List, [], ◌∷◌, ◌++◌, length, length-append, arith}
+use Rattle.std.proofs.Common.{◌≡◌, ◌∙◌, sym, ap, refl, subst, ℕ, ◌+◌, ◌*◌, ◌≤◌, Bool, true, List, [], ◌∷◌, length, length-append, arith}
 use Rattle.std.specs.Prelude.{nat_le}
 use Rattle.std.specs.List.{AllByRecursion}
 use Rattle.std.proofs.lemmas.Bool.{le-leb}
 use Rattle.std.proofs.lemmas.List.{append-nil}
-use Rattle.gx_disk.specs.Device.{IsImage}
 use Rattle.gx_record.specs.Rec.{Rec}
 use Rattle.gx_record.specs.Rec as rec
 use Rattle.gx_record.specs.Format.{spelling, spellings, IsRecord}
@@ -16,12 +15,12 @@ use Rattle.gx_glog.proofs.FirstLog.{first_spelled, first_on, first_log}
 use Rattle.gx_glog.proofs.Images.{selected_shows}
 use Rattle.gx_recovery.specs.Known.{Known}
 use Rattle.gx_recovery.proofs.Logs.{and_all}
-use Rattle.gx_recovery.specs.Records.{Record, Counters, Note, Touch}
+use Rattle.gx_recovery.specs.Records.{Counters, Note, Touch}
 use Rattle.gx_recovery.specs.Analysis.{analysis}
-use Rattle.gx_recovery.specs.Damage.{is_head, is_undamaged, IsLog}
-use Rattle.gx_recovery.specs.Renewal.{renewed, notes_of}
+use Rattle.gx_recovery.specs.Damage.{is_head}
+use Rattle.gx_recovery.specs.Renewal.{notes_of}
 use Rattle.gx_durable.specs.Spelled.{Reading, record_read, records_read, AreRecords}
-use Rattle.gx_durable.specs.Bodies.{bodies_in, AreBodies}
+use Rattle.gx_durable.specs.Bodies.{AreBodies}
 use Rattle.gx_durable.specs.Beginning.{first_glog, first_records, FirstIsUp, HeadsFit}
 use Rattle.gx_durable.proofs.Spellings.{none_are}
 use Rattle.gx_durable.proofs.Turning.{head_body}

@@ -6,8 +6,8 @@ use Rattle.gx_glog.specs.Layout.{selected_of, is_open, body_of, records_in, open
 use Rattle.gx_glog.proofs.Gates.{run_is}
 use Rattle.gx_recovery.specs.Records.{Record}
 use Rattle.gx_recovery.specs.Damage.{records_of}
-use Rattle.gx_durable.specs.Spelled.{Reading, AreRecords}
-use Rattle.gx_durable.specs.Bodies.{bodies_in, open_bodies, joined, AreBodies}
+use Rattle.gx_durable.specs.Spelled.{Reading}
+use Rattle.gx_durable.specs.Bodies.{bodies_in, open_bodies, joined}
 use Rattle.gx_durable.specs.Laws.{BodiesOneWay, BodyAdds, BodiesJoin, LogIsItsBodies}
 use Rattle.gx_durable.proofs.Spellings.{one_way, parts_join, none_are}
 

@@ -1,22 +1,19 @@
 -- Whatever a crash leaves stands for a kept set.
-use Rattle.std.proofs.Common.{◌≡◌, ◌∙◌, sym, ap, refl, subst, inl, inr, ⊎_elim, ℕ, ◌≤◌, Bool, true, false, List, [], ◌∷◌, ◌++◌, arith}
+use Rattle.std.proofs.Common.{◌≡◌, ◌∙◌, sym, ap, refl, subst, inl, inr, ℕ, Bool, false, List, [], ◌∷◌, ◌++◌, arith}
 use Rattle.std.proofs.Math.Path.{fun_ext}
 use Rattle.std.proofs.lemmas.List.{append-nil}
 use Rattle.gx_disk.specs.Device.{IsImage}
 use Rattle.gx_glog.specs.declared.stage.Stage.{Stage}
 use Rattle.gx_glog.specs.declared.stage.Stage.TheVariants.{Body, BodySync, Gate, GateSync, Idle}
-use Rattle.gx_glog.specs.State.{Log, in_flight, turning}
-use Rattle.gx_glog.specs.Standing.{On}
+use Rattle.gx_glog.specs.State.{Log, in_flight}
 use Rattle.gx_recovery.specs.Known.{Known, IsLawful}
 use Rattle.gx_recovery.specs.Records.{Record}
 use Rattle.gx_recovery.specs.Analysis.{number_of}
-use Rattle.gx_recovery.specs.Redo.{tree_of}
-use Rattle.gx_recovery.specs.Standing.{stands_for}
-use Rattle.gx_recovery.specs.Coming.{IsGood, MayComeAll}
-use Rattle.gx_recovery.specs.Damage.{records_of, is_undamaged}
-use Rattle.gx_recovery.specs.Logged.{Logged, IsHealthy, durable, latest, kept, all_records, AgreesBeside, StandsForKept, SameKept}
+use Rattle.gx_recovery.specs.Coming.{MayComeAll}
+use Rattle.gx_recovery.specs.Damage.{records_of}
+use Rattle.gx_recovery.specs.Logged.{Logged, latest, kept, all_records, AgreesBeside, StandsForKept}
 use Rattle.gx_recovery.specs.Renewal.{renewed}
-use Rattle.gx_recovery.proofs.States.{coming_first, numbers_rise, stands_as, sets_kept}
+use Rattle.gx_recovery.proofs.States.{coming_first}
 use Rattle.gx_recovery.proofs.Lives.{left_stands}
 use Rattle.gx_recovery.proofs.Renewals.{same_number}
 use Rattle.gx_recovery.proofs.Moves.{checkpoint_healthy, checkpoint_stands}
@@ -25,8 +22,7 @@ use Rattle.gx_recovery.proofs.DamageItems.{records_append}
 use Rattle.gx_durable.specs.Spelled.{Reading, AreRecords}
 use Rattle.gx_durable.specs.Bodies.{bodies_in, open_bodies, AreBodies}
 use Rattle.gx_durable.specs.Area.{area_of}
-use Rattle.gx_durable.specs.Standing.{batch_of, MayRenew, Carries, Up, Stands}
-use Rattle.gx_durable.specs.Steps.{GoesOn}
+use Rattle.gx_durable.specs.Standing.{batch_of, MayRenew, Carries, Stands}
 use Rattle.gx_durable.specs.Laws.{ACrashLeavesAKeptSet, StandsOfBefore}
 use Rattle.gx_durable.proofs.Areas.{image_agrees, image_page}
 use Rattle.gx_durable.proofs.BodyLists.{body_adds}

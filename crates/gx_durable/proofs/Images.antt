@@ -79,7 +79,7 @@ module _ (log : Log) (seen : List ℕ) (pending : ℕ → Bool) (image : List �
       (λ (other : selected_of image ≡ other_of log.extent). inr (turns, head_shown (other_of log.extent) log.flight seen pending image has may other))
       (either_extent log.extent (selected_of image))
 
-  by_turn : (t : Turn) → t ≡ log.turn → Leads t log.extent (other_of log.extent) log.flight seen pending → BodiesShown log seen image
+  pub by_turn : (t : Turn) → t ≡ log.turn → Leads t log.extent (other_of log.extent) log.flight seen pending → BodiesShown log seen image
   by_turn turn.Closed is leads = inl (gated_shown (image_selects log.extent seen pending image leads may))
   by_turn turn.Body is leads = inl (gated_shown (image_selects log.extent seen pending image leads.0 may))
   by_turn turn.BodySync is leads = inl (gated_shown (image_selects log.extent seen pending image leads.0 may))

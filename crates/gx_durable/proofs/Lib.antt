@@ -5,6 +5,7 @@ pub mod BodyLists
 pub mod Crashes
 pub mod Images
 pub mod Moving
+pub mod Opening
 pub mod Paging
 pub mod Reading
 pub mod Running

@@ -1,13 +1,12 @@
 -- What a call in the log's sectors leaves of the page area, and how moves of the kept sets join.
-use Rattle.std.proofs.Common.{◌≡◌, ◌∙◌, sym, ap, refl, subst, inl, inr, ℕ, ◌+◌, ◌≤◌, Bool, true, false, ◌||◌, List, [], ◌∷◌, ◌++◌, arith}
-use Rattle.std.specs.List.{list_any}
+use Rattle.std.proofs.Common.{◌≡◌, ◌∙◌, sym, refl, inl, inr, ℕ, ◌+◌, ◌≤◌, Bool, true, false, ◌||◌, List, [], ◌++◌, arith}
 use Rattle.std.proofs.lemmas.List.Folds.{list_any-append}
-use Rattle.gx_disk.specs.Device.{Device, Touches, Rests}
+use Rattle.gx_disk.specs.Device.{Device, Touches}
 use Rattle.gx_disk.proofs.Spans.{touched_span}
-use Rattle.gx_pool.specs.Area.{first_of, bytes_of}
+use Rattle.gx_pool.specs.Area.{first_of}
 use Rattle.gx_recovery.specs.Known.{Known, IsLawful}
 use Rattle.gx_recovery.specs.Records.{Record, gives}
-use Rattle.gx_recovery.specs.Logged.{Logged, IsHealthy, durable, latest, begun, gate_synced}
+use Rattle.gx_recovery.specs.Logged.{Logged, IsHealthy, begun, gate_synced}
 use Rattle.gx_recovery.specs.Life.{AreSame, AreFewer, kept_of}
 use Rattle.gx_recovery.proofs.Tests.{or_none_first}
 use Rattle.gx_recovery.proofs.Lives.{begun_stays, synced_moves}

@@ -1,16 +1,13 @@
 -- A page's write keeps the log up and the pool's stamps.
-use Rattle.std.proofs.Common.{◌≡◌, ◌∙◌, sym, ap, refl, subst, ◌⊎◌, inl, inr, ℕ, ◌+◌, ◌*◌, ◌<◌, ◌≤◌, Bool, true, false, List, [], ◌∷◌, ◌++◌, Option, None, Some, arith}
-use Rattle.std.specs.Prelude.{nat_le}
+use Rattle.std.proofs.Common.{◌≡◌, ◌∙◌, sym, ap, refl, subst, inl, inr, ℕ, ◌≤◌, Bool, true, List, Option, None, Some, arith}
 use Rattle.std.proofs.lemmas.Bool.{leb-true}
-use Rattle.gx_disk.specs.Sectors.{IsWithin}
 use Rattle.gx_disk.specs.Device.{Device, Elapses, Touches}
-use Rattle.gx_glog.specs.Layout.{bodies_of}
 use Rattle.gx_glog.specs.State.{Log, turning}
-use Rattle.gx_glog.specs.Standing.{IsOfLog, LeavesLog}
+use Rattle.gx_glog.specs.Standing.{LeavesLog}
 use Rattle.gx_glog.proofs.Besides.{page_is_apart}
 use Rattle.gx_glog.proofs.Gates.{placed}
 use Rattle.gx_glog.proofs.Keeping.{on_kept, touched_leaves, body_kept}
-use Rattle.gx_pool.specs.Area.{IsPage, first_of}
+use Rattle.gx_pool.specs.Area.{first_of}
 use Rattle.gx_pool.specs.Gated.{AgreesOutside, IsAreaSettled, KeepsArea, NamesGated}
 use Rattle.gx_pool.specs.Marks.{is_gated}
 use Rattle.gx_pool.specs.State.{State, kept, stamp_of}
@@ -21,9 +18,8 @@ use Rattle.gx_recovery.proofs.Lives.{written_healthy, written_stays}
 use Rattle.gx_durable.specs.Spelled.{Reading}
 use Rattle.gx_durable.specs.Bodies.{bodies_in, AreBodies}
 use Rattle.gx_durable.specs.Area.{area_of, HasPages, is_given}
-use Rattle.gx_durable.specs.Stamps.{Stamped, AllSaid}
+use Rattle.gx_durable.specs.Stamps.{Stamped}
 use Rattle.gx_durable.specs.Standing.{Up}
-use Rattle.gx_durable.specs.Calls.{Runs}
 use Rattle.gx_durable.specs.Pages.{rewritten, PageKeepsRunning}
 use Rattle.gx_durable.proofs.Areas.{page_same}
 use Rattle.gx_durable.proofs.BodyLists.{bodies_same}

@@ -1,27 +1,22 @@
 -- Reads, syncs, changes and creations: what they leave of a log that is up and of a pool's stamps.
-use Rattle.std.proofs.Common.{◌≡◌, ◌≢◌, ◌∙◌, sym, ap, refl, subst, ◌⊎◌, inl, inr, ⊎_elim, ℕ, ◌<◌, ◌≤◌, Bool, true, false, ◌||◌, List, [], ◌∷◌, ◌++◌, Option, None, Some, append_assoc, arith}
-use Rattle.std.specs.Prelude.{◌==◌, max}
+use Rattle.std.proofs.Common.{◌≡◌, ◌≢◌, ◌∙◌, sym, ap, refl, subst, ◌⊎◌, inl, inr, ⊎_elim, ℕ, ◌≤◌, true, false, List, [], ◌∷◌, ◌++◌, Option, None, Some, append_assoc, arith}
+use Rattle.std.specs.Prelude.{◌==◌}
 use Rattle.std.proofs.lemmas.Bool.{eqb-true}
-use Rattle.std.proofs.lemmas.List.Folds.{list_any-append}
 use Rattle.gx_disk.specs.Device.{Device, Elapses, Rests}
 use Rattle.gx_page.specs.Contents.{Contents}
-use Rattle.gx_glog.specs.State.{Log, turning}
+use Rattle.gx_glog.specs.State.{Log}
 use Rattle.gx_glog.proofs.Keeping.{on_kept, rested_leaves}
-use Rattle.gx_pool.specs.State.{State, Kept, kept, place_of, stamp_of, IsSound}
+use Rattle.gx_pool.specs.State.{State, Kept, kept, stamp_of, IsSound}
 use Rattle.gx_pool.specs.Edits.{changed, changed_at, later}
-use Rattle.gx_pool.specs.Bringing.{Brings, Came, Left, OnlyRead}
-use Rattle.gx_pool.specs.Creating.{Creates}
 use Rattle.gx_pool.proofs.Places.{changed_kept, changed_other, place_none, some-injective}
-use Rattle.gx_recovery.specs.Known.{Known, IsLawful}
-use Rattle.gx_recovery.specs.Records.{Record, gives}
+use Rattle.gx_recovery.specs.Known.{Known}
+use Rattle.gx_recovery.specs.Records.{Record}
 use Rattle.gx_recovery.specs.Logged.{Logged, all_records, appended}
-use Rattle.gx_recovery.proofs.Tests.{true_or_false, or_second, clash, itself}
+use Rattle.gx_recovery.proofs.Tests.{true_or_false, clash, itself}
 use Rattle.gx_durable.specs.Spelled.{Reading}
 use Rattle.gx_durable.specs.Bodies.{bodies_in, AreBodies}
 use Rattle.gx_durable.specs.Area.{area_of, is_given}
-use Rattle.gx_durable.specs.Stamps.{Stamped, AllSaid, SaidBut, OnlyLater}
-use Rattle.gx_durable.specs.Standing.{MayRenew, Up}
-use Rattle.gx_durable.specs.Calls.{GoesSafely}
+use Rattle.gx_durable.specs.Standing.{Up}
 use Rattle.gx_durable.specs.PoolLaws.{LaterStampsStay, BringingIsClean, CreatingIsLater, ChangeIsLater, RecordSays, StaysUp, ReadsStayUp}
 use Rattle.gx_durable.proofs.Moving.{given_more, goes_nowhere}
 use Rattle.gx_durable.proofs.Stepping.{call_stands}

@@ -1,20 +1,19 @@
 -- A log and a pool still run after a step.
-use Rattle.std.proofs.Common.{◌≡◌, ◌∙◌, sym, ap, refl, subst, ℕ, ◌≤◌, true, List, Result, Ok, Err}
+use Rattle.std.proofs.Common.{◌≡◌, sym, refl, subst, ℕ, true, [], Result, Ok}
 use Rattle.gx_geom.specs.declared.refusal.Refusal.{Refusal}
 use Rattle.gx_disk.specs.Device.{Device, Counts}
 use Rattle.gx_glog.specs.declared.stage.Stage.{Stage}
 use Rattle.gx_glog.specs.declared.stage.Stage.TheVariants.{Idle}
-use Rattle.gx_glog.specs.State.{Log, calls_of, Goes}
+use Rattle.gx_glog.specs.State.{Log, Goes}
 use Rattle.gx_glog.specs.Standing.{On}
 use Rattle.gx_glog.specs.Steps.{CallOf, Keeps}
 use Rattle.gx_pool.specs.State.{State}
 use Rattle.gx_recovery.specs.Known.{Known}
-use Rattle.gx_recovery.specs.Records.{Record}
 use Rattle.gx_recovery.specs.Logged.{Logged}
 use Rattle.gx_durable.specs.Spelled.{Reading}
 use Rattle.gx_durable.specs.Steps.{with_batch, stepped, told_frames}
 use Rattle.gx_durable.specs.Stamps.{Stamped, AllSaid}
-use Rattle.gx_durable.specs.Calls.{Runs, StepKeepsRunning}
+use Rattle.gx_durable.specs.Calls.{StepKeepsRunning}
 use Rattle.gx_durable.proofs.Stepping.{none_flies, step_up, step_goes, call_stands}
 use Rattle.gx_durable.proofs.Stamping.{step_said, step_stamped}
 
@@ -28,7 +27,7 @@ module _ {E P : Type 0} (k : Known E P) (r : Reading E P) where
       let kept = keeps honest runs.up.on in
       let up = step_up k l r old new d e bodies s runs.up result counts.sectors goes (call honest) rests kept in
       let goes_on = step_goes k l r old new d e bodies s runs.up result in
-      let none = λ idle. none_flies k l r old new d e bodies s runs.up idle in
+      let none : old.stage ≡ Idle → s.flight ≡ [] = λ idle. none_flies k l r old new d e bodies s runs.up idle in
       record {
         runs = record {
           up = up;

@@ -1,19 +1,16 @@
 -- A step of the log keeps it up.
-use Rattle.std.proofs.Common.{◌≡◌, ◌∙◌, sym, ap, refl, subst, ◌⊎◌, inl, inr, ⊎_elim, ℕ, ◌+◌, ◌*◌, ◌<◌, ◌≤◌, Bool, true, false, List, [], ◌∷◌, ◌++◌, length, Result, Ok, Err, arith}
+use Rattle.std.proofs.Common.{◌≡◌, ◌∙◌, sym, ap, refl, subst, inl, inr, ℕ, ◌+◌, ◌*◌, ◌<◌, ◌≤◌, List, [], ◌∷◌, ◌++◌, length, Result, Ok, Err, arith}
 use Rattle.gx_geom.specs.declared.refusal.Refusal.{Refusal}
-use Rattle.gx_disk.specs.Sectors.{IsWithin}
-use Rattle.gx_disk.specs.Device.{Device, MayLeave, Elapses, Touches, Rests}
+use Rattle.gx_disk.specs.Device.{Device, Elapses, Touches}
 use Rattle.gx_disk.specs.Moments.{Leaves}
 use Rattle.gx_disk.proofs.Leaving.{call_leaves}
 use Rattle.gx_glog.specs.declared.extent.Extent.{Extent}
 use Rattle.gx_glog.specs.declared.stage.Stage.{Stage}
 use Rattle.gx_glog.specs.declared.stage.Stage.TheVariants.{Body, BodySync, Gate, GateSync, Idle}
-use Rattle.gx_glog.specs.declared.stage.Turn.TheVariants as turn
 use Rattle.gx_glog.specs.Layout.{gates_of, bodies_of, body_of, records_in}
 use Rattle.gx_glog.specs.Bodies.{HasRecords}
-use Rattle.gx_glog.specs.State.{Log, in_flight, turning, begun, after, done, Made, Goes, GoesFrom}
-use Rattle.gx_glog.specs.State as log_state
-use Rattle.gx_glog.specs.Standing.{Flies, On}
+use Rattle.gx_glog.specs.State.{Log, in_flight, turning, begun, after, Made, Goes, GoesFrom}
+use Rattle.gx_glog.specs.Standing.{Flies}
 use Rattle.gx_glog.specs.Steps.{Calls, CallOf, Keeps}
 use Rattle.gx_glog.proofs.Gates.{placed}
 use Rattle.gx_glog.proofs.Stepping.{room_left}
@@ -21,7 +18,6 @@ use Rattle.gx_glog.proofs.Keeping.{touched_kept, rested_kept, body_kept}
 use Rattle.gx_recovery.specs.Known.{Known, IsLawful}
 use Rattle.gx_recovery.specs.Records.{Record}
 use Rattle.gx_recovery.specs.Coming.{MayComeAll}
-use Rattle.gx_recovery.specs.Damage.{records_of, is_undamaged}
 use Rattle.gx_recovery.specs.Logged.{Logged, IsHealthy, gate_synced}
 use Rattle.gx_recovery.specs.Logged as logged
 use Rattle.gx_recovery.proofs.States.{coming_first}
@@ -30,7 +26,7 @@ use Rattle.gx_recovery.proofs.Bodies.{batch_undamaged}
 use Rattle.gx_recovery.proofs.DamageItems.{records_append}
 use Rattle.gx_durable.specs.Spelled.{Reading, AreRecords}
 use Rattle.gx_durable.specs.Bodies.{bodies_in, AreBodies}
-use Rattle.gx_durable.specs.Area.{is_given, IsSettledBut}
+use Rattle.gx_durable.specs.Area.{is_given}
 use Rattle.gx_durable.specs.Standing.{batch_of, Carries, Up, Stands}
 use Rattle.gx_durable.specs.Steps.{with_batch, stepped, bodies_stepped, GoesOn}
 use Rattle.gx_durable.proofs.BodyLists.{bodies_more, bodies_same, body_adds}

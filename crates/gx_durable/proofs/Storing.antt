@@ -1,19 +1,19 @@
 -- Each page is stored as all records leave it.
-use Rattle.std.proofs.Common.{◌≡◌, ◌∙◌, sym, ap, refl, ◌⊎◌, inl, inr, ℕ, Bool, true, false, ◌&&◌, List, [], ◌++◌, Option, None, Some}
+use Rattle.std.proofs.Common.{◌≡◌, ◌∙◌, sym, ap, refl, ◌⊎◌, inl, inr, ℕ, Bool, true, false, ◌&&◌, List, ◌++◌, Option, None, Some}
 use Rattle.std.specs.Prelude.{if◌then◌else◌, nat_le, nat_lt}
 use Rattle.std.proofs.lemmas.List.{append-nil}
 use Rattle.gx_page.specs.Contents.{Contents}
 use Rattle.gx_page.specs.Format.{image_of}
 use Rattle.gx_pool.specs.Area.{bytes_of}
-use Rattle.gx_pool.specs.Bringing.{HasImage, Brings, Came, Left}
+use Rattle.gx_pool.specs.Bringing.{HasImage, Brings}
 use Rattle.gx_pool.specs.Laws.{IsBacked}
-use Rattle.gx_pool.specs.State.{State, Kept, kept, stamp_of, IsSpare, NoneDirty}
+use Rattle.gx_pool.specs.State.{State, Kept, kept, stamp_of, IsSpare}
 use Rattle.gx_recovery.specs.Records.{Record}
 use Rattle.gx_recovery.specs.Redo.{redone}
-use Rattle.gx_recovery.specs.Logged.{Logged, all_records}
+use Rattle.gx_recovery.specs.Logged.{all_records}
 use Rattle.gx_durable.specs.Spelled.{Reading}
 use Rattle.gx_durable.specs.Area.{area_of}
-use Rattle.gx_durable.specs.Stored.{bytes_by, stored, IsStored, NothingDirtyIsWritten, BringingStoresTheSame}
+use Rattle.gx_durable.specs.Stored.{bytes_by, stored, NothingDirtyIsWritten, BringingStoresTheSame}
 
 -- the image of what bytes read as is those bytes
 image_again : (bytes : List ℕ) (contents : Contents) → HasImage bytes contents → image_of contents ≡ bytes

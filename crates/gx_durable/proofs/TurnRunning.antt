@@ -1,5 +1,5 @@
 -- A log and a pool still run after a step of a turn; and a head that is put together.
-use Rattle.std.proofs.Common.{◌≡◌, ◌∙◌, sym, ap, refl, subst, ℕ, ◌+◌, ◌≤◌, true, false, List, [], ◌∷◌, ◌++◌, length, Option, None, Some, Result, Ok, Err, arith}
+use Rattle.std.proofs.Common.{◌≡◌, ◌∙◌, sym, ap, subst, ℕ, ◌+◌, ◌≤◌, Bool, true, false, List, [], ◌∷◌, ◌++◌, Option, None, Some, Result, Ok, Err, arith}
 use Rattle.gx_geom.specs.declared.refusal.Refusal.{Refusal}
 use Rattle.gx_disk.specs.Device.{Device, Counts}
 use Rattle.gx_record.specs.Rec.{Rec}
@@ -13,25 +13,24 @@ use Rattle.gx_glog.specs.declared.stage.Turn.TheVariants as turn
 use Rattle.gx_glog.specs.Layout.{other_of}
 use Rattle.gx_glog.specs.State.{Log, turning, after_turn}
 use Rattle.gx_glog.specs.State as log_state
-use Rattle.gx_glog.specs.Standing.{On, Leads}
+use Rattle.gx_glog.specs.Standing.{On, MayTurn}
 use Rattle.gx_glog.specs.Turning.{PutsFirst, TurnCalls, KeepsTurning}
-use Rattle.gx_glog.proofs.Keeping.{put_first_on}
 use Rattle.gx_pool.specs.State.{State, kept, stamp_of, NoneDirty}
 use Rattle.gx_recovery.specs.Known.{Known}
 use Rattle.gx_recovery.specs.Records.{Record}
 use Rattle.gx_recovery.specs.Logged.{Logged}
 use Rattle.gx_durable.specs.Spelled.{Reading, record_read, AreRecords}
 use Rattle.gx_durable.specs.Stamps.{Stamped}
-use Rattle.gx_durable.specs.Standing.{batch_of, MayRenew, Up}
+use Rattle.gx_durable.specs.Standing.{batch_of, MayRenew, Carries, Up}
 use Rattle.gx_durable.specs.Steps.{bodies_turned}
 use Rattle.gx_durable.specs.Steps as steps
-use Rattle.gx_durable.specs.Calls.{Runs}
+use Rattle.gx_durable.specs.Opening.{HeadStaysFound}
 use Rattle.gx_durable.specs.Turns.{HeadGrows, HeadStaysUp, TurnKeepsRunning, Until, told_turn, told_result}
 use Rattle.gx_durable.proofs.Moving.{settled_elsewhere}
 use Rattle.gx_durable.proofs.Spellings.{spelling_adds}
 use Rattle.gx_durable.proofs.Stamping.{told_kept}
 use Rattle.gx_durable.proofs.Stepping.{call_stands}
-use Rattle.gx_durable.proofs.Turning.{Front, front_of, turn_carries, turn_goes}
+use Rattle.gx_durable.proofs.Turning.{front_of, turn_carries, turn_goes}
 
 module _ {E P : Type 0} (r : Reading E P) (x : Rec) (old new : Log) where
   pub head_grows : (result : Appended) → IsInRange x → PutsFirst (spelling x) old new result → HeadGrows r x old new result
@@ -40,32 +39,40 @@ module _ {E P : Type 0} (r : Reading E P) (x : Rec) (old new : Log) where
       subst F (sym (ap (λ (g : Log). g.flight) puts.2)) (spelling_adds r old.flight head x is (record { in_range = range; has_key = key }))
   head_grows NoRoom range puts head key is = let F : List ℕ → Type 0 = λ bytes. AreRecords r bytes head in subst F (sym (ap (λ (g : Log). g.flight) puts.1)) is
 
-  pub head_up : (k : Known E P) (result : Appended) → old.stage ≡ Idle → PutsFirst (spelling x) old new result → HeadStaysUp k r old new
-  head_up k (At place) idle puts sectors seen pending bodies s still up =
-      let U : Log → Type 0 = λ g. Up k r g sectors seen pending bodies s in
+  -- what the device carries is told as before
+  pub head_carries : (k : Known E P) (result : Appended) (sectors : ℕ) (seen : List ℕ) (pending : ℕ → Bool) (bodies : List (List (Record E P))) (s : Logged E P) → old.stage ≡ Idle
+      → PutsFirst (spelling x) old new result → Carries k r old sectors seen pending bodies s → Carries k r new sectors seen pending bodies s
+  head_carries k (At place) sectors seen pending bodies s idle puts c =
+      let U : Log → Type 0 = λ g. Carries k r g sectors seen pending bodies s in
       let A : Stage → Type 0 = λ t. AreRecords r (batch_of t old.flight) s.flight in
       let B : Stage → Type 0 = λ t. AreRecords r (batch_of t (old.flight ++ spelling x)) s.flight in
-      let c = up.carries in
-      let rests : turning old.turn ≡ 0 = ap turning still in
+      let rests : turning old.turn ≡ 0 = ap turning puts.3 in
       subst U (sym puts.2) (record {
-        on = put_first_on old (spelling x) seen pending idle still puts.0 up.on;
-        carries = record {
-          told = record { gated_bodies = c.told.gated_bodies; gated = c.told.gated; flight = subst B (sym idle) (subst A idle c.told.flight); filling = c.told.filling };
-          undamaged = c.undamaged;
-          healthy = c.healthy;
-          has_pages = c.has_pages;
-          area = c.area;
-          settled = c.settled;
-          turn = λ turns. absurd (omega (arith, rests, turns));
-        };
+        told = record { gated_bodies = c.told.gated_bodies; gated = c.told.gated; flight = subst B (sym idle) (subst A idle c.told.flight); filling = c.told.filling };
+        undamaged = c.undamaged;
+        healthy = c.healthy;
+        has_pages = c.has_pages;
+        area = c.area;
+        settled = c.settled;
+        turn = λ turns. absurd (omega (arith, rests, turns));
       })
-  head_up k NoRoom idle puts sectors seen pending bodies s still up = let U : Log → Type 0 = λ g. Up k r g sectors seen pending bodies s in subst U (sym puts.1) up
+  head_carries k NoRoom sectors seen pending bodies s idle puts c = let U : Log → Type 0 = λ g. Carries k r g sectors seen pending bodies s in subst U (sym puts.1) c
+
+  pub head_up : (k : Known E P) (result : Appended) → old.stage ≡ Idle → PutsFirst (spelling x) old new result
+      → ((seen : List ℕ) (pending : ℕ → Bool) → On old seen pending → On new seen pending) → HeadStaysUp k r old new
+  head_up k result idle puts on sectors seen pending bodies s up =
+      record { on = on seen pending up.on; carries = head_carries k result sectors seen pending bodies s idle puts up.carries }
+
+  pub head_found : (k : Known E P) (result : Appended) → old.stage ≡ Idle → PutsFirst (spelling x) old new result
+      → ((seen : List ℕ) (pending : ℕ → Bool) → MayTurn old seen pending → MayTurn new seen pending) → HeadStaysFound k r old new
+  head_found k result idle puts may sectors seen pending bodies s up =
+      record { may_turn = may seen pending up.may_turn; carries = head_carries k result sectors seen pending bodies s idle puts up.carries }
 
 none_dirty : (frames : State) (p place : ℕ) {X : Type 0} → NoneDirty frames → stamp_of (kept frames p) ≡ Some place → X
 none_dirty frames p place clean is = absurd (let never : ◌≡◌ {A = Option ℕ} None (Some place) = sym (clean p) ∙ is in cc)
 
 -- where nothing is dirty, each stamp is a place
-none_stamped : {E P : Type 0} → (log : Log) (frames : State) (s : Logged E P) → frames.gated + 1 ≤ log.gated → log.gated ≤ log.used → NoneDirty frames → Stamped log frames s
+pub none_stamped : {E P : Type 0} → (log : Log) (frames : State) (s : Logged E P) → frames.gated + 1 ≤ log.gated → log.gated ≤ log.used → NoneDirty frames → Stamped log frames s
 none_stamped log frames s behind places clean = record {
   behind = behind;
   places = places;
@@ -96,7 +103,7 @@ turned_stamped log new frames s (Err refusal) turns behind places clean =
     let L : Log → Type 0 = λ g. Stamped g frames s in subst L (sym turns.1) (none_stamped log frames s behind places clean)
 
 -- the head is as it was until the turn has ended
-same_head : (log new : Log) (result : Result Turn Refusal) (X : List ℕ → Type 0) → log_state.Turns log new result → X log.flight → Until result (X new.flight)
+pub same_head : (log new : Log) (result : Result Turn Refusal) (X : List ℕ → Type 0) → log_state.Turns log new result → X log.flight → Until result (X new.flight)
 same_head log new (Ok turn.Done) X turns x = tt
 same_head log new (Ok turn.Closed) X turns x = subst X (sym (ap (λ (g : Log). g.flight) (turns.1 ∙ ap (λ u. after_turn u log) (sym turns.0)))) x
 same_head log new (Ok turn.Body) X turns x = subst X (sym (ap (λ (g : Log). g.flight) (turns.1 ∙ ap (λ u. after_turn u log) (sym turns.0)))) x

@@ -1,15 +1,15 @@
 -- A step of a turn keeps the log up.
-use Rattle.std.proofs.Common.{◌≡◌, ◌∙◌, sym, ap, refl, subst, ◌⊎◌, inl, inr, ⊎_elim, ℕ, ◌+◌, ◌*◌, ◌<◌, ◌≤◌, Bool, true, false, List, [], ◌∷◌, ◌++◌, length, Result, Ok, Err, arith}
+use Rattle.std.proofs.Common.{◌≡◌, ◌∙◌, sym, ap, refl, subst, inr, ℕ, ◌+◌, ◌*◌, ◌<◌, ◌≤◌, false, List, [], ◌∷◌, Result, Ok, Err, arith}
 use Rattle.std.proofs.lemmas.List.{append-nil}
 use Rattle.gx_geom.specs.declared.refusal.Refusal.{Refusal}
 use Rattle.gx_disk.specs.Sectors.{IsWithin, IsOutside}
 use Rattle.gx_disk.specs.Device.{Device, Touches, Rests, Writes}
 use Rattle.gx_glog.specs.declared.extent.Extent.{Extent}
 use Rattle.gx_glog.specs.declared.stage.Stage.{Stage}
-use Rattle.gx_glog.specs.declared.stage.Stage.TheVariants.{Body, Gate, Idle}
+use Rattle.gx_glog.specs.declared.stage.Stage.TheVariants.{Idle}
 use Rattle.gx_glog.specs.declared.stage.Turn.{Turn}
 use Rattle.gx_glog.specs.declared.stage.Turn.TheVariants as turn
-use Rattle.gx_glog.specs.Layout.{gates_of, bodies_of, other_of, body_of, records_in, batches_of}
+use Rattle.gx_glog.specs.Layout.{gates_of, bodies_of, other_of, body_of, batches_of}
 use Rattle.gx_glog.specs.State.{Log, turning, after_turn, turned}
 use Rattle.gx_glog.specs.State as log_state
 use Rattle.gx_glog.specs.Standing.{gated_of}
@@ -18,7 +18,7 @@ use Rattle.gx_glog.proofs.Gates.{placed, other_outside}
 use Rattle.gx_glog.proofs.Keeping.{touched_kept, rested_kept, body_kept}
 use Rattle.gx_recovery.specs.Known.{Known, IsLawful}
 use Rattle.gx_recovery.specs.Records.{Record}
-use Rattle.gx_recovery.specs.Logged.{Logged, IsHealthy}
+use Rattle.gx_recovery.specs.Logged.{Logged}
 use Rattle.gx_recovery.specs.Renewal.{renewed}
 use Rattle.gx_recovery.proofs.Bodies.{renewed_undamaged}
 use Rattle.gx_recovery.proofs.Moves.{checkpoint_healthy, checkpoint_stays}

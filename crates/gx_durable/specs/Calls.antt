@@ -7,7 +7,6 @@ use Rattle.gx_record.specs.Rec.{Rec}
 use Rattle.gx_record.specs.Format.{HasKey}
 use Rattle.gx_glog.specs.declared.filling.Appended.{Appended}
 use Rattle.gx_glog.specs.declared.stage.Stage.{Stage}
-use Rattle.gx_glog.specs.declared.stage.Turn.TheVariants.{Closed}
 use Rattle.gx_glog.specs.State.{Log}
 use Rattle.gx_pool.specs.State.{State}
 use Rattle.gx_recovery.specs.Known.{Known, IsLawful}
@@ -33,7 +32,7 @@ pub record GoesSafely {E P : Type 0} (k : Known E P) (r : Reading E P) (d e : De
 -- A record that may come was appended, on any device that the log is up on: the log is up there with it.
 abbrev pub AppendStaysUp : {E P : Type 0} → Known E P → Reading E P → Rec → Log → Log → Appended → Type 0
 AppendStaysUp {E} {P} k r x old new result = (sectors : ℕ) (seen : List ℕ) (pending : ℕ → Bool) (bodies : List (List (Record E P))) (s : Logged E P)
-    → IsLawful k → old.turn ≡ Closed → HasKey r.key x → MayCome k s.area (all_records s) (record_read r x)
+    → IsLawful k → HasKey r.key x → MayCome k s.area (all_records s) (record_read r x)
     → Up k r old sectors seen pending bodies s → Up k r new sectors seen pending bodies (added result (record_read r x) s)
 
 -- A page that no record gives as yet may be changed, but not when a batch begins.

@@ -3,6 +3,7 @@ pub mod Beginning
 pub mod Bodies
 pub mod Calls
 pub mod Laws
+pub mod Opening
 pub mod Pages
 pub mod PoolLaws
 pub mod Spelled

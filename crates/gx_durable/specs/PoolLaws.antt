@@ -1,9 +1,9 @@
 -- What reads, changes and creations of a pool leave of its stamps, and of a log that is up.
-use Rattle.std.specs.Prelude.{◌≡◌, ◌⊎◌, ℕ, ◌≤◌, Bool, true, false, Some, List, [], ◌∷◌, ◌++◌}
+use Rattle.std.specs.Prelude.{◌≡◌, ℕ, ◌+◌, ◌≤◌, Bool, true, List, [], ◌∷◌, ◌++◌}
 use Rattle.gx_disk.specs.Device.{Device}
 use Rattle.gx_page.specs.Contents.{Contents}
 use Rattle.gx_glog.specs.State.{Log}
-use Rattle.gx_pool.specs.State.{State, kept, stamp_of, IsSound}
+use Rattle.gx_pool.specs.State.{State, IsSound, NoneDirty}
 use Rattle.gx_pool.specs.Edits.{changed}
 use Rattle.gx_pool.specs.Bringing.{Brings, OnlyRead}
 use Rattle.gx_pool.specs.Creating.{Creates}
@@ -19,6 +19,10 @@ use Rattle.gx_durable.specs.Calls.{GoesSafely}
 -- stamps are still places of batches where what is dirty was so, or was changed as of the batch that fills
 abbrev pub LaterStampsStay : (E P : Type 0) → Type 0
 LaterStampsStay E P = (log : Log) (old new : State) (s : Logged E P) → new.gated ≡ old.gated → OnlyLater log.used old new → Stamped log old s → Stamped log new s
+
+-- where nothing is dirty, each stamp is a place
+abbrev pub CleanIsStamped : (E P : Type 0) → Type 0
+CleanIsStamped E P = (log : Log) (frames : State) (s : Logged E P) → frames.gated + 1 ≤ log.gated → log.gated ≤ log.used → NoneDirty frames → Stamped log frames s
 
 -- pages that are brought are clean
 abbrev pub BringingIsClean : Type 0

@@ -28,7 +28,7 @@ HeadGrows {E} {P} r x old new result = (head : List (Record E P)) → HasKey r.k
 
 -- A head that nothing is known of as yet changes nothing of a log that is up, on any device.
 abbrev pub HeadStaysUp : {E P : Type 0} → Known E P → Reading E P → Log → Log → Type 0
-HeadStaysUp {E} {P} k r old new = (sectors : ℕ) (seen : List ℕ) (pending : ℕ → Bool) (bodies : List (List (Record E P))) (s : Logged E P) → old.turn ≡ turn.Closed
+HeadStaysUp {E} {P} k r old new = (sectors : ℕ) (seen : List ℕ) (pending : ℕ → Bool) (bodies : List (List (Record E P))) (s : Logged E P)
     → Up k r old sectors seen pending bodies s → Up k r new sectors seen pending bodies s
 
 -- what a pool is told after a turn's call: after the last one the log goes on behind batch 0

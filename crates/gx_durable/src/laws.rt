@@ -1,7 +1,8 @@
 //! What holds of bytes and records. Each function is its contract alone.
 ghost use Rattle.gx_recovery.specs.Known.{Limits};
 ghost use Rattle.gx_durable.specs.Beginning.{FirstIsUp, HeadsFit};
-ghost use Rattle.gx_durable.specs.PoolLaws.{LaterStampsStay, BringingIsClean, CreatingIsLater, ChangeIsLater, RecordSays, ReadsStayUp};
+ghost use Rattle.gx_durable.specs.Opening.{FoundIsUpToTurn, ACrashBeforeTheTurn, UpMayTurn};
+ghost use Rattle.gx_durable.specs.PoolLaws.{LaterStampsStay, CleanIsStamped, BringingIsClean, CreatingIsLater, ChangeIsLater, RecordSays, ReadsStayUp};
 ghost use Rattle.gx_durable.specs.Stored.{NothingDirtyIsWritten, BringingStoresTheSame};
 ghost use Rattle.gx_durable.specs.Laws.{OneWay, PartsJoin, SpellingAdds, NoneAreNone, OnlyNoneAreNone, BodiesOneWay, BodyAdds, BodiesJoin, LogIsItsBodies, ACrashLeavesAKeptSet, StandsOfBefore};
 
@@ -38,6 +39,7 @@ pub fn a_crash_leaves_a_kept_set<M: Spelled>()
 /// so of what is brought, made and changed. Once the record that gives what was changed is appended, each dirty page is given.
 pub fn stamps_stay<M: Spelled>()
     ensures later { LaterStampsStay M.Entry M.Page }
+    ensures clean { CleanIsStamped M.Entry M.Page }
     ensures brought { BringingIsClean }
     ensures created { CreatingIsLater }
     ensures changed { ChangeIsLater }
@@ -64,4 +66,13 @@ pub fn heads_fit_a_body<M: Spelled>()
 pub fn pages_are_stored<M: Spelled>()
     ensures written { NothingDirtyIsWritten M.reading }
     ensures brought { BringingStoresTheSame M.reading }
+{}
+
+/// A log that starts behind an image's open bodies, where these are undamaged and the page area is good for them, is up to its
+/// turn, whatever the later gates are; and so is a log that is up, with nothing in flight. Whatever a crash leaves of its device
+/// stands for the kept set too. Its turn is `turn_step`, and after that it is up.
+pub fn a_found_log_is_up_to_its_turn<M: Spelled>()
+    ensures found { (l : Limits) → FoundIsUpToTurn (M.known l) M.reading }
+    ensures up { (l : Limits) → UpMayTurn (M.known l) M.reading }
+    ensures kept { (l : Limits) → ACrashBeforeTheTurn (M.known l) M.reading }
 {}

@@ -7,6 +7,7 @@ ghost use Rattle.gx_glog.specs.State.{Turns};
 ghost use Rattle.gx_glog.specs.Turning.{PutsFirst};
 ghost use Rattle.gx_pool.specs.State.{NoneDirty};
 ghost use Rattle.gx_recovery.specs.Known.{Limits};
+ghost use Rattle.gx_durable.specs.Opening.{FirstTurnKeeps, HeadStaysFound};
 ghost use Rattle.gx_durable.specs.Turns.{HeadGrows, HeadStaysUp, TurnKeepsRunning, told_turn, told_result};
 
 use crate::Spelled;
@@ -25,6 +26,7 @@ pub fn put_first<M: Spelled>(log: &mut Glog, logged: &Record<'_>) -> Appended
     ensures puts { PutsFirst (spelling (rec_of logged.now)) log.old log.new result }
     ensures head { HeadGrows M.reading (rec_of logged.now) log.old log.new result }
     ensures up { (l : Limits) → HeadStaysUp (M.known l) M.reading log.old log.new }
+    ensures found { (l : Limits) → HeadStaysFound (M.known l) M.reading log.old log.new }
 {
     log.put_first(logged)
 }
@@ -62,6 +64,7 @@ pub fn turn_step<M: Spelled, T: PageTest, D: SectorDisk>(
     ensures turns { Turns log.old log.new result }
     ensures told { pool.new.frames ≡ told_result result pool.old.frames }
     ensures test { pool.new.test ≡ pool.old.test }
+    ensures found { (l : Limits) → FirstTurnKeeps (M.known l) M.reading log.old log.new (D.state disk.old) (D.state disk.new) result }
     ensures runs { (l : Limits) → TurnKeepsRunning (M.known l) M.reading log.old log.new pool.old.frames pool.new.frames (D.state disk.old) (D.state disk.new) result }
 {
     match log.turn_step(disk) {
