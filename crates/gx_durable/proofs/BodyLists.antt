@@ -4,26 +4,12 @@ use Rattle.std.proofs.lemmas.List.{append-nil}
 use Rattle.gx_glog.specs.declared.extent.Extent.{Extent}
 use Rattle.gx_glog.specs.Layout.{selected_of, is_open, body_of, records_in, open_run, batches_of, log_of}
 use Rattle.gx_glog.proofs.Gates.{run_is}
+use Rattle.gx_glog.specs.Cuts.{bodies_in, open_bodies, joined}
 use Rattle.gx_recovery.specs.Records.{Record}
 use Rattle.gx_recovery.specs.Damage.{records_of}
 use Rattle.gx_durable.specs.Spelled.{Reading}
-use Rattle.gx_durable.specs.Bodies.{bodies_in, open_bodies, joined}
-use Rattle.gx_durable.specs.Laws.{BodiesOneWay, BodyAdds, BodiesJoin, LogIsItsBodies}
+use Rattle.gx_durable.specs.Laws.{BodiesOneWay, BodyAdds, BodiesJoin}
 use Rattle.gx_durable.proofs.Spellings.{one_way, parts_join, none_are}
-
-joined-snoc : (bodies : List (List ℕ)) (body : List ℕ) → joined (bodies ++ body ∷ []) ≡ joined bodies ++ body
-joined-snoc [] body = append-nil body
-joined-snoc (b ∷ bodies) body = ap (λ (l : List ℕ). b ++ l) (joined-snoc bodies body) ∙ sym (append_assoc b (joined bodies) body)
-
-joined_batches : (bytes : List ℕ) (extent : Extent) (n : ℕ) → joined (bodies_in bytes extent n) ≡ batches_of bytes extent n
-unfolding bodies_in batches_of
-joined_batches bytes extent zero = refl
-joined_batches bytes extent (suc n) =
-    joined-snoc (bodies_in bytes extent n) (records_in (body_of bytes extent n)) ∙ ap (λ (l : List ℕ). l ++ records_in (body_of bytes extent n)) (joined_batches bytes extent n)
-
-pub log_joined : LogIsItsBodies
-unfolding open_bodies log_of
-log_joined image = joined_batches image (selected_of image) (open_run image (selected_of image) 0 32)
 
 -- one body more
 pub bodies_more : (bytes : List ℕ) (extent : Extent) (n m : ℕ) → m ≡ n + 1 → bodies_in bytes extent m ≡ bodies_in bytes extent n ++ records_in (body_of bytes extent n) ∷ []

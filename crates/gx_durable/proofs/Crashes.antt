@@ -6,6 +6,7 @@ use Rattle.gx_disk.specs.Device.{IsImage}
 use Rattle.gx_glog.specs.declared.stage.Stage.{Stage}
 use Rattle.gx_glog.specs.declared.stage.Stage.TheVariants.{Body, BodySync, Gate, GateSync, Idle}
 use Rattle.gx_glog.specs.State.{Log, in_flight}
+use Rattle.gx_glog.specs.Cuts.{bodies_in, open_bodies}
 use Rattle.gx_recovery.specs.Known.{Known, IsLawful}
 use Rattle.gx_recovery.specs.Records.{Record}
 use Rattle.gx_recovery.specs.Analysis.{number_of}
@@ -20,7 +21,7 @@ use Rattle.gx_recovery.proofs.Moves.{checkpoint_healthy, checkpoint_stands}
 use Rattle.gx_recovery.proofs.Bodies.{batch_undamaged, renewed_undamaged}
 use Rattle.gx_recovery.proofs.DamageItems.{records_append}
 use Rattle.gx_durable.specs.Spelled.{Reading, AreRecords}
-use Rattle.gx_durable.specs.Bodies.{bodies_in, open_bodies, AreBodies}
+use Rattle.gx_durable.specs.Bodies.{AreBodies}
 use Rattle.gx_durable.specs.Area.{area_of}
 use Rattle.gx_durable.specs.Standing.{batch_of, MayRenew, Carries, Stands}
 use Rattle.gx_durable.specs.Laws.{ACrashLeavesAKeptSet, StandsOfBefore}

@@ -12,7 +12,7 @@ use Rattle.gx_glog.specs.State.{Log, in_flight, turning}
 use Rattle.gx_glog.specs.Standing.{IsBodySettled, HasBatches, HasHead, Flies, Leads, On}
 use Rattle.gx_glog.proofs.Gates.{either_extent}
 use Rattle.gx_glog.proofs.Images.{image_gate, image_body, image_selects}
-use Rattle.gx_durable.specs.Bodies.{bodies_in, open_bodies}
+use Rattle.gx_glog.specs.Cuts.{bodies_in, open_bodies}
 use Rattle.gx_durable.proofs.BodyLists.{bodies_more, bodies_same, open_are}
 
 -- the gated bodies alone, or with the batch in flight

@@ -4,6 +4,7 @@ pub mod Beginning
 pub mod BodyLists
 pub mod Crashes
 pub mod Images
+pub mod Joining
 pub mod Moving
 pub mod Opening
 pub mod Paging

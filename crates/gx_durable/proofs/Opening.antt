@@ -14,6 +14,7 @@ use Rattle.gx_glog.specs.Standing.{MayTurn}
 use Rattle.gx_glog.specs.Turning.{TurnCalls, GoesOnTurning, KeepsMayTurn}
 use Rattle.gx_glog.proofs.Images.{image_gate, image_body}
 use Rattle.gx_glog.proofs.Keeping.{start_may_turn, on_may_turn}
+use Rattle.gx_glog.specs.Cuts.{bodies_in, open_bodies}
 use Rattle.gx_recovery.specs.Known.{Known, IsLawful}
 use Rattle.gx_recovery.specs.Records.{Record}
 use Rattle.gx_recovery.specs.Damage.{records_of}
@@ -21,7 +22,7 @@ use Rattle.gx_recovery.specs.Logged.{Logged}
 use Rattle.gx_recovery.proofs.Moves.{found_as_state}
 use Rattle.gx_recovery.proofs.DamageItems.{bodies_log}
 use Rattle.gx_durable.specs.Spelled.{Reading}
-use Rattle.gx_durable.specs.Bodies.{bodies_in, open_bodies, AreBodies}
+use Rattle.gx_durable.specs.Bodies.{AreBodies}
 use Rattle.gx_durable.specs.Area.{area_of}
 use Rattle.gx_durable.specs.Standing.{MayRenew, Carries, Stands}
 use Rattle.gx_durable.specs.Steps.{bodies_turned, GoesOn}

@@ -7,6 +7,7 @@ use Rattle.gx_glog.specs.Standing.{LeavesLog}
 use Rattle.gx_glog.proofs.Besides.{page_is_apart}
 use Rattle.gx_glog.proofs.Gates.{placed}
 use Rattle.gx_glog.proofs.Keeping.{on_kept, touched_leaves, body_kept}
+use Rattle.gx_glog.specs.Cuts.{bodies_in}
 use Rattle.gx_pool.specs.Area.{first_of}
 use Rattle.gx_pool.specs.Gated.{AgreesOutside, IsAreaSettled, KeepsArea, NamesGated}
 use Rattle.gx_pool.specs.Marks.{is_gated}
@@ -16,7 +17,7 @@ use Rattle.gx_recovery.specs.Records.{Record}
 use Rattle.gx_recovery.specs.Logged.{Logged, AgreesBeside}
 use Rattle.gx_recovery.proofs.Lives.{written_healthy, written_stays}
 use Rattle.gx_durable.specs.Spelled.{Reading}
-use Rattle.gx_durable.specs.Bodies.{bodies_in, AreBodies}
+use Rattle.gx_durable.specs.Bodies.{AreBodies}
 use Rattle.gx_durable.specs.Area.{area_of, HasPages, is_given}
 use Rattle.gx_durable.specs.Stamps.{Stamped}
 use Rattle.gx_durable.specs.Standing.{Up}

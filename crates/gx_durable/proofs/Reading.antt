@@ -6,6 +6,7 @@ use Rattle.gx_disk.specs.Device.{Device, Elapses, Rests}
 use Rattle.gx_page.specs.Contents.{Contents}
 use Rattle.gx_glog.specs.State.{Log}
 use Rattle.gx_glog.proofs.Keeping.{on_kept, rested_leaves}
+use Rattle.gx_glog.specs.Cuts.{bodies_in}
 use Rattle.gx_pool.specs.State.{State, Kept, kept, stamp_of, IsSound}
 use Rattle.gx_pool.specs.Edits.{changed, changed_at, later}
 use Rattle.gx_pool.proofs.Places.{changed_kept, changed_other, place_none, some-injective}
@@ -14,7 +15,7 @@ use Rattle.gx_recovery.specs.Records.{Record}
 use Rattle.gx_recovery.specs.Logged.{Logged, all_records, appended}
 use Rattle.gx_recovery.proofs.Tests.{true_or_false, clash, itself}
 use Rattle.gx_durable.specs.Spelled.{Reading}
-use Rattle.gx_durable.specs.Bodies.{bodies_in, AreBodies}
+use Rattle.gx_durable.specs.Bodies.{AreBodies}
 use Rattle.gx_durable.specs.Area.{area_of, is_given}
 use Rattle.gx_durable.specs.Standing.{Up}
 use Rattle.gx_durable.specs.PoolLaws.{LaterStampsStay, BringingIsClean, CreatingIsLater, ChangeIsLater, RecordSays, StaysUp, ReadsStayUp}

@@ -15,6 +15,7 @@ use Rattle.gx_glog.specs.Steps.{Calls, CallOf, Keeps}
 use Rattle.gx_glog.proofs.Gates.{placed}
 use Rattle.gx_glog.proofs.Stepping.{room_left}
 use Rattle.gx_glog.proofs.Keeping.{touched_kept, rested_kept, body_kept}
+use Rattle.gx_glog.specs.Cuts.{bodies_in}
 use Rattle.gx_recovery.specs.Known.{Known, IsLawful}
 use Rattle.gx_recovery.specs.Records.{Record}
 use Rattle.gx_recovery.specs.Coming.{MayComeAll}
@@ -25,7 +26,7 @@ use Rattle.gx_recovery.proofs.Lives.{begun_healthy, synced_healthy}
 use Rattle.gx_recovery.proofs.Bodies.{batch_undamaged}
 use Rattle.gx_recovery.proofs.DamageItems.{records_append}
 use Rattle.gx_durable.specs.Spelled.{Reading, AreRecords}
-use Rattle.gx_durable.specs.Bodies.{bodies_in, AreBodies}
+use Rattle.gx_durable.specs.Bodies.{AreBodies}
 use Rattle.gx_durable.specs.Area.{is_given}
 use Rattle.gx_durable.specs.Standing.{batch_of, Carries, Up, Stands}
 use Rattle.gx_durable.specs.Steps.{with_batch, stepped, bodies_stepped, GoesOn}

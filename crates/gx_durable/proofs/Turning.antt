@@ -16,6 +16,7 @@ use Rattle.gx_glog.specs.Standing.{gated_of}
 use Rattle.gx_glog.specs.Turning.{TurnCalls, Selects, TouchesIn}
 use Rattle.gx_glog.proofs.Gates.{placed, other_outside}
 use Rattle.gx_glog.proofs.Keeping.{touched_kept, rested_kept, body_kept}
+use Rattle.gx_glog.specs.Cuts.{bodies_in}
 use Rattle.gx_recovery.specs.Known.{Known, IsLawful}
 use Rattle.gx_recovery.specs.Records.{Record}
 use Rattle.gx_recovery.specs.Logged.{Logged}
@@ -23,7 +24,7 @@ use Rattle.gx_recovery.specs.Renewal.{renewed}
 use Rattle.gx_recovery.proofs.Bodies.{renewed_undamaged}
 use Rattle.gx_recovery.proofs.Moves.{checkpoint_healthy, checkpoint_stays}
 use Rattle.gx_durable.specs.Spelled.{Reading, AreRecords}
-use Rattle.gx_durable.specs.Bodies.{bodies_in, AreBodies}
+use Rattle.gx_durable.specs.Bodies.{AreBodies}
 use Rattle.gx_durable.specs.Area.{area_of, is_given, IsSettledBut}
 use Rattle.gx_durable.specs.Standing.{batch_of, MayRenew, Carries}
 use Rattle.gx_durable.specs.Steps.{bodies_turned, GoesOn}

@@ -3,14 +3,14 @@ use Rattle.std.specs.Prelude.{◌≡◌, ℕ, Bool, List, [], ◌∷◌, ◌++�
 use Rattle.gx_disk.specs.Device.{IsImage}
 use Rattle.gx_record.specs.Rec.{Rec}
 use Rattle.gx_record.specs.Format.{spelling, IsRecord}
-use Rattle.gx_glog.specs.Layout.{log_of}
 use Rattle.gx_glog.specs.State.{Log}
+use Rattle.gx_glog.specs.Cuts.{joined}
 use Rattle.gx_recovery.specs.Known.{Known, IsLawful}
 use Rattle.gx_recovery.specs.Records.{Record}
 use Rattle.gx_recovery.specs.Damage.{records_of}
 use Rattle.gx_recovery.specs.Logged.{Logged}
 use Rattle.gx_durable.specs.Spelled.{Reading, record_read, AreRecords}
-use Rattle.gx_durable.specs.Bodies.{open_bodies, joined, AreBodies}
+use Rattle.gx_durable.specs.Bodies.{AreBodies}
 use Rattle.gx_durable.specs.Standing.{Up, Stands}
 use Rattle.gx_durable.specs.Steps.{GoesOn}
 
@@ -46,10 +46,6 @@ module _ {E P : Type 0} (r : Reading E P) where
   -- the records of bodies in a row are those of the bodies
   abbrev pub BodiesJoin : Type 0
   BodiesJoin = (bodies : List (List ℕ)) (told : List (List (Record E P))) → AreBodies r bodies told → AreRecords r (joined bodies) (records_of told)
-
--- the log of an image is its open bodies in a row
-abbrev pub LogIsItsBodies : Type 0
-LogIsItsBodies = (image : List ℕ) → joined (open_bodies image) ≡ log_of image
 
 -- What a crash may leave of a device that a log is up on stands for a kept set: its bodies are undamaged, and the number of its
 -- last commit lies between the durable one and the latest.

@@ -2,6 +2,7 @@ pub mod Area
 pub mod Beginning
 pub mod Bodies
 pub mod Calls
+pub mod Joining
 pub mod Laws
 pub mod Opening
 pub mod Pages

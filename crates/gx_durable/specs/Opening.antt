@@ -9,6 +9,7 @@ use Rattle.gx_glog.specs.Layout.{selected_of, body_of, size_in, open_run}
 use Rattle.gx_glog.specs.Reading.{IsSize}
 use Rattle.gx_glog.specs.State.{Log}
 use Rattle.gx_glog.specs.Standing.{MayTurn}
+use Rattle.gx_glog.specs.Cuts.{open_bodies}
 use Rattle.gx_recovery.specs.Known.{Known, IsLawful}
 use Rattle.gx_recovery.specs.Records.{Record}
 use Rattle.gx_recovery.specs.Redo.{tree_of}
@@ -17,7 +18,7 @@ use Rattle.gx_recovery.specs.Damage.{records_of, is_undamaged}
 use Rattle.gx_recovery.specs.Logged.{Logged}
 use Rattle.gx_recovery.specs.Renewal.{found}
 use Rattle.gx_durable.specs.Spelled.{Reading}
-use Rattle.gx_durable.specs.Bodies.{open_bodies, AreBodies}
+use Rattle.gx_durable.specs.Bodies.{AreBodies}
 use Rattle.gx_durable.specs.Area.{area_of, HasPages}
 use Rattle.gx_durable.specs.Standing.{MayRenew, Carries, Up, Stands}
 use Rattle.gx_durable.specs.Steps.{turned, bodies_turned}

@@ -4,6 +4,7 @@ use Rattle.gx_glog.specs.declared.stage.Stage.{Stage}
 use Rattle.gx_glog.specs.declared.stage.Stage.TheVariants.{Body, BodySync, Gate, GateSync, Idle}
 use Rattle.gx_glog.specs.State.{Log, turning}
 use Rattle.gx_glog.specs.Standing.{On}
+use Rattle.gx_glog.specs.Cuts.{bodies_in, open_bodies}
 use Rattle.gx_recovery.specs.Known.{Known}
 use Rattle.gx_recovery.specs.Records.{Record}
 use Rattle.gx_recovery.specs.Analysis.{analysis}
@@ -12,7 +13,7 @@ use Rattle.gx_recovery.specs.Logged.{Logged, IsHealthy, StandsForKept}
 use Rattle.gx_recovery.specs.Life.{AllWritten}
 use Rattle.gx_recovery.specs.Renewal.{renewed}
 use Rattle.gx_durable.specs.Spelled.{Reading, AreRecords}
-use Rattle.gx_durable.specs.Bodies.{bodies_in, open_bodies, AreBodies}
+use Rattle.gx_durable.specs.Bodies.{AreBodies}
 use Rattle.gx_durable.specs.Area.{area_of, HasPages, is_given, IsSettledBut}
 
 -- the bytes of the batch in flight: while there is none, what stands there is a head

@@ -2,9 +2,10 @@
 ghost use Rattle.gx_recovery.specs.Known.{Limits};
 ghost use Rattle.gx_durable.specs.Beginning.{FirstIsUp, HeadsFit};
 ghost use Rattle.gx_durable.specs.Opening.{FoundIsUpToTurn, ACrashBeforeTheTurn, UpMayTurn};
+ghost use Rattle.gx_durable.specs.Joining.{CallsJoin, EachMomentStands};
 ghost use Rattle.gx_durable.specs.PoolLaws.{LaterStampsStay, CleanIsStamped, BringingIsClean, CreatingIsLater, ChangeIsLater, RecordSays, ReadsStayUp};
 ghost use Rattle.gx_durable.specs.Stored.{NothingDirtyIsWritten, BringingStoresTheSame};
-ghost use Rattle.gx_durable.specs.Laws.{OneWay, PartsJoin, SpellingAdds, NoneAreNone, OnlyNoneAreNone, BodiesOneWay, BodyAdds, BodiesJoin, LogIsItsBodies, ACrashLeavesAKeptSet, StandsOfBefore};
+ghost use Rattle.gx_durable.specs.Laws.{OneWay, PartsJoin, SpellingAdds, NoneAreNone, OnlyNoneAreNone, BodiesOneWay, BodyAdds, BodiesJoin, ACrashLeavesAKeptSet, StandsOfBefore};
 
 use crate::Spelled;
 use gx_disk::SectorDisk;
@@ -18,10 +19,9 @@ pub fn bytes_are_records<M: Spelled>()
     ensures only_none { OnlyNoneAreNone M.reading }
 {}
 
-/// The log of an image is its open bodies in a row. Bodies are told one by one, in one way only, and their records in a row are
-/// the log's.
+/// Bodies are told one by one, in one way only, and their records in a row are those of their bytes in a row: so, of an image's
+/// open bodies, those of its log.
 pub fn bodies_are_told<M: Spelled>()
-    ensures log { LogIsItsBodies }
     ensures one_way { BodiesOneWay M.reading }
     ensures adds { BodyAdds M.reading }
     ensures records { BodiesJoin M.reading }
@@ -75,4 +75,11 @@ pub fn a_found_log_is_up_to_its_turn<M: Spelled>()
     ensures found { (l : Limits) → FoundIsUpToTurn (M.known l) M.reading }
     ensures up { (l : Limits) → UpMayTurn (M.known l) M.reading }
     ensures kept { (l : Limits) → ACrashBeforeTheTurn (M.known l) M.reading }
+{}
+
+/// Calls in a row are one: no set changes, and at each moment what a crash may leave stands for a kept set of the state before the
+/// first. So whatever a crash may have left at a moment from before them on does, of a device that a log was up on.
+pub fn calls_in_a_row<M: Spelled, D: SectorDisk>()
+    ensures join { (l : Limits) (a b c : D) → CallsJoin (M.known l) M.reading (D.state a) (D.state b) (D.state c) }
+    ensures moments { (l : Limits) (a b : D) → EachMomentStands (M.known l) M.reading (D.state a) (D.state b) }
 {}

@@ -1,8 +1,5 @@
-use Rattle.gx_durable.proofs.BodyLists.{log_joined, bodies_one_way, body_adds, bodies_join}
+use Rattle.gx_durable.proofs.BodyLists.{bodies_one_way, body_adds, bodies_join}
 use Rattle.gx_durable.proofs.laws.bodies_are_told.Goals as goal
-
-pub returns-clause-log : goal.returns-clause-log
-returns-clause-log g c = log_joined
 
 pub returns-clause-one_way : goal.returns-clause-one_way
 returns-clause-one_way g c = bodies_one_way g.M.Spelled.reading
