@@ -7,6 +7,7 @@ use Rattle.gx_glog.specs.declared.stage.Stage.{Stage}
 use Rattle.gx_glog.specs.declared.stage.Stage.TheVariants.{Body, BodySync, Gate, GateSync, Idle}
 use Rattle.gx_glog.specs.State.{Log, in_flight}
 use Rattle.gx_glog.specs.Cuts.{bodies_in, open_bodies}
+use Rattle.gx_glog.proofs.Images.{image_shows_bodies}
 use Rattle.gx_recovery.specs.Known.{Known, IsLawful}
 use Rattle.gx_recovery.specs.Records.{Record}
 use Rattle.gx_recovery.specs.Analysis.{number_of}
@@ -27,7 +28,7 @@ use Rattle.gx_durable.specs.Standing.{batch_of, MayRenew, Carries, Stands}
 use Rattle.gx_durable.specs.Laws.{ACrashLeavesAKeptSet, StandsOfBefore}
 use Rattle.gx_durable.proofs.Areas.{image_agrees, image_page}
 use Rattle.gx_durable.proofs.BodyLists.{body_adds}
-use Rattle.gx_durable.proofs.Images.{BodiesShown, image_bodies}
+use Rattle.gx_durable.proofs.Images.{BodiesShown, bodies_shown}
 
 -- what is in flight is a batch
 pub batch_flies : (stage : Stage) (flight : List ℕ) → in_flight stage ≡ 1 → batch_of stage flight ≡ flight
@@ -111,7 +112,7 @@ module _ {E P : Type 0} (k : Known E P) (l : IsLawful k) (r : Reading E P) (log 
 module _ {E P : Type 0} (k : Known E P) (r : Reading E P) where
   pub crash_leaves : ACrashLeavesAKeptSet k r
   crash_leaves l log sectors seen pending bodies s image up may =
-      shown_stands k l r log sectors seen pending bodies s up.carries image may (image_bodies log seen pending image up.on may)
+      shown_stands k l r log sectors seen pending bodies s up.carries image may (bodies_shown log seen image (image_shows_bodies log seen pending image up.on may))
 
   pub stands_before : StandsOfBefore k r
   stands_before old new image on stands = record {

@@ -12,7 +12,7 @@ use Rattle.gx_glog.specs.State.{Log, turning}
 use Rattle.gx_glog.specs.State as log_state
 use Rattle.gx_glog.specs.Standing.{MayTurn}
 use Rattle.gx_glog.specs.Turning.{TurnCalls, GoesOnTurning, KeepsMayTurn}
-use Rattle.gx_glog.proofs.Images.{image_gate, image_body}
+use Rattle.gx_glog.proofs.Images.{turn_shows_bodies}
 use Rattle.gx_glog.proofs.Keeping.{start_may_turn, on_may_turn}
 use Rattle.gx_glog.specs.Cuts.{bodies_in, open_bodies}
 use Rattle.gx_recovery.specs.Known.{Known, IsLawful}
@@ -30,7 +30,7 @@ use Rattle.gx_durable.specs.Steps as steps
 use Rattle.gx_durable.specs.Opening.{FoundIsUpToTurn, ACrashBeforeTheTurn, UpMayTurn, AfterCall, FirstTurnKeeps}
 use Rattle.gx_durable.proofs.BodyLists.{bodies_same, open_are}
 use Rattle.gx_durable.proofs.Crashes.{crash_leaves, shown_stands, stands_before}
-use Rattle.gx_durable.proofs.Images.{Batches, by_turn}
+use Rattle.gx_durable.proofs.Images.{bodies_shown}
 use Rattle.gx_durable.proofs.Moving.{settled_elsewhere}
 use Rattle.gx_durable.proofs.Spellings.{none_are}
 use Rattle.gx_durable.proofs.TurnRunning.{same_head}
@@ -97,17 +97,10 @@ module _ {E P : Type 0} (k : Known E P) (r : Reading E P) where
   pub up_may_turn : UpMayTurn k r
   up_may_turn log sectors seen pending bodies s idle up = record { may_turn = on_may_turn log seen pending idle up.on; carries = up.carries }
 
-  module _ (log : Log) (seen : List ℕ) (pending : ℕ → Bool) (image : List ℕ) (may : MayTurn log seen pending) (is : IsImage seen pending image) where
-    run_shown : selected_of image ≡ log.extent → Batches log.stage log.extent log.gated log.flight seen image
-    run_shown selects =
-        inl (open_are log.extent log.gated image selects (omega (arith, may.sound.places, may.sound.few))
-        (λ j less. image_gate true seen pending log.extent j image (may.run.opened j less) is) (λ less. image_gate false seen pending log.extent log.gated image (may.run.ends less) is)
-        ∙ bodies_same image seen log.extent log.gated (λ j less. image_body seen pending log.extent j image (may.run.bodies j less) is))
-
   pub crash_before : ACrashBeforeTheTurn k r
   crash_before l log sectors seen pending bodies s image up is =
       shown_stands k l r log sectors seen pending bodies s up.carries image is
-      (by_turn log seen pending image is (run_shown log seen pending image up.may_turn is) log.turn refl up.may_turn.turn)
+      (bodies_shown log seen image (turn_shows_bodies log seen pending image up.may_turn is))
 
   -- each image after a call stands for a kept set
   after_call : IsLawful k → (new : Log) (e : Device) (bodies : List (List (Record E P))) (s : Logged E P) (result : Result Turn Refusal) → AfterCall k r new e bodies s result
