@@ -1,8 +1,7 @@
 -- Bodies told one by one.
-use Rattle.std.proofs.Common.{◌≡◌, ℕ, zero, suc, ◌+◌, ◌<◌, ◌≤◌, List, [], ◌∷◌, ◌++◌, refl, sym, ap, ◌∙◌, append_assoc, true, false, arith}
-use Rattle.std.proofs.lemmas.List.{append-nil}
+use Rattle.std.proofs.Common.{◌≡◌, ℕ, zero, suc, ◌+◌, ◌<◌, ◌≤◌, List, [], ◌∷◌, ◌++◌, refl, ap, ◌∙◌, true, false, arith}
 use Rattle.gx_glog.specs.declared.extent.Extent.{Extent}
-use Rattle.gx_glog.specs.Layout.{selected_of, is_open, body_of, records_in, open_run, batches_of, log_of}
+use Rattle.gx_glog.specs.Layout.{selected_of, is_open, body_of, records_in, open_run}
 use Rattle.gx_glog.proofs.Gates.{run_is}
 use Rattle.gx_glog.specs.Cuts.{bodies_in, open_bodies, joined}
 use Rattle.gx_recovery.specs.Records.{Record}

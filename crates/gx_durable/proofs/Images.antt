@@ -5,7 +5,7 @@ use Rattle.gx_glog.specs.declared.stage.Stage.TheVariants.{Body, BodySync, Gate,
 use Rattle.gx_glog.specs.declared.stage.Turn.{Turn}
 use Rattle.gx_glog.specs.declared.stage.Turn.TheVariants as turn
 use Rattle.gx_glog.specs.State.{Log, in_flight, turning}
-use Rattle.gx_glog.specs.Cuts.{bodies_in, open_bodies, gated_bodies, ShowsBodies, ShowsBodiesIn}
+use Rattle.gx_glog.specs.Cuts.{open_bodies, gated_bodies, ShowsBodies, ShowsBodiesIn}
 
 -- the gated bodies alone, or with the batch in flight
 abbrev pub Batches : Stage → List (List ℕ) → List ℕ → List ℕ → Type 0

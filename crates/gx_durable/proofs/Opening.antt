@@ -1,5 +1,5 @@
 -- A log that is found on an image, up to the end of its turn.
-use Rattle.std.proofs.Common.{◌≡◌, ◌∙◌, sym, ap, refl, subst, inl, ⊎_elim, ℕ, zero, suc, ◌+◌, ◌<◌, ◌≤◌, Bool, true, false, List, Result, Ok, Err, arith}
+use Rattle.std.proofs.Common.{◌≡◌, ◌∙◌, sym, ap, refl, subst, ⊎_elim, ℕ, zero, suc, ◌+◌, ◌<◌, ◌≤◌, Bool, true, false, List, Result, Ok, Err, arith}
 use Rattle.std.proofs.lemmas.Bool.{cases_lt}
 use Rattle.gx_geom.specs.declared.refusal.Refusal.{Refusal}
 use Rattle.gx_disk.specs.Device.{Device, IsImage, Counts}
@@ -28,7 +28,6 @@ use Rattle.gx_durable.specs.Standing.{MayRenew, Carries, Stands}
 use Rattle.gx_durable.specs.Steps.{bodies_turned, GoesOn}
 use Rattle.gx_durable.specs.Steps as steps
 use Rattle.gx_durable.specs.Opening.{FoundIsUpToTurn, ACrashBeforeTheTurn, UpMayTurn, AfterCall, FirstTurnKeeps}
-use Rattle.gx_durable.proofs.BodyLists.{bodies_same, open_are}
 use Rattle.gx_durable.proofs.Crashes.{crash_leaves, shown_stands, stands_before}
 use Rattle.gx_durable.proofs.Images.{bodies_shown}
 use Rattle.gx_durable.proofs.Moving.{settled_elsewhere}
