@@ -8,6 +8,8 @@ pub mod beginnings;
 pub mod endings;
 pub mod logged;
 pub mod looks;
+pub mod openings;
 pub mod pages;
 pub mod runs;
+pub mod small;
 pub mod writes;
