@@ -23,4 +23,3 @@ pub mod Undoing
 pub mod Opened
 pub mod Restarts
 pub mod Images
-pub mod SmallPaging

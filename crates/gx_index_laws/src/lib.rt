@@ -11,5 +11,4 @@ pub mod looks;
 pub mod openings;
 pub mod pages;
 pub mod runs;
-pub mod small;
 pub mod writes;
