@@ -1,10 +1,11 @@
 //! Benchmarks of the index's parts, each beside the same in plain C.
 //!
-//! The words are a benchmark (`claims`, `pool`, `log` or `tree`), what is asked of it and how often, as its module says. A sum
+//! The words are a benchmark (`claims`, `engine`, `pool`, `log` or `tree`), what is asked of it and how often, as its module says. A sum
 //! of what was done is printed. With the word `all` alone a little of each is asked, and each sum is printed with its words.
 #![tactic(auto)]
 
 mod claims;
+mod engine;
 mod leaves;
 mod log;
 mod numbers;
@@ -16,9 +17,10 @@ use std::process::ExitCode;
 use std::rt::Env;
 
 /// A little of each: two words, and how often.
-const ALL: [(&str, &str, u64); 10] = [
+const ALL: [(&str, &str, u64); 11] = [
     ("claims", "claims", 1000),
     ("claims", "searches", 1000),
+    ("engine", "undo", 30),
     ("pool", "hits", 1000),
     ("pool", "misses", 1000),
     ("log", "commit", 1),
@@ -33,6 +35,7 @@ const ALL: [(&str, &str, u64); 10] = [
 #[derive(Clone, Copy)]
 enum Benchmark {
     Claims(claims::Kind),
+    Engine(engine::Kind),
     Pool(pool::Kind),
     Log(log::Kind),
     Tree(tree::Kind),
@@ -50,6 +53,7 @@ impl Benchmark {
     fn named(benchmark: &str, kind: &str) -> Option<Benchmark> {
         match benchmark {
             "claims" => Some(Benchmark::Claims(claims::Kind::named(kind)?)),
+            "engine" => Some(Benchmark::Engine(engine::Kind::named(kind)?)),
             "pool" => Some(Benchmark::Pool(pool::Kind::named(kind)?)),
             "log" => Some(Benchmark::Log(log::Kind::named(kind)?)),
             "tree" => Some(Benchmark::Tree(tree::Kind::named(kind)?)),
@@ -61,6 +65,7 @@ impl Benchmark {
     fn run<R: AllocGlobal + Files<File = File>>(self, rt: &R, count: u64) -> Option<u64> {
         match self {
             Benchmark::Claims(kind) => claims::run(rt.alloc(), kind, count),
+            Benchmark::Engine(kind) => engine::run(rt.alloc(), kind, count),
             Benchmark::Pool(kind) => pool::run(rt, kind, count),
             Benchmark::Log(kind) => log::run(rt, kind, count),
             Benchmark::Tree(kind) => tree::run(rt.alloc(), kind, count),

@@ -14,3 +14,4 @@ pub mod WhatStood
 pub mod WorkedEvents
 pub mod Meanwhile
 pub mod Looked
+pub mod Reopened

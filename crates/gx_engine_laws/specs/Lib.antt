@@ -7,3 +7,4 @@ pub mod Wants
 pub mod Kinds
 pub mod Worked
 pub mod Looks
+pub mod Losers

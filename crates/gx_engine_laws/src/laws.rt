@@ -1,5 +1,5 @@
 //! What holds of every engine whose events are as they are defined.
-ghost use Rattle.std.specs.Prelude.{◌≡◌, ◌≢◌, ◌≤◌, ℕ, Bool, true, false, Option, None, Some, All, List, [], ◌∷◌, if◌then◌else◌, is_some};
+ghost use Rattle.std.specs.Prelude.{◌≡◌, ◌≢◌, ◌≤◌, ℕ, Bool, true, false, Option, None, Some, All, List, [], ◌∷◌, if◌then◌else◌, is_some, replicate};
 ghost use Rattle.gx_machine.specs.declared.call.Call.{Call};
 ghost use Rattle.gx_machine.specs.declared.call.Call.TheVariants.{Search};
 ghost use Rattle.gx_machine.specs.declared.entry.Entry.{Entry};
@@ -8,8 +8,9 @@ ghost use Rattle.gx_machine.specs.Keys.{Keys, IsLawful, matches};
 ghost use Rattle.gx_machine.specs.Sets.{has, found, InOrder, IsSetOf};
 ghost use Rattle.gx_machine.specs.Sessions.{Locks, Open, view, write_conflicts};
 ghost use Rattle.gx_machine.specs.Machine.{Machine, set_of};
-ghost use Rattle.gx_machine.specs.Runs.{IsStep};
-ghost use Rattle.gx_engine_laws.specs.Slots.{Note, Working, locks_held, notes_kept, slot_at, noted};
+ghost use Rattle.gx_machine.specs.Runs.{Crashes, IsStep};
+ghost use Rattle.gx_machine.specs.declared.limits.TheConstants.{SESSIONS};
+ghost use Rattle.gx_engine_laws.specs.Slots.{Note, Free, Working, locks_held, notes_kept, slot_at, noted};
 ghost use Rattle.gx_engine_laws.specs.Engines.{Engine, opened_engine, opened_machine, last_number, stood, kept, gathered, changes_of, SeenAs, IsSound, IsSame};
 ghost use Rattle.gx_engine_laws.specs.Events.{Event, Seals, Opens, IsEvent, step_of};
 ghost use Rattle.gx_engine_laws.specs.Runs.{AreEvents, steps_of, RunsAs};
@@ -17,6 +18,7 @@ ghost use Rattle.gx_engine_laws.specs.Looks.{Looking, left, IsLooking};
 ghost use Rattle.gx_engine_laws.specs.Wants.{Pair, Change, slot_wants, HasLooked, is_claimed, ToldByLocks, LeavesAlone, is_sweep, LeavesSession};
 ghost use Rattle.gx_machine.specs.Worked.{number_keys};
 ghost use Rattle.gx_engine_laws.specs.Worked.{sought, first_engine, last_engine, worked_events};
+ghost use Rattle.gx_engine_laws.specs.Losers.{AreLosers, IsReopened, losing_machine, is_of_opening};
 ghost use Rattle.gx_engine_laws.specs.Kinds.{is_of_another, changes_what_stood, may_follow_failure, is_opening};
 
 /// An engine opened over a committed set is sound, and is seen as the machine with that one set and idle sessions.
@@ -123,6 +125,29 @@ pub fn a_failed_engine_only_refuses<B>()
         → may_follow_failure event ≡ true }
     ensures same { (k : Keys B) (old new : Engine B) (event : Event B) → old.failed ≡ true → IsEvent k old event new
         → is_opening event ≡ false → IsSame new old }
+{}
+
+/// An opened engine may have losers, transactions that a crash cut off, of which each is held and undone by a session. It is
+/// sound, and is seen as the machine with the kept set of its number whose sessions abort: so its undo is a run of that machine.
+/// Once undo has ended and all slots are free, the whole is one opening, the machine's crash to that set. Where a crash cuts
+/// the undo off, the next opening is one of the engine that was lost first, over the same set.
+pub fn an_opened_engine_may_have_losers<B>()
+    ensures sound { (k : Keys B) (number : ℕ) (losers : List (List (Note B))) (old new : Engine B) → AreLosers k losers
+        → IsReopened k number losers old new → IsSound k new }
+    ensures seen { (k : Keys B) → IsLawful k → (number : ℕ) (losers : List (List (Note B))) (old new : Engine B) (m : Machine B) → IsSound k old
+        → SeenAs k old m → IsReopened k number losers old new → SeenAs k new (losing_machine number (set_of number m) losers) }
+    ensures opens { (k : Keys B) → IsLawful k → (number : ℕ) (losers : List (List (Note B))) (old middle new : Engine B) (m : Machine B)
+        (events : List (Event B)) → IsSound k old → SeenAs k old m → AreLosers k losers → IsReopened k number losers old middle
+        → AreEvents k middle events new → All (λ event. is_of_opening event ≡ true) events → new.slots ≡ replicate SESSIONS Free
+        → IsEvent k old (Opens number) new }
+    ensures crashes { (k : Keys B) → IsLawful k → (number : ℕ) (losers : List (List (Note B))) (old middle new : Engine B) (m : Machine B)
+        (events : List (Event B)) → IsSound k old → SeenAs k old m → AreLosers k losers → IsReopened k number losers old middle
+        → AreEvents k middle events new → All (λ event. is_of_opening event ≡ true) events → new.slots ≡ replicate SESSIONS Free
+        → RunsAs k m (Crashes number ∷ []) new }
+    ensures again { (k : Keys B) → IsLawful k → (number later : ℕ) (losers left : List (List (Note B))) (old middle cut new : Engine B) (m : Machine B)
+        (events : List (Event B)) → IsSound k old → SeenAs k old m → AreLosers k losers → IsReopened k number losers old middle
+        → AreEvents k middle events cut → All (λ event. is_of_opening event ≡ true) events → IsReopened k later left cut new
+        → IsReopened k number left old new }
 {}
 
 /// The events are met: in this interleaving one session searches while another inserts, is refused what the search

@@ -1,5 +1,5 @@
 -- Which log an image has, of a device that a log is on.
-use Rattle.std.proofs.Common.{◌≡◌, ◌∙◌, ap, refl, ◌⊎◌, inl, inr, ⊎_elim, ℕ, ◌+◌, ◌<◌, ◌≤◌, List, ◌++◌, true, false, Bool, below_more, arith}
+use Rattle.std.proofs.Common.{◌≡◌, ◌∙◌, sym, subst, ap, refl, ◌⊎◌, inl, inr, ⊎_elim, ℕ, ◌+◌, ◌<◌, ◌≤◌, List, ◌++◌, true, false, Bool, below_more, arith}
 use Rattle.gx_disk.specs.Device.{IsImage}
 use Rattle.gx_glog.specs.declared.extent.Extent.{Extent}
 use Rattle.gx_glog.specs.declared.stage.Stage.{Stage}
@@ -9,7 +9,7 @@ use Rattle.gx_glog.specs.declared.stage.Turn.TheVariants as turn
 use Rattle.gx_glog.specs.Layout.{gates_of, other_of, selected_of, is_open, body_of, records_in, batches_of, log_of}
 use Rattle.gx_glog.specs.Bodies.{HasRecords}
 use Rattle.gx_glog.specs.State.{Log, in_flight, turning}
-use Rattle.gx_glog.specs.Standing.{IsGate, IsBodySettled, IsSelected, HasBatches, HasHead, Flies, Leads, On, gated_of, IsLogOf, Shows, ShowsIn}
+use Rattle.gx_glog.specs.Standing.{IsGate, IsBodySettled, IsSelected, HasBatches, HasRun, HasHead, Flies, Leads, On, MayTurn, gated_of, IsLogOf, Shows, ShowsIn}
 use Rattle.gx_glog.proofs.Gates.{either_extent, gate_same, selector_same, body_same, batches_same, batches_more, log_is}
 
 pub image_gate : (state : Bool) (seen : List ℕ) (pending : ℕ → Bool) (extent : Extent) (k : ℕ) (image : List ℕ) → IsGate state seen pending extent k → IsImage seen pending image → is_open image extent k ≡ state
@@ -22,6 +22,13 @@ image_body seen pending extent k image settled may = body_same extent k image se
 pub image_batches : (seen : List ℕ) (pending : ℕ → Bool) (extent : Extent) (n : ℕ) (image : List ℕ) → ((k : ℕ) → k < n → IsBodySettled pending extent k) → IsImage seen pending image
     → batches_of image extent n ≡ batches_of seen extent n
 image_batches seen pending extent n image settled may = batches_same extent n image seen (λ k less. image_body seen pending extent k image (settled k less) may)
+
+-- the log of an image where so many gates in a row are open
+pub run_log : (extent : Extent) (run : ℕ) (seen : List ℕ) (pending : ℕ → Bool) (image : List ℕ) → run ≤ 32 → HasRun extent run seen pending → IsImage seen pending image → selected_of image ≡ extent
+    → log_of image ≡ batches_of seen extent run
+run_log extent run seen pending image few has may selects =
+    log_is extent run image selects few (λ k less. image_gate true seen pending extent k image (has.opened k less) may) (λ less. image_gate false seen pending extent run image (has.ends less) may)
+    ∙ image_batches seen pending extent run image has.bodies may
 
 module _ (seen : List ℕ) (pending : ℕ → Bool) (extent : Extent) (gated used : ℕ) (image : List ℕ) (has : HasBatches extent gated used seen pending) (may : IsImage seen pending image)
     (selects : selected_of image ≡ extent) where
@@ -119,3 +126,11 @@ shows_in turn.Done stage extent gated head seen pending image one has_gated lead
 pub image_shows : (log : Log) (seen : List ℕ) (pending : ℕ → Bool) (image : List ℕ) → On log seen pending → IsImage seen pending image → ShowsIn log.turn log.stage (gated_of log seen) log.flight image
 image_shows log seen pending image on may =
     shows_in log.turn log.stage log.extent (gated_of log seen) log.flight seen pending image on.sound.one (λ selects. selected_shows log seen pending image on may selects) on.turn may
+
+-- the same of a log that may turn: its first closed gate ends what is read
+pub turn_shows : (log : Log) (seen : List ℕ) (pending : ℕ → Bool) (image : List ℕ) → MayTurn log seen pending → IsImage seen pending image → ShowsIn log.turn log.stage (gated_of log seen) log.flight image
+turn_shows log seen pending image turns may =
+    let P : Stage → Type 0 = λ stage. Shows stage (gated_of log seen) log.flight image in
+    let few : log.gated ≤ 32 = omega (arith, turns.sound.places, turns.sound.few) in
+    shows_in log.turn log.stage log.extent (gated_of log seen) log.flight seen pending image turns.sound.one
+    (λ selects. subst P (sym turns.idle) (run_log log.extent log.gated seen pending image few turns.run may selects)) turns.turn may

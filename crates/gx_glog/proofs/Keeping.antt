@@ -9,9 +9,13 @@ use Rattle.gx_glog.specs.declared.stage.Turn.{Turn}
 use Rattle.gx_glog.specs.declared.stage.Turn.TheVariants as turn
 use Rattle.gx_glog.specs.Layout.{gates_of, bodies_of, other_of, body_of, size_in, batches_of}
 use Rattle.gx_glog.specs.Reading.{IsSize}
+use Rattle.gx_glog.specs.declared.filling.Appended.{Appended}
+use Rattle.gx_glog.specs.declared.filling.Appended.TheVariants.{At, NoRoom}
+use Rattle.gx_glog.specs.Appending.{Appends}
 use Rattle.gx_glog.specs.Bodies.{HasRecords}
-use Rattle.gx_glog.specs.State.{Log, in_flight, turning}
-use Rattle.gx_glog.specs.Standing.{IsGate, IsBodySettled, IsSelected, HasBatches, ReadsClosed, HasFirst, HasHead, Flies, Leads, On, gated_of, IsKept, IsOfLog, LeavesLog}
+use Rattle.gx_glog.specs.State.{Log, IsSound, in_flight, turning}
+use Rattle.gx_glog.specs.Standing.{IsGate, IsBodySettled, IsSelected, HasBatches, HasRun, ReadsClosed, HasFirst, HasHead, Flies, Leads, On, MayTurn, gated_of, IsKept, IsOfLog, LeavesLog}
+use Rattle.gx_glog.specs.Turning.{PutsFirst}
 use Rattle.gx_glog.proofs.Gates.{placed, gate_same, selector_same, body_same, batches_same}
 
 -- a sector that a call doesn't touch is kept
@@ -76,6 +80,15 @@ module _ (seen seen' : List ℕ) (pending pending' : ℕ → Bool) where
   extent_batches extent gated used size kept few has =
       batches_kept extent gated used size (λ k which below. extent_gate extent kept k below) (λ k less. extent_body extent kept k (omega arith)) few has
 
+  pub extent_run : (extent : Extent) (run : ℕ) → length seen' ≡ length seen → KeptExtent extent → run ≤ 32 → HasRun extent run seen pending → HasRun extent run seen' pending'
+  extent_run extent run size kept few has = record {
+    size = omega (arith, size, has.size);
+    opened = λ k less. gate_kept true extent k (extent_gate extent kept k (omega arith)) (has.opened k less);
+    bodies = λ k less. body_settled extent k (extent_body extent kept k (omega arith)) (has.bodies k less);
+    sizes = λ k less. (let P : List ℕ → Type 0 = λ body. IsSize (size_in body) in subst P (sym (body_kept extent k (extent_body extent kept k (omega arith)))) (has.sizes k less));
+    ends = λ less. gate_kept false extent run (extent_gate extent kept run less) (has.ends less);
+  }
+
   pub extent_gated : (extent : Extent) (n : ℕ) → KeptExtent extent → n ≤ 32 → batches_of seen' extent n ≡ batches_of seen extent n
   extent_gated extent n kept few = gated_kept extent n (λ k less. extent_body extent kept k (omega arith))
 
@@ -96,7 +109,7 @@ module _ (seen seen' : List ℕ) (pending pending' : ℕ → Bool) where
     records = records_kept extent 0 head (extent_body extent kept 0 (omega arith)) has.records;
   }
 
-  leads_kept : length seen' ≡ length seen → IsKept seen seen' pending pending' 2 → (turn : Turn) (from to : Extent) (head : List ℕ) → KeptExtent to → Leads turn from to head seen pending → Leads turn from to head seen' pending'
+  pub leads_kept : length seen' ≡ length seen → IsKept seen seen' pending pending' 2 → (turn : Turn) (from to : Extent) (head : List ℕ) → KeptExtent to → Leads turn from to head seen pending → Leads turn from to head seen' pending'
   leads_kept size selector turn.Closed from to head kept leads = selected_kept from selector leads
   leads_kept size selector turn.Body from to head kept leads = (selected_kept from selector leads.0, closed_kept to (extent_gate to kept) leads.1)
   leads_kept size selector turn.BodySync from to head kept leads = (
@@ -157,6 +170,20 @@ module _ (seen seen' : List ℕ) (pending pending' : ℕ → Bool) where
   gated_stays log leaves on =
       extent_gated log.extent log.gated (extent_is_of_log log.extent leaves) (omega (arith, on.sound.places, on.sound.few))
 
+  -- the same of a log that may turn
+  pub may_turn_kept : (log : Log) → LeavesLog seen seen' pending pending' → MayTurn log seen pending → MayTurn log seen' pending'
+  may_turn_kept log leaves may = record {
+    sound = may.sound;
+    idle = may.idle;
+    run = extent_run log.extent log.gated leaves.size (extent_is_of_log log.extent leaves) (omega (arith, may.sound.places, may.sound.few)) may.run;
+    turn = leads_kept leaves.size (leaves.kept 2 (inl refl)) log.turn log.extent (other_of log.extent) log.flight (extent_is_of_log (other_of log.extent) leaves) may.turn;
+    quiet = may.quiet;
+  }
+
+  pub run_stays : (log : Log) → LeavesLog seen seen' pending pending' → MayTurn log seen pending → gated_of log seen' ≡ gated_of log seen
+  run_stays log leaves may =
+      extent_gated log.extent log.gated (extent_is_of_log log.extent leaves) (omega (arith, may.sound.places, may.sound.few))
+
 -- a call elsewhere leaves the log's sectors
 pub touched_leaves : (first n : ℕ) (old new : Device) → ((s : ℕ) → IsOfLog s → IsOutside first n s) → Touches first n old new → LeavesLog old.seen new.seen old.pending new.pending
 touched_leaves first n old new out touches = record { size = touches.size; kept = λ s of_log. touched_kept first n s old new touches (out s of_log) }
@@ -188,23 +215,91 @@ start_on extent used seen pending few selected has = record {
   quiet = λ turns. refl;
 }
 
+-- where later gates may be open
+pub start_may_turn : (extent : Extent) (used : ℕ) (seen : List ℕ) (pending : ℕ → Bool) → used ≤ 32 → IsSelected extent seen pending → HasRun extent used seen pending
+    → MayTurn (record { extent = extent; used = used; gated = used; stage = Idle; turn = turn.Closed; flight = []; filling = [] }) seen pending
+start_may_turn extent used seen pending few selected has = record {
+  sound = record { places = omega arith; few = few; one = omega arith; some = omega arith; fits = omega arith; filled = omega arith; room = λ full. refl };
+  idle = refl;
+  run = has;
+  turn = selected;
+  quiet = λ turns. refl;
+}
+
+-- the batches of a log with nothing in flight are a run
+run_of : (extent : Extent) (gated used : ℕ) (seen : List ℕ) (pending : ℕ → Bool) → used ≡ gated → HasBatches extent gated used seen pending → HasRun extent gated seen pending
+run_of extent gated used seen pending places has = record { size = has.size; opened = has.opened; bodies = has.bodies; sizes = has.sizes; ends = λ less. has.closed gated (omega arith) less }
+
+pub on_may_turn : (log : Log) (seen : List ℕ) (pending : ℕ → Bool) → log.stage ≡ Idle → On log seen pending → MayTurn log seen pending
+on_may_turn log seen pending idle on = record {
+  sound = on.sound;
+  idle = idle;
+  run = (let none : in_flight log.stage ≡ 0 = ap in_flight idle in run_of log.extent log.gated log.used seen pending (omega (arith, on.sound.places)) on.batches);
+  turn = on.turn;
+  quiet = on.quiet;
+}
+
+-- a log that has a record more that fills is sound
+append_sound : (log : Log) (bytes : List ℕ) → log.used < 32 → length log.filling + length bytes ≤ 32764 → IsSound log → IsSound (record log { filling = log.filling ++ bytes })
+append_sound log bytes place fits sound = record {
+  places = sound.places;
+  few = sound.few;
+  one = sound.one;
+  some = sound.some;
+  fits = sound.fits;
+  filled = omega (arith, length-append log.filling bytes);
+  room = λ full. absurd (omega arith);
+}
+
+none_turns_closed : (t : Turn) → t ≡ turn.Closed → turning t ≡ 0
+none_turns_closed t still = ap turning still
+
 -- a log with a record more that fills
 pub append_on : (log : Log) (bytes seen : List ℕ) (pending : ℕ → Bool) → log.turn ≡ turn.Closed → log.used < 32 → length log.filling + length bytes ≤ 32764 → On log seen pending
     → On (record log { filling = log.filling ++ bytes }) seen pending
 append_on log bytes seen pending still place fits on = record {
-  sound = record {
-    places = on.sound.places;
-    few = on.sound.few;
-    one = on.sound.one;
-    some = on.sound.some;
-    fits = on.sound.fits;
-    filled = omega (arith, length-append log.filling bytes);
-    room = λ full. absurd (omega arith);
-  };
+  sound = append_sound log bytes place fits on.sound;
   batches = on.batches;
   flight = on.flight;
   turn = on.turn;
-  quiet = λ turns. absurd (let none : turning log.turn ≡ 0 = ap turning still in omega arith);
+  quiet = λ turns. absurd (omega (arith, none_turns_closed log.turn still));
+}
+
+append_may_turn : (log : Log) (bytes seen : List ℕ) (pending : ℕ → Bool) → log.turn ≡ turn.Closed → log.used < 32 → length log.filling + length bytes ≤ 32764 → MayTurn log seen pending
+    → MayTurn (record log { filling = log.filling ++ bytes }) seen pending
+append_may_turn log bytes seen pending still place fits may = record {
+  sound = append_sound log bytes place fits may.sound;
+  idle = may.idle;
+  run = may.run;
+  turn = may.turn;
+  quiet = λ turns. absurd (omega (arith, none_turns_closed log.turn still));
+}
+
+-- what an append keeps, whatever it answers
+pub append_keeps_on : (bytes : List ℕ) (old new : Log) (answer : Appended) (seen : List ℕ) (pending : ℕ → Bool) → old.used < 32 → Appends bytes old new answer → On old seen pending → On new seen pending
+append_keeps_on bytes old new (At place) seen pending room appends on =
+    let P : Log → Type 0 = λ l. On l seen pending in
+    subst P (sym appends.2) (append_on old bytes seen pending appends.3 room appends.0 on)
+append_keeps_on bytes old new NoRoom seen pending room appends on = (let P : Log → Type 0 = λ l. On l seen pending in subst P (sym appends.1) on)
+
+pub append_keeps_turn : (bytes : List ℕ) (old new : Log) (answer : Appended) (seen : List ℕ) (pending : ℕ → Bool) → old.used < 32 → Appends bytes old new answer → MayTurn old seen pending → MayTurn new seen pending
+append_keeps_turn bytes old new (At place) seen pending room appends may =
+    let P : Log → Type 0 = λ l. MayTurn l seen pending in
+    subst P (sym appends.2) (append_may_turn old bytes seen pending appends.3 room appends.0 may)
+append_keeps_turn bytes old new NoRoom seen pending room appends may = (let P : Log → Type 0 = λ l. MayTurn l seen pending in subst P (sym appends.1) may)
+
+-- a log with a record more in the head is sound
+put_first_sound : (extent : Extent) (used gated : ℕ) (flight filling bytes : List ℕ) → length flight + length bytes ≤ 32764
+    → IsSound (record { extent = extent; used = used; gated = gated; stage = Idle; turn = turn.Closed; flight = flight; filling = filling })
+    → IsSound (record { extent = extent; used = used; gated = gated; stage = Idle; turn = turn.Closed; flight = flight ++ bytes; filling = filling })
+put_first_sound extent used gated flight filling bytes fits sound = record {
+  places = sound.places;
+  few = sound.few;
+  one = omega arith;
+  some = omega arith;
+  fits = omega (arith, length-append flight bytes);
+  filled = sound.filled;
+  room = sound.room;
 }
 
 -- a log with a record more in the head
@@ -212,25 +307,51 @@ put_first_on_at : (extent : Extent) (used gated : ℕ) (flight filling bytes see
     → On (record { extent = extent; used = used; gated = gated; stage = Idle; turn = turn.Closed; flight = flight; filling = filling }) seen pending
     → On (record { extent = extent; used = used; gated = gated; stage = Idle; turn = turn.Closed; flight = flight ++ bytes; filling = filling }) seen pending
 put_first_on_at extent used gated flight filling bytes seen pending fits on = record {
-  sound = record {
-    places = on.sound.places;
-    few = on.sound.few;
-    one = omega arith;
-    some = omega arith;
-    fits = omega (arith, length-append flight bytes);
-    filled = on.sound.filled;
-    room = on.sound.room;
-  };
+  sound = put_first_sound extent used gated flight filling bytes fits on.sound;
   batches = on.batches;
   flight = tt;
   turn = on.turn;
   quiet = on.quiet;
 }
 
+put_first_turn_at : (extent : Extent) (used gated : ℕ) (flight filling bytes seen : List ℕ) (pending : ℕ → Bool) → length flight + length bytes ≤ 32764
+    → MayTurn (record { extent = extent; used = used; gated = gated; stage = Idle; turn = turn.Closed; flight = flight; filling = filling }) seen pending
+    → MayTurn (record { extent = extent; used = used; gated = gated; stage = Idle; turn = turn.Closed; flight = flight ++ bytes; filling = filling }) seen pending
+put_first_turn_at extent used gated flight filling bytes seen pending fits may = record {
+  sound = put_first_sound extent used gated flight filling bytes fits may.sound;
+  idle = refl;
+  run = may.run;
+  turn = may.turn;
+  quiet = may.quiet;
+}
+
+-- the log at a stage, in a turn, with a head
+abbrev headed : Log → Stage → Turn → List ℕ → Log
+headed log stage turn flight = record { extent = log.extent; used = log.used; gated = log.gated; stage = stage; turn = turn; flight = flight; filling = log.filling }
+
 pub put_first_on : (log : Log) (bytes seen : List ℕ) (pending : ℕ → Bool) → log.stage ≡ Idle → log.turn ≡ turn.Closed → length log.flight + length bytes ≤ 32764 → On log seen pending
     → On (record log { flight = log.flight ++ bytes }) seen pending
 put_first_on log bytes seen pending idle still fits =
-    let at : Stage → Turn → List ℕ → Log = λ stage turn flight. record { extent = log.extent; used = log.used; gated = log.gated; stage = stage; turn = turn; flight = flight; filling = log.filling } in
-    let P : Stage → Type 0 = λ stage. On (at stage log.turn log.flight) seen pending → On (at stage log.turn (log.flight ++ bytes)) seen pending in
-    let Q : Turn → Type 0 = λ turn. On (at Idle turn log.flight) seen pending → On (at Idle turn (log.flight ++ bytes)) seen pending in
+    let P : Stage → Type 0 = λ stage. On (headed log stage log.turn log.flight) seen pending → On (headed log stage log.turn (log.flight ++ bytes)) seen pending in
+    let Q : Turn → Type 0 = λ turn. On (headed log Idle turn log.flight) seen pending → On (headed log Idle turn (log.flight ++ bytes)) seen pending in
     subst P (sym idle) (subst Q (sym still) (put_first_on_at log.extent log.used log.gated log.flight log.filling bytes seen pending fits))
+
+put_first_turn : (log : Log) (bytes seen : List ℕ) (pending : ℕ → Bool) → log.stage ≡ Idle → log.turn ≡ turn.Closed → length log.flight + length bytes ≤ 32764 → MayTurn log seen pending
+    → MayTurn (record log { flight = log.flight ++ bytes }) seen pending
+put_first_turn log bytes seen pending idle still fits =
+    let P : Stage → Type 0 = λ stage. MayTurn (headed log stage log.turn log.flight) seen pending → MayTurn (headed log stage log.turn (log.flight ++ bytes)) seen pending in
+    let Q : Turn → Type 0 = λ turn. MayTurn (headed log Idle turn log.flight) seen pending → MayTurn (headed log Idle turn (log.flight ++ bytes)) seen pending in
+    subst P (sym idle) (subst Q (sym still) (put_first_turn_at log.extent log.used log.gated log.flight log.filling bytes seen pending fits))
+
+-- what a record put first keeps, whatever is answered
+pub put_first_keeps_on : (bytes : List ℕ) (old new : Log) (answer : Appended) (seen : List ℕ) (pending : ℕ → Bool) → old.stage ≡ Idle → PutsFirst bytes old new answer → On old seen pending → On new seen pending
+put_first_keeps_on bytes old new (At place) seen pending idle puts on =
+    let P : Log → Type 0 = λ l. On l seen pending in
+    subst P (sym puts.2) (put_first_on old bytes seen pending idle puts.3 puts.0 on)
+put_first_keeps_on bytes old new NoRoom seen pending idle puts on = (let P : Log → Type 0 = λ l. On l seen pending in subst P (sym puts.1) on)
+
+pub put_first_keeps_turn : (bytes : List ℕ) (old new : Log) (answer : Appended) (seen : List ℕ) (pending : ℕ → Bool) → old.stage ≡ Idle → PutsFirst bytes old new answer → MayTurn old seen pending → MayTurn new seen pending
+put_first_keeps_turn bytes old new (At place) seen pending idle puts may =
+    let P : Log → Type 0 = λ l. MayTurn l seen pending in
+    subst P (sym puts.2) (put_first_turn old bytes seen pending idle puts.3 puts.0 may)
+put_first_keeps_turn bytes old new NoRoom seen pending idle puts may = (let P : Log → Type 0 = λ l. MayTurn l seen pending in subst P (sym puts.1) may)

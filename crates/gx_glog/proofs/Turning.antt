@@ -1,5 +1,5 @@
 -- What each device call of a turn keeps.
-use Rattle.std.proofs.Common.{◌≡◌, ◌∙◌, sym, ap, inl, inr, ℕ, ◌+◌, ◌*◌, ◌<◌, ◌≤◌, ◌==◌, List, [], length, take, drop, get_or, true, false, Bool, Result, Ok, Err, subst, if◌then◌else◌, arith}
+use Rattle.std.proofs.Common.{◌≡◌, ◌∙◌, sym, ap, refl, inl, inr, ℕ, ◌+◌, ◌*◌, ◌<◌, ◌≤◌, ◌==◌, List, [], length, take, drop, get_or, true, false, Bool, Result, Ok, Err, subst, if◌then◌else◌, arith}
 use Rattle.std.proofs.lemmas.List.{get_or-take, get_or-drop}
 use Rattle.gx_geom.specs.declared.refusal.Refusal.{Refusal}
 use Rattle.gx_disk.specs.Sectors.{span_of, IsWithin}
@@ -16,12 +16,12 @@ use Rattle.gx_glog.specs.declared.stage.Turn.TheVariants as turn
 use Rattle.gx_glog.specs.Layout.{gates_of, bodies_of, other_of, selected_of, is_open, body_of, size_in, batches_of}
 use Rattle.gx_glog.specs.Reading.{IsSize}
 use Rattle.gx_glog.specs.Bodies.{HasRecords, IsBody, IsOpenGate}
-use Rattle.gx_glog.specs.State.{Log, turning, turned}
-use Rattle.gx_glog.specs.Standing.{IsGate, IsSelected, ReadsClosed, HasFirst, HasHead, Leads, On, gated_of, ShowsIn}
-use Rattle.gx_glog.specs.Turning.{AreClosedGates, selector_of, IsSelector, TurnCalls, Selects, TouchesIn, KeepsTurning}
+use Rattle.gx_glog.specs.State.{Log, IsSound, turning, turned}
+use Rattle.gx_glog.specs.Standing.{IsGate, IsSelected, ReadsClosed, HasFirst, HasHead, Leads, On, MayTurn, gated_of, ShowsIn}
+use Rattle.gx_glog.specs.Turning.{AreClosedGates, selector_of, IsSelector, TurnCalls, Selects, TouchesIn, KeepsTurning, GoesOnTurning, KeepsMayTurn}
 use Rattle.gx_glog.proofs.Gates.{placed, other_outside}
-use Rattle.gx_glog.proofs.Images.{head_batches, image_shows}
-use Rattle.gx_glog.proofs.Keeping.{KeptExtent, touched_kept, selected_kept, extent_batches, extent_gated, closed_kept, first_kept, head_kept, on_kept, gated_stays, rested_leaves, touched_wider}
+use Rattle.gx_glog.proofs.Images.{head_batches, turn_shows}
+use Rattle.gx_glog.proofs.Keeping.{KeptExtent, touched_kept, rested_kept, selected_kept, extent_batches, extent_run, extent_gated, closed_kept, first_kept, head_kept, leads_kept, rested_leaves, touched_wider, on_may_turn}
 use Rattle.gx_glog.proofs.Stepping.{log_at}
 
 -- what was written is read
@@ -75,43 +75,26 @@ selector_read extent bytes before now selector size written =
     let here : take 512 (drop (512 * 2) now.seen) ≡ bytes = ap (λ n. take n (drop (512 * 2) now.seen)) (sym selector.whole) ∙ reads in
     selects_by extent (take 512 (drop (512 * 2) now.seen)) (ap (λ (sector : List ℕ). get_or sector 0 0) here ∙ selector.selects)
 
--- what a call of a turn leaves as it was, also where it fails
-record Stays (log : Log) (before now : Device) : Type 0 where
-  pub on : On log now.seen now.pending
-  pub gated : gated_of log now.seen ≡ gated_of log before.seen
-  pub touches : TouchesIn log.turn before now
+-- What a call of a turn leaves as it was, also where it fails: the extent that it leads from, and what is known of the other.
+record Stays (t : Turn) (extent : Extent) (head : List ℕ) (before now : Device) : Type 0 where
+  pub size : length now.seen ≡ length before.seen
+  pub kept : KeptExtent before.seen now.seen before.pending now.pending extent
+  pub leads : Leads t extent (other_of extent) head now.seen now.pending
+  pub touches : TouchesIn t before now
   pub time : Elapses before now
 
--- a call that changes nothing of the extent that the turn leads from
-module _ (turn : Turn) (extent : Extent) (used gated : ℕ) (head filling : List ℕ) (before now : Device) (on : On (log_at turn extent used gated Idle head filling) before.seen before.pending) where
-  few : gated ≤ 32
-  few = omega (arith, on.sound.places, on.sound.few)
-
-  stays : length now.seen ≡ length before.seen → KeptExtent before.seen now.seen before.pending now.pending extent → Leads turn extent (other_of extent) head now.seen now.pending
-      → TouchesIn turn before now → Elapses before now → Stays (log_at turn extent used gated Idle head filling) before now
-  stays size kept leads touches time = record {
-    on = record {
-      sound = on.sound;
-      batches = extent_batches before.seen now.seen before.pending now.pending extent gated used size kept few on.batches;
-      flight = tt;
-      turn = leads;
-      quiet = on.quiet;
-    };
-    gated = extent_gated before.seen now.seen before.pending now.pending extent gated kept few;
-    touches = touches;
-    time = time;
-  }
-
-  -- a sync
-  rests : {T E : Type 0} (result : Result T E) → Syncs before now result → TouchesIn turn before now → Stays (log_at turn extent used gated Idle head filling) before now
-  rests result syncs touches =
-      let leaves = rested_leaves before now syncs.rests in
-      record {
-        on = on_kept before.seen now.seen before.pending now.pending (log_at turn extent used gated Idle head filling) leaves on;
-        gated = gated_stays before.seen now.seen before.pending now.pending (log_at turn extent used gated Idle head filling) leaves on;
-        touches = touches;
-        time = syncs.time;
-      }
+-- a sync
+rests : {T E : Type 0} (t : Turn) (extent : Extent) (head : List ℕ) (before now : Device) (result : Result T E) → Leads t extent (other_of extent) head before.seen before.pending → Syncs before now result
+    → TouchesIn t before now → Stays t extent head before now
+rests t extent head before now result leads syncs touches =
+    let leaves = rested_leaves before now syncs.rests in
+    record {
+      size = leaves.size;
+      kept = λ s within. rested_kept s before now syncs.rests;
+      leads = leads_kept before.seen now.seen before.pending now.pending leaves.size (rested_kept 2 before now syncs.rests) t extent (other_of extent) head (λ s within. rested_kept s before now syncs.rests) leads;
+      touches = touches;
+      time = syncs.time;
+    }
 
 rested_within : (before now : Device) → {T E : Type 0} (result : Result T E) → Syncs before now result → Touches 8 4160 before now
 rested_within before now result syncs = touched_wider 8 0 before now (omega arith) (omega arith) (rested_touches 8 before now syncs.rests)
@@ -134,44 +117,62 @@ module _ (extent : Extent) (first n : ℕ) (before now : Device) (lies : IsOfOth
   other_touches = let at = placed (other_of extent) in touched_wider first n before now (omega (arith, at.from, lies.from)) (omega (arith, at.bodies, at.to, lies.to)) touches
 
 -- what stays, by the call
-turn_stays : (turn : Turn) (extent : Extent) (used gated : ℕ) (head filling : List ℕ) (before now : Device) (result : Result Turn Refusal)
-    → On (log_at turn extent used gated Idle head filling) before.seen before.pending → TurnCalls turn (other_of extent) head before now result
-    → Stays (log_at turn extent used gated Idle head filling) before now
-turn_stays turn.Closed extent used gated head filling before now result on (bytes, closed, writes) =
+turn_stays : (t : Turn) (extent : Extent) (head : List ℕ) (before now : Device) (result : Result Turn Refusal) → Leads t extent (other_of extent) head before.seen before.pending
+    → TurnCalls t (other_of extent) head before now result → Stays t extent head before now
+turn_stays turn.Closed extent head before now result leads (bytes, closed, writes) =
     let lies : IsOfOther extent (gates_of (other_of extent)) 32 = record { from = omega arith; to = omega arith } in
-    stays turn.Closed extent used gated head filling before now on writes.touches.size (other_kept extent (gates_of (other_of extent)) 32 before now lies writes.touches)
-    (other_selected extent (gates_of (other_of extent)) 32 before now lies writes.touches on.turn) (other_touches extent (gates_of (other_of extent)) 32 before now lies writes.touches) writes.time
-turn_stays turn.Body extent used gated head filling before now result on (bytes, is_body, writes) =
+    record {
+      size = writes.touches.size;
+      kept = other_kept extent (gates_of (other_of extent)) 32 before now lies writes.touches;
+      leads = other_selected extent (gates_of (other_of extent)) 32 before now lies writes.touches leads;
+      touches = other_touches extent (gates_of (other_of extent)) 32 before now lies writes.touches;
+      time = writes.time;
+    }
+turn_stays turn.Body extent head before now result leads (bytes, is_body, writes) =
     let to = other_of extent in
     let at = placed to in
     let first = bodies_of to + 64 * 0 in
     let lies : IsOfOther extent first 64 = record { from = omega (arith, at.bodies); to = omega (arith, at.bodies) } in
-    stays turn.Body extent used gated head filling before now on writes.touches.size (other_kept extent first 64 before now lies writes.touches) (
-      other_selected extent first 64 before now lies writes.touches on.turn.0,
-      closed_kept before.seen now.seen before.pending now.pending to (λ k below. touched_kept first 64 (gates_of to + k) before now writes.touches (inl (omega (arith, at.bodies)))) on.turn.1,
-    )
-    (other_touches extent first 64 before now lies writes.touches) writes.time
-turn_stays turn.BodySync extent used gated head filling before now result on syncs = rests turn.BodySync extent used gated head filling before now on result syncs (rested_within before now result syncs)
-turn_stays turn.Gate extent used gated head filling before now result on (bytes, is_gate, writes) =
+    record {
+      size = writes.touches.size;
+      kept = other_kept extent first 64 before now lies writes.touches;
+      leads = (
+        other_selected extent first 64 before now lies writes.touches leads.0,
+        closed_kept before.seen now.seen before.pending now.pending to (λ k below. touched_kept first 64 (gates_of to + k) before now writes.touches (inl (omega (arith, at.bodies)))) leads.1,
+      );
+      touches = other_touches extent first 64 before now lies writes.touches;
+      time = writes.time;
+    }
+turn_stays turn.BodySync extent head before now result leads syncs = rests turn.BodySync extent head before now result leads syncs (rested_within before now result syncs)
+turn_stays turn.Gate extent head before now result leads (bytes, is_gate, writes) =
     let to = other_of extent in
     let at = placed to in
     let first = gates_of to + 0 in
     let lies : IsOfOther extent first 1 = record { from = omega arith; to = omega arith } in
-    stays turn.Gate extent used gated head filling before now on writes.touches.size (other_kept extent first 1 before now lies writes.touches) (
-      other_selected extent first 1 before now lies writes.touches on.turn.0,
-      first_kept before.seen now.seen before.pending now.pending to head (λ k some below. touched_kept first 1 (gates_of to + k) before now writes.touches (inr (omega arith)))
-          (λ s within. touched_kept first 1 s before now writes.touches (inr (omega (arith, at.bodies, within.from)))) on.turn.1,
-    )
-    (other_touches extent first 1 before now lies writes.touches) writes.time
-turn_stays turn.GateSync extent used gated head filling before now result on syncs = rests turn.GateSync extent used gated head filling before now on result syncs (rested_within before now result syncs)
-turn_stays turn.Selector extent used gated head filling before now result on (bytes, selector, writes) =
+    record {
+      size = writes.touches.size;
+      kept = other_kept extent first 1 before now lies writes.touches;
+      leads = (
+        other_selected extent first 1 before now lies writes.touches leads.0,
+        first_kept before.seen now.seen before.pending now.pending to head (λ k some below. touched_kept first 1 (gates_of to + k) before now writes.touches (inr (omega arith)))
+            (λ s within. touched_kept first 1 s before now writes.touches (inr (omega (arith, at.bodies, within.from)))) leads.1,
+      );
+      touches = other_touches extent first 1 before now lies writes.touches;
+      time = writes.time;
+    }
+turn_stays turn.GateSync extent head before now result leads syncs = rests turn.GateSync extent head before now result leads syncs (rested_within before now result syncs)
+turn_stays turn.Selector extent head before now result leads (bytes, selector, writes) =
     let to = other_of extent in
     let at = placed to in
     let here = placed extent in
-    stays turn.Selector extent used gated head filling before now on writes.touches.size (λ s within. touched_kept 2 1 s before now writes.touches (inr (omega (arith, here.from, within.from))))
-    (head_kept before.seen now.seen before.pending now.pending to head writes.touches.size (λ s within. touched_kept 2 1 s before now writes.touches (inr (omega (arith, at.from, within.from)))) on.turn)
-    writes.touches writes.time
-turn_stays turn.Done extent used gated head filling before now result on syncs = rests turn.Done extent used gated head filling before now on result syncs (rested_within before now result syncs)
+    record {
+      size = writes.touches.size;
+      kept = λ s within. touched_kept 2 1 s before now writes.touches (inr (omega (arith, here.from, within.from)));
+      leads = head_kept before.seen now.seen before.pending now.pending to head writes.touches.size (λ s within. touched_kept 2 1 s before now writes.touches (inr (omega (arith, at.from, within.from)))) leads;
+      touches = writes.touches;
+      time = writes.time;
+    }
+turn_stays turn.Done extent head before now result leads syncs = rests turn.Done extent head before now result leads syncs (rested_within before now result syncs)
 
 -- the head is the first batch of the other extent, once its gate is synced
 pub head_stands : (extent : Extent) (head seen : List ℕ) (pending : ℕ → Bool) → 2134016 ≤ length seen → IsSize (length head) → HasFirst extent head seen pending → IsGate true seen pending extent 0 → HasHead extent head seen pending
@@ -192,6 +193,34 @@ head_stands extent head seen pending size fits has gate =
       records = has.records;
     }
 
+-- what is known once a call was made
+abbrev LeadsNext : Turn → Extent → List ℕ → Device → Type 0
+LeadsNext turn.Closed extent head now = Leads turn.Body extent (other_of extent) head now.seen now.pending
+LeadsNext turn.Body extent head now = Leads turn.BodySync extent (other_of extent) head now.seen now.pending
+LeadsNext turn.BodySync extent head now = Leads turn.Gate extent (other_of extent) head now.seen now.pending
+LeadsNext turn.Gate extent head now = Leads turn.GateSync extent (other_of extent) head now.seen now.pending
+LeadsNext turn.GateSync extent head now = Leads turn.Selector extent (other_of extent) head now.seen now.pending
+LeadsNext turn.Selector extent head now = Leads turn.Done extent (other_of extent) head now.seen now.pending
+LeadsNext turn.Done extent head now = HasHead (other_of extent) head now.seen now.pending × IsSelected (other_of extent) now.seen now.pending
+
+turn_leads : (t : Turn) (extent : Extent) (head : List ℕ) (before now : Device) → 2134016 ≤ length before.seen → IsSize (length head) → TurnCalls t (other_of extent) head before now (Ok t)
+    → Stays t extent head before now → LeadsNext t extent head now
+turn_leads turn.Closed extent head before now size fits (bytes, closed, writes) stay = (stay.leads, closed_read (other_of extent) bytes before now closed size writes.written)
+turn_leads turn.Body extent head before now size fits (bytes, is_body, writes) stay = (stay.leads.0, stay.leads.1, body_read (other_of extent) head bytes before now is_body size writes.written)
+turn_leads turn.BodySync extent head before now size fits syncs stay = (
+  stay.leads.0,
+  record {
+    records = stay.leads.2;
+    body = λ s within. syncs.settled s;
+    closed = λ k from below. record { reads = stay.leads.1 k below; settled = syncs.settled (gates_of (other_of extent) + k) };
+  },
+)
+turn_leads turn.Gate extent head before now size fits (bytes, is_gate, writes) stay = (stay.leads.0, stay.leads.1, open_read (other_of extent) bytes before now is_gate size writes.written)
+turn_leads turn.GateSync extent head before now size fits syncs stay =
+    head_stands (other_of extent) head now.seen now.pending (omega (arith, stay.size)) fits stay.leads.1 (record { reads = stay.leads.2; settled = syncs.settled (gates_of (other_of extent) + 0) })
+turn_leads turn.Selector extent head before now size fits (bytes, selector, writes) stay = (stay.leads, selector_read (other_of extent) bytes before now selector size writes.written)
+turn_leads turn.Done extent head before now size fits syncs stay = (stay.leads.0, record { reads = stay.leads.1; settled = syncs.settled 2 })
+
 at_most_one : (turn : Turn) → turning turn ≤ 1
 at_most_one turn.Closed = omega arith
 at_most_one turn.Body = omega arith
@@ -201,112 +230,174 @@ at_most_one turn.GateSync = omega arith
 at_most_one turn.Selector = omega arith
 at_most_one turn.Done = omega arith
 
--- the turn waits for its next call, where what that call needs is known
-goes_on : (turn next : Turn) (extent : Extent) (used gated : ℕ) (head filling : List ℕ) (seen : List ℕ) (pending : ℕ → Bool) → On (log_at turn extent used gated Idle head filling) seen pending → 1 ≤ length head → filling ≡ []
-    → Leads next extent (other_of extent) head seen pending → On (log_at next extent used gated Idle head filling) seen pending
-goes_on turn next extent used gated head filling seen pending on some none leads = record {
-  sound = record {
-    places = on.sound.places;
-    few = on.sound.few;
-    one = omega (arith, at_most_one next);
-    some = omega (arith, at_most_one next);
-    fits = on.sound.fits;
-    filled = on.sound.filled;
-    room = on.sound.room;
-  };
-  batches = on.batches;
+-- the value of a log that waits for another call of its turn is sound
+waits_sound : (t next : Turn) (extent : Extent) (used gated : ℕ) (head filling : List ℕ) → 1 ≤ length head → IsSound (log_at t extent used gated Idle head filling) → IsSound (log_at next extent used gated Idle head filling)
+waits_sound t next extent used gated head filling some sound = record {
+  places = sound.places;
+  few = sound.few;
+  one = omega (arith, at_most_one next);
+  some = omega (arith, at_most_one next);
+  fits = sound.fits;
+  filled = sound.filled;
+  room = sound.room;
+}
+
+-- a log in the extent that was turned to
+arrived : (extent : Extent) (head seen : List ℕ) (pending : ℕ → Bool) (filling : List ℕ) → filling ≡ [] → HasHead extent head seen pending → IsSelected extent seen pending
+    → On (record { extent = extent; used = 1; gated = 1; stage = Idle; turn = turn.Closed; flight = []; filling = filling }) seen pending
+arrived extent head seen pending filling none has selected = record {
+  sound = record { places = omega arith; few = omega arith; one = omega arith; some = omega arith; fits = omega arith; filled = (let size : length filling ≡ 0 = ap length none in omega arith); room = λ full. none };
+  batches = has.batches;
   flight = tt;
-  turn = leads;
+  turn = selected;
   quiet = λ turns. none;
 }
 
--- the log after a call that was made
-turn_on : (turn : Turn) (extent : Extent) (used gated : ℕ) (head filling : List ℕ) (before now : Device) → 2134016 ≤ length before.seen → 1 ≤ length head → filling ≡ []
-    → TurnCalls turn (other_of extent) head before now (Ok turn) → On (log_at turn extent used gated Idle head filling) now.seen now.pending
-    → On (turned (log_at turn extent used gated Idle head filling)) now.seen now.pending
-turn_on turn.Closed extent used gated head filling before now size some none (bytes, closed, writes) on =
-    goes_on turn.Closed turn.Body extent used gated head filling now.seen now.pending on some none (on.turn, closed_read (other_of extent) bytes before now closed size writes.written)
-turn_on turn.Body extent used gated head filling before now size some none (bytes, is_body, writes) on =
-    goes_on turn.Body turn.BodySync extent used gated head filling now.seen now.pending on some none (on.turn.0, on.turn.1, body_read (other_of extent) head bytes before now is_body size writes.written)
-turn_on turn.BodySync extent used gated head filling before now size some none syncs on =
-    goes_on turn.BodySync turn.Gate extent used gated head filling now.seen now.pending on some none (
-      on.turn.0,
-      record {
-        records = on.turn.2;
-        body = λ s within. syncs.settled s;
-        closed = λ k from below. record { reads = on.turn.1 k below; settled = syncs.settled (gates_of (other_of extent) + k) };
-      },
-    )
-turn_on turn.Gate extent used gated head filling before now size some none (bytes, is_gate, writes) on =
-    goes_on turn.Gate turn.GateSync extent used gated head filling now.seen now.pending on some none (on.turn.0, on.turn.1, open_read (other_of extent) bytes before now is_gate size writes.written)
-turn_on turn.GateSync extent used gated head filling before now size some none syncs on =
-    goes_on turn.GateSync turn.Selector extent used gated head filling now.seen now.pending on some none
-    (head_stands (other_of extent) head now.seen now.pending on.batches.size (some, on.sound.fits) on.turn.1 (record { reads = on.turn.2; settled = syncs.settled (gates_of (other_of extent) + 0) }))
-turn_on turn.Selector extent used gated head filling before now size some none (bytes, selector, writes) on =
-    goes_on turn.Selector turn.Done extent used gated head filling now.seen now.pending on some none (on.turn, selector_read (other_of extent) bytes before now selector size writes.written)
-turn_on turn.Done extent used gated head filling before now size some none syncs on = record {
-  sound = record { places = omega arith; few = omega arith; one = omega arith; some = omega arith; fits = omega arith; filled = on.sound.filled; room = λ full. none };
-  batches = on.turn.0.batches;
-  flight = tt;
-  turn = record { reads = on.turn.1; settled = syncs.settled 2 };
-  quiet = λ turns. none;
-}
+module _ (extent : Extent) (used gated : ℕ) (head filling : List ℕ) (before now : Device) where
+  abbrev at : Turn → Log
+  at t = log_at t extent used gated Idle head filling
 
--- the gated records after it
-turn_selects : (turn : Turn) (extent : Extent) (used gated : ℕ) (head filling old seen : List ℕ) (pending : ℕ → Bool) → On (log_at turn extent used gated Idle head filling) seen pending → batches_of seen extent gated ≡ old
-    → Selects old head (gated_of (turned (log_at turn extent used gated Idle head filling)) seen) (Ok turn)
-turn_selects turn.Closed extent used gated head filling old seen pending on same = same
-turn_selects turn.Body extent used gated head filling old seen pending on same = same
-turn_selects turn.BodySync extent used gated head filling old seen pending on same = same
-turn_selects turn.Gate extent used gated head filling old seen pending on same = same
-turn_selects turn.GateSync extent used gated head filling old seen pending on same = same
-turn_selects turn.Selector extent used gated head filling old seen pending on same = same
-turn_selects turn.Done extent used gated head filling old seen pending on same = head_batches (other_of extent) head seen pending on.turn.0
+  -- where the log may turn, it still may, whichever call is due
+  stays_turning : (t next : Turn) → IsSound (at next) → (1 ≤ turning next → filling ≡ []) → MayTurn (at t) before.seen before.pending → Stays t extent head before now
+      → Leads next extent (other_of extent) head now.seen now.pending → MayTurn (at next) now.seen now.pending
+  stays_turning t next sound quiet may stay leads = record {
+    sound = sound;
+    idle = refl;
+    run = extent_run before.seen now.seen before.pending now.pending extent gated stay.size stay.kept (omega (arith, may.sound.places, may.sound.few)) may.run;
+    turn = leads;
+    quiet = quiet;
+  }
 
--- each image at each moment of a call
-stay_moments : (log : Log) (before now : Device) → Stays log before now → Leaves (ShowsIn log.turn log.stage (gated_of log before.seen) log.flight) before now
-stay_moments log before now stay =
-    let P : List ℕ → Type 0 = λ records. (image : List ℕ) → MayLeave now image → ShowsIn log.turn log.stage records log.flight image in
-    call_leaves (ShowsIn log.turn log.stage (gated_of log before.seen) log.flight) before now stay.time (subst P stay.gated (λ image may. image_shows log now.seen now.pending image stay.on may))
+  -- where the log is on the device, it still is
+  stays_on : (t next : Turn) → IsSound (at next) → (1 ≤ turning next → filling ≡ []) → On (at t) before.seen before.pending → Stays t extent head before now
+      → Leads next extent (other_of extent) head now.seen now.pending → On (at next) now.seen now.pending
+  stays_on t next sound quiet on stay leads = record {
+    sound = sound;
+    batches = extent_batches before.seen now.seen before.pending now.pending extent gated used stay.size stay.kept (omega (arith, on.sound.places, on.sound.few)) on.batches;
+    flight = tt;
+    turn = leads;
+    quiet = quiet;
+  }
 
-made_at_rest : (turn : Turn) (extent : Extent) (used gated : ℕ) (head filling : List ℕ) (before now : Device) → 1 ≤ length head → filling ≡ [] → TurnCalls turn (other_of extent) head before now (Ok turn)
-    → On (log_at turn extent used gated Idle head filling) before.seen before.pending
-    → KeepsTurning (log_at turn extent used gated Idle head filling) (turned (log_at turn extent used gated Idle head filling)) before now (Ok turn)
-made_at_rest turn extent used gated head filling before now some none calls on =
-    let log = log_at turn extent used gated Idle head filling in
-    let stay : Stays log before now = turn_stays turn extent used gated head filling before now (Ok turn) on calls in
-    record {
-      on = turn_on turn extent used gated head filling before now on.batches.size some none calls stay.on;
-      gated = turn_selects turn extent used gated head filling (batches_of before.seen extent gated) now.seen now.pending stay.on stay.gated;
-      moments = stay_moments log before now stay;
-      touches = stay.touches;
-      time = stay.time;
-    }
+  -- the log after a call that was made
+  turned_on : (t : Turn) → 1 ≤ length head → filling ≡ [] → On (at t) before.seen before.pending → Stays t extent head before now → LeadsNext t extent head now → On (turned (at t)) now.seen now.pending
+  turned_on turn.Closed some none on stay leads = stays_on turn.Closed turn.Body (waits_sound turn.Closed turn.Body extent used gated head filling some on.sound) (λ turns. none) on stay leads
+  turned_on turn.Body some none on stay leads = stays_on turn.Body turn.BodySync (waits_sound turn.Body turn.BodySync extent used gated head filling some on.sound) (λ turns. none) on stay leads
+  turned_on turn.BodySync some none on stay leads = stays_on turn.BodySync turn.Gate (waits_sound turn.BodySync turn.Gate extent used gated head filling some on.sound) (λ turns. none) on stay leads
+  turned_on turn.Gate some none on stay leads = stays_on turn.Gate turn.GateSync (waits_sound turn.Gate turn.GateSync extent used gated head filling some on.sound) (λ turns. none) on stay leads
+  turned_on turn.GateSync some none on stay leads = stays_on turn.GateSync turn.Selector (waits_sound turn.GateSync turn.Selector extent used gated head filling some on.sound) (λ turns. none) on stay leads
+  turned_on turn.Selector some none on stay leads = stays_on turn.Selector turn.Done (waits_sound turn.Selector turn.Done extent used gated head filling some on.sound) (λ turns. none) on stay leads
+  turned_on turn.Done some none on stay leads = arrived (other_of extent) head now.seen now.pending filling none leads.0 leads.1
 
-failed_at_rest : (turn : Turn) (extent : Extent) (used gated : ℕ) (head filling : List ℕ) (before now : Device) (refusal : Refusal) → TurnCalls turn (other_of extent) head before now (Err refusal)
-    → On (log_at turn extent used gated Idle head filling) before.seen before.pending
-    → KeepsTurning (log_at turn extent used gated Idle head filling) (log_at turn extent used gated Idle head filling) before now (Err refusal)
-failed_at_rest turn extent used gated head filling before now refusal calls on =
-    let log = log_at turn extent used gated Idle head filling in
-    let stay : Stays log before now = turn_stays turn extent used gated head filling before now (Err refusal) on calls in
-    record { on = stay.on; gated = stay.gated; moments = stay_moments log before now stay; touches = stay.touches; time = stay.time }
+  turned_goes : (t : Turn) → 1 ≤ length head → filling ≡ [] → MayTurn (at t) before.seen before.pending → Stays t extent head before now → LeadsNext t extent head now
+      → GoesOnTurning (turned (at t)) now.seen now.pending (Ok t)
+  turned_goes turn.Closed some none may stay leads = stays_turning turn.Closed turn.Body (waits_sound turn.Closed turn.Body extent used gated head filling some may.sound) (λ turns. none) may stay leads
+  turned_goes turn.Body some none may stay leads = stays_turning turn.Body turn.BodySync (waits_sound turn.Body turn.BodySync extent used gated head filling some may.sound) (λ turns. none) may stay leads
+  turned_goes turn.BodySync some none may stay leads = stays_turning turn.BodySync turn.Gate (waits_sound turn.BodySync turn.Gate extent used gated head filling some may.sound) (λ turns. none) may stay leads
+  turned_goes turn.Gate some none may stay leads = stays_turning turn.Gate turn.GateSync (waits_sound turn.Gate turn.GateSync extent used gated head filling some may.sound) (λ turns. none) may stay leads
+  turned_goes turn.GateSync some none may stay leads = stays_turning turn.GateSync turn.Selector (waits_sound turn.GateSync turn.Selector extent used gated head filling some may.sound) (λ turns. none) may stay leads
+  turned_goes turn.Selector some none may stay leads = stays_turning turn.Selector turn.Done (waits_sound turn.Selector turn.Done extent used gated head filling some may.sound) (λ turns. none) may stay leads
+  turned_goes turn.Done some none may stay leads = arrived (other_of extent) head now.seen now.pending filling none leads.0 leads.1
+
+  -- the gated records after it
+  turn_selects : (t : Turn) → batches_of now.seen extent gated ≡ batches_of before.seen extent gated → LeadsNext t extent head now
+      → Selects (batches_of before.seen extent gated) head (gated_of (turned (at t)) now.seen) (Ok t)
+  turn_selects turn.Closed same leads = same
+  turn_selects turn.Body same leads = same
+  turn_selects turn.BodySync same leads = same
+  turn_selects turn.Gate same leads = same
+  turn_selects turn.GateSync same leads = same
+  turn_selects turn.Selector same leads = same
+  turn_selects turn.Done same leads = head_batches (other_of extent) head now.seen now.pending leads.0
+
+  -- each image at each moment of a call
+  stay_moments : (t : Turn) → Elapses before now → batches_of now.seen extent gated ≡ batches_of before.seen extent gated → MayTurn (at t) now.seen now.pending
+      → Leaves (ShowsIn t Idle (batches_of before.seen extent gated) head) before now
+  stay_moments t time same may =
+      let P : List ℕ → Type 0 = λ records. (image : List ℕ) → MayLeave now image → ShowsIn t Idle records head image in
+      call_leaves (ShowsIn t Idle (batches_of before.seen extent gated) head) before now time (subst P same (λ image left. turn_shows (at t) now.seen now.pending image may left))
+
+  module _ (t : Turn) (may : MayTurn (at t) before.seen before.pending) where
+    same_batches : Stays t extent head before now → batches_of now.seen extent gated ≡ batches_of before.seen extent gated
+    same_batches stay = extent_gated before.seen now.seen before.pending now.pending extent gated stay.kept (omega (arith, may.sound.places, may.sound.few))
+
+    still_turning : Stays t extent head before now → MayTurn (at t) now.seen now.pending
+    still_turning stay = stays_turning t t may.sound may.quiet may stay stay.leads
+
+    made_at_rest : 1 ≤ length head → filling ≡ [] → TurnCalls t (other_of extent) head before now (Ok t) → KeepsMayTurn (at t) (turned (at t)) before now (Ok t)
+    made_at_rest some none calls =
+        let stay : Stays t extent head before now = turn_stays t extent head before now (Ok t) may.turn calls in
+        let next : LeadsNext t extent head now = turn_leads t extent head before now may.run.size (some, may.sound.fits) calls stay in
+        record {
+          stands = turned_goes t some none may stay next;
+          gated = turn_selects t (same_batches stay) next;
+          moments = stay_moments t stay.time (same_batches stay) (still_turning stay);
+          touches = stay.touches;
+          time = stay.time;
+        }
+
+    failed_at_rest : (refusal : Refusal) → TurnCalls t (other_of extent) head before now (Err refusal) → KeepsMayTurn (at t) (at t) before now (Err refusal)
+    failed_at_rest refusal calls =
+        let stay : Stays t extent head before now = turn_stays t extent head before now (Err refusal) may.turn calls in
+        record {
+          stands = still_turning stay;
+          gated = same_batches stay;
+          moments = stay_moments t stay.time (same_batches stay) (still_turning stay);
+          touches = stay.touches;
+          time = stay.time;
+        }
+
+  module _ (t : Turn) (on : On (at t) before.seen before.pending) where
+    made_on : 1 ≤ length head → filling ≡ [] → TurnCalls t (other_of extent) head before now (Ok t) → On (turned (at t)) now.seen now.pending
+    made_on some none calls =
+        let stay : Stays t extent head before now = turn_stays t extent head before now (Ok t) on.turn calls in
+        turned_on t some none on stay (turn_leads t extent head before now on.batches.size (some, on.sound.fits) calls stay)
+
+    failed_on : (refusal : Refusal) → TurnCalls t (other_of extent) head before now (Err refusal) → On (at t) now.seen now.pending
+    failed_on refusal calls =
+        let stay : Stays t extent head before now = turn_stays t extent head before now (Err refusal) on.turn calls in
+        stays_on t t on.sound on.quiet on stay stay.leads
+
+-- the log at a stage
+abbrev staged : Log → Stage → Log
+staged log stage = log_at log.turn log.extent log.used log.gated stage log.flight log.filling
 
 -- what a call of a turn that was made keeps
-pub turn_made : (log new : Log) (call : Turn) (before now : Device) → log.stage ≡ Idle → log.filling ≡ [] → 1 ≤ length log.flight → call ≡ log.turn → new ≡ turned log
-    → TurnCalls log.turn (other_of log.extent) log.flight before now (Ok call) → On log before.seen before.pending → KeepsTurning log new before now (Ok call)
-turn_made log new call before now idle none some is goes calls on =
-    let at : Stage → Log = λ stage. log_at log.turn log.extent log.used log.gated stage log.flight log.filling in
-    let P : Turn → Type 0 = λ c. TurnCalls log.turn (other_of log.extent) log.flight before now (Ok c) → KeepsTurning log (turned log) before now (Ok c) in
-    let Q : Log → Type 0 = λ l. KeepsTurning log l before now (Ok call) in
-    let R : Stage → Type 0 = λ stage. TurnCalls log.turn (other_of log.extent) log.flight before now (Ok log.turn) → On (at stage) before.seen before.pending → KeepsTurning (at stage) (turned (at stage)) before now (Ok log.turn) in
-    let rest : R log.stage = subst R (sym idle) (made_at_rest log.turn log.extent log.used log.gated log.flight log.filling before now some none) in
-    subst Q (sym goes) (subst P (sym is) (λ c. rest c on) calls)
+module _ (log new : Log) (call : Turn) (before now : Device) (idle : log.stage ≡ Idle) (none : log.filling ≡ []) (some : 1 ≤ length log.flight) (is : call ≡ log.turn) (goes : new ≡ turned log)
+    (calls : TurnCalls log.turn (other_of log.extent) log.flight before now (Ok call)) where
+  -- the same call, by the turn's name
+  own_call : TurnCalls log.turn (other_of log.extent) log.flight before now (Ok log.turn)
+  own_call = (let C : Turn → Type 0 = λ c. TurnCalls log.turn (other_of log.extent) log.flight before now (Ok c) in subst C is calls)
+
+  pub turn_made_may : MayTurn log before.seen before.pending → KeepsMayTurn log new before now (Ok call)
+  turn_made_may may =
+      let C : Turn → Type 0 = λ c. KeepsMayTurn log (turned log) before now (Ok c) in
+      let L : Log → Type 0 = λ l. KeepsMayTurn log l before now (Ok call) in
+      let R : Stage → Type 0 = λ s. MayTurn (staged log s) before.seen before.pending → KeepsMayTurn (staged log s) (turned (staged log s)) before now (Ok log.turn) in
+      let rest : R log.stage = subst R (sym idle) (λ m. made_at_rest log.extent log.used log.gated log.flight log.filling before now log.turn m some none own_call) in
+      subst L (sym goes) (subst C (sym is) (rest may))
+
+  pub turn_made : On log before.seen before.pending → KeepsTurning log new before now (Ok call)
+  turn_made on =
+      let L : Log → Type 0 = λ l. On l now.seen now.pending in
+      let R : Stage → Type 0 = λ s. On (staged log s) before.seen before.pending → On (turned (staged log s)) now.seen now.pending in
+      let rest : R log.stage = subst R (sym idle) (λ o. made_on log.extent log.used log.gated log.flight log.filling before now log.turn o some none own_call) in
+      let keeps : KeepsMayTurn log new before now (Ok call) = turn_made_may (on_may_turn log before.seen before.pending idle on) in
+      record { on = subst L (sym goes) (rest on); gated = keeps.gated; moments = keeps.moments; touches = keeps.touches; time = keeps.time }
 
 -- and one that failed
-pub turn_failed : (log new : Log) (refusal : Refusal) (before now : Device) → log.stage ≡ Idle → new ≡ log → TurnCalls log.turn (other_of log.extent) log.flight before now (Err refusal)
-    → On log before.seen before.pending → KeepsTurning log new before now (Err refusal)
-turn_failed log new refusal before now idle goes calls on =
-    let at : Stage → Log = λ stage. log_at log.turn log.extent log.used log.gated stage log.flight log.filling in
-    let Q : Log → Type 0 = λ l. KeepsTurning log l before now (Err refusal) in
-    let R : Stage → Type 0 = λ stage. On (at stage) before.seen before.pending → KeepsTurning (at stage) (at stage) before now (Err refusal) in
-    subst Q (sym goes) (subst R (sym idle) (failed_at_rest log.turn log.extent log.used log.gated log.flight log.filling before now refusal calls) on)
+module _ (log new : Log) (refusal : Refusal) (before now : Device) (idle : log.stage ≡ Idle) (goes : new ≡ log) (calls : TurnCalls log.turn (other_of log.extent) log.flight before now (Err refusal)) where
+  pub turn_failed_may : MayTurn log before.seen before.pending → KeepsMayTurn log new before now (Err refusal)
+  turn_failed_may may =
+      let L : Log → Type 0 = λ l. KeepsMayTurn log l before now (Err refusal) in
+      let R : Stage → Type 0 = λ s. MayTurn (staged log s) before.seen before.pending → KeepsMayTurn (staged log s) (staged log s) before now (Err refusal) in
+      let rest : R log.stage = subst R (sym idle) (λ m. failed_at_rest log.extent log.used log.gated log.flight log.filling before now log.turn m refusal calls) in
+      subst L (sym goes) (rest may)
+
+  pub turn_failed : On log before.seen before.pending → KeepsTurning log new before now (Err refusal)
+  turn_failed on =
+      let L : Log → Type 0 = λ l. On l now.seen now.pending in
+      let R : Stage → Type 0 = λ s. On (staged log s) before.seen before.pending → On (staged log s) now.seen now.pending in
+      let rest : R log.stage = subst R (sym idle) (λ o. failed_on log.extent log.used log.gated log.flight log.filling before now log.turn o refusal calls) in
+      let keeps : KeepsMayTurn log new before now (Err refusal) = turn_failed_may (on_may_turn log before.seen before.pending idle on) in
+      record { on = subst L (sym goes) (rest on); gated = keeps.gated; moments = keeps.moments; touches = keeps.touches; time = keeps.time }

@@ -8,7 +8,7 @@ use Rattle.gx_glog.specs.declared.stage.Turn.TheVariants.{Closed}
 use Rattle.gx_glog.specs.First.{first_record, HasFirstLog, IsFirstSettled}
 use Rattle.gx_glog.specs.Layout.{selected_of, log_of}
 use Rattle.gx_glog.specs.State.{Log}
-use Rattle.gx_glog.specs.Standing.{IsSelected, HasBatches, On, gated_of, Shows, ShowsIn, LeavesLog}
+use Rattle.gx_glog.specs.Standing.{IsSelected, HasBatches, On, HasRun, MayTurn, gated_of, Shows, ShowsIn, LeavesLog}
 
 -- each image's log is what is gated, with what is in flight or without, without as long as its gate isn't written; or, from a turn's write
 -- of the selector on, what is gated or the head
@@ -53,3 +53,23 @@ ElsewhereStaysOn = (log : Log) (seen seen' : List ℕ) (pending pending' : ℕ �
 
 abbrev pub ElsewhereKeepsBatches : Type 0
 ElsewhereKeepsBatches = (log : Log) (seen seen' : List ℕ) (pending pending' : ℕ → Bool) → LeavesLog seen seen' pending pending' → On log seen pending → gated_of log seen' ≡ gated_of log seen
+
+-- a log with nothing logged may turn on a device that has its batches and closes the next gate
+abbrev pub StartMayTurn : Type 0
+StartMayTurn = (extent : Extent) (used : ℕ) (seen : List ℕ) (pending : ℕ → Bool) → used ≤ 32 → IsSelected extent seen pending → HasRun extent used seen pending
+    → MayTurn (record { extent = extent; used = used; gated = used; stage = Idle; turn = Closed; flight = []; filling = [] }) seen pending
+
+-- a log that is on a device, with nothing in flight, may turn there
+abbrev pub OnMayTurn : Type 0
+OnMayTurn = (log : Log) (seen : List ℕ) (pending : ℕ → Bool) → log.stage ≡ Idle → On log seen pending → MayTurn log seen pending
+
+-- each image's log is what is gated, or from the selector's write on that or the head
+abbrev pub ImagesOfTurn : Type 0
+ImagesOfTurn = (log : Log) (seen : List ℕ) (pending : ℕ → Bool) (image : List ℕ) → MayTurn log seen pending → IsImage seen pending image → ShowsIn log.turn log.stage (gated_of log seen) log.flight image
+
+-- a call that leaves the log's sectors changes nothing of it
+abbrev pub ElsewhereMayTurn : Type 0
+ElsewhereMayTurn = (log : Log) (seen seen' : List ℕ) (pending pending' : ℕ → Bool) → LeavesLog seen seen' pending pending' → MayTurn log seen pending → MayTurn log seen' pending'
+
+abbrev pub ElsewhereKeepsRun : Type 0
+ElsewhereKeepsRun = (log : Log) (seen seen' : List ℕ) (pending pending' : ℕ → Bool) → LeavesLog seen seen' pending pending' → MayTurn log seen pending → gated_of log seen' ≡ gated_of log seen

@@ -76,6 +76,23 @@ pub record On (log : Log) (seen : List ℕ) (pending : ℕ → Bool) : Type 0 wh
   pub turn : Leads log.turn log.extent (other_of log.extent) log.flight seen pending
   pub quiet : 1 ≤ turning log.turn → log.filling ≡ []
 
+-- So many gates in a row are open, with bodies of a size in range, and the next one is closed. Of later gates nothing is said: none is read.
+pub record HasRun (extent : Extent) (run : ℕ) (seen : List ℕ) (pending : ℕ → Bool) : Type 0 where
+  pub size : 2134016 ≤ length seen
+  pub opened : (k : ℕ) → k < run → IsGate true seen pending extent k
+  pub bodies : (k : ℕ) → k < run → IsBodySettled pending extent k
+  pub sizes : (k : ℕ) → k < run → IsSize (size_in (body_of seen extent k))
+  pub ends : run < 32 → IsGate false seen pending extent run
+
+-- A log with nothing in flight may turn on what is seen of a device, or is turning on it. Later gates of its extent may be open, so it may
+-- not go on there: a batch more might let them count.
+pub record MayTurn (log : Log) (seen : List ℕ) (pending : ℕ → Bool) : Type 0 where
+  pub sound : IsSound log
+  pub idle : log.stage ≡ Idle
+  pub run : HasRun log.extent log.gated seen pending
+  pub turn : Leads log.turn log.extent (other_of log.extent) log.flight seen pending
+  pub quiet : 1 ≤ turning log.turn → log.filling ≡ []
+
 -- the records of the batches that are gated, as they read
 abbrev pub gated_of : Log → List ℕ → List ℕ
 gated_of log seen = batches_of seen log.extent log.gated

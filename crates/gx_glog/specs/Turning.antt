@@ -1,5 +1,5 @@
 -- What a step of a turn to the other extent does to the device, and keeps.
-use Rattle.std.specs.Prelude.{◌≡◌, ℕ, ◌+◌, ◌<◌, ◌≤◌, List, ◌++◌, length, slice_index, Result, Ok, Err}
+use Rattle.std.specs.Prelude.{◌≡◌, ◌⊎◌, ℕ, ◌+◌, ◌<◌, ◌≤◌, List, ◌++◌, length, slice_index, Bool, Result, Ok, Err}
 use Rattle.gx_geom.specs.declared.refusal.Refusal.{Refusal}
 use Rattle.gx_disk.specs.Device as disk
 use Rattle.gx_disk.specs.Device.{Elapses, Touches, Writes, Syncs}
@@ -13,14 +13,15 @@ use Rattle.gx_glog.specs.declared.stage.Turn.{Turn}
 use Rattle.gx_glog.specs.declared.stage.Turn.TheVariants as turn
 use Rattle.gx_glog.specs.Layout.{gates_of}
 use Rattle.gx_glog.specs.Bodies.{IsZero}
-use Rattle.gx_glog.specs.State.{Log}
-use Rattle.gx_glog.specs.Standing.{On, gated_of, ShowsIn}
+use Rattle.gx_glog.specs.State.{Log, turning}
+use Rattle.gx_glog.specs.Standing.{On, MayTurn, gated_of, ShowsIn}
 use Rattle.gx_glog.specs.Steps.{Calls}
 
--- the record's bytes come behind those of the head, whose place is 0; or there is no room, and nothing changes
+-- The record's bytes come behind those of the head, whose place is 0. There is no room for it where they don't fit, nor while a turn is under
+-- way, whose head was told, and nothing then changes.
 abbrev pub PutsFirst : List ℕ → Log → Log → Appended → Type 0
-PutsFirst bytes old new (At place) = (length old.flight + length bytes ≤ 32764) × (place ≡ 0) × (new ≡ record old { flight = old.flight ++ bytes })
-PutsFirst bytes old new NoRoom = (32764 < length old.flight + length bytes) × (new ≡ old)
+PutsFirst bytes old new (At place) = (length old.flight + length bytes ≤ 32764) × (place ≡ 0) × (new ≡ record old { flight = old.flight ++ bytes }) × (old.turn ≡ turn.Closed)
+PutsFirst bytes old new NoRoom = ((32764 < length old.flight + length bytes) ⊎ (1 ≤ turning old.turn)) × (new ≡ old)
 
 -- the sectors of an extent's gates, all closed
 pub record AreClosedGates (bytes : List ℕ) : Type 0 where
@@ -73,6 +74,25 @@ TouchesIn turn.Done before now = Touches 8 4160 before now
 -- selector's write on that or the head. Only sectors of the log are touched, and time goes on as in one call of the device.
 pub record KeepsTurning (old new : Log) (before now : disk.Device) (result : Result Turn Refusal) : Type 0 where
   pub on : On new now.seen now.pending
+  pub gated : Selects (gated_of old before.seen) old.flight (gated_of new now.seen) result
+  pub moments : Leaves (ShowsIn old.turn old.stage (gated_of old before.seen) old.flight) before now
+  pub touches : TouchesIn old.turn before now
+  pub time : Elapses before now
+
+-- a turn goes on, or after its last call the log is on the device, in the other extent
+abbrev pub GoesOnTurning : Log → List ℕ → (ℕ → Bool) → Result Turn Refusal → Type 0
+GoesOnTurning new seen pending (Ok turn.Done) = On new seen pending
+GoesOnTurning new seen pending (Ok turn.Closed) = MayTurn new seen pending
+GoesOnTurning new seen pending (Ok turn.Body) = MayTurn new seen pending
+GoesOnTurning new seen pending (Ok turn.BodySync) = MayTurn new seen pending
+GoesOnTurning new seen pending (Ok turn.Gate) = MayTurn new seen pending
+GoesOnTurning new seen pending (Ok turn.GateSync) = MayTurn new seen pending
+GoesOnTurning new seen pending (Ok turn.Selector) = MayTurn new seen pending
+GoesOnTurning new seen pending (Err refusal) = MayTurn new seen pending
+
+-- The same of a log that may turn: no later gate of the extent that it leads from is spoken of.
+pub record KeepsMayTurn (old new : Log) (before now : disk.Device) (result : Result Turn Refusal) : Type 0 where
+  pub stands : GoesOnTurning new now.seen now.pending result
   pub gated : Selects (gated_of old before.seen) old.flight (gated_of new now.seen) result
   pub moments : Leaves (ShowsIn old.turn old.stage (gated_of old before.seen) old.flight) before now
   pub touches : TouchesIn old.turn before now

@@ -1,10 +1,11 @@
 //! A running log, and the records that are put into it.
-ghost use Rattle.std.specs.Prelude.{◌≡◌, ◌⊎◌, ◌+◌, ◌≤◌, ◌<◌, [], length, IfOk, IfErr};
+ghost use Rattle.std.specs.Prelude.{◌≡◌, ◌⊎◌, ◌+◌, ◌≤◌, ◌<◌, ℕ, List, Bool, [], length, IfOk, IfErr};
 ghost use Rattle.std.specs.Bool.{OnTrue, OnFalse};
 ghost use Rattle.gx_record.specs.Format.{IsInRange, spelling};
 ghost use Rattle.gx_record.specs.Seen.{rec_of};
 ghost use Rattle.gx_glog.specs.Appending.{Appends};
 ghost use Rattle.gx_glog.specs.State.{begun, done, in_flight};
+ghost use Rattle.gx_glog.specs.Standing.{On, MayTurn};
 
 use crate::buffer::Buffer;
 use crate::extent::Extent;
@@ -19,7 +20,7 @@ use std::marker::Model;
 pub enum Appended {
     /// The place in the selected extent of the batch that the record goes with.
     At(u64),
-    /// The filling buffer has no room for the record, and nothing changed.
+    /// The buffer has no room for the record, or a turn is under way, and nothing changed.
     NoRoom,
 }
 
@@ -66,8 +67,8 @@ fn at_rest(alloc: Global, extent: Extent, used: u8) -> Result<Glog, AllocError>
 }
 
 impl Glog {
-    /// A log that goes on in an extent of which so many places are taken, 32 at most, all of them by gated batches.
-    /// Refused where there is no memory for its buffers.
+    /// A log that goes on in an extent of which so many places are taken, 32 at most, all of them by gated batches. Where a later gate may be
+    /// open, it may only turn to the other extent. Refused where there is no memory for its buffers.
     pub fn start(alloc: Global, extent: Extent, used: u8) -> Result<Glog, Refusal>
         requires { used ≤ 32 }
         ensures log { IfOk result (λ log. log ≡ record { extent = extent; used = used; gated = used; stage = Stage.Idle; turn = Turn.Closed; flight = []; filling = [] }) }
@@ -110,12 +111,19 @@ impl Glog {
         self.filling.free()
     }
 
-    /// Puts a record into the filling buffer, whose batch takes the next place. Nothing is written to the device.
+    /// Puts a record into the filling buffer, whose batch takes the next place; a place has to be left. `NoRoom` where it doesn't fit, and while
+    /// a turn is under way. Nothing is written to the device.
     pub fn append(&mut self, logged: &Record<'_>) -> Appended
         requires in_range { IsInRange (rec_of logged.now) }
         requires place { self.old.used < 32 }
-        ensures { Appends (spelling (rec_of logged.now)) self.old self.new result }
+        ensures appends { Appends (spelling (rec_of logged.now)) self.old self.new result }
+        // Where the log was on a device it still is, and where it may turn it still may.
+        ensures on { (seen : List ℕ) (pending : ℕ → Bool) → On self.old seen pending → On self.new seen pending }
+        ensures may_turn { (seen : List ℕ) (pending : ℕ → Bool) → MayTurn self.old seen pending → MayTurn self.new seen pending }
     {
+        if self.turn.is_under_way() {
+            return Appended::NoRoom;
+        }
         if self.filling.push(logged) {
             Appended::At(u64::from(self.used))
         } else {

@@ -4,7 +4,7 @@ ghost use Rattle.gx_glog.specs.declared.extent.TheConstants.{SELECTOR};
 ghost use Rattle.gx_glog.specs.declared.parameters.TheConstants.{PARAMETERS};
 ghost use Rattle.gx_glog.specs.Parameters.{BytesTellParameters};
 ghost use Rattle.gx_glog.specs.First.{FirstIsSpelled};
-ghost use Rattle.gx_glog.specs.Laws.{FirstLogIs, FirstLogIsOn, ImagesHaveTheFirstLog, ImagesHaveTheLog, SelectorDecides, StartIsOn, AppendStaysOn, PutFirstStaysOn, ElsewhereStaysOn, ElsewhereKeepsBatches};
+ghost use Rattle.gx_glog.specs.Laws.{FirstLogIs, FirstLogIsOn, ImagesHaveTheFirstLog, ImagesHaveTheLog, SelectorDecides, StartIsOn, AppendStaysOn, PutFirstStaysOn, ElsewhereStaysOn, ElsewhereKeepsBatches, StartMayTurn, OnMayTurn, ImagesOfTurn, ElsewhereMayTurn, ElsewhereKeepsRun};
 
 /// Of a device that a log is on, the log of each image is what is gated, with what is in flight or without: without as long as
 /// its gate isn't written. From a turn's write of the selector on it is what is gated or the head, as the image's selector says.
@@ -25,6 +25,16 @@ pub fn appends()
 pub fn calls_elsewhere()
     ensures on { ElsewhereStaysOn }
     ensures batches { ElsewhereKeepsBatches }
+{}
+
+/// A log begins over an image whose later gates may be open, and may turn there: so may any log that is on a device with nothing in flight.
+/// Each image has what is gated, or from the selector's write on that or the head, and a call elsewhere changes nothing of it.
+pub fn turns()
+    ensures start { StartMayTurn }
+    ensures on { OnMayTurn }
+    ensures images { ImagesOfTurn }
+    ensures elsewhere { ElsewhereMayTurn }
+    ensures batches { ElsewhereKeepsRun }
 {}
 
 /// The first log of a device that holds what is laid down of it: its one record, spelled; a running log with one place taken is on

@@ -36,6 +36,27 @@ pub enum Turn {
     Done,
 }
 
+impl Turn {
+    ghost use Rattle.std.specs.Prelude.{◌≤◌};
+    ghost use Rattle.gx_glog.specs.State.{turning};
+
+    // Whether a turn is under way.
+    pub(crate) fn is_under_way(self) -> bool
+        ensures yes { OnTrue result (1 ≤ turning self) }
+        ensures no { OnFalse result (self ≡ Turn.Closed) }
+    {
+        match self {
+            Turn::Body
+            | Turn::BodySync
+            | Turn::Gate
+            | Turn::GateSync
+            | Turn::Selector
+            | Turn::Done => true,
+            Turn::Closed => false,
+        }
+    }
+}
+
 impl Stage {
     ghost use Rattle.gx_glog.specs.State.{in_flight};
 

@@ -1,5 +1,5 @@
 //! The turn to the other extent, one device call a step.
-ghost use Rattle.std.specs.Prelude.{◌≡◌, ◌≤◌, ◌<◌, ℕ, [], true, length, replicate, IfErr, IfOk};
+ghost use Rattle.std.specs.Prelude.{◌≡◌, ◌≤◌, ◌<◌, ℕ, List, Bool, [], true, length, replicate, IfErr, IfOk};
 ghost use Rattle.gx_disk.specs.Device.{Counts, Writes};
 ghost use Rattle.gx_record.specs.Format.{IsInRange, spelling};
 ghost use Rattle.gx_record.specs.Seen.{rec_of};
@@ -7,8 +7,8 @@ ghost use Rattle.gx_glog.specs.Layout.{other_of};
 ghost use Rattle.gx_glog.specs.Bodies.{IsZero};
 ghost use Rattle.gx_glog.specs.First.{closed_gates_bytes, selector_bytes};
 ghost use Rattle.gx_glog.specs.State.{turned, Turns};
-ghost use Rattle.gx_glog.specs.Standing.{On};
-ghost use Rattle.gx_glog.specs.Turning.{PutsFirst, AreClosedGates, IsSelector, TurnCalls, KeepsTurning};
+ghost use Rattle.gx_glog.specs.Standing.{On, MayTurn};
+ghost use Rattle.gx_glog.specs.Turning.{PutsFirst, AreClosedGates, IsSelector, TurnCalls, KeepsTurning, KeepsMayTurn};
 
 use crate::batch::{settle, write_body, write_gate};
 use crate::extent::{Extent, SELECTOR};
@@ -80,16 +80,24 @@ fn write_selector<D: SectorDisk>(disk: &mut D, extent: Extent) -> Result<Turn, R
 
 impl Glog {
     /// Puts a record into body 0 of the other extent, behind those that were put there before; the place is 0. A turn makes it the log's
-    /// first batch there, and a batch that begins before drops it. Nothing is written to the device.
+    /// first batch there, and a batch that begins before drops it. `NoRoom` where it doesn't fit, and while a turn is under way. Nothing is
+    /// written to the device.
     pub fn put_first(&mut self, logged: &Record<'_>) -> Appended
         requires in_range { IsInRange (rec_of logged.now) }
         requires idle { self.old.stage ≡ Stage.Idle }
-        ensures { PutsFirst (spelling (rec_of logged.now)) self.old self.new result }
+        ensures puts { PutsFirst (spelling (rec_of logged.now)) self.old self.new result }
+        // Where the log was on a device it still is, and where it may turn it still may.
+        ensures on { (seen : List ℕ) (pending : ℕ → Bool) → On self.old seen pending → On self.new seen pending }
+        ensures may_turn { (seen : List ℕ) (pending : ℕ → Bool) → MayTurn self.old seen pending → MayTurn self.new seen pending }
     {
-        if !self.flight.push(logged) {
+        if self.turn.is_under_way() {
             return Appended::NoRoom;
         }
-        Appended::At(0)
+        if self.flight.push(logged) {
+            Appended::At(0)
+        } else {
+            Appended::NoRoom
+        }
     }
 
     // The turn's call that was due is made.
@@ -148,6 +156,8 @@ impl Glog {
         // Where the log was on the device it still is; no image at any moment has another log than the old one and, from the selector's
         // write on, the new one.
         ensures keeps { (D.state disk.old).honest ≡ true → On self.old (D.state disk.old).seen (D.state disk.old).pending → KeepsTurning self.old self.new (D.state disk.old) (D.state disk.new) result }
+        // The same where later gates of the old extent may be open.
+        ensures may_turn { (D.state disk.old).honest ≡ true → MayTurn self.old (D.state disk.old).seen (D.state disk.old).pending → KeepsMayTurn self.old self.new (D.state disk.old) (D.state disk.new) result }
     {
         match self.call_turn(disk) {
             Ok(call) => {

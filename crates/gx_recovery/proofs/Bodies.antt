@@ -25,5 +25,5 @@ module _ {E P : Type 0} (k : Known E P) where
       ∙ follow-append k l head (records_of bodies) body (and_second (is_head k head) (follow k head (records_of bodies)) h)
       (coming_follow area (head ++ records_of bodies) body come))
 
-  pub renewed_undamaged : IsLawful k → (area : ℕ → P) (log : List (Record E P)) → IsLog k log → is_undamaged k (renewed k log ∷ []) ≡ true
-  renewed_undamaged l area log is = and_all (is_head k (renewed k log)) true (renewed_is_head k l area log is) refl
+  pub renewed_undamaged : IsLawful k → (next : ℕ) (area : ℕ → P) (log : List (Record E P)) → IsLog k log → is_undamaged k (renewed k next log ∷ []) ≡ true
+  renewed_undamaged l next area log is = and_all (is_head k (renewed k next log)) true (renewed_is_head k l next area log is) refl

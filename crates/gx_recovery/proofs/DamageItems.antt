@@ -1,13 +1,14 @@
 -- The items of damage are none exactly where the tests of a log pass.
 use Rattle.std.proofs.Common.{◌≡◌, ℕ, ◌+◌, Bool, true, false, not, ◌&&◌, List, [], ◌∷◌, ◌++◌, refl, ap, sym, ◌∙◌, append_assoc}
-use Rattle.std.specs.Prelude.{nat_le, ◌==◌, if◌then◌else◌, length}
+use Rattle.std.specs.Prelude.{Option, None, Some, nat_le, ◌==◌, if◌then◌else◌, length}
 use Rattle.std.specs.List.{list_all}
 use Rattle.std.proofs.lemmas.List.{append-nil}
 use Rattle.gx_recovery.specs.Known.{Known}
-use Rattle.gx_recovery.specs.Records.{Image, Record, Pages, Write, Commit, End, Counters, Note, Touch, settled, any_number}
+use Rattle.gx_recovery.specs.Records.{Image, Change, Said, Whole, Small, Record, Pages, Adjust, Write, Commit, End, Counters, Note, Touch, settled, any_number}
 use Rattle.gx_recovery.specs.Analysis.{Analysis, analysis}
-use Rattle.gx_recovery.specs.Damage.{is_transaction, is_page, apart, transactions, fits, is_open, may_follow, follows, follow, is_note, note_fits, is_head, records_of, is_undamaged, Place, bodies_read, opened, IsLog}
-use Rattle.gx_recovery.specs.Damages.{Damage, NoHead, NotDevice, PageNumber, OwnNumber, LeafNumber, NoEntry, LastNumber, Closed, CommitNumber, CounterFalls, UsedFalls, Shared, TooManyOpen, TooManyTouched, unless, misfits, unopened, unfollowing, faults_after, faults_from, damages, is_none}
+use Rattle.gx_recovery.specs.Given.{given, change_fits}
+use Rattle.gx_recovery.specs.Damage.{is_transaction, is_page, apart, transactions, fits, said_fits, is_open, may_follow, follows, follow, is_note, note_fits, is_head, records_of, is_undamaged, Place, bodies_read, opened, IsLog}
+use Rattle.gx_recovery.specs.Damages.{Damage, NoHead, NotDevice, PageNumber, OwnNumber, LeafNumber, NoEntry, LastNumber, Closed, CommitNumber, CounterFalls, UsedFalls, Shared, TooManyOpen, TooManyTouched, Unfit, unless, misfits, unfitting, unsaid, unopened, unfollowing, faults_after, faults_from, damages, is_none}
 use Rattle.gx_recovery.proofs.Tests.{and_first, and_second}
 use Rattle.gx_recovery.proofs.Logs.{untrue}
 use Rattle.gx_recovery.specs.declared.TheConstants.{TRANSACTIONS, TOUCHED}
@@ -76,6 +77,10 @@ and_true_last true true = refl
 and_true_last true false = refl
 and_true_last false b = refl
 
+none_unfitting : {P : Type 0} → (change : Change P) (before : Option P) (items : List Damage) → is_none (unfitting change before items) ≡ (change_fits change before && is_none items)
+none_unfitting change None items = refl
+none_unfitting change (Some content) items = none_unless (change.fits content) Unfit items
+
 module _ {E P : Type 0} (k : Known E P) where
   none_misfit : (leaves : Bool) (a : Analysis E) → is_none (misfits k leaves a) ≡ (leaves && fits k a)
   none_misfit leaves a =
@@ -104,6 +109,10 @@ module _ {E P : Type 0} (k : Known E P) where
       ∙ ap (λ b. is_transaction t && b) (none_unless (not (settled any_number t log)) Closed items)
       ∙ and_left (is_transaction t) (not (settled any_number t log)) (is_none items)
 
+  none_unsaid : (leaf : ℕ) (said : Said P) (log : List (Record E P)) (items : List Damage) → is_none (unsaid k leaf said log items) ≡ (said_fits k leaf said log && is_none items)
+  none_unsaid leaf (Whole content) log items = none_unless (k.own content == leaf) OwnNumber items
+  none_unsaid leaf (Small change) log items = none_unfitting change (given leaf log) items
+
   none_unfollowing : (log : List (Record E P)) (a : Analysis E) (r : Record E P) (more : List Damage) → is_none (unfollowing k log a r more) ≡ (may_follow k log a r && is_none more)
   none_unfollowing log a (Pages images counter used) more =
       let page : Image P → Bool = λ i. is_page used i.page in
@@ -114,10 +123,11 @@ module _ {E P : Type 0} (k : Known E P) where
       ∙ ap (λ b. nat_le a.counter counter && (nat_le a.used used && (list_all page images && b))) (none_unless (list_all own images) OwnNumber more)
       ∙ and_left_most (nat_le a.counter counter) (nat_le a.used used) (list_all page images) (list_all own images) (is_none more)
       ∙ ap (λ b. (nat_le a.counter counter && (nat_le a.used used && b)) && is_none more) (sym (all_two page own images))
-  none_unfollowing log a (Write transaction entry mark after leaf content) more =
-      none_unless (not (settled any_number transaction log)) Closed (unless (k.own content == leaf) OwnNumber more)
-      ∙ ap (λ b. not (settled any_number transaction log) && b) (none_unless (k.own content == leaf) OwnNumber more)
-      ∙ and_left (not (settled any_number transaction log)) (k.own content == leaf) (is_none more)
+  none_unfollowing log a (Adjust page change) more = none_unfitting change (given page log) more
+  none_unfollowing log a (Write transaction entry mark after leaf said) more =
+      none_unless (not (settled any_number transaction log)) Closed (unsaid k leaf said log more)
+      ∙ ap (λ b. not (settled any_number transaction log) && b) (none_unsaid leaf said log more)
+      ∙ and_left (not (settled any_number transaction log)) (said_fits k leaf said log) (is_none more)
   none_unfollowing log a (Commit transaction number) more =
       none_unopened transaction log (unless (number == a.number + 1) CommitNumber more) ∙ ap (λ b. is_open transaction log && b) (none_unless (number == a.number + 1) CommitNumber more)
       ∙ and_left (is_open transaction log) (number == a.number + 1) (is_none more)
@@ -146,7 +156,8 @@ module _ {E P : Type 0} (k : Known E P) where
       (none_append (misfits k leaves (analysis k head)) (faults_after k head later) ∙ ap (λ b. b && is_none (faults_after k head later)) (none_misfit leaves (analysis k head))
       ∙ ap (λ b. (leaves && fits k (analysis k head)) && b) (none_after head later))
   none_from (Pages images counter used ∷ rs) later = refl
-  none_from (Write transaction entry mark after leaf content ∷ rs) later = refl
+  none_from (Adjust page change ∷ rs) later = refl
+  none_from (Write transaction entry mark after leaf said ∷ rs) later = refl
   none_from (Commit transaction number ∷ rs) later = refl
   none_from (End transaction ∷ rs) later = refl
   none_from (Note transaction entry mark leaf ∷ rs) later = refl

@@ -2,7 +2,7 @@
 use Rattle.std.proofs.Common.{◌≡◌, ◌+◌, false, List, [], ◌∷◌, ◌++◌, sym, subst, append_assoc}
 use Rattle.std.proofs.lemmas.List.{append-nil}
 use Rattle.gx_recovery.specs.Known.{Known}
-use Rattle.gx_recovery.specs.Records.{Record, Pages, Write, Commit, End, Counters, Note, Touch, settled, any_number}
+use Rattle.gx_recovery.specs.Records.{Record, Pages, Adjust, Write, Commit, End, Counters, Note, Touch, settled, any_number}
 use Rattle.gx_recovery.specs.Analysis.{analysis, number_of, touching}
 use Rattle.gx_recovery.proofs.Touches.{Apart}
 
@@ -14,7 +14,8 @@ pub record IsFairTouch {E P : Type 0} (k : Known E P) (before : List (Record E P
 -- what holds of a record where it comes after these
 abbrev pub IsFair : {E P : Type 0} → Known E P → List (Record E P) → Record E P → Type 0
 IsFair k before (Pages images counter used) = Unit {0}
-IsFair k before (Write transaction entry mark after leaf content) = IsFairTouch k before (record { transaction = transaction; entry = entry; before = mark; leaf = leaf })
+IsFair k before (Adjust page change) = Unit {0}
+IsFair k before (Write transaction entry mark after leaf said) = IsFairTouch k before (record { transaction = transaction; entry = entry; before = mark; leaf = leaf })
 IsFair k before (Commit transaction number) = (settled any_number transaction before ≡ false) × (number ≡ number_of k before + 1)
 IsFair k before (End transaction) = settled any_number transaction before ≡ false
 IsFair k before (Counters number counter used next) = before ≡ []

@@ -8,6 +8,7 @@ pub mod Logs
 pub mod Sets
 pub mod States
 pub mod Lives
+pub mod Given
 pub mod Renewals
 pub mod Moves
 pub mod Undo

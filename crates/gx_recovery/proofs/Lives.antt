@@ -3,7 +3,7 @@ use Rattle.std.proofs.Common.{◌≡◌, ℕ, ◌≤◌, inl, inr, List, [], ◌
 use Rattle.std.specs.Prelude.{nat_le, true}
 use Rattle.std.proofs.lemmas.List.{append-nil}
 use Rattle.gx_recovery.specs.Known.{Known, IsLawful, Tree}
-use Rattle.gx_recovery.specs.Records.{Record, Pages, Write, Commit, End, Counters, Note}
+use Rattle.gx_recovery.specs.Records.{Record, Pages, Adjust, Write, Commit, End, Counters, Note}
 use Rattle.gx_recovery.specs.Analysis.{Analysis, number_of}
 use Rattle.gx_recovery.specs.Redo.{tree_of}
 use Rattle.gx_recovery.specs.Standing.{first_before, counting, by_mark, set_of, view_of}
@@ -106,8 +106,10 @@ module _ {E P : Type 0} (k : Known E P) (l : IsLawful k) (s : Logged E P) (h : I
     moved : (x : Record E P) → r ≡ x → IsFair k (all_records s) x → follows k (all_records s) x ≡ true → IsMove (kept_of k s) (append_move k s x) (kept_of k (appended r s))
     moved (Pages images counter used) is fair f =
         stays (ap (λ x. number_of k (all_records s ++ x ∷ [])) is ∙ ap (λ (a : Analysis E). a.number) (analysis-snoc k (all_records s) (Pages images counter used)))
-    moved (Write transaction entry mark after leaf content) is fair f =
-        stays (ap (λ x. number_of k (all_records s ++ x ∷ [])) is ∙ ap (λ (a : Analysis E). a.number) (analysis-snoc k (all_records s) (Write transaction entry mark after leaf content)))
+    moved (Adjust page change) is fair f =
+        stays (ap (λ x. number_of k (all_records s ++ x ∷ [])) is ∙ ap (λ (a : Analysis E). a.number) (analysis-snoc k (all_records s) (Adjust page change)))
+    moved (Write transaction entry mark after leaf said) is fair f =
+        stays (ap (λ x. number_of k (all_records s ++ x ∷ [])) is ∙ ap (λ (a : Analysis E). a.number) (analysis-snoc k (all_records s) (Write transaction entry mark after leaf said)))
     moved (Commit transaction number) is fair f = seals transaction number is fair
     moved (End transaction) is fair f =
         stays (ap (λ x. number_of k (all_records s ++ x ∷ [])) is ∙ ap (λ (a : Analysis E). a.number) (analysis-snoc k (all_records s) (End transaction)))

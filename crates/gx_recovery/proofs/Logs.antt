@@ -5,9 +5,9 @@ use Rattle.std.specs.List.{list_all}
 use Rattle.std.proofs.lemmas.Bool.{eqb-true}
 use Rattle.std.proofs.lemmas.List.{append-nil}
 use Rattle.gx_recovery.specs.Known.{Known, IsLawful}
-use Rattle.gx_recovery.specs.Records.{Record, Pages, Write, Commit, End, Counters, Note, Touch, settled, any_number}
+use Rattle.gx_recovery.specs.Records.{Record, Pages, Adjust, Write, Commit, End, Counters, Note, Touch, settled, any_number}
 use Rattle.gx_recovery.specs.Analysis.{Analysis, analysis, read, read_on, touching, lists}
-use Rattle.gx_recovery.specs.Damage.{touch_fits, apart, transactions, fits, is_transaction, is_open, may_follow, follows, follow, is_note, note_fits, is_head, IsLog}
+use Rattle.gx_recovery.specs.Damage.{touch_fits, apart, transactions, fits, is_transaction, said_fits, is_open, may_follow, follows, follow, is_note, note_fits, is_head, IsLog}
 use Rattle.gx_recovery.specs.declared.TheConstants.{TRANSACTIONS, TOUCHED}
 use Rattle.gx_recovery.proofs.Tests.{and_first, and_second}
 use Rattle.gx_recovery.proofs.Folds.{analysis-snoc, settled-snoc}
@@ -36,8 +36,9 @@ module _ {E P : Type 0} (k : Known E P) (l : IsLawful k) where
 
   fair_by : (log : List (Record E P)) (r : Record E P) → may_follow k log (analysis k log) r ≡ true → Apart k (read k (analysis k log) r).touched → IsFair k log r
   fair_by log (Pages images counter used) may apart = tt
-  fair_by log (Write transaction entry mark after leaf content) may apart =
-      record { open_yet = untrue (settled any_number transaction log) (and_first (not (settled any_number transaction log)) (k.own content == leaf) may); apart = apart }
+  fair_by log (Adjust page change) may apart = tt
+  fair_by log (Write transaction entry mark after leaf said) may apart =
+      record { open_yet = untrue (settled any_number transaction log) (and_first (not (settled any_number transaction log)) (said_fits k leaf said log) may); apart = apart }
   fair_by log (Commit transaction number) may apart = (
     open_tells transaction log (and_first (is_open transaction log) (number == (analysis k log).number + 1) may),
     eqb-true number ((analysis k log).number + 1) (and_second (is_open transaction log) (number == (analysis k log).number + 1) may),
@@ -65,7 +66,8 @@ module _ {E P : Type 0} (k : Known E P) (l : IsLawful k) where
       more_noted (read k a (Note transaction entry mark leaf)) ns h t e
       (lists_more k l (record { transaction = transaction; entry = entry; before = mark; leaf = leaf }) a.touched t e p)
   more_noted a (Pages images counter used ∷ ns) h t e p = cc
-  more_noted a (Write transaction entry mark after leaf content ∷ ns) h t e p = cc
+  more_noted a (Adjust page change ∷ ns) h t e p = cc
+  more_noted a (Write transaction entry mark after leaf said ∷ ns) h t e p = cc
   more_noted a (Commit transaction number ∷ ns) h t e p = cc
   more_noted a (End transaction ∷ ns) h t e p = cc
   more_noted a (Counters number counter used next ∷ ns) h t e p = cc
@@ -85,7 +87,8 @@ module _ {E P : Type 0} (k : Known E P) (l : IsLawful k) where
             (subst (λ (a : Analysis E). Apart k (read_on k a ns).touched) (sym (analysis-snoc k before r)) apart),
       )
   fair_notes before (Pages images counter used ∷ ns) none h apart = cc
-  fair_notes before (Write transaction entry mark after leaf content ∷ ns) none h apart = cc
+  fair_notes before (Adjust page change ∷ ns) none h apart = cc
+  fair_notes before (Write transaction entry mark after leaf said ∷ ns) none h apart = cc
   fair_notes before (Commit transaction number ∷ ns) none h apart = cc
   fair_notes before (End transaction ∷ ns) none h apart = cc
   fair_notes before (Counters number counter used next ∷ ns) none h apart = cc
@@ -99,7 +102,8 @@ module _ {E P : Type 0} (k : Known E P) (l : IsLawful k) where
       and_second leaves (fits k (analysis k (r ∷ notes))) (and_second (list_all is_note notes) (leaves && fits k (analysis k (r ∷ notes))) h) in
       (refl, fair_notes (r ∷ []) notes (λ t. refl) (and_first (list_all is_note notes) (leaves && fits k (analysis k (r ∷ notes))) h) (fits_apart (analysis k (r ∷ notes)) fit))
   fair_head (Pages images counter used ∷ rs) h = cc
-  fair_head (Write transaction entry mark after leaf content ∷ rs) h = cc
+  fair_head (Adjust page change ∷ rs) h = cc
+  fair_head (Write transaction entry mark after leaf said ∷ rs) h = cc
   fair_head (Commit transaction number ∷ rs) h = cc
   fair_head (End transaction ∷ rs) h = cc
   fair_head (Note transaction entry mark leaf ∷ rs) h = cc

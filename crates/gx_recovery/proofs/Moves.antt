@@ -37,42 +37,42 @@ module _ {E P : Type 0} (k : Known E P) (area : ℕ → P) (log : List (Record E
   found_set l is e = ap (λ x. set_of k (number_of k log) area x e) (append-nil log) ∙ sym (stands_as k l area log is e)
 
 module _ {E P : Type 0} (k : Known E P) (l : IsLawful k) where
-  module _ (s : Logged E P) (h : IsHealthy k s) (no_flight : s.flight ≡ []) (no_filling : s.filling ≡ []) (written : AllWritten s) where
+  module _ (s : Logged E P) (h : IsHealthy k s) (no_flight : s.flight ≡ []) (no_filling : s.filling ≡ []) (written : AllWritten s) (next : ℕ) where
     empty : s.flight ++ s.filling ≡ []
     empty = ap (λ x. x ++ s.filling) no_flight ∙ no_filling
 
     all_gated : all_records s ≡ s.gated
     all_gated = ap (λ x. s.gated ++ x) empty ∙ append-nil s.gated
 
-    all_renewed : all_records (record s { gated = renewed k s.gated }) ≡ renewed k s.gated
-    all_renewed = ap (λ x. renewed k s.gated ++ x) empty ∙ append-nil (renewed k s.gated)
+    all_renewed : all_records (record s { gated = renewed k next s.gated }) ≡ renewed k next s.gated
+    all_renewed = ap (λ x. renewed k next s.gated ++ x) empty ∙ append-nil (renewed k next s.gated)
 
     area_redone : redone s.area s.gated ≡ s.area
     area_redone = fun_ext (λ p. sym (written p))
 
-    pub checkpoint_healthy : IsHealthy k (record s { gated = renewed k s.gated })
+    pub checkpoint_healthy : IsHealthy k (record s { gated = renewed k next s.gated })
     checkpoint_healthy = record {
-      gated = renewed_is_log k l s.area s.gated h.gated;
-      good = subst (λ (a : ℕ → P). IsGood k (tree_of k a (renewed k s.gated)) (renewed k s.gated)) area_redone (renewed_good k l s.area s.gated h.gated h.good);
-      coming = subst (MayComeAll k s.area (renewed k s.gated)) (sym empty) tt;
+      gated = renewed_is_log k l next s.area s.gated h.gated;
+      good = subst (λ (a : ℕ → P). IsGood k (tree_of k a (renewed k next s.gated)) (renewed k next s.gated)) area_redone (renewed_good k l next s.area s.gated h.gated h.good);
+      coming = subst (MayComeAll k s.area (renewed k next s.gated)) (sym empty) tt;
     }
 
-    pub checkpoint_stands : (e : E) → stands_for k s.area (renewed k s.gated) e ≡ stands_for k s.area s.gated e
+    pub checkpoint_stands : (e : E) → stands_for k s.area (renewed k next s.gated) e ≡ stands_for k s.area s.gated e
     checkpoint_stands e =
-        ap (λ (a : ℕ → P). stands_for k a (renewed k s.gated) e) (sym area_redone) ∙ stands_alike k l s.area s.gated h.gated e
+        ap (λ (a : ℕ → P). stands_for k a (renewed k next s.gated) e) (sym area_redone) ∙ stands_alike k l next s.area s.gated h.gated e
 
-    same_at : (number : ℕ) → number ≡ number_of k s.gated → (e : E) → kept k (record s { gated = renewed k s.gated }) number e ≡ kept k s number e
+    same_at : (number : ℕ) → number ≡ number_of k s.gated → (e : E) → kept k (record s { gated = renewed k next s.gated }) number e ≡ kept k s number e
     same_at number is e =
-        ap (λ n. kept k (record s { gated = renewed k s.gated }) n e) (is ∙ sym (same_number k l s.area s.gated h.gated))
-        ∙ ap (λ x. set_of k (number_of k (renewed k s.gated)) s.area x e) all_renewed
-        ∙ sym (stands_as k l s.area (renewed k s.gated) (renewed_is_log k l s.area s.gated h.gated) e)
+        ap (λ n. kept k (record s { gated = renewed k next s.gated }) n e) (is ∙ sym (same_number k l next s.area s.gated h.gated))
+        ∙ ap (λ x. set_of k (number_of k (renewed k next s.gated)) s.area x e) all_renewed
+        ∙ sym (stands_as k l s.area (renewed k next s.gated) (renewed_is_log k l next s.area s.gated h.gated) e)
         ∙ checkpoint_stands e ∙ stands_as k l s.area s.gated h.gated e
         ∙ ap (λ x. set_of k (number_of k s.gated) s.area x e) (sym all_gated) ∙ ap (λ n. kept k s n e) (sym is)
 
-    pub checkpoint_stays : AreSame (kept_of k s) (kept_of k (record s { gated = renewed k s.gated }))
+    pub checkpoint_stays : AreSame (kept_of k s) (kept_of k (record s { gated = renewed k next s.gated }))
     checkpoint_stays = record {
-      first = same_number k l s.area s.gated h.gated;
-      last = ap (number_of k) all_renewed ∙ same_number k l s.area s.gated h.gated ∙ ap (number_of k) (sym all_gated);
+      first = same_number k l next s.area s.gated h.gated;
+      last = ap (number_of k) all_renewed ∙ same_number k l next s.area s.gated h.gated ∙ ap (number_of k) (sym all_gated);
       sets = λ number low high e.
           same_at number (only_one (durable k s) (latest k s) number (number_of k s.gated) low high refl (ap (number_of k) all_gated)) e;
     }
@@ -96,19 +96,19 @@ module _ {E P : Type 0} (k : Known E P) (l : IsLawful k) where
               ∙ sym (stands_as k l area log stood.is_log e) ∙ stood.same_set e ∙ ap (λ n. kept k s n e) (sym last);
         }
 
-    pub restarted_healthy : IsHealthy k (renewed_over k area log)
-    restarted_healthy = renewed_healthy k l area log stood.is_log stood.good
+    pub restarted_healthy : (next : ℕ) → IsHealthy k (renewed_over k next area log)
+    restarted_healthy next = renewed_healthy k l next area log stood.is_log stood.good
 
-    pub restarted_leaves : IsOneLeft (kept_of k s) (kept_of k (renewed_over k area log))
-    restarted_leaves =
-        let first : durable k (renewed_over k area log) ≡ number_of k log = same_number k l area log stood.is_log in
-        let last : latest k (renewed_over k area log) ≡ number_of k log = renewed_latest k l area log stood.is_log in
+    pub restarted_leaves : (next : ℕ) → IsOneLeft (kept_of k s) (kept_of k (renewed_over k next area log))
+    restarted_leaves next =
+        let first : durable k (renewed_over k next area log) ≡ number_of k log = same_number k l next area log stood.is_log in
+        let last : latest k (renewed_over k next area log) ≡ number_of k log = renewed_latest k l next area log stood.is_log in
         record {
           one = first ∙ sym last;
           at_least = subst (λ n. durable k s ≤ n) (sym first) stood.at_least;
           at_most = subst (λ n. n ≤ latest k s) (sym last) stood.at_most;
           set = λ e.
-              ap (λ n. kept k (renewed_over k area log) n e) last ∙ renewed_set k l area log stood.is_log e ∙ stood.same_set e ∙ ap (λ n. kept k s n e) (sym last);
+              ap (λ n. kept k (renewed_over k next area log) n e) last ∙ renewed_set k l next area log stood.is_log e ∙ stood.same_set e ∙ ap (λ n. kept k s n e) (sym last);
         }
 
   -- each step keeps the state healthy
@@ -117,9 +117,9 @@ module _ {E P : Type 0} (k : Known E P) (l : IsLawful k) where
   step_healthy old new Begins h is = subst (IsHealthy k) (sym is.1) (begun_healthy k old h is.0)
   step_healthy old new Syncs h is = subst (IsHealthy k) (sym is) (synced_healthy k l old h)
   step_healthy old new (WritesPages area) h is = subst (IsHealthy k) (sym is.1) (written_healthy k old h l area is.0)
-  step_healthy old new Renews h is = subst (IsHealthy k) (sym is.3) (checkpoint_healthy old h is.0 is.1 is.2)
+  step_healthy old new (Renews next) h is = subst (IsHealthy k) (sym is.4) (checkpoint_healthy old h is.0 is.1 is.2 next)
   step_healthy old new (LosesPower area log) h is = subst (IsHealthy k) (sym is.1) (found_healthy old h area log is.0)
-  step_healthy old new (Restarts area log) h is = subst (IsHealthy k) (sym is.1) (restarted_healthy old h area log is.0)
+  step_healthy old new (Restarts next area log) h is = subst (IsHealthy k) (sym is.2) (restarted_healthy old h area log is.0 next)
 
   -- each step is a move of the kept sets
   pub step_moves : (old new : Logged E P) (step : LogStep E P) → IsHealthy k old → IsLogStep k old step new → IsMove (kept_of k old) (move_of k old step) (kept_of k new)
@@ -128,9 +128,9 @@ module _ {E P : Type 0} (k : Known E P) (l : IsLawful k) where
   step_moves old new Begins h is = subst (λ x. IsMove (kept_of k old) Stays (kept_of k x)) (sym is.1) (begun_stays k old h is.0)
   step_moves old new Syncs h is = subst (λ x. IsMove (kept_of k old) Durable (kept_of k x)) (sym is) (synced_moves k l old h)
   step_moves old new (WritesPages area) h is = subst (λ x. IsMove (kept_of k old) Stays (kept_of k x)) (sym is.1) (written_stays k old h l area is.0)
-  step_moves old new Renews h is = subst (λ x. IsMove (kept_of k old) Stays (kept_of k x)) (sym is.3) (checkpoint_stays old h is.0 is.1 is.2)
+  step_moves old new (Renews next) h is = subst (λ x. IsMove (kept_of k old) Stays (kept_of k x)) (sym is.4) (checkpoint_stays old h is.0 is.1 is.2 next)
   step_moves old new (LosesPower area log) h is = subst (λ x. IsMove (kept_of k old) Crashes (kept_of k x)) (sym is.1) (found_leaves old h area log is.0)
-  step_moves old new (Restarts area log) h is = subst (λ x. IsMove (kept_of k old) Crashes (kept_of k x)) (sym is.1) (restarted_leaves old h area log is.0)
+  step_moves old new (Restarts next area log) h is = subst (λ x. IsMove (kept_of k old) Crashes (kept_of k x)) (sym is.2) (restarted_leaves old h area log is.0 next)
 
   pub life_healthy : (steps : List (LogStep E P)) (old new : Logged E P) → IsHealthy k old → IsLife k old steps new → IsHealthy k new
   life_healthy [] old new h life = subst (IsHealthy k) (sym life) h

@@ -9,7 +9,7 @@ use Rattle.std.proofs.Math.Path.{fun_ext}
 use Rattle.std.proofs.Math.Bool.{and-true}
 use Rattle.std.proofs.lemmas.List.{append-nil}
 use Rattle.gx_recovery.specs.Known.{Known, IsLawful, Tree}
-use Rattle.gx_recovery.specs.Records.{Record, Pages, Write, Commit, End, Counters, Note, Touch, settled, any_number}
+use Rattle.gx_recovery.specs.Records.{Record, Pages, Adjust, Write, Commit, End, Counters, Note, Touch, settled, any_number}
 use Rattle.gx_recovery.specs.Analysis.{Analysis, unread, analysis, read, read_on, touch_cmp, touching, number_of}
 use Rattle.gx_recovery.specs.Redo.{redone, tree_of}
 use Rattle.gx_recovery.specs.Standing.{first_before, counting, by_mark, set_of, stands_for}
@@ -59,7 +59,7 @@ module _ {E P : Type 0} (k : Known E P) (l : IsLawful k) where
   all_notes [] = refl
   all_notes (n ∷ ns) = all_notes ns
 
-  touches_fit : (a : Analysis E) → fits k a ≡ true → list_all (touch_fits k a.used) a.touched ≡ true
+  pub touches_fit : (a : Analysis E) → fits k a ≡ true → list_all (touch_fits k a.used) a.touched ≡ true
   touches_fit a h =
       let rest : Bool = apart k a.touched && (nat_le (transactions a.touched) TRANSACTIONS && nat_le (length a.touched) TOUCHED) in
       and_first (list_all (touch_fits k a.used) a.touched) rest (and_second (nat_le a.used k.pages) (list_all (touch_fits k a.used) a.touched && rest) h)
@@ -91,7 +91,8 @@ module _ {E P : Type 0} (k : Known E P) (l : IsLawful k) where
       let fit : Bool = fits k (analysis k (Counters number counter used next ∷ notes)) in
       and_second (list_all (note_fits used) notes) fit (and_second (list_all is_note notes) (list_all (note_fits used) notes && fit) h)
   fits_head (Pages images counter used ∷ rs) h = cc
-  fits_head (Write transaction entry mark after leaf content ∷ rs) h = cc
+  fits_head (Adjust page change ∷ rs) h = cc
+  fits_head (Write transaction entry mark after leaf said ∷ rs) h = cc
   fits_head (Commit transaction number ∷ rs) h = cc
   fits_head (End transaction ∷ rs) h = cc
   fits_head (Note transaction entry mark leaf ∷ rs) h = cc
@@ -100,41 +101,41 @@ module _ {E P : Type 0} (k : Known E P) (l : IsLawful k) where
   pub log_fits : (log : List (Record E P)) → IsLog k log → fits k (analysis k log) ≡ true
   log_fits log is = ap (λ x. fits k (analysis k x)) is.parts ∙ fits_on is.head is.later (fits_head is.head is.begins) is.goes_on
 
-  module _ (area : ℕ → P) (log : List (Record E P)) (is : IsLog k log) where
+  module _ (next : ℕ) (area : ℕ → P) (log : List (Record E P)) (is : IsLog k log) where
     told : Told k log
     told = told_log k l log is
 
-    pub same_touched : (analysis k (renewed k log)).touched ≡ (analysis k log).touched
-    same_touched = noted (read k unread (Counters (analysis k log).number (analysis k log).counter (analysis k log).used (analysis k log).next)) (analysis k log).touched told.in_order
+    pub same_touched : (analysis k (renewed k next log)).touched ≡ (analysis k log).touched
+    same_touched = noted (read k unread (Counters (analysis k log).number (analysis k log).counter (analysis k log).used next)) (analysis k log).touched told.in_order
 
-    numbers : ((analysis k (renewed k log)).number ≡ (analysis k log).number) × ((analysis k (renewed k log)).counter ≡ (analysis k log).counter)
-        × ((analysis k (renewed k log)).used ≡ (analysis k log).used)
-    numbers = same_numbers (read k unread (Counters (analysis k log).number (analysis k log).counter (analysis k log).used (analysis k log).next)) (analysis k log).touched
+    numbers : ((analysis k (renewed k next log)).number ≡ (analysis k log).number) × ((analysis k (renewed k next log)).counter ≡ (analysis k log).counter)
+        × ((analysis k (renewed k next log)).used ≡ (analysis k log).used)
+    numbers = same_numbers (read k unread (Counters (analysis k log).number (analysis k log).counter (analysis k log).used next)) (analysis k log).touched
 
-    pub same_number : number_of k (renewed k log) ≡ number_of k log
+    pub same_number : number_of k (renewed k next log) ≡ number_of k log
     same_number = numbers.0
 
-    fits_still : fits k (analysis k (renewed k log)) ≡ true
+    fits_still : fits k (analysis k (renewed k next log)) ≡ true
     fits_still =
         let told_of : ℕ → List (Touch E) → Analysis E = λ used touched. record { number = 0; counter = 0; used = used; next = 0; touched = touched } in
-        ap (λ (u : ℕ). fits k (told_of u (analysis k (renewed k log)).touched)) numbers.2
+        ap (λ (u : ℕ). fits k (told_of u (analysis k (renewed k next log)).touched)) numbers.2
         ∙ ap (λ (xs : List (Touch E)). fits k (told_of (analysis k log).used xs)) same_touched ∙ log_fits log is
 
-    pub renewed_is_head : is_head k (renewed k log) ≡ true
+    pub renewed_is_head : is_head k (renewed k next log) ≡ true
     renewed_is_head =
         and_all (list_all {X = Record E P} is_note (notes_of (analysis k log).touched))
-        (list_all {X = Record E P} (note_fits (analysis k log).used) (notes_of (analysis k log).touched) && fits k (analysis k (renewed k log))) (all_notes (analysis k log).touched)
-        (and_all (list_all {X = Record E P} (note_fits (analysis k log).used) (notes_of (analysis k log).touched)) (fits k (analysis k (renewed k log)))
+        (list_all {X = Record E P} (note_fits (analysis k log).used) (notes_of (analysis k log).touched) && fits k (analysis k (renewed k next log))) (all_notes (analysis k log).touched)
+        (and_all (list_all {X = Record E P} (note_fits (analysis k log).used) (notes_of (analysis k log).touched)) (fits k (analysis k (renewed k next log)))
         (notes_fit (analysis k log).used (analysis k log).touched (touches_fit (analysis k log) (log_fits log is))) fits_still)
 
-    pub renewed_is_log : IsLog k (renewed k log)
-    renewed_is_log = record { head = renewed k log; later = []; parts = sym (append-nil (renewed k log)); begins = renewed_is_head; goes_on = refl }
+    pub renewed_is_log : IsLog k (renewed k next log)
+    renewed_is_log = record { head = renewed k next log; later = []; parts = sym (append-nil (renewed k next log)); begins = renewed_is_head; goes_on = refl }
 
     -- over the pages after the log, the new log's tree is the old one's
-    pub same_tree : tree_of k (redone area log) (renewed k log) ≡ tree_of k area log
+    pub same_tree : tree_of k (redone area log) (renewed k next log) ≡ tree_of k area log
     same_tree =
         let whole : (ℕ → P) → ℕ → ℕ → Tree P = λ page counter used. record { page = page; counter = counter; used = used } in
-        let new : Analysis E = analysis k (renewed k log) in
+        let new : Analysis E = analysis k (renewed k next log) in
         ap (λ (page : ℕ → P). whole page new.counter new.used) (no_pages (redone area log) (analysis k log).touched)
         ∙ ap (λ (n : ℕ). whole (redone area log) n new.used) numbers.1 ∙ ap (λ (n : ℕ). whole (redone area log) (analysis k log).counter n) numbers.2
 
@@ -142,28 +143,28 @@ module _ {E P : Type 0} (k : Known E P) (l : IsLawful k) where
     first_looked x t e =
         ap (λ (c : ℕ → Bool). first_before k c e x) (fun_ext (λ u. sym (and-true (not (settled any_number u x))))) ∙ t.looked (λ u. true) e
 
-    pub stands_alike : (e : E) → stands_for k (redone area log) (renewed k log) e ≡ stands_for k area log e
+    pub stands_alike : (e : E) → stands_for k (redone area log) (renewed k next log) e ≡ stands_for k area log e
     stands_alike e =
-        ap (λ o. by_mark o (k.live (tree_of k (redone area log) (renewed k log)) e))
-        (first_looked (renewed k log) (told_log k l (renewed k log) renewed_is_log) e ∙ ap (lookup k (λ u. true) e) same_touched ∙ sym (first_looked log told e))
+        ap (λ o. by_mark o (k.live (tree_of k (redone area log) (renewed k next log)) e))
+        (first_looked (renewed k next log) (told_log k l (renewed k next log) renewed_is_log) e ∙ ap (lookup k (λ u. true) e) same_touched ∙ sym (first_looked log told e))
         ∙ ap (λ (t : Tree P). by_mark (first_before k (counting any_number log) e log) (k.live t e)) same_tree
 
-    pub renewed_good : IsGood k (tree_of k area log) log → IsGood k (tree_of k (redone area log) (renewed k log)) (renewed k log)
+    pub renewed_good : IsGood k (tree_of k area log) log → IsGood k (tree_of k (redone area log) (renewed k next log)) (renewed k next log)
     renewed_good good = record {
       sound = subst (λ (t : Tree P). k.sound t) (sym same_tree) good.sound;
-      placed = subst (λ (t : Tree P). Placed k t (analysis k (renewed k log)).touched) (sym same_tree)
+      placed = subst (λ (t : Tree P). Placed k t (analysis k (renewed k next log)).touched) (sym same_tree)
           (subst (λ (xs : List (Touch E)). Placed k (tree_of k area log) xs) (sym same_touched) good.placed);
     }
 
-    pub renewed_healthy : IsGood k (tree_of k area log) log → IsHealthy k (renewed_over k area log)
+    pub renewed_healthy : IsGood k (tree_of k area log) log → IsHealthy k (renewed_over k next area log)
     renewed_healthy good = record { gated = renewed_is_log; good = renewed_good good; coming = tt }
 
-    pub renewed_latest : latest k (renewed_over k area log) ≡ number_of k log
-    renewed_latest = ap (number_of k) (append-nil (renewed k log)) ∙ same_number
+    pub renewed_latest : latest k (renewed_over k next area log) ≡ number_of k log
+    renewed_latest = ap (number_of k) (append-nil (renewed k next log)) ∙ same_number
 
     -- its last set is what the old log stands for
-    pub renewed_set : (e : E) → kept k (renewed_over k area log) (number_of k log) e ≡ stands_for k area log e
+    pub renewed_set : (e : E) → kept k (renewed_over k next area log) (number_of k log) e ≡ stands_for k area log e
     renewed_set e =
-        ap (λ x. set_of k (number_of k log) (redone area log) x e) (append-nil (renewed k log))
-        ∙ ap (λ n. set_of k n (redone area log) (renewed k log) e) (sym same_number)
-        ∙ sym (stands_as k l (redone area log) (renewed k log) renewed_is_log e) ∙ stands_alike e
+        ap (λ x. set_of k (number_of k log) (redone area log) x e) (append-nil (renewed k next log))
+        ∙ ap (λ n. set_of k n (redone area log) (renewed k next log) e) (sym same_number)
+        ∙ sym (stands_as k l (redone area log) (renewed k next log) renewed_is_log e) ∙ stands_alike e

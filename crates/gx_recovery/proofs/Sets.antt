@@ -8,7 +8,7 @@ use Rattle.std.proofs.Math.Bool.{and-false, and-true}
 use Rattle.std.proofs.lemmas.Bool.{lt-leb}
 use Rattle.std.proofs.Common.{le_refl}
 use Rattle.gx_recovery.specs.Known.{Known, IsLawful, Tree, same}
-use Rattle.gx_recovery.specs.Records.{Record, Pages, Write, Commit, End, Counters, Note, touch_of, closes, settled, any_number}
+use Rattle.gx_recovery.specs.Records.{Said, Record, Pages, Adjust, Write, Commit, End, Counters, Note, touch_of, closes, settled, any_number}
 use Rattle.gx_recovery.specs.Analysis.{Analysis, analysis, number_of, lists}
 use Rattle.gx_recovery.specs.Redo.{tree_of}
 use Rattle.gx_recovery.specs.Standing.{first_before, own_before, by_mark, counting, stands, stands_for, set_of, view_of}
@@ -44,7 +44,8 @@ and_swap false false = refl
 module _ {E P : Type 0} (k : Known E P) (l : IsLawful k) where
   closes_less : (passes : ℕ → Bool) (t : ℕ) (r : Record E P) → closes any_number t r ≡ false → closes passes t r ≡ false
   closes_less passes t (Pages images counter used) h = refl
-  closes_less passes t (Write transaction entry mark after leaf content) h = refl
+  closes_less passes t (Adjust page change) h = refl
+  closes_less passes t (Write transaction entry mark after leaf said) h = refl
   closes_less passes t (Commit transaction number) h = ap (λ b. b && passes number) (sym (and-true (transaction == t)) ∙ h)
   closes_less passes t (End transaction) h = h
   closes_less passes t (Counters number counter used next) h = refl
@@ -84,11 +85,11 @@ module _ {E P : Type 0} (k : Known E P) (l : IsLawful k) where
       ∙ first_touch k l (but (counting passes log) u) e log r None touch ∙ or-none (first_before k (but (counting passes log) u) e log)
 
   module _ (area : ℕ → P) (log : List (Record E P)) (i : Told k log) where
-    write_keeps : (passes : ℕ → Bool) (e : E) (transaction : ℕ) (entry : E) (mark after : Bool) (leaf : ℕ) (content : P)
-        → settled any_number transaction log ≡ false → IsExact k log (tree_of k area log) (tree_of k area (log ++ Write transaction entry mark after leaf content ∷ [])) (Write transaction entry mark after leaf content)
-        → stands k passes area (log ++ Write transaction entry mark after leaf content ∷ []) e ≡ stands k passes area log e
-    write_keeps passes e transaction entry mark after leaf content open_yet exact =
-        let r : Record E P = Write transaction entry mark after leaf content in
+    write_keeps : (passes : ℕ → Bool) (e : E) (transaction : ℕ) (entry : E) (mark after : Bool) (leaf : ℕ) (said : Said P)
+        → settled any_number transaction log ≡ false → IsExact k log (tree_of k area log) (tree_of k area (log ++ Write transaction entry mark after leaf said ∷ [])) (Write transaction entry mark after leaf said)
+        → stands k passes area (log ++ Write transaction entry mark after leaf said ∷ []) e ≡ stands k passes area log e
+    write_keeps passes e transaction entry mark after leaf said open_yet exact =
+        let r : Record E P = Write transaction entry mark after leaf said in
         let live : Bool = k.live (tree_of k area (log ++ r ∷ [])) e in
         let a : Option Bool = first_before k (counting passes log) e log in
         ap (λ (c : ℕ → Bool). by_mark (first_before k c e (log ++ r ∷ [])) live) (counting_same passes log r (λ t. refl))
@@ -125,8 +126,12 @@ module _ {E P : Type 0} (k : Known E P) (l : IsLawful k) where
         let r : Record E P = Pages images counter used in
         ap (λ o. by_mark o (k.live (tree_of k area (log ++ r ∷ [])) e)) (first_same (λ n. nat_le n number) e log r refl (λ t. refl))
         ∙ ap (by_mark (first_before k (counting (λ n. nat_le n number) log) e log)) (exact e)
-    set_stays (Write transaction entry mark after leaf content) fair f exact number low e =
-        write_keeps (λ n. nat_le n number) e transaction entry mark after leaf content fair.open_yet exact
+    set_stays (Adjust page change) fair f exact number low e =
+        let r : Record E P = Adjust page change in
+        ap (λ o. by_mark o (k.live (tree_of k area (log ++ r ∷ [])) e)) (first_same (λ n. nat_le n number) e log r refl (λ t. refl))
+        ∙ ap (by_mark (first_before k (counting (λ n. nat_le n number) log) e log)) (exact e)
+    set_stays (Write transaction entry mark after leaf said) fair f exact number low e =
+        write_keeps (λ n. nat_le n number) e transaction entry mark after leaf said fair.open_yet exact
     set_stays (Commit transaction sealed) fair f exact number low e =
         let r : Record E P = Commit transaction sealed in
         let above : nat_le sealed number ≡ false = lt-leb sealed number (above_all number (number_of k log) sealed low fair.1) in

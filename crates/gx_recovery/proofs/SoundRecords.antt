@@ -7,12 +7,12 @@ use Rattle.std.specs.declared.cmp.Ordering.TheVariants.{Less, Equal, Greater}
 use Rattle.std.specs.Ordering.{match_ordering, ordering_reverse}
 use Rattle.std.proofs.lemmas.Bool.{eqb-true, eq-eqb, le-leb, leb-true}
 use Rattle.gx_recovery.specs.Known.{Known, IsLawful, Tree, same}
-use Rattle.gx_recovery.specs.Records.{Image, Record, Pages, Write, Touch, settled, any_number}
+use Rattle.gx_recovery.specs.Records.{Image, Change, Said, Whole, Small, Record, Pages, Adjust, Write, Touch, settled, any_number}
 use Rattle.gx_recovery.specs.Analysis.{Analysis, analysis, read, touch_cmp, touching, lists}
 use Rattle.gx_recovery.specs.Redo.{tree_of}
-use Rattle.gx_recovery.specs.Damage.{is_transaction, is_page, touch_fits, apart, transactions, fits, image_fits, may_follow, IsLog}
+use Rattle.gx_recovery.specs.Damage.{is_transaction, is_page, touch_fits, apart, transactions, fits, image_fits, said_fits, may_follow, IsLog}
 use Rattle.gx_recovery.specs.declared.TheConstants.{TRANSACTIONS, TOUCHED}
-use Rattle.gx_recovery.specs.Coming.{Placed, MayCome, IsAlone, beside, IsSoundWrite, AreSoundPages}
+use Rattle.gx_recovery.specs.Coming.{Placed, MayCome, IsAlone, beside, IsSaid, IsSoundWrite, AreSoundPages, IsSoundChange}
 use Rattle.gx_recovery.proofs.Tests.{and_first, and_second, either_of, or_second, true_or_false, clash, itself}
 use Rattle.gx_recovery.proofs.Folds.{analysis-snoc}
 use Rattle.gx_recovery.proofs.Touches.{Before, InOrder, touch_total, touch_exact, same_is, same_itself, apart_if_less, before_through}
@@ -210,15 +210,19 @@ module _ {E P : Type 0} (k : Known E P) (l : IsLawful k) where
       and_all (touch_fits k more x) (list_all (touch_fits k more) xs) (still_fits used more x up (and_first (touch_fits k used x) (list_all (touch_fits k used) xs) h))
       (all_fit used more xs up (and_second (touch_fits k used x) (list_all (touch_fits k used) xs) h))
 
+  fits_as_said : (leaf : ℕ) (said : Said P) (log : List (Record E P)) → IsSaid k leaf said log → said_fits k leaf said log ≡ true
+  fits_as_said leaf (Whole content) log is = eq-eqb (k.own content) leaf is
+  fits_as_said leaf (Small change) log is = is
+
   module _ (area : ℕ → P) (log : List (Record E P)) (is : IsLog k log) where
     told : Told k log
     told = told_log k l log is
 
     -- a sound write may come
-    pub write_may_come : (t : ℕ) (entry : E) (before after : Bool) (leaf : ℕ) (content : P) → IsSoundWrite k area log t entry before after leaf content
-        → MayCome k area log (Write t entry before after leaf content)
-    write_may_come t entry before after leaf content w =
-        let r : Record E P = Write t entry before after leaf content in
+    pub write_may_come : (t : ℕ) (entry : E) (before after : Bool) (leaf : ℕ) (said : Said P) → IsSoundWrite k area log t entry before after leaf said
+        → MayCome k area log (Write t entry before after leaf said)
+    write_may_come t entry before after leaf said w =
+        let r : Record E P = Write t entry before after leaf said in
         let n : Touch E = record { transaction = t; entry = entry; before = before; leaf = leaf } in
         let a : Analysis E = analysis k log in
         let next : Analysis E = read k a r in
@@ -239,7 +243,7 @@ module _ {E P : Type 0} (k : Known E P) (l : IsLawful k) where
         } in
         record {
           follows = and_all (may_follow k log a r) (fits k (analysis k (log ++ r ∷ [])))
-              (and_all (not (settled any_number t log)) (k.own content == leaf) (and_second (is_transaction t) (not (settled any_number t log)) w.open_yet) (eq-eqb (k.own content) leaf w.own))
+              (and_all (not (settled any_number t log)) (said_fits k leaf said log) (and_second (is_transaction t) (not (settled any_number t log)) w.open_yet) (fits_as_said leaf said log w.own))
               (ap (fits k) read_is ∙ whole_of next parts);
           exact = w.exact;
           good = record {
@@ -273,5 +277,19 @@ module _ {E P : Type 0} (k : Known E P) (l : IsLawful k) where
           good = record {
             sound = p.sound;
             placed = subst (λ (x : Analysis E). Placed k (tree_of k area (log ++ r ∷ [])) x.touched) (sym read_is) p.placed;
+          };
+        }
+
+    -- and a sound small change
+    pub change_may_come : (page : ℕ) (change : Change P) → IsSoundChange k area log page change → MayCome k area log (Adjust page change)
+    change_may_come page change c =
+        let r : Record E P = Adjust page change in
+        let read_is : analysis k (log ++ r ∷ []) ≡ analysis k log = analysis-snoc k log r in
+        record {
+          follows = and_all (may_follow k log (analysis k log) r) (fits k (analysis k (log ++ r ∷ []))) c.fitting (ap (fits k) read_is ∙ log_fits k l log is);
+          exact = c.exact;
+          good = record {
+            sound = c.sound;
+            placed = subst (λ (x : Analysis E). Placed k (tree_of k area (log ++ r ∷ [])) x.touched) (sym read_is) c.placed;
           };
         }

@@ -3,11 +3,12 @@ use Rattle.std.proofs.Common.{◌≡◌, ℕ, ◌+◌, ◌≤◌, true, false, �
 use Rattle.std.specs.Prelude.{◌==◌, if◌then◌else◌}
 use Rattle.std.specs.List.{list_any}
 use Rattle.std.proofs.Math.Path.{fun_ext}
+use Rattle.std.proofs.lemmas.Bool.{eqb-true}
 use Rattle.std.proofs.lemmas.List.{append-nil}
 use Rattle.gx_recovery.specs.Known.{Known, IsLawful, Tree}
-use Rattle.gx_recovery.specs.Records.{Image, Record, Pages, Write, Commit, End, Counters, Note, gives}
+use Rattle.gx_recovery.specs.Records.{Image, Change, Whole, Small, Record, Pages, Adjust, Write, Commit, End, Counters, Note, gives, speaks_of}
 use Rattle.gx_recovery.specs.Analysis.{Analysis, analysis, number_of}
-use Rattle.gx_recovery.specs.Redo.{with_page, with_images, redo, redone, tree_of}
+use Rattle.gx_recovery.specs.Redo.{with_page, with_images, said_over, redo, redone, tree_of}
 use Rattle.gx_recovery.specs.Standing.{set_of, stands_for}
 use Rattle.gx_recovery.specs.Damage.{follows, IsLog}
 use Rattle.gx_recovery.specs.Coming.{IsExact, IsGood, MayCome, MayComeAll}
@@ -33,6 +34,20 @@ module _ {P : Type 0} where
         | inr other ↦ ap (λ b. if b then content else new p) other ∙ h other ∙ sym (ap (λ b. if b then content else old p) other)
       ]
 
+  -- and so with a small change made of one page
+  over_small : (page p : ℕ) (change : Change P) (old new : ℕ → P) → new p ≡ old p
+      → with_page page (change.made (new page)) new p ≡ with_page page (change.made (old page)) old p
+  over_small page p change old new same =
+      elim (true_or_false (page == p)) [
+        | inl is ↦
+            ap (λ b. if b then change.made (new page) else new p) is
+            ∙ ap (λ c. change.made c) (subst (λ q. new q ≡ old q) (sym (eqb-true page p is)) same)
+            ∙ sym (ap (λ b. if b then change.made (old page) else old p) is)
+        | inr other ↦
+            ap (λ b. if b then change.made (new page) else new p) other ∙ same
+            ∙ sym (ap (λ b. if b then change.made (old page) else old p) other)
+      ]
+
   over_images : (images : List (Image P)) (p : ℕ) (old new : ℕ → P) → (list_any (λ i. i.page == p) images ≡ false → new p ≡ old p)
       → with_images images new p ≡ with_images images old p
   over_images [] p old new h = h refl
@@ -49,7 +64,9 @@ module _ {P : Type 0} where
 module _ {E P : Type 0} where
   over_record : (r : Record E P) (p : ℕ) (old new : ℕ → P) → (gives p r ≡ false → new p ≡ old p) → redo new r p ≡ redo old r p
   over_record (Pages images counter used) p old new h = over_images images p old new h
-  over_record (Write transaction entry mark after leaf content) p old new h = over leaf p content old new h
+  over_record (Adjust page change) p old new h = over_small page p change old new (h refl)
+  over_record (Write transaction entry mark after leaf (Whole content)) p old new h = over leaf p content old new h
+  over_record (Write transaction entry mark after leaf (Small change)) p old new h = over_small leaf p change old new (h refl)
   over_record (Commit transaction number) p old new h = h refl
   over_record (End transaction) p old new h = h refl
   over_record (Counters number counter used next) p old new h = h refl
@@ -61,26 +78,24 @@ module _ {E P : Type 0} where
       over_records rs p (redo old r) (redo new r)
       (λ rest. over_record r p old new (λ other. h (ap (λ b. b || list_any (gives p) rs) other ∙ rest)))
 
-  record_apart : (r : Record E P) (p : ℕ) (area : ℕ → P) → gives p r ≡ false → redo area r p ≡ area p
+  record_apart : (r : Record E P) (p : ℕ) (area : ℕ → P) → speaks_of p r ≡ false → redo area r p ≡ area p
   record_apart (Pages images counter used) p area h = images_apart images p area h
-  record_apart (Write transaction entry mark after leaf content) p area h = ap (λ b. if b then content else area p) h
+  record_apart (Adjust page change) p area h = ap (λ b. if b then change.made (area page) else area p) h
+  record_apart (Write transaction entry mark after leaf said) p area h = ap (λ b. if b then said_over said (area leaf) else area p) h
   record_apart (Commit transaction number) p area h = refl
   record_apart (End transaction) p area h = refl
   record_apart (Counters number counter used next) p area h = refl
   record_apart (Note transaction entry mark leaf) p area h = refl
 
-  -- a page that no record gives is as it was
-  pub redone_apart : (rs : List (Record E P)) (p : ℕ) (area : ℕ → P) → list_any (gives p) rs ≡ false → redone area rs p ≡ area p
+  -- a page that no record speaks of is as it was
+  pub redone_apart : (rs : List (Record E P)) (p : ℕ) (area : ℕ → P) → list_any (speaks_of p) rs ≡ false → redone area rs p ≡ area p
   redone_apart [] p area h = refl
   redone_apart (r ∷ rs) p area h =
-      redone_apart rs p (redo area r) (or_none_second (gives p r) (list_any (gives p) rs) h) ∙ record_apart r p area (or_none_first (gives p r) (list_any (gives p) rs) h)
+      redone_apart rs p (redo area r) (or_none_second (speaks_of p r) (list_any (speaks_of p) rs) h) ∙ record_apart r p area (or_none_first (speaks_of p r) (list_any (speaks_of p) rs) h)
 
   -- redo over pages of which some are redone already, or torn, gives the same pages
   pub redone_again : (log : List (Record E P)) (old new : ℕ → P) → AgreesBeside log old new → redone new log ≡ redone old log
   redone_again log old new agrees = fun_ext (λ p. over_records log p old new (agrees p))
-
-  pub redone_twice : (log : List (Record E P)) (area : ℕ → P) → redone (redone area log) log ≡ redone area log
-  redone_twice log area = redone_again log area (redone area log) (λ p h. redone_apart log p area h)
 
 module _ {E P : Type 0} (k : Known E P) (l : IsLawful k) where
   -- a log with records that may come is one
@@ -98,8 +113,9 @@ module _ {E P : Type 0} (k : Known E P) (l : IsLawful k) where
 
   number_by : (log : List (Record E P)) (r : Record E P) → IsFair k log r → follows k log r ≡ true → number_of k log ≤ number_of k (log ++ r ∷ [])
   number_by log (Pages images counter used) fair f = subst (λ n. number_of k log ≤ n) (sym (ap (λ (a : Analysis E). a.number) (analysis-snoc k log (Pages images counter used)))) (le_refl (number_of k log))
-  number_by log (Write transaction entry mark after leaf content) fair f =
-      subst (λ n. number_of k log ≤ n) (sym (ap (λ (a : Analysis E). a.number) (analysis-snoc k log (Write transaction entry mark after leaf content)))) (le_refl (number_of k log))
+  number_by log (Adjust page change) fair f = subst (λ n. number_of k log ≤ n) (sym (ap (λ (a : Analysis E). a.number) (analysis-snoc k log (Adjust page change)))) (le_refl (number_of k log))
+  number_by log (Write transaction entry mark after leaf said) fair f =
+      subst (λ n. number_of k log ≤ n) (sym (ap (λ (a : Analysis E). a.number) (analysis-snoc k log (Write transaction entry mark after leaf said)))) (le_refl (number_of k log))
   number_by log (Commit transaction number) fair f =
       subst (λ n. number_of k log ≤ n) (sym (ap (λ (a : Analysis E). a.number) (analysis-snoc k log (Commit transaction number)))) (one_more (number_of k log) number fair.1)
   number_by log (End transaction) fair f = subst (λ n. number_of k log ≤ n) (sym (ap (λ (a : Analysis E). a.number) (analysis-snoc k log (End transaction)))) (le_refl (number_of k log))

@@ -7,7 +7,7 @@ use Rattle.std.proofs.Math.Path.{fun_ext}
 use Rattle.std.proofs.Math.Bool.{or-false, and-true}
 use Rattle.std.proofs.lemmas.Bool.{eqb-true, le-leb}
 use Rattle.gx_recovery.specs.Known.{Known, IsLawful, same}
-use Rattle.gx_recovery.specs.Records.{Record, Pages, Write, Commit, End, Counters, Note, Touch, touch_of, closes, settled, any_number}
+use Rattle.gx_recovery.specs.Records.{Record, Pages, Adjust, Write, Commit, End, Counters, Note, Touch, touch_of, closes, settled, any_number}
 use Rattle.gx_recovery.specs.Analysis.{Analysis, analysis, number_of, touching, without, lists}
 use Rattle.gx_recovery.specs.Standing.{first_before, mark_before, own_before}
 use Rattle.gx_recovery.proofs.Tests.{and_first, and_second, or_none_first, itself}
@@ -280,8 +280,14 @@ module _ {E P : Type 0} (k : Known E P) (l : IsLawful k) where
       (λ m t h.
       settled_shut (λ n. nat_le n m) t log r refl ∙ i.numbered m t (subst (λ x. x ≤ m) (ap (λ (a : Analysis E). a.number) (analysis-snoc k log r)) h)
       ∙ sym (settled_shut any_number t log r refl))
-  told_step log (Write transaction entry mark after leaf content) i fair =
-      let r : Record E P = Write transaction entry mark after leaf content in
+  told_step log (Adjust page change) i fair =
+      let r : Record E P = Adjust page change in
+      told_quiet log r i (record { touch = refl; shut = λ passes t. refl; touched = ap (λ (a : Analysis E). a.touched) (analysis-snoc k log r) })
+      (λ m t h.
+      settled_shut (λ n. nat_le n m) t log r refl ∙ i.numbered m t (subst (λ x. x ≤ m) (ap (λ (a : Analysis E). a.number) (analysis-snoc k log r)) h)
+      ∙ sym (settled_shut any_number t log r refl))
+  told_step log (Write transaction entry mark after leaf said) i fair =
+      let r : Record E P = Write transaction entry mark after leaf said in
       told_touch log r i (record { transaction = transaction; entry = entry; before = mark; leaf = leaf })
       (record {
         touch = refl;

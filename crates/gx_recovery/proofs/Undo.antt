@@ -6,7 +6,7 @@ use Rattle.std.specs.Option.{option_or}
 use Rattle.std.proofs.Math.Bool.{and-false}
 use Rattle.std.proofs.lemmas.Bool.{eqb-true, le-leb, leb-true}
 use Rattle.gx_recovery.specs.Known.{Known, IsLawful, Tree, same}
-use Rattle.gx_recovery.specs.Records.{Record, Write, Commit, End, Touch}
+use Rattle.gx_recovery.specs.Records.{Said, Record, Write, Commit, End, Touch}
 use Rattle.gx_recovery.specs.Analysis.{Analysis, analysis, without, number_of}
 use Rattle.gx_recovery.specs.Redo.{tree_of}
 use Rattle.gx_recovery.specs.Standing.{own_before}
@@ -158,24 +158,24 @@ module _ {E P : Type 0} (k : Known E P) (l : IsLawful k) where
           good = closed_good t r (tree-snoc k area log r) (ap (λ (a : Analysis E). a.touched) told) good;
         }
 
-  module _ (log : List (Record E P)) (t : ℕ) (entry : E) (mark first : Bool) (leaf : ℕ) (content : P) (old new : Tree P) (own : own_before k t entry log ≡ Some first) (exact : WritesOne k entry mark first old new) where
-    own_same : (e : E) → own_before k t e (log ++ Write t entry mark first leaf content ∷ []) ≡ option_or (own_before k t e log) (marked (t == t && same k e entry) mark)
-    own_same e = first-snoc k (λ u. u == t) e log (Write t entry mark first leaf content)
+  module _ (log : List (Record E P)) (t : ℕ) (entry : E) (mark first : Bool) (leaf : ℕ) (said : Said P) (old new : Tree P) (own : own_before k t entry log ≡ Some first) (exact : WritesOne k entry mark first old new) where
+    own_same : (e : E) → own_before k t e (log ++ Write t entry mark first leaf said ∷ []) ≡ option_or (own_before k t e log) (marked (t == t && same k e entry) mark)
+    own_same e = first-snoc k (λ u. u == t) e log (Write t entry mark first leaf said)
 
     -- a write that gives an entry its first mark before restores it
-    pub restores : Restored k t new (log ++ Write t entry mark first leaf content ∷ []) entry
+    pub restores : Restored k t new (log ++ Write t entry mark first leaf said ∷ []) entry
     restores before h =
         let known : Some first ≡ Some before = sym (kept_first (own_before k t entry log) (t == t && same k entry entry) first mark own) ∙ sym (own_same entry) ∙ h in
         let one : first ≡ before = cc in
         exact.left ∙ ap not one
 
     -- and leaves restored what was so
-    pub leaves_restored : (e : E) → Restored k t old log e → Restored k t new (log ++ Write t entry mark first leaf content ∷ []) e
+    pub leaves_restored : (e : E) → Restored k t old log e → Restored k t new (log ++ Write t entry mark first leaf said ∷ []) e
     leaves_restored e restored before h =
         elim (true_or_false (same k e entry)) [
           | inl is ↦
               let at : e ≡ entry = same_is k l e entry is in
-              ap (λ x. k.live new x) at ∙ restores before (ap (λ x. own_before k t x (log ++ Write t entry mark first leaf content ∷ [])) (sym at) ∙ h)
+              ap (λ x. k.live new x) at ∙ restores before (ap (λ x. own_before k t x (log ++ Write t entry mark first leaf said ∷ [])) (sym at) ∙ h)
           | inr other ↦
               exact.others e other
               ∙ restored before (sym (or-none (own_before k t e log)) ∙ ap (λ b. option_or (own_before k t e log) (marked b mark)) (sym (ap (λ b. t == t && b) other ∙ and-false (t == t))) ∙ sym (own_same e) ∙ h)

@@ -6,7 +6,7 @@ use Rattle.std.specs.Option.{option_or}
 use Rattle.std.proofs.Math.Path.{fun_ext}
 use Rattle.std.proofs.lemmas.Bool.{eqb-true}
 use Rattle.gx_recovery.specs.Known.{Known, IsLawful, same}
-use Rattle.gx_recovery.specs.Records.{Record, Pages, Write, Commit, End, Counters, Note, Touch, touch_of, closes, settled, any_number, names}
+use Rattle.gx_recovery.specs.Records.{Record, Pages, Adjust, Write, Commit, End, Counters, Note, Touch, touch_of, closes, settled, any_number, names}
 use Rattle.gx_recovery.specs.Analysis.{analysis}
 use Rattle.gx_recovery.specs.Standing.{first_before, mark_before, own_before}
 use Rattle.gx_recovery.specs.Damage.{IsLog}
@@ -26,7 +26,8 @@ counted false false h = refl
 module _ {E P : Type 0} (k : Known E P) where
   unclosed : (t : ℕ) (r : Record E P) → names t r ≡ false → closes any_number t r ≡ false
   unclosed t (Pages images counter used) h = refl
-  unclosed t (Write transaction entry before after leaf content) h = refl
+  unclosed t (Adjust page change) h = refl
+  unclosed t (Write transaction entry before after leaf said) h = refl
   unclosed t (Commit transaction number) h = ap (λ b. b && true) h
   unclosed t (End transaction) h = h
   unclosed t (Counters number counter used next) h = refl
@@ -34,7 +35,8 @@ module _ {E P : Type 0} (k : Known E P) where
 
   unmarked : (t : ℕ) (e : E) (r : Record E P) → names t r ≡ false → mark_before k (λ u. u == t) e (touch_of r) ≡ None
   unmarked t e (Pages images counter used) h = refl
-  unmarked t e (Write transaction entry before after leaf content) h = ap (λ b. if b && same k e entry then Some before else None) h
+  unmarked t e (Adjust page change) h = refl
+  unmarked t e (Write transaction entry before after leaf said) h = ap (λ b. if b && same k e entry then Some before else None) h
   unmarked t e (Commit transaction number) h = refl
   unmarked t e (End transaction) h = refl
   unmarked t e (Counters number counter used next) h = refl
@@ -59,10 +61,10 @@ module _ {E P : Type 0} (k : Known E P) where
   notes_close_nothing t (n ∷ ns) = notes_close_nothing t ns
 
   -- a renewed log closes no transaction
-  pub renewed_open : (t : ℕ) (log : List (Record E P)) → settled any_number t (renewed k log) ≡ false
-  renewed_open t log = notes_close_nothing t (analysis k log).touched
+  pub renewed_open : (next t : ℕ) (log : List (Record E P)) → settled any_number t (renewed k next log) ≡ false
+  renewed_open next t log = notes_close_nothing t (analysis k log).touched
 
-  module _ (l : IsLawful k) (area : ℕ → P) where
+  module _ (l : IsLawful k) (next : ℕ) (area : ℕ → P) where
     own_counts : (log : List (Record E P)) (t : ℕ) → settled any_number t log ≡ false → (u : ℕ) → (u == t) ≡ (not (settled any_number u log) && (u == t))
     own_counts log t open_yet u = counted (u == t) (settled any_number u log) (λ is. ap (λ m. settled any_number m log) (eqb-true u t is) ∙ open_yet)
 
@@ -73,7 +75,7 @@ module _ {E P : Type 0} (k : Known E P) where
 
     -- an open transaction's first marks are the same in the renewed log
     pub renewed_marks : (log : List (Record E P)) → IsLog k log → (t : ℕ) (e : E) → settled any_number t log ≡ false
-        → own_before k t e (renewed k log) ≡ own_before k t e log
+        → own_before k t e (renewed k next log) ≡ own_before k t e log
     renewed_marks log is t e open_yet =
-        own_looked (renewed k log) (told_log k l (renewed k log) (renewed_is_log k l area log is)) t e (renewed_open t log)
-        ∙ ap (lookup k (λ u. u == t) e) (same_touched k l area log is) ∙ sym (own_looked log (told_log k l log is) t e open_yet)
+        own_looked (renewed k next log) (told_log k l (renewed k next log) (renewed_is_log k l next area log is)) t e (renewed_open next t log)
+        ∙ ap (lookup k (λ u. u == t) e) (same_touched k l next area log is) ∙ sym (own_looked log (told_log k l log is) t e open_yet)

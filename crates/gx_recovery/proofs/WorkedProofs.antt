@@ -1,5 +1,5 @@
 -- The worked life meets the definitions, step by step.
-use Rattle.std.proofs.Common.{◌≡◌, ℕ, Bool, true, false, not, ◌||◌, inl, [], ◌∷◌, Option, Some, None, refl, ap, sym}
+use Rattle.std.proofs.Common.{◌≡◌, ℕ, ◌≤◌, Bool, true, false, not, ◌||◌, inl, [], ◌∷◌, Option, Some, None, refl, ap, sym, le_refl, arith}
 use Rattle.std.specs.Prelude.{◌==◌, if◌then◌else◌}
 use Rattle.std.specs.Option.{option_or}
 use Rattle.std.specs.Ordering.{is_eq, nat_cmp}
@@ -10,7 +10,8 @@ use Rattle.gx_recovery.specs.Coming.{MayCome}
 use Rattle.gx_recovery.specs.Logged.{Logged, IsHealthy, all_records, appended, begun, AgreesBeside}
 use Rattle.gx_recovery.specs.Life.{AllWritten, IsLife}
 use Rattle.gx_recovery.specs.Worked.{Content, leaf, worked}
-use Rattle.gx_recovery.specs.WorkedLife.{fresh, insert_7, commit_1, insert_8, split, delete_7, restore_7, restore_8, end_2, torn, in_flight, committed, losing, half_written, reopened, undone, all_written, written, renewed_last, worked_steps}
+use Rattle.gx_recovery.specs.WorkedLife.{fresh, insert_7, commit_1, insert_8, split, delete_7, restore_7, restore_8, end_2, sweep_8, torn, in_flight, committed, losing, half_written, reopened, undone, all_written, written, renewed_last, worked_steps}
+use Rattle.gx_recovery.proofs.Tests.{or_swap}
 
 pub worked_lawful : IsLawful worked
 worked_lawful = record { total = nat_cmp_total; exact = λ a b h. exact_unsigned a b h }
@@ -21,6 +22,9 @@ fresh_healthy = record {
   good = record { sound = (refl, refl); placed = tt };
   coming = tt;
 }
+
+three_five : 3 ≤ 5
+three_five = omega arith
 
 abbrev is : ℕ → ℕ → Bool
 is e n = is_eq (nat_cmp e n)
@@ -41,7 +45,7 @@ comes_2 = record { follows = refl; exact = tt; good = record { sound = (refl, re
 comes_3 : MayCome worked committed.area (all_records committed) insert_8
 comes_3 = record {
   follows = refl;
-  exact = record { found = refl; left = refl; others = λ e h. ap (λ b. is e 7 || (b || false)) h };
+  exact = record { found = refl; left = refl; others = λ e h. ap (λ b. b || (is e 7 || false)) h };
   good = record { sound = (refl, refl); placed = (refl, tt) };
 }
 
@@ -49,7 +53,7 @@ abbrev state_3 : Logged ℕ Content
 state_3 = appended insert_8 committed
 
 comes_4 : MayCome worked committed.area (all_records state_3) split
-comes_4 = record { follows = refl; exact = λ e. refl; good = record { sound = (refl, refl); placed = (refl, tt) } }
+comes_4 = record { follows = refl; exact = λ e. or_swap (is e 7) (is e 8) false; good = record { sound = (refl, refl); placed = (refl, tt) } }
 
 abbrev state_4 : Logged ℕ Content
 state_4 = appended split state_3
@@ -61,7 +65,7 @@ comes_5 = record {
   good = record { sound = (refl, refl); placed = (refl, (refl, tt)) };
 }
 
-torn_pages : (a b : Bool) (x y z : Content) → (a || (a || ((a || (b || false)) || (a || false)))) ≡ false → (if a then x else if b then y else z) ≡ z
+torn_pages : (a b : Bool) (x y z : Content) → (a || ((a || (b || false)) || (a || false))) ≡ false → (if a then x else if b then y else z) ≡ z
 torn_pages true b x y z h = cc
 torn_pages false true x y z h = cc
 torn_pages false false x y z h = refl
@@ -111,6 +115,12 @@ comes_8 = record {
 abbrev state_8 : Logged ℕ Content
 state_8 = appended end_2 state_7
 
+comes_9 : MayCome worked reopened.area (all_records state_8) sweep_8
+comes_9 = record { follows = refl; exact = λ e. refl; good = record { sound = (refl, refl); placed = tt } }
+
+abbrev state_9 : Logged ℕ Content
+state_9 = appended sweep_8 state_8
+
 written_pages : (a b : Bool) (x y z : Content) → (b || (a || false)) ≡ false → (if a then x else if b then y else z) ≡ z
 written_pages true true x y z h = cc
 written_pages true false x y z h = cc
@@ -118,15 +128,16 @@ written_pages false true x y z h = cc
 written_pages false false x y z h = refl
 
 written_agrees : AgreesBeside undone.gated undone.area all_written
-written_agrees p h = written_pages (3 == p) (2 == p) (leaf 3 (record { entry = 8; marked = true } ∷ [])) (leaf 2 (record { entry = 7; marked = false } ∷ [])) (reopened.area p) h
+written_agrees p h = written_pages (3 == p) (2 == p) (leaf 3 []) (leaf 2 (record { entry = 7; marked = false } ∷ [])) (reopened.area p) h
 
-written_twice : (a b : Bool) (x y z : Content) → (if a then x else if b then y else z) ≡ (if a then x else if b then y else if a then x else if b then y else z)
-written_twice true b x y z = refl
-written_twice false true x y z = refl
-written_twice false false x y z = refl
+written_twice : (a b : Bool) (x w y z : Content) → (if a then x else if b then y else z) ≡ (if a then x else if a then w else if b then y else if a then x else if b then y else z)
+written_twice true b x w y z = refl
+written_twice false true x w y z = refl
+written_twice false false x w y z = refl
 
 written_all : AllWritten written
-written_all p = written_twice (3 == p) (2 == p) (leaf 3 (record { entry = 8; marked = true } ∷ [])) (leaf 2 (record { entry = 7; marked = false } ∷ [])) (reopened.area p)
+written_all p =
+    written_twice (3 == p) (2 == p) (leaf 3 []) (leaf 3 (record { entry = 8; marked = true } ∷ [])) (leaf 2 (record { entry = 7; marked = false } ∷ [])) (reopened.area p)
 
 abbrev state_2 : Logged ℕ Content
 state_2 = appended commit_1 state_1
@@ -167,7 +178,7 @@ worked_life = (
                     (torn_agrees, refl),
                     (
                       reopened,
-                      (record { area_agrees = λ p h. refl; log_read = inl refl }, refl),
+                      (record { area_agrees = λ p h. refl; log_read = inl refl }, le_refl 3, refl),
                       (
                         state_6,
                         (comes_6, refl),
@@ -178,12 +189,16 @@ worked_life = (
                             state_8,
                             (comes_8, refl),
                             (
-                              begun state_8,
-                              (refl, refl),
+                              state_9,
+                              (comes_9, refl),
                               (
-                                undone,
-                                refl,
-                                (written, (written_agrees, refl), (renewed_last, (refl, refl, written_all, refl), refl)),
+                                begun state_9,
+                                (refl, refl),
+                                (
+                                  undone,
+                                  refl,
+                                  (written, (written_agrees, refl), (renewed_last, (refl, refl, written_all, three_five, refl), refl)),
+                                ),
                               ),
                             ),
                           ),

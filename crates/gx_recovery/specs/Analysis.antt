@@ -4,7 +4,7 @@ use Rattle.std.specs.List.{list_any}
 use Rattle.std.specs.declared.cmp.Ordering.{Ordering}
 use Rattle.std.specs.Ordering.{match_ordering, ordering_then, nat_cmp}
 use Rattle.gx_recovery.specs.Known.{Known, same}
-use Rattle.gx_recovery.specs.Records.{Record, Pages, Write, Commit, End, Counters, Note, Touch}
+use Rattle.gx_recovery.specs.Records.{Record, Pages, Adjust, Write, Commit, End, Counters, Note, Touch}
 
 -- the number of the last commit; the counter of splits; the greatest page number in use; the next transaction's
 -- number; and what open transactions have touched, by transaction and then entry, each once, with the first mark
@@ -32,7 +32,8 @@ without t xs = filter (λ x. not (x.transaction == t)) xs
 -- one more record is read
 abbrev pub read : {E P : Type 0} → Known E P → Analysis E → Record E P → Analysis E
 read k a (Pages images counter used) = record a { counter = counter; used = used }
-read k a (Write transaction entry before after leaf content) =
+read k a (Adjust page change) = a
+read k a (Write transaction entry before after leaf said) =
     record a { next = max a.next (transaction + 1); touched = touching k (record { transaction = transaction; entry = entry; before = before; leaf = leaf }) a.touched }
 read k a (Commit transaction number) = record a { number = number; next = max a.next (transaction + 1); touched = without transaction a.touched }
 read k a (End transaction) = record a { next = max a.next (transaction + 1); touched = without transaction a.touched }

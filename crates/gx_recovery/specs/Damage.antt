@@ -2,8 +2,9 @@
 use Rattle.std.specs.Prelude.{◌≡◌, ℕ, ◌+◌, Bool, true, false, not, ◌&&◌, ◌||◌, nat_le, nat_lt, ◌==◌, if◌then◌else◌, length, List, [], ◌∷◌, ◌++◌}
 use Rattle.std.specs.List.{list_any, list_all}
 use Rattle.gx_recovery.specs.Known.{Known, same}
-use Rattle.gx_recovery.specs.Records.{Image, Record, Pages, Write, Commit, End, Counters, Note, Touch, settled, any_number}
+use Rattle.gx_recovery.specs.Records.{Image, Said, Whole, Small, Record, Pages, Adjust, Write, Commit, End, Counters, Note, Touch, settled, any_number}
 use Rattle.gx_recovery.specs.Analysis.{Analysis, analysis}
+use Rattle.gx_recovery.specs.Given.{given, change_fits}
 use Rattle.gx_recovery.specs.declared.TheConstants.{TRANSACTIONS, TOUCHED, LAST_TRANSACTION}
 
 -- a transaction's number that another can follow
@@ -39,6 +40,11 @@ fits k a =
 abbrev pub image_fits : {E P : Type 0} → Known E P → ℕ → Image P → Bool
 image_fits k used i = is_page used i.page && k.own i.content == i.page
 
+-- a whole content has its leaf's own number, and a small change fits what the log gives of the leaf
+abbrev pub said_fits : {E P : Type 0} → Known E P → ℕ → Said P → List (Record E P) → Bool
+said_fits k leaf (Whole content) log = k.own content == leaf
+said_fits k leaf (Small change) log = change_fits change (given leaf log)
+
 -- a transaction may still write, commit or end
 abbrev pub is_open : {E P : Type 0} → ℕ → List (Record E P) → Bool
 is_open t log = is_transaction t && not (settled any_number t log)
@@ -46,7 +52,8 @@ is_open t log = is_transaction t && not (settled any_number t log)
 -- Whether a record by itself may come after a log of which a is told. Neither the counter nor the pages in use fall.
 abbrev pub may_follow : {E P : Type 0} → Known E P → List (Record E P) → Analysis E → Record E P → Bool
 may_follow k log a (Pages images counter used) = nat_le a.counter counter && (nat_le a.used used && list_all (image_fits k used) images)
-may_follow k log a (Write transaction entry before after leaf content) = not (settled any_number transaction log) && k.own content == leaf
+may_follow k log a (Adjust page change) = change_fits change (given page log)
+may_follow k log a (Write transaction entry before after leaf said) = not (settled any_number transaction log) && said_fits k leaf said log
 may_follow k log a (Commit transaction number) = is_open transaction log && number == a.number + 1
 may_follow k log a (End transaction) = is_open transaction log
 may_follow k log a (Counters number counter used next) = false
@@ -63,7 +70,8 @@ follow k log (r ∷ rs) = follows k log r && follow k (log ++ r ∷ []) rs
 
 abbrev pub is_note : {E P : Type 0} → Record E P → Bool
 is_note (Pages images counter used) = false
-is_note (Write transaction entry before after leaf content) = false
+is_note (Adjust page change) = false
+is_note (Write transaction entry before after leaf said) = false
 is_note (Commit transaction number) = false
 is_note (End transaction) = false
 is_note (Counters number counter used next) = false
@@ -72,7 +80,8 @@ is_note (Note transaction entry before leaf) = true
 -- a note's leaf is in use; of two notes of one entry the analysis keeps the last one's leaf alone, so each is tested by itself
 abbrev pub note_fits : {E P : Type 0} → ℕ → Record E P → Bool
 note_fits used (Pages images counter now) = true
-note_fits used (Write transaction entry before after leaf content) = true
+note_fits used (Adjust page change) = true
+note_fits used (Write transaction entry before after leaf said) = true
 note_fits used (Commit transaction number) = true
 note_fits used (End transaction) = true
 note_fits used (Counters number counter now next) = true

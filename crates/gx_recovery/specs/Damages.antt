@@ -1,9 +1,10 @@
 -- What is wrong with given bodies, item by item: all that the tests of a log refuse.
-use Rattle.std.specs.Prelude.{ℕ, ◌+◌, Bool, true, false, not, ◌&&◌, nat_le, ◌==◌, if◌then◌else◌, length, List, [], ◌∷◌, ◌++◌}
+use Rattle.std.specs.Prelude.{ℕ, ◌+◌, Bool, true, false, not, ◌&&◌, nat_le, ◌==◌, if◌then◌else◌, length, Option, None, Some, List, [], ◌∷◌, ◌++◌}
 use Rattle.std.specs.List.{list_all}
 use Rattle.gx_recovery.specs.Known.{Known}
-use Rattle.gx_recovery.specs.Records.{Record, Pages, Write, Commit, End, Counters, Note, settled, any_number}
+use Rattle.gx_recovery.specs.Records.{Change, Said, Whole, Small, Record, Pages, Adjust, Write, Commit, End, Counters, Note, settled, any_number}
 use Rattle.gx_recovery.specs.Analysis.{Analysis, analysis}
+use Rattle.gx_recovery.specs.Given.{given}
 use Rattle.gx_recovery.specs.Damage.{is_transaction, is_page, apart, transactions, is_note, note_fits, records_of}
 use Rattle.gx_recovery.specs.declared.TheConstants.{TRANSACTIONS, TOUCHED}
 
@@ -12,7 +13,8 @@ use Rattle.gx_recovery.specs.declared.TheConstants.{TRANSACTIONS, TOUCHED}
 -- in use. OwnNumber: a content's own number isn't the page's. LeafNumber: so of a touch's leaf. NoEntry: a key isn't one
 -- of the class. LastNumber: a transaction has the number that none can follow. Closed: a transaction writes, commits or
 -- ends that has committed or ended. CommitNumber: it isn't the last one plus one. CounterFalls, UsedFalls. Shared: two
--- open transactions have touched one entry. TooManyOpen, TooManyTouched.
+-- open transactions have touched one entry. TooManyOpen, TooManyTouched. NoImage: a small change is of a page that the log
+-- hasn't given whole. Unfit: it doesn't fit what the log gives.
 pub data Damage : Type 0 where
   NoBody : Damage
   NoHead : Damage
@@ -30,6 +32,8 @@ pub data Damage : Type 0 where
   Shared : Damage
   TooManyOpen : Damage
   TooManyTouched : Damage
+  NoImage : Damage
+  Unfit : Damage
 
 -- one more item, unless its test passes
 abbrev pub unless : Bool → Damage → List Damage → List Damage
@@ -50,6 +54,16 @@ misfits k leaves a =
 abbrev pub unopened : {E P : Type 0} → ℕ → List (Record E P) → List Damage → List Damage
 unopened t log items = unless (is_transaction t) LastNumber (unless (not (settled any_number t log)) Closed items)
 
+-- what is wrong with a small change of a page of which this is given
+abbrev pub unfitting : {P : Type 0} → Change P → Option P → List Damage → List Damage
+unfitting change None items = NoImage ∷ items
+unfitting change (Some content) items = unless (change.fits content) Unfit items
+
+-- what is wrong with what a write says of its leaf
+abbrev pub unsaid : {E P : Type 0} → Known E P → ℕ → Said P → List (Record E P) → List Damage → List Damage
+unsaid k leaf (Whole content) log items = unless (k.own content == leaf) OwnNumber items
+unsaid k leaf (Small change) log items = unfitting change (given leaf log) items
+
 -- what is wrong with a record by itself, after a log of which a is told; more is what is wrong at its end
 abbrev pub unfollowing : {E P : Type 0} → Known E P → List (Record E P) → Analysis E → Record E P → List Damage → List Damage
 unfollowing k log a (Pages images counter used) more =
@@ -57,7 +71,8 @@ unfollowing k log a (Pages images counter used) more =
     (unless (nat_le a.used used) UsedFalls
     (unless (list_all (λ i. is_page used i.page) images) PageNumber
     (unless (list_all (λ i. k.own i.content == i.page) images) OwnNumber more)))
-unfollowing k log a (Write transaction entry before after leaf content) more = unless (not (settled any_number transaction log)) Closed (unless (k.own content == leaf) OwnNumber more)
+unfollowing k log a (Adjust page change) more = unfitting change (given page log) more
+unfollowing k log a (Write transaction entry before after leaf said) more = unless (not (settled any_number transaction log)) Closed (unsaid k leaf said log more)
 unfollowing k log a (Commit transaction number) more = unopened transaction log (unless (number == a.number + 1) CommitNumber more)
 unfollowing k log a (End transaction) more = unopened transaction log more
 unfollowing k log a (Counters number counter used next) more = HeadLater ∷ more

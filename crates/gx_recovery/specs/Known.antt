@@ -11,6 +11,11 @@ pub record Tree (P : Type 0) : Type 0 where
   pub counter : ℕ
   pub used : ℕ
 
+-- What is known of an index only as it runs: how many entries a node may have, and how many pages the device has.
+pub record Limits : Type 0 where
+  pub most : ℕ
+  pub pages : ℕ
+
 -- The order of entries; which are live in the pages; whether the tree of the pages is sound; whether an entry stands on
 -- a leaf or to the right of it; whether an entry's key is one of the class; the number that a page's content has as its
 -- own; how many pages the device has.

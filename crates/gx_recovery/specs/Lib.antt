@@ -2,6 +2,7 @@ pub mod Records
 pub mod Known
 pub mod Analysis
 pub mod Redo
+pub mod Given
 pub mod Standing
 pub mod Damage
 pub mod Coming

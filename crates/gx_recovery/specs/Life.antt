@@ -1,7 +1,8 @@
 -- The kept sets of a log, what each step of the log does to them, and lives: lists of such steps.
 use Rattle.std.specs.Prelude.{◌≡◌, ℕ, ◌+◌, ◌≤◌, Bool, List, [], ◌∷◌}
 use Rattle.gx_recovery.specs.Known.{Known}
-use Rattle.gx_recovery.specs.Records.{Record, Pages, Write, Commit, End, Counters, Note}
+use Rattle.gx_recovery.specs.Records.{Record, Pages, Adjust, Write, Commit, End, Counters, Note}
+use Rattle.gx_recovery.specs.Analysis.{analysis}
 use Rattle.gx_recovery.specs.Redo.{redone}
 use Rattle.gx_recovery.specs.Standing.{view_of}
 use Rattle.gx_recovery.specs.Coming.{MayCome}
@@ -65,29 +66,32 @@ pub data LogStep (E P : Type 0) : Type 0 where
   Begins : LogStep E P
   Syncs : LogStep E P
   WritesPages : (area : ℕ → P) → LogStep E P
-  Renews : LogStep E P
+  Renews : (next : ℕ) → LogStep E P
   LosesPower : (area : ℕ → P) (log : List (Record E P)) → LogStep E P
-  Restarts : (area : ℕ → P) (log : List (Record E P)) → LogStep E P
+  Restarts : (next : ℕ) (area : ℕ → P) (log : List (Record E P)) → LogStep E P
 
 -- each page is as the log leaves it
 abbrev pub AllWritten : {E P : Type 0} → Logged E P → Type 0
 AllWritten s = (p : ℕ) → s.area p ≡ redone s.area s.gated p
 
 -- Pages are written only where gated records give them whole, whatever a torn write leaves there. A checkpoint waits
--- until all is gated and all pages are written.
+-- until all is gated and all pages are written. The next transaction's number of a new log is none below what the old one
+-- told.
 abbrev pub IsLogStep : {E P : Type 0} → Known E P → Logged E P → LogStep E P → Logged E P → Type 0
 IsLogStep k old (Appends r) new = MayCome k old.area (all_records old) r × (new ≡ appended r old)
 IsLogStep k old Begins new = (old.flight ≡ []) × (new ≡ begun old)
 IsLogStep k old Syncs new = new ≡ gate_synced old
 IsLogStep k old (WritesPages area) new = AgreesBeside old.gated old.area area × (new ≡ record old { area = area })
-IsLogStep k old Renews new = (old.flight ≡ []) × (old.filling ≡ []) × AllWritten old × (new ≡ record old { gated = renewed k old.gated })
+IsLogStep k old (Renews next) new =
+    (old.flight ≡ []) × (old.filling ≡ []) × AllWritten old × ((analysis k old.gated).next ≤ next) × (new ≡ record old { gated = renewed k next old.gated })
 IsLogStep k old (LosesPower area log) new = IsLeft old area log × (new ≡ found area log)
-IsLogStep k old (Restarts area log) new = IsLeft old area log × (new ≡ renewed_over k area log)
+IsLogStep k old (Restarts next area log) new = IsLeft old area log × ((analysis k log).next ≤ next) × (new ≡ renewed_over k next area log)
 
 -- what appending a record does to the kept sets: a commit adds the view of its transaction
 abbrev pub append_move : {E P : Type 0} → Known E P → Logged E P → Record E P → Move E
 append_move k s (Pages images counter used) = Stays
-append_move k s (Write transaction entry before after leaf content) = Stays
+append_move k s (Adjust page change) = Stays
+append_move k s (Write transaction entry before after leaf said) = Stays
 append_move k s (Commit transaction number) = Seals (view_of k transaction s.area (all_records s))
 append_move k s (End transaction) = Stays
 append_move k s (Counters number counter used next) = Stays
@@ -99,9 +103,9 @@ move_of k s (Appends r) = append_move k s r
 move_of k s Begins = Stays
 move_of k s Syncs = Durable
 move_of k s (WritesPages area) = Stays
-move_of k s Renews = Stays
+move_of k s (Renews next) = Stays
 move_of k s (LosesPower area log) = Crashes
-move_of k s (Restarts area log) = Crashes
+move_of k s (Restarts next area log) = Crashes
 
 -- a life: from old, these steps lead to new
 abbrev pub IsLife : {E P : Type 0} → Known E P → Logged E P → List (LogStep E P) → Logged E P → Type 0

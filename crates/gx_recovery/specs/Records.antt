@@ -7,13 +7,24 @@ pub record Image (P : Type 0) : Type 0 where
   pub page : ℕ
   pub content : P
 
+-- a small change of a page: which contents it fits, and what it makes of one
+pub record Change (P : Type 0) : Type 0 where
+  pub fits : P → Bool
+  pub made : P → P
+
+-- what a write says of its leaf: the whole of its content, or a small change of it
+pub data Said (P : Type 0) : Type 0 where
+  Whole : (content : P) → Said P
+  Small : (change : Change P) → Said P
+
 -- The records. A mark is true where the entry is marked or isn't there. Pages: these pages have these contents, and
--- counter and used are what they are afterwards. Write: the transaction changed the entry's mark, on this leaf, whose
--- content follows. Commit: the transaction's entries are the set of this number. End: all that the transaction wrote
+-- counter and used are what they are afterwards. Adjust: a small change of this one page, of no transaction. Write:
+-- the transaction changed the entry's mark, on this leaf, of which it is said how it is then. Commit: the transaction's entries are the set of this number. End: all that the transaction wrote
 -- is as it was. Counters and Note begin a log: the numbers, and an entry that an open transaction had written.
 pub data Record (E P : Type 0) : Type 0 where
   Pages : (images : List (Image P)) (counter used : ℕ) → Record E P
-  Write : (transaction : ℕ) (entry : E) (before after : Bool) (leaf : ℕ) (content : P) → Record E P
+  Adjust : (page : ℕ) (change : Change P) → Record E P
+  Write : (transaction : ℕ) (entry : E) (before after : Bool) (leaf : ℕ) (said : Said P) → Record E P
   Commit : (transaction number : ℕ) → Record E P
   End : (transaction : ℕ) → Record E P
   Counters : (number counter used next : ℕ) → Record E P
@@ -29,7 +40,8 @@ pub record Touch (E : Type 0) : Type 0 where
 -- what a record touches: notes count as writes do
 abbrev pub touch_of : {E P : Type 0} → Record E P → Option (Touch E)
 touch_of (Pages images counter used) = None
-touch_of (Write transaction entry before after leaf content) = Some (record { transaction = transaction; entry = entry; before = before; leaf = leaf })
+touch_of (Adjust page change) = None
+touch_of (Write transaction entry before after leaf said) = Some (record { transaction = transaction; entry = entry; before = before; leaf = leaf })
 touch_of (Commit transaction number) = None
 touch_of (End transaction) = None
 touch_of (Counters number counter used next) = None
@@ -38,20 +50,36 @@ touch_of (Note transaction entry before leaf) = Some (record { transaction = tra
 -- whether a record closes transaction t, where a commit closes it if its number passes
 abbrev pub closes : {E P : Type 0} → (ℕ → Bool) → ℕ → Record E P → Bool
 closes passes t (Pages images counter used) = false
-closes passes t (Write transaction entry before after leaf content) = false
+closes passes t (Adjust page change) = false
+closes passes t (Write transaction entry before after leaf said) = false
 closes passes t (Commit transaction number) = transaction == t && passes number
 closes passes t (End transaction) = transaction == t
 closes passes t (Counters number counter used next) = false
 closes passes t (Note transaction entry before leaf) = false
 
+abbrev pub is_whole : {P : Type 0} → Said P → Bool
+is_whole (Whole content) = true
+is_whole (Small change) = false
+
 -- whether a record gives the whole of page p
 abbrev pub gives : {E P : Type 0} → ℕ → Record E P → Bool
 gives p (Pages images counter used) = list_any (λ i. i.page == p) images
-gives p (Write transaction entry before after leaf content) = leaf == p
+gives p (Adjust page change) = false
+gives p (Write transaction entry before after leaf said) = is_whole said && leaf == p
 gives p (Commit transaction number) = false
 gives p (End transaction) = false
 gives p (Counters number counter used next) = false
 gives p (Note transaction entry before leaf) = false
+
+-- whether a record says anything of page p
+abbrev pub speaks_of : {E P : Type 0} → ℕ → Record E P → Bool
+speaks_of p (Pages images counter used) = list_any (λ i. i.page == p) images
+speaks_of p (Adjust page change) = page == p
+speaks_of p (Write transaction entry before after leaf said) = leaf == p
+speaks_of p (Commit transaction number) = false
+speaks_of p (End transaction) = false
+speaks_of p (Counters number counter used next) = false
+speaks_of p (Note transaction entry before leaf) = false
 
 -- every number passes
 abbrev pub any_number : ℕ → Bool
@@ -64,7 +92,8 @@ settled passes t log = list_any (closes passes t) log
 -- whether a record is of transaction t
 abbrev pub names : {E P : Type 0} → ℕ → Record E P → Bool
 names t (Pages images counter used) = false
-names t (Write transaction entry before after leaf content) = transaction == t
+names t (Adjust page change) = false
+names t (Write transaction entry before after leaf said) = transaction == t
 names t (Commit transaction number) = transaction == t
 names t (End transaction) = transaction == t
 names t (Counters number counter used next) = false

@@ -1,7 +1,7 @@
 -- The pages after a log: each record in turn, over a page area.
 use Rattle.std.specs.Prelude.{ℕ, ◌==◌, if◌then◌else◌, List, [], ◌∷◌}
 use Rattle.gx_recovery.specs.Known.{Known, Tree}
-use Rattle.gx_recovery.specs.Records.{Image, Record, Pages, Write, Commit, End, Counters, Note}
+use Rattle.gx_recovery.specs.Records.{Image, Said, Whole, Small, Record, Pages, Adjust, Write, Commit, End, Counters, Note}
 use Rattle.gx_recovery.specs.Analysis.{analysis}
 
 -- the pages with this one's content
@@ -13,10 +13,16 @@ abbrev pub with_images : {P : Type 0} → List (Image P) → (ℕ → P) → ℕ
 with_images [] area = area
 with_images (i ∷ images) area = with_images images (with_page i.page i.content area)
 
+-- what is said of a page makes of its content
+abbrev pub said_over : {P : Type 0} → Said P → P → P
+said_over (Whole content) old = content
+said_over (Small change) old = change.made old
+
 -- what a record makes of the pages
 abbrev pub redo : {E P : Type 0} → (ℕ → P) → Record E P → ℕ → P
 redo area (Pages images counter used) = with_images images area
-redo area (Write transaction entry before after leaf content) = with_page leaf content area
+redo area (Adjust page change) = with_page page (change.made (area page)) area
+redo area (Write transaction entry before after leaf said) = with_page leaf (said_over said (area leaf)) area
 redo area (Commit transaction number) = area
 redo area (End transaction) = area
 redo area (Counters number counter used next) = area

@@ -1,10 +1,10 @@
 -- A small index to try the definitions on: entries are numbers, and pages 2 and 3 are its leaves.
-use Rattle.std.specs.Prelude.{◌≡◌, ℕ, zero, suc, ◌+◌, nat_lt, ◌==◌, Bool, true, false, not, ◌&&◌, if◌then◌else◌, List, [], ◌∷◌, ◌++◌}
+use Rattle.std.specs.Prelude.{◌≡◌, ℕ, zero, suc, ◌+◌, nat_lt, ◌==◌, Bool, true, false, not, ◌&&◌, if◌then◌else◌, filter, List, [], ◌∷◌, ◌++◌}
 use Rattle.std.specs.List.{list_any}
 use Rattle.std.specs.Ordering.{is_eq, nat_cmp}
 use Rattle.gx_recovery.specs.Known.{Known, Tree}
-use Rattle.gx_recovery.specs.Records.{Record, Pages, Write, Commit, End, Counters, Note}
-use Rattle.gx_recovery.specs.Damages.{Damage, NoBody, NoHead, HeadLater, NotDevice, PageNumber, OwnNumber, LeafNumber, NoEntry, LastNumber, Closed, CommitNumber, CounterFalls, UsedFalls, Shared, TooManyOpen, TooManyTouched, damages}
+use Rattle.gx_recovery.specs.Records.{Change, Whole, Small, Record, Pages, Adjust, Write, Commit, End, Counters, Note}
+use Rattle.gx_recovery.specs.Damages.{Damage, NoBody, NoHead, HeadLater, NotDevice, PageNumber, OwnNumber, LeafNumber, NoEntry, LastNumber, Closed, CommitNumber, CounterFalls, UsedFalls, Shared, TooManyOpen, TooManyTouched, NoImage, Unfit, damages}
 
 -- an entry on a leaf, with its mark
 pub record Pair : Type 0 where
@@ -42,7 +42,29 @@ worked = record {
 
 -- an insert by a transaction, of an entry that wasn't there, on page 2
 abbrev pub insert : ℕ → ℕ → Record ℕ Content
-insert t e = Write t e true false 2 (leaf 2 (live e ∷ []))
+insert t e = Write t e true false 2 (Whole (leaf 2 (live e ∷ [])))
+
+-- the content with these pairs
+abbrev pub with_pairs : List Pair → Content → Content
+with_pairs pairs content = record content { pairs = pairs }
+
+-- a small change that adds a pair: it fits a leaf that hasn't the entry
+abbrev pub adding : ℕ → Change Content
+adding e = record {
+  fits = λ content. not (list_any (λ p. p.entry == e) content.pairs);
+  made = λ content. with_pairs (live e ∷ content.pairs) content;
+}
+
+-- one that sweeps an entry away: it fits a leaf that has it with its mark
+abbrev pub sweeping : ℕ → Change Content
+sweeping e = record {
+  fits = λ content. list_any (λ p. p.entry == e && p.marked) content.pairs;
+  made = λ content. with_pairs (filter (λ p. not (p.entry == e)) content.pairs) content;
+}
+
+-- an insert that says only what it adds
+abbrev pub small_insert : ℕ → ℕ → Record ℕ Content
+small_insert t e = Write t e true false 2 (Small (adding e))
 
 -- notes of so many transactions, one each; and so many notes of one transaction
 abbrev pub notes_upto : ℕ → List (Record ℕ Content)
@@ -71,10 +93,13 @@ first body found = record { bodies = body ∷ []; found = found }
 abbrev pub no_transaction : ℕ
 no_transaction = 18446744073709551615
 
--- the rows: the first five logs have nothing wrong with them, each of the others one thing
+-- the rows: the first seven logs have nothing wrong with them, each of the others one thing
 abbrev pub rows : List Row
 rows =
     later (insert 1 7 ∷ Commit 1 1 ∷ insert 2 7 ∷ End 2 ∷ []) []
+    -- small changes behind an image, by a write and by pages; an image is no small change, and may come at any time
+    ∷ later (insert 1 7 ∷ small_insert 1 8 ∷ Commit 1 1 ∷ []) []
+    ∷ later (Pages (record { page = 2; content = leaf 2 (marked 7 ∷ []) } ∷ []) 0 2 ∷ Adjust 2 (sweeping 7) ∷ small_insert 1 7 ∷ insert 1 7 ∷ []) []
     -- at the limits: all pages of the device, the last transaction, eight transactions, 512 entries
     ∷ first (Counters 0 0 8 1 ∷ Note 1 7 true 8 ∷ []) []
     ∷ later (End 18446744073709551614 ∷ []) []
@@ -92,9 +117,9 @@ rows =
     ∷ later (Pages (record { page = 3; content = leaf 3 [] } ∷ []) 0 2 ∷ []) (PageNumber ∷ [])
     -- an image of another page, on a split and on a write
     ∷ later (Pages (record { page = 2; content = leaf 3 [] } ∷ []) 0 2 ∷ []) (OwnNumber ∷ [])
-    ∷ later (Write 1 7 true false 2 (leaf 3 []) ∷ []) (OwnNumber ∷ [])
+    ∷ later (Write 1 7 true false 2 (Whole (leaf 3 [])) ∷ []) (OwnNumber ∷ [])
     -- a leaf that isn't in use, of a write and of a note; a leaf 0
-    ∷ later (Write 1 7 true false 3 (leaf 3 []) ∷ []) (LeafNumber ∷ [])
+    ∷ later (Write 1 7 true false 3 (Whole (leaf 3 [])) ∷ []) (LeafNumber ∷ [])
     ∷ first (fresh_head ∷ Note 1 7 true 3 ∷ []) (LeafNumber ∷ [])
     ∷ first (fresh_head ∷ Note 1 7 true 0 ∷ []) (LeafNumber ∷ [])
     -- so of the first of two notes of one entry
@@ -124,6 +149,14 @@ rows =
     ∷ first (fresh_head ∷ notes_upto 9) (TooManyOpen ∷ [])
     -- 513 entries are touched
     ∷ first (fresh_head ∷ notes_down 513) (TooManyTouched ∷ [])
+    -- a small change with no image before it in this log: of a write, of no transaction, of another page
+    ∷ later (small_insert 1 7 ∷ []) (NoImage ∷ [])
+    ∷ later (Adjust 2 (sweeping 7) ∷ []) (NoImage ∷ [])
+    ∷ later (insert 1 7 ∷ Adjust 1 (adding 8) ∷ []) (NoImage ∷ [])
+    -- one that doesn't fit: the entry is there; it isn't; it is there without a mark
+    ∷ later (insert 1 7 ∷ small_insert 1 7 ∷ []) (Unfit ∷ [])
+    ∷ later (insert 1 7 ∷ Adjust 2 (sweeping 8) ∷ []) (Unfit ∷ [])
+    ∷ later (insert 1 7 ∷ Adjust 2 (sweeping 7) ∷ []) (Unfit ∷ [])
     ∷ []
 
 abbrev pub found_in : List Row → List (List Damage)

@@ -4,7 +4,7 @@
 //! entries are live in given pages, and which pages are good. It knows no device and no tree.
 #![tactic(auto)]
 
-ghost use Rattle.gx_recovery.specs.Known.{Known};
+ghost use Rattle.gx_recovery.specs.Known.{Known, Limits};
 
 use gx_machine::{MAX_CLAIMS, SESSIONS};
 
@@ -21,11 +21,11 @@ pub const TOUCHED: usize = MAX_CLAIMS;
 /// The transaction's number that none can follow, so that no log has it.
 pub const LAST_TRANSACTION: u64 = u64::MAX;
 
-/// Entries and pages, by what a log needs to know of them.
+/// Entries and pages, by what a log needs to know of them. It is known by an index's limits: those of one index never change.
 pub trait Meaning {
     type Entry;
 
     type Page;
 
-    ghost known: { Known Self.Entry Self.Page };
+    ghost known: { Limits → Known Self.Entry Self.Page };
 }

@@ -5,7 +5,7 @@ ghost use Rattle.gx_machine.specs.Keys as keys;
 ghost use Rattle.gx_machine.specs.Sets.{has, IsSetOf};
 ghost use Rattle.gx_machine.specs.Sessions.{view};
 ghost use Rattle.gx_machine.specs.Machine.{Machine};
-ghost use Rattle.gx_recovery.specs.Known.{IsLawful};
+ghost use Rattle.gx_recovery.specs.Known.{Limits, IsLawful};
 ghost use Rattle.gx_recovery.specs.Records.{Record, settled, any_number};
 ghost use Rattle.gx_recovery.specs.Analysis.{number_of};
 ghost use Rattle.gx_recovery.specs.Redo.{tree_of};
@@ -28,23 +28,23 @@ pub fn moves_are_machine_steps<B>()
 /// What a log stands for, and each set of it, can be listed where what is live in its pages can: as a list in order, which is
 /// the machine's set.
 pub fn sets_can_be_listed<B, M: Meaning<Entry = Entry<B>>>()
-    ensures { (k : keys.Keys B) → keys.IsLawful k → IsLawful M.known → M.known.cmp ≡ keys.entry_cmp k
+    ensures { (d : Limits) → (k : keys.Keys B) → keys.IsLawful k → IsLawful (M.known d) → (M.known d).cmp ≡ keys.entry_cmp k
         → (area : ℕ → M.Page) (log : List (Record (Entry B) M.Page)) (live : List (Entry B))
-        → ((e : Entry B) → has k e live ≡ M.known.live (tree_of M.known area log) e)
-        → (passes : ℕ → Bool) → (set : List (Entry B)) × IsSetOf k (stands M.known passes area log) set }
+        → ((e : Entry B) → has k e live ≡ (M.known d).live (tree_of (M.known d) area log) e)
+        → (passes : ℕ → Bool) → (set : List (Entry B)) × IsSetOf k (stands (M.known d) passes area log) set }
 {}
 
 /// The view by touches is the machine's view: of a transaction that is open in a log, what was added is what it touched
 /// and is live, and what was taken away is what it touched and isn't, each a list in order.
 pub fn view_is_the_machines<B, M: Meaning<Entry = Entry<B>>>()
-    ensures added { (k : keys.Keys B) → keys.IsLawful k → IsLawful M.known → M.known.cmp ≡ keys.entry_cmp k
-        → (area : ℕ → M.Page) (log : List (Record (Entry B) M.Page)) → IsLog M.known log → (t : ℕ) → settled any_number t log ≡ false
-        → IsSetOf k (λ e. M.known.live (tree_of M.known area log) e && is_some (own_before M.known t e log)) (changes_of M.known t area log).added }
-    ensures taken { (k : keys.Keys B) → keys.IsLawful k → IsLawful M.known → M.known.cmp ≡ keys.entry_cmp k
-        → (area : ℕ → M.Page) (log : List (Record (Entry B) M.Page)) → IsLog M.known log → (t : ℕ) → settled any_number t log ≡ false
-        → IsSetOf k (λ e. not (M.known.live (tree_of M.known area log) e) && is_some (own_before M.known t e log)) (changes_of M.known t area log).taken }
-    ensures view { (k : keys.Keys B) → keys.IsLawful k → IsLawful M.known → M.known.cmp ≡ keys.entry_cmp k
-        → (area : ℕ → M.Page) (log : List (Record (Entry B) M.Page)) → IsLog M.known log → (t : ℕ) → settled any_number t log ≡ false
-        → (latest : List (Entry B)) → IsSetOf k (set_of M.known (number_of M.known log) area log) latest
-        → IsSetOf k (view_of M.known t area log) (view k latest (changes_of M.known t area log)) }
+    ensures added { (d : Limits) → (k : keys.Keys B) → keys.IsLawful k → IsLawful (M.known d) → (M.known d).cmp ≡ keys.entry_cmp k
+        → (area : ℕ → M.Page) (log : List (Record (Entry B) M.Page)) → IsLog (M.known d) log → (t : ℕ) → settled any_number t log ≡ false
+        → IsSetOf k (λ e. (M.known d).live (tree_of (M.known d) area log) e && is_some (own_before (M.known d) t e log)) (changes_of (M.known d) t area log).added }
+    ensures taken { (d : Limits) → (k : keys.Keys B) → keys.IsLawful k → IsLawful (M.known d) → (M.known d).cmp ≡ keys.entry_cmp k
+        → (area : ℕ → M.Page) (log : List (Record (Entry B) M.Page)) → IsLog (M.known d) log → (t : ℕ) → settled any_number t log ≡ false
+        → IsSetOf k (λ e. not ((M.known d).live (tree_of (M.known d) area log) e) && is_some (own_before (M.known d) t e log)) (changes_of (M.known d) t area log).taken }
+    ensures view { (d : Limits) → (k : keys.Keys B) → keys.IsLawful k → IsLawful (M.known d) → (M.known d).cmp ≡ keys.entry_cmp k
+        → (area : ℕ → M.Page) (log : List (Record (Entry B) M.Page)) → IsLog (M.known d) log → (t : ℕ) → settled any_number t log ≡ false
+        → (latest : List (Entry B)) → IsSetOf k (set_of (M.known d) (number_of (M.known d) log) area log) latest
+        → IsSetOf k (view_of (M.known d) t area log) (view k latest (changes_of (M.known d) t area log)) }
 {}

@@ -5,7 +5,7 @@ ghost use Rattle.gx_recovery.specs.Records.{Commit, Counters, Note};
 ghost use Rattle.gx_recovery.specs.Logged.{IsHealthy, all_records, appended};
 ghost use Rattle.gx_recovery.specs.Life.{IsLife};
 ghost use Rattle.gx_recovery.specs.Worked.{worked, rows, found_in, wanted_of};
-ghost use Rattle.gx_recovery.specs.WorkedLife.{fresh, insert_8, in_flight, committed, second, losing, torn, reopened, undoing, undone, written, renewed_last, worked_steps, sets_of, stood_for, too_early, past_a_gate, noteless, ended_early, shared, seen_by};
+ghost use Rattle.gx_recovery.specs.WorkedLife.{fresh, insert_8, in_flight, committed, second, losing, torn, reopened, undoing, undone, written, renewed_last, worked_steps, sets_of, stood_for, too_early, past_a_gate, torn_page, imageless, imaged, noteless, ended_early, shared, seen_by};
 
 /// Each damaged log of the rows is refused for its own item and for no other. Beside them stand logs that are at a limit
 /// and not over it.
@@ -14,7 +14,8 @@ pub fn each_item_refuses_a_log_alone()
 {}
 
 /// A life of a small index: a fresh log; an insert and its commit; an insert with a split and a deletion, by a transaction
-/// that a crash cuts off, with a page torn; an opening, the undo of both entries, an end; and a checkpoint.
+/// that a crash cuts off, with a page torn; an opening, the undo of both entries, an end; a sweep; and a checkpoint. The
+/// second insert and the sweep are small changes.
 pub fn a_worked_life_meets_the_definitions()
     ensures lawful { IsLawful worked }
     ensures fresh { IsHealthy worked fresh }
@@ -39,16 +40,19 @@ pub fn the_sets_of_the_worked_life()
     ensures undoing { sets_of undoing ≡ (7 ∷ []) ∷ [] }
     ensures undone { sets_of undone ≡ (7 ∷ []) ∷ [] }
     ensures either { stood_for written.area renewed_last.gated ≡ stood_for written.area written.gated }
-    ensures renewed { renewed_last.gated ≡ Counters 1 1 3 3 ∷ [] }
+    ensures renewed { renewed_last.gated ≡ Counters 1 1 3 5 ∷ [] }
 {}
 
 /// What would go wrong. With nothing committed, a crash leaves entry 7 where its page is written before its record is
-/// gated, and where a batch is read behind a closed gate. With entry 7 committed, a crash leaves entry 8 and not 7 where a
+/// gated, and where a batch is read behind a closed gate. It leaves entry 9, which nobody wrote, where a page is written of which
+/// the log has a small change alone, and that write is torn; an image leaves nothing. With entry 7 committed, a crash leaves entry 8 and not 7 where a
 /// checkpoint leaves out the notes, and where a transaction ends before all is restored. Where two transactions write one
 /// entry, the commit of the first has a set that isn't its view.
 pub fn what_the_rules_prevent()
     ensures too_early { stood_for too_early in_flight.gated ≡ 7 ∷ [] }
     ensures past_a_gate { stood_for fresh.area past_a_gate ≡ 7 ∷ [] }
+    ensures imageless { stood_for torn_page imageless ≡ 9 ∷ [] }
+    ensures imaged { stood_for torn_page imaged ≡ [] }
     ensures noteless { stood_for reopened.area noteless ≡ 8 ∷ [] }
     ensures ended_early { sets_of ended_early ≡ (8 ∷ []) ∷ [] }
     ensures seen { seen_by 1 fresh.area shared ≡ [] }

@@ -39,7 +39,7 @@ module _ {B : Type 0} where
   begins_only Begin phase.Working h = let no : ⊥ = cc in absurd no
   begins_only Begin (phase.Open call) h = let no : ⊥ = cc in absurd no
   begins_only Begin (phase.Looking look) h = let no : ⊥ = cc in absurd no
-  begins_only Begin phase.Undoing h = let no : ⊥ = cc in absurd no
+  begins_only Begin (phase.Undoing restored) h = let no : ⊥ = cc in absurd no
   begins_only Begin (phase.Waiting number) h = let no : ⊥ = cc in absurd no
   begins_only (Insert e) p h = let no : ⊥ = cc in absurd no
   begins_only (Delete e) p h = let no : ⊥ = cc in absurd no

@@ -26,10 +26,11 @@ use Rattle.gx_engine_laws.proofs.Places.{session_of_slot}
 use Rattle.gx_engine_laws.proofs.Asks.{same_least, same_held}
 use Rattle.gx_small_engine.specs.declared.phase.Phase.{Phase}
 use Rattle.gx_small_engine.specs.declared.phase.Phase.TheVariants as phase
-use Rattle.gx_small_engine.specs.States.{State, LooksOn, opened_by, slot_of, slots_of, note_of, phase_at, held_at, HoldsNothing, engine_of, IsPlaced}
+use Rattle.gx_small_engine.specs.States.{State, LooksOn, HasRestored, opened_by, slot_of, slots_of, note_of, phase_at, held_at, HoldsNothing, engine_of, IsPlaced}
 use Rattle.gx_small_engine.specs.Moves.{begins}
 use Rattle.gx_small_engine.specs.Asked.{with_phase, LockTaken, AskedFree, AskedWorking, AskedAt}
 use Rattle.gx_small_engine.proofs.Slots.{slots_at, slots_set, slot_here, table_locks, own_locks}
+use Rattle.gx_small_engine.proofs.Undoing.{none_restored}
 
 module _ {B : Type 0} (k : Keys B) (l : IsLawful k) (live : Entry B → Bool) (s : ℕ) (is : is_session s ≡ true)
     (phases : List (Phase B)) (table : List (Held B)) (same : length phases ≡ length table)
@@ -124,7 +125,7 @@ module _ {B : Type 0} (k : Keys B) (l : IsLawful k) (live : Entry B → Bool) (s
       subst (λ (o : Option ℕ). GivesSlots given phases' table' (asked_with Commit (lock_for k Commit o (claims_held all) h.locks) h.locks (map note_of h.notes)))
       (sym (commit_is_free 1 all))
       (sym a.0, moved (phase.Open Commit) phases' table' a.1 a.2)
-  working_asks Abort given phases' table' low at a = (sym a.0, moved phase.Undoing phases' table' a.1 a.2)
+  working_asks Abort given phases' table' low at a = (sym a.0, moved (phase.Undoing 0) phases' table' a.1 a.2)
 
   asks_at : (call : Call B) (given : Asked B) (phases' : List (Phase B)) (table' : List (Held B)) (low : s - 1 < length phases) (q : Phase B) → p ≡ q → HoldsNothing q h
       → AskedAt k s call q phases table given phases' table' → GivesSlots given phases' table' (ask_slot k call (least call) (claims_held all) (slot_of q h))
@@ -134,8 +135,8 @@ module _ {B : Type 0} (k : Keys B) (l : IsLawful k) (live : Entry B → Bool) (s
       (sym a.0.0, unchanged (slot_of (phase.Open pending) h) phases' table' a.0.1 a.1 (ap (λ (q : Phase B). slot_of q h) (sym at)))
   asks_at call given phases' table' low (phase.Looking look) at nothing a =
       (sym a.0.0, unchanged (slot_of (phase.Looking look) h) phases' table' a.0.1 a.1 (ap (λ (q : Phase B). slot_of q h) (sym at)))
-  asks_at call given phases' table' low phase.Undoing at nothing a =
-      (sym a.0.0, unchanged (slot_of phase.Undoing h) phases' table' a.0.1 a.1 (ap (λ (q : Phase B). slot_of q h) (sym at)))
+  asks_at call given phases' table' low (phase.Undoing restored) at nothing a =
+      (sym a.0.0, unchanged (slot_of (phase.Undoing restored) h) phases' table' a.0.1 a.1 (ap (λ (q : Phase B). slot_of q h) (sym at)))
   asks_at call given phases' table' low (phase.Waiting number) at nothing a =
       (sym a.0.0, unchanged (slot_of (phase.Waiting number) h) phases' table' a.0.1 a.1 (ap (λ (q : Phase B). slot_of q h) (sym at)))
 
@@ -189,14 +190,15 @@ module _ {B : Type 0} (k : Keys B) (pairs : List (Listed B)) (s : ℕ) (phases p
 
   -- with other locks, and another phase that isn't a look's
   moves_on : (call : Call B) (q : Phase B) (locks : Locks B) → HoldsNothing q (with_locks locks (held_at (s - 1) table)) → LooksOn k (is_live k pairs) q
+      → HasRestored k (is_live k pairs) q (with_locks locks (held_at (s - 1) table))
       → phases' ≡ with_phase s q phases → table' ≡ with_held s (with_locks locks (held_at (s - 1) table)) table
       → (opened_by q ≡ opened_by (phase_at (s - 1) phases)) ⊎ (begins call (phase_at (s - 1) phases) ≡ true) → OneChanged k call pairs s phases phases' table table'
-  moves_on call q locks nothing looks ep et opened = record {
+  moves_on call q locks nothing looks restored ep et opened = record {
     q = q;
     h = with_locks locks (held_at (s - 1) table);
     phases_is = ep;
     table_is = et;
-    placed = record { nothing = nothing; looks = looks; listed = was.listed; in_order = was.in_order };
+    placed = record { nothing = nothing; looks = looks; restored = restored; listed = was.listed; in_order = was.in_order };
     opened = opened;
   }
 
@@ -205,12 +207,12 @@ module _ {B : Type 0} (k : Keys B) (pairs : List (Listed B)) (s : ℕ) (phases p
 
   lock_changed : (r : Result (Locks B) Refusal) (call : Call B) (given : Asked B) → phase_at (s - 1) phases ≡ phase.Working
       → LockTaken r s call phases table given phases' table' → OneChanged k call pairs s phases phases' table table'
-  lock_changed (Ok locks) call given at t = moves_on call (phase.Open call) locks tt tt t.1 t.2 (inl (sym (ap opened_by at)))
+  lock_changed (Ok locks) call given at t = moves_on call (phase.Open call) locks tt tt tt t.1 t.2 (inl (sym (ap opened_by at)))
   lock_changed (Err why) call given at t = stays_changed call t.0.1 t.1
 
   free_changed : (call : Call B) (given : Asked B) → phase_at (s - 1) phases ≡ phase.Free → AskedFree s call phases given phases' × (table' ≡ table)
       → OneChanged k call pairs s phases phases' table table'
-  free_changed Begin given at a = moves_on Begin phase.Working (held_at (s - 1) table).locks tt tt a.0.1 (same_table a.1) (inr (ap (begins Begin) at))
+  free_changed Begin given at a = moves_on Begin phase.Working (held_at (s - 1) table).locks tt tt tt a.0.1 (same_table a.1) (inr (ap (begins Begin) at))
   free_changed (Insert e) given at a = stays_changed (Insert e) a.0.1 a.1
   free_changed (Delete e) given at a = stays_changed (Delete e) a.0.1 a.1
   free_changed (Search q) given at a = stays_changed (Search q) a.0.1 a.1
@@ -224,8 +226,8 @@ module _ {B : Type 0} (k : Keys B) (pairs : List (Listed B)) (s : ℕ) (phases p
   working_changed (Delete e) given at a = lock_changed (locks_for k (Delete e) s table) (Delete e) given at a
   working_changed (Search q) given at a = lock_changed (locks_for k (Search q) s table) (Search q) given at a
   working_changed Commit given at a =
-      moves_on Commit (phase.Open Commit) (held_at (s - 1) table).locks tt tt a.1 (same_table a.2) (inl (sym (ap opened_by at)))
-  working_changed Abort given at a = moves_on Abort phase.Undoing (held_at (s - 1) table).locks tt tt a.1 (same_table a.2) (inl (sym (ap opened_by at)))
+      moves_on Commit (phase.Open Commit) (held_at (s - 1) table).locks tt tt tt a.1 (same_table a.2) (inl (sym (ap opened_by at)))
+  working_changed Abort given at a = moves_on Abort (phase.Undoing 0) (held_at (s - 1) table).locks tt tt (none_restored k (is_live k pairs) (held_at (s - 1) table).notes) a.1 (same_table a.2) (inl (sym (ap opened_by at)))
 
   pub asked_changed : (call : Call B) (given : Asked B) (q : Phase B) → phase_at (s - 1) phases ≡ q → AskedAt k s call q phases table given phases' table'
       → OneChanged k call pairs s phases phases' table table'
@@ -233,5 +235,5 @@ module _ {B : Type 0} (k : Keys B) (pairs : List (Listed B)) (s : ℕ) (phases p
   asked_changed call given phase.Working at a = working_changed call given at a
   asked_changed call given (phase.Open pending) at a = stays_changed call a.0.1 a.1
   asked_changed call given (phase.Looking look) at a = stays_changed call a.0.1 a.1
-  asked_changed call given phase.Undoing at a = stays_changed call a.0.1 a.1
+  asked_changed call given (phase.Undoing restored) at a = stays_changed call a.0.1 a.1
   asked_changed call given (phase.Waiting number) at a = stays_changed call a.0.1 a.1

@@ -17,6 +17,7 @@ module _ {B : Type 0} (k : Keys B) where
   free_placed = record {
     nothing = refl;
     looks = tt;
+    restored = tt;
     listed = λ e h. let no : ⊥ = cc in absurd no;
     in_order = tt;
   }

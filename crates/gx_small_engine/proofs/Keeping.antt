@@ -1,20 +1,25 @@
 -- What the small engine keeps stays kept by each event of one session, and of none.
-use Rattle.std.proofs.Common.{◌≡◌, ◌≢◌, ℕ, suc, ◌+◌, ◌-◌, ◌<◌, ◌≤◌, true, List, [], ◌∷◌, length, refl, ap, sym, ◌∙◌, arith, subst}
+use Rattle.std.proofs.Common.{◌≡◌, ◌≢◌, ℕ, suc, ◌+◌, ◌-◌, ◌<◌, ◌≤◌, true, List, [], ◌∷◌, length, map, refl, ap, sym, ◌∙◌, arith, subst}
 use Rattle.std.specs.Prelude.{slice_set, sum_by}
 use Rattle.std.proofs.lemmas.List.{length-set}
 use Rattle.std.proofs.lemmas.List.Sums.{sum_by-set, sum_by-cons}
 use Rattle.std.proofs.lemmas.List.Elements.{All-cons, All-nil}
 use Rattle.gx_machine.specs.declared.entry.Entry.{Entry}
 use Rattle.gx_machine.specs.Keys.{Keys, IsLawful}
+use Rattle.gx_machine.specs.Sets.{has}
 use Rattle.gx_machine.specs.Machine.{is_session}
 use Rattle.gx_machine.proofs.Places.{session_bounds}
 use Rattle.gx_txn.specs.Tables.{Held}
-use Rattle.gx_engine_laws.specs.Slots.{slot_at}
-use Rattle.gx_engine_laws.specs.Engines.{last_number}
+use Rattle.gx_engine_laws.specs.Slots as slots
+use Rattle.gx_engine_laws.specs.Slots.{Slot, slot_at, locks_held}
+use Rattle.gx_engine_laws.specs.Engines.{HoldsItsLocks, last_number}
 use Rattle.gx_engine_laws.specs.Events.{Event, IsEvent, step_of}
 use Rattle.gx_engine_laws.specs.Kinds.{is_of_another}
 use Rattle.gx_engine_laws.specs.Looks.{is_live}
 use Rattle.gx_engine_laws.proofs.Places.{is_numbered}
+use Rattle.gx_engine_laws.proofs.Noted.{has_noted}
+use Rattle.gx_engine_laws.proofs.Locking.{claim_bars}
+use Rattle.gx_engine_laws.proofs.Apart.{event_leaves}
 use Rattle.gx_engine_laws.proofs.Follow.{Follows}
 use Rattle.gx_engine_laws.proofs.Faults.{event_follows}
 use Rattle.gx_engine_laws.proofs.EventRuns.{still_sound}
@@ -22,8 +27,9 @@ use Rattle.gx_engine_laws.proofs.Meanwhile.{match_stays}
 use Rattle.gx_engine_laws.proofs.Looked.{look_stays}
 use Rattle.gx_small_engine.specs.declared.phase.Phase.{Phase}
 use Rattle.gx_small_engine.specs.declared.phase.Phase.TheVariants as phase
-use Rattle.gx_small_engine.specs.States.{State, slot_of, phase_at, held_at, LooksOn, AreListed, is_listed, engine_of, opened_by, IsPlaced, IsKept}
+use Rattle.gx_small_engine.specs.States.{State, slot_of, note_of, phase_at, held_at, LooksOn, HasRestored, AreListed, is_listed, engine_of, opened_by, IsPlaced, IsKept}
 use Rattle.gx_small_engine.proofs.Slots.{slot_here, placed_set}
+use Rattle.gx_small_engine.proofs.Undoing.{noted_before}
 
 module _ {B : Type 0} (k : Keys B) (l : IsLawful k) (old new : State B) (kept : IsKept k old) (event : Event B)
     (is : IsEvent k (engine_of k old) event (engine_of k new)) where
@@ -45,8 +51,28 @@ module _ {B : Type 0} (k : Keys B) (l : IsLawful k) (old new : State B) (kept : 
   look_kept j low phase.Free at another looking = tt
   look_kept j low phase.Working at another looking = tt
   look_kept j low (phase.Open call) at another looking = tt
-  look_kept j low phase.Undoing at another looking = tt
+  look_kept j low (phase.Undoing restored) at another looking = tt
   look_kept j low (phase.Waiting number) at another looking = tt
+
+  -- and one keeps what its undo has restored
+  undo_kept : (j : ℕ) → j < 8 → (q : Phase B) → phase_at j old.phases ≡ q → is_of_another (suc j) event ≡ true
+      → HasRestored k (is_live k old.pairs) q (held_at j old.table) → HasRestored k (is_live k new.pairs) q (held_at j old.table)
+  undo_kept j low (phase.Undoing restored) at another before = λ e was noted_so.
+      let h : Held B = held_at j old.table in
+      let back : suc j - 1 ≡ j = omega arith in
+      let slot : slot_at (suc j) (engine_of k old).slots ≡ slots.Undoing h.locks (map note_of h.notes) =
+      slot_here (suc j) old.phases old.table (is_numbered j low) (kept.phases ∙ sym kept.table)
+      ∙ ap (λ (n : ℕ). slot_of (phase_at n old.phases) (held_at n old.table)) back ∙ ap (λ (x : Phase B). slot_of x h) at in
+      let claimed : has k e (locks_held (slot_at (suc j) (engine_of k old).slots)).claims ≡ true =
+      ap (λ (x : Slot B). has k e (locks_held x).claims) slot
+      ∙ subst (HoldsItsLocks k) slot (kept.sound.holds (suc j)) e (has_noted k e (map note_of h.notes) was (noted_before k e was restored h.notes noted_so)) in
+      (event_leaves k l (engine_of k old) kept.sound (suc j) event (engine_of k new) is another).live e (claim_bars k l (engine_of k old) kept.sound (suc j) e claimed)
+      ∙ before e was noted_so
+  undo_kept j low phase.Free at another before = tt
+  undo_kept j low phase.Working at another before = tt
+  undo_kept j low (phase.Open call) at another before = tt
+  undo_kept j low (phase.Looking look) at another before = tt
+  undo_kept j low (phase.Waiting number) at another before = tt
 
   module _ (listed : (j : ℕ) → j < 8 → AreListed k new.pairs (held_at j old.table)) where
     still_placed : (j : ℕ) → j < 8 → is_of_another (suc j) event ≡ true → IsPlaced k new.pairs (phase_at j old.phases) (held_at j old.table)
@@ -54,6 +80,7 @@ module _ {B : Type 0} (k : Keys B) (l : IsLawful k) (old new : State B) (kept : 
         let was = kept.placed j low in record {
           nothing = was.nothing;
           looks = look_kept j low (phase_at j old.phases) refl another was.looks;
+          restored = undo_kept j low (phase_at j old.phases) refl another was.restored;
           listed = listed j low;
           in_order = was.in_order;
         }
@@ -114,7 +141,7 @@ module _ {B : Type 0} where
   opened_most phase.Working = omega arith
   opened_most (phase.Open call) = omega arith
   opened_most (phase.Looking look) = omega arith
-  opened_most phase.Undoing = omega arith
+  opened_most (phase.Undoing restored) = omega arith
   opened_most (phase.Waiting number) = omega arith
 
   opened_in_all : (phases : List (Phase B)) → sum_by opened_by phases ≤ length phases

@@ -3,6 +3,7 @@ pub mod Slots
 pub mod Places
 pub mod Stepping
 pub mod Passing
+pub mod Undoing
 pub mod Keeping
 pub mod Asking
 pub mod Fresh
@@ -11,7 +12,6 @@ pub mod Marks
 pub mod Writing
 pub mod AskEvents
 pub mod MoveEvents
-pub mod Undoing
 pub mod Sealing
 pub mod SearchEvents
 pub mod Sweeping

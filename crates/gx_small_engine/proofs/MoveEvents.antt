@@ -1,5 +1,5 @@
 -- Each exit of a move is an event, and keeps what is kept. The state is given twice: by its parts, and as contracts see it.
-use Rattle.std.proofs.Common.{◌≡◌, ◌≢◌, ℕ, ◌-◌, ◌<◌, ◌≤◌, true, false, not, List, Option, Some, None, map, refl, ap, sym, ◌∙◌, arith, subst}
+use Rattle.std.proofs.Common.{◌≡◌, ◌≢◌, ℕ, ◌+◌, ◌-◌, ◌<◌, ◌≤◌, true, false, not, List, Option, Some, None, map, length, get_or, refl, ap, sym, ◌∙◌, arith, subst, get_or-set_same}
 use Rattle.std.specs.Prelude.{slice_set}
 use Rattle.std.proofs.lemmas.List.{set-get_or}
 use Rattle.gx_geom.specs.declared.refusal.Refusal.TheVariants.{Memory, Present, Absent}
@@ -16,19 +16,21 @@ use Rattle.gx_txn.specs.Tables.{Held, nothing_held, held_by, with_held, with_not
 use Rattle.gx_engine_laws.specs.declared.look.Listed.{Listed}
 use Rattle.gx_engine_laws.specs.Engines.{last_number}
 use Rattle.gx_engine_laws.specs.Events as events
-use Rattle.gx_engine_laws.specs.Events.{Event, IsEvent, IsClosed}
+use Rattle.gx_engine_laws.specs.Events.{Event, IsEvent, IsClosed, marked}
+use Rattle.gx_engine_laws.specs.Slots as slots
 use Rattle.gx_engine_laws.specs.Kinds.{is_of_another}
 use Rattle.gx_engine_laws.specs.Looks.{is_live}
 use Rattle.gx_small_engine.specs.declared.phase.Phase.{Phase}
 use Rattle.gx_small_engine.specs.declared.phase.Phase.TheVariants as phase
-use Rattle.gx_small_engine.specs.States.{State, note_of, phase_at, held_at, is_listed, engine_of, opened_by, IsPlaced, IsKept}
+use Rattle.gx_small_engine.specs.States.{State, slot_of, slots_of, note_of, phase_at, held_at, is_listed, engine_of, opened_by, IsPlaced, IsKept}
 use Rattle.gx_small_engine.specs.Asked.{with_phase}
-use Rattle.gx_small_engine.specs.Moves.{Moves, IsMove, IsWork, reply_of, with_mark, revived, first_unrestored}
+use Rattle.gx_small_engine.specs.Moves.{Moves, IsMove, IsWork, reply_of, with_mark, with_note, revived, RestoresNext}
 use Rattle.gx_small_engine.proofs.AskEvents.{of_others}
 use Rattle.gx_txn.specs.declared.note.Note as txn
-use Rattle.gx_small_engine.proofs.Undoing.{IsNoted, unrestored_noted, all_restored}
-use Rattle.gx_small_engine.proofs.Slots.{slots_set}
-use Rattle.gx_small_engine.proofs.Closing.{is_closed, is_acknowledged, slot_is, as_many}
+use Rattle.gx_small_engine.proofs.Undoing.{IsNoted, each_noted, one_more_restored, all_restored}
+use Rattle.gx_small_engine.proofs.Slots.{slots_at, slots_set}
+use Rattle.gx_small_engine.proofs.Places.{any_default}
+use Rattle.gx_small_engine.proofs.Closing.{is_closed, is_acknowledged, slot_is, slots_moved, as_many}
 use Rattle.gx_small_engine.proofs.Keeping.{kept_by_one, numbers_left}
 use Rattle.gx_small_engine.proofs.Marks.{live_with_mark, live_revived, still_listed, revived_listed, listed_with_mark, live_listed}
 use Rattle.gx_small_engine.proofs.Writing.{insert_claims, delete_claims, is_written, written_placed, written_state, noted_held}
@@ -77,7 +79,7 @@ module _ {B : Type 0} (k : Keys B) (l : IsLawful k) (old now : State B) (same : 
         → IsKept k (with_phases phases')
     closed_kept event is_event others =
         let was = kept.placed (s - 1) low in
-        phase_kept event phase.Working phases' changed is_event others (record { nothing = tt; looks = tt; listed = was.listed; in_order = was.in_order })
+        phase_kept event phase.Working phases' changed is_event others (record { nothing = tt; looks = tt; restored = tt; listed = was.listed; in_order = was.in_order })
         (omega (arith, ap opened_by (phase_now (phase.Open call) at)))
 
   module _ (e : Entry B) (at : phase_at (s - 1) now.phases ≡ phase.Open (Insert e)) where
@@ -98,18 +100,18 @@ module _ {B : Type 0} (k : Keys B) (l : IsLawful k) (old now : State B) (same : 
       lacks_event : IsEvent k (engine_of k old) (events.Closes s (Insert e) Memory) (engine_of k (with_phases phases'))
       lacks_event = (refl, call_closed phases' changed (Insert e) at)
 
-      pub insert_lacks_memory : Moves k s now (Some (reply.Refused Memory)) (with_phases phases') × IsKept k (with_phases phases')
-      insert_lacks_memory = (
-        moves (events.Closes s (Insert e) Memory) (Some (reply.Refused Memory)) (with_phases phases') (refl, refl, refl) refl lacks_event,
+      pub insert_lacks_memory : is_listed k e old.pairs ≡ false → Moves k s now (Some (reply.Refused Memory)) (with_phases phases') × IsKept k (with_phases phases')
+      insert_lacks_memory lacks = (
+        moves (events.Closes s (Insert e) Memory) (Some (reply.Refused Memory)) (with_phases phases') (refl, ap not lacks, refl) refl lacks_event,
         closed_kept phases' changed (Insert e) at (events.Closes s (Insert e) Memory) lacks_event (λ a ne. of_others a s ne),
       )
 
     -- the same, where the pairs are as they were
-    pub insert_closes : (pairs' : List (Listed B)) (phases' : List (Phase B)) → pairs' ≡ old.pairs → phases' ≡ with_phase s phase.Working old.phases
+    pub insert_closes : (pairs' : List (Listed B)) (phases' : List (Phase B)) → is_listed k e old.pairs ≡ false → pairs' ≡ old.pairs → phases' ≡ with_phase s phase.Working old.phases
         → Moves k s now (Some (reply.Refused Memory)) (record old { pairs = pairs'; phases = phases' }) × IsKept k (record old { pairs = pairs'; phases = phases' })
-    insert_closes pairs' phases' ep changed =
+    insert_closes pairs' phases' lacks ep changed =
         subst (λ (ps : List (Listed B)). Moves k s now (Some (reply.Refused Memory)) (record old { pairs = ps; phases = phases' }) × IsKept k (record old { pairs = ps; phases = phases' }))
-        (sym ep) (insert_lacks_memory phases' changed)
+        (sym ep) (insert_lacks_memory phases' changed lacks)
 
     abbrev inserted_state : State B
     inserted_state = written_state k l old kept s is low (Insert e) (phase_now (phase.Open (Insert e)) at) e true (revived k e old.pairs)
@@ -207,63 +209,89 @@ module _ {B : Type 0} (k : Keys B) (l : IsLawful k) (old now : State B) (same : 
         subst (λ (q : Phase B). IsPlaced k old.pairs q (held_at (s - 1) old.table)) (phase_now (phase.Waiting number) at) (kept.placed (s - 1) low) in (
           moves (events.Acknowledges s number) (Some (reply.Committed number)) (with_phases phases') refl refl (acknowledges_event phases' changed durable),
           phase_kept (events.Acknowledges s number) phase.Free phases' changed (acknowledges_event phases' changed durable) (λ a ne. of_others a s ne)
-              (record { nothing = was.nothing; looks = tt; listed = was.listed; in_order = was.in_order }) (omega arith),
+              (record { nothing = was.nothing; looks = tt; restored = tt; listed = was.listed; in_order = was.in_order }) (omega arith),
         )
 
 module _ {B : Type 0} (k : Keys B) (l : IsLawful k) (old now : State B) (same : old ≡ now) (kept : IsKept k old) (s : ℕ) (is : is_session s ≡ true)
-    (at : phase_at (s - 1) now.phases ≡ phase.Undoing) where
+    (m : ℕ) (at : phase_at (s - 1) now.phases ≡ phase.Undoing m) where
   abbrev undoing : Held B
   undoing = held_at (s - 1) old.table
 
-  was_undoing : phase_at (s - 1) old.phases ≡ phase.Undoing
-  was_undoing = phase_now k l old now same kept s is phase.Undoing at
+  was_undoing : phase_at (s - 1) old.phases ≡ phase.Undoing m
+  was_undoing = phase_now k l old now same kept s is (phase.Undoing m) at
 
-  undoing_placed : IsPlaced k old.pairs phase.Undoing undoing
+  undoing_placed : IsPlaced k old.pairs (phase.Undoing m) undoing
   undoing_placed = subst (λ (q : Phase B). IsPlaced k old.pairs q undoing) was_undoing (kept.placed (s - 1) (low k l old now same kept s is))
 
-  module _ (n : txn.Note B) (first : first_unrestored k old.pairs undoing.notes ≡ Some n) where
-    abbrev undone_state : State B
-    undone_state = record old { pairs = with_mark k n.entry (not n.before) old.pairs }
+  module _ (n : txn.Note B) (left : m < length undoing.notes) (next : n ≡ get_or undoing.notes m n) where
+    abbrev undone_phases : List (Phase B)
+    undone_phases = with_phase s (phase.Undoing (m + 1)) old.phases
 
-    note_is : IsNoted k l old.pairs n undoing.notes
-    note_is = unrestored_noted k l old.pairs n undoing.notes undoing_placed.in_order first
+    abbrev undone_state : State B
+    undone_state = record old { pairs = with_note k n old.pairs; phases = undone_phases }
+
+    note_is : IsNoted k n undoing.notes
+    note_is = subst (λ (x : txn.Note B). IsNoted k x undoing.notes) (sym next) (each_noted k l undoing.notes m n undoing_placed.in_order left)
+
+    live_undone : (x : Entry B) → is_live k (with_note k n old.pairs) x ≡ marked k n.entry (not n.before) (is_live k old.pairs) x
+    live_undone x = live_with_mark k l x n.entry (not n.before) old.pairs (undoing_placed.listed n.entry note_is.among)
 
     undoes_event : IsEvent k (engine_of k old) (events.Undoes s n.entry) (engine_of k undone_state)
     undoes_event = record {
       works = refl;
       locks = undoing.locks;
       notes = map note_of undoing.notes;
-      aborts = slot_is k old kept s is phase.Undoing was_undoing;
+      aborts = slot_is k old kept s is (phase.Undoing m) was_undoing;
       was_live = not n.before;
       was_noted = note_is.was;
       is = record {
-        live = λ x. live_with_mark k l x n.entry (not n.before) old.pairs (undoing_placed.listed n.entry note_is.among);
-        slots = refl;
+        live = live_undone;
+        slots = slots_moved k old kept s is (phase.Undoing (m + 1))
+            ∙ ap (λ (x : slots.Slot B). slice_set (slots_of old.phases old.table) (s - 1) x)
+            (sym (slots_at old.phases old.table (s - 1) (as_many k old kept s is) ∙ ap (λ (q : Phase B). slot_of q undoing) was_undoing))
+            ∙ set-get_or (slots_of old.phases old.table) (s - 1) slots.Free;
         older = refl;
         oldest = refl;
         failed = refl;
       };
     }
 
-    more : (x : Entry B) → is_listed k x old.pairs ≡ true → is_listed k x (with_mark k n.entry (not n.before) old.pairs) ≡ true
+    more : (x : Entry B) → is_listed k x old.pairs ≡ true → is_listed k x (with_note k n old.pairs) ≡ true
     more x h = listed_with_mark k l x n.entry (not n.before) old.pairs ∙ h
+
+    undone_placed : IsPlaced k (with_note k n old.pairs) (phase.Undoing (m + 1)) undoing
+    undone_placed = record {
+      nothing = tt;
+      looks = tt;
+      restored = one_more_restored k l undoing.notes m n left next note_is (is_live k old.pairs) (is_live k (with_note k n old.pairs)) live_undone undoing_placed.restored;
+      listed = λ x h. more x (undoing_placed.listed x h);
+      in_order = undoing_placed.in_order;
+    }
+
+    phase_put : phase_at (s - 1) undone_phases ≡ phase.Undoing (m + 1)
+    phase_put = get_or-set_same old.phases (s - 1) (phase.Undoing (m + 1)) phase.Free (omega (arith, low k l old now same kept s is, kept.phases))
+
+    restores : RestoresNext n.entry undoing (phase_at (s - 1) old.phases) (phase_at (s - 1) undone_phases)
+    restores =
+        subst (λ (p : Phase B). RestoresNext n.entry undoing p (phase_at (s - 1) undone_phases)) (sym was_undoing)
+        (subst (λ (p : Phase B). RestoresNext n.entry undoing (phase.Undoing m) p) (sym phase_put)
+        (refl, left, λ d. ap (λ (x : txn.Note B). x.entry) (any_default undoing.notes m d n left ∙ sym next)))
 
     undone_as : Moves k s now None undone_state × IsKept k undone_state
     undone_as = (
-      moves k l old now same kept s is (events.Undoes s n.entry) None undone_state (refl, (n, first, refl)) refl undoes_event,
-      kept_by_one k l old undone_state kept (events.Undoes s n.entry) undoes_event more s phase.Undoing undoing is
-          (sym (set-get_or old.phases (s - 1) phase.Free) ∙ ap (λ (q : Phase B). slice_set old.phases (s - 1) q) was_undoing)
-          (sym (set-get_or old.table (s - 1) nothing_held)) (λ a ne. of_others a s ne)
-          (record { nothing = tt; looks = tt; listed = λ x h. more x (undoing_placed.listed x h); in_order = undoing_placed.in_order })
-          kept.numbers,
+      moves k l old now same kept s is (events.Undoes s n.entry) None undone_state (refl, restores) refl undoes_event,
+      kept_by_one k l old undone_state kept (events.Undoes s n.entry) undoes_event more s (phase.Undoing (m + 1)) undoing is refl
+          (sym (set-get_or old.table (s - 1) nothing_held)) (λ a ne. of_others a s ne) undone_placed
+          (numbers_left old.phases undone_phases (s - 1) (phase.Undoing (m + 1)) (last_number (engine_of k old)) (last_number (engine_of k old)) kept.phases
+          (low k l old now same kept s is) refl kept.numbers (omega (arith, ap opened_by was_undoing))),
     )
 
-    pub undone : (pairs' : List (Listed B)) → pairs' ≡ with_mark k n.entry (not n.before) old.pairs
-        → Moves k s now None (record old { pairs = pairs' }) × IsKept k (record old { pairs = pairs' })
-    undone pairs' changed =
-        subst (λ (ps : List (Listed B)). Moves k s now None (record old { pairs = ps }) × IsKept k (record old { pairs = ps })) (sym changed) undone_as
+    pub undone : (pairs' : List (Listed B)) (phases' : List (Phase B)) → pairs' ≡ with_note k n old.pairs → phases' ≡ with_phase s (phase.Undoing (m + 1)) old.phases
+        → Moves k s now None (record old { pairs = pairs'; phases = phases' }) × IsKept k (record old { pairs = pairs'; phases = phases' })
+    undone pairs' phases' ep eq =
+        subst (λ (x : State B). Moves k s now None x × IsKept k x) (λ i. record old { pairs = sym ep i; phases = sym eq i }) undone_as
 
-  module _ (none : first_unrestored k old.pairs undoing.notes ≡ None) where
+  module _ (past : length undoing.notes ≤ m) where
     abbrev ended_state : State B
     ended_state = record old { phases = with_phase s phase.Free old.phases; table = with_held s nothing_held old.table }
 
@@ -272,8 +300,8 @@ module _ {B : Type 0} (k : Keys B) (l : IsLawful k) (old now : State B) (same : 
       works = refl;
       locks = undoing.locks;
       notes = map note_of undoing.notes;
-      aborts = slot_is k old kept s is phase.Undoing was_undoing;
-      restored = λ e was h. all_restored k l old.pairs e was undoing.notes none h;
+      aborts = slot_is k old kept s is (phase.Undoing m) was_undoing;
+      restored = all_restored k (is_live k old.pairs) m undoing.notes past undoing_placed.restored;
       is = record {
         live = λ e. refl;
         slots = slots_set old.phases old.table (s - 1) phase.Free nothing_held (as_many k old kept s is);
@@ -287,7 +315,7 @@ module _ {B : Type 0} (k : Keys B) (l : IsLawful k) (old now : State B) (same : 
     ended_as = (
       moves k l old now same kept s is (events.EndsUndo s) (Some reply.Aborted) ended_state refl refl ends_event,
       kept_by_one k l old ended_state kept (events.EndsUndo s) ends_event (λ x h. h) s phase.Free nothing_held is refl refl (λ a ne. of_others a s ne)
-          (record { nothing = refl; looks = tt; listed = λ x h. (let no : ⊥ = cc in absurd no); in_order = tt })
+          (record { nothing = refl; looks = tt; restored = tt; listed = λ x h. (let no : ⊥ = cc in absurd no); in_order = tt })
           (numbers_left old.phases ended_state.phases (s - 1) phase.Free (last_number (engine_of k old)) (last_number (engine_of k old)) kept.phases
           (low k l old now same kept s is) refl kept.numbers (omega (arith, ap opened_by was_undoing))),
     )

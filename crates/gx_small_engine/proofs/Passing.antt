@@ -18,25 +18,10 @@ use Rattle.gx_engine_laws.specs.Slots.{noted}
 use Rattle.gx_engine_laws.specs.Looks.{is_live}
 use Rattle.gx_small_engine.specs.States.{note_of, held_at}
 use Rattle.gx_small_engine.specs.Standing.{noted_among, stands}
-use Rattle.gx_small_engine.specs.Moves.{is_unrestored, first_unrestored}
 
 -- the rest of a list begins with the element that is read
 front : {X : Type 0} (xs : List X) (i : ℕ) (x : X) → i < length xs → x ≡ get_or xs i x → drop i xs ≡ x ∷ drop (i + 1) xs
 front xs i x low is = drop_more xs i x low ∙ ap (λ y. y ∷ drop (i + 1) xs) (sym is)
-
-module _ {B : Type 0} (k : Keys B) (pairs : List (Listed B)) (notes : List (txn.Note B)) (i : ℕ) (n : txn.Note B) (low : i < length notes) (is : n ≡ get_or notes i n)
-    (passed : first_unrestored k pairs (drop i notes) ≡ first_unrestored k pairs notes) where
-  abbrev first_by : Bool → Option (txn.Note B)
-  first_by t = if t then Some n else first_unrestored k pairs (drop (i + 1) notes)
-
-  first_is : (t : Bool) → is_unrestored k pairs n ≡ t → first_by t ≡ first_unrestored k pairs notes
-  first_is t u = ap first_by (sym u) ∙ ap (first_unrestored k pairs) (sym (front notes i n low is)) ∙ passed
-
-  pub first_here : is_unrestored k pairs n ≡ true → Some n ≡ first_unrestored k pairs notes
-  first_here u = first_is true u
-
-  pub first_later : is_unrestored k pairs n ≡ false → first_unrestored k pairs (drop (i + 1) notes) ≡ first_unrestored k pairs notes
-  first_later u = first_is false u
 
 module _ {B : Type 0} (k : Keys B) (e : Entry B) (notes : List (txn.Note B)) (i : ℕ) (n : txn.Note B) (low : i < length notes) (is : n ≡ get_or notes i n)
     (passed : noted k e (map note_of (drop i notes)) ≡ noted k e (map note_of notes)) where

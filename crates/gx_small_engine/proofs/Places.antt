@@ -12,7 +12,7 @@ use Rattle.gx_small_engine.specs.Asked.{with_phase}
 use Rattle.gx_small_engine.specs.Moves.{LooksLater, IsNearer}
 use Rattle.gx_small_engine.specs.States.{State, phase_at, IsKept}
 
-any_default : {X : Type 0} (xs : List X) (i : ℕ) (d e : X) → i < length xs → get_or xs i d ≡ get_or xs i e
+pub any_default : {X : Type 0} (xs : List X) (i : ℕ) (d e : X) → i < length xs → get_or xs i d ≡ get_or xs i e
 any_default [] i d e low = absurd (omega arith)
 any_default (x ∷ xs) zero d e low = refl
 any_default (x ∷ xs) (suc i) d e low = any_default xs i d e (omega arith)

@@ -28,7 +28,7 @@ module _ {B : Type 0} where
   notes_same phase.Working h none = refl
   notes_same (phase.Open call) h none = refl
   notes_same (phase.Looking look) h none = refl
-  notes_same phase.Undoing h none = refl
+  notes_same (phase.Undoing restored) h none = refl
   notes_same (phase.Waiting number) h none = ap (λ (x : Held B). map note_of x.notes) (sym none)
 
 module _ {B : Type 0} (k : Keys B) where

@@ -80,7 +80,7 @@ module _ {B : Type 0} (k : Keys B) (l : IsLawful k) (old now : State B) (same : 
             (λ there. subst (λ (x : Phase B). IsWork old.oldest x (phase_at (s - 1) phases')) (sym (phase_now k l old now same kept s is q at))
             (subst (λ (y : Phase B). IsWork old.oldest q y) (sym (phase_set (phase.Looking look) phases' changed)) work)) refl event,
         phase_kept k l old now same kept s is events.Works (phase.Looking look) phases' changed event (λ a ne. refl)
-            (record { nothing = tt; looks = looking; listed = was.listed; in_order = was.in_order })
+            (record { nothing = tt; looks = looking; restored = tt; listed = was.listed; in_order = was.in_order })
             (omega (arith, ap opened_by (phase_now k l old now same kept s is q at), one)),
       )
 
@@ -110,12 +110,12 @@ module _ {B : Type 0} (k : Keys B) (l : IsLawful k) (old now : State B) (same : 
   looks_on (phase.Looking look) phase.Free at on nearer phases' changed = absurd on
   looks_on (phase.Looking look) phase.Working at on nearer phases' changed = absurd on
   looks_on (phase.Looking look) (phase.Open call) at on nearer phases' changed = absurd on
-  looks_on (phase.Looking look) phase.Undoing at on nearer phases' changed = absurd on
+  looks_on (phase.Looking look) (phase.Undoing restored) at on nearer phases' changed = absurd on
   looks_on (phase.Looking look) (phase.Waiting number) at on nearer phases' changed = absurd on
   looks_on phase.Free q' at on nearer phases' changed = absurd on
   looks_on phase.Working q' at on nearer phases' changed = absurd on
   looks_on (phase.Open call) q' at on nearer phases' changed = absurd on
-  looks_on phase.Undoing q' at on nearer phases' changed = absurd on
+  looks_on (phase.Undoing restored) q' at on nearer phases' changed = absurd on
   looks_on (phase.Waiting number) q' at on nearer phases' changed = absurd on
 
   module _ (look : Looking B) (at : At (phase.Looking look)) (phases' : List (Phase B)) (changed : phases' ≡ with_phase s phase.Working old.phases) where
@@ -129,7 +129,7 @@ module _ {B : Type 0} (k : Keys B) (l : IsLawful k) (old now : State B) (same : 
     look_closed_kept event is_event others =
         let was = was_placed (phase.Looking look) at in
         phase_kept k l old now same kept s is event phase.Working phases' changed is_event others
-        (record { nothing = tt; looks = tt; listed = was.listed; in_order = was.in_order })
+        (record { nothing = tt; looks = tt; restored = tt; listed = was.listed; in_order = was.in_order })
         (omega (arith, ap opened_by (phase_now k l old now same kept s is (phase.Looking look) at)))
 
     look_lacks : Moves k s now (Some (reply.Refused Memory)) (record old { phases = phases' }) × IsKept k (record old { phases = phases' })
@@ -170,7 +170,7 @@ module _ {B : Type 0} (k : Keys B) (l : IsLawful k) (old now : State B) (same : 
   look_closes phase.Free q' at has middle phases' first later = absurd has
   look_closes phase.Working q' at has middle phases' first later = absurd has
   look_closes (phase.Open call) q' at has middle phases' first later = absurd has
-  look_closes phase.Undoing q' at has middle phases' first later = absurd has
+  look_closes (phase.Undoing restored) q' at has middle phases' first later = absurd has
   look_closes (phase.Waiting number) q' at has middle phases' first later = absurd has
 
   -- a look has ended
@@ -182,12 +182,12 @@ module _ {B : Type 0} (k : Keys B) (l : IsLawful k) (old now : State B) (same : 
   look_ended (phase.Looking look) phase.Free at on none entries are middle phases' first last = absurd on
   look_ended (phase.Looking look) phase.Working at on none entries are middle phases' first last = absurd on
   look_ended (phase.Looking look) (phase.Open call) at on none entries are middle phases' first last = absurd on
-  look_ended (phase.Looking look) phase.Undoing at on none entries are middle phases' first last = absurd on
+  look_ended (phase.Looking look) (phase.Undoing restored) at on none entries are middle phases' first last = absurd on
   look_ended (phase.Looking look) (phase.Waiting number) at on none entries are middle phases' first last = absurd on
   look_ended phase.Free q' at on none entries are middle phases' first last = absurd on
   look_ended phase.Working q' at on none entries are middle phases' first last = absurd on
   look_ended (phase.Open call) q' at on none entries are middle phases' first last = absurd on
-  look_ended phase.Undoing q' at on none entries are middle phases' first last = absurd on
+  look_ended (phase.Undoing restored) q' at on none entries are middle phases' first last = absurd on
   look_ended (phase.Waiting number) q' at on none entries are middle phases' first last = absurd on
 
   module _ (at : At (phase.Open Commit)) where
@@ -233,7 +233,7 @@ module _ {B : Type 0} (k : Keys B) (l : IsLawful k) (old now : State B) (same : 
         moves k l old now same kept s is (events.Seals s (standing k old.pairs old.table) number) None sealed_state refl refl seals_event,
         kept_by_one k l old sealed_state kept (events.Seals s (standing k old.pairs old.table) number) seals_event (λ e h. h) s (phase.Waiting number) nothing_held is refl refl
             (λ a ne. of_others a s ne)
-            (record { nothing = refl; looks = tt; listed = λ x h. (let no : ⊥ = cc in absurd no); in_order = tt })
+            (record { nothing = refl; looks = tt; restored = tt; listed = λ x h. (let no : ⊥ = cc in absurd no); in_order = tt })
             (numbers_left old.phases sealed_state.phases (s - 1) (phase.Waiting number) (last_number (engine_of k old)) (last_number (engine_of k sealed_state)) kept.phases
             (low k l old now same kept s is) refl kept.numbers
             (omega (arith, length-append old.older (standing k old.pairs old.table ∷ []), ap opened_by (phase_now k l old now same kept s is (phase.Open Commit) at)))),
@@ -251,10 +251,10 @@ still_looks k live (phase.Looking look) (phase.Looking later) on = tt
 still_looks k live (phase.Looking look) phase.Free on = absurd on
 still_looks k live (phase.Looking look) phase.Working on = absurd on
 still_looks k live (phase.Looking look) (phase.Open call) on = absurd on
-still_looks k live (phase.Looking look) phase.Undoing on = absurd on
+still_looks k live (phase.Looking look) (phase.Undoing restored) on = absurd on
 still_looks k live (phase.Looking look) (phase.Waiting number) on = absurd on
 still_looks k live phase.Free q' on = absurd on
 still_looks k live phase.Working q' on = absurd on
 still_looks k live (phase.Open call) q' on = absurd on
-still_looks k live phase.Undoing q' on = absurd on
+still_looks k live (phase.Undoing restored) q' on = absurd on
 still_looks k live (phase.Waiting number) q' on = absurd on

@@ -67,7 +67,7 @@ module _ {B : Type 0} where
   own_locks k live phase.Working h none = refl
   own_locks k live (phase.Open call) h none = refl
   own_locks k live (phase.Looking look) h none = refl
-  own_locks k live phase.Undoing h none = refl
+  own_locks k live (phase.Undoing restored) h none = refl
   own_locks k live (phase.Waiting number) h none = ap (λ (x : Held B). x.locks) (sym none)
 
   pub table_locks : (k : Keys B) (live : Entry B → Bool) (phases : List (Phase B)) (table : List (Held B)) → length phases ≡ length table

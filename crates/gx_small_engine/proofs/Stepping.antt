@@ -25,5 +25,5 @@ no_look (phase.Looking look) other has = other look refl
 no_look phase.Free other has = has
 no_look phase.Working other has = has
 no_look (phase.Open call) other has = has
-no_look phase.Undoing other has = has
+no_look (phase.Undoing restored) other has = has
 no_look (phase.Waiting number) other has = has

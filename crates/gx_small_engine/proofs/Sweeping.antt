@@ -109,7 +109,7 @@ module _ {B : Type 0} (k : Keys B) (l : IsLawful k) (old : State B) (kept : IsKe
   noted_claimed phase.Working h nothing holds e is = covered_claim e h holds is
   noted_claimed (phase.Open call) h nothing holds e is = covered_claim e h holds.0 is
   noted_claimed (phase.Looking look) h nothing holds e is = covered_claim e h holds.0 is
-  noted_claimed phase.Undoing h nothing holds e is = covered_claim e h holds is
+  noted_claimed (phase.Undoing restored) h nothing holds e is = covered_claim e h holds is
   noted_claimed (phase.Waiting number) h nothing holds e is = nothing_noted e h nothing is
 
   holds_at : (j : ℕ) → j < 8 → HoldsItsLocks k (slot_of (phase_at j old.phases) (held_at j old.table))

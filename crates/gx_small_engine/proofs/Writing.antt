@@ -104,6 +104,7 @@ module _ {B : Type 0} (k : Keys B) (l : IsLawful k) (old : State B) (kept : IsKe
     written_placed more there = record {
       nothing = tt;
       looks = tt;
+      restored = tt;
       listed = λ x h.
           elim (or_either (same_entry k x e) (has k x (entries_of held.notes))
           (sym (has-including k l x e (entries_of held.notes)) ∙ sym (ap (has k x) (entries_of-noting k note held.notes)) ∙ h)) [

@@ -50,7 +50,7 @@ AskedWorking k s (Search q) phases table given phases' table' = LockTaken (locks
 AskedWorking k s Commit phases table given phases' table' =
     (given ≡ asked.Open) × (phases' ≡ with_phase s (phase.Open Commit) phases) × (table' ≡ table)
 AskedWorking k s Abort phases table given phases' table' =
-    (given ≡ asked.Open) × (phases' ≡ with_phase s phase.Undoing phases) × (table' ≡ table)
+    (given ≡ asked.Open) × (phases' ≡ with_phase s (phase.Undoing 0) phases) × (table' ≡ table)
 
 -- by how far the session is
 abbrev pub AskedAt : {B : Type 0} → Keys B → ℕ → Call B → Phase B → List (Phase B) → List (Held B) → Asked B → List (Phase B) → List (Held B) → Type 0
@@ -58,5 +58,5 @@ AskedAt k s call phase.Free phases table given phases' table' = AskedFree s call
 AskedAt k s call phase.Working phases table given phases' table' = AskedWorking k s call phases table given phases' table'
 AskedAt k s call (phase.Open pending) phases table given phases' table' = Stays CallOpen phases given phases' × (table' ≡ table)
 AskedAt k s call (phase.Looking look) phases table given phases' table' = Stays CallOpen phases given phases' × (table' ≡ table)
-AskedAt k s call phase.Undoing phases table given phases' table' = Stays CallOpen phases given phases' × (table' ≡ table)
+AskedAt k s call (phase.Undoing restored) phases table given phases' table' = Stays CallOpen phases given phases' × (table' ≡ table)
 AskedAt k s call (phase.Waiting number) phases table given phases' table' = Stays CallOpen phases given phases' × (table' ≡ table)

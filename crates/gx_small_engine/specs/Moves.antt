@@ -1,5 +1,6 @@
 -- What the small engine's calls do, as events.
-use Rattle.std.specs.Prelude.{ℕ, ◌≡◌, ◌⊎◌, ◌<◌, ◌≤◌, ◌-◌, Bool, true, false, not, ◌||◌, if◌then◌else◌, filter, map, Option, None, Some, List, [], ◌∷◌, ◌++◌}
+use Rattle.std.specs.Prelude.{ℕ, ◌≡◌, ◌⊎◌, ◌+◌, ◌<◌, ◌≤◌, ◌-◌, Bool, true, false, not, ◌||◌, if◌then◌else◌, length, filter, map, Option, None, Some, List, [], ◌∷◌, ◌++◌}
+use Rattle.std.specs.List.{slice_index_or}
 use Rattle.gx_geom.specs.declared.refusal.Refusal.TheVariants.{Memory, HistoryFull, Present, Absent}
 use Rattle.gx_machine.specs.declared.limits.TheConstants.{LAST_NUMBER}
 use Rattle.gx_machine.specs.declared.entry.Entry.{Entry}
@@ -13,11 +14,11 @@ use Rattle.gx_machine.specs.Keys.{Keys, same_entry}
 use Rattle.gx_machine.specs.Machine.{is_session}
 use Rattle.gx_machine.specs.Sets.{including_all}
 use Rattle.gx_txn.specs.declared.note.Note as txn
-use Rattle.gx_txn.specs.Tables.{claimed_in}
+use Rattle.gx_txn.specs.Tables.{Held, claimed_in}
 use Rattle.gx_engine_laws.specs.declared.look.Listed.{Listed}
 use Rattle.gx_engine_laws.specs.Engines.{last_number}
 use Rattle.gx_engine_laws.specs.Events.{Event, Asks, RefusesAsk, Inserts, Deletes, FindsPresent, FindsAbsent, Finds, Closes, Seals, Acknowledges, Undoes, EndsUndo, Works, IsEvent}
-use Rattle.gx_engine_laws.specs.Looks.{IsLooking, is_live, left}
+use Rattle.gx_engine_laws.specs.Looks.{IsLooking, left}
 use Rattle.gx_small_engine.specs.declared.phase.Phase.{Phase}
 use Rattle.gx_small_engine.specs.declared.phase.Phase.TheVariants as phase
 use Rattle.gx_small_engine.specs.States.{State, engine_of, is_listed, phase_at, held_at}
@@ -42,6 +43,10 @@ mark_set k e live p = if same_entry k e p.entry then record p { live = live } el
 abbrev pub with_mark : {B : Type 0} → Keys B → Entry B → Bool → List (Listed B) → List (Listed B)
 with_mark k e live pairs = map (mark_set k e live) pairs
 
+-- the list with the pairs of a note's entry as the note says
+abbrev pub with_note : {B : Type 0} → Keys B → txn.Note B → List (Listed B) → List (Listed B)
+with_note k n pairs = with_mark k n.entry (not n.before) pairs
+
 -- the state without the marked pairs that no session claims
 abbrev pub swept : {B : Type 0} → Keys B → State B → State B
 swept k state = record state { pairs = filter (λ p. p.live || claimed_in k p.entry state.table) state.pairs }
@@ -50,23 +55,20 @@ swept k state = record state { pairs = filter (λ p. p.live || claimed_in k p.en
 abbrev pub revived : {B : Type 0} → Keys B → Entry B → List (Listed B) → List (Listed B)
 revived k e pairs = if is_listed k e pairs then with_mark k e true pairs else pairs ++ record { entry = e; live = true } ∷ []
 
--- a call that needs memory to be answered
-abbrev pub takes_memory : {B : Type 0} → Call B → Bool
-takes_memory Begin = false
-takes_memory (Insert e) = true
-takes_memory (Delete e) = false
-takes_memory (Search q) = true
-takes_memory Commit = true
-takes_memory Abort = false
+-- a call that needs memory to be answered: of inserts, only one whose entry has no pair
+abbrev pub takes_memory : {B : Type 0} → Keys B → List (Listed B) → Call B → Bool
+takes_memory k pairs Begin = false
+takes_memory k pairs (Insert e) = not (is_listed k e pairs)
+takes_memory k pairs (Delete e) = false
+takes_memory k pairs (Search q) = true
+takes_memory k pairs Commit = true
+takes_memory k pairs Abort = false
 
--- an entry isn't as its note says
-abbrev pub is_unrestored : {B : Type 0} → Keys B → List (Listed B) → txn.Note B → Bool
-is_unrestored k pairs n = if n.before then is_live k pairs n.entry else not (is_live k pairs n.entry)
-
--- the first such
-abbrev pub first_unrestored : {B : Type 0} → Keys B → List (Listed B) → List (txn.Note B) → Option (txn.Note B)
-first_unrestored k pairs [] = None
-first_unrestored k pairs (n ∷ notes) = if is_unrestored k pairs n then Some n else first_unrestored k pairs notes
+-- an undo restores the next note, which is of this entry, and counts it
+abbrev pub RestoresNext : {B : Type 0} → Entry B → Held B → Phase B → Phase B → Type 0
+RestoresNext {B} e h (phase.Undoing restored) (phase.Undoing later) =
+    (later ≡ restored + 1) × (restored < length h.notes) × ((d : txn.Note B) → (slice_index_or h.notes restored d).entry ≡ e)
+RestoresNext e h p q = ⊥
 
 -- the session's search has begun to look
 abbrev pub HasLook : {B : Type 0} → Phase B → Type 0
@@ -101,22 +103,22 @@ IsWork oldest (phase.Open (Search query)) q = HasLook q
 IsWork oldest (phase.Open Commit) q = ⊥
 IsWork oldest (phase.Open Abort) q = Unit {0}
 IsWork oldest (phase.Looking look) q = IsNearer true (phase.Looking look) q
-IsWork oldest phase.Undoing q = ⊥
+IsWork oldest (phase.Undoing restored) q = ⊥
 IsWork oldest (phase.Waiting number) q = oldest < number
 
--- An event of this session that goes on with its call, or work that decides nothing. An undo is of the first entry that
--- isn't yet as it was; no call is closed for another want than of memory.
+-- An event of this session that goes on with its call, or work that decides nothing. An undo is of the next note; no call
+-- is closed for another want than of memory, and only one that needs it.
 abbrev pub IsMove : {B : Type 0} → Keys B → ℕ → State B → State B → Event B → Type 0
 IsMove k s old new (Inserts t e) = t ≡ s
 IsMove k s old new (Deletes t e) = t ≡ s
 IsMove k s old new (FindsPresent t e) = t ≡ s
 IsMove k s old new (FindsAbsent t e) = t ≡ s
 IsMove k s old new (Finds t query entries) = t ≡ s
-IsMove k s old new (Closes t call why) = (t ≡ s) × (takes_memory call ≡ true) × (why ≡ Memory)
+IsMove k s old new (Closes t call why) = (t ≡ s) × (takes_memory k old.pairs call ≡ true) × (why ≡ Memory)
 IsMove k s old new (Seals t set number) = t ≡ s
 IsMove k s old new (Acknowledges t number) = t ≡ s
-IsMove {B} k s old new (Undoes t e) =
-    (t ≡ s) × ((n : txn.Note B) × (first_unrestored k old.pairs (held_at (s - 1) old.table).notes ≡ Some n) × (n.entry ≡ e))
+IsMove k s old new (Undoes t e) =
+    (t ≡ s) × RestoresNext e (held_at (s - 1) old.table) (phase_at (s - 1) old.phases) (phase_at (s - 1) new.phases)
 IsMove k s old new (EndsUndo t) = t ≡ s
 IsMove k s old new Works = is_session s ≡ true → IsWork old.oldest (phase_at (s - 1) old.phases) (phase_at (s - 1) new.phases)
 IsMove k s old new other = ⊥

@@ -1,5 +1,5 @@
 -- The small engine as a state, and what of it decides.
-use Rattle.std.specs.Prelude.{ℕ, ◌≡◌, ◌+◌, ◌<◌, Bool, true, false, not, length, sum_by, replicate, map, None, Some, List, [], ◌∷◌}
+use Rattle.std.specs.Prelude.{ℕ, ◌≡◌, ◌+◌, ◌<◌, Bool, true, false, not, length, sum_by, replicate, map, take, None, Some, List, [], ◌∷◌}
 use Rattle.std.specs.List.{list_any, slice_index_or}
 use Rattle.gx_machine.specs.declared.limits.TheConstants.{SESSIONS, LAST_NUMBER}
 use Rattle.gx_machine.specs.declared.entry.Entry.{Entry}
@@ -12,7 +12,7 @@ use Rattle.gx_txn.specs.Notes.{entries_of}
 use Rattle.gx_txn.specs.Tables.{Held, nothing_held}
 use Rattle.gx_engine_laws.specs.declared.look.Listed.{Listed}
 use Rattle.gx_engine_laws.specs.Slots as slots
-use Rattle.gx_engine_laws.specs.Slots.{Slot, Note}
+use Rattle.gx_engine_laws.specs.Slots.{Slot, Note, noted}
 use Rattle.gx_engine_laws.specs.Engines.{Engine, IsSound, SeenAs, last_number}
 use Rattle.gx_engine_laws.specs.Looks.{IsLooking, is_live}
 use Rattle.gx_small_engine.specs.declared.phase.Phase.{Phase}
@@ -41,7 +41,7 @@ slot_of phase.Free h = slots.Free
 slot_of phase.Working h = slots.Working h.locks (map note_of h.notes) None
 slot_of (phase.Open call) h = slots.Working h.locks (map note_of h.notes) (Some call)
 slot_of (phase.Looking look) h = slots.Working h.locks (map note_of h.notes) (Some (Search look.query))
-slot_of phase.Undoing h = slots.Undoing h.locks (map note_of h.notes)
+slot_of (phase.Undoing restored) h = slots.Undoing h.locks (map note_of h.notes)
 slot_of (phase.Waiting number) h = slots.Waiting number
 
 abbrev pub slots_of : {B : Type 0} → List (Phase B) → List (Held B) → List (Slot B)
@@ -74,24 +74,35 @@ abbrev pub LooksOn : {B : Type 0} → Keys B → (Entry B → Bool) → Phase B 
 LooksOn k live (phase.Looking look) = IsLooking k live look
 LooksOn k live other = Unit {0}
 
+-- of the notes, the first so many are restored: their entries are as live as the notes say
+abbrev pub AreRestored : {B : Type 0} → Keys B → (Entry B → Bool) → ℕ → List (txn.Note B) → Type 0
+AreRestored {B} k live restored notes =
+    (e : Entry B) (was_live : Bool) → noted k e (map note_of (take restored notes)) ≡ Some was_live → live e ≡ was_live
+
+-- an undo has restored what it counts
+abbrev pub HasRestored : {B : Type 0} → Keys B → (Entry B → Bool) → Phase B → Held B → Type 0
+HasRestored k live (phase.Undoing restored) h = AreRestored k live restored h.notes
+HasRestored k live other h = Unit {0}
+
 -- one where a session has a transaction whose commit may come
 abbrev pub opened_by : {B : Type 0} → Phase B → ℕ
 opened_by phase.Free = 0
 opened_by phase.Working = 1
 opened_by (phase.Open call) = 1
 opened_by (phase.Looking look) = 1
-opened_by phase.Undoing = 1
+opened_by (phase.Undoing restored) = 1
 opened_by (phase.Waiting number) = 0
 
 -- each entry that a session has noted has its pair
 abbrev pub AreListed : {B : Type 0} → Keys B → List (Listed B) → Held B → Type 0
 AreListed {B} k pairs h = (e : Entry B) → has k e (entries_of h.notes) ≡ true → is_listed k e pairs ≡ true
 
--- what is kept of each session: without a transaction it holds nothing; a look that has begun is at work; each entry that
--- it noted has its pair, and is noted once
+-- what is kept of each session: without a transaction it holds nothing; a look that has begun is at work; an undo has
+-- restored the notes that it counts; each entry that it noted has its pair, and is noted once
 pub record IsPlaced {B : Type 0} (k : Keys B) (pairs : List (Listed B)) (p : Phase B) (h : Held B) : Type 0 where
   pub nothing : HoldsNothing p h
   pub looks : LooksOn k (is_live k pairs) p
+  pub restored : HasRestored k (is_live k pairs) p h
   pub listed : AreListed k pairs h
   pub in_order : InOrder k (entries_of h.notes)
 

@@ -86,7 +86,7 @@ fn ask_working<B: Shape>(
     match call {
         Call::Begin => refused(Refusal::InTransaction),
         Call::Abort => {
-            set_phase(phases, session, Phase::Undoing);
+            set_phase(phases, session, Phase::Undoing(0));
             Asked::Open
         }
         Call::Insert(e) => {
@@ -123,7 +123,7 @@ pub fn ask_at<B: Shape>(
     match &phases[place_of(session)] {
         Phase::Free => ask_free(phases, session, call),
         Phase::Working => ask_working(phases, table, session, call),
-        Phase::Open(_) | Phase::Looking(_) | Phase::Undoing | Phase::Waiting(_) => {
+        Phase::Open(_) | Phase::Looking(_) | Phase::Undoing(_) | Phase::Waiting(_) => {
             refused(Refusal::CallOpen)
         }
     }

@@ -181,23 +181,22 @@ impl<B: Shape> SmallEngine<B> {
         Some(Reply::Committed(number))
     }
 
-    /// An undo: one entry that isn't yet as it was gets its first mark, or all are, and the transaction ends.
-    fn undo(&mut self, session: u8) -> Option<Reply<B>>
+    /// An undo: the entry of the next note gets its first mark, or no note is left, and the transaction ends.
+    fn undo(&mut self, session: u8, restored: usize) -> Option<Reply<B>>
         requires session { is_session session ≡ true }
-        requires undoes { phase_at (session - 1) self.old.phases ≡ phase.Undoing }
+        requires undoes { phase_at (session - 1) self.old.phases ≡ phase.Undoing restored }
         ensures { Moves (keys_of B.Shape) session self.old result self.new }
     {
-        match pairs::first_unrestored(&self.pairs, self.table.notes(session)) {
-            Some(note) => {
-                pairs::set_mark(&mut self.pairs, &note.entry, !note.before);
-                None
-            }
-            None => {
-                self.table.end(session);
-                asks::set_phase(&mut self.phases, session, Phase::Free);
-                Some(Reply::Aborted)
-            }
+        let notes = self.table.notes(session);
+        if restored >= notes.len() {
+            self.table.end(session);
+            asks::set_phase(&mut self.phases, session, Phase::Free);
+            return Some(Reply::Aborted);
         }
+        let note = notes[restored];
+        pairs::restore(&mut self.pairs, &note);
+        asks::set_phase(&mut self.phases, session, Phase::Undoing(restored + 1));
+        None
     }
 
     /// An open search: its look begins.
@@ -255,7 +254,7 @@ impl<B: Shape> SmallEngine<B> {
         let alloc = *self.pairs.allocator();
         match standing::keep_standing(alloc, &mut self.older, &self.pairs, &self.table) {
             Ok(()) => {
-                self.table.commit(session);
+                self.table.end(session);
                 asks::set_phase(&mut self.phases, session, Phase::Waiting(number));
                 None
             }
@@ -287,7 +286,8 @@ impl<B: Shape> SmallEngine<B> {
     /// answered. None where the reply is still to come, or nothing is open.
     ///
     /// Refusals: `Present` for an insert of an entry that is live, `Absent` for a delete of one that isn't, `Memory` for want
-    /// of it. The call is then closed, and may be asked again.
+    /// of it in a search, a commit, or an insert of an entry that has no pair. The call is then closed, and may be asked
+    /// again.
     pub fn go_on(&mut self, session: u8) -> Option<Reply<B>>
         ensures { Moves (keys_of B.Shape) session self.old result self.new }
     {
@@ -302,7 +302,10 @@ impl<B: Shape> SmallEngine<B> {
                 self.go_on_open(session, call)
             }
             Phase::Looking(_) => self.look_on(session),
-            Phase::Undoing => self.undo(session),
+            Phase::Undoing(restored) => {
+                let restored = *restored;
+                self.undo(session, restored)
+            }
             Phase::Waiting(number) => {
                 let number = *number;
                 self.acknowledge(session, number)

@@ -1,12 +1,12 @@
 //! A list of pairs with marks.
-ghost use Rattle.std.specs.Prelude.{◌≡◌, ◌||◌, filter, OnOk, OnErr};
+ghost use Rattle.std.specs.Prelude.{◌≡◌, ◌≤◌, ◌||◌, false, filter, vec_len, vec_capacity, OnOk, OnErr};
 ghost use Rattle.gx_machine.specs.Keys.{keys_of};
 ghost use Rattle.gx_txn.specs.Tables.{claimed_in};
 ghost use Rattle.gx_small_engine.specs.States.{is_listed};
-ghost use Rattle.gx_small_engine.specs.Moves.{mark_set, with_mark, revived, is_unrestored, first_unrestored};
+ghost use Rattle.gx_small_engine.specs.Moves.{mark_set, with_mark, with_note, revived};
 
 use crate::sets::is_same;
-use gx_engine_laws::{Listed, is_live};
+use gx_engine_laws::Listed;
 use gx_geom::Shape;
 use gx_machine::Entry;
 use gx_txn::{Note, Transactions};
@@ -39,10 +39,13 @@ pub fn set_mark<B: Shape>(pairs: &mut Vec<Listed<B>>, e: &Entry<B>, live: bool)
     }
 }
 
-/// Makes an entry live: its pair, if it has one, or one more. Where memory is refused, nothing changes.
+/// Makes an entry live: its pair, if it has one, or one more. It takes memory only for one more that there is no room for.
+/// Where memory is refused, nothing changes.
 pub fn revive<B: Shape>(pairs: &mut Vec<Listed<B>>, e: Entry<B>) -> Result<(), AllocError>
     ensures ok { OnOk result (pairs.new.items ≡ revived (keys_of B.Shape) e pairs.old.items) }
     ensures err { OnErr result (pairs.new.items ≡ pairs.old.items) }
+    ensures lacks { OnErr result (is_listed (keys_of B.Shape) e pairs.old.items ≡ false) }
+    ensures full { OnErr result (vec_capacity pairs.old ≤ vec_len pairs.old) }
 {
     if is_listed(pairs, &e) {
         set_mark(pairs, &e, true);
@@ -55,27 +58,11 @@ pub fn revive<B: Shape>(pairs: &mut Vec<Listed<B>>, e: Entry<B>) -> Result<(), A
     Ok(())
 }
 
-/// Whether an entry isn't as its note says.
-fn is_unrestored<B: Shape>(pairs: &[Listed<B>], note: &Note<B>) -> bool
-    ensures { result ≡ is_unrestored (keys_of B.Shape) pairs.now note.now }
+/// Makes the pair of a note's entry live or marks it, as the note says.
+pub fn restore<B: Shape>(pairs: &mut Vec<Listed<B>>, note: &Note<B>)
+    ensures { pairs.new.items ≡ with_note (keys_of B.Shape) note.now pairs.old.items }
 {
-    if note.before {
-        is_live(pairs, &note.entry)
-    } else {
-        !is_live(pairs, &note.entry)
-    }
-}
-
-/// The first note whose entry isn't as it says.
-pub fn first_unrestored<B: Shape>(pairs: &[Listed<B>], notes: &[Note<B>]) -> Option<Note<B>>
-    ensures { result ≡ first_unrestored (keys_of B.Shape) pairs.now notes.now }
-{
-    for note in notes {
-        if is_unrestored(pairs, note) {
-            return Some(*note);
-        }
-    }
-    None
+    set_mark(pairs, &note.entry, !note.before);
 }
 
 /// Whether a sweep leaves a pair: it is live, or some session claims it.

@@ -14,8 +14,8 @@ pub enum Phase<B: Shape> {
     Open(Call<B>),
     /// It has one, with a search open that has begun to look.
     Looking(Look<B>),
-    /// It undoes what its transaction wrote.
-    Undoing,
+    /// It undoes what its transaction wrote, and so many of its notes are restored.
+    Undoing(usize),
     /// Its commit is sealed under this number, and isn't acknowledged.
     Waiting(u64),
 }

@@ -50,7 +50,7 @@ impl Beside {
     {
         let reply = self.plain.call(s, Call::Commit);
         assert!(rt; matches!(reply, Reply::Committed(_)));
-        self.table.commit(s);
+        self.table.end(s);
         let _ = self.plain.ask(s, Call::Begin);
     }
 }

@@ -183,7 +183,7 @@ fn call<R: Abort>(
     match draw(state) % 64 {
         0 => {
             assert!(rt; matches!(plain.call(s, Call::Commit), Reply::Committed(_)));
-            table.commit(s);
+            table.end(s);
             lists.free(s);
             let _ = plain.ask(s, Call::Begin);
         }

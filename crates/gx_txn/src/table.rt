@@ -195,21 +195,12 @@ impl<B: Shape> Transactions<B> {
         self.slots.iter().any(|slot| slot.claims(e))
     }
 
-    /// Frees all that a session holds, as its commit's record is appended.
-    pub fn commit(&mut self, session: u8)
-        requires { is_session session ≡ true }
-        ensures { self.new ≡ with_held session nothing_held self.old }
-    {
-        let committed = &mut self.slots[usize::from(session) - 1];
-        committed.release();
-    }
-
-    /// Frees all that a session holds, as the record of its undone transaction's end is appended.
+    /// Frees all that a session holds, as the record of its commit, or of its undone transaction's end, is appended.
     pub fn end(&mut self, session: u8)
         requires { is_session session ≡ true }
         ensures { self.new ≡ with_held session nothing_held self.old }
     {
-        let undone = &mut self.slots[usize::from(session) - 1];
-        undone.release();
+        let ended = &mut self.slots[usize::from(session) - 1];
+        ended.release();
     }
 }

@@ -18,3 +18,9 @@ returns-clause-seen c = refl
 
 pub returns-clause-shared : goal.returns-clause-shared
 returns-clause-shared c = refl
+
+pub returns-clause-imageless : goal.returns-clause-imageless
+returns-clause-imageless c = refl
+
+pub returns-clause-imaged : goal.returns-clause-imaged
+returns-clause-imaged c = refl

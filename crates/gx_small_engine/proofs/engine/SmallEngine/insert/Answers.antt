@@ -33,7 +33,7 @@ invariant_of-self-in-Err g c =
     let self = c.self.inside in
     let old : State g.row.B.Denot = record { pairs = self.pairs.items; phases = self.phases.items; table = self.table; older = self.older.items; oldest = self.oldest } in
     let now = c.args.self.now in
-    (insert_closes k lawful old now c.self.view_is c.self.invariant c.args.session c.requires.session c.args.e c.requires.open c.revive.new.pairs.items c.set_phase-in-Err.new.phases.items c.in-Err.ensures.err c.set_phase-in-Err.ensures).1
+    (insert_closes k lawful old now c.self.view_is c.self.invariant c.args.session c.requires.session c.args.e c.requires.open c.revive.new.pairs.items c.set_phase-in-Err.new.phases.items c.in-Err.ensures.lacks c.in-Err.ensures.err c.set_phase-in-Err.ensures).1
 
 pub returns-in-Err : goal.returns-in-Err
 returns-in-Err g c =
@@ -42,7 +42,7 @@ returns-in-Err g c =
     let self = c.self.inside in
     let old : State g.row.B.Denot = record { pairs = self.pairs.items; phases = self.phases.items; table = self.table; older = self.older.items; oldest = self.oldest } in
     let now = c.args.self.now in
-    (insert_closes k lawful old now c.self.view_is c.self.invariant c.args.session c.requires.session c.args.e c.requires.open c.revive.new.pairs.items c.set_phase-in-Err.new.phases.items c.in-Err.ensures.err c.set_phase-in-Err.ensures).0
+    (insert_closes k lawful old now c.self.view_is c.self.invariant c.args.session c.requires.session c.args.e c.requires.open c.revive.new.pairs.items c.set_phase-in-Err.new.phases.items c.in-Err.ensures.lacks c.in-Err.ensures.err c.set_phase-in-Err.ensures).0
 
 pub note-requires-clause-claimed : goal.note-requires-clause-claimed
 note-requires-clause-claimed g c =

@@ -26,7 +26,7 @@ invariant_of-self g c =
     let now = c.args.self.now in
     let next = ap (λ n. n + 1) (c.last_number-number.ensures ∙ ap (λ (x : State g.row.B.Denot). last_number (engine_of k x)) (sym c.self.view_is)) in
     let stood = c.in-Ok.ensures.ok ∙ ap (λ (ps : List (Listed g.row.B.Denot)). old.older ++ standing k ps old.table ∷ []) c.deref.ensures.value in
-    (sealed k lawful old now c.self.view_is c.self.invariant c.args.session c.requires.session c.requires.open (c.last_number-number.result + 1) next c.set_phase.new.phases.items c.commit.new.self c.keep_standing.new.older.items c.set_phase.ensures c.commit.ensures stood).1
+    (sealed k lawful old now c.self.view_is c.self.invariant c.args.session c.requires.session c.requires.open (c.last_number-number.result + 1) next c.set_phase.new.phases.items c.end.new.self c.keep_standing.new.older.items c.set_phase.ensures c.end.ensures stood).1
 
 pub returns-in-Ok : goal.returns-in-Ok
 returns-in-Ok g c =
@@ -37,7 +37,7 @@ returns-in-Ok g c =
     let now = c.args.self.now in
     let next = ap (λ n. n + 1) (c.last_number-number.ensures ∙ ap (λ (x : State g.row.B.Denot). last_number (engine_of k x)) (sym c.self.view_is)) in
     let stood = c.in-Ok.ensures.ok ∙ ap (λ (ps : List (Listed g.row.B.Denot)). old.older ++ standing k ps old.table ∷ []) c.deref.ensures.value in
-    (sealed k lawful old now c.self.view_is c.self.invariant c.args.session c.requires.session c.requires.open (c.last_number-number.result + 1) next c.set_phase.new.phases.items c.commit.new.self c.keep_standing.new.older.items c.set_phase.ensures c.commit.ensures stood).0
+    (sealed k lawful old now c.self.view_is c.self.invariant c.args.session c.requires.session c.requires.open (c.last_number-number.result + 1) next c.set_phase.new.phases.items c.end.new.self c.keep_standing.new.older.items c.set_phase.ensures c.end.ensures stood).0
 
 pub invariant_of-self-in-Err : goal.invariant_of-self-in-Err
 invariant_of-self-in-Err g c =
@@ -72,5 +72,5 @@ set_phase-requires-in-Err-clause-eight g c = c.self.invariant.phases
 pub keep_standing-requires : goal.keep_standing-requires
 keep_standing-requires g c = c.self.invariant.table
 
-pub commit-requires : goal.commit-requires
-commit-requires g c = c.requires.session
+pub end-requires : goal.end-requires
+end-requires g c = c.requires.session
