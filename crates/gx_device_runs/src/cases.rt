@@ -3,7 +3,7 @@ use crate::devices::{Device, crash, set_fuse};
 use crate::extents::{Seen, log_of, say_seen};
 use crate::fault::RunFault;
 use crate::logs::{Logged, Work, append_commit, append_counters, make, make_calls, put_head};
-use crate::words::{say_end, word};
+use crate::words::{Part, print_parts, say_end, word};
 use gx_disk::{Fuse, Torn};
 use std::alloc::Global;
 use std::str::SplitWhitespace;
@@ -97,8 +97,14 @@ impl Case {
 
     /// Prints what the crash leaves, and the log after it.
     fn say<R: Print>(self, rt: &R, alloc: Global) -> Result<(), RunFault> {
-        let left = self.left.name();
-        print!(rt; " {left} sectors:")?;
+        print_parts(
+            rt,
+            &[
+                Part::Text(" "),
+                Part::Text(self.left.name()),
+                Part::Text(" sectors:"),
+            ],
+        )?;
         say_seen(rt, self.seen(alloc)?)
     }
 }
@@ -114,7 +120,10 @@ fn crashes<R: Print>(rt: &R, alloc: Global, work: Work) -> Result<(), RunFault> 
                 done: false,
                 left,
             };
-            print!(rt; "  {calls} calls,")?;
+            print_parts(
+                rt,
+                &[Part::Text(" "), Part::Number(calls), Part::Text(" calls,")],
+            )?;
             case.say(rt, alloc)?;
         }
     }
@@ -123,10 +132,19 @@ fn crashes<R: Print>(rt: &R, alloc: Global, work: Work) -> Result<(), RunFault> 
 
 /// Prints a case in which a call fails, and the log after it.
 fn say_fault<R: Print>(rt: &R, alloc: Global, case: Case) -> Result<(), RunFault> {
-    let calls = case.calls;
-    let fault = case.fault;
     let done = if case.done { "is" } else { "isn't" };
-    print!(rt; "  {calls} calls, call {fault} fails and {done} done,")?;
+    print_parts(
+        rt,
+        &[
+            Part::Text(" "),
+            Part::Number(case.calls),
+            Part::Text(" calls, call"),
+            Part::Number(case.fault),
+            Part::Text(" fails and "),
+            Part::Text(done),
+            Part::Text(" done,"),
+        ],
+    )?;
     case.say(rt, alloc)
 }
 
@@ -177,10 +195,10 @@ fn work(name: &str) -> Result<Work, RunFault> {
 pub(crate) fn call<R: Print>(
     rt: &R,
     alloc: Global,
-    mut words: SplitWhitespace<'_>,
+    words: &mut SplitWhitespace<'_>,
 ) -> Result<(), RunFault> {
-    let asked = word(&mut words)?;
-    let work = work(word(&mut words)?)?;
+    let asked = word(words)?;
+    let work = work(word(words)?)?;
     say_end(rt)?;
     match asked {
         "crashes" => crashes(rt, alloc, work),

@@ -1,6 +1,6 @@
 //! The device in memory behind a fuse, and what becomes of it.
 use crate::fault::RunFault;
-use crate::words::{byte, count, number, word};
+use crate::words::{Part, byte, count, number, say_parts, word};
 use gx_disk::{Fuse, FuseDisk, MemDisk, SectorDisk, Torn};
 use std::alloc::{AllocError, Global};
 use std::mem;
@@ -39,8 +39,12 @@ pub(crate) fn crash(disk: &mut Device, alloc: Global, left: &[Torn]) {
 }
 
 /// Another device.
-fn renew(disk: &mut Device, alloc: Global, mut words: SplitWhitespace<'_>) -> Result<(), RunFault> {
-    *disk = blank(alloc, count(&mut words)?)?;
+fn renew(
+    disk: &mut Device,
+    alloc: Global,
+    words: &mut SplitWhitespace<'_>,
+) -> Result<(), RunFault> {
+    *disk = blank(alloc, count(words)?)?;
     Ok(())
 }
 
@@ -48,10 +52,10 @@ fn renew(disk: &mut Device, alloc: Global, mut words: SplitWhitespace<'_>) -> Re
 fn fuse_by(
     disk: &mut Device,
     alloc: Global,
-    mut words: SplitWhitespace<'_>,
+    words: &mut SplitWhitespace<'_>,
 ) -> Result<(), RunFault> {
-    let calls = number(&mut words)?;
-    let fuse = match word(&mut words)? {
+    let calls = number(words)?;
+    let fuse = match word(words)? {
         "once" => Fuse::Once,
         "ever" => Fuse::ForEver,
         _ => return Err(RunFault::BadLine),
@@ -73,7 +77,7 @@ fn choice(word: &str) -> Result<Torn, RunFault> {
     }
 }
 
-fn choices(alloc: Global, words: SplitWhitespace<'_>) -> Result<Vec<Torn>, RunFault> {
+fn choices(alloc: Global, words: &mut SplitWhitespace<'_>) -> Result<Vec<Torn>, RunFault> {
     let mut choices = Vec::new(alloc);
     for word in words {
         choices.push(choice(word)?)?;
@@ -81,7 +85,11 @@ fn choices(alloc: Global, words: SplitWhitespace<'_>) -> Result<Vec<Torn>, RunFa
     Ok(choices)
 }
 
-fn crash_by(disk: &mut Device, alloc: Global, words: SplitWhitespace<'_>) -> Result<(), RunFault> {
+fn crash_by(
+    disk: &mut Device,
+    alloc: Global,
+    words: &mut SplitWhitespace<'_>,
+) -> Result<(), RunFault> {
     let left = choices(alloc, words)?;
     crash(disk, alloc, &left);
     Ok(())
@@ -91,10 +99,10 @@ fn crash_by(disk: &mut Device, alloc: Global, words: SplitWhitespace<'_>) -> Res
 fn reserve(
     disk: &mut Device,
     alloc: Global,
-    mut words: SplitWhitespace<'_>,
+    words: &mut SplitWhitespace<'_>,
 ) -> Result<(), RunFault> {
-    let calls = count(&mut words)?;
-    let sectors = count(&mut words)?;
+    let calls = count(words)?;
+    let sectors = count(words)?;
     let mut inner = take(disk, alloc);
     let reserved = inner.reserve(calls, sectors);
     *disk = whole(inner);
@@ -103,8 +111,8 @@ fn reserve(
 }
 
 /// Cuts the device off behind so many sectors.
-fn cut(disk: &mut Device, alloc: Global, mut words: SplitWhitespace<'_>) -> Result<(), RunFault> {
-    let sectors = count(&mut words)?;
+fn cut(disk: &mut Device, alloc: Global, words: &mut SplitWhitespace<'_>) -> Result<(), RunFault> {
+    let sectors = count(words)?;
     let mut inner = take(disk, alloc);
     if sectors as u64 <= inner.sectors() {
         inner.cut(sectors);
@@ -139,8 +147,34 @@ fn say_firsts<R: Print>(rt: &R, disk: &mut Device, alloc: Global) -> Result<(), 
     let unsynced = inner.unsynced();
     let [zero, one, two, three] = firsts(&mut inner);
     *disk = whole(inner);
-    println!(rt; " {unsynced} unsynced, {zero:02x} {one:02x} {two:02x} {three:02x}")?;
-    Ok(())
+    say_parts(
+        rt,
+        &[
+            Part::Number(unsynced as u64),
+            Part::Text(" unsynced,"),
+            Part::Byte(zero),
+            Part::Byte(one),
+            Part::Byte(two),
+            Part::Byte(three),
+        ],
+    )
+}
+
+/// Does what a line asks of the device.
+fn make(
+    disk: &mut Device,
+    alloc: Global,
+    name: &str,
+    words: &mut SplitWhitespace<'_>,
+) -> Result<(), RunFault> {
+    match name {
+        "new" => renew(disk, alloc, words),
+        "fuse" => fuse_by(disk, alloc, words),
+        "crash" => crash_by(disk, alloc, words),
+        "reserve" => reserve(disk, alloc, words),
+        "cut" => cut(disk, alloc, words),
+        _ => Err(RunFault::BadLine),
+    }
 }
 
 /// A line about the device.
@@ -148,19 +182,12 @@ pub(crate) fn call<R: Print>(
     rt: &R,
     disk: &mut Device,
     alloc: Global,
-    mut words: SplitWhitespace<'_>,
+    words: &mut SplitWhitespace<'_>,
 ) -> Result<(), RunFault> {
-    let called = match word(&mut words)? {
-        "new" => renew(disk, alloc, words),
-        "fuse" => fuse_by(disk, alloc, words),
-        "crash" => crash_by(disk, alloc, words),
-        "reserve" => reserve(disk, alloc, words),
-        "cut" => cut(disk, alloc, words),
-        "firsts" => return say_firsts(rt, disk, alloc),
-        _ => Err(RunFault::BadLine),
-    };
-    called?;
-    let sectors = disk.sectors();
-    println!(rt; " {sectors} sectors")?;
-    Ok(())
+    let name = word(words)?;
+    if name == "firsts" {
+        return say_firsts(rt, disk, alloc);
+    }
+    make(disk, alloc, name, words)?;
+    say_parts(rt, &[Part::Number(disk.sectors()), Part::Text(" sectors")])
 }

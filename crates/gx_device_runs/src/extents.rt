@@ -2,7 +2,7 @@
 use crate::fault::RunFault;
 use crate::logs::extent;
 use crate::records::say_record;
-use crate::words::{place, say, say_number, word};
+use crate::words::{Part, place, print_parts, say, say_number, say_parts, word};
 use gx_disk::SectorDisk;
 use gx_glog::{BODY_SIZE, Extent, PLACES, read_extent, selected};
 use std::alloc::Global;
@@ -76,10 +76,17 @@ pub(crate) fn log_of<D: SectorDisk>(alloc: Global, disk: &mut D) -> Result<Seen,
 
 /// Prints a log.
 pub(crate) fn say_seen<R: Print>(rt: &R, seen: Seen) -> Result<(), RunFault> {
-    let extent = name(seen.extent);
-    let Seen { batches, last, .. } = seen;
-    println!(rt; " extent {extent}, batches {batches}, last {last}")?;
-    Ok(())
+    say_parts(
+        rt,
+        &[
+            Part::Text(" extent "),
+            Part::Text(name(seen.extent)),
+            Part::Text(", batches"),
+            Part::Number(u64::from(seen.batches)),
+            Part::Text(", last"),
+            Part::Number(seen.last as u64),
+        ],
+    )
 }
 
 /// Prints what a place has: nothing, the size of its records, or none that can be read.
@@ -97,28 +104,37 @@ fn read_place<R: Print, D: SectorDisk>(
     rt: &R,
     alloc: Global,
     disk: &mut D,
-    mut words: SplitWhitespace<'_>,
+    words: &mut SplitWhitespace<'_>,
 ) -> Result<(), RunFault> {
-    let extent = extent(word(&mut words)?)?;
-    let place = place(&mut words)?;
+    let extent = extent(word(words)?)?;
+    let place = place(words)?;
     let mut body = vec![in alloc; 0; BODY_SIZE]?;
     say_place(rt, read(disk, extent, place, &mut body))
 }
 
-/// Prints the first record of a place of the selected extent, and how many bytes of records there are.
+/// Prints how many bytes of records a body has, and the first of them.
+fn say_body<R: Print>(rt: &R, size: usize, body: &[u8]) -> Result<(), RunFault> {
+    let records = body.get(4..).ok_or(RunFault::BadLine)?;
+    print_parts(
+        rt,
+        &[Part::Number(size as u64), Part::Text(" bytes of records:")],
+    )?;
+    say_record(rt, records)
+}
+
+/// Prints how many bytes of records a place of the selected extent has, and the first of them.
 fn say_first<R: Print, D: SectorDisk>(
     rt: &R,
+    alloc: Global,
     disk: &mut D,
-    place: u8,
-    body: &mut [u8],
+    words: &mut SplitWhitespace<'_>,
 ) -> Result<(), RunFault> {
+    let place = place(words)?;
+    let mut body = vec![in alloc; 0; BODY_SIZE]?;
     let extent = selected_by(disk)?;
-    match read(disk, extent, place, body)? {
-        Some(size) if body.len() >= 4 => {
-            print!(rt; " {size} bytes of records:")?;
-            say_record(rt, body.split_at(4).1)
-        }
-        _ => say(rt, "closed"),
+    match read(disk, extent, place, &mut body)? {
+        Some(size) => say_body(rt, size, &body),
+        None => say(rt, "closed"),
     }
 }
 
@@ -127,17 +143,13 @@ pub(crate) fn call<R: Print, D: SectorDisk>(
     rt: &R,
     alloc: Global,
     disk: &mut D,
-    mut words: SplitWhitespace<'_>,
+    words: &mut SplitWhitespace<'_>,
 ) -> Result<(), RunFault> {
-    match word(&mut words)? {
+    match word(words)? {
         "log" => say_seen(rt, log_of(alloc, disk)?),
         "selected" => say(rt, name(selected_by(disk)?)),
         "place" => read_place(rt, alloc, disk, words),
-        "first" => {
-            let place = place(&mut words)?;
-            let mut body = vec![in alloc; 0; BODY_SIZE]?;
-            say_first(rt, disk, place, &mut body)
-        }
+        "first" => say_first(rt, alloc, disk, words),
         _ => Err(RunFault::BadLine),
     }
 }

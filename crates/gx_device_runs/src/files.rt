@@ -2,7 +2,7 @@
 use crate::devices::firsts;
 use crate::fault::RunFault;
 use crate::sectors::{told, write};
-use crate::words::{number, say, word};
+use crate::words::{Part, number, say, say_parts, word};
 use gx_disk::{DiskFault, FileDisk, SectorDisk};
 use std::str::SplitWhitespace;
 
@@ -13,8 +13,17 @@ const FILE: &str = "runs.device";
 fn say_sectors<R: Print, D: SectorDisk>(rt: &R, disk: &mut D) -> Result<(), RunFault> {
     let sectors = disk.sectors();
     let [zero, one, two, three] = firsts(disk);
-    println!(rt; " {sectors} sectors, {zero:02x} {one:02x} {two:02x} {three:02x}")?;
-    Ok(())
+    say_parts(
+        rt,
+        &[
+            Part::Number(sectors),
+            Part::Text(" sectors,"),
+            Part::Byte(zero),
+            Part::Byte(one),
+            Part::Byte(two),
+            Part::Byte(three),
+        ],
+    )
 }
 
 /// Prints what a file has, or why it can't be opened.
@@ -34,15 +43,15 @@ fn write_file(rt: &HostRuntime) -> Result<Option<DiskFault>, DiskFault> {
 }
 
 /// A line about the file.
-pub(crate) fn call(rt: &HostRuntime, mut words: SplitWhitespace<'_>) -> Result<(), RunFault> {
-    match word(&mut words)? {
+pub(crate) fn call(rt: &HostRuntime, words: &mut SplitWhitespace<'_>) -> Result<(), RunFault> {
+    match word(words)? {
         "write" => match write_file(rt) {
             Ok(Some(besides)) => say(rt, told(Err(besides))),
             Ok(None) => say(rt, "opened besides"),
             Err(_) => say(rt, "not written"),
         },
         "open" => say_file(rt, FileDisk::open(rt, FILE)),
-        "create" => say_file(rt, FileDisk::create(rt, FILE, number(&mut words)?)),
+        "create" => say_file(rt, FileDisk::create(rt, FILE, number(words)?)),
         "remove" => {
             std::fs::remove_file(rt, FILE)?;
             say(rt, "done")

@@ -4,7 +4,7 @@ ghost use Rattle.gx_record.specs.Seen.{rec_of};
 
 use crate::devices::{Device, blank};
 use crate::fault::RunFault;
-use crate::words::{number, place, say_number, word};
+use crate::words::{Part, number, place, say, say_number, say_parts, word};
 use gx_disk::SectorDisk;
 use gx_geom::Refusal;
 use gx_glog::{Appended, Extent, Glog, PLACES};
@@ -160,9 +160,9 @@ pub(crate) fn extent(name: &str) -> Result<Extent, RunFault> {
 }
 
 /// Begins a log in an extent of which so many places are used.
-fn start(alloc: Global, mut words: SplitWhitespace<'_>) -> Result<Glog, RunFault> {
-    let extent = extent(word(&mut words)?)?;
-    let used = place(&mut words)?;
+fn start(alloc: Global, words: &mut SplitWhitespace<'_>) -> Result<Glog, RunFault> {
+    let extent = extent(word(words)?)?;
+    let used = place(words)?;
     if used > PLACES {
         return Err(RunFault::BadLine);
     }
@@ -172,33 +172,51 @@ fn start(alloc: Global, mut words: SplitWhitespace<'_>) -> Result<Glog, RunFault
 /// Prints the place that a record went to.
 fn say_appended<R: Print>(rt: &R, appended: Appended) -> Result<(), RunFault> {
     match appended {
-        Appended::At(place) => println!(rt; " at {place}")?,
-        Appended::NoRoom => println!(rt; " no room")?,
+        Appended::At(place) => say_parts(rt, &[Part::Text(" at"), Part::Number(place)]),
+        Appended::NoRoom => say(rt, "no room"),
     }
-    Ok(())
+}
+
+/// Puts the record of a line into the log.
+fn appended(log: &mut Glog, words: &mut SplitWhitespace<'_>) -> Result<Appended, RunFault> {
+    match word(words)? {
+        "counters" => append_counters(log),
+        "commit" => append_commit(log, number(words)?),
+        "head" => put_head(log, number(words)?),
+        _ => Err(RunFault::BadLine),
+    }
 }
 
 /// A line that puts a record into the log.
 pub(crate) fn put<R: Print>(
     rt: &R,
     log: &mut Glog,
-    mut words: SplitWhitespace<'_>,
+    words: &mut SplitWhitespace<'_>,
 ) -> Result<(), RunFault> {
-    let appended = match word(&mut words)? {
-        "counters" => append_counters(log),
-        "commit" => append_commit(log, number(&mut words)?),
-        "head" => put_head(log, number(&mut words)?),
-        _ => Err(RunFault::BadLine),
-    };
-    say_appended(rt, appended?)
+    say_appended(rt, appended(log, words)?)
 }
 
 /// Prints how many places are used, and how many bytes of the buffer are free.
 fn say_room<R: Print>(rt: &R, log: &Glog) -> Result<(), RunFault> {
-    let used = log.used();
-    let free = log.free();
-    println!(rt; " {used} used, {free} bytes free")?;
-    Ok(())
+    say_parts(
+        rt,
+        &[
+            Part::Number(u64::from(log.used())),
+            Part::Text(" used,"),
+            Part::Number(log.free() as u64),
+            Part::Text(" bytes free"),
+        ],
+    )
+}
+
+/// Fills the log, or makes calls: how many records went with the next batch, or how many calls the device made.
+fn make_by(disk: &mut Device, log: &mut Glog, name: &str, count: u64) -> Result<u64, RunFault> {
+    match name {
+        "fill" => fill(log, count),
+        "steps" => make_calls(Work::Batch, log, disk, count),
+        "turns" => make_calls(Work::Turn, log, disk, count),
+        _ => Err(RunFault::BadLine),
+    }
 }
 
 /// A line about the log.
@@ -207,18 +225,14 @@ pub(crate) fn call<R: Print>(
     alloc: Global,
     disk: &mut Device,
     log: &mut Glog,
-    mut words: SplitWhitespace<'_>,
+    words: &mut SplitWhitespace<'_>,
 ) -> Result<(), RunFault> {
-    let made = match word(&mut words)? {
-        "start" => {
-            *log = start(alloc, words)?;
-            return say_room(rt, log);
-        }
-        "room" => return say_room(rt, log),
-        "fill" => fill(log, number(&mut words)?),
-        "steps" => make_calls(Work::Batch, log, disk, number(&mut words)?),
-        "turns" => make_calls(Work::Turn, log, disk, number(&mut words)?),
-        _ => Err(RunFault::BadLine),
-    };
-    say_number(rt, made?)
+    let name = word(words)?;
+    if name == "start" {
+        *log = start(alloc, words)?;
+    } else if name != "room" {
+        let count = number(words)?;
+        return say_number(rt, make_by(disk, log, name, count)?);
+    }
+    say_room(rt, log)
 }

@@ -24,6 +24,7 @@ use pools::Leaves;
 use records::ROOM;
 use std::alloc::Global;
 use std::process::ExitCode;
+use std::str::SplitWhitespace;
 use words::word;
 
 /// What the lines work on.
@@ -46,12 +47,24 @@ impl Bench {
     }
 }
 
-/// Takes a line about the device or the log. False where it is about something else.
-fn on_log(rt: &HostRuntime, logged: &mut Logged, line: &str) -> Result<bool, RunFault> {
-    let mut words = line.split_whitespace();
+/// Whether a line with this first word is about the device or the log.
+fn is_on_log(name: &str) -> bool {
+    matches!(
+        name,
+        "device" | "disk" | "show" | "parameters" | "log" | "put" | "read" | "all"
+    )
+}
+
+/// Takes a line about the device or the log, by its first word and those behind it.
+fn on_log(
+    rt: &HostRuntime,
+    logged: &mut Logged,
+    name: &str,
+    words: &mut SplitWhitespace<'_>,
+) -> Result<(), RunFault> {
     let Logged { disk, log } = logged;
     let alloc = rt.alloc();
-    let taken = match word(&mut words)? {
+    match name {
         "device" => devices::call(rt, disk, alloc, words),
         "disk" => sectors::call(rt, disk, words),
         "show" => sectors::look(rt, disk, words),
@@ -60,19 +73,21 @@ fn on_log(rt: &HostRuntime, logged: &mut Logged, line: &str) -> Result<bool, Run
         "put" => logs::put(rt, log, words),
         "read" => extents::call(rt, alloc, disk, words),
         "all" => cases::call(rt, alloc, words),
-        _ => return Ok(false),
-    };
-    taken?;
-    Ok(true)
+        _ => Err(RunFault::BadLine),
+    }
 }
 
 /// Takes a line about frames, records or a file.
-fn on_pages(rt: &HostRuntime, bench: &mut Bench, line: &str) -> Result<(), RunFault> {
-    let mut words = line.split_whitespace();
+fn on_pages(
+    rt: &HostRuntime,
+    bench: &mut Bench,
+    name: &str,
+    words: &mut SplitWhitespace<'_>,
+) -> Result<(), RunFault> {
     let Bench { logged, pool, text } = bench;
     let disk = &mut logged.disk;
     let alloc = rt.alloc();
-    match word(&mut words)? {
+    match name {
         "frames" => pools::renew(rt, alloc, pool, words),
         "pages" => pools::on_device(rt, alloc, disk, words),
         "pool" => pools::call(rt, pool, disk, words),
@@ -97,10 +112,13 @@ fn take_line(rt: &HostRuntime, bench: &mut Bench, line: &str) -> Result<(), RunF
         return Ok(());
     }
     print!(rt; "{line}:")?;
-    if on_log(rt, &mut bench.logged, line)? {
-        return Ok(());
+    let mut words = line.split_whitespace();
+    let name = word(&mut words)?;
+    if is_on_log(name) {
+        on_log(rt, &mut bench.logged, name, &mut words)
+    } else {
+        on_pages(rt, bench, name, &mut words)
     }
-    on_pages(rt, bench, line)
 }
 
 /// Takes each line of the input.

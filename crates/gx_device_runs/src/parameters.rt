@@ -1,16 +1,16 @@
 //! What a device is formatted for.
 use crate::fault::RunFault;
 use crate::sectors::{read, told, write};
-use crate::words::{number, say, word};
+use crate::words::{Part, number, say, say_parts, word};
 use gx_disk::SectorDisk;
 use gx_glog::{PARAMETERS, Parameters};
 use std::str::SplitWhitespace;
 
 /// The parameters of a line: pages, entries and class.
-fn parameters(mut words: SplitWhitespace<'_>) -> Result<Parameters, RunFault> {
-    let pages = number(&mut words)?;
-    let most = number(&mut words)?;
-    let class = number(&mut words)?;
+fn parameters(words: &mut SplitWhitespace<'_>) -> Result<Parameters, RunFault> {
+    let pages = number(words)?;
+    let most = number(words)?;
+    let class = number(words)?;
     Ok(Parameters {
         pages: u32::try_from(pages).ok().ok_or(RunFault::BadLine)?,
         most: u16::try_from(most).ok().ok_or(RunFault::BadLine)?,
@@ -18,23 +18,40 @@ fn parameters(mut words: SplitWhitespace<'_>) -> Result<Parameters, RunFault> {
     })
 }
 
+/// Writes the sector of parameters.
+fn put<D: SectorDisk>(
+    disk: &mut D,
+    words: &mut SplitWhitespace<'_>,
+) -> Result<&'static str, RunFault> {
+    let sector = parameters(words)?.encode();
+    Ok(told(write(disk, PARAMETERS, &sector)))
+}
+
+/// Prints what the sector of parameters says.
+fn look<R: Print, D: SectorDisk>(rt: &R, disk: &mut D) -> Result<(), RunFault> {
+    let sector = read(disk, PARAMETERS)?;
+    let Parameters { pages, most, class } = Parameters::decode(&sector);
+    say_parts(
+        rt,
+        &[
+            Part::Number(u64::from(pages)),
+            Part::Text(" pages,"),
+            Part::Number(u64::from(most)),
+            Part::Text(" entries, class"),
+            Part::Number(u64::from(class)),
+        ],
+    )
+}
+
 /// A line about the sector of parameters.
 pub(crate) fn call<R: Print, D: SectorDisk>(
     rt: &R,
     disk: &mut D,
-    mut words: SplitWhitespace<'_>,
+    words: &mut SplitWhitespace<'_>,
 ) -> Result<(), RunFault> {
-    match word(&mut words)? {
-        "write" => {
-            let sector = parameters(words)?.encode();
-            say(rt, told(write(disk, PARAMETERS, &sector)))
-        }
-        "read" => {
-            let sector = read(disk, PARAMETERS)?;
-            let Parameters { pages, most, class } = Parameters::decode(&sector);
-            println!(rt; " {pages} pages, {most} entries, class {class}")?;
-            Ok(())
-        }
+    match word(words)? {
+        "write" => say(rt, put(disk, words)?),
+        "read" => look(rt, disk),
         _ => Err(RunFault::BadLine),
     }
 }

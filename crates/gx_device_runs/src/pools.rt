@@ -4,7 +4,7 @@ ghost use Rattle.std.specs.Bool.{OnTrue};
 ghost use Rattle.gx_pool.specs.Area.{IsPage, first_of};
 
 use crate::fault::RunFault;
-use crate::words::{count, number_or_zero, say, say_number, word};
+use crate::words::{Part, count, number_or_zero, say, say_number, say_parts, word};
 use gx_disk::SectorDisk;
 use gx_page::{PAGE_SIZE, Page};
 use gx_pool::{AREA, FRAMES, PAGE_SECTORS, PAGES, PageTest, Pool, PoolFault};
@@ -190,10 +190,10 @@ pub(crate) fn empty(alloc: Global, frames: usize) -> Result<Pool<Leaves>, RunFau
 }
 
 /// Reads a line's numbers.
-fn read_numbers(mut words: SplitWhitespace<'_>) -> Result<Numbers, RunFault> {
-    let page = number_or_zero(&mut words)?;
-    let second = number_or_zero(&mut words)?;
-    let third = number_or_zero(&mut words)?;
+fn read_numbers(words: &mut SplitWhitespace<'_>) -> Result<Numbers, RunFault> {
+    let page = number_or_zero(words)?;
+    let second = number_or_zero(words)?;
+    let third = number_or_zero(words)?;
     Ok(Numbers {
         page: u32::try_from(page).ok().ok_or(RunFault::BadLine)?,
         second,
@@ -240,9 +240,9 @@ pub(crate) fn call<R: Print, D: SectorDisk>(
     rt: &R,
     pool: &mut Pool<Leaves>,
     disk: &mut D,
-    mut words: SplitWhitespace<'_>,
+    words: &mut SplitWhitespace<'_>,
 ) -> Result<(), RunFault> {
-    let name = word(&mut words)?;
+    let name = word(words)?;
     let numbers = read_numbers(words)?;
     match make(pool, disk, name, numbers) {
         Some(answer) => say_answer(rt, answer),
@@ -261,9 +261,9 @@ fn say_look<R: Print>(rt: &R, found: Option<u64>) -> Result<(), RunFault> {
 pub(crate) fn look<R: Print>(
     rt: &R,
     pool: &Pool<Leaves>,
-    mut words: SplitWhitespace<'_>,
+    words: &mut SplitWhitespace<'_>,
 ) -> Result<(), RunFault> {
-    let name = word(&mut words)?;
+    let name = word(words)?;
     let Numbers { page, .. } = read_numbers(words)?;
     match name {
         "dirty" => say_look(rt, pool.dirty().map(|page| u64::from(page))),
@@ -278,9 +278,9 @@ pub(crate) fn on_device<R: Print, D: SectorDisk>(
     rt: &R,
     alloc: Global,
     disk: &mut D,
-    mut words: SplitWhitespace<'_>,
+    words: &mut SplitWhitespace<'_>,
 ) -> Result<(), RunFault> {
-    let name = word(&mut words)?;
+    let name = word(words)?;
     let Numbers {
         page,
         second,
@@ -301,10 +301,14 @@ pub(crate) fn renew<R: Print>(
     rt: &R,
     alloc: Global,
     pool: &mut Pool<Leaves>,
-    mut words: SplitWhitespace<'_>,
+    words: &mut SplitWhitespace<'_>,
 ) -> Result<(), RunFault> {
-    *pool = empty(alloc, count(&mut words)?)?;
-    let clean = pool.clean_frames();
-    println!(rt; " {clean} clean frames")?;
-    Ok(())
+    *pool = empty(alloc, count(words)?)?;
+    say_parts(
+        rt,
+        &[
+            Part::Number(pool.clean_frames() as u64),
+            Part::Text(" clean frames"),
+        ],
+    )
 }

@@ -3,7 +3,9 @@ ghost use Rattle.gx_record.specs.Format.{IsInRange};
 ghost use Rattle.gx_record.specs.Seen.{rec_of};
 
 use crate::fault::RunFault;
-use crate::words::{byte, count, level, number, page, say_bytes, word};
+use crate::words::{
+    Part, byte, count, level, number, page, print_parts, say, say_bytes, say_parts, truth, word,
+};
 use gx_page::Page;
 use gx_record::{Mark, PageImage, PageImages, Record};
 use std::alloc::Global;
@@ -45,14 +47,14 @@ fn spell<R: Print>(rt: &R, given: &Record<'_>, text: &mut [u8]) -> Result<(), Ru
     match given.encode_into(text) {
         Some(size) if size == length => {
             let back = if reads_back(given, text, size) {
-                "read back"
+                " bytes, read back:"
             } else {
-                "not read back"
+                " bytes, not read back:"
             };
-            print!(rt; " {size} bytes, {back}:")?;
+            print_parts(rt, &[Part::Number(size as u64), Part::Text(back)])?;
         }
-        Some(_) => print!(rt; " of another length:")?,
-        None => print!(rt; " no room:")?,
+        Some(_) => print_parts(rt, &[Part::Text(" of another length:")])?,
+        None => print_parts(rt, &[Part::Text(" no room:")])?,
     }
     say_bytes(rt, text)
 }
@@ -69,27 +71,27 @@ fn mark(name: &str) -> Result<Mark, RunFault> {
 fn commit<R: Print>(
     rt: &R,
     text: &mut [u8],
-    mut words: SplitWhitespace<'_>,
+    words: &mut SplitWhitespace<'_>,
 ) -> Result<(), RunFault> {
-    let tx = number(&mut words)?;
-    let n = number(&mut words)?;
+    let tx = number(words)?;
+    let n = number(words)?;
     spell(rt, &Record::Commit { tx, n }, text)
 }
 
-fn end<R: Print>(rt: &R, text: &mut [u8], mut words: SplitWhitespace<'_>) -> Result<(), RunFault> {
-    let tx = number(&mut words)?;
+fn end<R: Print>(rt: &R, text: &mut [u8], words: &mut SplitWhitespace<'_>) -> Result<(), RunFault> {
+    let tx = number(words)?;
     spell(rt, &Record::End { tx }, text)
 }
 
 fn counters<R: Print>(
     rt: &R,
     text: &mut [u8],
-    mut words: SplitWhitespace<'_>,
+    words: &mut SplitWhitespace<'_>,
 ) -> Result<(), RunFault> {
-    let n = number(&mut words)?;
-    let counter = number(&mut words)?;
-    let used = page(&mut words)?;
-    let next = number(&mut words)?;
+    let n = number(words)?;
+    let counter = number(words)?;
+    let used = page(words)?;
+    let next = number(words)?;
     let counters = Record::Counters {
         n,
         counter,
@@ -99,11 +101,15 @@ fn counters<R: Print>(
     spell(rt, &counters, text)
 }
 
-fn note<R: Print>(rt: &R, text: &mut [u8], mut words: SplitWhitespace<'_>) -> Result<(), RunFault> {
-    let tx = number(&mut words)?;
-    let row = number(&mut words)?;
-    let before = mark(word(&mut words)?)?;
-    let leaf = page(&mut words)?;
+fn note<R: Print>(
+    rt: &R,
+    text: &mut [u8],
+    words: &mut SplitWhitespace<'_>,
+) -> Result<(), RunFault> {
+    let tx = number(words)?;
+    let row = number(words)?;
+    let before = mark(word(words)?)?;
+    let leaf = page(words)?;
     let note = Record::Note {
         tx,
         row,
@@ -154,15 +160,15 @@ fn write<R: Print>(
     rt: &R,
     alloc: Global,
     text: &mut [u8],
-    mut words: SplitWhitespace<'_>,
+    words: &mut SplitWhitespace<'_>,
 ) -> Result<(), RunFault> {
     let written = Written {
-        tx: number(&mut words)?,
-        row: number(&mut words)?,
-        before: mark(word(&mut words)?)?,
-        after: mark(word(&mut words)?)?,
+        tx: number(words)?,
+        row: number(words)?,
+        before: mark(word(words)?)?,
+        after: mark(word(words)?)?,
     };
-    let leaf = page(&mut words)?;
+    let leaf = page(words)?;
     let page = Page::fresh(alloc, 0, leaf)?;
     spell_write(rt, text, written, &page)
 }
@@ -196,10 +202,17 @@ fn say_second<R: Print>(
     second: &PageImage<'_>,
 ) -> Result<(), RunFault> {
     let count = pages.count();
-    let is_second = pages.get(1) == Some(*second);
-    let ends = pages.get(count).is_none();
-    print!(rt; " {count} pages, the second is right: {is_second}, none behind: {ends},")?;
-    Ok(())
+    print_parts(
+        rt,
+        &[
+            Part::Number(count as u64),
+            Part::Text(" pages, the second is right: "),
+            Part::Text(truth(pages.get(1) == Some(*second))),
+            Part::Text(", none behind: "),
+            Part::Text(truth(pages.get(count).is_none())),
+            Part::Text(","),
+        ],
+    )
 }
 
 /// The same of three pages.
@@ -230,10 +243,10 @@ fn two_pages<R: Print>(
     rt: &R,
     alloc: Global,
     text: &mut [u8],
-    mut words: SplitWhitespace<'_>,
+    words: &mut SplitWhitespace<'_>,
 ) -> Result<(), RunFault> {
-    let low = fresh(alloc, &mut words)?;
-    let high = fresh(alloc, &mut words)?;
+    let low = fresh(alloc, words)?;
+    let high = fresh(alloc, words)?;
     spell_two(rt, text, &low, &high)
 }
 
@@ -241,11 +254,11 @@ fn three_pages<R: Print>(
     rt: &R,
     alloc: Global,
     text: &mut [u8],
-    mut words: SplitWhitespace<'_>,
+    words: &mut SplitWhitespace<'_>,
 ) -> Result<(), RunFault> {
-    let first = fresh(alloc, &mut words)?;
-    let second = fresh(alloc, &mut words)?;
-    let third = fresh(alloc, &mut words)?;
+    let first = fresh(alloc, words)?;
+    let second = fresh(alloc, words)?;
+    let third = fresh(alloc, words)?;
     spell_three(rt, text, &first, &second, &third)
 }
 
@@ -253,9 +266,9 @@ fn three_pages<R: Print>(
 fn short<R: Print>(
     rt: &R,
     text: &mut [u8],
-    mut words: SplitWhitespace<'_>,
+    words: &mut SplitWhitespace<'_>,
 ) -> Result<(), RunFault> {
-    let room = count(&mut words)?;
+    let room = count(words)?;
     match text.get_mut(..room) {
         Some(front) => spell(rt, &Record::Commit { tx: 1, n: 1 }, front),
         None => Err(RunFault::BadLine),
@@ -267,9 +280,9 @@ pub(crate) fn call<R: Print>(
     rt: &R,
     alloc: Global,
     text: &mut [u8],
-    mut words: SplitWhitespace<'_>,
+    words: &mut SplitWhitespace<'_>,
 ) -> Result<(), RunFault> {
-    match word(&mut words)? {
+    match word(words)? {
         "commit" => commit(rt, text, words),
         "end" => end(rt, text, words),
         "counters" => counters(rt, text, words),
@@ -285,10 +298,19 @@ pub(crate) fn call<R: Print>(
 /// Prints the record at the front of the bytes, and how many bytes it has.
 pub(crate) fn say_record<R: Print>(rt: &R, bytes: &[u8]) -> Result<(), RunFault> {
     match Record::decode(bytes, KEY) {
-        None => println!(rt; " none")?,
-        Some((Record::Commit { tx, n }, taken)) => {
-            println!(rt; " commit {n} of {tx}, {taken} bytes")?
-        }
+        None => say(rt, "none"),
+        Some((Record::Commit { tx, n }, taken)) => say_parts(
+            rt,
+            &[
+                Part::Text(" commit"),
+                Part::Number(n),
+                Part::Text(" of"),
+                Part::Number(tx),
+                Part::Text(","),
+                Part::Number(taken as u64),
+                Part::Text(" bytes"),
+            ],
+        ),
         Some(
             (
                 Record::Counters {
@@ -299,16 +321,27 @@ pub(crate) fn say_record<R: Print>(rt: &R, bytes: &[u8]) -> Result<(), RunFault>
                 },
                 taken,
             ),
-        ) => { println!(rt; " counters {n} {counter} {used} {next}, {taken} bytes")? }
-        Some((_, taken)) => println!(rt; " {taken} bytes")?,
+        ) => say_parts(
+            rt,
+            &[
+                Part::Text(" counters"),
+                Part::Number(n),
+                Part::Number(counter),
+                Part::Number(u64::from(used)),
+                Part::Number(next),
+                Part::Text(","),
+                Part::Number(taken as u64),
+                Part::Text(" bytes"),
+            ],
+        ),
+        Some((_, taken)) => say_parts(rt, &[Part::Number(taken as u64), Part::Text(" bytes")]),
     }
-    Ok(())
 }
 
 /// Sets one byte of the text.
-fn set(text: &mut [u8], mut words: SplitWhitespace<'_>) -> Result<(), RunFault> {
-    let at = count(&mut words)?;
-    let byte = byte(word(&mut words)?)?;
+fn set(text: &mut [u8], words: &mut SplitWhitespace<'_>) -> Result<(), RunFault> {
+    let at = count(words)?;
+    let byte = byte(word(words)?)?;
     let place = text.get_mut(at).ok_or(RunFault::BadLine)?;
     *place = byte;
     Ok(())
@@ -318,13 +351,13 @@ fn set(text: &mut [u8], mut words: SplitWhitespace<'_>) -> Result<(), RunFault> 
 pub(crate) fn read<R: Print>(
     rt: &R,
     text: &mut [u8],
-    mut words: SplitWhitespace<'_>,
+    words: &mut SplitWhitespace<'_>,
 ) -> Result<(), RunFault> {
-    match word(&mut words)? {
+    match word(words)? {
         "set" => set(text, words)?,
         "zeros" => text.fill(0),
         "front" => {
-            let front = text.get(..count(&mut words)?).ok_or(RunFault::BadLine)?;
+            let front = text.get(..count(words)?).ok_or(RunFault::BadLine)?;
             return say_record(rt, front);
         }
         _ => return Err(RunFault::BadLine),

@@ -1,7 +1,7 @@
 //! Frames in long runs over devices in memory, against a list of what was last written to each page.
 use crate::fault::RunFault;
 use crate::pools::{Leaves, empty, is_there};
-use crate::words::{number, word};
+use crate::words::{Part, number, say_parts, truth, word};
 use gx_disk::{Fuse, FuseDisk, MemDisk, SectorDisk};
 use gx_pool::{PAGES, Pool, PoolFault};
 use rand_core::utils::NextWord;
@@ -152,8 +152,14 @@ fn say_long<R: Print>(rt: &R, alloc: Global) -> Result<(), RunFault> {
     let mut disk = MemDisk::new(alloc, 4168 + 8 * 2000)?;
     let mut run = start(alloc, 2001)?;
     let (taken, well) = run_long(&mut run, &mut disk);
-    println!(rt; " {taken} steps as the list has it, the end too: {well}")?;
-    Ok(())
+    say_parts(
+        rt,
+        &[
+            Part::Number(taken),
+            Part::Text(" steps as the list has it, the end too: "),
+            Part::Text(truth(well)),
+        ],
+    )
 }
 
 /// How often the device failed at a step, which is then taken again. `None` where it is refused again, or else.
@@ -224,19 +230,27 @@ fn say_faults<R: Print>(rt: &R, alloc: Global, calls: u64) -> Result<(), RunFaul
             End::Lost => lost = lost.wrapping_add(1),
         }
     }
-    println!(rt; " {lost} lose a change, some fail: {failed}, some don't: {passed}")?;
-    Ok(())
+    say_parts(
+        rt,
+        &[
+            Part::Number(lost),
+            Part::Text(" lose a change, some fail: "),
+            Part::Text(truth(failed)),
+            Part::Text(", some don't: "),
+            Part::Text(truth(passed)),
+        ],
+    )
 }
 
 /// A line that asks for runs.
 pub(crate) fn call<R: Print>(
     rt: &R,
     alloc: Global,
-    mut words: SplitWhitespace<'_>,
+    words: &mut SplitWhitespace<'_>,
 ) -> Result<(), RunFault> {
-    match word(&mut words)? {
+    match word(words)? {
         "long" => say_long(rt, alloc),
-        "faults" => say_faults(rt, alloc, number(&mut words)?),
+        "faults" => say_faults(rt, alloc, number(words)?),
         _ => Err(RunFault::BadLine),
     }
 }

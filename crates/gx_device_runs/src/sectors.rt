@@ -1,6 +1,6 @@
 //! Calls of the device: sectors written, synced, and shown.
 use crate::fault::RunFault;
-use crate::words::{byte, number, say, say_bytes, say_number, word};
+use crate::words::{Part, byte, number, say, say_bytes, say_number, say_parts, word};
 use gx_disk::{DiskFault, SectorDisk};
 use std::str::SplitWhitespace;
 
@@ -51,10 +51,10 @@ fn fill<D: SectorDisk>(disk: &mut D, first: u64, byte: u8, count: u64) -> Result
 /// The byte that a line asks for, in how many sectors, one if it doesn't say.
 fn fill_by<D: SectorDisk>(
     disk: &mut D,
-    mut words: SplitWhitespace<'_>,
+    words: &mut SplitWhitespace<'_>,
 ) -> Result<&'static str, RunFault> {
-    let first = number(&mut words)?;
-    let byte = byte(word(&mut words)?)?;
+    let first = number(words)?;
+    let byte = byte(word(words)?)?;
     let count = match words.next() {
         Some(word) => word.parse::<u64>().ok().ok_or(RunFault::BadLine)?,
         None => 1,
@@ -63,7 +63,7 @@ fn fill_by<D: SectorDisk>(
 }
 
 /// Writes the bytes of a line over the first ones.
-fn overlay(bytes: &mut [u8], words: SplitWhitespace<'_>) -> Result<(), RunFault> {
+fn overlay(bytes: &mut [u8], words: &mut SplitWhitespace<'_>) -> Result<(), RunFault> {
     let mut at: usize = 0;
     for word in words {
         let Some(place) = bytes.get_mut(at) else {
@@ -78,9 +78,9 @@ fn overlay(bytes: &mut [u8], words: SplitWhitespace<'_>) -> Result<(), RunFault>
 /// Writes a sector again with other bytes at its front.
 fn front_by<D: SectorDisk>(
     disk: &mut D,
-    mut words: SplitWhitespace<'_>,
+    words: &mut SplitWhitespace<'_>,
 ) -> Result<&'static str, RunFault> {
-    let sector = number(&mut words)?;
+    let sector = number(words)?;
     let mut bytes = read(disk, sector)?;
     overlay(&mut bytes, words)?;
     Ok(told(write(disk, sector, &bytes)))
@@ -95,8 +95,8 @@ fn open_gate() -> [u8; 512] {
 
 /// Prints how many of the 32 gates from a sector on are written open, and how many behind these closed.
 fn say_gates<R: Print, D: SectorDisk>(rt: &R, disk: &mut D, first: u64) -> Result<(), RunFault> {
-    let mut open = 0_u32;
-    let mut closed = 0_u32;
+    let mut open = 0_u64;
+    let mut closed = 0_u64;
     for k in 0..32_u64 {
         let gate = read(disk, first.saturating_add(k))?;
         if gate == [0; 512] {
@@ -105,8 +105,15 @@ fn say_gates<R: Print, D: SectorDisk>(rt: &R, disk: &mut D, first: u64) -> Resul
             open = open.wrapping_add(1);
         }
     }
-    println!(rt; " {open} open, {closed} closed")?;
-    Ok(())
+    say_parts(
+        rt,
+        &[
+            Part::Number(open),
+            Part::Text(" open,"),
+            Part::Number(closed),
+            Part::Text(" closed"),
+        ],
+    )
 }
 
 /// How many of so many sectors from a first one on are all zeros.
@@ -120,33 +127,40 @@ fn zeros<D: SectorDisk>(disk: &mut D, first: u64, count: u64) -> Result<u64, Run
     Ok(zeros)
 }
 
-/// A line that asks for a call of the device.
-pub(crate) fn call<R: Print, D: SectorDisk>(
-    rt: &R,
+/// Makes the call that a line asks for.
+fn make<D: SectorDisk>(
     disk: &mut D,
-    mut words: SplitWhitespace<'_>,
-) -> Result<(), RunFault> {
-    let answer = match word(&mut words)? {
+    words: &mut SplitWhitespace<'_>,
+) -> Result<&'static str, RunFault> {
+    match word(words)? {
         "fill" => fill_by(disk, words),
         "front" => front_by(disk, words),
         "sync" => Ok(told(disk.sync())),
         _ => Err(RunFault::BadLine),
-    };
-    say(rt, answer?)
+    }
+}
+
+/// A line that asks for a call of the device.
+pub(crate) fn call<R: Print, D: SectorDisk>(
+    rt: &R,
+    disk: &mut D,
+    words: &mut SplitWhitespace<'_>,
+) -> Result<(), RunFault> {
+    say(rt, make(disk, words)?)
 }
 
 /// A line that looks at sectors.
 pub(crate) fn look<R: Print, D: SectorDisk>(
     rt: &R,
     disk: &mut D,
-    mut words: SplitWhitespace<'_>,
+    words: &mut SplitWhitespace<'_>,
 ) -> Result<(), RunFault> {
-    let looked = word(&mut words)?;
-    let first = number(&mut words)?;
+    let looked = word(words)?;
+    let first = number(words)?;
     match looked {
         "sector" => say_bytes(rt, &read(disk, first)?),
         "gates" => say_gates(rt, disk, first),
-        "zeros" => say_number(rt, zeros(disk, first, number(&mut words)?)?),
+        "zeros" => say_number(rt, zeros(disk, first, number(words)?)?),
         _ => Err(RunFault::BadLine),
     }
 }

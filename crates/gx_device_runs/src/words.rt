@@ -45,16 +45,48 @@ pub(crate) fn byte(word: &str) -> Result<u8, RunFault> {
     u8::from_str_radix(word, 16).ok().ok_or(RunFault::BadLine)
 }
 
+/// A part of an answer.
+#[derive(Clone, Copy)]
+pub(crate) enum Part<'a> {
+    /// A text as it stands.
+    Text(&'a str),
+    /// A number, with a space before it.
+    Number(u64),
+    /// A byte by two hexadecimal digits, with a space before it.
+    Byte(u8),
+}
+
+/// Prints parts, one behind the other.
+pub(crate) fn print_parts<R: Print>(rt: &R, parts: &[Part<'_>]) -> Result<(), RunFault> {
+    for part in parts {
+        match part {
+            Part::Text(text) => print!(rt; "{text}")?,
+            Part::Number(number) => print!(rt; " {number}")?,
+            Part::Byte(byte) => print!(rt; " {byte:02x}")?,
+        }
+    }
+    Ok(())
+}
+
+/// Answers a line by parts.
+pub(crate) fn say_parts<R: Print>(rt: &R, parts: &[Part<'_>]) -> Result<(), RunFault> {
+    print_parts(rt, parts)?;
+    say_end(rt)
+}
+
+/// A test's answer as a word.
+pub(crate) fn truth(answer: bool) -> &'static str {
+    if answer { "true" } else { "false" }
+}
+
 /// Answers a line by a word.
 pub(crate) fn say<R: Print>(rt: &R, word: &str) -> Result<(), RunFault> {
-    println!(rt; " {word}")?;
-    Ok(())
+    say_parts(rt, &[Part::Text(" "), Part::Text(word)])
 }
 
 /// Answers a line by a number.
 pub(crate) fn say_number<R: Print>(rt: &R, number: u64) -> Result<(), RunFault> {
-    println!(rt; " {number}")?;
-    Ok(())
+    say_parts(rt, &[Part::Number(number)])
 }
 
 /// Bytes that are equal, one behind the other.
@@ -64,11 +96,10 @@ struct Run {
     count: u64,
 }
 
-fn print_run<R: Print>(rt: &R, run: Run) -> Result<(), RunFault> {
-    let Run { byte, count } = run;
+fn print_run<R: Print>(rt: &R, Run { byte, count }: Run) -> Result<(), RunFault> {
     match count {
         0 => {}
-        1 => print!(rt; " {byte:02x}")?,
+        1 => print_parts(rt, &[Part::Byte(byte)])?,
         _ => print!(rt; " {byte:02x}*{count}")?,
     }
     Ok(())

@@ -1,2 +1,3 @@
 pub mod Again
 pub mod Threes
+pub mod Turned

@@ -1,6 +1,8 @@
 pub mod Crash
 pub mod Device
 pub mod Fuse
+pub mod Laws
+pub mod Looks
 pub mod Memory
 pub mod Moments
 pub mod Past

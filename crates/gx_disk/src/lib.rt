@@ -4,6 +4,7 @@
 mod device;
 mod file;
 mod fuse;
+pub mod laws;
 mod memory;
 mod tally;
 mod tear;

@@ -1,5 +1,5 @@
 -- The first log of a device that it was laid down on.
-use Rattle.std.proofs.Common.{◌≡◌, ◌∙◌, sym, ap, refl, subst, inl, inr, ℕ, ◌+◌, ◌<◌, ◌≤◌, ◌==◌, List, [], Bool, true, false, get_or, if◌then◌else◌, arith}
+use Rattle.std.proofs.Common.{◌≡◌, ◌∙◌, sym, ap, refl, subst, inl, inr, ℕ, ◌+◌, ◌<◌, ◌≤◌, ◌==◌, List, [], ◌∷◌, Bool, true, false, get_or, if◌then◌else◌, arith}
 use Rattle.gx_disk.specs.Sectors.{span_of, sector_of}
 use Rattle.gx_disk.specs.Device.{IsImage}
 use Rattle.gx_disk.proofs.Spans.{image_span}
@@ -8,10 +8,12 @@ use Rattle.gx_glog.specs.declared.extent.Extent.TheVariants.{A, B}
 use Rattle.gx_glog.specs.declared.stage.Stage.TheVariants.{Idle}
 use Rattle.gx_glog.specs.declared.stage.Turn.TheVariants.{Closed}
 use Rattle.gx_glog.specs.Bodies.{HasRecords}
+use Rattle.gx_glog.specs.Cuts.{open_bodies, joined}
 use Rattle.gx_glog.specs.First.{first_record, first_body_bytes, FirstIsSpelled, HasFirstLog, IsFirstSettled}
 use Rattle.gx_glog.specs.Layout.{selected_of, is_open, body_of, size_in, records_in, log_of}
 use Rattle.gx_glog.specs.Standing.{IsSelected, HasHead, On}
-use Rattle.gx_glog.proofs.Images.{head_shows}
+use Rattle.gx_glog.proofs.Images.{head_shows_bodies}
+use Rattle.gx_glog.proofs.Cuts.{joined_more, joined_log}
 use Rattle.gx_glog.proofs.Keeping.{start_on}
 use Rattle.gx_glog.proofs.Turning.{head_stands}
 
@@ -67,5 +69,8 @@ module _ (seen : List ℕ) (pending : ℕ → Bool) (has : HasFirstLog seen) (se
   }
 
 -- what reads so has the first log
+pub first_bodies : (seen : List ℕ) → HasFirstLog seen → open_bodies seen ≡ first_record ∷ []
+first_bodies seen has = head_shows_bodies A first_record seen (λ s. false) seen (head seen (λ s. false) has (λ s of. refl)) (record { size = refl; settled = λ s is. refl }) (selects_a seen has)
+
 pub first_log : (seen : List ℕ) → HasFirstLog seen → log_of seen ≡ first_record
-first_log seen has = head_shows A first_record seen (λ s. false) seen (head seen (λ s. false) has (λ s of. refl)) (record { size = refl; settled = λ s is. refl }) (selects_a seen has)
+first_log seen has = sym (joined_log seen) ∙ ap joined (first_bodies seen has) ∙ joined_more [] first_record

@@ -1,11 +1,12 @@
 -- What gates, bodies and the selector read as: it hangs on their own sectors alone.
-use Rattle.std.proofs.Common.{◌≡◌, ◌∙◌, ap, refl, ◌⊎◌, inl, inr, ℕ, zero, suc, ◌+◌, ◌*◌, ◌<◌, ◌≤◌, ◌==◌, List, ◌++◌, true, false, if◌then◌else◌, arith}
+use Rattle.std.proofs.Common.{◌≡◌, ◌∙◌, ap, refl, ◌⊎◌, inl, inr, ℕ, zero, suc, ◌+◌, ◌*◌, ◌<◌, ◌≤◌, ◌==◌, List, [], ◌∷◌, ◌++◌, true, false, if◌then◌else◌, arith}
 use Rattle.std.specs.Prelude.{slice_index}
 use Rattle.gx_disk.specs.Sectors.{span_of, sector_of, IsWithin, IsOutside}
 use Rattle.gx_disk.proofs.Spans.{spans_same}
 use Rattle.gx_glog.specs.declared.extent.Extent.{Extent}
 use Rattle.gx_glog.specs.declared.extent.Extent.TheVariants.{A, B}
-use Rattle.gx_glog.specs.Layout.{gates_of, bodies_of, other_of, selected_of, is_open, body_of, records_in, open_run, batches_of, log_of}
+use Rattle.gx_glog.specs.Layout.{gates_of, bodies_of, other_of, selected_of, is_open, body_of, records_in, open_run}
+use Rattle.gx_glog.specs.Cuts.{bodies_in, open_bodies}
 
 -- an extent's gates stand before its bodies, behind the selector and before the pages
 pub record IsPlaced (extent : Extent) : Type 0 where
@@ -41,19 +42,19 @@ pub body_same : (extent : Extent) (k : ℕ) (xs ys : List ℕ) → ((s : ℕ) �
 unfolding body_of
 body_same extent k xs ys same = spans_same 64 (bodies_of extent + 64 * k) xs ys same
 
--- batches are the same where their bodies are
-pub batches_same : (extent : Extent) (n : ℕ) (xs ys : List ℕ) → ((k : ℕ) → k < n → body_of xs extent k ≡ body_of ys extent k) → batches_of xs extent n ≡ batches_of ys extent n
-unfolding batches_of
-batches_same extent zero xs ys same = refl
-batches_same extent (suc n) xs ys same =
-    let before : batches_of xs extent n ≡ batches_of ys extent n = batches_same extent n xs ys (λ k less. same k (omega arith)) in
+-- bodies are the same where their sectors are
+pub bodies_same : (extent : Extent) (n : ℕ) (xs ys : List ℕ) → ((k : ℕ) → k < n → body_of xs extent k ≡ body_of ys extent k) → bodies_in xs extent n ≡ bodies_in ys extent n
+unfolding bodies_in
+bodies_same extent zero xs ys same = refl
+bodies_same extent (suc n) xs ys same =
+    let before : bodies_in xs extent n ≡ bodies_in ys extent n = bodies_same extent n xs ys (λ k less. same k (omega arith)) in
     let last : body_of xs extent n ≡ body_of ys extent n = same n (omega arith) in
     rw (before, last) refl
 
--- the records of one batch more come behind
-pub batches_more : (extent : Extent) (n : ℕ) (xs : List ℕ) → batches_of xs extent (n + 1) ≡ batches_of xs extent n ++ records_in (body_of xs extent n)
-unfolding batches_of
-batches_more extent n xs = let more : n + 1 ≡ suc n = omega arith in rw more refl
+-- one body more comes behind
+pub bodies_more : (extent : Extent) (n : ℕ) (xs : List ℕ) → bodies_in xs extent (n + 1) ≡ bodies_in xs extent n ++ (records_in (body_of xs extent n) ∷ [])
+unfolding bodies_in
+bodies_more extent n xs = let more : n + 1 ≡ suc n = omega arith in rw more refl
 
 -- a run of n open gates ends at a closed one, or at the last place
 pub run_is : (extent : Extent) (places k n : ℕ) (bytes : List ℕ) → n ≤ places → ((j : ℕ) → k ≤ j → j < k + n → is_open bytes extent j ≡ true) → (n < places → is_open bytes extent (k + n) ≡ false)
@@ -72,11 +73,11 @@ run_is extent (suc places) k (suc n) bytes few opened closed =
     run_is extent places (k + 1) n bytes (omega arith) (λ j from below. opened j (omega arith) (omega arith)) (λ less. ap (λ j. is_open bytes extent j) there ∙ closed (omega arith)) in
     rw open_here (ap suc rest)
 
--- the log of an image with n open gates in a row
-pub log_is : (extent : Extent) (n : ℕ) (image : List ℕ) → selected_of image ≡ extent → n ≤ 32 → ((k : ℕ) → k < n → is_open image extent k ≡ true) → (n < 32 → is_open image extent n ≡ false)
-    → log_of image ≡ batches_of image extent n
-unfolding log_of
-log_is extent n image selects few opened closed =
+-- the bodies of an image with n open gates in a row
+pub bodies_are : (extent : Extent) (n : ℕ) (image : List ℕ) → selected_of image ≡ extent → n ≤ 32 → ((k : ℕ) → k < n → is_open image extent k ≡ true) → (n < 32 → is_open image extent n ≡ false)
+    → open_bodies image ≡ bodies_in image extent n
+unfolding open_bodies
+bodies_are extent n image selects few opened closed =
     let there : 0 + n ≡ n = omega arith in
     let run : open_run image extent 0 32 ≡ n = run_is extent 32 0 n image few (λ j from below. opened j (omega arith)) (λ less. ap (λ j. is_open image extent j) there ∙ closed less) in
-    rw selects (ap (λ m. batches_of image extent m) run)
+    rw selects (ap (λ m. bodies_in image extent m) run)

@@ -7,7 +7,8 @@ use Rattle.gx_glog.specs.declared.stage.Stage.{Stage}
 use Rattle.gx_glog.specs.declared.stage.Stage.TheVariants.{Body, BodySync, Gate, GateSync, Idle}
 use Rattle.gx_glog.specs.declared.stage.Turn.{Turn}
 use Rattle.gx_glog.specs.declared.stage.Turn.TheVariants as turn
-use Rattle.gx_glog.specs.Layout.{gates_of, bodies_of, other_of, body_of, size_in, batches_of}
+use Rattle.gx_glog.specs.Layout.{gates_of, bodies_of, other_of, body_of, size_in}
+use Rattle.gx_glog.specs.Cuts.{bodies_in, joined, gated_bodies}
 use Rattle.gx_glog.specs.Reading.{IsSize}
 use Rattle.gx_glog.specs.declared.filling.Appended.{Appended}
 use Rattle.gx_glog.specs.declared.filling.Appended.TheVariants.{At, NoRoom}
@@ -16,7 +17,8 @@ use Rattle.gx_glog.specs.Bodies.{HasRecords}
 use Rattle.gx_glog.specs.State.{Log, IsSound, in_flight, turning}
 use Rattle.gx_glog.specs.Standing.{IsGate, IsBodySettled, IsSelected, HasBatches, HasRun, ReadsClosed, HasFirst, HasHead, Flies, Leads, On, MayTurn, gated_of, IsKept, IsOfLog, LeavesLog}
 use Rattle.gx_glog.specs.Turning.{PutsFirst}
-use Rattle.gx_glog.proofs.Gates.{placed, gate_same, selector_same, body_same, batches_same}
+use Rattle.gx_glog.proofs.Gates.{placed, gate_same, selector_same, body_same, bodies_same}
+use Rattle.gx_glog.proofs.Cuts.{joined_bodies}
 
 -- a sector that a call doesn't touch is kept
 pub touched_kept : (first n s : ℕ) (old new : Device) → Touches first n old new → IsOutside first n s → IsKept old.seen new.seen old.pending new.pending s
@@ -56,10 +58,10 @@ module _ (seen seen' : List ℕ) (pending pending' : ℕ → Bool) where
     closed = λ k from below. gate_kept false extent k (gates k (inr from) below) (has.closed k from below);
   }
 
-  -- the gated records read as before where their bodies are kept
+  -- the gated bodies read as before where they are kept
   pub gated_kept : (extent : Extent) (n : ℕ) → ((k : ℕ) → k < n → (s : ℕ) → IsWithin (bodies_of extent + 64 * k) 64 s → IsKept seen seen' pending pending' s)
-      → batches_of seen' extent n ≡ batches_of seen extent n
-  gated_kept extent n kept = batches_same extent n seen' seen (λ k less. body_kept extent k (kept k less))
+      → bodies_in seen' extent n ≡ bodies_in seen extent n
+  gated_kept extent n kept = bodies_same extent n seen' seen (λ k less. body_kept extent k (kept k less))
 
   -- an extent stays selected where the selector is kept
   pub selected_kept : (extent : Extent) → IsKept seen seen' pending pending' 2 → IsSelected extent seen pending → IsSelected extent seen' pending'
@@ -89,7 +91,7 @@ module _ (seen seen' : List ℕ) (pending pending' : ℕ → Bool) where
     ends = λ less. gate_kept false extent run (extent_gate extent kept run less) (has.ends less);
   }
 
-  pub extent_gated : (extent : Extent) (n : ℕ) → KeptExtent extent → n ≤ 32 → batches_of seen' extent n ≡ batches_of seen extent n
+  pub extent_gated : (extent : Extent) (n : ℕ) → KeptExtent extent → n ≤ 32 → bodies_in seen' extent n ≡ bodies_in seen extent n
   extent_gated extent n kept few = gated_kept extent n (λ k less. extent_body extent kept k (omega arith))
 
   pub closed_kept : (extent : Extent) → ((k : ℕ) → k < 32 → IsKept seen seen' pending pending' (gates_of extent + k)) → ReadsClosed extent seen → ReadsClosed extent seen'
@@ -165,10 +167,16 @@ module _ (seen seen' : List ℕ) (pending pending' : ℕ → Bool) where
     quiet = on.quiet;
   }
 
-  -- and has the same batches
-  pub gated_stays : (log : Log) → LeavesLog seen seen' pending pending' → On log seen pending → gated_of log seen' ≡ gated_of log seen
-  gated_stays log leaves on =
+  -- and has the same bodies, and so the same records
+  pub bodies_stay : (log : Log) → LeavesLog seen seen' pending pending' → On log seen pending → gated_bodies log seen' ≡ gated_bodies log seen
+  bodies_stay log leaves on =
       extent_gated log.extent log.gated (extent_is_of_log log.extent leaves) (omega (arith, on.sound.places, on.sound.few))
+
+  records_stay : (log : Log) → gated_bodies log seen' ≡ gated_bodies log seen → gated_of log seen' ≡ gated_of log seen
+  records_stay log same = sym (joined_bodies seen' log.extent log.gated) ∙ ap joined same ∙ joined_bodies seen log.extent log.gated
+
+  pub gated_stays : (log : Log) → LeavesLog seen seen' pending pending' → On log seen pending → gated_of log seen' ≡ gated_of log seen
+  gated_stays log leaves on = records_stay log (bodies_stay log leaves on)
 
   -- the same of a log that may turn
   pub may_turn_kept : (log : Log) → LeavesLog seen seen' pending pending' → MayTurn log seen pending → MayTurn log seen' pending'
@@ -180,9 +188,12 @@ module _ (seen seen' : List ℕ) (pending pending' : ℕ → Bool) where
     quiet = may.quiet;
   }
 
-  pub run_stays : (log : Log) → LeavesLog seen seen' pending pending' → MayTurn log seen pending → gated_of log seen' ≡ gated_of log seen
-  run_stays log leaves may =
+  pub run_bodies_stay : (log : Log) → LeavesLog seen seen' pending pending' → MayTurn log seen pending → gated_bodies log seen' ≡ gated_bodies log seen
+  run_bodies_stay log leaves may =
       extent_gated log.extent log.gated (extent_is_of_log log.extent leaves) (omega (arith, may.sound.places, may.sound.few))
+
+  pub run_stays : (log : Log) → LeavesLog seen seen' pending pending' → MayTurn log seen pending → gated_of log seen' ≡ gated_of log seen
+  run_stays log leaves may = records_stay log (run_bodies_stay log leaves may)
 
 -- a call elsewhere leaves the log's sectors
 pub touched_leaves : (first n : ℕ) (old new : Device) → ((s : ℕ) → IsOfLog s → IsOutside first n s) → Touches first n old new → LeavesLog old.seen new.seen old.pending new.pending

@@ -1,10 +1,10 @@
 pub mod Besides
+pub mod Cuts
 pub mod Fills
 pub mod FirstLog
 pub mod Gates
 pub mod Images
 pub mod Keeping
-pub mod Looking
 pub mod Stepping
 pub mod Told
 pub mod TurnBesides

@@ -4,24 +4,26 @@ use Rattle.std.proofs.lemmas.Bool.{cases_lt}
 use Rattle.std.specs.Prelude.{slice_index}
 use Rattle.gx_geom.specs.declared.refusal.Refusal.{Refusal}
 use Rattle.gx_disk.specs.Sectors.{span_of, put, IsWithin}
-use Rattle.gx_disk.specs.Device.{Device, MayLeave, Touches, Writes, Syncs, IsWritten}
+use Rattle.gx_disk.specs.Device.{Device, MayLeave, Elapses, Touches, Writes, Syncs, IsWritten}
 use Rattle.gx_disk.specs.Moments.{Leaves}
-use Rattle.gx_disk.proofs.Leaving.{call_leaves, nothing_leaves, rested_touches}
+use Rattle.gx_disk.proofs.Leaving.{call_leaves, leaves_weaker, nothing_leaves, rested_touches}
 use Rattle.gx_disk.proofs.Spans.{put_back}
 use Rattle.gx_glog.specs.declared.extent.Extent.{Extent}
 use Rattle.gx_glog.specs.declared.stage.Stage.{Stage}
 use Rattle.gx_glog.specs.declared.stage.Stage.TheVariants.{Body, BodySync, Gate, GateSync, Idle}
 use Rattle.gx_glog.specs.declared.stage.Turn.{Turn}
 use Rattle.gx_glog.specs.declared.stage.Turn.TheVariants as turn
-use Rattle.gx_glog.specs.Layout.{gates_of, bodies_of, is_open, body_of, size_in, batches_of, log_of}
+use Rattle.gx_glog.specs.Layout.{gates_of, bodies_of, is_open, body_of, size_in}
+use Rattle.gx_glog.specs.Cuts.{bodies_in, open_bodies, joined, gated_bodies, AreBodiesOf, ShowsBodies, GatesBodies}
 use Rattle.gx_glog.specs.Reading.{IsSize}
 use Rattle.gx_glog.specs.Bodies.{HasRecords, IsBody, IsOpenGate}
 use Rattle.gx_glog.specs.State.{Log, IsSound, in_flight, turning, begun, done, Made}
-use Rattle.gx_glog.specs.Standing.{IsGate, IsBodySettled, IsSelected, HasBatches, On, gated_of, IsLogOf, Shows, IsKept}
-use Rattle.gx_glog.specs.Steps.{Calls, Keeps}
-use Rattle.gx_glog.proofs.Gates.{placed, batches_more}
-use Rattle.gx_glog.proofs.Images.{closed_log, either_log, image_gate, image_selects, selected_shows}
-use Rattle.gx_glog.proofs.Keeping.{touched_kept, gate_kept, body_settled, records_kept, selected_kept, batches_kept, gated_kept, on_kept, gated_stays, rested_kept, rested_leaves, touched_wider}
+use Rattle.gx_glog.specs.Standing.{IsGate, IsBodySettled, IsSelected, HasBatches, On, gated_of, Shows, IsKept}
+use Rattle.gx_glog.specs.Steps.{Calls, Gates, Keeps}
+use Rattle.gx_glog.proofs.Cuts.{joined_bodies, shown_bytes, gates_bytes}
+use Rattle.gx_glog.proofs.Gates.{placed, bodies_more}
+use Rattle.gx_glog.proofs.Images.{closed_log, either_log, image_gate, image_selects, selected_shows_bodies}
+use Rattle.gx_glog.proofs.Keeping.{touched_kept, gate_kept, body_settled, records_kept, selected_kept, batches_kept, gated_kept, on_kept, bodies_stay, rested_kept, rested_leaves, touched_wider}
 
 abbrev pub log_at : Turn → Extent → ℕ → ℕ → Stage → List ℕ → List ℕ → Log
 log_at turn extent used gated stage flight filling = record { extent = extent; used = used; gated = gated; stage = stage; turn = turn; flight = flight; filling = filling }
@@ -30,6 +32,14 @@ log_at turn extent used gated stage flight filling = record { extent = extent; u
 abbrev pub log_with : Extent → ℕ → ℕ → Stage → List ℕ → List ℕ → Log
 log_with = log_at turn.Closed
 
+-- what a step does to the bodies, and leaves on the device
+pub record Moves (old new : Log) (before now : Device) (result : Result Stage Refusal) : Type 0 where
+  pub on : On new now.seen now.pending
+  pub gated : GatesBodies (gated_bodies old before.seen) old.flight (gated_bodies new now.seen) result
+  pub moments : Leaves (ShowsBodies old.stage (gated_bodies old before.seen) old.flight) before now
+  pub touches : Touches 8 4160 before now
+  pub time : Elapses before now
+
 -- the body's write
 module _ (extent : Extent) (used gated : ℕ) (flight filling bytes : List ℕ) (before now : Device) (result : Result Stage Refusal)
     (sound : IsSound (log_with extent used gated Body flight filling)) (has : HasBatches extent gated used before.seen before.pending) (gate : IsGate false before.seen before.pending extent gated)
@@ -37,12 +47,12 @@ module _ (extent : Extent) (used gated : ℕ) (flight filling bytes : List ℕ) 
   gates_stay : (k : ℕ) → k < 32 → IsKept before.seen now.seen before.pending now.pending (gates_of extent + k)
   gates_stay k below = let at = placed extent in touched_kept (bodies_of extent + 64 * gated) 64 (gates_of extent + k) before now writes.touches (inl (omega (arith, at.bodies)))
 
-  bodies_stay : (k : ℕ) → k < gated → (s : ℕ) → IsWithin (bodies_of extent + 64 * k) 64 s → IsKept before.seen now.seen before.pending now.pending s
-  bodies_stay k less s within = touched_kept (bodies_of extent + 64 * gated) 64 s before now writes.touches (inl (omega (arith, within.below)))
+  earlier_stay : (k : ℕ) → k < gated → (s : ℕ) → IsWithin (bodies_of extent + 64 * k) 64 s → IsKept before.seen now.seen before.pending now.pending s
+  earlier_stay k less s within = touched_kept (bodies_of extent + 64 * gated) 64 s before now writes.touches (inl (omega (arith, within.below)))
 
   body_batches : HasBatches extent gated used now.seen now.pending
   body_batches =
-      batches_kept before.seen now.seen before.pending now.pending extent gated used writes.touches.size (λ k which below. gates_stay k below) bodies_stay (omega (arith, sound.places, sound.few)) has
+      batches_kept before.seen now.seen before.pending now.pending extent gated used writes.touches.size (λ k which below. gates_stay k below) earlier_stay (omega (arith, sound.places, sound.few)) has
 
   body_selected : IsSelected extent now.seen now.pending
   body_selected =
@@ -52,12 +62,12 @@ module _ (extent : Extent) (used gated : ℕ) (flight filling bytes : List ℕ) 
   body_gate : IsGate false now.seen now.pending extent gated
   body_gate = gate_kept before.seen now.seen before.pending now.pending false extent gated (gates_stay gated (omega (arith, sound.places, sound.few))) gate
 
-  body_same_batches : batches_of now.seen extent gated ≡ batches_of before.seen extent gated
-  body_same_batches = gated_kept before.seen now.seen before.pending now.pending extent gated bodies_stay
+  body_same_batches : bodies_in now.seen extent gated ≡ bodies_in before.seen extent gated
+  body_same_batches = gated_kept before.seen now.seen before.pending now.pending extent gated earlier_stay
 
-  body_moments : Leaves (λ image. log_of image ≡ batches_of before.seen extent gated) before now
+  body_moments : Leaves (λ image. open_bodies image ≡ bodies_in before.seen extent gated) before now
   body_moments =
-      call_leaves (λ image. log_of image ≡ batches_of before.seen extent gated) before now writes.time
+      call_leaves (λ image. open_bodies image ≡ bodies_in before.seen extent gated) before now writes.time
       (λ image may. closed_log now.seen now.pending extent gated used image body_batches may (image_selects extent now.seen now.pending image body_selected may) (omega (arith, sound.places, sound.few))
       (λ less. image_gate false now.seen now.pending extent gated image body_gate may) ∙ body_same_batches)
 
@@ -75,7 +85,7 @@ module _ (extent : Extent) (used gated : ℕ) (flight filling bytes : List ℕ) 
       subst P (sym reads) is_body.has
 
 body_made : (extent : Extent) (used gated : ℕ) (flight filling : List ℕ) (before now : Device) → On (log_with extent used gated Body flight filling) before.seen before.pending
-    → Calls Body extent gated flight before now (Ok Body) → Keeps (log_with extent used gated Body flight filling) (log_with extent used gated BodySync flight filling) before now (Ok Body)
+    → Calls Body extent gated flight before now (Ok Body) → Moves (log_with extent used gated Body flight filling) (log_with extent used gated BodySync flight filling) before now (Ok Body)
 body_made extent used gated flight filling before now on (bytes, is_body, writes) = record {
   on = record {
     sound = record { places = on.sound.places; few = on.sound.few; one = on.sound.one; some = on.sound.some; fits = on.sound.fits; filled = on.sound.filled; room = on.sound.room };
@@ -94,7 +104,7 @@ body_made extent used gated flight filling before now on (bytes, is_body, writes
 }
 
 body_failed : (extent : Extent) (used gated : ℕ) (flight filling : List ℕ) (before now : Device) (refusal : Refusal) → On (log_with extent used gated Body flight filling) before.seen before.pending
-    → Calls {T = Stage} Body extent gated flight before now (Err refusal) → Keeps (log_with extent used gated Body flight filling) (log_with extent used gated Body flight filling) before now (Err refusal)
+    → Calls {T = Stage} Body extent gated flight before now (Err refusal) → Moves (log_with extent used gated Body flight filling) (log_with extent used gated Body flight filling) before now (Err refusal)
 body_failed extent used gated flight filling before now refusal on (bytes, is_body, writes) = record {
   on = record {
     sound = on.sound;
@@ -138,13 +148,13 @@ module _ (extent : Extent) (used gated : ℕ) (flight filling bytes : List ℕ) 
   gate_settled : IsBodySettled now.pending extent gated
   gate_settled = body_settled before.seen now.seen before.pending now.pending extent gated (all_bodies_stay gated) settled
 
-  gate_same_batches : batches_of now.seen extent gated ≡ batches_of before.seen extent gated
+  gate_same_batches : bodies_in now.seen extent gated ≡ bodies_in before.seen extent gated
   gate_same_batches = gated_kept before.seen now.seen before.pending now.pending extent gated (λ k less s within. all_bodies_stay k s within)
 
-  gate_moments : Leaves (IsLogOf (batches_of before.seen extent gated) flight) before now
+  gate_moments : Leaves (AreBodiesOf (bodies_in before.seen extent gated) flight) before now
   gate_moments =
-      let P : List ℕ → Type 0 = λ records. (image : List ℕ) → MayLeave now image → IsLogOf records flight image in
-      call_leaves (IsLogOf (batches_of before.seen extent gated) flight) before now writes.time
+      let P : List (List ℕ) → Type 0 = λ (bodies : List (List ℕ)). (image : List ℕ) → MayLeave now image → AreBodiesOf bodies flight image in
+      call_leaves (AreBodiesOf (bodies_in before.seen extent gated) flight) before now writes.time
       (subst P gate_same_batches (λ image may. either_log now.seen now.pending extent gated used image gate_batches may (image_selects extent now.seen now.pending image gate_selected may) flight (omega (arith, sound.places, sound.few)) (omega (arith, sound.places)) gate_body gate_settled))
 
   gate_touches : Touches 8 4160 before now
@@ -161,7 +171,7 @@ module _ (extent : Extent) (used gated : ℕ) (flight filling bytes : List ℕ) 
       ap (λ sector. slice_index sector 0 == 0xA7) reads ∙ ap (λ byte. byte == 0xA7) is_gate.opens
 
 gate_made : (extent : Extent) (used gated : ℕ) (flight filling : List ℕ) (before now : Device) → On (log_with extent used gated Gate flight filling) before.seen before.pending
-    → Calls Gate extent gated flight before now (Ok Gate) → Keeps (log_with extent used gated Gate flight filling) (log_with extent used gated GateSync flight filling) before now (Ok Gate)
+    → Calls Gate extent gated flight before now (Ok Gate) → Moves (log_with extent used gated Gate flight filling) (log_with extent used gated GateSync flight filling) before now (Ok Gate)
 gate_made extent used gated flight filling before now on (bytes, is_gate, writes) = record {
   on = record {
     sound = record { places = on.sound.places; few = on.sound.few; one = on.sound.one; some = on.sound.some; fits = on.sound.fits; filled = on.sound.filled; room = on.sound.room };
@@ -181,7 +191,7 @@ gate_made extent used gated flight filling before now on (bytes, is_gate, writes
 }
 
 gate_failed : (extent : Extent) (used gated : ℕ) (flight filling : List ℕ) (before now : Device) (refusal : Refusal) → On (log_with extent used gated Gate flight filling) before.seen before.pending
-    → Calls {T = Stage} Gate extent gated flight before now (Err refusal) → Keeps (log_with extent used gated Gate flight filling) (log_with extent used gated Gate flight filling) before now (Err refusal)
+    → Calls {T = Stage} Gate extent gated flight before now (Err refusal) → Moves (log_with extent used gated Gate flight filling) (log_with extent used gated Gate flight filling) before now (Err refusal)
 gate_failed extent used gated flight filling before now refusal on (bytes, is_gate, writes) = record {
   on = record {
     sound = on.sound;
@@ -204,20 +214,20 @@ module _ (log : Log) (before now : Device) (result : Result Stage Refusal) (on :
   synced_on : On log now.seen now.pending
   synced_on = on_kept before.seen now.seen before.pending now.pending log (rested_leaves before now syncs.rests) on
 
-  synced_gated : gated_of log now.seen ≡ gated_of log before.seen
-  synced_gated = gated_stays before.seen now.seen before.pending now.pending log (rested_leaves before now syncs.rests) on
+  synced_gated : gated_bodies log now.seen ≡ gated_bodies log before.seen
+  synced_gated = bodies_stay before.seen now.seen before.pending now.pending log (rested_leaves before now syncs.rests) on
 
-  synced_moments : IsSelected log.extent before.seen before.pending → Leaves (Shows log.stage (gated_of log before.seen) log.flight) before now
+  synced_moments : IsSelected log.extent before.seen before.pending → Leaves (ShowsBodies log.stage (gated_bodies log before.seen) log.flight) before now
   synced_moments selected =
-      let P : List ℕ → Type 0 = λ records. (image : List ℕ) → MayLeave now image → Shows log.stage records log.flight image in
+      let P : List (List ℕ) → Type 0 = λ (bodies : List (List ℕ)). (image : List ℕ) → MayLeave now image → ShowsBodies log.stage bodies log.flight image in
       let still : IsSelected log.extent now.seen now.pending = selected_kept before.seen now.seen before.pending now.pending log.extent (rested_kept 2 before now syncs.rests) selected in
-      call_leaves (Shows log.stage (gated_of log before.seen) log.flight) before now syncs.time
-      (subst P synced_gated (λ image may. selected_shows log now.seen now.pending image synced_on may (image_selects log.extent now.seen now.pending image still may)))
+      call_leaves (ShowsBodies log.stage (gated_bodies log before.seen) log.flight) before now syncs.time
+      (subst P synced_gated (λ image may. selected_shows_bodies log now.seen now.pending image synced_on may (image_selects log.extent now.seen now.pending image still may)))
 
   synced_touches : Touches 8 4160 before now
   synced_touches = touched_wider 8 0 before now (omega arith) (omega arith) (rested_touches 8 before now syncs.rests)
 
-sync_failed : (log : Log) (before now : Device) (refusal : Refusal) → On log before.seen before.pending → IsSelected log.extent before.seen before.pending → Syncs {T = Stage} {E = Refusal} before now (Err refusal) → Keeps log log before now (Err refusal)
+sync_failed : (log : Log) (before now : Device) (refusal : Refusal) → On log before.seen before.pending → IsSelected log.extent before.seen before.pending → Syncs {T = Stage} {E = Refusal} before now (Err refusal) → Moves log log before now (Err refusal)
 sync_failed log before now refusal on selected syncs = record {
   on = synced_on log before now (Err refusal) on syncs;
   gated = synced_gated log before now (Err refusal) on syncs;
@@ -227,7 +237,7 @@ sync_failed log before now refusal on selected syncs = record {
 }
 
 body_synced : (extent : Extent) (used gated : ℕ) (flight filling : List ℕ) (before now : Device) → On (log_with extent used gated BodySync flight filling) before.seen before.pending
-    → Calls BodySync extent gated flight before now (Ok BodySync) → Keeps (log_with extent used gated BodySync flight filling) (log_with extent used gated Gate flight filling) before now (Ok BodySync)
+    → Calls BodySync extent gated flight before now (Ok BodySync) → Moves (log_with extent used gated BodySync flight filling) (log_with extent used gated Gate flight filling) before now (Ok BodySync)
 body_synced extent used gated flight filling before now on syncs =
     let log = log_with extent used gated BodySync flight filling in
     let there : On log now.seen now.pending = synced_on log before now (Ok BodySync) on syncs in
@@ -246,9 +256,9 @@ body_synced extent used gated flight filling before now on syncs =
     }
 
 -- the batch in flight joins those that are gated
-joined : (extent : Extent) (used gated : ℕ) (flight seen : List ℕ) (pending : ℕ → Bool) → used ≡ gated + 1 → IsSize (length flight) → IsGate true seen pending extent gated → IsBodySettled pending extent gated
+joined_batch : (extent : Extent) (used gated : ℕ) (flight seen : List ℕ) (pending : ℕ → Bool) → used ≡ gated + 1 → IsSize (length flight) → IsGate true seen pending extent gated → IsBodySettled pending extent gated
     → HasRecords flight (body_of seen extent gated) → HasBatches extent gated used seen pending → HasBatches extent used used seen pending
-joined extent used gated flight seen pending places fits gate settled body has =
+joined_batch extent used gated flight seen pending places fits gate settled body has =
     let P : ℕ → Type 0 = λ n. HasBatches extent n used seen pending in
     let size : IsSize (size_in (body_of seen extent gated)) = (let S : ℕ → Type 0 = IsSize in subst S (sym body.size) fits) in
     let more : HasBatches extent (gated + 1) used seen pending = record {
@@ -261,23 +271,23 @@ joined extent used gated flight seen pending places fits gate settled body has =
     subst P (sym places) more
 
 gate_synced : (extent : Extent) (used gated : ℕ) (flight filling : List ℕ) (before now : Device) → On (log_with extent used gated GateSync flight filling) before.seen before.pending
-    → Calls GateSync extent gated flight before now (Ok GateSync) → Keeps (log_with extent used gated GateSync flight filling) (log_with extent used used Idle [] filling) before now (Ok GateSync)
+    → Calls GateSync extent gated flight before now (Ok GateSync) → Moves (log_with extent used gated GateSync flight filling) (log_with extent used used Idle [] filling) before now (Ok GateSync)
 gate_synced extent used gated flight filling before now on syncs =
     let log = log_with extent used gated GateSync flight filling in
     let there : On log now.seen now.pending = synced_on log before now (Ok GateSync) on syncs in
     let places : used ≡ gated + 1 = on.sound.places in
     let fits : IsSize (length flight) = (omega (arith, on.sound.some), omega (arith, on.sound.fits)) in
     let gate : IsGate true now.seen now.pending extent gated = record { reads = there.flight.2; settled = syncs.settled (gates_of extent + gated) } in
-    let same : batches_of now.seen extent gated ≡ batches_of before.seen extent gated = synced_gated log before now (Ok GateSync) on syncs in
+    let same : bodies_in now.seen extent gated ≡ bodies_in before.seen extent gated = synced_gated log before now (Ok GateSync) on syncs in
     record {
       on = record {
         sound = record { places = omega arith; few = on.sound.few; one = omega arith; some = omega arith; fits = omega arith; filled = on.sound.filled; room = on.sound.room };
-        batches = joined extent used gated flight now.seen now.pending places fits gate there.flight.1 there.flight.0 there.batches;
+        batches = joined_batch extent used gated flight now.seen now.pending places fits gate there.flight.1 there.flight.0 there.batches;
         flight = tt;
         turn = there.turn;
         quiet = there.quiet;
       };
-      gated = ap (batches_of now.seen extent) places ∙ batches_more extent gated now.seen ∙ rw (same, there.flight.0.bytes) refl;
+      gated = ap (bodies_in now.seen extent) places ∙ bodies_more extent gated now.seen ∙ rw (same, there.flight.0.bytes) refl;
       moments = synced_moments log before now (Ok GateSync) on syncs on.turn;
       touches = synced_touches log before now (Ok GateSync) on syncs;
       time = syncs.time;
@@ -286,7 +296,7 @@ gate_synced extent used gated flight filling before now on syncs =
 -- a call that was made, by its stage
 pub made_keeps : (stage : Stage) (extent : Extent) (used gated : ℕ) (flight filling : List ℕ) (before now : Device) → in_flight stage ≡ 1 → On (log_with extent used gated stage flight filling) before.seen before.pending
     → Calls stage extent gated flight before now (Ok stage)
-    → Keeps (log_with extent used gated stage flight filling) (done (log_with extent used gated stage flight filling)) before now (Ok stage)
+    → Moves (log_with extent used gated stage flight filling) (done (log_with extent used gated stage flight filling)) before now (Ok stage)
 made_keeps Idle extent used gated flight filling before now flies on calls = absurd (omega arith)
 made_keeps Body extent used gated flight filling before now flies on calls = body_made extent used gated flight filling before now on calls
 made_keeps BodySync extent used gated flight filling before now flies on calls = body_synced extent used gated flight filling before now on calls
@@ -296,7 +306,7 @@ made_keeps GateSync extent used gated flight filling before now flies on calls =
 -- a call that failed, by its stage
 pub failed_keeps : (stage : Stage) (extent : Extent) (used gated : ℕ) (flight filling : List ℕ) (before now : Device) (refusal : Refusal) → in_flight stage ≡ 1
     → On (log_with extent used gated stage flight filling) before.seen before.pending → Calls {T = Stage} stage extent gated flight before now (Err refusal)
-    → Keeps (log_with extent used gated stage flight filling) (log_with extent used gated stage flight filling) before now (Err refusal)
+    → Moves (log_with extent used gated stage flight filling) (log_with extent used gated stage flight filling) before now (Err refusal)
 failed_keeps Idle extent used gated flight filling before now refusal flies on calls = absurd (omega arith)
 failed_keeps Body extent used gated flight filling before now refusal flies on calls = body_failed extent used gated flight filling before now refusal on calls
 failed_keeps BodySync extent used gated flight filling before now refusal flies on calls = sync_failed (log_with extent used gated BodySync flight filling) before now refusal on on.turn calls
@@ -329,7 +339,7 @@ begun_on extent used gated flight filling seen pending some on =
 -- what the first call of a new batch keeps
 pub begun_keeps : (extent : Extent) (used gated : ℕ) (flight filling : List ℕ) (new : Log) (before now : Device) (result : Result Stage Refusal)
     → Made (begun (log_with extent used gated Idle flight filling)) new result
-    → Keeps (begun (log_with extent used gated Idle flight filling)) new before now result → Keeps (log_with extent used gated Idle flight filling) new before now result
+    → Moves (begun (log_with extent used gated Idle flight filling)) new before now result → Moves (log_with extent used gated Idle flight filling) new before now result
 begun_keeps extent used gated flight filling new before now (Ok Body) made keeps = record { on = keeps.on; gated = keeps.gated; moments = keeps.moments; touches = keeps.touches; time = keeps.time }
 begun_keeps extent used gated flight filling new before now (Ok BodySync) made keeps = record { on = keeps.on; gated = keeps.gated; moments = keeps.moments; touches = keeps.touches; time = keeps.time }
 begun_keeps extent used gated flight filling new before now (Ok Gate) made keeps = record { on = keeps.on; gated = keeps.gated; moments = keeps.moments; touches = keeps.touches; time = keeps.time }
@@ -339,11 +349,11 @@ begun_keeps extent used gated flight filling new before now (Err refusal) made k
 
 -- where nothing is logged and nothing is in flight, nothing changes
 pub idle_keeps : (t : Turn) (extent : Extent) (used gated : ℕ) (flight filling : List ℕ) (d : Device) → On (log_at t extent used gated Idle flight filling) d.seen d.pending
-    → Keeps (log_at t extent used gated Idle flight filling) (log_at t extent used gated Idle flight filling) d d (Ok Idle)
+    → Moves (log_at t extent used gated Idle flight filling) (log_at t extent used gated Idle flight filling) d d (Ok Idle)
 idle_keeps t extent used gated flight filling d on = record {
   on = on;
   gated = refl;
-  moments = nothing_leaves (Shows Idle (batches_of d.seen extent gated) flight) d;
+  moments = nothing_leaves (ShowsBodies Idle (bodies_in d.seen extent gated) flight) d;
   touches = record { size = refl; bytes = λ s out. refl; settled = λ s out was. was };
   time = record { later = omega arith; only = λ from image le left. inl left; keeps = λ from image le left. left };
 }
@@ -359,23 +369,23 @@ none_turns turn.Selector none = absurd (omega arith)
 none_turns turn.Done none = absurd (omega arith)
 
 -- what a call that was made keeps
-pub call_made : (log new : Log) (stage : Stage) (before now : Device) → in_flight log.stage ≡ 1 → stage ≡ log.stage → new ≡ done log → Calls log.stage log.extent log.gated log.flight before now (Ok stage)
-    → On log before.seen before.pending → Keeps log new before now (Ok stage)
-call_made log new stage before now flies made goes calls on =
+call_moves : (log new : Log) (stage : Stage) (before now : Device) → in_flight log.stage ≡ 1 → stage ≡ log.stage → new ≡ done log → Calls log.stage log.extent log.gated log.flight before now (Ok stage)
+    → On log before.seen before.pending → Moves log new before now (Ok stage)
+call_moves log new stage before now flies made goes calls on =
     let at : Turn → Log = λ t. log_at t log.extent log.used log.gated log.stage log.flight log.filling in
-    let P : Stage → Type 0 = λ s. Calls log.stage log.extent log.gated log.flight before now (Ok s) → Keeps log (done log) before now (Ok s) in
-    let Q : Log → Type 0 = λ l. Keeps log l before now (Ok stage) in
-    let R : Turn → Type 0 = λ t. On (at t) before.seen before.pending → Calls log.stage log.extent log.gated log.flight before now (Ok log.stage) → Keeps (at t) (done (at t)) before now (Ok log.stage) in
+    let P : Stage → Type 0 = λ s. Calls log.stage log.extent log.gated log.flight before now (Ok s) → Moves log (done log) before now (Ok s) in
+    let Q : Log → Type 0 = λ l. Moves log l before now (Ok stage) in
+    let R : Turn → Type 0 = λ t. On (at t) before.seen before.pending → Calls log.stage log.extent log.gated log.flight before now (Ok log.stage) → Moves (at t) (done (at t)) before now (Ok log.stage) in
     let still : log.turn ≡ turn.Closed = none_turns log.turn (omega (arith, on.sound.one)) in
     subst Q (sym goes) (subst P (sym made) (subst R (sym still) (λ on'. made_keeps log.stage log.extent log.used log.gated log.flight log.filling before now flies on') on) calls)
 
 -- and one that failed
-pub call_failed : (log new : Log) (refusal : Refusal) (before now : Device) → in_flight log.stage ≡ 1 → new ≡ log → Calls {T = Stage} log.stage log.extent log.gated log.flight before now (Err refusal)
-    → On log before.seen before.pending → Keeps log new before now (Err refusal)
-call_failed log new refusal before now flies goes calls on =
+call_stays : (log new : Log) (refusal : Refusal) (before now : Device) → in_flight log.stage ≡ 1 → new ≡ log → Calls {T = Stage} log.stage log.extent log.gated log.flight before now (Err refusal)
+    → On log before.seen before.pending → Moves log new before now (Err refusal)
+call_stays log new refusal before now flies goes calls on =
     let at : Turn → Log = λ t. log_at t log.extent log.used log.gated log.stage log.flight log.filling in
-    let Q : Log → Type 0 = λ l. Keeps log l before now (Err refusal) in
-    let R : Turn → Type 0 = λ t. On (at t) before.seen before.pending → Keeps (at t) (at t) before now (Err refusal) in
+    let Q : Log → Type 0 = λ l. Moves log l before now (Err refusal) in
+    let R : Turn → Type 0 = λ t. On (at t) before.seen before.pending → Moves (at t) (at t) before now (Err refusal) in
     let still : log.turn ≡ turn.Closed = none_turns log.turn (omega (arith, on.sound.one)) in
     subst Q (sym goes) (subst R (sym still) (λ on'. failed_keeps log.stage log.extent log.used log.gated log.flight log.filling before now refusal flies on' calls) on)
 
@@ -386,11 +396,11 @@ waiting_still t filling some quiet =
 
 first_of_idle : (stage : Stage) (extent : Extent) (used gated : ℕ) (flight filling : List ℕ) (begins new : Log) (before now : Device) (result : Result Stage Refusal) → stage ≡ Idle
     → begins ≡ begun (log_with extent used gated stage flight filling) → 1 ≤ length filling → Made begins new result
-    → (On begins before.seen before.pending → Keeps begins new before now result)
-    → On (log_with extent used gated stage flight filling) before.seen before.pending → Keeps (log_with extent used gated stage flight filling) new before now result
+    → (On begins before.seen before.pending → Moves begins new before now result)
+    → On (log_with extent used gated stage flight filling) before.seen before.pending → Moves (log_with extent used gated stage flight filling) new before now result
 first_of_idle Idle extent used gated flight filling begins new before now result idle is some made keeps on =
     let M : Log → Type 0 = λ l. Made l new result in
-    let K : Log → Type 0 = λ l. On l before.seen before.pending → Keeps l new before now result in
+    let K : Log → Type 0 = λ l. On l before.seen before.pending → Moves l new before now result in
     begun_keeps extent used gated flight filling new before now result (subst M is made)
     (subst K is keeps (begun_on extent used gated flight filling before.seen before.pending some on))
 first_of_idle Body extent used gated flight filling begins new before now result idle is some made keeps on = cc
@@ -399,10 +409,53 @@ first_of_idle Gate extent used gated flight filling begins new before now result
 first_of_idle GateSync extent used gated flight filling begins new before now result idle is some made keeps on = cc
 
 -- what the first call of a new batch keeps of a log with none in flight
+first_moves : (log begins new : Log) (before now : Device) (result : Result Stage Refusal) → log.stage ≡ Idle → begins ≡ begun log → 1 ≤ length log.filling → Made begins new result
+    → (On begins before.seen before.pending → Moves begins new before now result) → On log before.seen before.pending → Moves log new before now result
+first_moves log begins new before now result idle is some made keeps on =
+    let at : Turn → Log = λ t. log_at t log.extent log.used log.gated log.stage log.flight log.filling in
+    let R : Turn → Type 0 = λ t. On (at t) before.seen before.pending → Moves (at t) new before now result in
+    subst R (sym (waiting_still log.turn log.filling some on.quiet))
+    (first_of_idle log.stage log.extent log.used log.gated log.flight log.filling begins new before now result idle is some made keeps) on
+
+-- what it says of bodies it says of their bytes
+keeps_of : (old new : Log) (before now : Device) (result : Result Stage Refusal) → Moves old new before now result → Keeps old new before now result
+keeps_of old new before now result moves =
+    let was : joined (gated_bodies old before.seen) ≡ gated_of old before.seen = joined_bodies before.seen old.extent old.gated in
+    let is : joined (gated_bodies new now.seen) ≡ gated_of new now.seen = joined_bodies now.seen new.extent new.gated in
+    let P : List ℕ → Type 0 = λ gated. Gates gated old.flight (gated_of new now.seen) result in
+    let Q : List ℕ → Type 0 = λ gated. Gates (joined (gated_bodies old before.seen)) old.flight gated result in
+    let R : List ℕ → Type 0 = λ gated. Leaves (Shows old.stage gated old.flight) before now in
+    record {
+      on = moves.on;
+      gated = subst P was (subst Q is (gates_bytes (gated_bodies old before.seen) old.flight (gated_bodies new now.seen) result moves.gated));
+      moments = subst R was (leaves_weaker (ShowsBodies old.stage (gated_bodies old before.seen) old.flight) (Shows old.stage (joined (gated_bodies old before.seen)) old.flight) before now (shown_bytes old.stage (gated_bodies old before.seen) old.flight) moves.moments);
+      bodies = record { gated = moves.gated; moments = moves.moments };
+      touches = moves.touches;
+      time = moves.time;
+    }
+
+moves_of : (old new : Log) (before now : Device) (result : Result Stage Refusal) → Keeps old new before now result → Moves old new before now result
+moves_of old new before now result keeps = record { on = keeps.on; gated = keeps.bodies.gated; moments = keeps.bodies.moments; touches = keeps.touches; time = keeps.time }
+
+-- what a call that was made keeps
+pub call_made : (log new : Log) (stage : Stage) (before now : Device) → in_flight log.stage ≡ 1 → stage ≡ log.stage → new ≡ done log → Calls log.stage log.extent log.gated log.flight before now (Ok stage)
+    → On log before.seen before.pending → Keeps log new before now (Ok stage)
+call_made log new stage before now flies made goes calls on = keeps_of log new before now (Ok stage) (call_moves log new stage before now flies made goes calls on)
+
+-- and one that failed
+pub call_failed : (log new : Log) (refusal : Refusal) (before now : Device) → in_flight log.stage ≡ 1 → new ≡ log → Calls {T = Stage} log.stage log.extent log.gated log.flight before now (Err refusal)
+    → On log before.seen before.pending → Keeps log new before now (Err refusal)
+call_failed log new refusal before now flies goes calls on = keeps_of log new before now (Err refusal) (call_stays log new refusal before now flies goes calls on)
+
+-- what the first call of a new batch keeps of a log with none in flight
 pub first_keeps : (log begins new : Log) (before now : Device) (result : Result Stage Refusal) → log.stage ≡ Idle → begins ≡ begun log → 1 ≤ length log.filling → Made begins new result
     → (On begins before.seen before.pending → Keeps begins new before now result) → On log before.seen before.pending → Keeps log new before now result
 first_keeps log begins new before now result idle is some made keeps on =
-    let at : Turn → Log = λ t. log_at t log.extent log.used log.gated log.stage log.flight log.filling in
-    let R : Turn → Type 0 = λ t. On (at t) before.seen before.pending → Keeps (at t) new before now result in
-    subst R (sym (waiting_still log.turn log.filling some on.quiet))
-    (first_of_idle log.stage log.extent log.used log.gated log.flight log.filling begins new before now result idle is some made keeps) on
+    keeps_of log new before now result (first_moves log begins new before now result idle is some made (λ on'. moves_of begins new before now result (keeps on')) on)
+
+-- what a step keeps that makes no call
+pub nothing_keeps : (log : Log) (d : Device) → log.stage ≡ Idle → On log d.seen d.pending → Keeps log log d d (Ok Idle)
+nothing_keeps log d idle on =
+    let at : Stage → Log = λ stage. log_at log.turn log.extent log.used log.gated stage log.flight log.filling in
+    let R : Stage → Type 0 = λ stage. On (at stage) d.seen d.pending → Moves (at stage) (at stage) d d (Ok Idle) in
+    keeps_of log log d d (Ok Idle) (subst R (sym idle) (idle_keeps log.turn log.extent log.used log.gated log.flight log.filling d) on)

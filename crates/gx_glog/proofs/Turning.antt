@@ -5,7 +5,7 @@ use Rattle.gx_geom.specs.declared.refusal.Refusal.{Refusal}
 use Rattle.gx_disk.specs.Sectors.{span_of, IsWithin}
 use Rattle.gx_disk.specs.Device.{Device, MayLeave, Elapses, Touches, Syncs, IsWritten}
 use Rattle.gx_disk.specs.Moments.{Leaves}
-use Rattle.gx_disk.proofs.Leaving.{call_leaves, rested_touches}
+use Rattle.gx_disk.proofs.Leaving.{call_leaves, leaves_weaker, rested_touches}
 use Rattle.gx_disk.proofs.Spans.{put_back}
 use Rattle.gx_glog.specs.declared.extent.Extent.{Extent}
 use Rattle.gx_glog.specs.declared.extent.Extent.TheVariants.{A, B}
@@ -13,14 +13,16 @@ use Rattle.gx_glog.specs.declared.stage.Stage.{Stage}
 use Rattle.gx_glog.specs.declared.stage.Stage.TheVariants.{Idle}
 use Rattle.gx_glog.specs.declared.stage.Turn.{Turn}
 use Rattle.gx_glog.specs.declared.stage.Turn.TheVariants as turn
-use Rattle.gx_glog.specs.Layout.{gates_of, bodies_of, other_of, selected_of, is_open, body_of, size_in, batches_of}
+use Rattle.gx_glog.specs.Layout.{gates_of, bodies_of, other_of, selected_of, is_open, body_of, size_in}
+use Rattle.gx_glog.specs.Cuts.{bodies_in, joined, gated_bodies, ShowsBodiesIn, SelectsBodies}
 use Rattle.gx_glog.specs.Reading.{IsSize}
 use Rattle.gx_glog.specs.Bodies.{HasRecords, IsBody, IsOpenGate}
 use Rattle.gx_glog.specs.State.{Log, IsSound, turning, turned}
 use Rattle.gx_glog.specs.Standing.{IsGate, IsSelected, ReadsClosed, HasFirst, HasHead, Leads, On, MayTurn, gated_of, ShowsIn}
 use Rattle.gx_glog.specs.Turning.{AreClosedGates, selector_of, IsSelector, TurnCalls, Selects, TouchesIn, KeepsTurning, GoesOnTurning, KeepsMayTurn}
+use Rattle.gx_glog.proofs.Cuts.{joined_bodies, shown_bytes_in, selects_bytes}
 use Rattle.gx_glog.proofs.Gates.{placed, other_outside}
-use Rattle.gx_glog.proofs.Images.{head_batches, turn_shows}
+use Rattle.gx_glog.proofs.Images.{head_bodies, turn_shows_bodies}
 use Rattle.gx_glog.proofs.Keeping.{KeptExtent, touched_kept, rested_kept, selected_kept, extent_batches, extent_run, extent_gated, closed_kept, first_kept, head_kept, leads_kept, rested_leaves, touched_wider, on_may_turn}
 use Rattle.gx_glog.proofs.Stepping.{log_at}
 
@@ -253,6 +255,31 @@ arrived extent head seen pending filling none has selected = record {
   quiet = λ turns. none;
 }
 
+-- what a call of a turn does to the bodies, and leaves on the device
+record TurnMoves (old new : Log) (before now : Device) (result : Result Turn Refusal) : Type 0 where
+  pub stands : GoesOnTurning new now.seen now.pending result
+  pub gated : SelectsBodies (gated_bodies old before.seen) old.flight (gated_bodies new now.seen) result
+  pub moments : Leaves (ShowsBodiesIn old.turn old.stage (gated_bodies old before.seen) old.flight) before now
+  pub touches : TouchesIn old.turn before now
+  pub time : Elapses before now
+
+-- what it says of bodies it says of their bytes
+keeps_turn : (old new : Log) (before now : Device) (result : Result Turn Refusal) → TurnMoves old new before now result → KeepsMayTurn old new before now result
+keeps_turn old new before now result moves =
+    let was : joined (gated_bodies old before.seen) ≡ gated_of old before.seen = joined_bodies before.seen old.extent old.gated in
+    let is : joined (gated_bodies new now.seen) ≡ gated_of new now.seen = joined_bodies now.seen new.extent new.gated in
+    let P : List ℕ → Type 0 = λ gated. Selects gated old.flight (gated_of new now.seen) result in
+    let Q : List ℕ → Type 0 = λ gated. Selects (joined (gated_bodies old before.seen)) old.flight gated result in
+    let R : List ℕ → Type 0 = λ gated. Leaves (ShowsIn old.turn old.stage gated old.flight) before now in
+    record {
+      stands = moves.stands;
+      gated = subst P was (subst Q is (selects_bytes (gated_bodies old before.seen) old.flight (gated_bodies new now.seen) result moves.gated));
+      moments = subst R was (leaves_weaker (ShowsBodiesIn old.turn old.stage (gated_bodies old before.seen) old.flight) (ShowsIn old.turn old.stage (joined (gated_bodies old before.seen)) old.flight) before now (shown_bytes_in old.turn old.stage (gated_bodies old before.seen) old.flight) moves.moments);
+      bodies = record { gated = moves.gated; moments = moves.moments };
+      touches = moves.touches;
+      time = moves.time;
+    }
+
 module _ (extent : Extent) (used gated : ℕ) (head filling : List ℕ) (before now : Device) where
   abbrev at : Turn → Log
   at t = log_at t extent used gated Idle head filling
@@ -299,32 +326,32 @@ module _ (extent : Extent) (used gated : ℕ) (head filling : List ℕ) (before 
   turned_goes turn.Selector some none may stay leads = stays_turning turn.Selector turn.Done (waits_sound turn.Selector turn.Done extent used gated head filling some may.sound) (λ turns. none) may stay leads
   turned_goes turn.Done some none may stay leads = arrived (other_of extent) head now.seen now.pending filling none leads.0 leads.1
 
-  -- the gated records after it
-  turn_selects : (t : Turn) → batches_of now.seen extent gated ≡ batches_of before.seen extent gated → LeadsNext t extent head now
-      → Selects (batches_of before.seen extent gated) head (gated_of (turned (at t)) now.seen) (Ok t)
+  -- the gated bodies after it
+  turn_selects : (t : Turn) → bodies_in now.seen extent gated ≡ bodies_in before.seen extent gated → LeadsNext t extent head now
+      → SelectsBodies (bodies_in before.seen extent gated) head (gated_bodies (turned (at t)) now.seen) (Ok t)
   turn_selects turn.Closed same leads = same
   turn_selects turn.Body same leads = same
   turn_selects turn.BodySync same leads = same
   turn_selects turn.Gate same leads = same
   turn_selects turn.GateSync same leads = same
   turn_selects turn.Selector same leads = same
-  turn_selects turn.Done same leads = head_batches (other_of extent) head now.seen now.pending leads.0
+  turn_selects turn.Done same leads = head_bodies (other_of extent) head now.seen now.pending leads.0
 
   -- each image at each moment of a call
-  stay_moments : (t : Turn) → Elapses before now → batches_of now.seen extent gated ≡ batches_of before.seen extent gated → MayTurn (at t) now.seen now.pending
-      → Leaves (ShowsIn t Idle (batches_of before.seen extent gated) head) before now
+  stay_moments : (t : Turn) → Elapses before now → bodies_in now.seen extent gated ≡ bodies_in before.seen extent gated → MayTurn (at t) now.seen now.pending
+      → Leaves (ShowsBodiesIn t Idle (bodies_in before.seen extent gated) head) before now
   stay_moments t time same may =
-      let P : List ℕ → Type 0 = λ records. (image : List ℕ) → MayLeave now image → ShowsIn t Idle records head image in
-      call_leaves (ShowsIn t Idle (batches_of before.seen extent gated) head) before now time (subst P same (λ image left. turn_shows (at t) now.seen now.pending image may left))
+      let P : List (List ℕ) → Type 0 = λ bodies. (image : List ℕ) → MayLeave now image → ShowsBodiesIn t Idle bodies head image in
+      call_leaves (ShowsBodiesIn t Idle (bodies_in before.seen extent gated) head) before now time (subst P same (λ image left. turn_shows_bodies (at t) now.seen now.pending image may left))
 
   module _ (t : Turn) (may : MayTurn (at t) before.seen before.pending) where
-    same_batches : Stays t extent head before now → batches_of now.seen extent gated ≡ batches_of before.seen extent gated
+    same_batches : Stays t extent head before now → bodies_in now.seen extent gated ≡ bodies_in before.seen extent gated
     same_batches stay = extent_gated before.seen now.seen before.pending now.pending extent gated stay.kept (omega (arith, may.sound.places, may.sound.few))
 
     still_turning : Stays t extent head before now → MayTurn (at t) now.seen now.pending
     still_turning stay = stays_turning t t may.sound may.quiet may stay stay.leads
 
-    made_at_rest : 1 ≤ length head → filling ≡ [] → TurnCalls t (other_of extent) head before now (Ok t) → KeepsMayTurn (at t) (turned (at t)) before now (Ok t)
+    made_at_rest : 1 ≤ length head → filling ≡ [] → TurnCalls t (other_of extent) head before now (Ok t) → TurnMoves (at t) (turned (at t)) before now (Ok t)
     made_at_rest some none calls =
         let stay : Stays t extent head before now = turn_stays t extent head before now (Ok t) may.turn calls in
         let next : LeadsNext t extent head now = turn_leads t extent head before now may.run.size (some, may.sound.fits) calls stay in
@@ -336,7 +363,7 @@ module _ (extent : Extent) (used gated : ℕ) (head filling : List ℕ) (before 
           time = stay.time;
         }
 
-    failed_at_rest : (refusal : Refusal) → TurnCalls t (other_of extent) head before now (Err refusal) → KeepsMayTurn (at t) (at t) before now (Err refusal)
+    failed_at_rest : (refusal : Refusal) → TurnCalls t (other_of extent) head before now (Err refusal) → TurnMoves (at t) (at t) before now (Err refusal)
     failed_at_rest refusal calls =
         let stay : Stays t extent head before now = turn_stays t extent head before now (Err refusal) may.turn calls in
         record {
@@ -371,11 +398,11 @@ module _ (log new : Log) (call : Turn) (before now : Device) (idle : log.stage �
 
   pub turn_made_may : MayTurn log before.seen before.pending → KeepsMayTurn log new before now (Ok call)
   turn_made_may may =
-      let C : Turn → Type 0 = λ c. KeepsMayTurn log (turned log) before now (Ok c) in
-      let L : Log → Type 0 = λ l. KeepsMayTurn log l before now (Ok call) in
-      let R : Stage → Type 0 = λ s. MayTurn (staged log s) before.seen before.pending → KeepsMayTurn (staged log s) (turned (staged log s)) before now (Ok log.turn) in
+      let C : Turn → Type 0 = λ c. TurnMoves log (turned log) before now (Ok c) in
+      let L : Log → Type 0 = λ l. TurnMoves log l before now (Ok call) in
+      let R : Stage → Type 0 = λ s. MayTurn (staged log s) before.seen before.pending → TurnMoves (staged log s) (turned (staged log s)) before now (Ok log.turn) in
       let rest : R log.stage = subst R (sym idle) (λ m. made_at_rest log.extent log.used log.gated log.flight log.filling before now log.turn m some none own_call) in
-      subst L (sym goes) (subst C (sym is) (rest may))
+      keeps_turn log new before now (Ok call) (subst L (sym goes) (subst C (sym is) (rest may)))
 
   pub turn_made : On log before.seen before.pending → KeepsTurning log new before now (Ok call)
   turn_made on =
@@ -383,16 +410,16 @@ module _ (log new : Log) (call : Turn) (before now : Device) (idle : log.stage �
       let R : Stage → Type 0 = λ s. On (staged log s) before.seen before.pending → On (turned (staged log s)) now.seen now.pending in
       let rest : R log.stage = subst R (sym idle) (λ o. made_on log.extent log.used log.gated log.flight log.filling before now log.turn o some none own_call) in
       let keeps : KeepsMayTurn log new before now (Ok call) = turn_made_may (on_may_turn log before.seen before.pending idle on) in
-      record { on = subst L (sym goes) (rest on); gated = keeps.gated; moments = keeps.moments; touches = keeps.touches; time = keeps.time }
+      record { on = subst L (sym goes) (rest on); gated = keeps.gated; moments = keeps.moments; bodies = keeps.bodies; touches = keeps.touches; time = keeps.time }
 
 -- and one that failed
 module _ (log new : Log) (refusal : Refusal) (before now : Device) (idle : log.stage ≡ Idle) (goes : new ≡ log) (calls : TurnCalls log.turn (other_of log.extent) log.flight before now (Err refusal)) where
   pub turn_failed_may : MayTurn log before.seen before.pending → KeepsMayTurn log new before now (Err refusal)
   turn_failed_may may =
-      let L : Log → Type 0 = λ l. KeepsMayTurn log l before now (Err refusal) in
-      let R : Stage → Type 0 = λ s. MayTurn (staged log s) before.seen before.pending → KeepsMayTurn (staged log s) (staged log s) before now (Err refusal) in
+      let L : Log → Type 0 = λ l. TurnMoves log l before now (Err refusal) in
+      let R : Stage → Type 0 = λ s. MayTurn (staged log s) before.seen before.pending → TurnMoves (staged log s) (staged log s) before now (Err refusal) in
       let rest : R log.stage = subst R (sym idle) (λ m. failed_at_rest log.extent log.used log.gated log.flight log.filling before now log.turn m refusal calls) in
-      subst L (sym goes) (rest may)
+      keeps_turn log new before now (Err refusal) (subst L (sym goes) (rest may))
 
   pub turn_failed : On log before.seen before.pending → KeepsTurning log new before now (Err refusal)
   turn_failed on =
@@ -400,4 +427,4 @@ module _ (log new : Log) (refusal : Refusal) (before now : Device) (idle : log.s
       let R : Stage → Type 0 = λ s. On (staged log s) before.seen before.pending → On (staged log s) now.seen now.pending in
       let rest : R log.stage = subst R (sym idle) (λ o. failed_on log.extent log.used log.gated log.flight log.filling before now log.turn o refusal calls) in
       let keeps : KeepsMayTurn log new before now (Err refusal) = turn_failed_may (on_may_turn log before.seen before.pending idle on) in
-      record { on = subst L (sym goes) (rest on); gated = keeps.gated; moments = keeps.moments; touches = keeps.touches; time = keeps.time }
+      record { on = subst L (sym goes) (rest on); gated = keeps.gated; moments = keeps.moments; bodies = keeps.bodies; touches = keeps.touches; time = keeps.time }

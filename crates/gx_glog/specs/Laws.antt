@@ -1,10 +1,11 @@
 -- The laws of a log on a device.
-use Rattle.std.specs.Prelude.{◌≡◌, ℕ, ◌+◌, ◌<◌, ◌≤◌, Bool, List, [], ◌++◌, length}
+use Rattle.std.specs.Prelude.{◌≡◌, ℕ, ◌+◌, ◌<◌, ◌≤◌, Bool, List, [], ◌∷◌, ◌++◌, length}
 use Rattle.gx_disk.specs.Device.{IsImage}
 use Rattle.gx_glog.specs.declared.extent.Extent.{Extent}
 use Rattle.gx_glog.specs.declared.extent.Extent.TheVariants.{A}
 use Rattle.gx_glog.specs.declared.stage.Stage.TheVariants.{Idle}
 use Rattle.gx_glog.specs.declared.stage.Turn.TheVariants.{Closed}
+use Rattle.gx_glog.specs.Cuts.{open_bodies, joined, gated_bodies, ShowsBodiesIn}
 use Rattle.gx_glog.specs.First.{first_record, HasFirstLog, IsFirstSettled}
 use Rattle.gx_glog.specs.Layout.{selected_of, log_of}
 use Rattle.gx_glog.specs.State.{Log}
@@ -14,6 +15,15 @@ use Rattle.gx_glog.specs.Standing.{IsSelected, HasBatches, On, HasRun, MayTurn, 
 -- of the selector on, what is gated or the head
 abbrev pub ImagesHaveTheLog : Type 0
 ImagesHaveTheLog = (log : Log) (seen : List ℕ) (pending : ℕ → Bool) (image : List ℕ) → On log seen pending → IsImage seen pending image → ShowsIn log.turn log.stage (gated_of log seen) log.flight image
+
+-- The same body by body: an image has the gated bodies, with the one in flight or without; or, from a turn's write of the selector on, the
+-- gated bodies or the head's alone.
+abbrev pub ImagesHaveTheBodies : Type 0
+ImagesHaveTheBodies = (log : Log) (seen : List ℕ) (pending : ℕ → Bool) (image : List ℕ) → On log seen pending → IsImage seen pending image → ShowsBodiesIn log.turn log.stage (gated_bodies log seen) log.flight image
+
+-- the log of an image is its bodies in a row
+abbrev pub LogIsItsBodies : Type 0
+LogIsItsBodies = (image : List ℕ) → joined (open_bodies image) ≡ log_of image
 
 -- an image that selects the log's extent has what is gated, whatever of a turn was done
 abbrev pub SelectorDecides : Type 0
@@ -28,6 +38,9 @@ StartIsOn = (extent : Extent) (used : ℕ) (seen : List ℕ) (pending : ℕ → 
 -- the first log of a device that it was laid down on
 abbrev pub FirstLogIs : Type 0
 FirstLogIs = (seen : List ℕ) → HasFirstLog seen → log_of seen ≡ first_record
+
+abbrev pub FirstLogHasOneBody : Type 0
+FirstLogHasOneBody = (seen : List ℕ) → HasFirstLog seen → open_bodies seen ≡ first_record ∷ []
 
 -- a log with one place taken is on that device, and each image has the first log
 abbrev pub FirstLogIsOn : Type 0
@@ -73,3 +86,13 @@ ElsewhereMayTurn = (log : Log) (seen seen' : List ℕ) (pending pending' : ℕ �
 
 abbrev pub ElsewhereKeepsRun : Type 0
 ElsewhereKeepsRun = (log : Log) (seen seen' : List ℕ) (pending pending' : ℕ → Bool) → LeavesLog seen seen' pending pending' → MayTurn log seen pending → gated_of log seen' ≡ gated_of log seen
+
+-- of each of them the bodies are the same
+abbrev pub ElsewhereKeepsBodies : Type 0
+ElsewhereKeepsBodies = (log : Log) (seen seen' : List ℕ) (pending pending' : ℕ → Bool) → LeavesLog seen seen' pending pending' → On log seen pending → gated_bodies log seen' ≡ gated_bodies log seen
+
+abbrev pub ElsewhereKeepsRunsBodies : Type 0
+ElsewhereKeepsRunsBodies = (log : Log) (seen seen' : List ℕ) (pending pending' : ℕ → Bool) → LeavesLog seen seen' pending pending' → MayTurn log seen pending → gated_bodies log seen' ≡ gated_bodies log seen
+
+abbrev pub BodiesOfTurn : Type 0
+BodiesOfTurn = (log : Log) (seen : List ℕ) (pending : ℕ → Bool) (image : List ℕ) → MayTurn log seen pending → IsImage seen pending image → ShowsBodiesIn log.turn log.stage (gated_bodies log seen) log.flight image

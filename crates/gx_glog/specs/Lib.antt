@@ -1,10 +1,10 @@
 pub mod Appending
 pub mod Beside
 pub mod Bodies
+pub mod Cuts
 pub mod First
 pub mod Laws
 pub mod Layout
-pub mod Looks
 pub mod Parameters
 pub mod Reading
 pub mod Standing

@@ -9,6 +9,7 @@ use Rattle.gx_glog.specs.declared.stage.Stage.TheVariants.{Body, BodySync, Gate,
 use Rattle.gx_glog.specs.declared.extent.Extent.{Extent}
 use Rattle.gx_glog.specs.Layout.{gates_of, bodies_of}
 use Rattle.gx_glog.specs.Bodies.{IsBody, IsOpenGate}
+use Rattle.gx_glog.specs.Cuts.{KeepsBodies}
 use Rattle.gx_glog.specs.State.{Log}
 use Rattle.gx_glog.specs.Standing.{On, gated_of, Shows}
 
@@ -35,10 +36,11 @@ Gates gated flight new (Ok Idle) = new ≡ gated
 Gates gated flight new (Err refusal) = new ≡ gated
 
 -- What a step of a log keeps, also where it fails. At each moment within it the log of every image is what was gated before, or that
--- and what was in flight. Only sectors of the log are touched, and time goes on as in one call of the device.
+-- and what was in flight, cut into the same bodies. Only sectors of the log are touched, and time goes on as in one call of the device.
 pub record Keeps (old new : Log) (before now : disk.Device) (result : Result Stage Refusal) : Type 0 where
   pub on : On new now.seen now.pending
   pub gated : Gates (gated_of old before.seen) old.flight (gated_of new now.seen) result
   pub moments : Leaves (Shows old.stage (gated_of old before.seen) old.flight) before now
+  pub bodies : KeepsBodies old new before now result
   pub touches : Touches 8 4160 before now
   pub time : Elapses before now

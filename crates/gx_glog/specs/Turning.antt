@@ -13,6 +13,7 @@ use Rattle.gx_glog.specs.declared.stage.Turn.{Turn}
 use Rattle.gx_glog.specs.declared.stage.Turn.TheVariants as turn
 use Rattle.gx_glog.specs.Layout.{gates_of}
 use Rattle.gx_glog.specs.Bodies.{IsZero}
+use Rattle.gx_glog.specs.Cuts.{KeepsBodiesTurning}
 use Rattle.gx_glog.specs.State.{Log, turning}
 use Rattle.gx_glog.specs.Standing.{On, MayTurn, gated_of, ShowsIn}
 use Rattle.gx_glog.specs.Steps.{Calls}
@@ -76,6 +77,7 @@ pub record KeepsTurning (old new : Log) (before now : disk.Device) (result : Res
   pub on : On new now.seen now.pending
   pub gated : Selects (gated_of old before.seen) old.flight (gated_of new now.seen) result
   pub moments : Leaves (ShowsIn old.turn old.stage (gated_of old before.seen) old.flight) before now
+  pub bodies : KeepsBodiesTurning old new before now result
   pub touches : TouchesIn old.turn before now
   pub time : Elapses before now
 
@@ -95,5 +97,6 @@ pub record KeepsMayTurn (old new : Log) (before now : disk.Device) (result : Res
   pub stands : GoesOnTurning new now.seen now.pending result
   pub gated : Selects (gated_of old before.seen) old.flight (gated_of new now.seen) result
   pub moments : Leaves (ShowsIn old.turn old.stage (gated_of old before.seen) old.flight) before now
+  pub bodies : KeepsBodiesTurning old new before now result
   pub touches : TouchesIn old.turn before now
   pub time : Elapses before now

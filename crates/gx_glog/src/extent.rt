@@ -1,10 +1,10 @@
 //! Reading an extent of the log.
 ghost use Rattle.std.specs.Prelude.{◌≡◌, ◌==◌, ◌+◌, ◌≤◌, ◌<◌, ℕ, true, false, length, OnOk, IfOk, IfErr, slice_index, if◌then◌else◌};
 ghost use Rattle.gx_disk.specs.Device.{Counts};
+ghost use Rattle.gx_disk.specs.Looks.{Looks};
 ghost use Rattle.gx_disk.specs.Sectors.{span_of};
 ghost use Rattle.gx_glog.specs.Layout.{gates_of, bodies_of, other_of, selected_of, is_open, body_of, size_in};
 ghost use Rattle.gx_glog.specs.Reading.{ReadsBody, CountsReads};
-ghost use Rattle.gx_glog.specs.Looks.{Looks};
 ghost use Rattle.gx_glog.specs.Turning.{selector_of};
 
 use gx_disk::{SECTOR_SIZE, SectorDisk};
@@ -162,7 +162,7 @@ fn read_body<D: SectorDisk>(
 
 /// Reads the body of place i of an extent, and answers how many bytes of records it has, from 1 to 32,764.
 /// None where the gate is closed. Refused where a read fails (`Device`), and where the number is out of range (`Damaged`).
-#[tactic(auto, using(crate::proofs::Looking::looks_joined))]
+#[tactic(auto, using(gx_disk::proofs::Looking::looks_joined))]
 pub fn read_extent<D: SectorDisk>(
     disk: &mut D,
     extent: Extent,

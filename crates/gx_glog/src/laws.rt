@@ -4,13 +4,16 @@ ghost use Rattle.gx_glog.specs.declared.extent.TheConstants.{SELECTOR};
 ghost use Rattle.gx_glog.specs.declared.parameters.TheConstants.{PARAMETERS};
 ghost use Rattle.gx_glog.specs.Parameters.{BytesTellParameters};
 ghost use Rattle.gx_glog.specs.First.{FirstIsSpelled};
-ghost use Rattle.gx_glog.specs.Laws.{FirstLogIs, FirstLogIsOn, ImagesHaveTheFirstLog, ImagesHaveTheLog, SelectorDecides, StartIsOn, AppendStaysOn, PutFirstStaysOn, ElsewhereStaysOn, ElsewhereKeepsBatches, StartMayTurn, OnMayTurn, ImagesOfTurn, ElsewhereMayTurn, ElsewhereKeepsRun};
+ghost use Rattle.gx_glog.specs.Laws.{FirstLogIs, FirstLogIsOn, ImagesHaveTheFirstLog, ImagesHaveTheLog, SelectorDecides, StartIsOn, AppendStaysOn, PutFirstStaysOn, ElsewhereStaysOn, ElsewhereKeepsBatches, StartMayTurn, OnMayTurn, ImagesOfTurn, ElsewhereMayTurn, ElsewhereKeepsRun, ImagesHaveTheBodies, LogIsItsBodies, ElsewhereKeepsBodies, ElsewhereKeepsRunsBodies, BodiesOfTurn, FirstLogHasOneBody};
 
 /// Of a device that a log is on, the log of each image is what is gated, with what is in flight or without: without as long as
 /// its gate isn't written. From a turn's write of the selector on it is what is gated or the head, as the image's selector says.
+/// The same holds body by body: two cuts of the same bytes are two logs.
 pub fn images()
     ensures log { ImagesHaveTheLog }
     ensures selector { SelectorDecides }
+    ensures bodies { ImagesHaveTheBodies }
+    ensures joined { LogIsItsBodies }
 {}
 
 /// A log is on a device from its start on, where the device has its batches, and an append or a record put first keeps it there
@@ -25,6 +28,7 @@ pub fn appends()
 pub fn calls_elsewhere()
     ensures on { ElsewhereStaysOn }
     ensures batches { ElsewhereKeepsBatches }
+    ensures bodies { ElsewhereKeepsBodies }
 {}
 
 /// A log begins over an image whose later gates may be open, and may turn there: so may any log that is on a device with nothing in flight.
@@ -35,6 +39,8 @@ pub fn turns()
     ensures images { ImagesOfTurn }
     ensures elsewhere { ElsewhereMayTurn }
     ensures batches { ElsewhereKeepsRun }
+    ensures bodies { ElsewhereKeepsRunsBodies }
+    ensures images_bodies { BodiesOfTurn }
 {}
 
 /// The first log of a device that holds what is laid down of it: its one record, spelled; a running log with one place taken is on
@@ -43,6 +49,7 @@ pub fn first_log()
     ensures spelled { FirstIsSpelled }
     ensures selector { SELECTOR ≡ 2 }
     ensures log { FirstLogIs }
+    ensures body { FirstLogHasOneBody }
     ensures on { FirstLogIsOn }
     ensures images { ImagesHaveTheFirstLog }
 {}

@@ -12,6 +12,7 @@ pub mod leaf_edits;
 mod scan;
 
 pub use check::is_node;
+pub use entry::read_key;
 pub use inner::Inner;
 pub use items::MAX_ENTRIES;
 pub use leaf::Leaf;

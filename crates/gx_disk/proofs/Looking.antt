@@ -1,8 +1,8 @@
 -- A read looks, and looks in a row are one.
 use Rattle.std.proofs.Common.{◌∙◌, ℕ, List, Result}
 use Rattle.gx_disk.specs.Device.{Device, MayLeave, Reads}
+use Rattle.gx_disk.specs.Looks.{Looks}
 use Rattle.gx_disk.proofs.Leaving.{leaves_joined, leaves_weaker, call_leaves, rested_image}
-use Rattle.gx_glog.specs.Looks.{Looks}
 
 pub read_looks : {T E : Type 0} (first : ℕ) (bytes : List ℕ) (old new : Device) (r : Result T E) → Reads first bytes old new r → Looks old new
 read_looks first bytes old new r reads = record {

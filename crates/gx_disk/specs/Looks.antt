@@ -1,4 +1,4 @@
--- Reads in a row.
+-- Runs of reads.
 use Rattle.gx_disk.specs.Device.{Device, MayLeave, Rests, SamePending}
 use Rattle.gx_disk.specs.Moments.{Leaves}
 
