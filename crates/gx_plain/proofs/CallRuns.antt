@@ -1,9 +1,9 @@
 -- Each call that is asked and answered is a run of the machine, and so is a script.
-use Rattle.std.proofs.Common.{◌≡◌, ℕ, ◌+◌, ◌-◌, Bool, true, false, cond, ◌⊎◌, inl, inr, List, [], ◌∷◌, ◌++◌, length, slice_set, refl, ap, sym, ◌∙◌, subst, rules, append_assoc}
-use Rattle.std.specs.Prelude.{Option, None, Some, option_map, Result, Ok, Err, if◌then◌else◌}
+use Rattle.std.proofs.Common.{◌≡◌, ℕ, ◌+◌, Bool, true, false, ◌⊎◌, inl, inr, List, [], ◌∷◌, ◌++◌, length, refl, ap, sym, ◌∙◌, subst, rules, append_assoc}
+use Rattle.std.specs.Prelude.{Option, None, Some, option_map, Result, Ok, Err}
 use Rattle.gx_geom.specs.Rectangles.{Rectangle}
 use Rattle.gx_geom.specs.declared.refusal.Refusal.{Refusal}
-use Rattle.gx_geom.specs.declared.refusal.Refusal.TheVariants.{BadSession, NoCall, HistoryFull, Memory}
+use Rattle.gx_geom.specs.declared.refusal.Refusal.TheVariants.{BadSession, HistoryFull, Memory}
 use Rattle.gx_machine.specs.declared.entry.Entry.{Entry}
 use Rattle.gx_machine.specs.declared.call.Call.{Call}
 use Rattle.gx_machine.specs.declared.call.Call.TheVariants.{Begin, Insert, Delete, Search, Commit, Abort}
@@ -15,7 +15,7 @@ use Rattle.gx_machine.specs.declared.reply.Asked.{Asked as Given}
 use Rattle.gx_machine.specs.declared.reply.Asked.TheVariants.{Now, Open as Opened}
 use Rattle.gx_machine.specs.Keys.{Keys}
 use Rattle.gx_machine.specs.Sessions.{Locks, Changes, Session, Idle, Open, Aborting, Committing, lock_for, asked_with, ask_session, answer_session, sealed_set}
-use Rattle.gx_machine.specs.Machine.{Machine, newest, kept_sets, is_session, session_at, with_session, least_conflicting, claims_held, ask, answer, seal}
+use Rattle.gx_machine.specs.Machine.{Machine, newest, is_session, session_at, least_conflicting, claims_held, answer, seal}
 use Rattle.gx_machine.specs.Runs.{Step, Asks, Answers, Seals, Durable, Closes, RefusesAsk, IsStep, IsRun}
 use Rattle.gx_machine.specs.Records.{items_of, record_of, calls_and_replies}
 use Rattle.gx_machine.proofs.Places.{at_same}

@@ -1,5 +1,5 @@
 -- What asking does to the counts that the plain index keeps.
-use Rattle.std.proofs.Common.{◌≡◌, ℕ, ◌+◌, ◌≤◌, Bool, true, false, cond, [], ◌∷◌, ◌++◌, length, refl, sym, subst, arith, nat_lt}
+use Rattle.std.proofs.Common.{◌≡◌, ℕ, ◌+◌, ◌≤◌, Bool, true, false, cond, length, refl, sym, subst, arith, nat_lt}
 use Rattle.std.specs.Prelude.{Option, None, Some, Result, Ok, Err}
 use Rattle.std.proofs.lemmas.Bool.{ltb-true}
 use Rattle.gx_geom.specs.declared.refusal.Refusal.{Refusal}
@@ -14,7 +14,7 @@ use Rattle.gx_machine.specs.Sessions.{Locks, Changes, no_locks, no_changes, Sess
 use Rattle.gx_machine.proofs.SessionMoves.{claim_given, predicate_given}
 use Rattle.gx_plain.specs.Index.{has_begun}
 use Rattle.gx_session.specs.Slots.{added_by, opened_by, begins, CanAnswer}
-use Rattle.gx_session.proofs.SetLemmas.{length-including}
+use Rattle.gx_locks.proofs.SetLemmas.{length-including}
 
 module _ {B : Type 0} (k : Keys B) where
   -- a fact of what asking gives, by whether the call has its lock

@@ -16,8 +16,6 @@ use Rattle.gx_script.specs.declared.line.Line.TheVariants.{Blank, Bad, Reversed,
 use Rattle.gx_script.specs.Replies.{reply_text, bad_line}
 use Rattle.gx_script.specs.Scripts.{asked_as}
 use Rattle.gx_plain.specs.Boxes.{box_keys}
-use Rattle.gx_plain.specs.Index.{Index}
-use Rattle.gx_plain.specs.Runs.{IsPlain}
 
 -- a run of the machine that asks this call of the session and gives it this reply, and nothing else to anyone
 pub record IsCallRun {B : Type 0} (k : Keys B) (s : ℕ) (call : Call B) (reply : Reply B) (old new : Machine B) : Type 0 where

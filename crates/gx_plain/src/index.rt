@@ -1,10 +1,10 @@
 //! The plain index.
-ghost use Rattle.std.specs.Prelude.{vec_len, vec_capacity, nat_le, ◌||◌, not, ◌&&◌, ◌==◌, ◌≡◌, ◌<◌, ◌≤◌, ◌+◌, ◌-◌, Some, IfOk, MatchOption, IsTrue, ⊤, false, true, ◌^◌, length, sum_by, slice_set, replicate};
+ghost use Rattle.std.specs.Prelude.{vec_len, vec_capacity, nat_le, ◌||◌, ◌&&◌, ◌≡◌, ◌<◌, ◌≤◌, ◌+◌, ◌-◌, Some, IfOk, MatchOption, IsTrue, ⊤, false, true, ◌^◌, length, sum_by, slice_set, replicate};
 ghost use Rattle.std.specs.List.{slice_index_or};
 ghost use Rattle.gx_machine.specs.declared.limits.TheConstants.{MAX_CLAIMS};
 ghost use Rattle.gx_machine.specs.Keys.{keys_of};
 ghost use Rattle.gx_machine.specs.Machine.{is_session, least_conflicting, claims_held};
-ghost use Rattle.gx_machine.specs.Sessions.{Idle, claims_of, session_conflicts, ask_session};
+ghost use Rattle.gx_machine.specs.Sessions.{Idle, claims_of, ask_session};
 ghost use Rattle.gx_machine.specs.Sets.{InOrder};
 ghost use Rattle.gx_session.specs.Slots.{added_by, opened_by, begins, CanAnswer, SlotAnswers};
 
@@ -41,26 +41,12 @@ fn idle_slots<B: Shape>(alloc: Global) -> Result<Vec<Slot<B>>, AllocError>
     Ok(slots)
 }
 
-/// Whether the session of this number is another one than `session` and conflicts with its call.
-fn conflicts<B: Shape>(slot: &Slot<B>, number: u8, call: &Call<B>, session: u8) -> bool
-    ensures { result ≡ (not (number == session) && session_conflicts (keys_of B.Shape) call.now slot.now) }
-{
-    number != session && slot.conflicts(call)
-}
-
 /// The least other session that conflicts with a call of `session`.
 fn least_conflicting<B: Shape>(slots: &[Slot<B>], call: &Call<B>, session: u8) -> Option<u8>
     requires { length slots.now ≤ SESSIONS }
     ensures { result ≡ least_conflicting (keys_of B.Shape) call.now session 1 slots.now }
 {
-    let mut number = 1;
-    for slot in slots {
-        if conflicts(slot, number, call, session) {
-            return Some(number);
-        }
-        number += 1;
-    }
-    None
+    gx_locks::least_conflicting(slots, call, session)
 }
 
 /// The claims held in all.

@@ -1,6 +1,6 @@
 -- Sets merged in one pass: entries are put in from the greatest down, and what follows each moves up.
 use Rattle.std.proofs.Common.{◌≡◌, ℕ, zero, suc, ◌+◌, ◌-◌, ◌<◌, ◌≤◌, Bool, true, false, ◌||◌, List, [], ◌∷◌, ◌++◌, length, take, drop, refl, ap, sym, subst, ◌∙◌, arith, set, get_or, true≢false}
-use Rattle.std.specs.Prelude.{Option, Some, None, slice_get, unwrap_or, is_none}
+use Rattle.std.specs.Prelude.{Some, None, slice_get, unwrap_or, is_none}
 use Rattle.std.specs.List.{list_any}
 use Rattle.std.proofs.lemmas.Option.{get_or_from_slice_get}
 use Rattle.std.proofs.lemmas.List.{take-append-le, take-append-drop, take-take, drop-take, take-set-le, drop-set, length-take-le, length-drop, take_more, append_assoc}
@@ -12,7 +12,7 @@ use Rattle.std.specs.Ordering.{ordering_reverse}
 use Rattle.gx_machine.specs.declared.entry.Entry.{Entry}
 use Rattle.gx_machine.specs.Keys.{Keys, IsLawful, entry_cmp, same_entry}
 use Rattle.gx_machine.specs.Sets.{has, including, including_all, Before, InOrder}
-use Rattle.gx_session.specs.Orders.{Below}
+use Rattle.gx_locks.specs.Orders.{Below}
 use Rattle.gx_machine.proofs.SetLaws.{entry_total, including_by, including_before}
 
 some_same : {A : Type 0} {x y : A} → Some x ≡ Some y → x ≡ y

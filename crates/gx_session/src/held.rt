@@ -1,46 +1,14 @@
 //! What a transaction holds, as vectors: claims, predicates, and its own changes (claims with predicates: Kornacker, Mohan, Hellerstein 1997).
 ghost use Rattle.std.specs.Prelude.{◌≡◌, ◌<◌, ◌≤◌, ◌+◌, ◌++◌, ◌∷◌, [], ◌||◌, length, nat_lt, vec_len, vec_capacity, true, IfOk, if◌then◌else◌};
-ghost use Rattle.gx_machine.specs.Keys.{keys_of, same_query, key_matches, matches};
+ghost use Rattle.gx_machine.specs.Keys.{keys_of, matches};
 ghost use Rattle.gx_machine.specs.Sets.{has, including, found, including_all, excluding_all};
 ghost use Rattle.gx_machine.specs.Invariants.{Covered};
 ghost use Rattle.gx_machine.specs.Sessions.{has_query};
 ghost use Rattle.std.specs.List.{list_any};
 
-use crate::sets;
 use gx_geom::Shape;
+use gx_locks::{is_same_query, matches};
 use gx_machine::{Entry, MAX_CLAIMS, MAX_PREDICATES, Query};
-use std::alloc::{AllocError, Global};
-use std::cmp::Ordering;
-
-/// Whether a key matches a query.
-fn key_matches<B: Shape>(query: &Query<B>, key: &B) -> bool
-    ensures { result ≡ key_matches (keys_of B.Shape) query.now key.now }
-{
-    match query {
-        Query::Overlap(q) => key.overlaps(q),
-        Query::Within(q) => key.within(q),
-        Query::Equal(q) => key.cmp(q) == Ordering::Equal,
-    }
-}
-
-/// Whether an entry matches a query.
-pub fn matches<B: Shape>(query: &Query<B>, e: &Entry<B>) -> bool
-    ensures { result ≡ matches (keys_of B.Shape) query.now e.now }
-{
-    key_matches(query, &e.key)
-}
-
-/// Whether two queries are the same.
-fn is_same_query<B: Shape>(a: &Query<B>, b: &Query<B>) -> bool
-    ensures { result ≡ same_query (keys_of B.Shape) a.now b.now }
-{
-    match (a, b) {
-        (Query::Overlap(p), Query::Overlap(q)) => p.cmp(q) == Ordering::Equal,
-        (Query::Within(p), Query::Within(q)) => p.cmp(q) == Ordering::Equal,
-        (Query::Equal(p), Query::Equal(q)) => p.cmp(q) == Ordering::Equal,
-        _ => false,
-    }
-}
 
 /// Whether the query is among the predicates.
 pub fn has_query<B: Shape>(query: &Query<B>, predicates: &[Query<B>]) -> bool
@@ -68,7 +36,7 @@ pub fn write_conflicts<B: Shape>(e: &Entry<B>, claims: &[Entry<B>], predicates: 
     ensures { result ≡ has (keys_of B.Shape) e.now claims.now
         || list_any (λ q. matches (keys_of B.Shape) q e.now) predicates.now }
 {
-    sets::has(e, claims) || any_matches(predicates, e)
+    gx_locks::has(e, claims) || any_matches(predicates, e)
 }
 
 /// Claims an entry. False, and nothing changes, exactly where the session lacks it and all places are spent.
@@ -84,13 +52,13 @@ pub fn claim<B: Shape>(e: Entry<B>, claims: &mut Vec<Entry<B>>, spent: usize) ->
     ensures kept { Covered (keys_of B.Shape) claims.old.items claims.new.items }
     ensures room { MAX_CLAIMS ≤ vec_capacity claims.new }
 {
-    if sets::has(&e, claims) {
+    if gx_locks::has(&e, claims) {
         return true;
     }
     if spent >= MAX_CLAIMS {
         return false;
     }
-    sets::put(e, claims);
+    gx_locks::put(e, claims);
     true
 }
 

@@ -3,7 +3,6 @@
 
 mod held;
 mod merge;
-mod sets;
 mod slot;
 mod views;
 

@@ -3,9 +3,8 @@ ghost use Rattle.std.specs.Prelude.{◌≡◌, ◌+◌, ◌<◌, ◌≤◌, ◌�
 ghost use Rattle.std.specs.List.{list_any};
 ghost use Rattle.gx_machine.specs.Keys.{keys_of};
 ghost use Rattle.gx_machine.specs.Sets.{has, including_all, Before, InOrder};
-ghost use Rattle.gx_session.specs.Orders.{Below};
+ghost use Rattle.gx_locks.specs.Orders.{Below};
 
-use crate::sets;
 use gx_geom::Shape;
 use gx_machine::Entry;
 
@@ -17,7 +16,7 @@ fn gap<B: Shape>(e: &Entry<B>, set: &[Entry<B>]) -> usize
     ensures below { Below (keys_of B.Shape) e.now (take result set.now) }
     ensures before { Before (keys_of B.Shape) e.now (drop result set.now) }
 {
-    match sets::find(e, set) {
+    match gx_locks::find(e, set) {
         Ok(at) | Err(at) => at,
     }
 }
@@ -87,7 +86,7 @@ pub fn merge<B: Shape>(more: &[Entry<B>], set: &mut Vec<Entry<B>>)
     ensures grown { vec_len set.new ≤ vec_len set.old + length more.now }
 {
     if has_any(more, set) {
-        sets::include_all(more, set);
+        gx_locks::include_all(more, set);
         return;
     }
     let count = set.len();
@@ -100,5 +99,5 @@ fn has_any<B: Shape>(more: &[Entry<B>], set: &[Entry<B>]) -> bool
     requires { InOrder (keys_of B.Shape) set.now }
     ensures { result ≡ list_any (λ e. has (keys_of B.Shape) e set.now) more.now }
 {
-    more.iter().any(|e| sets::has_in_order(e, set))
+    more.iter().any(|e| gx_locks::has_in_order(e, set))
 }

@@ -2,8 +2,9 @@
 ghost use Rattle.std.specs.Prelude.{◌≡◌, ◌≤◌, ◌<◌, ◌+◌, ◌^◌, Some, None, IfOk, MatchOption, vec_len, vec_capacity, length};
 ghost use Rattle.gx_machine.specs.Keys.{keys_of};
 
-use crate::{held, sets, views};
+use crate::{held, views};
 use gx_geom::{Refusal, Shape};
+use gx_locks::Conflicts;
 use gx_machine::{Asked, Call, Entries, Entry, MAX_CLAIMS, MAX_PREDICATES, Query, Reply};
 use std::alloc::{AllocError, Global};
 use std::marker::Model;
@@ -60,7 +61,7 @@ impl<B: Shape> Slot<B> {
     ghost use Rattle.gx_session.specs.Slots.{IsFree, IsOpen, IsWrite, IsDeleting, IsCommitting, CanAnswer, changes_of, added_by, opened_by, begins, Closes, SlotAnswers, SlotSeals, NothingSealed, SlotDrops};
     ghost use Rattle.gx_machine.specs.Sets.{found, InOrder};
     ghost use Rattle.gx_machine.specs.Sessions.{view, answer_insert, answer_delete};
-    ghost use Rattle.gx_machine.specs.Sessions.{Idle, Open, Aborting, Committing, locks_of, session_conflicts, claims_of, with_claim, with_predicate, unless_busy, asked_with, ask_idle, ask_open, ask_session};
+    ghost use Rattle.gx_machine.specs.Sessions.{Idle, Open, Aborting, Committing, locks_of, claims_of, with_claim, with_predicate, unless_busy, asked_with, ask_idle, ask_open, ask_session};
 
     /// A session with no transaction, and with its room.
     pub fn new(alloc: Global) -> Result<Self, AllocError>
@@ -73,24 +74,6 @@ impl<B: Shape> Slot<B> {
             added: Vec::new(alloc),
             taken: Vec::with_capacity(alloc, MAX_CLAIMS)?,
         })
-    }
-
-    /// Whether another session's call conflicts with it.
-    pub fn conflicts(&self, call: &Call<B>) -> bool
-        ensures { result ≡ session_conflicts (keys_of B.Shape) call.now self.now }
-    {
-        match self.phase {
-            Phase::Idle | Phase::Committing(_) => false,
-            Phase::Open(_) | Phase::Aborting => match call {
-                Call::Insert(e) | Call::Delete(e) => held::write_conflicts(
-                    e,
-                    &self.claims,
-                    &self.predicates,
-                ),
-                Call::Search(query) => held::any_matching(query, &self.claims),
-                Call::Begin | Call::Commit | Call::Abort => false,
-            },
-        }
     }
 
     /// How many claims it holds.
@@ -245,11 +228,11 @@ impl<B: Shape> Slot<B> {
             return Reply::Refused(Refusal::Present);
         }
         if latest.reserve(added.saturating_add(1)).is_err()
-            || sets::include(e, &mut self.added).is_err()
+            || gx_locks::include(e, &mut self.added).is_err()
         {
             return Reply::Refused(Refusal::Memory);
         }
-        sets::exclude(&e, &mut self.taken);
+        gx_locks::exclude(&e, &mut self.taken);
         Reply::Inserted
     }
 
@@ -265,8 +248,8 @@ impl<B: Shape> Slot<B> {
         if !views::has(&e, latest, &self.added, &self.taken) {
             return Reply::Refused(Refusal::Absent);
         }
-        sets::put(e, &mut self.taken);
-        sets::exclude(&e, &mut self.added);
+        gx_locks::put(e, &mut self.taken);
+        gx_locks::exclude(&e, &mut self.added);
         Reply::Deleted
     }
 
@@ -403,6 +386,28 @@ impl<B: Shape> Slot<B> {
             }
             Phase::Committing(number) => self.committed(number),
             Phase::Aborting => self.aborted(),
+        }
+    }
+}
+
+impl<B: Shape> Conflicts<B> for Slot<B> {
+    ghost use Rattle.gx_machine.specs.Keys.{keys};
+    ghost use Rattle.gx_machine.specs.Sessions.{session_conflicts};
+
+    ghost bars = { λ slot call. session_conflicts (keys B.cmp B.overlap B.inside) call slot };
+
+    fn conflicts(&self, call: &Call<B>) -> bool {
+        match self.phase {
+            Phase::Idle | Phase::Committing(_) => false,
+            Phase::Open(_) | Phase::Aborting => match call {
+                Call::Insert(e) | Call::Delete(e) => held::write_conflicts(
+                    e,
+                    &self.claims,
+                    &self.predicates,
+                ),
+                Call::Search(query) => held::any_matching(query, &self.claims),
+                Call::Begin | Call::Commit | Call::Abort => false,
+            },
         }
     }
 }

@@ -3,8 +3,9 @@ ghost use Rattle.std.specs.Prelude.{◌≡◌, ◌+◌, ◌<◌, ◌≤◌, leng
 ghost use Rattle.gx_machine.specs.Keys.{keys_of, matches};
 ghost use Rattle.gx_machine.specs.Sets.{has, including_all, excluding_all, found, InOrder};
 
-use crate::{held, merge, sets};
+use crate::merge;
 use gx_geom::Shape;
+use gx_locks::matches;
 use gx_machine::{Entry, Query};
 use std::alloc::{AllocError, Global};
 
@@ -19,7 +20,7 @@ pub fn has<B: Shape>(
     ensures { result ≡ has (keys_of B.Shape) e.now
         (including_all (keys_of B.Shape) added.now (excluding_all (keys_of B.Shape) taken.now latest.now)) }
 {
-    sets::has(e, added) || !sets::has(e, taken) && sets::has_in_order(e, latest)
+    gx_locks::has(e, added) || !gx_locks::has(e, taken) && gx_locks::has_in_order(e, latest)
 }
 
 /// The entries of the set that match, without those taken away. Few match, so each that does is looked up.
@@ -33,8 +34,8 @@ fn matches_without<B: Shape>(
     ensures { IfOk result (λ v. v.items ≡ excluding_all (keys_of B.Shape) taken.now (found (keys_of B.Shape) query.now set.now)) }
 {
     set.iter()
-        .filter(|e| held::matches(query, *e))
-        .filter(|e| !sets::has_in_order(*e, taken))
+        .filter(|e| matches(query, *e))
+        .filter(|e| !gx_locks::has_in_order(*e, taken))
         .copied()
         .collect(alloc)
 }
@@ -54,8 +55,8 @@ pub fn search<B: Shape>(
 {
     let mut out = matches_without(alloc, query, latest, taken)?;
     for e in added {
-        if held::matches(query, e) {
-            sets::include(*e, &mut out)?;
+        if matches(query, e) {
+            gx_locks::include(*e, &mut out)?;
         }
     }
     Ok(out)
@@ -72,6 +73,6 @@ pub fn take_over<B: Shape>(latest: &mut Vec<Entry<B>>, added: &[Entry<B>], taken
     ensures room { vec_capacity latest.old ≤ vec_capacity latest.new }
     ensures grown { vec_len latest.new ≤ vec_len latest.old + length added.now }
 {
-    sets::exclude_all(taken, latest);
+    gx_locks::exclude_all(taken, latest);
     merge::merge(added, latest);
 }

@@ -1,16 +1,12 @@
 -- What a loop over a list has passed, one element more.
 use Rattle.std.proofs.Common.{◌≡◌, ◌≤◌, ◌<◌, ◌+◌, ◌-◌, ℕ, Bool, true, false, not, List, [], ◌∷◌, ◌++◌, Option, Some, None, map, take, drop, length, get_or, ap, sym, ◌∙◌, arith}
-use Rattle.std.specs.Prelude.{if◌then◌else◌, insert, cond, filter}
+use Rattle.std.specs.Prelude.{if◌then◌else◌, cond, filter}
 use Rattle.std.specs.Prelude.{unwrap_or}
 use Rattle.std.specs.Option.{option_or}
-use Rattle.std.specs.Ordering.{match_ordering}
-use Rattle.std.specs.declared.cmp.Ordering.{Ordering}
-use Rattle.std.specs.declared.cmp.Ordering.TheVariants.{Less, Equal, Greater}
-use Rattle.std.proofs.lemmas.List.{drop_more, take_more, drop_all, take-append-drop, append_assoc, append-nil, map-append}
+use Rattle.std.proofs.lemmas.List.{drop_more, take_more, drop_all, append-nil, map-append}
 use Rattle.std.proofs.lemmas.List.Elements.{filter-append}
 use Rattle.gx_machine.specs.declared.entry.Entry.{Entry}
-use Rattle.gx_machine.specs.Keys.{Keys, entry_cmp, same_entry}
-use Rattle.gx_machine.specs.Sets.{including}
+use Rattle.gx_machine.specs.Keys.{Keys, same_entry}
 use Rattle.gx_txn.specs.declared.note.Note as txn
 use Rattle.gx_txn.specs.Tables.{Held, nothing_held}
 use Rattle.gx_engine_laws.specs.declared.look.Listed.{Listed}
@@ -36,32 +32,6 @@ module _ {B : Type 0} (k : Keys B) (e : Entry B) (notes : List (txn.Note B)) (i 
 
   pub noted_later : same_entry k e n.entry ≡ false → noted k e (map note_of (drop (i + 1) notes)) ≡ noted k e (map note_of notes)
   noted_later u = noted_is false u
-
-module _ {B : Type 0} (k : Keys B) (e : Entry B) (set : List (Entry B)) where
-  module _ (i : ℕ) (x : Entry B) (low : i < length set) (is : x ≡ get_or set i x) (passed : including k e set ≡ take i set ++ including k e (drop i set)) where
-    abbrev placed_by : Ordering → List (Entry B)
-    placed_by o = match_ordering o (e ∷ x ∷ drop (i + 1) set) (x ∷ drop (i + 1) set) (x ∷ including k e (drop (i + 1) set))
-
-    placed_is : (o : Ordering) → entry_cmp k e x ≡ o → including k e set ≡ take i set ++ placed_by o
-    placed_is o u = passed ∙ ap (λ (ys : List (Entry B)). take i set ++ including k e ys) (front set i x low is) ∙ ap (λ (z : Ordering). take i set ++ placed_by z) u
-
-    pub placed_here : entry_cmp k e x ≡ Less → including k e set ≡ insert set i e
-    placed_here u = placed_is Less u ∙ ap (λ (ys : List (Entry B)). take i set ++ e ∷ ys) (sym (front set i x low is))
-
-    pub placed_already : entry_cmp k e x ≡ Equal → including k e set ≡ set
-    placed_already u = placed_is Equal u ∙ ap (λ (ys : List (Entry B)). take i set ++ ys) (sym (front set i x low is)) ∙ take-append-drop i set
-
-    pub placed_later : entry_cmp k e x ≡ Greater → including k e set ≡ take (i + 1) set ++ including k e (drop (i + 1) set)
-    placed_later u =
-        placed_is Greater u ∙ sym (append_assoc (take i set) (x ∷ []) (including k e (drop (i + 1) set)))
-        ∙ ap (λ (ys : List (Entry B)). ys ++ including k e (drop (i + 1) set)) (sym (take_more set i x low ∙ ap (λ (y : Entry B). take i set ++ y ∷ []) (sym is)))
-
-  pub placed_last : (i : ℕ) → length set ≤ i → i ≤ length set → including k e set ≡ take i set ++ including k e (drop i set) → including k e set ≡ insert set (length set) e
-  placed_last i past within passed =
-      let same : i ≡ length set = omega arith in
-      let none : drop i set ≡ [] = drop_all i set past in
-      passed ∙ ap (λ (ys : List (Entry B)). take i set ++ including k e ys) none ∙ ap (λ (ys : List (Entry B)). take i set ++ e ∷ ys) (sym none)
-      ∙ ap (λ (n : ℕ). insert set n e) same
 
 -- the entries that pass a test
 module _ {B : Type 0} (test : Entry B → Bool) (pairs : List (Listed B)) (i : ℕ) (p : Listed B) (low : i < length pairs) (is : p ≡ get_or pairs i p) (entries : List (Entry B))

@@ -5,9 +5,9 @@ ghost use Rattle.gx_txn.specs.Tables.{claimed_in};
 ghost use Rattle.gx_small_engine.specs.States.{is_listed};
 ghost use Rattle.gx_small_engine.specs.Moves.{mark_set, with_mark, with_note, revived};
 
-use crate::sets::is_same;
 use gx_engine_laws::Listed;
 use gx_geom::Shape;
+use gx_locks::is_same;
 use gx_machine::Entry;
 use gx_txn::{Note, Transactions};
 use std::alloc::AllocError;

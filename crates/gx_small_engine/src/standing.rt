@@ -18,7 +18,7 @@ fn was_live<B: Shape>(notes: &[Note<B>], e: &Entry<B>) -> Option<bool>
     ensures { result ≡ noted (keys_of B.Shape) e.now (map note_of notes.now) }
 {
     for note in notes {
-        if sets::is_same(e, &note.entry) {
+        if gx_locks::is_same(e, &note.entry) {
             return Some(!note.before);
         }
     }

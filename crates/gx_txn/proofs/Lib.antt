@@ -1,4 +1,3 @@
-pub mod Searched
 pub mod Noted
 pub mod Keeping
 pub mod FirstAndLast

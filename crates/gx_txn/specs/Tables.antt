@@ -1,5 +1,5 @@
 -- What each session holds, and what asking for more of it gives.
-use Rattle.std.specs.Prelude.{ℕ, ◌≡◌, ◌≤◌, ◌+◌, ◌-◌, ◌==◌, Bool, not, ◌&&◌, if◌then◌else◌, length, Option, None, Some, Result, Ok, Err, IsOk, List, [], ◌∷◌, slice_set, sum_by}
+use Rattle.std.specs.Prelude.{ℕ, ◌≡◌, ◌≤◌, ◌-◌, Bool, length, Option, Result, Ok, Err, IsOk, List, [], slice_set, sum_by}
 use Rattle.std.specs.List.{slice_index_or, list_any}
 use Rattle.gx_geom.specs.declared.refusal.Refusal.{Refusal}
 use Rattle.gx_machine.specs.declared.limits.TheConstants.{MAX_CLAIMS}
@@ -9,6 +9,7 @@ use Rattle.gx_machine.specs.Keys.{Keys}
 use Rattle.gx_machine.specs.Sets.{has, InOrder}
 use Rattle.gx_machine.specs.Sessions.{Locks, no_locks, conflicts, lock_for}
 use Rattle.gx_machine.specs.Invariants.{Covered}
+use Rattle.gx_locks.specs.Least.{least_barring}
 use Rattle.gx_txn.specs.declared.note.Note.{Note}
 use Rattle.gx_txn.specs.Notes.{entries_of}
 
@@ -49,9 +50,7 @@ with_held s h table = slice_set table (s - 1) h
 
 -- the least session but s whose locks conflict with a call of s, where those given are numbered from n
 abbrev pub least_in : {B : Type 0} → Keys B → Call B → ℕ → ℕ → List (Held B) → Option ℕ
-least_in k call s n [] = None
-least_in k call s n (h ∷ table) =
-    if not (n == s) && conflicts k call h.locks then Some n else least_in k call s (n + 1) table
+least_in k call s n table = least_barring (λ h. conflicts k call h.locks) s n table
 
 -- the claims held in all
 abbrev pub claims_in : {B : Type 0} → List (Held B) → ℕ

@@ -1,9 +1,10 @@
 //! The claims of one session.
-ghost use Rattle.std.specs.Prelude.{insert, ◌≡◌, ◌<◌, ◌≤◌, IfOk, [], length, slice_index_or, true, false, MatchResult};
+ghost use Rattle.std.specs.Prelude.{insert, ◌≡◌, ◌<◌, ◌≤◌, IfOk, [], length};
 ghost use Rattle.std.specs.List.{list_any};
 ghost use Rattle.gx_machine.specs.declared.limits.TheConstants.{MAX_CLAIMS};
 ghost use Rattle.gx_machine.specs.Keys.{keys_of, matches};
-ghost use Rattle.gx_machine.specs.Sets.{has, including, InOrder};
+ghost use Rattle.gx_machine.specs.Sets.{has, InOrder};
+ghost use Rattle.gx_locks.specs.Orders.{IsSearched};
 
 use crate::lanes::{Is, LiesIn, Overlaps, some_passes};
 use crate::marks::RowMarks;
@@ -58,13 +59,9 @@ impl<B: Shape> Claims<B> {
     /// Where the entry is, or where it goes.
     pub fn find(&self, e: &Entry<B>) -> Result<usize, usize>
         requires { InOrder (keys_of B.Shape) self.now }
-        ensures at { IfOk result (λ i. (i < length self.now) × ((d : Entry B) → slice_index_or self.now i d ≡ e.now)) }
-        ensures place { MatchResult result
-            (λ i. has (keys_of B.Shape) e.now self.now ≡ true)
-            (λ i. (i ≤ length self.now) × (has (keys_of B.Shape) e.now self.now ≡ false)
-            × (including (keys_of B.Shape) e.now self.now ≡ insert self.now i e.now)) }
+        ensures { IsSearched (keys_of B.Shape) e.now self.now result }
     {
-        search::find_entry(e, &self.entries)
+        gx_locks::find(e, &self.entries)
     }
 
     /// Whether the entry is one of them. It is searched for only where its row is marked.
@@ -72,7 +69,7 @@ impl<B: Shape> Claims<B> {
         requires { InOrder (keys_of B.Shape) self.now }
         ensures { result ≡ has (keys_of B.Shape) e.now self.now }
     {
-        self.rows.has(e.row) && self.find(e).is_ok()
+        self.rows.has(e.row) && gx_locks::has_in_order(e, &self.entries)
     }
 
     /// Whether one of them matches the query.

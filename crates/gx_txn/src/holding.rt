@@ -7,6 +7,7 @@ use crate::claims::Claims;
 use crate::predicates::Predicates;
 use crate::{Note, search};
 use gx_geom::{Refusal, Shape};
+use gx_locks::Conflicts;
 use gx_machine::{Call, Entry, MAX_CLAIMS, MAX_PREDICATES, Query};
 use std::alloc::{AllocError, Global};
 use std::marker::Model;
@@ -37,7 +38,7 @@ impl<B: Shape> Model for Holding<B> {
 }
 
 impl<B: Shape> Holding<B> {
-    ghost use Rattle.gx_machine.specs.Sessions.{write_conflicts, search_conflicts, conflicts, with_claim, with_predicate, has_query};
+    ghost use Rattle.gx_machine.specs.Sessions.{with_claim, with_predicate, has_query};
     ghost use Rattle.gx_txn.specs.Notes.{noting};
     ghost use Rattle.gx_txn.specs.Tables.{nothing_held, with_notes, claims, IsKept, Takes};
 
@@ -65,19 +66,6 @@ impl<B: Shape> Holding<B> {
         ensures kept { IsKept (keys_of B.Shape) self.now }
     {
         self.claims.len()
-    }
-
-    /// Whether its locks conflict with another session's call.
-    pub fn conflicts(&self, call: &Call<B>) -> bool
-        ensures { result ≡ conflicts (keys_of B.Shape) call.now self.now.locks }
-    {
-        match call {
-            Call::Insert(e) | Call::Delete(e) => {
-                self.claims.has(e) || self.predicates.any_matches(e)
-            }
-            Call::Search(query) => self.claims.any_matching(query),
-            Call::Begin | Call::Commit | Call::Abort => false,
-        }
     }
 
     /// Claims an entry, where `spent` claims are held in all. `ClaimsFull`, and nothing changes, exactly where the
@@ -141,5 +129,22 @@ impl<B: Shape> Holding<B> {
         self.claims.clear();
         self.predicates.clear();
         self.notes.clear();
+    }
+}
+
+impl<B: Shape> Conflicts<B> for Holding<B> {
+    ghost use Rattle.gx_machine.specs.Keys.{keys};
+    ghost use Rattle.gx_machine.specs.Sessions.{conflicts};
+
+    ghost bars = { λ h call. conflicts (keys B.cmp B.overlap B.inside) call h.locks };
+
+    fn conflicts(&self, call: &Call<B>) -> bool {
+        match call {
+            Call::Insert(e) | Call::Delete(e) => {
+                self.claims.has(e) || self.predicates.any_matches(e)
+            }
+            Call::Search(query) => self.claims.any_matching(query),
+            Call::Begin | Call::Commit | Call::Abort => false,
+        }
     }
 }

@@ -2,15 +2,15 @@
 ghost use Rattle.std.specs.Prelude.{◌≡◌, ◌<◌, ◌++◌, ◌∷◌, [], IfOk, length};
 ghost use Rattle.std.specs.List.{list_any};
 ghost use Rattle.gx_machine.specs.declared.limits.TheConstants.{MAX_PREDICATES};
-ghost use Rattle.gx_machine.specs.Keys.{keys_of, same_query, matches};
+ghost use Rattle.gx_machine.specs.Keys.{keys_of, matches};
 ghost use Rattle.gx_machine.specs.Sessions.{has_query};
 
 use crate::lanes::{Around, OverlappedBy, SameAs, some_passes};
 use crate::search::put_last;
 use gx_geom::Shape;
+use gx_locks::is_same_query;
 use gx_machine::{Entry, MAX_PREDICATES, Query};
 use std::alloc::{AllocError, Global};
-use std::cmp::Ordering;
 use std::marker::Model;
 
 /// The queries that a session watches, in the order of asking, with room for all of them. Beside them are the keys of
@@ -38,18 +38,6 @@ impl<B: Shape> Model for Predicates<B> {
         × AreByKind p.asked.items p.overlap.items p.within.items p.equal.items };
 }
 
-/// Whether two queries are the same.
-fn is_same<B: Shape>(a: &Query<B>, b: &Query<B>) -> bool
-    ensures { result ≡ same_query (keys_of B.Shape) a.now b.now }
-{
-    match (a, b) {
-        (Query::Overlap(p), Query::Overlap(q)) => p.cmp(q) == Ordering::Equal,
-        (Query::Within(p), Query::Within(q)) => p.cmp(q) == Ordering::Equal,
-        (Query::Equal(p), Query::Equal(q)) => p.cmp(q) == Ordering::Equal,
-        _ => false,
-    }
-}
-
 impl<B: Shape> Predicates<B> {
     /// None, with room for all that a session may have.
     pub fn new(alloc: Global) -> Result<Self, AllocError>
@@ -74,7 +62,7 @@ impl<B: Shape> Predicates<B> {
     pub fn has(&self, query: &Query<B>) -> bool
         ensures { result ≡ has_query (keys_of B.Shape) query.now self.now }
     {
-        self.asked.iter().any(|p| is_same(query, p))
+        self.asked.iter().any(|p| is_same_query(query, p))
     }
 
     /// Whether one of them matches the entry.

@@ -1,26 +1,12 @@
-//! Binary search for an entry, in claims and in notes.
-ghost use Rattle.std.specs.Prelude.{insert, ◌++◌, ◌∷◌, [], vec_len, vec_capacity, ◌≡◌, ◌<◌, ◌≤◌, MatchResult, IfOk, length, slice_index_or, slice_set, true, false, ⊤};
-ghost use Rattle.gx_machine.specs.declared.entry.Entry.{Entry};
+//! Binary search for a note, and places in vectors that have room.
+ghost use Rattle.std.specs.Prelude.{insert, ◌++◌, ◌∷◌, [], vec_len, vec_capacity, ◌≡◌, ◌<◌, ◌≤◌, MatchResult, length, slice_index_or, slice_set, false};
 ghost use Rattle.gx_machine.specs.Keys.{keys_of};
-ghost use Rattle.gx_machine.specs.Sets.{has, including, InOrder};
+ghost use Rattle.gx_machine.specs.Sets.{has, InOrder};
 ghost use Rattle.gx_txn.specs.declared.note.Note.{Note};
 ghost use Rattle.gx_txn.specs.Notes.{entries_of, noting};
 
 use crate::Note;
 use gx_geom::Shape;
-use gx_machine::Entry;
-
-/// Where the entry is in a list in order, or where it goes.
-pub fn find_entry<B: Shape>(e: &Entry<B>, entries: &[Entry<B>]) -> Result<usize, usize>
-    requires { InOrder (keys_of B.Shape) entries.now }
-    ensures at { IfOk result (λ i. (i < length entries.now) × ((d : Entry B) → slice_index_or entries.now i d ≡ e.now)) }
-    ensures place { MatchResult result
-        (λ i. has (keys_of B.Shape) e.now entries.now ≡ true)
-        (λ i. (i ≤ length entries.now) × (has (keys_of B.Shape) e.now entries.now ≡ false)
-        × (including (keys_of B.Shape) e.now entries.now ≡ insert entries.now i e.now)) }
-{
-    entries.binary_search(e)
-}
 
 /// Where the entry's note is in a list in order, or where it goes.
 pub fn find_note<B: Shape>(note: &Note<B>, notes: &[Note<B>]) -> Result<usize, usize>

@@ -1,15 +1,16 @@
 //! What all sessions hold.
-ghost use Rattle.std.specs.Prelude.{◌≡◌, ◌≤◌, ◌<◌, ◌+◌, ◌-◌, IfOk, OnOk, length, replicate, not, ◌&&◌, ◌==◌, slice_set, true};
+ghost use Rattle.std.specs.Prelude.{◌≡◌, ◌≤◌, ◌<◌, ◌+◌, ◌-◌, IfOk, OnOk, length, replicate, slice_set, true};
 ghost use Rattle.std.specs.List.{slice_index_or};
 ghost use Rattle.gx_machine.specs.declared.limits.TheConstants.{SESSIONS};
 ghost use Rattle.gx_machine.specs.Keys.{keys_of};
 ghost use Rattle.gx_machine.specs.Machine.{is_session};
-ghost use Rattle.gx_machine.specs.Sessions.{conflicts, has_query, with_claim, with_predicate};
-ghost use Rattle.gx_txn.specs.Tables.{nothing_held, claims_in, claims, least_in, IsKept, Takes};
+ghost use Rattle.gx_machine.specs.Sessions.{has_query, with_claim, with_predicate};
+ghost use Rattle.gx_txn.specs.Tables.{nothing_held, claims_in, claims, IsKept, Takes};
 
 use crate::Note;
 use crate::holding::Holding;
 use gx_geom::{Refusal, Shape};
+use gx_locks::least_conflicting;
 use gx_machine::{Call, Entry, Query, SESSIONS};
 use std::alloc::{AllocError, Global};
 use std::marker::Model;
@@ -23,28 +24,6 @@ fn free_slots<B: Shape>(alloc: Global) -> Result<Vec<Holding<B>>, AllocError>
         slots.push(Holding::new(alloc)?)?;
     }
     Ok(slots)
-}
-
-/// Whether the session of this number is another one than `session` and its locks conflict with the call.
-fn conflicts<B: Shape>(slot: &Holding<B>, number: u8, call: &Call<B>, session: u8) -> bool
-    ensures { result ≡ (not (number == session) && conflicts (keys_of B.Shape) call.now slot.now.locks) }
-{
-    number != session && slot.conflicts(call)
-}
-
-/// The least other session whose locks conflict with a call of `session`.
-fn least_conflicting<B: Shape>(slots: &[Holding<B>], call: &Call<B>, session: u8) -> Option<u8>
-    requires { length slots.now ≤ SESSIONS }
-    ensures { result ≡ least_in (keys_of B.Shape) call.now session 1 slots.now }
-{
-    let mut number = 1;
-    for slot in slots {
-        if conflicts(slot, number, call, session) {
-            return Some(number);
-        }
-        number += 1;
-    }
-    None
 }
 
 /// The claims held in all.

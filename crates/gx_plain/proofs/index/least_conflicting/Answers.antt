@@ -1,32 +1,20 @@
-use Rattle.std.proofs.Common.{◌≡◌, ◌<◌, ◌+◌, ℕ, Bool, true, false, not, cond, ◌&&◌, List, ◌∷◌, ap, sym, ◌∙◌, drop, length, get_or, arith}
-use Rattle.std.specs.Prelude.{Some, ◌==◌}
-use Rattle.std.proofs.lemmas.List.{drop_more}
+use Rattle.std.proofs.Common.{◌≡◌, ◌+◌, ℕ, not, ◌&&◌, List, [], ◌∷◌, refl, ap, ◌∙◌}
+use Rattle.std.specs.Prelude.{Option, Some, ◌==◌, if◌then◌else◌}
 use Rattle.gx_machine.specs.declared.call.Call.{Call}
 use Rattle.gx_machine.specs.Keys.{Keys, keys}
 use Rattle.gx_machine.specs.Sessions.{Session, session_conflicts}
 use Rattle.gx_machine.specs.Machine.{least_conflicting}
+use Rattle.gx_locks.specs.Least.{least_barring}
 use Rattle.gx_plain.proofs.index.least_conflicting.Goals as goal
 
-module _ {B : Type 0} (k : Keys B) (call : Call B) (s n i : ℕ) (slots : List (Session B)) (x : Session B) (within : i < length slots) (is : x ≡ get_or slots i x) where
-  step : (t : Bool) → (not (n == s) && session_conflicts k call x) ≡ t
-      → least_conflicting k call s n (drop i slots) ≡ cond t (Some n) (least_conflicting k call s (n + 1) (drop (i + 1) slots))
-  step t e =
-      ap (least_conflicting k call s n) (drop_more slots i x within ∙ ap (λ y. y ∷ drop (i + 1) slots) (sym is))
-      ∙ ap (λ b. cond b (Some n) (least_conflicting k call s (n + 1) (drop (i + 1) slots))) e
+-- the machine's least session is the least that bars
+least_is : {B : Type 0} (k : Keys B) (call : Call B) (s n : ℕ) (sessions : List (Session B))
+    → least_barring (λ x. session_conflicts k call x) s n sessions ≡ least_conflicting k call s n sessions
+least_is k call s n [] = refl
+least_is k call s n (x ∷ sessions) =
+    ap (λ (o : Option ℕ). if not (n == s) && session_conflicts k call x then Some n else o) (least_is k call s (n + 1) sessions)
 
-pub returns-then-conflicts : goal.returns-then-conflicts
-returns-then-conflicts g c =
+pub returns : goal.returns
+returns g c =
     let k = keys g.B.Ord.cmp g.B.Shape.overlap g.B.Shape.inside in
-    sym (step k c.args.call.now c.args.session c.loop-slot.number c.loop-slot.slot-index c.args.slots.now c.slot-item.result c.loop-slot-test.true c.slot-item.is
-    true (sym c.conflicts.ensures ∙ c.if-conflicts.true))
-    ∙ c.loop-slot.invariant.rest
-
-pub loop-slot-preserved : goal.loop-slot-preserved
-loop-slot-preserved g c =
-    let k = keys g.B.Ord.cmp g.B.Shape.overlap g.B.Shape.inside in
-    record {
-      number = omega arith;
-      rest = sym (step k c.args.call.now c.args.session c.loop-slot.number c.loop-slot.slot-index c.args.slots.now c.slot-item.result c.loop-slot-test.true c.slot-item.is
-          false (sym c.conflicts.ensures ∙ c.if-conflicts.false))
-          ∙ c.loop-slot.invariant.rest;
-    }
+    c.least_conflicting.ensures ∙ least_is k c.args.call.now c.args.session 1 c.args.slots.now

@@ -15,5 +15,5 @@ next k more set new i e h is placed =
 pub loop-e-preserved : goal.loop-e-preserved
 loop-e-preserved g c =
     next (keys g.B.Ord.cmp g.B.Shape.overlap g.B.Shape.inside) c.args.entries.now c.loop-e.set.items c.include.new.set.items c.loop-e.e-index
-    c.e-item.result c.loop-e-test.true c.e-item.is c.in_ok-include.ensures
+    c.e-item.result c.loop-e-test.true c.e-item.is c.in_ok-include.ensures.ok
     ∙ c.loop-e.invariant

@@ -11,5 +11,5 @@ invariant_of-self g c =
       c.self.invariant.0,
       claim_put k lawful self.claims self.predicates self.notes.items c.args.self.now c.self.view_is c.self.invariant.1
           c.args.e c.put.new.self c.in-Err.field-0 c.args.spent c.requires (omega arith)
-          c.in-Err.ensures.place.2 c.put.ensures,
+          c.in-Err.ensures.goes c.put.ensures,
     )
