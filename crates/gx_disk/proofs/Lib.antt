@@ -4,5 +4,6 @@ pub mod Empty
 pub mod Leaving
 pub mod Looking
 pub mod Record
+pub mod Results
 pub mod Spans
 pub mod Tearing

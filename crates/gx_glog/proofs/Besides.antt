@@ -1,6 +1,5 @@
 -- A batch that is written while a page is.
 use Rattle.std.proofs.Common.{◌≡◌, ◌∙◌, sym, ap, refl, subst, ◌⊎◌, inl, inr, ⊎_elim, ℕ, ◌+◌, ◌<◌, ◌≤◌, List, [], ◌++◌, length, length-append, Bool, Result, Ok, Err, arith}
-use Rattle.std.specs.Prelude.{OnOk}
 use Rattle.gx_geom.specs.declared.refusal.Refusal.{Refusal}
 use Rattle.gx_record.specs.Format.{spelling}
 use Rattle.gx_record.specs.Rec.{Rec, Pages, Write, Commit, End, Counters, Note}
@@ -265,11 +264,6 @@ batch_is_done gated batch first start log seen pending some idle none beside =
     ⊎_elim (λ (flies : IsFlying gated batch log (gated_of log seen)). absurd (let rests : in_flight log.stage ≡ 0 = ap in_flight idle in omega (arith, flies.stage)))
     (λ (is_done : IsDone gated batch log (gated_of log seen)). is_done) rest)
     beside.batch_is
-
--- both of two facts of an Ok
-pub on_ok_both : {T E : Type 0} (P Q : Type 0) (result : Result T E) → OnOk result P → OnOk result Q → OnOk result (P × Q)
-on_ok_both P Q (Ok x) p q = (p, q)
-on_ok_both P Q (Err e) p q = tt
 
 -- a record's spelling has a byte
 pub spelled_some : (r : Rec) → 1 ≤ length (spelling r)

@@ -1,4 +1,5 @@
 //! Boxes and refusals: printed texts, the greatest box, and each call once.
+use crate::asserts::same;
 use gx_geom::{Box2, Refusal, Shape};
 use std::process::Abort;
 use std::test::Fail;
@@ -37,20 +38,21 @@ const REFUSALS: [(Refusal, u8, &str); 21] = [
 
 fn is_written(rt: &impl Abort, refusal: &Refusal, number: u8, text: &str) {
     let written = refusal.text();
-    assert_eq!(rt; (refusal.number(), written.as_str()), (number, text));
+    same(rt, &refusal.number(), &number);
+    same(rt, &written.as_str(), &text);
 }
 
 #[test]
 fn refusals_have_numbers_and_texts(rt: HostRuntime) {
-    for (refusal, number, text) in REFUSALS {
-        is_written(&rt, &refusal, number, text);
+    for (refusal, number, text) in &REFUSALS {
+        is_written(&rt, refusal, *number, text);
     }
 }
 
 #[test]
 fn the_greatest_box_has_an_area_and_a_text(rt: HostRuntime) -> Result<(), Fail> {
     let all = make_box(&rt, (i32::MIN, i32::MIN, i32::MAX, i32::MAX));
-    assert_eq!(rt; all.area(), 18_446_744_065_119_617_025);
+    same(&rt, &all.area(), &18_446_744_065_119_617_025);
     let text = all.to_string(rt.alloc())?;
     assert!(rt; text.as_str() == "-2147483648 -2147483648 2147483647 2147483647");
     Ok(())
@@ -58,13 +60,14 @@ fn the_greatest_box_has_an_area_and_a_text(rt: HostRuntime) -> Result<(), Fail> 
 
 #[test]
 fn reversed_corners_are_no_box(rt: HostRuntime) {
-    for (x1, y1, x2, y2) in [(1, 0, 0, 0), (0, 1, 0, 0)] {
-        assert_eq!(rt; Box2::new(x1, y1, x2, y2), Err(Refusal::BadBox));
-    }
+    same(&rt, &Box2::new(1, 0, 0, 0), &Err(Refusal::BadBox));
+    same(&rt, &Box2::new(0, 1, 0, 0), &Err(Refusal::BadBox));
 }
 
 // Two boxes, whether they overlap, and whether the first is within the second.
-const PAIRS: [(Rectangle, Rectangle, bool, bool); 5] = [
+type Pair = (Rectangle, Rectangle, bool, bool);
+
+const PAIRS: [Pair; 5] = [
     ((0, -1, 2, 3), (2, 3, 5, 7), true, false),
     ((0, -1, 2, 3), (3, 3, 3, 3), false, false),
     ((2, 0, 2, 0), (0, -1, 2, 3), true, true),
@@ -77,15 +80,19 @@ fn relations<S: Shape>(a: &S, b: &S) -> (bool, bool, bool) {
     (a.overlaps(b), a.within(b), b.covers(a))
 }
 
+fn are_related(rt: &impl Abort, (first, second, overlap, within): &Pair) {
+    let a = make_box(rt, *first);
+    let b = make_box(rt, *second);
+    let wanted = (*overlap, *within, *within);
+    same(rt, &(a.overlaps(&b), a.within(&b), b.covers(&a)), &wanted);
+    same(rt, &relations(&a, &b), &wanted);
+    same(rt, &b.overlaps(&a), overlap);
+}
+
 #[test]
 fn boxes_overlap_and_cover(rt: HostRuntime) {
-    for (first, second, overlap, within) in PAIRS {
-        let a = make_box(&rt, first);
-        let b = make_box(&rt, second);
-        let seen = (a.overlaps(&b), a.within(&b), b.covers(&a));
-        assert_eq!(rt; seen, (overlap, within, within));
-        assert_eq!(rt; relations(&a, &b), seen);
-        assert_eq!(rt; b.overlaps(&a), overlap);
+    for pair in &PAIRS {
+        are_related(&rt, pair);
     }
 }
 
@@ -93,8 +100,12 @@ fn boxes_overlap_and_cover(rt: HostRuntime) {
 fn a_union_and_corners(rt: HostRuntime) {
     let near = make_box(&rt, (0, -1, 2, 3));
     let far = make_box(&rt, (2, 3, 5, 7));
-    assert_eq!(rt; near.union(&far), make_box(&rt, (0, -1, 5, 7)));
-    assert_eq!(rt; (far.x1(), far.y1(), far.x2(), far.y2()), (2, 3, 5, 7));
+    same(&rt, &near.union(&far), &make_box(&rt, (0, -1, 5, 7)));
+    same(
+        &rt,
+        &[far.x1(), far.y1(), far.x2(), far.y2()],
+        &[2, 3, 5, 7],
+    );
     assert!(rt; near < far);
-    assert_eq!(rt; Box2::point(2, 3), make_box(&rt, (2, 3, 2, 3)));
+    same(&rt, &Box2::point(2, 3), &make_box(&rt, (2, 3, 2, 3)));
 }

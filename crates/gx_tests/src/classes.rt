@@ -1,6 +1,7 @@
 //! The class of boxes by its rows, and code that knows only the trait, at two classes.
 ghost use Rattle.std.specs.Prelude.{◌≡◌, length};
 
+use crate::asserts::same;
 use crate::boxes::{Rectangle, make_box};
 use crate::reaches::{Reach, ReachClass};
 use gx_class::{Box2Class, KeyClass};
@@ -22,21 +23,63 @@ pub fn check_split<K: KeyClass>(rt: &impl Abort, keys: &[K::Key], least: usize, 
 fn are_sides(rt: &impl Abort, sides: &[bool], groups: &[u8]) {
     assert!(rt; sides.len() == groups.len());
     for k in 0..sides.len() {
-        assert_eq!(rt; (k, sides[k]), (k, groups[k] == b'2'));
+        same(rt, &(k, sides[k]), &(k, groups[k] == b'2'));
     }
 }
 
 /// Fails unless `consistent` and `matches` answer so of the query at the bound.
-pub fn check_query<K: KeyClass>(
+fn check_query<K: KeyClass>(
     rt: &impl Abort,
     bound: &K::Key,
     query: &Query<K::Key>,
     answers: (bool, bool),
 ) {
-    assert_eq!(rt;
-        (K::consistent(query, bound), K::matches(query, bound)),
-        answers
+    same(
+        rt,
+        &(K::consistent(query, bound), K::matches(query, bound)),
+        &answers,
     );
+}
+
+/// Queries at a bound, and what `consistent` and `matches` answer.
+pub type Queries<K> = [(Query<K>, bool, bool); 6];
+
+/// Fails unless each query is answered so at the bound.
+pub fn check_queries<K: KeyClass>(rt: &impl Abort, bound: &K::Key, queries: &Queries<K::Key>) {
+    for (query, may, does) in queries {
+        check_query::<K>(rt, bound, query, (*may, *does));
+    }
+}
+
+/// Fails unless the key is written in these bytes and read from them alone, and nothing is read from the others.
+pub fn check_bytes<K: KeyClass>(
+    rt: &impl Abort,
+    key: K::Key,
+    written: &[u8; 16],
+    others: &[&[u8]],
+) {
+    assert!(rt; K::KEY == 16);
+    let mut out = [7; 16];
+    K::encode(key, &mut out);
+    same(rt, &out, written);
+    assert!(rt; K::decode(written) == Some(key));
+    for bytes in others {
+        assert!(rt; K::decode(bytes).is_none());
+    }
+}
+
+/// Fails unless the class has this number and keys of 16 bytes that start with this one, and a bound has that penalty for a
+/// key, and this union.
+pub fn check_calls<K: KeyClass>(
+    rt: &impl Abort,
+    (class, start): (u16, K::Key),
+    (bound, key): (K::Key, K::Key),
+    (penalty, union): ((u128, u128), K::Key),
+) {
+    same(rt, &K::CLASS, &class);
+    same(rt, &K::KEY, &16);
+    same(rt, &K::penalty(&bound, &key), &penalty);
+    assert!(rt; K::start() == start && K::union(bound, key) == union);
 }
 
 fn check_boxes(rt: &impl Abort, boxes: &[Rectangle], least: usize, groups: &[u8]) {
@@ -180,32 +223,17 @@ fn bytes(rt: HostRuntime) {
     let written = [
         0xff, 0xff, 0xff, 0xff, 0x80, 0, 0, 0, 0, 0, 0, 5, 0, 0, 1, 2,
     ];
-    let mut out = [7; 16];
-    Box2Class::encode(key, &mut out);
-    assert_eq!(rt; out, written);
-    assert_eq!(rt; Box2Class::decode(&written), Some(key));
-    assert_eq!(rt; Box2Class::decode(&written[..15]), None);
-    assert_eq!(rt; Box2Class::decode(&[0; 17]), None);
     let reversed = [0, 0, 0, 1, 0, 0, 0, 0, 0, 0, 0, 0, 0, 0, 0, 0];
-    assert_eq!(rt; Box2Class::decode(&reversed), None);
+    check_bytes::<Box2Class>(&rt, key, &written, &[&written[..15], &[0; 17], &reversed]);
 }
 
 #[test]
 fn calls(rt: HostRuntime) {
-    assert_eq!(rt;
-        (Box2Class::CLASS, Box2Class::KEY, Box2Class::start()),
-        (1, 16, Box2::point(0, 0))
-    );
     let bound = make_box(&rt, (0, 0, 10, 10));
     let key = make_box(&rt, (2, 2, 20, 3));
     let both = make_box(&rt, (0, 0, 20, 10));
-    assert_eq!(rt;
-        (
-            Box2Class::penalty(&bound, &key),
-            Box2Class::union(bound, key)
-        ),
-        ((100, 100), both)
-    );
+    let start = Box2::point(0, 0);
+    check_calls::<Box2Class>(&rt, (1, start), (bound, key), ((100, 100), both));
 }
 
 #[test]
@@ -214,16 +242,15 @@ fn queries(rt: HostRuntime) {
     let key = make_box(&rt, (2, 2, 20, 3));
     let around = make_box(&rt, (-1, -1, 11, 11));
     let beside = make_box(&rt, (11, 0, 12, 1));
-    for (query, may, does) in [
+    let queries = [
         (Query::Overlap(key), true, true),
         (Query::Within(key), true, false),
         (Query::Equal(key), false, false),
         (Query::Equal(bound), true, true),
         (Query::Within(around), true, true),
         (Query::Overlap(beside), false, false),
-    ] {
-        check_query::<Box2Class>(&rt, &bound, &query, (may, does));
-    }
+    ];
+    check_queries::<Box2Class>(&rt, &bound, &queries);
 }
 
 // What code that knows only the trait can do: the union of two keys is written, read again and looked for.
@@ -246,13 +273,13 @@ fn classes_by_their_bound(rt: HostRuntime) {
     let b = make_box(&rt, (5, -5, 6, 6));
     assert!(rt; union_through_bytes::<Box2Class>(a, b, &mut [0; 16]));
     assert!(rt; union_through_bytes::<ReachClass>(Reach(9), Reach(4), &mut [0; 1]));
-    assert_eq!(rt; ReachClass::start(), Reach(0));
-    assert_eq!(rt; ReachClass::penalty(&Reach(3), &Reach(9)), (6, 3));
+    same(&rt, &ReachClass::start(), &Reach(0));
+    same(&rt, &ReachClass::penalty(&Reach(3), &Reach(9)), &(6, 3));
     let mut sides = [true; 5];
     ReachClass::pick_split(
         &[Reach(1), Reach(2), Reach(3), Reach(4), Reach(5)],
         2,
         &mut sides,
     );
-    assert_eq!(rt; sides, [false, false, false, true, true]);
+    same(&rt, &sides, &[false, false, false, true, true]);
 }

@@ -1,6 +1,7 @@
 //! Intervals as keys: the class by its rows, and through its bound.
 
-use crate::classes::{check_query, check_split, union_through_bytes};
+use crate::asserts::same;
+use crate::classes::{check_bytes, check_calls, check_queries, check_split, union_through_bytes};
 use gx_class::{IntervalClass, KeyClass};
 use gx_geom::{Interval, Refusal};
 use gx_machine::Query;
@@ -36,35 +37,17 @@ fn bytes(rt: HostRuntime) {
     let written = [
         0xff, 0xff, 0xff, 0xff, 0xff, 0xff, 0xff, 0xfe, 0, 0, 0, 0, 0, 0, 1, 2,
     ];
-    let mut out = [7; 16];
-    IntervalClass::encode(key, &mut out);
-    assert_eq!(rt; out, written);
-    assert_eq!(rt; IntervalClass::decode(&written), Some(key));
-    assert_eq!(rt; IntervalClass::decode(&written[..15]), None);
-    assert_eq!(rt; IntervalClass::decode(&[0; 17]), None);
     let reversed = [0, 0, 0, 0, 0, 0, 0, 1, 0, 0, 0, 0, 0, 0, 0, 0];
-    assert_eq!(rt; IntervalClass::decode(&reversed), None);
+    check_bytes::<IntervalClass>(&rt, key, &written, &[&written[..15], &[0; 17], &reversed]);
 }
 
 #[test]
 fn calls(rt: HostRuntime) {
-    assert_eq!(rt;
-        (
-            IntervalClass::CLASS,
-            IntervalClass::KEY,
-            IntervalClass::start()
-        ),
-        (2, 16, Interval::point(0))
-    );
     let bound = make(&rt, 0, 10);
     let key = make(&rt, 10, 20);
-    assert_eq!(rt;
-        (
-            IntervalClass::penalty(&bound, &key),
-            IntervalClass::union(bound, key)
-        ),
-        ((10, 10), make(&rt, 0, 20))
-    );
+    let start = Interval::point(0);
+    let both = make(&rt, 0, 20);
+    check_calls::<IntervalClass>(&rt, (2, start), (bound, key), ((10, 10), both));
 }
 
 #[test]
@@ -76,47 +59,40 @@ fn intervals_by_their_bound(rt: HostRuntime) {
 
 #[test]
 fn reversed_ends_are_no_interval(rt: HostRuntime) {
-    assert_eq!(rt; Interval::new(1, 0), Err(Refusal::BadBox));
+    same(&rt, &Interval::new(1, 0), &Err(Refusal::BadBox));
 }
 
 #[test]
 fn queries(rt: HostRuntime) {
     let bound = make(&rt, 0, 10);
     let key = make(&rt, 10, 20);
-    for (query, may, does) in [
+    let queries = [
         (Query::Overlap(key), true, true),
         (Query::Within(key), true, false),
         (Query::Equal(key), false, false),
         (Query::Equal(bound), true, true),
         (Query::Within(make(&rt, -1, 11)), true, true),
         (Query::Overlap(make(&rt, 11, 12)), false, false),
-    ] {
-        check_query::<IntervalClass>(&rt, &bound, &query, (may, does));
-    }
+    ];
+    check_queries::<IntervalClass>(&rt, &bound, &queries);
 }
 
 #[test]
 fn the_longest_interval_has_a_size(rt: HostRuntime) {
     let all = make(&rt, i64::MIN, i64::MAX);
     let (growth, _size) = IntervalClass::penalty(&make(&rt, 10, 20), &all);
-    assert_eq!(rt;
-        (all.size(), growth),
-        (u64::MAX, 18_446_744_073_709_551_605)
-    );
-}
-
-fn reads(rt: &impl Abort, written: &str, text: &str) {
-    assert_eq!(rt; written, text);
+    same(&rt, &all.size(), &u64::MAX);
+    same(&rt, &growth, &18_446_744_073_709_551_605);
 }
 
 #[test]
 fn the_longest_interval_has_a_text(rt: HostRuntime) -> Result<(), Fail> {
     let all = make(&rt, i64::MIN, i64::MAX);
     let text = format!(in rt.alloc(); "{all}")?;
-    reads(
+    same(
         &rt,
-        text.as_str(),
-        "-9223372036854775808 9223372036854775807",
+        &text.as_str(),
+        &"-9223372036854775808 9223372036854775807",
     );
     Ok(())
 }

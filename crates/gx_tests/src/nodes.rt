@@ -3,6 +3,7 @@
 ghost use Rattle.std.specs.Prelude.{◌≡◌, true, length};
 ghost use Rattle.gx_node.specs.Reading.{format, is_leaf, leaf_of, is_inner, inner_of};
 
+use crate::asserts::same;
 use gx_class::{Box2Class, IntervalClass, KeyClass};
 use gx_geom::{Box2, Interval, Refusal};
 use gx_machine::Entry;
@@ -166,7 +167,8 @@ fn start(page: &mut Page, level: u16) {
 
 /// Fails unless a page has the image that is wanted. The count says which of the nodes it is.
 fn is_alike(rt: &impl Abort, page: &Page, wanted: &Page, count: u8) {
-    assert_eq!(rt; (count, page.image() == wanted.image()), (count, true));
+    let is_alike = page.image() == wanted.image();
+    same(rt, &(count, is_alike), &(count, true));
 }
 
 /// A leaf whose pairs of the numbers 0, 3, 6 and so on are marked.
@@ -311,8 +313,9 @@ fn inner_nodes(rt: HostRuntime) -> Result<(), Fail> {
 
 /// Fails unless a page is damaged, read as either kind, where 200 pages are taken.
 fn damaged<K: KeyClass>(rt: &impl Abort, page: &Page) {
-    assert_eq!(rt; Leaf::<K>::read(page).err(), Some(Refusal::Damaged));
-    assert_eq!(rt; Inner::<K>::read(page, 200).err(), Some(Refusal::Damaged));
+    let damaged = Some(Refusal::Damaged);
+    same(rt, &Leaf::<K>::read(page).err(), &damaged);
+    same(rt, &Inner::<K>::read(page, 200).err(), &damaged);
     assert!(rt; !is_node::<K>(page, 200));
 }
 

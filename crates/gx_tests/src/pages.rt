@@ -1,5 +1,6 @@
 //! Pages byte for byte: images after each edit, each fault at its boundary, and each call once.
 
+use crate::asserts::same;
 use crate::boxes::make_box;
 use crate::callers::{key_at, move_item, put_entry, redo, redo_from};
 use crate::reaches::{Reach, ReachClass};
@@ -29,7 +30,7 @@ fn block(rt: &impl Abort, parts: &[Part]) -> [u8; PAGE_SIZE] {
 
 /// Fails unless these bytes are the page's image.
 fn has_image(rt: &impl Abort, page: &Page, bytes: &[u8]) {
-    assert_eq!(rt; page.image(), bytes);
+    same(rt, &page.image(), &bytes);
 }
 
 /// Fails unless the page's image is zeros with these parts.
@@ -39,13 +40,13 @@ fn shows(rt: &impl Abort, page: &Page, parts: &[Part]) {
 
 /// Fails unless these bytes are the page's heap.
 fn has_heap(rt: &impl Abort, page: &Page, bytes: &[u8]) {
-    assert_eq!(rt; page.heap(), bytes);
+    same(rt, &page.heap(), &bytes);
 }
 
 /// Fails unless the page has so many items, and this one at the slot.
 fn holds(rt: &impl Abort, page: &Page, count: usize, slot: usize, item: &[u8]) {
     assert!(rt; page.count() == count && slot < count);
-    assert_eq!(rt; page.get(slot), item);
+    same(rt, &page.get(slot), &item);
 }
 
 /// Puts the item in. False where the page has no room.
@@ -77,7 +78,7 @@ fn change(rt: &impl Abort, page: &mut Page, slot: usize, item: &[u8]) {
 
 /// Fails unless the bytes' check gives this: the page's number, or the fault.
 fn check_gives(rt: &impl Abort, bytes: &[u8], given: Result<u32, PageFault>) {
-    assert_eq!(rt; Page::check(bytes), given);
+    same(rt, &Page::check(bytes), &given);
 }
 
 /// The empty page 2.
@@ -211,9 +212,8 @@ const CHECKS: [(usize, u8, Result<u32, PageFault>); 13] = [
 
 #[test]
 fn each_fault_at_its_boundary(rt: HostRuntime) {
-    for (at, byte, given) in CHECKS {
-        let image = entry_image(&rt, at, byte);
-        assert_eq!(rt; (at, Page::check(&image)), (at, given));
+    for (at, byte, given) in &CHECKS {
+        check_gives(&rt, &entry_image(&rt, *at, *byte), *given);
     }
     check_gives(&rt, &[0; PAGE_SIZE - 1], Err(PageFault::Size));
     check_gives(&rt, &[0; PAGE_SIZE + 1], Err(PageFault::Size));
@@ -230,20 +230,21 @@ const FAULTS: [(usize, &[u8], PageFault); 3] = [
 fn one_fault_comes_before_another(rt: HostRuntime) {
     let mut bytes = block(&rt, &FRESH);
     check_gives(&rt, &bytes, Ok(2));
-    for (at, part, fault) in FAULTS {
-        write(&rt, &mut bytes, at, part);
-        check_gives(&rt, &bytes, Err(fault));
+    for (at, part, fault) in &FAULTS {
+        write(&rt, &mut bytes, *at, part);
+        check_gives(&rt, &bytes, Err(*fault));
     }
 }
 
 /// Fails unless a load of the bytes gives this.
 fn load_gives(rt: &impl Abort, page: &mut Page, bytes: &[u8], given: Result<(), PageFault>) {
-    assert_eq!(rt; page.load(bytes), given);
+    same(rt, &page.load(bytes), &given);
 }
 
 /// Fails unless the page has this number and so many items.
 fn counts(rt: &impl Abort, page: &Page, number: u32, count: usize) {
-    assert_eq!(rt; (page.number(), page.count()), (number, count));
+    same(rt, &page.number(), &number);
+    same(rt, &page.count(), &count);
 }
 
 #[test]
@@ -269,10 +270,8 @@ const LAST: [u8; 16] = [3, 4, 5, 6, 7, 8, 9, 10, 11, 12, 13, 14, 15, 16, 17, 18]
 /// Fails unless the bytes of the page's level, and of its last three fields, count up from 1.
 fn counts_up(rt: &impl Abort, page: &Page) {
     let image = page.image();
-    assert_eq!(rt;
-        (&image[..2], &image[8..24]),
-        ([1, 2].as_slice(), LAST.as_slice())
-    );
+    same(rt, &&image[..2], &[1, 2].as_slice());
+    same(rt, &&image[8..24], &LAST.as_slice());
 }
 
 /// A page's level, sequence number, right neighbour and number.
@@ -296,7 +295,7 @@ fn each_call_once(rt: HostRuntime) -> Result<(), Fail> {
     page.set_number(0x0f10_1112);
     counts_up(&rt, &page);
     let set = (0x0102, 0x0304_0506_0708_090a, 0x0b0c_0d0e, 0x0f10_1112);
-    assert_eq!(rt; fields(&page), set);
+    same(&rt, &fields(&page), &set);
     Ok(())
 }
 
@@ -311,7 +310,8 @@ fn has_key<K: KeyClass>(rt: &impl Abort, page: &Page, key: K::Key) {
 fn move_the_only_item(rt: &impl Abort, from: &mut Page, to: &mut Page) {
     assert!(rt; (from.count(), to.count()) == (1, 1));
     let moved = move_item(from, 0, to);
-    assert_eq!(rt; (moved, from.count(), to.count()), (true, 0, 2));
+    assert!(rt; moved);
+    same(rt, &[from.count(), to.count()], &[0, 2]);
 }
 
 #[test]
@@ -332,6 +332,6 @@ fn callers_of_pages_and_classes(rt: HostRuntime) -> Result<(), Fail> {
 fn a_page_goes_to_another_thread(rt: HostRuntime) -> Result<(), Fail> {
     let page = Page::fresh(rt.alloc(), 4, 5)?;
     let (number, level) = thread::join(&rt, move || page.number(), || 4u8);
-    assert_eq!(rt; (number, level), (5, 4));
+    same(&rt, &(number, level), &(5, 4));
     Ok(())
 }

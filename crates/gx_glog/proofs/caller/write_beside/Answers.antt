@@ -1,11 +1,12 @@
 use Rattle.std.proofs.Common.{◌≡◌, ◌≤◌, ◌<◌, ◌+◌, ◌++◌, ⊎_elim, ap, List, ℕ, length, length-append, refl, arith}
 use Rattle.std.proofs.lemmas.Result.{on_ok_weaker}
 use Rattle.gx_disk.proofs.Leaving.{nothing_leaves}
+use Rattle.gx_disk.proofs.Results.{ok_both}
 use Rattle.gx_record.specs.Format.{spelling}
 use Rattle.gx_record.specs.Seen.{rec_of}
 use Rattle.gx_glog.specs.Standing.{gated_of}
 use Rattle.gx_glog.specs.State.{turning}
-use Rattle.gx_glog.proofs.Besides.{append_beside, append_fills, on_ok_both, spelled_some, batch_is_done}
+use Rattle.gx_glog.proofs.Besides.{append_beside, append_fills, spelled_some, batch_is_done}
 use Rattle.gx_glog.proofs.caller.write_beside.Goals as goal
 
 pub returns-in-At-clause-safe : goal.returns-in-At-clause-safe
@@ -28,7 +29,7 @@ returns-in-At-clause-batch g c =
     let fills = append_fills c.args.log.now _ bytes c.in-At.ensures.appends.2 ready.idle spelled in
     let some : 1 ≤ length batch = omega (arith, length-append c.args.log.now.filling bytes, spelled) in
     on_ok_weaker c.steps_round_page.result (λ both. batch_is_done gated batch c.args.first d.seen _ _ _ some both.0.0 both.0.1 both.1)
-    (on_ok_both _ _ c.steps_round_page.result (c.steps_round_page.ensures.ends fills.0 fills.1) (c.steps_round_page.ensures.beside gated batch d.seen honest begins))
+    (ok_both _ _ c.steps_round_page.result (c.steps_round_page.ensures.ends fills.0 fills.1) (c.steps_round_page.ensures.beside gated batch d.seen honest begins))
 
 pub returns-in-NoRoom-clause-safe : goal.returns-in-NoRoom-clause-safe
 returns-in-NoRoom-clause-safe g c = λ honest ready. nothing_leaves _ _
