@@ -1,0 +1,14 @@
+//! The whole index, as laws: a tree under steps, an engine as the set machine sees it, and what a log stands for, as one
+//! state with one invariant, and one law for each kind of event.
+//!
+//! The laws are public functions with empty bodies; their contracts are the laws.
+#![tactic(auto)]
+
+pub mod beginnings;
+pub mod endings;
+pub mod logged;
+pub mod looks;
+pub mod openings;
+pub mod pages;
+pub mod runs;
+pub mod writes;
