@@ -1,3 +1,4 @@
 pub mod Again
+pub mod Least
 pub mod Threes
 pub mod Turned

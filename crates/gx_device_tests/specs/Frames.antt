@@ -1,6 +1,7 @@
 -- What a caller of the frame pool leaves of three pages.
-use Rattle.std.specs.Prelude.{◌≡◌, ◌≢◌, ◌≤◌, ℕ, List, [], ◌∷◌, ◌++◌, Bool, Ok, Some}
-use Rattle.gx_disk.specs.Device.{Device}
+use Rattle.std.specs.Prelude.{◌≡◌, ◌≢◌, ◌≤◌, ◌<◌, ℕ, List, [], ◌∷◌, ◌++◌, Bool, true, false, Ok, Some}
+use Rattle.gx_disk.specs.Device.{Device, Elapses}
+use Rattle.gx_disk.specs.Sectors.{sector_of}
 use Rattle.gx_page.specs.Contents.{Contents}
 use Rattle.gx_page.specs.Format.{image_of}
 use Rattle.gx_pool.specs.Bringing.{Brings, BringsAll, OnlyRead}
@@ -8,6 +9,7 @@ use Rattle.gx_pool.specs.Creating.{Creates}
 use Rattle.gx_pool.specs.Edits.{later}
 use Rattle.gx_pool.specs.Laws.{IsBacked, shown}
 use Rattle.gx_pool.specs.State.{State, Kept, holding, kept, stamp_of}
+use Rattle.gx_pool.specs.Writing.{contents_of}
 
 -- a page has other contents, with that batch among its stamps, and no other page changed
 pub record ChangesOne (old new : State) (page batch : ℕ) (change : Contents → Contents) : Type 0 where
@@ -53,3 +55,16 @@ pub record ReadsAgain (seen now : List ℕ) (old new : State) (page nsn : ℕ) :
   pub backed : IsBacked new now
   pub changed : shown new now page ≡ record (shown old seen page) { nsn = nsn }
   pub others : (q : ℕ) → 1 ≤ q → q ≢ page → shown new now q ≡ shown old seen q
+
+-- a sector reads as before, and is settled where it was
+pub record IsLeft (d e : Device) (s : ℕ) : Type 0 where
+  pub bytes : sector_of e.seen s ≡ sector_of d.seen s
+  pub settled : d.pending s ≡ false → e.pending s ≡ false
+
+-- At most one page was written: each page has its contents, what is dirty was so with the same stamp, time went on, and of an
+-- honest device each sector ahead of the pages is as it was.
+pub record WritesLeast (d e : Device) (old new : State) : Type 0 where
+  pub contents : (page : ℕ) → contents_of (kept new page) ≡ contents_of (kept old page)
+  pub dirty : (page n : ℕ) → stamp_of (kept new page) ≡ Some n → stamp_of (kept old page) ≡ Some n
+  pub ahead : (s : ℕ) → d.honest ≡ true → s < 4168 → IsLeft d e s
+  pub time : d.honest ≡ true → Elapses d e

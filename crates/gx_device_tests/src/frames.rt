@@ -3,8 +3,8 @@
 ghost use Rattle.std.specs.Prelude.{◌≡◌, ◌≤◌, ◌++◌, ◌∷◌, [], ℕ, List, None, true, IsSome, IfOk, OnOk, OnErr};
 ghost use Rattle.gx_pool.specs.Area.{IsPage};
 ghost use Rattle.gx_pool.specs.Laws.{IsBacked};
-ghost use Rattle.gx_pool.specs.State.{kept};
-ghost use Rattle.gx_device_tests.specs.Frames.{AddsSibling, AreThree, ChangesOne, ChangesThree, LogsThree, OnlyBrings, ReadsAgain};
+ghost use Rattle.gx_pool.specs.State.{IsWritable, kept};
+ghost use Rattle.gx_device_tests.specs.Frames.{AddsSibling, AreThree, ChangesOne, ChangesThree, LogsThree, OnlyBrings, ReadsAgain, WritesLeast};
 
 use gx_disk::SectorDisk;
 use gx_pool::{PAGES, PageTest, Pool, PoolFault};
@@ -120,4 +120,22 @@ pub fn change_and_read_again<T: PageTest, D: SectorDisk>(
     pool.bring(disk, &[other])?;
     pool.bring(disk, &[page])?;
     Ok(pool.page(page).nsn())
+}
+
+/// Has the least page written that may be, if there is one; answers whether there was one. Whatever comes of it, no sector ahead
+/// of the pages changes, so a log there is as it was.
+pub fn write_least<T: PageTest, D: SectorDisk>(
+    pool: &mut Pool<T>,
+    disk: &mut D,
+) -> Result<bool, PoolFault>
+    requires pages { (page : ℕ) → IsWritable pool.old.frames page → IsPage (D.state disk.old).sectors page }
+    ensures { WritesLeast (D.state disk.old) (D.state disk.new) pool.old.frames pool.new.frames }
+{
+    match pool.dirty() {
+        Some(page) => {
+            pool.write_page(disk, page)?;
+            Ok(true)
+        }
+        None => Ok(false),
+    }
 }

@@ -18,3 +18,8 @@ pub mod AlikeTrees
 pub mod Stepping
 pub mod FreshIndex
 pub mod Joins
+pub mod Numbered
+pub mod Undoing
+pub mod Opened
+pub mod Restarts
+pub mod Images

@@ -5,3 +5,4 @@ pub mod Working
 pub mod Whole
 pub mod Happening
 pub mod Alike
+pub mod Openings

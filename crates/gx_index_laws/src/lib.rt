@@ -8,6 +8,7 @@ pub mod beginnings;
 pub mod endings;
 pub mod logged;
 pub mod looks;
+pub mod openings;
 pub mod pages;
 pub mod runs;
 pub mod writes;

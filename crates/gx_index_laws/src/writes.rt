@@ -1,4 +1,5 @@
-//! Writes: one record each, which may come, and the event that they are.
+//! Writes: one record each, which may come, and the event that they are. What a record says of its leaf is the whole of its
+//! content, or a small change of it that fits what the log gives.
 ghost use Rattle.std.specs.Prelude.{◌≡◌, ◌<◌, ℕ, Bool, true, false, not, ◌&&◌, Some, None, List};
 ghost use Rattle.gx_machine.specs.declared.entry.Entry.{Entry};
 ghost use Rattle.gx_machine.specs.declared.call.Call.TheVariants.{Insert, Delete};

@@ -1,5 +1,7 @@
 -- What a page's write leaves of frames and device.
-use Rattle.std.proofs.Common.{◌≡◌, ◌∙◌, sym, ap, refl, subst, ℕ, ◌+◌, ◌/◌, List, length, true, Option, Some, None, Result, Ok, Err, OnErr, arith, length-set}
+use Rattle.std.proofs.Common.{◌≡◌, ◌≢◌, ◌∙◌, sym, ap, refl, subst, inl, inr, ℕ, ◌+◌, ◌/◌, List, length, true, Option, Some, None, Result, Ok, Err, OnErr, arith, length-set}
+use Rattle.std.proofs.Math.Decide.{ℕ_discrete}
+use Rattle.std.proofs.lemmas.Option.{none-some}
 use Rattle.gx_disk.specs.Device.{Device, Counts, Writes}
 use Rattle.gx_disk.specs.declared.device.DiskFault.{DiskFault}
 use Rattle.gx_page.specs.Format.{image_of}
@@ -8,9 +10,9 @@ use Rattle.gx_pool.specs.declared.fault.PoolFault.{PoolFault}
 use Rattle.gx_pool.specs.declared.fault.PoolFault.TheVariants.{Device as DeviceFault}
 use Rattle.gx_pool.specs.Area.{first_of}
 use Rattle.gx_pool.specs.Bringing.{HasImage, faults_of}
-use Rattle.gx_pool.specs.State.{State, Kept, IsSound, place_of, kept, frame_at}
+use Rattle.gx_pool.specs.State.{State, Kept, IsSound, place_of, kept, frame_at, stamp_of}
 use Rattle.gx_pool.specs.Edits.{stamped}
-use Rattle.gx_pool.specs.Writing.{WritesPage}
+use Rattle.gx_pool.specs.Writing.{WritesPage, WritesAtMost, contents_of}
 use Rattle.gx_pool.proofs.Places.{kept_some, stamped_kept, stamped_other}
 
 page_or : Option Kept → Kept → Kept
@@ -75,3 +77,57 @@ wrote_err d e s t page i k bytes why fault at is new image whole back size count
 pub write_counted : {A : Type 0} → (d e : Device) (result : Result A PoolFault) → Counts 1 d e result → OnErr result (result ≡ Err DeviceFault) → e.faults ≡ d.faults + faults_of result
 write_counted d e (Ok a) counts fault = omega (arith, counts.faults)
 write_counted {A = A} d e (Err why) counts fault = counts.faults ∙ ap {A = Result A PoolFault} (λ r. d.faults + faults_of r) (sym fault)
+
+-- ---- at most a page is written
+
+-- the written page has its contents, and is clean
+cleaned_contents : (old new : State) (page q : ℕ) (k : Kept) → kept old page ≡ Some k → kept new page ≡ Some (record { page = k.page; stamp = None }) → ((r : ℕ) → r ≢ page → kept new r ≡ kept old r)
+    → contents_of (kept new q) ≡ contents_of (kept old q)
+cleaned_contents old new page q k is now others = elim (ℕ_discrete q page) [
+  | yes e ↦ ap (λ n. contents_of (kept new n)) e ∙ ap contents_of now ∙ sym (ap contents_of is) ∙ ap (λ n. contents_of (kept old n)) (sym e)
+  | no ne ↦ ap contents_of (others q ne)
+]
+
+cleaned_dirty : (old new : State) (page q n : ℕ) (k : Kept) → kept new page ≡ Some (record { page = k.page; stamp = None }) → ((r : ℕ) → r ≢ page → kept new r ≡ kept old r)
+    → stamp_of (kept new q) ≡ Some n → stamp_of (kept old q) ≡ Some n
+cleaned_dirty old new page q n k now others is = elim (ℕ_discrete q page) [
+  | yes e ↦ absurd (none-some n (sym (ap stamp_of now) ∙ ap (λ r. stamp_of (kept new r)) (sym e) ∙ is))
+  | no ne ↦ ap stamp_of (sym (others q ne)) ∙ is
+]
+
+pub write_at_most : {A E : Type 0} → (d e : Device) (old new : State) (page : ℕ) (k : Kept) (result : Result A E) → kept old page ≡ Some k → WritesPage d e old new page k result → WritesAtMost d e old new page
+write_at_most d e old new page k (Ok a) is wrote = record {
+  touches = λ honest. (wrote.writes honest).touches;
+  time = λ honest. (wrote.writes honest).time;
+  calls = inr wrote.counts.calls;
+  others = wrote.others;
+  contents = λ q. cleaned_contents old new page q k is wrote.clean wrote.others;
+  dirty = λ q n. cleaned_dirty old new page q n k wrote.clean wrote.others;
+  held = wrote.held;
+  gated = wrote.gated;
+  frames = wrote.frames;
+}
+write_at_most d e old new page k (Err why) is wrote = record {
+  touches = λ honest. (wrote.writes honest).touches;
+  time = λ honest. (wrote.writes honest).time;
+  calls = inr wrote.counts.calls;
+  others = wrote.others;
+  contents = λ q. ap (λ s. contents_of (kept s q)) wrote.failed;
+  dirty = λ q n dirty. ap (λ s. stamp_of (kept s q)) (sym wrote.failed) ∙ dirty;
+  held = wrote.held;
+  gated = wrote.gated;
+  frames = wrote.frames;
+}
+
+pub rest_at_most : (d : Device) (s : State) (page : ℕ) → WritesAtMost d d s s page
+rest_at_most d s page = record {
+  touches = λ honest. record { size = refl; bytes = λ s out. refl; settled = λ s out was. was };
+  time = λ honest. record { later = omega arith; only = λ t image le left. inl left; keeps = λ t image le left. left };
+  calls = inl refl;
+  others = λ q ne. refl;
+  contents = λ q. refl;
+  dirty = λ q n is. is;
+  held = refl;
+  gated = refl;
+  frames = refl;
+}

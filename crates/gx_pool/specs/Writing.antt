@@ -1,11 +1,12 @@
 -- What a page's write leaves.
-use Rattle.std.specs.Prelude.{◌≡◌, ◌≢◌, ◌≤◌, ℕ, length, true, Some, None, Result, OnOk, OnErr}
-use Rattle.gx_disk.specs.Device.{Device, Counts, Writes}
+use Rattle.std.specs.Prelude.{◌≡◌, ◌≢◌, ◌⊎◌, ◌≤◌, ◌+◌, ℕ, length, true, Some, None, Option, Result, OnOk, OnErr}
+use Rattle.gx_disk.specs.Device.{Device, Counts, Elapses, Touches, Writes}
+use Rattle.gx_page.specs.Contents.{Contents}
 use Rattle.gx_page.specs.Format.{image_of}
 use Rattle.gx_pool.specs.Area.{first_of}
 use Rattle.gx_pool.specs.Bringing.{HasImage}
 use Rattle.gx_pool.specs.Laws.{IsBacked, shown}
-use Rattle.gx_pool.specs.State.{State, Kept, kept}
+use Rattle.gx_pool.specs.State.{State, Kept, kept, stamp_of}
 
 -- A kept page was written to its sectors, as the image that reads back as it. Where that succeeded, it is clean; where it
 -- failed, all is kept as it was.
@@ -25,3 +26,21 @@ pub record WritesPage {A E : Type 0} (d e : Device) (old new : State) (page : �
 pub record KeepsShown (d e : Device) (old new : State) : Type 0 where
   pub backed : IsBacked new e.seen
   pub shown : (page : ℕ) → 1 ≤ page → shown new e.seen page ≡ shown old d.seen page
+
+abbrev pub contents_of : Option Kept → Option Contents
+contents_of None = None
+contents_of (Some k) = Some k.page
+
+-- At most a page was written, whether that succeeded, failed, or wasn't to be done. Of an honest device only the page's eight
+-- sectors may read otherwise, or be pending where they were settled, and time went on; at most one call was made. Each other
+-- page is kept as it was, and this one with the same contents. What is dirty was so, with the same stamp.
+pub record WritesAtMost (d e : Device) (old new : State) (page : ℕ) : Type 0 where
+  pub touches : d.honest ≡ true → Touches (first_of page) 8 d e
+  pub time : d.honest ≡ true → Elapses d e
+  pub calls : (e.calls ≡ d.calls) ⊎ (e.calls ≡ d.calls + 1)
+  pub others : (q : ℕ) → q ≢ page → kept new q ≡ kept old q
+  pub contents : (q : ℕ) → contents_of (kept new q) ≡ contents_of (kept old q)
+  pub dirty : (q n : ℕ) → stamp_of (kept new q) ≡ Some n → stamp_of (kept old q) ≡ Some n
+  pub held : new.held ≡ old.held
+  pub gated : new.gated ≡ old.gated
+  pub frames : length new.marks ≡ length old.marks

@@ -9,7 +9,7 @@ ghost use Rattle.gx_pool.specs.State.{State, Kept, IsEmpty, IsSound, NoneDirty, 
 ghost use Rattle.gx_pool.specs.Creating.{Creates};
 ghost use Rattle.gx_pool.specs.Gated.{IsAreaSettled, KeepsArea, NamesGated};
 ghost use Rattle.gx_pool.specs.Laws.{IsBacked, IsPassed};
-ghost use Rattle.gx_pool.specs.Writing.{WritesPage, KeepsShown};
+ghost use Rattle.gx_pool.specs.Writing.{WritesPage, WritesAtMost, KeepsShown};
 ghost use Rattle.gx_pool.specs.Bringing.{Brings, BringsOne, ComesAlone, HasImage, OnlyRead, faults_of, BringsAll};
 
 use crate::area::{PAGES, first_sector};
@@ -197,7 +197,8 @@ impl<T: PageTest> Pool<T> {
     /// Writes a page to its sectors, where it has changes and all of them are in gated batches; else nothing is done. Once
     /// it is written it is clean, and its frame may go to another page.
     ///
-    /// Whether it succeeds or not, no sector of another page changes. So where the sectors of all pages but some are settled,
+    /// Whether it succeeds or not, no sector but the page's eight changes, each other page is kept as it was, and what is dirty
+    /// was so with the same stamp. So where the sectors of all pages but some are settled,
     /// and the pages that may be written are among those, a crash at any moment of the call leaves each other page's bytes.
     ///
     /// Whether it succeeds or not, each page is shown as before, where each clean page is what an honest device has: as its
@@ -209,6 +210,7 @@ impl<T: PageTest> Pool<T> {
         ensures idle { is_gated self.old.frames.gated (stamp_of (kept self.old.frames page)) ≡ false → (result ≡ Ok tt) × (self.new ≡ self.old) × (disk.new ≡ disk.old) }
         ensures written { (k : Kept) → kept self.old.frames page ≡ Some k → is_gated self.old.frames.gated k.stamp ≡ true → WritesPage (D.state disk.old) (D.state disk.new) self.old.frames self.new.frames page k result }
         ensures area { (named : ℕ → Bool) → (D.state disk.old).honest ≡ true → NamesGated named self.old.frames → IsAreaSettled named (D.state disk.old) → KeepsArea named (D.state disk.old) (D.state disk.new) }
+        ensures at_most { WritesAtMost (D.state disk.old) (D.state disk.new) self.old.frames self.new.frames page }
         ensures shown { (D.state disk.old).honest ≡ true → IsBacked self.old.frames (D.state disk.old).seen → KeepsShown (D.state disk.old) (D.state disk.new) self.old.frames self.new.frames }
         ensures device { ((D.state disk.new).sectors ≡ (D.state disk.old).sectors) × ((D.state disk.new).honest ≡ (D.state disk.old).honest) }
         ensures faults { (D.state disk.new).faults ≡ (D.state disk.old).faults + faults_of result }

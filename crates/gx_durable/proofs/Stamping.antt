@@ -1,0 +1,116 @@
+-- The stamps of a pool over a step of the log.
+use Rattle.std.proofs.Common.{◌≡◌, ◌∙◌, sym, ap, refl, subst, inl, inr, ℕ, ◌+◌, ◌-◌, List, [], ◌∷◌, ◌++◌, length, Option, None, Some, Result, Ok, Err, append_assoc, arith}
+use Rattle.std.proofs.lemmas.List.{append-nil}
+use Rattle.gx_geom.specs.declared.refusal.Refusal.{Refusal}
+use Rattle.gx_glog.specs.declared.stage.Stage.{Stage}
+use Rattle.gx_glog.specs.declared.stage.Stage.TheVariants.{Body, BodySync, Gate, GateSync, Idle}
+use Rattle.gx_glog.specs.State.{Log, in_flight, begun, after, Made, GoesFrom}
+use Rattle.gx_pool.specs.State.{State, kept, kept_at, place_of, stamp_of}
+use Rattle.gx_recovery.specs.Records.{Record}
+use Rattle.gx_recovery.specs.Logged.{Logged, all_records, gate_synced}
+use Rattle.gx_recovery.specs.Logged as logged
+use Rattle.gx_durable.specs.Area.{is_given}
+use Rattle.gx_durable.specs.Stamps.{Stamped, AllSaid}
+use Rattle.gx_durable.specs.Steps.{with_batch, stepped, told, told_frames}
+use Rattle.gx_durable.proofs.Moving.{given_more}
+
+pub told_at : (stage : Stage) (used : ℕ) (new : Log) (frames frames' : State) → frames' ≡ told stage used frames → used ≡ new.used → frames' ≡ told_frames (Ok stage) new frames
+told_at stage used new frames frames' is same = is ∙ ap (λ n. told stage n frames) same
+
+kept_there : (s : State) (n : ℕ) (o : Option ℕ) → kept_at (record s { gated = n }) o ≡ kept_at s o
+kept_there s n None = refl
+kept_there s n (Some i) = refl
+
+-- a pool that is told keeps its pages
+pub told_kept : (s : State) (n p : ℕ) → kept (record s { gated = n }) p ≡ kept s p
+unfolding kept
+told_kept s n p = kept_there s n (place_of s p)
+
+told_stamp : (s : State) (n p place : ℕ) → stamp_of (kept (record s { gated = n }) p) ≡ Some place → stamp_of (kept s p) ≡ Some place
+told_stamp s n p place is = sym (ap stamp_of (told_kept s n p)) ∙ is
+
+module _ {E P : Type 0} (frames : State) where
+  -- all records are those of before
+  begun_records : (s : Logged E P) → s.flight ≡ [] → all_records (logged.begun s) ≡ all_records s
+  begun_records s none =
+      ap (λ (x : List (Record E P)). s.gated ++ x) (append-nil s.filling) ∙ sym (ap (λ (x : List (Record E P)). s.gated ++ (x ++ s.filling)) none)
+
+  begun_said : (s : Logged E P) → s.flight ≡ [] → AllSaid frames s → AllSaid frames (logged.begun s)
+  begun_said s none said p place is = ap (λ (x : List (Record E P)). is_given x p) (begun_records s none) ∙ said p place is
+
+  begun_stamped : (old : Log) (s : Logged E P) → s.flight ≡ [] → Stamped old frames s → AllSaid frames s → Stamped (begun old) frames (logged.begun s)
+  begun_stamped old s none stamped said = record {
+    behind = stamped.behind;
+    places = omega (arith, stamped.places);
+    gated = stamped.gated;
+    flight = λ p place is less. sym (ap (λ (x : List (Record E P)). is_given (s.gated ++ (x ++ s.filling)) p) none) ∙ said p place is;
+  }
+
+  synced_said : (s : Logged E P) (n : ℕ) → AllSaid frames s → AllSaid (record frames { gated = n }) (gate_synced s)
+  synced_said s n said p place is = ap (λ (x : List (Record E P)). is_given x p) (append_assoc s.gated s.flight s.filling) ∙ said p place (told_stamp frames n p place is)
+
+  synced_stamped : (due : Log) (s : Logged E P) → due.used ≡ due.gated + 1 → Stamped due frames s
+      → Stamped (record due { gated = due.used; stage = Idle; flight = [] }) (record frames { gated = due.used - 1 }) (gate_synced s)
+  synced_stamped due s places stamped = record {
+    behind = omega (arith, places);
+    places = omega arith;
+    gated = λ p place is less. stamped.flight p place (told_stamp frames (due.used - 1) p place is) less;
+    flight = λ p place is less. given_more (s.gated ++ s.flight) [] p (stamped.flight p place (told_stamp frames (due.used - 1) p place is) less);
+  }
+
+  -- a log with another stage
+  staged : (due : Log) (stage : Stage) (s : Logged E P) → Stamped due frames s → Stamped (record due { stage = stage }) frames s
+  staged due stage s stamped = record { behind = stamped.behind; places = stamped.places; gated = stamped.gated; flight = stamped.flight }
+
+  by_stage : (due : Log) (stage : Stage) (s : Logged E P) → stage ≡ due.stage → in_flight due.stage ≡ 1 → due.used ≡ due.gated + 1 → Stamped due frames s
+      → Stamped (after stage due) (told_frames (Ok stage) (after stage due) frames) (stepped (Ok stage) s)
+  by_stage due Idle s is flying places stamped = stamped
+  by_stage due Body s is flying places stamped = staged due BodySync s stamped
+  by_stage due BodySync s is flying places stamped = staged due Gate s stamped
+  by_stage due Gate s is flying places stamped = staged due GateSync s stamped
+  by_stage due GateSync s is flying places stamped = synced_stamped due s places stamped
+
+  made_stamped : (due new : Log) (result : Result Stage Refusal) (s : Logged E P) → Made due new result → in_flight due.stage ≡ 1 → due.used ≡ due.gated + 1 → Stamped due frames s
+      → Stamped new (told_frames result new frames) (stepped result s)
+  made_stamped due new (Ok stage) s made flying places stamped =
+      let L : Log → Type 0 = λ x. Stamped x (told_frames (Ok stage) x frames) (stepped (Ok stage) s) in
+      let goes : new ≡ after stage due = made.1 ∙ ap (λ t. after t due) (sym made.0) in
+      subst L (sym goes) (by_stage due stage s made.0 flying places stamped)
+  made_stamped due new (Err refusal) s made flying places stamped = let L : Log → Type 0 = λ x. Stamped x frames s in subst L (sym made.1) stamped
+
+  result_said : (result : Result Stage Refusal) (new : Log) (s : Logged E P) → AllSaid frames s → AllSaid (told_frames result new frames) (stepped result s)
+  result_said (Ok Idle) new s said = said
+  result_said (Ok Body) new s said = said
+  result_said (Ok BodySync) new s said = said
+  result_said (Ok Gate) new s said = said
+  result_said (Ok GateSync) new s said = synced_said s (new.used - 1) said
+  result_said (Err refusal) new s said = said
+
+  module _ (old new : Log) (s : Logged E P) (stamped : Stamped old frames s) (said : AllSaid frames s) (none : old.stage ≡ Idle → s.flight ≡ []) (places : old.used ≡ old.gated + in_flight old.stage) where
+    pub step_said : (stage : Stage) (filling : List ℕ) (result : Result Stage Refusal) → stage ≡ old.stage → AllSaid (told_frames result new frames) (stepped result (with_batch stage filling s))
+    step_said Idle [] result is = result_said result new s said
+    step_said Idle (byte ∷ bytes) result is = result_said result new (logged.begun s) (begun_said s (none (sym is)) said)
+    step_said Body filling result is = result_said result new s said
+    step_said BodySync filling result is = result_said result new s said
+    step_said Gate filling result is = result_said result new s said
+    step_said GateSync filling result is = result_said result new s said
+
+    pub step_stamped : (stage : Stage) (filling : List ℕ) (result : Result Stage Refusal) → stage ≡ old.stage → filling ≡ old.filling → GoesFrom stage old new result
+        → Stamped new (told_frames result new frames) (stepped result (with_batch stage filling s))
+    step_stamped Idle [] result is fills (inl (nothing, idle, same)) =
+        let R : Result Stage Refusal → Type 0 = λ x. Stamped new (told_frames x new frames) (stepped x s) in
+        let L : Log → Type 0 = λ x. Stamped x frames s in
+        subst R (sym idle) (subst L (sym same) stamped)
+    step_stamped Idle [] result is fills (inr (some, made)) = absurd (let nothing : 0 ≡ length old.filling = ap length fills in omega arith)
+    step_stamped Idle (byte ∷ bytes) result is fills (inl (nothing, idle, same)) = absurd (let never : byte ∷ bytes ≡ [] = fills ∙ nothing in cc)
+    step_stamped Idle (byte ∷ bytes) result is fills (inr (some, made)) =
+        let rests : in_flight Idle ≡ in_flight old.stage = ap in_flight is in
+        made_stamped (begun old) new result (logged.begun s) made refl (omega (arith, places, rests)) (begun_stamped old s (none (sym is)) stamped said)
+    step_stamped Body filling result is fills made =
+        let flies : in_flight Body ≡ in_flight old.stage = ap in_flight is in made_stamped old new result s made (sym flies) (omega (arith, places, flies)) stamped
+    step_stamped BodySync filling result is fills made =
+        let flies : in_flight BodySync ≡ in_flight old.stage = ap in_flight is in made_stamped old new result s made (sym flies) (omega (arith, places, flies)) stamped
+    step_stamped Gate filling result is fills made =
+        let flies : in_flight Gate ≡ in_flight old.stage = ap in_flight is in made_stamped old new result s made (sym flies) (omega (arith, places, flies)) stamped
+    step_stamped GateSync filling result is fills made =
+        let flies : in_flight GateSync ≡ in_flight old.stage = ap in_flight is in made_stamped old new result s made (sym flies) (omega (arith, places, flies)) stamped

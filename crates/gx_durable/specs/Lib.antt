@@ -1,0 +1,15 @@
+pub mod Area
+pub mod Beginning
+pub mod Bodies
+pub mod Calls
+pub mod Joining
+pub mod Laws
+pub mod Opening
+pub mod Pages
+pub mod PoolLaws
+pub mod Spelled
+pub mod Stamps
+pub mod Standing
+pub mod Steps
+pub mod Stored
+pub mod Turns

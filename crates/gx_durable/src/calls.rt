@@ -1,0 +1,82 @@
+//! The calls of a log and a pool, each with what it makes of the state that the device carries.
+ghost use Rattle.std.specs.Prelude.{◌≡◌, ◌<◌, ◌≤◌, true, OnOk, IfErr};
+ghost use Rattle.gx_disk.specs.Device.{Counts, IsSettled};
+ghost use Rattle.gx_record.specs.Format.{IsInRange, spelling};
+ghost use Rattle.gx_record.specs.Seen.{rec_of};
+ghost use Rattle.gx_glog.specs.Appending.{Appends};
+ghost use Rattle.gx_glog.specs.State.{calls_of, Goes};
+ghost use Rattle.gx_recovery.specs.Known.{Limits};
+ghost use Rattle.gx_durable.specs.Steps.{told, told_frames};
+ghost use Rattle.gx_durable.specs.PoolLaws.{StaysUp};
+ghost use Rattle.gx_durable.specs.Calls.{AppendStaysUp, AppendStaysStamped, StepKeepsRunning};
+
+use crate::Spelled;
+use gx_disk::SectorDisk;
+use gx_geom::Refusal;
+use gx_glog::{Appended, Glog, Stage};
+use gx_pool::{PageTest, Pool};
+use gx_record::Record;
+
+/// Puts a record that may come into the log's filling buffer, and answers the place of its batch. Nothing is written to the
+/// device. `NoRoom` where the log has none for it; nothing then changes.
+pub fn append<M: Spelled>(log: &mut Glog, logged: &Record<'_>) -> Appended
+    requires in_range { IsInRange (rec_of logged.now) }
+    requires place { log.old.used < 32 }
+    ensures appends { Appends (spelling (rec_of logged.now)) log.old log.new result }
+    ensures up { (d : Limits) → AppendStaysUp (M.known d) M.reading (rec_of logged.now) log.old log.new result }
+    ensures stamped { AppendStaysStamped M.reading (rec_of logged.now) log.old log.new result }
+{
+    log.append(logged)
+}
+
+// Tells the pool of the last batch, where its gate was synced.
+fn tell<T: PageTest>(pool: &mut Pool<T>, stage: Stage, used: u8)
+    ensures frames { pool.new.frames ≡ told stage used pool.old.frames }
+    ensures test { pool.new.test ≡ pool.old.test }
+{
+    match stage {
+        Stage::GateSync => pool.gated(u64::from(used).saturating_sub(1)),
+        Stage::Body | Stage::BodySync | Stage::Gate | Stage::Idle => {}
+    }
+}
+
+/// Makes the log's next device call, and tells the pool of a batch whose gate is synced. Answers which call it was, and Idle
+/// where nothing is logged and none was made. Refused where the device call fails (`Device`); it is then still due.
+///
+/// Of an honest device: the batch that filled is in flight from its first call on, and its commits are durable from its gate's
+/// sync on, and not before. Whether it succeeds or not, no set changes, and at each moment what a crash may leave stands for a
+/// kept set of the state before.
+pub fn log_step<M: Spelled, T: PageTest, D: SectorDisk>(
+    log: &mut Glog,
+    pool: &mut Pool<T>,
+    disk: &mut D,
+) -> Result<Stage, Refusal>
+    requires { 4168 ≤ (D.state disk.old).sectors }
+    ensures counts { Counts (calls_of result) (D.state disk.old) (D.state disk.new) result }
+    ensures goes { Goes log.old log.new result }
+    ensures told { pool.new.frames ≡ told_frames result log.new pool.old.frames }
+    ensures test { pool.new.test ≡ pool.old.test }
+    ensures runs { (d : Limits) → StepKeepsRunning (M.known d) M.reading log.old log.new pool.old.frames pool.new.frames (D.state disk.old) (D.state disk.new) result }
+{
+    match log.log_step(disk) {
+        Ok(stage) => {
+            tell(pool, stage, log.used());
+            Ok(stage)
+        }
+        Err(refusal) => Err(refusal),
+    }
+}
+
+/// Settles all that was written. Whether it succeeds or not, the log stays up, and at each moment what a crash may leave stands
+/// for a kept set. Refused where the device call fails (`Device`).
+pub fn sync<M: Spelled, D: SectorDisk>(disk: &mut D) -> Result<(), Refusal>
+    ensures counts { Counts 1 (D.state disk.old) (D.state disk.new) result }
+    ensures settled { (D.state disk.old).honest ≡ true → OnOk result (IsSettled (D.state disk.new)) }
+    ensures up { (d : Limits) → StaysUp (M.known d) M.reading (D.state disk.old) (D.state disk.new) }
+    ensures refusal { IfErr result (λ refusal. refusal ≡ Refusal.Device) }
+{
+    match disk.sync() {
+        Ok(()) => Ok(()),
+        Err(_) => Err(Refusal::Device),
+    }
+}

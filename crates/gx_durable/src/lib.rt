@@ -1,0 +1,20 @@
+//! From bytes to the committed set: what a crash leaves on a device that has a log and a pool of pages, said of its bytes and of
+//! the calls that write them.
+//!
+//! What a log stands for and why a crash leaves a kept set is told of lists of records and of pages; log and pool are told of
+//! buffers and of sectors. Here they are tied.
+#![tactic(auto)]
+
+ghost use Rattle.gx_durable.specs.Spelled.{Reading};
+
+use gx_recovery::Meaning;
+
+pub mod calls;
+pub mod laws;
+pub mod pages;
+pub mod turn;
+
+/// Entries and pages that stand in bytes: how a key is read as an entry, and an image as a page's content.
+pub trait Spelled: Meaning {
+    ghost reading: { Reading Self.Entry Self.Page };
+}

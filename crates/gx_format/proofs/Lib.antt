@@ -1,0 +1,7 @@
+pub mod Keeping
+pub mod LaidDown
+pub mod Phases
+pub mod Refusing
+pub mod Roots
+pub mod Running
+pub mod Wrote

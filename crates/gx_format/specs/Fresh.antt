@@ -1,0 +1,37 @@
+-- The bytes of a fresh index on a device.
+use Rattle.std.specs.Prelude.{◌≡◌, ℕ, ◌≤◌, ◌<◌, List, [], ◌∷◌, ◌++◌, take, replicate}
+use Rattle.gx_disk.specs.Sectors.{sector_of, span_of}
+use Rattle.gx_page.specs.Contents.{Contents}
+use Rattle.gx_page.specs.Edits.{blank}
+use Rattle.gx_page.specs.Format.{image_of}
+use Rattle.gx_glog.specs.First.{HasFirstLog}
+use Rattle.gx_glog.specs.Parameters.{parameters_bytes}
+use Rattle.gx_glog.specs.declared.parameters.Parameters.{Parameters}
+use Rattle.gx_tree_laws.specs.Trees.{Child}
+use Rattle.gx_node.specs.Entries.{child_bytes}
+
+-- the eight letters GISTRT01
+abbrev pub magic_bytes : List ℕ
+magic_bytes = 0x47 ∷ 0x49 ∷ 0x53 ∷ 0x54 ∷ 0x52 ∷ 0x54 ∷ 0x30 ∷ 0x31 ∷ []
+
+-- it is told to be an index by the first eight bytes: no other byte of sector 0 is read
+abbrev pub HasMagic : List ℕ → Type 0
+HasMagic image = take 8 (sector_of image 0) ≡ magic_bytes
+
+-- page 1 of a fresh tree: a root of level 1, whose one entry has the class's start key and names page 2
+abbrev pub fresh_root : {B : Type 0} → (B → List ℕ) → B → Contents
+fresh_root {B} spelling start =
+    (let child : Child B = record { key = start; page = 2 } in record { level = 1; nsn = 0; right = 0; number = 1; items = child_bytes spelling child ∷ [] })
+
+-- Beyond sector 0 the bytes are a fresh index's: its parameters, the first log, no gate open in extent B, the root, and an empty leaf.
+pub record IsLaid (parameters : Parameters) (root : Contents) (seen : List ℕ) : Type 0 where
+  pub told : sector_of seen 1 ≡ parameters_bytes parameters ++ replicate 504 0
+  pub log : HasFirstLog seen
+  pub closed : (s : ℕ) → 2088 ≤ s → s < 2120 → sector_of seen s ≡ replicate 512 0
+  pub page_1 : span_of seen 4168 4096 ≡ image_of root
+  pub page_2 : span_of seen 4176 4096 ≡ image_of (blank 0 2)
+
+-- the bytes are a fresh index
+pub record IsFresh (parameters : Parameters) (root : Contents) (seen : List ℕ) : Type 0 where
+  pub magic : HasMagic seen
+  pub laid : IsLaid parameters root seen

@@ -1,0 +1,4 @@
+pub mod Calls
+pub mod Formatting
+pub mod Fresh
+pub mod Laws

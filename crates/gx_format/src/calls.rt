@@ -1,0 +1,30 @@
+//! The calls that a format makes of the device, each by name.
+ghost use Rattle.std.specs.Prelude.{◌≡◌, ◌∷◌, ◌*◌, ℕ, [], length};
+ghost use Rattle.gx_disk.specs.Sectors.{IsSpan};
+ghost use Rattle.gx_format.specs.Calls.{Runs, Write, Sync};
+
+use gx_disk::SectorDisk;
+use gx_geom::Refusal;
+
+/// Writes whole sectors.
+pub(crate) fn write<D: SectorDisk>(disk: &mut D, first: u64, bytes: &[u8]) -> Result<(), Refusal>
+    requires { IsSpan (D.state disk.old).sectors first (length bytes.now) }
+    ensures sectors { (D.state disk.new).sectors ≡ (D.state disk.old).sectors }
+    ensures runs { (n : ℕ) → length bytes.now ≡ 512 * n → Runs D.state (Write first n bytes.now ∷ []) disk.old disk.new result }
+{
+    match disk.write(first, bytes) {
+        Ok(()) => Ok(()),
+        Err(_) => Err(Refusal::Device),
+    }
+}
+
+/// Settles what was written.
+pub(crate) fn settle<D: SectorDisk>(disk: &mut D) -> Result<(), Refusal>
+    ensures sectors { (D.state disk.new).sectors ≡ (D.state disk.old).sectors }
+    ensures runs { Runs D.state (Sync ∷ []) disk.old disk.new result }
+{
+    match disk.sync() {
+        Ok(()) => Ok(()),
+        Err(_) => Err(Refusal::Device),
+    }
+}
