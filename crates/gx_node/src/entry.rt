@@ -90,6 +90,14 @@ pub(crate) fn child_of<K: KeyClass>(item: &[u8]) -> (K::Key, u32)
     (key, u32_of(page))
 }
 
+/// The page of a child of which these are the bytes.
+pub(crate) fn page_of<K: KeyClass>(item: &[u8]) -> u32
+    requires { length item.now ≡ K.KEY + 4 }
+    ensures { result ≡ (child_of (format K.KEY K.reading K.start_key) item.now).page }
+{
+    u32_of(item.split_at(K::KEY).1)
+}
+
 /// Writes a pair's bytes over `out`, which has room for just these.
 pub(crate) fn write_pair<K: KeyClass>(row: u64, key: K::Key, marked: bool, out: &mut [u8])
     requires { length out.old ≡ K.KEY + 9 }

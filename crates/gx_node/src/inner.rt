@@ -1,13 +1,14 @@
 //! Inner nodes in place.
 ghost use Rattle.std.specs.Prelude.{◌≡◌, ◌↔◌, ℕ, ◌<◌, ◌≤◌, true, map, length, slice_index_or, IsOk, IfOk, IfErr, Some, slice_get};
 ghost use Rattle.std.specs.List.{IsFirstBest};
+ghost use Rattle.gx_tree_laws.specs.Trees.{Child};
 ghost use Rattle.gx_node.specs.Entries.{HoldsChildren};
 ghost use Rattle.gx_node.specs.Hits.{IsNextHit, costs_less};
 ghost use Rattle.gx_node.specs.Reading.{format, is_inner, inner_of};
 ghost use Rattle.gx_node.specs.Seen.{child_seen};
 
 use crate::check::are_children;
-use crate::entry::{CHILD_TAIL, child_of};
+use crate::entry::{CHILD_TAIL, child_of, page_of};
 use crate::scan::{costs_less, next_passing};
 use gx_class::{KeyClass, Probing};
 use gx_geom::Refusal;
@@ -96,6 +97,15 @@ impl<'a, K: KeyClass> Inner<'a, K> {
         ensures { slice_get self.now.children slot ≡ Some (child_seen result) }
     {
         child_of::<K>(self.page.get(slot))
+    }
+
+    /// The page of a slot's child, whose bound isn't decoded.
+    #[tactic(auto, using(crate::proofs::Slots::slot_get))]
+    pub fn page_of(&self, slot: usize) -> u32
+        requires { slot < length self.now.children }
+        ensures { (child : Child K.Key) → slice_get self.now.children slot ≡ Some child → result ≡ child.page }
+    {
+        page_of::<K>(self.page.get(slot))
     }
 
     /// The penalty of a key for a slot's bound.

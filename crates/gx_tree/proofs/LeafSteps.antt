@@ -12,11 +12,10 @@ use Rattle.gx_tree_laws.specs.Trees.{Pair, Child, Node, Used}
 use Rattle.gx_tree_laws.specs.Writes.{is_sweepable}
 use Rattle.gx_tree.specs.Seeking.{Seeks}
 use Rattle.gx_tree.specs.Store.{Store, node_of, node_at, tree_of, with_node}
-use Rattle.gx_tree.specs.Writing.{SetsMark, Swept}
+use Rattle.gx_tree.specs.Writing.{SetsMark}
 use Rattle.gx_tree.specs.declared.seek.Sought.TheVariants.{Here}
 use Rattle.gx_tree.proofs.Changed.{changed_only}
 use Rattle.gx_tree.proofs.Listed.{leaf_node}
-use Rattle.gx_tree.proofs.Sides.{unpassing_stay, some_side, no_side, spares_others}
 
 module _ {B : Type 0} where
   level_read : (f : Format B) (page : Contents) → (node_of f page).level ≡ page.level
@@ -55,47 +54,3 @@ module _ {B : Type 0} where
         found,
         λ x at. edited_only ready new a (slice_set (node_at ready.nodes a).pairs slot (marked_as marked x)) (node_at ready.nodes a).children there others (edited x at),
       )
-
-  -- nothing is swept
-  pub is_unswept : (claimed : Entry B → Bool) (old read : Store B) (a : ℕ) (sides : List Bool) → read ≡ old
-      → (node_at read.nodes a).level ≡ 0 → sides ≡ map (is_sweepable (λ x. claimed (entry_of x))) (node_at read.nodes a).pairs
-      → list_any (λ b. b) sides ≡ false → Swept claimed old read a false
-  is_unswept claimed old read a sides same leaf chosen none =
-      let test = is_sweepable (λ (x : Pair B). claimed (entry_of x)) in
-      subst (λ (s : Store B). Swept claimed s read a false) same (record {
-        leaf = leaf;
-        some = λ yes. cc;
-        none = λ no. (refl, no_side test (node_at read.nodes a).pairs (ap (λ bs. list_any (λ b. b) bs) (sym chosen) ∙ none));
-      })
-
-  pub is_swept : (claimed : Entry B → Bool) (old read ready new : Store B) (a : ℕ) (sides : List Bool) → read ≡ old → ready ≡ read
-      → Used (tree_of read) a → (node_at read.nodes a).level ≡ 0 → (node_at read.nodes a).children ≡ []
-      → sides ≡ map (is_sweepable (λ x. claimed (entry_of x))) (node_at read.nodes a).pairs
-      → list_any (λ b. b) sides ≡ true
-      → node_at new.nodes a ≡ node_with (node_at ready.nodes a) (node_at ready.nodes a).number (node_at ready.nodes a).right
-      (staying sides (node_at ready.nodes a).pairs) (staying sides (node_at ready.nodes a).children)
-      → new ≡ with_node ready a (node_at new.nodes a)
-      → Swept claimed old new a true
-  is_swept claimed old read ready new a sides first second used leaf childless chosen any edited others =
-      let test = is_sweepable (λ (x : Pair B). claimed (entry_of x)) in
-      let stood = node_at read.nodes a in
-      let spared = filter (spares (λ (x : Pair B). claimed (entry_of x))) stood.pairs in
-      let stays : staying sides stood.pairs ≡ spared =
-      ap (λ bs. staying bs stood.pairs) chosen
-      ∙ unpassing_stay test (spares (λ (x : Pair B). claimed (entry_of x))) (λ x. spares_others (λ y. claimed (entry_of y)) x) stood.pairs in
-      let none : staying sides stood.children ≡ stood.children = ap (λ cs. staying sides cs) childless ∙ sym childless in
-      let changed : node_at new.nodes a ≡ node_with stood stood.number stood.right spared stood.children =
-      subst (λ (s : Store B). node_at new.nodes a ≡ node_with (node_at s.nodes a) (node_at s.nodes a).number (node_at s.nodes a).right
-      (staying sides (node_at s.nodes a).pairs) (staying sides (node_at s.nodes a).children)) second edited
-      ∙ ap (λ ps. node_with stood stood.number stood.right ps (staying sides stood.children)) stays
-      ∙ ap (λ cs. node_with stood stood.number stood.right spared cs) none in
-      let rest : new ≡ with_node read a (node_at new.nodes a) =
-      subst (λ (s : Store B). new ≡ with_node s a (node_at new.nodes a)) second others in
-      subst (λ (s : Store B). Swept claimed s new a true) first (record {
-        leaf = leaf;
-        some = λ yes. (
-          record { leaf = leaf; changes = edited_only read new a spared stood.children used rest changed },
-          some_side test stood.pairs (ap (λ bs. list_any (λ b. b) bs) (sym chosen) ∙ any),
-        );
-        none = λ no. cc;
-      })

@@ -1,5 +1,7 @@
+pub mod Asked
 pub mod Changed
 pub mod Hits
+pub mod KeysKept
 pub mod Lawful
 pub mod LeafSteps
 pub mod Listed
@@ -12,6 +14,7 @@ pub mod RootSplits
 pub mod Searched
 pub mod Sides
 pub mod Splits
+pub mod Swept
 pub mod Turned
 pub mod Ways
 pub mod Widens

@@ -10,14 +10,16 @@ use Rattle.gx_tree_laws.specs.Trees.{Child, times}
 use Rattle.gx_tree.specs.Splitting.{NamesOnce}
 use Rattle.gx_tree.proofs.Hits.{next_taken, none_left, none_behind, hit_alone, hit_passes}
 
-pub named_at : {B : Type 0} (children : List (Child B)) (page slot : ℕ) (child : Child B) → slice_get children slot ≡ Some child
-    → get_or (map (λ c. c.page == page) children) slot false ≡ (child.page == page)
-named_at children page slot child at = made_at (λ c. c.page == page) children slot child false at
-
 there : {X : Type 0} (xs : List X) (k : ℕ) → k < length xs → (x : X) × (slice_get xs k ≡ Some x)
 there [] k h = absurd (omega arith)
 there (x ∷ xs) zero h = (x, refl)
 there (x ∷ xs) (suc k) h = there xs k (omega arith)
+
+pub named_at : {B : Type 0} (children : List (Child B)) (page slot n : ℕ) → slot < length children
+    → ((child : Child B) → slice_get children slot ≡ Some child → n ≡ child.page) → get_or (map (λ c. c.page == page) children) slot false ≡ (n == page)
+named_at children page slot n low is =
+    let at = there children slot low in
+    made_at (λ c. c.page == page) children slot at.0 false at.1 ∙ ap (λ m. m == page) (sym (is at.0 at.1))
 
 module _ {X : Type 0} (w : X → Bool) where
   counted : (xs : List X) → length (filter w xs) ≡ how_many w xs

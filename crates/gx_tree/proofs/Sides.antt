@@ -31,25 +31,6 @@ module _ {X : Type 0} (test : X → Bool) where
       by_side true c e rest = rest ∙ ap (λ d. cond d (x ∷ filter keeps xs) (filter keeps xs)) (sym e)
       by_side false c e rest = ap (λ ys. x ∷ ys) rest ∙ ap (λ d. cond d (x ∷ filter keeps xs) (filter keeps xs)) (sym e)
 
-  -- whether any side is true
-  pub some_side : (xs : List X) → list_any (λ b. b) (map test xs) ≡ true → 0 < how_many test xs
-  some_side [] e = cc
-  some_side (x ∷ xs) e = by_side (test x) e (some_side xs)
-    where
-      by_side : (b : Bool) → (b || list_any (λ b. b) (map test xs)) ≡ true
-          → (list_any (λ b. b) (map test xs) ≡ true → 0 < how_many test xs) → 0 < one_if b + how_many test xs
-      by_side true e rest = omega arith
-      by_side false e rest = omega (arith, rest e)
-
-  pub no_side : (xs : List X) → list_any (λ b. b) (map test xs) ≡ false → how_many test xs ≡ 0
-  no_side [] e = refl
-  no_side (x ∷ xs) e = by_side (test x) e (no_side xs)
-    where
-      by_side : (b : Bool) → (b || list_any (λ b. b) (map test xs)) ≡ false
-          → (list_any (λ b. b) (map test xs) ≡ false → how_many test xs ≡ 0) → one_if b + how_many test xs ≡ 0
-      by_side true e rest = cc
-      by_side false e rest = omega (arith, rest e)
-
 -- a sweep spares what it doesn't take
 pub spares_others : {B : Type 0} (claimed : Pair B → Bool) (x : Pair B) → spares claimed x ≡ not (is_sweepable claimed x)
 spares_others claimed x = by_marks x.marked (claimed x)

@@ -1,5 +1,5 @@
 -- The order of a look's stack doesn't matter.
-use Rattle.std.proofs.Common.{◌≡◌, ℕ, ◌<◌, ◌&&◌, ◌==◌, Bool, List, [], ◌∷◌, ◌++◌, map, filter, length, refl, ap, sym, ◌∙◌, subst, arith}
+use Rattle.std.proofs.Common.{◌≡◌, ℕ, ◌+◌, ◌<◌, ◌≤◌, ◌&&◌, ◌==◌, Bool, List, [], ◌∷◌, ◌++◌, map, filter, length, refl, ap, sym, ◌∙◌, subst, arith}
 use Rattle.std.proofs.lemmas.List.{append_assoc}
 use Rattle.gx_tree_laws.specs.Lists.{one_if, how_many}
 use Rattle.gx_tree_laws.specs.Trees.{Pair, Tree, Rules, IsLawful, Used}
@@ -7,7 +7,7 @@ use Rattle.gx_tree_laws.specs.Legal.{Legal}
 use Rattle.gx_tree_laws.specs.Reach.{Item, ahead_of, ahead, pages_ahead}
 use Rattle.gx_tree_laws.specs.Looks.{ItemFits, IsLook, LeadsTo, stacked, found_with}
 use Rattle.gx_tree_laws.proofs.Sums.{sum_over-append, each_parts, each-append}
-use Rattle.gx_tree_laws.proofs.OwnLook.{look_goes_on, pages_fall, item_used}
+use Rattle.gx_tree_laws.proofs.OwnLook.{look_goes_on, pages_fall, item_used, ahead_less}
 use Rattle.gx_tree.specs.declared.found.Found.{Found}
 use Rattle.gx_tree.specs.Found.{pair_found, pairs_found, found_at}
 use Rattle.gx_tree.specs.Looking.{beyond, below, LookStep}
@@ -85,6 +85,28 @@ module _ {K : Type 0} (r : Rules K) (t : Tree K) (legal : Legal r t) (wants : Pa
       let now : pages_ahead t after ≡ pages_ahead t (stacked t leads item rest) =
       ap (pages_ahead t) read.stack ∙ ahead_turned t (λ q. 1) rest both ∙ ap (pages_ahead t) (in_order rest item) in
       omega (arith, less, was, now)
+
+  -- whatever is counted, a step leaves at most what lay ahead, without the page that it reads
+  pub reads_less : (f : ℕ → ℕ) (before after : List Item) (old new : List (Found K)) → IsLook t wants before (pairs_found old)
+      → LookStep t wants leads before after old new → (rest : List Item) (item : Item) → before ≡ rest ++ item ∷ [] → ahead t f after + f item.page ≤ ahead t f before
+  reads_less f before after old new look step rest item is =
+      let read = step rest item is in
+      let both = beyond (t.node item.page) item ++ below t.counter leads (t.node item.page).children in
+      let begun : IsLook t wants (item ∷ rest) (pairs_found old) = turned t wants rest (item ∷ []) (pairs_found old) (subst (λ (is : List Item). IsLook t wants is (pairs_found old)) is look) in
+      let less : ahead t f (stacked t leads item rest) + f item.page ≤ ahead t f (item ∷ rest) = ahead_less r t legal leads f item rest (begun.items).0 in
+      let was : ahead t f before ≡ ahead t f (item ∷ rest) = ap (ahead t f) is ∙ ahead_turned t f rest (item ∷ []) in
+      let now : ahead t f after ≡ ahead t f (stacked t leads item rest) =
+      ap (ahead t f) read.stack ∙ ahead_turned t f rest both ∙ ap (ahead t f) (in_order rest item) in
+      omega (arith, less, was, now)
+
+  -- and the page that it reads lies ahead
+  pub lies_ahead : (f : ℕ → ℕ) (before : List Item) (found : List (Pair K)) → IsLook t wants before found
+      → (rest : List Item) (item : Item) → before ≡ rest ++ item ∷ [] → f item.page ≤ ahead t f before
+  lies_ahead f before found look rest item is =
+      let begun : IsLook t wants (item ∷ rest) found = turned t wants rest (item ∷ []) found (subst (λ (is : List Item). IsLook t wants is found) is look) in
+      let less : ahead t f (stacked t leads item rest) + f item.page ≤ ahead t f (item ∷ rest) = ahead_less r t legal leads f item rest (begun.items).0 in
+      let was : ahead t f before ≡ ahead t f (item ∷ rest) = ap (ahead t f) is ∙ ahead_turned t f rest (item ∷ []) in
+      omega (arith, less, was)
 
 -- the page that a look reads next is taken
 pub next_is_used : {K : Type 0} (t : Tree K) (wants : Pair K → Bool) (items : List Item) (found : List (Pair K)) → IsLook t wants items found

@@ -4,6 +4,7 @@ use Rattle.std.specs.Ordering.{is_eq}
 use Rattle.gx_machine.specs.Keys.{Members}
 use Rattle.gx_tree_laws.specs.Lists.{Each}
 use Rattle.gx_tree_laws.specs.Trees.{Tree, Rules, Used}
+use Rattle.gx_tree_laws.specs.Steps.{Step, Splits, SplitsRoot, Widens, Adds, Marks, Sweeps}
 
 -- what the tree's laws are told of the keys of a type, from what its trait says of them, with so many entries a node
 abbrev pub rules_of : {B : Type 0} → Members B → ℕ → Rules B
@@ -13,3 +14,12 @@ rules_of shape most = record { covers = λ a b. shape.inside b a; same = λ a b.
 pub record AreKeys {B : Type 0} (IsKey : B → Type 0) (t : Tree B) : Type 0 where
   pub pairs : (p : ℕ) → Used t p → Each (λ x. IsKey x.key) (t.node p).pairs
   pub children : (p : ℕ) → Used t p → Each (λ c. IsKey c.key) (t.node p).children
+
+-- what a step writes of keys that weren't there are keys of the class
+abbrev pub BringsKeys : {B : Type 0} → (B → Type 0) → Step B → Type 0
+BringsKeys IsKey (Splits n p sides left right) = IsKey left × IsKey right
+BringsKeys IsKey (SplitsRoot sides left right) = IsKey left × IsKey right
+BringsKeys IsKey (Widens a x coming key) = IsKey key
+BringsKeys IsKey (Adds a x) = IsKey x.key
+BringsKeys IsKey (Marks a row key mark) = Unit {0}
+BringsKeys IsKey (Sweeps a claimed) = Unit {0}

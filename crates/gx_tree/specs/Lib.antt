@@ -7,5 +7,6 @@ pub mod Owner
 pub mod Seeking
 pub mod Splitting
 pub mod Store
+pub mod Sweeping
 pub mod Wants
 pub mod Writing

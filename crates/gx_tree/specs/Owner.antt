@@ -1,5 +1,6 @@
 -- What a step leaves of its pages' owner.
-use Rattle.std.specs.Prelude.{ℕ, ◌≢◌, ◌⊎◌, Bool, true, false, List, [], ◌∷◌, ◌++◌}
+use Rattle.std.specs.Prelude.{ℕ, ◌≢◌, ◌≤◌, ◌⊎◌, Bool, true, false, List, [], ◌∷◌, ◌++◌, map}
+use Rattle.gx_tree_laws.specs.Trees.{times}
 use Rattle.gx_tree.specs.declared.fault.StepFault.{StepFault}
 use Rattle.gx_tree.specs.declared.fault.StepFault.TheVariants.{Memory, Damaged, PagesFull, Pages}
 
@@ -43,3 +44,13 @@ to_write false pages taken = Brings pages ∷ []
 -- a step that writes and was refused has asked for no more than that
 abbrev pub AsksToWrite : {P : Type 0} → (P → P → List Asking → Type 0) → List ℕ → ℕ → P → P → Type 0
 AsksToWrite asked pages taken old new = AsksAtMost asked pages old new ⊎ Asks asked (to_write true pages taken) old new
+
+-- what is asked by steps that read a page each
+abbrev pub brings : List ℕ → List Asking
+brings pages = map (λ p. Brings (p ∷ [])) pages
+
+-- steps that read a page each have read none twice
+pub record AsksEachOnce {P : Type 0} (asked : P → P → List Asking → Type 0) (old new : P) : Type 0 where
+  pub pages : List ℕ
+  pub asks : Asks asked (brings pages) old new
+  pub once : (q : ℕ) → times q pages ≤ 1

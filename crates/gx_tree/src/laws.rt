@@ -1,22 +1,23 @@
 //! What the steps come to, by the laws of trees. Each function is its contract alone.
-ghost use Rattle.std.specs.Prelude.{◌≡◌, ◌≢◌, ◌≤◌, ◌<◌, ◌∷◌, ℕ, Bool, true, List, length, slice_get, slice_set, Some, IfSome};
+ghost use Rattle.std.specs.Prelude.{◌≡◌, ◌≢◌, ◌≤◌, ◌<◌, ◌∷◌, ℕ, Bool, true, false, List, length, slice_get, slice_set, Some, IfSome};
 ghost use Rattle.gx_machine.specs.declared.entry.Entry.{Entry};
-ghost use Rattle.gx_node.specs.Edits.{bounded_by};
-ghost use Rattle.gx_tree_laws.specs.Lists.{Each};
-ghost use Rattle.gx_tree_laws.specs.Trees.{Pair, Child, Tree, Rules, IsLawful, Used, standing, is_entry};
+ghost use Rattle.gx_node.specs.Edits.{bounded_by, entry_of};
+ghost use Rattle.gx_tree_laws.specs.Lists.{Each, how_many};
+ghost use Rattle.gx_tree_laws.specs.Trees.{Pair, Child, Node, Tree, Rules, IsLawful, Used, standing, is_entry};
 ghost use Rattle.gx_tree_laws.specs.Legal.{Legal};
 ghost use Rattle.gx_tree_laws.specs.Reach.{Item, pages_ahead};
 ghost use Rattle.gx_tree_laws.specs.Looks.{IsLook, LeadsTo};
-ghost use Rattle.gx_tree_laws.specs.Steps.{ChangesOnly, EntriesCover, IsAdding, IsMarking, IsWidening};
-ghost use Rattle.gx_tree_laws.specs.Writes.{IsDescent};
+ghost use Rattle.gx_tree_laws.specs.Steps.{ChangesOnly, EntriesCover, IsAdding, IsMarking, IsStep, IsSweep, IsWidening, Step};
+ghost use Rattle.gx_tree_laws.specs.Writes.{IsDescent, is_sweepable};
 ghost use Rattle.gx_tree.specs.declared.found.Found.{Found};
 ghost use Rattle.gx_tree.specs.declared.descent.Descended.{Descended};
 ghost use Rattle.gx_tree.specs.declared.descent.Descended.TheVariants.{Down, Widened};
 ghost use Rattle.gx_tree.specs.Descending.{StepsDown, next_of};
 ghost use Rattle.gx_tree.specs.Found.{pairs_found};
-ghost use Rattle.gx_tree.specs.Keyed.{rules_of, AreKeys};
+ghost use Rattle.gx_tree.specs.Keyed.{rules_of, AreKeys, BringsKeys};
 ghost use Rattle.gx_tree.specs.Looking.{LookStep};
 ghost use Rattle.gx_tree.specs.Store.{Store, tree_of};
+ghost use Rattle.gx_tree.specs.Sweeping.{Planned, PlansSweep, TakesOut, slots_of, takes_none};
 ghost use Rattle.gx_tree.specs.Writing.{Appends, SetsMark, live};
 ghost use Rattle.gx_tree.specs.declared.seek.Sought.TheVariants.{Here};
 
@@ -125,4 +126,22 @@ pub fn marking_is_a_step<K>()
         → Each (λ x. wants x ≡ is_entry r row key x) ((tree_of old).node a).pairs
         → (slot : ℕ) (before marked : Bool) → SetsMark wants old new a marked (Here slot before)
         → IsMarking r (tree_of old) (tree_of new) a row key marked }
+{}
+
+/// What a planned sweep takes out of its leaf is the tree's step, where something goes: as many pairs go as the leaf has to
+/// sweep, and each slot is that of such a pair.
+pub fn taking_out_is_a_sweep<K>()
+    ensures sweep { (claimed : Entry K → Bool) (plan : Planned) (old new : Store K) → PlansSweep claimed ((tree_of old).node plan.page) plan
+        → TakesOut plan old new → takes_none plan ≡ false → IsSweep (tree_of old) (tree_of new) plan.page (λ x. claimed (entry_of x)) }
+    ensures size { (claimed : Entry K → Bool) (plan : Planned) (node : Node K) → PlansSweep claimed node plan
+        → length (slots_of plan) ≡ how_many (is_sweepable (λ x. claimed (entry_of x))) node.pairs }
+    ensures slots { (claimed : Entry K → Bool) (plan : Planned) (node : Node K) → PlansSweep claimed node plan
+        → (k slot : ℕ) → slice_get (slots_of plan) k ≡ Some slot
+        → (x : Pair K) × (slice_get node.pairs slot ≡ Some x) × (is_sweepable (λ y. claimed (entry_of y)) x ≡ true) }
+{}
+
+/// Keys stay keys of the class: by any step on a legal tree whose keys are, where those that it writes anew are.
+pub fn keys_stay_keys<K: KeyClass>()
+    ensures { (r : Rules K.Key) (old new : Tree K.Key) (step : Step K.Key) → Legal r old → AreKeys K.is_key old → BringsKeys K.is_key step
+        → IsStep r old step new → AreKeys K.is_key new }
 {}

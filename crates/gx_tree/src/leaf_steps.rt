@@ -1,4 +1,4 @@
-//! The steps that change one leaf.
+//! The steps that add a pair to a leaf, and that mark one.
 ghost use Rattle.std.specs.Prelude.{◌≡◌, ◌≢◌, ◌≤◌, ◌<◌, Bool, true, false, [], length, map, Some, slice_get, Err, OnOk, OnErr, IfOk, IfErr, ◌∷◌};
 ghost use Rattle.std.specs.List.{list_any};
 ghost use Rattle.gx_machine.specs.declared.entry.Entry.{Entry};
@@ -27,7 +27,7 @@ use gx_node::{Leaf, MAX_ENTRIES};
 /// Refused with `Pages` where the page could not be brought, and with `Damaged` only where it isn't a leaf that is
 /// taken.
 #[tactic(auto, using(crate::proofs::Listed::same_store))]
-fn bring_leaf<K: KeyClass, P: PagesMut<K>>(
+pub(crate) fn bring_leaf<K: KeyClass, P: PagesMut<K>>(
     pages: &mut P,
     page: u32,
 ) -> Result<usize, StepFault<P::Fault>>
@@ -57,7 +57,7 @@ fn bring_leaf<K: KeyClass, P: PagesMut<K>>(
 }
 
 /// Makes ready to change a page that is held. Refused with `Pages`.
-fn prepare_page<K: KeyClass, P: PagesMut<K>>(
+pub(crate) fn prepare_page<K: KeyClass, P: PagesMut<K>>(
     pages: &mut P,
     page: u32,
 ) -> Result<(), StepFault<P::Fault>>
@@ -149,86 +149,4 @@ pub fn set_mark_step<K: Probing, P: PagesMut<K>>(
         }
         Sought::Right(next) => Ok(Sought::Right(next)),
     }
-}
-
-/// Whether a slot's pair is marked and nobody claims it.
-fn is_unclaimed<K: KeyClass, F: Fn(Entry<K::Key>) -> bool>(
-    leaf: &Leaf<K>,
-    slot: usize,
-    claimed: &F,
-) -> bool
-    requires slot { slot < length leaf.now.pairs }
-    requires claimed { F.IsAlwaysCallable claimed.now }
-    ensures { (test : Entry K.Key → Bool) → ((entry : Entry K.Key) (answer : Bool) → F.post claimed.now entry answer → answer ≡ test entry)
-        → (x : Pair K.Key) → slice_get leaf.now.pairs slot ≡ Some x → result ≡ is_sweepable (λ x. test (entry_of x)) x }
-{
-    let (entry, marked) = leaf.entry(slot);
-    marked && !claimed(entry)
-}
-
-/// Says of each pair of a leaf whether a sweep takes it: whether it is marked and nobody claims it.
-fn choose_sides<K: KeyClass, F: Fn(Entry<K::Key>) -> bool>(
-    leaf: &Leaf<K>,
-    claimed: &F,
-    sides: &mut [bool],
-)
-    requires sides { length sides.old ≡ length leaf.now.pairs }
-    requires claimed { F.IsAlwaysCallable claimed.now }
-    ensures { (test : Entry K.Key → Bool) → ((entry : Entry K.Key) (answer : Bool) → F.post claimed.now entry answer → answer ≡ test entry)
-        → sides.new ≡ map (is_sweepable (λ x. test (entry_of x))) leaf.now.pairs }
-{
-    for slot in 0..leaf.len() {
-        sides[slot] = is_unclaimed(leaf, slot, claimed);
-    }
-}
-
-/// Whether any side is `true`.
-fn has_any(sides: &[bool]) -> bool
-    ensures { result ≡ list_any (λ side. side) sides.now }
-{
-    sides.iter().any(|side| *side)
-}
-
-/// Takes the marked pairs that nobody claims out of the leaf on a page, as pairs that were deleted by their mark are
-/// removed later (Kornacker, Mohan, Hellerstein 1997). Whether there were any; where there were none the page isn't
-/// changed.
-///
-/// Refused with `Pages` where the page could not be brought or made ready, and with `Damaged` only where it isn't a leaf
-/// that is taken, or has more than `MAX_ENTRIES` pairs. Nothing has changed then.
-pub fn sweep_step<K: KeyClass, P: PagesMut<K>, F: Fn(Entry<K::Key>) -> bool>(
-    pages: &mut P,
-    page: u32,
-    claimed: F,
-) -> Result<bool, StepFault<P::Fault>>
-    requires claimed { F.IsAlwaysCallable claimed }
-    ensures steady { P.steady pages.old → P.steady pages.new }
-    ensures since { KeepsSinceBut P.since page pages.old pages.new }
-    ensures kept { OnErr result (KeepsSince P.since pages.old pages.new) }
-    ensures asked { IfOk result (λ any. Asks P.asked (to_write any (page ∷ []) 0) pages.old pages.new) }
-    ensures tried { OnErr result (AsksToWrite P.asked (page ∷ []) 0 pages.old pages.new) }
-    ensures spared { IfOk result (λ any. any ≡ false → KeepsSince P.since pages.old pages.new) }
-    ensures why { IfErr result (IsWhy (P.why pages.old pages.new)) }
-    ensures held { OnOk result (P.held pages.new page) }
-    ensures changing { IfOk result (λ any. any ≡ true → P.changing pages.new page) }
-    ensures swept { P.steady pages.old → (test : Entry K.Key → Bool) → ((entry : Entry K.Key) (answer : Bool) → F.post claimed entry answer → answer ≡ test entry)
-        → IfOk result (Swept test (P.store pages.old) (P.store pages.new) page) }
-    ensures refused { P.steady pages.old → OnErr result (P.store pages.new ≡ P.store pages.old) }
-    ensures damaged { P.steady pages.old → result ≡ Err StepFault.Damaged → Used (tree_of (P.store pages.old)) page
-        → ((tree_of (P.store pages.old)).node page).level ≡ 0 → MAX_ENTRIES < length ((tree_of (P.store pages.old)).node page).pairs }
-    ensures memory { result ≢ Err StepFault.Memory }
-    ensures full { result ≢ Err StepFault.PagesFull }
-{
-    let count = bring_leaf(pages, page)?;
-    if count > MAX_ENTRIES {
-        return Err(StepFault::Damaged);
-    }
-    let mut all_sides = [false; MAX_ENTRIES];
-    let sides = all_sides.split_at_mut(count).0;
-    choose_sides(&Leaf::<K>::of(pages.page(page)), &claimed, sides);
-    if !has_any(sides) {
-        return Ok(false);
-    }
-    prepare_page(pages, page)?;
-    pages.change(page, KeepSide { sides });
-    Ok(true)
 }

@@ -6,7 +6,7 @@ ghost use Rattle.gx_tree_laws.specs.Trees.{Pair, Used};
 ghost use Rattle.gx_tree_laws.specs.Reach as reach;
 ghost use Rattle.gx_tree.specs.Found.{found_at};
 ghost use Rattle.gx_tree.specs.Looking.{below, beyond, LookStep, Reads};
-ghost use Rattle.gx_tree.specs.Owner.{KeepsSince, IsWhy, IsWhyLater, Brings, Asks};
+ghost use Rattle.gx_tree.specs.Owner.{AsksAtMost, KeepsSince, IsWhy, IsWhyLater, Brings, Asks};
 ghost use Rattle.gx_tree.specs.Store.{node_of, tree_of, Stays};
 ghost use Rattle.gx_tree.specs.Wants.{has_row, wants};
 
@@ -92,7 +92,7 @@ fn descend<K: Probing>(
         let Some(hit) = inner.next_hit(&wanted.bounds, slot) else {
             return Ok(());
         };
-        stack.push(Item::new(inner.child(hit).1, counter))?;
+        stack.push(Item::new(inner.page_of(hit), counter))?;
         slot = hit + 1;
     }
     Ok(())
@@ -180,6 +180,8 @@ pub fn look_step<K: Probing, P: Pages<K>>(
     ensures since { KeepsSince P.since pages.old pages.new }
     ensures asked { OnOk result ((rest : List reach.Item) (item : reach.Item) → look.old.stack.items ≡ rest ++ item ∷ []
         → Asks P.asked (Brings (item.page ∷ []) ∷ []) pages.old pages.new) }
+    ensures tried { OnErr result ((rest : List reach.Item) (item : reach.Item) → look.old.stack.items ≡ rest ++ item ∷ []
+        → AsksAtMost P.asked (item.page ∷ []) pages.old pages.new) }
     ensures why { IfErr result (IsWhy (P.why pages.old pages.new)) }
     ensures later { OnOk result (IsWhyLater P.why pages.old pages.new) }
     ensures step { OnOk result (LookStep (tree_of (P.store pages.new)) (wants K.passes wanted.now.keys wanted.now.row)

@@ -16,7 +16,7 @@ pub trait Pages<K: KeyClass> {
     /// Why pages could not be brought.
     type Fault;
 
-    /// The nodes of all pages that are taken, the counter of splits, and how many pages there are.
+    /// The nodes of all pages that are taken, as each was last shown, the counter of splits, and how many pages there are.
     ghost store: { Self → Store K.Key };
 
     /// Whether a page is held.
@@ -47,7 +47,8 @@ pub trait Pages<K: KeyClass> {
     fn counter(&self) -> u64
         ensures { result ≡ (store self.now).counter };
 
-    /// Holds these pages, four at most, and lets go what was held.
+    /// Holds these pages, four at most, and lets go what was held. On a device that lies this call, and no other, may show
+    /// other nodes than before, of as many pages.
     fn bring(&mut self, pages: &[u32]) -> Result<(), Self::Fault>
         requires few { length pages.now ≤ 4 }
         requires used { Each (Used (tree_of (store self.old))) pages.now }

@@ -34,12 +34,11 @@ pub struct Split<B> {
 }
 
 /// Whether a slot's child is on this page.
-#[tactic(auto, using(crate::proofs::Named::named_at))]
 fn is_named<K: KeyClass>(inner: &Inner<K>, page: u32, slot: usize) -> bool
     requires { slot < length inner.now.children }
     ensures { slice_index_or (map (λ c. c.page == page) inner.now.children) slot false ≡ result }
 {
-    inner.child(slot).1 == page
+    inner.page_of(slot) == page
 }
 
 /// The first slot from a slot on whose child is on this page.
@@ -206,9 +205,12 @@ fn make_split<K: KeyClass, P: PagesMut<K>>(
     ensures changing { P.changing pages.new page × P.changing pages.new parent × P.changing pages.new result.sibling }
     ensures sibling { result.sibling ≡ suc (length (P.store pages.old).nodes) }
     ensures asked { Asks P.asked [] pages.old pages.new }
+    ensures keys { K.is_key result.left × K.is_key result.right }
 {
     let sides = halves.sides();
     let (left, right) = (halves.left(), halves.right());
+    K::known(&left);
+    K::known(&right);
     let mut others = [false; MAX_ENTRIES];
     let others = &mut others[..sides.len()];
     turn(sides, others);
@@ -262,6 +264,7 @@ pub fn split_step<K: KeyClass, P: PagesMut<K>>(
     ensures held { IfOk result (λ did. IfSome did (λ split. P.held pages.new page × P.held pages.new parent × P.held pages.new split.sibling)) }
     ensures changing { IfOk result (λ did. IfSome did (λ split. P.changing pages.new page × P.changing pages.new parent × P.changing pages.new split.sibling)) }
     ensures sibling { IfOk result (λ did. IfSome did (λ split. split.sibling ≡ suc (length (P.store pages.old).nodes))) }
+    ensures keys { IfOk result (λ did. IfSome did (λ split. K.is_key split.left × K.is_key split.right)) }
     ensures apart { IfOk result (λ did. IfSome did (λ split. (page ≢ parent) × (split.sibling ≢ page) × (split.sibling ≢ parent))) }
     ensures only_full { P.steady pages.old → IfOk result (λ did. IfSome did (λ _. most ≤ size (node_at (P.store pages.old).nodes page))) }
     ensures placed { P.steady pages.old → result ≡ Err StepFault.PagesFull → ¬ HasNoPlace (rules_of K.Key.Shape most) (tree_of (P.store pages.old)) page parent }

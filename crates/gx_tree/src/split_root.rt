@@ -83,9 +83,12 @@ fn make_root_split<K: KeyClass, P: PagesMut<K>>(
     ensures changing { P.changing pages.new 1 × P.changing pages.new result.first × P.changing pages.new result.second }
     ensures asked { Asks P.asked [] pages.old pages.new }
     ensures places { (result.first ≡ suc (length (P.store pages.old).nodes)) × (result.second ≡ suc (suc (length (P.store pages.old).nodes))) }
+    ensures keys { K.is_key result.left × K.is_key result.right }
 {
     let sides = halves.sides();
     let (left, right) = (halves.left(), halves.right());
+    K::known(&left);
+    K::known(&right);
     let mut others = [false; MAX_ENTRIES];
     let others = &mut others[..sides.len()];
     turn(sides, others);
@@ -144,6 +147,7 @@ pub fn split_root_step<K: KeyClass, P: PagesMut<K>>(
     ensures held { IfOk result (λ did. P.held pages.new 1 × P.held pages.new did.first × P.held pages.new did.second) }
     ensures changing { IfOk result (λ did. P.changing pages.new 1 × P.changing pages.new did.first × P.changing pages.new did.second) }
     ensures places { IfOk result (λ did. (did.first ≡ suc (length (P.store pages.old).nodes)) × (did.second ≡ suc (suc (length (P.store pages.old).nodes)))) }
+    ensures keys { IfOk result (λ did. K.is_key did.left × K.is_key did.right) }
     ensures only_full { P.steady pages.old → OnOk result (most ≤ size (node_at (P.store pages.old).nodes 1)) }
     ensures split { P.steady pages.old → IfOk result (DidSplitRoot (rules_of K.Key.Shape most) K.sides_of (P.store pages.old) (P.store pages.new)) }
     ensures refused { P.steady pages.old → OnErr result (P.store pages.new ≡ P.store pages.old) }

@@ -6,7 +6,7 @@ ghost use Rattle.gx_tree_laws.specs.Trees.{Pair, standing};
 ghost use Rattle.gx_tree_laws.specs.Legal.{Legal};
 ghost use Rattle.gx_tree.specs.Found.{pairs_found};
 ghost use Rattle.gx_tree.specs.Keyed.{rules_of, AreKeys};
-ghost use Rattle.gx_tree.specs.Owner.{KeepsSince, IsWhy};
+ghost use Rattle.gx_tree.specs.Owner.{AsksEachOnce, KeepsSince, IsWhy};
 ghost use Rattle.gx_tree.specs.Store.{tree_of, Stays};
 
 use crate::fault::StepFault;
@@ -39,6 +39,7 @@ where
     ensures same { P.store pages.new ≡ P.store pages.old }
     ensures steady { P.steady pages.new }
     ensures since { KeepsSince P.since pages.old pages.new }
+    ensures asked { AsksEachOnce P.asked pages.old pages.new }
     ensures why { IfErr result (IsWhy (P.why pages.old pages.new)) }
     ensures damaged { result ≢ Err StepFault.Damaged }
     ensures full { result ≢ Err StepFault.PagesFull }

@@ -3,7 +3,7 @@ ghost use Rattle.std.specs.Prelude.{◌≡◌, ◌≤◌, ◌<◌, ◌+◌, ◌-
 ghost use Rattle.gx_node.specs.Reading.{format, is_node};
 ghost use Rattle.gx_tree_laws.specs.Lists.{Each};
 ghost use Rattle.gx_tree_laws.specs.Trees.{Node};
-ghost use Rattle.gx_tree.specs.Owner.{Prepares, KeepsSince, KeepsSinceBut, Asks};
+ghost use Rattle.gx_tree.specs.Owner.{Prepares, KeepsSince, KeepsSinceBut, IsWhyLater, Asks};
 ghost use Rattle.gx_tree.specs.Store.{node_of, node_at, with_node, with_page, with_split};
 
 use crate::pages::Pages;
@@ -36,7 +36,8 @@ pub trait PagesMut<K: KeyClass>: Pages<K> {
     ghost changing: { Self → ℕ → Type 0 };
 
     /// Makes ready to change these pages, which are held, and to take so many: whatever that needs is had from here on, or
-    /// the step is refused here, before it has changed anything.
+    /// the step is refused here, before it has changed anything. On a device that lies too no node is shown otherwise: a page
+    /// that is let go for this has the node that was last shown of it.
     fn prepare(&mut self, changes: &[u32], taken: u32) -> Result<(), Self::Fault>
         requires held { Each (Self.held self.old) changes.now }
         requires room { 0 < taken → length (Self.store self.old).nodes + taken ≤ (Self.store self.old).room }
@@ -47,9 +48,10 @@ pub trait PagesMut<K: KeyClass>: Pages<K> {
         ensures steady { Self.steady self.old → Self.steady self.new }
         ensures since { KeepsSince Self.since self.old self.new }
         ensures asked { Asks Self.asked (Prepares changes.now taken ∷ []) self.old self.new }
-        ensures why { IfErr result (Self.why self.old self.new) };
+        ensures why { IfErr result (Self.why self.old self.new) }
+        ensures later { OnOk result (IsWhyLater Self.why self.old self.new) };
 
-    /// Changes a page that is held and made ready, and no other.
+    /// Changes a page that is held and made ready, and no other, on a device that lies too.
     fn change<E: Edit<K>>(&mut self, page: u32, edit: E)
         requires held { Self.held self.old page }
         requires changing { changing self.old page }
@@ -63,7 +65,8 @@ pub trait PagesMut<K: KeyClass>: Pages<K> {
         ensures since { KeepsSinceBut Self.since page self.old self.new }
         ensures asked { Asks Self.asked [] self.old self.new };
 
-    /// Takes the next page: a copy of one that is held, but for the page's own number. It is held and may be changed.
+    /// Takes the next page: a copy of one that is held, but for the page's own number. It is held and may be changed. No other
+    /// page changes, on a device that lies too.
     fn take(&mut self, from: u32)
         requires held { Self.held self.old from }
         requires ready { 0 < ready self.old }

@@ -5,6 +5,7 @@ use Rattle.gx_tree.specs.Found.{pairs_found}
 use Rattle.gx_tree.specs.Owner.{KeepsSince, IsWhyLater}
 use Rattle.gx_tree.specs.Store.{tree_of}
 use Rattle.gx_tree.specs.Wants.{wants}
+use Rattle.gx_tree.proofs.Asked.{ReadsOn}
 use Rattle.gx_tree.proofs.whole.search.Given as goal
 
 abbrev pub invariant-pages : goal.invariant-pages
@@ -13,6 +14,7 @@ invariant-pages g l = record {
   steady : g.P.Pages.steady l.pages;
   goes_on : KeepsSince g.P.Pages.since l.fn.pages l.pages;
   later : IsWhyLater g.P.Pages.why l.fn.pages l.pages;
+  reads : ReadsOn g.P.Pages.asked (tree_of (g.P.Pages.store l.fn.pages)) l.fn.pages l.pages l.look.stack.items;
   look : IsLook (tree_of (g.P.Pages.store l.fn.pages)) (wants g.K.Probing.passes l.wanted.keys l.wanted.row) l.look.stack.items (pairs_found l.look.found.items);
 }
 

@@ -3,7 +3,7 @@ use Rattle.gx_machine.specs.declared.entry.Entry.{Entry}
 use Rattle.gx_node.specs.Edits.{entry_of}
 use Rattle.gx_tree_laws.specs.Writes.{is_sweepable}
 use Rattle.gx_tree.proofs.Sides.{Chosen}
-use Rattle.gx_tree.proofs.leaf_steps.choose_sides.Given as goal
+use Rattle.gx_tree.proofs.sweep.choose_sides.Given as goal
 
 abbrev pub invariant-loop-slot : goal.invariant-loop-slot
 invariant-loop-slot g l =

@@ -1,0 +1,252 @@
+//! The sweep of a leaf: what goes is told before it goes.
+ghost use Rattle.std.specs.Prelude.{◌≡◌, ◌≢◌, ◌≤◌, ◌<◌, ℕ, Bool, true, false, length, map, take, Some, slice_get, Err, OnOk, OnErr, IfOk, IfErr, ◌∷◌, []};
+ghost use Rattle.gx_machine.specs.declared.entry.Entry.{Entry};
+ghost use Rattle.gx_node.specs.Edits.{entry_of};
+ghost use Rattle.gx_node.specs.declared.items.TheConstants.{MAX_ENTRIES};
+ghost use Rattle.gx_tree_laws.specs.Trees.{Pair, Used};
+ghost use Rattle.gx_tree_laws.specs.Writes.{is_sweepable};
+ghost use Rattle.gx_tree.specs.Owner.{KeepsSince, KeepsSinceBut, IsWhy, IsWhyLater, Brings, AsksAtMost, AsksToWrite, Asks, to_write};
+ghost use Rattle.gx_tree.specs.Store.{node_at, tree_of, Stays};
+ghost use Rattle.gx_tree.specs.Sweeping.{FitsLeaf, PlansSweep, TakesOut, slots_from, slots_of, takes_none, to_take_out};
+ghost use Rattle.gx_tree.specs.Writing.{Swept};
+
+use crate::edits::KeepSide;
+use crate::fault::StepFault;
+use crate::leaf_steps::{bring_leaf, prepare_page};
+use crate::writing::PagesMut;
+use gx_class::KeyClass;
+use gx_machine::Entry;
+use gx_node::{Leaf, MAX_ENTRIES};
+use std::marker::Model;
+
+/// What a sweep takes out of a leaf: a page, and the slots of the pairs that go. So whoever makes ready for a sweep knows
+/// before it how much it changes.
+#[derive(Drop)]
+pub struct Sweep {
+    page: u32,
+    sides: [bool; MAX_ENTRIES],
+    count: usize,
+    slots: [u16; MAX_ENTRIES],
+    gone: usize,
+}
+
+impl Model for Sweep {
+    ghost use Rattle.std.specs.Prelude.{◌≡◌, ◌≤◌, take};
+    ghost use Rattle.gx_node.specs.declared.items.TheConstants.{MAX_ENTRIES};
+    ghost use Rattle.gx_tree.specs.Sweeping.{Planned, slots_from};
+
+    ghost Value = { Planned };
+
+    ghost view = { λ s. record { page = s.page; sides = take s.count s.sides } };
+
+    ghost invariant = { λ s. (s.count ≤ MAX_ENTRIES) × (s.gone ≤ MAX_ENTRIES) × (take s.gone s.slots ≡ slots_from 0 (take s.count s.sides)) };
+}
+
+impl Sweep {
+    /// A sweep of a leaf by a side for each of its pairs, `true` for those that go.
+    fn new(page: u32, sides: [bool; MAX_ENTRIES], count: usize) -> Sweep
+        requires { count ≤ MAX_ENTRIES }
+        ensures { result ≡ record { page = page; sides = take count sides } }
+    {
+        let mut slots = [0; MAX_ENTRIES];
+        let gone = list_slots(&sides[..count], &mut slots);
+        Sweep {
+            page,
+            sides,
+            count,
+            slots,
+            gone,
+        }
+    }
+
+    /// The leaf's page.
+    pub fn page(&self) -> u32
+        ensures { result ≡ self.now.page }
+    {
+        self.page
+    }
+
+    /// The slots of the pairs that go, rising.
+    pub fn slots(&self) -> &[u16]
+        ensures { result.now ≡ slots_of self.now }
+    {
+        &self.slots[..self.gone]
+    }
+
+    /// Whether no pair goes.
+    pub fn is_empty(&self) -> bool
+        ensures { result ≡ takes_none self.now }
+    {
+        self.slots().is_empty()
+    }
+
+    /// The side of each pair, `true` for those that go.
+    fn sides(&self) -> &[bool]
+        ensures { result.now ≡ self.now.sides }
+    {
+        &self.sides[..self.count]
+    }
+}
+
+/// Writes the slots whose side is `true` over the first of `slots`, rising, and says how many they are.
+fn list_slots(sides: &[bool], slots: &mut [u16]) -> usize
+    requires few { length sides.now ≤ MAX_ENTRIES }
+    requires space { MAX_ENTRIES ≤ length slots.old }
+    ensures few { result ≤ length sides.now }
+    ensures listed { take result slots.new ≡ slots_from 0 sides.now }
+{
+    let mut gone = 0;
+    for slot in 0..sides.len() {
+        if sides[slot] {
+            slots[gone] = slot as u16;
+            gone += 1;
+        }
+    }
+    gone
+}
+
+/// Whether a slot's pair is marked and nobody claims it.
+fn is_unclaimed<K: KeyClass, F: Fn(Entry<K::Key>) -> bool>(
+    leaf: &Leaf<K>,
+    slot: usize,
+    claimed: &F,
+) -> bool
+    requires slot { slot < length leaf.now.pairs }
+    requires claimed { F.IsAlwaysCallable claimed.now }
+    ensures { (test : Entry K.Key → Bool) → ((entry : Entry K.Key) (answer : Bool) → F.post claimed.now entry answer → answer ≡ test entry)
+        → (x : Pair K.Key) → slice_get leaf.now.pairs slot ≡ Some x → result ≡ is_sweepable (λ x. test (entry_of x)) x }
+{
+    let (entry, marked) = leaf.entry(slot);
+    marked && !claimed(entry)
+}
+
+/// Says of each pair of a leaf whether a sweep takes it: whether it is marked and nobody claims it.
+fn choose_sides<K: KeyClass, F: Fn(Entry<K::Key>) -> bool>(
+    leaf: &Leaf<K>,
+    claimed: &F,
+    sides: &mut [bool],
+)
+    requires sides { length sides.old ≡ length leaf.now.pairs }
+    requires claimed { F.IsAlwaysCallable claimed.now }
+    ensures { (test : Entry K.Key → Bool) → ((entry : Entry K.Key) (answer : Bool) → F.post claimed.now entry answer → answer ≡ test entry)
+        → sides.new ≡ map (is_sweepable (λ x. test (entry_of x))) leaf.now.pairs }
+{
+    for slot in 0..leaf.len() {
+        sides[slot] = is_unclaimed(leaf, slot, claimed);
+    }
+}
+
+/// Brings the leaf on a page, and says which of its pairs a sweep takes out: those that are marked and that nobody claims.
+/// Nothing changes.
+///
+/// Refused with `Pages` where the page could not be brought, and with `Damaged` only where it isn't a leaf that is taken,
+/// or has more than `MAX_ENTRIES` pairs.
+pub fn plan_sweep<K: KeyClass, P: PagesMut<K>, F: Fn(Entry<K::Key>) -> bool>(
+    pages: &mut P,
+    page: u32,
+    claimed: F,
+) -> Result<Sweep, StepFault<P::Fault>>
+    requires claimed { F.IsAlwaysCallable claimed }
+    ensures same { P.steady pages.old → P.store pages.new ≡ P.store pages.old }
+    ensures steady { P.steady pages.old → P.steady pages.new }
+    ensures since { KeepsSince P.since pages.old pages.new }
+    ensures asked { OnOk result (Asks P.asked (Brings (page ∷ []) ∷ []) pages.old pages.new) }
+    ensures tried { OnErr result (AsksAtMost P.asked (page ∷ []) pages.old pages.new) }
+    ensures why { IfErr result (IsWhy (P.why pages.old pages.new)) }
+    ensures later { OnOk result (IsWhyLater P.why pages.old pages.new) }
+    ensures held { OnOk result (P.held pages.new page × Used (tree_of (P.store pages.new)) page) }
+    ensures page { IfOk result (λ sweep. sweep.page ≡ page) }
+    ensures fits { IfOk result (λ sweep. FitsLeaf sweep ((tree_of (P.store pages.new)).node page)) }
+    ensures plans { (test : Entry K.Key → Bool) → ((entry : Entry K.Key) (answer : Bool) → F.post claimed entry answer → answer ≡ test entry)
+        → IfOk result (PlansSweep test ((tree_of (P.store pages.new)).node page)) }
+    ensures damaged { result ≡ Err StepFault.Damaged → Used (tree_of (P.store pages.new)) page
+        → ((tree_of (P.store pages.new)).node page).level ≡ 0 → MAX_ENTRIES < length ((tree_of (P.store pages.new)).node page).pairs }
+    ensures memory { result ≢ Err StepFault.Memory }
+    ensures full { result ≢ Err StepFault.PagesFull }
+{
+    let count = bring_leaf(pages, page)?;
+    if count > MAX_ENTRIES {
+        return Err(StepFault::Damaged);
+    }
+    let mut sides = [false; MAX_ENTRIES];
+    choose_sides(
+        &Leaf::<K>::of(pages.page(page)),
+        &claimed,
+        &mut sides[..count],
+    );
+    Ok(Sweep::new(page, sides, count))
+}
+
+/// Takes the pairs of a sweep out of its leaf, which is held and still as it was planned. Where the sweep is empty nothing
+/// changes, and nothing is made ready.
+///
+/// Refused with `Pages` where what the change needs could not be had. Nothing has changed then.
+pub fn make_sweep<K: KeyClass, P: PagesMut<K>>(
+    pages: &mut P,
+    sweep: &Sweep,
+) -> Result<(), StepFault<P::Fault>>
+    requires held { P.held pages.old sweep.now.page × Used (tree_of (P.store pages.old)) sweep.now.page }
+    requires fits { FitsLeaf sweep.now ((tree_of (P.store pages.old)).node sweep.now.page) }
+    ensures steady { P.steady pages.old → P.steady pages.new }
+    ensures since { KeepsSinceBut P.since sweep.now.page pages.old pages.new }
+    ensures kept { OnErr result (KeepsSince P.since pages.old pages.new) }
+    ensures spared { takes_none sweep.now ≡ true → KeepsSince P.since pages.old pages.new }
+    ensures asked { Asks P.asked (to_take_out (takes_none sweep.now) sweep.now.page) pages.old pages.new }
+    ensures why { IfErr result (IsWhy (P.why pages.old pages.new)) }
+    ensures held { P.held pages.new sweep.now.page }
+    ensures changing { OnOk result (takes_none sweep.now ≡ false → P.changing pages.new sweep.now.page) }
+    ensures takes { OnOk result (TakesOut sweep.now (P.store pages.old) (P.store pages.new)) }
+    ensures refused { OnErr result (P.store pages.new ≡ P.store pages.old) }
+    ensures damaged { result ≢ Err StepFault.Damaged }
+    ensures memory { result ≢ Err StepFault.Memory }
+    ensures full { result ≢ Err StepFault.PagesFull }
+{
+    if sweep.is_empty() {
+        return Ok(());
+    }
+    prepare_page(pages, sweep.page())?;
+    pages.change(
+        sweep.page(),
+        KeepSide {
+            sides: sweep.sides(),
+        },
+    );
+    Ok(())
+}
+
+/// Takes the marked pairs that nobody claims out of the leaf on a page, as pairs that were deleted by their mark are
+/// removed later (Kornacker, Mohan, Hellerstein 1997). Whether there were any; where there were none the page isn't
+/// changed.
+///
+/// Refused with `Pages` where the page could not be brought or made ready, and with `Damaged` only where it isn't a leaf
+/// that is taken, or has more than `MAX_ENTRIES` pairs. Nothing has changed then.
+pub fn sweep_step<K: KeyClass, P: PagesMut<K>, F: Fn(Entry<K::Key>) -> bool>(
+    pages: &mut P,
+    page: u32,
+    claimed: F,
+) -> Result<bool, StepFault<P::Fault>>
+    requires claimed { F.IsAlwaysCallable claimed }
+    ensures steady { P.steady pages.old → P.steady pages.new }
+    ensures since { KeepsSinceBut P.since page pages.old pages.new }
+    ensures kept { OnErr result (KeepsSince P.since pages.old pages.new) }
+    ensures asked { IfOk result (λ any. Asks P.asked (to_write any (page ∷ []) 0) pages.old pages.new) }
+    ensures tried { OnErr result (AsksToWrite P.asked (page ∷ []) 0 pages.old pages.new) }
+    ensures spared { IfOk result (λ any. any ≡ false → KeepsSince P.since pages.old pages.new) }
+    ensures why { IfErr result (IsWhy (P.why pages.old pages.new)) }
+    ensures held { OnOk result (P.held pages.new page) }
+    ensures changing { IfOk result (λ any. any ≡ true → P.changing pages.new page) }
+    ensures swept { P.steady pages.old → (test : Entry K.Key → Bool) → ((entry : Entry K.Key) (answer : Bool) → F.post claimed entry answer → answer ≡ test entry)
+        → IfOk result (Swept test (P.store pages.old) (P.store pages.new) page) }
+    ensures refused { P.steady pages.old → OnErr result (P.store pages.new ≡ P.store pages.old) }
+    ensures damaged { P.steady pages.old → result ≡ Err StepFault.Damaged → Used (tree_of (P.store pages.old)) page
+        → ((tree_of (P.store pages.old)).node page).level ≡ 0 → MAX_ENTRIES < length ((tree_of (P.store pages.old)).node page).pairs }
+    ensures memory { result ≢ Err StepFault.Memory }
+    ensures full { result ≢ Err StepFault.PagesFull }
+{
+    let sweep = plan_sweep(pages, page, claimed)?;
+    if sweep.is_empty() {
+        return Ok(false);
+    }
+    make_sweep(pages, &sweep)?;
+    Ok(true)
+}
