@@ -1,5 +1,5 @@
 //! How far an unanswered call still is from its end: a number below 2^40, which each of its own moves lowers.
-ghost use Rattle.std.specs.Prelude.{◌≡◌, ◌≤◌, ◌<◌, ◌^◌, ℕ, Bool, true, false, Some, List, [], ◌∷◌};
+ghost use Rattle.std.specs.Prelude.{◌≡◌, ◌≢◌, ◌≤◌, ◌<◌, ◌^◌, ℕ, Bool, true, false, Some, None, List, [], ◌∷◌};
 ghost use Rattle.gx_machine.specs.declared.entry.Entry.{Entry};
 ghost use Rattle.gx_machine.specs.declared.call.Call.{Call};
 ghost use Rattle.gx_machine.specs.declared.call.Call.TheVariants.{Commit};
@@ -7,7 +7,7 @@ ghost use Rattle.gx_machine.specs.Sessions.{Locks};
 ghost use Rattle.gx_machine.specs.Sets.{has};
 ghost use Rattle.gx_tree_laws.specs.Lists.{how_many};
 ghost use Rattle.gx_tree_laws.specs.Trees.{Pair, Used, size, child_pages, times};
-ghost use Rattle.gx_tree_laws.specs.Steps.{IsSplit, IsRootSplit, IsWidening, IsSweep, Step, IsStep};
+ghost use Rattle.gx_tree_laws.specs.Steps.{IsSplit, IsRootSplit, IsWidening, IsAdding, IsMarking, IsSweep, Step, IsStep};
 ghost use Rattle.gx_tree_laws.specs.Reach.{Item};
 ghost use Rattle.gx_tree_laws.specs.Looks.{from_root, stacked};
 ghost use Rattle.gx_tree_laws.specs.Writes.{is_sweepable, must_restart};
@@ -20,7 +20,7 @@ ghost use Rattle.gx_index_laws.specs.Classes.{Class, Page, IsLawful, is_of, know
 ghost use Rattle.gx_index_laws.specs.Steps.{IsPageStep};
 ghost use Rattle.gx_index_laws.specs.States.{State, Rests, Looks, Descends, Seeks, tree_now};
 ghost use Rattle.gx_index_laws.specs.Whole.{IsWhole};
-ghost use Rattle.gx_index_laws.specs.Happening.{with_record, with_work, with_restored};
+ghost use Rattle.gx_index_laws.specs.Happening.{with_record, with_work, slotted, with_restored};
 ghost use Rattle.gx_index_laws.specs.Measures.{claims_pair, work_left};
 ghost use Rattle.gx_index_laws.specs.Upkeep.{Upkeep, IsWithin, upkeep_left, Chore, IsChore};
 
@@ -126,4 +126,23 @@ pub fn what_is_no_sessions_leaves_no_more<B>()
 pub fn chores_come_to_an_end()
     ensures most { (u : Upkeep) → IsWithin u → upkeep_left u < 2 ^ 13 }
     ensures falls { (old new : Upkeep) (chore : Chore) → IsChore old chore new → upkeep_left new < upkeep_left old }
+{}
+
+/// What another session writes leaves a session's call no more to do: a pair that it adds, a mark that it sets or clears, an entry
+/// that it restores. What it marks it claims, so that no sweep would take it yet.
+pub fn what_others_write_leaves_no_more<B>()
+    ensures adds { (c : Class B) → IsLawful c → (old : State B) → IsWhole c old → (r : Record (Entry B) (Page B)) (s a : ℕ) → a ≢ s → (locks : Locks B)
+        (notes then_notes : List (Note B)) (call : Call B) → slot_at s old.slots ≡ Working locks notes (Some call) → (leaf : ℕ) (x : Pair B) → x.marked ≡ false
+        → IsAdding c.rules (tree_now c old) (tree_now c (with_record r old)) leaf x
+        → work_left c (slotted s (Working locks then_notes None) Rests (with_record r old)) a ≤ work_left c old a }
+    ensures marks { (c : Class B) → IsLawful c → (old : State B) → IsWhole c old → (r : Record (Entry B) (Page B)) (s a : ℕ) → a ≢ s → (locks : Locks B)
+        (notes then_notes : List (Note B)) (call : Call B) → slot_at s old.slots ≡ Working locks notes (Some call) → (leaf : ℕ) (e : Entry B) (mark : Bool)
+        → has c.keys e locks.claims ≡ true → 0 < how_many (is_of c e) ((tree_now c old).node leaf).pairs
+        → IsMarking c.rules (tree_now c old) (tree_now c (with_record r old)) leaf e.row e.key mark
+        → work_left c (slotted s (Working locks then_notes None) Rests (with_record r old)) a ≤ work_left c old a }
+    ensures undoes { (c : Class B) → IsLawful c → (old : State B) → IsWhole c old → (r : Record (Entry B) (Page B)) (s a : ℕ) → a ≢ s → (locks : Locks B)
+        (notes : List (Note B)) → slot_at s old.slots ≡ Undoing locks notes → (leaf : ℕ) (e : Entry B) (mark : Bool)
+        → has c.keys e locks.claims ≡ true → 0 < how_many (is_of c e) ((tree_now c old).node leaf).pairs
+        → IsMarking c.rules (tree_now c old) (tree_now c (with_record r old)) leaf e.row e.key mark
+        → work_left c (with_restored s e (with_record r old)) a ≤ work_left c old a }
 {}
