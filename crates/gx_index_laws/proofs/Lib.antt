@@ -29,3 +29,5 @@ pub mod Meanwhile
 pub mod Chores
 pub mod Others
 pub mod AlikeLooks
+pub mod Unfreed
+pub mod Listed

@@ -5,20 +5,21 @@ ghost use Rattle.gx_machine.specs.declared.call.Call.{Call};
 ghost use Rattle.gx_machine.specs.declared.call.Call.TheVariants.{Commit};
 ghost use Rattle.gx_machine.specs.Sessions.{Locks};
 ghost use Rattle.gx_machine.specs.Sets.{has};
+ghost use Rattle.gx_machine.specs.Machine.{is_session};
 ghost use Rattle.gx_tree_laws.specs.Lists.{how_many};
 ghost use Rattle.gx_tree_laws.specs.Trees.{Pair, Used, size, child_pages, times};
 ghost use Rattle.gx_tree_laws.specs.Steps.{IsSplit, IsRootSplit, IsWidening, IsAdding, IsMarking, IsSweep, Step, IsStep};
 ghost use Rattle.gx_tree_laws.specs.Reach.{Item};
 ghost use Rattle.gx_tree_laws.specs.Looks.{from_root, stacked};
 ghost use Rattle.gx_tree_laws.specs.Writes.{is_sweepable, must_restart};
-ghost use Rattle.gx_engine_laws.specs.Slots.{Note, Working, Undoing, Waiting, slot_at, noted};
+ghost use Rattle.gx_engine_laws.specs.Slots.{Note, Slot, Working, Undoing, Waiting, locks_held, slot_at, noted};
 ghost use Rattle.gx_recovery.specs.Records.{Record};
 ghost use Rattle.gx_recovery.specs.Logged.{begun, gate_synced, AgreesBeside};
 ghost use Rattle.gx_recovery.specs.Life.{AllWritten};
 ghost use Rattle.gx_recovery.specs.Renewal.{renewed};
 ghost use Rattle.gx_index_laws.specs.Classes.{Class, Page, IsLawful, is_of, known_of};
 ghost use Rattle.gx_index_laws.specs.Steps.{IsPageStep};
-ghost use Rattle.gx_index_laws.specs.States.{State, Rests, Looks, Descends, Seeks, tree_now};
+ghost use Rattle.gx_index_laws.specs.States.{State, Work, Rests, Looks, Descends, Seeks, tree_now};
 ghost use Rattle.gx_index_laws.specs.Whole.{IsWhole};
 ghost use Rattle.gx_index_laws.specs.Happening.{with_record, with_work, slotted, with_restored};
 ghost use Rattle.gx_index_laws.specs.Measures.{claims_pair, work_left};
@@ -119,6 +120,14 @@ pub fn what_is_no_sessions_leaves_no_more<B>()
     ensures steps { (c : Class B) → IsLawful c → (old : State B) → IsWhole c old → (r : Record (Entry B) (Page B)) (step : Step B) → IsPageStep step
         → IsStep c.rules (tree_now c old) step (tree_now c (with_record r old)) → (tree_now c (with_record r old)).used ≤ c.pages
         → (s : ℕ) → work_left c (with_record r old) s ≤ work_left c old s }
+{}
+
+/// Another session's slot and work may change in any way that frees no claim, as it asks, is answered or begins an undo: a
+/// session's call has no more to do for it.
+pub fn what_frees_no_claim_leaves_no_more<B>()
+    ensures { (c : Class B) → IsLawful c → (old : State B) (s a : ℕ) → a ≢ s → is_session s ≡ true → (slot : Slot B) (work : Work B)
+        → ((e : Entry B) → has c.keys e (locks_held (slot_at s old.slots)).claims ≡ true → has c.keys e (locks_held slot).claims ≡ true)
+        → work_left c (slotted s slot work old) a ≤ work_left c old a }
 {}
 
 /// What is to be done for the log and for frames, before a call that waits for it can go on, is below 2^13, with at most 4,096
