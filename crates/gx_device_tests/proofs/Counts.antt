@@ -1,11 +1,11 @@
 -- How many frames are clean and dirty after a change.
-use Rattle.std.proofs.Common.{◌≡◌, ◌≢◌, ◌∙◌, ◌==◌, sym, ap, refl, inl, ⊎_elim, ℕ, zero, suc, ◌+◌, ◌<◌, ◌≤◌, [], ◌∷◌, get_or, Bool, true, false, Option, Some, None, IsSome, arith}
+use Rattle.std.proofs.Common.{◌≡◌, ◌≢◌, ◌∙◌, sym, ap, refl, inl, ⊎_elim, ℕ, zero, suc, ◌+◌, ◌<◌, ◌≤◌, [], ◌∷◌, get_or, Bool, true, false, Option, Some, None, IsSome, arith}
 use Rattle.std.specs.Prelude.{is_some}
 use Rattle.gx_page.specs.Contents.{Contents}
 use Rattle.gx_pool.specs.Edits.{changed}
 use Rattle.gx_pool.specs.Marks.{is_held}
 use Rattle.gx_pool.specs.Creating.{Copies, Makes}
-use Rattle.gx_pool.specs.State.{State, Kept, IsSound, IsSpare, clean_count, dirty_count, kept}
+use Rattle.gx_pool.specs.State.{State, Kept, IsSound, IsSpare, dirty_count, kept}
 use Rattle.gx_pool.proofs.Numbers.{change_keeps_clean, change_leaves, change_raises}
 use Rattle.gx_pool.proofs.Places.{changed_other}
 use Rattle.gx_device_tests.specs.Frames.{ChangesHeld, IsCopied}

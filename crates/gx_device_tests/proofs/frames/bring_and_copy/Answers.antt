@@ -1,4 +1,4 @@
-use Rattle.std.proofs.Common.{◌∙◌, sym, ap, [], ◌∷◌, true, Some, arith}
+use Rattle.std.proofs.Common.{◌∙◌, ap, [], ◌∷◌, Some, arith}
 use Rattle.gx_pool.specs.Marks.{is_held}
 use Rattle.gx_device_tests.proofs.Counts.{copied_one, held_stays, one_held, other_not_held}
 use Rattle.gx_device_tests.proofs.Threes.{same_kept}
