@@ -257,7 +257,7 @@ fn say_look<R: Print>(rt: &R, found: Option<u64>) -> Result<(), RunFault> {
     }
 }
 
-/// A line that looks at the pool: a page's sequence number, the least page that may be written, how many are kept.
+/// A line that looks at the pool: a page's sequence number, the least page that may be written, how many are dirty or kept.
 pub(crate) fn look<R: Print>(
     rt: &R,
     pool: &Pool<Leaves>,
@@ -267,6 +267,7 @@ pub(crate) fn look<R: Print>(
     let Numbers { page, .. } = read_numbers(words)?;
     match name {
         "dirty" => say_look(rt, pool.dirty().map(|page| u64::from(page))),
+        "dirty-frames" => say_number(rt, pool.dirty_frames() as u64),
         "nsn" => say_look(rt, nsn(pool, page)),
         "kept" => say_number(rt, kept_below(pool, page)),
         _ => Err(RunFault::BadLine),

@@ -116,8 +116,8 @@ impl<T: PageTest> Pool<T> {
     }
 
     /// Brings a page into a frame, unless it is in one, and leaves what is held as it is: `page` reads it then. A clean frame
-    /// that is empty or has a leaf is used before one with a page above the leaves. Where it is
-    /// in one, or no frame is clean (empty, or with a clean page that isn't held), the device isn't called.
+    /// that is empty or has a leaf is used before one with a page above the leaves. Where the page is in one,
+    /// or no frame is clean (empty, or with a clean page that isn't held), the device isn't called.
     ///
     /// Refused with `NoCleanFrame` exactly where it isn't in a frame and no frame is clean. Else with `Device` where the
     /// device failed; then every frame is as it was. And with `Damaged` where the device has no page of that number, or one
@@ -135,7 +135,8 @@ impl<T: PageTest> Pool<T> {
     }
 
     /// Holds these pages, up to four, and lets go what was held; those that aren't kept are read. What an event uses is
-    /// brought first: then its pages can be read and changed, and none of that fails.
+    /// brought first: then its pages can be read and changed, and none of that fails. A page above the leaves goes for them only
+    /// where each leaf that might go goes too.
     ///
     /// Refused with the fault of the first page that can't be brought: `NoCleanFrame` exactly where no frame is empty or has
     /// a clean page other than these, else `Device` where the device failed, and `Damaged` where it has no page of that
