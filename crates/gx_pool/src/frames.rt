@@ -1,5 +1,5 @@
 //! Frames, and the table of which page is in which.
-ghost use Rattle.std.specs.Prelude.{◌≡◌, ◌≢◌, ◌<◌, ◌≤◌, ◌+◌, ◌*◌, ◌↔◌, ⊤, ℕ, true, false, IsTrue, IsSome, IfOk, OnOk, OnErr, IfSome, IfNone, Some, None, length, slice_index_or, nat_le, max};
+ghost use Rattle.std.specs.Prelude.{◌≡◌, ◌≢◌, ◌<◌, ◌≤◌, ◌+◌, ◌*◌, ◌↔◌, ⊤, ℕ, true, false, IsTrue, IsSome, IfOk, OnOk, OnErr, IfSome, IfNone, Some, None, length, count_by, slice_index_or, nat_le, max};
 ghost use Rattle.std.specs.Borrow.{sem};
 ghost use Rattle.std.specs.Bool.{OnTrue, OnFalse};
 ghost use Rattle.gx_page.specs.Edits.{blank};
@@ -25,25 +25,27 @@ pub struct Frames {
     held: ArrayVec<u32, HELD>,
     gated: u64,
     hand: usize,
+    dirty: usize,
 }
 
 impl Model for Frames {
-    ghost use Rattle.std.specs.Prelude.{◌≤◌, length};
+    ghost use Rattle.std.specs.Prelude.{◌≡◌, ◌≤◌, count_by, length};
+    ghost use Rattle.gx_pool.specs.Marks.{is_dirty};
     ghost use Rattle.gx_pool.specs.State.{State, IsSound};
 
     ghost Value = { State };
 
     ghost view = { λ s. record { pages = s.pages.items; marks = s.marks.items; places = s.places.items; held = s.held.items; gated = s.gated } };
 
-    ghost invariant = { λ s. IsSound (record { pages = s.pages.items; marks = s.marks.items; places = s.places.items; held = s.held.items; gated = s.gated }) × (s.hand ≤ length s.marks.items) };
+    ghost invariant = { λ s. IsSound (record { pages = s.pages.items; marks = s.marks.items; places = s.places.items; held = s.held.items; gated = s.gated }) × (s.hand ≤ length s.marks.items) × (s.dirty ≡ count_by is_dirty s.marks.items) };
 }
 
 impl Frames {
     ghost use Rattle.gx_pool.specs.Lending.{LendsPage, LendsChange};
     ghost use Rattle.gx_pool.specs.Marks.{clean, empty, is_gated};
-    ghost use Rattle.gx_pool.specs.Creating.{Creates};
-    ghost use Rattle.gx_pool.specs.State.{State, IsEmpty, IsSound, place_of, mark_at, kept, stamp_of, clean_count, NoneClean, IsWritable};
-    ghost use Rattle.gx_pool.specs.Edits.{vacated, with_page, settled, stamped};
+    ghost use Rattle.gx_pool.specs.Creating.{Creates, Copies, Makes};
+    ghost use Rattle.gx_pool.specs.State.{State, IsEmpty, IsSound, place_of, mark_at, kept, stamp_of, clean_count, dirty_count, held_clean, is_clean_page, is_counted, NoneClean, NoneDirty, IsSpare, IsWritable, NoCleanLeaf, is_upper_at};
+    ghost use Rattle.gx_pool.specs.Edits.{numbered, vacated, with_page, settled, stamped};
 
     /// So many empty frames, with the table of pages.
     #[tactic(auto, using(crate::proofs::Places::empty_sound, crate::proofs::Places::kept_none))]
@@ -58,6 +60,7 @@ impl Frames {
             held: ArrayVec::new(),
             gated: 0,
             hand: 0,
+            dirty: 0,
         })
     }
 
@@ -107,11 +110,12 @@ impl Frames {
     /// The frame for a page that comes in.
     pub(crate) fn frame_to_use(&mut self) -> Option<usize>
         ensures found { IfSome result (λ i. (i < length self.old.marks) × (clean self.old.held (mark_at self.old i) ≡ true)) }
+        ensures first { IfSome result (λ i. is_upper_at self.old i ≡ true → NoCleanLeaf self.old) }
         ensures none { IfNone result (NoneClean self.old) }
         ensures unchanged { self.new ≡ self.old }
         ensures sound { IsSound self.old }
     {
-        let found = mark::frame_to_use(&self.marks, &self.held, self.hand);
+        let found = mark::frame_to_use(&self.marks, &self.pages, &self.held, self.hand);
         if let Some(i) = found {
             self.hand = i + 1;
         }
@@ -127,7 +131,7 @@ impl Frames {
     {
         let mark = mark::mark_in(&self.marks, i);
         mark::forget(&mut self.places, mark.page);
-        self.marks[i] = Mark::empty();
+        self.dirty = mark::put(&mut self.marks, i, Mark::empty(), self.dirty);
     }
 
     /// Reads an image into an empty frame.
@@ -143,17 +147,17 @@ impl Frames {
 
     /// Gives an empty frame to a page that has none.
     #[tactic(auto, using(crate::proofs::Places::settled_sound))]
-    pub(crate) fn settle(&mut self, i: usize, page: u32, level: u16, stamp: Option<u64>)
+    pub(crate) fn settle(&mut self, i: usize, page: u32, stamp: Option<u64>)
         requires frame { (i < length self.old.marks) × ((mark_at self.old i).page ≡ None) }
         requires page { (page ≤ PAGES) × (place_of self.old page ≡ None) }
         requires number { 1 ≤ page }
-        ensures { self.new ≡ settled self.old i page level stamp }
+        ensures { self.new ≡ settled self.old i page stamp }
     {
-        self.marks[i] = Mark {
+        let mark = Mark {
             page: Some(page),
-            level,
             stamp,
         };
+        self.dirty = mark::put(&mut self.marks, i, mark, self.dirty);
         self.places[page as usize] = Some(i as u16);
     }
 
@@ -177,7 +181,51 @@ impl Frames {
             Some(i) => {
                 self.vacate(i);
                 self.reset(i, page, level);
-                self.settle(i, page, level, Some(batch));
+                self.settle(i, page, Some(batch));
+            }
+            None => unreachable!(),
+        }
+    }
+
+    /// Copies the page of one frame into another, under a number of its own.
+    #[tactic(auto, using(crate::proofs::Places::with_page_sound))]
+    fn copy(&mut self, from: usize, to: usize, number: u32)
+        requires inside { (from < length self.old.marks) × (to < length self.old.marks) }
+        requires apart { from ≢ to }
+        ensures { self.new ≡ with_page self.old to (numbered (slice_index_or self.old.pages from (blank 0 0)) number) }
+    {
+        mark::copy_page(&mut self.pages, from, to, number);
+    }
+
+    /// Gives a clean frame to a page that isn't kept: a copy of one that is and that doesn't go, under its own number, and with
+    /// a change of a batch.
+    pub(crate) fn create_as(&mut self, page: u32, from: u32, batch: u64)
+        requires page { (page ≤ PAGES) × (kept self.old page ≡ None) }
+        requires number { 1 ≤ page }
+        requires from { (from ≤ PAGES) × IsSome (kept self.old from) }
+        requires stays { ¬ IsSpare self.old from }
+        requires frame { 0 < clean_count self.old }
+        ensures { Copies self.old self.new page from batch }
+    {
+        match self.place(from) {
+            Some(source) => self.copy_frame(page, source, batch),
+            None => unreachable!(),
+        }
+    }
+
+    /// Gives a clean frame to a page that isn't kept: a copy of the page in a frame that isn't clean.
+    fn copy_frame(&mut self, page: u32, source: usize, batch: u64)
+        requires page { (page ≤ PAGES) × (kept self.old page ≡ None) }
+        requires number { 1 ≤ page }
+        requires source { (source < length self.old.marks) × (clean self.old.held (mark_at self.old source) ≡ false) }
+        requires frame { 0 < clean_count self.old }
+        ensures { Makes self.old self.new page (numbered (slice_index_or self.old.pages source (blank 0 0)) page) batch }
+    {
+        match self.frame_to_use() {
+            Some(target) => {
+                self.vacate(target);
+                self.copy(source, target, page);
+                self.settle(target, page, Some(batch));
             }
             None => unreachable!(),
         }
@@ -187,18 +235,66 @@ impl Frames {
     pub(crate) fn clean_frames(&self) -> usize
         ensures { result ≡ clean_count self.now }
     {
-        mark::clean_count(&self.marks, &self.held)
+        self.marks.len() - self.dirty - self.held_clean()
+    }
+
+    /// How many frames have a dirty page.
+    pub(crate) fn dirty_frames(&self) -> usize
+        ensures count { result ≡ dirty_count self.now }
+        ensures few { result ≤ length self.now.marks }
+        ensures zero { (result ≡ 0) ↔ NoneDirty self.now }
+        ensures sound { IsSound self.now }
+    {
+        self.dirty
+    }
+
+    /// How many of the pages that are held are kept clean, each counted once.
+    #[tactic(auto, using(crate::proofs::Numbers::next_clean, crate::proofs::Numbers::same_clean, crate::proofs::Numbers::no_clean))]
+    fn held_clean(&self) -> usize
+        ensures { result ≡ held_clean self.now (length self.now.held) }
+    {
+        let mut count = 0;
+        for k in 0..self.held.len() {
+            if self.is_counted(k) {
+                count += 1;
+            }
+        }
+        count
+    }
+
+    /// Whether one of the pages that are held is none of those before it, and is kept clean.
+    fn is_counted(&self, k: usize) -> bool
+        requires { k < length self.now.held }
+        ensures { result ≡ is_counted self.now k }
+    {
+        let page = self.held[k];
+        !mark::is_among(page, &self.held[..k]) && self.is_clean_page(page)
+    }
+
+    /// Whether a page is kept clean.
+    fn is_clean_page(&self, page: u32) -> bool
+        ensures { result ≡ is_clean_page self.now page }
+    {
+        let count = self.places.len();
+        if page as usize >= count {
+            return false;
+        }
+        match self.place(page) {
+            Some(i) => self.mark(i).stamp.is_none(),
+            None => false,
+        }
     }
 
     /// Stamps the page in a frame, or says that it is as the device has it.
     #[tactic(auto, using(crate::proofs::Places::stamped_sound))]
     pub(crate) fn stamp(&mut self, i: usize, stamp: Option<u64>)
-        requires { i < length self.old.marks }
+        requires frame { i < length self.old.marks }
+        requires page { IsSome (mark_at self.old i).page }
         ensures stamped { self.new ≡ stamped self.old i stamp }
         ensures sound { IsSound self.old }
     {
         let mark = mark::mark_in(&self.marks, i);
-        self.marks[i] = Mark { stamp, ..mark };
+        self.dirty = mark::put(&mut self.marks, i, Mark { stamp, ..mark }, self.dirty);
     }
 
     /// A page that is kept, to change, as of a batch.

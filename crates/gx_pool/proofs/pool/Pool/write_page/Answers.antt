@@ -2,10 +2,16 @@ use Rattle.std.proofs.Common.{◌∙◌, sym, ap}
 use Rattle.gx_pool.specs.Marks.{is_gated}
 use Rattle.gx_pool.specs.State.{frame_at, stamp_of}
 use Rattle.gx_pool.proofs.Gated.{rest_keeps_area, write_keeps_area}
+use Rattle.gx_pool.proofs.Readable.{write_keeps_readable}
 use Rattle.gx_pool.proofs.Writing.{rest_at_most, write_at_most, write_counted}
 use Rattle.gx_pool.proofs.Keeping.{rest_keeps_shown, write_keeps_passing, write_keeps_shown}
-use Rattle.gx_pool.proofs.Places.{kept_none, kept_some}
+use Rattle.gx_pool.proofs.Places.{gated_stamp, kept_none, kept_some, placed_gated}
 use Rattle.gx_pool.proofs.pool.Pool.write_page.Goals as goal
+
+pub write_frame-requires-clause-dirty : goal.write_frame-requires-clause-dirty
+write_frame-requires-clause-dirty g c =
+    let s = c.args.self.now.frames in
+    gated_stamp s.gated _ (sym (placed_gated s c.args.page c.in-Some.i c.in-Some.ensures.some.1) ∙ c.in-Some.ensures.some.0)
 
 pub returns-in-Some-clause-written : goal.returns-in-Some-clause-written
 returns-in-Some-clause-written g c = λ k is gated. c.write_frame.ensures.written k is
@@ -50,3 +56,8 @@ returns-in-Some-clause-at_most g c =
 
 pub returns-in-None-clause-at_most : goal.returns-in-None-clause-at_most
 returns-in-None-clause-at_most g c = rest_at_most (g.D.SectorDisk.state c.args.disk.now) c.args.self.now.frames c.args.page
+
+pub returns-in-Some-clause-readable : goal.returns-in-Some-clause-readable
+returns-in-Some-clause-readable g c = λ used honest readable.
+    let there = kept_some c.args.self.now.frames c.args.page c.in-Some.i c.in-Some.ensures.some.1 in
+    write_keeps_readable _ used (g.D.SectorDisk.state c.args.disk.now) _ c.args.self.now.frames _ c.args.page (frame_at c.args.self.now.frames c.in-Some.i) _ honest c.requires there (c.write_frame.ensures.written _ there) readable
