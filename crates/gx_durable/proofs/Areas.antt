@@ -12,13 +12,13 @@ use Rattle.gx_durable.specs.Spelled.{Reading}
 use Rattle.gx_durable.specs.Area.{area_of, HasPages, is_given, IsSettledBut}
 
 -- a page of the device lies on it
-device_page : (pages sectors p : ℕ) → HasPages pages sectors → (nat_lt 0 p && nat_le p pages) ≡ true → IsPage sectors p
+pub device_page : (pages sectors p : ℕ) → HasPages pages sectors → (nat_lt 0 p && nat_le p pages) ≡ true → IsPage sectors p
 device_page pages sectors p has is =
     let from : 0 < p = ltb-true 0 p (and_first (nat_lt 0 p) (nat_le p pages) is) in
     let to : p ≤ pages = leb-true p pages (and_second (nat_lt 0 p) (nat_le p pages) is) in
     record { from = omega arith; to = omega (arith, has.few); inside = omega (arith, has.inside) }
 
-by_test : {P : Type 0} (b : Bool) (x y z : P) → (b ≡ true → x ≡ y) → (if b then x else z) ≡ (if b then y else z)
+pub by_test : {P : Type 0} (b : Bool) (x y z : P) → (b ≡ true → x ≡ y) → (if b then x else z) ≡ (if b then y else z)
 by_test true x y z h = h refl
 by_test false x y z h = refl
 

@@ -5,10 +5,12 @@ pub mod BodyLists
 pub mod Crashes
 pub mod Images
 pub mod Joining
+pub mod Legality
 pub mod Moving
 pub mod Opening
 pub mod Paging
 pub mod Reading
+pub mod Recording
 pub mod Running
 pub mod Spellings
 pub mod Stamping

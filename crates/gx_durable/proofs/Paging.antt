@@ -1,5 +1,5 @@
 -- A page's write keeps the log up and the pool's stamps.
-use Rattle.std.proofs.Common.{◌≡◌, ◌∙◌, sym, ap, refl, subst, inl, inr, ℕ, ◌≤◌, Bool, true, List, Option, None, Some, arith}
+use Rattle.std.proofs.Common.{◌≡◌, ◌∙◌, sym, ap, refl, subst, inl, inr, ℕ, ◌≤◌, Bool, true, List, ◌++◌, Option, None, Some, arith}
 use Rattle.std.proofs.lemmas.Bool.{leb-true}
 use Rattle.gx_disk.specs.Device.{Device, Elapses, Touches}
 use Rattle.gx_glog.specs.State.{Log, turning}
@@ -8,14 +8,16 @@ use Rattle.gx_glog.proofs.Besides.{page_is_apart}
 use Rattle.gx_glog.proofs.Gates.{placed}
 use Rattle.gx_glog.proofs.Keeping.{on_kept, touched_leaves, body_kept}
 use Rattle.gx_glog.specs.Cuts.{bodies_in}
-use Rattle.gx_pool.specs.Area.{first_of}
+use Rattle.gx_pool.specs.Area.{first_of, IsPage}
 use Rattle.gx_pool.specs.Gated.{AgreesOutside, IsAreaSettled, KeepsArea, NamesGated}
 use Rattle.gx_pool.specs.Marks.{is_gated}
 use Rattle.gx_pool.specs.State.{State, kept, stamp_of}
+use Rattle.gx_pool.specs.Writing.{contents_of}
 use Rattle.gx_recovery.specs.Known.{Known, IsLawful}
 use Rattle.gx_recovery.specs.Records.{Record}
 use Rattle.gx_recovery.specs.Logged.{Logged, AgreesBeside}
 use Rattle.gx_recovery.proofs.Lives.{written_healthy, written_stays}
+use Rattle.gx_recovery.proofs.States.{redone_agrees}
 use Rattle.gx_durable.specs.Spelled.{Reading}
 use Rattle.gx_durable.specs.Bodies.{AreBodies}
 use Rattle.gx_durable.specs.Area.{area_of, HasPages, is_given}
@@ -26,6 +28,7 @@ use Rattle.gx_durable.proofs.Areas.{page_same}
 use Rattle.gx_durable.proofs.BodyLists.{bodies_same}
 use Rattle.gx_durable.proofs.Moving.{same_goes}
 use Rattle.gx_durable.proofs.Reading.{later_stamps}
+use Rattle.gx_durable.proofs.Recording.{write_stores}
 use Rattle.gx_durable.proofs.Stepping.{call_stands}
 
 -- a page that may be written has a stamp, up to the last batch that the pool was told of
@@ -73,19 +76,24 @@ module _ {E P : Type 0} (k : Known E P) (r : Reading E P) (d e : Device) (log : 
       }
 
 -- a page's write, after which what is dirty was so with the same stamp
-pub page_runs : {E P : Type 0} → (k : Known E P) (r : Reading E P) (frames frames' : State) (d e : Device) (page : ℕ) → e.sectors ≡ d.sectors → (d.honest ≡ true → Touches (first_of page) 8 d e) → (d.honest ≡ true → Elapses d e)
+pub page_runs : {E P : Type 0} (k : Known E P) (r : Reading E P) (frames frames' : State) (d e : Device) (page : ℕ) → e.sectors ≡ d.sectors → (d.honest ≡ true → Touches (first_of page) 8 d e) → (d.honest ≡ true → Elapses d e)
     → ((named : ℕ → Bool) → d.honest ≡ true → NamesGated named frames → IsAreaSettled named d → KeepsArea named d e) → frames'.gated ≡ frames.gated
-    → ((q n : ℕ) → stamp_of (kept frames' q) ≡ Some n → stamp_of (kept frames q) ≡ Some n) → PageKeepsRunning k r frames frames' d e
-page_runs k r frames frames' d e page sectors touches time area gated dirty log bodies s l honest closed runs =
+    → ((q n : ℕ) → stamp_of (kept frames' q) ≡ Some n → stamp_of (kept frames q) ≡ Some n) → IsPage d.sectors page → ((q : ℕ) → contents_of (kept frames' q) ≡ contents_of (kept frames q))
+    → (kept frames page ≡ None → e.seen ≡ d.seen) → PageKeepsRunning k r frames frames' d e
+page_runs {E} {P} k r frames frames' d e page sectors touches time area gated dirty here contents rests log bodies s l honest closed runs =
     let still : turning log.turn ≡ 0 = ap turning closed in
     let leaves = touched_leaves (first_of page) 8 d e (λ n of_log. page_is_apart (first_of page) 8 n (omega arith) of_log) (touches honest) in
     let keeps = area (is_given s.gated) honest (stamps_name log frames s runs.stamped) runs.up.carries.settled in
     let up = page_up k r d e log bodies s l still sectors leaves keeps runs.up in
     let now = rewritten r k.pages e.seen s in
-    let goes = same_goes k s now (written_stays k s runs.up.carries.healthy l (area_of r k.pages e.seen) (outside_beside k r d e log bodies s runs.up keeps.seen)) in
+    let beside = outside_beside k r d e log bodies s runs.up keeps.seen in
+    let goes = same_goes k s now (written_stays k s runs.up.carries.healthy l (area_of r k.pages e.seen) beside) in
     let stamped = later_stamps log frames frames' s gated (λ p n is. inl (dirty p n is)) runs.stamped in
     record {
       runs = record { up = up; stamped = record { behind = stamped.behind; places = stamped.places; gated = stamped.gated; flight = stamped.flight } };
       said = λ said p n is. said p n (dirty p n is);
+      stored = λ stored p.
+          write_stores r k.pages frames frames' d e page runs.up.carries.has_pages here (touches honest) contents rests p ∙ stored p
+          ∙ sym (ap (λ (area : ℕ → P). area p) (redone_agrees k l s.gated (s.flight ++ s.filling) s.area (area_of r k.pages e.seen) beside));
       safely = record { goes = goes; leaves = call_stands k l r log d e bodies s now (time honest) goes up };
     }

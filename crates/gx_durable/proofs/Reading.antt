@@ -41,7 +41,7 @@ bringing_clean passes honest seen old new place brings p stamp is = elim (brings
   ]
 ]
 
-unequal : (p q : ℕ) → p ≡ q → (p == q) ≡ false → ⊥
+pub unequal : (p q : ℕ) → p ≡ q → (p == q) ≡ false → ⊥
 unequal p q same not_so = clash (p == q) (ap (λ n. p == n) (sym same) ∙ itself p) not_so
 
 equal_or_not : (p q : ℕ) → (p ≡ q) ⊎ (p ≢ q)
@@ -84,7 +84,7 @@ change_later s page batch place contents sound least p stamp is = elim (equal_or
 ]
 
 module _ {E P : Type 0} where
-  one_more : (s : Logged E P) (r : Record E P) → all_records (appended r s) ≡ all_records s ++ r ∷ []
+  pub one_more : (s : Logged E P) (r : Record E P) → all_records (appended r s) ≡ all_records s ++ r ∷ []
   one_more s r = ap (λ (x : List (Record E P)). s.gated ++ x) (sym (append_assoc s.flight s.filling (r ∷ []))) ∙ sym (append_assoc s.gated (s.flight ++ s.filling) (r ∷ []))
 
 pub record_says : (E P : Type 0) → RecordSays E P

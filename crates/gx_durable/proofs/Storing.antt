@@ -20,7 +20,7 @@ image_again : (bytes : List ℕ) (contents : Contents) → HasImage bytes conten
 image_again bytes contents has = sym (ap image_of has.read) ∙ has.image.image
 
 -- a clean page's bytes are the device's
-clean_bytes : (frames : State) (seen : List ℕ) (p : ℕ) (o : Option Kept) → kept frames p ≡ o → stamp_of o ≡ None → IsBacked frames seen → bytes_by o (bytes_of seen p) ≡ bytes_of seen p
+pub clean_bytes : (frames : State) (seen : List ℕ) (p : ℕ) (o : Option Kept) → kept frames p ≡ o → stamp_of o ≡ None → IsBacked frames seen → bytes_by o (bytes_of seen p) ≡ bytes_of seen p
 clean_bytes frames seen p None is clean backed = refl
 clean_bytes frames seen p (Some k) is clean backed = image_again (bytes_of seen p) k.page (backed p k is clean)
 
@@ -40,7 +40,7 @@ module _ {E P : Type 0} (r : Reading E P) where
   stored_as pages frames seen p same =
       by_test (nat_lt 0 p && nat_le p pages) (r.content (bytes_by (kept frames p) (bytes_of seen p))) (r.content (bytes_of seen p)) r.no_page (ap (λ (bytes : List ℕ). r.content bytes) same)
 
-  stored_same : (pages : ℕ) (old new : State) (seen : List ℕ) (p : ℕ) → bytes_by (kept new p) (bytes_of seen p) ≡ bytes_by (kept old p) (bytes_of seen p)
+  pub stored_same : (pages : ℕ) (old new : State) (seen : List ℕ) (p : ℕ) → bytes_by (kept new p) (bytes_of seen p) ≡ bytes_by (kept old p) (bytes_of seen p)
       → stored r pages new seen p ≡ stored r pages old seen p
   unfolding stored
   stored_same pages old new seen p same =

@@ -4,6 +4,7 @@ pub mod Bodies
 pub mod Calls
 pub mod Joining
 pub mod Laws
+pub mod Legal
 pub mod Opening
 pub mod Pages
 pub mod PoolLaws

@@ -10,6 +10,7 @@ use Rattle.gx_recovery.specs.Logged.{Logged}
 use Rattle.gx_durable.specs.Spelled.{Reading}
 use Rattle.gx_durable.specs.Area.{area_of}
 use Rattle.gx_durable.specs.Stamps.{AllSaid}
+use Rattle.gx_durable.specs.Stored.{IsStored}
 use Rattle.gx_durable.specs.Calls.{Runs, GoesSafely}
 
 -- the same records over the page area that is read now
@@ -20,6 +21,7 @@ rewritten r pages seen s = record s { area = area_of r pages seen }
 pub record AfterPage {E P : Type 0} (k : Known E P) (r : Reading E P) (log : Log) (frames frames' : State) (d e : Device) (bodies : List (List (Record E P))) (s : Logged E P) : Type 0 where
   pub runs : Runs k r log frames' e bodies (rewritten r k.pages e.seen s)
   pub said : AllSaid frames s → AllSaid frames' (rewritten r k.pages e.seen s)
+  pub stored : IsStored r k.pages frames d.seen s → IsStored r k.pages frames' e.seen (rewritten r k.pages e.seen s)
   pub safely : GoesSafely k r d e s (rewritten r k.pages e.seen s)
 
 -- A page is written, while no turn is under way.

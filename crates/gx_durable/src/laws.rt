@@ -4,7 +4,8 @@ ghost use Rattle.gx_durable.specs.Beginning.{FirstIsUp, HeadsFit};
 ghost use Rattle.gx_durable.specs.Opening.{FoundIsUpToTurn, ACrashBeforeTheTurn, UpMayTurn};
 ghost use Rattle.gx_durable.specs.Joining.{CallsJoin, EachMomentStands};
 ghost use Rattle.gx_durable.specs.PoolLaws.{LaterStampsStay, CleanIsStamped, BringingIsClean, CreatingIsLater, ChangeIsLater, RecordSays, ReadsStayUp};
-ghost use Rattle.gx_durable.specs.Stored.{NothingDirtyIsWritten, BringingStoresTheSame};
+ghost use Rattle.gx_durable.specs.Legal.{WhatStandsIsLegal};
+ghost use Rattle.gx_durable.specs.Stored.{NothingDirtyIsWritten, BringingStoresTheSame, ChangingStoresOne, CreatingStoresOne, RecordingStaysStored, WriteStaysStored, PagesStayStored};
 ghost use Rattle.gx_durable.specs.Laws.{OneWay, PartsJoin, SpellingAdds, NoneAreNone, OnlyNoneAreNone, BodiesOneWay, BodyAdds, BodiesJoin, ACrashLeavesAKeptSet, StandsOfBefore};
 
 use crate::Spelled;
@@ -29,10 +30,12 @@ pub fn bodies_are_told<M: Spelled>()
 
 /// Of a device that a log is up on, whatever a crash leaves is an undamaged log over a page area that is good for it, and stands
 /// for the kept set of its own last commit, which is none before the durable one. So it does for a state before that one which
-/// had the same sets.
+/// had the same sets. Where trees are read of the pages in use, that image is legal for the log that it has: the device has its
+/// pages, its tree is sound, and what is live in that, but for what open transactions wrote, is the set.
 pub fn a_crash_leaves_a_kept_set<M: Spelled>()
     ensures kept { (d : Limits) → ACrashLeavesAKeptSet (M.known d) M.reading }
     ensures before { (d : Limits) → StandsOfBefore (M.known d) M.reading }
+    ensures legal { (d : Limits) → WhatStandsIsLegal (M.known d) M.reading }
 {}
 
 /// A pool's stamps stay places of batches where what is dirty was so before, or was changed as of the batch that fills. That is
@@ -62,10 +65,17 @@ pub fn heads_fit_a_body<M: Spelled>()
 {}
 
 /// Pages are *stored* as all records leave them: in a frame, or else on the device. What is brought changes nothing of that. Where
-/// nothing is dirty, in flight or filling, each page is written: so a turn may begin, once they are settled.
+/// nothing is dirty, in flight or filling, each page is written: so a turn may begin, once they are settled. A page that is
+/// changed or made is stored so, and each other as before; where a record gives what was changed, in that order, and is appended,
+/// each page is stored as all records leave it again.
 pub fn pages_are_stored<M: Spelled>()
     ensures written { NothingDirtyIsWritten M.reading }
     ensures brought { BringingStoresTheSame M.reading }
+    ensures changed { ChangingStoresOne M.reading }
+    ensures created { CreatingStoresOne M.reading }
+    ensures recorded { RecordingStaysStored M.reading }
+    ensures write { WriteStaysStored M.reading }
+    ensures pages { PagesStayStored M.reading }
 {}
 
 /// A log that starts behind an image's open bodies, where these are undamaged and the page area is good for them, is up to its

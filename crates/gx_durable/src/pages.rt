@@ -17,7 +17,8 @@ use gx_pool::{PageTest, Pool, PoolFault};
 /// `Device` where the device failed. The page is then kept as it was, with its changes.
 ///
 /// Of an honest device, while no turn is under way: whether it succeeds or not, the log stays up over the page area that is read
-/// now, no set changes, and at each moment what a crash may leave stands for a kept set.
+/// now, no set changes, and at each moment what a crash may leave stands for a kept set. Where each page was stored as all records
+/// leave it, it still is.
 pub fn write_page<M: Spelled, T: PageTest, D: SectorDisk>(
     pool: &mut Pool<T>,
     disk: &mut D,

@@ -23,3 +23,11 @@ pub mod Undoing
 pub mod Opened
 pub mod Restarts
 pub mod Images
+pub mod Measuring
+pub mod WorkedLife
+pub mod Meanwhile
+pub mod Chores
+pub mod Others
+pub mod AlikeLooks
+pub mod Unfreed
+pub mod Listed
