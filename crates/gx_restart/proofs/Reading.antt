@@ -2,7 +2,7 @@
 use Rattle.std.proofs.Common.{◌≡◌, ℕ, ◌+◌, ◌<◌, ◌≤◌, Bool, true, false, ◌&&◌, List, [], ◌∷◌, ◌++◌, drop, length, refl, ap, sym, ◌∙◌, subst, arith, append_assoc, length-append}
 use Rattle.std.specs.List.{AllByRecursion}
 use Rattle.std.proofs.Math.Seq.{drop-append_seam}
-use Rattle.std.specs.Prelude.{Result, Ok, Err}
+use Rattle.std.specs.Prelude.{Result, Ok, Err, Option, None, Some}
 use Rattle.std.proofs.lemmas.List.{append-nil}
 use Rattle.gx_geom.specs.declared.refusal.Refusal.{Refusal}
 use Rattle.gx_geom.specs.declared.refusal.Refusal.TheVariants.{Damaged}
@@ -17,6 +17,19 @@ use Rattle.gx_durable.specs.Spelled.{Reading, record_read, records_read, AreReco
 use Rattle.gx_analysis.specs.Kept.{Kept}
 use Rattle.gx_analysis.specs.Telling.{IsKept}
 use Rattle.gx_restart.specs.Told.{Told, LaterTold, IsRead, IsRefused, LaterBody, ReadsOn}
+
+-- a record's bytes are nine or more
+pub long_enough : (key : ℕ) (rest : List ℕ) (x : Rec) (n : ℕ) → BeginsWith key rest x n → 9 ≤ n
+long_enough key rest x n begins =
+    let long : 9 ≤ length (spelling x) = (spelling_sizes key x begins.is_record).0 in
+    let size : n ≡ length (spelling x) = begins.size in
+    omega arith
+
+abbrev pub no_record : Option (Rec × ℕ)
+no_record = None
+
+no_clash : (x : Rec × ℕ) → no_record ≡ Some x → ⊥
+no_clash x h = cc
 
 module _ {E P : Type 0} (k : Known E P) (r : Reading E P) (l : IsLawful k) where
   -- reading nothing more
@@ -129,3 +142,26 @@ module _ {E P : Type 0} (k : Known E P) (r : Reading E P) (l : IsLawful k) where
         let begun : Begun rest = begins_by rest records are.spelled are refl some in
         absurd (none begun.one begun.size begun.begins));
   }
+
+  -- the same by a key's size, as the code has it
+  key_is : (key : ℕ) → key ≡ r.key → (rest : List ℕ) (x : Rec) (n : ℕ) → BeginsWith key rest x n → BeginsWith r.key rest x n
+  key_is key is rest x n begins = subst (λ (m : ℕ). BeginsWith m rest x n) is begins
+
+  pub told_comes : (key : ℕ) → key ≡ r.key → (rest : List ℕ) (x : Rec) (n : ℕ) → BeginsWith key rest x n → (now next : Kept E) → LaterTold k r x now (Ok tt) next
+      → ReadsOn k r rest (drop n rest) now next
+  told_comes key is rest x n begins now next told = told_first rest x n (key_is key is rest x n begins) now next told
+
+  pub refused_comes : (key : ℕ) → key ≡ r.key → (rest : List ℕ) (x : Rec) (n : ℕ) → BeginsWith key rest x n → (now new : Kept E) (refusal : Refusal) → LaterTold k r x now (Err refusal) new
+      → LaterBody k r rest now (Err refusal) new
+  refused_comes key is rest x n begins now new refusal told = refused_first rest x n (key_is key is rest x n begins) now new refusal told
+
+  pub none_comes : (key : ℕ) → key ≡ r.key → (rest : List ℕ) → 0 < length rest → ((x : Rec) (n : ℕ) → BeginsWith key rest x n → no_record ≡ Some (x, n)) → (now new : Kept E)
+      → LaterBody k r rest now (Err Damaged) new
+  none_comes key is rest some none now new =
+      none_first rest (λ empty. (let zero_long : length rest ≡ 0 = ap length empty in omega arith))
+      (λ x n begins. no_clash (x, n) (none x n (subst (λ (m : ℕ). BeginsWith m rest x n) (sym is) begins))) now new
+
+  -- where nothing is left, what was read is all
+  pub all_read : (bytes rest : List ℕ) (old now : Kept E) → length rest ≡ 0 → ReadsOn k r bytes rest old now → LaterBody k r bytes old (Ok tt) now
+  all_read bytes [] old now none on = on (Ok tt) now (nothing_left now)
+  all_read bytes (x ∷ rest) old now none on = absurd (omega arith)

@@ -5,7 +5,7 @@ use Rattle.std.specs.declared.cmp.Ordering.{Ordering}
 use Rattle.gx_geom.specs.declared.refusal.Refusal.{Refusal}
 use Rattle.gx_geom.specs.declared.refusal.Refusal.TheVariants.{Damaged}
 use Rattle.gx_record.specs.Rec as rec
-use Rattle.gx_record.specs.Format.{IsImageOf, IsPage, ArePages}
+use Rattle.gx_record.specs.Format.{IsImageOf, IsPage, ArePages, IsInRange, IsRecord}
 use Rattle.gx_recovery.specs.Known.{Known, IsLawful}
 use Rattle.gx_recovery.specs.Records.{Image, Whole, Record, Pages, Write, Commit, End, Touch}
 use Rattle.gx_recovery.specs.Analysis.{Analysis}
@@ -75,3 +75,35 @@ module _ {E P : Type 0} (k : Known E P) (r : Reading E P) (l : IsLawful k) where
       → LaterTold k r (rec.End tx) old result new
   end_told tx old new result closes log is kept =
       closed_from log (End tx) (may_end tx old) tx (with_end tx old.told) old new result (ends_tell k l log old is kept tx) closes
+
+  -- the same of a record that is of that kind
+  pub pages_come : Owns → (x : rec.Rec) (counter used : ℕ) (pages : List (ℕ × List ℕ)) → x ≡ rec.Pages counter used pages → IsRecord r.key x → (old new : Kept E)
+      (result : Result (Unit {0}) Refusal) → Takes (may_give counter used (page_numbers pages) old) (with_pages counter used old) old result new → LaterTold k r x old result new
+  pages_come owns x counter used pages is whole old new result takes =
+      let in_range : IsInRange (rec.Pages counter used pages) = subst (λ (y : rec.Rec). IsInRange y) is whole.in_range in
+      subst (λ (y : rec.Rec). LaterTold k r y old result new) (sym is) (pages_told owns counter used pages in_range.4 old new result takes)
+
+  pub write_comes : Owns → (cmp : E → E → Ordering) → k.cmp ≡ cmp → (x : rec.Rec) (tx row : ℕ) (key : List ℕ) (before after : Bool) (leaf : ℕ) (image : List ℕ)
+      → x ≡ rec.Write tx row key before after leaf image → IsRecord r.key x → (e : E) → e ≡ r.entry row key → k.is_entry (r.entry row key) ≡ true
+      → (marked : Bool) → marked ≡ before → (t : Touch E) → t ≡ (record { transaction = tx; entry = e; before = marked; leaf = leaf })
+      → (old new : Kept E) (result : Result (Unit {0}) Refusal) → Takes (may_write cmp t old) (with_touch cmp t old) old result new → LaterTold k r x old result new
+  write_comes owns cmp ordered x tx row key before after leaf image is whole e is_read of_class marked mark_is t t_is old new result takes =
+      let in_range : IsInRange (rec.Write tx row key before after leaf image) = subst (λ (y : rec.Rec). IsInRange y) is whole.in_range in
+      let touch : Bool → Touch E = λ b. record { transaction = tx; entry = e; before = b; leaf = leaf } in
+      let same : t ≡ touch before = t_is ∙ ap touch mark_is in
+      subst (λ (y : rec.Rec). LaterTold k r y old result new) (sym is)
+      (write_told owns cmp ordered tx row key before after leaf image e in_range.2 is_read of_class old new result
+      (subst (λ (u : Touch E). Takes (may_write cmp u old) (with_touch cmp u old) old result new) same takes))
+
+  pub no_entry_comes : (x : rec.Rec) (tx row : ℕ) (key : List ℕ) (before after : Bool) (leaf : ℕ) (image : List ℕ) → x ≡ rec.Write tx row key before after leaf image
+      → k.is_entry (r.entry row key) ≡ false → (old new : Kept E) → LaterTold k r x old (Err Damaged) new
+  no_entry_comes x tx row key before after leaf image is of_none old new =
+      subst (λ (y : rec.Rec). LaterTold k r y old (Err Damaged) new) (sym is) (no_entry_told tx row key before after leaf image of_none old new)
+
+  pub commit_comes : (x : rec.Rec) (tx n : ℕ) → x ≡ rec.Commit tx n → (old new : Kept E) (result : Result (Unit {0}) Refusal)
+      → Closes (may_commit tx n old) tx (with_commit tx n old.told) old result new → LaterTold k r x old result new
+  commit_comes x tx n is old new result closes = subst (λ (y : rec.Rec). LaterTold k r y old result new) (sym is) (commit_told tx n old new result closes)
+
+  pub end_comes : (x : rec.Rec) (tx : ℕ) → x ≡ rec.End tx → (old new : Kept E) (result : Result (Unit {0}) Refusal)
+      → Closes (may_end tx old) tx (with_end tx old.told) old result new → LaterTold k r x old result new
+  end_comes x tx is old new result closes = subst (λ (y : rec.Rec). LaterTold k r y old result new) (sym is) (end_told tx old new result closes)

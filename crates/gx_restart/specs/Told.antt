@@ -1,5 +1,5 @@
 -- A record as its bytes say it, told to an analysis.
-use Rattle.std.specs.Prelude.{◌≡◌, ℕ, true, false, List, [], ◌∷◌, ◌++◌, map, Result, Ok, Err}
+use Rattle.std.specs.Prelude.{◌≡◌, ℕ, true, false, List, [], ◌∷◌, ◌++◌, map, drop, Result, Ok, Err}
 use Rattle.gx_geom.specs.declared.refusal.Refusal.{Refusal}
 use Rattle.gx_geom.specs.declared.refusal.Refusal.TheVariants.{Damaged}
 use Rattle.gx_record.specs.Rec.{Rec}
@@ -45,3 +45,8 @@ LaterBody {E} {P} k r bytes old result new = (log : List (Record E P)) → IsLog
 -- What comes of reading these bytes from here on comes of reading all of them from the start.
 abbrev pub ReadsOn : {E P : Type 0} → Known E P → Reading E P → (bytes rest : List ℕ) (old now : Kept E) → Type 0
 ReadsOn {E} {P} k r bytes rest old now = (result : Result (Unit {0}) Refusal) (new : Kept E) → LaterBody k r rest now result new → LaterBody k r bytes old result new
+
+-- the first record of these bytes told, and how many bytes it has; or the damage that all of them are
+abbrev pub FirstTold : {E P : Type 0} → Known E P → Reading E P → List ℕ → Kept E → Result ℕ Refusal → Kept E → Type 0
+FirstTold k r bytes old (Ok n) new = ReadsOn k r bytes (drop n bytes) old new
+FirstTold k r bytes old (Err refusal) new = LaterBody k r bytes old (Err refusal) new

@@ -1,7 +1,7 @@
 //! One record of a log's later bodies, told to an analysis.
 ghost use Rattle.std.specs.Prelude.{◌≡◌, ◌+◌, ◌<◌, ◌≤◌, length};
 ghost use Rattle.gx_record.specs.Format.{IsRecord};
-ghost use Rattle.gx_record.specs.Seen.{rec_of, images};
+ghost use Rattle.gx_record.specs.Seen.{is_marked, rec_of, images};
 ghost use Rattle.gx_recovery.specs.Known.{Limits};
 ghost use Rattle.gx_analysis.specs.Kept.{may_give, with_pages, Takes};
 ghost use Rattle.gx_analysis.specs.declared.closed.TheConstants.{CLOSINGS};
@@ -25,6 +25,16 @@ fn on_pages<E: Copy + Ord>(
         PageImages::One(a) => analysis.on_pages(counter, used, &[a.page]),
         PageImages::Two(a, b) => analysis.on_pages(counter, used, &[a.page, b.page]),
         PageImages::Three(a, b, c) => analysis.on_pages(counter, used, &[a.page, b.page, c.page]),
+    }
+}
+
+/// Whether a mark is set.
+fn is_marked(mark: &Mark) -> bool
+    ensures { result ≡ is_marked mark.now }
+{
+    match mark {
+        Mark::Live => false,
+        Mark::Marked => true,
     }
 }
 
@@ -54,9 +64,7 @@ where
             leaf,
             ..
         } => match M::entry(*row, key) {
-            Some(entry) => {
-                analysis.on_write(Touch::new(*tx, entry, *before == Mark::Marked, *leaf))
-            }
+            Some(entry) => { analysis.on_write(Touch::new(*tx, entry, is_marked(before), *leaf)) }
             None => Err(Refusal::Damaged),
         },
         Record::Commit { tx, n } => analysis.on_commit(*tx, *n),
