@@ -1,8 +1,8 @@
 -- Reading the bytes of a later body from any place on.
-use Rattle.std.proofs.Common.{◌≡◌, ℕ, ◌+◌, ◌<◌, ◌≤◌, Bool, true, false, ◌&&◌, List, [], ◌∷◌, ◌++◌, drop, length, refl, ap, sym, ◌∙◌, subst, arith, append_assoc, length-append}
+use Rattle.std.proofs.Common.{◌≡◌, ℕ, ◌+◌, ◌<◌, ◌≤◌, ◌&&◌, List, [], ◌∷◌, ◌++◌, drop, length, refl, ap, sym, ◌∙◌, subst, arith, append_assoc, length-append}
 use Rattle.std.specs.List.{AllByRecursion}
 use Rattle.std.proofs.Math.Seq.{drop-append_seam}
-use Rattle.std.specs.Prelude.{Result, Ok, Err, Option, None, Some}
+use Rattle.std.specs.Prelude.{Ok, Err, Option, None, Some}
 use Rattle.std.proofs.lemmas.List.{append-nil}
 use Rattle.gx_geom.specs.declared.refusal.Refusal.{Refusal}
 use Rattle.gx_geom.specs.declared.refusal.Refusal.TheVariants.{Damaged}
@@ -11,7 +11,7 @@ use Rattle.gx_record.specs.Format.{spelling, spellings, IsRecord, BeginsWith}
 use Rattle.gx_record.proofs.Whole.{no_spelling_begins_another, spelling_sizes}
 use Rattle.gx_recovery.specs.Known.{Known, IsLawful}
 use Rattle.gx_recovery.specs.Records.{Record}
-use Rattle.gx_recovery.specs.Damage.{follows, follow, IsLog}
+use Rattle.gx_recovery.specs.Damage.{follow}
 use Rattle.gx_recovery.proofs.Logs.{log_goes_on}
 use Rattle.gx_durable.specs.Spelled.{Reading, record_read, records_read, AreRecords}
 use Rattle.gx_analysis.specs.Kept.{Kept}

@@ -9,8 +9,7 @@ use Rattle.gx_record.specs.Format.{IsImageOf, IsPage, ArePages, IsInRange, IsRec
 use Rattle.gx_recovery.specs.Known.{Known, IsLawful}
 use Rattle.gx_recovery.specs.Records.{Image, Whole, Record, Pages, Write, Commit, End, Touch}
 use Rattle.gx_recovery.specs.Analysis.{Analysis}
-use Rattle.gx_recovery.specs.Damage.{follows, IsLog}
-use Rattle.gx_durable.specs.Spelled.{Reading, record_read, images_read}
+use Rattle.gx_durable.specs.Spelled.{Reading, images_read}
 use Rattle.gx_analysis.specs.Kept.{Kept, may_write, may_give, may_end, may_commit, with_touch, with_pages, with_end, with_commit, Takes, Closes}
 use Rattle.gx_analysis.specs.Telling.{IsKept, Tells, TellsClosing, AreOwn}
 use Rattle.gx_analysis.proofs.Telling.{writes_tell, no_entry_refused, all_pages_tell, commits_tell, ends_tell}
