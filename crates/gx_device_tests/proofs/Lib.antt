@@ -1,4 +1,6 @@
 pub mod Again
 pub mod Least
+pub mod Living
 pub mod Threes
 pub mod Turned
+pub mod TurningOn

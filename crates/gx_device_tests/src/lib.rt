@@ -6,4 +6,5 @@
 #[cfg(test)]
 mod formats;
 pub mod frames;
+pub mod lives;
 pub mod logs;
