@@ -1,4 +1,5 @@
 pub mod Again
+pub mod Counts
 pub mod Least
 pub mod Living
 pub mod Threes

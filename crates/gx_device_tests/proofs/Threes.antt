@@ -52,7 +52,7 @@ three_changed s t u v node parent sibling nsn batch apart one two three = record
 
 -- ---- a sibling is added
 
-eq_false : (a b : ℕ) → a ≢ b → (a == b) ≡ false
+pub eq_false : (a b : ℕ) → a ≢ b → (a == b) ≡ false
 eq_false a b ne = grind (arith, nat_tests)
 
 -- the sibling is none of those that are held

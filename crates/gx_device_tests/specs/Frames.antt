@@ -1,5 +1,5 @@
 -- What a caller of the frame pool leaves of three pages.
-use Rattle.std.specs.Prelude.{◌≡◌, ◌≢◌, ◌≤◌, ◌<◌, ℕ, List, [], ◌∷◌, ◌++◌, Bool, true, false, Ok, Some}
+use Rattle.std.specs.Prelude.{◌≡◌, ◌≢◌, ◌≤◌, ◌<◌, ◌+◌, ℕ, List, [], ◌∷◌, ◌++◌, Bool, true, false, Ok, Some}
 use Rattle.gx_disk.specs.Device.{Device, Elapses}
 use Rattle.gx_disk.specs.Sectors.{sector_of}
 use Rattle.gx_page.specs.Contents.{Contents}
@@ -8,7 +8,7 @@ use Rattle.gx_pool.specs.Bringing.{Brings, BringsAll, OnlyRead}
 use Rattle.gx_pool.specs.Creating.{Creates}
 use Rattle.gx_pool.specs.Edits.{later}
 use Rattle.gx_pool.specs.Laws.{IsBacked, shown}
-use Rattle.gx_pool.specs.State.{State, Kept, holding, kept, stamp_of}
+use Rattle.gx_pool.specs.State.{State, Kept, clean_count, dirty_count, holding, kept, stamp_of}
 use Rattle.gx_pool.specs.Writing.{contents_of}
 
 -- a page has other contents, with that batch among its stamps, and no other page changed
@@ -22,6 +22,13 @@ pub record ChangesThree (old new : State) (node parent sibling nsn batch : ℕ) 
   pub of_parent : (k : Kept) → kept old parent ≡ Some k → kept new parent ≡ Some (record { page = record k.page { nsn = nsn }; stamp = Some (later batch k.stamp) })
   pub of_sibling : (k : Kept) → kept old sibling ≡ Some k → kept new sibling ≡ Some (record { page = record k.page { nsn = nsn }; stamp = Some (later batch k.stamp) })
   pub others : (q : ℕ) → q ≢ node → q ≢ parent → q ≢ sibling → kept new q ≡ kept old q
+
+-- A page that is held changed: as many frames are clean as before, at most one more is dirty, and each other page is kept as it
+-- was.
+pub record ChangesHeld (old new : State) (page : ℕ) : Type 0 where
+  pub clean : clean_count new ≡ clean_count old
+  pub dirty : dirty_count new ≤ dirty_count old + 1
+  pub others : (q : ℕ) → q ≢ page → kept new q ≡ kept old q
 
 -- the three are three
 pub record AreThree (node parent sibling : ℕ) : Type 0 where

@@ -1,10 +1,11 @@
 //! Callers of the frame pool, proved from its contracts and laws: what a split will do with three pages, and a page that is
 //! changed, written, and brought again.
-ghost use Rattle.std.specs.Prelude.{◌≡◌, ◌≤◌, ◌++◌, ◌∷◌, [], ℕ, List, None, true, IsSome, IfOk, OnOk, OnErr};
+ghost use Rattle.std.specs.Prelude.{◌≡◌, ◌≢◌, ◌≤◌, ◌+◌, ◌++◌, ◌∷◌, [], ℕ, List, Some, None, true, IsSome, IfOk, OnOk, OnErr};
 ghost use Rattle.gx_pool.specs.Area.{IsPage};
 ghost use Rattle.gx_pool.specs.Laws.{IsBacked};
-ghost use Rattle.gx_pool.specs.State.{IsWritable, kept};
-ghost use Rattle.gx_device_tests.specs.Frames.{AddsSibling, AreThree, ChangesOne, ChangesThree, LogsThree, OnlyBrings, ReadsAgain, WritesLeast};
+ghost use Rattle.gx_pool.specs.Marks.{is_held};
+ghost use Rattle.gx_pool.specs.State.{IsWritable, dirty_count, kept};
+ghost use Rattle.gx_device_tests.specs.Frames.{AddsSibling, AreThree, ChangesHeld, ChangesOne, ChangesThree, LogsThree, OnlyBrings, ReadsAgain, WritesLeast};
 
 use gx_disk::SectorDisk;
 use gx_pool::{PAGES, PageTest, Pool, PoolFault};
@@ -98,6 +99,41 @@ pub fn add_sibling<T: PageTest, D: SectorDisk>(
     pool.create(sibling, 0, batch);
     change_three(pool, node, parent, sibling, nsn, batch);
     Ok(())
+}
+
+/// Sets the sequence number of a page that is kept and held, as a change of a batch: as many frames are clean as before, and at
+/// most one more is dirty.
+pub fn set_held_nsn<T: PageTest>(pool: &mut Pool<T>, page: u32, nsn: u64, batch: u64)
+    requires page { page ≤ PAGES }
+    requires kept { IsSome (kept pool.old.frames page) }
+    requires held { is_held pool.old.frames.held (Some page) ≡ true }
+    ensures { ChangesHeld pool.old.frames pool.new.frames page }
+{
+    pool.change_kept(page, batch).set_nsn(nsn);
+}
+
+/// Brings a page, asks for room for another, changes the one and makes the other, both as of one batch; answers how many
+/// frames are dirty then: at most two more than before. Where it is refused no more are.
+pub fn change_and_make<T: PageTest, D: SectorDisk>(
+    pool: &mut Pool<T>,
+    disk: &mut D,
+    page: u32,
+    other: u32,
+    nsn: u64,
+    batch: u64,
+) -> Result<usize, PoolFault>
+    requires page { IsPage (D.state disk.old).sectors page }
+    requires other { (1 ≤ other) × (other ≤ PAGES) × (kept pool.old.frames other ≡ None) × (other ≢ page) }
+    ensures counted { IfOk result (λ dirty. (dirty ≡ dirty_count pool.new.frames) × (dirty ≤ dirty_count pool.old.frames + 2)) }
+    ensures refused { OnErr result (dirty_count pool.new.frames ≡ dirty_count pool.old.frames) }
+{
+    pool.bring(disk, &[page])?;
+    if pool.clean_frames() == 0 {
+        return Err(PoolFault::NoCleanFrame);
+    }
+    set_held_nsn(pool, page, nsn, batch);
+    pool.create(other, 0, batch);
+    Ok(pool.dirty_frames())
 }
 
 /// Sets a page's sequence number as a change of a batch, has it written, brings another page, for which its frame may be

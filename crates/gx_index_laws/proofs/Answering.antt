@@ -11,14 +11,15 @@ use Rattle.gx_machine.specs.Sets.{has}
 use Rattle.gx_machine.specs.Sessions.{Locks}
 use Rattle.gx_machine.proofs.SetLaws.{same_is}
 use Rattle.gx_machine.proofs.SetsByTests.{set_of_a_test_that_agrees, set_that_is_gathered}
-use Rattle.gx_tree_laws.specs.Lists.{one_if, how_many}
-use Rattle.gx_tree_laws.specs.Trees.{Pair, Tree, Used, leaves, passing, standing}
-use Rattle.gx_tree_laws.specs.Legal.{Legal}
+use Rattle.gx_tree_laws.specs.Lists.{one_if, how_many, Each}
+use Rattle.gx_tree_laws.specs.Trees.{Pair, Child, Tree, Used, child_pages, times, leaves, passing, standing}
+use Rattle.gx_tree_laws.specs.Legal.{ChildFits, Legal}
 use Rattle.gx_tree_laws.specs.Reach.{Item}
 use Rattle.gx_tree_laws.specs.Looks.{IsLook, from_root, LeadsTo, stacked, found_with}
 use Rattle.gx_tree_laws.proofs.Sums.{sum_over_le, each_always}
 use Rattle.gx_tree_laws.proofs.OwnLook.{look_goes_on}
-use Rattle.gx_tree_laws.proofs.DescentSteps.{descent_begins}
+use Rattle.gx_tree_laws.proofs.Chains.{some_child}
+use Rattle.gx_tree_laws.proofs.DescentSteps.{descent_begins, descent_goes_down}
 use Rattle.gx_tree_laws.proofs.SeekSteps.{seek_begins, seek_goes_right}
 use Rattle.gx_engine_laws.specs.Slots.{Note, Slot, Free, Working, Undoing, Waiting, notes_kept, slot_at}
 use Rattle.gx_engine_laws.specs.Engines.{gathered}
@@ -161,8 +162,8 @@ module _ {B : Type 0} (c : Class B) (l : IsLawful c) where
     -- What a look turns into.
 
     pub look_descends : (s : ℕ) (e : Entry B) → old.work s ≡ Looks [] [] → open_call (slot_at s old.slots) ≡ Some (Insert e)
-        → DescendsFor c t (slot_at s old.slots) e (from_root t)
-    look_descends s e at call = record { call = call; looked = look_of s [] [] at; descent = descent_begins c.rules e.key t legal }
+        → DescendsFor c t (slot_at s old.slots) e 0 (from_root t)
+    look_descends s e at call = record { call = call; looked = look_of s [] [] at; descent = descent_begins c.rules e.key t legal; apart = λ is. (omega (arith, is)) }
 
     -- an open insert wants each pair of its entry
     wants_insert : (slot : Slot B) (e : Entry B) → open_call slot ≡ Some (Insert e) → (live : Bool) → slot_wants c.keys slot (record { entry = e; live = live }) ≡ true
@@ -184,9 +185,32 @@ module _ {B : Type 0} (c : Class B) (l : IsLawful c) where
         let less = standing_le t p (λ x. wants_pair c slot x && p x) (λ x is. and_all (wants_pair c slot x) (p x) (wants_of slot e wanted x (narrow x is)) is) in
         omega (arith, none, less)
 
-    pub descent_finds_none : (s : ℕ) (e : Entry B) (item : Item) → old.work s ≡ Descends e item → standing (is_of c e) t ≡ 0
-    descent_finds_none s e item at =
-        let d : DescendsFor c t (slot_at s old.slots) e item = subst (λ (x : Work B). DoesWork c t (slot_at s old.slots) x) at (w.works s) in
+    pub descent_of : (s : ℕ) (e : Entry B) (parent : ℕ) (item : Item) → old.work s ≡ Descends e parent item → DescendsFor c t (slot_at s old.slots) e parent item
+    descent_of s e parent item at = subst (λ (x : Work B). DoesWork c t (slot_at s old.slots) x) at (w.works s)
+
+    -- a descent begins again at the root, and goes on to a page that its page names
+    pub descent_again : (s : ℕ) (e : Entry B) (parent : ℕ) (item : Item) → old.work s ≡ Descends e parent item → DescendsFor c t (slot_at s old.slots) e 0 (from_root t)
+    descent_again s e parent item at =
+        let d : DescendsFor c t (slot_at s old.slots) e parent item = descent_of s e parent item at in
+        record { call = d.call; looked = d.looked; descent = descent_begins c.rules e.key t legal; apart = λ is. (omega (arith, is)) }
+
+    pub descent_down : (s : ℕ) (e : Entry B) (parent : ℕ) (item : Item) (x : ℕ) → old.work s ≡ Descends e parent item → 0 < times x (child_pages (t.node item.page))
+        → Each (λ (d : Child B). d.page ≡ x → c.rules.covers d.key e.key ≡ true) (t.node item.page).children
+        → DescendsFor c t (slot_at s old.slots) e item.page (record { page = x; seen = t.counter })
+    descent_down s e parent item x at named covers =
+        let d : DescendsFor c t (slot_at s old.slots) e parent item = descent_of s e parent item at in
+        let u : Used t item.page = d.descent.there in
+        let pick = some_child (ChildFits c.rules t (t.node item.page).level) x (t.node item.page).children named (legal.pages item.page u).children in
+        record {
+          call = d.call;
+          looked = d.looked;
+          descent = descent_goes_down c.rules e.key t legal item.page x u named covers;
+          apart = λ is. (let level = pick.1.level in let there = ap (λ q. (t.node q).level) (is ∙ sym pick.2) in omega (arith, level, there));
+        }
+
+    pub descent_finds_none : (s : ℕ) (e : Entry B) (parent : ℕ) (item : Item) → old.work s ≡ Descends e parent item → standing (is_of c e) t ≡ 0
+    descent_finds_none s e parent item at =
+        let d : DescendsFor c t (slot_at s old.slots) e parent item = descent_of s e parent item at in
         none_stands (slot_at s old.slots) e (is_of c e) (λ x is. is) (wants_insert (slot_at s old.slots) e d.call) d.looked
 
     pub look_seeks : (s : ℕ) (e : Entry B) (leaf : ℕ) → ((live : Bool) → slot_wants c.keys (slot_at s old.slots) (record { entry = e; live = live }) ≡ true)

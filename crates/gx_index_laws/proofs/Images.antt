@@ -12,7 +12,6 @@ use Rattle.gx_engine_laws.specs.Events.{Event, Acknowledges}
 use Rattle.gx_engine_laws.specs.Runs.{steps_of, RunsAs}
 use Rattle.gx_engine_laws.proofs.Faults.{kept_set}
 use Rattle.gx_engine_laws.proofs.EventRuns.{run_follows}
-use Rattle.gx_recovery.specs.Known as known
 use Rattle.gx_recovery.specs.Records.{Record}
 use Rattle.gx_recovery.specs.Analysis.{number_of}
 use Rattle.gx_recovery.specs.Standing.{stands_for}

@@ -77,10 +77,11 @@ module _ {B : Type 0} (c : Class B) (l : IsLawful c) where
       → LeavesAlone c.rules (wants_pair c slot) step → DoesWork c old slot work → DoesWork c new slot work
   work_kept old new step slot Rests legal is alone work = tt
   work_kept old new step slot (Looks stack found) legal is alone work = look_step c.rules l.rules (wants_pair c slot) stack found old new step legal is alone work
-  work_kept old new step slot (Descends e item) legal is alone work = record {
+  work_kept old new step slot (Descends e parent item) legal is alone work = record {
     call = work.call;
     looked = look_step c.rules l.rules (wants_pair c slot) [] [] old new step legal is alone work.looked;
     descent = descent_step c.rules e.key l.rules item old new step legal is work.descent;
+    apart = work.apart;
   }
   work_kept old new step slot (Seeks e leaf) legal is alone work = record {
     wanted = work.wanted;

@@ -23,3 +23,7 @@ pub mod Undoing
 pub mod Opened
 pub mod Restarts
 pub mod Images
+pub mod Measuring
+pub mod WorkedLife
+pub mod Meanwhile
+pub mod Chores

@@ -182,7 +182,7 @@ module _ {B : Type 0} (c : Class B) (l : IsLawful c) (old : State B) (w : IsWhol
     area_is : old.log.area ≡ redone old.log.area old.log.gated
     area_is = λ i p. written p i
 
-    new_tree : tree_of k old.log.area (all_records new_log) ≡ tree_of k old.log.area log
+    pub new_tree : tree_of k old.log.area (all_records new_log) ≡ tree_of k old.log.area log
     new_tree =
         ap (tree_of k old.log.area) new_records ∙ ap (λ (a : ℕ → Page B). tree_of k a (renewed k old.next old.log.gated)) area_is
         ∙ same_tree k (known_lawful c l) old.next old.log.area old.log.gated w.healthy.gated ∙ sym (ap (tree_of k old.log.area) old_records)

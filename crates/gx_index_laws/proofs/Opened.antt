@@ -24,7 +24,7 @@ use Rattle.gx_recovery.specs.Redo.{redone, tree_of}
 use Rattle.gx_recovery.specs.Standing.{first_before, own_before, by_mark, counting, stands_for}
 use Rattle.gx_recovery.specs.Damage.{is_transaction, is_page, touch_fits, apart, transactions, fits, is_open, IsLog}
 use Rattle.gx_recovery.specs.Coming.{IsGood}
-use Rattle.gx_recovery.specs.Logged.{all_records, latest, kept}
+use Rattle.gx_recovery.specs.Logged.{all_records, kept}
 use Rattle.gx_recovery.specs.Renewal.{notes_of, renewed}
 use Rattle.gx_recovery.proofs.Tests.{and_first, and_second, either_of, or_second}
 use Rattle.gx_recovery.proofs.Logs.{and_all, told_log}

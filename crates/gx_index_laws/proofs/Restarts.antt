@@ -5,7 +5,6 @@ use Rattle.std.specs.List.{slice_index_or}
 use Rattle.gx_machine.specs.declared.entry.Entry.{Entry}
 use Rattle.gx_machine.specs.Sets.{has, IsSetOf}
 use Rattle.gx_machine.specs.Machine as machine
-use Rattle.gx_machine.specs.Runs as runs
 use Rattle.gx_machine.proofs.SetsByTests.{set_of_a_test_that_agrees}
 use Rattle.gx_machine.proofs.SetLaws.{entry_total, entry_exact}
 use Rattle.gx_engine_laws.specs.Slots.{Note, Free}

@@ -6,3 +6,6 @@ pub mod Whole
 pub mod Happening
 pub mod Alike
 pub mod Openings
+pub mod Measures
+pub mod WorkedLife
+pub mod Upkeep

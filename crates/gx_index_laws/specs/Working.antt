@@ -1,5 +1,5 @@
 -- What holds of a session's work: what the tree's laws say of it, for what its slot wants.
-use Rattle.std.specs.Prelude.{ℕ, ◌≡◌, Bool, true, Option, None, Some, List, []}
+use Rattle.std.specs.Prelude.{ℕ, ◌≡◌, ◌≢◌, Bool, true, Option, None, Some, List, []}
 use Rattle.gx_machine.specs.declared.entry.Entry.{Entry}
 use Rattle.gx_machine.specs.declared.call.Call.{Call}
 use Rattle.gx_machine.specs.declared.call.Call.TheVariants.{Insert}
@@ -25,11 +25,13 @@ open_call (Waiting number) = None
 abbrev pub wants_pair : {B : Type 0} → Class B → Slot B → Pair B → Bool
 wants_pair c slot x = slot_wants c.keys slot (pair_of x)
 
--- a descent is an open insert's, and nothing that it wants stands: its look has ended with nothing found
-pub record DescendsFor {B : Type 0} (c : Class B) (t : Tree B) (slot : Slot B) (e : Entry B) (item : Item) : Type 0 where
+-- a descent is an open insert's, and nothing that it wants stands: its look has ended with nothing found; and it came from
+-- another page
+pub record DescendsFor {B : Type 0} (c : Class B) (t : Tree B) (slot : Slot B) (e : Entry B) (parent : ℕ) (item : Item) : Type 0 where
   pub call : open_call slot ≡ Some (Insert e)
   pub looked : IsLook t (wants_pair c slot) [] []
   pub descent : IsDescent c.rules t item e.key
+  pub apart : parent ≢ item.page
 
 -- the pair that is sought is wanted, live or not, and stands in the leaf or to the right of it
 pub record SeeksFor {B : Type 0} (c : Class B) (t : Tree B) (slot : Slot B) (e : Entry B) (leaf : ℕ) : Type 0 where
@@ -40,7 +42,7 @@ pub record SeeksFor {B : Type 0} (c : Class B) (t : Tree B) (slot : Slot B) (e :
 abbrev pub DoesWork : {B : Type 0} → Class B → Tree B → Slot B → Work B → Type 0
 DoesWork c t slot Rests = Unit {0}
 DoesWork c t slot (Looks stack found) = IsLook t (wants_pair c slot) stack found
-DoesWork c t slot (Descends e item) = DescendsFor c t slot e item
+DoesWork c t slot (Descends e parent item) = DescendsFor c t slot e parent item
 DoesWork c t slot (Seeks e leaf) = SeeksFor c t slot e leaf
 
 -- what an abort has restored is as live as its note says

@@ -7,8 +7,8 @@ ghost use Rattle.gx_machine.specs.declared.call.Call.{Call};
 ghost use Rattle.gx_machine.specs.declared.call.Call.TheVariants.{Insert, Delete, Search};
 ghost use Rattle.gx_machine.specs.Sessions.{Locks};
 ghost use Rattle.gx_machine.specs.Runs.{may_close};
-ghost use Rattle.gx_tree_laws.specs.Lists.{how_many};
-ghost use Rattle.gx_tree_laws.specs.Trees.{Pair, Used, standing};
+ghost use Rattle.gx_tree_laws.specs.Lists.{how_many, Each};
+ghost use Rattle.gx_tree_laws.specs.Trees.{Pair, Used, child_pages, times, standing};
 ghost use Rattle.gx_tree_laws.specs.Reach.{Item};
 ghost use Rattle.gx_tree_laws.specs.Looks.{LeadsTo, stacked, found_with, from_root};
 ghost use Rattle.gx_engine_laws.specs.Slots.{Note, Working, Undoing, slot_at, noted};
@@ -45,9 +45,9 @@ pub fn work_turns<B>()
 pub fn a_look_turns_into_a_descent_or_a_seek<B>()
     ensures descends { (c : Class B) → IsLawful c → (old : State B) → IsWhole c old → (s : ℕ) (e : Entry B)
         → old.work s ≡ Looks [] [] → open_call (slot_at s old.slots) ≡ Some (Insert e)
-        → DoesWork c (tree_now c old) (slot_at s old.slots) (Descends e (from_root (tree_now c old))) }
-    ensures absent { (c : Class B) → IsLawful c → (old : State B) → IsWhole c old → (s : ℕ) (e : Entry B) (item : Item)
-        → old.work s ≡ Descends e item → standing (is_of c e) (tree_now c old) ≡ 0 }
+        → DoesWork c (tree_now c old) (slot_at s old.slots) (Descends e 0 (from_root (tree_now c old))) }
+    ensures absent { (c : Class B) → IsLawful c → (old : State B) → IsWhole c old → (s : ℕ) (e : Entry B) (parent : ℕ) (item : Item)
+        → old.work s ≡ Descends e parent item → standing (is_of c e) (tree_now c old) ≡ 0 }
     ensures seeks { (c : Class B) → IsLawful c → (old : State B) → IsWhole c old → (s : ℕ) (e : Entry B) (leaf : ℕ)
         → ((live : Bool) → slot_wants c.keys (slot_at s old.slots) (record { entry = e; live = live }) ≡ true)
         → Used (tree_now c old) leaf → ((tree_now c old).node leaf).level ≡ 0 → 0 < how_many (is_of c e) ((tree_now c old).node leaf).pairs
@@ -55,6 +55,17 @@ pub fn a_look_turns_into_a_descent_or_a_seek<B>()
     ensures right { (c : Class B) → IsLawful c → (old : State B) → IsWhole c old → (s : ℕ) (e : Entry B) (leaf : ℕ)
         → old.work s ≡ Seeks e leaf → how_many (is_of c e) ((tree_now c old).node leaf).pairs ≡ 0
         → DoesWork c (tree_now c old) (slot_at s old.slots) (Seeks e ((tree_now c old).node leaf).right) }
+{}
+
+/// How a descent goes on, so that `work_turns` may take it: it begins again at the root, or goes down to a page that its page
+/// names by an entry that covers the coming key.
+pub fn a_descent_goes_on<B>()
+    ensures again { (c : Class B) → IsLawful c → (old : State B) → IsWhole c old → (s : ℕ) (e : Entry B) (parent : ℕ) (item : Item)
+        → old.work s ≡ Descends e parent item → DoesWork c (tree_now c old) (slot_at s old.slots) (Descends e 0 (from_root (tree_now c old))) }
+    ensures down { (c : Class B) → IsLawful c → (old : State B) → IsWhole c old → (s : ℕ) (e : Entry B) (parent : ℕ) (item : Item) (x : ℕ)
+        → old.work s ≡ Descends e parent item → 0 < times x (child_pages ((tree_now c old).node item.page))
+        → Each (λ d. d.page ≡ x → c.rules.covers d.key e.key ≡ true) ((tree_now c old).node item.page).children
+        → DoesWork c (tree_now c old) (slot_at s old.slots) (Descends e item.page (record { page = x; seen = (tree_now c old).counter })) }
 {}
 
 /// An undo's seek of an entry that it has noted begins with its note's leaf, as the log tells it: each noted entry is among what

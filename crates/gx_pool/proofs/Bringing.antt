@@ -1,20 +1,22 @@
 -- What becomes of the pages that are kept, edit by edit, and how bringings join.
-use Rattle.std.proofs.Common.{◌≡◌, ◌≢◌, ◌∙◌, sym, ap, subst, refl, ◌⊎◌, inl, inr, ⊎_elim, ℕ, zero, suc, ◌<◌, ◌≤◌, ◌+◌, List, [], ◌∷◌, Ok, Err, Result, below_more, length, get_or, Bool, true, false, not, ◌&&◌, Option, Some, None, IsSome, arith, get_or-set_same, length-set}
+use Rattle.std.proofs.Common.{◌≡◌, ◌≢◌, ◌∙◌, sym, ap, subst, refl, ◌⊎◌, inl, inr, ⊎_elim, ℕ, zero, suc, ◌<◌, ◌≤◌, ◌+◌, List, [], ◌∷◌, Ok, Err, Result, below_more, length, get_or, count_by, Bool, true, false, not, ◌&&◌, Option, Some, None, IsSome, arith, get_or-set_same, length-set}
 use Rattle.std.specs.Prelude.{is_none, IsErrAnd}
 use Rattle.std.proofs.Math.Decide.{ℕ_discrete}
 use Rattle.std.proofs.lemmas.Option.{none-some}
+use Rattle.std.proofs.lemmas.List.{set-set}
 use Rattle.gx_disk.specs.Device.{Device, Rests, SamePending, MayLeave}
 use Rattle.gx_page.specs.Contents.{Contents}
 use Rattle.gx_page.specs.Edits.{blank}
 use Rattle.gx_page.specs.Reading.{IsImage, read_of}
 use Rattle.gx_pool.specs.Area.{bytes_of, IsPassing}
-use Rattle.gx_pool.specs.Marks.{empty, clean, is_held}
-use Rattle.gx_pool.specs.State.{State, IsSound, IsSpare, AllKept, NoneClean, SomeClean, mark_at, place_of, kept, frame_at, holding, stamp_of}
+use Rattle.gx_pool.specs.Marks.{empty, clean, is_dirty, is_held}
+use Rattle.gx_pool.specs.State.{State, IsSound, IsSpare, dirty_count, AllKept, NoneClean, SomeClean, mark_at, place_of, kept, frame_at, holding, stamp_of}
 use Rattle.gx_pool.specs.Edits.{vacated, with_page, settled}
 use Rattle.gx_pool.specs.Bringing.{Brings, BringsOne, BringsAll, Answers, AnswersAll, Came, ComeAlone, ComesAlone, HasImage, IsFirstMissing, Left, OnlyRead}
 use Rattle.gx_pool.specs.declared.fault.PoolFault.{PoolFault}
 use Rattle.gx_pool.specs.declared.fault.PoolFault.TheVariants.{NoCleanFrame, Device as DeviceFault, Damaged}
 use Rattle.gx_pool.proofs.Places.{some-injective, vacated_sound, with_page_sound, vacated_kept, vacated_gone, loaded_kept, settled_kept, settled_other, place_none, kept_some}
+use Rattle.gx_pool.proofs.Numbers.{still_clean}
 
 true_false : (b : Bool) → b ≡ true → b ≡ false → ⊥
 true_false b is not_so = grind arith
@@ -23,6 +25,10 @@ clean_parts : (stamp : Option ℕ) (held : Bool) → (is_none stamp && not held)
 clean_parts None false is = (refl, refl)
 clean_parts None true is = grind arith
 clean_parts (Some n) held is = grind arith
+
+-- a clean frame has no stamp
+pub clean_stamp : (s : State) (i : ℕ) → clean s.held (mark_at s i) ≡ true → (mark_at s i).stamp ≡ None
+clean_stamp s i is = (clean_parts (mark_at s i).stamp (is_held s.held (mark_at s i).page) is).0
 
 -- the page of a clean frame is spare
 pub spare : (s : State) (i page : ℕ) → IsSound s → clean s.held (mark_at s i) ≡ true → (mark_at s i).page ≡ Some page → IsSpare s page
@@ -47,6 +53,7 @@ vacated_brings passes d seen s i sound inside is = record {
     | inl here ↦ inr (inl (record { was = spare s i page sound is here; is = vacated_gone s i page here }))
     | inr other ↦ inl (vacated_kept s i page sound inside other)
   ];
+  dirty = still_clean s i empty inside (clean_stamp s i is) refl;
   held = refl;
   gated = refl;
   frames = length-set s.marks i empty;
@@ -54,12 +61,13 @@ vacated_brings passes d seen s i sound inside is = record {
 
 -- a bringing after which the same is kept in other frames is one
 pub brings_same : (passes : Contents → Bool) (d : Bool) (seen : List ℕ) (s t u : State) → Brings passes d seen s t → ((page : ℕ) → kept u page ≡ kept t page)
-    → u.held ≡ t.held → u.gated ≡ t.gated → length u.marks ≡ length t.marks → Brings passes d seen s u
-brings_same passes d seen s t u first same held gated frames = record {
+    → dirty_count u ≡ dirty_count t → u.held ≡ t.held → u.gated ≡ t.gated → length u.marks ≡ length t.marks → Brings passes d seen s u
+brings_same passes d seen s t u first same dirty held gated frames = record {
   fates = λ page. ⊎_elim (λ is. inl (same page ∙ is)) (λ rest. inr (⊎_elim
       (λ left. inl (record { was = left.was; is = same page ∙ left.is }))
       (λ came. inr (record { contents = came.contents; was = came.was; is = same page ∙ came.is; number = came.number; passing = came.passing; backed = came.backed }))
       rest)) (first.fates page);
+  dirty = dirty ∙ first.dirty;
   held = held ∙ first.held;
   gated = gated ∙ first.gated;
   frames = frames ∙ first.frames;
@@ -80,7 +88,7 @@ pub loaded_brings : (passes : Contents → Bool) (d : Bool) (seen : List ℕ) (s
     → Brings passes d seen s (with_page (vacated s i) i w)
 loaded_brings passes d seen s i w sound inside is =
     brings_same passes d seen s (vacated s i) (with_page (vacated s i) i w) (vacated_brings passes d seen s i sound inside is)
-    (λ page. loaded_kept (vacated s i) i page w (vacated_sound s i sound inside) (vacated_free s i inside)) refl refl refl
+    (λ page. loaded_kept (vacated s i) i page w (vacated_sound s i sound inside) (vacated_free s i inside)) refl refl refl refl
 
 -- a page that wasn't kept has no frame then
 still_absent : (s : State) (i page : ℕ) → IsSound s → i < length s.marks → kept s page ≡ None → kept (vacated s i) page ≡ None
@@ -152,6 +160,7 @@ admitted_brings passes d seen s i page level w sound inside is small absent numb
             (λ came. inr (record { contents = came.contents; was = came.was; is = same ∙ came.is; number = came.number; passing = came.passing; backed = came.backed }))
             rest)) (first.fates q)
       ];
+      dirty = ap (count_by is_dirty) (set-set s.marks i empty _) ∙ still_clean s i _ inside (clean_stamp s i is) refl;
       held = refl;
       gated = refl;
       frames = length-set (vacated s i).marks i _ ∙ length-set s.marks i empty;
@@ -177,7 +186,7 @@ admitted_there s t u w i page level sound inside small te ue = rw (ue, te, admit
 -- ---- runs of bringings
 
 pub brings_nothing : (passes : Contents → Bool) (d : Bool) (seen : List ℕ) (s : State) → Brings passes d seen s s
-brings_nothing passes d seen s = record { fates = λ page. inl refl; held = refl; gated = refl; frames = refl }
+brings_nothing passes d seen s = record { fates = λ page. inl refl; dirty = refl; held = refl; gated = refl; frames = refl }
 
 -- what is spare is so by what is kept and held
 spare_same : (s t : State) (page : ℕ) → kept t page ≡ kept s page → t.held ≡ s.held → IsSpare t page → IsSpare s page
@@ -243,6 +252,7 @@ brings_joined passes d e seen next s t u same reads first then = record {
         backed = λ honest. subst {A = List ℕ} (λ bytes. HasImage (bytes_of bytes page) came.contents) (reads honest) (came.backed (same ∙ honest));
       })) rest)) (then.fates page) in
       fates_joined passes d seen s t u page first.held (first.fates page) later;
+  dirty = then.dirty ∙ first.dirty;
   held = then.held ∙ first.held;
   gated = then.gated ∙ first.gated;
   frames = then.frames ∙ first.frames;

@@ -1,5 +1,5 @@
 -- How many items of a list pass a test.
-use Rattle.std.proofs.Common.{◌≡◌, ◌∙◌, ap, refl, ℕ, suc, ◌+◌, ◌<◌, List, [], ◌∷◌, length, get_or, set, count_by, Bool, true, false, cond, arith}
+use Rattle.std.proofs.Common.{◌≡◌, ◌∙◌, ap, refl, ℕ, zero, suc, ◌+◌, ◌<◌, ◌≤◌, List, [], ◌∷◌, length, get_or, set, count_by, Bool, true, false, cond, arith}
 use Rattle.std.proofs.lemmas.List.Sums.{sum_by-cons, sum_by-set}
 
 count_next : {A : Type 0} → (p : A → Bool) (x : A) (xs : List A) (passes : Bool) → p x ≡ passes → count_by p (x ∷ xs) ≡ cond passes 1 0 + count_by p xs
@@ -37,3 +37,67 @@ one_fewer p xs i x d inside was is =
     let old : (let n : ℕ = cond (p (get_or xs i d)) 1 0 in n) ≡ 1 = ap (λ b. cond b 1 0) was in
     let new : (let n : ℕ = cond (p x) 1 0 in n) ≡ 0 = ap (λ b. cond b 1 0) is in
     omega (arith, all, old, new)
+
+-- how many pass, once one item is another
+pub counted_set : {A : Type 0} → (p : A → Bool) (xs : List A) (i : ℕ) (x d : A) → i < length xs → count_by p (set xs i x) + cond (p (get_or xs i d)) 1 0 ≡ count_by p xs + cond (p x) 1 0
+counted_set p xs i x d inside = sum_by-set (λ y. cond (p y) 1 0) xs i x d inside
+
+-- and where both pass or neither, as many
+pub as_many : {A : Type 0} → (p : A → Bool) (xs : List A) (i : ℕ) (x d : A) → i < length xs → p (get_or xs i d) ≡ p x → count_by p (set xs i x) ≡ count_by p xs
+as_many p xs i x d inside same =
+    let all = counted_set p xs i x d inside in
+    let one : (let n : ℕ = cond (p (get_or xs i d)) 1 0 in n) ≡ cond (p x) 1 0 = ap (λ b. cond b 1 0) same in
+    omega (arith, all, one)
+
+-- where one that didn't pass is one that does, one more passes
+pub one_more : {A : Type 0} → (p : A → Bool) (xs : List A) (i : ℕ) (x d : A) → i < length xs → p (get_or xs i d) ≡ false → p x ≡ true → count_by p (set xs i x) ≡ count_by p xs + 1
+one_more p xs i x d inside was is =
+    let all = counted_set p xs i x d inside in
+    let old : (let n : ℕ = cond (p (get_or xs i d)) 1 0 in n) ≡ 0 = ap (λ b. cond b 1 0) was in
+    let new : (let n : ℕ = cond (p x) 1 0 in n) ≡ 1 = ap (λ b. cond b 1 0) is in
+    omega (arith, all, old, new)
+
+-- an item that passes is counted
+pub counted_at : {A : Type 0} → (p : A → Bool) (xs : List A) (i : ℕ) (d : A) → i < length xs → cond (p (get_or xs i d)) 1 0 ≤ count_by p xs
+counted_at p [] i d inside = absurd (omega arith)
+counted_at p (x ∷ xs) zero d inside = let next = count_next p x xs (p x) refl in omega (arith, next)
+counted_at p (x ∷ xs) (suc i) d inside =
+    let next = count_next p x xs (p x) refl in
+    let rest = counted_at p xs i d (omega arith) in
+    omega (arith, next, rest)
+
+-- where each item that passes one of two tests passes a third, and no other does, the counts add up
+pub counts_joined : {A : Type 0} → (p q r : A → Bool) (xs : List A) → ((x : A) → cond (p x) 1 0 + cond (q x) 1 0 ≡ cond (r x) 1 0) → count_by p xs + count_by q xs ≡ count_by r xs
+counts_joined p q r [] each = refl
+counts_joined p q r (x ∷ xs) each =
+    let one = count_next p x xs (p x) refl in
+    let two = count_next q x xs (q x) refl in
+    let all = count_next r x xs (r x) refl in
+    let rest = counts_joined p q r xs each in
+    omega (arith, one, two, all, rest, each x)
+
+-- where each item passes one of three tests, all are counted
+pub all_counted : {A : Type 0} → (p q r : A → Bool) (xs : List A) → ((x : A) → cond (p x) 1 0 + cond (q x) 1 0 + cond (r x) 1 0 ≡ 1) → count_by p xs + count_by q xs + count_by r xs ≡ length xs
+all_counted p q r [] each = refl
+all_counted p q r (x ∷ xs) each =
+    let one = count_next p x xs (p x) refl in
+    let two = count_next q x xs (q x) refl in
+    let three = count_next r x xs (r x) refl in
+    let rest = all_counted p q r xs each in
+    omega (arith, one, two, three, rest, each x)
+
+pub false_of : (b : Bool) → (b ≡ true → ⊥) → b ≡ false
+false_of true never = absurd (never refl)
+false_of false never = refl
+
+-- where only the item at one place may pass, it alone is counted
+pub one_counted : {A : Type 0} → (p : A → Bool) (xs : List A) (i : ℕ) (d : A) → i < length xs → ((k : ℕ) → k < length xs → p (get_or xs k d) ≡ true → k ≡ i) → count_by p xs ≡ cond (p (get_or xs i d)) 1 0
+one_counted p [] i d inside only = absurd (omega arith)
+one_counted p (x ∷ xs) zero d inside only =
+    let next = count_next p x xs (p x) refl in
+    let rest = none_counted p xs d (λ k below. false_of (p (get_or xs k d)) (λ is. let one = only (suc k) (omega arith) is in omega (arith, one))) in
+    omega (arith, next, rest)
+one_counted p (x ∷ xs) (suc i) d inside only =
+    let next = count_next p x xs false (false_of (p x) (λ is. let one = only 0 (omega arith) is in omega (arith, one))) in
+    let rest = one_counted p xs i d (omega arith) (λ k below is. let one = only (suc k) (omega arith) is in omega (arith, one)) in
+    omega (arith, next, rest)

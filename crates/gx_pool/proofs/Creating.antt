@@ -3,14 +3,15 @@ use Rattle.std.proofs.Common.{◌≡◌, ◌∙◌, ap, refl, ◌⊎◌, inl, in
 use Rattle.std.proofs.lemmas.List.{set-set}
 use Rattle.gx_page.specs.Edits.{blank}
 use Rattle.gx_pool.specs.declared.mark.Mark.{Mark}
-use Rattle.gx_pool.specs.Marks.{empty, clean}
+use Rattle.gx_pool.specs.Marks.{empty, clean, is_dirty}
 use Rattle.gx_pool.specs.State.{State, IsSound, NoneClean, mark_at, kept, clean_count}
 use Rattle.gx_pool.specs.Edits.{vacated, with_page, settled}
 use Rattle.gx_pool.specs.Bringing.{Left}
 use Rattle.gx_pool.specs.Creating.{Creates}
 use Rattle.gx_pool.proofs.Places.{vacated_sound, with_page_sound, vacated_kept, vacated_gone, loaded_kept, settled_kept, settled_other}
-use Rattle.gx_pool.proofs.Bringing.{is_some_page, spare, vacated_free, loaded_page}
+use Rattle.gx_pool.proofs.Bringing.{clean_stamp, is_some_page, spare, vacated_free, loaded_page}
 use Rattle.gx_pool.proofs.Counting.{none_counted, one_fewer}
+use Rattle.gx_pool.proofs.Numbers.{then_dirty}
 
 -- where none is clean, so many are
 pub none_clean_counted : (s : State) → NoneClean s → clean_count s ≡ 0
@@ -47,6 +48,7 @@ created s t u i page level batch sound inside is small te ue =
           (settled_other v i page q level (Some batch) whole (vacated_free s i inside) ne ∙ loaded_kept (vacated s i) i q (blank level page) (vacated_sound s i sound inside) (vacated_free s i inside))
           (gone_or_same s i q sound inside is);
       fewer = ap (λ marks. count_by (clean s.held) marks + 1) (set-set s.marks i empty mark) ∙ one_fewer (clean s.held) s.marks i mark empty inside is refl;
+      dirty = ap (count_by is_dirty) (set-set s.marks i empty mark) ∙ then_dirty s i mark inside (clean_stamp s i is) refl;
       held = refl;
       gated = refl;
       frames = length-set v.marks i mark ∙ length-set s.marks i empty;

@@ -3,6 +3,7 @@ pub mod Counting
 pub mod Creating
 pub mod Gated
 pub mod Keeping
+pub mod Numbers
 pub mod Places
 pub mod Shown
 pub mod Writing

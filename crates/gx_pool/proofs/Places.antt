@@ -88,6 +88,10 @@ vacated_sound s i sound inside =
             forgotten_other s.places o page (λ same. other.0 (one_of j i (place_of s page) at (sound.back i page same))) ∙ at
       ];
       zero = forgotten_none s.places o 0 sound.zero;
+      blank = λ j none. elim (set_cases s.marks i j empty empty inside) [
+        | inl here ↦ ap (λ m. m.stamp) here.1
+        | inr other ↦ ap (λ m. m.stamp) other.1 ∙ sound.blank j (ap (λ m. m.page) (sym other.1) ∙ none)
+      ];
     }
 
 pub with_page_sound : (s : State) (i : ℕ) (page : Contents) → IsSound s → IsSound (with_page s i page)
@@ -98,6 +102,7 @@ with_page_sound s i page sound = record {
   there = sound.there;
   back = sound.back;
   zero = sound.zero;
+  blank = sound.blank;
 }
 
 pub settled_sound : (s : State) (i page level : ℕ) (stamp : Option ℕ) → IsSound s → i < length s.marks → (mark_at s i).page ≡ None → 1 ≤ page → page ≤ 65536 → place_of s page ≡ None
@@ -129,6 +134,10 @@ settled_sound s i page level stamp sound inside free positive small absent =
             get_or-set_other s.places page q (Some i) None (λ e. not_both j (place_of s q) at (ap (place_of s) e ∙ absent)) ∙ at
       ];
       zero = get_or-set_other s.places page 0 (Some i) None (λ e. omega (arith, e, positive)) ∙ sound.zero;
+      blank = λ j none. elim (set_cases s.marks i j new empty inside) [
+        | inl here ↦ absurd (not_both page (mark_at (settled s i page level stamp) j).page (ap (λ m. m.page) here.1) none)
+        | inr other ↦ ap (λ m. m.stamp) other.1 ∙ sound.blank j (ap (λ m. m.page) (sym other.1) ∙ none)
+      ];
     }
 
 stamped_page : (s : State) (i j : ℕ) (stamp : Option ℕ) → i < length s.marks → (mark_at (stamped s i stamp) j).page ≡ (mark_at s j).page
@@ -137,8 +146,12 @@ stamped_page s i j stamp inside = elim (set_cases s.marks i j (record (mark_at s
   | inr other ↦ ap (λ m. m.page) other.1
 ]
 
-pub stamped_sound : (s : State) (i : ℕ) (stamp : Option ℕ) → IsSound s → i < length s.marks → IsSound (stamped s i stamp)
-stamped_sound s i stamp sound inside =
+not_none : (o : Option ℕ) → IsSome o → o ≡ None → ⊥
+not_none None is none = grind arith
+not_none (Some n) is none = none-some n (sym none)
+
+pub stamped_sound : (s : State) (i : ℕ) (stamp : Option ℕ) → IsSound s → i < length s.marks → IsSome (mark_at s i).page → IsSound (stamped s i stamp)
+stamped_sound s i stamp sound inside there =
     let new : Mark = record (mark_at s i) { stamp = stamp } in
     record {
       sizes = sound.sizes ∙ sym (length-set s.marks i new);
@@ -147,10 +160,14 @@ stamped_sound s i stamp sound inside =
       there = λ page j is. let old = sound.there page j is in (rw (length-set s.marks i new) old.0, stamped_page s i j stamp inside ∙ old.1);
       back = λ j page is. sound.back j page (sym (stamped_page s i j stamp inside) ∙ is);
       zero = sound.zero;
+      blank = λ j none. elim (set_cases s.marks i j new empty inside) [
+        | inl here ↦ absurd (not_none (mark_at s i).page there (sym (ap (λ m. m.page) here.1) ∙ none))
+        | inr other ↦ ap (λ m. m.stamp) other.1 ∙ sound.blank j (ap (λ m. m.page) (sym other.1) ∙ none)
+      ];
     }
 
 pub held_sound : (s : State) (held : List ℕ) → IsSound s → IsSound (record s { held = held })
-held_sound s held sound = record { sizes = sound.sizes; few = sound.few; numbers = sound.numbers; there = sound.there; back = sound.back; zero = sound.zero }
+held_sound s held sound = record { sizes = sound.sizes; few = sound.few; numbers = sound.numbers; there = sound.there; back = sound.back; zero = sound.zero; blank = sound.blank }
 
 -- a page's frame is one
 pub placed_inside : (s : State) (page : ℕ) (o : Option ℕ) → IsSound s → place_of s page ≡ o → IfSome o (λ i. i < length s.marks)
@@ -302,6 +319,11 @@ pub least_none : (s : State) (least : Option ℕ) → IsSound s → IsLeast s.ga
 least_none s None sound is = λ q other. let there = writable_there s q sound other in none-some q (sym (is there.0 there.1) ∙ there.2)
 least_none s (Some page) sound is = tt
 
+-- a page whose changes are gated has some
+pub gated_stamp : (gated : ℕ) (stamp : Option ℕ) → is_gated gated stamp ≡ true → IsSome stamp
+gated_stamp gated None is = absurd (grind arith)
+gated_stamp gated (Some n) is = refl
+
 -- the frame of a page tells whether it may be written
 pub placed_gated : (s : State) (page i : ℕ) → place_of s page ≡ Some i → is_gated s.gated (stamp_of (kept s page)) ≡ is_gated s.gated (mark_at s i).stamp
 placed_gated s page i at = ap (λ k. is_gated s.gated (stamp_of k)) (kept_some s page i at)
@@ -326,7 +348,12 @@ empty_sound s sizes few numbers marks places = record {
   there = λ page i at. absurd (not_both i (place_of s page) at (places page));
   back = λ i page at. absurd (not_both page (mark_at s i).page at (ap (λ m. m.page) (marks i)));
   zero = places 0;
+  blank = λ i none. ap (λ m. m.stamp) (marks i);
 }
+
+-- a page's frame has a page
+pub has_page : (s : State) (page i : ℕ) → IsSound s → place_of s page ≡ Some i → IsSome (mark_at s i).page
+has_page s page i sound at = ap is_some (sound.there page i at).1
 
 -- ---- a change
 
@@ -340,7 +367,7 @@ changed_kept s page stamp contents k sound is = changed_at_kept (place_of s page
     changed_at_kept None at is = absurd (none-some k is)
     changed_at_kept (Some i) at is =
         let t : State = stamped s i (Some (later stamp (mark_at s i).stamp)) in
-        paged_kept t i page contents (stamped_sound s i _ sound (sound.there page i at).0) at
+        paged_kept t i page contents (stamped_sound s i _ sound (sound.there page i at).0 (has_page s page i sound at)) at
         ∙ ap (λ m. Some (record { page = contents; stamp = m.stamp })) (get_or-set_same s.marks i _ empty (sound.there page i at).0)
         ∙ ap (λ o. Some (record { page = contents; stamp = Some (later stamp (stamp_of o)) })) is
 
@@ -351,4 +378,4 @@ changed_other s page other stamp contents sound ne = changed_at_other (place_of 
     changed_at_other None at = refl
     changed_at_other (Some i) at =
         let t : State = stamped s i (Some (later stamp (mark_at s i).stamp)) in
-        paged_other t i page other contents (stamped_sound s i _ sound (sound.there page i at).0) at ne ∙ stamped_other s i page other _ sound at ne
+        paged_other t i page other contents (stamped_sound s i _ sound (sound.there page i at).0 (has_page s page i sound at)) at ne ∙ stamped_other s i page other _ sound at ne

@@ -7,7 +7,7 @@ use Rattle.gx_pool.specs.declared.fault.PoolFault.{PoolFault}
 use Rattle.gx_pool.specs.declared.fault.PoolFault.TheVariants.{NoCleanFrame, Device as DeviceFault, Damaged}
 use Rattle.gx_pool.specs.Area.{bytes_of, IsPassing}
 use Rattle.gx_pool.specs.Marks.{is_held}
-use Rattle.gx_pool.specs.State.{State, kept, AllKept, IsSpare, NoneClean, SomeClean}
+use Rattle.gx_pool.specs.State.{State, kept, dirty_count, AllKept, IsSpare, NoneClean, SomeClean}
 
 -- the bytes are the image of these contents
 pub record HasImage (bytes : List ℕ) (contents : Contents) : Type 0 where
@@ -29,9 +29,11 @@ pub record Left (old new : State) (page : ℕ) : Type 0 where
   pub was : IsSpare old page
   pub is : kept new page ≡ None
 
--- Pages were brought: each page is kept as it was, or went, or came. So one that is dirty or held is as it was.
+-- Pages were brought: each page is kept as it was, or went, or came. So one that is dirty or held is as it was, and as many
+-- are dirty as before.
 pub record Brings (passes : Contents → Bool) (honest : Bool) (seen : List ℕ) (old new : State) : Type 0 where
   pub fates : (page : ℕ) → (kept new page ≡ kept old page) ⊎ (Left old new page ⊎ Came passes honest seen old new page)
+  pub dirty : dirty_count new ≡ dirty_count old
   pub held : new.held ≡ old.held
   pub gated : new.gated ≡ old.gated
   pub frames : length new.marks ≡ length old.marks

@@ -1,10 +1,11 @@
 -- The laws of the pool.
-use Rattle.std.specs.Prelude.{◌≡◌, ◌≢◌, ◌<◌, ℕ, List, Bool, true, Option, Some, None}
+use Rattle.std.specs.Prelude.{◌≡◌, ◌≢◌, ◌⊎◌, ◌<◌, ◌≤◌, ◌+◌, ℕ, List, length, Bool, true, Option, Some, None, IsSome}
 use Rattle.gx_page.specs.Contents.{Contents}
 use Rattle.gx_page.specs.Edits.{blank}
 use Rattle.gx_page.specs.Reading.{read_of}
 use Rattle.gx_pool.specs.Area.{bytes_of}
-use Rattle.gx_pool.specs.State.{State, Kept, IsSound, NoneClean, SomeClean, clean_count, kept}
+use Rattle.gx_pool.specs.Marks.{is_held}
+use Rattle.gx_pool.specs.State.{State, Kept, IsSound, IsSpare, NoneClean, NoneDirty, SomeClean, clean_count, dirty_count, kept}
 use Rattle.gx_pool.specs.Edits.{changed, later}
 use Rattle.gx_pool.specs.Bringing.{Brings, HasImage}
 use Rattle.gx_pool.specs.Creating.{Creates}
@@ -55,3 +56,34 @@ SomeAreClean = (s : State) → 0 < clean_count s → SomeClean s
 
 abbrev pub NoneAreClean : Type 0
 NoneAreClean = (s : State) → NoneClean s → clean_count s ≡ 0
+
+abbrev pub CleanAndDirtyAreApart : Type 0
+CleanAndDirtyAreApart = (s : State) → clean_count s + dirty_count s ≤ length s.marks
+
+-- a frame that is neither clean nor dirty has a page that the event holds
+abbrev pub AllButHeldAreCounted : Type 0
+AllButHeldAreCounted = (s : State) → IsSound s → length s.marks ≤ clean_count s + dirty_count s + length s.held
+
+abbrev pub NoneDirtyIsZero : Type 0
+NoneDirtyIsZero = (s : State) → IsSound s → NoneDirty s → dirty_count s ≡ 0
+
+abbrev pub ZeroIsNoneDirty : Type 0
+ZeroIsNoneDirty = (s : State) → IsSound s → dirty_count s ≡ 0 → NoneDirty s
+
+abbrev pub ChangeOfACleanPageRaises : Type 0
+ChangeOfACleanPageRaises = (s : State) (page stamp : ℕ) (contents : Contents) (k : Kept) → IsSound s → kept s page ≡ Some k → k.stamp ≡ None
+    → dirty_count (changed s page stamp contents) ≡ dirty_count s + 1
+
+abbrev pub ChangeOfADirtyPageLeaves : Type 0
+ChangeOfADirtyPageLeaves = (s : State) (page stamp : ℕ) (contents : Contents) (k : Kept) → IsSound s → kept s page ≡ Some k → IsSome k.stamp
+    → dirty_count (changed s page stamp contents) ≡ dirty_count s
+
+-- of a page that is held or was dirty
+abbrev pub ChangeKeepsClean : Type 0
+ChangeKeepsClean = (s : State) (page stamp : ℕ) (contents : Contents) (k : Kept) → IsSound s → kept s page ≡ Some k → (is_held s.held (Some page) ≡ true) ⊎ IsSome k.stamp
+    → clean_count (changed s page stamp contents) ≡ clean_count s
+
+-- of a page that might have gone
+abbrev pub ChangeTakesAClean : Type 0
+ChangeTakesAClean = (s : State) (page stamp : ℕ) (contents : Contents) (k : Kept) → IsSound s → kept s page ≡ Some k → IsSpare s page
+    → clean_count (changed s page stamp contents) + 1 ≡ clean_count s

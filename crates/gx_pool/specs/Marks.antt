@@ -1,5 +1,5 @@
 -- What is known of a frame besides its page.
-use Rattle.std.specs.Prelude.{◌≡◌, ℕ, ◌<◌, ◌≤◌, ◌==◌, ◌&&◌, Bool, false, not, if◌then◌else◌, List, slice_index_or, Option, Some, None, MatchOption, is_none, nat_le}
+use Rattle.std.specs.Prelude.{◌≡◌, ℕ, ◌<◌, ◌≤◌, ◌==◌, ◌&&◌, Bool, false, not, if◌then◌else◌, List, slice_index_or, Option, Some, None, MatchOption, is_none, is_some, nat_le}
 use Rattle.std.specs.List.{list_any}
 use Rattle.gx_pool.specs.declared.mark.Mark.{Mark}
 
@@ -15,6 +15,10 @@ is_held held (Some page) = list_any (λ other. other == page) held
 -- whether a frame is empty or has a clean page that isn't held
 abbrev pub clean : List ℕ → Mark → Bool
 clean held mark = is_none mark.stamp && not (is_held held mark.page)
+
+-- whether a frame has a dirty page
+abbrev pub is_dirty : Mark → Bool
+is_dirty mark = is_some mark.stamp
 
 -- whether a page has changes, and all are in gated batches
 abbrev pub is_gated : ℕ → Option ℕ → Bool

@@ -1,9 +1,9 @@
 -- What frames hold.
-use Rattle.std.specs.Prelude.{◌≡◌, ℕ, ◌<◌, ◌≤◌, List, [], length, slice_index, slice_index_or, count_by, true, false, Option, Some, None, IsSome}
+use Rattle.std.specs.Prelude.{◌≡◌, ℕ, zero, suc, ◌+◌, ◌<◌, ◌≤◌, List, [], length, slice_index, slice_index_or, count_by, Bool, true, false, not, ◌&&◌, cond, Option, Some, None, IsSome, is_none, take}
 use Rattle.gx_page.specs.Contents.{Contents}
 use Rattle.gx_page.specs.Edits.{blank}
 use Rattle.gx_pool.specs.declared.mark.Mark.{Mark}
-use Rattle.gx_pool.specs.Marks.{clean, empty, is_gated, is_held}
+use Rattle.gx_pool.specs.Marks.{clean, empty, is_dirty, is_gated, is_held}
 
 pub record State : Type 0 where
   -- the page in each frame
@@ -43,7 +43,7 @@ abbrev pub stamp_of : Option Kept → Option ℕ
 stamp_of None = None
 stamp_of (Some k) = k.stamp
 
--- frames and places name each other, and no page has the number 0
+-- frames and places name each other, no page has the number 0, and a frame without a page has no stamp
 pub record IsSound (s : State) : Type 0 where
   pub sizes : length s.pages ≡ length s.marks
   pub few : length s.marks ≤ 4096
@@ -51,6 +51,7 @@ pub record IsSound (s : State) : Type 0 where
   pub there : (page i : ℕ) → place_of s page ≡ Some i → (i < length s.marks) × ((mark_at s i).page ≡ Some page)
   pub back : (i page : ℕ) → (mark_at s i).page ≡ Some page → place_of s page ≡ Some i
   pub zero : place_of s 0 ≡ None
+  pub blank : (i : ℕ) → (mark_at s i).page ≡ None → (mark_at s i).stamp ≡ None
 
 -- the page has changes, and all are in gated batches
 abbrev pub IsWritable : State → ℕ → Type 0
@@ -72,6 +73,28 @@ SomeClean s = (i : ℕ) × (i < length s.marks) × (clean s.held (mark_at s i) �
 -- how many frames are clean for the event
 abbrev pub clean_count : State → ℕ
 clean_count s = count_by (clean s.held) s.marks
+
+-- how many frames have a dirty page
+abbrev pub dirty_count : State → ℕ
+dirty_count s = count_by is_dirty s.marks
+
+-- whether a frame has a page, and that page is clean
+abbrev pub is_clean_at : State → Option ℕ → Bool
+is_clean_at s None = false
+is_clean_at s (Some i) = is_none (mark_at s i).stamp
+
+-- whether a page is kept clean
+abbrev pub is_clean_page : State → ℕ → Bool
+is_clean_page s page = is_clean_at s (place_of s page)
+
+-- whether the k-th page that the event holds is none of those before it, and is kept clean
+abbrev pub is_counted : State → ℕ → Bool
+is_counted s k = not (is_held (take k s.held) (Some (slice_index s.held k))) && is_clean_page s (slice_index s.held k)
+
+-- how many of the first so many pages that the event holds are kept clean, each counted once
+unfoldable pub held_clean : State → ℕ → ℕ
+held_clean s zero = 0
+held_clean s (suc k) = held_clean s k + cond (is_counted s k) 1 0
 
 -- each of the pages is kept
 abbrev pub AllKept : State → List ℕ → Type 0

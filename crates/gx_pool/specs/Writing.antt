@@ -1,20 +1,24 @@
 -- What a page's write leaves.
-use Rattle.std.specs.Prelude.{◌≡◌, ◌≢◌, ◌⊎◌, ◌≤◌, ◌+◌, ℕ, length, true, Some, None, Option, Result, OnOk, OnErr}
+use Rattle.std.specs.Prelude.{◌≡◌, ◌≢◌, ◌⊎◌, ◌≤◌, ◌+◌, ℕ, length, true, false, Some, None, Option, Result, OnOk, OnErr}
 use Rattle.gx_disk.specs.Device.{Device, Counts, Elapses, Touches, Writes}
 use Rattle.gx_page.specs.Contents.{Contents}
 use Rattle.gx_page.specs.Format.{image_of}
 use Rattle.gx_pool.specs.Area.{first_of}
 use Rattle.gx_pool.specs.Bringing.{HasImage}
 use Rattle.gx_pool.specs.Laws.{IsBacked, shown}
-use Rattle.gx_pool.specs.State.{State, Kept, kept, stamp_of}
+use Rattle.gx_pool.specs.Marks.{is_held}
+use Rattle.gx_pool.specs.State.{State, Kept, clean_count, dirty_count, kept, stamp_of}
 
--- A kept page was written to its sectors, as the image that reads back as it. Where that succeeded, it is clean; where it
--- failed, all is kept as it was.
+-- A kept page was written to its sectors, as the image that reads back as it. Where that succeeded, it is clean, one page
+-- fewer is dirty, and its frame is clean too unless the event holds the page; where it failed, all is kept as it was.
 pub record WritesPage {A E : Type 0} (d e : Device) (old new : State) (page : ℕ) (k : Kept) (result : Result A E) : Type 0 where
   pub counts : Counts 1 d e result
   pub image : HasImage (image_of k.page) k.page
   pub writes : d.honest ≡ true → Writes (first_of page) 8 (image_of k.page) d e result
   pub clean : OnOk result (kept new page ≡ Some (record { page = k.page; stamp = None }))
+  pub fewer : OnOk result (dirty_count new + 1 ≡ dirty_count old)
+  pub free : OnOk result (is_held old.held (Some page) ≡ false → clean_count new ≡ clean_count old + 1)
+  pub stays_held : OnOk result (is_held old.held (Some page) ≡ true → clean_count new ≡ clean_count old)
   pub failed : OnErr result (new ≡ old)
   pub others : (q : ℕ) → q ≢ page → kept new q ≡ kept old q
   pub held : new.held ≡ old.held
@@ -33,7 +37,8 @@ contents_of (Some k) = Some k.page
 
 -- At most a page was written, whether that succeeded, failed, or wasn't to be done. Of an honest device only the page's eight
 -- sectors may read otherwise, or be pending where they were settled, and time went on; at most one call was made. Each other
--- page is kept as it was, and this one with the same contents. What is dirty was so, with the same stamp.
+-- page is kept as it was, and this one with the same contents. What is dirty was so, with the same stamp; no more pages are
+-- dirty, and no fewer frames are clean.
 pub record WritesAtMost (d e : Device) (old new : State) (page : ℕ) : Type 0 where
   pub touches : d.honest ≡ true → Touches (first_of page) 8 d e
   pub time : d.honest ≡ true → Elapses d e
@@ -41,6 +46,8 @@ pub record WritesAtMost (d e : Device) (old new : State) (page : ℕ) : Type 0 w
   pub others : (q : ℕ) → q ≢ page → kept new q ≡ kept old q
   pub contents : (q : ℕ) → contents_of (kept new q) ≡ contents_of (kept old q)
   pub dirty : (q n : ℕ) → stamp_of (kept new q) ≡ Some n → stamp_of (kept old q) ≡ Some n
+  pub no_more_dirty : dirty_count new ≤ dirty_count old
+  pub no_fewer_clean : clean_count old ≤ clean_count new
   pub held : new.held ≡ old.held
   pub gated : new.gated ≡ old.gated
   pub frames : length new.marks ≡ length old.marks

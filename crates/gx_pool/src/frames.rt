@@ -1,5 +1,5 @@
 //! Frames, and the table of which page is in which.
-ghost use Rattle.std.specs.Prelude.{◌≡◌, ◌≢◌, ◌<◌, ◌≤◌, ◌+◌, ◌*◌, ◌↔◌, ⊤, ℕ, true, false, IsTrue, IsSome, IfOk, OnOk, OnErr, IfSome, IfNone, Some, None, length, slice_index_or, nat_le, max};
+ghost use Rattle.std.specs.Prelude.{◌≡◌, ◌≢◌, ◌<◌, ◌≤◌, ◌+◌, ◌*◌, ◌↔◌, ⊤, ℕ, true, false, IsTrue, IsSome, IfOk, OnOk, OnErr, IfSome, IfNone, Some, None, length, count_by, slice_index_or, nat_le, max};
 ghost use Rattle.std.specs.Borrow.{sem};
 ghost use Rattle.std.specs.Bool.{OnTrue, OnFalse};
 ghost use Rattle.gx_page.specs.Edits.{blank};
@@ -25,24 +25,26 @@ pub struct Frames {
     held: ArrayVec<u32, HELD>,
     gated: u64,
     hand: usize,
+    dirty: usize,
 }
 
 impl Model for Frames {
-    ghost use Rattle.std.specs.Prelude.{◌≤◌, length};
+    ghost use Rattle.std.specs.Prelude.{◌≡◌, ◌≤◌, count_by, length};
+    ghost use Rattle.gx_pool.specs.Marks.{is_dirty};
     ghost use Rattle.gx_pool.specs.State.{State, IsSound};
 
     ghost Value = { State };
 
     ghost view = { λ s. record { pages = s.pages.items; marks = s.marks.items; places = s.places.items; held = s.held.items; gated = s.gated } };
 
-    ghost invariant = { λ s. IsSound (record { pages = s.pages.items; marks = s.marks.items; places = s.places.items; held = s.held.items; gated = s.gated }) × (s.hand ≤ length s.marks.items) };
+    ghost invariant = { λ s. IsSound (record { pages = s.pages.items; marks = s.marks.items; places = s.places.items; held = s.held.items; gated = s.gated }) × (s.hand ≤ length s.marks.items) × (s.dirty ≡ count_by is_dirty s.marks.items) };
 }
 
 impl Frames {
     ghost use Rattle.gx_pool.specs.Lending.{LendsPage, LendsChange};
     ghost use Rattle.gx_pool.specs.Marks.{clean, empty, is_gated};
     ghost use Rattle.gx_pool.specs.Creating.{Creates};
-    ghost use Rattle.gx_pool.specs.State.{State, IsEmpty, IsSound, place_of, mark_at, kept, stamp_of, clean_count, NoneClean, IsWritable};
+    ghost use Rattle.gx_pool.specs.State.{State, IsEmpty, IsSound, place_of, mark_at, kept, stamp_of, clean_count, dirty_count, held_clean, is_clean_page, is_counted, NoneClean, NoneDirty, IsWritable};
     ghost use Rattle.gx_pool.specs.Edits.{vacated, with_page, settled, stamped};
 
     /// So many empty frames, with the table of pages.
@@ -58,6 +60,7 @@ impl Frames {
             held: ArrayVec::new(),
             gated: 0,
             hand: 0,
+            dirty: 0,
         })
     }
 
@@ -127,7 +130,7 @@ impl Frames {
     {
         let mark = mark::mark_in(&self.marks, i);
         mark::forget(&mut self.places, mark.page);
-        self.marks[i] = Mark::empty();
+        self.dirty = mark::put(&mut self.marks, i, Mark::empty(), self.dirty);
     }
 
     /// Reads an image into an empty frame.
@@ -149,11 +152,12 @@ impl Frames {
         requires number { 1 ≤ page }
         ensures { self.new ≡ settled self.old i page level stamp }
     {
-        self.marks[i] = Mark {
+        let mark = Mark {
             page: Some(page),
             level,
             stamp,
         };
+        self.dirty = mark::put(&mut self.marks, i, mark, self.dirty);
         self.places[page as usize] = Some(i as u16);
     }
 
@@ -187,18 +191,66 @@ impl Frames {
     pub(crate) fn clean_frames(&self) -> usize
         ensures { result ≡ clean_count self.now }
     {
-        mark::clean_count(&self.marks, &self.held)
+        self.marks.len() - self.dirty - self.held_clean()
+    }
+
+    /// How many frames have a dirty page.
+    pub(crate) fn dirty_frames(&self) -> usize
+        ensures count { result ≡ dirty_count self.now }
+        ensures few { result ≤ length self.now.marks }
+        ensures zero { (result ≡ 0) ↔ NoneDirty self.now }
+        ensures sound { IsSound self.now }
+    {
+        self.dirty
+    }
+
+    /// How many of the pages that are held are kept clean, each counted once.
+    #[tactic(auto, using(crate::proofs::Numbers::next_clean, crate::proofs::Numbers::same_clean, crate::proofs::Numbers::no_clean))]
+    fn held_clean(&self) -> usize
+        ensures { result ≡ held_clean self.now (length self.now.held) }
+    {
+        let mut count = 0;
+        for k in 0..self.held.len() {
+            if self.is_counted(k) {
+                count += 1;
+            }
+        }
+        count
+    }
+
+    /// Whether one of the pages that are held is none of those before it, and is kept clean.
+    fn is_counted(&self, k: usize) -> bool
+        requires { k < length self.now.held }
+        ensures { result ≡ is_counted self.now k }
+    {
+        let page = self.held[k];
+        !mark::is_among(page, &self.held[..k]) && self.is_clean_page(page)
+    }
+
+    /// Whether a page is kept clean.
+    fn is_clean_page(&self, page: u32) -> bool
+        ensures { result ≡ is_clean_page self.now page }
+    {
+        let count = self.places.len();
+        if page as usize >= count {
+            return false;
+        }
+        match self.place(page) {
+            Some(i) => self.mark(i).stamp.is_none(),
+            None => false,
+        }
     }
 
     /// Stamps the page in a frame, or says that it is as the device has it.
     #[tactic(auto, using(crate::proofs::Places::stamped_sound))]
     pub(crate) fn stamp(&mut self, i: usize, stamp: Option<u64>)
-        requires { i < length self.old.marks }
+        requires frame { i < length self.old.marks }
+        requires page { IsSome (mark_at self.old i).page }
         ensures stamped { self.new ≡ stamped self.old i stamp }
         ensures sound { IsSound self.old }
     {
         let mark = mark::mark_in(&self.marks, i);
-        self.marks[i] = Mark { stamp, ..mark };
+        self.dirty = mark::put(&mut self.marks, i, Mark { stamp, ..mark }, self.dirty);
     }
 
     /// A page that is kept, to change, as of a batch.

@@ -1,6 +1,6 @@
 //! Laws of the pool. Each function is its contract alone.
 ghost use Rattle.gx_pool.specs.Gated.{ImagesAgree};
-ghost use Rattle.gx_pool.specs.Laws.{ChangeIsOfItsPage, ChangeIsOfNoOther, BringingKeepsBacked, BringingShowsTheSame, BringingKeepsPassing, CreatingKeepsBacked, CreatingShowsTheSame, CreatingKeepsPassing, SomeAreClean, NoneAreClean};
+ghost use Rattle.gx_pool.specs.Laws.{ChangeIsOfItsPage, ChangeIsOfNoOther, BringingKeepsBacked, BringingShowsTheSame, BringingKeepsPassing, CreatingKeepsBacked, CreatingShowsTheSame, CreatingKeepsPassing, SomeAreClean, NoneAreClean, CleanAndDirtyAreApart, AllButHeldAreCounted, NoneDirtyIsZero, ZeroIsNoneDirty, ChangeOfACleanPageRaises, ChangeOfADirtyPageLeaves, ChangeKeepsClean, ChangeTakesAClean};
 
 use gx_disk::SectorDisk;
 
@@ -26,10 +26,24 @@ pub fn creating()
     ensures passing { CreatingKeepsPassing }
 {}
 
-/// Some frame is clean exactly where the number of clean frames is positive.
+/// Some frame is clean exactly where the number of clean frames is positive, and no page is dirty exactly where the number of
+/// dirty frames is 0. A frame is clean or dirty, not both, or its page is clean and held.
 pub fn counting()
     ensures some { SomeAreClean }
     ensures none { NoneAreClean }
+    ensures apart { CleanAndDirtyAreApart }
+    ensures all { AllButHeldAreCounted }
+    ensures none_dirty { NoneDirtyIsZero }
+    ensures zero { ZeroIsNoneDirty }
+{}
+
+/// A change raises the number of dirty frames by one where the page was clean, and leaves it where it was dirty. It leaves the
+/// number of clean frames too where the page was dirty or is held; else it lowers that by one.
+pub fn change_counts()
+    ensures raises { ChangeOfACleanPageRaises }
+    ensures leaves { ChangeOfADirtyPageLeaves }
+    ensures keeps_clean { ChangeKeepsClean }
+    ensures takes_clean { ChangeTakesAClean }
 {}
 
 /// Where the sectors of all pages but some are settled, what a crash now may leave has each other page as it reads.

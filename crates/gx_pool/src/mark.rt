@@ -1,8 +1,8 @@
 //! What is known of a frame besides its page.
-ghost use Rattle.std.specs.Prelude.{◌≡◌, ◌==◌, ◌<◌, ◌+◌, ◌≤◌, true, false, ℕ, length, count_by, slice_index_or, Some, None, MatchOption, IfSome, IfNone, IfOk};
+ghost use Rattle.std.specs.Prelude.{◌≡◌, ◌==◌, ◌<◌, ◌+◌, ◌≤◌, true, false, cond, ℕ, length, count_by, slice_index_or, slice_set, Some, None, MatchOption, IfSome, IfNone, IfOk};
 ghost use Rattle.std.specs.List.{list_any};
 ghost use Rattle.gx_pool.specs.Edits.{forgotten, later};
-ghost use Rattle.gx_pool.specs.Marks.{clean, empty, is_gated, writable, IsLeast};
+ghost use Rattle.gx_pool.specs.Marks.{clean, empty, is_dirty, is_gated, writable, IsLeast};
 
 use arrayvec::ArrayVec;
 use gx_page::Page;
@@ -21,7 +21,7 @@ pub struct Mark {
 }
 
 /// Whether a page is among those held.
-fn is_among(page: u32, held: &[u32]) -> bool
+pub(crate) fn is_among(page: u32, held: &[u32]) -> bool
     ensures { result ≡ list_any (λ other. other == page) held.now }
 {
     held.iter().any(|other| *other == page)
@@ -102,6 +102,13 @@ impl Mark {
         }
     }
 
+    /// Whether its page is dirty.
+    fn is_dirty(&self) -> bool
+        ensures { result ≡ is_dirty self.now }
+    {
+        self.stamp.is_some()
+    }
+
     /// Whether its page is dirty and all its changes are in gated batches.
     pub(crate) fn is_gated(&self, gated: u64) -> bool
         ensures { result ≡ is_gated gated self.now.stamp }
@@ -152,11 +159,30 @@ pub(crate) fn frame_to_use(marks: &[Mark], held: &[u32], hand: usize) -> Option<
     clean_between(marks, held, 0, count, false)
 }
 
-/// How many of the frames are empty or have a clean page that isn't held.
-pub(crate) fn clean_count(marks: &[Mark], held: &[u32]) -> usize
-    ensures { result ≡ count_by (clean held.now) marks.now }
+/// How many frames are dirty, of so many before, once one that was dirty or wasn't is dirty or isn't.
+fn dirty_after(dirty: usize, was: bool, is: bool) -> usize
+    requires counted { cond was 1 0 ≤ dirty }
+    requires few { dirty ≤ 4096 }
+    ensures { result + cond was 1 0 ≡ dirty + cond is 1 0 }
 {
-    marks.iter().filter(|mark| mark.is_clean(held)).count()
+    match (was, is) {
+        (true, false) => dirty - 1,
+        (false, true) => dirty + 1,
+        _ => dirty,
+    }
+}
+
+/// Notes what is known of a frame; answers how many frames are dirty then, of so many before.
+pub(crate) fn put(marks: &mut Vec<Mark>, i: usize, mark: Mark, dirty: usize) -> usize
+    requires frame { (i < length marks.old.items) × (length marks.old.items ≤ 4096) }
+    requires counted { dirty ≡ count_by is_dirty marks.old.items }
+    ensures put { marks.new.items ≡ slice_set marks.old.items i mark }
+    ensures counted { result ≡ count_by is_dirty marks.new.items }
+{
+    let was = marks[i].is_dirty();
+    let is = mark.is_dirty();
+    marks[i] = mark;
+    dirty_after(dirty, was, is)
 }
 
 /// The least page that may be written.

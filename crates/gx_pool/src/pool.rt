@@ -1,11 +1,11 @@
 //! The pool: pages of a device that is lent to each call that may use it.
-ghost use Rattle.std.specs.Prelude.{Bool, List, ◌≡◌, ◌≢◌, ◌⊎◌, ◌<◌, ◌≤◌, ◌+◌, ◌/◌, ℕ, [], true, false, Some, None, IsSome, IfSome, IfNone, IfOk, OnOk, OnErr, length, slice_index, slice_index_or, max};
+ghost use Rattle.std.specs.Prelude.{Bool, List, ◌≡◌, ◌≢◌, ◌⊎◌, ◌<◌, ◌≤◌, ◌+◌, ◌/◌, ◌↔◌, ℕ, [], true, false, Some, None, IsSome, IfSome, IfNone, IfOk, OnOk, OnErr, length, slice_index, slice_index_or, max};
 ghost use Rattle.std.specs.Borrow.{sem};
 ghost use Rattle.std.specs.Bool.{OnTrue, OnFalse};
 ghost use Rattle.gx_page.specs.Edits.{blank};
 ghost use Rattle.gx_pool.specs.Area.{bytes_of, IsPage, IsPassing};
 ghost use Rattle.gx_pool.specs.Marks.{clean, empty, is_gated};
-ghost use Rattle.gx_pool.specs.State.{State, Kept, IsEmpty, IsSound, NoneDirty, AllKept, clean_count, holding, kept, mark_at, place_of, stamp_of, NoneClean, SomeClean, IsWritable};
+ghost use Rattle.gx_pool.specs.State.{State, Kept, IsEmpty, IsSound, NoneDirty, AllKept, clean_count, dirty_count, holding, kept, mark_at, place_of, stamp_of, NoneClean, SomeClean, IsWritable};
 ghost use Rattle.gx_pool.specs.Creating.{Creates};
 ghost use Rattle.gx_pool.specs.Gated.{IsAreaSettled, KeepsArea, NamesGated};
 ghost use Rattle.gx_pool.specs.Laws.{IsBacked, IsPassed};
@@ -158,6 +158,16 @@ impl<T: PageTest> Pool<T> {
         self.frames.clean_frames()
     }
 
+    /// How many frames have a page with changes that aren't on the device: at most all, and 0 exactly where no page has any.
+    pub fn dirty_frames(&self) -> usize
+        ensures count { result ≡ dirty_count self.now.frames }
+        ensures few { result ≤ length self.now.frames.marks }
+        ensures zero { (result ≡ 0) ↔ NoneDirty self.now.frames }
+        ensures sound { IsSound self.now.frames }
+    {
+        self.frames.dirty_frames()
+    }
+
     /// Makes a page that was never written: blank, of a level, and with a change of a batch. The device isn't read, since its
     /// sectors may hold anything, and no memory is taken. A clean frame is used, so a clean page that isn't held may go.
     /// The page is dirty, so it stays until it is written; nothing has to hold it.
@@ -180,6 +190,7 @@ impl<T: PageTest> Pool<T> {
     ) -> Result<(), PoolFault>
         requires page { IsPage (D.state disk.old).sectors page }
         requires frame { (place_of self.old.frames page ≡ Some i) × (i < length self.old.frames.marks) }
+        requires dirty { IsSome (mark_at self.old.frames i).stamp }
         requires sound { IsSound self.old.frames }
         ensures written { (k : Kept) → kept self.old.frames page ≡ Some k → WritesPage (D.state disk.old) (D.state disk.new) self.old.frames self.new.frames page k result }
         ensures fault { OnErr result (result ≡ Err PoolFault.Device) }

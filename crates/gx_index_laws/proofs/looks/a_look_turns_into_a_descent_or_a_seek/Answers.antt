@@ -5,7 +5,7 @@ pub returns-clause-descends : goal.returns-clause-descends
 returns-clause-descends g c = λ k l old w s e at call. look_descends k l old w s e at call
 
 pub returns-clause-absent : goal.returns-clause-absent
-returns-clause-absent g c = λ k l old w s e item at. descent_finds_none k l old w s e item at
+returns-clause-absent g c = λ k l old w s e parent item at. descent_finds_none k l old w s e parent item at
 
 pub returns-clause-seeks : goal.returns-clause-seeks
 returns-clause-seeks g c = λ k l old w s e leaf wanted used bottom some. look_seeks k l old w s e leaf wanted used bottom some

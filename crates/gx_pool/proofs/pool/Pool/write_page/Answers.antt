@@ -4,8 +4,13 @@ use Rattle.gx_pool.specs.State.{frame_at, stamp_of}
 use Rattle.gx_pool.proofs.Gated.{rest_keeps_area, write_keeps_area}
 use Rattle.gx_pool.proofs.Writing.{rest_at_most, write_at_most, write_counted}
 use Rattle.gx_pool.proofs.Keeping.{rest_keeps_shown, write_keeps_passing, write_keeps_shown}
-use Rattle.gx_pool.proofs.Places.{kept_none, kept_some}
+use Rattle.gx_pool.proofs.Places.{gated_stamp, kept_none, kept_some, placed_gated}
 use Rattle.gx_pool.proofs.pool.Pool.write_page.Goals as goal
+
+pub write_frame-requires-clause-dirty : goal.write_frame-requires-clause-dirty
+write_frame-requires-clause-dirty g c =
+    let s = c.args.self.now.frames in
+    gated_stamp s.gated _ (sym (placed_gated s c.args.page c.in-Some.i c.in-Some.ensures.some.1) ∙ c.in-Some.ensures.some.0)
 
 pub returns-in-Some-clause-written : goal.returns-in-Some-clause-written
 returns-in-Some-clause-written g c = λ k is gated. c.write_frame.ensures.written k is
