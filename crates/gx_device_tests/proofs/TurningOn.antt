@@ -1,6 +1,6 @@
 -- What a call of a turn keeps, calls in a row, and a head that is put first.
 use Rattle.std.proofs.Common.{◌≡◌, ◌∙◌, sym, ap, subst, refl, inl, ℕ, ◌+◌, ◌≤◌, Bool, true, false, List, [], ◌∷◌, ◌++◌, length, length-append, Result, Ok, Err, arith}
-use Rattle.std.specs.Prelude.{OnOk}
+use Rattle.std.specs.Prelude.{OnOk, IsErrAnd}
 use Rattle.gx_geom.specs.declared.refusal.Refusal.{Refusal}
 use Rattle.gx_disk.specs.Device.{Device}
 use Rattle.gx_disk.specs.Moments.{Leaves}
@@ -105,9 +105,10 @@ module _ {E P : Type 0} (k : Known E P) (r : Reading E P) (old middle new : Log)
       ends_after bodies s result join a (two bodies s l a.honest a.runs a.may)
 
 -- a turn that failed before its last call
-pub almost_fails : {E P : Type 0} (k : Known E P) (r : Reading E P) (old new : Log) (frames frames' : State) (d e : Device) (refusal : Refusal) → KeepsTurning k r old new frames frames' d e
-    → TurnEnds k r old new frames frames' d e (Err refusal)
-almost_fails k r old new frames frames' d e refusal keeps bodies s l honest runs may = (keeps bodies s l honest runs may).safely
+pub almost_fails : {E P : Type 0} (k : Known E P) (r : Reading E P) (old new : Log) (frames frames' : State) (d e : Device) (result : Result (Unit {0}) Refusal) (X : Refusal → Type 0) → IsErrAnd result X
+    → KeepsTurning k r old new frames frames' d e → TurnEnds k r old new frames frames' d e result
+almost_fails k r old new frames frames' d e (Ok x) X is keeps bodies s l honest runs may = absurd is
+almost_fails k r old new frames frames' d e (Err refusal) X is keeps bodies s l honest runs may = (keeps bodies s l honest runs may).safely
 
 -- a record was put
 pub put_one : {E P : Type 0} (r : Reading E P) (x : Rec) (old new : Log) (place : ℕ) → PutsFirst (spelling x) old new (At place) → HeadGrows r x old new (At place) → PutsOne r x old new
@@ -172,6 +173,7 @@ head_turns {E} {P} k r counters first second old middle new frames frames' d e r
     })
 
 -- the head had no room
-pub head_waits : {E P : Type 0} (k : Known E P) (r : Reading E P) (counters first second : Rec) (old new : Log) (frames frames' : State) (d : Device) (refusal : Refusal)
-    → TurnsOver k r counters first second old new frames frames' d d (Err refusal)
-head_waits k r counters first second old new frames frames' d refusal bodies s next l honest x y z is covers no_flight no_filling written settled runs = stays k r d s
+pub head_waits : {E P : Type 0} (k : Known E P) (r : Reading E P) (counters first second : Rec) (old new : Log) (frames frames' : State) (d : Device) (result : Result (Unit {0}) Refusal) (X : Refusal → Type 0)
+    → IsErrAnd result X → TurnsOver k r counters first second old new frames frames' d d result
+head_waits k r counters first second old new frames frames' d (Ok x) X is bodies s next l honest x' y z same covers no_flight no_filling written settled runs = absurd is
+head_waits k r counters first second old new frames frames' d (Err refusal) X is bodies s next l honest x y z same covers no_flight no_filling written settled runs = stays k r d s
