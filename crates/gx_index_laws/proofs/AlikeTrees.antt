@@ -9,7 +9,7 @@ use Rattle.gx_tree_laws.proofs.Chains.{walk_is, length_walk}
 use Rattle.gx_index_laws.specs.Alike.{AgreeOnUsed}
 
 module _ {B : Type 0} (r : Rules B) (one other : Tree B) (agree : AgreeOnUsed one other) where
-  used_too : (q : ℕ) → Used one q → Used other q
+  pub used_too : (q : ℕ) → Used one q → Used other q
   used_too q u = (u.0, subst (λ n. q ≤ n) (sym agree.used) u.1)
 
   pub used_back : (q : ℕ) → Used other q → Used one q

@@ -27,3 +27,7 @@ pub mod Measuring
 pub mod WorkedLife
 pub mod Meanwhile
 pub mod Chores
+pub mod Others
+pub mod AlikeLooks
+pub mod Unfreed
+pub mod Listed

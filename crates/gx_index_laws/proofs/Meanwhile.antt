@@ -174,14 +174,14 @@ module _ {B : Type 0} (c : Class B) (l : IsLawful c) (old new : Tree B) (legal :
           levels_by (must_restart c.rules old parent item) (must_restart c.rules new parent item) (old.node 1).level (old.node item.page).level (new.node 1).level (new.node item.page).level
           restart_stays (level_kept old new a pairs children changes 1) (level_kept old new a pairs children changes item.page) (level_most c.rules old legal item.page there)
 
-      descent_kept : (claimed : Pair B → Bool) → standing (is_sweepable claimed) new ≤ standing (is_sweepable claimed) old
+      pub descent_kept : (claimed : Pair B → Bool) → standing (is_sweepable claimed) new ≤ standing (is_sweepable claimed) old
           → descent_left c.rules new c.pages claimed parent item ≤ descent_left c.rules old c.pages claimed parent item
       descent_kept claimed stands =
           let levels = levels_stay in
           let free : (c.pages - new.used) * (c.pages + 1) ≡ (c.pages - old.used) * (c.pages + 1) = ap (λ k. (c.pages - k) * (c.pages + 1)) changes.used in
           omega (arith, levels, stands, free)
 
-    leaf_fits : (a : ℕ) → Used old a → (old.node a).level ≡ 0 → {A : Type 0} → 0 < times item.page (child_pages (old.node a)) → A
+    pub leaf_fits : (a : ℕ) → Used old a → (old.node a).level ≡ 0 → {A : Type 0} → 0 < times item.page (child_pages (old.node a)) → A
     leaf_fits a u bottom named =
         let none = ap (λ (ds : List (Child B)). times item.page (map (λ (d : Child B). d.page) ds)) ((legal.pages a u).leaf bottom) in
         absurd (omega (arith, none, named))

@@ -1,26 +1,27 @@
 //! How far an unanswered call still is from its end: a number below 2^40, which each of its own moves lowers.
-ghost use Rattle.std.specs.Prelude.{◌≡◌, ◌≤◌, ◌<◌, ◌^◌, ℕ, Bool, true, false, Some, List, [], ◌∷◌};
+ghost use Rattle.std.specs.Prelude.{◌≡◌, ◌≢◌, ◌≤◌, ◌<◌, ◌^◌, ℕ, Bool, true, false, Some, None, List, [], ◌∷◌};
 ghost use Rattle.gx_machine.specs.declared.entry.Entry.{Entry};
 ghost use Rattle.gx_machine.specs.declared.call.Call.{Call};
 ghost use Rattle.gx_machine.specs.declared.call.Call.TheVariants.{Commit};
 ghost use Rattle.gx_machine.specs.Sessions.{Locks};
 ghost use Rattle.gx_machine.specs.Sets.{has};
+ghost use Rattle.gx_machine.specs.Machine.{is_session};
 ghost use Rattle.gx_tree_laws.specs.Lists.{how_many};
 ghost use Rattle.gx_tree_laws.specs.Trees.{Pair, Used, size, child_pages, times};
-ghost use Rattle.gx_tree_laws.specs.Steps.{IsSplit, IsRootSplit, IsWidening, IsSweep, Step, IsStep};
+ghost use Rattle.gx_tree_laws.specs.Steps.{IsSplit, IsRootSplit, IsWidening, IsAdding, IsMarking, IsSweep, Step, IsStep};
 ghost use Rattle.gx_tree_laws.specs.Reach.{Item};
 ghost use Rattle.gx_tree_laws.specs.Looks.{from_root, stacked};
 ghost use Rattle.gx_tree_laws.specs.Writes.{is_sweepable, must_restart};
-ghost use Rattle.gx_engine_laws.specs.Slots.{Note, Working, Undoing, Waiting, slot_at, noted};
+ghost use Rattle.gx_engine_laws.specs.Slots.{Note, Slot, Working, Undoing, Waiting, locks_held, slot_at, noted};
 ghost use Rattle.gx_recovery.specs.Records.{Record};
 ghost use Rattle.gx_recovery.specs.Logged.{begun, gate_synced, AgreesBeside};
 ghost use Rattle.gx_recovery.specs.Life.{AllWritten};
 ghost use Rattle.gx_recovery.specs.Renewal.{renewed};
 ghost use Rattle.gx_index_laws.specs.Classes.{Class, Page, IsLawful, is_of, known_of};
 ghost use Rattle.gx_index_laws.specs.Steps.{IsPageStep};
-ghost use Rattle.gx_index_laws.specs.States.{State, Rests, Looks, Descends, Seeks, tree_now};
+ghost use Rattle.gx_index_laws.specs.States.{State, Work, Rests, Looks, Descends, Seeks, tree_now};
 ghost use Rattle.gx_index_laws.specs.Whole.{IsWhole};
-ghost use Rattle.gx_index_laws.specs.Happening.{with_record, with_work, with_restored};
+ghost use Rattle.gx_index_laws.specs.Happening.{with_record, with_work, slotted, with_restored};
 ghost use Rattle.gx_index_laws.specs.Measures.{claims_pair, work_left};
 ghost use Rattle.gx_index_laws.specs.Upkeep.{Upkeep, IsWithin, upkeep_left, Chore, IsChore};
 
@@ -121,9 +122,36 @@ pub fn what_is_no_sessions_leaves_no_more<B>()
         → (s : ℕ) → work_left c (with_record r old) s ≤ work_left c old s }
 {}
 
+/// Another session's slot and work may change in any way that frees no claim, as it asks, is answered or begins an undo: a
+/// session's call has no more to do for it.
+pub fn what_frees_no_claim_leaves_no_more<B>()
+    ensures { (c : Class B) → IsLawful c → (old : State B) (s a : ℕ) → a ≢ s → is_session s ≡ true → (slot : Slot B) (work : Work B)
+        → ((e : Entry B) → has c.keys e (locks_held (slot_at s old.slots)).claims ≡ true → has c.keys e (locks_held slot).claims ≡ true)
+        → work_left c (slotted s slot work old) a ≤ work_left c old a }
+{}
+
 /// What is to be done for the log and for frames, before a call that waits for it can go on, is below 2^13, with at most 4,096
 /// frames. Each chore that does its work lowers it: a step of the log, a page's write, a step of a checkpoint.
 pub fn chores_come_to_an_end()
     ensures most { (u : Upkeep) → IsWithin u → upkeep_left u < 2 ^ 13 }
     ensures falls { (old new : Upkeep) (chore : Chore) → IsChore old chore new → upkeep_left new < upkeep_left old }
+{}
+
+/// What another session writes leaves a session's call no more to do: a pair that it adds, a mark that it sets or clears, an entry
+/// that it restores. What it marks it claims, so that no sweep would take it yet.
+pub fn what_others_write_leaves_no_more<B>()
+    ensures adds { (c : Class B) → IsLawful c → (old : State B) → IsWhole c old → (r : Record (Entry B) (Page B)) (s a : ℕ) → a ≢ s → (locks : Locks B)
+        (notes then_notes : List (Note B)) (call : Call B) → slot_at s old.slots ≡ Working locks notes (Some call) → (leaf : ℕ) (x : Pair B) → x.marked ≡ false
+        → IsAdding c.rules (tree_now c old) (tree_now c (with_record r old)) leaf x
+        → work_left c (slotted s (Working locks then_notes None) Rests (with_record r old)) a ≤ work_left c old a }
+    ensures marks { (c : Class B) → IsLawful c → (old : State B) → IsWhole c old → (r : Record (Entry B) (Page B)) (s a : ℕ) → a ≢ s → (locks : Locks B)
+        (notes then_notes : List (Note B)) (call : Call B) → slot_at s old.slots ≡ Working locks notes (Some call) → (leaf : ℕ) (e : Entry B) (mark : Bool)
+        → has c.keys e locks.claims ≡ true → 0 < how_many (is_of c e) ((tree_now c old).node leaf).pairs
+        → IsMarking c.rules (tree_now c old) (tree_now c (with_record r old)) leaf e.row e.key mark
+        → work_left c (slotted s (Working locks then_notes None) Rests (with_record r old)) a ≤ work_left c old a }
+    ensures undoes { (c : Class B) → IsLawful c → (old : State B) → IsWhole c old → (r : Record (Entry B) (Page B)) (s a : ℕ) → a ≢ s → (locks : Locks B)
+        (notes : List (Note B)) → slot_at s old.slots ≡ Undoing locks notes → (leaf : ℕ) (e : Entry B) (mark : Bool)
+        → has c.keys e locks.claims ≡ true → 0 < how_many (is_of c e) ((tree_now c old).node leaf).pairs
+        → IsMarking c.rules (tree_now c old) (tree_now c (with_record r old)) leaf e.row e.key mark
+        → work_left c (with_restored s e (with_record r old)) a ≤ work_left c old a }
 {}

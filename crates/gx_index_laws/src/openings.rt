@@ -1,11 +1,12 @@
 //! How an index is opened, over what a crash left and over any log that is undamaged.
-ghost use Rattle.std.specs.Prelude.{◌≡◌, ◌≤◌, ℕ, List, ◌∷◌, replicate};
+ghost use Rattle.std.specs.Prelude.{◌≡◌, ◌≤◌, ℕ, not, List, ◌∷◌, map, filter, flat_map, replicate};
 ghost use Rattle.gx_machine.specs.declared.limits.TheConstants.{SESSIONS};
 ghost use Rattle.gx_machine.specs.declared.entry.Entry.{Entry};
 ghost use Rattle.gx_machine.specs.Sets.{IsSetOf};
 ghost use Rattle.gx_machine.specs.Machine.{Machine};
+ghost use Rattle.gx_tree_laws.specs.Trees.{Tree, leaves};
 ghost use Rattle.gx_engine_laws.specs.Slots.{Free};
-ghost use Rattle.gx_engine_laws.specs.Engines.{stood, SeenAs};
+ghost use Rattle.gx_engine_laws.specs.Engines.{gathered, stood, SeenAs};
 ghost use Rattle.gx_engine_laws.specs.Events.{Event, Opens, Acknowledges};
 ghost use Rattle.gx_engine_laws.specs.Losers.{AreLosers, IsReopened, losing_machine};
 ghost use Rattle.gx_recovery.specs.Records.{Record};
@@ -15,7 +16,7 @@ ghost use Rattle.gx_recovery.specs.Standing.{stands_for};
 ghost use Rattle.gx_recovery.specs.Damage.{IsLog};
 ghost use Rattle.gx_recovery.specs.Coming.{IsGood};
 ghost use Rattle.gx_recovery.specs.Logged.{IsLeft};
-ghost use Rattle.gx_index_laws.specs.Classes.{Class, IsLawful, Page, known_of};
+ghost use Rattle.gx_index_laws.specs.Classes.{Class, IsLawful, Page, entry_of, is_live, known_of};
 ghost use Rattle.gx_index_laws.specs.States.{State, engine_of};
 ghost use Rattle.gx_index_laws.specs.Whole.{IsWhole};
 ghost use Rattle.gx_index_laws.specs.Happening.{Happens, AreHappening};
@@ -37,6 +38,15 @@ pub fn an_opened_index_is_whole<B>()
         → SeenAs c.keys (engine_of c (opened_state c next area log)) (losing_machine (number_of (known_of c) log) set (losers_of (analysis (known_of c) log).touched)) }
     ensures losers { (c : Class B) → IsLawful c → (next : ℕ) (area : ℕ → Page B) (log : List (Record (Entry B) (Page B))) → IsLog (known_of c) log
         → AreLosers c.keys (losers_of (analysis (known_of c) log).touched) }
+{}
+
+/// What is live in a tree can be listed: the entries of its unmarked pairs, in order and without repeats. So can what a log stands
+/// for, over whatever pages: the set over which an index is opened is always there.
+pub fn what_a_log_stands_for_can_be_listed<B>()
+    ensures live { (c : Class B) → IsLawful c → (t : Tree B)
+        → IsSetOf c.keys (is_live c t) (gathered c.keys (map entry_of (filter (λ x. not x.marked) (flat_map (λ q. (t.node q).pairs) (leaves t))))) }
+    ensures log { (c : Class B) → IsLawful c → (area : ℕ → Page B) (log : List (Record (Entry B) (Page B)))
+        → (set : List (Entry B)) × IsSetOf c.keys (stands_for (known_of c) area log) set }
 {}
 
 /// Whatever a crash leaves of a whole index, the index that is opened over it is whole, over the kept set of the log's number.

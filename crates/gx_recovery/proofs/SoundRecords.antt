@@ -29,14 +29,14 @@ module _ {E P : Type 0} (k : Known E P) (l : IsLawful k) where
   beside_test x y = x.transaction == y.transaction || not (same k x.entry y.entry)
 
   -- parts of what fits
-  record FitsBy (a : Analysis E) : Type 0 where
-    device : nat_le a.used k.pages ≡ true
-    each : list_all (touch_fits k a.used) a.touched ≡ true
-    lie_apart : apart k a.touched ≡ true
-    few : nat_le (transactions a.touched) TRANSACTIONS ≡ true
-    short : nat_le (length a.touched) TOUCHED ≡ true
+  pub record FitsBy (a : Analysis E) : Type 0 where
+    pub device : nat_le a.used k.pages ≡ true
+    pub each : list_all (touch_fits k a.used) a.touched ≡ true
+    pub lie_apart : apart k a.touched ≡ true
+    pub few : nat_le (transactions a.touched) TRANSACTIONS ≡ true
+    pub short : nat_le (length a.touched) TOUCHED ≡ true
 
-  parts_of : (a : Analysis E) → fits k a ≡ true → FitsBy a
+  pub parts_of : (a : Analysis E) → fits k a ≡ true → FitsBy a
   parts_of a h =
       let few : Bool = nat_le (transactions a.touched) TRANSACTIONS in
       let short : Bool = nat_le (length a.touched) TOUCHED in
@@ -52,7 +52,7 @@ module _ {E P : Type 0} (k : Known E P) (l : IsLawful k) where
         short = and_second few short room;
       }
 
-  whole_of : (a : Analysis E) → FitsBy a → fits k a ≡ true
+  pub whole_of : (a : Analysis E) → FitsBy a → fits k a ≡ true
   whole_of a p =
       let few : Bool = nat_le (transactions a.touched) TRANSACTIONS in
       let short : Bool = nat_le (length a.touched) TOUCHED in
@@ -204,7 +204,7 @@ module _ {E P : Type 0} (k : Known E P) (l : IsLawful k) where
       (and_all (nat_lt 0 x.leaf) (nat_le x.leaf more) (and_first (nat_lt 0 x.leaf) (nat_le x.leaf used) page)
       (within x.leaf used more up (and_second (nat_lt 0 x.leaf) (nat_le x.leaf used) page))))
 
-  all_fit : (used more : ℕ) (xs : List (Touch E)) → used ≤ more → list_all (touch_fits k used) xs ≡ true → list_all (touch_fits k more) xs ≡ true
+  pub all_fit : (used more : ℕ) (xs : List (Touch E)) → used ≤ more → list_all (touch_fits k used) xs ≡ true → list_all (touch_fits k more) xs ≡ true
   all_fit used more [] up h = refl
   all_fit used more (x ∷ xs) up h =
       and_all (touch_fits k more x) (list_all (touch_fits k more) xs) (still_fits used more x up (and_first (touch_fits k used x) (list_all (touch_fits k used) xs) h))

@@ -90,7 +90,7 @@ module _ {E P : Type 0} (k : Known E P) (l : IsLawful k) where
       ]
 
   -- what fits, fits without a transaction's touches
-  fits_without : (t : ℕ) (used : ℕ) (xs : List (Touch E)) (a b : Analysis E) → a.used ≡ used → a.touched ≡ xs → b.used ≡ used → b.touched ≡ without t xs
+  pub fits_without : (t : ℕ) (used : ℕ) (xs : List (Touch E)) (a b : Analysis E) → a.used ≡ used → a.touched ≡ xs → b.used ≡ used → b.touched ≡ without t xs
       → fits k a ≡ true → fits k b ≡ true
   fits_without t used xs a b au ax bu bx h =
       let told_of : ℕ → List (Touch E) → Analysis E = λ u ys. record { number = 0; counter = 0; used = u; next = 0; touched = ys } in

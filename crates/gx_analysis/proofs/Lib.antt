@@ -1,0 +1,5 @@
+pub mod Placing
+pub mod Searching
+pub mod Bridging
+pub mod Fitting
+pub mod Telling

@@ -1,0 +1,11 @@
+use Rattle.std.proofs.Common.{insert}
+use Rattle.gx_analysis.specs.Kept.{ClosesOne}
+use Rattle.gx_analysis.proofs.Searching.{one_more}
+use Rattle.gx_analysis.proofs.closed.Closed.add.Goals as goal
+
+pub returns-in-Err : goal.returns-in-Err
+returns-in-Err c =
+    let self = c.self.inside in
+    let within = rw c.deref.ensures.value at c.in-Err.ensures.0 in
+    let start : ClosesOne c.args.t self.numbers.items (insert self.numbers.items c.in-Err.i c.args.t) = one_more c.args.t self.numbers.items c.in-Err.i within in
+    rw (c.put.ensures.items, ← c.self.view_is) start

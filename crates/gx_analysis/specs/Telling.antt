@@ -1,0 +1,58 @@
+-- That what is kept of a log tells what may follow it: by the definitions of logs and of damaged ones.
+use Rattle.std.specs.Prelude.{◌≡◌, ℕ, Bool, true, List, [], ◌∷◌, ◌++◌, map, nat_le}
+use Rattle.gx_recovery.specs.Known.{Known, IsLawful}
+use Rattle.gx_recovery.specs.Records.{Image, Whole, Record, Pages, Write, Commit, End, Counters, Note, Touch, settled, any_number}
+use Rattle.gx_recovery.specs.Analysis.{analysis}
+use Rattle.gx_recovery.specs.Damage.{follows, is_head, IsLog}
+use Rattle.gx_analysis.specs.Kept.{Kept, is_closed, may_touch, may_write, may_give, may_end, may_commit, with_counters, with_touch, with_pages, with_end, with_commit, ClosedBy}
+
+-- What is kept is what the log tells, with a transaction among the closed ones just where the log closes it.
+pub record IsKept {E P : Type 0} (k : Known E P) (log : List (Record E P)) (s : Kept E) : Type 0 where
+  pub told : s.told ≡ analysis k log
+  pub closed : (t : ℕ) → is_closed t s.closed ≡ settled any_number t log
+  pub pages : s.pages ≡ k.pages
+
+-- A record follows a log just where this test passes, and is kept then.
+pub record Tells {E P : Type 0} (k : Known E P) (log : List (Record E P)) (r : Record E P) (may : Bool) (new : Kept E) : Type 0 where
+  pub exact : follows k log r ≡ may
+  pub kept : IsKept k (log ++ r ∷ []) new
+
+-- the same of a log's head
+pub record TellsHead {E P : Type 0} (k : Known E P) (head : List (Record E P)) (may : Bool) (new : Kept E) : Type 0 where
+  pub exact : is_head k head ≡ may
+  pub kept : IsKept k head new
+
+-- a write of an entry of the class, with an image of its own leaf
+abbrev pub WritesTell : {E P : Type 0} → Known E P → Type 0
+WritesTell {E} {P} k = IsLawful k → (log : List (Record E P)) (s : Kept E) → IsLog k log → IsKept k log s → (t : Touch E) (after : Bool) (content : P)
+    → k.is_entry t.entry ≡ true → k.own content ≡ t.leaf
+    → Tells k log (Write t.transaction t.entry t.before after t.leaf (Whole content)) (may_write k.cmp t s) (with_touch k.cmp t s)
+
+-- each image has its page's own number
+abbrev pub AreOwn : {E P : Type 0} → Known E P → List (Image P) → Type 0
+AreOwn k [] = Unit {0}
+AreOwn k (i ∷ images) = (k.own i.content ≡ i.page) × AreOwn k images
+
+-- pages, each with an image of its own
+abbrev pub PagesTell : {E P : Type 0} → Known E P → Type 0
+PagesTell {E} {P} k = IsLawful k → (log : List (Record E P)) (s : Kept E) → IsLog k log → IsKept k log s → (images : List (Image P)) (counter used : ℕ)
+    → AreOwn k images
+    → Tells k log (Pages images counter used) (may_give counter used (map (λ i. i.page) images) s) (with_pages counter used s)
+
+abbrev pub CommitsTell : {E P : Type 0} → Known E P → Type 0
+CommitsTell {E} {P} k = IsLawful k → (log : List (Record E P)) (s new : Kept E) → IsLog k log → IsKept k log s → (t number : ℕ)
+    → ClosedBy t (with_commit t number s.told) s new → Tells k log (Commit t number) (may_commit t number s) new
+
+abbrev pub EndsTell : {E P : Type 0} → Known E P → Type 0
+EndsTell {E} {P} k = IsLawful k → (log : List (Record E P)) (s new : Kept E) → IsLog k log → IsKept k log s → (t : ℕ)
+    → ClosedBy t (with_end t s.told) s new → Tells k log (End t) (may_end t s) new
+
+-- a head's numbers, where nothing was read before
+abbrev pub CountersTell : {E P : Type 0} → Known E P → Type 0
+CountersTell {E} {P} k = (s : Kept E) → IsKept k [] s → (number counter used next : ℕ)
+    → TellsHead k (Counters number counter used next ∷ []) (nat_le used s.pages) (with_counters number counter used next s)
+
+-- one more note of an entry of the class
+abbrev pub NotesTell : {E P : Type 0} → Known E P → Type 0
+NotesTell {E} {P} k = IsLawful k → (head : List (Record E P)) (s : Kept E) → is_head k head ≡ true → IsKept k head s → (t : Touch E) → k.is_entry t.entry ≡ true
+    → TellsHead k (head ++ Note t.transaction t.entry t.before t.leaf ∷ []) (may_touch k.cmp t s) (with_touch k.cmp t s)

@@ -1,0 +1,20 @@
+//! What is kept of a log tells what may follow it. Each function is its contract alone.
+ghost use Rattle.gx_recovery.specs.Known.{Limits};
+ghost use Rattle.gx_analysis.specs.Telling.{WritesTell, PagesTell, CommitsTell, EndsTell, CountersTell, NotesTell};
+
+use gx_recovery::Meaning;
+
+/// A record follows an undamaged log just where the test of what is kept of that log passes; and what is kept then is what
+/// the longer log tells. So the passes and refusals of [`crate::Analysis`] are those of the definition of damaged logs.
+pub fn the_kept_state_tells_what_follows<M: Meaning>()
+    ensures write { (d : Limits) → WritesTell (M.known d) }
+    ensures pages { (d : Limits) → PagesTell (M.known d) }
+    ensures commit { (d : Limits) → CommitsTell (M.known d) }
+    ensures end { (d : Limits) → EndsTell (M.known d) }
+{}
+
+/// The same of a log's head: its numbers, and then one note more.
+pub fn the_kept_state_tells_what_heads_are<M: Meaning>()
+    ensures counters { (d : Limits) → CountersTell (M.known d) }
+    ensures notes { (d : Limits) → NotesTell (M.known d) }
+{}

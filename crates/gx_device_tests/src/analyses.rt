@@ -1,0 +1,157 @@
+//! Short logs told record by record: where the first refusal comes, and what is kept.
+use Step::{Commit, Counters, End, Note, Pages, Write};
+use gx_analysis::{Analysis, Touch};
+use gx_geom::{Box2, Refusal};
+use gx_machine::Entry;
+use std::test::Fail;
+
+/// A record, with what the rows vary of it.
+#[derive(Clone, Copy)]
+enum Step {
+    /// The pages in use.
+    Counters(u32),
+    /// Transaction, row and leaf.
+    Note(u64, u64, u32),
+    /// Transaction, row and leaf.
+    Write(u64, u64, u32),
+    /// The counter, the pages in use, and a page's number.
+    Pages(u64, u32, u32),
+    /// Transaction and number.
+    Commit(u64, u64),
+    /// Transaction.
+    End(u64),
+}
+
+/// How many pages the device of the rows has.
+const PAGES: u32 = 9;
+
+fn entry(row: u64) -> Entry<Box2> {
+    Entry {
+        row,
+        key: Box2::point(1, 2),
+    }
+}
+
+/// Tells one record.
+fn tell(analysis: &mut Analysis<Entry<Box2>>, step: Step) -> Result<(), Refusal> {
+    if analysis.closings() >= 1000 {
+        return Err(Refusal::Memory);
+    }
+    match step {
+        Step::Counters(used) => analysis.on_counters(7, 3, used, 5),
+        Step::Note(t, row, leaf) => analysis.on_note(Touch::new(t, entry(row), false, leaf)),
+        Step::Write(t, row, leaf) => analysis.on_write(Touch::new(t, entry(row), true, leaf)),
+        Step::Pages(counter, used, page) => analysis.on_pages(counter, used, &[page]),
+        Step::Commit(t, number) => analysis.on_commit(t, number),
+        Step::End(t) => analysis.on_end(t),
+    }
+}
+
+/// How many records pass before the first that is damage.
+fn passed(rt: &HostRuntime, steps: &[Step]) -> Result<usize, Fail> {
+    let mut analysis = Analysis::new(rt.alloc(), PAGES)?;
+    for (i, step) in steps.iter().enumerate() {
+        if tell(&mut analysis, *step).is_err() {
+            return Ok(i);
+        }
+    }
+    Ok(steps.len())
+}
+
+#[test]
+fn each_rule_refuses_its_record(rt: HostRuntime) -> Result<(), Fail> {
+    let found = [
+        passed(
+            &rt,
+            &[
+                Counters(4),
+                Note(1, 1, 2),
+                Write(1, 1, 3),
+                Commit(1, 8),
+                End(2),
+            ],
+        )?,
+        passed(&rt, &[Counters(10)])?,
+        passed(&rt, &[Counters(4), Note(1, 1, 5)])?,
+        passed(&rt, &[Counters(4), Note(u64::MAX, 1, 2)])?,
+        passed(&rt, &[Counters(4), Note(1, 1, 2), Note(2, 1, 2)])?,
+        passed(&rt, &[Counters(4), Write(1, 1, 0)])?,
+        passed(&rt, &[Counters(4), Write(1, 1, 2), Write(2, 1, 2)])?,
+        passed(
+            &rt,
+            &[
+                Counters(4),
+                Write(1, 1, 2),
+                End(1),
+                Write(2, 1, 2),
+                Write(1, 2, 2),
+            ],
+        )?,
+        passed(&rt, &[Counters(4), Commit(1, 8), Commit(1, 9)])?,
+        passed(&rt, &[Counters(4), End(1), End(1)])?,
+        passed(&rt, &[Counters(4), Commit(1, 9)])?,
+        passed(&rt, &[Counters(4), Commit(1, 8), Commit(2, 8)])?,
+        passed(&rt, &[Counters(4), Pages(2, 4, 1)])?,
+        passed(&rt, &[Counters(4), Pages(4, 3, 1)])?,
+        passed(&rt, &[Counters(4), Pages(4, 6, 6), Pages(4, 6, 7)])?,
+        passed(&rt, &[Counters(4), Pages(4, 9, 9), Pages(4, 10, 9)])?,
+        passed(
+            &rt,
+            &[Counters(4), Write(1, 1, 5), Pages(4, 6, 6), Write(1, 1, 5)],
+        )?,
+    ];
+    assert_eq!(rt; found, [5, 0, 1, 1, 2, 1, 2, 4, 2, 2, 1, 2, 1, 1, 2, 2, 1]);
+    Ok(())
+}
+
+#[test]
+fn the_first_mark_and_the_last_leaf_are_kept(rt: HostRuntime) -> Result<(), Fail> {
+    let mut analysis = Analysis::new(rt.alloc(), PAGES)?;
+    for step in [
+        Counters(4),
+        Note(6, 2, 2),
+        Write(6, 2, 3),
+        Write(8, 3, 4),
+        Write(6, 1, 2),
+        Commit(8, 8),
+        Pages(4, 5, 5),
+        Write(6, 1, 5),
+    ] {
+        tell(&mut analysis, step)?;
+    }
+    let numbers = (
+        analysis.number(),
+        analysis.counter(),
+        analysis.used(),
+        analysis.next(),
+    );
+    assert_eq!(rt; numbers, (8, 4, 5, 9));
+    let mut kept = [(0, 0, false, 0); 3];
+    for (place, t) in kept.iter_mut().zip(analysis.touched()) {
+        *place = (t.transaction(), t.entry().row, t.before(), t.leaf());
+    }
+    assert_eq!(rt; kept, [(6, 1, true, 5), (6, 2, false, 3), (0, 0, false, 0)]);
+    Ok(())
+}
+
+#[test]
+fn limits_are_met_and_not_passed(rt: HostRuntime) -> Result<(), Fail> {
+    let mut eight = Analysis::new(rt.alloc(), PAGES)?;
+    tell(&mut eight, Counters(4))?;
+    for t in 1..9 {
+        tell(&mut eight, Write(t, t, 2))?;
+    }
+    assert_eq!(rt; tell(&mut eight, Write(9, 9, 2)), Err(Refusal::Damaged));
+    assert_eq!(rt; tell(&mut eight, Write(8, 9, 2)), Ok(()));
+    assert_eq!(rt; tell(&mut eight, End(3)), Ok(()));
+    assert_eq!(rt; tell(&mut eight, Write(9, 9, 2)), Err(Refusal::Damaged));
+    assert_eq!(rt; tell(&mut eight, Write(9, 10, 2)), Ok(()));
+    let mut most = Analysis::new(rt.alloc(), PAGES)?;
+    tell(&mut most, Counters(4))?;
+    for row in 0..512 {
+        tell(&mut most, Note(1, row, 2))?;
+    }
+    assert_eq!(rt; tell(&mut most, Note(1, 512, 2)), Err(Refusal::Damaged));
+    assert_eq!(rt; tell(&mut most, Write(1, 511, 2)), Ok(()));
+    Ok(())
+}
