@@ -1,5 +1,5 @@
 -- What a write of at most one page leaves.
-use Rattle.std.proofs.Common.{refl, inl, inr, ℕ, true, Result, arith}
+use Rattle.std.proofs.Common.{refl, inl, ℕ, arith}
 use Rattle.gx_disk.specs.Device.{Device}
 use Rattle.gx_pool.specs.State.{State}
 use Rattle.gx_pool.specs.Writing.{WritesAtMost}

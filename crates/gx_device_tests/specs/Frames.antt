@@ -6,7 +6,7 @@ use Rattle.gx_page.specs.Contents.{Contents}
 use Rattle.gx_page.specs.Format.{image_of}
 use Rattle.gx_pool.specs.Bringing.{Brings, BringsAll, OnlyRead}
 use Rattle.gx_pool.specs.Creating.{Creates}
-use Rattle.gx_pool.specs.Edits.{later}
+use Rattle.gx_pool.specs.Edits.{later, numbered}
 use Rattle.gx_pool.specs.Laws.{IsBacked, shown}
 use Rattle.gx_pool.specs.State.{State, Kept, clean_count, dirty_count, holding, kept, stamp_of}
 use Rattle.gx_pool.specs.Writing.{contents_of}
@@ -29,6 +29,12 @@ pub record ChangesHeld (old new : State) (page : ℕ) : Type 0 where
   pub clean : clean_count new ≡ clean_count old
   pub dirty : dirty_count new ≤ dirty_count old + 1
   pub others : (q : ℕ) → q ≢ page → kept new q ≡ kept old q
+
+-- A page is kept, and another as its copy but for the number, with a change of that batch.
+pub record IsCopied (s : State) (page copy batch : ℕ) : Type 0 where
+  pub source : Kept
+  pub kept_source : kept s page ≡ Some source
+  pub kept_copy : kept s copy ≡ Some (record { page = numbered source.page copy; stamp = Some batch })
 
 -- the three are three
 pub record AreThree (node parent sibling : ℕ) : Type 0 where

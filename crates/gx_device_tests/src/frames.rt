@@ -1,13 +1,16 @@
 //! Callers of the frame pool, proved from its contracts and laws: what a split will do with three pages, and a page that is
 //! changed, written, and brought again.
-ghost use Rattle.std.specs.Prelude.{◌≡◌, ◌≢◌, ◌≤◌, ◌+◌, ◌++◌, ◌∷◌, [], ℕ, List, Some, None, true, IsSome, IfOk, OnOk, OnErr};
+ghost use Rattle.std.specs.Prelude.{◌≡◌, ◌≢◌, ◌≤◌, ◌+◌, Bool, Err, ◌++◌, ◌∷◌, [], ℕ, List, Some, None, true, IsSome, IfOk, OnOk, OnErr};
 ghost use Rattle.gx_pool.specs.Area.{IsPage};
+ghost use Rattle.gx_disk.specs.Sectors.{IsSpan};
 ghost use Rattle.gx_pool.specs.Laws.{IsBacked};
+ghost use Rattle.gx_pool.specs.Readable.{IsReadable};
+ghost use Rattle.gx_pool.specs.Writing.{KeepsShown};
 ghost use Rattle.gx_pool.specs.Marks.{is_held};
 ghost use Rattle.gx_pool.specs.State.{IsWritable, dirty_count, kept};
-ghost use Rattle.gx_device_tests.specs.Frames.{AddsSibling, AreThree, ChangesHeld, ChangesOne, ChangesThree, LogsThree, OnlyBrings, ReadsAgain, WritesLeast};
+ghost use Rattle.gx_device_tests.specs.Frames.{AddsSibling, AreThree, ChangesHeld, ChangesOne, ChangesThree, IsCopied, LogsThree, OnlyBrings, ReadsAgain, WritesLeast};
 
-use gx_disk::SectorDisk;
+use gx_disk::{DiskFault, SectorDisk};
 use gx_pool::{PAGES, PageTest, Pool, PoolFault};
 
 /// A log that takes the images of three pages.
@@ -134,6 +137,55 @@ pub fn change_and_make<T: PageTest, D: SectorDisk>(
     set_held_nsn(pool, page, nsn, batch);
     pool.create(other, 0, batch);
     Ok(pool.dirty_frames())
+}
+
+/// Brings a page that is used. Where what an honest device has of each used page that isn't kept passes the test, it isn't refused
+/// as damaged.
+pub fn bring_used<T: PageTest, D: SectorDisk>(
+    pool: &mut Pool<T>,
+    disk: &mut D,
+    page: u32,
+) -> Result<(), PoolFault>
+    requires { IsPage (D.state disk.old).sectors page }
+    ensures { (used : ℕ → Bool) → (D.state disk.old).honest ≡ true → used page ≡ true → IsReadable (T.passes pool.old.test) used pool.old.frames (D.state disk.old).seen → result ≢ Err PoolFault.Damaged }
+{
+    pool.bring(disk, &[page])
+}
+
+/// Brings a page and makes another as its copy, as of a batch, as a root is copied that splits.
+pub fn bring_and_copy<T: PageTest, D: SectorDisk>(
+    pool: &mut Pool<T>,
+    disk: &mut D,
+    page: u32,
+    copy: u32,
+    batch: u64,
+) -> Result<(), PoolFault>
+    requires page { IsPage (D.state disk.old).sectors page }
+    requires copy { (1 ≤ copy) × (copy ≤ PAGES) × (kept pool.old.frames copy ≡ None) × (copy ≢ page) }
+    ensures { OnOk result (IsCopied pool.new.frames page copy batch) }
+{
+    pool.bring(disk, &[page])?;
+    if pool.clean_frames() == 0 {
+        return Err(PoolFault::NoCleanFrame);
+    }
+    pool.create_as(copy, page, batch);
+    Ok(())
+}
+
+/// Writes the image of a kept page to sectors ahead of the pages, as a log does. Whether it succeeds or not, each page is shown as
+/// before, and each clean one is what the device has.
+pub fn write_ahead<T: PageTest, D: SectorDisk>(
+    pool: &Pool<T>,
+    disk: &mut D,
+    page: u32,
+    first: u64,
+) -> Result<(), DiskFault>
+    requires page { (page ≤ PAGES) × IsSome (kept pool.now.frames page) }
+    requires span { IsSpan (D.state disk.old).sectors first 4096 }
+    requires ahead { first + 8 ≤ 4168 }
+    ensures { (D.state disk.old).honest ≡ true → IsBacked pool.now.frames (D.state disk.old).seen → KeepsShown (D.state disk.old) (D.state disk.new) pool.now.frames pool.now.frames }
+{
+    disk.write(first, pool.page(page).image())
 }
 
 /// Sets a page's sequence number as a change of a batch, has it written, brings another page, for which its frame may be

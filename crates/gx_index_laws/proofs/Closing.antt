@@ -124,7 +124,7 @@ module _ {B : Type 0} (c : Class B) (l : IsLawful c) (old : State B) (w : IsWhol
         subst (λ (t : Tree B). AreRestored c.keys (is_live c t) (slot_at a (with_slot s x old.slots)) (changed_at s [] old.restored a)) (sym same_nodes) (slotted_restored c l old w s there x Rests a)
 
   -- A commit or an end leaves the tree as it is.
-  quiet_tree : (r : Record (Entry B) (Page B)) → redo (redone old.log.area log) r ≡ redone old.log.area log → (read k (analysis k log) r).counter ≡ (analysis k log).counter
+  pub quiet_tree : (r : Record (Entry B) (Page B)) → redo (redone old.log.area log) r ≡ redone old.log.area log → (read k (analysis k log) r).counter ≡ (analysis k log).counter
       → (read k (analysis k log) r).used ≡ (analysis k log).used → tree_of k old.log.area (all_records (appended r old.log)) ≡ tree_of k old.log.area log
   quiet_tree r pages counter used =
       ap (tree_of k old.log.area) (grown r old.log) ∙ tree-snoc k old.log.area log r

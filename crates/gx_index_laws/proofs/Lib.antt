@@ -31,3 +31,4 @@ pub mod Others
 pub mod AlikeLooks
 pub mod Unfreed
 pub mod Listed
+pub mod Freed

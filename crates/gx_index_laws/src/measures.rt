@@ -1,8 +1,8 @@
 //! How far an unanswered call still is from its end: a number below 2^40, which each of its own moves lowers.
-ghost use Rattle.std.specs.Prelude.{◌≡◌, ◌≢◌, ◌≤◌, ◌<◌, ◌^◌, ℕ, Bool, true, false, Some, None, List, [], ◌∷◌};
+ghost use Rattle.std.specs.Prelude.{◌≡◌, ◌≢◌, ◌≤◌, ◌<◌, ◌+◌, ◌^◌, ℕ, Bool, true, false, Some, None, List, [], ◌∷◌, length};
 ghost use Rattle.gx_machine.specs.declared.entry.Entry.{Entry};
 ghost use Rattle.gx_machine.specs.declared.call.Call.{Call};
-ghost use Rattle.gx_machine.specs.declared.call.Call.TheVariants.{Commit};
+ghost use Rattle.gx_machine.specs.declared.call.Call.TheVariants.{Commit as CommitCall};
 ghost use Rattle.gx_machine.specs.Sessions.{Locks};
 ghost use Rattle.gx_machine.specs.Sets.{has};
 ghost use Rattle.gx_machine.specs.Machine.{is_session};
@@ -13,7 +13,7 @@ ghost use Rattle.gx_tree_laws.specs.Reach.{Item};
 ghost use Rattle.gx_tree_laws.specs.Looks.{from_root, stacked};
 ghost use Rattle.gx_tree_laws.specs.Writes.{is_sweepable, must_restart};
 ghost use Rattle.gx_engine_laws.specs.Slots.{Note, Slot, Working, Undoing, Waiting, locks_held, slot_at, noted};
-ghost use Rattle.gx_recovery.specs.Records.{Record};
+ghost use Rattle.gx_recovery.specs.Records.{Record, Commit, End};
 ghost use Rattle.gx_recovery.specs.Logged.{begun, gate_synced, AgreesBeside};
 ghost use Rattle.gx_recovery.specs.Life.{AllWritten};
 ghost use Rattle.gx_recovery.specs.Renewal.{renewed};
@@ -102,7 +102,7 @@ pub fn transactions_come_to_an_end<B>()
         → slot_at s old.slots ≡ Undoing locks notes → (r : Record (Entry B) (Page B)) (e : Entry B) (was : Bool) → noted c.keys e notes ≡ Some was
         → has c.keys e (old.restored s) ≡ false → work_left c (with_restored s e (with_record r old)) s < work_left c old s }
     ensures unsealed { (c : Class B) → IsLawful c → (old : State B) → IsWhole c old → (s : ℕ) (locks : Locks B) (notes : List (Note B))
-        → slot_at s old.slots ≡ Working locks notes (Some Commit) → 0 < work_left c old s }
+        → slot_at s old.slots ≡ Working locks notes (Some CommitCall) → 0 < work_left c old s }
     ensures sealed { (c : Class B) (old : State B) (s number : ℕ) → slot_at s old.slots ≡ Waiting number → work_left c old s ≡ 0 }
 {}
 
@@ -128,6 +128,17 @@ pub fn what_frees_no_claim_leaves_no_more<B>()
     ensures { (c : Class B) → IsLawful c → (old : State B) (s a : ℕ) → a ≢ s → is_session s ≡ true → (slot : Slot B) (work : Work B)
         → ((e : Entry B) → has c.keys e (locks_held (slot_at s old.slots)).claims ≡ true → has c.keys e (locks_held slot).claims ≡ true)
         → work_left c (slotted s slot work old) a ≤ work_left c old a }
+{}
+
+/// A commit or an end of another session raises what a session's call has left by so many at most as it frees claims: of each
+/// entry that was claimed one pair stands, which may be swept then.
+pub fn what_is_freed_is_all_that_comes<B>()
+    ensures commits { (c : Class B) → IsLawful c → (old : State B) → IsWhole c old → (s a : ℕ) → a ≢ s → is_session s ≡ true → (slot : Slot B) (work : Work B)
+        (transaction number : ℕ) → work_left c (slotted s slot work (with_record (Commit transaction number) old)) a
+        ≤ work_left c old a + length (locks_held (slot_at s old.slots)).claims }
+    ensures ends { (c : Class B) → IsLawful c → (old : State B) → IsWhole c old → (s a : ℕ) → a ≢ s → is_session s ≡ true → (slot : Slot B) (work : Work B)
+        (transaction : ℕ) → work_left c (slotted s slot work (with_record (End transaction) old)) a
+        ≤ work_left c old a + length (locks_held (slot_at s old.slots)).claims }
 {}
 
 /// What is to be done for the log and for frames, before a call that waits for it can go on, is below 2^13, with at most 4,096

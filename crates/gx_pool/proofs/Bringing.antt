@@ -1,18 +1,19 @@
 -- What becomes of the pages that are kept, edit by edit, and how bringings join.
 use Rattle.std.proofs.Common.{◌≡◌, ◌≢◌, ◌∙◌, sym, ap, subst, refl, ◌⊎◌, inl, inr, ⊎_elim, ℕ, zero, suc, ◌<◌, ◌≤◌, ◌+◌, List, [], ◌∷◌, Ok, Err, Result, below_more, length, get_or, count_by, Bool, true, false, not, ◌&&◌, Option, Some, None, IsSome, arith, get_or-set_same, length-set}
-use Rattle.std.specs.Prelude.{is_none, IsErrAnd}
+use Rattle.std.specs.Prelude.{is_none, is_some, nat_lt, IsErrAnd}
 use Rattle.std.proofs.Math.Decide.{ℕ_discrete}
 use Rattle.std.proofs.lemmas.Option.{none-some}
 use Rattle.std.proofs.lemmas.List.{set-set}
+use Rattle.std.proofs.lemmas.Bool.{lt-ltb}
 use Rattle.gx_disk.specs.Device.{Device, Rests, SamePending, MayLeave}
 use Rattle.gx_page.specs.Contents.{Contents}
 use Rattle.gx_page.specs.Edits.{blank}
 use Rattle.gx_page.specs.Reading.{IsImage, read_of}
 use Rattle.gx_pool.specs.Area.{bytes_of, IsPassing}
 use Rattle.gx_pool.specs.Marks.{empty, clean, is_dirty, is_held}
-use Rattle.gx_pool.specs.State.{State, IsSound, IsSpare, dirty_count, AllKept, NoneClean, SomeClean, mark_at, place_of, kept, frame_at, holding, stamp_of}
+use Rattle.gx_pool.specs.State.{State, Kept, NoCleanLeaf, is_upper_at, IsSound, IsSpare, dirty_count, AllKept, NoneClean, SomeClean, mark_at, place_of, kept, frame_at, holding, stamp_of}
 use Rattle.gx_pool.specs.Edits.{vacated, with_page, settled}
-use Rattle.gx_pool.specs.Bringing.{Brings, BringsOne, BringsAll, Answers, AnswersAll, Came, ComeAlone, ComesAlone, HasImage, IsFirstMissing, Left, OnlyRead}
+use Rattle.gx_pool.specs.Bringing.{Brings, BringsOne, BringsAll, Answers, AnswersAll, Came, ComeAlone, ComesAlone, GoesAlone, HasImage, IsFirstMissing, Left, LeavesGoFirst, OnlyRead}
 use Rattle.gx_pool.specs.declared.fault.PoolFault.{PoolFault}
 use Rattle.gx_pool.specs.declared.fault.PoolFault.TheVariants.{NoCleanFrame, Device as DeviceFault, Damaged}
 use Rattle.gx_pool.proofs.Places.{some-injective, vacated_sound, with_page_sound, vacated_kept, vacated_gone, loaded_kept, settled_kept, settled_other, place_none, kept_some}
@@ -117,28 +118,69 @@ loaded_missing s i page w sound inside absent = (loaded_missing_page s i page w 
 pub loaded_absent : (s : State) (i page : ℕ) (w : Contents) → IsSound s → i < length s.marks → kept s page ≡ None → place_of (with_page (vacated s i) i w) page ≡ None
 loaded_absent s i page w sound inside absent = place_none (vacated s i) page (still_absent s i page sound inside absent)
 
-pub settled_alone : (s t u : State) (i page level : ℕ) (stamp : Option ℕ) (w : Contents) → IsSound s → i < length s.marks → t ≡ with_page (vacated s i) i w → u ≡ settled t i page level stamp
+pub settled_alone : (s t u : State) (i page : ℕ) (stamp : Option ℕ) (w : Contents) → IsSound s → i < length s.marks → t ≡ with_page (vacated s i) i w → u ≡ settled t i page stamp
     → ComesAlone s u page
-settled_alone s t u i page level stamp w sound inside te ue = λ q ne absent.
-    rw (ue, te) (settled_other (with_page (vacated s i) i w) i page q level stamp (with_page_sound (vacated s i) i w (vacated_sound s i sound inside)) (vacated_free s i inside) ne
+settled_alone s t u i page stamp w sound inside te ue = λ q ne absent.
+    rw (ue, te) (settled_other (with_page (vacated s i) i w) i page q stamp (with_page_sound (vacated s i) i w (vacated_sound s i sound inside)) (vacated_free s i inside) ne
     ∙ loaded_missing_page s i q w sound inside absent)
+
+-- ---- which page goes
+
+-- no page goes but the frame's
+pub vacated_goes : (s : State) (i : ℕ) → IsSound s → i < length s.marks → GoesAlone s (vacated s i) i
+vacated_goes s i sound inside = λ q k was gone. elim (is_some_page (mark_at s i).page q) [
+  | inl here ↦ here
+  | inr other ↦ absurd (none-some k (sym gone ∙ vacated_kept s i q sound inside other ∙ was))
+]
+
+pub loaded_goes : (s : State) (i : ℕ) (w : Contents) → IsSound s → i < length s.marks → GoesAlone s (with_page (vacated s i) i w) i
+loaded_goes s i w sound inside = λ q k was gone. vacated_goes s i sound inside q k was (sym (loaded_kept (vacated s i) i q w (vacated_sound s i sound inside) (vacated_free s i inside)) ∙ gone)
+
+pub settled_goes : (s t u : State) (i page : ℕ) (stamp : Option ℕ) (w : Contents) → IsSound s → i < length s.marks → page ≤ 65536 → t ≡ with_page (vacated s i) i w → u ≡ settled t i page stamp → GoesAlone s u i
+settled_goes s t u i page stamp w sound inside small te ue =
+    let v : State = with_page (vacated s i) i w in
+    let whole : IsSound v = with_page_sound (vacated s i) i w (vacated_sound s i sound inside) in
+    let there : i < length v.marks = rw (length-set s.marks i empty) inside in
+    let same : u ≡ settled v i page stamp = ue ∙ ap (λ x. settled x i page stamp) te in
+    λ q k was gone. elim (ℕ_discrete q page) [
+      | yes e ↦ absurd (none-some _ (sym gone ∙ ap (kept u) e ∙ ap (λ x. kept x page) same ∙ settled_kept v i page stamp whole there small))
+      | no ne ↦ loaded_goes s i w sound inside q k was (sym (settled_other v i page q stamp whole (vacated_free s i inside) ne) ∙ ap (λ x. kept x q) (sym same) ∙ gone)
+    ]
+
+page_of : Option Kept → Contents
+page_of None = blank 0 0
+page_of (Some k) = k.page
+
+upper_here : (s : State) (i q : ℕ) (k : Kept) → IsSound s → (mark_at s i).page ≡ Some q → kept s q ≡ Some k → 0 < k.page.level → is_upper_at s i ≡ true
+unfolding page_of
+upper_here s i q k sound here was upper =
+    let same : (frame_at s i).page ≡ k.page = ap page_of (sym (kept_some s q i (sound.back i q here)) ∙ was) in
+    ap (λ o. is_some o && nat_lt 0 (frame_at s i).page.level) here ∙ ap (λ (c : Contents). nat_lt 0 c.level) same ∙ lt-ltb 0 k.page.level upper
+
+-- where the frame's page alone goes, and it is above the leaves only where no leaf could, leaves go first
+pub first_leaves : (s t : State) (i : ℕ) → IsSound s → GoesAlone s t i → (is_upper_at s i ≡ true → NoCleanLeaf s) → LeavesGoFirst s t
+first_leaves s t i sound alone none = λ q k was gone upper. none (upper_here s i q k sound (alone q k was gone) was upper)
+
+-- where nothing changed, no page went
+pub none_goes : (s t : State) → t ≡ s → LeavesGoFirst s t
+none_goes s t same = λ q k was gone upper. absurd (none-some k (sym gone ∙ ap (λ v. kept v q) same ∙ was))
 
 pub loaded_page : (s : State) (i : ℕ) (w : Contents) → IsSound s → i < length s.marks → (frame_at (with_page (vacated s i) i w) i).page ≡ w
 loaded_page s i w sound inside = get_or-set_same s.pages i w (blank 0 0) (rw sound.sizes inside)
 
 -- and the frame is the page's
-pub admitted_kept : (s : State) (i page level : ℕ) (w : Contents) → IsSound s → i < length s.marks → page ≤ 65536
-    → kept (settled (with_page (vacated s i) i w) i page level None) page ≡ Some (record { page = w; stamp = None })
-admitted_kept s i page level w sound inside small =
+pub admitted_kept : (s : State) (i page : ℕ) (w : Contents) → IsSound s → i < length s.marks → page ≤ 65536
+    → kept (settled (with_page (vacated s i) i w) i page None) page ≡ Some (record { page = w; stamp = None })
+admitted_kept s i page w sound inside small =
     let t : State = with_page (vacated s i) i w in
     let there : i < length t.marks = rw (length-set s.marks i empty) inside in
-    settled_kept t i page level None (with_page_sound (vacated s i) i w (vacated_sound s i sound inside)) there small
+    settled_kept t i page None (with_page_sound (vacated s i) i w (vacated_sound s i sound inside)) there small
     ∙ ap (λ c. Some (record { page = c; stamp = None })) (loaded_page s i w sound inside)
 
-pub admitted_brings : (passes : Contents → Bool) (d : Bool) (seen : List ℕ) (s : State) (i page level : ℕ) (w : Contents) → IsSound s → i < length s.marks → clean s.held (mark_at s i) ≡ true
+pub admitted_brings : (passes : Contents → Bool) (d : Bool) (seen : List ℕ) (s : State) (i page : ℕ) (w : Contents) → IsSound s → i < length s.marks → clean s.held (mark_at s i) ≡ true
     → page ≤ 65536 → kept s page ≡ None → w.number ≡ page → passes w ≡ true → (d ≡ true → HasImage (bytes_of seen page) w)
-    → Brings passes d seen s (settled (with_page (vacated s i) i w) i page level None)
-admitted_brings passes d seen s i page level w sound inside is small absent number passing backed =
+    → Brings passes d seen s (settled (with_page (vacated s i) i w) i page None)
+admitted_brings passes d seen s i page w sound inside is small absent number passing backed =
     let t : State = with_page (vacated s i) i w in
     let first : Brings passes d seen s t = loaded_brings passes d seen s i w sound inside is in
     let whole : IsSound t = with_page_sound (vacated s i) i w (vacated_sound s i sound inside) in
@@ -148,13 +190,13 @@ admitted_brings passes d seen s i page level w sound inside is small absent numb
         | yes e ↦ inr (inr (record {
           contents = w;
           was = inl (ap (kept s) e ∙ absent);
-          is = ap (kept (settled t i page level None)) e ∙ admitted_kept s i page level w sound inside small;
+          is = ap (kept (settled t i page None)) e ∙ admitted_kept s i page w sound inside small;
           number = number ∙ sym e;
           passing = passing;
           backed = λ honest. subst {A = ℕ} (λ n. HasImage (bytes_of seen n) w) (sym e) (backed honest);
         }))
         | no ne ↦
-            let same : kept (settled t i page level None) q ≡ kept t q = settled_other t i page q level None whole free ne in
+            let same : kept (settled t i page None) q ≡ kept t q = settled_other t i page q None whole free ne in
             ⊎_elim (λ is. inl (same ∙ is)) (λ rest. inr (⊎_elim
             (λ left. inl (record { was = left.was; is = same ∙ left.is }))
             (λ came. inr (record { contents = came.contents; was = came.was; is = same ∙ came.is; number = came.number; passing = came.passing; backed = came.backed }))
@@ -170,18 +212,18 @@ image_read : (bytes buffer : List ℕ) → bytes ≡ buffer → IsImage buffer �
 image_read bytes buffer e image = rw e (record { image = image; read = refl })
 
 -- a frame emptied, an image read into it, and the frame given to its page
-pub admitted : (passes : Contents → Bool) (d : Bool) (seen buffer : List ℕ) (s t u : State) (i page level : ℕ) → IsSound s → i < length s.marks → clean s.held (mark_at s i) ≡ true
-    → page ≤ 65536 → kept s page ≡ None → t ≡ with_page (vacated s i) i (read_of buffer) → u ≡ settled t i page level None
+pub admitted : (passes : Contents → Bool) (d : Bool) (seen buffer : List ℕ) (s t u : State) (i page : ℕ) → IsSound s → i < length s.marks → clean s.held (mark_at s i) ≡ true
+    → page ≤ 65536 → kept s page ≡ None → t ≡ with_page (vacated s i) i (read_of buffer) → u ≡ settled t i page None
     → (frame_at t i).page.number ≡ page → passes (frame_at t i).page ≡ true → IsImage buffer → (d ≡ true → bytes_of seen page ≡ buffer)
     → Brings passes d seen s u
-admitted passes d seen buffer s t u i page level sound inside is small absent te ue number passing image read =
+admitted passes d seen buffer s t u i page sound inside is small absent te ue number passing image read =
     let w : Contents = read_of buffer in
     let there : (frame_at t i).page ≡ w = ap (λ v. (frame_at v i).page) te ∙ loaded_page s i w sound inside in
-    rw (ue, te) (admitted_brings passes d seen s i page level w sound inside is small absent (ap (λ c. c.number) (sym there) ∙ number) (ap passes (sym there) ∙ passing)
+    rw (ue, te) (admitted_brings passes d seen s i page w sound inside is small absent (ap (λ c. c.number) (sym there) ∙ number) (ap passes (sym there) ∙ passing)
     (λ honest. image_read (bytes_of seen page) buffer (read honest) image))
 
-pub admitted_there : (s t u : State) (w : Contents) (i page level : ℕ) → IsSound s → i < length s.marks → page ≤ 65536 → t ≡ with_page (vacated s i) i w → u ≡ settled t i page level None → IsSome (kept u page)
-admitted_there s t u w i page level sound inside small te ue = rw (ue, te, admitted_kept s i page level w sound inside small) refl
+pub admitted_there : (s t u : State) (w : Contents) (i page : ℕ) → IsSound s → i < length s.marks → page ≤ 65536 → t ≡ with_page (vacated s i) i w → u ≡ settled t i page None → IsSome (kept u page)
+admitted_there s t u w i page sound inside small te ue = rw (ue, te, admitted_kept s i page w sound inside small) refl
 
 -- ---- runs of bringings
 
@@ -400,7 +442,7 @@ refused_as passes d f s u pages (Err found) fault P is same all = rw (same found
 
 -- ---- where nothing is to be read
 
-same_held_kept : (s : State) (pages : List ℕ) (page : ℕ) → kept (holding s pages) page ≡ kept s page
+pub same_held_kept : (s : State) (pages : List ℕ) (page : ℕ) → kept (holding s pages) page ≡ kept s page
 unfolding kept
 same_held_kept s pages page = refl
 

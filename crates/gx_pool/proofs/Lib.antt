@@ -1,9 +1,11 @@
 pub mod Bringing
 pub mod Counting
 pub mod Creating
+pub mod Elsewhere
 pub mod Gated
 pub mod Keeping
 pub mod Numbers
 pub mod Places
+pub mod Readable
 pub mod Shown
 pub mod Writing

@@ -1,5 +1,5 @@
 -- How many frames are clean and dirty.
-use Rattle.std.proofs.Common.{◌≡◌, ◌∙◌, sym, ap, refl, ◌⊎◌, inl, inr, ⊎_elim, ℕ, zero, suc, ◌+◌, ◌<◌, ◌≤◌, List, length, get_or, set, take, count_by, Bool, true, false, not, cond, ◌&&◌, ◌||◌, ◌==◌, Option, Some, None, IsSome, arith, add-one}
+use Rattle.std.proofs.Common.{◌≡◌, ◌∙◌, sym, ap, refl, ◌⊎◌, inl, inr, ℕ, zero, suc, ◌+◌, ◌<◌, ◌≤◌, List, length, get_or, set, take, count_by, Bool, true, false, not, cond, ◌&&◌, ◌||◌, ◌==◌, Option, Some, None, IsSome, arith, add-one}
 use Rattle.std.specs.Prelude.{is_none, is_some}
 use Rattle.std.proofs.lemmas.Bool.{eqb-true}
 use Rattle.std.proofs.Math.ListN.{get_or-eq_default}
@@ -10,7 +10,7 @@ use Rattle.std.proofs.lemmas.Option.{none-some}
 use Rattle.gx_page.specs.Contents.{Contents}
 use Rattle.gx_pool.specs.declared.mark.Mark.{Mark}
 use Rattle.gx_pool.specs.Marks.{clean, empty, is_dirty, is_held}
-use Rattle.gx_pool.specs.State.{State, Kept, IsSound, IsSpare, NoneDirty, mark_at, place_of, kept, frame_at, stamp_of, clean_count, dirty_count, is_clean_at, is_clean_page, is_counted, held_clean}
+use Rattle.gx_pool.specs.State.{State, Kept, IsSound, IsSpare, NoneDirty, mark_at, place_of, kept, stamp_of, clean_count, dirty_count, is_clean_at, is_clean_page, is_counted, held_clean}
 use Rattle.gx_pool.specs.Edits.{changed, changed_at, later, stamped}
 use Rattle.gx_pool.proofs.Places.{kept_none, kept_some, some-injective}
 use Rattle.gx_pool.proofs.Counting.{counted_set, none_counted, one_fewer, one_more, as_many, counted_at, counts_joined, all_counted, one_counted, false_of}

@@ -105,10 +105,10 @@ with_page_sound s i page sound = record {
   blank = sound.blank;
 }
 
-pub settled_sound : (s : State) (i page level : ℕ) (stamp : Option ℕ) → IsSound s → i < length s.marks → (mark_at s i).page ≡ None → 1 ≤ page → page ≤ 65536 → place_of s page ≡ None
-    → IsSound (settled s i page level stamp)
-settled_sound s i page level stamp sound inside free positive small absent =
-    let new : Mark = record { page = Some page; level = level; stamp = stamp } in
+pub settled_sound : (s : State) (i page : ℕ) (stamp : Option ℕ) → IsSound s → i < length s.marks → (mark_at s i).page ≡ None → 1 ≤ page → page ≤ 65536 → place_of s page ≡ None
+    → IsSound (settled s i page stamp)
+settled_sound s i page stamp sound inside free positive small absent =
+    let new : Mark = record { page = Some page; stamp = stamp } in
     let room : page < length s.places = omega (arith, sound.numbers) in
     record {
       sizes = sound.sizes ∙ sym (length-set s.marks i new);
@@ -118,7 +118,7 @@ settled_sound s i page level stamp sound inside free positive small absent =
         | inl here ↦
             let e : i ≡ j = some-injective i j (sym here.1 ∙ is) in (
               rw (length-set s.marks i new, ← e) inside,
-              ap (λ n. (mark_at (settled s i page level stamp) n).page) (sym e) ∙ ap (λ m. m.page) (get_or-set_same s.marks i new empty inside) ∙ ap Some (sym here.0),
+              ap (λ n. (mark_at (settled s i page stamp) n).page) (sym e) ∙ ap (λ m. m.page) (get_or-set_same s.marks i new empty inside) ∙ ap Some (sym here.0),
             )
         | inr other ↦
             let old = sound.there q j (sym other.1 ∙ is) in
@@ -135,7 +135,7 @@ settled_sound s i page level stamp sound inside free positive small absent =
       ];
       zero = get_or-set_other s.places page 0 (Some i) None (λ e. omega (arith, e, positive)) ∙ sound.zero;
       blank = λ j none. elim (set_cases s.marks i j new empty inside) [
-        | inl here ↦ absurd (not_both page (mark_at (settled s i page level stamp) j).page (ap (λ m. m.page) here.1) none)
+        | inl here ↦ absurd (not_both page (mark_at (settled s i page stamp) j).page (ap (λ m. m.page) here.1) none)
         | inr other ↦ ap (λ m. m.stamp) other.1 ∙ sound.blank j (ap (λ m. m.page) (sym other.1) ∙ none)
       ];
     }
@@ -214,6 +214,15 @@ not_kept s page at there = true_false (is_some (kept s page)) there (ap is_some 
 pub frame_page : (s : State) (page i : ℕ) (contents : Contents) → place_of s page ≡ Some i → contents ≡ (frame_at s i).page → IfSome (kept s page) (λ k. contents ≡ k.page)
 frame_page s page i contents at is = rw (kept_some s page i at) is
 
+page_or : Option Kept → Kept → Contents
+page_or None l = l.page
+page_or (Some k) l = k.page
+
+-- and what is kept of a page is in its frame
+pub kept_page : (s : State) (page i : ℕ) (k : Kept) → place_of s page ≡ Some i → kept s page ≡ Some k → (frame_at s i).page ≡ k.page
+unfolding page_or
+kept_page s page i k at is = ap (λ o. page_or o k) (sym (kept_some s page i at) ∙ is)
+
 no_place : (s : State) (o : Option ℕ) → kept_at s o ≡ None → o ≡ None
 no_place s None is = refl
 no_place s (Some i) is = absurd (none-some (frame_at s i) (sym is))
@@ -255,17 +264,17 @@ paged_other s i page other contents sound at ne =
     ap (λ p. record { page = p; stamp = (frame_at s j).stamp }) (get_or-set_other s.pages i j contents _ apart))
 
 -- an empty frame given to a page is that page's, and no other's
-pub settled_kept : (s : State) (i page level : ℕ) (stamp : Option ℕ) → IsSound s → i < length s.marks → page ≤ 65536
-    → kept (settled s i page level stamp) page ≡ Some (record { page = (frame_at s i).page; stamp = stamp })
-settled_kept s i page level stamp sound inside small =
+pub settled_kept : (s : State) (i page : ℕ) (stamp : Option ℕ) → IsSound s → i < length s.marks → page ≤ 65536
+    → kept (settled s i page stamp) page ≡ Some (record { page = (frame_at s i).page; stamp = stamp })
+settled_kept s i page stamp sound inside small =
     let room : page < length s.places = omega (arith, sound.numbers) in
-    kept_some (settled s i page level stamp) page i (get_or-set_same s.places page (Some i) None room)
+    kept_some (settled s i page stamp) page i (get_or-set_same s.places page (Some i) None room)
     ∙ ap (λ m. Some (record { page = (frame_at s i).page; stamp = m.stamp })) (get_or-set_same s.marks i _ empty inside)
 
-pub settled_other : (s : State) (i page other level : ℕ) (stamp : Option ℕ) → IsSound s → (mark_at s i).page ≡ None → other ≢ page
-    → kept (settled s i page level stamp) other ≡ kept s other
-settled_other s i page other level stamp sound free ne =
-    same_kept s (settled s i page level stamp) other (get_or-set_other s.places page other (Some i) None ne)
+pub settled_other : (s : State) (i page other : ℕ) (stamp : Option ℕ) → IsSound s → (mark_at s i).page ≡ None → other ≢ page
+    → kept (settled s i page stamp) other ≡ kept s other
+settled_other s i page other stamp sound free ne =
+    same_kept s (settled s i page stamp) other (get_or-set_other s.places page other (Some i) None ne)
     (λ j at. let old = sound.there other j at in
     let apart : j ≢ i = λ e. not_both other (mark_at s j).page old.1 (ap (λ n. (mark_at s n).page) e ∙ free) in
     ap (λ m. record { page = (frame_at s j).page; stamp = m.stamp }) (get_or-set_other s.marks i j _ empty apart))
@@ -379,3 +388,15 @@ changed_other s page other stamp contents sound ne = changed_at_other (place_of 
     changed_at_other (Some i) at =
         let t : State = stamped s i (Some (later stamp (mark_at s i).stamp)) in
         paged_other t i page other contents (stamped_sound s i _ sound (sound.there page i at).0 (has_page s page i sound at)) at ne ∙ stamped_other s i page other _ sound at ne
+
+-- a change of a page that isn't kept is none
+pub changed_none : (s : State) (page stamp : ℕ) (contents : Contents) → kept s page ≡ None → kept (changed s page stamp contents) page ≡ None
+changed_none s page stamp contents absent = ap (λ o. kept (changed_at s o stamp contents) page) (place_none s page absent) ∙ absent
+
+pub changed_sound : (s : State) (page stamp : ℕ) (contents : Contents) → IsSound s → IsSound (changed s page stamp contents)
+changed_sound s page stamp contents sound = changed_at_sound (place_of s page) refl
+  where
+    changed_at_sound : (o : Option ℕ) → place_of s page ≡ o → IsSound (changed_at s o stamp contents)
+    changed_at_sound None at = sound
+    changed_at_sound (Some i) at =
+        with_page_sound (stamped s i (Some (later stamp (mark_at s i).stamp))) i contents (stamped_sound s i _ sound (sound.there page i at).0 (has_page s page i sound at))

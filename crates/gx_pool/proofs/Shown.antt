@@ -3,13 +3,14 @@ use Rattle.std.proofs.Common.{◌≡◌, ◌≢◌, ◌∙◌, sym, ap, subst, r
 use Rattle.std.proofs.Math.Decide.{ℕ_discrete}
 use Rattle.std.proofs.lemmas.Option.{none-some}
 use Rattle.gx_page.specs.Contents.{Contents}
-use Rattle.gx_page.specs.Edits.{blank}
 use Rattle.gx_page.specs.Reading.{read_of}
 use Rattle.gx_pool.specs.Area.{bytes_of}
-use Rattle.gx_pool.specs.State.{State, Kept, kept, stamp_of}
+use Rattle.gx_pool.specs.State.{State, Kept, IsSound, kept, stamp_of}
 use Rattle.gx_pool.specs.Bringing.{Brings, HasImage}
-use Rattle.gx_pool.specs.Creating.{Creates}
-use Rattle.gx_pool.specs.Laws.{shown, shown_of, IsBacked, IsPassed}
+use Rattle.gx_pool.specs.Creating.{Makes}
+use Rattle.gx_pool.specs.Edits.{changed, later}
+use Rattle.gx_pool.specs.Laws.{shown, shown_of, IsBacked, IsPassed, ChangingKeepsBacked, ChangingShowsItsPage, ChangingShowsTheSame, ChangingKeepsPassing, ChangingKeepsSound}
+use Rattle.gx_pool.proofs.Places.{changed_kept, changed_other, changed_none, changed_sound}
 
 kept_or : Option Kept → Kept → Kept
 kept_or None k = k
@@ -61,30 +62,71 @@ brings_passed passes honest seen s t first passed = λ page k is. ⊎_elim
 
 -- ---- a page that was made
 
-pub creates_backed : (seen : List ℕ) (s t : State) (page level batch : ℕ) → Creates s t page level batch → IsBacked s seen → IsBacked t seen
-creates_backed seen s t page level batch made backed = λ q k is clean. elim (ℕ_discrete q page) [
-  | yes e ↦ absurd (none-some batch (sym clean ∙ ap (λ l. l.stamp) (sym (one_kept (kept t page) (record { page = blank level page; stamp = Some batch }) k made.made (ap (kept t) (sym e) ∙ is)))))
+pub creates_backed : (seen : List ℕ) (s t : State) (page batch : ℕ) (contents : Contents) → Makes s t page contents batch → IsBacked s seen → IsBacked t seen
+creates_backed seen s t page batch contents made backed = λ q k is clean. elim (ℕ_discrete q page) [
+  | yes e ↦ absurd (none-some batch (sym clean ∙ ap (λ l. l.stamp) (sym (one_kept (kept t page) (record { page = contents; stamp = Some batch }) k made.made (ap (kept t) (sym e) ∙ is)))))
   | no ne ↦ ⊎_elim
       (λ same. backed q k (sym same ∙ is) clean)
       (λ left. absurd (none-some k (sym left.is ∙ is)))
       (made.others q ne)
 ]
 
-pub creates_shown : (seen : List ℕ) (s t : State) (page level batch other : ℕ) → Creates s t page level batch → IsBacked s seen → other ≢ page → shown t seen other ≡ shown s seen other
-creates_shown seen s t page level batch other made backed ne =
+pub creates_shown : (seen : List ℕ) (s t : State) (page batch other : ℕ) (contents : Contents) → Makes s t page contents batch → IsBacked s seen → other ≢ page → shown t seen other ≡ shown s seen other
+creates_shown seen s t page batch other contents made backed ne =
     let here : Contents = read_of (bytes_of seen other) in
     ⊎_elim
     (λ same. ap (λ o. shown_of o here) same)
     (λ left. ap (λ o. shown_of o here) left.is ∙ sym (clean_shown s seen other (kept s other) backed refl left.was.clean))
     (made.others other ne)
 
-pub creates_passed : (passes : Contents → Bool) (s t : State) (page level batch : ℕ) → Creates s t page level batch → passes (blank level page) ≡ true → IsPassed passes s → IsPassed passes t
-creates_passed passes s t page level batch made is passed = λ q k there. elim (ℕ_discrete q page) [
+pub creates_its_page : (seen : List ℕ) (s t : State) (page batch : ℕ) (contents : Contents) → Makes s t page contents batch → shown t seen page ≡ contents
+creates_its_page seen s t page batch contents made = ap (λ o. shown_of o (read_of (bytes_of seen page))) made.made
+
+pub creates_passed : (passes : Contents → Bool) (s t : State) (page batch : ℕ) (contents : Contents) → Makes s t page contents batch → contents.number ≡ page → passes contents ≡ true → IsPassed passes s → IsPassed passes t
+creates_passed passes s t page batch contents made number is passed = λ q k there. elim (ℕ_discrete q page) [
   | yes e ↦
-      let same = one_kept (kept t page) (record { page = blank level page; stamp = Some batch }) k made.made (ap (kept t) (sym e) ∙ there) in
-      (ap (λ l. l.page.number) (sym same) ∙ sym e, ap (λ l. passes l.page) (sym same) ∙ is)
+      let same = one_kept (kept t page) (record { page = contents; stamp = Some batch }) k made.made (ap (kept t) (sym e) ∙ there) in
+      (ap (λ l. l.page.number) (sym same) ∙ number ∙ sym e, ap (λ l. passes l.page) (sym same) ∙ is)
   | no ne ↦ ⊎_elim
       (λ same. passed q k (sym same ∙ there))
       (λ left. absurd (none-some k (sym left.is ∙ there)))
       (made.others q ne)
 ]
+
+-- ---- a page that was changed
+
+-- what a page is kept as after a change of it, and whether it was kept
+record Turned (s : State) (page stamp : ℕ) (contents : Contents) (k : Kept) : Type 0 where
+  was : Kept
+  kept_was : kept s page ≡ Some was
+  is : k ≡ record { page = contents; stamp = Some (later stamp was.stamp) }
+
+turned : (s : State) (page stamp : ℕ) (contents : Contents) (k : Kept) (o : Option Kept) → IsSound s → kept s page ≡ o → kept (changed s page stamp contents) page ≡ Some k → Turned s page stamp contents k
+turned s page stamp contents k None sound was is = absurd (none-some k (sym (changed_none s page stamp contents was) ∙ is))
+turned s page stamp contents k (Some l) sound was is =
+    record { was = l; kept_was = was; is = one_kept (kept (changed s page stamp contents) page) k _ is (changed_kept s page stamp contents l sound was) }
+
+pub changes_backed : ChangingKeepsBacked
+changes_backed seen s page stamp contents sound backed = λ q k is clean. elim (ℕ_discrete q page) [
+  | yes e ↦
+      let now = turned s page stamp contents k (kept s page) sound refl (ap (kept (changed s page stamp contents)) (sym e) ∙ is) in
+      absurd (none-some _ (sym clean ∙ ap (λ l. l.stamp) now.is))
+  | no ne ↦ backed q k (sym (changed_other s page q stamp contents sound ne) ∙ is) clean
+]
+
+pub changes_its_page : ChangingShowsItsPage
+changes_its_page seen s page stamp contents k sound is = ap (λ o. shown_of o (read_of (bytes_of seen page))) (changed_kept s page stamp contents k sound is)
+
+pub changes_shown : ChangingShowsTheSame
+changes_shown seen s page other stamp contents sound ne = ap (λ o. shown_of o (read_of (bytes_of seen other))) (changed_other s page other stamp contents sound ne)
+
+pub changes_passed : ChangingKeepsPassing
+changes_passed passes s page stamp contents sound number passing passed = λ q k is. elim (ℕ_discrete q page) [
+  | yes e ↦
+      let now = turned s page stamp contents k (kept s page) sound refl (ap (kept (changed s page stamp contents)) (sym e) ∙ is) in
+      (ap (λ l. l.page.number) now.is ∙ number ∙ sym e, ap (λ l. passes l.page) now.is ∙ passing)
+  | no ne ↦ passed q k (sym (changed_other s page q stamp contents sound ne) ∙ is)
+]
+
+pub changes_sound : ChangingKeepsSound
+changes_sound s page stamp contents sound = changed_sound s page stamp contents sound

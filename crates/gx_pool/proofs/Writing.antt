@@ -1,5 +1,5 @@
 -- What a page's write leaves of frames and device.
-use Rattle.std.proofs.Common.{◌≡◌, ◌≢◌, ◌∙◌, sym, ap, refl, subst, inl, inr, ℕ, ◌+◌, ◌/◌, ◌≤◌, List, length, Bool, true, false, Option, Some, None, IsSome, Result, Ok, Err, OnErr, arith, length-set}
+use Rattle.std.proofs.Common.{◌≡◌, ◌≢◌, ◌∙◌, sym, ap, refl, subst, inl, inr, ℕ, ◌+◌, ◌/◌, ◌≤◌, List, length, Bool, true, false, Some, None, IsSome, Result, Ok, Err, OnErr, arith, length-set}
 use Rattle.std.proofs.Math.Decide.{ℕ_discrete}
 use Rattle.std.proofs.lemmas.Option.{none-some}
 use Rattle.gx_disk.specs.Device.{Device, Counts, Writes}
@@ -10,30 +10,19 @@ use Rattle.gx_pool.specs.declared.fault.PoolFault.{PoolFault}
 use Rattle.gx_pool.specs.declared.fault.PoolFault.TheVariants.{Device as DeviceFault}
 use Rattle.gx_pool.specs.Area.{first_of}
 use Rattle.gx_pool.specs.Bringing.{HasImage, faults_of}
-use Rattle.gx_pool.specs.State.{State, Kept, IsSound, place_of, mark_at, kept, frame_at, stamp_of, clean_count, dirty_count}
+use Rattle.gx_pool.specs.State.{State, Kept, IsSound, place_of, mark_at, kept, frame_at, stamp_of, clean_count}
 use Rattle.gx_pool.specs.Edits.{stamped}
 use Rattle.gx_pool.specs.Writing.{WritesPage, WritesAtMost, contents_of}
 use Rattle.gx_pool.specs.Marks.{is_held}
-use Rattle.gx_pool.proofs.Places.{kept_some, stamped_kept, stamped_other}
+use Rattle.gx_pool.proofs.Places.{kept_page, stamped_kept, stamped_other}
 use Rattle.gx_pool.proofs.Numbers.{cleaned_fewer, cleaned_free, cleaned_held}
-
-page_or : Option Kept → Kept → Kept
-page_or None k = k
-page_or (Some k) other = k
-
-page_same : (k l : Kept) → ◌≡◌ {A = Option Kept} (Some k) (Some l) → k.page ≡ l.page
-unfolding page_or
-page_same k l e = ap (λ o. (page_or o k).page) e
-
-kept_is : (s : State) (page i : ℕ) (k : Kept) → place_of s page ≡ Some i → kept s page ≡ Some k → (frame_at s i).page ≡ k.page
-kept_is s page i k at is = page_same (frame_at s i) k (sym (kept_some s page i at) ∙ is)
 
 -- the bytes that are written are the image of the page
 page_image : (s : State) (page i : ℕ) (k : Kept) (bytes : List ℕ) → place_of s page ≡ Some i → kept s page ≡ Some k → bytes ≡ image_of (frame_at s i).page → IsImage bytes → read_of bytes ≡ (frame_at s i).page
     → HasImage (image_of k.page) k.page
 page_image s page i k bytes at is image whole back =
-    let same : bytes ≡ image_of k.page = image ∙ ap image_of (kept_is s page i k at is) in
-    subst {A = List ℕ} (λ b. HasImage b k.page) same (record { image = whole; read = back ∙ kept_is s page i k at is })
+    let same : bytes ≡ image_of k.page = image ∙ ap image_of (kept_page s page i k at is) in
+    subst {A = List ℕ} (λ b. HasImage b k.page) same (record { image = whole; read = back ∙ kept_page s page i k at is })
 
 pub wrote_ok : (d e : Device) (s t : State) (page i : ℕ) (k : Kept) (bytes : List ℕ) → IsSound s → place_of s page ≡ Some i → kept s page ≡ Some k → t ≡ stamped s i None → IsSome (mark_at s i).stamp
     → bytes ≡ image_of (frame_at s i).page → IsImage bytes → read_of bytes ≡ (frame_at s i).page → length bytes ≡ 4096
@@ -45,9 +34,9 @@ wrote_ok d e s t page i k bytes sound at is new dirty image whole back size coun
   image = page_image s page i k bytes at is image whole back;
   writes = λ honest.
       let w : Writes {T = Unit {0}} {E = DiskFault} (first_of page) 8 (image_of k.page) d e (Ok tt) =
-      rw (← kept_is s page i k at is, ← image) (subst {A = ℕ} (λ n. Writes {T = Unit {0}} {E = DiskFault} (first_of page) (n / 512) bytes d e (Ok tt)) size (writes honest)) in
+      rw (← kept_page s page i k at is, ← image) (subst {A = ℕ} (λ n. Writes {T = Unit {0}} {E = DiskFault} (first_of page) (n / 512) bytes d e (Ok tt)) size (writes honest)) in
       record { touches = w.touches; written = w.written; torn = w.torn; pending = w.pending; time = w.time };
-  clean = rw new (stamped_kept s i page None sound at ∙ ap (λ c. Some (record { page = c; stamp = None })) (kept_is s page i k at is));
+  clean = rw new (stamped_kept s i page None sound at ∙ ap (λ c. Some (record { page = c; stamp = None })) (kept_page s page i k at is));
   fewer = rw new (cleaned_fewer s i (sound.there page i at).0 dirty);
   free = λ free. rw new (cleaned_free s i page (sound.there page i at).0 (sound.there page i at).1 dirty free);
   stays_held = λ held. rw new (cleaned_held s i page (sound.there page i at).0 (sound.there page i at).1 dirty held);
@@ -68,7 +57,7 @@ wrote_err d e s t page i k bytes why fault at is new image whole back size count
   image = page_image s page i k bytes at is image whole back;
   writes = λ honest.
       let w : Writes {T = Unit {0}} {E = DiskFault} (first_of page) 8 (image_of k.page) d e (Err why) =
-      rw (← kept_is s page i k at is, ← image) (subst {A = ℕ} (λ n. Writes {T = Unit {0}} {E = DiskFault} (first_of page) (n / 512) bytes d e (Err why)) size (writes honest)) in
+      rw (← kept_page s page i k at is, ← image) (subst {A = ℕ} (λ n. Writes {T = Unit {0}} {E = DiskFault} (first_of page) (n / 512) bytes d e (Err why)) size (writes honest)) in
       record { touches = w.touches; written = w.written; torn = w.torn; pending = w.pending; time = w.time };
   clean = tt;
   fewer = tt;

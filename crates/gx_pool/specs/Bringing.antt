@@ -7,7 +7,7 @@ use Rattle.gx_pool.specs.declared.fault.PoolFault.{PoolFault}
 use Rattle.gx_pool.specs.declared.fault.PoolFault.TheVariants.{NoCleanFrame, Device as DeviceFault, Damaged}
 use Rattle.gx_pool.specs.Area.{bytes_of, IsPassing}
 use Rattle.gx_pool.specs.Marks.{is_held}
-use Rattle.gx_pool.specs.State.{State, kept, dirty_count, AllKept, IsSpare, NoneClean, SomeClean}
+use Rattle.gx_pool.specs.State.{State, Kept, kept, mark_at, dirty_count, AllKept, IsSpare, NoCleanLeaf, NoneClean, SomeClean}
 
 -- the bytes are the image of these contents
 pub record HasImage (bytes : List ℕ) (contents : Contents) : Type 0 where
@@ -58,6 +58,14 @@ faults_of (Err Damaged) = 0
 abbrev pub ComesAlone : State → State → ℕ → Type 0
 ComesAlone old new page = (q : ℕ) → q ≢ page → kept old q ≡ None → kept new q ≡ None
 
+-- No page goes but the one that a frame has.
+abbrev pub GoesAlone : State → State → ℕ → Type 0
+GoesAlone old new i = (q : ℕ) (k : Kept) → kept old q ≡ Some k → kept new q ≡ None → (mark_at old i).page ≡ Some q
+
+-- A page above the leaves goes only where no frame that is clean for the event is empty or has a leaf.
+abbrev pub LeavesGoFirst : State → State → Type 0
+LeavesGoFirst old new = (q : ℕ) (k : Kept) → kept old q ≡ Some k → kept new q ≡ None → 0 < k.page.level → NoCleanLeaf old
+
 -- the page isn't kept, no frame is clean for the event, and all is as it was
 pub record NoFrame (old new : State) (page : ℕ) : Type 0 where
   pub missing : kept old page ≡ None
@@ -91,6 +99,7 @@ Answers passes d old new page (Err Damaged) = Refuted passes d old new page
 pub record BringsOne {A : Type 0} (passes : Contents → Bool) (d e : Device) (old new : State) (page : ℕ) (result : Result A PoolFault) : Type 0 where
   pub brings : Brings passes d.honest d.seen old new
   pub alone : ComesAlone old new page
+  pub first : LeavesGoFirst old new
   pub only_read : OnlyRead d e
   pub faults : e.faults ≡ d.faults + faults_of result
   pub answer : Answers passes d old new page result

@@ -17,15 +17,19 @@ abbrev pub with_page : State → ℕ → Contents → State
 with_page s i page = record s { pages = slice_set s.pages i page }
 
 -- an empty frame is a page's, with this stamp
-abbrev pub settled : State → ℕ → ℕ → ℕ → Option ℕ → State
-settled s i page level stamp = record s {
-  marks = slice_set s.marks i (record { page = Some page; level = level; stamp = stamp });
+abbrev pub settled : State → ℕ → ℕ → Option ℕ → State
+settled s i page stamp = record s {
+  marks = slice_set s.marks i (record { page = Some page; stamp = stamp });
   places = slice_set s.places page (Some i);
 }
 
 -- a frame's page has this stamp
 abbrev pub stamped : State → ℕ → Option ℕ → State
 stamped s i stamp = record s { marks = slice_set s.marks i (record (mark_at s i) { stamp = stamp }) }
+
+-- contents under another number
+abbrev pub numbered : Contents → ℕ → Contents
+numbered page number = record page { number = number }
 
 -- the later of a batch and the stamp that a page has, if it has one
 abbrev pub later : ℕ → Option ℕ → ℕ

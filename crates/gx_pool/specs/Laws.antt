@@ -1,14 +1,13 @@
 -- The laws of the pool.
 use Rattle.std.specs.Prelude.{◌≡◌, ◌≢◌, ◌⊎◌, ◌<◌, ◌≤◌, ◌+◌, ℕ, List, length, Bool, true, Option, Some, None, IsSome}
 use Rattle.gx_page.specs.Contents.{Contents}
-use Rattle.gx_page.specs.Edits.{blank}
 use Rattle.gx_page.specs.Reading.{read_of}
 use Rattle.gx_pool.specs.Area.{bytes_of}
 use Rattle.gx_pool.specs.Marks.{is_held}
 use Rattle.gx_pool.specs.State.{State, Kept, IsSound, IsSpare, NoneClean, NoneDirty, SomeClean, clean_count, dirty_count, kept}
 use Rattle.gx_pool.specs.Edits.{changed, later}
 use Rattle.gx_pool.specs.Bringing.{Brings, HasImage}
-use Rattle.gx_pool.specs.Creating.{Creates}
+use Rattle.gx_pool.specs.Creating.{Makes}
 
 abbrev pub ChangeIsOfItsPage : Type 0
 ChangeIsOfItsPage = (s : State) (page stamp : ℕ) (contents : Contents) (k : Kept) → IsSound s → kept s page ≡ Some k
@@ -43,13 +42,16 @@ abbrev pub BringingKeepsPassing : Type 0
 BringingKeepsPassing = (passes : Contents → Bool) (honest : Bool) (seen : List ℕ) (s t : State) → Brings passes honest seen s t → IsPassed passes s → IsPassed passes t
 
 abbrev pub CreatingKeepsBacked : Type 0
-CreatingKeepsBacked = (seen : List ℕ) (s t : State) (page level batch : ℕ) → Creates s t page level batch → IsBacked s seen → IsBacked t seen
+CreatingKeepsBacked = (seen : List ℕ) (s t : State) (page batch : ℕ) (contents : Contents) → Makes s t page contents batch → IsBacked s seen → IsBacked t seen
 
 abbrev pub CreatingShowsTheSame : Type 0
-CreatingShowsTheSame = (seen : List ℕ) (s t : State) (page level batch other : ℕ) → Creates s t page level batch → IsBacked s seen → other ≢ page → shown t seen other ≡ shown s seen other
+CreatingShowsTheSame = (seen : List ℕ) (s t : State) (page batch other : ℕ) (contents : Contents) → Makes s t page contents batch → IsBacked s seen → other ≢ page → shown t seen other ≡ shown s seen other
+
+abbrev pub CreatingShowsItsPage : Type 0
+CreatingShowsItsPage = (seen : List ℕ) (s t : State) (page batch : ℕ) (contents : Contents) → Makes s t page contents batch → shown t seen page ≡ contents
 
 abbrev pub CreatingKeepsPassing : Type 0
-CreatingKeepsPassing = (passes : Contents → Bool) (s t : State) (page level batch : ℕ) → Creates s t page level batch → passes (blank level page) ≡ true → IsPassed passes s → IsPassed passes t
+CreatingKeepsPassing = (passes : Contents → Bool) (s t : State) (page batch : ℕ) (contents : Contents) → Makes s t page contents batch → contents.number ≡ page → passes contents ≡ true → IsPassed passes s → IsPassed passes t
 
 abbrev pub SomeAreClean : Type 0
 SomeAreClean = (s : State) → 0 < clean_count s → SomeClean s
@@ -87,3 +89,21 @@ ChangeKeepsClean = (s : State) (page stamp : ℕ) (contents : Contents) (k : Kep
 abbrev pub ChangeTakesAClean : Type 0
 ChangeTakesAClean = (s : State) (page stamp : ℕ) (contents : Contents) (k : Kept) → IsSound s → kept s page ≡ Some k → IsSpare s page
     → clean_count (changed s page stamp contents) + 1 ≡ clean_count s
+
+-- ---- a change
+
+abbrev pub ChangingKeepsBacked : Type 0
+ChangingKeepsBacked = (seen : List ℕ) (s : State) (page stamp : ℕ) (contents : Contents) → IsSound s → IsBacked s seen → IsBacked (changed s page stamp contents) seen
+
+abbrev pub ChangingShowsItsPage : Type 0
+ChangingShowsItsPage = (seen : List ℕ) (s : State) (page stamp : ℕ) (contents : Contents) (k : Kept) → IsSound s → kept s page ≡ Some k → shown (changed s page stamp contents) seen page ≡ contents
+
+abbrev pub ChangingShowsTheSame : Type 0
+ChangingShowsTheSame = (seen : List ℕ) (s : State) (page other stamp : ℕ) (contents : Contents) → IsSound s → other ≢ page → shown (changed s page stamp contents) seen other ≡ shown s seen other
+
+abbrev pub ChangingKeepsPassing : Type 0
+ChangingKeepsPassing = (passes : Contents → Bool) (s : State) (page stamp : ℕ) (contents : Contents) → IsSound s → contents.number ≡ page → passes contents ≡ true → IsPassed passes s
+    → IsPassed passes (changed s page stamp contents)
+
+abbrev pub ChangingKeepsSound : Type 0
+ChangingKeepsSound = (s : State) (page stamp : ℕ) (contents : Contents) → IsSound s → IsSound (changed s page stamp contents)

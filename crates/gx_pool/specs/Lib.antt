@@ -2,10 +2,12 @@ pub mod Area
 pub mod Bringing
 pub mod Creating
 pub mod Edits
+pub mod Elsewhere
 pub mod Gated
 pub mod Laws
 pub mod Lending
 pub mod Marks
+pub mod Readable
 pub mod State
 pub mod Viewing
 pub mod Writing

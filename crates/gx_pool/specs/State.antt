@@ -3,7 +3,7 @@ use Rattle.std.specs.Prelude.{◌≡◌, ℕ, zero, suc, ◌+◌, ◌<◌, ◌�
 use Rattle.gx_page.specs.Contents.{Contents}
 use Rattle.gx_page.specs.Edits.{blank}
 use Rattle.gx_pool.specs.declared.mark.Mark.{Mark}
-use Rattle.gx_pool.specs.Marks.{clean, empty, is_dirty, is_gated, is_held}
+use Rattle.gx_pool.specs.Marks.{clean, empty, is_dirty, is_gated, is_held, is_upper, NoLeaf}
 
 pub record State : Type 0 where
   -- the page in each frame
@@ -69,6 +69,14 @@ NoneClean s = (i : ℕ) → i < length s.marks → clean s.held (mark_at s i) �
 -- a frame is clean for the event: it is empty, or has a clean page that isn't held
 abbrev pub SomeClean : State → Type 0
 SomeClean s = (i : ℕ) × (i < length s.marks) × (clean s.held (mark_at s i) ≡ true)
+
+-- whether a frame has a page above the leaves
+abbrev pub is_upper_at : State → ℕ → Bool
+is_upper_at s i = is_upper (mark_at s i) (slice_index_or s.pages i (blank 0 0))
+
+-- no frame that is clean for the event is empty or has a leaf: each has a page above the leaves
+abbrev pub NoCleanLeaf : State → Type 0
+NoCleanLeaf s = NoLeaf s.held s.marks s.pages
 
 -- how many frames are clean for the event
 abbrev pub clean_count : State → ℕ

@@ -43,9 +43,9 @@ impl Model for Frames {
 impl Frames {
     ghost use Rattle.gx_pool.specs.Lending.{LendsPage, LendsChange};
     ghost use Rattle.gx_pool.specs.Marks.{clean, empty, is_gated};
-    ghost use Rattle.gx_pool.specs.Creating.{Creates};
-    ghost use Rattle.gx_pool.specs.State.{State, IsEmpty, IsSound, place_of, mark_at, kept, stamp_of, clean_count, dirty_count, held_clean, is_clean_page, is_counted, NoneClean, NoneDirty, IsWritable};
-    ghost use Rattle.gx_pool.specs.Edits.{vacated, with_page, settled, stamped};
+    ghost use Rattle.gx_pool.specs.Creating.{Creates, Copies, Makes};
+    ghost use Rattle.gx_pool.specs.State.{State, IsEmpty, IsSound, place_of, mark_at, kept, stamp_of, clean_count, dirty_count, held_clean, is_clean_page, is_counted, NoneClean, NoneDirty, IsSpare, IsWritable, NoCleanLeaf, is_upper_at};
+    ghost use Rattle.gx_pool.specs.Edits.{numbered, vacated, with_page, settled, stamped};
 
     /// So many empty frames, with the table of pages.
     #[tactic(auto, using(crate::proofs::Places::empty_sound, crate::proofs::Places::kept_none))]
@@ -110,11 +110,12 @@ impl Frames {
     /// The frame for a page that comes in.
     pub(crate) fn frame_to_use(&mut self) -> Option<usize>
         ensures found { IfSome result (λ i. (i < length self.old.marks) × (clean self.old.held (mark_at self.old i) ≡ true)) }
+        ensures first { IfSome result (λ i. is_upper_at self.old i ≡ true → NoCleanLeaf self.old) }
         ensures none { IfNone result (NoneClean self.old) }
         ensures unchanged { self.new ≡ self.old }
         ensures sound { IsSound self.old }
     {
-        let found = mark::frame_to_use(&self.marks, &self.held, self.hand);
+        let found = mark::frame_to_use(&self.marks, &self.pages, &self.held, self.hand);
         if let Some(i) = found {
             self.hand = i + 1;
         }
@@ -146,15 +147,14 @@ impl Frames {
 
     /// Gives an empty frame to a page that has none.
     #[tactic(auto, using(crate::proofs::Places::settled_sound))]
-    pub(crate) fn settle(&mut self, i: usize, page: u32, level: u16, stamp: Option<u64>)
+    pub(crate) fn settle(&mut self, i: usize, page: u32, stamp: Option<u64>)
         requires frame { (i < length self.old.marks) × ((mark_at self.old i).page ≡ None) }
         requires page { (page ≤ PAGES) × (place_of self.old page ≡ None) }
         requires number { 1 ≤ page }
-        ensures { self.new ≡ settled self.old i page level stamp }
+        ensures { self.new ≡ settled self.old i page stamp }
     {
         let mark = Mark {
             page: Some(page),
-            level,
             stamp,
         };
         self.dirty = mark::put(&mut self.marks, i, mark, self.dirty);
@@ -181,7 +181,51 @@ impl Frames {
             Some(i) => {
                 self.vacate(i);
                 self.reset(i, page, level);
-                self.settle(i, page, level, Some(batch));
+                self.settle(i, page, Some(batch));
+            }
+            None => unreachable!(),
+        }
+    }
+
+    /// Copies the page of one frame into another, under a number of its own.
+    #[tactic(auto, using(crate::proofs::Places::with_page_sound))]
+    fn copy(&mut self, from: usize, to: usize, number: u32)
+        requires inside { (from < length self.old.marks) × (to < length self.old.marks) }
+        requires apart { from ≢ to }
+        ensures { self.new ≡ with_page self.old to (numbered (slice_index_or self.old.pages from (blank 0 0)) number) }
+    {
+        mark::copy_page(&mut self.pages, from, to, number);
+    }
+
+    /// Gives a clean frame to a page that isn't kept: a copy of one that is and that doesn't go, under its own number, and with
+    /// a change of a batch.
+    pub(crate) fn create_as(&mut self, page: u32, from: u32, batch: u64)
+        requires page { (page ≤ PAGES) × (kept self.old page ≡ None) }
+        requires number { 1 ≤ page }
+        requires from { (from ≤ PAGES) × IsSome (kept self.old from) }
+        requires stays { ¬ IsSpare self.old from }
+        requires frame { 0 < clean_count self.old }
+        ensures { Copies self.old self.new page from batch }
+    {
+        match self.place(from) {
+            Some(source) => self.copy_frame(page, source, batch),
+            None => unreachable!(),
+        }
+    }
+
+    /// Gives a clean frame to a page that isn't kept: a copy of the page in a frame that isn't clean.
+    fn copy_frame(&mut self, page: u32, source: usize, batch: u64)
+        requires page { (page ≤ PAGES) × (kept self.old page ≡ None) }
+        requires number { 1 ≤ page }
+        requires source { (source < length self.old.marks) × (clean self.old.held (mark_at self.old source) ≡ false) }
+        requires frame { 0 < clean_count self.old }
+        ensures { Makes self.old self.new page (numbered (slice_index_or self.old.pages source (blank 0 0)) page) batch }
+    {
+        match self.frame_to_use() {
+            Some(target) => {
+                self.vacate(target);
+                self.copy(source, target, page);
+                self.settle(target, page, Some(batch));
             }
             None => unreachable!(),
         }

@@ -1,6 +1,8 @@
 //! Laws of the pool. Each function is its contract alone.
 ghost use Rattle.gx_pool.specs.Gated.{ImagesAgree};
-ghost use Rattle.gx_pool.specs.Laws.{ChangeIsOfItsPage, ChangeIsOfNoOther, BringingKeepsBacked, BringingShowsTheSame, BringingKeepsPassing, CreatingKeepsBacked, CreatingShowsTheSame, CreatingKeepsPassing, SomeAreClean, NoneAreClean, CleanAndDirtyAreApart, AllButHeldAreCounted, NoneDirtyIsZero, ZeroIsNoneDirty, ChangeOfACleanPageRaises, ChangeOfADirtyPageLeaves, ChangeKeepsClean, ChangeTakesAClean};
+ghost use Rattle.gx_pool.specs.Laws.{ChangeIsOfItsPage, ChangeIsOfNoOther, BringingKeepsBacked, BringingShowsTheSame, BringingKeepsPassing, CreatingKeepsBacked, CreatingShowsTheSame, CreatingKeepsPassing, CreatingShowsItsPage, ChangingKeepsBacked, ChangingShowsItsPage, ChangingShowsTheSame, ChangingKeepsPassing, ChangingKeepsSound, SomeAreClean, NoneAreClean, CleanAndDirtyAreApart, AllButHeldAreCounted, NoneDirtyIsZero, ZeroIsNoneDirty, ChangeOfACleanPageRaises, ChangeOfADirtyPageLeaves, ChangeKeepsClean, ChangeTakesAClean};
+ghost use Rattle.gx_pool.specs.Elsewhere.{RestLeavesPages, ElsewhereReadsTheSame, ElsewhereKeepsBacked, ElsewhereShowsTheSame, ElsewhereKeepsSettled, ElsewhereKeepsReadable};
+ghost use Rattle.gx_pool.specs.Readable.{OneIsNotDamaged, SomeAreNotDamaged, BringingKeepsReadable, CreatingKeepsReadable, ChangingKeepsReadable};
 
 use gx_disk::SectorDisk;
 
@@ -18,12 +20,44 @@ pub fn bringing()
     ensures passing { BringingKeepsPassing }
 {}
 
-/// Where each clean page is what an honest device has, it is so after a page was made, and every other page is shown as
-/// before. Where each kept page passes the test, each does then, if the blank page passes it.
+/// Where each clean page is what an honest device has, it is so after a page was made, blank or as a copy, and every other page
+/// is shown as before. Where each kept page passes the test, each does then, if the page that was made passes it.
 pub fn creating()
     ensures backed { CreatingKeepsBacked }
     ensures shown { CreatingShowsTheSame }
+    ensures its_page { CreatingShowsItsPage }
     ensures passing { CreatingKeepsPassing }
+{}
+
+/// The same of a change through a loan: its page is shown with the last contents, and every other page as before. Frames and
+/// the table still name each other, which is the premise of these laws.
+pub fn changing()
+    ensures backed { ChangingKeepsBacked }
+    ensures its_page { ChangingShowsItsPage }
+    ensures shown { ChangingShowsTheSame }
+    ensures passing { ChangingKeepsPassing }
+    ensures sound { ChangingKeepsSound }
+{}
+
+/// Where what an honest device has of each used page that isn't kept passes the test, it is so after pages were brought, made or
+/// changed, whatever goes meanwhile; `Pool::write_page` keeps it too. Then no used page that is brought is refused as damaged.
+pub fn readable<D: SectorDisk>()
+    ensures one { (disk after : D) → OneIsNotDamaged (D.state disk) (D.state after) }
+    ensures several { (disk after : D) → SomeAreNotDamaged (D.state disk) (D.state after) }
+    ensures bringing { BringingKeepsReadable }
+    ensures creating { CreatingKeepsReadable }
+    ensures changing { ChangingKeepsReadable }
+{}
+
+/// A call that touches sectors ahead of page 1 alone, as a step of a log or of its turn does, or none, as a read and a sync,
+/// leaves each page as the device has it: what is backed, shown, settled and readable.
+pub fn calls_elsewhere<D: SectorDisk>()
+    ensures rest { (disk after : D) → RestLeavesPages (D.state disk) (D.state after) }
+    ensures bytes { (disk after : D) → ElsewhereReadsTheSame (D.state disk) (D.state after) }
+    ensures backed { (disk after : D) → ElsewhereKeepsBacked (D.state disk) (D.state after) }
+    ensures shown { (disk after : D) → ElsewhereShowsTheSame (D.state disk) (D.state after) }
+    ensures settled { (disk after : D) → ElsewhereKeepsSettled (D.state disk) (D.state after) }
+    ensures readable { (disk after : D) → ElsewhereKeepsReadable (D.state disk) (D.state after) }
 {}
 
 /// Some frame is clean exactly where the number of clean frames is positive, and no page is dirty exactly where the number of

@@ -1,8 +1,9 @@
 //! What is known of a frame besides its page.
-ghost use Rattle.std.specs.Prelude.{◌≡◌, ◌==◌, ◌<◌, ◌+◌, ◌≤◌, true, false, cond, ℕ, length, count_by, slice_index_or, slice_set, Some, None, MatchOption, IfSome, IfNone, IfOk};
+ghost use Rattle.std.specs.Prelude.{◌≡◌, ◌≢◌, ◌==◌, ◌<◌, ◌+◌, ◌≤◌, true, false, cond, ℕ, length, count_by, slice_index_or, slice_set, Some, None, MatchOption, IfSome, IfNone, IfOk};
 ghost use Rattle.std.specs.List.{list_any};
-ghost use Rattle.gx_pool.specs.Edits.{forgotten, later};
-ghost use Rattle.gx_pool.specs.Marks.{clean, empty, is_dirty, is_gated, writable, IsLeast};
+ghost use Rattle.gx_page.specs.Edits.{blank};
+ghost use Rattle.gx_pool.specs.Edits.{forgotten, later, numbered};
+ghost use Rattle.gx_pool.specs.Marks.{clean, empty, is_dirty, is_gated, is_upper, writable, IsLeast, NoLeaf, NoLeafBetween};
 
 use arrayvec::ArrayVec;
 use gx_page::Page;
@@ -11,12 +12,11 @@ use std::alloc::{AllocError, Global};
 /// How many pages an event may hold.
 pub const HELD: usize = 4;
 
-/// What a frame holds: the number of its page, none for an empty frame; the level that the page had as it came; and the
-/// greatest batch that has a change of it, none where it is as the device has it.
+/// What a frame holds: the number of its page, none for an empty frame; and the greatest batch that has a change of it, none
+/// where it is as the device has it.
 #[derive(Clone, Copy)]
 pub struct Mark {
     pub(crate) page: Option<u32>,
-    pub(crate) level: u16,
     pub(crate) stamp: Option<u64>,
 }
 
@@ -84,7 +84,6 @@ impl Mark {
     {
         Mark {
             page: None,
-            level: 0,
             stamp: None,
         }
     }
@@ -100,6 +99,13 @@ impl Mark {
             None => true,
             Some(page) => !is_among(page, held),
         }
+    }
+
+    /// Whether the frame has a page above the leaves.
+    fn is_upper(&self, page: &Page) -> bool
+        ensures { result ≡ is_upper self.now page.now }
+    {
+        self.page.is_some() && page.level() > 0
     }
 
     /// Whether its page is dirty.
@@ -127,36 +133,91 @@ impl Mark {
     }
 }
 
-/// The first clean frame between two places, or the first one with a leaf.
-fn clean_between(marks: &[Mark], held: &[u32], from: usize, to: usize, leaf: bool) -> Option<usize>
-    requires { to ≤ length marks.now }
-    ensures found { IfSome result (λ i. (i < length marks.now) × (clean held.now (slice_index_or marks.now i empty) ≡ true)) }
-    ensures none { leaf ≡ false → IfNone result ((k : ℕ) → from ≤ k → k < to → clean held.now (slice_index_or marks.now k empty) ≡ false) }
+/// The first clean frame between two places that is empty or has a leaf.
+fn leaf_between(
+    marks: &[Mark],
+    pages: &[Page],
+    held: &[u32],
+    from: usize,
+    to: usize,
+) -> Option<usize>
+    requires { (to ≤ length marks.now) × (length pages.now ≡ length marks.now) }
+    ensures found { IfSome result (λ i. (i < length marks.now) × (clean held.now (slice_index_or marks.now i empty) ≡ true) × (is_upper (slice_index_or marks.now i empty) (slice_index_or pages.now i (blank 0 0)) ≡ false)) }
+    ensures none { IfNone result (NoLeafBetween held.now marks.now pages.now from to) }
 {
     for i in from..to {
-        let mark = marks[i];
-        if mark.is_clean(held) && (!leaf || mark.level == 0) {
+        if marks[i].is_clean(held) && !marks[i].is_upper(&pages[i]) {
             return Some(i);
         }
     }
     None
 }
 
-/// The frame for a page that comes in: the first clean one with a leaf, or empty, from the hand on and round; and where
-/// there is none, any clean one.
-pub(crate) fn frame_to_use(marks: &[Mark], held: &[u32], hand: usize) -> Option<usize>
-    requires { hand ≤ length marks.now }
+/// The first clean frame.
+fn clean_frame(marks: &[Mark], held: &[u32]) -> Option<usize>
     ensures found { IfSome result (λ i. (i < length marks.now) × (clean held.now (slice_index_or marks.now i empty) ≡ true)) }
     ensures none { IfNone result ((k : ℕ) → k < length marks.now → clean held.now (slice_index_or marks.now k empty) ≡ false) }
 {
-    let count = marks.len();
-    if let Some(i) = clean_between(marks, held, hand, count, true) {
-        return Some(i);
+    for i in 0..marks.len() {
+        if marks[i].is_clean(held) {
+            return Some(i);
+        }
     }
-    if let Some(i) = clean_between(marks, held, 0, hand, true) {
-        return Some(i);
+    None
+}
+
+/// The first clean frame that is empty or has a leaf, from the hand on and round.
+fn leaf_frame(marks: &[Mark], pages: &[Page], held: &[u32], hand: usize) -> Option<usize>
+    requires { (hand ≤ length marks.now) × (length pages.now ≡ length marks.now) }
+    ensures found { IfSome result (λ i. (i < length marks.now) × (clean held.now (slice_index_or marks.now i empty) ≡ true) × (is_upper (slice_index_or marks.now i empty) (slice_index_or pages.now i (blank 0 0)) ≡ false)) }
+    ensures none { IfNone result (NoLeaf held.now marks.now pages.now) }
+{
+    match leaf_between(marks, pages, held, hand, marks.len()) {
+        Some(i) => Some(i),
+        None => leaf_between(marks, pages, held, 0, hand),
     }
-    clean_between(marks, held, 0, count, false)
+}
+
+/// The frame for a page that comes in: the first clean one that is empty or has a leaf, from the hand on and round; and where
+/// there is none, the first clean one.
+pub(crate) fn frame_to_use(
+    marks: &[Mark],
+    pages: &[Page],
+    held: &[u32],
+    hand: usize,
+) -> Option<usize>
+    requires { (hand ≤ length marks.now) × (length pages.now ≡ length marks.now) }
+    ensures found { IfSome result (λ i. (i < length marks.now) × (clean held.now (slice_index_or marks.now i empty) ≡ true)) }
+    ensures first { IfSome result (λ i. is_upper (slice_index_or marks.now i empty) (slice_index_or pages.now i (blank 0 0)) ≡ true → NoLeaf held.now marks.now pages.now) }
+    ensures none { IfNone result ((k : ℕ) → k < length marks.now → clean held.now (slice_index_or marks.now k empty) ≡ false) }
+{
+    match leaf_frame(marks, pages, held, hand) {
+        Some(i) => Some(i),
+        None => clean_frame(marks, held),
+    }
+}
+
+/// Copies the page of one frame into another, under a number of its own.
+pub(crate) fn copy_page(pages: &mut [Page], from: usize, to: usize, number: u32)
+    requires inside { (from < length pages.old) × (to < length pages.old) }
+    requires apart { from ≢ to }
+    ensures { pages.new ≡ slice_set pages.old to (numbered (slice_index_or pages.old from (blank 0 0)) number) }
+{
+    if from < to {
+        let (front, back) = pages.split_at_mut(to);
+        copy_as(&mut back[0], &front[from], number);
+    } else {
+        let (front, back) = pages.split_at_mut(from);
+        copy_as(&mut front[to], &back[0], number);
+    }
+}
+
+/// Copies a page, under a number of its own.
+fn copy_as(page: &mut Page, from: &Page, number: u32)
+    ensures { page.new ≡ numbered from.now number }
+{
+    page.copy_from(from);
+    page.set_number(number);
 }
 
 /// How many frames are dirty, of so many before, once one that was dirty or wasn't is dirty or isn't.

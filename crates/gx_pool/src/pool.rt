@@ -5,12 +5,13 @@ ghost use Rattle.std.specs.Bool.{OnTrue, OnFalse};
 ghost use Rattle.gx_page.specs.Edits.{blank};
 ghost use Rattle.gx_pool.specs.Area.{bytes_of, IsPage, IsPassing};
 ghost use Rattle.gx_pool.specs.Marks.{clean, empty, is_gated};
-ghost use Rattle.gx_pool.specs.State.{State, Kept, IsEmpty, IsSound, NoneDirty, AllKept, clean_count, dirty_count, holding, kept, mark_at, place_of, stamp_of, NoneClean, SomeClean, IsWritable};
-ghost use Rattle.gx_pool.specs.Creating.{Creates};
+ghost use Rattle.gx_pool.specs.State.{State, Kept, IsEmpty, IsSound, NoneDirty, AllKept, clean_count, dirty_count, holding, kept, mark_at, place_of, stamp_of, NoneClean, SomeClean, IsSpare, IsWritable};
+ghost use Rattle.gx_pool.specs.Creating.{Creates, Copies};
 ghost use Rattle.gx_pool.specs.Gated.{IsAreaSettled, KeepsArea, NamesGated};
 ghost use Rattle.gx_pool.specs.Laws.{IsBacked, IsPassed};
+ghost use Rattle.gx_pool.specs.Readable.{IsReadable};
 ghost use Rattle.gx_pool.specs.Writing.{WritesPage, WritesAtMost, KeepsShown};
-ghost use Rattle.gx_pool.specs.Bringing.{Brings, BringsOne, ComesAlone, HasImage, OnlyRead, faults_of, BringsAll};
+ghost use Rattle.gx_pool.specs.Bringing.{Brings, BringsOne, ComesAlone, GoesAlone, HasImage, OnlyRead, faults_of, BringsAll};
 
 use crate::area::{PAGES, first_sector};
 use crate::fault::PoolFault;
@@ -77,6 +78,7 @@ impl<T: PageTest> Pool<T> {
         requires number { 1 ≤ page }
         ensures brings { (d : Bool) (seen : List ℕ) → (d ≡ true → bytes_of seen page ≡ self.old.buffer.value) → Brings (T.passes self.old.test) d seen self.old.frames self.new.frames }
         ensures alone { ComesAlone self.old.frames self.new.frames page }
+        ensures goes { GoesAlone self.old.frames self.new.frames i }
         ensures admitted { OnTrue result (IsSome (kept self.new.frames page)) }
         ensures refused { OnFalse result (¬ IsPassing (T.passes self.old.test) page self.old.buffer.value) }
         ensures left { OnFalse result ((kept self.new.frames page ≡ None) × SomeClean self.new.frames) }
@@ -89,8 +91,7 @@ impl<T: PageTest> Pool<T> {
         if !self.is_right(i, page) {
             return false;
         }
-        let level = self.frames.page_in(i).level();
-        self.frames.settle(i, page, level, None);
+        self.frames.settle(i, page, None);
         true
     }
 
@@ -113,7 +114,8 @@ impl<T: PageTest> Pool<T> {
         }
     }
 
-    /// Brings a page into a frame, unless it is in one, and leaves what is held as it is: `page` reads it then. Where it is
+    /// Brings a page into a frame, unless it is in one, and leaves what is held as it is: `page` reads it then. A clean frame
+    /// that is empty or has a leaf is used before one with a page above the leaves. Where it is
     /// in one, or no frame is clean (empty, or with a clean page that isn't held), the device isn't called.
     ///
     /// Refused with `NoCleanFrame` exactly where it isn't in a frame and no frame is clean. Else with `Device` where the
@@ -181,6 +183,21 @@ impl<T: PageTest> Pool<T> {
         self.frames.create(page, level, batch);
     }
 
+    /// Makes a page that was never written as a copy of one that is kept, under its own number, and with a change of a batch. The
+    /// page that is copied is dirty or held, so it stays. Else as `create`: the device isn't read, no memory is taken, and a
+    /// clean frame is used.
+    pub fn create_as(&mut self, page: u32, from: u32, batch: u64)
+        requires page { (1 ≤ page) × (page ≤ PAGES) }
+        requires absent { kept self.old.frames page ≡ None }
+        requires from { (from ≤ PAGES) × IsSome (kept self.old.frames from) }
+        requires stays { ¬ IsSpare self.old.frames from }
+        requires frame { 0 < clean_count self.old.frames }
+        ensures created { Copies self.old.frames self.new.frames page from batch }
+        ensures test { self.new.test ≡ self.old.test }
+    {
+        self.frames.create_as(page, from, batch);
+    }
+
     /// Writes the page in a frame to its sectors; it is clean then.
     fn write_frame<D: SectorDisk>(
         &mut self,
@@ -222,6 +239,7 @@ impl<T: PageTest> Pool<T> {
         ensures written { (k : Kept) → kept self.old.frames page ≡ Some k → is_gated self.old.frames.gated k.stamp ≡ true → WritesPage (D.state disk.old) (D.state disk.new) self.old.frames self.new.frames page k result }
         ensures area { (named : ℕ → Bool) → (D.state disk.old).honest ≡ true → NamesGated named self.old.frames → IsAreaSettled named (D.state disk.old) → KeepsArea named (D.state disk.old) (D.state disk.new) }
         ensures at_most { WritesAtMost (D.state disk.old) (D.state disk.new) self.old.frames self.new.frames page }
+        ensures readable { (used : ℕ → Bool) → (D.state disk.old).honest ≡ true → IsReadable (T.passes self.old.test) used self.old.frames (D.state disk.old).seen → IsReadable (T.passes self.old.test) used self.new.frames (D.state disk.new).seen }
         ensures shown { (D.state disk.old).honest ≡ true → IsBacked self.old.frames (D.state disk.old).seen → KeepsShown (D.state disk.old) (D.state disk.new) self.old.frames self.new.frames }
         ensures device { ((D.state disk.new).sectors ≡ (D.state disk.old).sectors) × ((D.state disk.new).honest ≡ (D.state disk.old).honest) }
         ensures faults { (D.state disk.new).faults ≡ (D.state disk.old).faults + faults_of result }

@@ -1,6 +1,5 @@
-use Rattle.std.proofs.Common.{◌∙◌, ◌≡◌, ◌<◌, sym, ap, [], ◌∷◌, true, Some, arith}
+use Rattle.std.proofs.Common.{◌∙◌, ap, [], ◌∷◌, Some, arith}
 use Rattle.gx_pool.specs.Marks.{is_held}
-use Rattle.gx_pool.specs.State.{clean_count, dirty_count}
 use Rattle.gx_device_tests.proofs.Counts.{one_held, other_not_held}
 use Rattle.gx_device_tests.proofs.Threes.{same_kept}
 use Rattle.gx_device_tests.proofs.frames.change_and_make.Goals as goal

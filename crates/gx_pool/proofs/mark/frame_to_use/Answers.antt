@@ -1,13 +1,16 @@
-use Rattle.std.proofs.Common.{◌≡◌, ℕ, ◌<◌, ◌≤◌, List, length, get_or, false, Option, Some, None, IfNone, refl, arith}
-use Rattle.gx_pool.specs.declared.mark.Mark.{Mark}
-use Rattle.gx_pool.specs.Marks.{clean, empty}
+use Rattle.std.proofs.Common.{◌≡◌, ℕ, true, false, Bool, Option, Some, None, IfSome, arith}
 use Rattle.gx_pool.proofs.mark.frame_to_use.Goals as goal
 
--- none from the first on is none at all
-none_at_all : (marks : List Mark) (held : List ℕ) (found : Option ℕ) → IfNone found ((k : ℕ) → 0 ≤ k → k < length marks → clean held (get_or marks k empty) ≡ false)
-    → IfNone found ((k : ℕ) → k < length marks → clean held (get_or marks k empty) ≡ false)
-none_at_all marks held None none = λ k below. none k (omega arith) below
-none_at_all marks held (Some i) none = tt
+-- what holds anyway holds of what was found
+of_any : (o : Option ℕ) (P : ℕ → Type 0) → ((i : ℕ) → P i) → IfSome o P
+of_any None P all = tt
+of_any (Some i) P all = all i
 
-pub returns-clause-none : goal.returns-clause-none
-returns-clause-none c = none_at_all c.args.marks.now c.args.held.now c.clean_between-3.result (c.clean_between-3.ensures.none refl)
+true_false : (b : Bool) → b ≡ true → b ≡ false → ⊥
+true_false b is not_so = grind arith
+
+pub returns-in-Some-clause-first : goal.returns-in-Some-clause-first
+returns-in-Some-clause-first c = λ upper. absurd (true_false _ upper c.in-Some.ensures.found.2)
+
+pub returns-in-None-clause-first : goal.returns-in-None-clause-first
+returns-in-None-clause-first c = of_any c.clean_frame.result _ (λ i upper. c.in-None.ensures.none)

@@ -3,7 +3,7 @@ use Rattle.gx_page.specs.Edits.{blank}
 use Rattle.gx_pool.specs.State.{place_of}
 use Rattle.gx_pool.specs.Edits.{vacated, with_page}
 use Rattle.gx_pool.proofs.Bringing.{loaded_absent}
-use Rattle.gx_pool.proofs.Creating.{created, no_frame}
+use Rattle.gx_pool.proofs.Creating.{made, no_frame}
 use Rattle.gx_pool.proofs.frames.Frames.create.Goals as goal
 
 pub unreachable-requires : goal.unreachable-requires
@@ -18,5 +18,6 @@ settle-requires-clause-page c = (
 
 pub returns : goal.returns
 returns c =
-    created c.args.self.now c.reset.new.self c.settle.new.self c.in-Some.i c.args.page c.args.level c.args.batch c.frame_to_use.ensures.sound c.in-Some.ensures.found.0 c.in-Some.ensures.found.1
-    c.requires.page.0 (c.reset.ensures ∙ ap (λ v. with_page v c.in-Some.i (blank c.args.level c.args.page)) (c.vacate.ensures.vacated ∙ ap (λ v. vacated v c.in-Some.i) c.frame_to_use.ensures.unchanged)) c.settle.ensures
+    made c.args.self.now c.reset.new.self c.settle.new.self c.in-Some.i c.args.page c.args.batch (blank c.args.level c.args.page) c.frame_to_use.ensures.sound c.in-Some.ensures.found.0 c.in-Some.ensures.found.1
+    c.in-Some.ensures.first c.requires.number c.requires.page.0 c.requires.page.1
+    (c.reset.ensures ∙ ap (λ v. with_page v c.in-Some.i (blank c.args.level c.args.page)) (c.vacate.ensures.vacated ∙ ap (λ v. vacated v c.in-Some.i) c.frame_to_use.ensures.unchanged)) c.settle.ensures

@@ -2,7 +2,7 @@ use Rattle.std.proofs.Common.{◌∙◌, ap, None}
 use Rattle.gx_page.specs.Reading.{read_of}
 use Rattle.gx_pool.specs.State.{place_of}
 use Rattle.gx_pool.specs.Edits.{with_page}
-use Rattle.gx_pool.proofs.Bringing.{vacated_alone, vacated_brings, vacated_missing, loaded_alone, loaded_brings, loaded_missing, loaded_absent, admitted, admitted_there, settled_alone}
+use Rattle.gx_pool.proofs.Bringing.{vacated_alone, vacated_brings, vacated_missing, loaded_alone, loaded_brings, loaded_missing, loaded_absent, admitted, admitted_there, settled_alone, vacated_goes, loaded_goes, settled_goes}
 use Rattle.gx_pool.proofs.pool.Pool.admit.Goals as goal
 
 pub returns-in_default-clause-brings : goal.returns-in_default-clause-brings
@@ -23,12 +23,12 @@ settle-requires-clause-page g c = (
 
 pub returns-clause-brings : goal.returns-clause-brings
 returns-clause-brings g c = λ d seen read.
-    admitted _ d seen c.args.self.now.buffer.value c.args.self.now.frames c.load.new.self c.settle.new.self c.args.i c.args.page c.level-level.result c.vacate.ensures.sound c.requires.frame.0 c.requires.frame.1
+    admitted _ d seen c.args.self.now.buffer.value c.args.self.now.frames c.load.new.self c.settle.new.self c.args.i c.args.page c.vacate.ensures.sound c.requires.frame.0 c.requires.frame.1
     c.requires.page.0 c.requires.page.1 (c.in-Ok.ensures.loaded.1 ∙ ap (λ b. with_page c.vacate.new.self c.args.i (read_of b)) c.deref.ensures ∙ ap (λ v. with_page v c.args.i (read_of c.args.self.now.buffer.value)) c.vacate.ensures.vacated) c.settle.ensures c.if-not-is_right.ensures.yes.0 c.if-not-is_right.ensures.yes.1 (rw (← c.deref.ensures) c.in-Ok.ensures.loaded.0) read
 
 pub returns-clause-admitted : goal.returns-clause-admitted
 returns-clause-admitted g c =
-    admitted_there c.args.self.now.frames c.load.new.self c.settle.new.self (read_of c.args.self.now.buffer.value) c.args.i c.args.page c.level-level.result c.vacate.ensures.sound c.requires.frame.0 c.requires.page.0
+    admitted_there c.args.self.now.frames c.load.new.self c.settle.new.self (read_of c.args.self.now.buffer.value) c.args.i c.args.page c.vacate.ensures.sound c.requires.frame.0 c.requires.page.0
     (c.in-Ok.ensures.loaded.1 ∙ ap (λ b. with_page c.vacate.new.self c.args.i (read_of b)) c.deref.ensures ∙ ap (λ v. with_page v c.args.i (read_of c.args.self.now.buffer.value)) c.vacate.ensures.vacated) c.settle.ensures
 
 pub returns-in_default-clause-alone : goal.returns-in_default-clause-alone
@@ -50,5 +50,18 @@ returns-then-not-is_right-clause-left g c =
 
 pub returns-clause-alone : goal.returns-clause-alone
 returns-clause-alone g c =
-    settled_alone c.args.self.now.frames c.load.new.self c.settle.new.self c.args.i c.args.page c.level-level.result None (read_of c.args.self.now.buffer.value) c.vacate.ensures.sound c.requires.frame.0
+    settled_alone c.args.self.now.frames c.load.new.self c.settle.new.self c.args.i c.args.page None (read_of c.args.self.now.buffer.value) c.vacate.ensures.sound c.requires.frame.0
+    (c.in-Ok.ensures.loaded.1 ∙ ap (λ b. with_page c.vacate.new.self c.args.i (read_of b)) c.deref.ensures ∙ ap (λ v. with_page v c.args.i (read_of c.args.self.now.buffer.value)) c.vacate.ensures.vacated) c.settle.ensures
+
+pub returns-in_default-clause-goes : goal.returns-in_default-clause-goes
+returns-in_default-clause-goes g c = rw (c.in_default.ensures.fault.1, c.vacate.ensures.vacated) (vacated_goes c.args.self.now.frames c.args.i c.vacate.ensures.sound c.requires.frame.0)
+
+pub returns-then-not-is_right-clause-goes : goal.returns-then-not-is_right-clause-goes
+returns-then-not-is_right-clause-goes g c =
+    rw (c.in-Ok.ensures.loaded.1, c.deref.ensures, c.vacate.ensures.vacated)
+    (loaded_goes c.args.self.now.frames c.args.i (read_of c.args.self.now.buffer.value) c.vacate.ensures.sound c.requires.frame.0)
+
+pub returns-clause-goes : goal.returns-clause-goes
+returns-clause-goes g c =
+    settled_goes c.args.self.now.frames c.load.new.self c.settle.new.self c.args.i c.args.page None (read_of c.args.self.now.buffer.value) c.vacate.ensures.sound c.requires.frame.0 c.requires.page.0
     (c.in-Ok.ensures.loaded.1 ∙ ap (λ b. with_page c.vacate.new.self c.args.i (read_of b)) c.deref.ensures ∙ ap (λ v. with_page v c.args.i (read_of c.args.self.now.buffer.value)) c.vacate.ensures.vacated) c.settle.ensures

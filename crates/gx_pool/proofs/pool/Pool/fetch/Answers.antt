@@ -1,3 +1,4 @@
+use Rattle.gx_pool.proofs.Bringing.{first_leaves}
 use Rattle.gx_pool.proofs.pool.Pool.fetch.Goals as goal
 
 pub returns-then-admit-clause-fetched : goal.returns-then-admit-clause-fetched
@@ -6,6 +7,7 @@ returns-then-admit-clause-fetched g c = record {
   only_read = c.in_ok-read.ensures.only_read;
   faults = c.in_ok-read.ensures.faults;
   alone = rw (← c.frame_to_use.ensures.unchanged, ← c.in_ok-read.ensures.same.0) c.admit.ensures.alone;
+  first = first_leaves c.args.self.now.frames _ c.in-Some.i c.frame_to_use.ensures.sound (rw (← c.frame_to_use.ensures.unchanged, ← c.in_ok-read.ensures.same.0) c.admit.ensures.goes) c.in-Some.ensures.first;
   answer = c.if-admit.ensures.admitted;
 }
 
@@ -15,6 +17,7 @@ returns-else-admit-clause-fetched g c = record {
   only_read = c.in_ok-read.ensures.only_read;
   faults = c.in_ok-read.ensures.faults;
   alone = rw (← c.frame_to_use.ensures.unchanged, ← c.in_ok-read.ensures.same.0) c.admit.ensures.alone;
+  first = first_leaves c.args.self.now.frames _ c.in-Some.i c.frame_to_use.ensures.sound (rw (← c.frame_to_use.ensures.unchanged, ← c.in_ok-read.ensures.same.0) c.admit.ensures.goes) c.in-Some.ensures.first;
   answer = record {
     missing = c.requires.absent;
     absent = c.if-admit.ensures.left.0;

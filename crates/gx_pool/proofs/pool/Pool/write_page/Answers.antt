@@ -2,6 +2,7 @@ use Rattle.std.proofs.Common.{◌∙◌, sym, ap}
 use Rattle.gx_pool.specs.Marks.{is_gated}
 use Rattle.gx_pool.specs.State.{frame_at, stamp_of}
 use Rattle.gx_pool.proofs.Gated.{rest_keeps_area, write_keeps_area}
+use Rattle.gx_pool.proofs.Readable.{write_keeps_readable}
 use Rattle.gx_pool.proofs.Writing.{rest_at_most, write_at_most, write_counted}
 use Rattle.gx_pool.proofs.Keeping.{rest_keeps_shown, write_keeps_passing, write_keeps_shown}
 use Rattle.gx_pool.proofs.Places.{gated_stamp, kept_none, kept_some, placed_gated}
@@ -55,3 +56,8 @@ returns-in-Some-clause-at_most g c =
 
 pub returns-in-None-clause-at_most : goal.returns-in-None-clause-at_most
 returns-in-None-clause-at_most g c = rest_at_most (g.D.SectorDisk.state c.args.disk.now) c.args.self.now.frames c.args.page
+
+pub returns-in-Some-clause-readable : goal.returns-in-Some-clause-readable
+returns-in-Some-clause-readable g c = λ used honest readable.
+    let there = kept_some c.args.self.now.frames c.args.page c.in-Some.i c.in-Some.ensures.some.1 in
+    write_keeps_readable _ used (g.D.SectorDisk.state c.args.disk.now) _ c.args.self.now.frames _ c.args.page (frame_at c.args.self.now.frames c.in-Some.i) _ honest c.requires there (c.write_frame.ensures.written _ there) readable

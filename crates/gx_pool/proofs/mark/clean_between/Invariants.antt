@@ -1,6 +1,0 @@
-use Rattle.std.proofs.Common.{◌≡◌, ℕ, ◌<◌, ◌≤◌, false, get_or}
-use Rattle.gx_pool.specs.Marks.{clean, empty}
-use Rattle.gx_pool.proofs.mark.clean_between.Given as goal
-
-abbrev pub invariant-loop-i : goal.invariant-loop-i
-invariant-loop-i l = l.leaf ≡ false → (k : ℕ) → l.from ≤ k → k < l.i → clean l.held (get_or l.marks k empty) ≡ false
