@@ -4,19 +4,19 @@ use Rattle.std.specs.Prelude.{is_none, is_some, nat_lt, IsErrAnd}
 use Rattle.std.proofs.Math.Decide.{ℕ_discrete}
 use Rattle.std.proofs.lemmas.Option.{none-some}
 use Rattle.std.proofs.lemmas.List.{set-set}
-use Rattle.std.proofs.lemmas.Bool.{lt-ltb}
+use Rattle.std.proofs.lemmas.Bool.{lt-ltb, ltb-true}
 use Rattle.gx_disk.specs.Device.{Device, Rests, SamePending, MayLeave}
 use Rattle.gx_page.specs.Contents.{Contents}
 use Rattle.gx_page.specs.Edits.{blank}
 use Rattle.gx_page.specs.Reading.{IsImage, read_of}
 use Rattle.gx_pool.specs.Area.{bytes_of, IsPassing}
 use Rattle.gx_pool.specs.Marks.{empty, clean, is_dirty, is_held}
-use Rattle.gx_pool.specs.State.{State, Kept, NoCleanLeaf, is_upper_at, IsSound, IsSpare, dirty_count, AllKept, NoneClean, SomeClean, mark_at, place_of, kept, frame_at, holding, stamp_of}
+use Rattle.gx_pool.specs.State.{State, Kept, NoCleanLeaf, NoSpareLeaf, is_upper_at, IsSound, IsSpare, dirty_count, AllKept, NoneClean, SomeClean, mark_at, place_of, kept, frame_at, holding, stamp_of}
 use Rattle.gx_pool.specs.Edits.{vacated, with_page, settled}
-use Rattle.gx_pool.specs.Bringing.{Brings, BringsOne, BringsAll, Answers, AnswersAll, Came, ComeAlone, ComesAlone, GoesAlone, HasImage, IsFirstMissing, Left, LeavesGoFirst, OnlyRead}
+use Rattle.gx_pool.specs.Bringing.{Brings, BringsOne, BringsAll, Answers, AnswersAll, Came, ComeAlone, ComesAlone, GoesAlone, AllOthersStayOrGo, LeavesWentFirst, OthersStayOrGo, HasImage, IsFirstMissing, Left, LeavesGoFirst, OnlyRead}
 use Rattle.gx_pool.specs.declared.fault.PoolFault.{PoolFault}
 use Rattle.gx_pool.specs.declared.fault.PoolFault.TheVariants.{NoCleanFrame, Device as DeviceFault, Damaged}
-use Rattle.gx_pool.proofs.Places.{some-injective, vacated_sound, with_page_sound, vacated_kept, vacated_gone, loaded_kept, settled_kept, settled_other, place_none, kept_some}
+use Rattle.gx_pool.proofs.Places.{some-injective, vacated_sound, with_page_sound, vacated_kept, vacated_gone, loaded_kept, settled_kept, settled_other, place_none, kept_none, kept_page, kept_some}
 use Rattle.gx_pool.proofs.Numbers.{still_clean}
 
 true_false : (b : Bool) → b ≡ true → b ≡ false → ⊥
@@ -157,13 +157,47 @@ upper_here s i q k sound here was upper =
     let same : (frame_at s i).page ≡ k.page = ap page_of (sym (kept_some s q i (sound.back i q here)) ∙ was) in
     ap (λ o. is_some o && nat_lt 0 (frame_at s i).page.level) here ∙ ap (λ (c : Contents). nat_lt 0 c.level) same ∙ lt-ltb 0 k.page.level upper
 
+both_true : (a b : Bool) → (a && b) ≡ true → b ≡ true
+both_true true b is = is
+both_true false b is = absurd (grind arith)
+
+-- where each clean frame has a page above the leaves, no leaf may go
+spare_upper : (s : State) (page : ℕ) (k : Kept) (o : Option ℕ) → IsSound s → place_of s page ≡ o → kept s page ≡ Some k → IsSpare s page → NoCleanLeaf s → 0 < k.page.level
+spare_upper s page k None sound at is may none = absurd (none-some k (sym (kept_none s page at) ∙ is))
+spare_upper s page k (Some i) sound at is may none =
+    let there = sound.there page i at in
+    let stamp : (mark_at s i).stamp ≡ None = ap stamp_of (sym (kept_some s page i at)) ∙ may.clean in
+    let free : is_held s.held (mark_at s i).page ≡ false = ap (is_held s.held) there.1 ∙ may.free in
+    let clean_is : clean s.held (mark_at s i) ≡ true = ap (λ o. is_none o && not (is_held s.held (mark_at s i).page)) stamp ∙ ap not free in
+    let upper : nat_lt 0 (frame_at s i).page.level ≡ true = both_true (is_some (mark_at s i).page) (nat_lt 0 (frame_at s i).page.level) (none i there.0 clean_is) in
+    ltb-true 0 k.page.level (ap (λ (c : Contents). nat_lt 0 c.level) (sym (kept_page s page i k at is)) ∙ upper)
+
+no_spare_leaf : (s : State) → IsSound s → NoCleanLeaf s → NoSpareLeaf s
+no_spare_leaf s sound none = λ page k is may. spare_upper s page k (place_of s page) sound refl is may none
+
 -- where the frame's page alone goes, and it is above the leaves only where no leaf could, leaves go first
 pub first_leaves : (s t : State) (i : ℕ) → IsSound s → GoesAlone s t i → (is_upper_at s i ≡ true → NoCleanLeaf s) → LeavesGoFirst s t
-first_leaves s t i sound alone none = λ q k was gone upper. none (upper_here s i q k sound (alone q k was gone) was upper)
+first_leaves s t i sound alone none = λ q k was gone upper. let none_is = none (upper_here s i q k sound (alone q k was gone) was upper) in (none_is, no_spare_leaf s sound none_is)
 
--- where nothing changed, no page went
-pub none_goes : (s t : State) → t ≡ s → LeavesGoFirst s t
-none_goes s t same = λ q k was gone upper. absurd (none-some k (sym gone ∙ ap (λ v. kept v q) same ∙ was))
+-- each other page is as it was, or goes
+pub vacated_others : (s : State) (i page : ℕ) → IsSound s → i < length s.marks → OthersStayOrGo s (vacated s i) page
+vacated_others s i page sound inside = λ q ne. elim (is_some_page (mark_at s i).page q) [
+  | inl here ↦ inr (vacated_gone s i q here)
+  | inr other ↦ inl (vacated_kept s i q sound inside other)
+]
+
+pub loaded_others : (s : State) (i page : ℕ) (w : Contents) → IsSound s → i < length s.marks → OthersStayOrGo s (with_page (vacated s i) i w) page
+loaded_others s i page w sound inside = λ q ne.
+    let same = loaded_kept (vacated s i) i q w (vacated_sound s i sound inside) (vacated_free s i inside) in
+    ⊎_elim (λ is. inl (same ∙ is)) (λ gone. inr (same ∙ gone)) (vacated_others s i page sound inside q ne)
+
+pub settled_others : (s t u : State) (i page : ℕ) (stamp : Option ℕ) (w : Contents) → IsSound s → i < length s.marks → t ≡ with_page (vacated s i) i w → u ≡ settled t i page stamp → OthersStayOrGo s u page
+settled_others s t u i page stamp w sound inside te ue =
+    let v : State = with_page (vacated s i) i w in
+    let is_settled : u ≡ settled v i page stamp = ue ∙ ap (λ x. settled x i page stamp) te in
+    λ q ne.
+    let same : kept u q ≡ kept v q = ap (λ x. kept x q) is_settled ∙ settled_other v i page q stamp (with_page_sound (vacated s i) i w (vacated_sound s i sound inside)) (vacated_free s i inside) ne in
+    ⊎_elim (λ is. inl (same ∙ is)) (λ gone. inr (same ∙ gone)) (loaded_others s i page w sound inside q ne)
 
 pub loaded_page : (s : State) (i : ℕ) (w : Contents) → IsSound s → i < length s.marks → (frame_at (with_page (vacated s i) i w) i).page ≡ w
 loaded_page s i w sound inside = get_or-set_same s.pages i w (blank 0 0) (rw sound.sizes inside)
@@ -360,13 +394,15 @@ among page (x ∷ pages) (suc k) inside is = let rest : is_held pages (Some page
 pub record BringsSome (passes : Contents → Bool) (d e : Device) (s t : State) (pages : List ℕ) (n : ℕ) : Type 0 where
   pub brings : Brings passes d.honest d.seen s t
   pub alone : ComeAlone s t pages
+  pub first : LeavesWentFirst s t
+  pub others : AllOthersStayOrGo s t pages
   pub only_read : OnlyRead d e
   pub faults : e.faults ≡ d.faults
   pub there : (k : ℕ) → k < n → IsSome (kept t (get_or pages k 0))
 
 pub none_brought : (passes : Contents → Bool) (d : Device) (s t : State) (pages : List ℕ) → t ≡ s → BringsSome passes d d s t pages 0
 none_brought passes d s t pages e =
-    rw e (record { brings = brings_nothing passes d.honest d.seen s; alone = λ q apart absent. absent; only_read = only_read_nothing d; faults = refl; there = λ k below. absurd (omega arith) })
+    rw e (record { brings = brings_nothing passes d.honest d.seen s; alone = λ q apart absent. absent; first = λ q k was gone. absurd (none-some k (sym gone ∙ was)); others = λ q apart. inl refl; only_read = only_read_nothing d; faults = refl; there = λ k below. absurd (omega arith) })
 
 other_page : (q page : ℕ) (pages : List ℕ) → is_held pages (Some q) ≡ false → is_held pages (Some page) ≡ true → q ≢ page
 other_page q page pages apart held = λ e. true_false (is_held pages (Some page)) held (ap (λ p. is_held pages (Some p)) (sym e) ∙ apart)
@@ -374,6 +410,49 @@ other_page q page pages apart held = λ e. true_false (is_held pages (Some page)
 -- one page of several more came, and no other
 come_alone : (s t u : State) (pages : List ℕ) (page : ℕ) → is_held pages (Some page) ≡ true → ComeAlone s t pages → ComesAlone t u page → ComeAlone s u pages
 come_alone s t u pages page held first next = λ q apart absent. next q (other_page q page pages apart held) (first q apart absent)
+
+-- each page but these is kept as it was or goes, once one more is brought
+others_stay : (s t u : State) (pages : List ℕ) (page : ℕ) → is_held pages (Some page) ≡ true → AllOthersStayOrGo s t pages → OthersStayOrGo t u page → AllOthersStayOrGo s u pages
+others_stay s t u pages page held first next = λ q apart. ⊎_elim
+    (λ is. ⊎_elim (λ same. inl (is ∙ same)) (λ gone. inr (is ∙ gone)) (first q apart))
+    inr
+    (next q (other_page q page pages apart held))
+
+-- a page that went before another is brought is gone after it
+still_gone : (t u : State) (page r : ℕ) → r ≢ page → OthersStayOrGo t u page → kept t r ≡ None → kept u r ≡ None
+still_gone t u page r ne next gone = ⊎_elim (λ same. same ∙ gone) (λ is. is) (next r ne)
+
+not_leaf : (level : ℕ) → 0 < level → level ≡ 0 → ⊥
+not_leaf level upper leaf = omega (arith, upper, leaf)
+
+-- where one of these pages above the leaves goes as one more is brought, no leaf may, and what might have before is gone
+leaf_gone : (s t u : State) (pages : List ℕ) (page r : ℕ) (l : Kept) → s.held ≡ pages → t.held ≡ s.held → is_held pages (Some page) ≡ true → AllOthersStayOrGo s t pages → OthersStayOrGo t u page → NoSpareLeaf t
+    → kept s r ≡ Some l → IsSpare s r → l.page.level ≡ 0 → kept u r ≡ None
+leaf_gone s t u pages page r l held held_t named first next none is may leaf =
+    let apart : is_held pages (Some r) ≡ false = ap (λ h. is_held h (Some r)) (sym held) ∙ may.free in
+    ⊎_elim
+    (λ same. absurd (not_leaf l.page.level (none r l (same ∙ is) (record { clean = ap stamp_of same ∙ may.clean; free = ap (λ h. is_held h (Some r)) held_t ∙ may.free })) leaf))
+    (λ gone. still_gone t u page r (other_page r page pages apart named) next gone)
+    (first r apart)
+
+leaves_went : (passes : Contents → Bool) (d : Bool) (seen : List ℕ) (s t u : State) (pages : List ℕ) (page q : ℕ) (k : Kept) (o : Option Kept) (h : Bool) → s.held ≡ pages → is_held pages (Some page) ≡ true → t.held ≡ s.held
+    → LeavesWentFirst s t → AllOthersStayOrGo s t pages → Brings passes d seen t u → LeavesGoFirst t u → OthersStayOrGo t u page
+    → kept t q ≡ o → is_held pages (Some q) ≡ h → kept s q ≡ Some k → kept u q ≡ None → 0 < k.page.level
+    → (r : ℕ) (l : Kept) → kept s r ≡ Some l → IsSpare s r → l.page.level ≡ 0 → kept u r ≡ None
+leaves_went passes d seen s t u pages page q k None h held named held_t went first brings goes next at hold was gone upper = λ r l is may leaf.
+    still_gone t u page r (other_page r page pages (ap (λ x. is_held x (Some r)) (sym held) ∙ may.free) named) next (went q k was at upper r l is may leaf)
+leaves_went passes d seen s t u pages page q k (Some m) true held named held_t went first brings goes next at hold was gone upper =
+    let stays : IsSome (kept u q) = held_stays passes d seen t u q brings (ap (λ x. is_held x (Some q)) (held_t ∙ held) ∙ hold) (ap is_some at) in
+    absurd (true_false (is_some (kept u q)) stays (ap is_some gone))
+leaves_went passes d seen s t u pages page q k (Some m) false held named held_t went first brings goes next at hold was gone upper = λ r l is may leaf. ⊎_elim
+    (λ same. leaf_gone s t u pages page r l held held_t named first next (goes q k (same ∙ was) gone upper).1 is may leaf)
+    (λ none. absurd (none-some m (sym none ∙ at)))
+    (first q hold)
+
+leaves_went_first : (passes : Contents → Bool) (d : Bool) (seen : List ℕ) (s t u : State) (pages : List ℕ) (page : ℕ) → s.held ≡ pages → is_held pages (Some page) ≡ true → t.held ≡ s.held
+    → LeavesWentFirst s t → AllOthersStayOrGo s t pages → Brings passes d seen t u → LeavesGoFirst t u → OthersStayOrGo t u page → LeavesWentFirst s u
+leaves_went_first passes d seen s t u pages page held named held_t went first brings goes next = λ q k was gone upper.
+    leaves_went passes d seen s t u pages page q k (kept t q) (is_held pages (Some q)) held named held_t went first brings goes next refl refl was gone upper
 
 -- those before stay while one more is brought
 before_stay : (passes : Contents → Bool) (d : Bool) (seen : List ℕ) (t u : State) (pages : List ℕ) (n : ℕ) → t.held ≡ pages → n < length pages → Brings passes d seen t u
@@ -387,6 +466,8 @@ pub one_more : (passes : Contents → Bool) (d e f : Device) (s t u : State) (pa
 one_more passes d e f s t u pages n page held inside is some one = record {
   brings = brings_joined passes d.honest e.honest d.seen e.seen s t u some.only_read.honest (λ honest. (some.only_read.rests honest).seen) some.brings one.brings;
   alone = come_alone s t u pages page (among page pages n inside (sym is)) some.alone one.alone;
+  first = leaves_went_first passes e.honest e.seen s t u pages page held (among page pages n inside (sym is)) some.brings.held some.first some.others one.brings one.first one.others;
+  others = others_stay s t u pages page (among page pages n inside (sym is)) some.others one.others;
   only_read = only_read_joined d e f some.only_read one.only_read;
   faults = omega (arith, one.faults, some.faults);
   there = below_more _ n (before_stay passes e.honest e.seen t u pages n (some.brings.held ∙ held) inside one.brings some.there) (rw (← is) one.answer);
@@ -419,6 +500,8 @@ pub one_refused : (passes : Contents → Bool) (d e f : Device) (s t u : State) 
 one_refused passes d e f s t u pages n page fault held inside is some one = record {
   brings = brings_joined passes d.honest e.honest d.seen e.seen s t u some.only_read.honest (λ honest. (some.only_read.rests honest).seen) some.brings one.brings;
   alone = come_alone s t u pages page (among page pages n inside (sym is)) some.alone one.alone;
+  first = leaves_went_first passes e.honest e.seen s t u pages page held (among page pages n inside (sym is)) some.brings.held some.first some.others one.brings one.first one.others;
+  others = others_stay s t u pages page (among page pages n inside (sym is)) some.others one.others;
   only_read = only_read_joined d e f some.only_read one.only_read;
   faults = omega (arith, one.faults, some.faults);
   answer = answers_all passes d e s t u pages n page fault held inside is some.brings some.only_read.honest (λ honest. (some.only_read.rests honest).seen)
@@ -429,6 +512,8 @@ pub all_brought : (passes : Contents → Bool) (d e : Device) (s t : State) (pag
 all_brought passes d e s t pages n all some = record {
   brings = some.brings;
   alone = some.alone;
+  first = some.first;
+  others = some.others;
   only_read = some.only_read;
   faults = omega (arith, some.faults);
   answer = λ k below. some.there k (omega arith);

@@ -7,7 +7,7 @@ use Rattle.gx_pool.specs.declared.fault.PoolFault.{PoolFault}
 use Rattle.gx_pool.specs.declared.fault.PoolFault.TheVariants.{NoCleanFrame, Device as DeviceFault, Damaged}
 use Rattle.gx_pool.specs.Area.{bytes_of, IsPassing}
 use Rattle.gx_pool.specs.Marks.{is_held}
-use Rattle.gx_pool.specs.State.{State, Kept, kept, mark_at, dirty_count, AllKept, IsSpare, NoCleanLeaf, NoneClean, SomeClean}
+use Rattle.gx_pool.specs.State.{State, Kept, kept, mark_at, dirty_count, AllKept, IsSpare, NoCleanLeaf, NoSpareLeaf, NoneClean, SomeClean}
 
 -- the bytes are the image of these contents
 pub record HasImage (bytes : List ℕ) (contents : Contents) : Type 0 where
@@ -62,9 +62,22 @@ ComesAlone old new page = (q : ℕ) → q ≢ page → kept old q ≡ None → k
 abbrev pub GoesAlone : State → State → ℕ → Type 0
 GoesAlone old new i = (q : ℕ) (k : Kept) → kept old q ≡ Some k → kept new q ≡ None → (mark_at old i).page ≡ Some q
 
--- A page above the leaves goes only where no frame that is clean for the event is empty or has a leaf.
+-- A page above the leaves goes only where no frame that is clean for the event is empty or has a leaf, so no leaf may go.
 abbrev pub LeavesGoFirst : State → State → Type 0
-LeavesGoFirst old new = (q : ℕ) (k : Kept) → kept old q ≡ Some k → kept new q ≡ None → 0 < k.page.level → NoCleanLeaf old
+LeavesGoFirst old new = (q : ℕ) (k : Kept) → kept old q ≡ Some k → kept new q ≡ None → 0 < k.page.level → NoCleanLeaf old × NoSpareLeaf old
+
+-- each page but this one is kept as it was, or goes
+abbrev pub OthersStayOrGo : State → State → ℕ → Type 0
+OthersStayOrGo old new page = (q : ℕ) → q ≢ page → (kept new q ≡ kept old q) ⊎ (kept new q ≡ None)
+
+-- each page but these is kept as it was, or goes
+abbrev pub AllOthersStayOrGo : State → State → List ℕ → Type 0
+AllOthersStayOrGo old new pages = (q : ℕ) → is_held pages (Some q) ≡ false → (kept new q ≡ kept old q) ⊎ (kept new q ≡ None)
+
+-- Where a page above the leaves went, each leaf that might go went too.
+abbrev pub LeavesWentFirst : State → State → Type 0
+LeavesWentFirst old new = (q : ℕ) (k : Kept) → kept old q ≡ Some k → kept new q ≡ None → 0 < k.page.level
+    → (r : ℕ) (l : Kept) → kept old r ≡ Some l → IsSpare old r → l.page.level ≡ 0 → kept new r ≡ None
 
 -- the page isn't kept, no frame is clean for the event, and all is as it was
 pub record NoFrame (old new : State) (page : ℕ) : Type 0 where
@@ -100,6 +113,7 @@ pub record BringsOne {A : Type 0} (passes : Contents → Bool) (d e : Device) (o
   pub brings : Brings passes d.honest d.seen old new
   pub alone : ComesAlone old new page
   pub first : LeavesGoFirst old new
+  pub others : OthersStayOrGo old new page
   pub only_read : OnlyRead d e
   pub faults : e.faults ≡ d.faults + faults_of result
   pub answer : Answers passes d old new page result
@@ -131,6 +145,8 @@ AnswersAll passes d old new pages (Err Damaged) = FirstMissing new pages (λ pag
 pub record BringsAll {A : Type 0} (passes : Contents → Bool) (d e : Device) (old new : State) (pages : List ℕ) (result : Result A PoolFault) : Type 0 where
   pub brings : Brings passes d.honest d.seen old new
   pub alone : ComeAlone old new pages
+  pub first : LeavesWentFirst old new
+  pub others : AllOthersStayOrGo old new pages
   pub only_read : OnlyRead d e
   pub faults : e.faults ≡ d.faults + faults_of result
   pub answer : AnswersAll passes d old new pages result

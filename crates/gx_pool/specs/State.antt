@@ -78,6 +78,10 @@ is_upper_at s i = is_upper (mark_at s i) (slice_index_or s.pages i (blank 0 0))
 abbrev pub NoCleanLeaf : State → Type 0
 NoCleanLeaf s = NoLeaf s.held s.marks s.pages
 
+-- no leaf is kept that may go: clean, and not held
+abbrev pub NoSpareLeaf : State → Type 0
+NoSpareLeaf s = (page : ℕ) (k : Kept) → kept s page ≡ Some k → IsSpare s page → 0 < k.page.level
+
 -- how many frames are clean for the event
 abbrev pub clean_count : State → ℕ
 clean_count s = count_by (clean s.held) s.marks

@@ -11,7 +11,7 @@ ghost use Rattle.gx_pool.specs.Gated.{IsAreaSettled, KeepsArea, NamesGated};
 ghost use Rattle.gx_pool.specs.Laws.{IsBacked, IsPassed};
 ghost use Rattle.gx_pool.specs.Readable.{IsReadable};
 ghost use Rattle.gx_pool.specs.Writing.{WritesPage, WritesAtMost, KeepsShown};
-ghost use Rattle.gx_pool.specs.Bringing.{Brings, BringsOne, ComesAlone, GoesAlone, HasImage, OnlyRead, faults_of, BringsAll};
+ghost use Rattle.gx_pool.specs.Bringing.{Brings, BringsOne, ComesAlone, GoesAlone, OthersStayOrGo, HasImage, OnlyRead, faults_of, BringsAll};
 
 use crate::area::{PAGES, first_sector};
 use crate::fault::PoolFault;
@@ -79,6 +79,7 @@ impl<T: PageTest> Pool<T> {
         ensures brings { (d : Bool) (seen : List ℕ) → (d ≡ true → bytes_of seen page ≡ self.old.buffer.value) → Brings (T.passes self.old.test) d seen self.old.frames self.new.frames }
         ensures alone { ComesAlone self.old.frames self.new.frames page }
         ensures goes { GoesAlone self.old.frames self.new.frames i }
+        ensures others { OthersStayOrGo self.old.frames self.new.frames page }
         ensures admitted { OnTrue result (IsSome (kept self.new.frames page)) }
         ensures refused { OnFalse result (¬ IsPassing (T.passes self.old.test) page self.old.buffer.value) }
         ensures left { OnFalse result ((kept self.new.frames page ≡ None) × SomeClean self.new.frames) }

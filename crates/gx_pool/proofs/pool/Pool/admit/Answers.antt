@@ -2,7 +2,7 @@ use Rattle.std.proofs.Common.{◌∙◌, ap, None}
 use Rattle.gx_page.specs.Reading.{read_of}
 use Rattle.gx_pool.specs.State.{place_of}
 use Rattle.gx_pool.specs.Edits.{with_page}
-use Rattle.gx_pool.proofs.Bringing.{vacated_alone, vacated_brings, vacated_missing, loaded_alone, loaded_brings, loaded_missing, loaded_absent, admitted, admitted_there, settled_alone, vacated_goes, loaded_goes, settled_goes}
+use Rattle.gx_pool.proofs.Bringing.{vacated_alone, vacated_brings, vacated_missing, loaded_alone, loaded_brings, loaded_missing, loaded_absent, admitted, admitted_there, settled_alone, vacated_goes, vacated_others, loaded_goes, loaded_others, settled_goes, settled_others}
 use Rattle.gx_pool.proofs.pool.Pool.admit.Goals as goal
 
 pub returns-in_default-clause-brings : goal.returns-in_default-clause-brings
@@ -64,4 +64,17 @@ returns-then-not-is_right-clause-goes g c =
 pub returns-clause-goes : goal.returns-clause-goes
 returns-clause-goes g c =
     settled_goes c.args.self.now.frames c.load.new.self c.settle.new.self c.args.i c.args.page None (read_of c.args.self.now.buffer.value) c.vacate.ensures.sound c.requires.frame.0 c.requires.page.0
+    (c.in-Ok.ensures.loaded.1 ∙ ap (λ b. with_page c.vacate.new.self c.args.i (read_of b)) c.deref.ensures ∙ ap (λ v. with_page v c.args.i (read_of c.args.self.now.buffer.value)) c.vacate.ensures.vacated) c.settle.ensures
+
+pub returns-in_default-clause-others : goal.returns-in_default-clause-others
+returns-in_default-clause-others g c = rw (c.in_default.ensures.fault.1, c.vacate.ensures.vacated) (vacated_others c.args.self.now.frames c.args.i c.args.page c.vacate.ensures.sound c.requires.frame.0)
+
+pub returns-then-not-is_right-clause-others : goal.returns-then-not-is_right-clause-others
+returns-then-not-is_right-clause-others g c =
+    rw (c.in-Ok.ensures.loaded.1, c.deref.ensures, c.vacate.ensures.vacated)
+    (loaded_others c.args.self.now.frames c.args.i c.args.page (read_of c.args.self.now.buffer.value) c.vacate.ensures.sound c.requires.frame.0)
+
+pub returns-clause-others : goal.returns-clause-others
+returns-clause-others g c =
+    settled_others c.args.self.now.frames c.load.new.self c.settle.new.self c.args.i c.args.page None (read_of c.args.self.now.buffer.value) c.vacate.ensures.sound c.requires.frame.0
     (c.in-Ok.ensures.loaded.1 ∙ ap (λ b. with_page c.vacate.new.self c.args.i (read_of b)) c.deref.ensures ∙ ap (λ v. with_page v c.args.i (read_of c.args.self.now.buffer.value)) c.vacate.ensures.vacated) c.settle.ensures

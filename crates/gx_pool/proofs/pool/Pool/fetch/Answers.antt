@@ -8,6 +8,7 @@ returns-then-admit-clause-fetched g c = record {
   faults = c.in_ok-read.ensures.faults;
   alone = rw (← c.frame_to_use.ensures.unchanged, ← c.in_ok-read.ensures.same.0) c.admit.ensures.alone;
   first = first_leaves c.args.self.now.frames _ c.in-Some.i c.frame_to_use.ensures.sound (rw (← c.frame_to_use.ensures.unchanged, ← c.in_ok-read.ensures.same.0) c.admit.ensures.goes) c.in-Some.ensures.first;
+  others = rw (← c.frame_to_use.ensures.unchanged, ← c.in_ok-read.ensures.same.0) c.admit.ensures.others;
   answer = c.if-admit.ensures.admitted;
 }
 
@@ -18,6 +19,7 @@ returns-else-admit-clause-fetched g c = record {
   faults = c.in_ok-read.ensures.faults;
   alone = rw (← c.frame_to_use.ensures.unchanged, ← c.in_ok-read.ensures.same.0) c.admit.ensures.alone;
   first = first_leaves c.args.self.now.frames _ c.in-Some.i c.frame_to_use.ensures.sound (rw (← c.frame_to_use.ensures.unchanged, ← c.in_ok-read.ensures.same.0) c.admit.ensures.goes) c.in-Some.ensures.first;
+  others = rw (← c.frame_to_use.ensures.unchanged, ← c.in_ok-read.ensures.same.0) c.admit.ensures.others;
   answer = record {
     missing = c.requires.absent;
     absent = c.if-admit.ensures.left.0;
