@@ -5,7 +5,7 @@ use Rattle.std.specs.List.{list_all}
 use Rattle.std.specs.declared.cmp.Ordering.{Ordering}
 use Rattle.std.specs.declared.cmp.Ordering.TheVariants.{Less, Equal, Greater}
 use Rattle.std.specs.Ordering.{match_ordering, ordering_reverse, is_eq}
-use Rattle.std.proofs.Math.Bool.{and-true}
+use Rattle.std.proofs.Math.Bool.{and-true, and-false}
 use Rattle.std.proofs.lemmas.Bool.{eq-eqb, eqb-true}
 use Rattle.gx_recovery.specs.Known.{Known, IsLawful, same}
 use Rattle.gx_recovery.specs.Records.{Touch}
@@ -173,3 +173,14 @@ module _ {E P : Type 0} (k : Known E P) (l : IsLawful k) where
       ∙ ap (λ b. touch_fits k a.used t && b) rest
       ∙ ap (λ b. (is_transaction t.transaction && (b && is_page a.used t.leaf)) && whole) of_class
       ∙ in_row (is_transaction t.transaction) (is_page a.used t.leaf) whole
+
+  -- with a touch of what is no entry of the class it doesn't fit
+  pub unfits_with : (a : Analysis E) (next : ℕ) (t : Touch E) → fits k a ≡ true → k.is_entry t.entry ≡ false
+      → fits k (record a { next = next; touched = touching k t a.touched }) ≡ false
+  unfits_with a next t fit of_none =
+      let old : FitsBy k l a = parts_of k l a fit in
+      let xs : List (Touch E) = a.touched in
+      let rest : Bool = apart k (touching k t xs) && (nat_le (transactions (touching k t xs)) 8 && nat_le (length (touching k t xs)) 512) in
+      yes_and (nat_le a.used k.pages) (list_all (touch_fits k a.used) (touching k t xs) && rest) old.device
+      ∙ ap (λ b. b && rest) (all_with (touch_fits k a.used) t xs (fits_alike a.used t) old.each
+      ∙ ap (λ b. is_transaction t.transaction && (b && is_page a.used t.leaf)) of_none ∙ and-false (is_transaction t.transaction))

@@ -2,14 +2,14 @@
 use Rattle.std.proofs.Common.{◌≡◌, ℕ, ◌+◌, max, Bool, true, false, not, ◌&&◌, ◌||◌, List, [], ◌∷◌, ◌++◌, map, length, refl, ap, sym, ◌∙◌}
 use Rattle.std.specs.Prelude.{nat_le, ◌==◌}
 use Rattle.std.specs.List.{list_all}
-use Rattle.std.proofs.Math.Bool.{and-true}
+use Rattle.std.proofs.Math.Bool.{and-true, and-false}
 use Rattle.std.proofs.lemmas.Bool.{eq-eqb, leb-true}
 use Rattle.std.proofs.lemmas.List.{append-nil}
 use Rattle.std.proofs.lemmas.List.Folds.{list_all-append}
 use Rattle.gx_recovery.specs.Known.{Known, IsLawful}
 use Rattle.gx_recovery.specs.Records.{Image, Whole, Record, Pages, Adjust, Write, Commit, End, Counters, Note, Touch, settled, any_number}
 use Rattle.gx_recovery.specs.Analysis.{Analysis, analysis, unread, read, read_on, touching, without}
-use Rattle.gx_recovery.specs.Damage.{is_transaction, is_page, touch_fits, apart, transactions, fits, image_fits, is_open, is_note, note_fits, is_head, IsLog}
+use Rattle.gx_recovery.specs.Damage.{is_transaction, is_page, touch_fits, apart, transactions, fits, image_fits, is_open, may_follow, is_note, note_fits, is_head, IsLog}
 use Rattle.gx_recovery.proofs.Tests.{and_first, and_second}
 use Rattle.gx_recovery.proofs.Folds.{analysis-snoc, settled-snoc}
 use Rattle.gx_recovery.proofs.Told.{settled_shut}
@@ -19,9 +19,9 @@ use Rattle.gx_recovery.proofs.SoundRecords.{FitsBy, parts_of, all_fit}
 use Rattle.gx_recovery.proofs.Undo.{fits_without}
 use Rattle.gx_recovery.specs.declared.TheConstants.{TRANSACTIONS, TOUCHED}
 use Rattle.gx_analysis.specs.Kept.{Kept, by_order, is_closed, lies_apart, may_be_open, has_place, may_touch, may_write, may_give, may_end, may_commit, with_touch, with_pages, with_end, with_commit, ClosedBy}
-use Rattle.gx_analysis.specs.Telling.{IsKept, Tells, AreOwn, WritesTell, PagesTell, CommitsTell, EndsTell, CountersTell, NotesTell}
+use Rattle.gx_analysis.specs.Telling.{IsKept, Tells, TellsClosing, TellsHead, AreOwn, WritesTell, NoEntryIsRefused, PagesTell, CommitsTell, EndsTell, CountersTell, NotesTell}
 use Rattle.gx_analysis.proofs.Bridging.{same_touching}
-use Rattle.gx_analysis.proofs.Fitting.{yes_and, and_yes, fits_with}
+use Rattle.gx_analysis.proofs.Fitting.{yes_and, and_yes, fits_with, unfits_with}
 
 pages_in_row : (a b c d : Bool) → (b ≡ true → d ≡ true) → ((a && (b && c)) && d) ≡ (a && (b && c))
 pages_in_row false b c d h = refl
@@ -164,23 +164,23 @@ module _ {E P : Type 0} (k : Known E P) where
       pages = by.pages ∙ kept.pages;
     }
 
-    end_tells : (t : ℕ) (new : Kept E) → ClosedBy t (with_end t s.told) s new → Tells k log (End t) (may_end t s) new
-    end_tells t new by =
+    end_tells : (t : ℕ) → TellsClosing k log (End t) (may_end t s) t (with_end t s.told) s
+    end_tells t =
         let r : Record E P = End t in
         record {
           exact = and_yes (is_open t log) (fits k (analysis k (log ++ r ∷ []))) (closed_fits t r refl refl) ∙ end_open t;
-          kept = closed_kept t r new
+          kept = λ new by. closed_kept t r new
               (record { told_is = by.told_is ∙ ap (with_end t) kept.told; closed = by.closed; pages = by.pages })
               (λ u. settled-snoc k any_number u log r);
         }
 
-    commit_tells : (t number : ℕ) (new : Kept E) → ClosedBy t (with_commit t number s.told) s new → Tells k log (Commit t number) (may_commit t number s) new
-    commit_tells t number new by =
+    commit_tells : (t number : ℕ) → TellsClosing k log (Commit t number) (may_commit t number s) t (with_commit t number s.told) s
+    commit_tells t number =
         let r : Record E P = Commit t number in
         record {
           exact = and_yes (is_open t log && (number == (analysis k log).number + 1)) (fits k (analysis k (log ++ r ∷ []))) (closed_fits t r refl refl)
               ∙ ap (λ b. b && (number == (analysis k log).number + 1)) (end_open t) ∙ ap (λ (x : Analysis E). may_end t s && (number == x.number + 1)) (sym kept.told);
-          kept = closed_kept t r new
+          kept = λ new by. closed_kept t r new
               (record { told_is = by.told_is ∙ ap (with_commit t number) kept.told; closed = by.closed; pages = by.pages })
               (λ u. settled-snoc k any_number u log r ∙ ap (λ b. settled any_number u log || b) (and-true (t == u)));
         }
@@ -215,6 +215,13 @@ module _ {E P : Type 0} (k : Known E P) where
   note_exact l (End u ∷ notes) s h kept t of_class = cc
   note_exact l (Note u e b leaf ∷ notes) s h kept t of_class = cc
 
+  pub no_entry_refused : NoEntryIsRefused k
+  no_entry_refused l log is t after content of_none =
+      let r : Record E P = Write t.transaction t.entry t.before after t.leaf (Whole content) in
+      ap (λ b. may_follow k log (analysis k log) r && b)
+      (ap (fits k) (analysis-snoc k log r) ∙ unfits_with k l (analysis k log) (max (analysis k log).next (t.transaction + 1)) t (log_fits k l log is) of_none)
+      ∙ and-false (may_follow k log (analysis k log) r)
+
   pub writes_tell : WritesTell k
   writes_tell l log s is kept t after content of_class own = write_tells l log s is kept t after content of_class own
 
@@ -222,10 +229,10 @@ module _ {E P : Type 0} (k : Known E P) where
   all_pages_tell l log s is kept images counter used own = pages_tell l log s is kept images counter used own
 
   pub commits_tell : CommitsTell k
-  commits_tell l log s new is kept t number by = commit_tells l log s is kept t number new by
+  commits_tell l log s is kept t number = commit_tells l log s is kept t number
 
   pub ends_tell : EndsTell k
-  ends_tell l log s new is kept t by = end_tells l log s is kept t new by
+  ends_tell l log s is kept t = end_tells l log s is kept t
 
   pub all_counters_tell : CountersTell k
   all_counters_tell = counters_tell

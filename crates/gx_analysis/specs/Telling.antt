@@ -1,8 +1,8 @@
 -- That what is kept of a log tells what may follow it: by the definitions of logs and of damaged ones.
-use Rattle.std.specs.Prelude.{◌≡◌, ℕ, Bool, true, List, [], ◌∷◌, ◌++◌, map, nat_le}
+use Rattle.std.specs.Prelude.{◌≡◌, ℕ, Bool, true, false, List, [], ◌∷◌, ◌++◌, map, nat_le}
 use Rattle.gx_recovery.specs.Known.{Known, IsLawful}
 use Rattle.gx_recovery.specs.Records.{Image, Whole, Record, Pages, Write, Commit, End, Counters, Note, Touch, settled, any_number}
-use Rattle.gx_recovery.specs.Analysis.{analysis}
+use Rattle.gx_recovery.specs.Analysis.{Analysis, analysis}
 use Rattle.gx_recovery.specs.Damage.{follows, is_head, IsLog}
 use Rattle.gx_analysis.specs.Kept.{Kept, is_closed, may_touch, may_write, may_give, may_end, may_commit, with_counters, with_touch, with_pages, with_end, with_commit, ClosedBy}
 
@@ -17,6 +17,11 @@ pub record Tells {E P : Type 0} (k : Known E P) (log : List (Record E P)) (r : R
   pub exact : follows k log r ≡ may
   pub kept : IsKept k (log ++ r ∷ []) new
 
+-- the same of a record that closes a transaction
+pub record TellsClosing {E P : Type 0} (k : Known E P) (log : List (Record E P)) (r : Record E P) (may : Bool) (t : ℕ) (told : Analysis E) (old : Kept E) : Type 0 where
+  pub exact : follows k log r ≡ may
+  pub kept : (new : Kept E) → ClosedBy t told old new → IsKept k (log ++ r ∷ []) new
+
 -- the same of a log's head
 pub record TellsHead {E P : Type 0} (k : Known E P) (head : List (Record E P)) (may : Bool) (new : Kept E) : Type 0 where
   pub exact : is_head k head ≡ may
@@ -27,6 +32,11 @@ abbrev pub WritesTell : {E P : Type 0} → Known E P → Type 0
 WritesTell {E} {P} k = IsLawful k → (log : List (Record E P)) (s : Kept E) → IsLog k log → IsKept k log s → (t : Touch E) (after : Bool) (content : P)
     → k.is_entry t.entry ≡ true → k.own content ≡ t.leaf
     → Tells k log (Write t.transaction t.entry t.before after t.leaf (Whole content)) (may_write k.cmp t s) (with_touch k.cmp t s)
+
+-- a write of what is no entry of the class never follows
+abbrev pub NoEntryIsRefused : {E P : Type 0} → Known E P → Type 0
+NoEntryIsRefused {E} {P} k = IsLawful k → (log : List (Record E P)) → IsLog k log → (t : Touch E) (after : Bool) (content : P) → k.is_entry t.entry ≡ false
+    → follows k log (Write t.transaction t.entry t.before after t.leaf (Whole content)) ≡ false
 
 -- each image has its page's own number
 abbrev pub AreOwn : {E P : Type 0} → Known E P → List (Image P) → Type 0
@@ -40,12 +50,12 @@ PagesTell {E} {P} k = IsLawful k → (log : List (Record E P)) (s : Kept E) → 
     → Tells k log (Pages images counter used) (may_give counter used (map (λ i. i.page) images) s) (with_pages counter used s)
 
 abbrev pub CommitsTell : {E P : Type 0} → Known E P → Type 0
-CommitsTell {E} {P} k = IsLawful k → (log : List (Record E P)) (s new : Kept E) → IsLog k log → IsKept k log s → (t number : ℕ)
-    → ClosedBy t (with_commit t number s.told) s new → Tells k log (Commit t number) (may_commit t number s) new
+CommitsTell {E} {P} k = IsLawful k → (log : List (Record E P)) (s : Kept E) → IsLog k log → IsKept k log s → (t number : ℕ)
+    → TellsClosing k log (Commit t number) (may_commit t number s) t (with_commit t number s.told) s
 
 abbrev pub EndsTell : {E P : Type 0} → Known E P → Type 0
-EndsTell {E} {P} k = IsLawful k → (log : List (Record E P)) (s new : Kept E) → IsLog k log → IsKept k log s → (t : ℕ)
-    → ClosedBy t (with_end t s.told) s new → Tells k log (End t) (may_end t s) new
+EndsTell {E} {P} k = IsLawful k → (log : List (Record E P)) (s : Kept E) → IsLog k log → IsKept k log s → (t : ℕ)
+    → TellsClosing k log (End t) (may_end t s) t (with_end t s.told) s
 
 -- a head's numbers, where nothing was read before
 abbrev pub CountersTell : {E P : Type 0} → Known E P → Type 0

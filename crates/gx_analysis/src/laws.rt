@@ -1,6 +1,6 @@
 //! What is kept of a log tells what may follow it. Each function is its contract alone.
 ghost use Rattle.gx_recovery.specs.Known.{Limits};
-ghost use Rattle.gx_analysis.specs.Telling.{WritesTell, PagesTell, CommitsTell, EndsTell, CountersTell, NotesTell};
+ghost use Rattle.gx_analysis.specs.Telling.{WritesTell, NoEntryIsRefused, PagesTell, CommitsTell, EndsTell, CountersTell, NotesTell};
 
 use gx_recovery::Meaning;
 
@@ -8,6 +8,7 @@ use gx_recovery::Meaning;
 /// the longer log tells. So the passes and refusals of [`crate::Analysis`] are those of the definition of damaged logs.
 pub fn the_kept_state_tells_what_follows<M: Meaning>()
     ensures write { (d : Limits) → WritesTell (M.known d) }
+    ensures no_entry { (d : Limits) → NoEntryIsRefused (M.known d) }
     ensures pages { (d : Limits) → PagesTell (M.known d) }
     ensures commit { (d : Limits) → CommitsTell (M.known d) }
     ensures end { (d : Limits) → EndsTell (M.known d) }

@@ -1,5 +1,7 @@
 pub mod Again
 pub mod Counts
 pub mod Least
+pub mod Living
 pub mod Threes
 pub mod Turned
+pub mod TurningOn

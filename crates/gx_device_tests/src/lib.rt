@@ -8,4 +8,5 @@ mod analyses;
 #[cfg(test)]
 mod formats;
 pub mod frames;
+pub mod lives;
 pub mod logs;

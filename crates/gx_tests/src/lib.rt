@@ -16,10 +16,12 @@ mod classes;
 pub mod descents;
 #[cfg(test)]
 mod faults;
+pub mod help;
 #[cfg(test)]
 mod intervals;
 #[cfg(test)]
 mod large;
+pub mod logged;
 #[cfg(test)]
 mod memory;
 #[cfg(test)]

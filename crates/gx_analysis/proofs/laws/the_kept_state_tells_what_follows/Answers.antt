@@ -1,4 +1,4 @@
-use Rattle.gx_analysis.proofs.Telling.{writes_tell, all_pages_tell, commits_tell, ends_tell}
+use Rattle.gx_analysis.proofs.Telling.{writes_tell, no_entry_refused, all_pages_tell, commits_tell, ends_tell}
 use Rattle.gx_analysis.proofs.laws.the_kept_state_tells_what_follows.Goals as goal
 
 pub returns-clause-write : goal.returns-clause-write
@@ -12,3 +12,6 @@ returns-clause-commit g c = λ d. commits_tell (g.M.Meaning.known d)
 
 pub returns-clause-end : goal.returns-clause-end
 returns-clause-end g c = λ d. ends_tell (g.M.Meaning.known d)
+
+pub returns-clause-no_entry : goal.returns-clause-no_entry
+returns-clause-no_entry g c = λ d. no_entry_refused (g.M.Meaning.known d)

@@ -1,0 +1,3 @@
+pub mod Nodes
+pub mod Sayings
+pub mod Used

@@ -1,0 +1,4 @@
+pub mod BoxKeys
+pub mod Classes
+pub mod IntervalKeys
+pub mod Laws
