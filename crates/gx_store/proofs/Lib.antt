@@ -1,0 +1,4 @@
+pub mod Bringing
+pub mod Going
+pub mod Listed
+pub mod Shown

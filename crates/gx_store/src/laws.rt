@@ -1,0 +1,1 @@
+//! Laws of the store. Each function is its contract alone.
