@@ -1,5 +1,5 @@
 -- How goings-on of a store join.
-use Rattle.std.proofs.Common.{◌≡◌, ◌⊎◌, inl, inr, ⊎_elim, ℕ, ◌≤◌, ◌<◌, refl, sym, ap, subst, ◌∙◌, Option, Some, None, IsSome, arith}
+use Rattle.std.proofs.Common.{◌≡◌, ◌⊎◌, inl, inr, ⊎_elim, ℕ, ◌≤◌, ◌<◌, refl, sym, ap, subst, ◌∙◌, Bool, Option, Some, None, IsSome, arith}
 use Rattle.gx_disk.specs.Device as disk
 use Rattle.gx_page.specs.Contents.{Contents}
 use Rattle.gx_pool.specs.Edits.{later}
@@ -74,12 +74,12 @@ module _ {D : Type 0} (passes : ℕ → Contents → Bool) where
   }
 
   pub begins : (d : disk.Device) (s : Shelf D) (page : ℕ) → IsSince passes d d s s page
-  begins d s page = record { goes_on = goes_on_nothing d s; page = as_it_is d s.frames page }
+  begins d s page = record { goes_on = goes_on_nothing d s; same = as_it_is d s.frames page }
 
   pub since_joined : (d e f : disk.Device) (s t u : Shelf D) (page : ℕ) → IsSince passes d e s t page → GoesOn passes e f t u → IsAsItWas e f t.frames u.frames page → IsSince passes d f s u page
   since_joined d e f s t u page one two same = record {
     goes_on = goes_on_joined d e f s t u one.goes_on two;
-    page = as_it_was_joined d e f s.frames t.frames u.frames page one.goes_on.steady one.page same;
+    same = as_it_was_joined d e f s.frames t.frames u.frames page one.goes_on.steady one.same same;
   }
 
   -- why pages are refused from later on is why they are from before on

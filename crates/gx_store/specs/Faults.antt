@@ -1,5 +1,5 @@
 -- Why pages were refused.
-use Rattle.std.specs.Prelude.{◌≡◌, ℕ, ◌<◌, ◌≤◌, false, nat_le, Bool}
+use Rattle.std.specs.Prelude.{◌≡◌, ℕ, ◌<◌, false, nat_le, Bool, Result, Ok, Err}
 use Rattle.gx_disk.specs.Device as disk
 use Rattle.gx_page.specs.Contents.{Contents}
 use Rattle.gx_pool.specs.declared.fault.PoolFault.{PoolFault}
@@ -10,10 +10,12 @@ use Rattle.gx_store.specs.declared.fault.StoreFault.{StoreFault}
 use Rattle.gx_store.specs.declared.fault.StoreFault.TheVariants.{NoRoom, TooFewFrames, Device, Damaged}
 use Rattle.gx_store.specs.State.{Shelf, IsSteady}
 
-abbrev pub fault_of : PoolFault → StoreFault
-fault_of pool.NoCleanFrame = TooFewFrames 1
-fault_of pool.Device = Device
-fault_of pool.Damaged = Damaged
+-- what a bringing answers, as the store's own answer
+abbrev pub told_of : Result (Unit {0}) PoolFault → Result (Unit {0}) StoreFault
+told_of (Ok done) = Ok done
+told_of (Err pool.NoCleanFrame) = Err (TooFewFrames 1)
+told_of (Err pool.Device) = Err Device
+told_of (Err pool.Damaged) = Err Damaged
 
 -- whether a page is taken, where so many are
 abbrev pub is_taken : ℕ → ℕ → Bool

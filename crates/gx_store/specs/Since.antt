@@ -1,5 +1,5 @@
 -- How a store goes on while an event's steps use it.
-use Rattle.std.specs.Prelude.{◌≡◌, ◌⊎◌, ℕ, ◌≤◌, length, Some, IsSome}
+use Rattle.std.specs.Prelude.{◌≡◌, ◌⊎◌, ℕ, ◌≤◌, Bool, length, Some, IsSome}
 use Rattle.gx_disk.specs.Device.{Device}
 use Rattle.gx_page.specs.Contents.{Contents}
 use Rattle.gx_pool.specs.Bringing.{OnlyRead}
@@ -39,4 +39,4 @@ pub record GoesOn {D : Type 0} (passes : ℕ → Contents → Bool) (d e : Devic
 -- So the store has gone on since a moment, and this page is as it was.
 pub record IsSince {D : Type 0} (passes : ℕ → Contents → Bool) (d e : Device) (old new : Shelf D) (page : ℕ) : Type 0 where
   pub goes_on : GoesOn passes d e old new
-  pub page : IsAsItWas d e old.frames new.frames page
+  pub same : IsAsItWas d e old.frames new.frames page

@@ -1,6 +1,6 @@
 //! Why pages could not be had.
 ghost use Rattle.std.specs.Prelude.{◌≡◌};
-ghost use Rattle.gx_store.specs.Faults.{fault_of};
+ghost use Rattle.gx_store.specs.Faults.{told_of};
 
 use gx_pool::PoolFault;
 
@@ -17,13 +17,14 @@ pub enum StoreFault {
     Damaged,
 }
 
-/// Why a page could not be brought.
-pub(crate) fn fault_of(fault: PoolFault) -> StoreFault
-    ensures { result ≡ fault_of fault }
+/// What a bringing answers, as the store's own answer.
+pub(crate) fn told(brought: Result<(), PoolFault>) -> Result<(), StoreFault>
+    ensures { result ≡ told_of brought }
 {
-    match fault {
-        PoolFault::NoCleanFrame => StoreFault::TooFewFrames(1),
-        PoolFault::Device => StoreFault::Device,
-        PoolFault::Damaged => StoreFault::Damaged,
+    match brought {
+        Ok(()) => Ok(()),
+        Err(PoolFault::NoCleanFrame) => Err(StoreFault::TooFewFrames(1)),
+        Err(PoolFault::Device) => Err(StoreFault::Device),
+        Err(PoolFault::Damaged) => Err(StoreFault::Damaged),
     }
 }

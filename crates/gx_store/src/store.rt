@@ -1,6 +1,6 @@
 //! A store of pages: a device, a pool of frames, and the numbers of a tree.
-ghost use Rattle.std.specs.Prelude.{◌≡◌, ◌≤◌};
-ghost use Rattle.gx_node.specs.Reading.{format, is_node};
+ghost use Rattle.std.specs.Prelude.{◌≡◌, false};
+ghost use Rattle.gx_node.specs.Reading.{format_of, is_node};
 ghost use Rattle.gx_store.specs.State.{IsInOrder};
 
 use crate::test::NodeTest;
@@ -24,7 +24,7 @@ pub struct PageStore<D: SectorDisk, K: KeyClass> {
 
 impl<D: SectorDisk, K: KeyClass> Model for PageStore<D, K> {
     ghost use Rattle.std.specs.Prelude.{◌≡◌};
-    ghost use Rattle.gx_node.specs.Reading.{format, is_node};
+    ghost use Rattle.gx_node.specs.Reading.{format_of, is_node};
     ghost use Rattle.gx_store.specs.State.{Shelf, IsInOrder};
 
     ghost Value = { Shelf D };
@@ -39,7 +39,7 @@ impl<D: SectorDisk, K: KeyClass> Model for PageStore<D, K> {
       has_room = m.has_room;
     } };
 
-    ghost invariant = { λ m. IsInOrder (is_node (format K.KEY K.reading K.start_key) m.pages) (D.state m.disk).sectors m.pool.frames m.used m.pages
+    ghost invariant = { λ m. IsInOrder (is_node (format_of K.KeyClass) m.pages) (D.state m.disk).sectors m.pool.frames m.used m.pages
         × (m.pool.test.pages ≡ m.pages) };
 }
 
@@ -53,7 +53,7 @@ impl<D: SectorDisk, K: KeyClass> PageStore<D, K> {
         counter: u64,
         pages: u32,
     ) -> PageStore<D, K>
-        requires order { IsInOrder (is_node (format K.KEY K.reading K.start_key) pages) (D.state disk).sectors pool.frames used pages }
+        requires order { IsInOrder (is_node (format_of K.KeyClass) pages) (D.state disk).sectors pool.frames used pages }
         requires test { pool.test.pages ≡ pages }
         ensures { result ≡ record { disk = disk; frames = pool.frames; used = used; counter = counter; pages = pages; batch = 0; has_room = false } }
     {

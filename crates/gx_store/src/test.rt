@@ -27,9 +27,9 @@ impl<K: KeyClass> NodeTest<K> {
 }
 
 impl<K: KeyClass> PageTest for NodeTest<K> {
-    ghost use Rattle.gx_node.specs.Reading.{format, is_node};
+    ghost use Rattle.gx_node.specs.Reading.{format_of, is_node};
 
-    ghost passes = { λ test page. is_node (format K.KEY K.reading K.start_key) test.pages page };
+    ghost passes = { λ test page. is_node (format_of K.KeyClass) test.pages page };
 
     fn passes(&self, page: &Page) -> bool {
         is_node::<K>(page, self.pages)
