@@ -1,5 +1,5 @@
 -- What bringing leaves of a store.
-use Rattle.std.proofs.Common.{◌≡◌, ◌⊎◌, inl, inr, ⊎_elim, ℕ, ◌+◌, ◌*◌, ◌≤◌, ◌<◌, List, length, get_or, refl, sym, ap, subst, ◌∙◌, Bool, true, false, Option, Some, None, IsSome, Ok, Err, Result, IfErr, OnOk, arith}
+use Rattle.std.proofs.Common.{◌≡◌, inl, ⊎_elim, ℕ, ◌+◌, ◌≤◌, ◌<◌, List, length, get_or, refl, sym, ap, subst, ◌∙◌, Bool, true, false, Option, Some, None, IsSome, Ok, Err, Result, IfErr, OnOk, arith}
 use Rattle.std.proofs.lemmas.Bool.Decides.{nat_tests}
 use Rattle.gx_disk.specs.Device as disk
 use Rattle.gx_page.specs.Contents.{Contents}
@@ -13,7 +13,7 @@ use Rattle.gx_pool.specs.Area.{bytes_of, IsPage}
 use Rattle.gx_pool.specs.Bringing.{Brings, BringsAll, OnlyRead, faults_of}
 use Rattle.gx_pool.specs.Laws.{shown, shown_of, IsBacked, IsPassed}
 use Rattle.gx_pool.specs.Marks.{is_held}
-use Rattle.gx_pool.specs.State.{State, Kept, AllKept, holding, kept, stamp_of}
+use Rattle.gx_pool.specs.State.{State, holding, kept, stamp_of}
 use Rattle.gx_pool.proofs.Bringing.{same_held_kept}
 use Rattle.gx_pool.proofs.Creating.{none_clean_counted}
 use Rattle.gx_pool.proofs.Readable.{bringing_readable, some_not_damaged}

@@ -1,5 +1,5 @@
 -- What a change of a page, and the taking of one, leave of a store.
-use Rattle.std.proofs.Common.{◌≡◌, ◌≢◌, ◌⊎◌, inl, inr, ⊎_elim, ℕ, zero, suc, ◌+◌, ◌-◌, ◌*◌, ◌≤◌, ◌<◌, List, [], ◌∷◌, ◌++◌, length, set, refl, sym, ap, subst, ◌∙◌, Bool, true, false, Option, Some, None, IsSome, arith}
+use Rattle.std.proofs.Common.{◌≡◌, ◌≢◌, ◌⊎◌, inl, inr, ⊎_elim, ℕ, zero, suc, ◌+◌, ◌-◌, ◌≤◌, ◌<◌, List, [], ◌∷◌, ◌++◌, length, set, refl, sym, ap, subst, ◌∙◌, Bool, true, false, Option, Some, None, IsSome, arith}
 use Rattle.std.specs.Prelude.{not, ◌&&◌, is_none, cond, min}
 use Rattle.std.proofs.Math.Decide.{ℕ_discrete}
 use Rattle.std.proofs.lemmas.Bool.Decides.{nat_tests}
@@ -13,9 +13,9 @@ use Rattle.gx_pool.specs.Area.{bytes_of}
 use Rattle.gx_pool.specs.Bringing.{Left}
 use Rattle.gx_pool.specs.Creating.{Makes}
 use Rattle.gx_pool.specs.Edits.{changed, changed_at, later, numbered}
-use Rattle.gx_pool.specs.Laws.{IsBacked, IsPassed}
+use Rattle.gx_pool.specs.Laws.{IsPassed}
 use Rattle.gx_pool.specs.Marks.{is_held}
-use Rattle.gx_pool.specs.State.{State, Kept, IsSound, IsSpare, clean_count, kept, place_of, stamp_of}
+use Rattle.gx_pool.specs.State.{State, Kept, IsSound, clean_count, kept, place_of, stamp_of}
 use Rattle.gx_pool.proofs.Bringing.{only_read_nothing}
 use Rattle.gx_pool.proofs.Numbers.{change_keeps_clean}
 use Rattle.gx_pool.proofs.Places.{changed_kept, changed_other}
@@ -25,7 +25,7 @@ use Rattle.gx_store.specs.Changing.{ready_pages}
 use Rattle.gx_store.specs.Faults.{is_taken}
 use Rattle.gx_store.specs.Since.{IsAsItWas, IsStamped, GoesOn}
 use Rattle.gx_store.specs.Standing.{standing, standing_by, standing_node, nodes_to, store_of}
-use Rattle.gx_store.specs.State.{Shelf, IsHeld, IsInOrder, IsSteady, may_go}
+use Rattle.gx_store.specs.State.{Shelf, IsHeld, IsInOrder, may_go}
 use Rattle.gx_store.proofs.Listed.{more_nodes, node_there, set_nodes}
 use Rattle.gx_store.proofs.Shown.{dirty_stays, held_node, not_spare, stands_kept, stays_for}
 

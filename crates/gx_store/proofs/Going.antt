@@ -1,5 +1,5 @@
 -- How goings-on of a store join.
-use Rattle.std.proofs.Common.{◌≡◌, ◌⊎◌, inl, inr, ⊎_elim, ℕ, ◌≤◌, ◌<◌, refl, sym, ap, subst, ◌∙◌, Bool, Option, Some, None, IsSome, arith}
+use Rattle.std.proofs.Common.{◌≡◌, ◌⊎◌, inl, inr, ⊎_elim, ℕ, refl, sym, ap, subst, ◌∙◌, Bool, Option, Some, None, IsSome, arith}
 use Rattle.gx_disk.specs.Device as disk
 use Rattle.gx_page.specs.Contents.{Contents}
 use Rattle.gx_pool.specs.Edits.{later}

@@ -68,6 +68,14 @@ impl<D: SectorDisk, K: KeyClass> PageStore<D, K> {
         }
     }
 
+    /// What always holds of a store: its pages fit the device, each that is kept is a node of the class under its own number, and
+    /// none is kept that isn't taken.
+    pub fn in_order(&self)
+        ensures { IsInOrder (is_node (format_of K.KeyClass) self.now.pages) (D.state self.now.disk).sectors self.now.frames self.now.used self.now.pages }
+    {
+        let _ = &self.used;
+    }
+
     /// Begins an event: its changes are of the batch of this place, and its record has room in the log, or hasn't.
     pub fn begin(&mut self, batch: u64, has_room: bool)
         ensures { self.new ≡ record self.old { batch = batch; has_room = has_room } }

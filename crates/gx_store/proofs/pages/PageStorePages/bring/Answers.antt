@@ -1,8 +1,7 @@
-use Rattle.std.proofs.Common.{◌≡◌, ℕ, ap, subst}
-use Rattle.gx_disk.specs.Device.{Device}
+use Rattle.std.proofs.Common.{ℕ, subst}
 use Rattle.gx_node.specs.Reading.{format_of, is_node}
 use Rattle.gx_pool.specs.Bringing.{BringsAll}
-use Rattle.gx_pool.specs.State.{State, holding}
+use Rattle.gx_pool.specs.State.{holding}
 use Rattle.gx_store.specs.State.{Shelf}
 use Rattle.gx_store.proofs.Bringing.{brought_in_order, brought_nodes, fetched, fits_device, on_ok}
 use Rattle.gx_store.proofs.Going.{since_joined, why_later}

@@ -1,4 +1,4 @@
-use Rattle.std.proofs.Common.{◌≡◌, ◌+◌, ◌<◌, ◌≤◌, ℕ, length, ap, arith}
+use Rattle.std.proofs.Common.{arith}
 use Rattle.gx_node.specs.Reading.{format_of}
 use Rattle.gx_store.specs.Standing.{standing_node}
 use Rattle.gx_store.specs.State.{Shelf}

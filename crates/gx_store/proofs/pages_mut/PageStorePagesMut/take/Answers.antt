@@ -1,6 +1,5 @@
-use Rattle.std.proofs.Common.{◌≡◌, ◌≢◌, ◌+◌, suc, ℕ, length, sym, ap, subst, ◌∙◌, refl, arith}
+use Rattle.std.proofs.Common.{◌≡◌, ◌+◌, suc, length, ◌∙◌, refl, arith}
 use Rattle.gx_node.specs.Reading.{format_of, is_node}
-use Rattle.gx_page.specs.Contents.{Contents}
 use Rattle.gx_pool.specs.State.{kept}
 use Rattle.gx_store.specs.Standing.{nodes_to, standing_node}
 use Rattle.gx_store.specs.State.{Shelf}
