@@ -227,6 +227,10 @@ can_by s false room some = absurd (omega (arith, some))
 pub can_take : {D : Type 0} (s : Shelf D) → 0 < ready_pages s → CanTake s
 can_take s some = can_by s s.has_room refl some
 
+-- a page that is taken takes a clean frame and a page
+pub take_lowers_ready : {D : Type 0} (s : Shelf D) (t : State) (w : Contents) → Makes s.frames t (s.used + 1) w s.batch → CanTake s → ready_pages s ≡ suc (ready_pages (record s { frames = t; used = s.used + 1 }))
+take_lowers_ready s t w makes can = rw can.room (omega (arith, makes.fewer, can.more, can.clean))
+
 -- a change of a page that is held leaves the clean frames
 pub change_leaves_ready : {D : Type 0} (s : Shelf D) (page : ℕ) (w : Contents) → IsSound s.frames → IsHeld s page → ready_pages (record s { frames = changed s.frames page s.batch w }) ≡ ready_pages s
 change_leaves_ready s page w sound held =
