@@ -5,3 +5,4 @@
 #[cfg(test)]
 mod formatted;
 pub mod looks;
+pub mod starts;

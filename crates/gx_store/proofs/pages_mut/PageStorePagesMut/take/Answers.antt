@@ -1,4 +1,4 @@
-use Rattle.std.proofs.Common.{◌≡◌, ◌+◌, suc, length, ◌∙◌, refl, arith}
+use Rattle.std.proofs.Common.{◌≡◌, ◌+◌, suc, length, refl, arith}
 use Rattle.gx_node.specs.Reading.{format_of, is_node}
 use Rattle.gx_pool.specs.State.{kept}
 use Rattle.gx_store.specs.Standing.{nodes_to, standing_node}
