@@ -65,11 +65,11 @@ is_node f used page = if page.level == 0 then are_pairs f page.items else are_ch
 
 -- the node of a page that is a leaf
 abbrev pub leaf_of : {B : Type 0} → Format B → Contents → Node B
-leaf_of f page = record { level = page.level; number = page.nsn; right = page.right; pairs = map (pair_of f) page.items; children = [] }
+leaf_of f page = record { level = page.level; nsn = page.nsn; right = page.right; pairs = map (pair_of f) page.items; children = [] }
 
 -- the node of a page that is an inner node
 abbrev pub inner_of : {B : Type 0} → Format B → Contents → Node B
-inner_of f page = record { level = page.level; number = page.nsn; right = page.right; pairs = []; children = map (child_of f) page.items }
+inner_of f page = record { level = page.level; nsn = page.nsn; right = page.right; pairs = []; children = map (child_of f) page.items }
 
 -- ---- what the readings of a node's slots rest on
 

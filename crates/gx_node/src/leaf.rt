@@ -62,7 +62,7 @@ impl<'a, K: KeyClass> Leaf<'a, K> {
 
     /// The sequence number of the node's last split.
     pub fn nsn(&self) -> u64
-        ensures { result ≡ self.now.number }
+        ensures { result ≡ self.now.nsn }
     {
         self.page.nsn()
     }

@@ -76,7 +76,7 @@ fn are_same<B: Shape>(first: &B, second: &B) -> bool
 /// where it has no children.
 fn way_down<K: KeyClass>(inner: &Inner<K>, coming: &K::Key, most: usize) -> Option<Way<K::Key>>
     requires { 0 < inner.now.level }
-    ensures way { (seen : ℕ) → inner.now.number ≤ seen → IfSome result (Descends K.cost K.joined most inner.now seen coming.now) }
+    ensures way { (seen : ℕ) → inner.now.nsn ≤ seen → IfSome result (Descends K.cost K.joined most inner.now seen coming.now) }
     ensures none { IfNone result (length inner.now.children ≡ 0) }
 {
     if inner.len() == 0 {

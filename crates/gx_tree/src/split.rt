@@ -216,7 +216,7 @@ fn make_split<K: KeyClass, P: PagesMut<K>>(
     turn(sides, others);
     let sibling = take_side(pages, page, others);
     let link = Link {
-        number: pages.counter() + 1,
+        nsn: pages.counter() + 1,
         right: sibling,
     };
     keep_side(pages, page, sides, link);
