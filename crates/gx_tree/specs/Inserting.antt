@@ -2,7 +2,7 @@
 use Rattle.std.specs.Prelude.{◌≡◌, ◌≢◌, ◌<◌, ◌≤◌, ◌-◌, ◌^◌, ◌⊎◌, ℕ, Bool, true, false, not, ◌&&◌, List}
 use Rattle.gx_machine.specs.declared.entry.Entry.{Entry}
 use Rattle.gx_tree_laws.specs.Lists.{how_many}
-use Rattle.gx_tree_laws.specs.Trees.{Pair, Tree, Rules, Used, standing, is_entry}
+use Rattle.gx_tree_laws.specs.Trees.{Pair, Tree, Rules, Used, size, standing, is_entry}
 use Rattle.gx_tree_laws.specs.Legal.{Legal}
 use Rattle.gx_tree_laws.specs.Looks.{from_root}
 use Rattle.gx_tree_laws.specs.Steps.{Step, AreSteps, IsAdding, IsRootSplit, IsSplit, IsSweep}
@@ -39,7 +39,7 @@ pub record IsInsert {B : Type 0} (r : Rules B) (IsKey : B → Type 0) (t : Tree 
   pub keys : AreKeys IsKey t
   pub absent : standing (is_entry r entry.row entry.key) t ≡ 0
   pub descent : IsDescent r t place.item entry.key
-  pub place : IsPlace t place
+  pub came : IsPlace t place
 
 -- where an insert begins
 abbrev pub from_top : {B : Type 0} → Tree B → Place
@@ -66,6 +66,13 @@ pub record HasAdded {B : Type 0} (r : Rules B) (IsKey : B → Type 0) (old new :
 
 -- ---- on the way to a place
 
+-- a descent is at a place with a full node of a legal tree
+pub record IsFullAt {B : Type 0} (r : Rules B) (t : Tree B) (place : Place) : Type 0 where
+  pub legal : Legal r t
+  pub used : Used t place.item.page
+  pub came : IsPlace t place
+  pub full : r.most ≤ size (t.node place.item.page)
+
 -- a full node was split, below its parent or as the root
 pub record HasSplit {B : Type 0} (r : Rules B) (IsKey : B → Type 0) (old new : Tree B) (place : Place) : Type 0 where
   pub sides : List Bool
@@ -85,4 +92,4 @@ pub record HasSwept {B : Type 0} (old new : Tree B) (page : ℕ) : Type 0 where
 
 -- a full leaf was swept, and the insert stays; or its node was split, or could not be, and it begins again
 abbrev pub MakesRoom : {B : Type 0} → Rules B → (B → Type 0) → Tree B → Tree B → Place → Place → Type 0
-MakesRoom r IsKey old new place next = (HasSwept old new place.item.page × (next ≡ place)) ⊎ (SplitsOrNot r IsKey old new place × (next ≡ from_top new))
+MakesRoom r IsKey old new place next = (HasSwept old new place.item.page × (next ≡ place)) ⊎ (SplitsOrNot r IsKey old new place × (next ≡ from_top new) × (new.used < 2 ^ 32))

@@ -3,8 +3,8 @@ ghost use Rattle.std.specs.Prelude.{◌≡◌, ◌≢◌, ◌<◌, ◌≤◌, �
 ghost use Rattle.gx_node.specs.declared.items.TheConstants.{MAX_ENTRIES};
 ghost use Rattle.gx_tree_laws.specs.Legal.{Legal};
 ghost use Rattle.gx_tree_laws.specs.Lists.{one_if};
-ghost use Rattle.gx_tree_laws.specs.Trees.{Pair, Used, size, standing, is_entry};
-ghost use Rattle.gx_tree.specs.Inserting.{CameFrom, GoesOn, HasAdded, IsInsert, IsPlace, MakesRoom, MakesWay, SplitsOrNot, from_top, live_and};
+ghost use Rattle.gx_tree_laws.specs.Trees.{Pair, standing, is_entry};
+ghost use Rattle.gx_tree.specs.Inserting.{GoesOn, HasAdded, IsFullAt, IsInsert, MakesRoom, MakesWay, SplitsOrNot, from_top, live_and};
 ghost use Rattle.gx_tree.specs.Keyed.{rules_of, AreKeys};
 ghost use Rattle.gx_tree.specs.Owner.{IsWhy};
 ghost use Rattle.gx_tree.specs.Store.{node_at, tree_of};
@@ -57,27 +57,26 @@ fn split_place<K: KeyClass, P: PagesMut<K>>(
     most: usize,
     keys: &mut [K::Key],
 ) -> Result<(), StepFault<P::Fault>>
-    requires steady { P.steady pages.old }
     requires most { (4 ≤ most) × (most ≤ MAX_ENTRIES) }
     requires space { MAX_ENTRIES ≤ length keys.old }
-    requires legal { Legal (rules_of K.Key.Shape most) (tree_of (P.store pages.old)) }
-    requires used { Used (tree_of (P.store pages.old)) place.item.page }
-    requires place { IsPlace (tree_of (P.store pages.old)) place }
-    requires is_full { most ≤ size (node_at (P.store pages.old).nodes place.item.page) }
-    ensures steady { P.steady pages.new }
-    ensures split { OnOk result (SplitsOrNot (rules_of K.Key.Shape most) K.is_key (tree_of (P.store pages.old)) (tree_of (P.store pages.new)) place) }
-    ensures refused { OnErr result (P.store pages.new ≡ P.store pages.old) }
-    ensures full { result ≡ Err StepFault.PagesFull → (P.store pages.new).room < length (P.store pages.new).nodes + 2 }
-    ensures damaged { result ≡ Err StepFault.Damaged → 2 ^ 16 ≤ (node_at (P.store pages.new).nodes 1).level + 1 }
+    ensures steady { P.steady pages.old → P.steady pages.new }
+    ensures split { P.steady pages.old → IsFullAt (rules_of K.Key.Shape most) (tree_of (P.store pages.old)) place
+        → OnOk result (SplitsOrNot (rules_of K.Key.Shape most) K.is_key (tree_of (P.store pages.old)) (tree_of (P.store pages.new)) place) }
+    ensures refused { P.steady pages.old → OnErr result (P.store pages.new ≡ P.store pages.old) }
+    ensures full { P.steady pages.old → result ≡ Err StepFault.PagesFull → (P.store pages.new).room < length (P.store pages.new).nodes + 2 }
+    ensures damaged { P.steady pages.old → IsFullAt (rules_of K.Key.Shape most) (tree_of (P.store pages.old)) place
+        → result ≡ Err StepFault.Damaged → 2 ^ 16 ≤ (node_at (P.store pages.new).nodes 1).level + 1 }
     ensures memory { result ≢ Err StepFault.Memory }
     ensures why { IfErr result (IsWhy (λ fault. (was : P) × P.why was pages.new fault)) }
 {
     let page = place.item.page();
     if page == 1 {
         split_root_step(pages, most, keys)?;
-    } else {
-        split_step(pages, page, place.parent, most, keys)?;
+        return Ok(());
     }
+    // read for its range: each split took a page, so the counter of splits isn't at its end
+    let _used = pages.used();
+    split_step(pages, page, place.parent, most, keys)?;
     Ok(())
 }
 
@@ -90,20 +89,17 @@ fn make_room<K: KeyClass, P: PagesMut<K>>(
     most: usize,
     keys: &mut [K::Key],
 ) -> Result<Place, StepFault<P::Fault>>
-    requires steady { P.steady pages.old }
     requires most { (4 ≤ most) × (most ≤ MAX_ENTRIES) }
     requires space { MAX_ENTRIES ≤ length keys.old }
-    requires legal { Legal (rules_of K.Key.Shape most) (tree_of (P.store pages.old)) }
-    requires used { Used (tree_of (P.store pages.old)) place.item.page }
-    requires place { IsPlace (tree_of (P.store pages.old)) place }
-    requires leaf { (node_at (P.store pages.old).nodes place.item.page).level ≡ 0 }
-    requires is_full { most ≤ length (node_at (P.store pages.old).nodes place.item.page).pairs }
-    ensures steady { P.steady pages.new }
-    ensures room { IfOk result (MakesRoom (rules_of K.Key.Shape most) K.is_key (tree_of (P.store pages.old)) (tree_of (P.store pages.new)) place) }
-    ensures few { OnOk result (length (P.store pages.new).nodes < 2 ^ 32) }
-    ensures refused { OnErr result (P.store pages.new ≡ P.store pages.old) }
-    ensures full { result ≡ Err StepFault.PagesFull → (P.store pages.new).room < length (P.store pages.new).nodes + 2 }
-    ensures damaged { result ≡ Err StepFault.Damaged → 2 ^ 16 ≤ (node_at (P.store pages.new).nodes 1).level + 1 }
+    ensures steady { P.steady pages.old → P.steady pages.new }
+    ensures room { P.steady pages.old → IsFullAt (rules_of K.Key.Shape most) (tree_of (P.store pages.old)) place
+        → ((tree_of (P.store pages.old)).node place.item.page).level ≡ 0
+        → IfOk result (MakesRoom (rules_of K.Key.Shape most) K.is_key (tree_of (P.store pages.old)) (tree_of (P.store pages.new)) place) }
+    ensures refused { P.steady pages.old → OnErr result (P.store pages.new ≡ P.store pages.old) }
+    ensures full { P.steady pages.old → result ≡ Err StepFault.PagesFull → (P.store pages.new).room < length (P.store pages.new).nodes + 2 }
+    ensures damaged { P.steady pages.old → IsFullAt (rules_of K.Key.Shape most) (tree_of (P.store pages.old)) place
+        → ((tree_of (P.store pages.old)).node place.item.page).level ≡ 0
+        → result ≡ Err StepFault.Damaged → 2 ^ 16 ≤ (node_at (P.store pages.new).nodes 1).level + 1 }
     ensures memory { result ≢ Err StepFault.Memory }
     ensures why { IfErr result (IsWhy (λ fault. (was : P) × P.why was pages.new fault)) }
 {
@@ -128,16 +124,17 @@ pub fn insert_step<K: KeyClass, P: PagesMut<K>>(
     most: usize,
     keys: &mut [K::Key],
 ) -> Result<Option<Place>, StepFault<P::Fault>>
-    requires steady { P.steady pages.old }
     requires most { (4 ≤ most) × (most ≤ MAX_ENTRIES) }
     requires space { MAX_ENTRIES ≤ length keys.old }
-    requires insert { IsInsert (rules_of K.Key.Shape most) K.is_key (tree_of (P.store pages.old)) entry.now place }
-    ensures steady { P.steady pages.new }
-    ensures goes_on { IfOk result (λ next. IfSome next (GoesOn (rules_of K.Key.Shape most) K.is_key (tree_of (P.store pages.old)) (tree_of (P.store pages.new)) entry.now place)) }
-    ensures added { IfOk result (λ next. IfNone next (HasAdded (rules_of K.Key.Shape most) K.is_key (tree_of (P.store pages.old)) (tree_of (P.store pages.new)) entry.now)) }
-    ensures refused { OnErr result (P.store pages.new ≡ P.store pages.old) }
-    ensures full { result ≡ Err StepFault.PagesFull → (P.store pages.new).room < length (P.store pages.new).nodes + 2 }
-    ensures damaged { result ≡ Err StepFault.Damaged → 2 ^ 16 ≤ (node_at (P.store pages.new).nodes 1).level + 1 }
+    ensures steady { P.steady pages.old → P.steady pages.new }
+    ensures goes_on { P.steady pages.old → IsInsert (rules_of K.Key.Shape most) K.is_key (tree_of (P.store pages.old)) entry.now place
+        → IfOk result (λ next. IfSome next (GoesOn (rules_of K.Key.Shape most) K.is_key (tree_of (P.store pages.old)) (tree_of (P.store pages.new)) entry.now place)) }
+    ensures added { P.steady pages.old → IsInsert (rules_of K.Key.Shape most) K.is_key (tree_of (P.store pages.old)) entry.now place
+        → IfOk result (λ next. IfNone next (HasAdded (rules_of K.Key.Shape most) K.is_key (tree_of (P.store pages.old)) (tree_of (P.store pages.new)) entry.now)) }
+    ensures refused { P.steady pages.old → OnErr result (P.store pages.new ≡ P.store pages.old) }
+    ensures full { P.steady pages.old → result ≡ Err StepFault.PagesFull → (P.store pages.new).room < length (P.store pages.new).nodes + 2 }
+    ensures damaged { P.steady pages.old → IsInsert (rules_of K.Key.Shape most) K.is_key (tree_of (P.store pages.old)) entry.now place
+        → result ≡ Err StepFault.Damaged → 2 ^ 16 ≤ (node_at (P.store pages.new).nodes 1).level + 1 }
     ensures memory { result ≢ Err StepFault.Memory }
     ensures why { IfErr result (IsWhy (λ fault. (was : P) × P.why was pages.new fault)) }
 {
@@ -147,7 +144,7 @@ pub fn insert_step<K: KeyClass, P: PagesMut<K>>(
     match descend_step(pages, &place.item, &entry.key, most)? {
         Descended::Again => Ok(Some(Place::top(pages))),
         Descended::Down(item) => Ok(Some(Place { item, parent: page })),
-        Descended::Widened(item, _, _) => Ok(Some(Place { item, parent: page })),
+        Descended::Widened(item, _slot, _bound) => Ok(Some(Place { item, parent: page })),
         Descended::Leaf => {
             add_step(pages, page, entry, most)?;
             Ok(None)
@@ -193,6 +190,7 @@ pub fn insert<K: KeyClass, P: PagesMut<K>>(
     ensures memory { result ≢ Err StepFault.Memory }
     ensures why { IfErr result (IsWhy (λ fault. (was : P) × P.why was pages.new fault)) }
 {
+    laws::keys_are_lawful::<K::Key>();
     let mut place = Place::top(pages);
     'steps: loop {
         match insert_step(pages, place, entry, most, keys)? {
