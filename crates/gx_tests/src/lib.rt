@@ -47,6 +47,4 @@ mod tree_rows;
 #[cfg(test)]
 mod tree_runs;
 #[cfg(test)]
-mod tree_sweeps;
-#[cfg(test)]
 mod trees;

@@ -4,13 +4,13 @@ use crate::tree_drawn::{Drawn, draw};
 use crate::tree_legal::PAGES;
 use crate::tree_rows::are_same;
 use crate::tree_runs::{
-    Run, begin, finds_all, insert, look_from_root, look_on, run_on, stands, step_on, top,
+    Place, Run, begin, finds_all, insert, insert_step, look_from_root, look_on, run_on, stands, top,
 };
 use crate::trees::{Corners, a_box, held, split_twice};
 use gx_class::{Box2Class, IntervalClass, Probing};
 use gx_geom::Box2;
 use gx_machine::{Entry, Query};
-use gx_tree::{Look, MemoryPages, Pages, Place, Sought, Wanted, set_mark_step};
+use gx_tree::{Look, MemoryPages, Pages, Sought, Wanted, set_mark_step};
 use std::process::Abort;
 use std::test::Fail;
 
@@ -105,7 +105,7 @@ where
     K::Probe: Drop,
 {
     let entry = open.entry;
-    let next = step_on(rt, run, open.place, &entry).ok();
+    let next = insert_step(rt, run, open.place, &entry).ok();
     match next.expect(rt, "a page for it") {
         Some(place) => {
             stands(rt, run);

@@ -1,5 +1,5 @@
 -- An insert goes down from an inner node.
-use Rattle.std.proofs.Common.{◌≡◌, ◌≢◌, ◌∙◌, ◌<◌, ◌≤◌, ◌-◌, ◌^◌, ℕ, true, false, List, length, inr, sym, ap, subst, arith, Some}
+use Rattle.std.proofs.Common.{◌≡◌, ◌≢◌, ◌∙◌, ◌<◌, ◌-◌, ◌^◌, ℕ, true, false, List, length, inr, sym, ap, subst, arith, Some}
 use Rattle.std.specs.Prelude.{slice_get}
 use Rattle.gx_machine.specs.declared.entry.Entry.{Entry}
 use Rattle.gx_tree_laws.specs.Trees.{Pair, Child, Tree, Rules, IsLawful, Used, size}
@@ -13,7 +13,6 @@ use Rattle.gx_tree.specs.declared.descent.Descended.TheVariants.{Down, Widened}
 use Rattle.gx_tree.specs.declared.inserts.Place.{Place}
 use Rattle.gx_tree.specs.Descending.{IsChoice, StepsDown}
 use Rattle.gx_tree.specs.Inserting.{GoesOn, IsInsert}
-use Rattle.gx_tree.specs.Keyed.{AreKeys}
 use Rattle.gx_tree.specs.Store.{Store, tree_of}
 use Rattle.gx_tree.proofs.InsertSteps.{no_way, still_absent, way_by}
 use Rattle.gx_tree.proofs.Ways.{each_slot, named}

@@ -1,5 +1,5 @@
 -- A full node in an insert's way is split, or swept.
-use Rattle.std.proofs.Common.{◌≡◌, ◌≢◌, ◌<◌, ◌≤◌, ◌+◌, ◌^◌, ℕ, Bool, List, inl, inr, ap, sym, arith}
+use Rattle.std.proofs.Common.{◌≢◌, ◌<◌, ◌≤◌, ◌+◌, ◌^◌, ℕ, Bool, List, inl, inr, ap, sym, arith}
 use Rattle.std.specs.Prelude.{IfSome, Option, None, Some}
 use Rattle.gx_tree_laws.specs.Trees.{Rules, Used, size}
 use Rattle.gx_tree_laws.specs.Legal.{Legal}

@@ -1,25 +1,21 @@
 -- Each step of an insert goes on, or adds the pair.
-use Rattle.std.proofs.Common.{◌≡◌, ◌≢◌, ◌∙◌, ◌<◌, ◌≤◌, ◌-◌, ◌^◌, ◌⊎◌, ◌==◌, ◌+◌, ℕ, zero, suc, Bool, true, false, not, ◌&&◌, ◌||◌, List, [], ◌∷◌, ◌++◌, length, inl, inr, refl, sym, ap, subst, arith, Some}
+use Rattle.std.proofs.Common.{◌≡◌, ◌≢◌, ◌∙◌, ◌<◌, ◌≤◌, ◌-◌, ◌^◌, ◌⊎◌, ◌==◌, ◌+◌, Bool, true, false, not, ◌&&◌, ◌||◌, List, [], ◌∷◌, ◌++◌, inl, inr, refl, sym, ap, subst, arith}
 use Rattle.std.proofs.lemmas.Bool.{eq-eqb, lt-ltb, ne_eqb}
-use Rattle.std.specs.Prelude.{slice_get, slice_set}
 use Rattle.gx_machine.specs.declared.entry.Entry.{Entry}
-use Rattle.gx_node.specs.Edits.{bounded_by}
 use Rattle.gx_tree_laws.specs.Lists.{one_if, how_many}
-use Rattle.gx_tree_laws.specs.Trees.{Pair, Child, Tree, Rules, IsLawful, Used, size, times, child_pages, parents, standing, is_entry}
-use Rattle.gx_tree_laws.specs.Legal.{ChildFits, Legal}
-use Rattle.gx_tree_laws.specs.Looks.{from_root}
-use Rattle.gx_tree_laws.specs.Reach.{Item}
-use Rattle.gx_tree_laws.specs.Steps.{Step, Splits, SplitsRoot, Widens, Sweeps, Adds, AreSteps, IsAdding, IsRootSplit, IsSplit, IsStep, IsSweep, IsWidening}
-use Rattle.gx_tree_laws.specs.Writes.{IsDescent, descent_left, has_place, must_restart}
+use Rattle.gx_tree_laws.specs.Trees.{Pair, Tree, Rules, IsLawful, Used, size, times, child_pages, standing, is_entry}
+use Rattle.gx_tree_laws.specs.Legal.{Legal}
+use Rattle.gx_tree_laws.specs.Steps.{Step, Splits, SplitsRoot, Sweeps, Adds, AreSteps, IsStep}
+use Rattle.gx_tree_laws.specs.Writes.{has_place, must_restart}
 use Rattle.gx_tree_laws.proofs.AllSteps.{descent_steps, legal_steps}
-use Rattle.gx_tree_laws.proofs.DescentFalls.{restart_falls, down_falls, widened_falls, swept_falls, split_falls, root_split_falls}
+use Rattle.gx_tree_laws.proofs.DescentFalls.{restart_falls, swept_falls, split_falls, root_split_falls}
 use Rattle.gx_tree_laws.proofs.DescentSteps.{descent_begins}
-use Rattle.gx_tree_laws.proofs.PageSteps.{legal_added, legal_swept, legal_widened, standing_added, standing_swept_plain, standing_widened}
+use Rattle.gx_tree_laws.proofs.PageSteps.{legal_added, legal_swept, standing_added, standing_swept_plain}
 use Rattle.gx_tree_laws.proofs.Roots.{legal_root, standing_root}
 use Rattle.gx_tree_laws.proofs.Splits.{legal_split, standing_split}
 use Rattle.gx_tree_laws.proofs.Sums.{total_one}
 use Rattle.gx_tree.specs.declared.inserts.Place.{Place}
-use Rattle.gx_tree.specs.Inserting.{CameFrom, GoesOn, HasAdded, HasSplit, HasSwept, IsFullAt, IsInsert, MakesRoom, MakesWay, SplitsOrNot, from_top, insert_left, live_and}
+use Rattle.gx_tree.specs.Inserting.{CameFrom, GoesOn, HasAdded, HasSplit, HasSwept, IsFullAt, IsInsert, MakesRoom, MakesWay, SplitsOrNot, from_top, live_and}
 use Rattle.gx_tree.specs.Keyed.{AreKeys}
 use Rattle.gx_tree.specs.Splitting.{HasNoPlace}
 use Rattle.gx_tree.specs.Writing.{Appends, live}

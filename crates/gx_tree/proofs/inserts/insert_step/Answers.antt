@@ -1,8 +1,7 @@
-use Rattle.std.proofs.Common.{◌≡◌, ◌∙◌, ◌<◌, ◌≤◌, ◌+◌, subst, sym, ap, length, arith, rules, Err}
+use Rattle.std.proofs.Common.{◌≡◌, ◌∙◌, subst, sym, ap, arith, rules, Err}
 use Rattle.std.specs.Ordering.{is_eq}
-use Rattle.gx_tree_laws.specs.Trees.{Rules, IsLawful, size}
+use Rattle.gx_tree_laws.specs.Trees.{Rules, IsLawful}
 use Rattle.gx_tree.specs.declared.descent.Descended.{Descended}
-use Rattle.gx_tree.specs.declared.descent.Descended.TheVariants as did
 use Rattle.gx_tree.specs.declared.fault.StepFault.TheVariants.{Damaged}
 use Rattle.gx_tree.specs.Descending.{StepsDown}
 use Rattle.gx_tree.specs.Inserting.{GoesOn, IsFullAt, MakesRoom, SplitsOrNot, from_top}

@@ -1,8 +1,7 @@
-use Rattle.std.proofs.Common.{◌≡◌, ◌≢◌, ◌∙◌, sym, rules, Err}
+use Rattle.std.proofs.Common.{◌≡◌, ◌≢◌, sym, rules, Err}
 use Rattle.std.specs.Ordering.{is_eq}
 use Rattle.gx_tree_laws.specs.Trees.{Rules}
 use Rattle.gx_tree.specs.declared.fault.StepFault.TheVariants.{Damaged}
-use Rattle.gx_tree.specs.Splitting.{Splits}
 use Rattle.gx_tree.proofs.InsertSplits.{never_damaged_below, splits_below}
 use Rattle.gx_tree.proofs.Searched.{same_err}
 use Rattle.gx_tree.proofs.inserts.split_place.Goals as goal
