@@ -1,9 +1,13 @@
 -- Events keep the claims held in all at most 512.
-use Rattle.std.proofs.Common.{◌≡◌, ℕ, zero, suc, ◌+◌, ◌-◌, ◌<◌, ◌≤◌, Bool, true, false, ◌⊎◌, inl, inr, List, [], ◌∷◌, ◌++◌, Option, None, Some, length, refl, ap, sym, ◌∙◌, subst, arith}
-use Rattle.std.specs.Prelude.{Result, Ok, Err, nat_lt, if◌then◌else◌, slice_set, replicate}
+use Rattle.std.proofs.Common.{◌≡◌, ℕ, suc, ◌+◌, ◌-◌, ◌<◌, ◌≤◌, Bool, true, false, ◌⊎◌, inl, inr, List, [], ◌∷◌, ◌++◌, Option, None, Some, length, map, replicate, refl, ap, sym, ◌∙◌, subst, arith}
+use Rattle.std.specs.Prelude.{Result, Ok, Err, nat_lt, if◌then◌else◌, sum_by}
 use Rattle.std.specs.List.{slice_index_or}
+use Rattle.std.specs.Ordering.{match_ordering}
+use Rattle.std.specs.declared.cmp.Ordering.{Ordering}
+use Rattle.std.specs.declared.cmp.Ordering.TheVariants.{Less, Equal, Greater}
 use Rattle.std.proofs.lemmas.Bool.{ltb-true}
-use Rattle.std.proofs.lemmas.List.Sums.{sum_by_from}
+use Rattle.std.proofs.lemmas.List.{length-map}
+use Rattle.std.proofs.lemmas.List.Sums.{sum_by-cons, sum_by-set}
 use Rattle.gx_geom.specs.declared.refusal.Refusal.{Refusal}
 use Rattle.gx_geom.specs.declared.refusal.Refusal.TheVariants as refusal
 use Rattle.gx_machine.specs.declared.limits.TheConstants.{MAX_CLAIMS, MAX_PREDICATES}
@@ -17,53 +21,36 @@ use Rattle.gx_machine.specs.declared.call.Call.TheVariants.{Begin, Insert, Delet
 use Rattle.gx_machine.specs.Keys.{Keys, IsLawful, entry_cmp}
 use Rattle.gx_machine.specs.Sets.{has, including}
 use Rattle.gx_machine.specs.Sessions.{Locks, has_query, with_lock, unless_busy, lock_for}
-use Rattle.gx_machine.specs.Machine.{is_session}
-use Rattle.gx_machine.proofs.Places.{session_bounds}
-use Rattle.std.specs.Ordering.{match_ordering}
-use Rattle.std.specs.declared.cmp.Ordering.{Ordering}
-use Rattle.std.specs.declared.cmp.Ordering.TheVariants.{Less, Equal, Greater}
+use Rattle.gx_machine.specs.Machine.{Machine, is_session}
 use Rattle.gx_engine_laws.specs.Slots.{Note, Slot, Free, Working, Undoing, Waiting, locks_held, slot_at, with_slot}
-use Rattle.gx_engine_laws.specs.Engines.{Engine, IsSound}
+use Rattle.gx_engine_laws.specs.Engines.{Engine, SeenAs, IsSound}
 use Rattle.gx_engine_laws.specs.Asking.{least_barring, claims_held, asked_with, ask_working, ask_free, ask_slot, ask_in, ask}
 use Rattle.gx_engine_laws.specs.Events as events
-use Rattle.gx_engine_laws.specs.Events.{Event, IsEvent, MeetsFault, AskRefused, IsClosed, IsWritten}
+use Rattle.gx_engine_laws.specs.Events.{Event, IsEvent, MeetsFault, AskRefused, IsClosed, IsWritten, step_of}
+use Rattle.gx_engine_laws.specs.Losers.{loser_slot}
+use Rattle.gx_engine_laws.specs.Runs.{AreEvents}
+use Rattle.gx_engine_laws.proofs.Places.{place_below}
 use Rattle.gx_engine_laws.proofs.Standing.{working_there, waiting_there, undoing_there}
+use Rattle.gx_engine_laws.proofs.Follow.{Follows}
+use Rattle.gx_engine_laws.proofs.Faults.{event_follows}
+use Rattle.gx_engine_laws.proofs.EventRuns.{still_sound}
+use Rattle.gx_engine_laws.proofs.Reopened.{locks_of_loser}
 
 -- the claims of a slot
 abbrev claims_of : {B : Type 0} → Slot B → ℕ
 claims_of slot = length (locks_held slot).claims
 
-zero_plus : (n : ℕ) → 0 + n ≡ n
-zero_plus n = omega arith
-
 -- after an ask there are no more claims than before, or one more and there was room
 abbrev Few : ℕ → ℕ → ℕ → Type 0
 Few spent before after = (after ≤ before) ⊎ ((after ≤ suc before) × (spent < 512))
 
--- the claims of a slot more
-pub claims_cons : {B : Type 0} (z : Slot B) (slots : List (Slot B)) → claims_held (z ∷ slots) ≡ claims_of z + claims_held slots
-claims_cons z slots = let more = sum_by_from (λ slot. length (locks_held slot).claims) (0 + claims_of z) slots in more ∙ ap (λ n. n + claims_held slots) (zero_plus (claims_of z))
-
--- one slot changed changes the sum by its own claims
-held_with : {B : Type 0} (i : ℕ) (x y : Slot B) (slots : List (Slot B)) → i < length slots → slice_index_or slots i y ≡ y
-    → claims_held (slice_set slots i x) + claims_of y ≡ claims_held slots + claims_of x
-held_with i x y [] low at = absurd (omega arith)
-held_with zero x y (z ∷ slots) low at =
-    let same : claims_of z ≡ claims_of y = ap (λ w. claims_of w) at in
-    let before = claims_cons z slots in
-    let after : claims_held (slice_set (z ∷ slots) zero x) ≡ claims_of x + claims_held slots = claims_cons x slots in
-    omega (arith, same, before, after)
-held_with (suc i) x y (z ∷ slots) low at =
-    let rest = held_with i x y slots (omega arith) at in
-    let before = claims_cons z slots in
-    let after : claims_held (slice_set (z ∷ slots) (suc i) x) ≡ claims_of z + claims_held (slice_set slots i x) = claims_cons z (slice_set slots i x) in
-    omega (arith, rest, before, after)
-
--- a place that is there is the same whatever stands for one that isn't
-index_again : {X : Type 0} (xs : List X) (i : ℕ) (y : X) → i < length xs → slice_index_or xs i (slice_index_or xs i y) ≡ slice_index_or xs i y
-index_again [] i y low = absurd (omega arith)
-index_again (x ∷ xs) zero y low = refl
-index_again (x ∷ xs) (suc i) y low = index_again xs i y (omega arith)
+module _ {B : Type 0} where
+  -- an opening's sessions hold what they have noted
+  pub losers_hold : (losers : List (List (Note B))) → claims_held (map loser_slot losers) ≡ sum_by length losers
+  losers_hold [] = refl
+  losers_hold (notes ∷ losers) =
+      let here : claims_of (loser_slot notes) ≡ length notes = ap (λ (x : Locks B). length x.claims) (locks_of_loser notes) ∙ length-map notes (λ n. n.entry) in
+      omega (arith, here, losers_hold losers, sum_by-cons claims_of (loser_slot notes) (map loser_slot losers), sum_by-cons length notes losers)
 
 module _ {B : Type 0} (k : Keys B) where
   length_by : (o : Ordering) (e x : Entry B) (set : List (Entry B)) → length (including k e set) ≤ suc (length set)
@@ -154,14 +141,12 @@ module _ {B : Type 0} (k : Keys B) where
   ask_few call least spent (Waiting number) = inl (omega arith)
 
   module _ (l : IsLawful k) (old : Engine B) (i : IsSound k old) where
+    -- one slot changed changes what is held in all by its own claims
     held_set : (s : ℕ) (x : Slot B) → is_session s ≡ true → claims_held (with_slot s x old.slots) + claims_of (slot_at s old.slots) ≡ claims_held old.slots + claims_of x
     held_set s x is =
-        let bounds : (0 < s) × (s < 9) = session_bounds s is in
-        let eight = i.eight in
         let at : slot_at s old.slots ≡ slice_index_or old.slots (s - 1) Free = ap (λ b. if b then slice_index_or old.slots (s - 1) Free else Free) is in
-        let here : Slot B = slice_index_or old.slots (s - 1) Free in
         let same = ap (λ (y : Slot B). claims_of y) at in
-        let sum = held_with (s - 1) x here old.slots (omega (arith, bounds, eight)) (index_again old.slots (s - 1) Free (omega (arith, bounds, eight))) in
+        let sum = sum_by-set claims_of old.slots (s - 1) x Free (place_below s old.slots is i.eight) in
         omega (arith, same, sum)
 
     no_more : (s : ℕ) (x : Slot B) → is_session s ≡ true → claims_of x ≤ claims_of (slot_at s old.slots) → claims_held old.slots ≤ 512 → claims_held (with_slot s x old.slots) ≤ 512
@@ -239,3 +224,11 @@ module _ {B : Type 0} (k : Keys B) where
     claims_stay_few new events.Fails h few = by_slots new old.slots h.slots few
     claims_stay_few new (events.Opens number) h few = by_slots new (replicate 8 Free) h.slots (omega arith)
     claims_stay_few new events.Works h few = by_slots new old.slots h.slots few
+
+module _ {B : Type 0} (k : Keys B) (l : IsLawful k) where
+  pub claims_stay_few_over : (list : List (Event B)) (old new : Engine B) (m : Machine B) → IsSound k old → SeenAs k old m → AreEvents k old list new
+      → claims_held old.slots ≤ MAX_CLAIMS → claims_held new.slots ≤ MAX_CLAIMS
+  claims_stay_few_over [] old new m i seen same few = subst (λ (e : Engine B). claims_held e.slots ≤ MAX_CLAIMS) (sym same) few
+  claims_stay_few_over (event ∷ list) old new m i seen run few =
+      let f : Follows k m (step_of event) run.0 = event_follows k l old m i seen event run.0 run.1 in
+      claims_stay_few_over list run.0 new f.next (still_sound k l old run.0 m (step_of event) i seen f) f.seen run.2 (claims_stay_few k l old i run.0 event run.1 few)
