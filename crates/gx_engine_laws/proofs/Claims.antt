@@ -5,7 +5,7 @@ use Rattle.std.specs.List.{slice_index_or}
 use Rattle.std.specs.Ordering.{match_ordering}
 use Rattle.std.specs.declared.cmp.Ordering.{Ordering}
 use Rattle.std.specs.declared.cmp.Ordering.TheVariants.{Less, Equal, Greater}
-use Rattle.std.proofs.lemmas.Bool.{ltb-true}
+use Rattle.std.proofs.lemmas.Bool.{ltb-true, ltb-false}
 use Rattle.std.proofs.lemmas.List.{length-map}
 use Rattle.std.proofs.lemmas.List.Sums.{sum_by-cons, sum_by-set}
 use Rattle.gx_geom.specs.declared.refusal.Refusal.{Refusal}
@@ -140,6 +140,68 @@ module _ {B : Type 0} (k : Keys B) where
   ask_few call least spent (Undoing locks notes) = inl (omega arith)
   ask_few call least spent (Waiting number) = inl (omega arith)
 
+  -- Where a call is refused because claims are full, they are.
+
+  claim_full : (e : Entry B) (spent : ℕ) (locks : Locks B) (held room : Bool) → nat_lt spent MAX_CLAIMS ≡ room → claiming e locks held room ≡ Err refusal.ClaimsFull
+      → MAX_CLAIMS ≤ spent
+  claim_full e spent locks true room is given = let no : ⊥ = cc in absurd no
+  claim_full e spent locks false true is given = let no : ⊥ = cc in absurd no
+  claim_full e spent locks false false is given = ltb-false spent MAX_CLAIMS is
+
+  watch_full : {A : Type 0} → (q : Query B) (locks : Locks B) (held room : Bool) → watching q locks held room ≡ Err refusal.ClaimsFull → A
+  watch_full q locks true room given = let no : ⊥ = cc in absurd no
+  watch_full q locks false true given = let no : ⊥ = cc in absurd no
+  watch_full q locks false false given = let no : ⊥ = cc in absurd no
+
+  lock_full : (call : Call B) (spent : ℕ) (locks : Locks B) → with_lock k call spent locks ≡ Err refusal.ClaimsFull → MAX_CLAIMS ≤ spent
+  lock_full (Insert e) spent locks given = claim_full e spent locks (has k e locks.claims) (nat_lt spent MAX_CLAIMS) refl given
+  lock_full (Delete e) spent locks given = claim_full e spent locks (has k e locks.claims) (nat_lt spent MAX_CLAIMS) refl given
+  lock_full (Search q) spent locks given = watch_full q locks (has_query k q locks.predicates) (nat_lt (length locks.predicates) MAX_PREDICATES) given
+  lock_full Begin spent locks given = let no : ⊥ = cc in absurd no
+  lock_full Commit spent locks given = let no : ⊥ = cc in absurd no
+  lock_full Abort spent locks given = let no : ⊥ = cc in absurd no
+
+  asked_full : (call : Call B) (least : Option ℕ) (spent : ℕ) (old : Locks B) (notes : List (Note B))
+      → (asked_with call (lock_for k call least spent old) old notes).0 ≡ asked.Now (reply.Refused refusal.ClaimsFull) → MAX_CLAIMS ≤ spent
+  asked_full call (Some other) spent old notes given = let no : ⊥ = cc in absurd no
+  asked_full call None spent old notes given = by (with_lock k call spent old) refl given
+    where
+      by : (r : Result (Locks B) Refusal) → with_lock k call spent old ≡ r → (asked_with call r old notes).0 ≡ asked.Now (reply.Refused refusal.ClaimsFull)
+          → MAX_CLAIMS ≤ spent
+      by (Ok locks) is given = let no : ⊥ = cc in absurd no
+      by (Err why) is given = let same : why ≡ refusal.ClaimsFull = cc in lock_full call spent old (is ∙ ap (λ x. Err x) same)
+
+  slot_full : (call : Call B) (least : Option ℕ) (spent : ℕ) (x : Slot B) → (ask_slot k call least spent x).0 ≡ asked.Now (reply.Refused refusal.ClaimsFull)
+      → MAX_CLAIMS ≤ spent
+  slot_full Begin least spent (Working locks notes None) given = let no : ⊥ = cc in absurd no
+  slot_full Abort least spent (Working locks notes None) given = let no : ⊥ = cc in absurd no
+  slot_full (Insert e) least spent (Working locks notes None) given = asked_full (Insert e) least spent locks notes given
+  slot_full (Delete e) least spent (Working locks notes None) given = asked_full (Delete e) least spent locks notes given
+  slot_full (Search q) least spent (Working locks notes None) given = asked_full (Search q) least spent locks notes given
+  slot_full Commit least spent (Working locks notes None) given = asked_full Commit least spent locks notes given
+  slot_full Begin least spent Free given = let no : ⊥ = cc in absurd no
+  slot_full (Insert e) least spent Free given = let no : ⊥ = cc in absurd no
+  slot_full (Delete e) least spent Free given = let no : ⊥ = cc in absurd no
+  slot_full (Search q) least spent Free given = let no : ⊥ = cc in absurd no
+  slot_full Commit least spent Free given = let no : ⊥ = cc in absurd no
+  slot_full Abort least spent Free given = let no : ⊥ = cc in absurd no
+  slot_full call least spent (Working locks notes (Some pending)) given = let no : ⊥ = cc in absurd no
+  slot_full call least spent (Undoing locks notes) given = let no : ⊥ = cc in absurd no
+  slot_full call least spent (Waiting number) given = let no : ⊥ = cc in absurd no
+
+  abbrev ask_there : ℕ → Call B → Engine B → Bool → Asked B × Engine B
+  ask_there s call old there =
+      if there then
+      (let r = ask_in k s call old.slots in (r.0, record old { slots = with_slot s r.1 old.slots }))
+      else (asked.Now (reply.Refused refusal.BadSession), old)
+
+  pub refused_as_full : (s : ℕ) (call : Call B) (old : Engine B) → (ask k s call old).0 ≡ asked.Now (reply.Refused refusal.ClaimsFull) → MAX_CLAIMS ≤ claims_held old.slots
+  refused_as_full s call old given = by (is_session s) given
+    where
+      by : (there : Bool) → (ask_there s call old there).0 ≡ asked.Now (reply.Refused refusal.ClaimsFull) → MAX_CLAIMS ≤ claims_held old.slots
+      by true given = slot_full call (least_barring k call s 1 old.slots) (claims_held old.slots) (slot_at s old.slots) given
+      by false given = let no : ⊥ = cc in absurd no
+
   module _ (l : IsLawful k) (old : Engine B) (i : IsSound k old) where
     -- one slot changed changes what is held in all by its own claims
     held_set : (s : ℕ) (x : Slot B) → is_session s ≡ true → claims_held (with_slot s x old.slots) + claims_of (slot_at s old.slots) ≡ claims_held old.slots + claims_of x
@@ -167,14 +229,8 @@ module _ {B : Type 0} (k : Keys B) where
           | inr more ↦ (let a = more.0 in let b = more.1 in omega (arith, sum, a, b))
         ]
 
-    abbrev ask_there : ℕ → Call B → Bool → Asked B × Engine B
-    ask_there s call there =
-        if there then
-        (let r = ask_in k s call old.slots in (r.0, record old { slots = with_slot s r.1 old.slots }))
-        else (asked.Now (reply.Refused refusal.BadSession), old)
-
     asked_engine_few : (s : ℕ) (call : Call B) (there : Bool) → is_session s ≡ there → claims_held old.slots ≤ 512
-        → claims_held (ask_there s call there).1.slots ≤ 512
+        → claims_held (ask_there s call old there).1.slots ≤ 512
     asked_engine_few s call true is few = ask_there_few s call is few
     asked_engine_few s call false is few = few
 

@@ -1,7 +1,5 @@
 -- What is known of a class is lawful, and is read of the pages in use.
-use Rattle.std.proofs.Common.{◌≡◌, ap, ℕ, ◌<◌, ◌≤◌, arith}
-use Rattle.std.specs.Prelude.{nat_lt}
-use Rattle.gx_machine.specs.declared.entry.Entry.{Entry}
+use Rattle.std.proofs.Common.{ap}
 use Rattle.gx_machine.specs.Keys as keys
 use Rattle.gx_machine.proofs.SetLaws.{entry_total, entry_exact}
 use Rattle.gx_tree_laws.specs.Alike as alike
