@@ -1,14 +1,13 @@
 -- A node's children, tested one by one.
-use Rattle.std.proofs.Common.{◌≡◌, ℕ, zero, suc, ◌+◌, ◌<◌, ◌≤◌, ◌==◌, Bool, true, false, List, [], length, Some, refl, ap, sym, ◌∙◌, subst, arith}
+use Rattle.std.proofs.Common.{◌≡◌, ℕ, suc, ◌+◌, ◌<◌, ◌≤◌, ◌==◌, Bool, true, false, [], length, Some, refl, ap, sym, ◌∙◌, subst, arith}
 use Rattle.std.specs.Prelude.{if◌then◌else◌, slice_get}
 use Rattle.std.proofs.lemmas.Bool.{eqb-true, eq-eqb}
 use Rattle.gx_page.specs.Contents.{Contents}
 use Rattle.gx_node.specs.Reading.{Format, leaf_of, inner_of}
-use Rattle.gx_tree_laws.specs.Lists.{Each, SomeOf}
 use Rattle.gx_tree_laws.specs.Trees.{Child, Node, Tree, Rules, Used, size}
 use Rattle.gx_tree_laws.specs.Legal.{ChildFits, NodeFits, Bounds}
 use Rattle.gx_tree.specs.Owner.{IsWhyLater}
-use Rattle.gx_tree.specs.Store.{Store, Stays, node_of, node_at, tree_of}
+use Rattle.gx_tree.specs.Store.{Store, node_of, node_at, tree_of}
 use Rattle.gx_tree.proofs.Listed.{same_store}
 use Rattle.gx_legality.specs.declared.fault.LegalityFault.{LegalityFault}
 use Rattle.gx_legality.specs.declared.fault.LegalityFault.TheVariants.{Memory, Pages, Broken, Unsteady}

@@ -1,5 +1,5 @@
 -- How often a thing stands in a list, by an order.
-use Rattle.std.proofs.Common.{◌≡◌, ◌≢◌, ℕ, zero, suc, ◌+◌, ◌-◌, ◌<◌, ◌≤◌, Bool, true, false, List, [], ◌∷◌, ◌++◌, length, take, drop, get_or, Option, Some, None, refl, ap, sym, ◌∙◌, subst, arith}
+use Rattle.std.proofs.Common.{◌≡◌, ◌≢◌, ℕ, zero, suc, ◌+◌, ◌-◌, ◌<◌, ◌≤◌, Bool, true, false, List, [], ◌∷◌, ◌++◌, length, take, drop, get_or, Some, refl, ap, sym, ◌∙◌, subst, arith}
 use Rattle.std.specs.Cmp.{IsTotalOrder, tied_itself}
 use Rattle.std.specs.List.{sum_by}
 use Rattle.std.specs.Bool.{MatchBool}
@@ -11,7 +11,7 @@ use Rattle.std.proofs.lemmas.List.Sums.{sum_by-cons}
 use Rattle.std.proofs.lemmas.List.Sorted.{sum_by-IsPermutation}
 use Rattle.gx_tree_laws.specs.Lists.{Each, sum_over, one_if}
 use Rattle.gx_tree_laws.proofs.Sums.{sum_over-append, each-append}
-use Rattle.gx_legality.specs.Gathered.{count, IsAfter, IsUpTo, Ascends, StandsTwice, Halves}
+use Rattle.gx_legality.specs.Gathered.{count, IsUpTo, Ascends, StandsTwice, Halves}
 
 module _ {E : Type 0} where
   summed : (f : E → ℕ) (xs : List E) → sum_over f xs ≡ sum_by f xs

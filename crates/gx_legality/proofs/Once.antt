@@ -1,32 +1,31 @@
 -- No pair stands twice, by passes.
-use Rattle.std.proofs.Common.{◌≡◌, ◌≢◌, ℕ, zero, suc, ◌+◌, ◌*◌, ◌<◌, ◌≤◌, ◌==◌, ◌&&◌, Bool, true, false, not, cond, ◌⊎◌, inl, inr, List, [], ◌∷◌, ◌++◌, length, map, Option, Some, None, refl, ap, sym, ◌∙◌, subst, arith, length-append}
+use Rattle.std.proofs.Common.{◌≡◌, ℕ, zero, suc, ◌+◌, ◌*◌, ◌<◌, ◌≤◌, ◌==◌, ◌&&◌, Bool, true, false, not, cond, ◌⊎◌, inl, inr, List, [], ◌∷◌, length, map, Option, Some, None, refl, ap, sym, ◌∙◌, subst, arith, length-append}
 use Rattle.std.specs.Prelude.{nat_lt}
 use Rattle.std.specs.Cmp.{IsTotalOrder}
-use Rattle.std.specs.Ordering.{is_eq, is_gt, is_lt, nat_cmp, ordering_then, ordering_reverse}
+use Rattle.std.specs.Ordering.{is_eq, is_gt, ordering_then, ordering_reverse}
 use Rattle.std.specs.declared.cmp.Ordering.{Ordering}
 use Rattle.std.specs.declared.cmp.Ordering.TheVariants.{Less, Equal, Greater}
 use Rattle.std.proofs.lemmas.Bool.{eqb-true, cases_eq}
 use borrow.Author.Tests.{ltb-true}
 use Rattle.std.proofs.lemmas.List.{length-map}
 use Rattle.std.proofs.Math.Nat.{mul-le-mul_right}
-use Rattle.gx_machine.specs.Keys.{Keys, Members, keys_of, entry_cmp}
+use Rattle.gx_machine.specs.Keys.{Keys, entry_cmp}
 use Rattle.gx_machine.specs.declared.entry.Entry.{Entry}
 use Rattle.gx_node.specs.Edits.{entry_of}
 use Rattle.gx_tree_laws.specs.Legal.{Linked}
-use Rattle.gx_tree_laws.specs.Lists.{Each, how_many, one_if, sum_over}
+use Rattle.gx_tree_laws.specs.Lists.{how_many, one_if}
 use Rattle.gx_tree_laws.specs.Trees.{Pair, Tree, Rules, Used, leaves, walk, passing, standing, size, is_entry}
 use Rattle.gx_tree_laws.proofs.Sums.{sum_over-append, sum_over_le, sum_over_add, each_always}
 use Rattle.gx_tree.specs.Store.{Store, tree_of}
 use Rattle.gx_legality.specs.declared.fault.LegalityFault.{LegalityFault}
 use Rattle.gx_legality.specs.declared.fault.LegalityFault.TheVariants.{Memory, Pages, Broken, Unsteady}
-use Rattle.gx_legality.specs.declared.fault.Rule.{Rule}
 use Rattle.gx_legality.specs.declared.fault.Rule.TheVariants.{PairTwice}
 use Rattle.gx_legality.specs.Breaks.{Breaks}
 use Rattle.gx_legality.specs.Entries.{IsPairTwice, entries_on}
 use Rattle.gx_legality.specs.Owner.{IsFound}
 use Rattle.gx_legality.proofs.Passes.{gathers_begins}
 use Rattle.gx_legality.proofs.Walks.{walk_on}
-use Rattle.gx_legality.specs.Gathered.{count, IsAfter, IsUpTo, Gathered, Gathers, OnceBetween, StandsTwice, Tested, below, gathered_above}
+use Rattle.gx_legality.specs.Gathered.{count, IsAfter, Gathered, Gathers, OnceBetween, StandsTwice, Tested, below, gathered_above}
 
 module _ {E : Type 0} (cmp : E → E → Ordering) (o : IsTotalOrder cmp) where
   not_after : (b e : E) (r : Ordering) → cmp b e ≡ r → (cmp b e ≡ Less → ⊥) → is_gt (cmp e b) ≡ false

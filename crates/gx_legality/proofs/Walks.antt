@@ -1,7 +1,7 @@
 -- The chain of rightlinks, followed by marks.
 use Rattle.std.proofs.Common.{◌≡◌, ◌≢◌, ℕ, zero, suc, ◌+◌, ◌<◌, ◌≤◌, Bool, true, false, ◌⊎◌, inl, inr, List, [], ◌∷◌, length, get_or, Option, Some, None, refl, ap, sym, ◌∙◌, subst, arith}
 use Rattle.std.specs.Prelude.{◌==◌, if◌then◌else◌}
-use Rattle.std.proofs.lemmas.Bool.{eqb-true, ne_eqb, eq-eqb, eqb-false, cases_eq}
+use Rattle.std.proofs.lemmas.Bool.{eqb-true, ne_eqb, eq-eqb}
 use Rattle.gx_tree_laws.specs.Lists.{one_if}
 use Rattle.gx_tree_laws.specs.Trees.{Node, Tree, Used, times, walk, leaves}
 use Rattle.gx_tree_laws.specs.Legal.{Linked}

@@ -1,5 +1,4 @@
-use Rattle.std.proofs.Common.{◌≡◌, ◌≢◌, ◌-◌, ◌+◌, suc, ◌≤◌, ◌<◌, inl, length, arith, rules, sym, subst}
-use Rattle.gx_tree_laws.specs.Trees.{Node}
+use Rattle.std.proofs.Common.{◌≡◌, ◌≢◌, ◌-◌, ◌+◌, suc, inl, length, arith, rules, sym, subst}
 use Rattle.gx_legality.proofs.Walks.{Walks, walk_goes, walk_ends, walk_stops, walk_is_long, linked_leaf}
 use Rattle.gx_legality.proofs.chain.walk_chain.Goals as goal
 

@@ -1,7 +1,6 @@
-use Rattle.std.proofs.Common.{◌≡◌, ◌<◌, ◌≤◌, ℕ, suc, None, get_or, length}
+use Rattle.std.proofs.Common.{◌≡◌, ◌<◌, ◌≤◌, ℕ, None, get_or, length}
 use Rattle.std.specs.Ordering.{is_eq}
 use Rattle.gx_tree_laws.specs.Legal.{NodeFits}
-use Rattle.gx_tree_laws.specs.Trees.{Rules, Used}
 use Rattle.gx_tree.specs.Owner.{IsWhyLater}
 use Rattle.gx_tree.specs.Store.{node_at, tree_of}
 use Rattle.gx_legality.specs.Marks.{marked, named_by, link_of}

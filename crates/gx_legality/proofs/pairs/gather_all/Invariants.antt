@@ -1,5 +1,5 @@
 use Rattle.std.proofs.Common.{◌≡◌, List, ◌-◌, length}
-use Rattle.gx_machine.specs.Keys.{keys_of, entry_cmp}
+use Rattle.gx_machine.specs.Keys.{entry_cmp}
 use Rattle.gx_machine.specs.declared.entry.Entry.{Entry}
 use Rattle.gx_tree_laws.specs.Legal.{Linked}
 use Rattle.gx_tree_laws.specs.Trees.{leaves, walk}

@@ -1,11 +1,11 @@
-use Rattle.std.proofs.Common.{◌≡◌, ◌≤◌, ◌∙◌, ◌+◌, ◌*◌, [], Option, Some, None, length, ap, arith, rules, subst, sym}
+use Rattle.std.proofs.Common.{◌≤◌, ◌*◌, [], Option, Some, None, length, arith, subst}
 use Rattle.std.specs.Cmp.{IsTotalOrder}
 use Rattle.std.proofs.lemmas.Cmp.{then_total, on_total, nat_cmp_total}
 use Rattle.std.proofs.lemmas.Result.{err_from_is_err_and}
 use Rattle.gx_machine.specs.Keys.{entry_cmp}
 use Rattle.gx_machine.specs.declared.entry.Entry.{Entry}
 use Rattle.gx_tree_laws.specs.Trees.{leaves}
-use Rattle.gx_tree.specs.Store.{Store, tree_of}
+use Rattle.gx_tree.specs.Store.{tree_of}
 use Rattle.gx_legality.specs.Entries.{entries_on}
 use Rattle.gx_legality.specs.Gathered.{Gathers, IsAfter, OnceBetween}
 use Rattle.gx_legality.proofs.Children.{reads_same, reads_more}

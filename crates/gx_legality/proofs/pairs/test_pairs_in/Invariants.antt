@@ -1,5 +1,5 @@
 use Rattle.std.proofs.Common.{ℕ, ◌≤◌}
-use Rattle.gx_machine.specs.Keys.{keys_of, entry_cmp}
+use Rattle.gx_machine.specs.Keys.{entry_cmp}
 use Rattle.gx_tree_laws.specs.Legal.{Linked}
 use Rattle.gx_tree_laws.specs.Trees.{Used, leaves, size}
 use Rattle.gx_tree.specs.Owner.{IsWhyLater}

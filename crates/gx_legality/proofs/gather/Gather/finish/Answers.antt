@@ -1,5 +1,5 @@
-use Rattle.std.proofs.Common.{◌≡◌, ◌∙◌, ◌<◌, [], Some, None, Option, List, ap, subst, sym, rules}
-use Rattle.gx_legality.specs.Gathered.{Gathered, Gathers, OnceBetween, IsAfter, Ascends, count, gathered_above}
+use Rattle.std.proofs.Common.{◌≡◌, ◌<◌, [], Some, None, Option, subst, rules}
+use Rattle.gx_legality.specs.Gathered.{Gathered, Gathers, OnceBetween, IsAfter, Ascends, count}
 use Rattle.gx_legality.proofs.Passes.{gathers_once, begun}
 use Rattle.gx_legality.proofs.gather.Gather.finish.Goals as goal
 

@@ -1,4 +1,4 @@
-use Rattle.std.proofs.Common.{◌≡◌, ◌++◌, ◌∷◌, [], List, ap, subst, sym, rules}
+use Rattle.std.proofs.Common.{◌++◌, ◌∷◌, [], List, subst, sym, rules}
 use Rattle.gx_legality.specs.Gathered.{Gathered, Gathers, Halves, StandsTwice, IsAfter, IsUpTo}
 use Rattle.gx_legality.proofs.Passes.{gathers_more, gathers_half, gathers_twice}
 use Rattle.gx_legality.proofs.gather.Gather.put.Goals as goal
