@@ -20,5 +20,5 @@ pub root_is : {B : Type 0} (IsKey : B → Type 0) (spelling : B → List ℕ) (k
     → page.number ≡ 1 → page ≡ fresh_root spelling start
 root_is {B} IsKey spelling key reading start page hold formed inner node number =
     let held = hold page 2 formed inner in
-    same_contents page (fresh_root spelling start) (ap (λ (n : Node B). n.level) node) (ap (λ (n : Node B). n.number) node) (ap (λ (n : Node B). n.right) node) number
+    same_contents page (fresh_root spelling start) (ap (λ (n : Node B). n.level) node) (ap (λ (n : Node B). n.nsn) node) (ap (λ (n : Node B). n.right) node) number
     (held.items ∙ ap (λ (n : Node B). map (child_bytes spelling) n.children) node)

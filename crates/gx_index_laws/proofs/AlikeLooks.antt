@@ -16,7 +16,7 @@ module _ {B : Type 0} (one other : Tree B) (agree : AgreeOnUsed one other) where
   -- what a look stacks and finds at a page in use
   pub stacked_too : (leads : B → Bool) (item : Item) (stack : List Item) → Used one item.page → stacked other leads item stack ≡ stacked one leads item stack
   stacked_too leads item stack u =
-      ap (λ (n : Node B). (if nat_lt item.seen n.number then record { page = n.right; seen = item.seen } ∷ [] else []) ++ (below_of other leads n.children ++ stack)) (agree.nodes item.page u)
+      ap (λ (n : Node B). (if nat_lt item.seen n.nsn then record { page = n.right; seen = item.seen } ∷ [] else []) ++ (below_of other leads n.children ++ stack)) (agree.nodes item.page u)
       ∙ ap (λ (c : ℕ). beyond_of one item ++ (below_of (record one { counter = c }) leads (one.node item.page).children ++ stack)) agree.counter
 
   pub found_too : (wants : Pair B → Bool) (item : Item) (found : List (Pair B)) → Used one item.page → found_with other wants item found ≡ found_with one wants item found
@@ -40,15 +40,15 @@ module _ {B : Type 0} (r : Rules B) (one other : Tree B) (agree : AgreeOnUsed on
     seen = subst (λ n. item.seen ≤ n) (sym agree.counter) d.seen;
     covered = λ early p u.
         subst (λ (n : Node B). Each (λ (c : Child B). c.page ≡ item.page → r.covers c.key coming ≡ true) n.children) (sym (agree.nodes p (used_back r one other agree p u)))
-        (d.covered (subst (λ (n : Node B). n.number ≤ item.seen) (agree.nodes item.page d.there) early) p (used_back r one other agree p u));
+        (d.covered (subst (λ (n : Node B). n.nsn ≤ item.seen) (agree.nodes item.page d.there) early) p (used_back r one other agree p u));
   }
 
   -- What lies ahead.
 
   run_too : (seen : ℕ) {x : ℕ} {xs : List ℕ} → Run one seen x xs → Run other seen x xs
-  run_too seen {x = x} (ends u le) = ends (used_too r one other agree x u) (subst (λ (n : Node B). n.number ≤ seen) (sym (agree.nodes x u)) le)
+  run_too seen {x = x} (ends u le) = ends (used_too r one other agree x u) (subst (λ (n : Node B). n.nsn ≤ seen) (sym (agree.nodes x u)) le)
   run_too seen {x = x} (goes {qs = qs} u lt rest) =
-      goes (used_too r one other agree x u) (subst (λ (n : Node B). seen < n.number) (sym (agree.nodes x u)) lt)
+      goes (used_too r one other agree x u) (subst (λ (n : Node B). seen < n.nsn) (sym (agree.nodes x u)) lt)
       (subst (λ (n : Node B). Run other seen n.right qs) (sym (agree.nodes x u)) (run_too seen rest))
 
   near_too : (item : Item) → ItemFits one item → run other other.used item.seen item.page ≡ run one one.used item.seen item.page

@@ -70,7 +70,7 @@ module _ {B : Type 0} (r : Rules B) (one other : Tree B) (agree : AgreeOnUsed on
       room = f.room;
       leaf = f.leaf;
       inner = f.inner;
-      number = subst (λ n. node.number ≤ n) (sym agree.counter) f.number;
+      nsn = subst (λ n. node.nsn ≤ n) (sym agree.counter) f.nsn;
       children = each_map (ChildFits r one node.level) (ChildFits r other node.level) (child_too node.level) node.children f.children;
     }
 

@@ -15,7 +15,7 @@ use Rattle.gx_tree_laws.proofs.Sums.{sum_over_same, sum_over_add, each_always}
 use Rattle.gx_tree_laws.proofs.Chains.{one_at, one_off, pages_with_key, length_with_key, length_after, linked_once}
 use Rattle.gx_tree_laws.proofs.Splits.{walk_split}
 use Rattle.gx_tree_laws.proofs.Roots.{walk_root}
-use Rattle.gx_tree_laws.proofs.Changes.{level_kept, number_kept, pages_kept, walk_kept}
+use Rattle.gx_tree_laws.proofs.Changes.{level_kept, nsn_kept, pages_kept, walk_kept}
 use Rattle.gx_tree_laws.proofs.PageSteps.{standing_widened, standing_swept_plain}
 use Rattle.gx_tree_laws.proofs.Levels.{level_most}
 use Rattle.gx_tree_laws.proofs.SplitReach.{ahead_split}
@@ -166,8 +166,8 @@ module _ {B : Type 0} (c : Class B) (l : IsLawful c) (old new : Tree B) (legal :
 
       restart_stays : must_restart c.rules new parent item ≡ true → must_restart c.rules old parent item ≡ true
       restart_stays now =
-          wider (nat_lt item.seen (old.node item.page).number) (not (item.page == 1)) (has_place c.rules old parent item.page) (has_place c.rules new parent item.page) place_stays
-          (ap (λ (n : ℕ). nat_lt item.seen n || (not (item.page == 1) && not (has_place c.rules new parent item.page))) (sym (number_kept old new a pairs children changes item.page)) ∙ now)
+          wider (nat_lt item.seen (old.node item.page).nsn) (not (item.page == 1)) (has_place c.rules old parent item.page) (has_place c.rules new parent item.page) place_stays
+          (ap (λ (n : ℕ). nat_lt item.seen n || (not (item.page == 1) && not (has_place c.rules new parent item.page))) (sym (nsn_kept old new a pairs children changes item.page)) ∙ now)
 
       levels_stay : levels_left c.rules new parent item ≤ levels_left c.rules old parent item
       levels_stay =

@@ -48,7 +48,7 @@ module _ {B : Type 0} (r : Rules B) (law : IsLawful r) (one one_then other other
         there = there a is.there;
         used = after.used ∙ is.used ∙ sym before.used;
         counter = after.counter ∙ is.counter ∙ sym before.counter;
-        changed = after.nodes a now ∙ is.changed ∙ (λ i. node_with (sym node i) (sym node i).number (sym node i).right (sym same_pairs i) (sym same_children i));
+        changed = after.nodes a now ∙ is.changed ∙ (λ i. node_with (sym node i) (sym node i).nsn (sym node i).right (sym same_pairs i) (sym same_children i));
         others = λ q ne. same_beside q (λ u. ((u.0, subst (λ n. q ≤ n) is.used u.1), is.others q ne));
       }
 
@@ -71,9 +71,9 @@ module _ {B : Type 0} (r : Rules B) (law : IsLawful r) (one one_then other other
         split = after.nodes n new_n ∙ is.split
             ∙ (λ i. node_with (sym node i) (suc (sym before.counter i)) (suc (sym before.used i)) (staying sides (sym node i).pairs) (staying sides (sym node i).children));
         sibling = at_sibling ∙ is.sibling
-            ∙ (λ i. node_with (sym node i) (sym node i).number (sym node i).right (going sides (sym node i).pairs) (going sides (sym node i).children));
+            ∙ (λ i. node_with (sym node i) (sym node i).nsn (sym node i).right (going sides (sym node i).pairs) (going sides (sym node i).children));
         named = after.nodes p new_p ∙ is.named
-            ∙ (λ i. node_with (sym parent i) (sym parent i).number (sym parent i).right (sym parent i).pairs
+            ∙ (λ i. node_with (sym parent i) (sym parent i).nsn (sym parent i).right (sym parent i).pairs
             (with_key n left (sym parent i).children ++ record { key = right; page = suc (sym before.used i) } ∷ []));
         others = λ q ne_n ne_p ne_s. same_beside q (λ u.
             let inside : Used one q = (u.0, (let m = is.used in let h = u.1 in let s = before.used in omega (arith, m, h, ne_s, s))) in
@@ -99,7 +99,7 @@ module _ {B : Type 0} (r : Rules B) (law : IsLawful r) (one one_then other other
         root = after.nodes 1 top ∙ is.root
             ∙ (λ i. record {
               level = suc (sym node i).level;
-              number = (sym node i).number;
+              nsn = (sym node i).nsn;
               right = (sym node i).right;
               pairs = [];
               children = record { key = left; page = suc (sym before.used i) } ∷ record { key = right; page = suc (suc (sym before.used i)) } ∷ [];

@@ -84,7 +84,7 @@ tree_over area used counter = record { node = λ p. (area p).node; used = used; 
 
 -- one page is written
 changes_by : (area : ℕ → Page ℕ) (used counter a : ℕ) (content : Page ℕ) (pairs : List (Pair ℕ)) → nat_lt 0 a ≡ true → nat_le a used ≡ true
-    → content.node ≡ node_with (area a).node (area a).node.number (area a).node.right pairs (area a).node.children
+    → content.node ≡ node_with (area a).node (area a).node.nsn (area a).node.right pairs (area a).node.children
     → ChangesOnly (tree_over area used counter) (tree_over (with_page a content area) used counter) a pairs (area a).node.children
 changes_by area used counter a content pairs low high is = record {
   there = (ltb-true 0 a low, leb-true a used high);
@@ -95,7 +95,7 @@ changes_by area used counter a content pairs low high is = record {
 }
 
 adding_by : (area : ℕ → Page ℕ) (used counter a : ℕ) (x : Pair ℕ) (content : Page ℕ) → nat_lt 0 a ≡ true → nat_le a used ≡ true
-    → content.node ≡ node_with (area a).node (area a).node.number (area a).node.right ((area a).node.pairs ++ x ∷ []) (area a).node.children
+    → content.node ≡ node_with (area a).node (area a).node.nsn (area a).node.right ((area a).node.pairs ++ x ∷ []) (area a).node.children
     → (area a).node.level ≡ 0 → nat_lt (size (area a).node) 4 ≡ true → standing (is_entry numbers.rules x.row x.key) (tree_over area used counter) ≡ 0
     → EntriesCover numbers.rules (tree_over area used counter) a x.key
     → IsAdding numbers.rules (tree_over area used counter) (tree_over (with_page a content area) used counter) a x

@@ -67,12 +67,12 @@ module _ {B : Type 0} (IsKey : B → Type 0) (spelling : B → List ℕ) (f : Fo
   as_leaf : (page : Contents) (used : ℕ) → IsWellFormed page → (page.level == 0) ≡ true → is_node f used page ≡ true → (node : Node B) × HoldsNode IsKey spelling used page node
   as_leaf page used w level e =
       let are : are_pairs f page.items ≡ true = ap (λ t. if t then are_pairs f page.items else are_children f used page.items) (sym level) ∙ e in
-      (leaf_of f page, record { level = refl; number = refl; right = refl; entries = inl (pairs_hold page w level are, refl) })
+      (leaf_of f page, record { level = refl; nsn = refl; right = refl; entries = inl (pairs_hold page w level are, refl) })
 
   as_inner : (page : Contents) (used : ℕ) → IsWellFormed page → (page.level == 0) ≡ false → is_node f used page ≡ true → (node : Node B) × HoldsNode IsKey spelling used page node
   as_inner page used w level e =
       let are : are_children f used page.items ≡ true = ap (λ t. if t then are_pairs f page.items else are_children f used page.items) (sym level) ∙ e in
-      (inner_of f page, record { level = refl; number = refl; right = refl; entries = inr (children_hold page used w level are, refl) })
+      (inner_of f page, record { level = refl; nsn = refl; right = refl; entries = inr (children_hold page used w level are, refl) })
 
   pub node_told : (page : Contents) (used : ℕ) → IsWellFormed page → is_node f used page ≡ true → (node : Node B) × HoldsNode IsKey spelling used page node
   node_told page used w e =

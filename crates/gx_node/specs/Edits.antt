@@ -6,10 +6,10 @@ use Rattle.gx_machine.specs.declared.entry.Entry.{Entry}
 
 -- the node with these in place of its pairs, or of its children
 abbrev pub with_pairs : {B : Type 0} → Node B → List (Pair B) → Node B
-with_pairs node pairs = node_with node node.number node.right pairs node.children
+with_pairs node pairs = node_with node node.nsn node.right pairs node.children
 
 abbrev pub with_children : {B : Type 0} → Node B → List (Child B) → Node B
-with_children node children = node_with node node.number node.right node.pairs children
+with_children node children = node_with node node.nsn node.right node.pairs children
 
 -- the pair of the same row and key with this mark
 abbrev pub marked_as : {B : Type 0} → Bool → Pair B → Pair B

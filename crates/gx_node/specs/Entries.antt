@@ -43,6 +43,6 @@ pub record HoldsChildren {B : Type 0} (IsKey : B → Type 0) (spelling : B → L
 -- the page holds this node
 pub record HoldsNode {B : Type 0} (IsKey : B → Type 0) (spelling : B → List ℕ) (used : ℕ) (page : Contents) (node : Node B) : Type 0 where
   pub level : node.level ≡ page.level
-  pub number : node.number ≡ page.nsn
+  pub nsn : node.nsn ≡ page.nsn
   pub right : node.right ≡ page.right
   pub entries : (HoldsPairs IsKey spelling page node.pairs × (node.children ≡ [])) ⊎ (HoldsChildren IsKey spelling used page node.children × (node.pairs ≡ []))

@@ -1,6 +1,7 @@
 -- A page read as a node: what each item says, and whether it is an entry.
 use Rattle.std.specs.Prelude.{◌≡◌, ℕ, ◌+◌, ◌==◌, nat_lt, nat_le, Bool, true, not, ◌&&◌, if◌then◌else◌, List, [], length, map, take, slice_index, Option, is_some, unwrap_or}
 use Rattle.std.specs.List.{list_all, All}
+use Rattle.gx_class.specs.declared.class.KeyClass.{Ghosts}
 use Rattle.gx_page.specs.Bytes.{number_32_at, number_64_at}
 use Rattle.gx_page.specs.Contents.{Contents}
 use Rattle.gx_tree_laws.specs.Trees.{Pair, Child, Node}
@@ -14,6 +15,10 @@ pub record Format (B : Type 0) : Type 0 where
 
 abbrev pub format : {B : Type 0} → ℕ → (List ℕ → Option B) → B → Format B
 format key reading start = record { key = key; reading = reading; start = start }
+
+-- a class's format, from what its trait says of its keys
+abbrev pub format_of : {Class Key : Type 0} → Ghosts Class Key → Format Key
+format_of class = format class.KEY class.reading class.start_key
 
 -- how many bytes a leaf's entry has, and an inner node's
 abbrev pub leaf_size : {B : Type 0} → Format B → ℕ
@@ -65,11 +70,11 @@ is_node f used page = if page.level == 0 then are_pairs f page.items else are_ch
 
 -- the node of a page that is a leaf
 abbrev pub leaf_of : {B : Type 0} → Format B → Contents → Node B
-leaf_of f page = record { level = page.level; number = page.nsn; right = page.right; pairs = map (pair_of f) page.items; children = [] }
+leaf_of f page = record { level = page.level; nsn = page.nsn; right = page.right; pairs = map (pair_of f) page.items; children = [] }
 
 -- the node of a page that is an inner node
 abbrev pub inner_of : {B : Type 0} → Format B → Contents → Node B
-inner_of f page = record { level = page.level; number = page.nsn; right = page.right; pairs = []; children = map (child_of f) page.items }
+inner_of f page = record { level = page.level; nsn = page.nsn; right = page.right; pairs = []; children = map (child_of f) page.items }
 
 -- ---- what the readings of a node's slots rest on
 

@@ -1,7 +1,7 @@
 //! The test of a whole page.
 ghost use Rattle.std.specs.Prelude.{◌≡◌, ◌↔◌, IsTrue};
 ghost use Rattle.gx_page.specs.Format.{IsWellFormed};
-ghost use Rattle.gx_node.specs.Reading.{format, is_node, are_pairs, are_children};
+ghost use Rattle.gx_node.specs.Reading.{format_of, is_node, are_pairs, are_children};
 ghost use Rattle.gx_node.specs.Entries.{HoldsNode};
 ghost use Rattle.gx_tree_laws.specs.Trees.{Node};
 
@@ -13,7 +13,7 @@ use gx_page::Page;
 #[tactic(auto, using(crate::proofs::Slots::all_pass, crate::proofs::Slots::one_fails), unfolding(crate::specs::Reading::are_pairs))]
 pub(crate) fn are_pairs<K: KeyClass>(page: &Page) -> bool
     ensures well_formed { IsWellFormed page.now }
-    ensures test { result ≡ are_pairs (format K.KEY K.reading K.start_key) page.now.items }
+    ensures test { result ≡ are_pairs (format_of K.KeyClass) page.now.items }
 {
     for slot in 0..page.count() {
         if !is_pair::<K>(page.get(slot)) {
@@ -27,7 +27,7 @@ pub(crate) fn are_pairs<K: KeyClass>(page: &Page) -> bool
 #[tactic(auto, using(crate::proofs::Slots::all_pass, crate::proofs::Slots::one_fails), unfolding(crate::specs::Reading::are_children))]
 pub(crate) fn are_children<K: KeyClass>(page: &Page, used: u32) -> bool
     ensures well_formed { IsWellFormed page.now }
-    ensures test { result ≡ are_children (format K.KEY K.reading K.start_key) used page.now.items }
+    ensures test { result ≡ are_children (format_of K.KeyClass) used page.now.items }
 {
     for slot in 0..page.count() {
         if !is_child::<K>(page.get(slot), used) {
@@ -41,7 +41,7 @@ pub(crate) fn are_children<K: KeyClass>(page: &Page, used: u32) -> bool
 /// row and a mark, and each item of a page of another level is a key and a page from 1 to `used`. A page for which this
 /// is false is damaged.
 pub fn is_node<K: KeyClass>(page: &Page, used: u32) -> bool
-    ensures test { result ≡ is_node (format K.KEY K.reading K.start_key) used page.now }
+    ensures test { result ≡ is_node (format_of K.KeyClass) used page.now }
     ensures exact { IsTrue result ↔ ((node : Node K.Key) × HoldsNode K.is_key K.spelling used page.now node) }
 {
     if page.level() == 0 {

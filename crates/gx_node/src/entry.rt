@@ -2,7 +2,7 @@
 ghost use Rattle.std.specs.Prelude.{◌≡◌, ◌+◌, length};
 ghost use Rattle.gx_page.specs.Bytes.{number_32, number_64};
 ghost use Rattle.gx_node.specs.Entries.{IsPair, pair_bytes, child_bytes};
-ghost use Rattle.gx_node.specs.Reading.{format, is_pair, pair_of, is_child, child_of};
+ghost use Rattle.gx_node.specs.Reading.{format_of, is_pair, pair_of, is_child, child_of};
 ghost use Rattle.gx_node.specs.Seen.{pair_seen, child_seen};
 
 use gx_class::KeyClass;
@@ -39,7 +39,7 @@ fn u64_of(bytes: &[u8]) -> u64
 
 /// Whether the bytes are a leaf's entry.
 pub(crate) fn is_pair<K: KeyClass>(item: &[u8]) -> bool
-    ensures { result ≡ is_pair (format K.KEY K.reading K.start_key) item.now }
+    ensures { result ≡ is_pair (format_of K.KeyClass) item.now }
 {
     if item.len() != K::KEY + PAIR_TAIL {
         return false;
@@ -50,7 +50,7 @@ pub(crate) fn is_pair<K: KeyClass>(item: &[u8]) -> bool
 
 /// Whether the bytes are an inner node's entry, where `used` is the greatest page taken.
 pub(crate) fn is_child<K: KeyClass>(item: &[u8], used: u32) -> bool
-    ensures { result ≡ is_child (format K.KEY K.reading K.start_key) used item.now }
+    ensures { result ≡ is_child (format_of K.KeyClass) used item.now }
 {
     if item.len() != K::KEY + CHILD_TAIL {
         return false;
@@ -63,7 +63,7 @@ pub(crate) fn is_child<K: KeyClass>(item: &[u8], used: u32) -> bool
 /// The pair of which these are the bytes, and whether it is marked.
 pub(crate) fn pair_of<K: KeyClass>(item: &[u8]) -> (Entry<K::Key>, bool)
     requires { length item.now ≡ K.KEY + 9 }
-    ensures { pair_seen result ≡ pair_of (format K.KEY K.reading K.start_key) item.now }
+    ensures { pair_seen result ≡ pair_of (format_of K.KeyClass) item.now }
 {
     let (key, tail) = item.split_at(K::KEY);
     let (row, mark) = tail.split_at(8);
@@ -75,7 +75,7 @@ pub(crate) fn pair_of<K: KeyClass>(item: &[u8]) -> (Entry<K::Key>, bool)
 /// The mark of a pair of which these are the bytes.
 pub(crate) fn mark_of<K: KeyClass>(item: &[u8]) -> bool
     requires { length item.now ≡ K.KEY + 9 }
-    ensures { result ≡ (pair_of (format K.KEY K.reading K.start_key) item.now).marked }
+    ensures { result ≡ (pair_of (format_of K.KeyClass) item.now).marked }
 {
     item[K::KEY + 8] == 1
 }
@@ -83,7 +83,7 @@ pub(crate) fn mark_of<K: KeyClass>(item: &[u8]) -> bool
 /// The child of which these are the bytes: its bound and its page.
 pub(crate) fn child_of<K: KeyClass>(item: &[u8]) -> (K::Key, u32)
     requires { length item.now ≡ K.KEY + 4 }
-    ensures { child_seen result ≡ child_of (format K.KEY K.reading K.start_key) item.now }
+    ensures { child_seen result ≡ child_of (format_of K.KeyClass) item.now }
 {
     let (key, page) = item.split_at(K::KEY);
     let key = read_key::<K>(key).unwrap_or(K::start());
@@ -93,7 +93,7 @@ pub(crate) fn child_of<K: KeyClass>(item: &[u8]) -> (K::Key, u32)
 /// The page of a child of which these are the bytes.
 pub(crate) fn page_of<K: KeyClass>(item: &[u8]) -> u32
     requires { length item.now ≡ K.KEY + 4 }
-    ensures { result ≡ (child_of (format K.KEY K.reading K.start_key) item.now).page }
+    ensures { result ≡ (child_of (format_of K.KeyClass) item.now).page }
 {
     u32_of(item.split_at(K::KEY).1)
 }

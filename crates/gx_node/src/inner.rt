@@ -4,7 +4,7 @@ ghost use Rattle.std.specs.List.{IsFirstBest};
 ghost use Rattle.gx_tree_laws.specs.Trees.{Child};
 ghost use Rattle.gx_node.specs.Entries.{HoldsChildren};
 ghost use Rattle.gx_node.specs.Hits.{IsNextHit, costs_less};
-ghost use Rattle.gx_node.specs.Reading.{format, is_inner, inner_of};
+ghost use Rattle.gx_node.specs.Reading.{format_of, is_inner, inner_of};
 ghost use Rattle.gx_node.specs.Seen.{child_seen};
 
 use crate::check::are_children;
@@ -24,13 +24,13 @@ pub struct Inner<'a, K: KeyClass> {
 
 impl<'a, K: KeyClass> Model for Inner<'a, K> {
     ghost use Rattle.gx_tree_laws.specs.Trees.{Node};
-    ghost use Rattle.gx_node.specs.Reading.{format, inner_size, AreKeyed, inner_of};
+    ghost use Rattle.gx_node.specs.Reading.{format_of, inner_size, AreKeyed, inner_of};
 
     ghost Value = { Node K.Key };
 
-    ghost view = { λ i. inner_of (format K.KEY K.reading K.start_key) i.page.now };
+    ghost view = { λ i. inner_of (format_of K.KeyClass) i.page.now };
 
-    ghost invariant = { λ i. AreKeyed (format K.KEY K.reading K.start_key) (inner_size (format K.KEY K.reading K.start_key)) i.page.now.items };
+    ghost invariant = { λ i. AreKeyed (format_of K.KeyClass) (inner_size (format_of K.KeyClass)) i.page.now.items };
 }
 
 impl<'a, K: KeyClass> Inner<'a, K> {
@@ -38,8 +38,8 @@ impl<'a, K: KeyClass> Inner<'a, K> {
     /// it says which test the page passed.
     #[tactic(auto, using(crate::proofs::Slots::inner_is_keyed))]
     pub fn of(page: &'a Page, _used: u32) -> Self
-        requires { is_inner (format K.KEY K.reading K.start_key) _used page.now ≡ true }
-        ensures { result ≡ inner_of (format K.KEY K.reading K.start_key) page.now }
+        requires { is_inner (format_of K.KeyClass) _used page.now ≡ true }
+        ensures { result ≡ inner_of (format_of K.KeyClass) page.now }
     {
         Inner {
             page,
@@ -50,8 +50,8 @@ impl<'a, K: KeyClass> Inner<'a, K> {
     /// The inner node on a page, which is tested here, where `used` is the greatest page taken. `Damaged` where the page
     /// isn't one.
     pub fn read(page: &'a Page, used: u32) -> Result<Self, Refusal>
-        ensures exact { IsOk result ↔ (is_inner (format K.KEY K.reading K.start_key) used page.now ≡ true) }
-        ensures inner { IfOk result (λ inner. inner ≡ inner_of (format K.KEY K.reading K.start_key) page.now) }
+        ensures exact { IsOk result ↔ (is_inner (format_of K.KeyClass) used page.now ≡ true) }
+        ensures inner { IfOk result (λ inner. inner ≡ inner_of (format_of K.KeyClass) page.now) }
         ensures held { IfOk result (λ inner. HoldsChildren K.is_key K.spelling used page.now inner.children) }
         ensures refused { IfErr result (λ why. why ≡ Refusal.Damaged) }
     {
@@ -71,7 +71,7 @@ impl<'a, K: KeyClass> Inner<'a, K> {
 
     /// The sequence number of the node's last split.
     pub fn nsn(&self) -> u64
-        ensures { result ≡ self.now.number }
+        ensures { result ≡ self.now.nsn }
     {
         self.page.nsn()
     }

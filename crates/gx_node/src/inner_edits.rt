@@ -4,7 +4,7 @@ ghost use Rattle.std.specs.Prelude.{◌≡◌, ◌<◌, ◌≤◌, ◌∷◌, �
 ghost use Rattle.gx_tree_laws.specs.Lists.{staying};
 ghost use Rattle.gx_tree_laws.specs.Trees.{Child};
 ghost use Rattle.gx_node.specs.Edits.{with_children, bounded_by};
-ghost use Rattle.gx_node.specs.Reading.{format, is_inner, inner_of};
+ghost use Rattle.gx_node.specs.Reading.{format_of, is_inner, inner_of};
 ghost use Rattle.gx_node.specs.Seen.{child_seen};
 ghost use Rattle.gx_node.specs.declared.items.TheConstants.{MAX_ENTRIES};
 
@@ -15,12 +15,12 @@ use gx_page::Page;
 
 /// Puts a child behind the last of an inner node that has fewer than 100.
 pub fn append<K: KeyClass>(page: &mut Page, bound: K::Key, child: u32, _used: u32)
-    requires inner { is_inner (format K.KEY K.reading K.start_key) _used page.old ≡ true }
-    requires room { length (inner_of (format K.KEY K.reading K.start_key) page.old).children < MAX_ENTRIES }
+    requires inner { is_inner (format_of K.KeyClass) _used page.old ≡ true }
+    requires room { length (inner_of (format_of K.KeyClass) page.old).children < MAX_ENTRIES }
     requires taken { (1 ≤ child) × (child ≤ _used) }
-    ensures inner { is_inner (format K.KEY K.reading K.start_key) _used page.new ≡ true }
-    ensures node { inner_of (format K.KEY K.reading K.start_key) page.new ≡ with_children (inner_of (format K.KEY K.reading K.start_key) page.old)
-        ((inner_of (format K.KEY K.reading K.start_key) page.old).children ++ child_seen (bound, child) ∷ []) }
+    ensures inner { is_inner (format_of K.KeyClass) _used page.new ≡ true }
+    ensures node { inner_of (format_of K.KeyClass) page.new ≡ with_children (inner_of (format_of K.KeyClass) page.old)
+        ((inner_of (format_of K.KeyClass) page.old).children ++ child_seen (bound, child) ∷ []) }
     ensures number { page.new.number ≡ page.old.number }
 {
     K::known(&bound);
@@ -32,12 +32,12 @@ pub fn append<K: KeyClass>(page: &mut Page, bound: K::Key, child: u32, _used: u3
 
 /// Puts a bound in the place of a slot's own. The child stays on its page.
 pub fn set_bound<K: KeyClass>(page: &mut Page, slot: usize, bound: K::Key, _used: u32)
-    requires inner { is_inner (format K.KEY K.reading K.start_key) _used page.old ≡ true }
-    requires slot { slot < length (inner_of (format K.KEY K.reading K.start_key) page.old).children }
-    ensures inner { is_inner (format K.KEY K.reading K.start_key) _used page.new ≡ true }
-    ensures node { (child : Child K.Key) → slice_get (inner_of (format K.KEY K.reading K.start_key) page.old).children slot ≡ Some child
-        → inner_of (format K.KEY K.reading K.start_key) page.new ≡ with_children (inner_of (format K.KEY K.reading K.start_key) page.old)
-        (slice_set (inner_of (format K.KEY K.reading K.start_key) page.old).children slot (bounded_by bound child)) }
+    requires inner { is_inner (format_of K.KeyClass) _used page.old ≡ true }
+    requires slot { slot < length (inner_of (format_of K.KeyClass) page.old).children }
+    ensures inner { is_inner (format_of K.KeyClass) _used page.new ≡ true }
+    ensures node { (child : Child K.Key) → slice_get (inner_of (format_of K.KeyClass) page.old).children slot ≡ Some child
+        → inner_of (format_of K.KeyClass) page.new ≡ with_children (inner_of (format_of K.KeyClass) page.old)
+        (slice_set (inner_of (format_of K.KeyClass) page.old).children slot (bounded_by bound child)) }
     ensures number { page.new.number ≡ page.old.number }
 {
     K::known(&bound);
@@ -51,11 +51,11 @@ pub fn set_bound<K: KeyClass>(page: &mut Page, slot: usize, bound: K::Key, _used
 /// Takes the children out whose side is `true`. A split keeps the one side on the node's page so, and the other on a copy of
 /// it.
 pub fn keep<K: KeyClass>(page: &mut Page, sides: &[bool], _used: u32)
-    requires inner { is_inner (format K.KEY K.reading K.start_key) _used page.old ≡ true }
-    requires sides { length sides.now ≡ length (inner_of (format K.KEY K.reading K.start_key) page.old).children }
-    ensures inner { is_inner (format K.KEY K.reading K.start_key) _used page.new ≡ true }
-    ensures node { inner_of (format K.KEY K.reading K.start_key) page.new ≡ with_children (inner_of (format K.KEY K.reading K.start_key) page.old)
-        (staying sides.now (inner_of (format K.KEY K.reading K.start_key) page.old).children) }
+    requires inner { is_inner (format_of K.KeyClass) _used page.old ≡ true }
+    requires sides { length sides.now ≡ length (inner_of (format_of K.KeyClass) page.old).children }
+    ensures inner { is_inner (format_of K.KeyClass) _used page.new ≡ true }
+    ensures node { inner_of (format_of K.KeyClass) page.new ≡ with_children (inner_of (format_of K.KeyClass) page.old)
+        (staying sides.now (inner_of (format_of K.KeyClass) page.old).children) }
     ensures number { page.new.number ≡ page.old.number }
 {
     keep_staying(page, sides);

@@ -1,36 +1,36 @@
 //! Laws of the nodes on pages. Each function is its contract alone.
 ghost use Rattle.gx_tree_laws.specs.Trees.{Pair, Child};
 ghost use Rattle.gx_node.specs.Hits.{HitsAreAFilter};
-ghost use Rattle.gx_node.specs.Reading.{format};
+ghost use Rattle.gx_node.specs.Reading.{format_of};
 ghost use Rattle.gx_node.specs.Laws.{LeavesHold, HeldPairsAreRead, InnersHold, HeldChildrenAreRead, BlanksAreNodes, NodesFollowLinks, MoreAreTaken, OneMark, OneBound};
 
 use gx_class::KeyClass;
 
 /// A page is a leaf exactly where pairs stand on it, which are those that are read, and no others.
 pub fn leaves<K: KeyClass>()
-    ensures hold { LeavesHold K.is_key K.spelling (format K.KEY K.reading K.start_key) }
-    ensures read { HeldPairsAreRead K.is_key K.spelling (format K.KEY K.reading K.start_key) }
+    ensures hold { LeavesHold K.is_key K.spelling (format_of K.KeyClass) }
+    ensures read { HeldPairsAreRead K.is_key K.spelling (format_of K.KeyClass) }
 {}
 
 /// A page is an inner node exactly where children stand on it, which are those that are read, and no others.
 pub fn inners<K: KeyClass>()
-    ensures hold { InnersHold K.is_key K.spelling (format K.KEY K.reading K.start_key) }
-    ensures read { HeldChildrenAreRead K.is_key K.spelling (format K.KEY K.reading K.start_key) }
+    ensures hold { InnersHold K.is_key K.spelling (format_of K.KeyClass) }
+    ensures read { HeldChildrenAreRead K.is_key K.spelling (format_of K.KeyClass) }
 {}
 
 /// What `Page::fresh` and `Page::reset` leave is a node without entries.
 pub fn blanks<K: KeyClass>()
-    ensures { BlanksAreNodes (format K.KEY K.reading K.start_key) }
+    ensures { BlanksAreNodes (format_of K.KeyClass) }
 {}
 
 /// Where a page's sequence number, rightlink or own number is set, it is the same node with these.
 pub fn links<K: KeyClass>()
-    ensures { NodesFollowLinks (format K.KEY K.reading K.start_key) }
+    ensures { NodesFollowLinks (format_of K.KeyClass) }
 {}
 
 /// An inner node stays one as more pages are taken.
 pub fn more_taken<K: KeyClass>()
-    ensures { MoreAreTaken (format K.KEY K.reading K.start_key) }
+    ensures { MoreAreTaken (format_of K.KeyClass) }
 {}
 
 /// A mark set by slot, or a bound, is the tree's step where the slot's entry is the only one of its kind in the node.

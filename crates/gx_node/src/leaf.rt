@@ -3,7 +3,7 @@ ghost use Rattle.std.specs.Prelude.{◌≡◌, ◌↔◌, ◌<◌, ◌≤◌, tr
 ghost use Rattle.gx_tree_laws.specs.Trees.{Pair};
 ghost use Rattle.gx_node.specs.Entries.{HoldsPairs};
 ghost use Rattle.gx_node.specs.Hits.{IsNextHit};
-ghost use Rattle.gx_node.specs.Reading.{format, is_leaf, leaf_of};
+ghost use Rattle.gx_node.specs.Reading.{format_of, is_leaf, leaf_of};
 ghost use Rattle.gx_node.specs.Seen.{pair_seen};
 
 use crate::check::are_pairs;
@@ -24,21 +24,21 @@ pub struct Leaf<'a, K: KeyClass> {
 
 impl<'a, K: KeyClass> Model for Leaf<'a, K> {
     ghost use Rattle.gx_tree_laws.specs.Trees.{Node};
-    ghost use Rattle.gx_node.specs.Reading.{format, leaf_size, AreKeyed, leaf_of};
+    ghost use Rattle.gx_node.specs.Reading.{format_of, leaf_size, AreKeyed, leaf_of};
 
     ghost Value = { Node K.Key };
 
-    ghost view = { λ l. leaf_of (format K.KEY K.reading K.start_key) l.page.now };
+    ghost view = { λ l. leaf_of (format_of K.KeyClass) l.page.now };
 
-    ghost invariant = { λ l. AreKeyed (format K.KEY K.reading K.start_key) (leaf_size (format K.KEY K.reading K.start_key)) l.page.now.items };
+    ghost invariant = { λ l. AreKeyed (format_of K.KeyClass) (leaf_size (format_of K.KeyClass)) l.page.now.items };
 }
 
 impl<'a, K: KeyClass> Leaf<'a, K> {
     /// The leaf on a page that is known to be one.
     #[tactic(auto, using(crate::proofs::Slots::leaf_is_keyed))]
     pub fn of(page: &'a Page) -> Self
-        requires { is_leaf (format K.KEY K.reading K.start_key) page.now ≡ true }
-        ensures { result ≡ leaf_of (format K.KEY K.reading K.start_key) page.now }
+        requires { is_leaf (format_of K.KeyClass) page.now ≡ true }
+        ensures { result ≡ leaf_of (format_of K.KeyClass) page.now }
     {
         Leaf {
             page,
@@ -48,8 +48,8 @@ impl<'a, K: KeyClass> Leaf<'a, K> {
 
     /// The leaf on a page, which is tested here. `Damaged` where the page isn't one.
     pub fn read(page: &'a Page) -> Result<Self, Refusal>
-        ensures exact { IsOk result ↔ (is_leaf (format K.KEY K.reading K.start_key) page.now ≡ true) }
-        ensures leaf { IfOk result (λ leaf. leaf ≡ leaf_of (format K.KEY K.reading K.start_key) page.now) }
+        ensures exact { IsOk result ↔ (is_leaf (format_of K.KeyClass) page.now ≡ true) }
+        ensures leaf { IfOk result (λ leaf. leaf ≡ leaf_of (format_of K.KeyClass) page.now) }
         ensures held { IfOk result (λ leaf. HoldsPairs K.is_key K.spelling page.now leaf.pairs) }
         ensures refused { IfErr result (λ why. why ≡ Refusal.Damaged) }
     {
@@ -62,7 +62,7 @@ impl<'a, K: KeyClass> Leaf<'a, K> {
 
     /// The sequence number of the node's last split.
     pub fn nsn(&self) -> u64
-        ensures { result ≡ self.now.number }
+        ensures { result ≡ self.now.nsn }
     {
         self.page.nsn()
     }

@@ -4,7 +4,7 @@ ghost use Rattle.std.specs.Prelude.{◌≡◌, ◌<◌, ◌≤◌, ◌∷◌, �
 ghost use Rattle.gx_tree_laws.specs.Lists.{staying};
 ghost use Rattle.gx_tree_laws.specs.Trees.{Pair};
 ghost use Rattle.gx_node.specs.Edits.{with_pairs, marked_as};
-ghost use Rattle.gx_node.specs.Reading.{format, is_leaf, leaf_of};
+ghost use Rattle.gx_node.specs.Reading.{format_of, is_leaf, leaf_of};
 ghost use Rattle.gx_node.specs.Seen.{pair_seen};
 ghost use Rattle.gx_node.specs.declared.items.TheConstants.{MAX_ENTRIES};
 
@@ -16,11 +16,11 @@ use gx_page::Page;
 
 /// Puts a pair behind the last of a leaf that has fewer than 100.
 pub fn append<K: KeyClass>(page: &mut Page, entry: Entry<K::Key>, marked: bool)
-    requires leaf { is_leaf (format K.KEY K.reading K.start_key) page.old ≡ true }
-    requires room { length (leaf_of (format K.KEY K.reading K.start_key) page.old).pairs < MAX_ENTRIES }
-    ensures leaf { is_leaf (format K.KEY K.reading K.start_key) page.new ≡ true }
-    ensures node { leaf_of (format K.KEY K.reading K.start_key) page.new ≡ with_pairs (leaf_of (format K.KEY K.reading K.start_key) page.old)
-        ((leaf_of (format K.KEY K.reading K.start_key) page.old).pairs ++ pair_seen (entry, marked) ∷ []) }
+    requires leaf { is_leaf (format_of K.KeyClass) page.old ≡ true }
+    requires room { length (leaf_of (format_of K.KeyClass) page.old).pairs < MAX_ENTRIES }
+    ensures leaf { is_leaf (format_of K.KeyClass) page.new ≡ true }
+    ensures node { leaf_of (format_of K.KeyClass) page.new ≡ with_pairs (leaf_of (format_of K.KeyClass) page.old)
+        ((leaf_of (format_of K.KeyClass) page.old).pairs ++ pair_seen (entry, marked) ∷ []) }
     ensures number { page.new.number ≡ page.old.number }
 {
     let size = K::KEY + PAIR_TAIL;
@@ -31,12 +31,12 @@ pub fn append<K: KeyClass>(page: &mut Page, entry: Entry<K::Key>, marked: bool)
 
 /// Sets or clears the mark of a slot's pair: a pair is deleted by its mark (Kornacker, Mohan, Hellerstein 1997).
 pub fn set_mark<K: KeyClass>(page: &mut Page, slot: usize, marked: bool)
-    requires leaf { is_leaf (format K.KEY K.reading K.start_key) page.old ≡ true }
-    requires slot { slot < length (leaf_of (format K.KEY K.reading K.start_key) page.old).pairs }
-    ensures leaf { is_leaf (format K.KEY K.reading K.start_key) page.new ≡ true }
-    ensures node { (pair : Pair K.Key) → slice_get (leaf_of (format K.KEY K.reading K.start_key) page.old).pairs slot ≡ Some pair
-        → leaf_of (format K.KEY K.reading K.start_key) page.new ≡ with_pairs (leaf_of (format K.KEY K.reading K.start_key) page.old)
-        (slice_set (leaf_of (format K.KEY K.reading K.start_key) page.old).pairs slot (marked_as marked pair)) }
+    requires leaf { is_leaf (format_of K.KeyClass) page.old ≡ true }
+    requires slot { slot < length (leaf_of (format_of K.KeyClass) page.old).pairs }
+    ensures leaf { is_leaf (format_of K.KeyClass) page.new ≡ true }
+    ensures node { (pair : Pair K.Key) → slice_get (leaf_of (format_of K.KeyClass) page.old).pairs slot ≡ Some pair
+        → leaf_of (format_of K.KeyClass) page.new ≡ with_pairs (leaf_of (format_of K.KeyClass) page.old)
+        (slice_set (leaf_of (format_of K.KeyClass) page.old).pairs slot (marked_as marked pair)) }
     ensures number { page.new.number ≡ page.old.number }
 {
     page.set_byte(slot, K::KEY + 8, u8::from(marked));
@@ -44,11 +44,11 @@ pub fn set_mark<K: KeyClass>(page: &mut Page, slot: usize, marked: bool)
 
 /// Takes the pairs out whose side is `true`. A split keeps the one side on the leaf's page so, and the other on a copy of it.
 pub fn keep<K: KeyClass>(page: &mut Page, sides: &[bool])
-    requires leaf { is_leaf (format K.KEY K.reading K.start_key) page.old ≡ true }
-    requires sides { length sides.now ≡ length (leaf_of (format K.KEY K.reading K.start_key) page.old).pairs }
-    ensures leaf { is_leaf (format K.KEY K.reading K.start_key) page.new ≡ true }
-    ensures node { leaf_of (format K.KEY K.reading K.start_key) page.new ≡ with_pairs (leaf_of (format K.KEY K.reading K.start_key) page.old)
-        (staying sides.now (leaf_of (format K.KEY K.reading K.start_key) page.old).pairs) }
+    requires leaf { is_leaf (format_of K.KeyClass) page.old ≡ true }
+    requires sides { length sides.now ≡ length (leaf_of (format_of K.KeyClass) page.old).pairs }
+    ensures leaf { is_leaf (format_of K.KeyClass) page.new ≡ true }
+    ensures node { leaf_of (format_of K.KeyClass) page.new ≡ with_pairs (leaf_of (format_of K.KeyClass) page.old)
+        (staying sides.now (leaf_of (format_of K.KeyClass) page.old).pairs) }
     ensures number { page.new.number ≡ page.old.number }
 {
     keep_staying(page, sides);

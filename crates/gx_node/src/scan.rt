@@ -1,7 +1,7 @@
 //! The scan of a page's keys, and the choice among bounds.
 ghost use Rattle.std.specs.Prelude.{◌≡◌, ◌≤◌, true, map, length};
 ghost use Rattle.gx_node.specs.Hits.{IsNextHit, costs_less};
-ghost use Rattle.gx_node.specs.Reading.{format, has_key, key_of, AreKeyed};
+ghost use Rattle.gx_node.specs.Reading.{format_of, has_key, key_of, AreKeyed};
 
 use gx_class::{KeyClass, Probing};
 use gx_page::Page;
@@ -9,8 +9,8 @@ use gx_page::Page;
 /// Whether an item's key passes.
 fn item_passes<K: Probing>(item: &[u8], probe: &K::Probe) -> bool
     requires long { K.KEY ≤ length item.now }
-    requires key { has_key (format K.KEY K.reading K.start_key) item.now ≡ true }
-    ensures { result ≡ K.passes probe.now (key_of (format K.KEY K.reading K.start_key) item.now) }
+    requires key { has_key (format_of K.KeyClass) item.now ≡ true }
+    ensures { result ≡ K.passes probe.now (key_of (format_of K.KeyClass) item.now) }
 {
     K::test(probe, item.split_at(K::KEY).0)
 }
@@ -25,8 +25,8 @@ pub(crate) fn next_passing<K: Probing>(
 ) -> Option<usize>
     requires from { from ≤ length page.now.items }
     requires long { K.KEY ≤ size }
-    requires keyed { AreKeyed (format K.KEY K.reading K.start_key) size page.now.items }
-    ensures { IsNextHit (map (λ item. K.passes probe.now (key_of (format K.KEY K.reading K.start_key) item)) page.now.items) from result }
+    requires keyed { AreKeyed (format_of K.KeyClass) size page.now.items }
+    ensures { IsNextHit (map (λ item. K.passes probe.now (key_of (format_of K.KeyClass) item)) page.now.items) from result }
 {
     let count = page.count();
     let heap = page.heap();

@@ -16,7 +16,7 @@ use Rattle.gx_readings.specs.Classes.{node_of, page_of}
 
 module _ {B : Type 0} where
   same_node : (l l' n n' r r' : ℕ) (p p' : List (Pair B)) (c c' : List (Child B)) → l ≡ l' → n ≡ n' → r ≡ r' → p ≡ p' → c ≡ c'
-      → ◌≡◌ {A = Node B} (record { level = l; number = n; right = r; pairs = p; children = c }) (record { level = l'; number = n'; right = r'; pairs = p'; children = c' })
+      → ◌≡◌ {A = Node B} (record { level = l; nsn = n; right = r; pairs = p; children = c }) (record { level = l'; nsn = n'; right = r'; pairs = p'; children = c' })
   same_node l l' n n' r r' p p' c c' a b d e f = rw (a, b, d, e, f) refl
 
   with_own : {m : Node B} (n : Node B) (own : ℕ) → m ≡ n → ◌≡◌ {A = Page B} (record { node = m; own = own }) (record { node = n; own = own })
@@ -41,12 +41,12 @@ module _ {B : Type 0} (IsKey : B → Type 0) (spelling : B → List ℕ) (f : Fo
   holds page used node few has = elim (has.entries) [
     | inl leaf ↦
         chosen_leaf (page.level == 0) (leaf_of f page) (inner_of f page) (eq-eqb page.level 0 leaf.0.leaf)
-        ∙ same_node page.level node.level page.nsn node.number page.right node.right (leaf_of f page).pairs node.pairs [] node.children
-        (sym has.level) (sym has.number) (sym has.right) (pairs_read page node.pairs leaf.0).1 (sym leaf.1)
+        ∙ same_node page.level node.level page.nsn node.nsn page.right node.right (leaf_of f page).pairs node.pairs [] node.children
+        (sym has.level) (sym has.nsn) (sym has.right) (pairs_read page node.pairs leaf.0).1 (sym leaf.1)
     | inr inner ↦
         chosen_inner (page.level == 0) (leaf_of f page) (inner_of f page) (above page.level inner.0.inner)
-        ∙ same_node page.level node.level page.nsn node.number page.right node.right [] node.pairs (inner_of f page).children node.children
-        (sym has.level) (sym has.number) (sym has.right) (sym inner.1) (children_read page used node.children few inner.0).1
+        ∙ same_node page.level node.level page.nsn node.nsn page.right node.right [] node.pairs (inner_of f page).children node.children
+        (sym has.level) (sym has.nsn) (sym has.right) (sym inner.1) (children_read page used node.children few inner.0).1
   ]
 
   pub node_read : (page : Contents) (used : ℕ) (node : Node B) → IsWellFormed page → used < 2 ^ 32 → HoldsNode IsKey spelling used page node

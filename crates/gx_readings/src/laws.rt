@@ -1,5 +1,5 @@
 //! What the readings of a class keep. Each function is its contract alone.
-ghost use Rattle.gx_node.specs.Reading.{format};
+ghost use Rattle.gx_node.specs.Reading.{format_of};
 ghost use Rattle.gx_recovery.specs.Known.{Limits, IsLawful};
 ghost use Rattle.gx_index_laws.specs.Classes.{known_of};
 ghost use Rattle.gx_durable.specs.Legal.{ReadsUsed};
@@ -13,9 +13,9 @@ use gx_node::laws::{inners, leaves};
 /// A key's bytes are read as that key, which is one of the class, and no other bytes are read as one. A node's page is read as that
 /// node.
 pub fn bytes_are_read<K: ReadKeys>()
-    ensures keys { (l : Limits) → KeysAreRead K.is_key K.spelling (known_of (class_of K.Key.Shape K.is_proper l)) (reading_of K.said (format K.KEY K.reading K.start_key)) }
-    ensures only { (l : Limits) → OnlyKeysAreEntries K.is_key K.spelling (known_of (class_of K.Key.Shape K.is_proper l)) (reading_of K.said (format K.KEY K.reading K.start_key)) }
-    ensures nodes { (l : Limits) → NodesAreRead K.is_key K.spelling (known_of (class_of K.Key.Shape K.is_proper l)) (reading_of K.said (format K.KEY K.reading K.start_key)) }
+    ensures keys { (l : Limits) → KeysAreRead K.is_key K.spelling (known_of (class_of K.Key.Shape K.is_proper l)) (reading_of K.said (format_of K.KeyClass)) }
+    ensures only { (l : Limits) → OnlyKeysAreEntries K.is_key K.spelling (known_of (class_of K.Key.Shape K.is_proper l)) (reading_of K.said (format_of K.KeyClass)) }
+    ensures nodes { (l : Limits) → NodesAreRead K.is_key K.spelling (known_of (class_of K.Key.Shape K.is_proper l)) (reading_of K.said (format_of K.KeyClass)) }
 {
     leaves::<K>();
     inners::<K>();
@@ -26,7 +26,7 @@ pub fn bytes_are_read<K: ReadKeys>()
 pub fn what_stands_is_legal<K: ReadKeys>()
     ensures lawful { (l : Limits) → IsLawful (known_of (class_of K.Key.Shape K.is_proper l)) }
     ensures used { (l : Limits) → ReadsUsed (known_of (class_of K.Key.Shape K.is_proper l)) }
-    ensures legal { (l : Limits) → WhatStandsIsLegalThere (known_of (class_of K.Key.Shape K.is_proper l)) (reading_of K.said (format K.KEY K.reading K.start_key)) }
+    ensures legal { (l : Limits) → WhatStandsIsLegalThere (known_of (class_of K.Key.Shape K.is_proper l)) (reading_of K.said (format_of K.KeyClass)) }
 {
     a_crash_leaves_a_kept_set::<OfClass<K>>();
 }

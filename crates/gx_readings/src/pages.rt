@@ -1,5 +1,5 @@
 //! A page as the log's theory sees it, and a class as one of its instances.
-ghost use Rattle.gx_node.specs.Reading.{format};
+ghost use Rattle.gx_node.specs.Reading.{format_of};
 ghost use Rattle.gx_index_laws.specs.Classes.{known_of};
 ghost use Rattle.gx_readings.specs.Classes.{class_of, reading_of};
 
@@ -19,13 +19,13 @@ pub struct NodePage<K: KeyClass> {
 }
 
 impl<K: KeyClass> Model for NodePage<K> {
-    ghost use Rattle.gx_node.specs.Reading.{format};
+    ghost use Rattle.gx_node.specs.Reading.{format_of};
     ghost use Rattle.gx_index_laws.specs.Classes.{Page};
     ghost use Rattle.gx_readings.specs.Classes.{page_of};
 
     ghost Value = { Page K.Key };
 
-    ghost view = { λ p. page_of (format K.KEY K.reading K.start_key) p.page };
+    ghost view = { λ p. page_of (format_of K.KeyClass) p.page };
 }
 
 /// Entries and pages of a class.
@@ -42,5 +42,5 @@ impl<K: ReadKeys> Meaning for OfClass<K> {
 }
 
 impl<K: ReadKeys> Spelled for OfClass<K> {
-    ghost reading = { reading_of K.said (format K.KEY K.reading K.start_key) };
+    ghost reading = { reading_of K.said (format_of K.KeyClass) };
 }

@@ -1,7 +1,7 @@
 //! Callers of the tree's steps over pages whose owner has a log, frames and a device beside them, as the layer above will be.
 //! What a step leaves of these, and why it was refused, is concluded from the step's contract alone.
 ghost use Rattle.std.specs.Prelude.{◌≡◌, ◌≢◌, ◌≤◌, ◌<◌, ◌∷◌, ℕ, suc, true, false, List, length, Err, Some, IfOk, IfSome, IfNone, OnOk, OnErr};
-ghost use Rattle.gx_node.specs.Reading.{format};
+ghost use Rattle.gx_node.specs.Reading.{format_of};
 ghost use Rattle.gx_node.specs.declared.items.TheConstants.{MAX_ENTRIES};
 ghost use Rattle.gx_page.specs.Reading.{read_of};
 ghost use Rattle.gx_tree_laws.specs.Trees.{Node};
@@ -147,7 +147,7 @@ pub fn split_logged<K: KeyClass, P: Logged<K>>(
 /// tree's node of that page.
 pub fn image_of<K: KeyClass, P: Pages<K>>(pages: &P, page: u32) -> &[u8]
     requires held { P.held pages.now page }
-    ensures node { node_of (format K.KEY K.reading K.start_key) (read_of result.now) ≡ node_at (P.store pages.now).nodes page }
+    ensures node { node_of (format_of K.KeyClass) (read_of result.now) ≡ node_at (P.store pages.now).nodes page }
     ensures number { (read_of result.now).number ≡ page }
 {
     pages.page(page).image()

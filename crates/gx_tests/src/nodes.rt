@@ -1,7 +1,7 @@
 //! Nodes written in place: each edit byte for byte, on nodes of 0, 1, 99 and 100 entries, of boxes and of intervals; and
 //! damaged pages.
 ghost use Rattle.std.specs.Prelude.{◌≡◌, true, length};
-ghost use Rattle.gx_node.specs.Reading.{format, is_leaf, leaf_of, is_inner, inner_of};
+ghost use Rattle.gx_node.specs.Reading.{format_of, is_leaf, leaf_of, is_inner, inner_of};
 
 use crate::asserts::same;
 use gx_class::{Box2Class, IntervalClass, KeyClass};
@@ -74,8 +74,8 @@ fn write_child(rt: &impl Abort, page: &mut Page, key: [u8; 16], child: u8) {
 
 /// How many pairs a leaf has.
 fn pairs<K: KeyClass>(rt: &impl Abort, page: &Page) -> usize
-    ensures leaf { is_leaf (format K.KEY K.reading K.start_key) page.now ≡ true }
-    ensures count { result ≡ length (leaf_of (format K.KEY K.reading K.start_key) page.now).pairs }
+    ensures leaf { is_leaf (format_of K.KeyClass) page.now ≡ true }
+    ensures count { result ≡ length (leaf_of (format_of K.KeyClass) page.now).pairs }
 {
     match Leaf::<K>::read(page) {
         Ok(leaf) => leaf.len(),
@@ -85,8 +85,8 @@ fn pairs<K: KeyClass>(rt: &impl Abort, page: &Page) -> usize
 
 /// How many children an inner node has, where 200 pages are taken.
 fn children<K: KeyClass>(rt: &impl Abort, page: &Page) -> usize
-    ensures inner { is_inner (format K.KEY K.reading K.start_key) 200 page.now ≡ true }
-    ensures count { result ≡ length (inner_of (format K.KEY K.reading K.start_key) page.now).children }
+    ensures inner { is_inner (format_of K.KeyClass) 200 page.now ≡ true }
+    ensures count { result ≡ length (inner_of (format_of K.KeyClass) page.now).children }
 {
     match Inner::<K>::read(page, 200) {
         Ok(inner) => inner.len(),

@@ -23,7 +23,7 @@ module _ {B : Type 0} where
 
   -- with another node for a page that is taken, nothing but its entries has changed
   pub changed_only : (s : Store B) (a : ℕ) (n : Node B) (pairs : List (Pair B)) (children : List (Child B)) → Used (tree_of s) a
-      → n ≡ node_with (node_at s.nodes a) (node_at s.nodes a).number (node_at s.nodes a).right pairs children
+      → n ≡ node_with (node_at s.nodes a) (node_at s.nodes a).nsn (node_at s.nodes a).right pairs children
       → ChangesOnly (tree_of s) (tree_of (with_node s a n)) a pairs children
   changed_only s a n pairs children used is = record {
     there = used;

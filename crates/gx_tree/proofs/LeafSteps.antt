@@ -33,7 +33,7 @@ module _ {B : Type 0} where
 
   edited_only : (old new : Store B) (a : ℕ) (pairs : List (Pair B)) (children : List (Child B)) → Used (tree_of old) a
       → new ≡ with_node old a (node_at new.nodes a)
-      → node_at new.nodes a ≡ node_with (node_at old.nodes a) (node_at old.nodes a).number (node_at old.nodes a).right pairs children
+      → node_at new.nodes a ≡ node_with (node_at old.nodes a) (node_at old.nodes a).nsn (node_at old.nodes a).right pairs children
       → ChangesOnly (tree_of old) (tree_of new) a pairs children
   edited_only old new a pairs children used others edited =
       subst (λ (s : Store B). ChangesOnly (tree_of old) (tree_of s) a pairs children) (sym others)

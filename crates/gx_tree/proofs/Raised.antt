@@ -10,7 +10,7 @@ module _ {B : Type 0} (f : Format B) where
   -- a page without items of a level above 0, with its sequence number and its rightlink
   pub record IsRaised (room level number right : ℕ) (page : Contents) : Type 0 where
     pub inner : is_inner f room page ≡ true
-    pub node : inner_of f page ≡ record { level = level; number = number; right = right; pairs = []; children = [] }
+    pub node : inner_of f page ≡ record { level = level; nsn = number; right = right; pairs = []; children = [] }
 
   pub raised : (room level number nsn right : ℕ) → IsRaised room (suc level) nsn right (record (blank (suc level) number) { nsn = nsn; right = right })
   unfolding are_children

@@ -32,7 +32,7 @@ module _ {B : Type 0} where
   abbrev pub raised : B → ℕ → B → ℕ → Node B → Node B
   raised left first right second node = record {
     level = suc node.level;
-    number = node.number;
+    nsn = node.nsn;
     right = node.right;
     pairs = [];
     children = record { key = left; page = first } ∷ record { key = right; page = second } ∷ [];

@@ -33,8 +33,8 @@ module _ {B : Type 0} where
   pub other_half : (sides others : List Bool) (node : Node B) → others ≡ map not sides → length sides ≡ size node → left_of others node ≡ right_of sides node
   other_half sides others node e h =
       ap (λ (ss : List Bool). left_of ss node) e
-      ∙ ap (λ xs. node_with node node.number node.right xs (staying (map not sides) node.children)) (stays_turned sides node.pairs (omega arith))
-      ∙ ap (λ xs. node_with node node.number node.right (going sides node.pairs) xs) (stays_turned sides node.children (omega arith))
+      ∙ ap (λ xs. node_with node node.nsn node.right xs (staying (map not sides) node.children)) (stays_turned sides node.pairs (omega arith))
+      ∙ ap (λ xs. node_with node node.nsn node.right (going sides node.pairs) xs) (stays_turned sides node.children (omega arith))
 
   -- ---- a page's node after a change
 

@@ -21,12 +21,12 @@ pub record IsChoice {B : Type 0} (cost : B → B → ℕ × ℕ) (most : ℕ) (n
 
 -- what is done at a node with what was remembered for its page
 abbrev pub Descends : {B : Type 0} → (B → B → ℕ × ℕ) → (B → B → B) → ℕ → Node B → ℕ → B → Way B → Type 0
-Descends cost joined most node seen coming Again = seen < node.number
-Descends cost joined most node seen coming Add = (node.number ≤ seen) × (node.level ≡ 0) × (length node.pairs < most)
-Descends cost joined most node seen coming FullLeaf = (node.number ≤ seen) × (node.level ≡ 0) × (most ≤ length node.pairs)
-Descends cost joined most node seen coming FullInner = (node.number ≤ seen) × (0 < node.level) × (most ≤ length node.children)
-Descends {B} cost joined most node seen coming (Down slot child) = (node.number ≤ seen) × ((bound : B) × IsChoice cost most node coming slot child bound × (joined bound coming ≡ bound))
-Descends {B} cost joined most node seen coming (Widen slot child key) = (node.number ≤ seen) × ((bound : B) × IsChoice cost most node coming slot child bound × (key ≡ joined bound coming) × (key ≢ bound))
+Descends cost joined most node seen coming Again = seen < node.nsn
+Descends cost joined most node seen coming Add = (node.nsn ≤ seen) × (node.level ≡ 0) × (length node.pairs < most)
+Descends cost joined most node seen coming FullLeaf = (node.nsn ≤ seen) × (node.level ≡ 0) × (most ≤ length node.pairs)
+Descends cost joined most node seen coming FullInner = (node.nsn ≤ seen) × (0 < node.level) × (most ≤ length node.children)
+Descends {B} cost joined most node seen coming (Down slot child) = (node.nsn ≤ seen) × ((bound : B) × IsChoice cost most node coming slot child bound × (joined bound coming ≡ bound))
+Descends {B} cost joined most node seen coming (Widen slot child key) = (node.nsn ≤ seen) × ((bound : B) × IsChoice cost most node coming slot child bound × (key ≡ joined bound coming) × (key ≢ bound))
 
 -- the descent is at this item, and its page says this way
 abbrev pub WayAt : {B : Type 0} → (B → B → ℕ × ℕ) → (B → B → B) → ℕ → Store B → Item → B → Way B → Type 0

@@ -7,7 +7,7 @@ use Rattle.gx_tree.specs.Found.{found_at}
 
 -- the rightlink of a node that was split since its number was read
 abbrev pub beyond : {B : Type 0} → Node B → Item → List Item
-beyond node item = if nat_lt item.seen node.number then record { page = node.right; seen = item.seen } ∷ [] else []
+beyond node item = if nat_lt item.seen node.nsn then record { page = node.right; seen = item.seen } ∷ [] else []
 
 -- the entries that may lead to something wanted, remembered with this counter
 abbrev pub below : {B : Type 0} → ℕ → (B → Bool) → List (Child B) → List Item

@@ -21,10 +21,10 @@ least_of most = max 2 (2 * most / 5)
 
 -- the node with the entries that stay, and with those that go
 abbrev pub left_of : {B : Type 0} → List Bool → Node B → Node B
-left_of sides node = node_with node node.number node.right (staying sides node.pairs) (staying sides node.children)
+left_of sides node = node_with node node.nsn node.right (staying sides node.pairs) (staying sides node.children)
 
 abbrev pub right_of : {B : Type 0} → List Bool → Node B → Node B
-right_of sides node = node_with node node.number node.right (going sides node.pairs) (going sides node.children)
+right_of sides node = node_with node node.nsn node.right (going sides node.pairs) (going sides node.children)
 
 -- the class's split of a node's keys, and the union of each side, of which none is empty
 pub record AreHalves {B : Type 0} (r : Rules B) (sides_of : List B → ℕ → List Bool) (node : Node B) (sides : List Bool) (left right : B) : Type 0 where

@@ -22,7 +22,7 @@ numbered n (page ∷ pages) = (page.number == n) && numbered (suc n) pages
 
 -- a page that isn't taken
 abbrev pub blank : {B : Type 0} → Node B
-blank = record { level = 0; number = 0; right = 0; pairs = []; children = [] }
+blank = record { level = 0; nsn = 0; right = 0; pairs = []; children = [] }
 
 -- the node of a page; there is no page 0
 abbrev pub node_at : {B : Type 0} → List (Node B) → ℕ → Node B

@@ -1,7 +1,7 @@
 //! The way down to the leaf for a coming pair.
 ghost use Rattle.std.specs.Prelude.{◌≡◌, ◌≢◌, ◌≤◌, ◌<◌, length, true, false, Err, IfSome, IfNone, IfOk, IfErr, OnOk, OnErr, ℕ, [], ◌∷◌};
 ghost use Rattle.std.specs.Bool.{OnTrue, OnFalse};
-ghost use Rattle.gx_node.specs.Reading.{format, is_node};
+ghost use Rattle.gx_node.specs.Reading.{format_of, is_node};
 ghost use Rattle.gx_tree_laws.specs.Trees.{Used};
 ghost use Rattle.gx_tree.specs.Descending.{Descends, StepsDown, is_widened, next_of};
 ghost use Rattle.gx_tree.specs.Owner.{KeepsSince, KeepsSinceBut, IsWhy, IsWhyLater, Brings, AsksAtMost, AsksToWrite, Asks, to_write};
@@ -76,7 +76,7 @@ fn are_same<B: Shape>(first: &B, second: &B) -> bool
 /// where it has no children.
 fn way_down<K: KeyClass>(inner: &Inner<K>, coming: &K::Key, most: usize) -> Option<Way<K::Key>>
     requires { 0 < inner.now.level }
-    ensures way { (seen : ℕ) → inner.now.number ≤ seen → IfSome result (Descends K.cost K.joined most inner.now seen coming.now) }
+    ensures way { (seen : ℕ) → inner.now.nsn ≤ seen → IfSome result (Descends K.cost K.joined most inner.now seen coming.now) }
     ensures none { IfNone result (length inner.now.children ≡ 0) }
 {
     if inner.len() == 0 {
@@ -103,10 +103,10 @@ fn way_at<K: KeyClass>(
     coming: &K::Key,
     most: usize,
 ) -> Option<Way<K::Key>>
-    requires { is_node (format K.KEY K.reading K.start_key) room page.now ≡ true }
-    ensures way { IfSome result (Descends K.cost K.joined most (node_of (format K.KEY K.reading K.start_key) page.now) item.now.seen coming.now) }
-    ensures none { IfNone result ((0 < (node_of (format K.KEY K.reading K.start_key) page.now).level)
-        × (length (node_of (format K.KEY K.reading K.start_key) page.now).children ≡ 0)) }
+    requires { is_node (format_of K.KeyClass) room page.now ≡ true }
+    ensures way { IfSome result (Descends K.cost K.joined most (node_of (format_of K.KeyClass) page.now) item.now.seen coming.now) }
+    ensures none { IfNone result ((0 < (node_of (format_of K.KeyClass) page.now).level)
+        × (length (node_of (format_of K.KeyClass) page.now).children ≡ 0)) }
 {
     if item.was_split(page) {
         return Some(Way::Again);

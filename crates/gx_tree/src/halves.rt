@@ -1,6 +1,6 @@
 //! How a full node's entries are split in two.
 ghost use Rattle.std.specs.Prelude.{◌≡◌, ◌≤◌, ◌<◌, ◌++◌, ◌∷◌, [], ◌⊎◌, true, List, length, map, IfSome, IfNone};
-ghost use Rattle.gx_node.specs.Reading.{format, is_node};
+ghost use Rattle.gx_node.specs.Reading.{format_of, is_node};
 ghost use Rattle.gx_node.specs.declared.items.TheConstants.{MAX_ENTRIES};
 ghost use Rattle.gx_tree_laws.specs.Trees.{size};
 ghost use Rattle.gx_tree.specs.Keyed.{rules_of};
@@ -129,9 +129,9 @@ fn child_keys<K: KeyClass>(inner: &Inner<K>, keys: &mut [K::Key])
 
 /// Reads the keys of a node's entries.
 fn node_keys<K: KeyClass>(page: &Page, room: u32, keys: &mut [K::Key])
-    requires node { is_node (format K.KEY K.reading K.start_key) room page.now ≡ true }
+    requires node { is_node (format_of K.KeyClass) room page.now ≡ true }
     requires as_many { length keys.old ≡ length page.now.items }
-    ensures { keys.new ≡ keys_in (node_of (format K.KEY K.reading K.start_key) page.now) }
+    ensures { keys.new ≡ keys_in (node_of (format_of K.KeyClass) page.now) }
 {
     if page.level() == 0 {
         pair_keys(&Leaf::<K>::of(page), keys);
@@ -151,13 +151,13 @@ pub(crate) fn halve<K: KeyClass>(
     most: usize,
     keys: &mut [K::Key],
 ) -> Option<Halves<K::Key>>
-    requires node { is_node (format K.KEY K.reading K.start_key) room page.now ≡ true }
+    requires node { is_node (format_of K.KeyClass) room page.now ≡ true }
     requires most { (4 ≤ most) × (most ≤ MAX_ENTRIES) }
     requires space { MAX_ENTRIES ≤ length keys.old }
-    ensures halves { IfSome result (λ h. AreHalves (rules_of K.Key.Shape most) K.sides_of (node_of (format K.KEY K.reading K.start_key) page.now) h.sides h.left h.right) }
+    ensures halves { IfSome result (λ h. AreHalves (rules_of K.Key.Shape most) K.sides_of (node_of (format_of K.KeyClass) page.now) h.sides h.left h.right) }
     ensures few { IfSome result (λ h. length h.sides ≤ MAX_ENTRIES) }
-    ensures full { IfSome result (λ _. most ≤ size (node_of (format K.KEY K.reading K.start_key) page.now)) }
-    ensures none { IfNone result ((size (node_of (format K.KEY K.reading K.start_key) page.now) < most) ⊎ (MAX_ENTRIES < size (node_of (format K.KEY K.reading K.start_key) page.now))) }
+    ensures full { IfSome result (λ _. most ≤ size (node_of (format_of K.KeyClass) page.now)) }
+    ensures none { IfNone result ((size (node_of (format_of K.KeyClass) page.now) < most) ⊎ (MAX_ENTRIES < size (node_of (format_of K.KeyClass) page.now))) }
 {
     let count = page.count();
     if count > MAX_ENTRIES {

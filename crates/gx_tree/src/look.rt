@@ -1,7 +1,7 @@
 //! A look, a page a step.
 ghost use Rattle.std.specs.Prelude.{◌≡◌, ◌<◌, ◌++◌, ◌∷◌, [], true, length, filter, map, ◌≢◌, List, ◌==◌, slice_get, Some, Err, IfOk, IfErr, OnOk, OnErr};
 ghost use Rattle.smallvec.specs.SmallVec.{small_vec_len};
-ghost use Rattle.gx_node.specs.Reading.{format, is_node};
+ghost use Rattle.gx_node.specs.Reading.{format_of, is_node};
 ghost use Rattle.gx_tree_laws.specs.Trees.{Pair, Used};
 ghost use Rattle.gx_tree_laws.specs.Reach as reach;
 ghost use Rattle.gx_tree.specs.Found.{found_at};
@@ -143,10 +143,10 @@ fn read<K: Probing>(
     counter: u64,
 ) -> Result<(), AllocError>
     requires some { 0 < length look.old.stack.items }
-    requires node { is_node (format K.KEY K.reading K.start_key) room page.now ≡ true }
+    requires node { is_node (format_of K.KeyClass) room page.now ≡ true }
     ensures { OnOk result ((rest : List reach.Item) (item : reach.Item) → look.old.stack.items ≡ rest ++ item ∷ []
         → Reads counter (wants K.passes wanted.now.keys wanted.now.row) (K.passes wanted.now.bounds)
-        (node_of (format K.KEY K.reading K.start_key) page.now) rest item look.new.stack.items
+        (node_of (format_of K.KeyClass) page.now) rest item look.new.stack.items
         look.old.found.items look.new.found.items) }
 {
     let Some(item) = look.stack.pop() else {

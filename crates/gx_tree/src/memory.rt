@@ -1,7 +1,7 @@
 //! Pages in memory alone.
 ghost use Rattle.std.specs.Prelude.{◌≡◌, ◌<◌, ◌+◌, ◌-◌, ◌^◌, ◌⊎◌, ◌&&◌, true, false, map, length, ◌≤◌, ◌++◌, ◌∷◌, [], vec_len, vec_capacity, Err, IfOk, IfErr};
 ghost use Rattle.std.specs.List.{list_all};
-ghost use Rattle.gx_node.specs.Reading.{format, is_node};
+ghost use Rattle.gx_node.specs.Reading.{format_of, is_node};
 ghost use Rattle.gx_tree_laws.specs.Trees.{Used};
 ghost use Rattle.gx_tree.specs.Store.{node_at, node_of, numbered, tree_of};
 
@@ -28,15 +28,15 @@ pub struct MemoryPages<K: KeyClass> {
 impl<K: KeyClass> Model for MemoryPages<K> {
     ghost use Rattle.std.specs.Prelude.{map, length, ◌+◌, ◌≤◌, ◌<◌, ◌^◌, ◌≡◌, true, vec_capacity};
     ghost use Rattle.std.specs.List.{list_all};
-    ghost use Rattle.gx_node.specs.Reading.{format, is_node};
+    ghost use Rattle.gx_node.specs.Reading.{format_of, is_node};
     ghost use Rattle.gx_tree.specs.Store.{Store, node_of, numbered};
 
     ghost Value = { Store K.Key };
 
-    ghost view = { λ m. record { nodes = map (node_of (format K.KEY K.reading K.start_key)) m.pages.items; counter = m.counter; room = m.room } };
+    ghost view = { λ m. record { nodes = map (node_of (format_of K.KeyClass)) m.pages.items; counter = m.counter; room = m.room } };
 
     ghost invariant = { λ m. (length m.pages.items + length m.spare.items ≡ m.room) × (m.room < 2 ^ 32) × (m.room ≤ vec_capacity m.pages)
-        × (list_all (λ page. is_node (format K.KEY K.reading K.start_key) m.room page) m.pages.items ≡ true)
+        × (list_all (λ page. is_node (format_of K.KeyClass) m.room page) m.pages.items ≡ true)
         × (numbered 1 m.pages.items ≡ true) };
 }
 
@@ -54,14 +54,14 @@ fn are_numbered(pages: &[Page]) -> bool
 
 /// Whether each page is a node of the class.
 fn are_nodes<K: KeyClass>(pages: &[Page], room: u32) -> bool
-    ensures { result ≡ list_all (λ page. is_node (format K.KEY K.reading K.start_key) room page) pages.now }
+    ensures { result ≡ list_all (λ page. is_node (format_of K.KeyClass) room page) pages.now }
 {
     pages.iter().all(|page| is_node::<K>(page, room))
 }
 
 /// Whether each page is a node of the class and has its own number.
 fn are_pages<K: KeyClass>(pages: &[Page], room: u32) -> bool
-    ensures { result ≡ (list_all (λ page. is_node (format K.KEY K.reading K.start_key) room page) pages.now && numbered 1 pages.now) }
+    ensures { result ≡ (list_all (λ page. is_node (format_of K.KeyClass) room page) pages.now && numbered 1 pages.now) }
 {
     are_nodes::<K>(pages, room) && are_numbered(pages)
 }
@@ -82,13 +82,13 @@ impl<K: KeyClass> MemoryPages<K> {
     /// are more than 2^32 - 1 in all, and with `Memory`.
     pub fn new(mut pages: Vec<Page>, spare: Vec<Page>, counter: u64) -> Result<Self, Refusal>
         ensures pages { IfOk result (λ memory. memory ≡ record {
-          nodes = map (node_of (format K.KEY K.reading K.start_key)) pages.items;
+          nodes = map (node_of (format_of K.KeyClass)) pages.items;
           counter = counter;
           room = length pages.items + length spare.items;
         }) }
         ensures refused { IfErr result (λ why. (why ≡ Refusal.Memory) ⊎ (why ≡ Refusal.Damaged)) }
         ensures damaged { result ≡ Err Refusal.Damaged → length pages.items + length spare.items < 2 ^ 32
-            → (list_all (λ page. is_node (format K.KEY K.reading K.start_key) (length pages.items + length spare.items) page) pages.items && numbered 1 pages.items) ≡ false }
+            → (list_all (λ page. is_node (format_of K.KeyClass) (length pages.items + length spare.items) page) pages.items && numbered 1 pages.items) ≡ false }
     {
         let Ok(room) = u32::try_from(pages.len() + spare.len()) else {
             return Err(Refusal::Damaged);

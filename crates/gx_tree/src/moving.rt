@@ -57,7 +57,7 @@ pub(crate) fn keep_side<K: KeyClass, P: PagesMut<K>>(
     requires held { P.held pages.old page }
     requires changing { P.changing pages.old page }
     requires sides { length sides.now ≡ size (node_at (P.store pages.old).nodes page) }
-    ensures kept { P.store pages.new ≡ with_node (P.store pages.old) page (node_with (node_at (P.store pages.old).nodes page) link.number link.right
+    ensures kept { P.store pages.new ≡ with_node (P.store pages.old) page (node_with (node_at (P.store pages.old).nodes page) link.nsn link.right
         (staying sides.now (node_at (P.store pages.old).nodes page).pairs) (staying sides.now (node_at (P.store pages.old).nodes page).children)) }
     ensures held { (q : ℕ) → P.held pages.old q → P.held pages.new q }
     ensures changing { (q : ℕ) → P.changing pages.old q → P.changing pages.new q }

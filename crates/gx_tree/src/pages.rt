@@ -1,6 +1,6 @@
 //! What the steps ask of whoever keeps the pages.
 ghost use Rattle.std.specs.Prelude.{◌≡◌, ◌≢◌, ◌≤◌, ℕ, true, List, [], ◌∷◌, length, Err, IfErr, OnOk, OnErr};
-ghost use Rattle.gx_node.specs.Reading.{format, is_node};
+ghost use Rattle.gx_node.specs.Reading.{format_of, is_node};
 ghost use Rattle.gx_tree_laws.specs.Lists.{Each};
 ghost use Rattle.gx_tree_laws.specs.Trees.{Used};
 ghost use Rattle.gx_tree.specs.Owner.{Asking, Brings, AsksAtMost, KeepsSince, IsWhy, IsWhyLater, Asks};
@@ -64,8 +64,8 @@ pub trait Pages<K: KeyClass> {
     fn page(&self, page: u32) -> &Page
         requires { held self.now page }
         ensures number { result.now.number ≡ page }
-        ensures node { node_of (format K.KEY K.reading K.start_key) result.now ≡ node_at (store self.now).nodes page }
-        ensures passes { is_node (format K.KEY K.reading K.start_key) (store self.now).room result.now ≡ true };
+        ensures node { node_of (format_of K.KeyClass) result.now ≡ node_at (store self.now).nodes page }
+        ensures passes { is_node (format_of K.KeyClass) (store self.now).room result.now ≡ true };
 
     /// Between a moment and itself nothing was asked.
     ghost asked_nothing: { (a : Self) → asked a a [] };

@@ -1,7 +1,7 @@
 //! The split of a node.
 ghost use Rattle.std.specs.Prelude.{◌≡◌, ◌≢◌, ◌<◌, ◌≤◌, ◌+◌, ◌^◌, ◌⊎◌, ℕ, suc, true, false, length, map, slice_index_or, ◌==◌, Err, IfOk, IfErr, IfSome, IfNone, OnOk, OnErr, [], ◌∷◌};
 ghost use Rattle.gx_node.specs.Hits.{IsNextHit};
-ghost use Rattle.gx_node.specs.Reading.{format, is_node};
+ghost use Rattle.gx_node.specs.Reading.{format_of, is_node};
 ghost use Rattle.gx_node.specs.declared.items.TheConstants.{MAX_ENTRIES};
 ghost use Rattle.gx_tree_laws.specs.Legal.{Legal};
 ghost use Rattle.gx_tree_laws.specs.Trees.{Used, size, times, child_pages};
@@ -74,12 +74,12 @@ fn slot_of<K: KeyClass>(inner: &Inner<K>, page: u32) -> Option<usize>
 
 /// The slot of the one child on a page, in a parent that isn't full. `None` where there is no such place.
 fn place_of<K: KeyClass>(above: &Page, room: u32, page: u32, most: usize) -> Option<usize>
-    requires node { is_node (format K.KEY K.reading K.start_key) room above.now ≡ true }
-    requires inner { 0 < (node_of (format K.KEY K.reading K.start_key) above.now).level }
-    ensures once { IfSome result (NamesOnce (node_of (format K.KEY K.reading K.start_key) above.now).children page) }
-    ensures few { IfSome result (λ _. size (node_of (format K.KEY K.reading K.start_key) above.now) < most) }
-    ensures none { IfNone result ((times page (child_pages (node_of (format K.KEY K.reading K.start_key) above.now)) ≢ 1)
-        ⊎ (most ≤ size (node_of (format K.KEY K.reading K.start_key) above.now))) }
+    requires node { is_node (format_of K.KeyClass) room above.now ≡ true }
+    requires inner { 0 < (node_of (format_of K.KeyClass) above.now).level }
+    ensures once { IfSome result (NamesOnce (node_of (format_of K.KeyClass) above.now).children page) }
+    ensures few { IfSome result (λ _. size (node_of (format_of K.KeyClass) above.now) < most) }
+    ensures none { IfNone result ((times page (child_pages (node_of (format_of K.KeyClass) above.now)) ≢ 1)
+        ⊎ (most ≤ size (node_of (format_of K.KeyClass) above.now))) }
 {
     if above.count() >= most {
         return None;
@@ -216,7 +216,7 @@ fn make_split<K: KeyClass, P: PagesMut<K>>(
     turn(sides, others);
     let sibling = take_side(pages, page, others);
     let link = Link {
-        number: pages.counter() + 1,
+        nsn: pages.counter() + 1,
         right: sibling,
     };
     keep_side(pages, page, sides, link);

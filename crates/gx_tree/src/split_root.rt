@@ -95,14 +95,11 @@ fn make_root_split<K: KeyClass, P: PagesMut<K>>(
     let first = take_side(pages, 1, sides);
     let second = take_side(pages, 1, others);
     let link = Link {
-        number: 0,
+        nsn: 0,
         right: second,
     };
     pages.change(first, link);
-    let end = Link {
-        number: 0,
-        right: 0,
-    };
+    let end = Link { nsn: 0, right: 0 };
     pages.change(second, end);
     let raised = RaiseRoot {
         first: AppendChild {

@@ -1,6 +1,6 @@
 //! What the steps that write ask of whoever keeps the pages.
 ghost use Rattle.std.specs.Prelude.{◌≡◌, ◌≤◌, ◌<◌, ◌+◌, ◌-◌, ◌^◌, suc, ℕ, true, [], ◌∷◌, length, IfErr, OnOk};
-ghost use Rattle.gx_node.specs.Reading.{format, is_node};
+ghost use Rattle.gx_node.specs.Reading.{format_of, is_node};
 ghost use Rattle.gx_tree_laws.specs.Lists.{Each};
 ghost use Rattle.gx_tree_laws.specs.Trees.{Node};
 ghost use Rattle.gx_tree.specs.Owner.{Prepares, KeepsSince, KeepsSinceBut, IsWhyLater, Asks};
@@ -20,11 +20,11 @@ pub trait Edit<K: KeyClass> {
 
     /// Makes the change on a page that is a node, where `_room` is how many pages there are.
     fn apply(self, page: &mut Page, _room: u32)
-        requires passes { is_node (format K.KEY K.reading K.start_key) _room page.old ≡ true }
-        requires fits { fits self _room (node_of (format K.KEY K.reading K.start_key) page.old) }
-        ensures node { is_node (format K.KEY K.reading K.start_key) _room page.new ≡ true }
+        requires passes { is_node (format_of K.KeyClass) _room page.old ≡ true }
+        requires fits { fits self _room (node_of (format_of K.KeyClass) page.old) }
+        ensures node { is_node (format_of K.KeyClass) _room page.new ≡ true }
         ensures number { page.new.number ≡ page.old.number }
-        ensures edits { edits self (node_of (format K.KEY K.reading K.start_key) page.old) (node_of (format K.KEY K.reading K.start_key) page.new) };
+        ensures edits { edits self (node_of (format_of K.KeyClass) page.old) (node_of (format_of K.KeyClass) page.new) };
 }
 
 /// Pages that can be changed. A step first makes ready for all its changes, which may fail; from then on none fails.

@@ -6,16 +6,16 @@ use Rattle.gx_tree_laws.specs.Steps.{ChangesOnly}
 use Rattle.gx_tree_laws.specs.Reach.{Item, Run, ends, goes, run, down, under, ahead_of, ahead}
 use Rattle.gx_tree_laws.specs.Looks.{ItemFits}
 use Rattle.gx_tree_laws.proofs.Sums.{sum_over_same, each_map, each_always}
-use Rattle.gx_tree_laws.proofs.Changes.{level_kept, number_kept, right_kept, pages_kept, used_kept}
+use Rattle.gx_tree_laws.proofs.Changes.{level_kept, nsn_kept, right_kept, pages_kept, used_kept}
 use Rattle.gx_tree_laws.proofs.Runs.{run_is, length_run}
 
 module _ {K : Type 0} (old new : Tree K) (a : ℕ) (pairs : List (Pair K)) (entries : List (Child K))
     (step : ChangesOnly old new a pairs entries) where
   run_kept : (seen : ℕ) {x : ℕ} {xs : List ℕ} → Run old seen x xs → Run new seen x xs
   run_kept seen {x = x} (ends u le) =
-      ends (used_kept old new a pairs entries step x u) (let k = number_kept old new a pairs entries step x in omega (arith, k, le))
+      ends (used_kept old new a pairs entries step x u) (let k = nsn_kept old new a pairs entries step x in omega (arith, k, le))
   run_kept seen {x = x} (goes {qs = qs} u lt rest) =
-      goes (used_kept old new a pairs entries step x u) (let k = number_kept old new a pairs entries step x in omega (arith, k, lt))
+      goes (used_kept old new a pairs entries step x u) (let k = nsn_kept old new a pairs entries step x in omega (arith, k, lt))
       (subst (λ q. Run new seen q qs) (sym (right_kept old new a pairs entries step x)) (run_kept seen rest))
 
   near_kept : (item : Item) → ItemFits old item → run new new.used item.seen item.page ≡ run old old.used item.seen item.page

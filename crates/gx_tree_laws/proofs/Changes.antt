@@ -40,10 +40,10 @@ module _ {K : Type 0} (old new : Tree K) (a : ℕ) (pairs : List (Pair K)) (entr
     | inr ne ↦ ap (λ (z : Node K). z.level) (step.others q ne)
   ]
 
-  pub number_kept : (q : ℕ) → (new.node q).number ≡ (old.node q).number
-  number_kept q = elim (cases_eq q a) [
-    | inl e ↦ subst (λ q. (new.node q).number ≡ (old.node q).number) (sym e) (ap (λ (z : Node K). z.number) step.changed)
-    | inr ne ↦ ap (λ (z : Node K). z.number) (step.others q ne)
+  pub nsn_kept : (q : ℕ) → (new.node q).nsn ≡ (old.node q).nsn
+  nsn_kept q = elim (cases_eq q a) [
+    | inl e ↦ subst (λ q. (new.node q).nsn ≡ (old.node q).nsn) (sym e) (ap (λ (z : Node K). z.nsn) step.changed)
+    | inr ne ↦ ap (λ (z : Node K). z.nsn) (step.others q ne)
   ]
 
   pub right_kept : (q : ℕ) → (new.node q).right ≡ (old.node q).right
@@ -144,14 +144,14 @@ module _ {K : Type 0} (old new : Tree K) (a : ℕ) (pairs : List (Pair K)) (entr
             room = room;
             leaf = leaf;
             inner = inner;
-            number = (let n = (legal.pages a step.there).number in let d = step.counter in omega (arith, n, d));
+            nsn = (let n = (legal.pages a step.there).nsn in let d = step.counter in omega (arith, n, d));
             children = each_map (ChildFits r old (old.node a).level) (ChildFits r new (old.node a).level) fits_below entries fits;
           }))
           | inr ne ↦ subst (λ (z : Node K). NodeFits r new z) (sym (step.others q ne)) (record {
             room = fit.room;
             leaf = fit.leaf;
             inner = fit.inner;
-            number = (let n = fit.number in let d = step.counter in omega (arith, n, d));
+            nsn = (let n = fit.nsn in let d = step.counter in omega (arith, n, d));
             children = each_both (ChildFits r old (old.node q).level) (λ c. c.page ≡ a → Bounds r c.key (new.node a)) (ChildFits r new (old.node q).level)
                 (child_kept (old.node q).level) (old.node q).children fit.children (above q before);
           })

@@ -33,7 +33,7 @@ module _ {K : Type 0} (r : Rules K) (room : ℕ) (claimed : Pair K → Bool) whe
 
     root_levels : (parent : ℕ) → levels_left r t parent (from_root t) ≡ (t.node 1).level
     root_levels parent =
-        page_levels parent (from_root t) (or_from (nat_lt t.counter (t.node 1).number) false (le-ltb t.counter (t.node 1).number (legal.pages 1 root_taken).number) refl)
+        page_levels parent (from_root t) (or_from (nat_lt t.counter (t.node 1).nsn) false (le-ltb t.counter (t.node 1).nsn (legal.pages 1 root_taken).nsn) refl)
 
     -- a descent that needn't begin again has its page's level left, and one that must more
     levels_least : (parent : ℕ) (item : Item) → Used t item.page → (t.node item.page).level ≤ levels_left r t parent item
@@ -60,7 +60,7 @@ module _ {K : Type 0} (r : Rules K) (room : ℕ) (claimed : Pair K → Bool) whe
         let place : has_place r t a x ≡ true = and_from (nat_lt 0 (times x (child_pages (t.node a)))) (nat_lt (size (t.node a)) r.most)
         (lt-ltb 0 (times x (child_pages (t.node a))) named) (lt-ltb (size (t.node a)) r.most space) in
         let b = page_levels a (record { page = x; seen = t.counter })
-        (or_from (nat_lt t.counter (t.node x).number) (not (x == 1) && not (has_place r t a x)) (le-ltb t.counter (t.node x).number (legal.pages x ux).number)
+        (or_from (nat_lt t.counter (t.node x).nsn) (not (x == 1) && not (has_place r t a x)) (le-ltb t.counter (t.node x).nsn (legal.pages x ux).nsn)
         (and_right (not (x == 1)) (not (has_place r t a x)) (not_from_true (has_place r t a x) place))) in
         omega (arith, level, same, b)
 
@@ -119,12 +119,12 @@ module _ {K : Type 0} (r : Rules K) (room : ℕ) (claimed : Pair K → Bool) whe
       let changes = step.changes in
       let stands = standing_swept_plain r old new item.page legal claimed step (is_sweepable claimed) in
       let level = ap (λ (z : Node K). z.level) changes.changed in
-      let number = ap (λ (z : Node K). z.number) changes.changed in
+      let nsn = ap (λ (z : Node K). z.nsn) changes.changed in
       let top = level_kept old new item.page (filter (spares claimed) (old.node item.page).pairs) (old.node item.page).children changes 1 in
       let up = changes.others parent apart in
       let same : levels_left r new parent item ≡ levels_left r old parent item =
-      ap (λ (z : Node K). if nat_lt item.seen (new.node item.page).number || (not (item.page == 1) && not (nat_lt 0 (times item.page (child_pages z)) && nat_lt (size z) r.most)) then suc (new.node 1).level else (new.node item.page).level) up
-      ∙ ap (λ n. if nat_lt item.seen n || (not (item.page == 1) && not (has_place r old parent item.page)) then suc (new.node 1).level else (new.node item.page).level) number
+      ap (λ (z : Node K). if nat_lt item.seen (new.node item.page).nsn || (not (item.page == 1) && not (nat_lt 0 (times item.page (child_pages z)) && nat_lt (size z) r.most)) then suc (new.node 1).level else (new.node item.page).level) up
+      ∙ ap (λ n. if nat_lt item.seen n || (not (item.page == 1) && not (has_place r old parent item.page)) then suc (new.node 1).level else (new.node item.page).level) nsn
       ∙ ap (λ l. if must_restart r old parent item then suc l else (new.node item.page).level) top
       ∙ ap (λ l. if must_restart r old parent item then suc (old.node 1).level else l) level in
       let free : (room - new.used) * (room + 1) ≡ (room - old.used) * (room + 1) = ap (λ k. (room - k) * (room + 1)) changes.used in

@@ -12,9 +12,9 @@ use Rattle.gx_tree_laws.proofs.Sums.{each_map, each_both, each-append, each_stay
 use Rattle.gx_tree_laws.proofs.Chains.{one_at, some_child, each_with_key}
 use Rattle.gx_tree_laws.proofs.Splits.{is_split, is_parent, is_new, is_other, place_of, split_used, used_more as split_more}
 use Rattle.gx_tree_laws.proofs.Roots.{root_used, used_more as root_more, used_before as root_before, same_node}
-use Rattle.gx_tree_laws.proofs.Changes.{used_kept, used_before, number_kept}
-use Rattle.gx_tree_laws.proofs.SplitReach.{number_same as split_number}
-use Rattle.gx_tree_laws.proofs.RootReach.{number_same as root_number}
+use Rattle.gx_tree_laws.proofs.Changes.{used_kept, used_before, nsn_kept}
+use Rattle.gx_tree_laws.proofs.SplitReach.{nsn_same as split_number}
+use Rattle.gx_tree_laws.proofs.RootReach.{nsn_same as root_number}
 
 module _ {K : Type 0} (r : Rules K) (coming : K) where
   -- an entry that names page x covers the key
@@ -47,7 +47,7 @@ module _ {K : Type 0} (r : Rules K) (coming : K) where
       there = split_more r law old new n p sides left right legal step item.page d.there;
       seen = (let h = d.seen in let e = step.counter in omega (arith, h, e));
       covered = λ le. elim (cases_eq item.page n) [
-        | inl e ↦ let h = d.seen in let m = ap (λ q. (new.node q).number) e in let k = ap (λ (z : Node K). z.number) step.split in absurd (omega (arith, le, h, m, k))
+        | inl e ↦ let h = d.seen in let m = ap (λ q. (new.node q).nsn) e in let k = ap (λ (z : Node K). z.nsn) step.split in absurd (omega (arith, le, h, m, k))
         | inr ne ↦ cover_split item.page d.there ne
             (d.covered (let m = split_number r law old new n p sides left right legal step item.page d.there ne in omega (arith, le, m)))
       ];
@@ -91,7 +91,7 @@ module _ {K : Type 0} (r : Rules K) (coming : K) where
       there = used_kept old new a pairs entries step item.page d.there;
       seen = (let h = d.seen in let e = step.counter in omega (arith, h, e));
       covered = λ le. cover_changed item.page
-          (d.covered (let m = number_kept old new a pairs entries step item.page in omega (arith, le, m)));
+          (d.covered (let m = nsn_kept old new a pairs entries step item.page in omega (arith, le, m)));
     }
 
   -- any step of others

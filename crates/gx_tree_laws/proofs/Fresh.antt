@@ -10,7 +10,7 @@ module _ {K : Type 0} (r : Rules K) (law : IsLawful r) (start : K) where
     room = (let two = law.two in omega (arith, two));
     leaf = λ z. absurd (omega (arith, z));
     inner = λ z. (refl, omega arith);
-    number = omega arith;
+    nsn = omega arith;
     children = (record { low = omega arith; used = omega arith; level = refl; bounds = record { pairs = tt; children = tt } }, tt);
   }
 
@@ -19,7 +19,7 @@ module _ {K : Type 0} (r : Rules K) (law : IsLawful r) (start : K) where
     room = omega arith;
     leaf = λ z. refl;
     inner = λ z. absurd (omega (arith, z));
-    number = omega arith;
+    nsn = omega arith;
     children = tt;
   }
 

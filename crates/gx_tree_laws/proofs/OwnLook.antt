@@ -16,8 +16,8 @@ use Rattle.gx_tree_laws.proofs.Whole.{under_is, under_root, standing_under_root}
 
 -- the pages near an item: its own, and what is near its rightlink where it was split since
 data Parts {K : Type 0} (t : Tree K) (seen p : ℕ) (xs : List ℕ) : Type 0 where
-  last : (t.node p).number ≤ seen → xs ≡ p ∷ [] → Parts t seen p xs
-  more : (qs : List ℕ) → seen < (t.node p).number → xs ≡ p ∷ qs → Run t seen (t.node p).right qs → Parts t seen p xs
+  last : (t.node p).nsn ≤ seen → xs ≡ p ∷ [] → Parts t seen p xs
+  more : (qs : List ℕ) → seen < (t.node p).nsn → xs ≡ p ∷ qs → Run t seen (t.node p).right qs → Parts t seen p xs
 
 parts_of : {K : Type 0} (t : Tree K) (seen : ℕ) {p : ℕ} {xs : List ℕ} → Run t seen p xs → Used t p × Parts t seen p xs
 parts_of t seen (ends u le) = (u, last le refl)
@@ -25,15 +25,15 @@ parts_of t seen (goes {qs = qs} u lt rest) = (u, more qs lt refl rest)
 
 module _ {K : Type 0} (t : Tree K) where
   -- an item made now has its own page near it alone
-  pub item_now : (c : ℕ) → Used t c → (t.node c).number ≤ t.counter → Run t t.counter c (c ∷ []) × (run t t.used t.counter c ≡ c ∷ [])
+  pub item_now : (c : ℕ) → Used t c → (t.node c).nsn ≤ t.counter → Run t t.counter c (c ∷ []) × (run t t.used t.counter c ≡ c ∷ [])
   item_now c u le = (ends u le, run_is t t.counter (ends u le) t.used (let low = u.0 in let high = u.1 in omega (arith, low, high)))
 
-  item_now_fits : (c : ℕ) → Used t c → (t.node c).number ≤ t.counter → ItemFits t (record { page = c; seen = t.counter })
+  item_now_fits : (c : ℕ) → Used t c → (t.node c).nsn ≤ t.counter → ItemFits t (record { page = c; seen = t.counter })
   item_now_fits c u le =
       let now = item_now c u le in
       record { seen = omega arith; run = subst (λ (ys : List ℕ). Run t t.counter c ys) (sym now.1) now.0 }
 
-  ahead_now : (f : ℕ → ℕ) (c : ℕ) → Used t c → (t.node c).number ≤ t.counter → ahead_of t f (record { page = c; seen = t.counter }) ≡ under t f c
+  ahead_now : (f : ℕ → ℕ) (c : ℕ) → Used t c → (t.node c).nsn ≤ t.counter → ahead_of t f (record { page = c; seen = t.counter }) ≡ under t f c
   ahead_now f c u le =
       let shape = ap (λ (ys : List ℕ). sum_over (under t f) ys) (item_now c u le).1 in
       omega (arith, shape)
@@ -43,12 +43,12 @@ module _ {K : Type 0} (t : Tree K) where
     beyond b = if b then record { page = (t.node p).right; seen = seen } ∷ [] else []
 
     -- what lies ahead of an item is what lies at or under its page, and what lies ahead beyond it
-    ahead_parts_by : (xs : List ℕ) → run t t.used seen p ≡ xs → Parts t seen p xs → (b : Bool) → nat_lt seen (t.node p).number ≡ b
+    ahead_parts_by : (xs : List ℕ) → run t t.used seen p ≡ xs → Parts t seen p xs → (b : Bool) → nat_lt seen (t.node p).nsn ≡ b
         → sum_over (under t f) xs ≡ under t f p + ahead t f (if b then record { page = (t.node p).right; seen = seen } ∷ [] else [])
-    ahead_parts_by xs shape (last le e) true is = let lt = ltb-true seen (t.node p).number is in absurd (omega (arith, le, lt))
+    ahead_parts_by xs shape (last le e) true is = let lt = ltb-true seen (t.node p).nsn is in absurd (omega (arith, le, lt))
     ahead_parts_by xs shape (last le e) false is =
         let s = ap (λ (ys : List ℕ). sum_over (under t f) ys) e in omega (arith, s)
-    ahead_parts_by xs shape (more qs lt e rest) false is = let ge = ltb-false seen (t.node p).number is in absurd (omega (arith, lt, ge))
+    ahead_parts_by xs shape (more qs lt e rest) false is = let ge = ltb-false seen (t.node p).nsn is in absurd (omega (arith, lt, ge))
     ahead_parts_by xs shape (more qs lt e rest) true is =
         let s = ap (λ (ys : List ℕ). sum_over (under t f) ys) e in
         let long = length_run t seen t.used p in
@@ -59,12 +59,12 @@ module _ {K : Type 0} (t : Tree K) where
   pub ahead_parts : (f : ℕ → ℕ) (item : Item) → ItemFits t item → ahead_of t f item ≡ under t f item.page + ahead t f (beyond_of t item)
   ahead_parts f item fit =
       ahead_parts_by f item.seen item.page (run t t.used item.seen item.page) refl (parts_of t item.seen fit.run).1
-      (nat_lt item.seen (t.node item.page).number) refl
+      (nat_lt item.seen (t.node item.page).nsn) refl
 
-  beyond_fits_by : (item : Item) → ItemFits t item → Parts t item.seen item.page (run t t.used item.seen item.page) → (b : Bool) → nat_lt item.seen (t.node item.page).number ≡ b
+  beyond_fits_by : (item : Item) → ItemFits t item → Parts t item.seen item.page (run t t.used item.seen item.page) → (b : Bool) → nat_lt item.seen (t.node item.page).nsn ≡ b
       → Each (ItemFits t) (if b then record { page = (t.node item.page).right; seen = item.seen } ∷ [] else [])
   beyond_fits_by item fit parts false is = tt
-  beyond_fits_by item fit (last le e) true is = let lt = ltb-true item.seen (t.node item.page).number is in absurd (omega (arith, le, lt))
+  beyond_fits_by item fit (last le e) true is = let lt = ltb-true item.seen (t.node item.page).nsn is in absurd (omega (arith, le, lt))
   beyond_fits_by item fit (more qs lt e rest) true is =
       let long = length_run t item.seen t.used item.page in
       let same_long = ap (λ (ys : List ℕ). length ys) e in
@@ -72,7 +72,7 @@ module _ {K : Type 0} (t : Tree K) where
       (record { seen = fit.seen; run = subst (λ (ys : List ℕ). Run t item.seen (t.node item.page).right ys) (sym next) rest }, tt)
 
   beyond_fits : (item : Item) → ItemFits t item → Each (ItemFits t) (beyond_of t item)
-  beyond_fits item fit = beyond_fits_by item fit (parts_of t item.seen fit.run).1 (nat_lt item.seen (t.node item.page).number) refl
+  beyond_fits item fit = beyond_fits_by item fit (parts_of t item.seen fit.run).1 (nat_lt item.seen (t.node item.page).nsn) refl
 
   pub item_used : (item : Item) → ItemFits t item → Used t item.page
   item_used item fit = (parts_of t item.seen fit.run).0
@@ -81,8 +81,8 @@ module _ {K : Type 0} (r : Rules K) (t : Tree K) (legal : Legal r t) where
   root_taken : Used t 1
   root_taken = let h = legal.counter in (omega arith, omega (arith, h))
 
-  number_early : (q : ℕ) → Used t q → (t.node q).number ≤ t.counter
-  number_early q u = (legal.pages q u).number
+  nsn_early : (q : ℕ) → Used t q → (t.node q).nsn ≤ t.counter
+  nsn_early q u = (legal.pages q u).nsn
 
   -- Where it begins.
 
@@ -98,13 +98,13 @@ module _ {K : Type 0} (r : Rules K) (t : Tree K) (legal : Legal r t) where
 
   pub look_begins : (wants : Pair K → Bool) → IsLook t wants (from_root t ∷ []) []
   look_begins wants = record {
-    items = (item_now_fits t 1 root_taken (number_early 1 root_taken), tt);
+    items = (item_now_fits t 1 root_taken (nsn_early 1 root_taken), tt);
     complete = λ test.
-        (let now = ahead_now t (λ q. how_many (λ x. wants x && test x) (t.node q).pairs) 1 root_taken (number_early 1 root_taken) in
+        (let now = ahead_now t (λ q. how_many (λ x. wants x && test x) (t.node q).pairs) 1 root_taken (nsn_early 1 root_taken) in
         let whole = standing_under_root r t legal (λ x. wants x && test x) in
         omega (arith, now, whole));
     once = λ l.
-        (let now = ahead_now t (λ q. one_if (q == l)) 1 root_taken (number_early 1 root_taken) in
+        (let now = ahead_now t (λ q. one_if (q == l)) 1 root_taken (nsn_early 1 root_taken) in
         let whole = under_root r t legal (λ q. one_if (q == l)) in
         let most = is_most_once l t.used in
         omega (arith, now, whole, most));
@@ -116,7 +116,7 @@ module _ {K : Type 0} (r : Rules K) (t : Tree K) (legal : Legal r t) where
 
   pub pages_begin : pages_ahead t (from_root t ∷ []) ≡ t.used
   pages_begin =
-      let now = ahead_now t (λ q. 1) 1 root_taken (number_early 1 root_taken) in
+      let now = ahead_now t (λ q. 1) 1 root_taken (nsn_early 1 root_taken) in
       let whole = under_root r t legal (λ q. 1) in
       let count = ones t.used in
       omega (arith, now, whole, count)
@@ -131,7 +131,7 @@ module _ {K : Type 0} (r : Rules K) (t : Tree K) (legal : Legal r t) where
         sum_over-map (ahead_of t f) (λ (c : Child K). record { page = c.page; seen = t.counter }) (filter (λ c. leads c.key) cs)
         ∙ sum_over_same (λ c. ahead_of t f (record { page = c.page; seen = t.counter })) (λ c. under t f c.page) (filter (λ c. leads c.key) cs)
         (each_map (λ c. Used t c.page) (λ c. ahead_of t f (record { page = c.page; seen = t.counter }) ≡ under t f c.page)
-        (λ c u. ahead_now t f c.page u (number_early c.page u)) (filter (λ c. leads c.key) cs) (each_filter (λ c. Used t c.page) (λ c. leads c.key) cs taken))
+        (λ c u. ahead_now t f c.page u (nsn_early c.page u)) (filter (λ c. leads c.key) cs) (each_filter (λ c. Used t c.page) (λ c. leads c.key) cs taken))
 
     filter_less : (f : Child K → ℕ) (cs : List (Child K)) → sum_over f (filter (λ c. leads c.key) cs) ≤ sum_over f cs
     filter_less f [] = omega arith
@@ -183,7 +183,7 @@ module _ {K : Type 0} (r : Rules K) (t : Tree K) (legal : Legal r t) where
         (each-append (ItemFits t) (below_of t leads (t.node item.page).children) stack
         (each-map (ItemFits t) (λ (c : Child K). record { page = c.page; seen = t.counter }) (filter (λ c. leads c.key) (t.node item.page).children)
         (each_filter (λ c. ItemFits t (record { page = c.page; seen = t.counter })) (λ c. leads c.key) (t.node item.page).children
-        (each_map (λ c. Used t c.page) (λ c. ItemFits t (record { page = c.page; seen = t.counter })) (λ c taken. item_now_fits t c.page taken (number_early c.page taken))
+        (each_map (λ c. Used t c.page) (λ c. ItemFits t (record { page = c.page; seen = t.counter })) (λ c taken. item_now_fits t c.page taken (nsn_early c.page taken))
         (t.node item.page).children (children_taken item.page u)))) rest)
 
     module _ (law : IsLawful r) (wants : Pair K → Bool) (consistent : LeadsTo r t wants leads) where

@@ -5,9 +5,9 @@ use Rattle.gx_tree_laws.specs.Legal.{Legal}
 use Rattle.gx_tree_laws.specs.Steps.{IsSplit, IsRootSplit, ChangesOnly, Step, Splits, SplitsRoot, Widens, Adds, Marks, Sweeps, IsStep, AreSteps}
 use Rattle.gx_tree_laws.specs.Rightlinks.{GoesOn}
 use Rattle.gx_tree_laws.proofs.Sums.{each_always}
-use Rattle.gx_tree_laws.proofs.Changes.{level_kept, number_kept, right_kept}
+use Rattle.gx_tree_laws.proofs.Changes.{level_kept, nsn_kept, right_kept}
 use Rattle.gx_tree_laws.proofs.Splits.{is_split, is_parent, is_new, is_other, place_of, split_low, level_same, right_same, split_used, split_apart}
-use Rattle.gx_tree_laws.proofs.SplitReach.{number_same}
+use Rattle.gx_tree_laws.proofs.SplitReach.{nsn_same}
 use Rattle.gx_tree_laws.proofs.Roots.{used_before, same_node}
 use Rattle.gx_tree_laws.proofs.AllSteps.{kept_by_steps}
 
@@ -29,11 +29,11 @@ right_moved old new p q more levels right level fit =
 -- none is above the counter
 pub goes_on_begins : {K : Type 0} (r : Rules K) (t : Tree K) → Legal r t → GoesOn t t.counter
 goes_on_begins r t legal = record {
-  right = λ p u above. (let fit = legal.pages p u in let most = fit.number in absurd (omega (arith, most, above)));
+  right = λ p u above. (let fit = legal.pages p u in let most = fit.nsn in absurd (omega (arith, most, above)));
   root =
       let most = legal.counter in
       let fit = legal.pages 1 (omega arith, omega (arith, most)) in
-      fit.number;
+      fit.nsn;
 }
 
 module _ {K : Type 0} (r : Rules K) (floor : ℕ) (old new : Tree K) (legal : Legal r old) (goes : GoesOn old floor) where
@@ -62,19 +62,19 @@ module _ {K : Type 0} (r : Rules K) (floor : ℕ) (old new : Tree K) (legal : Le
         )
 
     -- the new page has the number and the rightlink that it had
-    goes_from_sibling : floor < (new.node s).number → GoesRight new s
+    goes_from_sibling : floor < (new.node s).nsn → GoesRight new s
     goes_from_sibling above =
-        let number = ap (λ (z : Node K). z.number) step.sibling in
+        let nsn = ap (λ (z : Node K). z.nsn) step.sibling in
         right_moved old new n s more_split levels_split
         (ap (λ (z : Node K). z.right) step.sibling) (ap (λ (z : Node K). z.level) step.sibling)
-        (goes.right n (split_used r law old new n p sides left right legal step) (omega (arith, above, number)))
+        (goes.right n (split_used r law old new n p sides left right legal step) (omega (arith, above, nsn)))
 
-    goes_from_other : (q : ℕ) → Used old q → q ≢ n → floor < (new.node q).number → GoesRight new q
+    goes_from_other : (q : ℕ) → Used old q → q ≢ n → floor < (new.node q).nsn → GoesRight new q
     goes_from_other q u ne above =
-        let number = number_same r law old new n p sides left right legal step q u ne in
+        let nsn = nsn_same r law old new n p sides left right legal step q u ne in
         right_moved old new q q more_split levels_split
         (right_same r law old new n p sides left right legal step q u ne) (level_same r law old new n p sides left right legal step q u)
-        (goes.right q u (omega (arith, above, number)))
+        (goes.right q u (omega (arith, above, nsn)))
 
     goes_on_split : GoesOn new floor
     goes_on_split = record {
@@ -83,14 +83,14 @@ module _ {K : Type 0} (r : Rules K) (floor : ℕ) (old new : Tree K) (legal : Le
         | is_parent e ↦ goes_from_other q (subst (λ x. Used old x) (sym e) step.parent)
             (λ same. split_apart r law old new n p sides left right legal step (sym same ∙ e)) above
         | is_new e ↦ subst (λ x. GoesRight new x) (sym e)
-            (goes_from_sibling (let same = ap (λ x. (new.node x).number) e in omega (arith, same, above)))
+            (goes_from_sibling (let same = ap (λ x. (new.node x).nsn) e in omega (arith, same, above)))
         | is_other nn np ns ↦ goes_from_other q (u.0, (let h = u.1 in let k = step.used in omega (arith, h, k, ns))) nn above
       ];
       root =
           let low = split_low r law old new n p sides left right legal step in
-          let number = number_same r law old new n p sides left right legal step 1 root_used (λ e. (omega (arith, e, low))) in
+          let nsn = nsn_same r law old new n p sides left right legal step 1 root_used (λ e. (omega (arith, e, low))) in
           let most = goes.root in
-          omega (arith, number, most);
+          omega (arith, nsn, most);
     }
 
   module _ (sides : List Bool) (left right : K) (step : IsRootSplit r old new sides left right) where
@@ -98,27 +98,27 @@ module _ {K : Type 0} (r : Rules K) (floor : ℕ) (old new : Tree K) (legal : Le
     goes_on_root : GoesOn new floor
     goes_on_root =
         let most = goes.root in
-        let number = ap (λ (z : Node K). z.number) step.root in
+        let nsn = ap (λ (z : Node K). z.nsn) step.root in
         record {
           right = λ q u above. elim (place_of 1 (suc old.used) (suc (suc old.used)) q) [
-            | is_split e ↦ let same = ap (λ x. (new.node x).number) e in absurd (omega (arith, same, number, most, above))
+            | is_split e ↦ let same = ap (λ x. (new.node x).nsn) e in absurd (omega (arith, same, nsn, most, above))
             | is_parent e ↦
-                let same = ap (λ x. (new.node x).number) e in let none = ap (λ (z : Node K). z.number) step.first in
+                let same = ap (λ x. (new.node x).nsn) e in let none = ap (λ (z : Node K). z.nsn) step.first in
                 absurd (omega (arith, same, none, above))
             | is_new e ↦
-                let same = ap (λ x. (new.node x).number) e in let none = ap (λ (z : Node K). z.number) step.second in
+                let same = ap (λ x. (new.node x).nsn) e in let none = ap (λ (z : Node K). z.nsn) step.second in
                 absurd (omega (arith, same, none, above))
             | is_other n1 na nb ↦
                 let before = used_before r old new sides left right legal step q u na nb in
                 let used = step.used in
                 let is = same_node r old new sides left right legal step q before n1 in
-                let was = ap (λ (z : Node K). z.number) is in
+                let was = ap (λ (z : Node K). z.nsn) is in
                 right_moved old new q q (omega (arith, used))
                 (λ x ux low. ap (λ (z : Node K). z.level) (same_node r old new sides left right legal step x ux (λ e. (omega (arith, e, low)))))
                 (ap (λ (z : Node K). z.right) is) (ap (λ (z : Node K). z.level) is)
                 (goes.right q before (omega (arith, was, above)))
           ];
-          root = omega (arith, number, most);
+          root = omega (arith, nsn, most);
         }
 
   module _ (a : ℕ) (pairs : List (Pair K)) (entries : List (Child K)) (step : ChangesOnly old new a pairs entries) where
@@ -128,11 +128,11 @@ module _ {K : Type 0} (r : Rules K) (floor : ℕ) (old new : Tree K) (legal : Le
       right = λ q u above.
           (let used = step.used in
           let high = u.1 in
-          let was = number_kept old new a pairs entries step q in
+          let was = nsn_kept old new a pairs entries step q in
           right_moved old new q q (omega (arith, used)) (λ x ux low. level_kept old new a pairs entries step x)
           (right_kept old new a pairs entries step q) (level_kept old new a pairs entries step q)
           (goes.right q (u.0, omega (arith, high, used)) (omega (arith, was, above))));
-      root = let number = number_kept old new a pairs entries step 1 in let most = goes.root in omega (arith, number, most);
+      root = let nsn = nsn_kept old new a pairs entries step 1 in let most = goes.root in omega (arith, nsn, most);
     }
 
 module _ {K : Type 0} (r : Rules K) (law : IsLawful r) (floor : ℕ) where

@@ -19,10 +19,10 @@ module _ {K : Type 0} (r : Rules K) (old new : Tree K) (sides : List Bool) (left
   abbrev b : ℕ
   b = suc (suc old.used)
 
-  pub number_same : (q : ℕ) → Used old q → (new.node q).number ≡ (old.node q).number
-  number_same q u = elim (cases_eq q 1) [
-    | inl e ↦ subst (λ q. (new.node q).number ≡ (old.node q).number) (sym e) (ap (λ (z : Node K). z.number) step.root)
-    | inr ne ↦ ap (λ (z : Node K). z.number) (same_node r old new sides left right legal step q u ne)
+  pub nsn_same : (q : ℕ) → Used old q → (new.node q).nsn ≡ (old.node q).nsn
+  nsn_same q u = elim (cases_eq q 1) [
+    | inl e ↦ subst (λ q. (new.node q).nsn ≡ (old.node q).nsn) (sym e) (ap (λ (z : Node K). z.nsn) step.root)
+    | inr ne ↦ ap (λ (z : Node K). z.nsn) (same_node r old new sides left right legal step q u ne)
   ]
 
   right_same : (q : ℕ) → Used old q → (new.node q).right ≡ (old.node q).right
@@ -69,9 +69,9 @@ module _ {K : Type 0} (r : Rules K) (old new : Tree K) (sides : List Bool) (left
 
   run_root : (seen : ℕ) {x : ℕ} {xs : List ℕ} → Run old seen x xs → Run new seen x xs
   run_root seen {x = x} (ends u le) =
-      ends (used_more r old new sides left right legal step x u) (let k = number_same x u in omega (arith, k, le))
+      ends (used_more r old new sides left right legal step x u) (let k = nsn_same x u in omega (arith, k, le))
   run_root seen {x = x} (goes {qs = qs} u lt rest) =
-      goes (used_more r old new sides left right legal step x u) (let k = number_same x u in omega (arith, k, lt))
+      goes (used_more r old new sides left right legal step x u) (let k = nsn_same x u in omega (arith, k, lt))
       (subst (λ q. Run new seen q qs) (sym (right_same x u)) (run_root seen rest))
 
   near_root : (item : Item) → ItemFits old item → run new new.used item.seen item.page ≡ run old old.used item.seen item.page

@@ -141,7 +141,7 @@ module _ {K : Type 0} (r : Rules K) (old new : Tree K) (sides : List Bool) (left
         room = (let h = fit.room in let d = length_parted sides (old.node 1).children in omega (arith, h, d));
         leaf = λ z. absurd (omega (arith, inner, z));
         inner = λ z. (refl, omega (arith, some, size_is));
-        number = omega arith;
+        nsn = omega arith;
         children = each_staying (ChildFits r new (old.node 1).level) sides (old.node 1).children (children_moved 1 root_used);
       })
 
@@ -155,7 +155,7 @@ module _ {K : Type 0} (r : Rules K) (old new : Tree K) (sides : List Bool) (left
         room = (let h = fit.room in let d = length_parted sides (old.node 1).children in omega (arith, h, d));
         leaf = λ z. absurd (omega (arith, inner, z));
         inner = λ z. (refl, omega (arith, some, size_is));
-        number = omega arith;
+        nsn = omega arith;
         children = each_going (ChildFits r new (old.node 1).level) sides (old.node 1).children (children_moved 1 root_used);
       })
 
@@ -168,7 +168,7 @@ module _ {K : Type 0} (r : Rules K) (old new : Tree K) (sides : List Bool) (left
         room = omega (arith, two);
         leaf = λ z. absurd (omega (arith, z));
         inner = λ z. (refl, omega arith);
-        number = (let h = fit.number in let k = step.counter in omega (arith, h, k));
+        nsn = (let h = fit.nsn in let k = step.counter in omega (arith, h, k));
         children = (
           record {
             low = omega (arith, far);
@@ -195,7 +195,7 @@ module _ {K : Type 0} (r : Rules K) (old new : Tree K) (sides : List Bool) (left
         room = fit.room;
         leaf = fit.leaf;
         inner = fit.inner;
-        number = (let e = step.counter in let h = fit.number in omega (arith, e, h));
+        nsn = (let e = step.counter in let h = fit.nsn in omega (arith, e, h));
         children = children_moved q u;
       })
 

@@ -13,15 +13,15 @@ module _ {K : Type 0} (t : Tree K) (seen : ℕ) where
   pub run_is : {p : ℕ} {xs : List ℕ} → Run t seen p xs → (most : ℕ) → length xs ≤ most → run t most seen p ≡ xs
   run_is (ends u le) zero short = absurd (omega arith)
   run_is {p = p} (ends u le) (suc most) short =
-      ap (λ b. p ∷ (if b then run t most seen (t.node p).right else [])) (le-ltb seen (t.node p).number le)
+      ap (λ b. p ∷ (if b then run t most seen (t.node p).right else [])) (le-ltb seen (t.node p).nsn le)
   run_is (goes u lt rest) zero short = absurd (omega arith)
   run_is {p = p} (goes u lt rest) (suc most) short =
-      ap (λ b. p ∷ (if b then run t most seen (t.node p).right else [])) (lt-ltb seen (t.node p).number lt)
+      ap (λ b. p ∷ (if b then run t most seen (t.node p).right else [])) (lt-ltb seen (t.node p).nsn lt)
       ∙ ap (λ (ys : List ℕ). p ∷ ys) (run_is rest most (omega arith))
 
   pub length_run : (most p : ℕ) → length (run t most seen p) ≤ most
   length_run zero p = omega arith
-  length_run (suc most) p = by (nat_lt seen (t.node p).number) (length_run most (t.node p).right)
+  length_run (suc most) p = by (nat_lt seen (t.node p).nsn) (length_run most (t.node p).right)
     where
       by : (b : Bool) → length (run t most seen (t.node p).right) ≤ most → length (p ∷ (if b then run t most seen (t.node p).right else [])) ≤ suc most
       by true le = omega (arith, le)

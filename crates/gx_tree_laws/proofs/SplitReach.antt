@@ -41,12 +41,12 @@ module _ {K : Type 0} (r : Rules K) (law : IsLawful r) (old new : Tree K) (n p :
   abbrev s : ℕ
   s = suc old.used
 
-  pub number_same : (q : ℕ) → Used old q → q ≢ n → (new.node q).number ≡ (old.node q).number
-  number_same q u ne = elim (place_of n p s q) [
+  pub nsn_same : (q : ℕ) → Used old q → q ≢ n → (new.node q).nsn ≡ (old.node q).nsn
+  nsn_same q u ne = elim (place_of n p s q) [
     | is_split e ↦ absurd (ne e)
-    | is_parent e ↦ subst (λ q. (new.node q).number ≡ (old.node q).number) (sym e) (ap (λ (x : Node K). x.number) step.named)
+    | is_parent e ↦ subst (λ q. (new.node q).nsn ≡ (old.node q).nsn) (sym e) (ap (λ (x : Node K). x.nsn) step.named)
     | is_new e ↦ (let h = u.1 in absurd (omega (arith, e, h)))
-    | is_other nn np ns ↦ ap (λ (x : Node K). x.number) (step.others q nn np ns)
+    | is_other nn np ns ↦ ap (λ (x : Node K). x.nsn) (step.others q nn np ns)
   ]
 
   module _ (f g : ℕ → ℕ) (parted : f n + f s ≡ g n) (same : (q : ℕ) → Used old q → q ≢ n → f q ≡ g q) where
@@ -107,25 +107,25 @@ module _ {K : Type 0} (r : Rules K) (law : IsLawful r) (old new : Tree K) (n p :
   run_split seen early {x = x} (ends u le) = elim (cases_eq x n) [
     | inl same ↦ subst (λ (ys : List ℕ). Run new seen x ys) (sym (after_at n s x [] same))
         (goes (used_more r law old new n p sides left right legal step x u)
-        (let k = ap (λ q. (new.node q).number) same in let m = ap (λ (z : Node K). z.number) step.split in omega (arith, k, m, early))
+        (let k = ap (λ q. (new.node q).nsn) same in let m = ap (λ (z : Node K). z.nsn) step.split in omega (arith, k, m, early))
         (subst (λ q. Run new seen q (s ∷ [])) (sym (ap (λ q. (new.node q).right) same ∙ ap (λ (z : Node K). z.right) step.split))
         (ends (used_new r law old new n p sides left right legal step)
-        (let k = ap (λ (z : Node K). z.number) step.sibling in let m = ap (λ q. (old.node q).number) same in omega (arith, k, m, le)))))
+        (let k = ap (λ (z : Node K). z.nsn) step.sibling in let m = ap (λ q. (old.node q).nsn) same in omega (arith, k, m, le)))))
     | inr ne ↦ subst (λ (ys : List ℕ). Run new seen x ys) (sym (after_off n s x [] ne))
-        (ends (used_more r law old new n p sides left right legal step x u) (let k = number_same x u ne in omega (arith, k, le)))
+        (ends (used_more r law old new n p sides left right legal step x u) (let k = nsn_same x u ne in omega (arith, k, le)))
   ]
   run_split seen early {x = x} (goes {qs = qs} u lt rest) =
       let more = run_split seen early rest in
       elim (cases_eq x n) [
         | inl same ↦ subst (λ (ys : List ℕ). Run new seen x ys) (sym (after_at n s x qs same))
             (goes (used_more r law old new n p sides left right legal step x u)
-            (let k = ap (λ q. (new.node q).number) same in let m = ap (λ (z : Node K). z.number) step.split in omega (arith, k, m, early))
+            (let k = ap (λ q. (new.node q).nsn) same in let m = ap (λ (z : Node K). z.nsn) step.split in omega (arith, k, m, early))
             (subst (λ q. Run new seen q (s ∷ after n s qs)) (sym (ap (λ q. (new.node q).right) same ∙ ap (λ (z : Node K). z.right) step.split))
             (goes (used_new r law old new n p sides left right legal step)
-            (let k = ap (λ (z : Node K). z.number) step.sibling in let m = ap (λ q. (old.node q).number) same in omega (arith, k, m, lt))
+            (let k = ap (λ (z : Node K). z.nsn) step.sibling in let m = ap (λ q. (old.node q).nsn) same in omega (arith, k, m, lt))
             (subst (λ q. Run new seen q (after n s qs)) (sym (ap (λ (z : Node K). z.right) step.sibling ∙ ap (λ q. (old.node q).right) (sym same))) more))))
         | inr ne ↦ subst (λ (ys : List ℕ). Run new seen x ys) (sym (after_off n s x qs ne))
-            (goes (used_more r law old new n p sides left right legal step x u) (let k = number_same x u ne in omega (arith, k, lt))
+            (goes (used_more r law old new n p sides left right legal step x u) (let k = nsn_same x u ne in omega (arith, k, lt))
             (subst (λ q. Run new seen q (after n s qs)) (sym (right_same r law old new n p sides left right legal step x u ne)) more))
       ]
 

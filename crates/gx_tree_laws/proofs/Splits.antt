@@ -35,14 +35,14 @@ bounds_through r law a b node covers h = record {
 
 -- who has which number and rightlink
 pub numbers_split : {K : Type 0} (r : Rules K) (old new : Tree K) (n p : ℕ) (sides : List Bool) (left right : K) → IsSplit r old new n p sides left right
-    → (new.counter ≡ suc old.counter) × ((new.node n).number ≡ new.counter)
-    × ((new.node n).right ≡ new.used) × ((new.node new.used).number ≡ (old.node n).number)
+    → (new.counter ≡ suc old.counter) × ((new.node n).nsn ≡ new.counter)
+    × ((new.node n).right ≡ new.used) × ((new.node new.used).nsn ≡ (old.node n).nsn)
     × ((new.node new.used).right ≡ (old.node n).right)
 numbers_split {K} r old new n p sides left right step = (
   step.counter,
-  ap (λ (z : Node K). z.number) step.split ∙ sym step.counter,
+  ap (λ (z : Node K). z.nsn) step.split ∙ sym step.counter,
   ap (λ (z : Node K). z.right) step.split ∙ sym step.used,
-  ap (λ q. (new.node q).number) step.used ∙ ap (λ (z : Node K). z.number) step.sibling,
+  ap (λ q. (new.node q).nsn) step.used ∙ ap (λ (z : Node K). z.nsn) step.sibling,
   ap (λ q. (new.node q).right) step.used ∙ ap (λ (z : Node K). z.right) step.sibling,
 )
 
@@ -268,7 +268,7 @@ module _ {K : Type 0} (r : Rules K) (law : IsLawful r) (old new : Tree K) (n p :
           ap (λ (xs : List (Pair K)). staying sides xs) (fit.inner z).0,
           (let none = ap (λ (xs : List (Pair K)). length (staying sides xs)) (fit.inner z).0 in omega (arith, some, size_is, none)),
         );
-        number = (let e = step.counter in omega (arith, e));
+        nsn = (let e = step.counter in omega (arith, e));
         children = each_staying (ChildFits r new (old.node n).level) sides (old.node n).children (children_moved n split_used split_apart);
       })
 
@@ -284,7 +284,7 @@ module _ {K : Type 0} (r : Rules K) (law : IsLawful r) (old new : Tree K) (n p :
           ap (λ (xs : List (Pair K)). going sides xs) (fit.inner z).0,
           (let none = ap (λ (xs : List (Pair K)). length (going sides xs)) (fit.inner z).0 in omega (arith, some, size_is, none)),
         );
-        number = (let e = step.counter in let h = fit.number in omega (arith, e, h));
+        nsn = (let e = step.counter in let h = fit.nsn in omega (arith, e, h));
         children = each_going (ChildFits r new (old.node n).level) sides (old.node n).children (children_moved n split_used split_apart);
       })
 
@@ -302,7 +302,7 @@ module _ {K : Type 0} (r : Rules K) (law : IsLawful r) (old new : Tree K) (n p :
         room = (let a = step.room in omega (arith, a, long));
         leaf = λ z. absurd (omega (arith, z, level_is));
         inner = λ z. ((fit.inner z).0, omega (arith, long));
-        number = (let e = step.counter in let h = fit.number in omega (arith, e, h));
+        nsn = (let e = step.counter in let h = fit.nsn in omega (arith, e, h));
         children = each-append (ChildFits r new (old.node p).level) (with_key n left cs) (record { key = right; page = s } ∷ [])
             (each_with_key (ChildFits r new (old.node p).level) n left cs
             (each_map (ChildFits r old (old.node p).level)
@@ -333,7 +333,7 @@ module _ {K : Type 0} (r : Rules K) (law : IsLawful r) (old new : Tree K) (n p :
         room = fit.room;
         leaf = fit.leaf;
         inner = fit.inner;
-        number = (let e = step.counter in let h = fit.number in omega (arith, e, h));
+        nsn = (let e = step.counter in let h = fit.nsn in omega (arith, e, h));
         children = children_moved q u np;
       })
 

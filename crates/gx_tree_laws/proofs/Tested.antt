@@ -61,7 +61,7 @@ module _ {K : Type 0} (r : Rules K) (t : Tree K) where
   shape_test node = if node.level == 0 then is_empty node.children else is_empty node.pairs && nat_lt 0 (length node.children)
 
   abbrev node_test : Node K → Bool
-  node_test node = nat_le (size node) r.most && (shape_test node && (nat_le node.number t.counter && all_of (child_test node.level) node.children))
+  node_test node = nat_le (size node) r.most && (shape_test node && (nat_le node.nsn t.counter && all_of (child_test node.level) node.children))
 
   abbrev linked_test : ℕ → List ℕ → Bool
   linked_test p [] = p == 0
@@ -116,15 +116,15 @@ module _ {K : Type 0} (r : Rules K) (t : Tree K) where
 
   node_fits : (node : Node K) → node_test node ≡ true → NodeFits r t node
   node_fits node e =
-      let a = and_parts (nat_le (size node) r.most) (shape_test node && (nat_le node.number t.counter && all_of (child_test node.level) node.children)) e in
-      let b = and_parts (shape_test node) (nat_le node.number t.counter && all_of (child_test node.level) node.children) a.1 in
-      let d = and_parts (nat_le node.number t.counter) (all_of (child_test node.level) node.children) b.1 in
+      let a = and_parts (nat_le (size node) r.most) (shape_test node && (nat_le node.nsn t.counter && all_of (child_test node.level) node.children)) e in
+      let b = and_parts (shape_test node) (nat_le node.nsn t.counter && all_of (child_test node.level) node.children) a.1 in
+      let d = and_parts (nat_le node.nsn t.counter) (all_of (child_test node.level) node.children) b.1 in
       let shape = shape_is node (node.level == 0) refl b.0 in
       record {
         room = leb-true (size node) r.most a.0;
         leaf = shape.0;
         inner = shape.1;
-        number = leb-true node.number t.counter d.0;
+        nsn = leb-true node.nsn t.counter d.0;
         children = each_of (child_test node.level) (ChildFits r t node.level) (child_fits node.level) node.children d.1;
       }
 

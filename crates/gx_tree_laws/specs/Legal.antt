@@ -20,7 +20,7 @@ pub record NodeFits {K : Type 0} (r : Rules K) (t : Tree K) (node : Node K) : Ty
   pub room : size node ≤ r.most
   pub leaf : node.level ≡ 0 → node.children ≡ []
   pub inner : 0 < node.level → (node.pairs ≡ []) × (0 < length node.children)
-  pub number : node.number ≤ t.counter
+  pub nsn : node.nsn ≤ t.counter
   pub children : Each (ChildFits r t node.level) node.children
 
 -- from p on the rightlinks lead over these pages and end; each is a leaf

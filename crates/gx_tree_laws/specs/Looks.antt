@@ -25,7 +25,7 @@ from_root t = record { page = 1; seen = t.counter }
 -- something wanted, remembered with the counter as it is now
 abbrev pub beyond_of : {K : Type 0} → Tree K → Item → List Item
 beyond_of t item =
-    if nat_lt item.seen (t.node item.page).number then record { page = (t.node item.page).right; seen = item.seen } ∷ [] else []
+    if nat_lt item.seen (t.node item.page).nsn then record { page = (t.node item.page).right; seen = item.seen } ∷ [] else []
 
 abbrev pub below_of : {K : Type 0} → Tree K → (K → Bool) → List (Child K) → List Item
 below_of t leads children = map (λ c. record { page = c.page; seen = t.counter }) (filter (λ c. leads c.key) children)

@@ -11,7 +11,7 @@ pub record Item : Type 0 where
 -- q is near (p, seen): it is p, or p was split since, and q is near what p's rightlink names
 pub data Near {K : Type 0} (t : Tree K) (seen : ℕ) (q : ℕ) : ℕ → Type 0 where
   here : Near t seen q q
-  beyond : {p : ℕ} → seen < (t.node p).number → Near t seen q (t.node p).right → Near t seen q p
+  beyond : {p : ℕ} → seen < (t.node p).nsn → Near t seen q (t.node p).right → Near t seen q p
 
 -- l is under q: it is q, or under a page that an entry of q names
 pub data Under {K : Type 0} (t : Tree K) (l : ℕ) : ℕ → Type 0 where
@@ -26,13 +26,13 @@ pub record InReach {K : Type 0} (t : Tree K) (item : Item) (l : ℕ) : Type 0 wh
 
 -- from p on, these are the pages that are near, and the last of them wasn't split since
 pub data Run {K : Type 0} (t : Tree K) (seen : ℕ) : ℕ → List ℕ → Type 0 where
-  ends : {p : ℕ} → Used t p → (t.node p).number ≤ seen → Run t seen p (p ∷ [])
-  goes : {p : ℕ} {qs : List ℕ} → Used t p → seen < (t.node p).number → Run t seen (t.node p).right qs → Run t seen p (p ∷ qs)
+  ends : {p : ℕ} → Used t p → (t.node p).nsn ≤ seen → Run t seen p (p ∷ [])
+  goes : {p : ℕ} {qs : List ℕ} → Used t p → seen < (t.node p).nsn → Run t seen (t.node p).right qs → Run t seen p (p ∷ qs)
 
 -- the pages that are near (p, seen), in order, at most so many
 abbrev pub run : {K : Type 0} → Tree K → ℕ → ℕ → ℕ → List ℕ
 run t zero seen p = []
-run t (suc most) seen p = p ∷ (if nat_lt seen (t.node p).number then run t most seen (t.node p).right else [])
+run t (suc most) seen p = p ∷ (if nat_lt seen (t.node p).nsn then run t most seen (t.node p).right else [])
 
 -- the sum of f over the pages at or under q, down so many levels; a page that two entries name counts twice
 abbrev pub down : {K : Type 0} → Tree K → (ℕ → ℕ) → ℕ → ℕ → ℕ

@@ -18,9 +18,9 @@ abbrev pub EntriesCover : {K : Type 0} → Rules K → Tree K → ℕ → K → 
 EntriesCover r t a key = (p : ℕ) → Used t p → Each (λ c. c.page ≡ a → r.covers c.key key ≡ true) (t.node p).children
 
 -- a node of the same level, with these in place of its other fields
-abbrev pub node_with : {K : Type 0} → Node K → (number right : ℕ) → List (Pair K) → List (Child K) → Node K
-node_with node number right pairs children =
-    record { level = node.level; number = number; right = right; pairs = pairs; children = children }
+abbrev pub node_with : {K : Type 0} → Node K → (nsn right : ℕ) → List (Pair K) → List (Child K) → Node K
+node_with node nsn right pairs children =
+    record { level = node.level; nsn = nsn; right = right; pairs = pairs; children = children }
 
 -- a node n below p is split by sides: it keeps its page, the raised counter is its number, and its rightlink is a new
 -- page; what goes is on that page, with the number and the rightlink that n had; p has an entry for each
@@ -32,9 +32,9 @@ pub record IsSplit {K : Type 0} (r : Rules K) (old new : Tree K) (n p : ℕ) (si
   pub counter : new.counter ≡ suc old.counter
   pub split : new.node n ≡ node_with (old.node n) (suc old.counter) (suc old.used)
       (staying sides (old.node n).pairs) (staying sides (old.node n).children)
-  pub sibling : new.node (suc old.used) ≡ node_with (old.node n) (old.node n).number (old.node n).right
+  pub sibling : new.node (suc old.used) ≡ node_with (old.node n) (old.node n).nsn (old.node n).right
       (going sides (old.node n).pairs) (going sides (old.node n).children)
-  pub named : new.node p ≡ node_with (old.node p) (old.node p).number (old.node p).right
+  pub named : new.node p ≡ node_with (old.node p) (old.node p).nsn (old.node p).right
       (old.node p).pairs (with_key n left (old.node p).children ++ record { key = right; page = suc old.used } ∷ [])
   pub others : (q : ℕ) → q ≢ n → q ≢ p → q ≢ suc old.used → new.node q ≡ old.node q
   pub left_some : 0 < size (new.node n)
@@ -51,7 +51,7 @@ pub record IsRootSplit {K : Type 0} (r : Rules K) (old new : Tree K) (sides : Li
   pub second : new.node (suc (suc old.used)) ≡ node_with (old.node 1) 0 0 [] (going sides (old.node 1).children)
   pub root : new.node 1 ≡ record {
     level = suc (old.node 1).level;
-    number = (old.node 1).number;
+    nsn = (old.node 1).nsn;
     right = (old.node 1).right;
     pairs = [];
     children = record { key = left; page = suc old.used } ∷ record { key = right; page = suc (suc old.used) } ∷ [];
@@ -68,7 +68,7 @@ pub record ChangesOnly {K : Type 0} (old new : Tree K) (a : ℕ) (pairs : List (
   pub there : Used old a
   pub used : new.used ≡ old.used
   pub counter : new.counter ≡ old.counter
-  pub changed : new.node a ≡ node_with (old.node a) (old.node a).number (old.node a).right pairs children
+  pub changed : new.node a ≡ node_with (old.node a) (old.node a).nsn (old.node a).right pairs children
   pub others : (q : ℕ) → q ≢ a → new.node q ≡ old.node q
 
 -- the entry of an inner page a that names page x gets the union of its key and a coming one

@@ -16,7 +16,7 @@ pub record Child (K : Type 0) : Type 0 where
 -- a node: its level (0 for a leaf), its sequence number, its rightlink (0 for none) and its entries
 pub record Node (K : Type 0) : Type 0 where
   pub level : ℕ
-  pub number : ℕ
+  pub nsn : ℕ
   pub right : ℕ
   pub pairs : List (Pair K)
   pub children : List (Child K)
@@ -85,8 +85,8 @@ is_entry r row key x = (x.row == row) && r.same x.key key
 -- a fresh tree: a root of level 1, whose one entry has the start key and names page 2, an empty leaf
 abbrev pub fresh_node : {K : Type 0} → K → ℕ → Node K
 fresh_node start p =
-    if p == 1 then record { level = 1; number = 0; right = 0; pairs = []; children = record { key = start; page = 2 } ∷ [] }
-    else record { level = 0; number = 0; right = 0; pairs = []; children = [] }
+    if p == 1 then record { level = 1; nsn = 0; right = 0; pairs = []; children = record { key = start; page = 2 } ∷ [] }
+    else record { level = 0; nsn = 0; right = 0; pairs = []; children = [] }
 
 abbrev pub fresh_tree : {K : Type 0} → K → Tree K
 fresh_tree start = record { node = fresh_node start; used = 2; counter = 0 }

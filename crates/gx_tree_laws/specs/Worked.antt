@@ -28,7 +28,7 @@ boxes = record { covers = box_covers; same = box_same; most = 4 }
 
 -- a page that isn't taken
 abbrev pub blank : {K : Type 0} → Node K
-blank = record { level = 0; number = 0; right = 0; pairs = []; children = [] }
+blank = record { level = 0; nsn = 0; right = 0; pairs = []; children = [] }
 
 -- the node of a page, where page 1 is first in the list
 abbrev pub node_at : {K : Type 0} → List (Node K) → ℕ → Node K
@@ -43,11 +43,11 @@ tree_of nodes counter = record { node = node_at nodes; used = length nodes; coun
 
 -- a leaf: its number, its rightlink, its pairs
 abbrev pub leaf : {K : Type 0} → ℕ → ℕ → List (Pair K) → Node K
-leaf number right pairs = record { level = 0; number = number; right = right; pairs = pairs; children = [] }
+leaf nsn right pairs = record { level = 0; nsn = nsn; right = right; pairs = pairs; children = [] }
 
 -- an inner node that was never split: its level, its rightlink, its entries
 abbrev pub inner : {K : Type 0} → ℕ → ℕ → List (Child K) → Node K
-inner level right children = record { level = level; number = 0; right = right; pairs = []; children = children }
+inner level right children = record { level = level; nsn = 0; right = right; pairs = []; children = children }
 
 -- a pair without a mark, and one with it
 abbrev pub live : ℕ → Box → Pair Box

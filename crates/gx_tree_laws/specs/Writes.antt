@@ -9,7 +9,7 @@ use Rattle.gx_tree_laws.specs.Reach.{Item}
 pub record IsDescent {K : Type 0} (r : Rules K) (t : Tree K) (item : Item) (coming : K) : Type 0 where
   pub there : Used t item.page
   pub seen : item.seen ≤ t.counter
-  pub covered : (t.node item.page).number ≤ item.seen → EntriesCover r t item.page coming
+  pub covered : (t.node item.page).nsn ≤ item.seen → EntriesCover r t item.page coming
 
 -- the pair of this row and key stands in leaf a, or to the right of it
 pub record IsSeek {K : Type 0} (r : Rules K) (t : Tree K) (a row : ℕ) (key : K) : Type 0 where
@@ -31,7 +31,7 @@ has_place r t parent q = nat_lt 0 (times q (child_pages (t.node parent))) && nat
 -- a descent has to begin again: its page was split since, or the page that it came from has no place for a split of it
 abbrev pub must_restart : {K : Type 0} → Rules K → Tree K → ℕ → Item → Bool
 must_restart r t parent item =
-    nat_lt item.seen (t.node item.page).number || (not (item.page == 1) && not (has_place r t parent item.page))
+    nat_lt item.seen (t.node item.page).nsn || (not (item.page == 1) && not (has_place r t parent item.page))
 
 -- the levels that a descent has left: one more than the root's where it has to begin again, else its page's
 abbrev pub levels_left : {K : Type 0} → Rules K → Tree K → ℕ → Item → ℕ

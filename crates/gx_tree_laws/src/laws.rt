@@ -40,8 +40,8 @@ pub fn split_keeps_the_tree<K>()
         → (test : Pair K → Bool) → standing test new ≡ standing test old }
     ensures numbers { (r : Rules K) (old new : Tree K) (n p : ℕ) (sides : List Bool) (left right : K)
         → IsSplit r old new n p sides left right
-        → (new.counter ≡ suc old.counter) × ((new.node n).number ≡ new.counter)
-        × ((new.node n).right ≡ new.used) × ((new.node new.used).number ≡ (old.node n).number)
+        → (new.counter ≡ suc old.counter) × ((new.node n).nsn ≡ new.counter)
+        × ((new.node n).right ≡ new.used) × ((new.node new.used).nsn ≡ (old.node n).nsn)
         × ((new.node new.used).right ≡ (old.node n).right) }
 {}
 

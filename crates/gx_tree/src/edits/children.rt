@@ -67,7 +67,7 @@ impl<K: KeyClass> Edit<K> for RaiseRoot<K::Key> {
 
     ghost edits = { λ e old new. new ≡ record {
       level = suc old.level;
-      number = old.number;
+      nsn = old.nsn;
       right = old.right;
       pairs = [];
       children = record { key = e.first.bound; page = e.first.page } ∷ record { key = e.second.bound; page = e.second.page } ∷ [];

@@ -8,7 +8,7 @@ use gx_page::Page;
 #[derive(Clone, Copy, Debug, PartialEq, Eq)]
 pub struct Link {
     /// The sequence number.
-    pub number: u64,
+    pub nsn: u64,
     /// The rightlink, 0 for none.
     pub right: u32,
 }
@@ -19,10 +19,10 @@ impl<K: KeyClass> Edit<K> for Link {
 
     ghost fits = { λ link room node. Unit };
 
-    ghost edits = { λ link old new. new ≡ node_with old link.number link.right old.pairs old.children };
+    ghost edits = { λ link old new. new ≡ node_with old link.nsn link.right old.pairs old.children };
 
     fn apply(self, page: &mut Page, _room: u32) {
-        page.set_nsn(self.number);
+        page.set_nsn(self.nsn);
         page.set_right(self.right);
     }
 }

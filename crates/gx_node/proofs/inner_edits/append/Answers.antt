@@ -1,6 +1,6 @@
 use Rattle.std.proofs.Common.{◌≡◌, ◌+◌, ◌≤◌, length, get_or, subst, ap, sym, ◌∙◌, arith}
 use Rattle.std.proofs.lemmas.List.{take_at}
-use Rattle.gx_node.specs.Reading.{format}
+use Rattle.gx_node.specs.Reading.{format_of}
 use Rattle.gx_node.specs.Seen.{child_seen}
 use Rattle.gx_node.proofs.Parts.{IsLawful}
 use Rattle.gx_node.proofs.Slots.{inner_is_keyed}
@@ -10,7 +10,7 @@ use Rattle.gx_node.proofs.inner_edits.append.Goals as goal
 pub append_item-requires-clause-items : goal.append_item-requires-clause-items
 append_item-requires-clause-items g c =
     let k = g.K.KeyClass in
-    let f = format k.KEY k.reading k.start_key in
+    let f = format_of k in
     let laws : IsLawful k.is_key k.spelling f = record { back = g.met.K.KeyClass.reading_back; only = g.met.K.KeyClass.reading_only; size = g.met.K.KeyClass.spelling_length } in
     let size = c.KEY-size.ensures in
     let long : length c.write_child.new.out ≡ c.KEY-size.result + 4 =
@@ -20,7 +20,7 @@ append_item-requires-clause-items g c =
 pub returns : goal.returns
 returns g c =
     let k = g.K.KeyClass in
-    let f = format k.KEY k.reading k.start_key in
+    let f = format_of k in
     let laws : IsLawful k.is_key k.spelling f = record { back = g.met.K.KeyClass.reading_back; only = g.met.K.KeyClass.reading_only; size = g.met.K.KeyClass.spelling_length } in
     let size = c.KEY-size.ensures in
     let long : length c.write_child.new.out ≡ c.KEY-size.result + 4 =

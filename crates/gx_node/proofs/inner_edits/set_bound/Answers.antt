@@ -2,7 +2,7 @@ use Rattle.std.proofs.Common.{◌≡◌, ◌+◌, ◌<◌, [], length, set, get_
 use Rattle.std.proofs.lemmas.List.{take_at, length-map}
 use Rattle.gx_node.specs.Edits.{with_children, bounded_by}
 use Rattle.gx_node.specs.Entries.{child_bytes}
-use Rattle.gx_node.specs.Reading.{format, child_of, inner_of}
+use Rattle.gx_node.specs.Reading.{format_of, child_of, inner_of}
 use Rattle.gx_node.specs.Seen.{child_seen}
 use Rattle.gx_node.proofs.Parts.{IsLawful}
 use Rattle.gx_node.proofs.Slots.{inner_is_keyed, slot_is}
@@ -12,7 +12,7 @@ use Rattle.gx_node.proofs.inner_edits.set_bound.Goals as goal
 pub child_of-child-requires : goal.child_of-child-requires
 child_of-child-requires g c =
     let k = g.K.KeyClass in
-    let f = format k.KEY k.reading k.start_key in
+    let f = format_of k in
     let items = c.args.page.now.items in
     let here : c.args.slot < length items = omega (arith, c.requires.slot, length-map items (child_of f)) in
     ap length c.get.ensures.item ∙ (inner_is_keyed f c.args._used c.args.page.now c.requires.inner c.args.slot [] here).long
@@ -20,7 +20,7 @@ child_of-child-requires g c =
 pub replace-requires-clause-size : goal.replace-requires-clause-size
 replace-requires-clause-size g c =
     let k = g.K.KeyClass in
-    let f = format k.KEY k.reading k.start_key in
+    let f = format_of k in
     let laws : IsLawful k.is_key k.spelling f = record { back = g.met.K.KeyClass.reading_back; only = g.met.K.KeyClass.reading_only; size = g.met.K.KeyClass.spelling_length } in
     let size = c.KEY-size.ensures in
     let long : length c.write_child.new.out ≡ c.KEY-size.result + 4 =
@@ -32,7 +32,7 @@ replace-requires-clause-size g c =
 pub returns : goal.returns
 returns g c =
     let k = g.K.KeyClass in
-    let f = format k.KEY k.reading k.start_key in
+    let f = format_of k in
     let laws : IsLawful k.is_key k.spelling f = record { back = g.met.K.KeyClass.reading_back; only = g.met.K.KeyClass.reading_only; size = g.met.K.KeyClass.spelling_length } in
     let size = c.KEY-size.ensures in
     let long : length c.write_child.new.out ≡ c.KEY-size.result + 4 =

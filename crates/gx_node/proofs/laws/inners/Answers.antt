@@ -1,4 +1,4 @@
-use Rattle.gx_node.specs.Reading.{format}
+use Rattle.gx_node.specs.Reading.{format_of}
 use Rattle.gx_node.proofs.Parts.{IsLawful}
 use Rattle.gx_node.proofs.Pages.{inner_told, inner_back}
 use Rattle.gx_node.proofs.laws.inners.Goals as goal
@@ -6,6 +6,6 @@ use Rattle.gx_node.proofs.laws.inners.Goals as goal
 pub returns : goal.returns
 returns g c =
     let k = g.K.KeyClass in
-    let f = format k.KEY k.reading k.start_key in
+    let f = format_of k in
     let laws : IsLawful k.is_key k.spelling f = record { back = g.met.K.KeyClass.reading_back; only = g.met.K.KeyClass.reading_only; size = g.met.K.KeyClass.spelling_length } in
     record { hold = inner_told k.is_key k.spelling f laws; read = inner_back k.is_key k.spelling f laws }

@@ -2,7 +2,7 @@ use Rattle.std.proofs.Common.{◌+◌, ◌<◌, [], length, get_or, set, ap, ◌
 use Rattle.std.proofs.lemmas.List.{length-map}
 use Rattle.gx_page.specs.Edits.{with_items}
 use Rattle.gx_node.specs.Edits.{with_pairs, marked_as}
-use Rattle.gx_node.specs.Reading.{format, pair_of, leaf_of}
+use Rattle.gx_node.specs.Reading.{format_of, pair_of, leaf_of}
 use Rattle.gx_node.proofs.Slots.{leaf_is_keyed, slot_is}
 use Rattle.gx_node.proofs.EditedLeaves.{leaf_marked, bool_mark}
 use Rattle.gx_node.proofs.leaf_edits.set_mark.Goals as goal
@@ -10,7 +10,7 @@ use Rattle.gx_node.proofs.leaf_edits.set_mark.Goals as goal
 pub set_byte-requires-clause-index : goal.set_byte-requires-clause-index
 set_byte-requires-clause-index g c =
     let k = g.K.KeyClass in
-    let f = format k.KEY k.reading k.start_key in
+    let f = format_of k in
     let items = c.args.page.now.items in
     let here : c.args.slot < length items = omega (arith, c.requires.slot, length-map items (pair_of f)) in
     omega (arith, (leaf_is_keyed f c.args.page.now c.requires.leaf c.args.slot [] here).long, c.KEY.ensures)
@@ -18,7 +18,7 @@ set_byte-requires-clause-index g c =
 pub returns : goal.returns
 returns g c =
     let k = g.K.KeyClass in
-    let f = format k.KEY k.reading k.start_key in
+    let f = format_of k in
     let items = c.args.page.now.items in
     let slot = c.args.slot in
     let item = get_or items slot [] in

@@ -1,13 +1,13 @@
 use Rattle.std.proofs.Common.{◌∙◌, ◌<◌, ◌-◌, ◌*◌, ap, sym, arith, [], length, take, List, ℕ}
 use Rattle.gx_page.proofs.Images.{length-heap}
-use Rattle.gx_node.specs.Reading.{format, has_key, key_of}
+use Rattle.gx_node.specs.Reading.{format_of, has_key, key_of}
 use Rattle.gx_node.proofs.Heaps.{heap_front, cut_item}
 use Rattle.gx_node.proofs.Scanning.{all_of_length, scan_begins, scan_goes_on, scan_finds}
 use Rattle.gx_node.proofs.scan.next_passing.Goals as goal
 
 pub overflow_mul-from : goal.overflow_mul-from
 overflow_mul-from g c =
-    let f = format g.K.KeyClass.KEY g.K.KeyClass.reading g.K.KeyClass.start_key in
+    let f = format_of g.K.KeyClass in
     let items = c.args.page.now.items in
     let fits = c.count-count.ensures.well_formed.fits in
     let front = heap_front items c.args.size c.args.from (all_of_length f c.args.size items c.requires.keyed) c.requires.from in
@@ -15,27 +15,27 @@ overflow_mul-from g c =
 
 pub overflow_sub-heap : goal.overflow_sub-heap
 overflow_sub-heap g c =
-    let f = format g.K.KeyClass.KEY g.K.KeyClass.reading g.K.KeyClass.start_key in
+    let f = format_of g.K.KeyClass in
     let items = c.args.page.now.items in
     let front = heap_front items c.args.size c.args.from (all_of_length f c.args.size items c.requires.keyed) c.requires.from in
     omega (arith, front.0, length-heap items)
 
 pub loop-slot-init : goal.loop-slot-init
 loop-slot-init g c =
-    let f = format g.K.KeyClass.KEY g.K.KeyClass.reading g.K.KeyClass.start_key in
+    let f = format_of g.K.KeyClass in
     let items = c.args.page.now.items in
     scan_begins _ items c.args.size c.args.from _ (all_of_length f c.args.size items c.requires.keyed) c.requires.from
     (c.split_at.ensures.front ∙ ap (λ l. take (length l - c.args.from * c.args.size) l) c.heap-heap.ensures.heap)
 
 pub overflow_sub-rest : goal.overflow_sub-rest
 overflow_sub-rest g c =
-    let f = format g.K.KeyClass.KEY g.K.KeyClass.reading g.K.KeyClass.start_key in
+    let f = format_of g.K.KeyClass in
     let items = c.args.page.now.items in
     (cut_item items c.args.size c.loop-slot.slot c.loop-slot.rest.now (all_of_length f c.args.size items c.requires.keyed) (omega arith) c.loop-slot.invariant.left).room
 
 pub item_passes-requires-clause-long : goal.item_passes-requires-clause-long
 item_passes-requires-clause-long g c =
-    let f = format g.K.KeyClass.KEY g.K.KeyClass.reading g.K.KeyClass.start_key in
+    let f = format_of g.K.KeyClass in
     let items = c.args.page.now.items in
     let slot = c.loop-slot.slot in
     let here : slot < length items = omega arith in
@@ -44,7 +44,7 @@ item_passes-requires-clause-long g c =
 
 pub item_passes-requires-clause-key : goal.item_passes-requires-clause-key
 item_passes-requires-clause-key g c =
-    let f = format g.K.KeyClass.KEY g.K.KeyClass.reading g.K.KeyClass.start_key in
+    let f = format_of g.K.KeyClass in
     let items = c.args.page.now.items in
     let slot = c.loop-slot.slot in
     let here : slot < length items = omega arith in
@@ -53,7 +53,7 @@ item_passes-requires-clause-key g c =
 
 pub returns-then-item_passes : goal.returns-then-item_passes
 returns-then-item_passes g c =
-    let f = format g.K.KeyClass.KEY g.K.KeyClass.reading g.K.KeyClass.start_key in
+    let f = format_of g.K.KeyClass in
     let items = c.args.page.now.items in
     let slot = c.loop-slot.slot in
     let here : slot < length items = omega arith in
@@ -64,7 +64,7 @@ returns-then-item_passes g c =
 
 pub loop-slot-preserved : goal.loop-slot-preserved
 loop-slot-preserved g c =
-    let f = format g.K.KeyClass.KEY g.K.KeyClass.reading g.K.KeyClass.start_key in
+    let f = format_of g.K.KeyClass in
     let items = c.args.page.now.items in
     let slot = c.loop-slot.slot in
     let here : slot < length items = omega arith in

@@ -1,9 +1,9 @@
-use Rattle.gx_node.specs.Reading.{format}
+use Rattle.gx_node.specs.Reading.{format_of}
 use Rattle.gx_tree.proofs.Parted.{node_halves}
 use Rattle.gx_tree.proofs.halves.halve.Goals as goal
 
 pub returns-clause-halves : goal.returns-clause-halves
 returns-clause-halves g c =
     let k = g.K.KeyClass in
-    node_halves _ (format k.KEY k.reading k.start_key) c.args.page.now k.sides_of c.node_keys.new.keys c.halves_of.result
+    node_halves _ (format_of k) c.args.page.now k.sides_of c.node_keys.new.keys c.halves_of.result
     c.node_keys.ensures c.halves_of.ensures.halves

@@ -11,5 +11,5 @@ returns-clause-kept g c =
     let one = g.P.Pages.store c.change.new.self in
     let two = g.P.Pages.store c.change-2.new.self in
     two_changes old one two c.args.page (left_of c.args.sides.now (node_at old.nodes c.args.page))
-    (λ (n : Node g.row.K-Key.Denot). node_with n c.args.link.number c.args.link.right n.pairs n.children)
+    (λ (n : Node g.row.K-Key.Denot). node_with n c.args.link.nsn c.args.link.right n.pairs n.children)
     c.change.ensures.others c.change.ensures.edited c.change-2.ensures.others c.change-2.ensures.edited

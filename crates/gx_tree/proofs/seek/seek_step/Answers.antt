@@ -2,7 +2,7 @@ use Rattle.std.proofs.Common.{◌≡◌, ◌∙◌, sym, ap, subst, refl, rules,
 use Rattle.std.specs.Prelude.{true, slice_get}
 use Rattle.gx_tree_laws.specs.Lists.{how_many}
 use Rattle.gx_tree_laws.specs.Trees.{Pair, Node}
-use Rattle.gx_node.specs.Reading.{format}
+use Rattle.gx_node.specs.Reading.{format_of}
 use Rattle.gx_node.specs.Seen.{pair_seen}
 use Rattle.gx_tree.specs.Store.{node_at}
 use Rattle.gx_tree.specs.Wants.{wants}
@@ -12,7 +12,7 @@ use Rattle.gx_tree.proofs.seek.seek_step.Goals as goal
 
 pub returns-in-Some-clause-sought : goal.returns-in-Some-clause-sought
 returns-in-Some-clause-sought g c =
-    let f = format g.K.KeyClass.KEY g.K.KeyClass.reading g.K.KeyClass.start_key in
+    let f = format_of g.K.KeyClass in
     let w = wants g.K.Probing.passes c.args.wanted.now.keys c.args.wanted.now.row in
     let page = c.page-page.result.now in
     let level : page.level ≡ 0 = search rules in
@@ -26,7 +26,7 @@ returns-in-Some-clause-sought g c =
 
 pub returns-in-None-clause-sought : goal.returns-in-None-clause-sought
 returns-in-None-clause-sought g c =
-    let f = format g.K.KeyClass.KEY g.K.KeyClass.reading g.K.KeyClass.start_key in
+    let f = format_of g.K.KeyClass in
     let w = wants g.K.Probing.passes c.args.wanted.now.keys c.args.wanted.now.row in
     let page = c.page-page.result.now in
     let level : page.level ≡ 0 = search rules in

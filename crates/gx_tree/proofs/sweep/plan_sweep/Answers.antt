@@ -1,7 +1,7 @@
 use Rattle.std.proofs.Common.{◌≡◌, ◌∙◌, Bool, List, sym, ap, map, length}
 use Rattle.std.proofs.lemmas.List.{length-map}
 use Rattle.gx_node.specs.Edits.{entry_of}
-use Rattle.gx_node.specs.Reading.{format}
+use Rattle.gx_node.specs.Reading.{format_of}
 use Rattle.gx_tree_laws.specs.Trees.{Pair, Node}
 use Rattle.gx_tree_laws.specs.Writes.{is_sweepable}
 use Rattle.gx_tree.specs.Store.{node_at}
@@ -12,7 +12,7 @@ use Rattle.gx_tree.proofs.sweep.plan_sweep.Goals as goal
 
 pub returns-clause-plans : goal.returns-clause-plans
 returns-clause-plans g c = λ test agrees.
-    let f = format g.K.KeyClass.KEY g.K.KeyClass.reading g.K.KeyClass.start_key in
+    let f = format_of g.K.KeyClass in
     let node = node_at (g.P.Pages.store c.bring_leaf.new.pages).nodes c.args.page in
     let takes = is_sweepable (λ (x : Pair g.row.K-Key.Denot). test (entry_of x)) in
     let same : c.of.result ≡ node = c.of.ensures ∙ leaf_at f c.page.result.now node c.page.ensures.node c.in_ok-count.ensures.leaf in

@@ -1,12 +1,12 @@
 use Rattle.std.proofs.Common.{◌∙◌, ap, sym, subst, map}
 use Rattle.std.proofs.lemmas.Simd.{map-map}
 use Rattle.gx_node.specs.Hits.{IsNextHit}
-use Rattle.gx_node.specs.Reading.{format, child_of}
+use Rattle.gx_node.specs.Reading.{format_of, child_of}
 use Rattle.gx_node.proofs.inner.Inner.next_hit.Goals as goal
 
 pub returns : goal.returns
 returns g c =
-    let f = format g.K.KeyClass.KEY g.K.KeyClass.reading g.K.KeyClass.start_key in
+    let f = format_of g.K.KeyClass in
     subst (λ hits. IsNextHit hits c.args.from c.next_passing.result)
     (sym (ap (λ n. map (λ child. g.K.Probing.passes c.args.probe.now child.key) n.children) (sym c.self.view_is)
     ∙ map-map (λ child. g.K.Probing.passes c.args.probe.now child.key) (child_of f) c.self.inside.page.now.items))

@@ -1,13 +1,13 @@
 use Rattle.std.proofs.Common.{◌≡◌, ◌-◌, ◌<◌, ◌≤◌, ◌∙◌, ap, sym, length, get_or, rules, arith}
 use Rattle.gx_page.specs.Contents.{Contents}
-use Rattle.gx_node.specs.Reading.{format, is_node}
+use Rattle.gx_node.specs.Reading.{format_of, is_node}
 use Rattle.gx_tree.specs.Store.{Store, node_of, node_at}
 use Rattle.gx_tree.proofs.Listed.{in_items, node_in, each_at, number_at}
 use Rattle.gx_tree.proofs.memory.MemoryPagesPages.page.Goals as goal
 
 pub returns-clause-node : goal.returns-clause-node
 returns-clause-node g c =
-    let f = format g.K.KeyClass.KEY g.K.KeyClass.reading g.K.KeyClass.start_key in
+    let f = format_of g.K.KeyClass in
     let items = c.self.inside.pages.items in
     let here : c.index.result.now ≡ get_or items (c.args.page - 1) c.index.result.now = search rules in
     let low : 0 < c.args.page = c.requires.0 in
@@ -18,7 +18,7 @@ returns-clause-node g c =
 
 pub returns-clause-number : goal.returns-clause-number
 returns-clause-number g c =
-    let f = format g.K.KeyClass.KEY g.K.KeyClass.reading g.K.KeyClass.start_key in
+    let f = format_of g.K.KeyClass in
     let items = c.self.inside.pages.items in
     let here : c.index.result.now ≡ get_or items (c.args.page - 1) c.index.result.now = search rules in
     let low : 0 < c.args.page = c.requires.0 in
@@ -28,7 +28,7 @@ returns-clause-number g c =
 
 pub returns-clause-passes : goal.returns-clause-passes
 returns-clause-passes g c =
-    let f = format g.K.KeyClass.KEY g.K.KeyClass.reading g.K.KeyClass.start_key in
+    let f = format_of g.K.KeyClass in
     let items = c.self.inside.pages.items in
     let here : c.index.result.now ≡ get_or items (c.args.page - 1) c.index.result.now = search rules in
     let low : 0 < c.args.page = c.requires.0 in

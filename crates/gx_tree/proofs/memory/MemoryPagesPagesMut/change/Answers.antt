@@ -2,7 +2,7 @@ use Rattle.std.proofs.Common.{◌≡◌, ◌+◌, ◌-◌, ◌<◌, ◌≤◌, �
 use Rattle.std.proofs.lemmas.List.{length-set, get_or-set_same, map-set}
 use Rattle.gx_page.specs.Contents.{Contents}
 use Rattle.gx_tree_laws.specs.Trees.{Node}
-use Rattle.gx_node.specs.Reading.{format, is_node}
+use Rattle.gx_node.specs.Reading.{format_of, is_node}
 use Rattle.gx_tree.specs.Store.{Store, node_of, node_at, with_node}
 use Rattle.gx_tree.proofs.Changed.{set_elsewhere}
 use Rattle.gx_tree.proofs.Listed.{in_items, node_in, all_set, number_at, numbered_set}
@@ -10,7 +10,7 @@ use Rattle.gx_tree.proofs.memory.MemoryPagesPagesMut.change.Goals as goal
 
 pub apply-requires-clause-fits : goal.apply-requires-clause-fits
 apply-requires-clause-fits g c =
-    let f = format g.K.KeyClass.KEY g.K.KeyClass.reading g.K.KeyClass.start_key in
+    let f = format_of g.K.KeyClass in
     let items = c.self.inside.pages.items in
     let was = c.index_mut.result.now in
     let here : was ≡ get_or items (c.args.page - 1) was = search rules in
@@ -26,7 +26,7 @@ apply-requires-clause-fits g c =
 
 pub invariant_of-self : goal.invariant_of-self
 invariant_of-self g c =
-    let f = format g.K.KeyClass.KEY g.K.KeyClass.reading g.K.KeyClass.start_key in
+    let f = format_of g.K.KeyClass in
     let items = c.self.inside.pages.items in
     let k = c.args.page - 1 in
     let was = c.index_mut.result.now in
@@ -45,7 +45,7 @@ invariant_of-self g c =
 
 pub returns-clause-edited : goal.returns-clause-edited
 returns-clause-edited g c =
-    let f = format g.K.KeyClass.KEY g.K.KeyClass.reading g.K.KeyClass.start_key in
+    let f = format_of g.K.KeyClass in
     let items = c.self.inside.pages.items in
     let k = c.args.page - 1 in
     let was = c.index_mut.result.now in
@@ -65,7 +65,7 @@ returns-clause-edited g c =
 
 pub returns-clause-others : goal.returns-clause-others
 returns-clause-others g c =
-    let f = format g.K.KeyClass.KEY g.K.KeyClass.reading g.K.KeyClass.start_key in
+    let f = format_of g.K.KeyClass in
     let items = c.self.inside.pages.items in
     let k = c.args.page - 1 in
     let was = c.index_mut.result.now in

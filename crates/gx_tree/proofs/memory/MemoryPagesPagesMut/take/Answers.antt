@@ -3,14 +3,14 @@ use Rattle.std.proofs.lemmas.List.{length-append, map-append}
 use Rattle.std.specs.List.{list_all}
 use Rattle.gx_page.specs.Contents.{Contents}
 use Rattle.gx_tree_laws.specs.Trees.{Node}
-use Rattle.gx_node.specs.Reading.{format, is_node}
+use Rattle.gx_node.specs.Reading.{format_of, is_node}
 use Rattle.gx_tree.specs.Store.{Store, node_of, node_at, with_page, numbered}
 use Rattle.gx_tree.proofs.Listed.{in_items, node_in, each_at, all_more, numbered_more}
 use Rattle.gx_tree.proofs.memory.MemoryPagesPagesMut.take.Goals as goal
 
 pub invariant_of-self : goal.invariant_of-self
 invariant_of-self g c =
-    let f = format g.K.KeyClass.KEY g.K.KeyClass.reading g.K.KeyClass.start_key in
+    let f = format_of g.K.KeyClass in
     let items = c.self.inside.pages.items in
     let new = c.set_number.new.self in
     let was = c.index.result.now in
@@ -37,7 +37,7 @@ invariant_of-self g c =
 
 pub returns-in-Some-clause-taken : goal.returns-in-Some-clause-taken
 returns-in-Some-clause-taken g c =
-    let f = format g.K.KeyClass.KEY g.K.KeyClass.reading g.K.KeyClass.start_key in
+    let f = format_of g.K.KeyClass in
     let items = c.self.inside.pages.items in
     let from = c.args.from in
     let was = c.index.result.now in
