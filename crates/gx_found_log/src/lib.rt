@@ -2,6 +2,7 @@
 #![tactic(auto)]
 
 mod body;
+mod classes;
 mod found;
 mod head;
 mod part;
@@ -9,6 +10,7 @@ mod readable;
 mod record;
 
 pub use body::on_body;
+pub use classes::read_class_log;
 pub use found::{FoundLog, read_log};
 pub use part::Part;
 pub use readable::Readable;
