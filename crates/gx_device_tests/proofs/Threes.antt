@@ -8,7 +8,7 @@ use Rattle.gx_pool.specs.Bringing.{Brings, BringsAll}
 use Rattle.gx_pool.specs.Creating.{Creates}
 use Rattle.gx_pool.specs.Edits.{changed}
 use Rattle.gx_pool.specs.Marks.{is_held}
-use Rattle.gx_pool.specs.State.{State, Kept, IsSound, holding, kept, stamp_of}
+use Rattle.gx_pool.specs.State.{State, Kept, AllKept, IsSound, holding, kept, stamp_of}
 use Rattle.gx_pool.proofs.Places.{changed_kept, changed_other}
 use Rattle.gx_device_tests.specs.Frames.{AddsSibling, AreThree, ChangesOne, ChangesThree}
 
@@ -96,3 +96,15 @@ true_false b is not_so = grind arith
 -- a page that was held stays while another is made
 pub held_kept : (s t : State) (page other level batch : ℕ) → other ≢ page → is_held s.held (Some other) ≡ true → Creates s t page level batch → IsSome (kept s other) → IsSome (kept t other)
 held_kept s t page other level batch ne held made there = ⊎_elim (λ same. rw same there) (λ left. absurd (true_false (is_held s.held (Some other)) held left.was.free)) (made.others other ne)
+
+among_two : (node parent : ℕ) → (is_held (node ∷ parent ∷ []) (Some node) ≡ true) × (is_held (node ∷ parent ∷ []) (Some parent) ≡ true)
+among_two node parent = (grind arith, grind arith)
+
+-- two pages that were brought are kept beside one that is made
+pub three_kept : (t u : State) (node parent sibling level batch : ℕ) → AreThree node parent sibling → t.held ≡ node ∷ parent ∷ [] → AllKept t (node ∷ parent ∷ []) → Creates t u sibling level batch
+    → IsSome (kept u node) × IsSome (kept u parent) × IsSome (kept u sibling)
+three_kept t u node parent sibling level batch apart held all made = (
+  held_kept t u sibling node level batch apart.node_sibling (ap (λ h. is_held h (Some node)) held ∙ (among_two node parent).0) made (all 0 (omega arith)),
+  held_kept t u sibling parent level batch apart.parent_sibling (ap (λ h. is_held h (Some parent)) held ∙ (among_two node parent).1) made (all 1 (omega arith)),
+  rw made.made refl,
+)

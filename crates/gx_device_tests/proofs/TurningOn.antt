@@ -1,11 +1,10 @@
 -- What a call of a turn keeps, calls in a row, and a head that is put first.
-use Rattle.std.proofs.Common.{◌≡◌, ◌∙◌, sym, ap, subst, refl, inl, ℕ, ◌+◌, ◌≤◌, Bool, true, false, List, [], ◌∷◌, ◌++◌, length, length-append, Result, Ok, Err, arith}
+use Rattle.std.proofs.Common.{◌≡◌, ◌∙◌, sym, ap, subst, refl, inl, ℕ, List, [], ◌∷◌, ◌++◌, length, length-append, Result, Ok, Err, arith}
 use Rattle.std.specs.Prelude.{OnOk, IsErrAnd}
 use Rattle.gx_geom.specs.declared.refusal.Refusal.{Refusal}
 use Rattle.gx_disk.specs.Device.{Device}
-use Rattle.gx_disk.specs.Moments.{Leaves}
 use Rattle.gx_record.specs.Rec.{Rec}
-use Rattle.gx_record.specs.Format.{HasKey, IsInRange, spelling}
+use Rattle.gx_record.specs.Format.{spelling}
 use Rattle.gx_glog.proofs.Besides.{spelled_some}
 use Rattle.gx_glog.specs.declared.filling.Appended.{Appended}
 use Rattle.gx_glog.specs.declared.filling.Appended.TheVariants.{At, NoRoom}
@@ -16,16 +15,13 @@ use Rattle.gx_glog.specs.State as state
 use Rattle.gx_glog.specs.State.{Log}
 use Rattle.gx_glog.specs.Turning.{PutsFirst}
 use Rattle.gx_pool.specs.State.{State, NoneDirty}
-use Rattle.gx_recovery.specs.Known.{Known, IsLawful}
+use Rattle.gx_recovery.specs.Known.{Known}
 use Rattle.gx_recovery.specs.Records.{Record}
-use Rattle.gx_recovery.specs.Analysis.{analysis}
 use Rattle.gx_recovery.specs.Logged.{Logged}
 use Rattle.gx_recovery.specs.Renewal.{renewed}
 use Rattle.gx_durable.specs.Spelled.{Reading, record_read, AreRecords}
 use Rattle.gx_durable.specs.Stamps.{Stamped}
-use Rattle.gx_durable.specs.Standing.{MayRenew}
-use Rattle.gx_durable.specs.Steps.{GoesOn}
-use Rattle.gx_durable.specs.Calls.{Runs, GoesSafely}
+use Rattle.gx_durable.specs.Calls.{GoesSafely}
 use Rattle.gx_durable.specs.Joining.{CallsJoin}
 use Rattle.gx_durable.specs.Turns.{HeadGrows, HeadStaysUp, TurnKeepsRunning, told_turn, told_result}
 use Rattle.gx_device_tests.specs.Logs.{ComesBeforeLast, IsDue}

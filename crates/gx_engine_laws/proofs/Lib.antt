@@ -15,3 +15,4 @@ pub mod WorkedEvents
 pub mod Meanwhile
 pub mod Looked
 pub mod Reopened
+pub mod Claims

@@ -1,16 +1,20 @@
 //! What holds of every engine whose events are as they are defined.
-ghost use Rattle.std.specs.Prelude.{◌≡◌, ◌≢◌, ◌≤◌, ℕ, Bool, true, false, Option, None, Some, All, List, [], ◌∷◌, if◌then◌else◌, is_some, replicate};
+ghost use Rattle.std.specs.Prelude.{◌≡◌, ◌≢◌, ◌≤◌, ℕ, Bool, true, false, Option, None, Some, All, List, [], ◌∷◌, length, sum_by, if◌then◌else◌, is_some, replicate};
+ghost use Rattle.gx_geom.specs.declared.refusal.Refusal.TheVariants.{ClaimsFull};
 ghost use Rattle.gx_machine.specs.declared.call.Call.{Call};
 ghost use Rattle.gx_machine.specs.declared.call.Call.TheVariants.{Search};
 ghost use Rattle.gx_machine.specs.declared.entry.Entry.{Entry};
 ghost use Rattle.gx_machine.specs.declared.query.Query.{Query};
+ghost use Rattle.gx_machine.specs.declared.reply.Asked.TheVariants.{Now};
+ghost use Rattle.gx_machine.specs.declared.reply.Reply.TheVariants.{Refused};
 ghost use Rattle.gx_machine.specs.Keys.{Keys, IsLawful, matches};
 ghost use Rattle.gx_machine.specs.Sets.{has, found, InOrder, IsSetOf};
 ghost use Rattle.gx_machine.specs.Sessions.{Locks, Open, view, write_conflicts};
 ghost use Rattle.gx_machine.specs.Machine.{Machine, set_of};
 ghost use Rattle.gx_machine.specs.Runs.{Crashes, IsStep};
-ghost use Rattle.gx_machine.specs.declared.limits.TheConstants.{SESSIONS};
+ghost use Rattle.gx_machine.specs.declared.limits.TheConstants.{SESSIONS, MAX_CLAIMS};
 ghost use Rattle.gx_engine_laws.specs.Slots.{Note, Free, Working, locks_held, notes_kept, slot_at, noted};
+ghost use Rattle.gx_engine_laws.specs.Asking.{claims_held, ask};
 ghost use Rattle.gx_engine_laws.specs.Engines.{Engine, opened_engine, opened_machine, last_number, stood, kept, gathered, changes_of, SeenAs, IsSound, IsSame};
 ghost use Rattle.gx_engine_laws.specs.Events.{Event, Seals, Opens, IsEvent, step_of};
 ghost use Rattle.gx_engine_laws.specs.Runs.{AreEvents, steps_of, RunsAs};
@@ -125,6 +129,21 @@ pub fn a_failed_engine_only_refuses<B>()
         → may_follow_failure event ≡ true }
     ensures same { (k : Keys B) (old new : Engine B) (event : Event B) → old.failed ≡ true → IsEvent k old event new
         → is_opening event ≡ false → IsSame new old }
+{}
+
+/// Events, however many, keep the claims that are held in all at most 512: an ask that would take one more is refused, and none is
+/// refused for that where fewer are held. An opened engine begins so: over a committed set it holds none, with losers as many as
+/// they have noted.
+pub fn claims_stay_few<B>()
+    ensures one { (k : Keys B) → IsLawful k → (old new : Engine B) (event : Event B) → IsSound k old → IsEvent k old event new
+        → claims_held old.slots ≤ MAX_CLAIMS → claims_held new.slots ≤ MAX_CLAIMS }
+    ensures many { (k : Keys B) → IsLawful k → (old new : Engine B) (m : Machine B) (events : List (Event B)) → IsSound k old
+        → SeenAs k old m → AreEvents k old events new → claims_held old.slots ≤ MAX_CLAIMS → claims_held new.slots ≤ MAX_CLAIMS }
+    ensures full { (k : Keys B) (s : ℕ) (call : Call B) (engine : Engine B) → (ask k s call engine).0 ≡ Now (Refused ClaimsFull)
+        → MAX_CLAIMS ≤ claims_held engine.slots }
+    ensures opened { (k : Keys B) (number : ℕ) (set : List (Entry B)) → claims_held (opened_engine k number set).slots ≡ 0 }
+    ensures losers { (k : Keys B) (number : ℕ) (losers : List (List (Note B))) (old new : Engine B) → IsReopened k number losers old new
+        → claims_held new.slots ≡ sum_by length losers }
 {}
 
 /// An opened engine may have losers, transactions that a crash cut off, of which each is held and undone by a session. It is

@@ -20,7 +20,7 @@ use Rattle.gx_tree_laws.proofs.Sums.{sum_over_le, each_always}
 use Rattle.gx_tree_laws.proofs.OwnLook.{look_goes_on}
 use Rattle.gx_tree_laws.proofs.Chains.{some_child}
 use Rattle.gx_tree_laws.proofs.DescentSteps.{descent_begins, descent_goes_down}
-use Rattle.gx_tree_laws.proofs.SeekSteps.{seek_begins, seek_goes_right}
+use Rattle.gx_tree_laws.proofs.SeekSteps.{seek_begins, seek_goes_right, sought_stands}
 use Rattle.gx_engine_laws.specs.Slots.{Note, Slot, Free, Working, Undoing, Waiting, notes_kept, slot_at}
 use Rattle.gx_engine_laws.specs.Engines.{gathered}
 use Rattle.gx_engine_laws.specs.Events as events
@@ -222,6 +222,12 @@ module _ {B : Type 0} (c : Class B) (l : IsLawful c) where
     seek_right s e leaf at none =
         let f : SeeksFor c t (slot_at s old.slots) e leaf = subst (λ (x : Work B). DoesWork c t (slot_at s old.slots) x) at (w.works s) in
         record { wanted = f.wanted; seek = (seek_goes_right c.rules leaf e.row e.key t f.seek none).0 }
+
+    -- what is sought stands
+    pub seeks_stand : (s : ℕ) (e : Entry B) (leaf : ℕ) → old.work s ≡ Seeks e leaf → standing (is_of c e) t ≡ 1
+    seeks_stand s e leaf at =
+        let f : SeeksFor c t (slot_at s old.slots) e leaf = subst (λ (x : Work B). DoesWork c t (slot_at s old.slots) x) at (w.works s) in
+        sought_stands c.rules leaf e.row e.key t legal f.seek
 
     -- Answers.
 

@@ -15,7 +15,7 @@ use Rattle.gx_tree_laws.specs.Trees.{Pair, Tree, Used, is_entry}
 use Rattle.gx_tree_laws.specs.Legal.{Legal}
 use Rattle.gx_tree_laws.specs.Steps.{IsAdding, IsMarking, Adds, Marks, with_mark}
 use Rattle.gx_tree_laws.proofs.AllSteps.{legal_step}
-use Rattle.gx_tree_laws.proofs.SeekSteps.{seek_begins}
+use Rattle.gx_tree_laws.proofs.SeekSteps.{seek_begins, seek_marked}
 use Rattle.gx_engine_laws.specs.Slots.{Note, Slot, Free, Working, Undoing, Waiting, locks_held, notes_kept, slot_at, with_slot, noted, WithNote}
 use Rattle.gx_engine_laws.specs.Engines.{HoldsItsLocks}
 use Rattle.gx_engine_laws.specs.Events as events
@@ -102,11 +102,12 @@ module _ {B : Type 0} (c : Class B) (l : IsLawful c) where
         now = live_by_pair c l new legal_then e leaf used level (with_mark c.rules e.row e.key mark y.before) (with_mark c.rules e.row e.key mark y.after) y_then pairs is;
         others = λ other ne. marked_others c l old new leaf e mark legal step y.before y.after y.one y.parts y.passes other ne;
         there = step.changes.there;
-        sought = seek_begins c.rules leaf e.row e.key new legal_then used level
-            (let counts = counted_in (is_of c e) (with_mark c.rules e.row e.key mark y.before) (with_mark c.rules e.row e.key mark y.after) y_then in
-            let one = ap (λ b. one_if b) is in
-            let same = ap (λ xs. how_many (is_of c e) xs) pairs in
-            omega (arith, counts, one, same));
+        sought = seek_marked c.rules leaf e.row e.key old new leaf e.row e.key mark step
+            (seek_begins c.rules leaf e.row e.key old legal step.changes.there step.leaf
+            (let counts = counted_in (is_of c e) y.before y.after y.one in
+            let one = ap (λ b. one_if b) y.passes in
+            let same = ap (λ xs. how_many (is_of c e) xs) y.parts in
+            omega (arith, counts, one, same)));
       }
 
   -- a pair of an entry with this mark, as a pair of the entry

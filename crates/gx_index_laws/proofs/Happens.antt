@@ -7,6 +7,7 @@ use Rattle.gx_machine.proofs.SetsByTests.{set_of_a_test_that_agrees}
 use Rattle.gx_engine_laws.specs.Slots.{slot_at}
 use Rattle.gx_engine_laws.specs.Events.{Event, IsEvent, step_of}
 use Rattle.gx_engine_laws.specs.Kinds.{changes_what_stood}
+use Rattle.gx_engine_laws.proofs.Claims.{claims_stay_few}
 use Rattle.gx_engine_laws.proofs.Follow.{Follows}
 use Rattle.gx_engine_laws.proofs.Faults.{event_follows}
 use Rattle.gx_engine_laws.proofs.EventRuns.{still_sound, run_follows}
@@ -19,7 +20,6 @@ use Rattle.gx_index_laws.specs.States.{State, tree_now, engine_of}
 use Rattle.gx_index_laws.specs.Working.{DoesWork, AreRestored}
 use Rattle.gx_index_laws.specs.Whole.{IsTied, KeepsSets, IsWhole}
 use Rattle.gx_index_laws.specs.Happening.{Happens}
-use Rattle.gx_index_laws.proofs.Claims.{claims_stay_few}
 
 -- what an event leaves, beside what the engine's laws say of it
 pub record Leaves {B : Type 0} (c : Class B) (s : State B) : Type 0 where

@@ -1,7 +1,6 @@
 pub mod Tools
 pub mod Living
 pub mod Leaving
-pub mod Claims
 pub mod Room
 pub mod Standing
 pub mod Writing
@@ -14,8 +13,6 @@ pub mod Closing
 pub mod Logging
 pub mod AskedCalls
 pub mod Noting
-pub mod AlikeTrees
-pub mod Stepping
 pub mod FreshIndex
 pub mod Joins
 pub mod Numbered
@@ -28,7 +25,7 @@ pub mod WorkedLife
 pub mod Meanwhile
 pub mod Chores
 pub mod Others
-pub mod AlikeLooks
 pub mod Unfreed
 pub mod Listed
 pub mod Freed
+pub mod Alike

@@ -1,5 +1,5 @@
 -- What is no session's leaves each session's call no more to do: a split, a widening, a sweep, and the log.
-use Rattle.std.proofs.Common.{◌≡◌, ℕ, zero, suc, ◌+◌, ◌-◌, ◌*◌, ◌<◌, ◌≤◌, Bool, true, false, not, ◌&&◌, ◌||◌, inl, inr, List, [], ◌∷◌, ◌++◌, map, filter, length, None, Some, refl, ap, sym, ◌∙◌, subst, arith}
+use Rattle.std.proofs.Common.{◌≡◌, ℕ, suc, ◌+◌, ◌-◌, ◌*◌, ◌<◌, ◌≤◌, Bool, true, false, not, ◌&&◌, ◌||◌, inl, inr, List, [], ◌∷◌, ◌++◌, map, filter, length, None, Some, refl, ap, sym, ◌∙◌, subst, arith}
 use Rattle.std.specs.Prelude.{nat_lt, ◌==◌, if◌then◌else◌}
 use Rattle.std.proofs.lemmas.Bool.{cases_eq, lt-ltb, ltb-true}
 use Rattle.std.proofs.lemmas.List.{append-nil, append_assoc}
@@ -8,16 +8,16 @@ use Rattle.gx_tree_laws.specs.Lists.{one_if}
 use Rattle.gx_tree_laws.specs.Trees.{Pair, Child, Node, Tree, Used, size, times, child_pages, walk, standing}
 use Rattle.gx_tree_laws.specs.Legal.{Linked, Legal}
 use Rattle.gx_tree_laws.specs.Steps.{ChangesOnly, with_key, with_mark, spares, Step, Splits, SplitsRoot, Widens, Adds, Marks, Sweeps, IsStep}
-use Rattle.gx_tree_laws.specs.Reach.{Item, run, down, under, ahead_of, ahead}
+use Rattle.gx_tree_laws.specs.Reach.{Item}
 use Rattle.gx_tree_laws.specs.Looks.{IsLook}
 use Rattle.gx_tree_laws.specs.Writes.{is_sweepable, has_place, must_restart, levels_left, descent_left}
-use Rattle.gx_tree_laws.proofs.Sums.{sum_over_same, sum_over_add, each_always}
 use Rattle.gx_tree_laws.proofs.Chains.{one_at, one_off, pages_with_key, length_with_key, length_after, linked_once}
 use Rattle.gx_tree_laws.proofs.Splits.{walk_split}
 use Rattle.gx_tree_laws.proofs.Roots.{walk_root}
 use Rattle.gx_tree_laws.proofs.Changes.{level_kept, nsn_kept, pages_kept, walk_kept}
 use Rattle.gx_tree_laws.proofs.PageSteps.{standing_widened, standing_swept_plain}
 use Rattle.gx_tree_laws.proofs.Levels.{level_most}
+use Rattle.gx_tree_laws.proofs.Bounds.{ahead_add}
 use Rattle.gx_tree_laws.proofs.SplitReach.{ahead_split}
 use Rattle.gx_tree_laws.proofs.RootReach.{ahead_root}
 use Rattle.gx_tree_laws.proofs.ChangeReach.{ahead_kept}
@@ -42,28 +42,6 @@ use Rattle.gx_index_laws.specs.Measures.{look_left, seek_left, claims_pair, call
 use Rattle.gx_index_laws.proofs.Tools.{not_true}
 use Rattle.gx_index_laws.proofs.Standing.{known_lawful, is_legal}
 use Rattle.gx_index_laws.proofs.Logging.{new_tree}
-
--- Two counts of what lies ahead, together.
-module _ {B : Type 0} (t : Tree B) where
-  down_add : (f g : ℕ → ℕ) (k q : ℕ) → down t (λ x. f x + g x) k q ≡ down t f k q + down t g k q
-  down_add f g zero q = refl
-  down_add f g (suc k) q =
-      let each = sum_over_same (down t (λ x. f x + g x) k) (λ x. down t f k x + down t g k x) (child_pages (t.node q))
-      (each_always (λ x. down t (λ x. f x + g x) k x ≡ down t f k x + down t g k x) (down_add f g k) (child_pages (t.node q))) in
-      let add = sum_over_add (down t f k) (down t g k) (child_pages (t.node q)) in
-      omega (arith, each, add)
-
-  ahead_of_add : (f g : ℕ → ℕ) (item : Item) → ahead_of t (λ x. f x + g x) item ≡ ahead_of t f item + ahead_of t g item
-  ahead_of_add f g item =
-      sum_over_same (under t (λ x. f x + g x)) (λ x. under t f x + under t g x) (run t t.used item.seen item.page)
-      (each_always (λ x. under t (λ x. f x + g x) x ≡ under t f x + under t g x) (λ q. down_add f g (t.node q).level q) (run t t.used item.seen item.page))
-      ∙ sum_over_add (under t f) (under t g) (run t t.used item.seen item.page)
-
-  ahead_add : (f g : ℕ → ℕ) (stack : List Item) → ahead t (λ x. f x + g x) stack ≡ ahead t f stack + ahead t g stack
-  ahead_add f g stack =
-      sum_over_same (ahead_of t (λ x. f x + g x)) (λ i. ahead_of t f i + ahead_of t g i) stack
-      (each_always (λ i. ahead_of t (λ x. f x + g x) i ≡ ahead_of t f i + ahead_of t g i) (ahead_of_add f g) stack)
-      ∙ sum_over_add (ahead_of t f) (ahead_of t g) stack
 
 -- a test that fails less often makes less begin again
 wider : (x y was now : Bool) → (was ≡ true → now ≡ true) → (x || (y && not now)) ≡ true → (x || (y && not was)) ≡ true

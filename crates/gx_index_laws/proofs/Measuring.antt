@@ -3,6 +3,7 @@ use Rattle.std.proofs.Common.{◌≡◌, ℕ, zero, suc, ◌+◌, ◌-◌, ◌*�
 use Rattle.std.specs.Prelude.{nat_le, is_some, if◌then◌else◌}
 use Rattle.std.specs.List.{list_all, slice_index_or}
 use Rattle.std.proofs.lemmas.Bool.{leb-true}
+use Rattle.std.proofs.lemmas.List.Sums.{sum_by-cons}
 use Rattle.std.proofs.Math.Nat.{mul-le-mul_left, mul-le-mul_right}
 use Rattle.gx_machine.specs.declared.entry.Entry.{Entry}
 use Rattle.gx_machine.specs.declared.call.Call.{Call}
@@ -45,7 +46,6 @@ use Rattle.gx_index_laws.specs.Happening.{with_record, with_work, with_restored}
 use Rattle.gx_index_laws.specs.Measures.{pages_free, look_left, seek_left, claims_pair, descent_most, call_left, entries_left, undo_left, slot_left, work_left}
 use Rattle.gx_index_laws.proofs.Tools.{changed_here, halves, less_pass}
 use Rattle.gx_index_laws.proofs.Living.{same_refl}
-use Rattle.gx_index_laws.proofs.Claims.{claims_cons}
 use Rattle.gx_index_laws.proofs.Standing.{known_lawful, is_log, is_legal}
 
 product : (a b c d : ℕ) → a ≤ c → b ≤ d → a * b ≤ c * d
@@ -81,8 +81,8 @@ few_pass p (x ∷ xs) = let rest = few_pass p xs in let one = at_most_one (p x) 
 -- a slot's claims are some of those held in all
 claims_at : {B : Type 0} (i : ℕ) (slots : List (Slot B)) → length (locks_held (slice_index_or slots i Free)).claims ≤ claims_held slots
 claims_at i [] = omega arith
-claims_at zero (x ∷ slots) = let all = claims_cons x slots in omega (arith, all)
-claims_at (suc i) (x ∷ slots) = let all = claims_cons x slots in let rest = claims_at i slots in omega (arith, all, rest)
+claims_at zero (x ∷ slots) = omega (arith, sum_by-cons (λ y. length (locks_held y).claims) x slots)
+claims_at (suc i) (x ∷ slots) = omega (arith, claims_at i slots, sum_by-cons (λ y. length (locks_held y).claims) x slots)
 
 session_claims : {B : Type 0} (s : ℕ) (slots : List (Slot B)) → length (locks_held (slot_at s slots)).claims ≤ claims_held slots
 session_claims s slots = by (is_session s)

@@ -1,10 +1,11 @@
 -- The transactions of a list of touches, each once, and what each has, in a list of so many.
 use Rattle.std.proofs.Common.{◌≡◌, ℕ, zero, suc, ◌+◌, ◌<◌, ◌≤◌, Bool, true, false, ◌||◌, ◌⊎◌, inl, inr, cond, List, [], ◌∷◌, length, refl, ap, sym, ◌∙◌, subst, arith}
-use Rattle.std.specs.Prelude.{◌==◌, if◌then◌else◌}
+use Rattle.std.specs.Prelude.{◌==◌, if◌then◌else◌, sum_by}
 use Rattle.std.specs.List.{list_any, slice_index_or, filter}
 use Rattle.std.specs.Cmp.{nat_eq_equiv}
 use Rattle.std.proofs.Math.Path.{fun_ext}
 use Rattle.std.proofs.lemmas.Bool.{eqb-true}
+use Rattle.std.proofs.lemmas.List.Sums.{sum_by-cons}
 use Rattle.gx_tree_laws.specs.Lists.{sum_over, one_if}
 use Rattle.gx_tree_laws.proofs.Sums.{sum_over_add}
 use Rattle.gx_recovery.specs.Records.{Touch}
@@ -154,10 +155,10 @@ module _ {X : Type 0} (f : ℕ → List X) where
   so_many (suc n) (t ∷ ts) = ap suc (so_many n ts)
 
   -- their sizes together
-  pub listed_sum : (n : ℕ) (ts : List ℕ) → sum_over length (listed_for n f ts) ≤ sum_over (λ t. length (f t)) ts
+  pub listed_sum : (n : ℕ) (ts : List ℕ) → sum_by length (listed_for n f ts) ≤ sum_over (λ t. length (f t)) ts
   listed_sum zero ts = omega arith
-  listed_sum (suc n) [] = let rest = listed_sum n [] in omega (arith, rest)
-  listed_sum (suc n) (t ∷ ts) = let rest = listed_sum n ts in omega (arith, rest)
+  listed_sum (suc n) [] = omega (arith, listed_sum n [], sum_by-cons {X = List X} length [] (listed_for n f []))
+  listed_sum (suc n) (t ∷ ts) = omega (arith, listed_sum n ts, sum_by-cons length (f t) (listed_for n f ts))
 
 turned : (a b : ℕ) → (a == b) ≡ (b == a)
 turned a b = nat_eq_equiv.symm a b

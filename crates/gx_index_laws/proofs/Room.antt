@@ -4,6 +4,7 @@ use Rattle.std.proofs.Common.{◌≡◌, ◌≢◌, ℕ, zero, suc, ◌+◌, ◌
 use Rattle.std.specs.Prelude.{◌==◌, if◌then◌else◌}
 use Rattle.std.specs.List.{list_any, slice_index_or}
 use Rattle.std.proofs.lemmas.Bool.{eqb-true, eq-eqb}
+use Rattle.std.proofs.lemmas.List.Sums.{sum_by-cons}
 use Rattle.std.proofs.Math.Decide.{ℕ_discrete}
 use Rattle.gx_machine.specs.declared.entry.Entry.{Entry}
 use Rattle.gx_machine.specs.Machine.{is_session}
@@ -19,7 +20,6 @@ use Rattle.gx_recovery.proofs.Logs.{and_all}
 use Rattle.gx_recovery.proofs.Touches.{Before, InOrder, same_is, apart_if_less}
 use Rattle.gx_tree_laws.specs.Lists.{Each}
 use Rattle.gx_index_laws.proofs.Tools.{not_true}
-use Rattle.gx_index_laws.proofs.Claims.{claims_cons}
 
 or_first : (a b : Bool) → a ≡ true → (a || b) ≡ true
 or_first true b h = refl
@@ -156,7 +156,7 @@ module _ {B P : Type 0} (k : Known (Entry B) P) (l : IsLawful k) where
   length_claims f n [] = refl
   length_claims f n (slot ∷ slots) =
       length_with (f n) (locks_held slot).claims (all_claims f (suc n) slots) ∙ ap (λ m. length (locks_held slot).claims + m) (length_claims f (suc n) slots)
-      ∙ sym (claims_cons slot slots)
+      ∙ sym (sum_by-cons (λ x. length (locks_held x).claims) slot slots)
 
   apart_rest : (x : Touch (Entry B)) (xs : List (Touch (Entry B))) → Before k x xs → Each (λ z. (y : ℕ × Entry B) → claims x y ≡ true → claims z y ≡ false) xs
   apart_rest x [] before = tt

@@ -1,24 +1,22 @@
 -- What an opening's sessions undo: by touches, by the log that is written anew, and by what stood.
-use Rattle.std.proofs.Common.{◌≡◌, ℕ, zero, suc, ◌+◌, ◌-◌, ◌<◌, ◌≤◌, Bool, true, false, not, ◌&&◌, ◌||◌, inl, inr, cond, List, [], ◌∷◌, length, Option, Some, None, refl, ap, sym, ◌∙◌, arith}
-use Rattle.std.specs.Prelude.{◌==◌, if◌then◌else◌, is_some, option_map, map}
+use Rattle.std.proofs.Common.{◌≡◌, ℕ, zero, suc, ◌-◌, ◌<◌, ◌≤◌, Bool, true, false, not, ◌&&◌, ◌||◌, inl, inr, cond, List, [], ◌∷◌, length, Option, Some, None, refl, ap, sym, ◌∙◌, arith}
+use Rattle.std.specs.Prelude.{◌==◌, if◌then◌else◌, is_some, option_map, map, sum_by}
 use Rattle.std.specs.List.{slice_index_or, filter}
 use Rattle.std.specs.Option.{option_or}
 use Rattle.std.specs.Ordering.{is_eq}
 use Rattle.std.proofs.lemmas.List.{length-map}
-use Rattle.std.proofs.lemmas.List.Sums.{sum_by-cons}
 use Rattle.std.proofs.Math.Path.{fun_ext}
 use Rattle.gx_machine.specs.declared.entry.Entry.{Entry}
 use Rattle.gx_machine.specs.Keys.{Keys, same_entry, entry_cmp}
-use Rattle.gx_machine.specs.Sessions.{Locks}
 use Rattle.gx_machine.specs.Sets.{has}
 use Rattle.gx_machine.specs.Machine.{is_session}
 use Rattle.gx_machine.proofs.Places.{session_bounds}
 use Rattle.gx_tree_laws.specs.Lists.{sum_over}
-use Rattle.gx_engine_laws.specs.Slots.{Note, locks_held, notes_kept, entries_of, noted, noted_in}
+use Rattle.gx_engine_laws.specs.Slots.{Note, notes_kept, entries_of, noted, noted_in}
 use Rattle.gx_engine_laws.specs.Asking.{claims_held}
 use Rattle.gx_engine_laws.specs.Losers.{loser_slot, loser_at, AreLosers}
+use Rattle.gx_engine_laws.proofs.Claims.{losers_hold}
 use Rattle.gx_engine_laws.proofs.Noted.{noted_has}
-use Rattle.gx_engine_laws.proofs.Reopened.{locks_of_loser}
 use Rattle.gx_recovery.specs.Known.{Known, same}
 use Rattle.gx_recovery.specs.Records.{Touch}
 use Rattle.gx_recovery.specs.Analysis.{lists}
@@ -236,22 +234,14 @@ module _ {B P : Type 0} (keys : Keys B) (k : Known (Entry B) P) (cmp : k.cmp ≡
               ∙ none_of (own_before k 0 e (notes_of xs)) (own_listed e 0 xs ∙ unlisted 0))))
         ]
 
-    claims_by : (ls : List (List (Note B))) → claims_held (map loser_slot ls) ≡ sum_over length ls
-    claims_by [] = refl
-    claims_by (notes ∷ ls) =
-        let here : length (locks_held (loser_slot notes)).claims ≡ length notes =
-        ap (λ (x : Locks B). length x.claims) (locks_of_loser notes) ∙ length-map notes (λ n. n.entry) in
-        let rest : claims_held (map loser_slot ls) ≡ sum_over length ls = claims_by ls in
-        sum_by-cons (λ x. length (locks_held x).claims) (loser_slot notes) (map loser_slot ls) ∙ (λ i. here i + rest i)
-
     notes_counted : (t : ℕ) → length (notes_for xs t) ≡ length (filter (λ x. x.transaction == t) xs)
     notes_counted t = length-map (filter (λ x. x.transaction == t) xs) note_of
 
     -- no more is claimed than was touched
     pub claims_few : claims_held (map loser_slot losers) ≤ length xs
     claims_few =
-        let claims : claims_held (map loser_slot losers) ≡ sum_over length losers = claims_by losers in
-        let sizes : sum_over length losers ≤ sum_over (λ t. length (notes_for xs t)) ts = listed_sum (notes_for xs) 8 ts in
+        let claims : claims_held (map loser_slot losers) ≡ sum_by length losers = losers_hold losers in
+        let sizes : sum_by length losers ≤ sum_over (λ t. length (notes_for xs t)) ts = listed_sum (notes_for xs) 8 ts in
         let counts : sum_over (λ t. length (notes_for xs t)) ts ≡ sum_over (λ t. length (filter (λ x. x.transaction == t) xs)) ts =
         ap (λ (f : ℕ → ℕ). sum_over f ts) (fun_ext notes_counted) in
         let all = touched_by_each xs ts (numbers_distinct xs) in

@@ -4,7 +4,6 @@ pub mod Steps
 pub mod Working
 pub mod Whole
 pub mod Happening
-pub mod Alike
 pub mod Openings
 pub mod Measures
 pub mod WorkedLife

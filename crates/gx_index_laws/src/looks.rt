@@ -80,6 +80,12 @@ pub fn an_undo_seeks_from_its_notes_leaf<B>()
         → DoesWork c (tree_now c old) (slot_at s old.slots) (Seeks x.entry x.leaf) }
 {}
 
+/// What a session seeks stands in the tree, one pair of it: no seek is in vain, an undo's neither.
+pub fn what_is_sought_stands<B>()
+    ensures { (c : Class B) → IsLawful c → (old : State B) → IsWhole c old → (s : ℕ) (e : Entry B) (leaf : ℕ) → old.work s ≡ Seeks e leaf
+        → standing (is_of c e) (tree_now c old) ≡ 1 }
+{}
+
 /// A search's look that has ended is the answer: what it found, in order and without repeats, is what the machine finds.
 pub fn an_ended_look_is_the_answer<B>()
     ensures { (c : Class B) → IsLawful c → (old : State B) → IsWhole c old → old.failed ≡ false → (s : ℕ) (locks : Locks B) (notes : List (Note B))

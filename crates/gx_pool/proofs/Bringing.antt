@@ -1,5 +1,5 @@
 -- What becomes of the pages that are kept, edit by edit, and how bringings join.
-use Rattle.std.proofs.Common.{◌≡◌, ◌≢◌, ◌∙◌, sym, ap, subst, refl, ◌⊎◌, inl, inr, ⊎_elim, ℕ, zero, suc, ◌<◌, ◌≤◌, ◌+◌, List, [], ◌∷◌, Ok, Err, Result, below_more, length, get_or, count_by, Bool, true, false, not, ◌&&◌, Option, Some, None, IsSome, arith, get_or-set_same, length-set}
+use Rattle.std.proofs.Common.{◌≡◌, ◌≢◌, ◌∙◌, sym, ap, subst, refl, ◌⊎◌, inl, inr, ⊎_elim, ℕ, zero, suc, ◌<◌, ◌≤◌, ◌+◌, List, [], ◌∷◌, Ok, Err, Result, below_more, length, get_or, take, count_by, Bool, true, false, not, ◌&&◌, Option, Some, None, IsSome, arith, get_or-set_same, length-set}
 use Rattle.std.specs.Prelude.{is_none, is_some, nat_lt, IsErrAnd}
 use Rattle.std.proofs.Math.Decide.{ℕ_discrete}
 use Rattle.std.proofs.lemmas.Option.{none-some}
@@ -13,10 +13,11 @@ use Rattle.gx_pool.specs.Area.{bytes_of, IsPassing}
 use Rattle.gx_pool.specs.Marks.{empty, clean, is_dirty, is_held}
 use Rattle.gx_pool.specs.State.{State, Kept, NoCleanLeaf, NoSpareLeaf, is_upper_at, IsSound, IsSpare, dirty_count, AllKept, NoneClean, SomeClean, mark_at, place_of, kept, frame_at, holding, stamp_of}
 use Rattle.gx_pool.specs.Edits.{vacated, with_page, settled}
-use Rattle.gx_pool.specs.Bringing.{Brings, BringsOne, BringsAll, Answers, AnswersAll, Came, ComeAlone, ComesAlone, GoesAlone, AllOthersStayOrGo, LeavesWentFirst, OthersStayOrGo, HasImage, IsFirstMissing, Left, LeavesGoFirst, OnlyRead}
+use Rattle.gx_pool.specs.Bringing.{AtMostGo, Brings, BringsOne, BringsAll, Answers, AnswersAll, Came, ComeAlone, ComesAlone, GoesAlone, AllOthersStayOrGo, LeavesWentFirst, OthersStayOrGo, HasImage, IsFirstMissing, Left, LeavesGoFirst, OnlyRead, missing_count}
 use Rattle.gx_pool.specs.declared.fault.PoolFault.{PoolFault}
 use Rattle.gx_pool.specs.declared.fault.PoolFault.TheVariants.{NoCleanFrame, Device as DeviceFault, Damaged}
 use Rattle.gx_pool.proofs.Places.{some-injective, vacated_sound, with_page_sound, vacated_kept, vacated_gone, loaded_kept, settled_kept, settled_other, place_none, kept_none, kept_page, kept_some}
+use Rattle.gx_pool.proofs.Going.{goes_all, goes_next, none_goes}
 use Rattle.gx_pool.proofs.Numbers.{still_clean}
 
 true_false : (b : Bool) → b ≡ true → b ≡ false → ⊥
@@ -396,13 +397,14 @@ pub record BringsSome (passes : Contents → Bool) (d e : Device) (s t : State) 
   pub alone : ComeAlone s t pages
   pub first : LeavesWentFirst s t
   pub others : AllOthersStayOrGo s t pages
+  pub few : AtMostGo s t (missing_count s (take n pages))
   pub only_read : OnlyRead d e
   pub faults : e.faults ≡ d.faults
   pub there : (k : ℕ) → k < n → IsSome (kept t (get_or pages k 0))
 
 pub none_brought : (passes : Contents → Bool) (d : Device) (s t : State) (pages : List ℕ) → t ≡ s → BringsSome passes d d s t pages 0
 none_brought passes d s t pages e =
-    rw e (record { brings = brings_nothing passes d.honest d.seen s; alone = λ q apart absent. absent; first = λ q k was gone. absurd (none-some k (sym gone ∙ was)); others = λ q apart. inl refl; only_read = only_read_nothing d; faults = refl; there = λ k below. absurd (omega arith) })
+    rw e (record { brings = brings_nothing passes d.honest d.seen s; alone = λ q apart absent. absent; first = λ q k was gone. absurd (none-some k (sym gone ∙ was)); others = λ q apart. inl refl; few = none_goes s s _ refl; only_read = only_read_nothing d; faults = refl; there = λ k below. absurd (omega arith) })
 
 other_page : (q page : ℕ) (pages : List ℕ) → is_held pages (Some q) ≡ false → is_held pages (Some page) ≡ true → q ≢ page
 other_page q page pages apart held = λ e. true_false (is_held pages (Some page)) held (ap (λ p. is_held pages (Some p)) (sym e) ∙ apart)
@@ -468,6 +470,7 @@ one_more passes d e f s t u pages n page held inside is some one = record {
   alone = come_alone s t u pages page (among page pages n inside (sym is)) some.alone one.alone;
   first = leaves_went_first passes e.honest e.seen s t u pages page held (among page pages n inside (sym is)) some.brings.held some.first some.others one.brings one.first one.others;
   others = others_stay s t u pages page (among page pages n inside (sym is)) some.others one.others;
+  few = goes_next s t u pages n page inside is (held_absent passes d.honest d.seen s t page some.brings (ap (λ h. is_held h (Some page)) held ∙ among page pages n inside (sym is))) some.few one.few;
   only_read = only_read_joined d e f some.only_read one.only_read;
   faults = omega (arith, one.faults, some.faults);
   there = below_more _ n (before_stay passes e.honest e.seen t u pages n (some.brings.held ∙ held) inside one.brings some.there) (rw (← is) one.answer);
@@ -502,6 +505,7 @@ one_refused passes d e f s t u pages n page fault held inside is some one = reco
   alone = come_alone s t u pages page (among page pages n inside (sym is)) some.alone one.alone;
   first = leaves_went_first passes e.honest e.seen s t u pages page held (among page pages n inside (sym is)) some.brings.held some.first some.others one.brings one.first one.others;
   others = others_stay s t u pages page (among page pages n inside (sym is)) some.others one.others;
+  few = goes_all s u pages (n + 1) (goes_next s t u pages n page inside is (held_absent passes d.honest d.seen s t page some.brings (ap (λ h. is_held h (Some page)) held ∙ among page pages n inside (sym is))) some.few one.few);
   only_read = only_read_joined d e f some.only_read one.only_read;
   faults = omega (arith, one.faults, some.faults);
   answer = answers_all passes d e s t u pages n page fault held inside is some.brings some.only_read.honest (λ honest. (some.only_read.rests honest).seen)
@@ -514,6 +518,7 @@ all_brought passes d e s t pages n all some = record {
   alone = some.alone;
   first = some.first;
   others = some.others;
+  few = goes_all s t pages n some.few;
   only_read = some.only_read;
   faults = omega (arith, some.faults);
   answer = λ k below. some.there k (omega arith);

@@ -2,7 +2,8 @@
 use Rattle.std.proofs.Common.{◌≡◌, ◌∙◌, ap, refl, ℕ, zero, suc, ◌+◌, ◌<◌, ◌≤◌, List, [], ◌∷◌, length, get_or, set, count_by, Bool, true, false, cond, arith}
 use Rattle.std.proofs.lemmas.List.Sums.{sum_by-cons, sum_by-set}
 
-count_next : {A : Type 0} → (p : A → Bool) (x : A) (xs : List A) (passes : Bool) → p x ≡ passes → count_by p (x ∷ xs) ≡ cond passes 1 0 + count_by p xs
+-- one more item
+pub count_next : {A : Type 0} → (p : A → Bool) (x : A) (xs : List A) (passes : Bool) → p x ≡ passes → count_by p (x ∷ xs) ≡ cond passes 1 0 + count_by p xs
 count_next p x xs passes is = sum_by-cons (λ y. cond (p y) 1 0) x xs ∙ ap (λ b. cond b 1 0 + count_by p xs) is
 
 -- none passes

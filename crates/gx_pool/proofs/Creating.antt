@@ -6,11 +6,12 @@ use Rattle.gx_pool.specs.declared.mark.Mark.{Mark}
 use Rattle.gx_pool.specs.Marks.{empty, clean, is_dirty}
 use Rattle.gx_pool.specs.State.{State, IsSound, IsSpare, NoCleanLeaf, NoneClean, is_upper_at, mark_at, place_of, frame_at, kept, clean_count}
 use Rattle.gx_pool.specs.Edits.{numbered, vacated, with_page, settled}
-use Rattle.gx_pool.specs.Bringing.{Left}
+use Rattle.gx_pool.specs.Bringing.{GoesAlone, Left}
 use Rattle.gx_pool.specs.Creating.{Makes, Copies}
 use Rattle.gx_pool.proofs.Places.{vacated_sound, with_page_sound, vacated_kept, vacated_gone, loaded_kept, settled_kept, settled_other, settled_sound, kept_page}
 use Rattle.gx_pool.proofs.Bringing.{clean_stamp, is_some_page, spare, vacated_free, loaded_page, loaded_absent, first_leaves, settled_goes}
 use Rattle.gx_pool.proofs.Counting.{none_counted, one_fewer, false_of}
+use Rattle.gx_pool.proofs.Going.{goes_one}
 use Rattle.gx_pool.proofs.Numbers.{then_dirty}
 
 -- where none is clean, so many are
@@ -42,6 +43,7 @@ made s t u i page batch w sound inside is first positive small absent te ue =
     let whole : IsSound v = with_page_sound (vacated s i) i w (vacated_sound s i sound inside) in
     let there : i < length v.marks = rw (length-set s.marks i empty) inside in
     let mark : Mark = record { page = Some page; stamp = Some batch } in
+    let alone : GoesAlone s x i = settled_goes s v x i page (Some batch) w sound inside small refl refl in
     rw (ue, te) (record {
       made = settled_kept v i page (Some batch) whole there small ∙ ap (λ c. Some (record { page = c; stamp = Some batch })) (loaded_page s i w sound inside);
       others = λ q ne. carried s (vacated s i) x q
@@ -52,7 +54,8 @@ made s t u i page batch w sound inside is first positive small absent te ue =
       held = refl;
       gated = refl;
       frames = length-set v.marks i mark ∙ length-set s.marks i empty;
-      first = first_leaves s x i sound (settled_goes s v x i page (Some batch) w sound inside small refl refl) first;
+      few = goes_one s x i alone;
+      first = first_leaves s x i sound alone first;
       sound = settled_sound v i page (Some batch) whole there (vacated_free s i inside) positive small (loaded_absent s i page w sound inside absent);
     })
 

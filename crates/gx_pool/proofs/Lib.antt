@@ -3,6 +3,7 @@ pub mod Counting
 pub mod Creating
 pub mod Elsewhere
 pub mod Gated
+pub mod Going
 pub mod Keeping
 pub mod Numbers
 pub mod Places

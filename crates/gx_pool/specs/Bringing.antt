@@ -1,5 +1,6 @@
 -- What becomes of the pages that are kept while others are brought.
-use Rattle.std.specs.Prelude.{◌≡◌, ◌≢◌, ◌⊎◌, ℕ, ◌+◌, ◌<◌, slice_index, List, length, Bool, true, false, Some, None, Result, Ok, Err, IsSome}
+use Rattle.std.specs.Prelude.{◌≡◌, ◌≢◌, ◌⊎◌, ℕ, ◌+◌, ◌<◌, ◌≤◌, slice_index, List, [], ◌∷◌, length, count_by, Bool, true, false, Some, None, is_none, Result, Ok, Err, IsSome}
+use Rattle.std.specs.List.{Contains}
 use Rattle.gx_disk.specs.Device.{Device, Rests, SamePending, Elapses}
 use Rattle.gx_page.specs.Contents.{Contents}
 use Rattle.gx_page.specs.Reading.{IsImage, read_of}
@@ -62,6 +63,16 @@ ComesAlone old new page = (q : ℕ) → q ≢ page → kept old q ≡ None → k
 abbrev pub GoesAlone : State → State → ℕ → Type 0
 GoesAlone old new i = (q : ℕ) (k : Kept) → kept old q ≡ Some k → kept new q ≡ None → (mark_at old i).page ≡ Some q
 
+-- At most so many pages go: each that is kept no more is among so many.
+pub record AtMostGo (old new : State) (most : ℕ) : Type 0 where
+  pub gone : List ℕ
+  pub few : length gone ≤ most
+  pub all : (q : ℕ) (k : Kept) → kept old q ≡ Some k → kept new q ≡ None → Contains gone q
+
+-- how many of the pages aren't kept
+abbrev pub missing_count : State → List ℕ → ℕ
+missing_count s pages = count_by (λ page. is_none (kept s page)) pages
+
 -- A page above the leaves goes only where no frame that is clean for the event is empty or has a leaf, so no leaf may go.
 abbrev pub LeavesGoFirst : State → State → Type 0
 LeavesGoFirst old new = (q : ℕ) (k : Kept) → kept old q ≡ Some k → kept new q ≡ None → 0 < k.page.level → NoCleanLeaf old × NoSpareLeaf old
@@ -108,12 +119,13 @@ Answers passes d old new page (Err NoCleanFrame) = NoFrame old new page
 Answers passes d old new page (Err DeviceFault) = Unread old new page
 Answers passes d old new page (Err Damaged) = Refuted passes d old new page
 
--- one page was brought
+-- One page was brought. None goes for it where it was kept, and at most one where it wasn't.
 pub record BringsOne {A : Type 0} (passes : Contents → Bool) (d e : Device) (old new : State) (page : ℕ) (result : Result A PoolFault) : Type 0 where
   pub brings : Brings passes d.honest d.seen old new
   pub alone : ComesAlone old new page
   pub first : LeavesGoFirst old new
   pub others : OthersStayOrGo old new page
+  pub few : AtMostGo old new (missing_count old (page ∷ []))
   pub only_read : OnlyRead d e
   pub faults : e.faults ≡ d.faults + faults_of result
   pub answer : Answers passes d old new page result
@@ -141,12 +153,13 @@ AnswersAll passes d old new pages (Err NoCleanFrame) = FirstMissing new pages (�
 AnswersAll passes d old new pages (Err DeviceFault) = FirstMissing new pages (λ page. SomeClean new)
 AnswersAll passes d old new pages (Err Damaged) = FirstMissing new pages (λ page. SomeClean new × (kept old page ≡ None) × (d.honest ≡ true → ¬ IsPassing passes page (bytes_of d.seen page)))
 
--- pages were brought, one after another
+-- Pages were brought, one after another. At most as many go as weren't kept of those that were asked for.
 pub record BringsAll {A : Type 0} (passes : Contents → Bool) (d e : Device) (old new : State) (pages : List ℕ) (result : Result A PoolFault) : Type 0 where
   pub brings : Brings passes d.honest d.seen old new
   pub alone : ComeAlone old new pages
   pub first : LeavesWentFirst old new
   pub others : AllOthersStayOrGo old new pages
+  pub few : AtMostGo old new (missing_count old pages)
   pub only_read : OnlyRead d e
   pub faults : e.faults ≡ d.faults + faults_of result
   pub answer : AnswersAll passes d old new pages result

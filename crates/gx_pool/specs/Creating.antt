@@ -4,10 +4,11 @@ use Rattle.gx_page.specs.Contents.{Contents}
 use Rattle.gx_page.specs.Edits.{blank}
 use Rattle.gx_pool.specs.State.{State, Kept, IsSound, kept, clean_count, dirty_count}
 use Rattle.gx_pool.specs.Edits.{numbered}
-use Rattle.gx_pool.specs.Bringing.{Left, LeavesGoFirst}
+use Rattle.gx_pool.specs.Bringing.{AtMostGo, Left, LeavesGoFirst}
 
 -- A page was made: it is kept with these contents and a change of that batch. Each other page is kept as it was, or was clean
--- and not held and went; so one that is dirty or held is as it was. One frame fewer is clean, and one more is dirty.
+-- and not held and went; so one that is dirty or held is as it was. At most one page goes. One frame fewer is clean, and one more
+-- is dirty.
 pub record Makes (old new : State) (page : ℕ) (contents : Contents) (batch : ℕ) : Type 0 where
   pub made : kept new page ≡ Some (record { page = contents; stamp = Some batch })
   pub others : (q : ℕ) → q ≢ page → (kept new q ≡ kept old q) ⊎ Left old new q
@@ -16,6 +17,7 @@ pub record Makes (old new : State) (page : ℕ) (contents : Contents) (batch : �
   pub held : new.held ≡ old.held
   pub gated : new.gated ≡ old.gated
   pub frames : length new.marks ≡ length old.marks
+  pub few : AtMostGo old new 1
   pub first : LeavesGoFirst old new
   pub sound : IsSound new
 

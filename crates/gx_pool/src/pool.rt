@@ -117,7 +117,8 @@ impl<T: PageTest> Pool<T> {
 
     /// Brings a page into a frame, unless it is in one, and leaves what is held as it is: `page` reads it then. A clean frame
     /// that is empty or has a leaf is used before one with a page above the leaves. Where the page is in one,
-    /// or no frame is clean (empty, or with a clean page that isn't held), the device isn't called.
+    /// or no frame is clean (empty, or with a clean page that isn't held), the device isn't called. At most one page goes for it,
+    /// and none where it is in a frame.
     ///
     /// Refused with `NoCleanFrame` exactly where it isn't in a frame and no frame is clean. Else with `Device` where the
     /// device failed; then every frame is as it was. And with `Damaged` where the device has no page of that number, or one
@@ -136,7 +137,7 @@ impl<T: PageTest> Pool<T> {
 
     /// Holds these pages, up to four, and lets go what was held; those that aren't kept are read. What an event uses is
     /// brought first: then its pages can be read and changed, and none of that fails. A page above the leaves goes for them only
-    /// where each leaf that might go goes too.
+    /// where each leaf that might go goes too, and at most as many pages go as weren't kept of these.
     ///
     /// Refused with the fault of the first page that can't be brought: `NoCleanFrame` exactly where no frame is empty or has
     /// a clean page other than these, else `Device` where the device failed, and `Damaged` where it has no page of that
@@ -173,7 +174,7 @@ impl<T: PageTest> Pool<T> {
     }
 
     /// Makes a page that was never written: blank, of a level, and with a change of a batch. The device isn't read, since its
-    /// sectors may hold anything, and no memory is taken. A clean frame is used, so a clean page that isn't held may go.
+    /// sectors may hold anything, and no memory is taken. A clean frame is used, so at most one page goes: a clean one that isn't held.
     /// The page is dirty, so it stays until it is written; nothing has to hold it.
     pub fn create(&mut self, page: u32, level: u16, batch: u64)
         requires page { (1 ≤ page) × (page ≤ PAGES) }

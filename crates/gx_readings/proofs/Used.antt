@@ -1,14 +1,12 @@
 -- What is known of a class is lawful, and is read of the pages in use.
-use Rattle.std.proofs.Common.{◌≡◌, ap, ℕ, ◌<◌, ◌≤◌, arith}
-use Rattle.std.specs.Prelude.{nat_lt}
-use Rattle.gx_machine.specs.declared.entry.Entry.{Entry}
+use Rattle.std.proofs.Common.{ap}
 use Rattle.gx_machine.specs.Keys as keys
 use Rattle.gx_machine.proofs.SetLaws.{entry_total, entry_exact}
-use Rattle.gx_tree_laws.specs.Legal.{Legal}
+use Rattle.gx_tree_laws.specs.Alike as alike
+use Rattle.gx_tree_laws.proofs.AlikeTrees.{legal_too, seek_too}
 use Rattle.gx_recovery.specs.Known as known
-use Rattle.gx_index_laws.specs.Alike as alike
-use Rattle.gx_index_laws.specs.Classes.{Class, Page, tree_in, is_live, is_live_of, known_of}
-use Rattle.gx_index_laws.proofs.AlikeTrees.{legal_too, standing_too, seek_too}
+use Rattle.gx_index_laws.specs.Classes.{Class, Page, tree_in, known_of}
+use Rattle.gx_index_laws.proofs.Alike.{live_too}
 use Rattle.gx_durable.specs.Legal.{AgreeOnUsed, ReadsUsed}
 
 module _ {B : Type 0} (c : Class B) where
@@ -19,13 +17,9 @@ module _ {B : Type 0} (c : Class B) where
     nodes_agree : alike.AgreeOnUsed (tree_in one) (tree_in other)
     nodes_agree = record { used = agree.used; counter = agree.counter; nodes = λ q u. ap (λ (p : Page B). p.node) (agree.pages q u.0 u.1) }
 
-    same_live : Legal c.rules (tree_in one) → (e : Entry B) → is_live c (tree_in other) e ≡ is_live c (tree_in one) e
-    unfolding is_live
-    same_live legal e = ap (λ n. nat_lt 0 n) (standing_too c.rules (tree_in one) (tree_in other) nodes_agree legal (is_live_of c e))
-
   pub reads_used : ReadsUsed (known_of c)
   reads_used = record {
     sound = λ one other agree legal. legal_too c.rules (tree_in one) (tree_in other) (nodes_agree one other agree) legal;
-    live = λ one other agree legal e. same_live one other agree legal e;
+    live = λ one other agree legal e. live_too c (tree_in one) (tree_in other) (nodes_agree one other agree) legal e;
     placed = λ one other agree e leaf seek. seek_too c.rules (tree_in one) (tree_in other) (nodes_agree one other agree) leaf e.row e.key seek;
   }

@@ -1,5 +1,5 @@
 -- A look from the root asks for each page once.
-use Rattle.std.proofs.Common.{◌≡◌, ◌≤◌, ◌+◌, ℕ, ◌==◌, Bool, List, [], ◌∷◌, ◌++◌, ◌⊎◌, inl, inr, subst, arith}
+use Rattle.std.proofs.Common.{◌≤◌, ◌+◌, ℕ, ◌==◌, Bool, List, [], ◌∷◌, ◌++◌, inl, inr, arith}
 use Rattle.gx_tree_laws.specs.Lists.{one_if}
 use Rattle.gx_tree_laws.specs.Trees.{Pair, Tree, times}
 use Rattle.gx_tree_laws.specs.Reach.{Item, times_ahead}

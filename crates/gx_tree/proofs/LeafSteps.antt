@@ -1,15 +1,11 @@
 -- What a step has done once it changed one leaf.
-use Rattle.std.proofs.Common.{◌≡◌, ℕ, ◌==◌, Bool, true, false, List, [], map, filter, refl, sym, ap, ◌∙◌, subst, Some}
+use Rattle.std.proofs.Common.{◌≡◌, ℕ, ◌==◌, Bool, true, false, List, refl, sym, ap, ◌∙◌, subst, Some}
 use Rattle.std.specs.Prelude.{if◌then◌else◌, slice_get, slice_set}
-use Rattle.std.specs.List.{list_any}
-use Rattle.gx_machine.specs.declared.entry.Entry.{Entry}
 use Rattle.gx_page.specs.Contents.{Contents}
-use Rattle.gx_node.specs.Edits.{with_pairs, marked_as, entry_of}
+use Rattle.gx_node.specs.Edits.{with_pairs, marked_as}
 use Rattle.gx_node.specs.Reading.{Format, leaf_of, inner_of}
-use Rattle.gx_tree_laws.specs.Lists.{staying}
-use Rattle.gx_tree_laws.specs.Steps.{ChangesOnly, node_with, spares}
+use Rattle.gx_tree_laws.specs.Steps.{ChangesOnly, node_with}
 use Rattle.gx_tree_laws.specs.Trees.{Pair, Child, Node, Used}
-use Rattle.gx_tree_laws.specs.Writes.{is_sweepable}
 use Rattle.gx_tree.specs.Seeking.{Seeks}
 use Rattle.gx_tree.specs.Store.{Store, node_of, node_at, tree_of, with_node}
 use Rattle.gx_tree.specs.Writing.{SetsMark}

@@ -1,6 +1,9 @@
 pub mod Asked
 pub mod Changed
 pub mod Hits
+pub mod InsertDown
+pub mod InsertSplits
+pub mod InsertSteps
 pub mod KeysKept
 pub mod Lawful
 pub mod LeafSteps

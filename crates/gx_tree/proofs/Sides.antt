@@ -1,8 +1,7 @@
 -- Sides that a test gives.
-use Rattle.std.proofs.Common.{◌≡◌, ℕ, suc, ◌+◌, ◌<◌, Bool, true, false, cond, not, ◌&&◌, ◌||◌, List, [], ◌∷◌, length, map, filter, get_or, refl, sym, ap, ◌∙◌, arith, Some}
+use Rattle.std.proofs.Common.{◌≡◌, ℕ, suc, ◌<◌, Bool, true, false, cond, not, ◌&&◌, ◌||◌, List, [], ◌∷◌, length, map, filter, get_or, refl, sym, ap, ◌∙◌, arith, Some}
 use Rattle.std.specs.Prelude.{slice_get}
-use Rattle.std.specs.List.{list_any}
-use Rattle.gx_tree_laws.specs.Lists.{staying, how_many, one_if}
+use Rattle.gx_tree_laws.specs.Lists.{staying}
 use Rattle.gx_tree_laws.specs.Steps.{spares}
 use Rattle.gx_tree_laws.specs.Trees.{Pair}
 use Rattle.gx_tree_laws.specs.Writes.{is_sweepable}

@@ -1,6 +1,7 @@
 pub mod Descending
 pub mod Found
 pub mod Halved
+pub mod Inserting
 pub mod Keyed
 pub mod Looking
 pub mod Owner

@@ -167,6 +167,19 @@ module _ {K : Type 0} where
         (found.0, found.1, (let le = found.2 in omega (arith, le)))
   ]
 
+  -- what is summed from a page of it on is no more than all
+  pub sum_from : (t : Tree K) (f : ℕ → ℕ) (n a : ℕ) (xs ys : List ℕ) → Linked t a xs → 0 < times n xs → Linked t n ys → sum_over f ys ≤ sum_over f xs
+  sum_from t f n a [] ys l some rest = absurd (omega arith)
+  sum_from t f n a (x ∷ xs) ys l some rest = elim (cases_eq x n) [
+    | inl same ↦
+        let equal = ap (λ (zs : List ℕ). sum_over f zs) (linked_unique t n ys (x ∷ xs) rest (sym same, l.1, l.2, l.3)) in
+        omega (arith, equal)
+    | inr ne ↦
+        let none = one_other x n ne in
+        let more = sum_from t f n (t.node x).right xs ys l.3 (omega (arith, none, some)) rest in
+        omega (arith, more)
+  ]
+
   -- so no page stands on it twice
   pub linked_once : (t : Tree K) (n a : ℕ) (xs : List ℕ) → Linked t a xs → times n xs ≤ 1
   linked_once t n a [] l = omega arith

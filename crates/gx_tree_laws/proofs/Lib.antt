@@ -16,6 +16,9 @@ pub mod DescentSteps
 pub mod SeekSteps
 pub mod InReach
 pub mod Rightlinks
+pub mod AlikeTrees
+pub mod AlikeLooks
+pub mod AlikeSteps
 pub mod Bounds
 pub mod Fresh
 pub mod Tested

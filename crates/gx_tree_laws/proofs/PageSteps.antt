@@ -43,6 +43,20 @@ module _ {X : Type 0} where
               and_true true = omega (arith, rest)
               and_true false = omega (arith, rest)
 
+module _ {K : Type 0} (r : Rules K) (row : ℕ) (key : K) (mark : Bool) where
+  entry_marked : (row' : ℕ) (key' : K) (b : Bool) (y : Pair K)
+      → is_entry r row' key' (if b then record { row = y.row; key = y.key; marked = mark } else y) ≡ is_entry r row' key' y
+  entry_marked row' key' true y = refl
+  entry_marked row' key' false y = refl
+
+  -- a mark makes no other entry of a pair
+  pub entries_marked : (row' : ℕ) (key' : K) (xs : List (Pair K)) → how_many (is_entry r row' key') (with_mark r row key mark xs) ≡ how_many (is_entry r row' key') xs
+  entries_marked row' key' [] = refl
+  entries_marked row' key' (y ∷ ys) =
+      let here = ap (λ b. one_if b) (entry_marked row' key' (is_entry r row key y) y) in
+      let rest = entries_marked row' key' ys in
+      omega (arith, here, rest)
+
 module _ {K : Type 0} (r : Rules K) (old new : Tree K) (a : ℕ) (legal : Legal r old) where
   -- an entry that names the page bounds what is on it
   pub named_bounds : (q : ℕ) → Used old q → Each (λ c. c.page ≡ a → Bounds r c.key (old.node a)) (old.node q).children
@@ -140,19 +154,6 @@ module _ {K : Type 0} (r : Rules K) (old new : Tree K) (a : ℕ) (legal : Legal 
     each_marked k (y ∷ ys) e =
         (subst (λ z. r.covers k z ≡ true) (sym (marked_key (is_entry r row key y) y)) e.0, each_marked k ys e.1)
 
-    entry_marked : (row' : ℕ) (key' : K) (b : Bool) (y : Pair K)
-        → is_entry r row' key' (if b then record { row = y.row; key = y.key; marked = mark } else y) ≡ is_entry r row' key' y
-    entry_marked row' key' true y = refl
-    entry_marked row' key' false y = refl
-
-    -- a mark makes no other entry of a pair
-    pub entries_marked : (row' : ℕ) (key' : K) (xs : List (Pair K)) → how_many (is_entry r row' key') (with_mark r row key mark xs) ≡ how_many (is_entry r row' key') xs
-    entries_marked row' key' [] = refl
-    entries_marked row' key' (y ∷ ys) =
-        let here = ap (λ b. one_if b) (entry_marked row' key' (is_entry r row key y) y) in
-        let rest = entries_marked row' key' ys in
-        omega (arith, here, rest)
-
     length_marked : (xs : List (Pair K)) → length (with_mark r row key mark xs) ≡ length xs
     length_marked [] = refl
     length_marked (y ∷ ys) = ap (λ k. suc k) (length_marked ys)
@@ -174,7 +175,7 @@ module _ {K : Type 0} (r : Rules K) (old new : Tree K) (a : ℕ) (legal : Legal 
           }))
           (old.node q).children (named_bounds q u))
           (λ row' key'. (let e = passing_kept old new a (with_mark r row key mark (old.node a).pairs) (old.node a).children step.changes (is_entry r row' key')
-          (entries_marked row' key' (old.node a).pairs) 2 legal.chain in let h = legal.single row' key' in omega (arith, e, h)))
+          (entries_marked r row key mark row' key' (old.node a).pairs) 2 legal.chain in let h = legal.single row' key' in omega (arith, e, h)))
 
       standing_marked : (test : Pair K → Bool)
           → standing test new + how_many test (old.node a).pairs ≡ standing test old + how_many test (with_mark r row key mark (old.node a).pairs)

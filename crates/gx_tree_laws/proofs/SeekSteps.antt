@@ -1,15 +1,16 @@
 -- A seek at work: steps of others keep it, and so do its own, of which each leaves a leaf less.
 use Rattle.std.proofs.Common.{◌≡◌, ℕ, ◌<◌, Bool, true, false, ◌&&◌, List, [], ◌∷◌, ◌++◌, filter, length, refl, ap, sym, ◌∙◌, subst, arith}
 use Rattle.gx_tree_laws.specs.Lists.{one_if, how_many}
-use Rattle.gx_tree_laws.specs.Trees.{Pair, Child, Tree, Rules, IsLawful, Used, walk, leaves, passing, is_entry}
+use Rattle.gx_tree_laws.specs.Trees.{Pair, Child, Tree, Rules, IsLawful, Used, walk, leaves, passing, standing, is_entry}
 use Rattle.gx_tree_laws.specs.Legal.{Linked, Legal}
-use Rattle.gx_tree_laws.specs.Steps.{with_key, with_mark, spares, ChangesOnly, Step, Splits, SplitsRoot, Widens, Adds, Marks, Sweeps, IsStep, LeavesAlone}
+use Rattle.gx_tree_laws.specs.Steps.{with_key, with_mark, spares, ChangesOnly, IsMarking, Step, Splits, SplitsRoot, Widens, Adds, Marks, Sweeps, IsStep, LeavesAlone}
 use Rattle.gx_tree_laws.specs.Writes.{IsSeek, leaves_left}
 use Rattle.gx_tree_laws.proofs.Sums.{sum_over_same, each_always}
-use Rattle.gx_tree_laws.proofs.Chains.{walk_is, length_walk, linked_from}
+use Rattle.gx_tree_laws.proofs.Chains.{walk_is, length_walk, linked_from, sum_from}
 use Rattle.gx_tree_laws.proofs.Splits.{chain_split, passing_split}
 use Rattle.gx_tree_laws.proofs.Roots.{chain_root, passing_root}
 use Rattle.gx_tree_laws.proofs.Changes.{chain_kept, passing_kept}
+use Rattle.gx_tree_laws.proofs.PageSteps.{entries_marked}
 use Rattle.gx_tree_laws.proofs.LookSteps.{alone_added, alone_marked, alone_swept}
 
 and_true : (b : Bool) → one_if (b && true) ≡ one_if b
@@ -57,6 +58,12 @@ module _ {K : Type 0} (r : Rules K) (a row : ℕ) (key : K) where
       (from_alone (filter (spares claimed) (old.node b).pairs) (old.node b).pairs
       (alone_swept (is_entry r row key) (λ y. true) claimed alone (old.node b).pairs)) seek
 
+  -- a mark, that of its own pair too
+  pub seek_marked : (old new : Tree K) (b row' : ℕ) (key' : K) (mark : Bool) → IsMarking r old new b row' key' mark → IsSeek r old a row key → IsSeek r new a row key
+  seek_marked old new b row' key' mark step seek =
+      seek_changed old new b (with_mark r row' key' mark (old.node b).pairs) (old.node b).children step.changes
+      (entries_marked r row' key' mark row key (old.node b).pairs) seek
+
   -- Its own steps.
 
   module _ (t : Tree K) where
@@ -83,6 +90,16 @@ module _ {K : Type 0} (r : Rules K) (a row : ℕ) (key : K) where
 
     pub seek_at_leaf : IsSeek r t a row key → Used t a × ((t.node a).level ≡ 0)
     seek_at_leaf seek = at_leaf_by (walk t t.used a) seek.chain seek.stands
+
+    -- what is sought stands, and no other does
+    pub sought_stands : Legal r t → IsSeek r t a row key → standing (is_entry r row key) t ≡ 1
+    sought_stands legal seek =
+        let here = seek_at_leaf seek in
+        let one = legal.once a here.0 here.1 in
+        let most = sum_from t (λ q. how_many (is_entry r row key) (t.node q).pairs) a 2 (leaves t) (walk t t.used a) legal.chain (omega (arith, one)) seek.chain in
+        let some = seek.stands in
+        let single = legal.single row key in
+        omega (arith, most, some, single)
 
     goes_right_by : (ys : List ℕ) → walk t t.used a ≡ ys → Linked t a ys → 0 < passing (is_entry r row key) t ys
         → how_many (is_entry r row key) (t.node a).pairs ≡ 0 → IsSeek r t (t.node a).right row key × (leaves_left t (t.node a).right < leaves_left t a)

@@ -6,4 +6,5 @@ pub mod Reach
 pub mod Looks
 pub mod Writes
 pub mod Rightlinks
+pub mod Alike
 pub mod Worked

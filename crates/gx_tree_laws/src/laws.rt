@@ -230,3 +230,15 @@ pub fn seek_goes_right<K>()
         → IsSeek r t (t.node a).right row key × (leaves_left t (t.node a).right < leaves_left t a) }
     ensures most { (t : Tree K) (a : ℕ) → leaves_left t a ≤ t.used }
 {}
+
+/// A mark that is set or cleared keeps each seek, that of the pair which it marks too: a pair is sought whether it is marked or not.
+pub fn marking_keeps_each_seek<K>()
+    ensures { (r : Rules K) (a row : ℕ) (key : K) (old new : Tree K) (b marked_row : ℕ) (marked_key : K) (mark : Bool)
+        → IsMarking r old new b marked_row marked_key mark → IsSeek r old a row key → IsSeek r new a row key }
+{}
+
+/// What is sought stands in a legal tree: one pair of that row and key, and no other.
+pub fn a_sought_pair_stands<K>()
+    ensures { (r : Rules K) (a row : ℕ) (key : K) (t : Tree K) → Legal r t → IsSeek r t a row key
+        → standing (is_entry r row key) t ≡ 1 }
+{}

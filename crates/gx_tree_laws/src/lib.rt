@@ -4,5 +4,6 @@
 //! There is no code here but functions with empty bodies, whose contracts are the laws.
 #![tactic(auto)]
 
+pub mod alike;
 pub mod laws;
 pub mod worked;

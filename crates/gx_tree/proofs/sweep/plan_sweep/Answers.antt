@@ -1,4 +1,4 @@
-use Rattle.std.proofs.Common.{◌≡◌, ◌∙◌, Bool, List, sym, ap, map, length}
+use Rattle.std.proofs.Common.{◌≡◌, ◌∙◌, sym, ap, map, length}
 use Rattle.std.proofs.lemmas.List.{length-map}
 use Rattle.gx_node.specs.Edits.{entry_of}
 use Rattle.gx_node.specs.Reading.{format_of}

@@ -8,7 +8,7 @@ returns g c =
         refl,
         λ w is. record {
           between = c.bring_one.new.self.frames;
-          brought = record { brings = one.brings; alone = one.alone; first = one.first; others = one.others; only_read = one.only_read; faults = one.faults; answer = one.answer };
+          brought = record { brings = one.brings; alone = one.alone; first = one.first; others = one.others; few = one.few; only_read = one.only_read; faults = one.faults; answer = one.answer };
           lent = c.change_kept.ensures.page;
           changed = refl;
           test = c.bring_one.ensures.test;

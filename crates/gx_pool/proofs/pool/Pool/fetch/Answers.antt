@@ -1,4 +1,5 @@
 use Rattle.gx_pool.proofs.Bringing.{first_leaves}
+use Rattle.gx_pool.proofs.Going.{goes_few}
 use Rattle.gx_pool.proofs.pool.Pool.fetch.Goals as goal
 
 pub returns-then-admit-clause-fetched : goal.returns-then-admit-clause-fetched
@@ -9,6 +10,7 @@ returns-then-admit-clause-fetched g c = record {
   alone = rw (← c.frame_to_use.ensures.unchanged, ← c.in_ok-read.ensures.same.0) c.admit.ensures.alone;
   first = first_leaves c.args.self.now.frames _ c.in-Some.i c.frame_to_use.ensures.sound (rw (← c.frame_to_use.ensures.unchanged, ← c.in_ok-read.ensures.same.0) c.admit.ensures.goes) c.in-Some.ensures.first;
   others = rw (← c.frame_to_use.ensures.unchanged, ← c.in_ok-read.ensures.same.0) c.admit.ensures.others;
+  few = goes_few c.args.self.now.frames _ c.in-Some.i c.args.page c.requires.absent (rw (← c.frame_to_use.ensures.unchanged, ← c.in_ok-read.ensures.same.0) c.admit.ensures.goes);
   answer = c.if-admit.ensures.admitted;
 }
 
@@ -20,6 +22,7 @@ returns-else-admit-clause-fetched g c = record {
   alone = rw (← c.frame_to_use.ensures.unchanged, ← c.in_ok-read.ensures.same.0) c.admit.ensures.alone;
   first = first_leaves c.args.self.now.frames _ c.in-Some.i c.frame_to_use.ensures.sound (rw (← c.frame_to_use.ensures.unchanged, ← c.in_ok-read.ensures.same.0) c.admit.ensures.goes) c.in-Some.ensures.first;
   others = rw (← c.frame_to_use.ensures.unchanged, ← c.in_ok-read.ensures.same.0) c.admit.ensures.others;
+  few = goes_few c.args.self.now.frames _ c.in-Some.i c.args.page c.requires.absent (rw (← c.frame_to_use.ensures.unchanged, ← c.in_ok-read.ensures.same.0) c.admit.ensures.goes);
   answer = record {
     missing = c.requires.absent;
     absent = c.if-admit.ensures.left.0;

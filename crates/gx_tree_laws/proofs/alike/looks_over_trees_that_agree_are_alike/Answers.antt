@@ -1,5 +1,5 @@
-use Rattle.gx_index_laws.proofs.AlikeLooks.{stacked_too, found_too, leads_too, descent_too, look_too}
-use Rattle.gx_index_laws.proofs.pages.looks_over_trees_that_agree_are_alike.Goals as goal
+use Rattle.gx_tree_laws.proofs.AlikeLooks.{stacked_too, found_too, leads_too, descent_too, look_too}
+use Rattle.gx_tree_laws.proofs.alike.looks_over_trees_that_agree_are_alike.Goals as goal
 
 pub returns-clause-looks : goal.returns-clause-looks
 returns-clause-looks g c = λ r one other agree legal wants stack found look. look_too r one other agree legal wants stack found look

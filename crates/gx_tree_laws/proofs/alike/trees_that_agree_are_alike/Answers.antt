@@ -1,5 +1,8 @@
-use Rattle.gx_index_laws.proofs.AlikeTrees.{legal_too, standing_too, seek_too}
-use Rattle.gx_index_laws.proofs.pages.trees_that_agree_are_alike.Goals as goal
+use Rattle.gx_tree_laws.proofs.AlikeTrees.{agree_back, legal_too, standing_too, seek_too}
+use Rattle.gx_tree_laws.proofs.alike.trees_that_agree_are_alike.Goals as goal
+
+pub returns-clause-back : goal.returns-clause-back
+returns-clause-back g c = λ one other agree. agree_back one other agree
 
 pub returns-clause-legal : goal.returns-clause-legal
 returns-clause-legal g c = λ r one other agree legal. legal_too r one other agree legal

@@ -1,9 +1,13 @@
 -- Events keep the claims held in all at most 512.
-use Rattle.std.proofs.Common.{◌≡◌, ℕ, zero, suc, ◌+◌, ◌-◌, ◌<◌, ◌≤◌, Bool, true, false, ◌⊎◌, inl, inr, List, [], ◌∷◌, ◌++◌, Option, None, Some, length, refl, ap, sym, ◌∙◌, subst, arith}
-use Rattle.std.specs.Prelude.{Result, Ok, Err, nat_lt, if◌then◌else◌, slice_set, replicate}
+use Rattle.std.proofs.Common.{◌≡◌, ℕ, suc, ◌+◌, ◌-◌, ◌<◌, ◌≤◌, Bool, true, false, ◌⊎◌, inl, inr, List, [], ◌∷◌, ◌++◌, Option, None, Some, length, map, replicate, refl, ap, sym, ◌∙◌, subst, arith}
+use Rattle.std.specs.Prelude.{Result, Ok, Err, nat_lt, if◌then◌else◌, sum_by}
 use Rattle.std.specs.List.{slice_index_or}
-use Rattle.std.proofs.lemmas.Bool.{ltb-true}
-use Rattle.std.proofs.lemmas.List.Sums.{sum_by_from}
+use Rattle.std.specs.Ordering.{match_ordering}
+use Rattle.std.specs.declared.cmp.Ordering.{Ordering}
+use Rattle.std.specs.declared.cmp.Ordering.TheVariants.{Less, Equal, Greater}
+use Rattle.std.proofs.lemmas.Bool.{ltb-true, ltb-false}
+use Rattle.std.proofs.lemmas.List.{length-map}
+use Rattle.std.proofs.lemmas.List.Sums.{sum_by-cons, sum_by-set}
 use Rattle.gx_geom.specs.declared.refusal.Refusal.{Refusal}
 use Rattle.gx_geom.specs.declared.refusal.Refusal.TheVariants as refusal
 use Rattle.gx_machine.specs.declared.limits.TheConstants.{MAX_CLAIMS, MAX_PREDICATES}
@@ -17,53 +21,36 @@ use Rattle.gx_machine.specs.declared.call.Call.TheVariants.{Begin, Insert, Delet
 use Rattle.gx_machine.specs.Keys.{Keys, IsLawful, entry_cmp}
 use Rattle.gx_machine.specs.Sets.{has, including}
 use Rattle.gx_machine.specs.Sessions.{Locks, has_query, with_lock, unless_busy, lock_for}
-use Rattle.gx_machine.specs.Machine.{is_session}
-use Rattle.gx_machine.proofs.Places.{session_bounds}
-use Rattle.std.specs.Ordering.{match_ordering}
-use Rattle.std.specs.declared.cmp.Ordering.{Ordering}
-use Rattle.std.specs.declared.cmp.Ordering.TheVariants.{Less, Equal, Greater}
+use Rattle.gx_machine.specs.Machine.{Machine, is_session}
 use Rattle.gx_engine_laws.specs.Slots.{Note, Slot, Free, Working, Undoing, Waiting, locks_held, slot_at, with_slot}
-use Rattle.gx_engine_laws.specs.Engines.{Engine, IsSound}
+use Rattle.gx_engine_laws.specs.Engines.{Engine, SeenAs, IsSound}
 use Rattle.gx_engine_laws.specs.Asking.{least_barring, claims_held, asked_with, ask_working, ask_free, ask_slot, ask_in, ask}
 use Rattle.gx_engine_laws.specs.Events as events
-use Rattle.gx_engine_laws.specs.Events.{Event, IsEvent, MeetsFault, AskRefused, IsClosed, IsWritten}
+use Rattle.gx_engine_laws.specs.Events.{Event, IsEvent, MeetsFault, AskRefused, IsClosed, IsWritten, step_of}
+use Rattle.gx_engine_laws.specs.Losers.{loser_slot}
+use Rattle.gx_engine_laws.specs.Runs.{AreEvents}
+use Rattle.gx_engine_laws.proofs.Places.{place_below}
 use Rattle.gx_engine_laws.proofs.Standing.{working_there, waiting_there, undoing_there}
+use Rattle.gx_engine_laws.proofs.Follow.{Follows}
+use Rattle.gx_engine_laws.proofs.Faults.{event_follows}
+use Rattle.gx_engine_laws.proofs.EventRuns.{still_sound}
+use Rattle.gx_engine_laws.proofs.Reopened.{locks_of_loser}
 
 -- the claims of a slot
 abbrev claims_of : {B : Type 0} → Slot B → ℕ
 claims_of slot = length (locks_held slot).claims
 
-zero_plus : (n : ℕ) → 0 + n ≡ n
-zero_plus n = omega arith
-
 -- after an ask there are no more claims than before, or one more and there was room
 abbrev Few : ℕ → ℕ → ℕ → Type 0
 Few spent before after = (after ≤ before) ⊎ ((after ≤ suc before) × (spent < 512))
 
--- the claims of a slot more
-pub claims_cons : {B : Type 0} (z : Slot B) (slots : List (Slot B)) → claims_held (z ∷ slots) ≡ claims_of z + claims_held slots
-claims_cons z slots = let more = sum_by_from (λ slot. length (locks_held slot).claims) (0 + claims_of z) slots in more ∙ ap (λ n. n + claims_held slots) (zero_plus (claims_of z))
-
--- one slot changed changes the sum by its own claims
-held_with : {B : Type 0} (i : ℕ) (x y : Slot B) (slots : List (Slot B)) → i < length slots → slice_index_or slots i y ≡ y
-    → claims_held (slice_set slots i x) + claims_of y ≡ claims_held slots + claims_of x
-held_with i x y [] low at = absurd (omega arith)
-held_with zero x y (z ∷ slots) low at =
-    let same : claims_of z ≡ claims_of y = ap (λ w. claims_of w) at in
-    let before = claims_cons z slots in
-    let after : claims_held (slice_set (z ∷ slots) zero x) ≡ claims_of x + claims_held slots = claims_cons x slots in
-    omega (arith, same, before, after)
-held_with (suc i) x y (z ∷ slots) low at =
-    let rest = held_with i x y slots (omega arith) at in
-    let before = claims_cons z slots in
-    let after : claims_held (slice_set (z ∷ slots) (suc i) x) ≡ claims_of z + claims_held (slice_set slots i x) = claims_cons z (slice_set slots i x) in
-    omega (arith, rest, before, after)
-
--- a place that is there is the same whatever stands for one that isn't
-index_again : {X : Type 0} (xs : List X) (i : ℕ) (y : X) → i < length xs → slice_index_or xs i (slice_index_or xs i y) ≡ slice_index_or xs i y
-index_again [] i y low = absurd (omega arith)
-index_again (x ∷ xs) zero y low = refl
-index_again (x ∷ xs) (suc i) y low = index_again xs i y (omega arith)
+module _ {B : Type 0} where
+  -- an opening's sessions hold what they have noted
+  pub losers_hold : (losers : List (List (Note B))) → claims_held (map loser_slot losers) ≡ sum_by length losers
+  losers_hold [] = refl
+  losers_hold (notes ∷ losers) =
+      let here : claims_of (loser_slot notes) ≡ length notes = ap (λ (x : Locks B). length x.claims) (locks_of_loser notes) ∙ length-map notes (λ n. n.entry) in
+      omega (arith, here, losers_hold losers, sum_by-cons claims_of (loser_slot notes) (map loser_slot losers), sum_by-cons length notes losers)
 
 module _ {B : Type 0} (k : Keys B) where
   length_by : (o : Ordering) (e x : Entry B) (set : List (Entry B)) → length (including k e set) ≤ suc (length set)
@@ -153,15 +140,75 @@ module _ {B : Type 0} (k : Keys B) where
   ask_few call least spent (Undoing locks notes) = inl (omega arith)
   ask_few call least spent (Waiting number) = inl (omega arith)
 
+  -- Where a call is refused because claims are full, they are.
+
+  claim_full : (e : Entry B) (spent : ℕ) (locks : Locks B) (held room : Bool) → nat_lt spent MAX_CLAIMS ≡ room → claiming e locks held room ≡ Err refusal.ClaimsFull
+      → MAX_CLAIMS ≤ spent
+  claim_full e spent locks true room is given = let no : ⊥ = cc in absurd no
+  claim_full e spent locks false true is given = let no : ⊥ = cc in absurd no
+  claim_full e spent locks false false is given = ltb-false spent MAX_CLAIMS is
+
+  watch_full : {A : Type 0} → (q : Query B) (locks : Locks B) (held room : Bool) → watching q locks held room ≡ Err refusal.ClaimsFull → A
+  watch_full q locks true room given = let no : ⊥ = cc in absurd no
+  watch_full q locks false true given = let no : ⊥ = cc in absurd no
+  watch_full q locks false false given = let no : ⊥ = cc in absurd no
+
+  lock_full : (call : Call B) (spent : ℕ) (locks : Locks B) → with_lock k call spent locks ≡ Err refusal.ClaimsFull → MAX_CLAIMS ≤ spent
+  lock_full (Insert e) spent locks given = claim_full e spent locks (has k e locks.claims) (nat_lt spent MAX_CLAIMS) refl given
+  lock_full (Delete e) spent locks given = claim_full e spent locks (has k e locks.claims) (nat_lt spent MAX_CLAIMS) refl given
+  lock_full (Search q) spent locks given = watch_full q locks (has_query k q locks.predicates) (nat_lt (length locks.predicates) MAX_PREDICATES) given
+  lock_full Begin spent locks given = let no : ⊥ = cc in absurd no
+  lock_full Commit spent locks given = let no : ⊥ = cc in absurd no
+  lock_full Abort spent locks given = let no : ⊥ = cc in absurd no
+
+  asked_full : (call : Call B) (least : Option ℕ) (spent : ℕ) (old : Locks B) (notes : List (Note B))
+      → (asked_with call (lock_for k call least spent old) old notes).0 ≡ asked.Now (reply.Refused refusal.ClaimsFull) → MAX_CLAIMS ≤ spent
+  asked_full call (Some other) spent old notes given = let no : ⊥ = cc in absurd no
+  asked_full call None spent old notes given = by (with_lock k call spent old) refl given
+    where
+      by : (r : Result (Locks B) Refusal) → with_lock k call spent old ≡ r → (asked_with call r old notes).0 ≡ asked.Now (reply.Refused refusal.ClaimsFull)
+          → MAX_CLAIMS ≤ spent
+      by (Ok locks) is given = let no : ⊥ = cc in absurd no
+      by (Err why) is given = let same : why ≡ refusal.ClaimsFull = cc in lock_full call spent old (is ∙ ap (λ x. Err x) same)
+
+  slot_full : (call : Call B) (least : Option ℕ) (spent : ℕ) (x : Slot B) → (ask_slot k call least spent x).0 ≡ asked.Now (reply.Refused refusal.ClaimsFull)
+      → MAX_CLAIMS ≤ spent
+  slot_full Begin least spent (Working locks notes None) given = let no : ⊥ = cc in absurd no
+  slot_full Abort least spent (Working locks notes None) given = let no : ⊥ = cc in absurd no
+  slot_full (Insert e) least spent (Working locks notes None) given = asked_full (Insert e) least spent locks notes given
+  slot_full (Delete e) least spent (Working locks notes None) given = asked_full (Delete e) least spent locks notes given
+  slot_full (Search q) least spent (Working locks notes None) given = asked_full (Search q) least spent locks notes given
+  slot_full Commit least spent (Working locks notes None) given = asked_full Commit least spent locks notes given
+  slot_full Begin least spent Free given = let no : ⊥ = cc in absurd no
+  slot_full (Insert e) least spent Free given = let no : ⊥ = cc in absurd no
+  slot_full (Delete e) least spent Free given = let no : ⊥ = cc in absurd no
+  slot_full (Search q) least spent Free given = let no : ⊥ = cc in absurd no
+  slot_full Commit least spent Free given = let no : ⊥ = cc in absurd no
+  slot_full Abort least spent Free given = let no : ⊥ = cc in absurd no
+  slot_full call least spent (Working locks notes (Some pending)) given = let no : ⊥ = cc in absurd no
+  slot_full call least spent (Undoing locks notes) given = let no : ⊥ = cc in absurd no
+  slot_full call least spent (Waiting number) given = let no : ⊥ = cc in absurd no
+
+  abbrev ask_there : ℕ → Call B → Engine B → Bool → Asked B × Engine B
+  ask_there s call old there =
+      if there then
+      (let r = ask_in k s call old.slots in (r.0, record old { slots = with_slot s r.1 old.slots }))
+      else (asked.Now (reply.Refused refusal.BadSession), old)
+
+  pub refused_as_full : (s : ℕ) (call : Call B) (old : Engine B) → (ask k s call old).0 ≡ asked.Now (reply.Refused refusal.ClaimsFull) → MAX_CLAIMS ≤ claims_held old.slots
+  refused_as_full s call old given = by (is_session s) given
+    where
+      by : (there : Bool) → (ask_there s call old there).0 ≡ asked.Now (reply.Refused refusal.ClaimsFull) → MAX_CLAIMS ≤ claims_held old.slots
+      by true given = slot_full call (least_barring k call s 1 old.slots) (claims_held old.slots) (slot_at s old.slots) given
+      by false given = let no : ⊥ = cc in absurd no
+
   module _ (l : IsLawful k) (old : Engine B) (i : IsSound k old) where
+    -- one slot changed changes what is held in all by its own claims
     held_set : (s : ℕ) (x : Slot B) → is_session s ≡ true → claims_held (with_slot s x old.slots) + claims_of (slot_at s old.slots) ≡ claims_held old.slots + claims_of x
     held_set s x is =
-        let bounds : (0 < s) × (s < 9) = session_bounds s is in
-        let eight = i.eight in
         let at : slot_at s old.slots ≡ slice_index_or old.slots (s - 1) Free = ap (λ b. if b then slice_index_or old.slots (s - 1) Free else Free) is in
-        let here : Slot B = slice_index_or old.slots (s - 1) Free in
         let same = ap (λ (y : Slot B). claims_of y) at in
-        let sum = held_with (s - 1) x here old.slots (omega (arith, bounds, eight)) (index_again old.slots (s - 1) Free (omega (arith, bounds, eight))) in
+        let sum = sum_by-set claims_of old.slots (s - 1) x Free (place_below s old.slots is i.eight) in
         omega (arith, same, sum)
 
     no_more : (s : ℕ) (x : Slot B) → is_session s ≡ true → claims_of x ≤ claims_of (slot_at s old.slots) → claims_held old.slots ≤ 512 → claims_held (with_slot s x old.slots) ≤ 512
@@ -182,14 +229,8 @@ module _ {B : Type 0} (k : Keys B) where
           | inr more ↦ (let a = more.0 in let b = more.1 in omega (arith, sum, a, b))
         ]
 
-    abbrev ask_there : ℕ → Call B → Bool → Asked B × Engine B
-    ask_there s call there =
-        if there then
-        (let r = ask_in k s call old.slots in (r.0, record old { slots = with_slot s r.1 old.slots }))
-        else (asked.Now (reply.Refused refusal.BadSession), old)
-
     asked_engine_few : (s : ℕ) (call : Call B) (there : Bool) → is_session s ≡ there → claims_held old.slots ≤ 512
-        → claims_held (ask_there s call there).1.slots ≤ 512
+        → claims_held (ask_there s call old there).1.slots ≤ 512
     asked_engine_few s call true is few = ask_there_few s call is few
     asked_engine_few s call false is few = few
 
@@ -239,3 +280,11 @@ module _ {B : Type 0} (k : Keys B) where
     claims_stay_few new events.Fails h few = by_slots new old.slots h.slots few
     claims_stay_few new (events.Opens number) h few = by_slots new (replicate 8 Free) h.slots (omega arith)
     claims_stay_few new events.Works h few = by_slots new old.slots h.slots few
+
+module _ {B : Type 0} (k : Keys B) (l : IsLawful k) where
+  pub claims_stay_few_over : (list : List (Event B)) (old new : Engine B) (m : Machine B) → IsSound k old → SeenAs k old m → AreEvents k old list new
+      → claims_held old.slots ≤ MAX_CLAIMS → claims_held new.slots ≤ MAX_CLAIMS
+  claims_stay_few_over [] old new m i seen same few = subst (λ (e : Engine B). claims_held e.slots ≤ MAX_CLAIMS) (sym same) few
+  claims_stay_few_over (event ∷ list) old new m i seen run few =
+      let f : Follows k m (step_of event) run.0 = event_follows k l old m i seen event run.0 run.1 in
+      claims_stay_few_over list run.0 new f.next (still_sound k l old run.0 m (step_of event) i seen f) f.seen run.2 (claims_stay_few k l old i run.0 event run.1 few)

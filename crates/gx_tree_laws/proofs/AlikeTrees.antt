@@ -4,24 +4,27 @@ use Rattle.gx_tree_laws.specs.Lists.{how_many, total}
 use Rattle.gx_tree_laws.specs.Trees.{Pair, Child, Node, Tree, Rules, Used, times, child_pages, parents, walk, leaves, passing, standing, is_entry}
 use Rattle.gx_tree_laws.specs.Legal.{Bounds, ChildFits, NodeFits, Linked, Legal}
 use Rattle.gx_tree_laws.specs.Writes.{IsSeek}
+use Rattle.gx_tree_laws.specs.Alike.{AgreeOnUsed}
 use Rattle.gx_tree_laws.proofs.Sums.{each_map, total_same}
 use Rattle.gx_tree_laws.proofs.Chains.{walk_is, length_walk}
-use Rattle.gx_index_laws.specs.Alike.{AgreeOnUsed}
 
-module _ {B : Type 0} (r : Rules B) (one other : Tree B) (agree : AgreeOnUsed one other) where
+module _ {K : Type 0} (one other : Tree K) (agree : AgreeOnUsed one other) where
   pub used_too : (q : ℕ) → Used one q → Used other q
   used_too q u = (u.0, subst (λ n. q ≤ n) (sym agree.used) u.1)
 
   pub used_back : (q : ℕ) → Used other q → Used one q
   used_back q u = (u.0, subst (λ n. q ≤ n) agree.used u.1)
 
+  pub agree_back : AgreeOnUsed other one
+  agree_back = record { used = sym agree.used; counter = sym agree.counter; nodes = λ q u. sym (agree.nodes q (used_back q u)) }
+
   linked_too : (a : ℕ) (xs : List ℕ) → Linked one a xs → Linked other a xs
   linked_too a [] l = l
   linked_too a (q ∷ qs) l = (
     l.0,
     used_too q l.1,
-    ap (λ (n : Node B). n.level) (agree.nodes q l.1) ∙ l.2,
-    subst (λ x. Linked other x qs) (sym (ap (λ (n : Node B). n.right) (agree.nodes q l.1))) (linked_too (one.node q).right qs l.3),
+    ap (λ (n : Node K). n.level) (agree.nodes q l.1) ∙ l.2,
+    subst (λ x. Linked other x qs) (sym (ap (λ (n : Node K). n.right) (agree.nodes q l.1))) (linked_too (one.node q).right qs l.3),
   )
 
   walk_too : (a : ℕ) → Linked one a (walk one one.used a) → walk other other.used a ≡ walk one one.used a
@@ -30,42 +33,43 @@ module _ {B : Type 0} (r : Rules B) (one other : Tree B) (agree : AgreeOnUsed on
       let same = agree.used in
       walk_is other (walk one one.used a) a other.used (linked_too a (walk one one.used a) l) (omega (arith, most, same))
 
-  passing_too : (test : Pair B → Bool) (a : ℕ) (xs : List ℕ) → Linked one a xs → passing test other xs ≡ passing test one xs
+  passing_too : (test : Pair K → Bool) (a : ℕ) (xs : List ℕ) → Linked one a xs → passing test other xs ≡ passing test one xs
   passing_too test a [] l = refl
   passing_too test a (q ∷ qs) l =
-      ap (λ n. n + passing test other qs) (ap (λ (n : Node B). how_many test n.pairs) (agree.nodes q l.1))
+      ap (λ n. n + passing test other qs) (ap (λ (n : Node K). how_many test n.pairs) (agree.nodes q l.1))
       ∙ ap (λ n. how_many test (one.node q).pairs + n) (passing_too test (one.node q).right qs l.3)
 
-  pub seek_too : (a row : ℕ) (key : B) → IsSeek r one a row key → IsSeek r other a row key
+module _ {K : Type 0} (r : Rules K) (one other : Tree K) (agree : AgreeOnUsed one other) where
+  pub seek_too : (a row : ℕ) (key : K) → IsSeek r one a row key → IsSeek r other a row key
   seek_too a row key seek = record {
-    chain = subst (λ xs. Linked other a xs) (sym (walk_too a seek.chain)) (linked_too a (walk one one.used a) seek.chain);
-    stands = subst (λ n. 0 < n) (sym (ap (passing (is_entry r row key) other) (walk_too a seek.chain) ∙ passing_too (is_entry r row key) a (walk one one.used a) seek.chain)) seek.stands;
+    chain = subst (λ xs. Linked other a xs) (sym (walk_too one other agree a seek.chain)) (linked_too one other agree a (walk one one.used a) seek.chain);
+    stands = subst (λ n. 0 < n) (sym (ap (passing (is_entry r row key) other) (walk_too one other agree a seek.chain) ∙ passing_too one other agree (is_entry r row key) a (walk one one.used a) seek.chain)) seek.stands;
   }
 
   module _ (legal : Legal r one) where
     leaves_too : leaves other ≡ leaves one
-    leaves_too = walk_too 2 legal.chain
+    leaves_too = walk_too one other agree 2 legal.chain
 
-    pub standing_too : (test : Pair B → Bool) → standing test other ≡ standing test one
-    standing_too test = ap (passing test other) leaves_too ∙ passing_too test 2 (leaves one) legal.chain
+    pub standing_too : (test : Pair K → Bool) → standing test other ≡ standing test one
+    standing_too test = ap (passing test other) leaves_too ∙ passing_too one other agree test 2 (leaves one) legal.chain
 
     parents_too : (q : ℕ) → parents other q ≡ parents one q
     parents_too q =
         ap (total (λ p. times q (child_pages (other.node p)))) agree.used
         ∙ total_same (λ p. times q (child_pages (other.node p))) (λ p. times q (child_pages (one.node p))) one.used
-        (λ p low high. ap (λ (n : Node B). times q (child_pages n)) (agree.nodes p (low, high)))
+        (λ p low high. ap (λ (n : Node K). times q (child_pages n)) (agree.nodes p (low, high)))
 
-    child_too : (above : ℕ) (x : Child B) → ChildFits r one above x → ChildFits r other above x
+    child_too : (above : ℕ) (x : Child K) → ChildFits r one above x → ChildFits r other above x
     child_too above x f =
         let there : Used one x.page = (let low = f.low in omega (arith, low), f.used) in
         record {
           low = f.low;
           used = subst (λ n. x.page ≤ n) (sym agree.used) f.used;
-          level = ap (λ (n : Node B). suc n.level) (agree.nodes x.page there) ∙ f.level;
+          level = ap (λ (n : Node K). suc n.level) (agree.nodes x.page there) ∙ f.level;
           bounds = subst (Bounds r x.key) (sym (agree.nodes x.page there)) f.bounds;
         }
 
-    node_too : (node : Node B) → NodeFits r one node → NodeFits r other node
+    node_too : (node : Node K) → NodeFits r one node → NodeFits r other node
     node_too node f = record {
       room = f.room;
       leaf = f.leaf;
@@ -79,12 +83,12 @@ module _ {B : Type 0} (r : Rules B) (one other : Tree B) (agree : AgreeOnUsed on
 
     pub legal_too : Legal r other
     legal_too = record {
-      pages = λ p u. subst (NodeFits r other) (sym (agree.nodes p (used_back p u))) (node_too (one.node p) (legal.pages p (used_back p u)));
-      root = subst (λ (n : Node B). 0 < n.level) (sym (agree.nodes 1 root_used)) legal.root;
+      pages = λ p u. subst (NodeFits r other) (sym (agree.nodes p (used_back one other agree p u))) (node_too (one.node p) (legal.pages p (used_back one other agree p u)));
+      root = subst (λ (n : Node K). 0 < n.level) (sym (agree.nodes 1 root_used)) legal.root;
       parent = λ q low high. parents_too q ∙ legal.parent q low (subst (λ n. q ≤ n) agree.used high);
-      chain = subst (λ xs. Linked other 2 xs) (sym leaves_too) (linked_too 2 (leaves one) legal.chain);
+      chain = subst (λ xs. Linked other 2 xs) (sym leaves_too) (linked_too one other agree 2 (leaves one) legal.chain);
       once = λ q u leaf.
-          ap (times q) leaves_too ∙ legal.once q (used_back q u) (sym (ap (λ (n : Node B). n.level) (agree.nodes q (used_back q u))) ∙ leaf);
+          ap (times q) leaves_too ∙ legal.once q (used_back one other agree q u) (sym (ap (λ (n : Node K). n.level) (agree.nodes q (used_back one other agree q u))) ∙ leaf);
       single = λ row key. subst (λ n. n ≤ 1) (sym (standing_too (is_entry r row key))) (legal.single row key);
       counter = (let c = legal.counter in let a = agree.counter in let u = agree.used in omega (arith, c, a, u));
     }

@@ -1,0 +1,19 @@
+//! A reader of a device's bytes, plain and slow, for tests: what an image stands for, by its sectors, its log and its pages
+//! alone. It looks at everything, keeps lists and searches them one by one, and shares no code with what writes a device: the
+//! two are compared. It knows no frame and no descent.
+#![tactic(auto)]
+
+mod bytes;
+mod damage;
+mod image;
+mod key;
+mod log;
+mod page;
+mod records;
+mod set;
+mod tree;
+
+pub use damage::Damage;
+pub use image::{Parameters, Reading, read};
+pub use key::{Entry, Key};
+pub use page::{Child, Node, Pair};
