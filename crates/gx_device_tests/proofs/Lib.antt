@@ -1,5 +1,6 @@
 pub mod Again
 pub mod Counts
+pub mod Deeds
 pub mod Least
 pub mod Living
 pub mod Threes

@@ -1,3 +1,4 @@
+pub mod Deeds
 pub mod Frames
 pub mod Lives
 pub mod Logs

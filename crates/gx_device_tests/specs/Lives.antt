@@ -56,7 +56,8 @@ TakesAndLives {E} {P} k r x old new frames frames' d e = (changed : ℕ → Bool
     → ((p : ℕ) → changed p ≡ true → is_given (all_records s ++ record_read r x ∷ []) p ≡ true) → Runs k r old frames d bodies s → SaidBut changed frames s
     → Lives k r new frames' d e (appended (record_read r x) s)
 
--- A turn goes on: the device runs with the same state, and the head is still the log renewed with this next number.
+-- A turn goes on: the device runs with the same state, and the head is still the log renewed, with a next transaction's number that
+-- covers what the log tells.
 pub record StillTurns {E P : Type 0} (k : Known E P) (r : Reading E P) (log : Log) (frames : State) (d e : Device) (bodies : List (List (Record E P))) (s : Logged E P) : Type 0 where
   pub runs : Runs k r log frames e bodies s
   pub may : MayRenew k r log.flight e.sectors e.pending s

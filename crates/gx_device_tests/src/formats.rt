@@ -1,8 +1,11 @@
 //! A format by the bytes that it lays down, and a stop at each of its calls.
+use crate::images::image;
 use gx_class::Box2Class;
 use gx_disk::{Fuse, FuseDisk, MemDisk, SectorDisk, Torn};
-use gx_format::{MAGIC, format, sectors_for};
+use gx_format::{format, sectors_for};
 use gx_geom::Refusal;
+use gx_plain_reader::{Damage, Reading, read};
+use std::alloc::Global;
 use std::test::Fail;
 
 /// How many sectors nine pages take.
@@ -17,14 +20,21 @@ fn sector<D: SectorDisk>(disk: &mut D, s: u64) -> [u8; 512] {
     [0; 512]
 }
 
-/// For how many pages a device is told to have an index; 0 where it isn't.
-fn pages_told<D: SectorDisk>(disk: &mut D) -> u32 {
-    let [a, b, c, d, e, f, g, h, ..] = sector(disk, 0);
-    if [a, b, c, d, e, f, g, h] != MAGIC {
-        return 0;
+/// The pages of a fresh index that was read; 0 where no magic was found.
+fn fresh_pages(read: &Result<Reading, Damage>) -> Option<u32> {
+    match read {
+        Ok(found) if found.number == 0 && found.used == 2 && found.set.is_empty() => {
+            Some(found.parameters.pages)
+        }
+        Err(Damage::Magic) => Some(0),
+        _ => None,
     }
-    let [a, b, c, d, ..] = sector(disk, 1);
-    u32::from_be_bytes([a, b, c, d])
+}
+
+/// For how many pages the plain reader finds a fresh index; 0 where it finds none at all.
+fn pages_told<D: SectorDisk>(alloc: Global, disk: &mut D) -> Result<u32, Fail> {
+    let bytes = image(alloc, disk)?;
+    Ok(fresh_pages(&read(alloc, &bytes, 1)).ok_or("neither a fresh index nor none")?)
 }
 
 /// Whether two devices have the same bytes beyond their first sectors.
@@ -37,9 +47,14 @@ fn agree<D: SectorDisk>(one: &mut D, other: &mut D) -> bool {
     true
 }
 
-/// A device with a fresh index for so many pages and entries.
-fn formatted(rt: &HostRuntime, pages: u32, most: u16) -> Result<MemDisk, Fail> {
-    let mut disk = MemDisk::new(rt.alloc(), SECTORS)?;
+/// A device of so many sectors with a fresh index for so many pages and entries.
+pub(crate) fn formatted(
+    rt: &HostRuntime,
+    sectors: usize,
+    pages: u32,
+    most: u16,
+) -> Result<MemDisk, Fail> {
+    let mut disk = MemDisk::new(rt.alloc(), sectors)?;
     format::<_, Box2Class>(rt.alloc(), &mut disk, pages, most)?;
     Ok(disk)
 }
@@ -52,7 +67,7 @@ fn stopped(
     done: bool,
     choices: &[Torn],
 ) -> Result<(Result<(), Refusal>, MemDisk), Fail> {
-    let mut disk = FuseDisk::new(formatted(rt, 8, 5)?, k, Fuse::ForEver, done);
+    let mut disk = FuseDisk::new(formatted(rt, SECTORS, 8, 5)?, k, Fuse::ForEver, done);
     let answer = format::<_, Box2Class>(rt.alloc(), &mut disk, 9, 4);
     let mut left = disk.into_inner();
     left.crash(choices);
@@ -71,7 +86,7 @@ fn may_leave(k: u64, pages: u32) -> bool {
 
 #[test]
 fn a_fresh_index_byte_for_byte(rt: HostRuntime) -> Result<(), Fail> {
-    let mut disk = formatted(&rt, 9, 4)?;
+    let mut disk = formatted(&rt, SECTORS, 9, 4)?;
     let mut starts = [[0; 8]; 6];
     for (start, s) in starts.iter_mut().zip([0, 1, 8, 40, 4168, 4176]) {
         let [a, b, c, d, e, f, g, h, ..] = sector(&mut disk, s);
@@ -113,8 +128,8 @@ fn what_a_format_refuses(rt: HostRuntime) -> Result<(), Fail> {
 
 #[test]
 fn a_stop_at_each_call_of_a_format(rt: HostRuntime) -> Result<(), Fail> {
-    let mut old = formatted(&rt, 8, 5)?;
-    let mut fresh = formatted(&rt, 9, 4)?;
+    let mut old = formatted(&rt, SECTORS, 8, 5)?;
+    let mut fresh = formatted(&rt, SECTORS, 9, 4)?;
     let choices = [
         [Torn::Old, Torn::Old],
         [Torn::New, Torn::New],
@@ -125,7 +140,7 @@ fn a_stop_at_each_call_of_a_format(rt: HostRuntime) -> Result<(), Fail> {
         for done in [false, true] {
             for choice in &choices {
                 let (answer, mut left) = stopped(&rt, k, done, choice)?;
-                let pages = pages_told(&mut left);
+                let pages = pages_told(rt.alloc(), &mut left)?;
                 assert!(rt; may_leave(k, pages) && answer.is_ok() == (k == 14));
                 assert!(rt; pages != 8 || agree(&mut left, &mut old));
                 assert!(rt; pages != 9 || agree(&mut left, &mut fresh));

@@ -1,11 +1,12 @@
 //! A life of a log and a pool on any device, also one that fails at any of its calls, proved from the contracts and laws of
 //! `gx_durable` alone: records are appended, batches gated, pages written, and the log turned.
-ghost use Rattle.std.specs.Prelude.{◌≡◌, ◌<◌, ◌≤◌, [], OnOk};
-ghost use Rattle.gx_record.specs.Format.{IsInRange};
+ghost use Rattle.std.specs.Prelude.{◌≡◌, ◌<◌, ◌≤◌, ◌+◌, [], length, MatchResult, IfErr, OnOk};
+ghost use Rattle.gx_record.specs.Format.{IsInRange, spelling};
 ghost use Rattle.gx_record.specs.Seen.{rec_of};
 ghost use Rattle.gx_pool.specs.State.{NoneDirty};
 ghost use Rattle.gx_recovery.specs.Known.{Limits};
 ghost use Rattle.gx_device_tests.specs.Logs.{next_of, ComesBeforeLast, IsDue};
+ghost use Rattle.gx_device_tests.specs.Deeds.{Does, DoesTwo, GatesNext, GatesRecord};
 ghost use Rattle.gx_device_tests.specs.Lives.{IsOnDevice, KeepsLiving, TakesAndLives, KeepsTurning, TurnEnds, PutsOne, PutsHead, PutsQuietly, TurnsOver};
 
 use gx_disk::SectorDisk;
@@ -27,8 +28,12 @@ pub enum Deed {
     Sync,
 }
 
-/// Makes one call. Of an honest device, whether it succeeds or not, log and pool run on, and at each moment what a crash may leave
-/// stands for a kept set of the state before. Refused with `Device` where the device failed.
+/// Makes one call. A step of the log makes the device call that is due, and tells the pool of a batch whose gate is synced; a page
+/// whose changes are all in gated batches is written, and clean then; a sync settles what an honest device has. Refused with
+/// `Device` exactly where the device failed.
+///
+/// Of an honest device, whether it succeeds or not, log and pool run on, and at each moment what a crash may leave stands for a
+/// kept set of the state before.
 pub fn step<M: Spelled, T: PageTest, D: SectorDisk>(
     log: &mut Glog,
     pool: &mut Pool<T>,
@@ -38,6 +43,11 @@ pub fn step<M: Spelled, T: PageTest, D: SectorDisk>(
     requires device { 4168 ≤ (D.state disk.old).sectors }
     requires page { IsOnDevice (D.state disk.old).sectors deed }
     ensures sectors { (D.state disk.new).sectors ≡ (D.state disk.old).sectors }
+    ensures honest { (D.state disk.new).honest ≡ (D.state disk.old).honest }
+    ensures faults { MatchResult result (λ _. (D.state disk.new).faults ≡ (D.state disk.old).faults) (λ _. (D.state disk.new).faults ≡ (D.state disk.old).faults + 1) }
+    ensures refusal { IfErr result (λ refusal. refusal ≡ Refusal.Device) }
+    ensures test { pool.new.test ≡ pool.old.test }
+    ensures does { Does deed log.old log.new pool.old.frames pool.new.frames (D.state disk.old) (D.state disk.new) result }
     ensures lives { (l : Limits) → KeepsLiving (M.known l) M.reading log.old log.new pool.old.frames pool.new.frames (D.state disk.old) (D.state disk.new) }
 {
     match deed {
@@ -65,6 +75,11 @@ pub fn two_steps<M: Spelled, T: PageTest, D: SectorDisk>(
     requires first { IsOnDevice (D.state disk.old).sectors first }
     requires second { IsOnDevice (D.state disk.old).sectors second }
     ensures sectors { (D.state disk.new).sectors ≡ (D.state disk.old).sectors }
+    ensures honest { (D.state disk.new).honest ≡ (D.state disk.old).honest }
+    ensures faults { MatchResult result (λ _. (D.state disk.new).faults ≡ (D.state disk.old).faults) (λ _. (D.state disk.new).faults ≡ (D.state disk.old).faults + 1) }
+    ensures refusal { IfErr result (λ refusal. refusal ≡ Refusal.Device) }
+    ensures test { pool.new.test ≡ pool.old.test }
+    ensures does { DoesTwo D.state first second log.old log.new pool.old.frames pool.new.frames disk.old disk.new result }
     ensures lives { (l : Limits) → KeepsLiving (M.known l) M.reading log.old log.new pool.old.frames pool.new.frames (D.state disk.old) (D.state disk.new) }
 {
     calls_in_a_row::<M, D>();
@@ -72,7 +87,8 @@ pub fn two_steps<M: Spelled, T: PageTest, D: SectorDisk>(
     step::<M, T, D>(log, pool, disk, second)
 }
 
-/// Makes four steps of the log, which gate a batch where none was in flight, or the first that fails.
+/// Makes four steps of the log, or the first that fails. Where none was in flight and something fills, they gate what fills, and
+/// the pool is told of it.
 pub fn four_steps<M: Spelled, T: PageTest, D: SectorDisk>(
     log: &mut Glog,
     pool: &mut Pool<T>,
@@ -80,6 +96,11 @@ pub fn four_steps<M: Spelled, T: PageTest, D: SectorDisk>(
 ) -> Result<(), Refusal>
     requires device { 4168 ≤ (D.state disk.old).sectors }
     ensures sectors { (D.state disk.new).sectors ≡ (D.state disk.old).sectors }
+    ensures honest { (D.state disk.new).honest ≡ (D.state disk.old).honest }
+    ensures faults { MatchResult result (λ _. (D.state disk.new).faults ≡ (D.state disk.old).faults) (λ _. (D.state disk.new).faults ≡ (D.state disk.old).faults + 1) }
+    ensures refusal { IfErr result (λ refusal. refusal ≡ Refusal.Device) }
+    ensures test { pool.new.test ≡ pool.old.test }
+    ensures gates { OnOk result (log.old.stage ≡ Stage.Idle → 1 ≤ length log.old.filling → GatesNext log.old log.new pool.old.frames pool.new.frames) }
     ensures lives { (l : Limits) → KeepsLiving (M.known l) M.reading log.old log.new pool.old.frames pool.new.frames (D.state disk.old) (D.state disk.new) }
 {
     calls_in_a_row::<M, D>();
@@ -87,7 +108,9 @@ pub fn four_steps<M: Spelled, T: PageTest, D: SectorDisk>(
     two_steps::<M, T, D>(log, pool, disk, Deed::LogStep, Deed::LogStep)
 }
 
-/// Appends the record of what was changed, gates its batch, and writes a page and settles it.
+/// Appends the record of what was changed, makes four steps of the log, writes a page and syncs. Where no batch and no turn was on
+/// its way, and there was room: if all of it succeeds, the record is gated behind what filled, the page is clean where its changes
+/// were of that batch or of earlier ones, and what an honest device has is settled.
 pub fn gate_record<M: Spelled, T: PageTest, D: SectorDisk>(
     log: &mut Glog,
     pool: &mut Pool<T>,
@@ -100,6 +123,11 @@ pub fn gate_record<M: Spelled, T: PageTest, D: SectorDisk>(
     requires device { 4168 ≤ (D.state disk.old).sectors }
     requires page { IsOnDevice (D.state disk.old).sectors (Deed.WritePage page) }
     ensures sectors { (D.state disk.new).sectors ≡ (D.state disk.old).sectors }
+    ensures honest { (D.state disk.new).honest ≡ (D.state disk.old).honest }
+    ensures faults { MatchResult result (λ _. (D.state disk.new).faults ≡ (D.state disk.old).faults) (λ _. (D.state disk.new).faults ≡ (D.state disk.old).faults + 1) }
+    ensures refusal { IfErr result (λ refusal. refusal ≡ Refusal.Device) }
+    ensures test { pool.new.test ≡ pool.old.test }
+    ensures gates { OnOk result (log.old.stage ≡ Stage.Idle → log.old.turn ≡ Turn.Closed → length log.old.filling + length (spelling (rec_of logged.now)) ≤ 32764 → GatesRecord (rec_of logged.now) page log.old log.new pool.old.frames pool.new.frames (D.state disk.old) (D.state disk.new)) }
     ensures lives { (l : Limits) → TakesAndLives (M.known l) M.reading (rec_of logged.now) log.old log.new pool.old.frames pool.new.frames (D.state disk.old) (D.state disk.new) }
 {
     calls_in_a_row::<M, D>();

@@ -1,0 +1,9 @@
+pub mod Children
+pub mod Counted
+pub mod Naming
+pub mod Numbered
+pub mod Once
+pub mod Passes
+pub mod Slots
+pub mod Taken
+pub mod Walks

@@ -1,0 +1,22 @@
+-- Which rule of a legal tree is broken, and by which page.
+use Rattle.std.specs.Prelude.{◌≡◌, ℕ, suc, ◌+◌, ◌<◌, ◌≤◌, ◌⊎◌, length}
+use Rattle.gx_tree_laws.specs.Lists.{SomeOf}
+use Rattle.gx_tree_laws.specs.Trees.{Tree, Rules, Used, size, times, parents, leaves, standing, is_entry}
+use Rattle.gx_tree_laws.specs.Legal.{Bounds, Linked}
+use Rattle.gx_legality.specs.declared.fault.Rule.{Rule}
+use Rattle.gx_legality.specs.declared.fault.Rule.TheVariants.{SplitsOutnumberPages, RootIsLeaf, TooManyEntries, NoChild, SequenceNumber, ChildPage, ChildLevel, Bound, NamedTwice, NotNamed, Chain, OffTheChain, PairTwice}
+
+abbrev pub Breaks : {K : Type 0} → Rules K → Tree K → ℕ → Rule → Type 0
+Breaks r t p SplitsOutnumberPages = t.used < t.counter + 2
+Breaks r t p RootIsLeaf = (t.node 1).level ≡ 0
+Breaks r t p TooManyEntries = Used t p × (r.most < size (t.node p))
+Breaks r t p NoChild = Used t p × (0 < (t.node p).level) × (length (t.node p).children ≡ 0)
+Breaks r t p SequenceNumber = Used t p × (t.counter < (t.node p).nsn)
+Breaks r t p ChildPage = Used t p × SomeOf (λ c. ¬ ((2 ≤ c.page) × (c.page ≤ t.used))) (t.node p).children
+Breaks r t p ChildLevel = Used t p × SomeOf (λ c. ¬ (suc (t.node c.page).level ≡ (t.node p).level)) (t.node p).children
+Breaks r t p Bound = Used t p × SomeOf (λ c. ¬ Bounds r c.key (t.node c.page)) (t.node p).children
+Breaks r t p NamedTwice = (2 ≤ p) × (p ≤ t.used) × (2 ≤ parents t p)
+Breaks r t p NotNamed = (2 ≤ p) × (p ≤ t.used) × (parents t p ≡ 0)
+Breaks r t p Chain = (¬ Linked t 2 (leaves t)) ⊎ (Used t p × ((t.node p).level ≡ 0) × (2 ≤ times p (leaves t)))
+Breaks r t p OffTheChain = Used t p × ((t.node p).level ≡ 0) × (times p (leaves t) ≡ 0)
+Breaks {K} r t p PairTwice = (row : ℕ) × (key : K) × (2 ≤ standing (is_entry r row key) t)

@@ -1,0 +1,6 @@
+pub mod Breaks
+pub mod Entries
+pub mod Gathered
+pub mod Marks
+pub mod Nodes
+pub mod Owner

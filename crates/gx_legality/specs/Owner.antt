@@ -1,0 +1,27 @@
+-- What a test leaves of its pages' owner, and why it was refused.
+use Rattle.std.specs.Prelude.{ℕ}
+use Rattle.gx_tree.specs.Owner.{KeepsSince}
+use Rattle.gx_tree.specs.Store.{Store, Stays}
+use Rattle.gx_legality.specs.declared.fault.LegalityFault.{LegalityFault}
+use Rattle.gx_legality.specs.declared.fault.LegalityFault.TheVariants.{Memory, Pages, Broken, Unsteady}
+use Rattle.gx_legality.specs.declared.fault.Rule.{Rule}
+
+-- pages were read, and nothing else was done
+pub record OnlyReads {P B : Type 0} (steady : P → Type 0) (store : P → Store B) (since : P → P → ℕ → Type 0) (old new : P) : Type 0 where
+  pub stays : Stays (steady old) (store old) (store new)
+  pub still : steady old → steady new
+  pub goes_on : KeepsSince since old new
+
+-- a test that pages were refused for says why
+abbrev pub IsWhy : {F : Type 0} → (F → Type 0) → LegalityFault F → Type 0
+IsWhy why (Pages fault) = why fault
+IsWhy why Memory = Unit {0}
+IsWhy why (Broken page rule) = Unit {0}
+IsWhy why Unsteady = Unit {0}
+
+-- what a test says of pages that show the same each time: what it names is so
+abbrev pub IsFound : {F : Type 0} → (ℕ → Rule → Type 0) → LegalityFault F → Type 0
+IsFound breaks (Broken page rule) = breaks page rule
+IsFound breaks Unsteady = ⊥
+IsFound breaks Memory = Unit {0}
+IsFound breaks (Pages fault) = Unit {0}

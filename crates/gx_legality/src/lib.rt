@@ -1,0 +1,18 @@
+//! The test that a tree on pages is legal, whatever the pages hold.
+#![tactic(auto)]
+
+mod bounds;
+mod chain;
+mod fault;
+mod gather;
+mod named;
+mod node;
+mod nodes;
+mod pairs;
+
+pub use chain::test_chain;
+pub use fault::{LegalityFault, Rule};
+pub use named::{mark_children, test_named};
+pub use node::test_node;
+pub use nodes::test_nodes;
+pub use pairs::test_pairs;
