@@ -1,0 +1,5 @@
+pub mod Bringing
+pub mod Changing
+pub mod Going
+pub mod Listed
+pub mod Shown

@@ -1,0 +1,5 @@
+pub mod Changing
+pub mod Faults
+pub mod Since
+pub mod Standing
+pub mod State

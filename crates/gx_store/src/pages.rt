@@ -1,0 +1,53 @@
+//! What the tree's steps that read ask of the store.
+ghost use Rattle.std.specs.Prelude.{◌≡◌};
+
+use crate::fault::{StoreFault, told};
+use crate::store::PageStore;
+use gx_class::KeyClass;
+use gx_disk::SectorDisk;
+use gx_page::Page;
+use gx_tree::Pages;
+
+impl<D: SectorDisk, K: KeyClass> Pages<K> for PageStore<D, K> {
+    type Fault = StoreFault;
+
+    ghost use Rattle.gx_node.specs.Reading.{format_of, is_node};
+    ghost use Rattle.gx_store.specs.Faults.{IsWhy};
+    ghost use Rattle.gx_store.specs.Since.{IsSince};
+    ghost use Rattle.gx_store.specs.Standing.{store_of};
+    ghost use Rattle.gx_store.specs.State.{IsHeld, IsSteady};
+
+    ghost store = { λ s. store_of (format_of K.KeyClass) (D.state s.disk).seen s };
+
+    ghost held = { λ s page. IsHeld s page };
+
+    ghost steady = { λ s. IsSteady (D.state s.disk) s.frames };
+
+    ghost since = { λ was now page. IsSince (is_node (format_of K.KeyClass)) (D.state was.disk) (D.state now.disk) was now page };
+
+    ghost asked = { λ old new asked. Unit };
+
+    ghost why = { λ old new fault. IsWhy (is_node (format_of K.KeyClass)) (D.state old.disk) (D.state new.disk) old new fault };
+
+    fn used(&self) -> u32 {
+        self.used
+    }
+
+    fn room(&self) -> u32 {
+        self.pages
+    }
+
+    fn counter(&self) -> u64 {
+        self.counter
+    }
+
+    fn bring(&mut self, pages: &[u32]) -> Result<(), StoreFault> {
+        told(self.pool.bring(&mut self.disk, pages))
+    }
+
+    fn page(&self, page: u32) -> &Page {
+        self.pool.page(page)
+    }
+
+    ghost asked_nothing = { λ a. tt };
+}

@@ -1,0 +1,42 @@
+//! What the tree's steps that write ask of the store.
+ghost use Rattle.std.specs.Prelude.{◌≡◌};
+
+use crate::fault::StoreFault;
+use crate::store::PageStore;
+use gx_class::KeyClass;
+use gx_disk::SectorDisk;
+use gx_tree::{Edit, PagesMut};
+
+impl<D: SectorDisk, K: KeyClass> PagesMut<K> for PageStore<D, K> {
+    ghost use Rattle.std.specs.Prelude.{◌≡◌, true};
+    ghost use Rattle.gx_store.specs.Changing.{ready_pages};
+
+    ghost ready = { λ s. ready_pages s };
+
+    ghost changing = { λ s page. s.has_room ≡ true };
+
+    fn prepare(&mut self, _changes: &[u32], taken: u32) -> Result<(), StoreFault> {
+        if !self.has_room {
+            return Err(StoreFault::NoRoom);
+        }
+        if self.pool.clean_frames() < taken as usize {
+            return Err(StoreFault::TooFewFrames(taken));
+        }
+        Ok(())
+    }
+
+    fn change<E: Edit<K>>(&mut self, page: u32, edit: E) {
+        let pages = self.pages;
+        edit.apply(self.pool.change_kept(page, self.batch), pages);
+    }
+
+    fn take(&mut self, from: u32) {
+        let page = self.used + 1;
+        self.pool.create_as(page, from, self.batch);
+        self.used = page;
+    }
+
+    fn count_split(&mut self) {
+        self.counter += 1;
+    }
+}
