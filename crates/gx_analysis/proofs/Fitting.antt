@@ -67,7 +67,7 @@ module _ {E P : Type 0} (k : Known E P) (l : IsLawful k) where
   all_by p t x xs Greater h alike first later rest = yes_and (p x) (list_all p (touching k t xs)) first ∙ rest
 
   -- a test that all pass, with one touch more
-  all_with : (p : Touch E → Bool) (t : Touch E) (xs : List (Touch E)) → ((y : Touch E) → touch_cmp k t y ≡ Equal → p (record y { leaf = t.leaf }) ≡ p t)
+  pub all_with : (p : Touch E → Bool) (t : Touch E) (xs : List (Touch E)) → ((y : Touch E) → touch_cmp k t y ≡ Equal → p (record y { leaf = t.leaf }) ≡ p t)
       → list_all p xs ≡ true → list_all p (touching k t xs) ≡ p t
   all_with p t [] alike all = and-true (p t)
   all_with p t (x ∷ xs) alike all =
@@ -126,7 +126,7 @@ module _ {E P : Type 0} (k : Known E P) (l : IsLawful k) where
   named_with u t [] = refl
   named_with u t (x ∷ xs) = named_by u t x xs (touch_cmp k t x) refl (named_with u t xs)
 
-  abbrev one_more : Touch E → List (Touch E) → ℕ
+  abbrev pub one_more : Touch E → List (Touch E) → ℕ
   one_more t xs = if has_touched t.transaction xs then transactions xs else transactions xs + 1
 
   counted_by : (t x : Touch E) (xs : List (Touch E)) (o : Ordering) → touch_cmp k t x ≡ o → transactions (touching k t xs) ≡ one_more t xs
@@ -147,7 +147,7 @@ module _ {E P : Type 0} (k : Known E P) (l : IsLawful k) where
       ∙ ap (λ b. if (b || ht) then (if hx then n else n + 1) else (if hx then n else n + 1) + 1) (same_number t.transaction x.transaction)
 
   -- how many transactions there are with one touch more
-  counted_with : (t : Touch E) (xs : List (Touch E)) → transactions (touching k t xs) ≡ one_more t xs
+  pub counted_with : (t : Touch E) (xs : List (Touch E)) → transactions (touching k t xs) ≡ one_more t xs
   counted_with t [] = refl
   counted_with t (x ∷ xs) = counted_by t x xs (touch_cmp k t x) refl (counted_with t xs)
 

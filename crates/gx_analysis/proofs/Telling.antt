@@ -19,7 +19,7 @@ use Rattle.gx_recovery.proofs.SoundRecords.{FitsBy, parts_of, all_fit}
 use Rattle.gx_recovery.proofs.Undo.{fits_without}
 use Rattle.gx_recovery.specs.declared.TheConstants.{TRANSACTIONS, TOUCHED}
 use Rattle.gx_analysis.specs.Kept.{Kept, by_order, is_closed, lies_apart, may_be_open, has_place, may_touch, may_write, may_give, may_end, may_commit, with_touch, with_pages, with_end, with_commit, ClosedBy}
-use Rattle.gx_analysis.specs.Telling.{IsKept, Tells, TellsClosing, TellsHead, AreOwn, WritesTell, NoEntryIsRefused, PagesTell, CommitsTell, EndsTell, CountersTell, NotesTell}
+use Rattle.gx_analysis.specs.Telling.{IsKept, Tells, TellsClosing, AreOwn, WritesTell, NoEntryIsRefused, PagesTell, CommitsTell, EndsTell, CountersTell, NotesTell}
 use Rattle.gx_analysis.proofs.Bridging.{same_touching}
 use Rattle.gx_analysis.proofs.Fitting.{yes_and, and_yes, fits_with, unfits_with}
 

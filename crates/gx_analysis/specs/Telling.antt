@@ -66,3 +66,13 @@ CountersTell {E} {P} k = (s : Kept E) → IsKept k [] s → (number counter used
 abbrev pub NotesTell : {E P : Type 0} → Known E P → Type 0
 NotesTell {E} {P} k = IsLawful k → (head : List (Record E P)) (s : Kept E) → is_head k head ≡ true → IsKept k head s → (t : Touch E) → k.is_entry t.entry ≡ true
     → TellsHead k (head ++ Note t.transaction t.entry t.before t.leaf ∷ []) (may_touch k.cmp t s) (with_touch k.cmp t s)
+
+-- a note of what is no entry of the class never makes a head
+abbrev pub NoEntryIsNoNote : {E P : Type 0} → Known E P → Type 0
+NoEntryIsNoNote {E} {P} k = IsLawful k → (head : List (Record E P)) → is_head k head ≡ true → (t : Touch E) → k.is_entry t.entry ≡ false
+    → is_head k (head ++ Note t.transaction t.entry t.before t.leaf ∷ []) ≡ false
+
+-- What begins a head is a head: so a record that spoils one spoils it whatever comes behind.
+abbrev pub HeadsBegin : {E P : Type 0} → Known E P → Type 0
+HeadsBegin {E} {P} k = IsLawful k → (number counter used next : ℕ) (notes more : List (Record E P))
+    → is_head k (Counters number counter used next ∷ (notes ++ more)) ≡ true → is_head k (Counters number counter used next ∷ notes) ≡ true

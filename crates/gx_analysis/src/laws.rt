@@ -1,6 +1,6 @@
 //! What is kept of a log tells what may follow it. Each function is its contract alone.
 ghost use Rattle.gx_recovery.specs.Known.{Limits};
-ghost use Rattle.gx_analysis.specs.Telling.{WritesTell, NoEntryIsRefused, PagesTell, CommitsTell, EndsTell, CountersTell, NotesTell};
+ghost use Rattle.gx_analysis.specs.Telling.{WritesTell, NoEntryIsRefused, PagesTell, CommitsTell, EndsTell, CountersTell, NotesTell, NoEntryIsNoNote, HeadsBegin};
 
 use gx_recovery::Meaning;
 
@@ -14,8 +14,11 @@ pub fn the_kept_state_tells_what_follows<M: Meaning>()
     ensures end { (d : Limits) → EndsTell (M.known d) }
 {}
 
-/// The same of a log's head: its numbers, and then one note more.
+/// The same of a log's head: its numbers, and then one note more. What begins a head is one, so that a note which doesn't fit spoils
+/// the head whatever comes behind it.
 pub fn the_kept_state_tells_what_heads_are<M: Meaning>()
     ensures counters { (d : Limits) → CountersTell (M.known d) }
     ensures notes { (d : Limits) → NotesTell (M.known d) }
+    ensures no_entry { (d : Limits) → NoEntryIsNoNote (M.known d) }
+    ensures begin { (d : Limits) → HeadsBegin (M.known d) }
 {}

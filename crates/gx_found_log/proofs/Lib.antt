@@ -1,0 +1,4 @@
+pub mod Parts
+pub mod Told
+pub mod Reading
+pub mod Extents

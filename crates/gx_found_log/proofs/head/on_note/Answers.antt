@@ -1,0 +1,17 @@
+use Rattle.std.proofs.Common.{ap}
+use Rattle.gx_record.specs.Seen.{is_marked, rec_of}
+use Rattle.gx_found_log.proofs.Told.{note_comes, no_entry_noted}
+use Rattle.gx_found_log.proofs.head.on_note.Goals as goal
+
+pub returns-in-Some-clause-told : goal.returns-in-Some-clause-told
+returns-in-Some-clause-told g c = λ d ordered.
+    let w = c.in-Note in
+    note_comes (g.M.Meaning.known d) g.M.Spelled.reading (g.met.M.Readable.lawful d) g.M.Entry.Ord.cmp ordered (rec_of c.args.logged.now) w.tx w.row w.key.now
+    (is_marked w.before) w.leaf (ap rec_of w.is) c.in-Some.entry c.in-Some.ensures.entry (c.in-Some.ensures.of_class d)
+    c.is_marked.result c.is_marked.ensures c.new.result c.new.ensures c.args.analysis.now c.on_note.new.self c.on_note.result c.on_note.ensures
+
+pub returns-in-None-clause-told : goal.returns-in-None-clause-told
+returns-in-None-clause-told g c = λ d ordered.
+    let w = c.in-Note in
+    no_entry_noted (g.M.Meaning.known d) g.M.Spelled.reading (g.met.M.Readable.lawful d) (rec_of c.args.logged.now) w.tx w.row w.key.now
+    (is_marked w.before) w.leaf (ap rec_of w.is) (c.in-None.ensures.of_class d) c.args.analysis.now c.args.analysis.now

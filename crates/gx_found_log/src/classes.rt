@@ -1,0 +1,50 @@
+//! The key classes, read of bytes.
+ghost use Rattle.std.specs.Prelude.{◌≡◌, ◌≤◌, true};
+ghost use Rattle.gx_disk.specs.Looks.{Looks};
+ghost use Rattle.gx_node.specs.Reading.{format_of};
+ghost use Rattle.gx_recovery.specs.Known.{Limits};
+ghost use Rattle.gx_index_laws.specs.Classes.{known_of};
+ghost use Rattle.gx_readings.specs.Classes.{class_of, reading_of};
+ghost use Rattle.gx_found_log.specs.Found.{LogRead, ReadsAlone};
+
+use crate::{FoundLog, Readable, read_log};
+use gx_class::KeyClass;
+use gx_disk::SectorDisk;
+use gx_geom::Refusal;
+use gx_machine::Entry;
+use gx_readings::{OfClass, ReadKeys};
+use std::alloc::Global;
+
+impl<K: ReadKeys> Readable for OfClass<K> {
+    ghost use Rattle.gx_readings.proofs.Used.{known_lawful};
+
+    fn key_size() -> usize {
+        K::KEY
+    }
+
+    fn entry(row: u64, key: &[u8]) -> Option<Entry<K::Key>> {
+        match K::decode(key) {
+            Some(key) => Some(Entry { row, key }),
+            None => None,
+        }
+    }
+
+    ghost lawful = { λ d. known_lawful _ (record { total = K.Key.Ord.total; exact = K.Key.Shape.same }) };
+
+    ghost own = { λ d page image is. is.number };
+}
+
+/// Reads the log of a device of so many pages, whose keys are of a class, as [`read_log`].
+pub fn read_class_log<K: ReadKeys, D: SectorDisk>(
+    alloc: Global,
+    disk: &mut D,
+    pages: u32,
+) -> Result<FoundLog<Entry<K::Key>>, Refusal>
+    requires { 4168 ≤ (D.state disk.old).sectors }
+    ensures reads { ReadsAlone (D.state disk.old) (D.state disk.new) result }
+    ensures looks { (D.state disk.old).honest ≡ true → Looks (D.state disk.old) (D.state disk.new) }
+    ensures log { (D.state disk.old).honest ≡ true → (d : Limits) → d.pages ≡ pages
+        → LogRead (known_of (class_of K.Key.Shape K.is_proper d)) (reading_of K.said (format_of K.KeyClass)) (D.state disk.old).seen result }
+{
+    read_log::<OfClass<K>, D>(alloc, disk, pages)
+}

@@ -1,0 +1,69 @@
+//! One record of a log's first body, told to an analysis.
+ghost use Rattle.std.specs.Prelude.{◌≡◌, IfErr};
+ghost use Rattle.gx_record.specs.Format.{IsRecord};
+ghost use Rattle.gx_record.specs.Seen.{rec_of};
+ghost use Rattle.gx_recovery.specs.Known.{Limits};
+ghost use Rattle.gx_found_log.specs.Told.{RecordTold};
+
+use crate::record::is_marked;
+use crate::{Part, Readable};
+use gx_analysis::{Analysis, Touch};
+use gx_geom::Refusal;
+use gx_record::Record;
+
+/// Tells the counters that a log starts with.
+pub(crate) fn on_counters<M: Readable>(
+    analysis: &mut Analysis<M::Entry>,
+    logged: &Record<'_>,
+) -> Result<(), Refusal>
+where
+    M::Entry: Copy + Ord,
+    ensures closed { analysis.new.closed ≡ analysis.old.closed }
+    ensures refusal { IfErr result (λ refusal. refusal ≡ Refusal.Damaged) }
+    ensures told { (d : Limits) → RecordTold Part.Start (M.known d) M.reading (rec_of logged.now) analysis.old result analysis.new }
+{
+    match logged {
+        Record::Counters {
+            n,
+            counter,
+            used,
+            next,
+        } => analysis.on_counters(*n, *counter, *used, *next),
+        Record::Pages { .. }
+        | Record::Write { .. }
+        | Record::Commit { .. }
+        | Record::End { .. }
+        | Record::Note { .. } => Err(Refusal::Damaged),
+    }
+}
+
+/// Tells a note of a log's head.
+pub(crate) fn on_note<M: Readable>(
+    analysis: &mut Analysis<M::Entry>,
+    logged: &Record<'_>,
+) -> Result<(), Refusal>
+where
+    M::Entry: Copy + Ord,
+    requires is_record { IsRecord M.reading.key (rec_of logged.now) }
+    ensures closed { analysis.new.closed ≡ analysis.old.closed }
+    ensures refusal { IfErr result (λ refusal. refusal ≡ Refusal.Damaged) }
+    ensures told { (d : Limits) → (M.known d).cmp ≡ M.Entry.Ord.cmp → RecordTold Part.Head (M.known d) M.reading (rec_of logged.now) analysis.old result analysis.new }
+{
+    match logged {
+        Record::Note {
+            tx,
+            row,
+            key,
+            before,
+            leaf,
+        } => match M::entry(*row, key) {
+            Some(entry) => analysis.on_note(Touch::new(*tx, entry, is_marked(before), *leaf)),
+            None => Err(Refusal::Damaged),
+        },
+        Record::Pages { .. }
+        | Record::Write { .. }
+        | Record::Commit { .. }
+        | Record::End { .. }
+        | Record::Counters { .. } => Err(Refusal::Damaged),
+    }
+}

@@ -1,0 +1,16 @@
+//! The log that is found on a device, read back: from its bytes to what its records tell. A log that is damaged is refused.
+#![tactic(auto)]
+
+mod body;
+mod classes;
+mod found;
+mod head;
+mod part;
+mod readable;
+mod record;
+
+pub use body::on_body;
+pub use classes::read_class_log;
+pub use found::{FoundLog, read_log};
+pub use part::Part;
+pub use readable::Readable;

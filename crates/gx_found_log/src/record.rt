@@ -1,0 +1,97 @@
+//! One record of a log, told to an analysis.
+ghost use Rattle.std.specs.Prelude.{◌≡◌, ◌+◌, ◌<◌, ◌≤◌, length, IfErr};
+ghost use Rattle.gx_record.specs.Format.{IsRecord};
+ghost use Rattle.gx_record.specs.Seen.{is_marked, rec_of, images};
+ghost use Rattle.gx_recovery.specs.Known.{Limits};
+ghost use Rattle.gx_analysis.specs.Kept.{may_give, with_pages, Takes};
+ghost use Rattle.gx_analysis.specs.declared.closed.TheConstants.{CLOSINGS};
+ghost use Rattle.gx_found_log.specs.Told.{page_numbers, RecordTold};
+
+use crate::head::{on_counters, on_note};
+use crate::{Part, Readable};
+use gx_analysis::{Analysis, Touch};
+use gx_geom::Refusal;
+use gx_record::{Mark, PageImages, Record};
+
+/// Tells the pages of a record.
+fn on_pages<E: Copy + Ord>(
+    analysis: &mut Analysis<E>,
+    counter: u64,
+    used: u32,
+    pages: &PageImages<'_>,
+) -> Result<(), Refusal>
+    ensures { Takes (may_give counter used (page_numbers (images pages.now)) analysis.old) (with_pages counter used analysis.old) analysis.old result analysis.new }
+{
+    match pages {
+        PageImages::One(a) => analysis.on_pages(counter, used, &[a.page]),
+        PageImages::Two(a, b) => analysis.on_pages(counter, used, &[a.page, b.page]),
+        PageImages::Three(a, b, c) => analysis.on_pages(counter, used, &[a.page, b.page, c.page]),
+    }
+}
+
+/// Whether a mark is set.
+pub(crate) fn is_marked(mark: &Mark) -> bool
+    ensures { result ≡ is_marked mark.now }
+{
+    match mark {
+        Mark::Live => false,
+        Mark::Marked => true,
+    }
+}
+
+/// Tells a record of a log's later bodies.
+fn on_later<M: Readable>(
+    analysis: &mut Analysis<M::Entry>,
+    logged: &Record<'_>,
+) -> Result<(), Refusal>
+where
+    M::Entry: Copy + Ord,
+    requires is_record { IsRecord M.reading.key (rec_of logged.now) }
+    requires room { length analysis.old.closed < CLOSINGS }
+    ensures count { length analysis.new.closed ≤ length analysis.old.closed + 1 }
+    ensures refusal { IfErr result (λ refusal. refusal ≡ Refusal.Damaged) }
+    ensures told { (d : Limits) → (M.known d).cmp ≡ M.Entry.Ord.cmp → RecordTold Part.Later (M.known d) M.reading (rec_of logged.now) analysis.old result analysis.new }
+{
+    match logged {
+        Record::Pages {
+            counter,
+            used,
+            pages,
+        } => on_pages(analysis, *counter, *used, pages),
+        Record::Write {
+            tx,
+            row,
+            key,
+            before,
+            leaf,
+            ..
+        } => match M::entry(*row, key) {
+            Some(entry) => { analysis.on_write(Touch::new(*tx, entry, is_marked(before), *leaf)) }
+            None => Err(Refusal::Damaged),
+        },
+        Record::Commit { tx, n } => analysis.on_commit(*tx, *n),
+        Record::End { tx } => analysis.on_end(*tx),
+        Record::Counters { .. } | Record::Note { .. } => Err(Refusal::Damaged),
+    }
+}
+
+/// Tells a record that stands in this part of a log.
+pub(crate) fn on_record<M: Readable>(
+    part: Part,
+    analysis: &mut Analysis<M::Entry>,
+    logged: &Record<'_>,
+) -> Result<(), Refusal>
+where
+    M::Entry: Copy + Ord,
+    requires is_record { IsRecord M.reading.key (rec_of logged.now) }
+    requires room { length analysis.old.closed < CLOSINGS }
+    ensures count { length analysis.new.closed ≤ length analysis.old.closed + 1 }
+    ensures refusal { IfErr result (λ refusal. refusal ≡ Refusal.Damaged) }
+    ensures told { (d : Limits) → (M.known d).cmp ≡ M.Entry.Ord.cmp → RecordTold part (M.known d) M.reading (rec_of logged.now) analysis.old result analysis.new }
+{
+    match part {
+        Part::Start => on_counters::<M>(analysis, logged),
+        Part::Head => on_note::<M>(analysis, logged),
+        Part::Later => on_later::<M>(analysis, logged),
+    }
+}
