@@ -1,5 +1,5 @@
 //! The whole test.
-ghost use Rattle.std.specs.Prelude.{◌≡◌, ℕ, suc, ◌+◌, ◌^◌, ◌<◌, ◌≤◌, None, length, slice_index_or, OnOk, IfOk, IfErr};
+ghost use Rattle.std.specs.Prelude.{◌≡◌, ◌↔◌, ℕ, suc, ◌+◌, ◌^◌, ◌<◌, ◌≤◌, None, length, slice_index_or, OnOk, IfOk, IfErr, IsTrue};
 ghost use Rattle.gx_tree_laws.specs.Legal.{Legal};
 ghost use Rattle.gx_tree_laws.specs.Trees.{Tree, Rules, parents};
 ghost use Rattle.gx_tree.specs.Keyed.{rules_of};
@@ -57,6 +57,14 @@ fn test_links<K: KeyClass>(
     test_chain::<K>(links, passed)
 }
 
+/// Whether two pages were there before the first split, and each split took one at most.
+fn is_counted(used: u32, counter: u64) -> bool
+    ensures { IsTrue result ↔ (counter + 2 ≤ used) }
+{
+    let used = u64::from(used);
+    2 <= used && counter <= used - 2
+}
+
 /// Tests that there were two pages before the first split, and that the root isn't a leaf.
 fn test_root<K: KeyClass, P: Pages<K>>(
     pages: &mut P,
@@ -69,8 +77,7 @@ fn test_root<K: KeyClass, P: Pages<K>>(
     ensures root { P.steady pages.old → OnOk result (0 < (node_at (P.store pages.old).nodes 1).level) }
     ensures found { P.steady pages.old → IfErr result (IsFound (Breaks (rules_of K.Key.Shape _most) (tree_of (P.store pages.old)))) }
 {
-    let used = u64::from(pages.used());
-    if used < 2 || used - 2 < pages.counter() {
+    if !is_counted(pages.used(), pages.counter()) {
         return Err(LegalityFault::Broken(1, Rule::SplitsOutnumberPages));
     }
     bring_pages(pages, &[1])?;
@@ -84,7 +91,8 @@ fn test_root<K: KeyClass, P: Pages<K>>(
 /// `test_nodes`, `test_named`, `test_chain` and `test_pairs`, whose buffer has room for twice `half` pairs. Two pages at
 /// most are held at a time.
 ///
-/// Refused with `Memory` before any page is brought, with `Pages`, and with `Broken`.
+/// Refused with `Memory` before any page is brought, with `Pages`, and with `Broken`; with `Unsteady` only on a device that
+/// lies.
 pub fn test_tree<K: KeyClass, P: Pages<K>>(
     alloc: Global,
     pages: &mut P,
