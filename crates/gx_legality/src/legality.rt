@@ -1,7 +1,7 @@
 //! The whole test.
 ghost use Rattle.std.specs.Prelude.{◌≡◌, ◌↔◌, ℕ, suc, ◌+◌, ◌^◌, ◌<◌, ◌≤◌, None, length, slice_index_or, OnOk, IfOk, IfErr, IsTrue};
-ghost use Rattle.gx_tree_laws.specs.Legal.{Legal};
-ghost use Rattle.gx_tree_laws.specs.Trees.{Tree, Rules, parents};
+ghost use Rattle.gx_tree_laws.specs.Legal.{Legal, NodeFits};
+ghost use Rattle.gx_tree_laws.specs.Trees.{Tree, Rules, Used, parents};
 ghost use Rattle.gx_tree.specs.Keyed.{rules_of};
 ghost use Rattle.gx_tree.specs.Owner.{IsWhyLater};
 ghost use Rattle.gx_tree.specs.Store.{node_at, tree_of};
@@ -87,6 +87,39 @@ fn test_root<K: KeyClass, P: Pages<K>>(
     Ok(())
 }
 
+/// Tests all but that no pair stands twice. There are two marks and a rightlink for each page and for page 0, none of them set.
+fn test_shape<K: KeyClass, P: Pages<K>>(
+    pages: &mut P,
+    most: u16,
+    marks: &mut [bool],
+    links: &mut [Option<u32>],
+    passed: &mut [bool],
+) -> Result<(), LegalityFault<P::Fault>>
+    requires few { length links.old ≤ 2 ^ 32 }
+    requires marks { length marks.old ≡ suc (length (P.store pages.old).nodes) }
+    requires unmarked { (q : ℕ) → marked marks.old q ≡ 0 }
+    requires links { length links.old ≡ suc (length (P.store pages.old).nodes) }
+    requires unlinked { slice_index_or links.old 0 None ≡ None }
+    requires passed { length passed.old ≡ suc (length (P.store pages.old).nodes) }
+    requires unpassed { (q : ℕ) → marked passed.old q ≡ 0 }
+    ensures reads { OnlyReads P.steady P.store P.since pages.old pages.new }
+    ensures why { IfErr result (IsWhy (P.why pages.old pages.new)) }
+    ensures later { OnOk result (IsWhyLater P.why pages.old pages.new) }
+    ensures counter { OnOk result ((P.store pages.old).counter + 2 ≤ length (P.store pages.old).nodes) }
+    ensures root { P.steady pages.old → OnOk result (0 < (node_at (P.store pages.old).nodes 1).level) }
+    ensures fits { P.steady pages.old → OnOk result ((p : ℕ) → Used (tree_of (P.store pages.old)) p
+        → NodeFits (rules_of K.Key.Shape most) (tree_of (P.store pages.old)) (node_at (P.store pages.old).nodes p)) }
+    ensures shape { P.steady pages.old → OnOk result (HasShape (tree_of (P.store pages.old))) }
+    ensures found { P.steady pages.old → IfErr result (IsFound (Breaks (rules_of K.Key.Shape most) (tree_of (P.store pages.old)))) }
+{
+    test_root(pages, most)?;
+    test_nodes(pages, most, marks, links)?;
+    match test_links::<K>(marks, links, passed) {
+        Ok(()) => Ok(()),
+        Err((page, rule)) => Err(LegalityFault::Broken(page, rule)),
+    }
+}
+
 /// Tests that the tree is legal, where a node has at most `most` entries: the number of splits and the root, then
 /// `test_nodes`, `test_named`, `test_chain` and `test_pairs`, whose buffer has room for twice `half` pairs. Two pages at
 /// most are held at a time.
@@ -120,10 +153,12 @@ pub fn test_tree<K: KeyClass, P: Pages<K>>(
     let Ok(mut gather) = Gather::new(alloc, half) else {
         return Err(LegalityFault::Memory);
     };
-    test_root(pages, most)?;
-    test_nodes(pages, most, marks.as_mut_slice(), links.as_mut_slice())?;
-    match test_links::<K>(marks.as_slice(), links.as_slice(), passed.as_mut_slice()) {
-        Ok(()) => test_pairs_in(pages, most, &mut gather),
-        Err((page, rule)) => Err(LegalityFault::Broken(page, rule)),
-    }
+    test_shape(
+        pages,
+        most,
+        marks.as_mut_slice(),
+        links.as_mut_slice(),
+        passed.as_mut_slice(),
+    )?;
+    test_pairs_in(pages, most, &mut gather)
 }
