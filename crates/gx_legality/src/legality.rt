@@ -57,7 +57,7 @@ fn test_links<K: KeyClass>(
     test_chain::<K>(links, passed)
 }
 
-/// Whether two pages were there before the first split, and each split took one at most.
+/// Whether there is a page for each split, beside the two that were there before the first.
 fn is_counted(used: u32, counter: u64) -> bool
     ensures { IsTrue result ↔ (counter + 2 ≤ used) }
 {
