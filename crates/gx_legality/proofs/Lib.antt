@@ -1,5 +1,6 @@
 pub mod Children
 pub mod Counted
+pub mod Joined
 pub mod Naming
 pub mod Numbered
 pub mod Once

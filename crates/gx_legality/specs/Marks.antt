@@ -1,7 +1,8 @@
 -- A mark for each page, and the rightlink of each leaf.
 use Rattle.std.specs.Prelude.{◌≡◌, ℕ, suc, ◌+◌, ◌≤◌, ◌==◌, Bool, false, if◌then◌else◌, List, length, slice_index_or, Option, None, Some}
 use Rattle.gx_tree_laws.specs.Lists.{one_if, total}
-use Rattle.gx_tree_laws.specs.Trees.{Node, Tree, Used, times, child_pages}
+use Rattle.gx_tree_laws.specs.Trees.{Node, Tree, Used, leaves, parents, times, child_pages}
+use Rattle.gx_tree_laws.specs.Legal.{Linked}
 use Rattle.gx_legality.specs.declared.fault.Rule.{Rule}
 use Rattle.gx_legality.specs.declared.fault.Rule.TheVariants.{NamedTwice}
 
@@ -26,3 +27,9 @@ IsTwice t marks node q rule = (rule ≡ NamedTwice) × (2 ≤ q) × (q ≤ t.use
 -- how many entries of the first so many pages name this one
 abbrev pub named_by : {K : Type 0} → Tree K → ℕ → ℕ → ℕ
 named_by t q n = total (λ p. times q (child_pages (t.node p))) n
+
+-- each page but the root is named once, and the leaves stand on their chain, each once
+pub record HasShape {K : Type 0} (t : Tree K) : Type 0 where
+  pub parent : (q : ℕ) → 2 ≤ q → q ≤ t.used → parents t q ≡ 1
+  pub chain : Linked t 2 (leaves t)
+  pub once : (q : ℕ) → Used t q → (t.node q).level ≡ 0 → times q (leaves t) ≡ 1

@@ -5,6 +5,7 @@ mod bounds;
 mod chain;
 mod fault;
 mod gather;
+mod legality;
 mod named;
 mod node;
 mod nodes;
@@ -12,6 +13,7 @@ mod pairs;
 
 pub use chain::test_chain;
 pub use fault::{LegalityFault, Rule};
+pub use legality::test_tree;
 pub use named::{mark_children, test_named};
 pub use node::test_node;
 pub use nodes::test_nodes;
