@@ -12,7 +12,7 @@ use gx_machine::Entry;
 use gx_tree::Pages;
 use looks::{mark_many, query_many};
 use std::alloc::Global;
-use writes::{Tree, fresh_tree, insert, sum_of_pages};
+use writes::{MOST, Tree, fresh_tree, insert, sum_of_pages};
 
 /// How many boxes stand in the tree in which is looked.
 const BOXES: u64 = 100_000;
@@ -54,11 +54,12 @@ struct Built {
 fn build(alloc: Global, boxes: u64) -> Option<Built> {
     let mut tree = fresh_tree(alloc)?;
     let mut entries = Vec::new(alloc);
+    let mut keys = [Box2::point(0, 0); MOST];
     let mut state = 7;
     for row in 0..boxes {
         let key = draw_box(&mut state)?;
         let entry = Entry { row, key };
-        insert(&mut tree, &entry)?;
+        insert(&mut tree, &entry, &mut keys)?;
         entries.push(entry).ok()?;
     }
     Some(Built { tree, entries })
