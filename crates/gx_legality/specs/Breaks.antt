@@ -7,8 +7,8 @@ use Rattle.gx_legality.specs.declared.fault.Rule.{Rule}
 use Rattle.gx_legality.specs.declared.fault.Rule.TheVariants.{SplitsOutnumberPages, RootIsLeaf, TooManyEntries, NoChild, SequenceNumber, ChildPage, ChildLevel, Bound, NamedTwice, NotNamed, Chain, OffTheChain, PairTwice}
 
 abbrev pub Breaks : {K : Type 0} → Rules K → Tree K → ℕ → Rule → Type 0
-Breaks r t p SplitsOutnumberPages = t.used < t.counter + 2
-Breaks r t p RootIsLeaf = (t.node 1).level ≡ 0
+Breaks r t p SplitsOutnumberPages = (p ≡ 1) × (t.used < t.counter + 2)
+Breaks r t p RootIsLeaf = (p ≡ 1) × ((t.node 1).level ≡ 0)
 Breaks r t p TooManyEntries = Used t p × (r.most < size (t.node p))
 Breaks r t p NoChild = Used t p × (0 < (t.node p).level) × (length (t.node p).children ≡ 0)
 Breaks r t p SequenceNumber = Used t p × (t.counter < (t.node p).nsn)
