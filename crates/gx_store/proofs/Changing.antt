@@ -22,7 +22,7 @@ use Rattle.gx_pool.proofs.Places.{changed_kept, changed_other}
 use Rattle.gx_pool.proofs.Readable.{changing_readable, creating_readable}
 use Rattle.gx_pool.proofs.Shown.{changes_backed, changes_passed, creates_backed, creates_passed}
 use Rattle.gx_store.specs.Changing.{ready_pages}
-use Rattle.gx_store.specs.Faults.{is_taken}
+use Rattle.gx_store.specs.Faults.{AreWanted, is_taken}
 use Rattle.gx_store.specs.Since.{IsAsItWas, IsStamped, GoesOn}
 use Rattle.gx_store.specs.Standing.{standing, standing_by, standing_node, nodes_to, store_of}
 use Rattle.gx_store.specs.State.{Shelf, IsHeld, IsInOrder, may_go}
@@ -214,6 +214,10 @@ module _ {D : Type 0} (passes : ℕ → Contents → Bool) (d : disk.Device) (s 
 pub is_ready : {D : Type 0} (s : Shelf D) (taken : ℕ) → s.has_room ≡ true → taken ≤ clean_count s.frames → (0 < taken → s.used + taken ≤ s.pages) → taken ≤ ready_pages s
 is_ready s zero room clean pages = omega arith
 is_ready s (suc n) room clean pages = let fits = pages (omega arith) in rw room (omega (arith, clean, fits))
+
+-- one that has too few is told of no more than it may take
+pub are_wanted : {D : Type 0} (s : Shelf D) (taken : ℕ) → clean_count s.frames < taken → (0 < taken → s.used + taken ≤ s.pages) → AreWanted s taken
+are_wanted s taken more pages = let fits = pages (omega (arith, more)) in record { more = more; few = omega (arith, fits) }
 
 pub record CanTake {D : Type 0} (s : Shelf D) : Type 0 where
   pub room : s.has_room ≡ true

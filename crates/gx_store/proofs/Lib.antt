@@ -1,3 +1,4 @@
+pub mod Asking
 pub mod Bringing
 pub mod Changing
 pub mod Going

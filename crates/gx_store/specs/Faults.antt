@@ -1,5 +1,5 @@
 -- Why pages were refused.
-use Rattle.std.specs.Prelude.{◌≡◌, ℕ, ◌<◌, false, nat_le, Bool, Result, Ok, Err}
+use Rattle.std.specs.Prelude.{◌≡◌, ℕ, ◌-◌, ◌<◌, ◌≤◌, false, max, nat_le, Bool, Result, Ok, Err}
 use Rattle.gx_disk.specs.Device as disk
 use Rattle.gx_page.specs.Contents.{Contents}
 use Rattle.gx_pool.specs.declared.fault.PoolFault.{PoolFault}
@@ -25,10 +25,15 @@ is_taken used page = nat_le page used
 abbrev pub CanBeRead : {D : Type 0} → (ℕ → Contents → Bool) → disk.Device → Shelf D → Type 0
 CanBeRead passes d s = IsReadable (passes s.pages) (is_taken s.used) s.frames d.seen
 
+-- so many clean frames are wanted: more than there are, and one alone, or no more than there are pages that aren't taken
+pub record AreWanted {D : Type 0} (s : Shelf D) (wanted : ℕ) : Type 0 where
+  pub more : clean_count s.frames < wanted
+  pub few : wanted ≤ max 1 (s.pages - s.used)
+
 -- Why pages were refused between two moments: the log had no room; fewer frames than are wanted are clean; a call of the device
 -- failed in between; or the device lies, or had no right page of one that is taken.
 abbrev pub IsWhy : {D : Type 0} → (ℕ → Contents → Bool) → disk.Device → disk.Device → Shelf D → Shelf D → StoreFault → Type 0
 IsWhy passes d e old new NoRoom = old.has_room ≡ false
-IsWhy passes d e old new (TooFewFrames wanted) = clean_count new.frames < wanted
+IsWhy passes d e old new (TooFewFrames wanted) = AreWanted new wanted
 IsWhy passes d e old new Device = d.faults < e.faults
 IsWhy passes d e old new Damaged = IsSteady d old.frames → CanBeRead passes d old → ⊥

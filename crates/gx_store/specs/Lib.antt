@@ -1,3 +1,4 @@
+pub mod Asked
 pub mod Changing
 pub mod Faults
 pub mod Since

@@ -11,7 +11,10 @@ use gx_tree::Pages;
 impl<D: SectorDisk, K: KeyClass> Pages<K> for PageStore<D, K> {
     type Fault = StoreFault;
 
+    ghost use Rattle.std.proofs.Common.{refl, arith};
     ghost use Rattle.gx_node.specs.Reading.{format_of, is_node};
+    ghost use Rattle.gx_pool.proofs.Going.{none_goes};
+    ghost use Rattle.gx_store.specs.Asked.{MovesAsAsked};
     ghost use Rattle.gx_store.specs.Faults.{IsWhy};
     ghost use Rattle.gx_store.specs.Since.{IsSince};
     ghost use Rattle.gx_store.specs.Standing.{store_of};
@@ -25,7 +28,7 @@ impl<D: SectorDisk, K: KeyClass> Pages<K> for PageStore<D, K> {
 
     ghost since = { λ was now page. IsSince (is_node (format_of K.KeyClass)) (D.state was.disk) (D.state now.disk) was now page };
 
-    ghost asked = { λ old new asked. Unit };
+    ghost asked = { λ old new asked. MovesAsAsked old new asked };
 
     ghost why = { λ old new fault. IsWhy (is_node (format_of K.KeyClass)) (D.state old.disk) (D.state new.disk) old new fault };
 
@@ -49,5 +52,9 @@ impl<D: SectorDisk, K: KeyClass> Pages<K> for PageStore<D, K> {
         self.pool.page(page)
     }
 
-    ghost asked_nothing = { λ a. tt };
+    ghost asked_nothing = { λ a. record {
+      used = Prim.omega arith;
+      come = λ page taken apart none. none;
+      go = none_goes a.frames a.frames _ refl;
+    } };
 }

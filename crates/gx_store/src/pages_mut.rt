@@ -1,5 +1,9 @@
 //! What the tree's steps that write ask of the store.
-ghost use Rattle.std.specs.Prelude.{◌≡◌};
+ghost use Rattle.std.specs.Prelude.{◌≡◌, ◌≤◌, ◌<◌, ◌+◌, length, IfErr, OnOk};
+ghost use Rattle.gx_node.specs.Reading.{format_of, is_node};
+ghost use Rattle.gx_store.specs.Changing.{prepared, ready_pages};
+ghost use Rattle.gx_store.specs.Faults.{IsWhy};
+ghost use Rattle.gx_store.specs.Standing.{store_of};
 
 use crate::fault::StoreFault;
 use crate::store::PageStore;
@@ -15,7 +19,13 @@ impl<D: SectorDisk, K: KeyClass> PagesMut<K> for PageStore<D, K> {
 
     ghost changing = { λ s page. s.has_room ≡ true };
 
-    fn prepare(&mut self, _changes: &[u32], taken: u32) -> Result<(), StoreFault> {
+    fn prepare(&mut self, _changes: &[u32], taken: u32) -> Result<(), StoreFault>
+        requires room { 0 < taken → length (store_of (format_of K.KeyClass) (D.state self.old.disk).seen self.old).nodes + taken ≤ self.old.pages }
+        ensures answer { result ≡ prepared self.old taken }
+        ensures same { self.new ≡ self.old }
+        ensures ready { OnOk result (taken ≤ ready_pages self.new) }
+        ensures why { IfErr result (IsWhy (is_node (format_of K.KeyClass)) (D.state self.old.disk) (D.state self.new.disk) self.old self.new) }
+    {
         if !self.has_room {
             return Err(StoreFault::NoRoom);
         }

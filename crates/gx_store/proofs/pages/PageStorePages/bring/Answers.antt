@@ -1,9 +1,11 @@
-use Rattle.std.proofs.Common.{ℕ, subst}
+use Rattle.std.proofs.Common.{ℕ, [], ◌∷◌, subst}
 use Rattle.gx_node.specs.Reading.{format_of, is_node}
 use Rattle.gx_pool.specs.Bringing.{BringsAll}
 use Rattle.gx_pool.specs.State.{holding}
 use Rattle.gx_store.specs.State.{Shelf}
 use Rattle.gx_store.specs.Faults.{told_of}
+use Rattle.gx_tree.specs.Owner.{Brings}
+use Rattle.gx_store.proofs.Asking.{bringing_moves, moves_joined}
 use Rattle.gx_store.proofs.Bringing.{brought_in_order, brought_nodes, fetched, fits_device, on_ok}
 use Rattle.gx_store.proofs.Going.{since_joined, why_later}
 use Rattle.gx_store.proofs.Listed.{taken_pages}
@@ -49,7 +51,7 @@ returns g c =
       stays = brought_nodes f (is_node f) d e s c.bring.new.disk t pages brought.brings brought.only_read;
       steady = all.goes_on.steady;
       since = λ was q before. since_joined (is_node f) (g.D.SectorDisk.state was.disk) d e was s new q before all.goes_on (all.same q);
-      asked = λ was before is. tt;
+      asked = λ was before is. moves_joined was s new (Brings pages ∷ []) before is (bringing_moves (is_node f i.pages) d e s c.bring.new.disk t pages c.bring.result brought);
       why = all.why;
       later = on_ok (told_of c.bring.result) _ (λ later fault is. why_later (is_node f) d e (g.D.SectorDisk.state later.disk) s new later fault all.goes_on is);
     })

@@ -1,9 +1,10 @@
-use Rattle.std.proofs.Common.{sym, ap, subst, ◌∙◌}
+use Rattle.std.proofs.Common.{[], sym, ap, subst, ◌∙◌}
 use Rattle.gx_node.specs.Reading.{format_of, is_node}
 use Rattle.gx_page.specs.Contents.{Contents}
 use Rattle.gx_pool.specs.Edits.{changed}
 use Rattle.gx_tree_laws.specs.Trees.{Node}
 use Rattle.gx_store.specs.State.{Shelf}
+use Rattle.gx_store.proofs.Asking.{changing_moves, moves_joined}
 use Rattle.gx_store.proofs.Changing.{change_as_it_was, change_goes_on, change_in_order, change_keeps_held, change_leaves_ready, change_nodes, change_others}
 use Rattle.gx_store.proofs.Going.{since_joined}
 use Rattle.gx_store.proofs.Shown.{held_node, lent}
@@ -53,5 +54,5 @@ returns g c =
       ready = change_leaves_ready s page w sound held;
       steady = on.steady;
       since = λ was q ne is. since_joined (is_node f) (g.D.SectorDisk.state was.disk) d d was s new q is on (change_as_it_was d i.pool.frames page q i.batch w sound ne);
-      asked = λ was before is. tt;
+      asked = λ was before is. moves_joined was s new [] before is (changing_moves s page w sound held.kept);
     })

@@ -1,8 +1,9 @@
-use Rattle.std.proofs.Common.{◌≡◌, ◌+◌, suc, length, refl, arith}
+use Rattle.std.proofs.Common.{◌≡◌, ◌+◌, suc, [], length, refl, arith}
 use Rattle.gx_node.specs.Reading.{format_of, is_node}
 use Rattle.gx_pool.specs.State.{kept}
 use Rattle.gx_store.specs.Standing.{nodes_to, standing_node}
 use Rattle.gx_store.specs.State.{Shelf}
+use Rattle.gx_store.proofs.Asking.{moves_joined, taking_moves}
 use Rattle.gx_store.proofs.Changing.{can_take, take_as_it_was, take_goes_on, take_holds, take_in_order, take_keeps_held, take_lowers_ready, take_nodes, there}
 use Rattle.gx_store.proofs.Going.{since_joined}
 use Rattle.gx_store.proofs.Listed.{nodes_long}
@@ -44,5 +45,5 @@ returns g c =
       ready = take_lowers_ready s t _ makes can;
       steady = on.steady;
       since = λ was q ne is. since_joined (is_node f) (g.D.SectorDisk.state was.disk) d d was s new q is on (take_as_it_was (is_node f) d s t _ makes q ne);
-      asked = λ was before is. tt;
+      asked = λ was before is. moves_joined was s new [] before is (taking_moves s t _ makes);
     })
