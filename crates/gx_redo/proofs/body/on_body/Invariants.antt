@@ -1,0 +1,13 @@
+use Rattle.std.proofs.Common.{◌+◌, ◌*◌, ◌≤◌, length}
+use Rattle.gx_redo.specs.Spelled.{IsReadTo}
+use Rattle.gx_redo.proofs.body.on_body.Given as goal
+
+-- what is kept has its bytes behind it; and these bytes are read up to the rest
+abbrev pub invariant-loop-rest : goal.invariant-loop-rest
+invariant-loop-rest l = record {
+  count : 4104 * length l.given + length l.rest ≤ 4104 * length l.fn.given + length l.bytes;
+  on : IsReadTo l.key l.bytes l.fn.given l.rest l.given;
+}
+
+abbrev pub decreases-loop-rest : goal.decreases-loop-rest
+decreases-loop-rest l = length l.rest

@@ -1,0 +1,5 @@
+pub mod Kept
+pub mod Spelled
+pub mod Told
+pub mod Laid
+pub mod Redone

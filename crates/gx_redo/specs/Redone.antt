@@ -1,0 +1,78 @@
+-- What a log's redo leaves of its device, said of the theory of logs.
+use Rattle.std.specs.Prelude.{◌≡◌, ℕ, ◌<◌, true, List, [], Result, OnOk}
+use Rattle.std.specs.Option.{option_map}
+use Rattle.gx_disk.specs.Device.{Device, IsSettled}
+use Rattle.gx_disk.specs.Moments.{Leaves}
+use Rattle.gx_glog.specs.declared.extent.Extent.{Extent}
+use Rattle.gx_glog.specs.Layout.{selected_of, body_of, size_in, open_run}
+use Rattle.gx_glog.specs.Reading.{IsSize}
+use Rattle.gx_glog.specs.Cuts.{bodies_in, open_bodies}
+use Rattle.gx_record.specs.Rec.{Rec}
+use Rattle.gx_recovery.specs.Known.{Known, IsLawful}
+use Rattle.gx_recovery.specs.Records.{Record}
+use Rattle.gx_recovery.specs.Redo.{redone, tree_of}
+use Rattle.gx_recovery.specs.Given.{given}
+use Rattle.gx_recovery.specs.Coming.{IsGood}
+use Rattle.gx_recovery.specs.Damage.{records_of, is_undamaged}
+use Rattle.gx_recovery.specs.Life.{AllWritten}
+use Rattle.gx_recovery.specs.Renewal.{found}
+use Rattle.gx_durable.specs.Spelled.{Reading}
+use Rattle.gx_durable.specs.Bodies.{AreBodies}
+use Rattle.gx_durable.specs.Area.{area_of, HasPages}
+use Rattle.gx_durable.specs.Standing.{Stands}
+use Rattle.gx_durable.specs.Opening.{UpToTurn, found_glog}
+use Rattle.gx_redo.specs.Kept.{Imaged, image_in, with_all, all_images, are_on_device}
+use Rattle.gx_redo.specs.Told.{HasRecords}
+
+-- What is kept of each page is what the log gives of it; of a page that it doesn't give nothing is kept.
+abbrev pub IsGiven : {E P : Type 0} → Reading E P → List Imaged → List (Record E P) → Type 0
+IsGiven r kept log = (p : ℕ) → option_map r.content (image_in p kept) ≡ given p log
+
+-- The bodies of an undamaged log are records as their bytes spell them, and with their images each page is kept as the log gives it;
+-- the device has each of these.
+pub record AreGiven {E P : Type 0} (k : Known E P) (r : Reading E P) (seen : List ℕ) (extent : Extent) (n : ℕ) (bodies : List (List (Record E P))) : Type 0 where
+  pub spelled : List Rec
+  pub has : HasRecords r.key seen extent n spelled
+  pub given : IsGiven r (with_all (all_images spelled) []) (records_of bodies)
+  pub on_device : are_on_device k.pages (with_all (all_images spelled) []) ≡ true
+
+abbrev pub BodiesGive : {E P : Type 0} → Known E P → Reading E P → Type 0
+BodiesGive {E} {P} k r = (seen : List ℕ) (extent : Extent) (n : ℕ) (bodies : List (List (Record E P))) → AreBodies r (bodies_in seen extent n) bodies → is_undamaged k bodies ≡ true
+    → AreGiven k r seen extent n bodies
+
+-- A log is found on a settled device, undamaged.
+pub record IsFoundOn {E P : Type 0} (k : Known E P) (r : Reading E P) (d : Device) (bodies : List (List (Record E P))) : Type 0 where
+  pub settled : IsSettled d
+  pub pages : HasPages k.pages d.sectors
+  pub sizes : (j : ℕ) → j < open_run d.seen (selected_of d.seen) 0 32 → IsSize (size_in (body_of d.seen (selected_of d.seen) j))
+  pub told : AreBodies r (open_bodies d.seen) bodies
+  pub undamaged : is_undamaged k bodies ≡ true
+
+-- An image has the log of these bytes, and after it the same pages.
+pub record HasSamePages {E P : Type 0} (k : Known E P) (r : Reading E P) (seen : List ℕ) (log : List (Record E P)) (image : List ℕ) : Type 0 where
+  pub bodies : open_bodies image ≡ open_bodies seen
+  pub pages : (p : ℕ) → redone (area_of r k.pages image) log p ≡ redone (area_of r k.pages seen) log p
+
+-- Each page is as the log leaves it, and all is settled. So the log that starts behind its bodies has all pages written; and it is up
+-- to its turn where the pages are good for it.
+pub record IsRedone {E P : Type 0} (k : Known E P) (r : Reading E P) (d e : Device) (bodies : List (List (Record E P))) : Type 0 where
+  pub settled : IsSettled e
+  pub area : (p : ℕ) → area_of r k.pages e.seen p ≡ redone (area_of r k.pages d.seen) (records_of bodies) p
+  pub same : HasSamePages k r d.seen (records_of bodies) e.seen
+  pub glog : found_glog e.seen ≡ found_glog d.seen
+  pub written : AllWritten (found (area_of r k.pages e.seen) (records_of bodies))
+  pub turn : IsGood k (tree_of k (area_of r k.pages e.seen) (records_of bodies)) (records_of bodies)
+      → UpToTurn k r (found_glog e.seen) e.sectors e.seen e.pending bodies (found (area_of r k.pages e.seen) (records_of bodies))
+
+-- At each moment of a redo, also where a call fails, what a crash may leave has the log that was found, and after it the same pages.
+-- Where these are good for it, it stands for the set that the log as it was found keeps.
+pub record Redone {T R E P : Type 0} (k : Known E P) (r : Reading E P) (d e : Device) (bodies : List (List (Record E P))) (result : Result T R) : Type 0 where
+  pub leaves : Leaves (HasSamePages k r d.seen (records_of bodies)) d e
+  pub stands : IsGood k (tree_of k (area_of r k.pages d.seen) (records_of bodies)) (records_of bodies)
+      → Leaves (Stands k r (found (area_of r k.pages d.seen) (records_of bodies))) d e
+  pub done : OnOk result (IsRedone k r d e bodies)
+
+-- so of each log that is found there, of which what was kept is given
+abbrev pub Redoes : {T R E P : Type 0} → Known E P → Reading E P → List Imaged → Device → Device → Result T R → Type 0
+Redoes {T} {R} {E} {P} k r kept d e result = (bodies : List (List (Record E P))) → IsLawful k → d.honest ≡ true → IsFoundOn k r d bodies → IsGiven r kept (records_of bodies)
+    → Redone k r d e bodies result
