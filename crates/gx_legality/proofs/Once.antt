@@ -150,7 +150,7 @@ module _ {B : Type 0} (order : B → B → Ordering) (overlap inside : B → B �
   entry_same : (x : Pair B) (e : Entry B) → is_eq (entry_cmp the_keys (entry_of x) e) ≡ is_entry the_rules e.row e.key x
   entry_same x e = same_row x.row e.row (nat_lt x.row e.row) (x.row == e.row) (order x.key e.key) refl refl
 
-  count_pairs : (e : Entry B) (pairs : List (Pair B))
+  pub count_pairs : (e : Entry B) (pairs : List (Pair B))
       → count (entry_cmp the_keys) e (map entry_of pairs) ≡ how_many (is_entry the_rules e.row e.key) pairs
   count_pairs e [] = refl
   count_pairs e (x ∷ pairs) =

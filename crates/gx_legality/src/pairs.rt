@@ -25,7 +25,7 @@ use gx_tree::Pages;
 use std::alloc::Global;
 
 /// A slot's row and key. `None` for a slot behind the last, and on a page that isn't a leaf.
-fn entry_at<K: KeyClass>(page: &Page, room: u32, slot: usize) -> Option<Entry<K::Key>>
+pub(crate) fn entry_at<K: KeyClass>(page: &Page, room: u32, slot: usize) -> Option<Entry<K::Key>>
     requires { is_node (format_of K.KeyClass) room page.now ≡ true }
     ensures { MatchOption result (slice_get (node_of (format_of K.KeyClass) page.now).pairs slot ≡ None)
         (λ e. (pair : Pair K.Key) × (slice_get (node_of (format_of K.KeyClass) page.now).pairs slot ≡ Some pair) × (entry_of pair ≡ e)) }
