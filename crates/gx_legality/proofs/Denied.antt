@@ -28,5 +28,5 @@ module _ {K : Type 0} where
   denied r t p Chain (inl never) legal = never legal.chain
   denied r t p Chain (inr again) legal = let one = legal.once p again.0 again.1 in let two = again.2 in omega (arith, one, two)
   denied r t p OffTheChain broken legal = let one = legal.once p broken.0 broken.1 in let none = broken.2 in omega (arith, one, none)
-  denied r t p PairTwice broken legal = let one = legal.single broken.0 broken.1 in let two = broken.2 in omega (arith, one, two)
+  denied r t p PairTwice broken legal = let one = legal.single broken.1 broken.2 in let two = broken.3 in omega (arith, one, two)
   denied r t p PairOutOfPlace broken legal = broken

