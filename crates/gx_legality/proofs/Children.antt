@@ -12,7 +12,7 @@ use Rattle.gx_tree.proofs.Listed.{same_store}
 use Rattle.gx_legality.specs.declared.fault.LegalityFault.{LegalityFault}
 use Rattle.gx_legality.specs.declared.fault.LegalityFault.TheVariants.{Memory, Pages, Broken, Unsteady}
 use Rattle.gx_legality.specs.declared.fault.Rule.{Rule}
-use Rattle.gx_legality.specs.declared.fault.Rule.TheVariants.{SplitsOutnumberPages, RootIsLeaf, TooManyEntries, NoChild, SequenceNumber, ChildPage, ChildLevel, Bound, NamedTwice, NotNamed, Chain, OffTheChain, PairTwice}
+use Rattle.gx_legality.specs.declared.fault.Rule.TheVariants.{SplitsOutnumberPages, RootIsLeaf, TooManyEntries, NoChild, SequenceNumber, ChildPage, ChildLevel, Bound, NamedTwice, NotNamed, Chain, OffTheChain, PairTwice, PairOutOfPlace}
 use Rattle.gx_legality.specs.Breaks.{Breaks}
 use Rattle.gx_legality.specs.Nodes.{FitsAlone, FitsBelow, FailsBelow}
 use Rattle.gx_legality.specs.Owner.{OnlyReads, IsWhy, IsFound}
@@ -100,6 +100,7 @@ module _ {B : Type 0} where
   child_fails r old new page slot level c below Chain same is above at used fails = absurd fails
   child_fails r old new page slot level c below OffTheChain same is above at used fails = absurd fails
   child_fails r old new page slot level c below PairTwice same is above at used fails = absurd fails
+  child_fails r old new page slot level c below PairOutOfPlace same is above at used fails = absurd fails
 
   -- what one slot after another says of a node's children
   pub node_fits : (r : Rules B) (t : Tree B) (node : Node B) (n : ℕ) → FitsAlone r.most t.counter node

@@ -67,7 +67,7 @@ module _ {E : Type 0} (cmp : E → E → Ordering) (o : IsTotalOrder cmp) where
   ascends_once e [] up = omega arith
   ascends_once e (x ∷ xs) up = once_by x e xs (cmp x e) refl up.0 (ascends_once e xs up.1)
 
-  each_later : (x y : E) (ys : List E) → cmp x y ≡ Less → Each (λ z. cmp y z ≡ Less) ys → Each (λ z. cmp x z ≡ Less) ys
+  pub each_later : (x y : E) (ys : List E) → cmp x y ≡ Less → Each (λ z. cmp y z ≡ Less) ys → Each (λ z. cmp x z ≡ Less) ys
   each_later x y [] first next = tt
   each_later x y (z ∷ ys) first next = (o.trans x y z first next.0, each_later x y ys first next.1)
 

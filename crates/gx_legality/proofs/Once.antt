@@ -150,7 +150,7 @@ module _ {B : Type 0} (order : B → B → Ordering) (overlap inside : B → B �
   entry_same : (x : Pair B) (e : Entry B) → is_eq (entry_cmp the_keys (entry_of x) e) ≡ is_entry the_rules e.row e.key x
   entry_same x e = same_row x.row e.row (nat_lt x.row e.row) (x.row == e.row) (order x.key e.key) refl refl
 
-  count_pairs : (e : Entry B) (pairs : List (Pair B))
+  pub count_pairs : (e : Entry B) (pairs : List (Pair B))
       → count (entry_cmp the_keys) e (map entry_of pairs) ≡ how_many (is_entry the_rules e.row e.key) pairs
   count_pairs e [] = refl
   count_pairs e (x ∷ pairs) =
@@ -168,18 +168,18 @@ module _ {B : Type 0} (order : B → B → Ordering) (overlap inside : B → B �
       let rest = count_entries t e qs in
       omega (arith, both, here, rest)
 
-  pub twice_pair : (t : Tree B) (p : ℕ) → StandsTwice (entry_cmp the_keys) (entries_on t (leaves t)) → Breaks the_rules t p PairTwice
-  twice_pair t p twice =
+  pub twice_pair : (t : Tree B) (p : ℕ) → p ≡ 2 → StandsTwice (entry_cmp the_keys) (entries_on t (leaves t)) → Breaks the_rules t p PairTwice
+  twice_pair t p begins twice =
       let same = count_entries t twice.0 (leaves t) in
       let two = twice.1 in
-      (twice.0.row, twice.0.key, omega (arith, same, two))
+      (begins, twice.0.row, twice.0.key, omega (arith, same, two))
 
   pub pair_found : {F : Type 0} (t : Tree B) (e : LegalityFault F) → IsFound (IsPairTwice (entry_cmp the_keys) (entries_on t (leaves t))) e
       → IsFound (Breaks the_rules t) e
   pair_found t Memory is = tt
   pair_found t (Pages fault) is = tt
   pair_found t Unsteady is = is
-  pair_found t (Broken p rule) is = subst (λ rule. Breaks the_rules t p rule) (sym is.0) (twice_pair t p is.1)
+  pair_found t (Broken p rule) is = subst (λ rule. Breaks the_rules t p rule) (sym is.0) (twice_pair t p is.1 is.2)
 
   pub once_pair : (t : Tree B) → ((e : Entry B) → count (entry_cmp the_keys) e (entries_on t (leaves t)) ≤ 1)
       → (row : ℕ) (key : B) → standing (is_entry the_rules row key) t ≤ 1

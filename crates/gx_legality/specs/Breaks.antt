@@ -4,7 +4,7 @@ use Rattle.gx_tree_laws.specs.Lists.{SomeOf}
 use Rattle.gx_tree_laws.specs.Trees.{Tree, Rules, Used, size, times, parents, leaves, standing, is_entry}
 use Rattle.gx_tree_laws.specs.Legal.{Bounds, Linked}
 use Rattle.gx_legality.specs.declared.fault.Rule.{Rule}
-use Rattle.gx_legality.specs.declared.fault.Rule.TheVariants.{SplitsOutnumberPages, RootIsLeaf, TooManyEntries, NoChild, SequenceNumber, ChildPage, ChildLevel, Bound, NamedTwice, NotNamed, Chain, OffTheChain, PairTwice}
+use Rattle.gx_legality.specs.declared.fault.Rule.TheVariants.{SplitsOutnumberPages, RootIsLeaf, TooManyEntries, NoChild, SequenceNumber, ChildPage, ChildLevel, Bound, NamedTwice, NotNamed, Chain, OffTheChain, PairTwice, PairOutOfPlace}
 
 abbrev pub Breaks : {K : Type 0} → Rules K → Tree K → ℕ → Rule → Type 0
 Breaks r t p SplitsOutnumberPages = (p ≡ 1) × (t.used < t.counter + 2)
@@ -19,4 +19,5 @@ Breaks r t p NamedTwice = (2 ≤ p) × (p ≤ t.used) × (2 ≤ parents t p)
 Breaks r t p NotNamed = (2 ≤ p) × (p ≤ t.used) × (parents t p ≡ 0)
 Breaks r t p Chain = (¬ Linked t 2 (leaves t)) ⊎ (Used t p × ((t.node p).level ≡ 0) × (2 ≤ times p (leaves t)))
 Breaks r t p OffTheChain = Used t p × ((t.node p).level ≡ 0) × (times p (leaves t) ≡ 0)
-Breaks {K} r t p PairTwice = (row : ℕ) × (key : K) × (2 ≤ standing (is_entry r row key) t)
+Breaks {K} r t p PairTwice = (p ≡ 2) × (row : ℕ) × (key : K) × (2 ≤ standing (is_entry r row key) t)
+Breaks r t p PairOutOfPlace = ⊥

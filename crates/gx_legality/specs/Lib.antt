@@ -4,3 +4,4 @@ pub mod Gathered
 pub mod Marks
 pub mod Nodes
 pub mod Owner
+pub mod Placing

@@ -3,7 +3,7 @@ use Rattle.std.specs.Prelude.{◌≡◌, ℕ, suc, ◌<◌, ◌≤◌, length}
 use Rattle.gx_tree_laws.specs.Trees.{Node, Rules, size}
 use Rattle.gx_tree_laws.specs.Legal.{Bounds}
 use Rattle.gx_legality.specs.declared.fault.Rule.{Rule}
-use Rattle.gx_legality.specs.declared.fault.Rule.TheVariants.{SplitsOutnumberPages, RootIsLeaf, TooManyEntries, NoChild, SequenceNumber, ChildPage, ChildLevel, Bound, NamedTwice, NotNamed, Chain, OffTheChain, PairTwice}
+use Rattle.gx_legality.specs.declared.fault.Rule.TheVariants.{SplitsOutnumberPages, RootIsLeaf, TooManyEntries, NoChild, SequenceNumber, ChildPage, ChildLevel, Bound, NamedTwice, NotNamed, Chain, OffTheChain, PairTwice, PairOutOfPlace}
 
 -- a node has room for its entries, one above the leaves has a child, and its number isn't ahead of the counter
 pub record FitsAlone {K : Type 0} (most counter : ℕ) (node : Node K) : Type 0 where
@@ -26,6 +26,7 @@ FailsAlone most counter node NotNamed = ⊥
 FailsAlone most counter node Chain = ⊥
 FailsAlone most counter node OffTheChain = ⊥
 FailsAlone most counter node PairTwice = ⊥
+FailsAlone most counter node PairOutOfPlace = ⊥
 
 -- a node below an entry of a node of this level
 pub record FitsBelow {K : Type 0} (r : Rules K) (above : ℕ) (key : K) (node : Node K) : Type 0 where
@@ -47,3 +48,4 @@ FailsBelow r above key node NotNamed = ⊥
 FailsBelow r above key node Chain = ⊥
 FailsBelow r above key node OffTheChain = ⊥
 FailsBelow r above key node PairTwice = ⊥
+FailsBelow r above key node PairOutOfPlace = ⊥

@@ -29,6 +29,8 @@ pub enum Rule {
     OffTheChain,
     /// No pair stands twice.
     PairTwice,
+    /// A pair that an open transaction touched stands in its leaf, or to the right of it.
+    PairOutOfPlace,
 }
 
 /// Why a test of legality wasn't passed.

@@ -25,7 +25,7 @@ use gx_tree::Pages;
 use std::alloc::Global;
 
 /// A slot's row and key. `None` for a slot behind the last, and on a page that isn't a leaf.
-fn entry_at<K: KeyClass>(page: &Page, room: u32, slot: usize) -> Option<Entry<K::Key>>
+pub(crate) fn entry_at<K: KeyClass>(page: &Page, room: u32, slot: usize) -> Option<Entry<K::Key>>
     requires { is_node (format_of K.KeyClass) room page.now ≡ true }
     ensures { MatchOption result (slice_get (node_of (format_of K.KeyClass) page.now).pairs slot ≡ None)
         (λ e. (pair : Pair K.Key) × (slice_get (node_of (format_of K.KeyClass) page.now).pairs slot ≡ Some pair) × (entry_of pair ≡ e)) }
@@ -83,7 +83,7 @@ fn gather_leaf<K: KeyClass, P: Pages<K>>(
     if gather_page::<K>(node, pages.room(), gather) {
         Ok(node.right())
     } else {
-        Err(LegalityFault::Broken(page, Rule::PairTwice))
+        Err(LegalityFault::Broken(2, Rule::PairTwice))
     }
 }
 
@@ -154,7 +154,7 @@ pub(crate) fn test_pairs_in<K: KeyClass, P: Pages<K>>(
 /// is sound. It goes over the leaves in passes, a page at a time: each pass gathers the `half` least pairs above those of the
 /// pass before, in a buffer of twice as many, which it sorts when it is full.
 ///
-/// Refused with `Memory` for the buffer, with `Pages`, and with `Broken` by `PairTwice`.
+/// Refused with `Memory` for the buffer, with `Pages`, and with `Broken` by `PairTwice`, at page 2, where the chain begins.
 pub fn test_pairs<K: KeyClass, P: Pages<K>>(
     alloc: Global,
     pages: &mut P,

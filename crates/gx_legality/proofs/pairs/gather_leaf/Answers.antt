@@ -15,4 +15,4 @@ returns-else-gather_page-clause-gathers g c = λ steady used all rest was.
     let old = g.P.Pages.store c.args.pages.now in
     let same : node_of f c.page-node.result.now ≡ node_at old.nodes c.args.page =
     c.page-node.ensures.node ∙ ap (λ (s : Store g.row.K-Key.Denot). node_at s.nodes c.args.page) (reads_same c.args.pages.now c.bring_pages.new.pages c.in_ok-bring_pages.ensures.reads steady) in
-    (refl, c.if-gather_page.ensures.gathers all rest (subst (λ (n : Node g.row.K-Key.Denot). Gathers order c.args.gather.now all (map entry_of n.pairs ++ rest)) (sym same) was))
+    (refl, refl, c.if-gather_page.ensures.gathers all rest (subst (λ (n : Node g.row.K-Key.Denot). Gathers order c.args.gather.now all (map entry_of n.pairs ++ rest)) (sym same) was))

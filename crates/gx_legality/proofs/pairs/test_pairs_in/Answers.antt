@@ -1,4 +1,4 @@
-use Rattle.std.proofs.Common.{◌≤◌, ◌*◌, [], Option, Some, None, length, arith, subst}
+use Rattle.std.proofs.Common.{◌≤◌, ◌*◌, [], Option, Some, None, length, refl, arith, subst}
 use Rattle.std.specs.Cmp.{IsTotalOrder}
 use Rattle.std.proofs.lemmas.Cmp.{then_total, on_total, nat_cmp_total}
 use Rattle.std.proofs.lemmas.Result.{err_from_is_err_and}
@@ -34,7 +34,7 @@ returns-in-Twice-clause-found g c = λ steady linked rooms.
     let begun = pass_goes order total old (g.P.Pages.store c.loop-pass.pages) c.loop-pass.gather c.loop-pass._pass
     (reads_same c.args.pages.now c.loop-pass.pages kept.reads steady) (kept.tested steady linked rooms) linked in
     let gathered : Gathers order c.gather_all.new.gather all [] = c.in_ok-gather_all.ensures.gathers (kept.reads.still steady) begun.0 all begun.1 in
-    twice_pair g.K.Key.Ord.cmp g.K.Key.Shape.overlap g.K.Key.Shape.inside c.args.most (tree_of old) 2 (c.in-Twice.ensures all gathered)
+    twice_pair g.K.Key.Ord.cmp g.K.Key.Shape.overlap g.K.Key.Shape.inside c.args.most (tree_of old) 2 refl (c.in-Twice.ensures all gathered)
 
 pub returns-in-Done-clause-single : goal.returns-in-Done-clause-single
 returns-in-Done-clause-single g c = λ steady linked rooms.

@@ -1,0 +1,24 @@
+use Rattle.std.proofs.Common.{◌≡◌, ◌∙◌, ap, map, rules}
+use Rattle.gx_machine.specs.Keys.{entry_cmp}
+use Rattle.gx_node.specs.Edits.{entry_of}
+use Rattle.gx_node.specs.Reading.{format_of}
+use Rattle.gx_tree_laws.specs.Trees.{Node}
+use Rattle.gx_tree.specs.Store.{Store, node_of, node_at}
+use Rattle.gx_legality.specs.Placing.{is_noted, met, stage_at}
+use Rattle.gx_legality.proofs.Children.{reads_same}
+use Rattle.gx_legality.proofs.placed.meet_leaf.Goals as goal
+
+pub returns-clause-moves : goal.returns-clause-moves
+returns-clause-moves g c = λ steady used.
+    let order = entry_cmp (record { cmp = g.K.Key.Ord.cmp; overlaps = g.K.Key.Shape.overlap; within = g.K.Key.Shape.inside }) in
+    let f = format_of g.K.KeyClass in
+    let old = g.P.Pages.store c.args.pages.now in
+    let page = c.args.page in
+    let same : node_of f c.page-node.result.now ≡ node_at old.nodes page =
+    c.page-node.ensures.node ∙ ap (λ (s : Store g.row.K-Key.Denot). node_at s.nodes page) (reads_same c.args.pages.now c.bring_pages.new.pages c.in_ok-bring_pages.ensures.reads steady) in
+    let right : c.right.result ≡ (node_at old.nodes page).right = search rules in (
+      right,
+      λ i n here. c.meet_page.ensures i n here
+          ∙ ap (λ (m : Node g.row.K-Key.Denot). met (is_noted order n) (map entry_of m.pairs) (stage_at c.come_to_page.new.stages i)) same
+          ∙ ap (met (is_noted order n) (map entry_of (node_at old.nodes page).pairs)) (c.come_to_page.ensures i n here),
+    )

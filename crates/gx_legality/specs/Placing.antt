@@ -1,0 +1,60 @@
+-- How a pass along the chain comes to pairs that are sought, each in its leaf or to the right of it.
+use Rattle.std.specs.Prelude.{◌≡◌, ℕ, ◌==◌, Bool, if◌then◌else◌, List, [], ◌∷◌, map, slice_get, slice_index_or, Some}
+use Rattle.std.specs.Ordering.{is_eq}
+use Rattle.std.specs.declared.cmp.Ordering.{Ordering}
+use Rattle.gx_machine.specs.declared.entry.Entry.{Entry}
+use Rattle.gx_node.specs.Edits.{entry_of}
+use Rattle.gx_tree_laws.specs.Lists.{SomeOf}
+use Rattle.gx_tree_laws.specs.Trees.{Rules, Tree}
+use Rattle.gx_tree_laws.specs.Writes.{IsSeek}
+use Rattle.gx_legality.specs.declared.fault.Rule.{Rule}
+use Rattle.gx_legality.specs.declared.fault.Rule.TheVariants.{PairOutOfPlace}
+use Rattle.gx_legality.specs.declared.notes.Note.{Note}
+use Rattle.gx_legality.specs.declared.notes.Stage.{Stage}
+use Rattle.gx_legality.specs.declared.notes.Stage.TheVariants.{Ahead, Reached, Found}
+
+-- a note's pair stands in its leaf, or to the right of it
+abbrev pub IsPlaced : {B : Type 0} → Rules B → Tree B → Note (Entry B) → Type 0
+IsPlaced r t n = IsSeek r t n.leaf n.entry.row n.entry.key
+
+-- this leaf is that of a note whose pair doesn't
+abbrev pub IsOutOfPlace : {B : Type 0} → Rules B → Tree B → List (Note (Entry B)) → ℕ → Rule → Type 0
+IsOutOfPlace r t notes leaf rule = (rule ≡ PairOutOfPlace) × SomeOf (λ n. (n.leaf ≡ leaf) × (¬ IsPlaced r t n)) notes
+
+-- the entries of notes
+abbrev pub noted : {E : Type 0} → List (Note E) → List E
+noted notes = map (λ n. n.entry) notes
+
+-- this is the note's entry
+abbrev pub is_noted : {E : Type 0} → (E → E → Ordering) → Note E → E → Bool
+is_noted cmp n x = is_eq (cmp x n.entry)
+
+-- how far the pass has come with a note
+abbrev pub stage_at : List Stage → ℕ → Stage
+stage_at stages i = slice_index_or stages i Ahead
+
+-- it comes to a page
+abbrev pub come_to : ℕ → ℕ → Stage → Stage
+come_to page leaf Ahead = if page == leaf then Reached else Ahead
+come_to page leaf Reached = Reached
+come_to page leaf Found = Found
+
+-- it comes to an entry
+abbrev pub meets : Bool → Stage → Stage
+meets is Ahead = Ahead
+meets is Reached = if is then Found else Reached
+meets is Found = Found
+
+-- it comes to these entries, one after another
+abbrev pub met : {E : Type 0} → (E → Bool) → List E → Stage → Stage
+met is [] s = s
+met is (x ∷ xs) s = met is xs (meets (is x) s)
+
+-- it comes to these pages, one after another
+abbrev pub passed : {B : Type 0} → Tree B → (Entry B → Bool) → ℕ → List ℕ → Stage → Stage
+passed t is leaf [] s = s
+passed t is leaf (q ∷ qs) s = passed t is leaf qs (met is (map entry_of (t.node q).pairs) (come_to q leaf s))
+
+-- each note's stage becomes this
+abbrev pub Moves : {E : Type 0} → (Note E → Stage → Stage) → List (Note E) → List Stage → List Stage → Type 0
+Moves {E} f notes old new = (i : ℕ) (n : Note E) → slice_get notes i ≡ Some n → stage_at new i ≡ f n (stage_at old i)

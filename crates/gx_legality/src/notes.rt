@@ -1,0 +1,127 @@
+//! Notes of pairs that are sought, and how far a pass has come with each.
+ghost use Rattle.std.specs.Prelude.{◌≡◌, ◌≢◌, ◌↔◌, ◌==◌, ℕ, ◌<◌, true, false, IsTrue, Some, length, slice_get, MatchOption, OnOk, IfErr};
+ghost use Rattle.std.specs.Ordering.{is_eq};
+ghost use Rattle.gx_legality.specs.Gathered.{Ascends};
+ghost use Rattle.gx_legality.specs.Placing.{Moves, come_to, is_noted, meets, noted, stage_at};
+ghost use Rattle.gx_legality.specs.declared.notes.Stage.TheVariants.{Found};
+
+use std::cmp::Ordering;
+
+/// A pair that an open transaction touched, by its row and key, and the leaf that is remembered for it.
+#[derive(Clone, Copy, Debug, PartialEq, Eq)]
+pub struct Note<E> {
+    /// The pair's row and key.
+    pub entry: E,
+    /// The number of the leaf.
+    pub leaf: u32,
+}
+
+/// How far a pass along the chain has come with a note.
+#[derive(Clone, Copy)]
+pub(crate) enum Stage {
+    /// Not yet to its leaf.
+    Ahead,
+    /// To its leaf, and not yet to its pair.
+    Reached,
+    /// To its pair.
+    Found,
+}
+
+/// Whether notes are in order by their pairs, and no pair has two.
+pub fn are_in_order<E: Ord + Copy>(notes: &[Note<E>]) -> bool
+    ensures { IsTrue result ↔ Ascends E.cmp (noted notes.now) }
+{
+    for at in 1..notes.len() {
+        if notes[at - 1].entry.cmp(&notes[at].entry) != Ordering::Less {
+            return false;
+        }
+    }
+    true
+}
+
+/// The place of a pair's note, by halves. `None` where it has none.
+fn find<E: Ord + Copy>(notes: &[Note<E>], entry: &E) -> Option<usize>
+    requires { Ascends E.cmp (noted notes.now) }
+    ensures { MatchOption result
+        ((i : ℕ) (n : Note E) → slice_get notes.now i ≡ Some n → is_noted E.cmp n entry.now ≡ false)
+        (λ at. (at < length notes.now) × ((i : ℕ) (n : Note E) → slice_get notes.now i ≡ Some n → is_noted E.cmp n entry.now ≡ (i == at))) }
+{
+    let mut low = 0;
+    let mut high = notes.len();
+    while low < high {
+        let middle = low + (high - low) / 2;
+        match notes[middle].entry.cmp(entry) {
+            Ordering::Less => low = middle + 1,
+            Ordering::Equal => return Some(middle),
+            Ordering::Greater => high = middle,
+        }
+    }
+    None
+}
+
+/// A note's stage once the pass comes to its pair.
+fn meet(stage: Stage) -> Stage
+    ensures { result ≡ meets true stage }
+{
+    match stage {
+        Stage::Ahead => Stage::Ahead,
+        Stage::Reached | Stage::Found => Stage::Found,
+    }
+}
+
+/// The pass comes to a page.
+pub(crate) fn come_to_page<E: Copy>(notes: &[Note<E>], stages: &mut [Stage], page: u32)
+    requires { length stages.old ≡ length notes.now }
+    ensures { Moves (λ n s. come_to page n.leaf s) notes.now stages.old stages.new }
+{
+    for at in 0..notes.len() {
+        if notes[at].leaf == page {
+            stages[at] = reach(stages[at]);
+        }
+    }
+}
+
+/// A note's stage once the pass comes to its leaf.
+fn reach(stage: Stage) -> Stage
+    ensures { (page : ℕ) → result ≡ come_to page page stage }
+{
+    match stage {
+        Stage::Ahead | Stage::Reached => Stage::Reached,
+        Stage::Found => Stage::Found,
+    }
+}
+
+/// The pass comes to a pair.
+pub(crate) fn meet_entry<E: Ord + Copy>(notes: &[Note<E>], stages: &mut [Stage], entry: &E)
+    requires as_many { length stages.old ≡ length notes.now }
+    requires in_order { Ascends E.cmp (noted notes.now) }
+    ensures { Moves (λ n s. meets (is_noted E.cmp n entry.now) s) notes.now stages.old stages.new }
+{
+    if let Some(at) = find(notes, entry) {
+        stages[at] = meet(stages[at]);
+    }
+}
+
+/// Whether the pass has come to a note's pair.
+fn is_found(stage: Stage) -> bool
+    ensures { IsTrue result ↔ (stage ≡ Found) }
+{
+    match stage {
+        Stage::Found => true,
+        Stage::Ahead | Stage::Reached => false,
+    }
+}
+
+/// Tests that the pass has come to each note's pair. Refused, with the leaf, where it hasn't.
+pub(crate) fn test_found<E: Copy>(notes: &[Note<E>], stages: &[Stage]) -> Result<(), u32>
+    requires { length stages.now ≡ length notes.now }
+    ensures found { OnOk result ((i : ℕ) (n : Note E) → slice_get notes.now i ≡ Some n → stage_at stages.now i ≡ Found) }
+    ensures refused { IfErr result (λ leaf. (i : ℕ) × (n : Note E) × (slice_get notes.now i ≡ Some n) × (n.leaf ≡ leaf) × (stage_at stages.now i ≢ Found)) }
+{
+    for at in 0..notes.len() {
+        if !is_found(stages[at]) {
+            return Err(notes[at].leaf);
+        }
+    }
+    Ok(())
+}
