@@ -35,4 +35,7 @@ pub trait Events<B: Shape> {
 
     /// A page that may be written now, if there is one.
     fn dirty(&self) -> Option<u32>;
+
+    /// It is seen as one machine.
+    ghost one: { (e : Self) (m n : Machine B) → sees e m → sees e n → m ≡ n };
 }
