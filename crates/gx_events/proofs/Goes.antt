@@ -33,10 +33,10 @@ and_false false b is = refl
 same_number : (s : ℕ) → (s == s) ≡ true
 same_number s = grind (arith, nat_tests)
 
-not_less : (a b : ℕ) → b ≡ a → nat_lt a b ≡ false
+pub not_less : (a b : ℕ) → b ≡ a → nat_lt a b ≡ false
 not_less a b is = grind (arith, nat_tests)
 
-is_less : (a b : ℕ) → b ≡ a + 1 → nat_lt a b ≡ true
+pub is_less : (a b : ℕ) → b ≡ a + 1 → nat_lt a b ≡ true
 is_less a b is = grind (arith, nat_tests)
 
 module _ {B : Type 0} (k : Keys B) where
