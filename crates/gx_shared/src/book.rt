@@ -1,0 +1,180 @@
+//! What lies under the lock.
+ghost use Rattle.std.specs.Prelude.{◌≡◌, ◌⊎◌, ◌+◌, ◌*◌, ◌<◌, ◌≤◌, ◌^◌, ◌++◌, ◌∷◌, [], true, MatchBool, MatchResult, vec_len, vec_capacity};
+ghost use Rattle.gx_machine.specs.declared.item.Item.TheVariants as item;
+ghost use Rattle.gx_events.specs.declared.outcome.Outcome.TheVariants as outcome;
+ghost use Rattle.gx_shared.specs.Books.{IsHanded, is_fault, replied};
+ghost use Rattle.gx_shared.specs.declared.record.TheConstants.{RECORD};
+
+use crate::handed::handed;
+use crate::record::{append, append_sealed};
+use crate::{RECORD, Run, Session};
+use gx_events::{Event, Events, Outcome};
+use gx_geom::{Refusal, Shape};
+use gx_machine::{Call, Item, Reply};
+use std::marker::Model;
+use std::sync::ledger::{Book as Tally, Ledger};
+
+/// Whether three items for a call, and for each that is open, still fit.
+fn has_room(calls: usize, opened: u64) -> bool
+    requires { calls ≤ RECORD }
+    ensures { MatchBool result (calls + 3 * (opened + 1) ≤ RECORD) (calls + 3 * (opened + 1) ≤ RECORD → ⊥) }
+{
+    opened < RECORD as u64 && calls as u64 + 3 * (opened + 1) <= RECORD as u64
+}
+
+/// An outcome's reply, where it ends a call.
+fn ended<B: Shape>(last: Outcome<B>) -> Result<Reply<B>, Outcome<B>>
+    ensures { MatchResult result (λ r. last ≡ outcome.Replied r) (λ o. (last ≡ o) × (replied o ≡ 0)) }
+{
+    match last {
+        Outcome::Replied(reply) => Ok(reply),
+        other => Err(other),
+    }
+}
+
+/// Records a session's reply, counts the call as finished, and answers what is handed to the caller, which is what was
+/// recorded.
+fn keep_reply<B: Shape, R: Ledger>(
+    calls: &mut Vec<Item<B>>,
+    tally: &mut Tally<R>,
+    session: &mut Session<R>,
+    reply: Reply<B>,
+) -> Reply<B>
+    requires room { vec_len calls.old < vec_capacity calls.old }
+    requires few { tally.old.total + 1 < 2 ^ 64 }
+    ensures handed { IsHanded reply result }
+    ensures items { calls.new.items ≡ calls.old.items ++ item.Replied session.old.0 result ∷ [] }
+    ensures capacity { vec_capacity calls.old ≤ vec_capacity calls.new }
+    ensures counted { tally.new.total ≡ tally.old.total + 1 }
+    ensures share { session.new ≡ (session.old.0, session.old.1 + 1) }
+{
+    let (reply, copy) = handed(*calls.allocator(), reply);
+    session.finish(tally);
+    append(calls, Item::Replied(session.number(), copy));
+    reply
+}
+
+/// How many calls are open once one was given this reply: one less, unless a fault leaves it open.
+fn open_after<B: Shape>(reply: &Reply<B>, opened: u64) -> u64
+    requires { 0 < opened ⊎ (is_fault reply.now ≡ true) }
+    ensures { MatchBool (is_fault reply.now) (result ≡ opened) (result + 1 ≡ opened) }
+{
+    match reply {
+        Reply::Refused(Refusal::Device) => opened,
+        Reply::Refused(Refusal::Failed) => opened,
+        _ => opened - 1,
+    }
+}
+
+/// An engine, and the record of all that its sessions asked and were replied. Contracts see it as both.
+///
+/// Whenever it is looked at, its record replays, from the machine that the run names, as the machine that the engine is seen
+/// as, and the ledger's total is the number of replies in the record.
+#[derive(Drop)]
+pub struct Book<B: Shape, E: Events<B>, R: Run<B>> {
+    engine: E,
+    calls: Vec<Item<B>>,
+    opened: u64,
+    tally: Tally<R>,
+}
+
+impl<B: Shape, E: Events<B>, R: Run<B>> Model for Book<B, E, R> {
+    ghost use Rattle.std.specs.Prelude.{List, vec_capacity};
+    ghost use Rattle.gx_machine.specs.declared.item.Item.{Item};
+    ghost use Rattle.gx_machine.specs.Keys.{keys};
+    ghost use Rattle.gx_shared.specs.Books.{IsBook};
+
+    ghost Value = { E × List (Item B) };
+
+    ghost view = { λ b. (b.engine, b.calls.items) };
+
+    ghost invariant = { λ b. IsBook (keys B.cmp B.overlap B.inside) E.sees R.start b.engine b.calls.items b.opened (vec_capacity b.calls) b.tally.total };
+}
+
+impl<B: Shape, E: Events<B>, R: Run<B>> Book<B, E, R> {
+    ghost use Rattle.gx_machine.specs.Keys.{keys_of};
+    ghost use Rattle.gx_events.specs.declared.event.Event.TheVariants.{Ask, Move};
+    ghost use Rattle.gx_shared.specs.Books.{Stands, is_work, IsOf, IsHold};
+
+    /// What a book keeps: its record replays, from the machine that the run names, as the machine that its engine is seen as.
+    pub fn stands(&self)
+        ensures { Stands (keys_of B.Shape) E.sees R.start self.now.0 self.now.1 }
+    {
+        let _ = &self.engine;
+    }
+
+    /// Applies an event that is no session's, of the log, of a page or of a checkpoint. The outcome is the engine's, and
+    /// nothing is recorded.
+    pub fn apply(&mut self, event: Event<B>) -> Outcome<B>
+        requires { is_work event ≡ true }
+        ensures hold { IsHold (keys_of B.Shape) E.sees self.old event result self.new }
+        ensures calls { self.new.1 ≡ self.old.1 }
+    {
+        self.engine.step(event)
+    }
+
+    /// Asks a call of the session, where there is room for it.
+    fn ask(&mut self, session: &mut Session<R>, call: Call<B>) -> Outcome<B>
+        ensures hold { IsHold (keys_of B.Shape) E.sees self.old (Ask session.old.0 call) result self.new }
+        ensures share { session.new ≡ (session.old.0, session.old.1 + replied result) }
+    {
+        let number = session.number();
+        if !has_room(self.calls.len(), self.opened) {
+            return Outcome::Refused(Refusal::HistoryFull);
+        }
+        match ended(self.engine.step(Event::Ask(number, call))) {
+            Ok(reply) => {
+                append(&mut self.calls, Item::Asked(number, call));
+                let reply = keep_reply(&mut self.calls, &mut self.tally, session, reply);
+                Outcome::Replied(reply)
+            }
+            Err(outcome) => {
+                append(&mut self.calls, Item::Asked(number, call));
+                self.opened += 1;
+                outcome
+            }
+        }
+    }
+
+    /// Goes on with the session's call.
+    fn go_on(&mut self, session: &mut Session<R>) -> Outcome<B>
+        ensures hold { IsHold (keys_of B.Shape) E.sees self.old (Move session.old.0) result self.new }
+        ensures share { session.new ≡ (session.old.0, session.old.1 + replied result) }
+    {
+        let number = session.number();
+        let before = self.engine.commits();
+        match ended(self.engine.step(Event::Move(number))) {
+            Ok(reply) => {
+                if self.calls.len() >= RECORD {
+                    return Outcome::Refused(Refusal::Failed);
+                }
+                let reply = keep_reply(&mut self.calls, &mut self.tally, session, reply);
+                self.opened = open_after(&reply, self.opened);
+                Outcome::Replied(reply)
+            }
+            Err(outcome) => {
+                let after = self.engine.commits();
+                append_sealed(&mut self.calls, number, before, after);
+                outcome
+            }
+        }
+    }
+
+    /// Applies an event of the session, an ask or a move, in one hold of the lock. The outcome is the engine's, and what it
+    /// adds is recorded: the call that is asked, the number under which a commit is sealed, the reply that ends a call. The
+    /// session's share rises by one where a reply is recorded, and in no other case.
+    ///
+    /// An ask is refused with `HistoryFull`, neither applied nor recorded, unless three items for it and for each open call
+    /// still fit. What a search found becomes `Memory`, here and in the record, where its copy is refused memory. The reply of
+    /// an engine that a fault has ended, to a call that it has refused before, is `Refused(Failed)` once the record is full.
+    pub fn apply_for(&mut self, session: &mut Session<R>, event: Event<B>) -> Outcome<B>
+        requires { IsOf session.old.0 event }
+        ensures hold { IsHold (keys_of B.Shape) E.sees self.old event result self.new }
+        ensures share { session.new ≡ (session.old.0, session.old.1 + replied result) }
+    {
+        match event {
+            Event::Ask(_, call) => self.ask(session, call),
+            _ => self.go_on(session),
+        }
+    }
+}

@@ -1,0 +1,16 @@
+//! Sessions in threads over one engine: a lock round the engine and the record of its calls.
+//!
+//! One hold of the lock applies one event. `Book` is what lies under the lock: it keeps that its record, replayed from the
+//! machine that the engine was at first, is the engine. `Session` counts its own finished calls by its part of a ledger.
+#![tactic(auto)]
+
+mod book;
+mod handed;
+mod record;
+mod run;
+mod session;
+
+pub use book::Book;
+pub use record::RECORD;
+pub use run::Run;
+pub use session::Session;
