@@ -1,7 +1,6 @@
 -- Transactions that a crash cut off, as an opened engine has them: a session holds each, and undoes it.
 use Rattle.std.specs.Prelude.{ℕ, ◌≡◌, ◌≢◌, ◌-◌, ◌≤◌, Bool, true, false, if◌then◌else◌, length, map, List, [], ◌∷◌}
 use Rattle.std.specs.List.{slice_index_or}
-use Rattle.gx_machine.specs.declared.limits.TheConstants.{SESSIONS}
 use Rattle.gx_machine.specs.declared.entry.Entry.{Entry}
 use Rattle.gx_machine.specs.Keys.{Keys}
 use Rattle.gx_machine.specs.Sets.{has}
@@ -30,7 +29,7 @@ loser_at s losers = if is_session s then slice_index_or losers (s - 1) [] else [
 
 -- notes for each of the eight sessions, where no two of them noted one entry
 pub record AreLosers {B : Type 0} (k : Keys B) (losers : List (List (Note B))) : Type 0 where
-  pub eight : length losers ≡ SESSIONS
+  pub eight : length losers ≡ 8
   pub apart : (a b : ℕ) → a ≢ b → (e : Entry B) → has k e (entries_of (loser_at a losers)) ≡ true → has k e (entries_of (loser_at b losers)) ≡ false
 
 -- An engine opened over the kept set of a number, with losers: what stood is that set, and each slot is free or undoes.

@@ -12,7 +12,6 @@ ghost use Rattle.gx_machine.specs.Sets.{has, found, InOrder, IsSetOf};
 ghost use Rattle.gx_machine.specs.Sessions.{Locks, Open, view, write_conflicts};
 ghost use Rattle.gx_machine.specs.Machine.{Machine, set_of};
 ghost use Rattle.gx_machine.specs.Runs.{Crashes, IsStep};
-ghost use Rattle.gx_machine.specs.declared.limits.TheConstants.{SESSIONS, MAX_CLAIMS};
 ghost use Rattle.gx_engine_laws.specs.Slots.{Note, Free, Working, locks_held, notes_kept, slot_at, noted};
 ghost use Rattle.gx_engine_laws.specs.Asking.{claims_held, ask};
 ghost use Rattle.gx_engine_laws.specs.Engines.{Engine, opened_engine, opened_machine, last_number, stood, kept, gathered, changes_of, SeenAs, IsSound, IsSame};
@@ -136,11 +135,11 @@ pub fn a_failed_engine_only_refuses<B>()
 /// they have noted.
 pub fn claims_stay_few<B>()
     ensures one { (k : Keys B) → IsLawful k → (old new : Engine B) (event : Event B) → IsSound k old → IsEvent k old event new
-        → claims_held old.slots ≤ MAX_CLAIMS → claims_held new.slots ≤ MAX_CLAIMS }
+        → claims_held old.slots ≤ 512 → claims_held new.slots ≤ 512 }
     ensures many { (k : Keys B) → IsLawful k → (old new : Engine B) (m : Machine B) (events : List (Event B)) → IsSound k old
-        → SeenAs k old m → AreEvents k old events new → claims_held old.slots ≤ MAX_CLAIMS → claims_held new.slots ≤ MAX_CLAIMS }
+        → SeenAs k old m → AreEvents k old events new → claims_held old.slots ≤ 512 → claims_held new.slots ≤ 512 }
     ensures full { (k : Keys B) (s : ℕ) (call : Call B) (engine : Engine B) → (ask k s call engine).0 ≡ Now (Refused ClaimsFull)
-        → MAX_CLAIMS ≤ claims_held engine.slots }
+        → 512 ≤ claims_held engine.slots }
     ensures opened { (k : Keys B) (number : ℕ) (set : List (Entry B)) → claims_held (opened_engine k number set).slots ≡ 0 }
     ensures losers { (k : Keys B) (number : ℕ) (losers : List (List (Note B))) (old new : Engine B) → IsReopened k number losers old new
         → claims_held new.slots ≡ sum_by length losers }
@@ -157,11 +156,11 @@ pub fn an_opened_engine_may_have_losers<B>()
         → SeenAs k old m → IsReopened k number losers old new → SeenAs k new (losing_machine number (set_of number m) losers) }
     ensures opens { (k : Keys B) → IsLawful k → (number : ℕ) (losers : List (List (Note B))) (old middle new : Engine B) (m : Machine B)
         (events : List (Event B)) → IsSound k old → SeenAs k old m → AreLosers k losers → IsReopened k number losers old middle
-        → AreEvents k middle events new → All (λ event. is_of_opening event ≡ true) events → new.slots ≡ replicate SESSIONS Free
+        → AreEvents k middle events new → All (λ event. is_of_opening event ≡ true) events → new.slots ≡ replicate 8 Free
         → IsEvent k old (Opens number) new }
     ensures crashes { (k : Keys B) → IsLawful k → (number : ℕ) (losers : List (List (Note B))) (old middle new : Engine B) (m : Machine B)
         (events : List (Event B)) → IsSound k old → SeenAs k old m → AreLosers k losers → IsReopened k number losers old middle
-        → AreEvents k middle events new → All (λ event. is_of_opening event ≡ true) events → new.slots ≡ replicate SESSIONS Free
+        → AreEvents k middle events new → All (λ event. is_of_opening event ≡ true) events → new.slots ≡ replicate 8 Free
         → RunsAs k m (Crashes number ∷ []) new }
     ensures again { (k : Keys B) → IsLawful k → (number later : ℕ) (losers left : List (List (Note B))) (old middle cut new : Engine B) (m : Machine B)
         (events : List (Event B)) → IsSound k old → SeenAs k old m → AreLosers k losers → IsReopened k number losers old middle

@@ -67,18 +67,15 @@ module _ {E P : Type 0} (k : Known E P) (r : Reading E P) (l : IsLawful k) where
       (all_pages_tell k l log old is kept images counter used (images_own owns 0 pages are))
       (subst (λ (ns : List ℕ). Takes (may_give counter used ns old) (with_pages counter used old) old result new) (sym (numbers_read pages)) takes)
 
-  pub write_told : Owns → (cmp : E → E → Ordering) → k.cmp ≡ cmp → (tx row : ℕ) (key : List ℕ) (before after : Bool) (leaf : ℕ) (image : List ℕ) (e : E)
-      → IsPage (leaf, image) → e ≡ r.entry row key → k.is_entry (r.entry row key) ≡ true → (old new : Kept E) (result : Result (Unit {0}) Refusal)
-      → Takes (may_write cmp (record { transaction = tx; entry = e; before = before; leaf = leaf }) old)
-      (with_touch cmp (record { transaction = tx; entry = e; before = before; leaf = leaf }) old) old result new
+  pub write_told : Owns → (cmp : E → E → Ordering) → k.cmp ≡ cmp → (tx row : ℕ) (key : List ℕ) (before after : Bool) (leaf : ℕ) (image : List ℕ)
+      → IsPage (leaf, image) → k.is_entry (r.entry row key) ≡ true → (old new : Kept E) (result : Result (Unit {0}) Refusal)
+      → Takes (may_write cmp (record { transaction = tx; entry = r.entry row key; before = before; leaf = leaf }) old)
+      (with_touch cmp (record { transaction = tx; entry = r.entry row key; before = before; leaf = leaf }) old) old result new
       → RecordTold Later k r (rec.Write tx row key before after leaf image) old result new
-  write_told owns cmp ordered tx row key before after leaf image e is_page is_read of_class old new result takes log is kept =
-      let touch : E → Touch E = λ x. record { transaction = tx; entry = x; before = before; leaf = leaf } in
-      let t : Touch E = touch (r.entry row key) in
-      let by_entry : Takes (may_write cmp t old) (with_touch cmp t old) old result new =
-      subst (λ (x : E). Takes (may_write cmp (touch x) old) (with_touch cmp (touch x) old) old result new) is_read takes in
+  write_told owns cmp ordered tx row key before after leaf image is_page of_class old new result takes log is kept =
+      let t : Touch E = record { transaction = tx; entry = r.entry row key; before = before; leaf = leaf } in
       let by_order : Takes (may_write k.cmp t old) (with_touch k.cmp t old) old result new =
-      subst (λ (c : E → E → Ordering). Takes (may_write c t old) (with_touch c t old) old result new) (sym ordered) by_entry in
+      subst (λ (c : E → E → Ordering). Takes (may_write c t old) (with_touch c t old) old result new) (sym ordered) takes in
       told_from log (Write tx (r.entry row key) before after leaf (Whole (r.content image))) (may_write k.cmp t old) (with_touch k.cmp t old) old new result
       (writes_tell k l log old is kept t after (r.content image) of_class (owns leaf image is_page.image)) by_order
 
@@ -105,15 +102,13 @@ module _ {E P : Type 0} (k : Known E P) (r : Reading E P) (l : IsLawful k) where
       subst (λ (y : rec.Rec). RecordTold Later k r y old result new) (sym is) (pages_told owns counter used pages in_range.4 old new result takes)
 
   pub write_comes : Owns → (cmp : E → E → Ordering) → k.cmp ≡ cmp → (x : rec.Rec) (tx row : ℕ) (key : List ℕ) (before after : Bool) (leaf : ℕ) (image : List ℕ)
-      → x ≡ rec.Write tx row key before after leaf image → IsRecord r.key x → (e : E) → e ≡ r.entry row key → k.is_entry (r.entry row key) ≡ true
-      → (marked : Bool) → marked ≡ before → (t : Touch E) → t ≡ (record { transaction = tx; entry = e; before = marked; leaf = leaf })
+      → x ≡ rec.Write tx row key before after leaf image → IsRecord r.key x → k.is_entry (r.entry row key) ≡ true
+      → (t : Touch E) → t ≡ (record { transaction = tx; entry = r.entry row key; before = before; leaf = leaf })
       → (old new : Kept E) (result : Result (Unit {0}) Refusal) → Takes (may_write cmp t old) (with_touch cmp t old) old result new → RecordTold Later k r x old result new
-  write_comes owns cmp ordered x tx row key before after leaf image is whole e is_read of_class marked mark_is t t_is old new result takes =
+  write_comes owns cmp ordered x tx row key before after leaf image is whole of_class t same old new result takes =
       let in_range : IsInRange (rec.Write tx row key before after leaf image) = subst (λ (y : rec.Rec). IsInRange y) is whole.in_range in
-      let touch : Bool → Touch E = λ b. record { transaction = tx; entry = e; before = b; leaf = leaf } in
-      let same : t ≡ touch before = t_is ∙ ap touch mark_is in
       subst (λ (y : rec.Rec). RecordTold Later k r y old result new) (sym is)
-      (write_told owns cmp ordered tx row key before after leaf image e in_range.2 is_read of_class old new result
+      (write_told owns cmp ordered tx row key before after leaf image in_range.2 of_class old new result
       (subst (λ (u : Touch E). Takes (may_write cmp u old) (with_touch cmp u old) old result new) same takes))
 
   pub no_entry_comes : (x : rec.Rec) (tx row : ℕ) (key : List ℕ) (before after : Bool) (leaf : ℕ) (image : List ℕ) → x ≡ rec.Write tx row key before after leaf image
@@ -148,18 +143,15 @@ module _ {E P : Type 0} (k : Known E P) (r : Reading E P) (l : IsLawful k) where
       (all_counters_tell k old kept n counter used next) takes)
   counters_told n counter used next old new result takes (y ∷ log) is kept = cc
 
-  note_told : (cmp : E → E → Ordering) → k.cmp ≡ cmp → (tx row : ℕ) (key : List ℕ) (before : Bool) (leaf : ℕ) (e : E) → e ≡ r.entry row key
-      → k.is_entry (r.entry row key) ≡ true → (old new : Kept E) (result : Result (Unit {0}) Refusal)
-      → Takes (may_touch cmp (record { transaction = tx; entry = e; before = before; leaf = leaf }) old)
-      (with_touch cmp (record { transaction = tx; entry = e; before = before; leaf = leaf }) old) old result new
+  note_told : (cmp : E → E → Ordering) → k.cmp ≡ cmp → (tx row : ℕ) (key : List ℕ) (before : Bool) (leaf : ℕ) → k.is_entry (r.entry row key) ≡ true
+      → (old new : Kept E) (result : Result (Unit {0}) Refusal)
+      → Takes (may_touch cmp (record { transaction = tx; entry = r.entry row key; before = before; leaf = leaf }) old)
+      (with_touch cmp (record { transaction = tx; entry = r.entry row key; before = before; leaf = leaf }) old) old result new
       → RecordTold Head k r (rec.Note tx row key before leaf) old result new
-  note_told cmp ordered tx row key before leaf e is_read of_class old new result takes log is kept =
-      let touch : E → Touch E = λ x. record { transaction = tx; entry = x; before = before; leaf = leaf } in
-      let t : Touch E = touch (r.entry row key) in
-      let by_entry : Takes (may_touch cmp t old) (with_touch cmp t old) old result new =
-      subst (λ (x : E). Takes (may_touch cmp (touch x) old) (with_touch cmp (touch x) old) old result new) is_read takes in
+  note_told cmp ordered tx row key before leaf of_class old new result takes log is kept =
+      let t : Touch E = record { transaction = tx; entry = r.entry row key; before = before; leaf = leaf } in
       let by_order : Takes (may_touch k.cmp t old) (with_touch k.cmp t old) old result new =
-      subst (λ (c : E → E → Ordering). Takes (may_touch c t old) (with_touch c t old) old result new) (sym ordered) by_entry in
+      subst (λ (c : E → E → Ordering). Takes (may_touch c t old) (with_touch c t old) old result new) (sym ordered) takes in
       head_from (log ++ Note tx (r.entry row key) before leaf ∷ []) (may_touch k.cmp t old) (with_touch k.cmp t old) old new result log (Note tx (r.entry row key) before leaf) refl
       (notes_tell k l log old is kept t of_class) by_order
 
@@ -170,14 +162,12 @@ module _ {E P : Type 0} (k : Known E P) (r : Reading E P) (l : IsLawful k) where
       subst (λ (y : rec.Rec). RecordTold Start k r y old result new) (sym is) (counters_told n counter used next old new result takes)
 
   pub note_comes : (cmp : E → E → Ordering) → k.cmp ≡ cmp → (x : rec.Rec) (tx row : ℕ) (key : List ℕ) (before : Bool) (leaf : ℕ)
-      → x ≡ rec.Note tx row key before leaf → (e : E) → e ≡ r.entry row key → k.is_entry (r.entry row key) ≡ true
-      → (marked : Bool) → marked ≡ before → (t : Touch E) → t ≡ (record { transaction = tx; entry = e; before = marked; leaf = leaf })
+      → x ≡ rec.Note tx row key before leaf → k.is_entry (r.entry row key) ≡ true
+      → (t : Touch E) → t ≡ (record { transaction = tx; entry = r.entry row key; before = before; leaf = leaf })
       → (old new : Kept E) (result : Result (Unit {0}) Refusal) → Takes (may_touch cmp t old) (with_touch cmp t old) old result new → RecordTold Head k r x old result new
-  note_comes cmp ordered x tx row key before leaf is e is_read of_class marked mark_is t t_is old new result takes =
-      let touch : Bool → Touch E = λ b. record { transaction = tx; entry = e; before = b; leaf = leaf } in
-      let same : t ≡ touch before = t_is ∙ ap touch mark_is in
+  note_comes cmp ordered x tx row key before leaf is of_class t same old new result takes =
       subst (λ (y : rec.Rec). RecordTold Head k r y old result new) (sym is)
-      (note_told cmp ordered tx row key before leaf e is_read of_class old new result
+      (note_told cmp ordered tx row key before leaf of_class old new result
       (subst (λ (u : Touch E). Takes (may_touch cmp u old) (with_touch cmp u old) old result new) same takes))
 
   pub no_entry_noted : (x : rec.Rec) (tx row : ℕ) (key : List ℕ) (before : Bool) (leaf : ℕ) → x ≡ rec.Note tx row key before leaf

@@ -5,9 +5,9 @@ ghost use Rattle.gx_record.specs.Seen.{rec_of};
 ghost use Rattle.gx_recovery.specs.Known.{Limits};
 ghost use Rattle.gx_found_log.specs.Told.{RecordTold};
 
-use crate::record::is_marked;
+use crate::record::touch_of;
 use crate::{Part, Readable};
-use gx_analysis::{Analysis, Touch};
+use gx_analysis::Analysis;
 use gx_geom::Refusal;
 use gx_record::Record;
 
@@ -56,8 +56,8 @@ where
             key,
             before,
             leaf,
-        } => match M::entry(*row, key) {
-            Some(entry) => analysis.on_note(Touch::new(*tx, entry, is_marked(before), *leaf)),
+        } => match touch_of::<M>(*tx, *row, key, before, *leaf) {
+            Some(touch) => analysis.on_note(touch),
             None => Err(Refusal::Damaged),
         },
         Record::Pages { .. }

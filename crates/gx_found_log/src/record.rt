@@ -1,5 +1,5 @@
 //! One record of a log, told to an analysis.
-ghost use Rattle.std.specs.Prelude.{◌≡◌, ◌+◌, ◌<◌, ◌≤◌, length, IfErr};
+ghost use Rattle.std.specs.Prelude.{◌≡◌, ◌+◌, ◌<◌, ◌≤◌, length, is_some, IfErr, IfSome};
 ghost use Rattle.gx_record.specs.Format.{IsRecord};
 ghost use Rattle.gx_record.specs.Seen.{is_marked, rec_of, images};
 ghost use Rattle.gx_recovery.specs.Known.{Limits};
@@ -30,13 +30,31 @@ fn on_pages<E: Copy + Ord>(
 }
 
 /// Whether a mark is set.
-pub(crate) fn is_marked(mark: &Mark) -> bool
+fn is_marked(mark: &Mark) -> bool
     ensures { result ≡ is_marked mark.now }
 {
     match mark {
         Mark::Live => false,
         Mark::Marked => true,
     }
+}
+
+/// What a record says of the entry that a transaction wrote. `None` where the bytes are no key's of the class.
+pub(crate) fn touch_of<M: Readable>(
+    tx: u64,
+    row: u64,
+    key: &[u8],
+    before: &Mark,
+    leaf: u32,
+) -> Option<Touch<M::Entry>>
+where
+    M::Entry: Copy,
+    requires { length key.now ≡ M.reading.key }
+    ensures touch { IfSome result (λ touch. touch ≡ record { transaction = tx; entry = M.reading.entry row key.now; before = is_marked before.now; leaf = leaf }) }
+    ensures of_class { (d : Limits) → (M.known d).is_entry (M.reading.entry row key.now) ≡ is_some result }
+{
+    let entry = M::entry(row, key)?;
+    Some(Touch::new(tx, entry, is_marked(before), leaf))
 }
 
 /// Tells a record of a log's later bodies.
@@ -65,8 +83,8 @@ where
             before,
             leaf,
             ..
-        } => match M::entry(*row, key) {
-            Some(entry) => { analysis.on_write(Touch::new(*tx, entry, is_marked(before), *leaf)) }
+        } => match touch_of::<M>(*tx, *row, key, before, *leaf) {
+            Some(touch) => analysis.on_write(touch),
             None => Err(Refusal::Damaged),
         },
         Record::Commit { tx, n } => analysis.on_commit(*tx, *n),

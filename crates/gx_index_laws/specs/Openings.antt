@@ -2,7 +2,6 @@
 -- that was cut off, to undo it.
 use Rattle.std.specs.Prelude.{◌≡◌, ◌≤◌, true, All, ℕ, zero, suc, ◌-◌, not, ◌==◌, if◌then◌else◌, false, map, List, [], ◌∷◌}
 use Rattle.std.specs.List.{list_any, slice_index_or, filter}
-use Rattle.gx_machine.specs.declared.limits.TheConstants.{SESSIONS}
 use Rattle.gx_machine.specs.declared.entry.Entry.{Entry}
 use Rattle.gx_machine.specs.Sets.{IsSetOf}
 use Rattle.gx_machine.specs.Machine.{Machine, newest, set_of}
@@ -39,7 +38,7 @@ listed_for (suc n) f (t ∷ ts) = f t ∷ listed_for n f ts
 
 -- what each session undoes
 abbrev pub losers_of : {B : Type 0} → List (Touch (Entry B)) → List (List (Note B))
-losers_of xs = listed_for SESSIONS (notes_for xs) (numbers_of xs)
+losers_of xs = listed_for 8 (notes_for xs) (numbers_of xs)
 
 -- the index opened over an area and a log, with this as the next transaction's number
 abbrev pub opened_state : {B : Type 0} → Class B → ℕ → (ℕ → Page B) → List (Record (Entry B) (Page B)) → State B

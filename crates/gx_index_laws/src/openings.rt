@@ -1,6 +1,5 @@
 //! How an index is opened, over what a crash left and over any log that is undamaged.
 ghost use Rattle.std.specs.Prelude.{◌≡◌, ◌≤◌, ℕ, not, List, ◌∷◌, map, filter, flat_map, replicate};
-ghost use Rattle.gx_machine.specs.declared.limits.TheConstants.{SESSIONS};
 ghost use Rattle.gx_machine.specs.declared.entry.Entry.{Entry};
 ghost use Rattle.gx_machine.specs.Sets.{IsSetOf};
 ghost use Rattle.gx_machine.specs.Machine.{Machine};
@@ -69,7 +68,7 @@ pub fn openings_are_one_opening<B>()
         → (number_of (known_of c) log ≡ number_of (known_of c) one.log)
         × ((e : Entry B) → stands_for (known_of c) area log e ≡ stands_for (known_of c) one.area one.log e) }
     ensures opens { (c : Class B) → IsLawful c → (old : State B) → IsWhole c old → (one : Try B) (tries : List (Try B)) (new : State B)
-        → AreRestarts c old one tries new → new.slots ≡ replicate SESSIONS Free → Happens c old (Opens (number_of (known_of c) one.log)) new }
+        → AreRestarts c old one tries new → new.slots ≡ replicate 8 Free → Happens c old (Opens (number_of (known_of c) one.log)) new }
 {}
 
 /// Whatever a crash leaves of a whole index stands for the set that its machine keeps under the image's number. And that number is

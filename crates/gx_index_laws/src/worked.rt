@@ -1,6 +1,5 @@
 //! The laws at work on a list of events that was worked out by hand, so that none holds for want of a case.
 ghost use Rattle.std.specs.Prelude.{◌≡◌, ◌<◌, Some, true, false, replicate, [], ◌∷◌, length};
-ghost use Rattle.gx_machine.specs.declared.limits.TheConstants.{SESSIONS};
 ghost use Rattle.gx_machine.specs.declared.call.Call.TheVariants.{Search};
 ghost use Rattle.gx_tree_laws.specs.Steps.{IsStep, Splits};
 ghost use Rattle.gx_engine_laws.specs.Slots.{Free, Undoing, slot_at};
@@ -33,7 +32,7 @@ pub fn what_the_worked_life_shows()
     ensures left { IsLeft lost.log lost.log.area found_log }
     ensures loser { slot_at 1 opened.slots ≡ Undoing (claiming (fifth ∷ [])) (note fifth ∷ []) }
     ensures restarts { IsRestart numbers lost opening reopened }
-    ensures ended { reopened.slots ≡ replicate SESSIONS Free }
+    ensures ended { reopened.slots ≡ replicate 8 Free }
     ensures committed { stands_for (known_of numbers) lost.log.area found_log (nth 4) ≡ true }
     ensures undone { stands_for (known_of numbers) lost.log.area found_log fifth ≡ false }
 {}

@@ -4,13 +4,13 @@ use crate::tree_drawn::{Drawn, draw};
 use crate::tree_legal::PAGES;
 use crate::tree_rows::are_same;
 use crate::tree_runs::{
-    Place, Run, begin, finds_all, insert, insert_step, look_from_root, look_on, run_on, stands, top,
+    Run, begin, finds_all, go_on, insert, look_from_root, look_on, run_on, stands,
 };
 use crate::trees::{Corners, a_box, held, split_twice};
 use gx_class::{Box2Class, IntervalClass, Probing};
 use gx_geom::Box2;
 use gx_machine::{Entry, Query};
-use gx_tree::{Look, MemoryPages, Pages, Sought, Wanted, set_mark_step};
+use gx_tree::{Look, MemoryPages, Pages, Place, Sought, Wanted, set_mark_step};
 use std::process::Abort;
 use std::test::Fail;
 
@@ -96,7 +96,7 @@ where
 }
 
 /// A step of an insert: where it is then, if its pair wasn't added.
-fn go_on<K: Probing, R: Abort + AllocGlobal>(
+fn step<K: Probing, R: Abort + AllocGlobal>(
     rt: &R,
     run: &mut Run<K>,
     open: Open<K::Key>,
@@ -105,7 +105,7 @@ where
     K::Probe: Drop,
 {
     let entry = open.entry;
-    let next = insert_step(rt, run, open.place, &entry).ok();
+    let next = go_on(rt, run, open.place, &entry).ok();
     match next.expect(rt, "a page for it") {
         Some(place) => {
             stands(rt, run);
@@ -141,13 +141,13 @@ where
 {
     let insert = inserts.get_mut(chosen(row, state)).expect(rt, "an insert");
     *insert = match *insert {
-        Some(open) => go_on(rt, run, open)?,
+        Some(open) => step(rt, run, open)?,
         None => Some(Open {
             entry: Entry {
                 row,
                 key: K::drawn(state),
             },
-            place: top(run),
+            place: Place::top(&run.tree),
         }),
     };
     Ok(())
@@ -242,7 +242,7 @@ fn goes_to<K: Probing, R: Abort + AllocGlobal>(
 where
     K::Probe: Drop,
 {
-    *open = go_on(rt, run, *open)?.expect(rt, "a further step");
+    *open = step(rt, run, *open)?.expect(rt, "a further step");
     Ok((open.place.item.page(), open.place.item.seen()))
 }
 
@@ -280,7 +280,7 @@ where
 {
     assert_eq!(rt; goes_to(rt, run, open)?, (1, 2));
     assert_eq!(rt; goes_to(rt, run, open)?, (3, 2));
-    assert!(rt; go_on(rt, run, *open)?.is_none());
+    assert!(rt; step(rt, run, *open)?.is_none());
     assert_eq!(rt; leaf_of(rt, run, &open.entry, false)?, 3);
     assert_eq!(rt; leaf_of(rt, run, marked, true)?, 3);
     Ok(())
@@ -298,7 +298,7 @@ where
     K::Probe: Drop,
 {
     let first = *run.pairs.first().expect(rt, "a pair");
-    let place = top(run);
+    let place = Place::top(&run.tree);
     let mut open = Open { entry, place };
     assert_eq!(rt; goes_to(rt, run, &mut open)?, (2, 0));
     change(rt, run, later, tree, &first)?;

@@ -3,15 +3,15 @@ ghost use Rattle.std.specs.Prelude.{◌≤◌};
 ghost use Rattle.gx_node.specs.declared.items.TheConstants.{MAX_ENTRIES};
 
 use crate::tree_drawn::{Drawn, draw};
-use crate::tree_legal::{PAGES, is_legal};
+use crate::tree_legal::{PAGES, is_legal, page};
 use crate::trees::fresh_tree;
 use gx_class::{Box2Class, IntervalClass, KeyClass, Probing};
 use gx_geom::Shape;
 use gx_machine::{Entry, Query};
 use gx_node::MAX_ENTRIES;
 use gx_tree::{
-    Descended, Item, Look, MemoryPages, Pages, Sought, StepFault, Wanted, add_step, descend_step,
-    look_step, set_mark_step, split_root_step, split_step, sweep_step,
+    Item, Look, MemoryPages, Pages, Place, Sought, StepFault, Wanted, insert_step, look_step,
+    set_mark_step,
 };
 use std::convert::Infallible;
 use std::process::Abort;
@@ -32,13 +32,6 @@ pub(crate) struct Run<K: KeyClass> {
     pub(crate) began_again: u32,
     /// How many found that a full page's parent has no place for its split, and began again.
     pub(crate) found_no_place: u32,
-}
-
-/// Where an insert is: at an item, to which it came from a page.
-#[derive(Clone, Copy)]
-pub(crate) struct Place {
-    pub(crate) item: Item,
-    pub(crate) parent: u32,
 }
 
 /// A run on a fresh tree, with so many pages that can be taken.
@@ -83,78 +76,39 @@ fn most_of<K: KeyClass>(rt: &impl Abort, run: &Run<K>) -> usize
     run.most
 }
 
-/// The root, to begin with.
-fn root<K: KeyClass>(run: &Run<K>) -> Item {
-    Item::new(1, run.tree.counter())
+/// Whether the page of a place was split since its item was remembered.
+fn was_split<K: KeyClass>(rt: &impl Abort, run: &Run<K>, place: &Place) -> bool {
+    page(rt, &run.tree, place.item.page()).nsn() > place.item.seen()
 }
 
-/// Where an insert begins.
-pub(crate) fn top<K: KeyClass>(run: &Run<K>) -> Place {
-    Place {
-        item: root(run),
-        parent: 1,
-    }
-}
-
-/// Splits a full node, below its parent or the root itself. Whether there was a place for the split.
-fn split_node<K: KeyClass>(
-    rt: &impl Abort,
-    tree: &mut MemoryPages<K>,
-    place: Place,
-    most: usize,
-    keys: &mut [K::Key],
-) -> Result<bool, StepFault<Infallible>> {
-    assert!(rt; most >= 4 && most <= MAX_ENTRIES && keys.len() >= MAX_ENTRIES);
-    let page = place.item.page();
-    if page == 1 {
-        split_root_step(tree, most, keys)?;
-        return Ok(true);
-    }
-    Ok(split_step(tree, page, place.parent, most, keys)?.is_some())
-}
-
-/// Splits a full node; then the descent begins again.
-fn split<K: KeyClass>(
-    rt: &impl Abort,
-    run: &mut Run<K>,
-    place: Place,
-) -> Result<Option<Place>, StepFault<Infallible>> {
-    let keys = run.keys.as_mut_slice();
-    if !split_node(rt, &mut run.tree, place, run.most, keys)? {
+/// Counts a step that came back to the root and took no page: its page was split since, or the page's parent had no place for
+/// the split that it wants.
+fn count_restart<K: KeyClass>(run: &mut Run<K>, was_split: bool) {
+    if was_split {
+        run.began_again = run.began_again.saturating_add(1);
+    } else {
         run.found_no_place = run.found_no_place.saturating_add(1);
     }
-    Ok(Some(top(run)))
 }
 
 /// A step of an insert: where it goes on, or that the pair was added.
-pub(crate) fn insert_step<K: KeyClass>(
+pub(crate) fn go_on<K: KeyClass>(
     rt: &impl Abort,
     run: &mut Run<K>,
     place: Place,
     entry: &Entry<K::Key>,
 ) -> Result<Option<Place>, StepFault<Infallible>> {
-    let most = most_of(rt, run);
-    let page = place.item.page();
-    match descend_step(&mut run.tree, &place.item, &entry.key, most)? {
-        Descended::Again => {
-            run.began_again = run.began_again.saturating_add(1);
-            Ok(Some(top(run)))
-        }
-        Descended::Down(item) | Descended::Widened(item, _, _) => {
-            Ok(Some(Place { item, parent: page }))
-        }
-        Descended::Leaf => {
-            add_step(&mut run.tree, page, entry, most)?;
-            Ok(None)
-        }
-        Descended::FullLeaf => {
-            if sweep_step(&mut run.tree, page, |_| false)? {
-                return Ok(Some(place));
-            }
-            split(rt, run, place)
-        }
-        Descended::FullInner => split(rt, run, place),
+    let (most, used) = (most_of(rt, run), run.tree.used());
+    let was_split = was_split(rt, run, &place);
+    let keys = run.keys.as_mut_slice();
+    assert!(rt; keys.len() >= MAX_ENTRIES);
+    let Some(next) = insert_step(&mut run.tree, place, entry, most, keys)? else {
+        return Ok(None);
+    };
+    if next.item.page() == 1 && run.tree.used() == used {
+        count_restart(run, was_split);
     }
+    Ok(Some(next))
 }
 
 /// Inserts a pair step by step; the tree is legal after each. Whether there were pages for it.
@@ -163,9 +117,9 @@ pub(crate) fn insert<K: KeyClass, R: Abort>(
     run: &mut Run<K>,
     entry: Entry<K::Key>,
 ) -> Result<bool, Fail> {
-    let mut place = top(run);
+    let mut place = Place::top(&run.tree);
     for _ in 0..STEPS {
-        match insert_step(rt, run, place, &entry) {
+        match go_on(rt, run, place, &entry) {
             Ok(Some(next)) => place = next,
             Ok(None) => {
                 run.pairs.push(entry)?;
@@ -214,7 +168,7 @@ pub(crate) fn look_from_root<K: KeyClass, R: AllocGlobal>(
     rt: &R,
     run: &Run<K>,
 ) -> Result<Look<K::Key>, Fail> {
-    Ok(Look::new(rt.alloc(), root(run))?)
+    Ok(Look::new(rt.alloc(), Item::new(1, run.tree.counter()))?)
 }
 
 /// A step of a look that isn't done.

@@ -12,8 +12,8 @@ pub returns-in-Some-clause-told : goal.returns-in-Some-clause-told
 returns-in-Some-clause-told g c = λ d ordered.
     let w = c.in-Write in
     write_comes (g.M.Meaning.known d) g.M.Spelled.reading (g.met.M.Readable.lawful d) (g.met.M.Readable.own d) g.M.Entry.Ord.cmp ordered (rec_of c.args.logged.now) w.tx w.row w.key.now
-    (is_marked w.before) (is_marked w.after) w.leaf w.image.now (ap rec_of w.is) c.requires.is_record c.in-Some.entry c.in-Some.ensures.entry (c.in-Some.ensures.of_class d)
-    c.is_marked.result c.is_marked.ensures c.new.result c.new.ensures c.args.analysis.now c.on_write.new.self c.on_write.result c.on_write.ensures
+    (is_marked w.before) (is_marked w.after) w.leaf w.image.now (ap rec_of w.is) c.requires.is_record (c.in-Some.ensures.of_class d)
+    c.in-Some.touch c.in-Some.ensures.touch c.args.analysis.now c.on_write.new.self c.on_write.result c.on_write.ensures
 
 pub returns-in-None-clause-told : goal.returns-in-None-clause-told
 returns-in-None-clause-told g c = λ d ordered.
