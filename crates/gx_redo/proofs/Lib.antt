@@ -6,3 +6,4 @@ pub mod Laid
 pub mod Giving
 pub mod Reaching
 pub mod Redone
+pub mod Found

@@ -3,3 +3,4 @@ pub mod Spelled
 pub mod Told
 pub mod Laid
 pub mod Redone
+pub mod Restart

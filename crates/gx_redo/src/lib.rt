@@ -8,7 +8,9 @@ pub mod laws;
 mod lay;
 mod read;
 mod redoing;
+mod restart;
 
 pub use given::{Given, MOST_GIVEN};
 pub use read::read_given;
 pub use redoing::redo;
+pub use restart::redo_log;
