@@ -1,9 +1,9 @@
 //! The leaves stand on the chain of rightlinks, each once.
-ghost use Rattle.std.specs.Prelude.{◌≡◌, ℕ, ◌+◌, ◌^◌, ◌≤◌, ◌⊎◌, ◌==◌, None, Some, OnOk, IfErr, MatchOption, length, slice_index_or};
+ghost use Rattle.std.specs.Prelude.{◌≡◌, ℕ, ◌+◌, ◌^◌, ◌<◌, ◌≤◌, ◌⊎◌, ◌==◌, List, None, Some, OnOk, IfErr, MatchOption, length, slice_index_or};
 ghost use Rattle.gx_tree_laws.specs.Legal.{Linked};
 ghost use Rattle.gx_tree_laws.specs.Lists.{one_if};
 ghost use Rattle.gx_tree_laws.specs.Trees.{Tree, Rules, Used, leaves, times};
-ghost use Rattle.gx_legality.specs.Breaks.{Breaks};
+ghost use Rattle.gx_legality.specs.Breaks.{Breaks, Leads};
 ghost use Rattle.gx_legality.specs.Marks.{AreLinks, marked};
 
 use crate::fault::Rule;
@@ -34,7 +34,7 @@ fn walk_chain<K: KeyClass>(links: &[Option<u32>], passed: &mut [bool]) -> Result
     ensures walked { (t : Tree K.Key) → AreLinks t links.now
         → OnOk result (Linked t 2 (leaves t) × ((q : ℕ) → times q (leaves t) ≡ marked passed.new q)) }
     ensures refused { (t : Tree K.Key) → AreLinks t links.now
-        → IfErr result (λ p. (¬ Linked t 2 (leaves t)) ⊎ (Used t p × ((t.node p).level ≡ 0) × (2 ≤ times p (leaves t)))) }
+        → IfErr result (λ p. (0 < p) × (pages : List ℕ) × Leads t 2 pages p × ((Used t p → (t.node p).level ≡ 0 → ⊥) ⊎ (0 < times p pages))) }
 {
     let mut page = 2;
     for _step in 1..links.len() {

@@ -1,4 +1,4 @@
-use Rattle.std.proofs.Common.{◌≡◌, ◌≢◌, ◌-◌, ◌+◌, suc, inl, length, arith, rules, sym, subst}
+use Rattle.std.proofs.Common.{◌≡◌, ◌≢◌, ◌-◌, ◌+◌, suc, length, arith, rules, sym, subst}
 use Rattle.gx_legality.proofs.Walks.{Walks, walk_goes, walk_ends, walk_stops, walk_is_long, linked_leaf}
 use Rattle.gx_legality.proofs.chain.walk_chain.Goals as goal
 
@@ -10,12 +10,8 @@ pub returns-in_default-clause-refused : goal.returns-in_default-clause-refused
 returns-in_default-clause-refused g c = λ t are.
     let links = c.args.links.now in
     let page = c.loop-step.page in
-    let long = length links - c.loop-step._step in
-    let left = length links - suc c.loop-step._step in
-    let on : long ≡ suc left = omega arith in
     let some : page ≢ 0 = c.if-page-eq0.false in
-    let walks = c.loop-step.invariant.1 t are in
-    walk_stops t links c.loop-step.passed long left page are on walks some (c.in_default.ensures)
+    walk_stops t links c.loop-step.passed (length links - c.loop-step._step) page are (c.loop-step.invariant.1 t are) some (c.in_default.ensures)
 
 pub loop-step-preserved : goal.loop-step-preserved
 loop-step-preserved g c =
@@ -25,13 +21,12 @@ loop-step-preserved g c =
     let long = length links - c.loop-step._step in
     let left = length links - (c.loop-step._step + 1) in
     let on : long ≡ suc left = omega arith in
-    let some : page ≢ 0 = c.if-page-eq0.false in
     let link = c.in-Some.ensures in (
       search rules,
       λ t are. (
           let leaf = linked_leaf t links page c.in-Some.right are link.0 in
           subst (λ p. Walks t more left p) (sym leaf.2)
-          (walk_goes t c.loop-step.passed more long left page on (c.loop-step.invariant.1 t are) some leaf.0 leaf.1 link.1)
+          (walk_goes t c.loop-step.passed more long left page on (c.loop-step.invariant.1 t are) leaf.0 leaf.1 link.1)
           ),
     )
 
@@ -43,4 +38,4 @@ pub returns-else-page-eq0-2-clause-refused : goal.returns-else-page-eq0-2-clause
 returns-else-page-eq0-2-clause-refused g c = λ t are.
     let left = length c.args.links.now - c.loop-step._step in
     let none : left ≡ 0 = omega arith in
-    inl (walk_is_long t c.loop-step.passed left c.loop-step.page none (c.loop-step.invariant.1 t are) c.if-page-eq0-2.false)
+    walk_is_long t c.loop-step.passed left c.loop-step.page none (c.loop-step.invariant.1 t are) c.if-page-eq0-2.false
