@@ -5,6 +5,7 @@ ghost use Rattle.gx_events.specs.declared.outcome.Outcome.TheVariants as outcome
 ghost use Rattle.gx_shared.specs.Books.{IsHanded, is_fault, replied};
 ghost use Rattle.gx_shared.specs.declared.record.TheConstants.{RECORD};
 
+use crate::agree::agree;
 use crate::handed::handed;
 use crate::record::{append, append_sealed};
 use crate::{RECORD, Run, Session};
@@ -94,6 +95,7 @@ impl<B: Shape, E: Events<B>, R: Run<B>> Model for Book<B, E, R> {
 impl<B: Shape, E: Events<B>, R: Run<B>> Book<B, E, R> {
     ghost use Rattle.gx_machine.specs.Keys.{keys_of};
     ghost use Rattle.gx_events.specs.declared.event.Event.TheVariants.{Ask, Move};
+    ghost use Rattle.gx_shared.specs.Agreed.{replies_of};
     ghost use Rattle.gx_shared.specs.Books.{Stands, is_work, IsOf, IsHold};
 
     /// What a book keeps: its record replays, from the machine that the run names, as the machine that its engine is seen as.
@@ -176,5 +178,12 @@ impl<B: Shape, E: Events<B>, R: Run<B>> Book<B, E, R> {
             Event::Ask(_, call) => self.ask(session, call),
             _ => self.go_on(session),
         }
+    }
+
+    /// Whether a session's replies in the record are exactly these, in this order. Takes no memory.
+    pub fn agrees(&self, session: u8, replies: &[Reply<B>]) -> bool
+        ensures { MatchBool result (replies_of session self.now.1 ≡ replies.now) (replies_of session self.now.1 ≡ replies.now → ⊥) }
+    {
+        agree(self.calls.as_slice(), session, replies)
     }
 }

@@ -4,6 +4,7 @@
 //! machine that the engine was at first, is the engine. `Session` counts its own finished calls by its part of a ledger.
 #![tactic(auto)]
 
+mod agree;
 mod book;
 mod handed;
 mod record;
