@@ -1,0 +1,1 @@
+//! Laws of pages with their log. Each function is its contract alone.
