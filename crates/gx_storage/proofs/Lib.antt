@@ -1,3 +1,4 @@
 pub mod Moving
 pub mod Recording
 pub mod Shown
+pub mod Writing

@@ -40,8 +40,8 @@ abbrev pub image_at : {D : Type 0} → List ℕ → Shelf D → ℕ → List ℕ
 image_at seen s page = image_of (standing s.frames seen page)
 
 -- a transaction's write of an entry on a leaf, which stands so now
-abbrev pub write_of : {B D : Type 0} → (B → List ℕ) → ℕ → Entry B → Bool → Bool → ℕ → List ℕ → Shelf D → Rec
-write_of spelling transaction entry before after leaf seen s = Write transaction entry.row (spelling entry.key) before after leaf (image_at seen s leaf)
+abbrev pub write_of : {B D : Type 0} → (B → List ℕ) → ℕ → ℕ → B → Bool → Bool → ℕ → List ℕ → Shelf D → Rec
+write_of spelling transaction row key before after leaf seen s = Write transaction row (spelling key) before after leaf (image_at seen s leaf)
 
 module _ {B : Type 0} (known : Limits → Known (Entry B) (Page B)) (r : Reading (Entry B) (Page B)) where
   -- A record is the log's last: the log is longer by just this, and stays up with it on each device that it was up on.

@@ -2,6 +2,7 @@
 //! changed.
 #![tactic(auto)]
 
+mod changes;
 pub mod laws;
 mod storage;
 
