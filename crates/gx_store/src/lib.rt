@@ -3,6 +3,7 @@
 #![tactic(auto)]
 
 mod fault;
+mod held;
 pub mod laws;
 mod pages;
 mod pages_mut;

@@ -1,0 +1,4 @@
+pub mod Moving
+pub mod Recording
+pub mod Shown
+pub mod Writing

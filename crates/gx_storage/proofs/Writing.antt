@@ -1,0 +1,179 @@
+-- A step of the tree with the record of its write.
+use Rattle.std.proofs.Common.{◌≡◌, ◌≢◌, ◌∙◌, sym, ap, refl, subst, inl, inr, ℕ, suc, ◌+◌, ◌^◌, ◌<◌, ◌≤◌, Bool, true, false, ◌&&◌, ◌==◌, List, length, Option, Some, IfSome, Result, Ok, Err, OnErr, arith}
+use Rattle.std.specs.Prelude.{nat_le, nat_lt}
+use Rattle.std.proofs.lemmas.Bool.{and_parts, eq-eqb, leb-true, ltb-true}
+use Rattle.gx_machine.specs.declared.entry.Entry.{Entry}
+use Rattle.gx_disk.specs.Device.{Device}
+use Rattle.gx_page.specs.Contents.{Contents}
+use Rattle.gx_page.specs.Format.{image_of, IsWellFormed}
+use Rattle.gx_page.specs.Reading.{IsImage, read_of}
+use Rattle.gx_pool.specs.Laws.{IsPassed}
+use Rattle.gx_pool.specs.State.{kept}
+use Rattle.gx_record.specs.Rec.{Rec, Write}
+use Rattle.gx_record.specs.Format.{HasKey, IsInRange, spelling}
+use Rattle.gx_tree_laws.specs.Trees.{Tree}
+use Rattle.gx_node.specs.Reading.{Format}
+use Rattle.gx_tree.specs.Store.{Store, tree_of}
+use Rattle.gx_recovery.specs.Known.{Known, Limits}
+use Rattle.gx_recovery.proofs.Tests.{clash}
+use Rattle.gx_index_laws.specs.Classes.{Page}
+use Rattle.gx_glog.specs.State.{Log, turning}
+use Rattle.gx_glog.specs.Appending.{Appends}
+use Rattle.gx_glog.specs.declared.filling.Appended.{Appended}
+use Rattle.gx_glog.specs.declared.filling.Appended.TheVariants.{At, NoRoom}
+use Rattle.gx_glog.specs.declared.stage.Turn.TheVariants.{Closed}
+use Rattle.gx_durable.specs.Calls.{AppendStaysUp, AppendStaysStamped}
+use Rattle.gx_durable.specs.Spelled.{Reading, record_read}
+use Rattle.gx_readings.specs.Classes.{reading_of}
+use Rattle.gx_store.specs.Since.{GoesOn, IsAsItWas, IsSince}
+use Rattle.gx_store.specs.Standing.{standing, standing_node, store_of}
+use Rattle.gx_store.specs.State.{Shelf, IsHeld, IsSteady}
+use Rattle.gx_store.proofs.Changing.{there}
+use Rattle.gx_store.proofs.Going.{begins}
+use Rattle.gx_store.proofs.Listed.{nodes_long}
+use Rattle.gx_store.proofs.Shown.{lent, stands_kept}
+use Rattle.gx_storage.specs.Changes.{IsLast, IsLogged, IsUnlogged, begun, has_room}
+use Rattle.gx_storage.specs.Keeps.{KeepsWith, Logs, StaysWith}
+use Rattle.gx_storage.specs.State.{Volume}
+use Rattle.gx_storage.proofs.Moving.{stays_same}
+use Rattle.gx_storage.proofs.Recording.{write_stays_with}
+
+pub on_err : {A E : Type 0} (result : Result A E) (P : Type 0) → P → OnErr result P
+on_err (Ok done) P is = tt
+on_err (Err why) P is = is
+
+-- ---- the record
+
+-- a record that fits is appended, while no turn is under way
+appended_at : (bytes : List ℕ) (old new : Log) (result : Appended) → Appends bytes old new result → old.turn ≡ Closed → length old.filling + length bytes ≤ 32764 → result ≡ At old.used
+appended_at bytes old new (At place) is still room = ap (λ n. At n) is.1
+appended_at bytes old new NoRoom is still room = absurd (elim is.0 [
+  | inl more ↦ omega (arith, more, room)
+  | inr turns ↦ (let rests : turning old.turn ≡ 0 = ap turning still in omega (arith, rests, turns))
+])
+
+module _ {B : Type 0} (known : Limits → Known (Entry B) (Page B)) (r : Reading (Entry B) (Page B)) where
+  last_at : (x : Rec) (old new : Log) → Appends (spelling x) old new (At old.used) → old.turn ≡ Closed → old.used < 32 → HasKey r.key x
+      → ((l : Limits) → AppendStaysUp (known l) r x old new (At old.used)) → AppendStaysStamped r x old new (At old.used) → IsLast known r x old new
+  last_at x old new is still place key up stamped = record { logs = record { place = place; still = still; fits = is.0; log = is.2 }; key = key; up = up; stamped = stamped }
+
+  -- a record that was appended is the log's last
+  pub is_last : (x y : Rec) (old new : Log) (result : Appended) → x ≡ y → Appends (spelling x) old new result → old.turn ≡ Closed → old.used < 32 → length old.filling + length (spelling x) ≤ 32764
+      → HasKey r.key x → ((l : Limits) → AppendStaysUp (known l) r x old new result) → AppendStaysStamped r x old new result → IsLast known r y old new
+  is_last x y old new result same appends still place room key up stamped =
+      let at = appended_at (spelling x) old new result appends still room in
+      subst {A = Rec} (λ z. IsLast known r z old new) same
+      (last_at x old new (subst {A = Appended} (λ a. Appends (spelling x) old new a) at appends) still place key
+      (λ l. subst {A = Appended} (λ a. AppendStaysUp (known l) r x old new a) at (up l)) (subst {A = Appended} (λ a. AppendStaysStamped r x old new a) at stamped))
+
+-- ---- a page that is held
+
+-- what is lent of it is what stands there
+pub held_stands : {D : Type 0} (s : Shelf D) (seen : List ℕ) (page : ℕ) (c : Contents) → IsHeld s page → IfSome (kept s.frames page) (λ k. c ≡ k.page) → c ≡ standing s.frames seen page
+held_stands s seen page c held is = let one = lent s.frames page c held.kept is in one.same ∙ sym (stands_kept s.frames seen page one.k held.stays one.is)
+
+-- and has its number
+pub held_number : {D : Type 0} (passes : Contents → Bool) (s : Shelf D) (page : ℕ) (c : Contents) → IsPassed passes s.frames → IsHeld s page → IfSome (kept s.frames page) (λ k. c ≡ k.page) → c.number ≡ page
+held_number passes s page c passed held is = let one = lent s.frames page c held.kept is in ap (λ (p : Contents). p.number) one.same ∙ (passed page one.k one.is).0
+
+-- a write of it is in range
+pub write_in_range : (tx row : ℕ) (key : List ℕ) (before after : Bool) (leaf : ℕ) (image : List ℕ) (c : Contents) → tx < 2 ^ 64 → row < 2 ^ 64 → leaf < 2 ^ 32 → IsImage image → read_of image ≡ c
+    → c.number ≡ leaf → IsInRange (Write tx row key before after leaf image)
+write_in_range tx row key before after leaf image c tx_fits row_fits leaf_fits is reads number =
+    (tx_fits, row_fits, record { fits = leaf_fits; image = record { image = is; number = ap (λ (p : Contents). p.number) reads ∙ number } })
+
+-- ---- the room
+
+pub has_room_for : (log : Log) (size : ℕ) → has_room log size ≡ true → (log.used < 32) × (length log.filling + size ≤ 32764)
+has_room_for log size is =
+    let both = and_parts (nat_lt log.used 32) (nat_le (length log.filling + size) 32764) is in
+    (ltb-true log.used 32 both.0, leb-true (length log.filling + size) 32764 both.1)
+
+pub begun_is : {D : Type 0} (v : Volume D) (u : Shelf D) (size said used : ℕ) (room : Bool) → u ≡ record v.shelf { batch = used; has_room = room } → used ≡ v.log.used → room ≡ has_room v.log said
+    → said ≡ size → u ≡ begun v size
+begun_is {D} v u size said used room is place has same =
+    is ∙ ap (λ n. (let x : Shelf D = record v.shelf { batch = n; has_room = room } in x)) place
+    ∙ ap (λ b. (let x : Shelf D = record v.shelf { batch = v.log.used; has_room = b } in x)) (has ∙ ap (λ n. has_room v.log n) same)
+
+-- ---- what a step leaves
+
+module _ {D : Type 0} (passes : ℕ → Contents → Bool) (state : D → Device) (v : Volume D) (size : ℕ) (t : Shelf D) where
+  -- a store has gone on since its event began, with each page as it was but one
+  pub record Stepped (page : ℕ) : Type 0 where
+    pub goes_on : GoesOn passes (state v.shelf.disk) (state t.disk) (begun v size) t
+    pub others : (q : ℕ) → (page == q) ≡ false → IsAsItWas (state v.shelf.disk) (state t.disk) v.shelf.frames t.frames q
+
+  since_begun : (u : Shelf D) (q : ℕ) → u ≡ begun v size → ((was : Shelf D) → IsSince passes (state was.disk) (state u.disk) was u q → IsSince passes (state was.disk) (state t.disk) was t q)
+      → IsSince passes (state v.shelf.disk) (state t.disk) (begun v size) t q
+  since_begun u q is keeps =
+      let I : Shelf D → Type 0 = λ x. ((was : Shelf D) → IsSince passes (state was.disk) (state x.disk) was x q → IsSince passes (state was.disk) (state t.disk) was t q) in
+      (subst I is keeps) (begun v size) (begins passes (state v.shelf.disk) (begun v size) q)
+
+  apart : (page q : ℕ) → (page == q) ≡ false → q ≢ page
+  apart page q other = λ same. clash (page == q) (eq-eqb page q (sym same)) other
+
+  pub stepped : (u : Shelf D) (page : ℕ) → u ≡ begun v size
+      → ((was : Shelf D) (q : ℕ) → q ≢ page → IsSince passes (state was.disk) (state u.disk) was u q → IsSince passes (state was.disk) (state t.disk) was t q) → Stepped page
+  stepped u page is keeps = record {
+    goes_on = (since_begun u (suc page) is (λ was. keeps was (suc page) (omega arith))).goes_on;
+    others = λ q other. (since_begun u q is (λ was. keeps was q (apart page q other))).same;
+  }
+
+  -- each page is as it was
+  pub unstepped : (u : Shelf D) → u ≡ begun v size → ((was : Shelf D) (q : ℕ) → IsSince passes (state was.disk) (state u.disk) was u q → IsSince passes (state was.disk) (state t.disk) was t q)
+      → (q : ℕ) → IsSince passes (state v.shelf.disk) (state t.disk) (begun v size) t q
+  unstepped u is keeps q = since_begun u q is (λ was. keeps was q)
+
+  pub steady_begun : (u : Shelf D) → u ≡ begun v size → IsSteady (state v.shelf.disk) v.shelf.frames → IsSteady (state u.disk) u.frames
+  steady_begun u is steady = subst {A = Shelf D} (λ x. IsSteady (state x.disk) x.frames) (sym is) steady
+
+  -- the event's record has room, where the store says so
+  pub has_room_then : has_room v.log size ≡ t.has_room → t.has_room ≡ true → (v.log.used < 32) × (length v.log.filling + size ≤ 32764)
+  has_room_then same is = has_room_for v.log size (same ∙ is)
+
+-- a store has as many pages as its tree
+pub tree_used : {B D : Type 0} (f : Format B) (one other : List ℕ) (s t : Shelf D) → (tree_of (store_of f one t)).used ≡ (tree_of (store_of f other s)).used → t.used ≡ s.used
+tree_used f one other s t same = sym (nodes_long (standing_node f t.frames one) t.used) ∙ same ∙ nodes_long (standing_node f s.frames other) s.used
+
+-- ---- with its record
+
+module _ {B D : Type 0} (known : Limits → Known (Entry B) (Page B)) (said : List ℕ → B) (f : Format B) (passes : ℕ → Contents → Bool) (state : D → Device) (v : Volume D) (size : ℕ) (t : Shelf D) where
+  pub unlogged : ((q : ℕ) → IsSince passes (state v.shelf.disk) (state t.disk) (begun v size) t q)
+      → (IsSteady (state v.shelf.disk) v.shelf.frames → store_of f (state t.disk).seen t ≡ store_of f (state v.shelf.disk).seen v.shelf)
+      → IsUnlogged known (reading_of said f) f passes (begun v size) (state v.shelf.disk) (state t.disk) v (record { log = v.log; shelf = t; most = v.most })
+  unlogged since stays = record {
+    log = refl;
+    keeps = λ l bodies s lawful keeps.
+        (let one = stays keeps.steady in
+        stays_same (known l) (reading_of said f) f passes (state v.shelf.disk) (state t.disk) v v.log.used (has_room v.log size) t bodies s lawful keeps (since 0).goes_on v.most (λ q. (since q).same)
+        (tree_used f (state t.disk).seen (state v.shelf.disk).seen v.shelf t (ap (λ (x : Store B). length x.nodes) one)) (ap (λ (x : Store B). x.counter) one));
+    since = since;
+    most = refl;
+  }
+
+  module _ (tx row : ℕ) (key : List ℕ) (before after : Bool) (page : ℕ) (log : Log) (did : Stepped passes state v size t page) (held : IsHeld t page) (fits : t.used ≤ t.pages)
+      (numbers : IsSteady (state v.shelf.disk) v.shelf.frames → (t.used ≡ v.shelf.used) × (t.counter ≡ v.shelf.counter)) where
+    keeps_write : (c : Contents) → c ≡ standing t.frames (state t.disk).seen page → IsLast known (reading_of said f) (Write tx row key before after page (image_of c)) v.log log → IsWellFormed c → (l : Limits)
+        → KeepsWith (known l) (reading_of said f) f passes (state v.shelf.disk) (state t.disk) v (record { log = log; shelf = t; most = v.most }) (Write tx row key before after page (image_of c))
+    keeps_write c is last well l bodies s lawful keeps =
+        let one = there (kept t.frames page) held.kept in
+        let same : one.0.page ≡ c = sym (is ∙ stands_kept t.frames (state t.disk).seen page one.0 held.stays one.1) in
+        let now = numbers keeps.steady in
+        let P : Contents → Type 0 = λ x. IsLast known (reading_of said f) (Write tx row key before after page (image_of x)) v.log log in
+        let last_now = subst P (sym same) last in
+        subst {A = Contents} (λ x. StaysWith (known l) (reading_of said f) f passes (state v.shelf.disk) (state t.disk) (record { log = log; shelf = t; most = v.most }) bodies s
+        (record_read (reading_of said f) (Write tx row key before after page (image_of x)))) same
+        (write_stays_with (known l) said f passes (state v.shelf.disk) (state t.disk) v v.log.used (has_room v.log size) t bodies s lawful keeps did.goes_on (omega arith) fits
+        tx row key before after page one.0 log v.most one.1 (subst {A = Contents} IsWellFormed (sym same) well) held.from held.to (last_now.up l) last_now.stamped last_now.key did.others now.0 now.1)
+
+    pub logged_write : IsLast known (reading_of said f) (Write tx row key before after page (image_of (standing t.frames (state t.disk).seen page))) v.log log
+        → IsWellFormed (standing t.frames (state t.disk).seen page)
+        → IsLogged known (reading_of said f) f passes size (state v.shelf.disk) (state t.disk) v (record { log = log; shelf = t; most = v.most })
+        (Write tx row key before after page (image_of (standing t.frames (state t.disk).seen page)))
+    logged_write last well = record {
+      logs = last.logs;
+      keeps = λ l. keeps_write (standing t.frames (state t.disk).seen page) refl last well l;
+      goes_on = did.goes_on;
+      others = λ q other. did.others q other;
+      most = refl;
+    }

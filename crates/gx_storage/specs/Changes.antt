@@ -1,0 +1,74 @@
+-- A change of pages with its record, as a volume's calls leave it.
+use Rattle.std.specs.Prelude.{◌≡◌, ℕ, ◌+◌, Bool, false, List, length, nat_le, nat_lt, ◌&&◌}
+use Rattle.gx_machine.specs.declared.entry.Entry.{Entry}
+use Rattle.gx_machine.specs.Keys.{Members}
+use Rattle.gx_disk.specs.Device.{Device}
+use Rattle.gx_page.specs.Contents.{Contents}
+use Rattle.gx_page.specs.Format.{image_of}
+use Rattle.gx_record.specs.Rec.{Rec, Write}
+use Rattle.gx_record.specs.Format.{HasKey}
+use Rattle.gx_node.specs.Reading.{Format}
+use Rattle.gx_recovery.specs.Known.{Known, Limits}
+use Rattle.gx_recovery.specs.Records.{gives}
+use Rattle.gx_index_laws.specs.Classes.{Page, known_of}
+use Rattle.gx_glog.specs.State.{Log}
+use Rattle.gx_glog.specs.declared.filling.Appended.TheVariants.{At}
+use Rattle.gx_durable.specs.Calls.{AppendStaysUp, AppendStaysStamped}
+use Rattle.gx_durable.specs.Spelled.{Reading, record_read}
+use Rattle.gx_readings.specs.Classes.{class_of}
+use Rattle.gx_store.specs.Since.{GoesOn, IsAsItWas, IsSince}
+use Rattle.gx_store.specs.Standing.{standing}
+use Rattle.gx_store.specs.State.{Shelf}
+use Rattle.gx_storage.specs.Keeps.{KeepsTheSame, KeepsWith, Logs}
+use Rattle.gx_storage.specs.State.{Volume}
+
+-- what a log is told of a class, within an index's limits
+abbrev pub known_at : {B : Type 0} → Members B → (B → Bool) → Limits → Known (Entry B) (Page B)
+known_at shape is_key limits = known_of (class_of shape is_key limits)
+
+-- whether a log has room for a record of so many bytes, while no turn is under way: a place is left for its batch, and the record
+-- fits the batch that fills
+abbrev pub has_room : Log → ℕ → Bool
+has_room log size = nat_lt log.used 32 && nat_le (length log.filling + size) 32764
+
+-- the pages of a volume as an event begins whose record has so many bytes
+abbrev pub begun : {D : Type 0} → Volume D → ℕ → Shelf D
+begun v size = record v.shelf { batch = v.log.used; has_room = has_room v.log size }
+
+-- a page's image, as it stands
+abbrev pub image_at : {D : Type 0} → List ℕ → Shelf D → ℕ → List ℕ
+image_at seen s page = image_of (standing s.frames seen page)
+
+-- a transaction's write of an entry on a leaf, which stands so now
+abbrev pub write_of : {B D : Type 0} → (B → List ℕ) → ℕ → ℕ → B → Bool → Bool → ℕ → List ℕ → Shelf D → Rec
+write_of spelling transaction row key before after leaf seen s = Write transaction row (spelling key) before after leaf (image_at seen s leaf)
+
+module _ {B : Type 0} (known : Limits → Known (Entry B) (Page B)) (r : Reading (Entry B) (Page B)) where
+  -- A record is the log's last: the log is longer by just this, and stays up with it on each device that it was up on.
+  pub record IsLast (x : Rec) (old new : Log) : Type 0 where
+    pub logs : Logs x old new
+    pub key : HasKey r.key x
+    pub up : (l : Limits) → AppendStaysUp (known l) r x old new (At old.used)
+    pub stamped : AppendStaysStamped r x old new (At old.used)
+
+  module _ (f : Format B) (passes : ℕ → Contents → Bool) where
+    -- A change that is logged by a record of so many bytes: the log is longer by just that record. Each page but those that it gives is
+    -- as it was; and the volume keeps the state with it.
+    pub record IsLogged {D : Type 0} (size : ℕ) (d e : Device) (v w : Volume D) (x : Rec) : Type 0 where
+      pub logs : Logs x v.log w.log
+      pub keeps : (l : Limits) → KeepsWith (known l) r f passes d e v w x
+      pub goes_on : GoesOn passes d e (begun v size) w.shelf
+      pub others : (q : ℕ) → gives q (record_read r x) ≡ false → IsAsItWas d e v.shelf.frames w.shelf.frames q
+      pub most : w.most ≡ v.most
+
+    -- Nothing is logged: each page is as it was, and the volume keeps the same state.
+    pub record IsUnlogged {D : Type 0} (old : Shelf D) (d e : Device) (v w : Volume D) : Type 0 where
+      pub log : w.log ≡ v.log
+      pub keeps : (l : Limits) → KeepsTheSame (known l) r f passes d e v w
+      pub since : (q : ℕ) → IsSince passes d e old w.shelf q
+      pub most : w.most ≡ v.most
+
+-- Where a store has only gone on, with each page as it was and as many taken and counted, its volume keeps the same state.
+abbrev pub ReadsKeep : {B D : Type 0} → Known (Entry B) (Page B) → Reading (Entry B) (Page B) → Format B → (ℕ → Contents → Bool) → Device → Device → Volume D → Shelf D → Type 0
+ReadsKeep k r f passes d e v t = ((q : ℕ) → IsSince passes d e v.shelf t q) → t.used ≡ v.shelf.used → t.counter ≡ v.shelf.counter
+    → KeepsTheSame k r f passes d e v (record v { shelf = t })

@@ -1,0 +1,4 @@
+pub mod Changes
+pub mod Formed
+pub mod Keeps
+pub mod State

@@ -1,0 +1,6 @@
+//! Changes of a tree's pages, each with the record that gives it: a call makes one step of the tree and appends its record, or
+//! nothing has changed.
+
+mod add;
+mod room;
+mod written;

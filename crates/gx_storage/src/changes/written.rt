@@ -1,0 +1,58 @@
+//! The record of a write.
+ghost use Rattle.std.specs.Prelude.{◌≡◌, ◌≤◌, ◌<◌, ◌+◌, length};
+ghost use Rattle.gx_glog.specs.declared.stage.Turn.TheVariants.{Closed};
+ghost use Rattle.gx_node.specs.Reading.{format_of};
+ghost use Rattle.gx_page.specs.Format.{IsWellFormed};
+ghost use Rattle.gx_record.specs.Seen.{is_marked};
+ghost use Rattle.gx_readings.specs.Classes.{reading_of};
+ghost use Rattle.gx_store.specs.Standing.{standing};
+ghost use Rattle.gx_store.specs.State.{IsHeld};
+ghost use Rattle.gx_storage.specs.Changes.{IsLast, known_at, write_of};
+
+use gx_disk::SectorDisk;
+use gx_durable::calls::append;
+use gx_glog::Glog;
+use gx_readings::{OfClass, ReadKeys};
+use gx_record::{Mark, Record};
+use gx_store::PageStore;
+
+/// Appends the record of a write: the transaction changed the entry's mark, or added it, on a leaf, of which the record has the
+/// image as it is held. The key's bytes are written over `spelled`.
+pub(crate) fn write_record<D: SectorDisk, K: ReadKeys>(
+    log: &mut Glog,
+    store: &PageStore<D, K>,
+    spelled: &mut [u8],
+    transaction: u64,
+    row: u64,
+    key: K::Key,
+    before: Mark,
+    after: Mark,
+    leaf: u32,
+)
+    requires place { log.old.used < 32 }
+    requires still { log.old.turn ≡ Closed }
+    requires room { length log.old.filling + (K.KEY + 4119) ≤ 32764 }
+    requires held { IsHeld store.now leaf }
+    requires spelled { length spelled.old ≡ K.KEY }
+    ensures last { IsLast (known_at K.Key.Shape K.is_proper) (reading_of K.said (format_of K.KeyClass))
+        (write_of K.spelling transaction row key (is_marked before) (is_marked after) leaf (D.state store.now.disk).seen store.now) log.old log.new }
+    ensures formed { IsWellFormed (standing store.now.frames (D.state store.now.disk).seen leaf) }
+    ensures spelled { length spelled.new ≡ K.KEY }
+{
+    K::known(&key);
+    store.in_order();
+    K::encode(key, spelled);
+    let page = store.held_page(leaf);
+    append::<OfClass<K>>(
+        log,
+        &Record::Write {
+            tx: transaction,
+            row,
+            key: spelled,
+            before,
+            after,
+            leaf,
+            image: page.image(),
+        },
+    );
+}

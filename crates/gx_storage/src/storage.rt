@@ -1,0 +1,62 @@
+//! The pages with their log.
+ghost use Rattle.std.specs.Prelude.{◌≡◌, ◌≤◌, length};
+ghost use Rattle.gx_node.specs.declared.items.TheConstants.{MAX_ENTRIES};
+
+use gx_disk::SectorDisk;
+use gx_glog::Glog;
+use gx_node::MAX_ENTRIES;
+use gx_readings::ReadKeys;
+use gx_store::PageStore;
+use std::marker::Model;
+
+/// A tree's pages in frames over a device, with their log.
+#[derive(Drop)]
+pub struct Storage<D: SectorDisk, K: ReadKeys> {
+    pub(crate) log: Glog,
+    pub(crate) store: PageStore<D, K>,
+    pub(crate) most: usize,
+    // a key's bytes, as a record lends them
+    pub(crate) key: Vec<u8>,
+}
+
+impl<D: SectorDisk, K: ReadKeys> Model for Storage<D, K> {
+    ghost use Rattle.std.specs.Prelude.{◌≡◌, ◌≤◌, length};
+    ghost use Rattle.gx_node.specs.declared.items.TheConstants.{MAX_ENTRIES};
+    ghost use Rattle.gx_storage.specs.State.{Volume};
+
+    ghost Value = { Volume D };
+
+    ghost view = { λ m. record { log = m.log; shelf = m.store; most = m.most } };
+
+    ghost invariant = { λ m. (length m.key.items ≡ K.KEY) × (m.most ≤ MAX_ENTRIES) };
+}
+
+impl<D: SectorDisk, K: ReadKeys> Storage<D, K> {
+    /// A log, the pages of a tree whose nodes have at most `most` entries, and a buffer of a key's size, from which records lend
+    /// keys.
+    pub fn new(log: Glog, store: PageStore<D, K>, most: usize, key: Vec<u8>) -> Storage<D, K>
+        requires most { most ≤ MAX_ENTRIES }
+        requires key { length key.items ≡ K.KEY }
+        ensures { result ≡ record { log = log; shelf = store; most = most } }
+    {
+        Storage {
+            log,
+            store,
+            most,
+            key,
+        }
+    }
+
+    /// The device, as the calls left it. What frames and buffers have that isn't written is lost.
+    pub fn into_disk(self) -> D
+        ensures { result ≡ self.shelf.disk }
+    {
+        let Storage {
+            log: _,
+            store,
+            most: _,
+            key: _,
+        } = self;
+        store.into_disk()
+    }
+}
