@@ -2,6 +2,7 @@
 //! record.
 #![tactic(auto)]
 
+mod calls;
 mod fault;
 pub mod laws;
 mod pages;
