@@ -2,7 +2,10 @@
 //! changed.
 #![tactic(auto)]
 
+mod checkpoint;
+mod flusher;
 pub mod laws;
 mod storage;
 
+pub use flusher::Help;
 pub use storage::Storage;

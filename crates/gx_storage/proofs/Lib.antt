@@ -1,0 +1,4 @@
+pub mod Calling
+pub mod Helping
+pub mod Recording
+pub mod Turning
