@@ -1,5 +1,5 @@
 -- What stands for a kept set is legal for the log that it has.
-use Rattle.std.proofs.Common.{◌≡◌, ◌∙◌, sym, ap, ℕ, ◌≤◌, Bool, true, ◌&&◌, List, [], ◌∷◌, arith}
+use Rattle.std.proofs.Common.{◌≡◌, ◌∙◌, sym, ap, ℕ, ◌≤◌, Bool, ◌&&◌, List, [], ◌∷◌, arith}
 use Rattle.std.specs.Prelude.{if◌then◌else◌, nat_le, nat_lt, length, unwrap_or}
 use Rattle.std.specs.List.{list_all}
 use Rattle.std.proofs.lemmas.Bool.{lt-ltb, le-leb, leb-true}
@@ -7,7 +7,7 @@ use Rattle.gx_pool.specs.Area.{bytes_of}
 use Rattle.gx_recovery.specs.Known.{Known, Tree, IsLawful}
 use Rattle.gx_recovery.specs.Records.{Record, Touch, any_number}
 use Rattle.gx_recovery.specs.Analysis.{analysis}
-use Rattle.gx_recovery.specs.Redo.{redone, tree_of}
+use Rattle.gx_recovery.specs.Redo.{tree_of}
 use Rattle.gx_recovery.specs.Given.{given}
 use Rattle.gx_recovery.specs.Standing.{first_before, by_mark, counting}
 use Rattle.gx_recovery.specs.Damage.{touch_fits, apart, transactions, records_of, IsLog}

@@ -1,3 +1,4 @@
+pub mod Apart
 pub mod Appending
 pub mod Areas
 pub mod Beginning

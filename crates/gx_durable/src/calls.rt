@@ -4,7 +4,9 @@ ghost use Rattle.gx_disk.specs.Device.{Counts, IsSettled};
 ghost use Rattle.gx_record.specs.Format.{IsInRange, spelling};
 ghost use Rattle.gx_record.specs.Seen.{rec_of};
 ghost use Rattle.gx_glog.specs.Appending.{Appends};
+ghost use Rattle.gx_glog.specs.Standing.{On};
 ghost use Rattle.gx_glog.specs.State.{calls_of, Goes};
+ghost use Rattle.gx_pool.specs.Elsewhere.{LeavesPages};
 ghost use Rattle.gx_recovery.specs.Known.{Limits};
 ghost use Rattle.gx_durable.specs.Steps.{told, told_frames};
 ghost use Rattle.gx_durable.specs.PoolLaws.{StaysUp};
@@ -44,8 +46,8 @@ fn tell<T: PageTest>(pool: &mut Pool<T>, stage: Stage, used: u8)
 /// where nothing is logged and none was made. Refused where the device call fails (`Device`); it is then still due.
 ///
 /// Of an honest device: the batch that filled is in flight from its first call on, and its commits are durable from its gate's
-/// sync on, and not before. Whether it succeeds or not, no set changes, and at each moment what a crash may leave stands for a
-/// kept set of the state before.
+/// sync on, and not before. Whether it succeeds or not, each page is left as the device has it, no set changes, and at each moment
+/// what a crash may leave stands for a kept set of the state before.
 pub fn log_step<M: Spelled, T: PageTest, D: SectorDisk>(
     log: &mut Glog,
     pool: &mut Pool<T>,
@@ -56,6 +58,7 @@ pub fn log_step<M: Spelled, T: PageTest, D: SectorDisk>(
     ensures goes { Goes log.old log.new result }
     ensures told { pool.new.frames ≡ told_frames result log.new pool.old.frames }
     ensures test { pool.new.test ≡ pool.old.test }
+    ensures pages { (D.state disk.old).honest ≡ true → On log.old (D.state disk.old).seen (D.state disk.old).pending → LeavesPages (D.state disk.old) (D.state disk.new) }
     ensures runs { (d : Limits) → StepKeepsRunning (M.known d) M.reading log.old log.new pool.old.frames pool.new.frames (D.state disk.old) (D.state disk.new) result }
 {
     match log.log_step(disk) {
@@ -67,11 +70,12 @@ pub fn log_step<M: Spelled, T: PageTest, D: SectorDisk>(
     }
 }
 
-/// Settles all that was written. Whether it succeeds or not, the log stays up, and at each moment what a crash may leave stands
+/// Settles all that was written. Whether it succeeds or not, each page is left as the device has it, the log stays up, and at each moment what a crash may leave stands
 /// for a kept set. Refused where the device call fails (`Device`).
 pub fn sync<M: Spelled, D: SectorDisk>(disk: &mut D) -> Result<(), Refusal>
     ensures counts { Counts 1 (D.state disk.old) (D.state disk.new) result }
     ensures settled { (D.state disk.old).honest ≡ true → OnOk result (IsSettled (D.state disk.new)) }
+    ensures pages { (D.state disk.old).honest ≡ true → LeavesPages (D.state disk.old) (D.state disk.new) }
     ensures up { (d : Limits) → StaysUp (M.known d) M.reading (D.state disk.old) (D.state disk.new) }
     ensures refusal { IfErr result (λ refusal. refusal ≡ Refusal.Device) }
 {

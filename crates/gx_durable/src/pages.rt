@@ -1,11 +1,12 @@
 //! A page's write, with what it makes of the state that the device carries.
-ghost use Rattle.std.specs.Prelude.{◌≡◌, ◌+◌, true, false, Some, OnErr, Ok, Err};
+ghost use Rattle.std.specs.Prelude.{◌≡◌, ◌+◌, ℕ, Bool, true, false, Some, OnErr, Ok, Err};
 ghost use Rattle.gx_pool.specs.Area.{IsPage};
 ghost use Rattle.gx_pool.specs.Marks.{is_gated};
 ghost use Rattle.gx_pool.specs.State.{Kept, kept, stamp_of};
 ghost use Rattle.gx_pool.specs.Laws.{IsBacked, IsPassed};
 ghost use Rattle.gx_pool.specs.Writing.{WritesPage, WritesAtMost, KeepsShown};
 ghost use Rattle.gx_pool.specs.Bringing.{faults_of};
+ghost use Rattle.gx_pool.specs.Readable.{IsReadable};
 ghost use Rattle.gx_recovery.specs.Known.{Limits};
 ghost use Rattle.gx_durable.specs.Pages.{PageKeepsRunning};
 
@@ -30,6 +31,7 @@ pub fn write_page<M: Spelled, T: PageTest, D: SectorDisk>(
     ensures written { (k : Kept) → kept pool.old.frames page ≡ Some k → is_gated pool.old.frames.gated k.stamp ≡ true → WritesPage (D.state disk.old) (D.state disk.new) pool.old.frames pool.new.frames page k result }
     ensures at_most { WritesAtMost (D.state disk.old) (D.state disk.new) pool.old.frames pool.new.frames page }
     ensures shown { (D.state disk.old).honest ≡ true → IsBacked pool.old.frames (D.state disk.old).seen → KeepsShown (D.state disk.old) (D.state disk.new) pool.old.frames pool.new.frames }
+    ensures readable { (used : ℕ → Bool) → (D.state disk.old).honest ≡ true → IsReadable (T.passes pool.old.test) used pool.old.frames (D.state disk.old).seen → IsReadable (T.passes pool.old.test) used pool.new.frames (D.state disk.new).seen }
     ensures device { ((D.state disk.new).sectors ≡ (D.state disk.old).sectors) × ((D.state disk.new).honest ≡ (D.state disk.old).honest) }
     ensures passing { IsPassed (T.passes pool.old.test) pool.old.frames → IsPassed (T.passes pool.old.test) pool.new.frames }
     ensures faults { (D.state disk.new).faults ≡ (D.state disk.old).faults + faults_of result }

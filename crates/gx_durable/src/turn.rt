@@ -1,10 +1,12 @@
 //! The calls of a turn to the other extent, each with what it makes of the state that the device carries.
-ghost use Rattle.std.specs.Prelude.{◌≡◌, ◌≤◌, [], length, IfErr};
+ghost use Rattle.std.specs.Prelude.{◌≡◌, ◌≤◌, [], true, length, IfErr};
 ghost use Rattle.gx_disk.specs.Device.{Counts};
 ghost use Rattle.gx_record.specs.Format.{IsInRange, spelling};
 ghost use Rattle.gx_record.specs.Seen.{rec_of};
+ghost use Rattle.gx_glog.specs.Standing.{On};
 ghost use Rattle.gx_glog.specs.State.{Turns};
 ghost use Rattle.gx_glog.specs.Turning.{PutsFirst};
+ghost use Rattle.gx_pool.specs.Elsewhere.{LeavesPages};
 ghost use Rattle.gx_pool.specs.State.{NoneDirty};
 ghost use Rattle.gx_recovery.specs.Known.{Limits};
 ghost use Rattle.gx_durable.specs.Opening.{FirstTurnKeeps, HeadStaysFound};
@@ -48,8 +50,8 @@ fn tell_turned<T: PageTest>(pool: &mut Pool<T>, call: Turn)
 /// it was. Refused where the device call fails (`Device`); it is then still due.
 ///
 /// Of an honest device, where the head is the renewed log and each page is written and settled: the log stays up, with the same
-/// records until the last call, and with the head alone after it. Whether it succeeds or not, no set changes, and at each moment
-/// what a crash may leave stands for a kept set.
+/// records until the last call, and with the head alone after it. Whether it succeeds or not, each page is left as the device has
+/// it, no set changes, and at each moment what a crash may leave stands for a kept set.
 pub fn turn_step<M: Spelled, T: PageTest, D: SectorDisk>(
     log: &mut Glog,
     pool: &mut Pool<T>,
@@ -64,6 +66,7 @@ pub fn turn_step<M: Spelled, T: PageTest, D: SectorDisk>(
     ensures turns { Turns log.old log.new result }
     ensures told { pool.new.frames ≡ told_result result pool.old.frames }
     ensures test { pool.new.test ≡ pool.old.test }
+    ensures pages { (D.state disk.old).honest ≡ true → On log.old (D.state disk.old).seen (D.state disk.old).pending → LeavesPages (D.state disk.old) (D.state disk.new) }
     ensures found { (l : Limits) → FirstTurnKeeps (M.known l) M.reading log.old log.new (D.state disk.old) (D.state disk.new) result }
     ensures runs { (l : Limits) → TurnKeepsRunning (M.known l) M.reading log.old log.new pool.old.frames pool.new.frames (D.state disk.old) (D.state disk.new) result }
 {

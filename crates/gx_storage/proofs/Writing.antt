@@ -1,5 +1,5 @@
 -- A step of the tree with the record of its write.
-use Rattle.std.proofs.Common.{◌≡◌, ◌≢◌, ◌∙◌, sym, ap, refl, subst, inl, inr, ℕ, suc, ◌+◌, ◌^◌, ◌<◌, ◌≤◌, Bool, true, false, ◌&&◌, ◌==◌, List, length, Option, Some, IfSome, Result, Ok, Err, OnErr, arith}
+use Rattle.std.proofs.Common.{◌≡◌, ◌≢◌, ◌∙◌, sym, ap, refl, subst, inl, inr, ℕ, suc, ◌+◌, ◌^◌, ◌<◌, ◌≤◌, Bool, true, false, ◌==◌, List, length, IfSome, Result, Ok, Err, OnErr, arith}
 use Rattle.std.specs.Prelude.{nat_le, nat_lt}
 use Rattle.std.proofs.lemmas.Bool.{and_parts, eq-eqb, leb-true, ltb-true}
 use Rattle.gx_machine.specs.declared.entry.Entry.{Entry}
@@ -11,7 +11,6 @@ use Rattle.gx_pool.specs.Laws.{IsPassed}
 use Rattle.gx_pool.specs.State.{kept}
 use Rattle.gx_record.specs.Rec.{Rec, Write}
 use Rattle.gx_record.specs.Format.{HasKey, IsInRange, spelling}
-use Rattle.gx_tree_laws.specs.Trees.{Tree}
 use Rattle.gx_node.specs.Reading.{Format}
 use Rattle.gx_tree.specs.Store.{Store, tree_of}
 use Rattle.gx_recovery.specs.Known.{Known, Limits}
@@ -33,7 +32,7 @@ use Rattle.gx_store.proofs.Going.{begins}
 use Rattle.gx_store.proofs.Listed.{nodes_long}
 use Rattle.gx_store.proofs.Shown.{lent, stands_kept}
 use Rattle.gx_storage.specs.Changes.{IsLast, IsLogged, IsUnlogged, begun, has_room}
-use Rattle.gx_storage.specs.Keeps.{KeepsWith, Logs, StaysWith}
+use Rattle.gx_storage.specs.Keeps.{KeepsWith, StaysWith}
 use Rattle.gx_storage.specs.State.{Volume}
 use Rattle.gx_storage.proofs.Moving.{stays_same}
 use Rattle.gx_storage.proofs.Recording.{write_stays_with}

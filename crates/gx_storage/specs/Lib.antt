@@ -1,4 +1,5 @@
 pub mod Changes
+pub mod Flushing
 pub mod Formed
 pub mod Keeps
 pub mod State

@@ -3,7 +3,10 @@
 #![tactic(auto)]
 
 mod changes;
+mod checkpoint;
+mod flusher;
 pub mod laws;
 mod storage;
 
+pub use flusher::Help;
 pub use storage::Storage;

@@ -2,6 +2,7 @@
 //! record.
 #![tactic(auto)]
 
+mod calls;
 mod fault;
 mod held;
 pub mod laws;

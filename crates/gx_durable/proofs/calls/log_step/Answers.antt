@@ -1,4 +1,5 @@
 use Rattle.std.proofs.Common.{ap, refl}
+use Rattle.gx_durable.proofs.Apart.{batches_apart}
 use Rattle.gx_durable.proofs.Running.{step_runs}
 use Rattle.gx_durable.proofs.Stamping.{told_at}
 use Rattle.gx_durable.proofs.calls.log_step.Goals as goal
@@ -18,3 +19,9 @@ returns-in-Ok-clause-runs g c = λ l.
     (g.D.SectorDisk.state c.args.disk.now) (g.D.SectorDisk.state c.log_step.new.disk) _ _
     (told_at _ c.used.result c.log_step.new.self c.args.pool.now.frames _ c.tell.ensures.frames c.used.ensures.used)
     c.in-Ok.ensures.counts c.in-Ok.ensures.goes c.in-Ok.ensures.call (λ is. ap g.D.SectorDisk.state (c.in-Ok.ensures.idle is)) c.in-Ok.ensures.keeps
+
+pub returns-in-Err-clause-pages : goal.returns-in-Err-clause-pages
+returns-in-Err-clause-pages g c = λ honest on. batches_apart (g.D.SectorDisk.state c.args.disk.now) (g.D.SectorDisk.state c.log_step.new.disk) (c.in-Err.ensures.keeps honest on).touches
+
+pub returns-in-Ok-clause-pages : goal.returns-in-Ok-clause-pages
+returns-in-Ok-clause-pages g c = λ honest on. batches_apart (g.D.SectorDisk.state c.args.disk.now) (g.D.SectorDisk.state c.log_step.new.disk) (c.in-Ok.ensures.keeps honest on).touches

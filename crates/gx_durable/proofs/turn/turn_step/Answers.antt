@@ -1,4 +1,5 @@
 use Rattle.std.proofs.Common.{refl}
+use Rattle.gx_durable.proofs.Apart.{turn_apart}
 use Rattle.gx_durable.proofs.Opening.{first_turn}
 use Rattle.gx_durable.proofs.TurnRunning.{turn_runs, told_call}
 use Rattle.gx_durable.proofs.turn.turn_step.Goals as goal
@@ -25,3 +26,9 @@ pub returns-in-Ok-clause-found : goal.returns-in-Ok-clause-found
 returns-in-Ok-clause-found g c = λ l.
     first_turn (g.M.Meaning.known l) g.M.Spelled.reading c.args.log.now c.turn_step.new.self (g.D.SectorDisk.state c.args.disk.now) (g.D.SectorDisk.state c.turn_step.new.disk) _
     c.in-Ok.ensures.counts c.in-Ok.ensures.turns c.in-Ok.ensures.call c.in-Ok.ensures.may_turn
+
+pub returns-in-Err-clause-pages : goal.returns-in-Err-clause-pages
+returns-in-Err-clause-pages g c = λ honest on. turn_apart (g.D.SectorDisk.state c.args.disk.now) (g.D.SectorDisk.state c.turn_step.new.disk) _ (c.in-Err.ensures.keeps honest on).touches
+
+pub returns-in-Ok-clause-pages : goal.returns-in-Ok-clause-pages
+returns-in-Ok-clause-pages g c = λ honest on. turn_apart (g.D.SectorDisk.state c.args.disk.now) (g.D.SectorDisk.state c.turn_step.new.disk) _ (c.in-Ok.ensures.keeps honest on).touches

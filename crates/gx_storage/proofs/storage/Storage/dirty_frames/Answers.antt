@@ -1,0 +1,4 @@
+use Rattle.gx_storage.proofs.storage.Storage.dirty_frames.Goals as goal
+
+pub returns-clause-zero : goal.returns-clause-zero
+returns-clause-zero g c = rw (← c.self.view_is) c.dirty_frames.ensures.zero

@@ -1,0 +1,136 @@
+-- What calls of a log, and a page's write, leave of the pages in frames.
+use Rattle.std.proofs.Common.{◌≡◌, ◌∙◌, ◌⊎◌, sym, ap, refl, inl, inr, subst, ℕ, ◌+◌, ◌-◌, ◌*◌, ◌<◌, ◌≤◌, Bool, true, false, Option, None, Some, Result, Ok, Err, arith}
+use Rattle.std.specs.Prelude.{nat_lt}
+use Rattle.std.proofs.lemmas.Bool.{le-ltb, lt-ltb}
+use Rattle.gx_disk.specs.Device.{Device}
+use Rattle.gx_geom.specs.declared.refusal.Refusal.{Refusal}
+use Rattle.gx_glog.specs.declared.stage.Stage.{Stage}
+use Rattle.gx_glog.specs.declared.stage.Stage.TheVariants.{Body, BodySync, Gate, GateSync, Idle}
+use Rattle.gx_glog.specs.declared.stage.Turn.{Turn}
+use Rattle.gx_glog.specs.declared.stage.Turn.TheVariants as turn
+use Rattle.gx_glog.specs.State.{Log}
+use Rattle.gx_page.specs.Contents.{Contents}
+use Rattle.gx_pool.specs.Marks.{is_gated}
+use Rattle.gx_pool.specs.State.{State, Kept, IsSound, dirty_count, kept, kept_at, place_of, stamp_of}
+use Rattle.gx_pool.specs.Laws.{IsPassed}
+use Rattle.gx_pool.specs.Writing.{WritesPage, WritesAtMost, contents_of}
+use Rattle.gx_durable.specs.Steps.{told, told_frames}
+use Rattle.gx_durable.specs.Turns.{told_turn, told_result}
+use Rattle.gx_durable.proofs.Stamping.{told_kept}
+use Rattle.gx_store.specs.State.{IsInOrder}
+
+module _ (passes : Contents → Bool) (sectors used pages : ℕ) (frames : State) (is : IsInOrder passes sectors frames used pages) where
+  -- frames that are told how far the log is
+  gated_in_order : (n : ℕ) → IsInOrder passes sectors (record frames { gated = n }) used pages
+  gated_in_order n = record {
+    few = is.few;
+    inside = is.inside;
+    taken = is.taken;
+    passed = λ page k has. is.passed page k (sym (told_kept frames n page) ∙ has);
+    none_above = λ page above. told_kept frames n page ∙ is.none_above page above;
+  }
+
+  told_in_order : (stage : Stage) (places : ℕ) → IsInOrder passes sectors (told stage places frames) used pages
+  told_in_order GateSync places = gated_in_order (places - 1)
+  told_in_order Body places = is
+  told_in_order BodySync places = is
+  told_in_order Gate places = is
+  told_in_order Idle places = is
+
+  pub step_in_order : (result : Result Stage Refusal) (new : Log) → IsInOrder passes sectors (told_frames result new frames) used pages
+  step_in_order (Ok stage) new = told_in_order stage new.used
+  step_in_order (Err refusal) new = is
+
+  turned_in_order : (call : Turn) → IsInOrder passes sectors (told_turn call frames) used pages
+  turned_in_order turn.Done = gated_in_order 0
+  turned_in_order turn.Closed = is
+  turned_in_order turn.Body = is
+  turned_in_order turn.BodySync = is
+  turned_in_order turn.Gate = is
+  turned_in_order turn.GateSync = is
+  turned_in_order turn.Selector = is
+
+  pub turn_in_order : (result : Result Turn Refusal) → IsInOrder passes sectors (told_result result frames) used pages
+  turn_in_order (Ok call) = turned_in_order call
+  turn_in_order (Err refusal) = is
+
+-- a page's write, told by another answer that succeeds or fails as it does
+pub written_ok : {A F A' F' : Type 0} (d e : Device) (old new : State) (page : ℕ) (k : Kept) (x : A) (y : A') → WritesPage {A = A} {E = F} d e old new page k (Ok x) → WritesPage {A = A'} {E = F'} d e old new page k (Ok y)
+written_ok d e old new page k x y w = record {
+  counts = record { sectors = w.counts.sectors; honest = w.counts.honest; faults = w.counts.faults; calls = w.counts.calls };
+  image = w.image;
+  writes = λ honest. (let now = w.writes honest in record { touches = now.touches; written = now.written; torn = now.torn; pending = now.pending; time = now.time });
+  clean = w.clean;
+  fewer = w.fewer;
+  free = w.free;
+  stays_held = w.stays_held;
+  failed = w.failed;
+  others = w.others;
+  held = w.held;
+  gated = w.gated;
+  frames = w.frames;
+}
+
+pub written_err : {A F A' F' : Type 0} (d e : Device) (old new : State) (page : ℕ) (k : Kept) (x : F) (y : F') → WritesPage {A = A} {E = F} d e old new page k (Err x) → WritesPage {A = A'} {E = F'} d e old new page k (Err y)
+written_err d e old new page k x y w = record {
+  counts = record { sectors = w.counts.sectors; honest = w.counts.honest; faults = w.counts.faults; calls = w.counts.calls };
+  image = w.image;
+  writes = λ honest. (let now = w.writes honest in record { touches = now.touches; written = now.written; torn = now.torn; pending = now.pending; time = now.time });
+  clean = w.clean;
+  fewer = w.fewer;
+  free = w.free;
+  stays_held = w.stays_held;
+  failed = w.failed;
+  others = w.others;
+  held = w.held;
+  gated = w.gated;
+  frames = w.frames;
+}
+
+-- one frame fewer is dirty exactly where a page was written
+module _ {A F : Type 0} (d e : Device) (old new : State) (page : ℕ) (x : A) (idle : is_gated old.gated (stamp_of (kept old page)) ≡ false → new ≡ old)
+    (written : (k : Kept) → kept old page ≡ Some k → is_gated old.gated k.stamp ≡ true → WritesPage {A = A} {E = F} d e old new page k (Ok x)) where
+  by_kept : (o : Option Kept) → kept old page ≡ o → (b : Bool) → is_gated old.gated (stamp_of o) ≡ b → nat_lt (dirty_count new) (dirty_count old) ≡ is_gated old.gated (stamp_of (kept old page))
+  by_kept o is false none =
+      let here : is_gated old.gated (stamp_of (kept old page)) ≡ false = ap (λ (y : Option Kept). is_gated old.gated (stamp_of y)) is ∙ none in
+      ap (λ (s : State). nat_lt (dirty_count s) (dirty_count old)) (idle here) ∙ le-ltb (dirty_count old) (dirty_count old) (omega arith) ∙ sym here
+  by_kept None is true some = absurd cc
+  by_kept (Some k) is true some =
+      let fewer = (written k is some).fewer in
+      lt-ltb (dirty_count new) (dirty_count old) (omega (arith, fewer)) ∙ sym (ap (λ (y : Option Kept). is_gated old.gated (stamp_of y)) is ∙ some)
+
+  pub fewer_answers : nat_lt (dirty_count new) (dirty_count old) ≡ is_gated old.gated (stamp_of (kept old page))
+  fewer_answers = by_kept (kept old page) refl (is_gated old.gated (stamp_of (kept old page))) refl
+
+-- no page is kept that isn't taken
+there_none : (s : State) (o : Option ℕ) → o ≡ None → kept_at s o ≡ None
+there_none s o is = ap (kept_at s) is
+
+zero_none : (s : State) → IsSound s → kept s 0 ≡ None
+unfolding kept
+zero_none s sound = there_none s (place_of s 0) sound.zero
+
+pub none_there : (passes : Contents → Bool) (sectors used pages : ℕ) (frames : State) (page : ℕ) → IsSound frames → IsInOrder passes sectors frames used pages → (page ≡ 0) ⊎ (used < page) → kept frames page ≡ None
+none_there passes sectors used pages frames page sound order (inl none) = let K : ℕ → Type 0 = λ p. kept frames p ≡ None in subst K (sym none) (zero_none frames sound)
+none_there passes sectors used pages frames page sound order (inr above) = order.none_above page above
+
+pub none_gated : (frames : State) (page : ℕ) → kept frames page ≡ None → false ≡ is_gated frames.gated (stamp_of (kept frames page))
+none_gated frames page none = sym (ap (λ (o : Option Kept). is_gated frames.gated (stamp_of o)) none)
+
+-- nothing kept stays so where contents do
+none_still : (o p : Option Kept) → contents_of p ≡ contents_of o → o ≡ None → p ≡ None
+none_still None None same is = refl
+none_still None (Some k) same is = cc
+none_still (Some k) p same is = cc
+
+pub write_in_order : (passes : Contents → Bool) (sectors now used pages page : ℕ) (d e : Device) (old new : State) → now ≡ sectors → IsInOrder passes sectors old used pages → (IsPassed passes old → IsPassed passes new)
+    → WritesAtMost d e old new page → IsInOrder passes now new used pages
+write_in_order passes sectors now used pages page d e old new same order passing most =
+    let S : ℕ → Type 0 = λ n. 4168 + 8 * pages ≤ n in
+    record {
+      few = order.few;
+      inside = subst S (sym same) order.inside;
+      taken = order.taken;
+      passed = passing order.passed;
+      none_above = λ q above. none_still (kept old q) (kept new q) (most.contents q) (order.none_above q above);
+    }

@@ -1,0 +1,68 @@
+use Rattle.std.proofs.Common.{ℕ, ◌≡◌, ◌∙◌, ◌⊎◌, ◌<◌, Bool, Option, None, Some, false, true, inl, inr, sym, ap, subst}
+use Rattle.std.proofs.lemmas.Option.{none-some}
+use Rattle.gx_node.specs.Reading.{format_of, is_node}
+use Rattle.gx_pool.specs.Laws.{IsPassed}
+use Rattle.gx_pool.specs.Readable.{IsReadable}
+use Rattle.gx_pool.specs.State.{State, Kept, kept}
+use Rattle.gx_store.specs.Faults.{is_taken}
+use Rattle.gx_store.proofs.Calling.{none_gated, none_there, write_in_order}
+use Rattle.gx_store.proofs.store.PageStore.write_page.Goals as goal
+use Rattle.gx_store.proofs.store.PageStore.write_page.Goals.{then-page-eq0-via-then-page-eq0, then-page-eq0-via-else-page-eq0+then-page-self}
+
+pub returns-then-page-eq0-clause-answer : goal.returns-then-page-eq0-clause-answer
+returns-then-page-eq0-clause-answer g c =
+    let i = c.self.inside in
+    let out : (c.args.page ≡ 0) ⊎ (i.used < c.args.page) = elim c.then-page-eq0.branch [
+      | then-page-eq0-via-then-page-eq0 w ↦ inl w.if-page-eq0.true
+      | then-page-eq0-via-else-page-eq0+then-page-self w ↦ inr w.if-page-self.true
+    ] in
+    let none = none_there (is_node (format_of g.K.KeyClass) i.pages) (g.D.SectorDisk.state i.disk).sectors i.used i.pages i.pool.frames c.args.page c.dirty_frames.ensures.sound c.self.invariant.0 out in
+    rw (← c.self.view_is) (none_gated i.pool.frames c.args.page none)
+
+pub returns-then-page-eq0-clause-written : goal.returns-then-page-eq0-clause-written
+returns-then-page-eq0-clause-written g c =
+    let i = c.self.inside in
+    let out : (c.args.page ≡ 0) ⊎ (i.used < c.args.page) = elim c.then-page-eq0.branch [
+      | then-page-eq0-via-then-page-eq0 w ↦ inl w.if-page-eq0.true
+      | then-page-eq0-via-else-page-eq0+then-page-self w ↦ inr w.if-page-self.true
+    ] in
+    let none = none_there (is_node (format_of g.K.KeyClass) i.pages) (g.D.SectorDisk.state i.disk).sectors i.used i.pages i.pool.frames c.args.page c.dirty_frames.ensures.sound c.self.invariant.0 out in
+    rw (← c.self.view_is) (λ k is gated. absurd (none-some k (sym none ∙ is)))
+
+pub returns-then-page-eq0-clause-runs : goal.returns-then-page-eq0-clause-runs
+returns-then-page-eq0-clause-runs g c =
+    let i = c.self.inside in
+    let out : (c.args.page ≡ 0) ⊎ (i.used < c.args.page) = elim c.then-page-eq0.branch [
+      | then-page-eq0-via-then-page-eq0 w ↦ inl w.if-page-eq0.true
+      | then-page-eq0-via-else-page-eq0+then-page-self w ↦ inr w.if-page-self.true
+    ] in
+    let none = none_there (is_node (format_of g.K.KeyClass) i.pages) (g.D.SectorDisk.state i.disk).sectors i.used i.pages i.pool.frames c.args.page c.dirty_frames.ensures.sound c.self.invariant.0 out in
+    rw (← c.self.view_is) (λ gated. absurd (let never : false ≡ true = none_gated i.pool.frames c.args.page none ∙ gated in cc))
+
+pub invariant_of-self : goal.invariant_of-self
+invariant_of-self g c =
+    let i = c.self.inside in
+    let P : ℕ → Type 0 = λ n. IsPassed (is_node (format_of g.K.KeyClass) n) i.pool.frames → IsPassed (is_node (format_of g.K.KeyClass) n) c.write.new.pool.frames in (
+      write_in_order (is_node (format_of g.K.KeyClass) i.pages) (g.D.SectorDisk.state i.disk).sectors _ i.used i.pages c.args.page _ _ i.pool.frames c.write.new.pool.frames
+          c.write.ensures.device.0 c.self.invariant.0 (subst P c.self.invariant.1 c.write.ensures.passing) c.write.ensures.at_most,
+      rw c.write.ensures.test c.self.invariant.1,
+    )
+
+pub returns-clause-written : goal.returns-clause-written
+returns-clause-written g c = rw (← c.self.view_is) c.write.ensures.written
+
+pub returns-clause-shown : goal.returns-clause-shown
+returns-clause-shown g c = rw (← c.self.view_is) c.write.ensures.shown
+
+pub returns-clause-readable : goal.returns-clause-readable
+returns-clause-readable g c =
+    let i = c.self.inside in
+    let d = g.D.SectorDisk.state i.disk in
+    let e = g.D.SectorDisk.state c.write.new.disk in
+    let f = format_of g.K.KeyClass in
+    let R : ℕ → Type 0 = λ n. (used : ℕ → Bool) → d.honest ≡ true → IsReadable (is_node f n) used i.pool.frames d.seen → IsReadable (is_node f n) used c.write.new.pool.frames e.seen in
+    let keeps = subst R c.self.invariant.1 c.write.ensures.readable in
+    rw (← c.self.view_is) (keeps (is_taken i.used))
+
+pub returns-clause-runs : goal.returns-clause-runs
+returns-clause-runs g c = rw (← c.self.view_is) (λ gated. c.write.ensures.runs)
