@@ -62,7 +62,7 @@ module _ {E P : Type 0} (k : Known E P) (r : Reading E P) where
       let a = of_log seen log in
       let has : HasRecords key seen extent n a.spelled =
       subst (λ m. HasRecords m seen extent n a.spelled) (sym key_is) (subst (λ e. HasRecords r.key seen e n a.spelled) (sym at) (subst (λ m. HasRecords r.key seen (selected_of seen) m a.spelled) (sym count) a.has)) in
-      subst (λ (xs : List Imaged). IsGiven r xs (records_of log.bodies)) (sym (read a.spelled has)) a.given
+      subst (λ (xs : List Imaged). IsGiven r xs (records_of log.bodies)) (sym (read.0.only a.spelled has)) a.given
 
   -- and it isn't damaged
   pub read_is_whole : (pages key : ℕ) (seen : List ℕ) (extent : Extent) (n : ℕ) → k.pages ≡ pages → key ≡ r.key → extent ≡ selected_of seen → n ≡ opened seen

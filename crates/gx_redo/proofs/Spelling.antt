@@ -9,7 +9,7 @@ use Rattle.gx_record.specs.Writing.{IsWhole}
 use Rattle.gx_record.proofs.Whole.{no_spelling_begins_another, spelling_sizes}
 use Rattle.gx_record.proofs.Writes.{spelling_size, in_range_whole}
 use Rattle.gx_redo.specs.Kept.{Imaged, with_all, all_images, images_of}
-use Rattle.gx_redo.specs.Spelled.{AreSpelled, IsLeft, IsReadTo}
+use Rattle.gx_redo.specs.Spelled.{AreSpelled, IsLeft, IsReadTo, HasSpelled, IsPartOf}
 use Rattle.gx_redo.proofs.Keeping.{with_joined}
 
 -- each image of a record is a whole one, and has 4,104 bytes of the record's
@@ -74,6 +74,20 @@ read_whole key bytes [] old now none to spelled are =
     let left = to spelled are in
     ap (λ (ys : List Rec). with_all (all_images ys) now) (sym (none_spelled key left.more left.are.in_range left.are.bytes_are)) ∙ left.same
 read_whole key bytes (x ∷ rest) old now none to spelled are = absurd (omega arith)
+
+-- so the bytes before the rest are records too
+pub part_one : (key : ℕ) (rest : List ℕ) (x : Rec) (n : ℕ) → BeginsWith key rest x n → IsPartOf key rest (drop n rest)
+part_one key rest x n begins more are = record {
+  spelled = x ∷ more;
+  are = record { in_range = (begins.is_record, are.in_range); bytes_are = ap (λ (ys : List ℕ). spelling x ++ ys) are.bytes_are ∙ sym begins.front };
+}
+
+pub part_more : (key : ℕ) (bytes rest later : List ℕ) → IsPartOf key bytes rest → IsPartOf key rest later → IsPartOf key bytes later
+part_more key bytes rest later first next more are = let all = next more are in first all.spelled all.are
+
+pub part_whole : (key : ℕ) (bytes rest : List ℕ) → length rest ≡ 0 → IsPartOf key bytes rest → HasSpelled key bytes
+part_whole key bytes [] none part = part [] (record { in_range = tt; bytes_are = refl })
+part_whole key bytes (x ∷ rest) none part = absurd (omega arith)
 
 -- bytes that no record begins aren't spelled
 begins_by : (key : ℕ) (rest : List ℕ) → 0 < length rest → ((x : Rec) (n : ℕ) → BeginsWith key rest x n → ⊥) → (spelled : List Rec) → AllByRecursion (IsRecord key) spelled

@@ -22,7 +22,21 @@ pub record IsLeft (key : ℕ) (old : List Imaged) (rest : List ℕ) (now : List 
 abbrev pub IsReadTo : ℕ → List ℕ → List Imaged → List ℕ → List Imaged → Type 0
 IsReadTo key bytes old rest now = (spelled : List Rec) → AreSpelled key bytes spelled → IsLeft key old rest now spelled
 
--- The bytes of a body are told: where they are records, what is kept is with all their images. Else they are damage.
+-- the bytes are some records
+pub record HasSpelled (key : ℕ) (bytes : List ℕ) : Type 0 where
+  pub spelled : List Rec
+  pub are : AreSpelled key bytes spelled
+
+-- where the rest is records, so are these bytes
+abbrev pub IsPartOf : ℕ → List ℕ → List ℕ → Type 0
+IsPartOf key bytes rest = (more : List Rec) → AreSpelled key rest more → HasSpelled key bytes
+
+-- the bytes are records, and with all their images what was kept is what is kept now
+pub record IsTold (key : ℕ) (bytes : List ℕ) (old new : List Imaged) : Type 0 where
+  pub has : HasSpelled key bytes
+  pub only : (spelled : List Rec) → AreSpelled key bytes spelled → new ≡ with_all (all_images spelled) old
+
+-- The bytes of a body are told: they are records, and their images are kept; or they are none, which is damage.
 abbrev pub BytesTold : ℕ → List ℕ → List Imaged → Result (Unit {0}) Refusal → List Imaged → Type 0
-BytesTold key bytes old (Ok done) new = (spelled : List Rec) → AreSpelled key bytes spelled → new ≡ with_all (all_images spelled) old
+BytesTold key bytes old (Ok done) new = IsTold key bytes old new
 BytesTold key bytes old (Err refusal) new = (refusal ≡ Damaged) × ((spelled : List Rec) → AreSpelled key bytes spelled → ⊥)

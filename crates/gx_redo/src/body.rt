@@ -5,7 +5,7 @@ ghost use Rattle.gx_record.specs.Rec.{Rec};
 ghost use Rattle.gx_record.specs.Seen.{images, rec_of};
 ghost use Rattle.gx_record.specs.Writing.{IsWhole};
 ghost use Rattle.gx_redo.specs.Kept.{with_all, images_of};
-ghost use Rattle.gx_redo.specs.Spelled.{AreSpelled, IsReadTo, BytesTold};
+ghost use Rattle.gx_redo.specs.Spelled.{AreSpelled, IsReadTo, IsPartOf, BytesTold};
 
 use crate::Given;
 use gx_geom::Refusal;
@@ -54,6 +54,7 @@ fn on_first(given: &mut Given, bytes: &[u8], key: usize) -> Option<usize>
     ensures size { IfSome result (λ n. (9 ≤ n) × (n ≤ length bytes.now)) }
     ensures count { IfSome result (λ n. 4104 * length given.new ≤ 4104 * length given.old + n) }
     ensures told { IfSome result (λ n. IsReadTo key bytes.now given.old (drop n bytes.now) given.new) }
+    ensures part { IfSome result (λ n. IsPartOf key bytes.now (drop n bytes.now)) }
     ensures same { IfNone result (given.new ≡ given.old) }
     ensures none { IfNone result ((spelled : List Rec) → AreSpelled key bytes.now spelled → ⊥) }
 {

@@ -3,7 +3,7 @@ use Rattle.gx_record.specs.Seen.{rec_of}
 use Rattle.gx_redo.specs.Kept.{Imaged, images_of}
 use Rattle.gx_redo.specs.Spelled.{IsReadTo}
 use Rattle.gx_redo.proofs.Keeping.{no_more}
-use Rattle.gx_redo.proofs.Spelling.{images_whole, few_begun, long_enough, read_one, not_spelled}
+use Rattle.gx_redo.proofs.Spelling.{images_whole, few_begun, long_enough, read_one, not_spelled, part_one}
 use Rattle.gx_redo.proofs.body.on_first.Goals as goal
 
 pub on_record-requires-clause-room : goal.on_record-requires-clause-room
@@ -35,3 +35,6 @@ returns-in-Some-clause-told c =
 
 pub returns-in-None-clause-none : goal.returns-in-None-clause-none
 returns-in-None-clause-none c = not_spelled c.args.key c.args.bytes.now c.requires.some c.in-None.ensures.only
+
+pub returns-in-Some-clause-part : goal.returns-in-Some-clause-part
+returns-in-Some-clause-part c = part_one c.args.key c.args.bytes.now (rec_of c.in-Some.found.0) c.in-Some.found.1 c.in-Some.ensures.found

@@ -1,7 +1,23 @@
-use Rattle.std.proofs.Common.{◌∙◌, ◌+◌, arith, refl}
+use Rattle.std.proofs.Common.{◌∙◌, ◌+◌, List, ap, arith, length, refl, subst, sym}
+use Rattle.gx_disk.specs.Device.{MayLeave}
+use Rattle.gx_disk.proofs.Leaving.{nothing_leaves}
+use Rattle.gx_redo.specs.Kept.{Imaged}
+use Rattle.gx_redo.specs.Told.{IsGivenBy}
 use Rattle.gx_disk.proofs.Looking.{looks_joined}
-use Rattle.gx_redo.proofs.Extents.{place_more, place_refused}
+use Rattle.gx_redo.proofs.Extents.{none_yet, place_more, place_refused}
 use Rattle.gx_redo.proofs.read.on_extent.Goals as goal
+
+pub loop-i-init : goal.loop-i-init
+loop-i-init g c =
+    let d = g.D.SectorDisk.state c.args.disk.now in
+    record {
+      few = omega arith;
+      room = refl;
+      count = omega (arith, ap length c.requires.none);
+      reads = record { sectors = refl; honest = refl; calls = refl; faults = refl };
+      looks = λ honest. record { rests = record { seen = refl; settled = λ s was. was }; pending = λ s. refl; leaves = nothing_leaves (MayLeave d) d };
+      on = λ honest. subst (λ (xs : List Imaged). IsGivenBy c.args.key d.seen c.args.extent 0 xs) (sym c.requires.none) (none_yet c.args.key d.seen c.args.extent);
+    }
 
 pub loop-i-preserved : goal.loop-i-preserved
 loop-i-preserved g c =

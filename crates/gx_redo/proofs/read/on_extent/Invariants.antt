@@ -1,9 +1,7 @@
-use Rattle.std.proofs.Common.{◌≡◌, ◌-◌, ◌*◌, ◌≤◌, List, [], true, length, Ok}
+use Rattle.std.proofs.Common.{◌≡◌, ◌-◌, ◌*◌, ◌≤◌, true, length, Ok}
 use Rattle.gx_disk.specs.Looks.{Looks}
 use Rattle.gx_found_log.specs.Found.{ReadsAlone}
-use Rattle.gx_record.specs.Rec.{Rec}
-use Rattle.gx_redo.specs.Kept.{with_all, all_images}
-use Rattle.gx_redo.specs.Told.{HasRecords}
+use Rattle.gx_redo.specs.Told.{IsGivenBy}
 use Rattle.gx_redo.proofs.read.on_extent.Given as goal
 
 -- the bodies before place i are read, and nothing was done but that
@@ -14,8 +12,7 @@ invariant-loop-i g l = record {
   count : length l.given ≤ 7 * l.i;
   reads : ReadsAlone {T = Unit {0}} (g.D.SectorDisk.state l.fn.disk) (g.D.SectorDisk.state l.disk) (Ok tt);
   looks : (g.D.SectorDisk.state l.fn.disk).honest ≡ true → Looks (g.D.SectorDisk.state l.fn.disk) (g.D.SectorDisk.state l.disk);
-  on : (g.D.SectorDisk.state l.fn.disk).honest ≡ true → (spelled : List Rec) → HasRecords l.key (g.D.SectorDisk.state l.fn.disk).seen l.extent l.i spelled
-      → l.given ≡ with_all (all_images spelled) [];
+  on : (g.D.SectorDisk.state l.fn.disk).honest ≡ true → IsGivenBy l.key (g.D.SectorDisk.state l.fn.disk).seen l.extent l.i l.given;
 }
 
 abbrev pub decreases-loop-i : goal.decreases-loop-i
