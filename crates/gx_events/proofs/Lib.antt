@@ -1,0 +1,4 @@
+pub mod Replies
+pub mod Follows
+pub mod Goes
+pub mod GivenUp

@@ -1,0 +1,4 @@
+pub mod Driven
+pub mod Happens
+pub mod Items
+pub mod Replay
