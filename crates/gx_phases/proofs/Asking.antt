@@ -30,7 +30,7 @@ use Rattle.gx_phases.proofs.Slots.{slots_at, slots_set, slot_here, table_locks, 
 use Rattle.gx_phases.proofs.Keeping.{low, same_session}
 
 -- an engine with the test of a session's number as a value
-abbrev ask_there : {B : Type 0} → Keys B → ℕ → Call B → Bool → Engine B → Asked B × Engine B
+abbrev pub ask_there : {B : Type 0} → Keys B → ℕ → Call B → Bool → Engine B → Asked B × Engine B
 ask_there k s call there engine =
     if there then
     (let r = ask_in k s call engine.slots in (r.0, record engine { slots = with_slot s r.1 engine.slots }))

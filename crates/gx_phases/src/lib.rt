@@ -5,8 +5,10 @@
 #![tactic(auto)]
 
 mod asks;
+pub mod laws;
 mod phase;
 mod sessions;
+mod steps;
 
 pub use phase::Phase;
 pub use sessions::Sessions;

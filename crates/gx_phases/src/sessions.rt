@@ -1,14 +1,14 @@
 //! All sessions.
-ghost use Rattle.std.specs.Prelude.{◌≡◌, ◌<◌, ◌≤◌, ◌+◌, ◌-◌, Bool, true, IfOk, List, replicate};
+ghost use Rattle.std.specs.Prelude.{◌≡◌, ◌<◌, ◌≤◌, ◌+◌, ◌-◌, Bool, true, IfOk, IfSome, List, replicate};
 ghost use Rattle.gx_machine.specs.declared.limits.TheConstants.{SESSIONS};
 ghost use Rattle.gx_machine.specs.Machine.{is_session};
 ghost use Rattle.gx_phases.specs.declared.phase.Phase.TheVariants as phase;
 
-use crate::asks;
 use crate::phase::Phase;
+use crate::{asks, steps};
 use gx_geom::{Refusal, Shape};
-use gx_machine::{Asked, Call, LAST_NUMBER, Reply, SESSIONS};
-use gx_txn::Transactions;
+use gx_machine::{Asked, Call, Entry, LAST_NUMBER, Reply, SESSIONS};
+use gx_txn::{Note, Transactions};
 use std::alloc::{AllocError, Global};
 use std::marker::Model;
 
@@ -55,7 +55,9 @@ impl<B: Shape, W: Drop> Sessions<B, W> {
     ghost use Rattle.gx_machine.specs.declared.entry.Entry.{Entry};
     ghost use Rattle.gx_machine.specs.declared.limits.TheConstants.{LAST_NUMBER};
     ghost use Rattle.gx_engine_laws.specs.Events.{IsEvent};
-    ghost use Rattle.gx_phases.specs.States.{fresh_state, engine_of, phase_at};
+    ghost use Rattle.gx_txn.specs.Tables.{held_by, claimed_in, IsKept as HeldIsKept};
+    ghost use Rattle.gx_phases.specs.States.{fresh_state, engine_of, phase_at, with_phase_of, IsKept};
+    ghost use Rattle.gx_phases.specs.Moves.{is_open, asks_commit, HasWrite, is_undoing, waits_for, with_work, transaction_of, covered, next_of, Acknowledged, RestoredOne, answered_state, written_state, sealed_state, ended_state, synced_state, failed_state};
     ghost use Rattle.gx_phases.specs.Asked.{Begun, IsAsked, asked_event, begins, is_full};
 
     /// Sessions without a transaction, where the last commit has the number `latest`, that of `durable` is durable, and the
@@ -128,5 +130,198 @@ impl<B: Shape, W: Drop> Sessions<B, W> {
             return self.begin(session);
         }
         asks::ask_at(&mut self.phases, &mut self.table, session, call, work)
+    }
+
+    /// How far a session is.
+    pub fn phase(&self, session: u8) -> &Phase<B, W>
+        requires { is_session session ≡ true }
+        ensures { result.now ≡ phase_at (session - 1) self.now.phases }
+    {
+        &self.phases[asks::place_of(session)]
+    }
+
+    /// The number of a session's transaction, or of the last one that it had.
+    pub fn transaction(&self, session: u8) -> u64
+        requires { is_session session ≡ true }
+        ensures { result ≡ transaction_of session self.now }
+    {
+        self.transactions[asks::place_of(session)]
+    }
+
+    /// The number that the next transaction gets.
+    pub fn next(&self) -> u64
+        ensures { result ≡ self.now.next }
+    {
+        self.next
+    }
+
+    /// The number of the last commit that is sealed.
+    pub fn latest(&self) -> u64
+        ensures { result ≡ self.now.latest }
+    {
+        self.latest
+    }
+
+    /// The number up to which commits are durable.
+    pub fn durable(&self) -> u64
+        ensures { result ≡ self.now.durable }
+    {
+        self.durable
+    }
+
+    /// Whether a fault has made the engine fail. What is kept of the sessions is said here for those who prove with it.
+    pub fn has_failed(&self) -> bool
+        ensures failed { result ≡ self.now.failed }
+        ensures kept { IsKept (keys_of B.Shape) self.now }
+    {
+        self.failed
+    }
+
+    /// Whether some session claims the entry, so that no sweep may take it.
+    pub fn is_claimed(&self, e: &Entry<B>) -> bool
+        ensures { result ≡ claimed_in (keys_of B.Shape) e.now self.now.table }
+    {
+        self.table.is_claimed(e)
+    }
+
+    /// The notes of what a session's transaction wrote, in the order of their entries.
+    pub fn notes(&self, session: u8) -> &[Note<B>]
+        requires { is_session session ≡ true }
+        ensures notes { result.now ≡ (held_by session self.now.table).notes }
+        ensures kept { HeldIsKept (keys_of B.Shape) (held_by session self.now.table) }
+    {
+        self.table.notes(session)
+    }
+
+    /// Gives an open call or an undo this work, and hands back the work that it had. A session with neither hands this back.
+    pub fn replace_work(&mut self, session: u8, work: W) -> W
+        requires { is_session session ≡ true }
+        ensures given { result ≡ (with_work work (phase_at (session - 1) self.old.phases)).0 }
+        ensures state { self.new ≡ with_phase_of session (with_work work (phase_at (session - 1) self.old.phases)).1 self.old }
+    {
+        steps::replace_work(&mut self.phases, session, work)
+    }
+
+    /// Closes a session's open call, which is answered. What it took stays.
+    pub fn answer(&mut self, session: u8)
+        requires session { is_session session ≡ true }
+        requires open { is_open (phase_at (session - 1) self.old.phases) ≡ true }
+        ensures { self.new ≡ answered_state session self.old }
+    {
+        steps::close(&mut self.phases, session);
+    }
+
+    /// Notes what a session's open insert or delete of this entry wrote in a leaf, and closes the call: `before` is the entry's
+    /// mark from before this write, set where it was marked or absent. Of all writes of an entry, the first one's `before` and
+    /// the last one's leaf stand.
+    pub fn note(&mut self, session: u8, entry: Entry<B>, before: bool, leaf: u32)
+        requires session { is_session session ≡ true }
+        requires write { HasWrite entry (phase_at (session - 1) self.old.phases) }
+        ensures { self.new ≡ written_state (keys_of B.Shape) session (record { entry = entry; before = before; leaf = leaf }) self.old }
+    {
+        self.table.note(session, entry, before, leaf);
+        steps::close(&mut self.phases, session);
+    }
+
+    /// Seals the commit that a session has asked: it gets the next number, which is the answer, and the session waits for that to
+    /// be durable. Its locks and notes are free.
+    pub fn seal(&mut self, session: u8) -> u64
+        requires session { is_session session ≡ true }
+        requires commit { asks_commit (phase_at (session - 1) self.old.phases) ≡ true }
+        ensures number { result ≡ self.old.latest + 1 }
+        ensures state { self.new ≡ sealed_state session self.old }
+    {
+        let number = self.latest + 1;
+        steps::release(&mut self.table, session);
+        asks::set_phase(&mut self.phases, session, Phase::Waiting(number));
+        self.latest = number;
+        number
+    }
+
+    /// The number of a session's commit, where it waits for one that is durable.
+    fn covered(&self, session: u8) -> Option<u64>
+        requires { is_session session ≡ true }
+        ensures { result ≡ covered self.now.durable (waits_for (phase_at (session - 1) self.now.phases)) }
+    {
+        match steps::waits_for(&self.phases[asks::place_of(session)]) {
+            None => None,
+            Some(number) => if number <= self.durable {
+                Some(number)
+            } else {
+                None
+            },
+        }
+    }
+
+    /// Acknowledges a session's commit exactly where its number is durable: the answer is that number, and the session is free.
+    /// Else nothing changes.
+    pub fn acknowledge(&mut self, session: u8) -> Option<u64>
+        requires { is_session session ≡ true }
+        ensures number { result ≡ covered self.old.durable (waits_for (phase_at (session - 1) self.old.phases)) }
+        ensures state { Acknowledged result session self.old self.new }
+    {
+        match self.covered(session) {
+            None => None,
+            Some(number) => {
+                steps::free(&mut self.phases, session);
+                Some(number)
+            }
+        }
+    }
+
+    /// How many notes an undo of a session has restored, where one is left: the place of the note to be restored next.
+    pub fn next_restored(&self, session: u8) -> Option<usize>
+        requires { is_session session ≡ true }
+        ensures next { result ≡ next_of session self.now }
+        ensures small { IfSome result (λ restored. restored < usize.MAX) }
+    {
+        match steps::restored_by(&self.phases[asks::place_of(session)]) {
+            None => None,
+            Some(restored) => if restored < self.table.notes(session).len() {
+                Some(restored)
+            } else {
+                None
+            },
+        }
+    }
+
+    /// Counts one note more as restored, and takes the work on the next. Where none is left, nothing changes.
+    pub fn restored(&mut self, session: u8, work: W)
+        requires { is_session session ≡ true }
+        ensures { RestoredOne (next_of session self.old) session work self.old self.new }
+    {
+        if let Some(restored) = self.next_restored(session) {
+            asks::set_phase(
+                &mut self.phases,
+                session,
+                Phase::Undoing(restored + 1, work),
+            );
+        }
+    }
+
+    /// Ends a session's undo: its locks and notes are free, and so is it.
+    pub fn end(&mut self, session: u8)
+        requires session { is_session session ≡ true }
+        requires undoes { is_undoing (phase_at (session - 1) self.old.phases) ≡ true }
+        ensures { self.new ≡ ended_state session self.old }
+    {
+        steps::release(&mut self.table, session);
+        steps::free(&mut self.phases, session);
+    }
+
+    /// Commits are durable up to this number, which is sealed.
+    pub fn synced(&mut self, number: u64)
+        requires rises { self.old.durable ≤ number }
+        requires sealed { number ≤ self.old.latest }
+        ensures { self.new ≡ synced_state number self.old }
+    {
+        self.durable = number;
+    }
+
+    /// A fault has made the engine fail: from now on it only refuses.
+    pub fn fail(&mut self)
+        ensures { self.new ≡ failed_state self.old }
+    {
+        self.failed = true;
     }
 }
