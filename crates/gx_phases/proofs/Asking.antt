@@ -3,7 +3,7 @@ use Rattle.std.proofs.Common.{◌≡◌, ℕ, ◌+◌, ◌-◌, ◌<◌, Bool, t
 use Rattle.std.specs.Prelude.{if◌then◌else◌, slice_set, Result, Ok, Err, ◌==◌}
 use Rattle.std.proofs.lemmas.List.{set-get_or}
 use Rattle.gx_geom.specs.declared.refusal.Refusal.{Refusal}
-use Rattle.gx_geom.specs.declared.refusal.Refusal.TheVariants.{NoTransaction, InTransaction, CallOpen, BadSession, Failed, HistoryFull}
+use Rattle.gx_geom.specs.declared.refusal.Refusal.TheVariants.{NoTransaction, InTransaction, CallOpen, BadSession}
 use Rattle.gx_machine.specs.declared.entry.Entry.{Entry}
 use Rattle.gx_machine.specs.declared.call.Call.{Call}
 use Rattle.gx_machine.specs.declared.call.Call.TheVariants.{Begin, Insert, Delete, Search, Commit, Abort}
@@ -19,13 +19,13 @@ use Rattle.gx_engine_laws.specs.Slots as slots
 use Rattle.gx_engine_laws.specs.Slots.{Slot, with_slot}
 use Rattle.gx_engine_laws.specs.Engines.{Engine, IsSame, session_of, sessions_of}
 use Rattle.gx_engine_laws.specs.Asking.{least_barring, claims_held, asked_with, ask_slot, ask_in, ask}
-use Rattle.gx_engine_laws.specs.Events.{Event, IsEvent, Asks, RefusesAsk}
+use Rattle.gx_engine_laws.specs.Events.{IsEvent, Asks}
 use Rattle.gx_engine_laws.proofs.Places.{session_of_slot}
 use Rattle.gx_engine_laws.proofs.Asks.{same_least, same_held}
 use Rattle.gx_phases.specs.declared.phase.Phase.{Phase}
 use Rattle.gx_phases.specs.declared.phase.Phase.TheVariants as phase
-use Rattle.gx_phases.specs.States.{State, slot_of, slots_of, note_of, phase_at, held_at, with_phase, with_phase_of, with_session, with_transaction, HoldsNothing, engine_of, IsKept}
-use Rattle.gx_phases.specs.Asked.{IsRefused, LockTaken, is_full, is_begin, is_free, Begun, AskedFree, AskedWorking, AskedAt, AskedBy, IsAsked, begins, event_by, asked_event}
+use Rattle.gx_phases.specs.States.{State, slot_of, slots_of, note_of, phase_at, held_at, with_phase, with_session, HoldsNothing, engine_of, IsKept}
+use Rattle.gx_phases.specs.Asked.{IsRefused, LockTaken, is_full, is_begin, Begun, AskedFree, AskedWorking, AskedAt, AskedBy, IsAsked, begins, event_by, asked_event}
 use Rattle.gx_phases.proofs.Slots.{slots_at, slots_set, slot_here, table_locks, own_locks}
 use Rattle.gx_phases.proofs.Keeping.{low, same_session}
 

@@ -1,9 +1,9 @@
 -- Each move is an event of the engine's laws.
-use Rattle.std.proofs.Common.{◌≡◌, ℕ, ◌+◌, ◌-◌, ◌<◌, ◌≤◌, Bool, true, false, not, List, [], ◌∷◌, ◌++◌, Some, None, length, map, drop, get_or, refl, ap, sym, ◌∙◌, arith, subst}
+use Rattle.std.proofs.Common.{◌≡◌, ℕ, ◌+◌, ◌-◌, ◌<◌, ◌≤◌, Bool, true, false, not, List, [], ◌∷◌, ◌++◌, length, map, drop, get_or, refl, ap, sym, ◌∙◌, arith, subst}
 use Rattle.std.proofs.lemmas.List.{set-get_or}
 use Rattle.gx_machine.specs.declared.entry.Entry.{Entry}
 use Rattle.gx_machine.specs.declared.call.Call.{Call}
-use Rattle.gx_machine.specs.declared.call.Call.TheVariants.{Insert, Delete, Commit}
+use Rattle.gx_machine.specs.declared.call.Call.TheVariants.{Commit}
 use Rattle.gx_machine.specs.Keys.{Keys, IsLawful}
 use Rattle.gx_machine.specs.Sets.{IsSetOf}
 use Rattle.gx_machine.specs.Machine.{is_session}
@@ -12,7 +12,7 @@ use Rattle.gx_txn.specs.Notes.{noting}
 use Rattle.gx_txn.specs.Tables.{Held, nothing_held, with_notes}
 use Rattle.gx_engine_laws.specs.Slots as slots
 use Rattle.gx_engine_laws.specs.Slots.{Slot, slot_at, with_slot}
-use Rattle.gx_engine_laws.specs.Engines.{Engine, stood}
+use Rattle.gx_engine_laws.specs.Engines.{stood}
 use Rattle.gx_engine_laws.specs.Events.{IsWritten, IsClosed, IsSealed, IsDurable, IsAcknowledged, IsUndone, IsRestored, marked}
 use Rattle.gx_phases.specs.declared.phase.Phase.{Phase}
 use Rattle.gx_phases.specs.declared.phase.Phase.TheVariants as phase

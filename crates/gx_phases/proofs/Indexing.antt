@@ -1,5 +1,5 @@
 -- An ask is an event of the whole index.
-use Rattle.std.proofs.Common.{◌≡◌, ◌≢◌, ℕ, suc, ◌+◌, ◌-◌, ◌<◌, Bool, true, false, ◌&&◌, ◌||◌, List, None, [], length, map, Result, Ok, Err, refl, ap, sym, ◌∙◌, arith, subst, get_or-set_same, get_or-set_other}
+use Rattle.std.proofs.Common.{◌≡◌, ℕ, ◌-◌, ◌<◌, Bool, true, false, ◌&&◌, List, None, [], length, map, Result, Ok, Err, refl, ap, sym, ◌∙◌, arith, subst, get_or-set_same, get_or-set_other}
 use Rattle.std.specs.Prelude.{nat_lt, nat_le, slice_set}
 use Rattle.std.specs.List.{slice_index_or}
 use Rattle.std.proofs.lemmas.Bool.{lt-ltb}

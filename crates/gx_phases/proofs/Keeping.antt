@@ -1,5 +1,5 @@
 -- What is kept of the sessions stays kept where one of them is changed.
-use Rattle.std.proofs.Common.{◌≡◌, ◌≢◌, ℕ, suc, ◌+◌, ◌-◌, ◌<◌, ◌≤◌, Bool, true, false, ◌||◌, List, [], ◌∷◌, length, Result, Ok, Err, refl, ap, sym, ◌∙◌, arith, subst}
+use Rattle.std.proofs.Common.{◌≡◌, ℕ, ◌+◌, ◌-◌, ◌<◌, ◌≤◌, Bool, true, false, ◌||◌, List, [], ◌∷◌, length, Result, Ok, Err, refl, ap, sym, ◌∙◌, arith, subst}
 use Rattle.std.specs.Prelude.{slice_set, sum_by, nat_le}
 use Rattle.std.proofs.lemmas.Bool.{leb-false}
 use Rattle.std.proofs.lemmas.List.{length-set, set-get_or}
@@ -13,11 +13,11 @@ use Rattle.gx_machine.specs.Keys.{Keys, IsLawful}
 use Rattle.gx_machine.specs.Sessions.{Locks}
 use Rattle.gx_machine.specs.Machine.{is_session}
 use Rattle.gx_machine.proofs.Places.{session_bounds}
-use Rattle.gx_txn.specs.Tables.{Held, nothing_held, held_by, with_held, with_locks, locks_for}
+use Rattle.gx_txn.specs.Tables.{Held, nothing_held, with_held, with_locks, locks_for}
 use Rattle.gx_phases.specs.declared.phase.Phase.{Phase}
 use Rattle.gx_phases.specs.declared.phase.Phase.TheVariants as phase
-use Rattle.gx_phases.specs.States.{State, phase_at, held_at, with_phase, with_phase_of, with_session, with_transaction, HoldsNothing, ClaimsItsEntry, may_commit, IsPlaced, IsKept}
-use Rattle.gx_phases.specs.Asked.{IsRefused, LockTaken, is_full, Begun, AskedFree, AskedWorking, AskedAt, AskedBy, IsAsked}
+use Rattle.gx_phases.specs.States.{State, phase_at, held_at, with_phase, with_phase_of, with_session, with_transaction, may_commit, IsPlaced, IsKept}
+use Rattle.gx_phases.specs.Asked.{IsRefused, LockTaken, is_full, Begun, AskedFree, AskedWorking, AskedAt}
 use Rattle.gx_phases.proofs.Slots.{placed_set}
 use Rattle.gx_phases.proofs.Claiming.{claims_for}
 

@@ -1,6 +1,6 @@
 -- What is kept of the sessions stays kept by each move. The state is given twice: by its parts, and as contracts see it.
-use Rattle.std.proofs.Common.{◌≡◌, ℕ, ◌+◌, ◌-◌, ◌<◌, ◌≤◌, Bool, true, false, List, Option, Some, None, get_or, refl, ap, sym, ◌∙◌, arith, subst}
-use Rattle.std.specs.Prelude.{slice_set, sum_by}
+use Rattle.std.proofs.Common.{◌≡◌, ℕ, ◌+◌, ◌-◌, ◌<◌, ◌≤◌, Bool, true, List, Some, refl, ap, sym, ◌∙◌, arith, subst}
+use Rattle.std.specs.Prelude.{sum_by}
 use Rattle.std.proofs.lemmas.List.Sums.{get_or-le-sum_by}
 use Rattle.gx_machine.specs.declared.entry.Entry.{Entry}
 use Rattle.gx_machine.specs.declared.call.Call.{Call}
@@ -15,8 +15,8 @@ use Rattle.gx_txn.specs.Tables.{Held, nothing_held, held_by, with_held, with_not
 use Rattle.gx_txn.proofs.Noted.{entries_of-noting}
 use Rattle.gx_phases.specs.declared.phase.Phase.{Phase}
 use Rattle.gx_phases.specs.declared.phase.Phase.TheVariants as phase
-use Rattle.gx_phases.specs.States.{State, phase_at, held_at, with_phase, with_session, HoldsNothing, ClaimsItsEntry, may_commit, IsPlaced, IsKept}
-use Rattle.gx_phases.specs.Moves.{is_open, is_commit, asks_commit, WritesEntry, HasWrite, waits_for, with_work, covered}
+use Rattle.gx_phases.specs.States.{State, phase_at, held_at, with_phase, HoldsNothing, ClaimsItsEntry, may_commit, IsPlaced, IsKept}
+use Rattle.gx_phases.specs.Moves.{is_open, asks_commit, WritesEntry, HasWrite, waits_for, with_work, covered}
 use Rattle.gx_phases.proofs.Keeping.{low, kept_with, kept_session, same_session, numbers_left}
 
 module _ {B W : Type 0} where

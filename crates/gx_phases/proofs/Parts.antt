@@ -1,5 +1,5 @@
 -- An ask on the two lists that it changes is one on the whole.
-use Rattle.std.proofs.Common.{◌≡◌, ℕ, ◌-◌, Bool, true, false, ◌&&◌, List, Result, Ok, Err, refl, ap, sym, ◌∙◌, subst}
+use Rattle.std.proofs.Common.{◌≡◌, ℕ, ◌-◌, Bool, true, false, List, Result, Ok, Err, sym, subst}
 use Rattle.gx_geom.specs.declared.refusal.Refusal.{Refusal}
 use Rattle.gx_geom.specs.declared.refusal.Refusal.TheVariants.{NoTransaction, InTransaction, CallOpen}
 use Rattle.gx_machine.specs.declared.call.Call.{Call}
@@ -13,7 +13,7 @@ use Rattle.gx_phases.specs.declared.phase.Phase.{Phase}
 use Rattle.gx_phases.specs.declared.phase.Phase.TheVariants as phase
 use Rattle.gx_phases.specs.States.{State, phase_at}
 use Rattle.gx_phases.specs.Parts.{Stays, LockTakenIn, WorkingAsked, PartsAsked}
-use Rattle.gx_phases.specs.Asked.{IsRefused, LockTaken, AskedFree, AskedWorking, AskedAt, AskedBy, IsAsked, Begun, is_full, is_begin, is_free, begins}
+use Rattle.gx_phases.specs.Asked.{IsRefused, LockTaken, AskedFree, AskedWorking, AskedAt, AskedBy, IsAsked, Begun, is_full, is_begin, begins}
 
 module _ {B W : Type 0} (k : Keys B) (s : ℕ) (work : W) (old : State B W) (given : Asked B) where
   module _ (phases' : List (Phase B W)) (table' : List (Held B)) where

@@ -7,7 +7,7 @@ use Rattle.gx_machine.specs.declared.call.Call.TheVariants.{Begin, Insert, Delet
 use Rattle.gx_machine.specs.Keys.{Keys}
 use Rattle.gx_txn.specs.declared.note.Note as txn
 use Rattle.gx_txn.specs.Notes.{noting}
-use Rattle.gx_txn.specs.Tables.{Held, nothing_held, held_by, with_notes}
+use Rattle.gx_txn.specs.Tables.{nothing_held, held_by, with_notes}
 use Rattle.gx_phases.specs.declared.phase.Phase.{Phase}
 use Rattle.gx_phases.specs.declared.phase.Phase.TheVariants as phase
 use Rattle.gx_phases.specs.States.{State, phase_at, with_phase_of, with_session}

@@ -9,6 +9,8 @@ pub mod laws;
 mod phase;
 mod sessions;
 mod steps;
+#[cfg(test)]
+mod tests;
 
 pub use phase::Phase;
 pub use sessions::Sessions;

@@ -1,6 +1,5 @@
 use Rattle.std.proofs.Common.{refl}
 use Rattle.gx_machine.specs.Keys.{keys, IsLawful}
-use Rattle.gx_txn.specs.declared.note.Note as txn
 use Rattle.gx_phases.specs.States.{State}
 use Rattle.gx_phases.proofs.Moving.{claims_it, note_kept}
 use Rattle.gx_phases.proofs.sessions.Sessions.note.Goals as goal
