@@ -1,4 +1,5 @@
 pub mod Moving
+pub mod OnlyReads
 pub mod Recording
 pub mod Shown
 pub mod Writing

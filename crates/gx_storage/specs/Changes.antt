@@ -19,6 +19,8 @@ use Rattle.gx_readings.specs.Classes.{class_of}
 use Rattle.gx_store.specs.Since.{GoesOn, IsAsItWas, IsSince}
 use Rattle.gx_store.specs.Standing.{standing}
 use Rattle.gx_store.specs.State.{Shelf}
+use Rattle.gx_tree.specs.declared.seek.Sought.{Sought}
+use Rattle.gx_tree.specs.declared.seek.Sought.TheVariants.{Here, Right}
 use Rattle.gx_storage.specs.Keeps.{KeepsTheSame, KeepsWith, Logs}
 use Rattle.gx_storage.specs.State.{Volume}
 
@@ -67,6 +69,11 @@ module _ {B : Type 0} (known : Limits → Known (Entry B) (Page B)) (r : Reading
       pub keeps : (l : Limits) → KeepsTheSame (known l) r f passes d e v w
       pub since : (q : ℕ) → IsSince passes d e old w.shelf q
       pub most : w.most ≡ v.most
+
+    -- The mark of a pair was set, and is logged with the mark that was found; or the pair isn't in the leaf, and nothing is logged.
+    abbrev pub MarkIsLogged : {D : Type 0} → (B → List ℕ) → ℕ → ℕ → Entry B → ℕ → Bool → Device → Device → Volume D → Volume D → Sought → Type 0
+    MarkIsLogged spelling key transaction entry page marked d e v w (Here slot before) = IsLogged (key + 4119) d e v w (write_of spelling transaction entry.row entry.key before marked page e.seen w.shelf)
+    MarkIsLogged spelling key transaction entry page marked d e v w (Right next) = IsUnlogged (begun v (key + 4119)) d e v w
 
 -- Where a store has only gone on, with each page as it was and as many taken and counted, its volume keeps the same state.
 abbrev pub ReadsKeep : {B D : Type 0} → Known (Entry B) (Page B) → Reading (Entry B) (Page B) → Format B → (ℕ → Contents → Bool) → Device → Device → Volume D → Shelf D → Type 0

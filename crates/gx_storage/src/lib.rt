@@ -4,6 +4,7 @@
 
 mod changes;
 pub mod laws;
+mod reads;
 mod storage;
 
 pub use storage::Storage;
