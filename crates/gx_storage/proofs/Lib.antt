@@ -1,3 +1,4 @@
+pub mod Marking
 pub mod Moving
 pub mod OnlyReads
 pub mod Recording

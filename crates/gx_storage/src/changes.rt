@@ -3,4 +3,5 @@
 
 mod add;
 mod room;
+mod set_mark;
 mod written;
