@@ -1,3 +1,4 @@
+pub mod Giving
 pub mod Marking
 pub mod Moving
 pub mod OnlyReads
