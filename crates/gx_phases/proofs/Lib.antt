@@ -8,3 +8,4 @@ pub mod Undoing
 pub mod Noting
 pub mod Events
 pub mod Indexing
+pub mod Losing

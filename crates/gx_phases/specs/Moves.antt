@@ -1,13 +1,15 @@
 -- What a session's call comes to.
-use Rattle.std.specs.Prelude.{ℕ, ◌≡◌, ◌+◌, ◌-◌, nat_le, nat_lt, Bool, true, false, if◌then◌else◌, length, Option, None, Some}
+use Rattle.std.specs.Prelude.{ℕ, ◌≡◌, ◌+◌, ◌-◌, nat_le, nat_lt, Bool, true, false, if◌then◌else◌, length, Option, None, Some, Result, Ok, Err, IsOk, List, slice_set}
 use Rattle.std.specs.List.{slice_index_or}
+use Rattle.gx_geom.specs.declared.refusal.Refusal.{Refusal}
 use Rattle.gx_machine.specs.declared.entry.Entry.{Entry}
 use Rattle.gx_machine.specs.declared.call.Call.{Call}
 use Rattle.gx_machine.specs.declared.call.Call.TheVariants.{Begin, Insert, Delete, Search, Commit, Abort}
 use Rattle.gx_machine.specs.Keys.{Keys}
+use Rattle.gx_machine.specs.Sessions.{Locks}
 use Rattle.gx_txn.specs.declared.note.Note as txn
 use Rattle.gx_txn.specs.Notes.{noting}
-use Rattle.gx_txn.specs.Tables.{nothing_held, held_by, with_notes}
+use Rattle.gx_txn.specs.Tables.{Held, nothing_held, held_by, with_held, with_notes, with_locks}
 use Rattle.gx_phases.specs.declared.phase.Phase.{Phase}
 use Rattle.gx_phases.specs.declared.phase.Phase.TheVariants as phase
 use Rattle.gx_phases.specs.States.{State, phase_at, with_phase_of, with_session}
@@ -134,3 +136,26 @@ synced_state number state = record state { durable = number }
 
 abbrev pub failed_state : {B W : Type 0} → State B W → State B W
 failed_state state = record state { failed = true }
+
+-- a note of what a session wrote, where it has its lock; or why it lacks it, and nothing changes
+abbrev pub HeldNote : {B : Type 0} → Keys B → Result (Locks B) Refusal → ℕ → txn.Note B → List (Held B) → Result (Unit {0}) Refusal → List (Held B) → Type 0
+HeldNote k (Ok locks) s n old result new =
+    IsOk result × (new ≡ with_held s (with_notes (noting k n (held_by s old).notes) (with_locks locks (held_by s old))) old)
+HeldNote k (Err why) s n old result new = (result ≡ Err why) × (new ≡ old)
+
+-- a session may take up a transaction that is to be undone: it has none, or undoes one
+abbrev pub may_lose : {B W : Type 0} → Phase B W → Bool
+may_lose phase.Free = true
+may_lose phase.Working = false
+may_lose (phase.Open call work) = false
+may_lose (phase.Undoing restored work) = true
+may_lose (phase.Waiting number) = false
+
+-- it undoes that one from its first note on, with this note and its lock more; or it lacks the lock, and nothing changes
+abbrev pub TakesUp : {B W : Type 0} → Keys B → Result (Locks B) Refusal → ℕ → ℕ → txn.Note B → W → State B W → Result (Unit {0}) Refusal → State B W → Type 0
+TakesUp k (Ok locks) s t n work old result new =
+    IsOk result
+    × (new ≡ record (with_session s (phase.Undoing 0 work) (with_notes (noting k n (held_by s old.table).notes) (with_locks locks (held_by s old.table))) old) {
+      transactions = slice_set old.transactions (s - 1) t;
+    })
+TakesUp k (Err why) s t n work old result new = (result ≡ Err why) × (new ≡ old)

@@ -53,11 +53,12 @@ impl<B: Shape, W> Model for Sessions<B, W> {
 impl<B: Shape, W: Drop> Sessions<B, W> {
     ghost use Rattle.gx_machine.specs.Keys.{keys_of};
     ghost use Rattle.gx_machine.specs.declared.entry.Entry.{Entry};
+    ghost use Rattle.gx_machine.specs.declared.call.Call.TheVariants.{Insert};
     ghost use Rattle.gx_machine.specs.declared.limits.TheConstants.{LAST_NUMBER};
     ghost use Rattle.gx_engine_laws.specs.Events.{IsEvent};
-    ghost use Rattle.gx_txn.specs.Tables.{held_by, claimed_in, IsKept as HeldIsKept};
+    ghost use Rattle.gx_txn.specs.Tables.{held_by, claimed_in, locks_for, IsKept as HeldIsKept};
     ghost use Rattle.gx_phases.specs.States.{fresh_state, engine_of, phase_at, with_phase_of, IsKept};
-    ghost use Rattle.gx_phases.specs.Moves.{is_open, asks_commit, HasWrite, is_undoing, waits_for, with_work, transaction_of, covered, next_of, Acknowledged, RestoredOne, answered_state, written_state, sealed_state, ended_state, synced_state, failed_state};
+    ghost use Rattle.gx_phases.specs.Moves.{is_open, asks_commit, HasWrite, is_undoing, waits_for, with_work, transaction_of, covered, next_of, Acknowledged, RestoredOne, TakesUp, may_lose, answered_state, written_state, sealed_state, ended_state, synced_state, failed_state};
     ghost use Rattle.gx_phases.specs.Asked.{Begun, IsAsked, asked_event, begins, is_full};
 
     /// Sessions without a transaction, where the last commit has the number `latest`, that of `durable` is durable, and the
@@ -323,5 +324,32 @@ impl<B: Shape, W: Drop> Sessions<B, W> {
         ensures { self.new ≡ failed_state self.old }
     {
         self.failed = true;
+    }
+
+    /// Takes up one note of a transaction that a crash has left to be undone: the session, which has no transaction or undoes one,
+    /// claims the note's entry, has noted it, and undoes this transaction from its first note on.
+    ///
+    /// Refusals, as of a claim: `Busy` with the least other session that claims the entry, `ClaimsFull` where 512 claims are held
+    /// in all and the session lacks this one. Then nothing changes.
+    pub fn hold_loser(
+        &mut self,
+        session: u8,
+        transaction: u64,
+        note: Note<B>,
+        work: W,
+    ) -> Result<(), Refusal>
+        requires session { is_session session ≡ true }
+        requires loser { may_lose (phase_at (session - 1) self.old.phases) ≡ true }
+        ensures { TakesUp (keys_of B.Shape) (locks_for (keys_of B.Shape) (Insert note.entry) session self.old.table) session transaction note work
+            self.old result self.new }
+    {
+        match steps::hold(&mut self.table, session, note) {
+            Ok(()) => {
+                asks::set_phase(&mut self.phases, session, Phase::Undoing(0, work));
+                self.transactions[asks::place_of(session)] = transaction;
+                Ok(())
+            }
+            Err(why) => Err(why),
+        }
     }
 }

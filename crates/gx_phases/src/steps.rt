@@ -2,15 +2,17 @@
 ghost use Rattle.std.specs.Prelude.{◌≡◌, ◌-◌, true, length};
 ghost use Rattle.gx_machine.specs.declared.limits.TheConstants.{SESSIONS};
 ghost use Rattle.gx_machine.specs.Machine.{is_session};
-ghost use Rattle.gx_txn.specs.Tables.{nothing_held, with_held};
+ghost use Rattle.gx_machine.specs.declared.call.Call.TheVariants.{Insert};
+ghost use Rattle.gx_machine.specs.Keys.{keys_of};
+ghost use Rattle.gx_txn.specs.Tables.{nothing_held, with_held, locks_for};
 ghost use Rattle.gx_phases.specs.declared.phase.Phase.TheVariants as phase;
-ghost use Rattle.gx_phases.specs.Moves.{restored_by, waits_for, with_work};
+ghost use Rattle.gx_phases.specs.Moves.{HeldNote, restored_by, waits_for, with_work};
 ghost use Rattle.gx_phases.specs.States.{phase_at, with_phase};
 
 use crate::asks::{place_of, set_phase};
 use crate::phase::Phase;
-use gx_geom::Shape;
-use gx_txn::Transactions;
+use gx_geom::{Refusal, Shape};
+use gx_txn::{Note, Transactions};
 use std::mem;
 
 /// Closes a session's call: it has a transaction, and no call open.
@@ -37,6 +39,21 @@ pub fn release<B: Shape>(table: &mut Transactions<B>, session: u8)
     ensures { table.new ≡ with_held session nothing_held table.old }
 {
     table.end(session);
+}
+
+/// Claims a note's entry for a session, and notes it; or says why it can't be claimed.
+pub fn hold<B: Shape>(
+    table: &mut Transactions<B>,
+    session: u8,
+    note: Note<B>,
+) -> Result<(), Refusal>
+    requires session { is_session session ≡ true }
+    requires eight { length table.old ≡ SESSIONS }
+    ensures { HeldNote (keys_of B.Shape) (locks_for (keys_of B.Shape) (Insert note.entry) session table.old) session note table.old result table.new }
+{
+    table.claim(session, note.entry)?;
+    table.note(session, note.entry, note.before, note.leaf);
+    Ok(())
 }
 
 /// The number of a commit that isn't acknowledged.
