@@ -1,6 +1,9 @@
 pub mod Calling
+pub mod Giving
 pub mod Helping
+pub mod Marking
 pub mod Moving
+pub mod OnlyReads
 pub mod Recording
 pub mod Shown
 pub mod Turning

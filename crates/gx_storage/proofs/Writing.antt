@@ -1,5 +1,5 @@
 -- A step of the tree with the record of its write.
-use Rattle.std.proofs.Common.{◌≡◌, ◌≢◌, ◌∙◌, sym, ap, refl, subst, inl, inr, ℕ, suc, ◌+◌, ◌^◌, ◌<◌, ◌≤◌, Bool, true, false, ◌==◌, List, length, IfSome, Result, Ok, Err, OnErr, arith}
+use Rattle.std.proofs.Common.{◌≡◌, ◌≢◌, ◌∙◌, sym, ap, refl, subst, inl, inr, ℕ, suc, ◌+◌, ◌^◌, ◌<◌, ◌≤◌, Bool, true, false, ◌&&◌, ◌==◌, List, [], ◌∷◌, ◌++◌, length, length-append, Option, Some, IfSome, Result, Ok, Err, OnErr, arith}
 use Rattle.std.specs.Prelude.{nat_le, nat_lt}
 use Rattle.std.proofs.lemmas.Bool.{and_parts, eq-eqb, leb-true, ltb-true}
 use Rattle.gx_machine.specs.declared.entry.Entry.{Entry}
@@ -11,8 +11,10 @@ use Rattle.gx_pool.specs.Laws.{IsPassed}
 use Rattle.gx_pool.specs.State.{kept}
 use Rattle.gx_record.specs.Rec.{Rec, Write}
 use Rattle.gx_record.specs.Format.{HasKey, IsInRange, spelling}
+use Rattle.gx_tree_laws.specs.Trees.{Node, Tree}
 use Rattle.gx_node.specs.Reading.{Format}
-use Rattle.gx_tree.specs.Store.{Store, tree_of}
+use Rattle.gx_tree.specs.Store.{Store, node_of, tree_of}
+use Rattle.gx_tree.specs.Writing.{live, Appends as AppendsPair}
 use Rattle.gx_recovery.specs.Known.{Known, Limits}
 use Rattle.gx_recovery.proofs.Tests.{clash}
 use Rattle.gx_index_laws.specs.Classes.{Page}
@@ -24,12 +26,12 @@ use Rattle.gx_glog.specs.declared.stage.Turn.TheVariants.{Closed}
 use Rattle.gx_durable.specs.Calls.{AppendStaysUp, AppendStaysStamped}
 use Rattle.gx_durable.specs.Spelled.{Reading, record_read}
 use Rattle.gx_readings.specs.Classes.{reading_of}
-use Rattle.gx_store.specs.Since.{GoesOn, IsAsItWas, IsSince}
+use Rattle.gx_store.specs.Since.{GoesOn, IsAsItWas, IsSince, IsStamped}
 use Rattle.gx_store.specs.Standing.{standing, standing_node, store_of}
 use Rattle.gx_store.specs.State.{Shelf, IsHeld, IsSteady}
 use Rattle.gx_store.proofs.Changing.{there}
 use Rattle.gx_store.proofs.Going.{begins}
-use Rattle.gx_store.proofs.Listed.{nodes_long}
+use Rattle.gx_store.proofs.Listed.{node_there, nodes_long}
 use Rattle.gx_store.proofs.Shown.{lent, stands_kept}
 use Rattle.gx_storage.specs.Changes.{IsLast, IsLogged, IsUnlogged, begun, has_room}
 use Rattle.gx_storage.specs.Keeps.{KeepsWith, StaysWith}
@@ -176,3 +178,33 @@ module _ {B D : Type 0} (known : Limits → Known (Entry B) (Page B)) (said : Li
       others = λ q other. did.others q other;
       most = refl;
     }
+
+-- ---- the stamp of an added pair
+
+-- a page that stands as it stood has the node that it had
+same_node : {B D : Type 0} (f : Format B) (one other : List ℕ) (s t : Shelf D) (page : ℕ) → 1 ≤ page → page ≤ s.used → page ≤ t.used → standing t.frames one page ≡ standing s.frames other page
+    → (tree_of (store_of f one t)).node page ≡ (tree_of (store_of f other s)).node page
+same_node f one other s t page low high now same =
+    node_there (standing_node f t.frames one) t.used page low now ∙ ap (λ (c : Contents). node_of f c) same ∙ sym (node_there (standing_node f s.frames other) s.used page low high)
+
+-- a leaf that has a pair more doesn't
+longer : {B : Type 0} (most : ℕ) (old new : Tree B) (a : ℕ) (entry : Entry B) → AppendsPair most old new a entry → new.node a ≡ old.node a → ⊥
+longer {B} most old new a entry made same =
+    let one : length ((old.node a).pairs ++ live entry ∷ []) ≡ length (old.node a).pairs = sym (ap (λ (n : Node B). length n.pairs) made.changes.changed) ∙ ap (λ (n : Node B). length n.pairs) same in
+    let more = length-append (old.node a).pairs (live entry ∷ []) in
+    absurd (omega (arith, one, more))
+
+-- so the leaf has the batch as its stamp
+pub added_stamped : {B D : Type 0} (f : Format B) (passes : ℕ → Contents → Bool) (state : D → Device) (v : Volume D) (size : ℕ) (t : Shelf D) (page most : ℕ) (entry : Entry B) → Stepped passes state v size t page
+    → IsHeld t page → IsSteady (state v.shelf.disk) v.shelf.frames
+    → AppendsPair most (tree_of (store_of f (state v.shelf.disk).seen v.shelf)) (tree_of (store_of f (state t.disk).seen t)) page entry → IsStamped v.log.used v.shelf.frames t.frames page
+added_stamped f passes state v size t page most entry did held steady made = elim (did.goes_on.each page) [
+  | inl same ↦
+      let high : page ≤ v.shelf.used = omega (arith, made.changes.there.1, nodes_long (standing_node f v.shelf.frames (state v.shelf.disk).seen) v.shelf.used) in
+      absurd (longer most _ _ page entry made (same_node f (state t.disk).seen (state v.shelf.disk).seen v.shelf t page held.from high held.to (same.stands steady)))
+  | inr changed ↦ changed
+]
+
+pub added_since : {B D : Type 0} (f : Format B) (state : D → Device) (v : Volume D) (size : ℕ) (u : Shelf D) (most : ℕ) (new : Tree B) (page : ℕ) (entry : Entry B) → u ≡ begun v size
+    → AppendsPair most (tree_of (store_of f (state u.disk).seen u)) new page entry → AppendsPair most (tree_of (store_of f (state v.shelf.disk).seen v.shelf)) new page entry
+added_since f state v size u most new page entry is made = subst {A = Shelf _} (λ x. AppendsPair most (tree_of (store_of f (state x.disk).seen x)) new page entry) is made

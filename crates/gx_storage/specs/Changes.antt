@@ -1,11 +1,11 @@
 -- A change of pages with its record, as a volume's calls leave it.
-use Rattle.std.specs.Prelude.{◌≡◌, ℕ, ◌+◌, Bool, false, List, length, nat_le, nat_lt, ◌&&◌}
+use Rattle.std.specs.Prelude.{◌≡◌, ℕ, ◌+◌, Bool, true, false, List, [], ◌∷◌, length, nat_le, nat_lt, ◌&&◌}
 use Rattle.gx_machine.specs.declared.entry.Entry.{Entry}
 use Rattle.gx_machine.specs.Keys.{Members}
 use Rattle.gx_disk.specs.Device.{Device}
 use Rattle.gx_page.specs.Contents.{Contents}
 use Rattle.gx_page.specs.Format.{image_of}
-use Rattle.gx_record.specs.Rec.{Rec, Write}
+use Rattle.gx_record.specs.Rec.{Rec, Pages, Write}
 use Rattle.gx_record.specs.Format.{HasKey}
 use Rattle.gx_node.specs.Reading.{Format}
 use Rattle.gx_recovery.specs.Known.{Known, Limits}
@@ -19,6 +19,8 @@ use Rattle.gx_readings.specs.Classes.{class_of}
 use Rattle.gx_store.specs.Since.{GoesOn, IsAsItWas, IsSince}
 use Rattle.gx_store.specs.Standing.{standing}
 use Rattle.gx_store.specs.State.{Shelf}
+use Rattle.gx_tree.specs.declared.seek.Sought.{Sought}
+use Rattle.gx_tree.specs.declared.seek.Sought.TheVariants.{Here, Right}
 use Rattle.gx_storage.specs.Keeps.{KeepsTheSame, KeepsWith, Logs}
 use Rattle.gx_storage.specs.State.{Volume}
 
@@ -42,6 +44,10 @@ image_at seen s page = image_of (standing s.frames seen page)
 -- a transaction's write of an entry on a leaf, which stands so now
 abbrev pub write_of : {B D : Type 0} → (B → List ℕ) → ℕ → ℕ → B → Bool → Bool → ℕ → List ℕ → Shelf D → Rec
 write_of spelling transaction row key before after leaf seen s = Write transaction row (spelling key) before after leaf (image_at seen s leaf)
+
+-- a page that was changed, as it stands now, with the numbers as they are now
+abbrev pub page_given : {D : Type 0} → ℕ → List ℕ → Shelf D → Rec
+page_given page seen s = Pages s.counter s.used ((page, image_at seen s page) ∷ [])
 
 module _ {B : Type 0} (known : Limits → Known (Entry B) (Page B)) (r : Reading (Entry B) (Page B)) where
   -- A record is the log's last: the log is longer by just this, and stays up with it on each device that it was up on.
@@ -67,6 +73,16 @@ module _ {B : Type 0} (known : Limits → Known (Entry B) (Page B)) (r : Reading
       pub keeps : (l : Limits) → KeepsTheSame (known l) r f passes d e v w
       pub since : (q : ℕ) → IsSince passes d e old w.shelf q
       pub most : w.most ≡ v.most
+
+    -- The mark of a pair was set, and is logged with the mark that was found; or the pair isn't in the leaf, and nothing is logged.
+    abbrev pub MarkIsLogged : {D : Type 0} → (B → List ℕ) → ℕ → ℕ → Entry B → ℕ → Bool → Device → Device → Volume D → Volume D → Sought → Type 0
+    MarkIsLogged spelling key transaction entry page marked d e v w (Here slot before) = IsLogged (key + 4119) d e v w (write_of spelling transaction entry.row entry.key before marked page e.seen w.shelf)
+    MarkIsLogged spelling key transaction entry page marked d e v w (Right next) = IsUnlogged (begun v (key + 4119)) d e v w
+
+    -- Something was changed, and is logged; or nothing was, and nothing is.
+    abbrev pub IsLoggedIf : {D : Type 0} → ℕ → Device → Device → Volume D → Volume D → Rec → Bool → Type 0
+    IsLoggedIf size d e v w x true = IsLogged size d e v w x
+    IsLoggedIf size d e v w x false = IsUnlogged (begun v size) d e v w
 
 -- Where a store has only gone on, with each page as it was and as many taken and counted, its volume keeps the same state.
 abbrev pub ReadsKeep : {B D : Type 0} → Known (Entry B) (Page B) → Reading (Entry B) (Page B) → Format B → (ℕ → Contents → Bool) → Device → Device → Volume D → Shelf D → Type 0

@@ -2,5 +2,8 @@
 //! nothing has changed.
 
 mod add;
+mod descend;
+mod given;
 mod room;
+mod set_mark;
 mod written;

@@ -1,5 +1,4 @@
 use Rattle.std.proofs.Common.{refl}
-use Rattle.gx_pool.specs.State.{State}
 use Rattle.gx_store.proofs.Calling.{fewer_answers, written_err, written_ok}
 use Rattle.gx_store.proofs.calls.write.Goals as goal
 

@@ -3,7 +3,7 @@ use Rattle.gx_node.specs.Reading.{format_of, is_node}
 use Rattle.gx_store.specs.Standing.{store_of}
 use Rattle.gx_store.specs.State.{Shelf}
 use Rattle.gx_storage.specs.State.{Volume}
-use Rattle.gx_storage.proofs.Writing.{begun_is, has_room_then, logged_write, on_err, stepped, steady_begun, tree_used, unlogged, unstepped}
+use Rattle.gx_storage.proofs.Writing.{added_since, added_stamped, begun_is, has_room_then, logged_write, on_err, stepped, steady_begun, tree_used, unlogged, unstepped}
 use Rattle.gx_storage.proofs.storage.Storage.add.Goals as goal
 
 pub returns-in_err-add_step-clause-unlogged : goal.returns-in_err-add_step-clause-unlogged
@@ -63,3 +63,17 @@ returns-clause-logged g c =
     (let made = c.in_ok-add_step.ensures.added (steady_begun (is_node f) state v size t u is steady) in
     (tree_used f (state t.disk).seen (state u.disk).seen u t made.changes.used ∙ ap (λ (x : Shelf g.row.D.Denot). x.used) is, made.changes.counter ∙ ap (λ (x : Shelf g.row.D.Denot). x.counter) is)))
     c.write_record.ensures.last c.write_record.ensures.formed)
+
+pub returns-clause-stamped : goal.returns-clause-stamped
+returns-clause-stamped g c =
+    let i = c.self.inside in
+    let f = format_of g.K.KeyClass in
+    let state = g.D.SectorDisk.state in
+    let v : Volume g.row.D.Denot = record { log = i.log; shelf = i.store; most = i.most } in
+    let u = c.begin.new.self in
+    let t = c.add_step.new.pages in
+    let size = g.K.KeyClass.KEY + 4119 in
+    let is = begun_is v u size _ _ _ c.begin.ensures (c.from.ensures ∙ c.used.ensures.used) c.has_room-room.ensures (ap (λ n. n + 4119) c.KEY.ensures) in
+    let did = stepped (is_node f) state v size t u c.args.page is c.in_ok-add_step.ensures.since in
+    rw (← c.self.view_is) (λ steady. added_stamped f (is_node f) state v size t c.args.page i.most c.args.entry.now did c.in_ok-add_step.ensures.held.0 steady
+    (added_since f state v size u i.most _ c.args.page c.args.entry.now is (c.in_ok-add_step.ensures.added (steady_begun (is_node f) state v size t u is steady))))

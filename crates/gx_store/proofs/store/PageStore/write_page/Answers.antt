@@ -1,9 +1,8 @@
-use Rattle.std.proofs.Common.{ℕ, ◌≡◌, ◌∙◌, ◌⊎◌, ◌<◌, Bool, Option, None, Some, false, true, inl, inr, sym, ap, subst}
+use Rattle.std.proofs.Common.{ℕ, ◌≡◌, ◌∙◌, ◌⊎◌, ◌<◌, Bool, false, true, inl, inr, sym, subst}
 use Rattle.std.proofs.lemmas.Option.{none-some}
 use Rattle.gx_node.specs.Reading.{format_of, is_node}
 use Rattle.gx_pool.specs.Laws.{IsPassed}
 use Rattle.gx_pool.specs.Readable.{IsReadable}
-use Rattle.gx_pool.specs.State.{State, Kept, kept}
 use Rattle.gx_store.specs.Faults.{is_taken}
 use Rattle.gx_store.proofs.Calling.{none_gated, none_there, write_in_order}
 use Rattle.gx_store.proofs.store.PageStore.write_page.Goals as goal

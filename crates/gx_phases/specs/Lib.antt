@@ -1,0 +1,6 @@
+pub mod States
+pub mod Parts
+pub mod Asked
+pub mod Moves
+pub mod Restoring
+pub mod Indexes

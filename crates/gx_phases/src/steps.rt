@@ -1,0 +1,119 @@
+//! What is read of a session that is so far, and how its work is changed.
+ghost use Rattle.std.specs.Prelude.{◌≡◌, ◌-◌, true, length};
+ghost use Rattle.gx_machine.specs.declared.limits.TheConstants.{SESSIONS};
+ghost use Rattle.gx_machine.specs.Machine.{is_session};
+ghost use Rattle.gx_machine.specs.declared.call.Call.TheVariants.{Insert};
+ghost use Rattle.gx_machine.specs.Keys.{keys_of};
+ghost use Rattle.gx_txn.specs.Tables.{nothing_held, with_held, locks_for};
+ghost use Rattle.gx_phases.specs.declared.phase.Phase.TheVariants as phase;
+ghost use Rattle.gx_phases.specs.Moves.{HeldNote, restored_by, waits_for, with_work};
+ghost use Rattle.gx_phases.specs.States.{phase_at, with_phase};
+
+use crate::asks::{place_of, set_phase};
+use crate::phase::Phase;
+use gx_geom::{Refusal, Shape};
+use gx_txn::{Note, Transactions};
+use std::mem;
+
+/// Closes a session's call: it has a transaction, and no call open.
+pub fn close<B: Shape, W: Drop>(phases: &mut Vec<Phase<B, W>>, session: u8)
+    requires session { is_session session ≡ true }
+    requires eight { length phases.old.items ≡ SESSIONS }
+    ensures { phases.new.items ≡ with_phase session phase.Working phases.old.items }
+{
+    set_phase(phases, session, Phase::Working);
+}
+
+/// A session has no transaction.
+pub fn free<B: Shape, W: Drop>(phases: &mut Vec<Phase<B, W>>, session: u8)
+    requires session { is_session session ≡ true }
+    requires eight { length phases.old.items ≡ SESSIONS }
+    ensures { phases.new.items ≡ with_phase session phase.Free phases.old.items }
+{
+    set_phase(phases, session, Phase::Free);
+}
+
+/// A session holds nothing.
+pub fn release<B: Shape>(table: &mut Transactions<B>, session: u8)
+    requires { is_session session ≡ true }
+    ensures { table.new ≡ with_held session nothing_held table.old }
+{
+    table.end(session);
+}
+
+/// Claims a note's entry for a session, and notes it; or says why it can't be claimed.
+pub fn hold<B: Shape>(
+    table: &mut Transactions<B>,
+    session: u8,
+    note: Note<B>,
+) -> Result<(), Refusal>
+    requires session { is_session session ≡ true }
+    requires eight { length table.old ≡ SESSIONS }
+    ensures { HeldNote (keys_of B.Shape) (locks_for (keys_of B.Shape) (Insert note.entry) session table.old) session note table.old result table.new }
+{
+    table.claim(session, note.entry)?;
+    table.note(session, note.entry, note.before, note.leaf);
+    Ok(())
+}
+
+/// The number of a commit that isn't acknowledged.
+pub fn waits_for<B: Shape, W>(phase: &Phase<B, W>) -> Option<u64>
+    ensures { result ≡ waits_for phase.now }
+{
+    match phase {
+        Phase::Free => None,
+        Phase::Working => None,
+        Phase::Open(_, _) => None,
+        Phase::Undoing(_, _) => None,
+        Phase::Waiting(number) => Some(*number),
+    }
+}
+
+/// How many notes of a transaction that is undone are restored.
+pub fn restored_by<B: Shape, W>(phase: &Phase<B, W>) -> Option<usize>
+    ensures { result ≡ restored_by phase.now }
+{
+    match phase {
+        Phase::Free => None,
+        Phase::Working => None,
+        Phase::Open(_, _) => None,
+        Phase::Undoing(restored, _) => Some(*restored),
+        Phase::Waiting(_) => None,
+    }
+}
+
+/// Gives a phase this work, and hands back what it had; or hands this back.
+fn with_work<B: Shape, W: Drop>(work: W, phase: Phase<B, W>) -> (W, Phase<B, W>)
+    ensures { result ≡ with_work work phase }
+{
+    match phase {
+        Phase::Free => (work, Phase::Free),
+        Phase::Working => (work, Phase::Working),
+        Phase::Open(call, before) => (before, Phase::Open(call, work)),
+        Phase::Undoing(restored, before) => (before, Phase::Undoing(restored, work)),
+        Phase::Waiting(number) => (work, Phase::Waiting(number)),
+    }
+}
+
+/// Takes how far a session is, and leaves it with no call open.
+fn take_phase<B: Shape, W: Drop>(phases: &mut Vec<Phase<B, W>>, session: u8) -> Phase<B, W>
+    requires session { is_session session ≡ true }
+    requires eight { length phases.old.items ≡ SESSIONS }
+    ensures was { result ≡ phase_at (session - 1) phases.old.items }
+    ensures phases { phases.new.items ≡ with_phase session phase.Working phases.old.items }
+{
+    mem::replace(&mut phases[place_of(session)], Phase::Working)
+}
+
+/// Gives a session this work, and hands back what it had; or hands this back.
+pub fn replace_work<B: Shape, W: Drop>(phases: &mut Vec<Phase<B, W>>, session: u8, work: W) -> W
+    requires session { is_session session ≡ true }
+    requires eight { length phases.old.items ≡ SESSIONS }
+    ensures given { result ≡ (with_work work (phase_at (session - 1) phases.old.items)).0 }
+    ensures phases { phases.new.items ≡ with_phase session (with_work work (phase_at (session - 1) phases.old.items)).1 phases.old.items }
+{
+    let was = take_phase(phases, session);
+    let (before, phase) = with_work(work, was);
+    set_phase(phases, session, phase);
+    before
+}

@@ -1,0 +1,79 @@
+//! A step of a descent, which may widen a bound.
+ghost use Rattle.std.specs.Prelude.{◌≡◌, ◌≢◌, ◌<◌, length, Err, IfOk, OnErr, IfErr};
+ghost use Rattle.gx_glog.specs.declared.stage.Turn.TheVariants.{Closed};
+ghost use Rattle.gx_node.specs.Reading.{format_of, is_node};
+ghost use Rattle.gx_readings.specs.Classes.{reading_of};
+ghost use Rattle.gx_store.specs.Faults as faults;
+ghost use Rattle.gx_store.specs.Standing.{store_of};
+ghost use Rattle.gx_store.specs.State.{IsSteady};
+ghost use Rattle.gx_tree_laws.specs.Trees.{Used};
+ghost use Rattle.gx_tree.specs.Descending.{StepsDown, is_widened};
+ghost use Rattle.gx_tree.specs.Owner.{IsWhy};
+ghost use Rattle.gx_tree.specs.Store.{tree_of};
+ghost use Rattle.gx_storage.specs.Changes.{IsLoggedIf, IsUnlogged, begun, known_at, page_given};
+
+use crate::Storage;
+use crate::changes::given::give_page;
+use crate::changes::room::has_room;
+use gx_disk::SectorDisk;
+use gx_geom::Shape;
+use gx_readings::ReadKeys;
+use gx_store::StoreFault;
+use gx_tree::{Descended, Item, Pages, StepFault, descend_step};
+
+/// Whether a step of a descent widened a bound.
+fn was_widened<B: Shape>(did: &Descended<B>) -> bool
+    ensures { result ≡ is_widened did.now }
+{
+    match did {
+        Descended::Widened(..) => true,
+        Descended::Down(_)
+        | Descended::Again
+        | Descended::Leaf
+        | Descended::FullLeaf
+        | Descended::FullInner => false,
+    }
+}
+
+impl<D: SectorDisk, K: ReadKeys> Storage<D, K> {
+    /// Makes a step of a descent for a coming key at the page of its item, as the tree's `descend_step` says. Where a bound was widened
+    /// the record of its page is appended; else nothing has changed and nothing is logged, and no room is asked for.
+    ///
+    /// Refused with `Pages` where the page could not be brought, or the bound has to be widened and the log has no room for the record
+    /// (`NoRoom`); with `Damaged` only where the page isn't taken, or has a level above 0 and no entries. Nothing has changed then, and
+    /// nothing is logged.
+    pub fn descend(
+        &mut self,
+        item: &Item,
+        coming: &K::Key,
+    ) -> Result<Descended<K::Key>, StepFault<StoreFault>>
+        requires still { self.old.log.turn ≡ Closed }
+        ensures logged { IfOk result (λ did. IsLoggedIf (known_at K.Key.Shape K.is_proper) (reading_of K.said (format_of K.KeyClass)) (format_of K.KeyClass) (is_node (format_of K.KeyClass))
+            4114 (D.state self.old.shelf.disk) (D.state self.new.shelf.disk) self.old self.new (page_given item.now.page (D.state self.new.shelf.disk).seen self.new.shelf) (is_widened did)) }
+        ensures unlogged { OnErr result (IsUnlogged (known_at K.Key.Shape K.is_proper) (reading_of K.said (format_of K.KeyClass)) (format_of K.KeyClass) (is_node (format_of K.KeyClass))
+            (begun self.old 4114) (D.state self.old.shelf.disk) (D.state self.new.shelf.disk) self.old self.new) }
+        ensures descended { IsSteady (D.state self.old.shelf.disk) self.old.shelf.frames → IfOk result (StepsDown K.cost K.joined self.old.most
+            (store_of (format_of K.KeyClass) (D.state self.old.shelf.disk).seen self.old.shelf) (store_of (format_of K.KeyClass) (D.state self.new.shelf.disk).seen self.new.shelf) item.now coming.now) }
+        ensures refused { IsSteady (D.state self.old.shelf.disk) self.old.shelf.frames
+            → OnErr result (store_of (format_of K.KeyClass) (D.state self.new.shelf.disk).seen self.new.shelf ≡ store_of (format_of K.KeyClass) (D.state self.old.shelf.disk).seen self.old.shelf) }
+        ensures why { IfErr result (IsWhy (faults.IsWhy (is_node (format_of K.KeyClass)) (D.state self.old.shelf.disk) (D.state self.new.shelf.disk) (begun self.old 4114) self.new.shelf)) }
+        ensures damaged { IsSteady (D.state self.old.shelf.disk) self.old.shelf.frames → result ≡ Err StepFault.Damaged
+            → Used (tree_of (store_of (format_of K.KeyClass) (D.state self.old.shelf.disk).seen self.old.shelf)) item.now.page
+            → (0 < ((tree_of (store_of (format_of K.KeyClass) (D.state self.old.shelf.disk).seen self.old.shelf)).node item.now.page).level)
+            × (length ((tree_of (store_of (format_of K.KeyClass) (D.state self.old.shelf.disk).seen self.old.shelf)).node item.now.page).children ≡ 0) }
+        ensures memory { result ≢ Err StepFault.Memory }
+        ensures full { result ≢ Err StepFault.PagesFull }
+    {
+        let room = has_room(&self.log, 4114);
+        self.store.begin(u64::from(self.log.used()), room);
+        let did = descend_step(&mut self.store, item, coming, self.most)?;
+        if !was_widened(&did) {
+            return Ok(did);
+        }
+        self.store.in_order();
+        let counter = self.store.counter();
+        let used = self.store.used();
+        give_page(&mut self.log, &self.store, counter, used, item.page());
+        Ok(did)
+    }
+}

@@ -1,0 +1,86 @@
+//! The mark of a pair is set or cleared.
+ghost use Rattle.std.specs.Prelude.{◌≡◌, ◌≢◌, ◌+◌, ℕ, Bool, true, false, Err, IfOk, OnErr, IfErr};
+ghost use Rattle.gx_glog.specs.declared.stage.Turn.TheVariants.{Closed};
+ghost use Rattle.gx_node.specs.Reading.{format_of, is_node};
+ghost use Rattle.gx_readings.specs.Classes.{reading_of};
+ghost use Rattle.gx_record.specs.Seen.{is_marked};
+ghost use Rattle.gx_store.specs.Faults as faults;
+ghost use Rattle.gx_store.specs.Standing.{store_of};
+ghost use Rattle.gx_store.specs.State.{IsSteady};
+ghost use Rattle.gx_tree_laws.specs.Trees.{Used};
+ghost use Rattle.gx_tree.specs.Owner.{IsWhy};
+ghost use Rattle.gx_tree.specs.Store.{tree_of};
+ghost use Rattle.gx_tree.specs.Wants.{wants};
+ghost use Rattle.gx_tree.specs.Writing.{SetsMark};
+ghost use Rattle.gx_storage.specs.Changes.{IsUnlogged, MarkIsLogged, begun, known_at};
+
+use crate::Storage;
+use crate::changes::room::has_room;
+use crate::changes::written::write_record;
+use gx_class::Probing;
+use gx_disk::SectorDisk;
+use gx_machine::Entry;
+use gx_readings::ReadKeys;
+use gx_record::Mark;
+use gx_store::StoreFault;
+use gx_tree::{Sought, StepFault, Wanted, set_mark_step};
+
+/// A mark as a record has it.
+fn mark_of(marked: bool) -> Mark
+    ensures { is_marked result ≡ marked }
+{
+    if marked { Mark::Marked } else { Mark::Live }
+}
+
+impl<D: SectorDisk, K: ReadKeys + Probing> Storage<D, K> {
+    /// Sets or clears the mark of the wanted pair in the leaf on a page, and appends the transaction's write of the entry, with the
+    /// mark that was found. Where the pair isn't in this leaf the next one is told, as `seek_step` does, and nothing is logged.
+    ///
+    /// Refused with `Pages` where the log has no room for the record (`NoRoom`), or the page could not be brought; with `Damaged` only
+    /// where it isn't a leaf that is taken. Nothing has changed then, and nothing is logged.
+    pub fn set_mark(
+        &mut self,
+        transaction: u64,
+        wanted: &Wanted<K>,
+        page: u32,
+        entry: &Entry<K::Key>,
+        marked: bool,
+    ) -> Result<Sought, StepFault<StoreFault>>
+        requires still { self.old.log.turn ≡ Closed }
+        ensures logged { IfOk result (MarkIsLogged (known_at K.Key.Shape K.is_proper) (reading_of K.said (format_of K.KeyClass)) (format_of K.KeyClass) (is_node (format_of K.KeyClass))
+            K.spelling K.KEY transaction entry.now page marked (D.state self.old.shelf.disk) (D.state self.new.shelf.disk) self.old self.new) }
+        ensures unlogged { OnErr result (IsUnlogged (known_at K.Key.Shape K.is_proper) (reading_of K.said (format_of K.KeyClass)) (format_of K.KeyClass) (is_node (format_of K.KeyClass))
+            (begun self.old (K.KEY + 4119)) (D.state self.old.shelf.disk) (D.state self.new.shelf.disk) self.old self.new) }
+        ensures marked { IsSteady (D.state self.old.shelf.disk) self.old.shelf.frames
+            → IfOk result (SetsMark (wants K.passes wanted.now.keys wanted.now.row) (store_of (format_of K.KeyClass) (D.state self.old.shelf.disk).seen self.old.shelf) (store_of (format_of K.KeyClass) (D.state self.new.shelf.disk).seen self.new.shelf) page marked) }
+        ensures refused { IsSteady (D.state self.old.shelf.disk) self.old.shelf.frames
+            → OnErr result (store_of (format_of K.KeyClass) (D.state self.new.shelf.disk).seen self.new.shelf ≡ store_of (format_of K.KeyClass) (D.state self.old.shelf.disk).seen self.old.shelf) }
+        ensures why { IfErr result (IsWhy (faults.IsWhy (is_node (format_of K.KeyClass)) (D.state self.old.shelf.disk) (D.state self.new.shelf.disk) (begun self.old (K.KEY + 4119)) self.new.shelf)) }
+        ensures damaged { IsSteady (D.state self.old.shelf.disk) self.old.shelf.frames → result ≡ Err StepFault.Damaged
+            → Used (tree_of (store_of (format_of K.KeyClass) (D.state self.old.shelf.disk).seen self.old.shelf)) page
+            → ((tree_of (store_of (format_of K.KeyClass) (D.state self.old.shelf.disk).seen self.old.shelf)).node page).level ≢ 0 }
+        ensures memory { result ≢ Err StepFault.Memory }
+        ensures full { result ≢ Err StepFault.PagesFull }
+    {
+        let room = has_room(&self.log, K::KEY + 4119);
+        self.store.begin(u64::from(self.log.used()), room);
+        match set_mark_step(&mut self.store, wanted, page, marked)? {
+            Sought::Here(slot, before) => {
+                self.store.in_order();
+                write_record(
+                    &mut self.log,
+                    &self.store,
+                    &mut self.key,
+                    transaction,
+                    entry.row,
+                    entry.key,
+                    mark_of(before),
+                    mark_of(marked),
+                    page,
+                );
+                Ok(Sought::Here(slot, before))
+            }
+            Sought::Right(next) => Ok(Sought::Right(next)),
+        }
+    }
+}

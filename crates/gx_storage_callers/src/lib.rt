@@ -1,0 +1,4 @@
+//! Callers of pages with their log as an engine will be, proved from contracts and laws alone for both classes.
+#![tactic(auto)]
+
+pub mod adds;
