@@ -1,5 +1,5 @@
 -- What a store that has gone on leaves of the state that its volume keeps.
-use Rattle.std.proofs.Common.{◌≡◌, ◌∙◌, sym, ap, refl, subst, ◌⊎◌, inl, inr, ⊎_elim, ℕ, ◌≤◌, Bool, true, false, List, Option, None, Some, IsSome, arith}
+use Rattle.std.proofs.Common.{◌≡◌, ◌∙◌, sym, ap, refl, subst, inl, inr, ⊎_elim, ℕ, ◌≤◌, Bool, false, List, Option, None, Some, IsSome, arith}
 use Rattle.gx_machine.specs.declared.entry.Entry.{Entry}
 use Rattle.gx_disk.specs.Device.{Device}
 use Rattle.gx_page.specs.Contents.{Contents}
@@ -7,7 +7,7 @@ use Rattle.gx_page.specs.Format.{IsWellFormed}
 use Rattle.gx_pool.specs.Area.{bytes_of}
 use Rattle.gx_pool.specs.Edits.{later}
 use Rattle.gx_pool.specs.Laws.{IsBacked}
-use Rattle.gx_pool.specs.State.{State, Kept, kept, stamp_of}
+use Rattle.gx_pool.specs.State.{Kept, kept, stamp_of}
 use Rattle.gx_pool.proofs.Places.{some-injective}
 use Rattle.gx_node.specs.Reading.{Format}
 use Rattle.gx_recovery.specs.Known.{Known, IsLawful}

@@ -20,7 +20,7 @@ use Rattle.gx_recovery.specs.Redo.{redo}
 use Rattle.gx_recovery.specs.Logged.{Logged, all_records, appended}
 use Rattle.gx_recovery.proofs.Folds.{analysis-snoc}
 use Rattle.gx_recovery.proofs.Logs.{and_all}
-use Rattle.gx_recovery.proofs.Tests.{true_or_false, clash, itself}
+use Rattle.gx_recovery.proofs.Tests.{true_or_false}
 use Rattle.gx_index_laws.specs.Classes.{Page}
 use Rattle.gx_glog.specs.State.{Log}
 use Rattle.gx_glog.specs.declared.filling.Appended.TheVariants.{At}

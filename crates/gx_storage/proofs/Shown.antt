@@ -1,21 +1,19 @@
 -- The tree that a volume shows is the log's.
-use Rattle.std.proofs.Common.{◌≡◌, ◌∙◌, sym, ap, refl, ℕ, ◌+◌, ◌≤◌, Bool, true, ◌&&◌, List, Option, None, Some, arith}
+use Rattle.std.proofs.Common.{◌≡◌, ◌∙◌, sym, ap, refl, ℕ, ◌≤◌, Bool, true, ◌&&◌, List, Option, None, Some, arith}
 use Rattle.std.specs.Prelude.{if◌then◌else◌, nat_le, nat_lt, length}
 use Rattle.std.specs.List.{list_all}
 use Rattle.std.proofs.lemmas.Bool.{lt-ltb, le-leb, leb-true}
 use Rattle.gx_machine.specs.declared.entry.Entry.{Entry}
 use Rattle.gx_disk.specs.Device.{Device}
 use Rattle.gx_page.specs.Contents.{Contents}
-use Rattle.gx_page.specs.Format.{image_of, IsWellFormed}
+use Rattle.gx_page.specs.Format.{IsWellFormed}
 use Rattle.gx_page.specs.Reading.{read_of}
 use Rattle.gx_page.proofs.Images.{read-image}
 use Rattle.gx_pool.specs.Area.{bytes_of}
-use Rattle.gx_pool.specs.Laws.{IsBacked, shown, shown_of}
+use Rattle.gx_pool.specs.Laws.{IsBacked, shown_of}
 use Rattle.gx_pool.specs.State.{State, Kept, kept}
-use Rattle.gx_tree_laws.specs.Trees.{Node}
 use Rattle.gx_tree_laws.specs.Alike.{AgreeOnUsed}
 use Rattle.gx_node.specs.Reading.{Format}
-use Rattle.gx_tree.specs.Store as tree_store
 use Rattle.gx_recovery.specs.Known.{Known, IsLawful}
 use Rattle.gx_recovery.specs.Records.{Record}
 use Rattle.gx_recovery.specs.Analysis.{analysis}
@@ -27,15 +25,13 @@ use Rattle.gx_recovery.proofs.Logs.{and_all}
 use Rattle.gx_recovery.proofs.Renewals.{log_fits}
 use Rattle.gx_recovery.proofs.Tests.{and_first}
 use Rattle.gx_index_laws.specs.Classes.{Page}
-use Rattle.gx_durable.specs.Spelled.{Reading}
 use Rattle.gx_durable.specs.Stored.{bytes_by, stored, IsStored}
-use Rattle.gx_readings.specs.Classes.{node_of, page_of, reading_of}
-use Rattle.gx_store.specs.Standing.{standing, standing_node, nodes_to, store_of}
-use Rattle.gx_store.specs.State.{Shelf}
+use Rattle.gx_readings.specs.Classes.{page_of, reading_of}
+use Rattle.gx_store.specs.Standing.{standing, standing_node}
 use Rattle.gx_store.proofs.Listed.{node_there, nodes_long}
 use Rattle.gx_store.proofs.Shown.{stands_shown}
 use Rattle.gx_storage.specs.Formed.{AreFormed}
-use Rattle.gx_storage.specs.Keeps.{Keeps, ShowsTheLogs, tree_after, tree_shown}
+use Rattle.gx_storage.specs.Keeps.{ShowsTheLogs, tree_after, tree_shown}
 use Rattle.gx_storage.specs.State.{Volume}
 
 -- the pages in use are the device's
