@@ -1,5 +1,5 @@
 -- Pages that were changed, with the record that gives them.
-use Rattle.std.proofs.Common.{◌≡◌, ◌∙◌, sym, ap, refl, subst, inl, inr, ℕ, ◌+◌, ◌^◌, ◌<◌, ◌≤◌, Bool, true, false, ◌||◌, ◌==◌, List, [], ◌∷◌, ◌++◌, Option, Some, arith}
+use Rattle.std.proofs.Common.{◌≡◌, ◌∙◌, sym, ap, refl, subst, inl, inr, ℕ, ◌^◌, ◌<◌, ◌≤◌, Bool, true, false, ◌||◌, ◌==◌, List, [], ◌∷◌, Option, Some, arith}
 use Rattle.std.specs.Prelude.{if◌then◌else◌}
 use Rattle.std.specs.List.{list_any}
 use Rattle.std.proofs.lemmas.Bool.{eqb-true}
@@ -13,8 +13,7 @@ use Rattle.gx_record.specs.Rec.{Rec, Pages}
 use Rattle.gx_record.specs.Format.{IsInRange}
 use Rattle.gx_node.specs.Reading.{Format}
 use Rattle.gx_recovery.specs.Known.{Known, IsLawful, Limits}
-use Rattle.gx_recovery.specs.Records.{Image, Record, gives}
-use Rattle.gx_recovery.specs.Records as records
+use Rattle.gx_recovery.specs.Records.{Image, Record}
 use Rattle.gx_recovery.specs.Analysis.{Analysis}
 use Rattle.gx_recovery.specs.Redo.{with_images, with_page}
 use Rattle.gx_recovery.specs.Logged.{Logged, all_records}

@@ -1,5 +1,5 @@
 -- What the setting of a mark leaves.
-use Rattle.std.proofs.Common.{◌≡◌, sym, subst, ℕ, Bool, List, Some}
+use Rattle.std.proofs.Common.{◌≡◌, subst, ℕ, Bool}
 use Rattle.gx_disk.specs.Device.{Device}
 use Rattle.gx_tree_laws.specs.Trees.{Pair}
 use Rattle.gx_node.specs.Reading.{Format}

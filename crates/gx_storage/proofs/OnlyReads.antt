@@ -1,5 +1,5 @@
 -- A step that only reads leaves the state.
-use Rattle.std.proofs.Common.{◌≡◌, refl, sym, ap, ◌∙◌, ℕ, Bool, List, length}
+use Rattle.std.proofs.Common.{refl, sym, ◌∙◌, ℕ, Bool}
 use Rattle.gx_machine.specs.declared.entry.Entry.{Entry}
 use Rattle.gx_disk.specs.Device.{Device}
 use Rattle.gx_page.specs.Contents.{Contents}
