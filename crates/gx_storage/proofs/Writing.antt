@@ -182,7 +182,7 @@ module _ {B D : Type 0} (known : Limits → Known (Entry B) (Page B)) (said : Li
 -- ---- the stamp of an added pair
 
 -- a page that stands as it stood has the node that it had
-same_node : {B D : Type 0} (f : Format B) (one other : List ℕ) (s t : Shelf D) (page : ℕ) → 1 ≤ page → page ≤ s.used → page ≤ t.used → standing t.frames one page ≡ standing s.frames other page
+pub same_node : {B D : Type 0} (f : Format B) (one other : List ℕ) (s t : Shelf D) (page : ℕ) → 1 ≤ page → page ≤ s.used → page ≤ t.used → standing t.frames one page ≡ standing s.frames other page
     → (tree_of (store_of f one t)).node page ≡ (tree_of (store_of f other s)).node page
 same_node f one other s t page low high now same =
     node_there (standing_node f t.frames one) t.used page low now ∙ ap (λ (c : Contents). node_of f c) same ∙ sym (node_there (standing_node f s.frames other) s.used page low high)

@@ -2,4 +2,5 @@ pub mod Changes
 pub mod Flushing
 pub mod Formed
 pub mod Keeps
+pub mod Numbers
 pub mod State

@@ -6,4 +6,5 @@ mod descend;
 mod given;
 mod room;
 mod set_mark;
+mod sweep;
 mod written;

@@ -7,6 +7,7 @@ ghost use Rattle.gx_readings.specs.Classes.{reading_of};
 ghost use Rattle.gx_store.specs.Standing.{standing};
 ghost use Rattle.gx_store.specs.State.{IsHeld};
 ghost use Rattle.gx_storage.specs.Changes.{IsLast, known_at, page_given};
+ghost use Rattle.gx_storage.specs.Numbers.{HasOwnNumber};
 
 use gx_disk::SectorDisk;
 use gx_durable::calls::append;
@@ -31,6 +32,7 @@ pub(crate) fn give_page<D: SectorDisk, K: ReadKeys>(
     requires numbers { (counter ≡ store.now.counter) × (used ≡ store.now.used) }
     ensures last { IsLast (known_at K.Key.Shape K.is_proper) (reading_of K.said (format_of K.KeyClass)) (page_given page (D.state store.now.disk).seen store.now) log.old log.new }
     ensures formed { IsWellFormed (standing store.now.frames (D.state store.now.disk).seen page) }
+    ensures own { HasOwnNumber (D.state store.now.disk).seen store.now page }
 {
     store.in_order();
     let held = store.held_page(page);
