@@ -2,3 +2,4 @@
 #![tactic(auto)]
 
 pub mod adds;
+pub mod sweeps;
