@@ -104,7 +104,7 @@ module _ {D : Type 0} (passes : ℕ → Contents → Bool) (state : D → Device
     pub goes_on : GoesOn passes (state v.shelf.disk) (state t.disk) (begun v size) t
     pub others : (q : ℕ) → (page == q) ≡ false → IsAsItWas (state v.shelf.disk) (state t.disk) v.shelf.frames t.frames q
 
-  since_begun : (u : Shelf D) (q : ℕ) → u ≡ begun v size → ((was : Shelf D) → IsSince passes (state was.disk) (state u.disk) was u q → IsSince passes (state was.disk) (state t.disk) was t q)
+  pub since_begun : (u : Shelf D) (q : ℕ) → u ≡ begun v size → ((was : Shelf D) → IsSince passes (state was.disk) (state u.disk) was u q → IsSince passes (state was.disk) (state t.disk) was t q)
       → IsSince passes (state v.shelf.disk) (state t.disk) (begun v size) t q
   since_begun u q is keeps =
       let I : Shelf D → Type 0 = λ x. ((was : Shelf D) → IsSince passes (state was.disk) (state x.disk) was x q → IsSince passes (state was.disk) (state t.disk) was t q) in
@@ -182,7 +182,7 @@ module _ {B D : Type 0} (known : Limits → Known (Entry B) (Page B)) (said : Li
 -- ---- the stamp of an added pair
 
 -- a page that stands as it stood has the node that it had
-same_node : {B D : Type 0} (f : Format B) (one other : List ℕ) (s t : Shelf D) (page : ℕ) → 1 ≤ page → page ≤ s.used → page ≤ t.used → standing t.frames one page ≡ standing s.frames other page
+pub same_node : {B D : Type 0} (f : Format B) (one other : List ℕ) (s t : Shelf D) (page : ℕ) → 1 ≤ page → page ≤ s.used → page ≤ t.used → standing t.frames one page ≡ standing s.frames other page
     → (tree_of (store_of f one t)).node page ≡ (tree_of (store_of f other s)).node page
 same_node f one other s t page low high now same =
     node_there (standing_node f t.frames one) t.used page low now ∙ ap (λ (c : Contents). node_of f c) same ∙ sym (node_there (standing_node f s.frames other) s.used page low high)

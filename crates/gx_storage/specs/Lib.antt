@@ -1,5 +1,6 @@
 pub mod Changes
 pub mod Flushing
 pub mod Formed
+pub mod Giving
 pub mod Keeps
 pub mod State
