@@ -95,5 +95,6 @@ page_runs {E} {P} k r frames frames' d e page sectors touches time area gated di
       stored = λ stored p.
           write_stores r k.pages frames frames' d e page runs.up.carries.has_pages here (touches honest) contents rests p ∙ stored p
           ∙ sym (ap (λ (area : ℕ → P). area p) (redone_agrees k l s.gated (s.flight ++ s.filling) s.area (area_of r k.pages e.seen) beside));
+      beside = beside;
       safely = record { goes = goes; leaves = call_stands k l r log d e bodies s now (time honest) goes up };
     }

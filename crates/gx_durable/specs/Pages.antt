@@ -6,7 +6,7 @@ use Rattle.gx_glog.specs.State.{Log}
 use Rattle.gx_pool.specs.State.{State}
 use Rattle.gx_recovery.specs.Known.{Known, IsLawful}
 use Rattle.gx_recovery.specs.Records.{Record}
-use Rattle.gx_recovery.specs.Logged.{Logged}
+use Rattle.gx_recovery.specs.Logged.{Logged, AgreesBeside}
 use Rattle.gx_durable.specs.Spelled.{Reading}
 use Rattle.gx_durable.specs.Area.{area_of}
 use Rattle.gx_durable.specs.Stamps.{AllSaid}
@@ -22,6 +22,7 @@ pub record AfterPage {E P : Type 0} (k : Known E P) (r : Reading E P) (log : Log
   pub runs : Runs k r log frames' e bodies (rewritten r k.pages e.seen s)
   pub said : AllSaid frames s → AllSaid frames' (rewritten r k.pages e.seen s)
   pub stored : IsStored r k.pages frames d.seen s → IsStored r k.pages frames' e.seen (rewritten r k.pages e.seen s)
+  pub beside : AgreesBeside s.gated s.area (area_of r k.pages e.seen)
   pub safely : GoesSafely k r d e s (rewritten r k.pages e.seen s)
 
 -- A page is written, while no turn is under way.

@@ -1,3 +1,4 @@
 pub mod Calls
 pub mod Books
 pub mod Agreed
+pub mod Sharing

@@ -1,19 +1,23 @@
 //! What lies under the lock.
-ghost use Rattle.std.specs.Prelude.{◌≡◌, ◌⊎◌, ◌+◌, ◌*◌, ◌<◌, ◌≤◌, ◌^◌, ◌++◌, ◌∷◌, [], true, MatchBool, MatchResult, vec_len, vec_capacity};
+ghost use Rattle.std.specs.Prelude.{◌≡◌, ℕ, ◌⊎◌, ◌+◌, ◌*◌, ◌<◌, ◌≤◌, ◌^◌, ◌++◌, ◌∷◌, [], true, MatchBool, MatchResult, vec_len, vec_capacity};
 ghost use Rattle.gx_machine.specs.declared.item.Item.TheVariants as item;
 ghost use Rattle.gx_events.specs.declared.outcome.Outcome.TheVariants as outcome;
-ghost use Rattle.gx_shared.specs.Books.{IsHanded, is_fault, replied};
+ghost use Rattle.gx_machine.specs.declared.reply.Reply.TheVariants as reply;
+ghost use Rattle.gx_shared.specs.Books.{IsHanded, is_fault, is_work, replied};
+ghost use Rattle.gx_shared.specs.Sharing.{gives_up, RefusesToGiveUp};
 ghost use Rattle.gx_shared.specs.declared.record.TheConstants.{RECORD};
 
 use crate::agree::agree;
+use crate::flush::{Part, flusher_event};
 use crate::handed::handed;
 use crate::record::{append, append_sealed};
 use crate::{RECORD, Run, Session};
 use gx_events::{Event, Events, Outcome};
 use gx_geom::{Refusal, Shape};
 use gx_machine::{Call, Item, Reply};
+use std::alloc::{AllocError, Global};
 use std::marker::Model;
-use std::sync::ledger::{Book as Tally, Ledger};
+use std::sync::ledger::{Book as Tally, Ledger, Share};
 
 /// Whether three items for a call, and for each that is open, still fit.
 fn has_room(calls: usize, opened: u64) -> bool
@@ -55,6 +59,45 @@ fn keep_reply<B: Shape, R: Ledger>(
     reply
 }
 
+/// Whether a refusal gives a call up: for a fault, or for a record that is full.
+fn gives_up(why: Refusal) -> bool
+    ensures { result ≡ gives_up {B = ℕ} (reply.Refused why) }
+{
+    matches!(
+        why,
+        Refusal::Device | Refusal::Failed | Refusal::Damaged | Refusal::HistoryFull
+    )
+}
+
+/// An outcome as it ends a call: a refusal for anything but a fault or a full record, which is of a move of a call that isn't
+/// open, is told as `Damaged`.
+fn given_up<B: Shape>(last: Outcome<B>) -> Outcome<B>
+    ensures replied { replied result ≡ replied last }
+    ensures refuses { RefusesToGiveUp result }
+    ensures same { RefusesToGiveUp last → result ≡ last }
+{
+    match last {
+        Outcome::Refused(why) => {
+            if gives_up(why) {
+                Outcome::Refused(why)
+            } else {
+                Outcome::Refused(Refusal::Damaged)
+            }
+        }
+        other => other,
+    }
+}
+
+/// Whether an event is no session's.
+fn is_work<B: Shape>(event: &Event<B>) -> bool
+    ensures { result ≡ is_work event.now }
+{
+    match event {
+        Event::Ask(..) | Event::Move(_) => false,
+        Event::LogStep | Event::WritePage(_) | Event::CheckpointStep | Event::Sweep(_) => true,
+    }
+}
+
 /// How many calls are open once one was given this reply: one less, unless a fault leaves it open.
 fn open_after<B: Shape>(reply: &Reply<B>, opened: u64) -> u64
     requires { 0 < opened ⊎ (is_fault reply.now ≡ true) }
@@ -93,10 +136,59 @@ impl<B: Shape, E: Events<B>, R: Run<B>> Model for Book<B, E, R> {
 }
 
 impl<B: Shape, E: Events<B>, R: Run<B>> Book<B, E, R> {
+    ghost use Rattle.std.specs.Prelude.{length, IfOk, IfErr, MatchOption};
+    ghost use Rattle.gx_machine.specs.declared.limits.TheConstants.{SESSIONS};
     ghost use Rattle.gx_machine.specs.Keys.{keys_of};
+    ghost use Rattle.gx_events.specs.Items.{finished};
+    ghost use Rattle.gx_shared.specs.Calls.{open_calls};
+    ghost use Rattle.gx_shared.specs.Sharing.{InCall, IsFlushed};
     ghost use Rattle.gx_events.specs.declared.event.Event.TheVariants.{Ask, Move};
     ghost use Rattle.gx_shared.specs.Agreed.{replies_of};
     ghost use Rattle.gx_shared.specs.Books.{Stands, is_work, IsOf, IsHold};
+
+    /// A book over an engine, with nothing recorded. It takes all room of the record; without that the engine comes back.
+    #[tactic(auto, using(crate::proofs::Sharing::begun))]
+    pub(crate) fn new(alloc: Global, tally: Tally<R>, engine: E) -> Result<Self, E>
+        requires seen { E.sees engine R.start }
+        requires sessions { length R.start.sessions ≡ SESSIONS }
+        requires none_open { open_calls R.start.sessions ≡ 0 }
+        requires none_finished { tally.total ≡ 0 }
+        ensures made { IfOk result (λ book. book ≡ (engine, [])) }
+        ensures back { IfErr result (λ back. back ≡ engine) }
+    {
+        match Vec::with_capacity(alloc, RECORD) {
+            Ok(calls) => Ok(Book {
+                engine,
+                calls,
+                opened: 0,
+                tally,
+            }),
+            Err(AllocError) => Err(engine),
+        }
+    }
+
+    /// The record: what was asked, sealed and replied, in the order in which it happened.
+    pub fn calls(&self) -> &[Item<B>]
+        ensures { result.now ≡ self.now.1 }
+    {
+        self.calls.as_slice()
+    }
+
+    /// The engine.
+    pub fn engine(&self) -> &E
+        ensures { result.now ≡ self.now.0 }
+    {
+        &self.engine
+    }
+
+    /// Compares a share with the ledger: the calls that it counts are finished, and a share with all parts counts all of them.
+    pub(crate) fn audit(&mut self, share: &mut Share<R>)
+        ensures same { self.new ≡ self.old }
+        ensures bound { share.old.amount ≤ finished self.old.1 }
+        ensures whole { share.old.parts ≡ R.parts → finished self.old.1 ≡ share.old.amount }
+    {
+        self.tally.audit(share);
+    }
 
     /// What a book keeps: its record replays, from the machine that the run names, as the machine that its engine is seen as.
     pub fn stands(&self)
@@ -177,6 +269,32 @@ impl<B: Shape, E: Events<B>, R: Run<B>> Book<B, E, R> {
         match event {
             Event::Ask(_, call) => self.ask(session, call),
             _ => self.go_on(session),
+        }
+    }
+
+    /// Applies an event of a session's call, which is the session's own or no session's. The session's share rises by one where
+    /// a reply is recorded. Where the outcome refuses, it is for a fault or for a record that is full.
+    #[tactic(auto, using(crate::proofs::Sharing::share_of_work, crate::proofs::Sharing::share_of_own, crate::proofs::Sharing::own_of, crate::proofs::Sharing::work_of))]
+    pub(crate) fn run(&mut self, session: &mut Session<R>, event: Event<B>) -> Outcome<B>
+        requires { InCall session.old.0 event }
+        ensures share { session.new ≡ (session.old.0, session.old.1 + replied result) }
+        ensures refuses { RefusesToGiveUp result }
+    {
+        if is_work(&event) {
+            given_up(self.apply(event))
+        } else {
+            given_up(self.apply_for(session, event))
+        }
+    }
+
+    /// Applies the event of a flusher's part in a round, where it has one.
+    #[tactic(auto, using(crate::proofs::Sharing::flusher_works, crate::proofs::Sharing::only_pages_lack))]
+    pub(crate) fn flush(&mut self, part: Part, round: u64) -> Option<Outcome<B>>
+        ensures flushed { IsFlushed (keys_of B.Shape) E.sees part round self.old result self.new }
+    {
+        match flusher_event(part, round, self.engine.used(), self.engine.dirty()) {
+            Some(event) => Some(self.apply(event)),
+            None => None,
         }
     }
 

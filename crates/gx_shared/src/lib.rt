@@ -5,13 +5,20 @@
 #![tactic(auto)]
 
 mod agree;
+mod between;
 mod book;
+mod call;
+mod flush;
 mod handed;
 mod record;
 mod run;
 mod session;
+mod shared;
 
+pub use between::{Between, NoBetween};
 pub use book::Book;
+pub use call::flusher;
 pub use record::RECORD;
 pub use run::Run;
 pub use session::Session;
+pub use shared::Shared;

@@ -50,6 +50,14 @@ impl<R: Ledger> Session<R> {
         self.finished
     }
 
+    /// Its part of the ledger, with the calls that it has finished.
+    pub(crate) fn into_share(self) -> Share<R>
+        ensures parts { result.parts ≡ 1 }
+        ensures amount { result.amount ≡ self.1 }
+    {
+        self.share
+    }
+
     /// One more call is finished.
     pub(crate) fn finish(&mut self, tally: &mut Tally<R>)
         requires { tally.old.total + 1 < 2 ^ 64 }

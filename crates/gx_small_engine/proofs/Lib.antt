@@ -16,3 +16,4 @@ pub mod Sealing
 pub mod SearchEvents
 pub mod Sweeping
 pub mod Playing
+pub mod Shown

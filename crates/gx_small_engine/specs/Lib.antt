@@ -3,3 +3,4 @@ pub mod Moves
 pub mod Asked
 pub mod Standing
 pub mod Plays
+pub mod Shown

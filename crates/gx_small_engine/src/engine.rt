@@ -3,6 +3,7 @@ ghost use Rattle.std.specs.Prelude.{◌≡◌, ◌-◌, ◌&&◌, nat_le, true, 
 ghost use Rattle.gx_machine.specs.declared.limits.TheConstants.{SESSIONS};
 ghost use Rattle.gx_machine.specs.Machine.{is_session};
 ghost use Rattle.gx_small_engine.specs.Moves.{begins};
+ghost use Rattle.gx_small_engine.specs.Shown.{is_open, is_waiting};
 ghost use Rattle.gx_small_engine.specs.declared.phase.Phase.TheVariants as phase;
 
 use crate::phase::Phase;
@@ -30,6 +31,23 @@ fn begins<B: Shape>(call: &Call<B>, phase: &Phase<B>) -> bool
     ensures { result ≡ begins call.now phase.now }
 {
     matches!(call, Call::Begin) && matches!(phase, Phase::Free)
+}
+
+/// Whether a session that is this far has a call open.
+fn is_open<B: Shape>(phase: &Phase<B>) -> bool
+    ensures { result ≡ is_open phase.now }
+{
+    !matches!(phase, Phase::Free | Phase::Working)
+}
+
+/// Whether the commit of a session that is this far is sealed, and isn't durable where commits are up to a number.
+fn is_waiting<B: Shape>(oldest: u64, phase: &Phase<B>) -> bool
+    ensures { result ≡ is_waiting oldest phase.now }
+{
+    match phase {
+        Phase::Waiting(number) => oldest < *number,
+        _ => false,
+    }
 }
 
 /// Whether there is a session of this number.
@@ -67,9 +85,11 @@ impl<B: Shape> Model for SmallEngine<B> {
 impl<B: Shape> SmallEngine<B> {
     ghost use Rattle.gx_machine.specs.Keys.{keys_of};
     ghost use Rattle.gx_machine.specs.declared.limits.TheConstants.{LAST_NUMBER};
-    ghost use Rattle.gx_engine_laws.specs.Engines.{last_number};
+    ghost use Rattle.gx_engine_laws.specs.Engines.{last_number, IsSound};
+    ghost use Rattle.gx_engine_laws.specs.Slots.{slot_at, is_unanswered};
     ghost use Rattle.gx_engine_laws.specs.Events.{IsEvent, Durable, Works};
-    ghost use Rattle.gx_small_engine.specs.States.{fresh_state, engine_of, phase_at};
+    ghost use Rattle.gx_small_engine.specs.Shown.{waits_for_sync};
+    ghost use Rattle.gx_small_engine.specs.States.{fresh_state, engine_of, phase_at, slots_of};
     ghost use Rattle.gx_small_engine.specs.Moves.{begins, AskGives, Moves, HasLook, swept};
 
     /// An engine with nothing committed. It takes all places for claims, notes and predicates.
@@ -90,6 +110,47 @@ impl<B: Shape> SmallEngine<B> {
         ensures { result ≡ last_number (engine_of (keys_of B.Shape) self.now) }
     {
         self.oldest + self.older.len() as u64
+    }
+
+    /// What it keeps: what is assumed of every engine.
+    pub fn stands(&self)
+        ensures { IsSound (keys_of B.Shape) (engine_of (keys_of B.Shape) self.now) }
+    {
+        let _ = &self.pairs;
+    }
+
+    /// The number of the last commit that was sealed.
+    pub fn commits(&self) -> u64
+        ensures { result ≡ last_number (engine_of (keys_of B.Shape) self.now) }
+    {
+        self.last_number()
+    }
+
+    /// The number up to which commits are durable.
+    pub fn durable(&self) -> u64
+        ensures { result ≡ self.now.oldest }
+    {
+        self.oldest
+    }
+
+    /// Whether a session has a call open, one that was asked and isn't answered. A number that is no session's has none.
+    pub fn has_open_call(&self, session: u8) -> bool
+        ensures { result ≡ is_unanswered (slot_at session (slots_of self.now.phases self.now.table)) }
+    {
+        if !is_session(session) {
+            return false;
+        }
+        is_open(&self.phases[asks::place_of(session)])
+    }
+
+    /// Whether a session's commit is sealed and isn't durable yet, so that `sync` has to come before `go_on` answers it.
+    pub fn waits_for_sync(&self, session: u8) -> bool
+        ensures { result ≡ waits_for_sync self.now.oldest (slot_at session (slots_of self.now.phases self.now.table)) }
+    {
+        if !is_session(session) {
+            return false;
+        }
+        is_waiting(self.oldest, &self.phases[asks::place_of(session)])
     }
 
     /// Whether a call would begin a transaction, and the numbers are used up.

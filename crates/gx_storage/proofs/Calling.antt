@@ -202,5 +202,6 @@ module _ {B : Type 0} (k : Known (Entry B) (Page B)) (r : Reading (Entry B) (Pag
           pages = old.pages ∙ sym (ap (λ (x : Shelf D). x.pages) only);
           formed = still_formed v.shelf.frames w.shelf.frames at_most.contents old.formed;
         };
+        beside = now.beside;
         safely = now.safely;
       }

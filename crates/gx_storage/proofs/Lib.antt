@@ -6,6 +6,7 @@ pub mod Moving
 pub mod OnlyReads
 pub mod Recording
 pub mod Shown
+pub mod Splitting
 pub mod Sweeping
 pub mod Turning
 pub mod Unpaged

@@ -104,7 +104,7 @@ module _ {D : Type 0} (passes : ℕ → Contents → Bool) (state : D → Device
     pub goes_on : GoesOn passes (state v.shelf.disk) (state t.disk) (begun v size) t
     pub others : (q : ℕ) → (page == q) ≡ false → IsAsItWas (state v.shelf.disk) (state t.disk) v.shelf.frames t.frames q
 
-  since_begun : (u : Shelf D) (q : ℕ) → u ≡ begun v size → ((was : Shelf D) → IsSince passes (state was.disk) (state u.disk) was u q → IsSince passes (state was.disk) (state t.disk) was t q)
+  pub since_begun : (u : Shelf D) (q : ℕ) → u ≡ begun v size → ((was : Shelf D) → IsSince passes (state was.disk) (state u.disk) was u q → IsSince passes (state was.disk) (state t.disk) was t q)
       → IsSince passes (state v.shelf.disk) (state t.disk) (begun v size) t q
   since_begun u q is keeps =
       let I : Shelf D → Type 0 = λ x. ((was : Shelf D) → IsSince passes (state was.disk) (state x.disk) was x q → IsSince passes (state was.disk) (state t.disk) was t q) in

@@ -18,11 +18,11 @@ use Rattle.gx_recovery.specs.Known.{Known, IsLawful}
 use Rattle.gx_recovery.specs.Records.{Record}
 use Rattle.gx_recovery.specs.Analysis.{analysis}
 use Rattle.gx_recovery.specs.Coming.{MayCome}
-use Rattle.gx_recovery.specs.Logged.{Logged, all_records, appended}
+use Rattle.gx_recovery.specs.Logged.{Logged, AgreesBeside, all_records, appended}
 use Rattle.gx_recovery.specs.Renewal.{renewed}
 use Rattle.gx_index_laws.specs.Classes.{Page}
 use Rattle.gx_durable.specs.Spelled.{Reading, record_read, AreRecords}
-use Rattle.gx_durable.specs.Area.{IsSettledBut}
+use Rattle.gx_durable.specs.Area.{IsSettledBut, area_of}
 use Rattle.gx_durable.specs.Standing.{MayRenew}
 use Rattle.gx_durable.specs.Steps.{with_batch, stepped, bodies_stepped, turned, bodies_turned}
 use Rattle.gx_durable.specs.Pages.{rewritten}
@@ -110,10 +110,16 @@ module _ {B : Type 0} (k : Known (Entry B) (Page B)) (r : Reading (Entry B) (Pag
   StepsLog d e v w result = (bodies : List (List (Record (Entry B) (Page B)))) (s : Logged (Entry B) (Page B)) → IsLawful k → Keeps k r f passes d v bodies s
       → Becomes d e w (bodies_stepped result bodies (with_batch v.log.stage v.log.filling s)) s (stepped result (with_batch v.log.stage v.log.filling s))
 
-  -- a page's write, or one that failed: the same records over the page area that is read now
+  -- The same records stand over the page area that is read now, which is as it was on each page that no gated record gives.
+  pub record Rewrites {D : Type 0} (d e : Device) (w : Volume D) (bodies : List (List (Record (Entry B) (Page B)))) (s : Logged (Entry B) (Page B)) : Type 0 where
+    pub keeps : Keeps k r f passes e w bodies (rewritten r k.pages e.seen s)
+    pub beside : AgreesBeside s.gated s.area (area_of r k.pages e.seen)
+    pub safely : GoesSafely k r d e s (rewritten r k.pages e.seen s)
+
+  -- a page's write, or one that failed
   abbrev pub WritesGated : {D : Type 0} → Device → Device → Volume D → Volume D → Type 0
   WritesGated d e v w = (bodies : List (List (Record (Entry B) (Page B)))) (s : Logged (Entry B) (Page B)) → IsLawful k → v.log.turn ≡ Closed → Keeps k r f passes d v bodies s
-      → Becomes d e w bodies s (rewritten r k.pages e.seen s)
+      → Rewrites d e w bodies s
 
   -- A record that gives no page was appended: where it may come, the volume keeps the state with it; and where the tree that was shown
   -- is the log's, the tree that is shown is the log's with it. The device is as it was.

@@ -4,7 +4,10 @@
 mod add;
 mod descend;
 mod given;
+mod given_pages;
 mod room;
 mod set_mark;
+mod split;
+mod split_root;
 mod sweep;
 mod written;

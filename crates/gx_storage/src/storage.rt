@@ -7,6 +7,7 @@ use gx_glog::Glog;
 use gx_node::MAX_ENTRIES;
 use gx_readings::ReadKeys;
 use gx_store::PageStore;
+use gx_tree::Pages;
 use std::marker::Model;
 
 /// A tree's pages in frames over a device, with their log.
@@ -45,6 +46,20 @@ impl<D: SectorDisk, K: ReadKeys> Storage<D, K> {
             most,
             key,
         }
+    }
+
+    /// The greatest page that is taken.
+    pub fn used(&self) -> u32
+        ensures { result ≡ self.now.shelf.used }
+    {
+        self.store.used()
+    }
+
+    /// How many splits were made, but for the root's: the greatest node sequence number.
+    pub fn counter(&self) -> u64
+        ensures { result ≡ self.now.shelf.counter }
+    {
+        self.store.counter()
     }
 
     /// The device, as the calls left it. What frames and buffers have that isn't written is lost.

@@ -1,5 +1,4 @@
 use Rattle.std.proofs.Common.{◌≡◌, drop}
-use Rattle.gx_machine.specs.declared.entry.Entry.{Entry}
 use Rattle.gx_shared.proofs.Agreeing.{Alike}
 use Rattle.gx_shared.proofs.agree.same_entries.Given as goal
 

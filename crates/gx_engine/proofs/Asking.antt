@@ -1,0 +1,181 @@
+-- An ask of an engine's sessions.
+use Rattle.std.proofs.Common.{◌≡◌, ◌∙◌, sym, ap, refl, subst, ℕ, ◌-◌, ◌≤◌, Bool, true, false, [], ◌∷◌, Result, Ok, Err, arith}
+use Rattle.gx_geom.specs.declared.refusal.Refusal.{Refusal}
+use Rattle.gx_geom.specs.declared.refusal.Refusal.TheVariants.{NoTransaction, InTransaction, CallOpen, BadSession, Failed, HistoryFull}
+use Rattle.gx_machine.specs.declared.entry.Entry.{Entry}
+use Rattle.gx_machine.specs.declared.call.Call.{Call}
+use Rattle.gx_machine.specs.declared.call.Call.TheVariants.{Begin, Insert, Delete, Search, Commit, Abort}
+use Rattle.gx_machine.specs.declared.reply.Reply.TheVariants as reply
+use Rattle.gx_machine.specs.declared.reply.Asked.{Asked}
+use Rattle.gx_machine.specs.declared.reply.Asked.TheVariants as asked
+use Rattle.gx_machine.specs.Keys.{Keys}
+use Rattle.gx_machine.specs.Machine.{is_session}
+use Rattle.gx_machine.specs.Sessions.{Locks}
+use Rattle.gx_disk.specs.Device.{Device}
+use Rattle.gx_disk.proofs.Leaving.{nothing_leaves}
+use Rattle.gx_page.specs.Contents.{Contents}
+use Rattle.gx_node.specs.Reading.{Format}
+use Rattle.gx_recovery.specs.Logged.{Logged}
+use Rattle.gx_recovery.specs.Logged as logged
+use Rattle.gx_index_laws.specs.Classes.{Class, IsLawful, Page, known_of}
+use Rattle.gx_index_laws.specs.States as index
+use Rattle.gx_index_laws.proofs.Tools.{changed_beside}
+use Rattle.gx_durable.specs.Spelled.{Reading}
+use Rattle.gx_durable.specs.Standing.{Stands}
+use Rattle.gx_txn.specs.Tables.{held_by, with_locks, locks_for}
+use Rattle.gx_phases.specs.declared.phase.Phase.{Phase}
+use Rattle.gx_phases.specs.declared.phase.Phase.TheVariants as phase
+use Rattle.gx_phases.specs.States.{State, IsKept, held_at, phase_at, with_phase_of, with_session, with_transaction}
+use Rattle.gx_phases.specs.Asked.{IsRefused, LockTaken, Begun, is_full, AskedFree, AskedWorking, AskedAt, AskedBy, IsAsked, asked_event}
+use Rattle.gx_phases.specs.Indexes.{asked_index}
+use Rattle.gx_phases.proofs.Indexing.{ask_comes}
+use Rattle.gx_storage.specs.Keeps.{Keeps}
+use Rattle.gx_engine.specs.declared.work.Work.{Work}
+use Rattle.gx_engine.specs.declared.work.Work.TheVariants.{Rests}
+use Rattle.gx_engine.specs.Asked.{AskComes, ask_events, told}
+use Rattle.gx_engine.specs.States.{Parts}
+use Rattle.gx_engine.specs.Holds.{AreAt, KnowsFlight, Leads}
+use Rattle.gx_engine.proofs.Serving.{held_as_it_is, session_at}
+
+-- What an ask comes to, case by case: it is refused; a transaction begins; a call opens, with its lock or without; an undo begins.
+module _ {B : Type 0} (k : Keys B) (s : ℕ) (old : State B (Work B)) (P : Asked B → State B (Work B) → Type 0)
+    (refused : (why : Refusal) → P (asked.Now (reply.Refused why)) old)
+    (begins : is_session s ≡ true → P (asked.Now reply.Ok) (with_transaction s old))
+    (opens : is_session s ≡ true → (call : Call B) (locks : Locks B) → P asked.Open (with_session s (phase.Open call Rests) (with_locks locks (held_by s old.table)) old))
+    (waits : is_session s ≡ true → P asked.Open (with_phase_of s (phase.Open Commit Rests) old))
+    (undoes : is_session s ≡ true → P asked.Open (with_phase_of s (phase.Undoing 0 Rests) old)) where
+  at : (given g : Asked B) (new n : State B (Work B)) → given ≡ g → new ≡ n → P g n → P given new
+  at given g new n one other p = subst (λ (x : Asked B). P x new) (sym one) (subst (λ (x : State B (Work B)). P g x) (sym other) p)
+
+  by_refusal : (why : Refusal) (given : Asked B) (new : State B (Work B)) → IsRefused why old given new → P given new
+  by_refusal why given new a = at given (asked.Now (reply.Refused why)) new old a.0 a.1 (refused why)
+
+  by_lock : is_session s ≡ true → (lock : Result (Locks B) Refusal) (call : Call B) (given : Asked B) (new : State B (Work B)) → LockTaken lock s call Rests old given new → P given new
+  by_lock is (Ok locks) call given new a = at given asked.Open new _ a.0 a.1 (opens is call locks)
+  by_lock is (Err why) call given new a = by_refusal why given new a
+
+  by_begin : is_session s ≡ true → (full : Bool) (given : Asked B) (new : State B (Work B)) → Begun full s old given new → P given new
+  by_begin is true given new a = by_refusal HistoryFull given new a
+  by_begin is false given new a = at given (asked.Now reply.Ok) new _ a.0 a.1 (begins is)
+
+  by_free : is_session s ≡ true → (call : Call B) (given : Asked B) (new : State B (Work B)) → AskedFree s call old given new → P given new
+  by_free is Begin given new a = by_begin is (is_full old) given new a
+  by_free is (Insert e) given new a = by_refusal NoTransaction given new a
+  by_free is (Delete e) given new a = by_refusal NoTransaction given new a
+  by_free is (Search q) given new a = by_refusal NoTransaction given new a
+  by_free is Commit given new a = by_refusal NoTransaction given new a
+  by_free is Abort given new a = by_refusal NoTransaction given new a
+
+  by_working : is_session s ≡ true → (call : Call B) (given : Asked B) (new : State B (Work B)) → AskedWorking k s call Rests old given new → P given new
+  by_working is Begin given new a = by_refusal InTransaction given new a
+  by_working is (Insert e) given new a = by_lock is (locks_for k (Insert e) s old.table) (Insert e) given new a
+  by_working is (Delete e) given new a = by_lock is (locks_for k (Delete e) s old.table) (Delete e) given new a
+  by_working is (Search q) given new a = by_lock is (locks_for k (Search q) s old.table) (Search q) given new a
+  by_working is Commit given new a = at given asked.Open new _ a.0 a.1 (waits is)
+  by_working is Abort given new a = at given asked.Open new _ a.0 a.1 (undoes is)
+
+  by_phase : is_session s ≡ true → (call : Call B) (p : Phase B (Work B)) (given : Asked B) (new : State B (Work B)) → AskedAt k s call Rests p old given new → P given new
+  by_phase is call phase.Free given new a = by_free is call given new a
+  by_phase is call phase.Working given new a = by_working is call given new a
+  by_phase is call (phase.Open pending on) given new a = by_refusal CallOpen given new a
+  by_phase is call (phase.Undoing restored on) given new a = by_refusal CallOpen given new a
+  by_phase is call (phase.Waiting number) given new a = by_refusal CallOpen given new a
+
+  by_tests : (failed there : Bool) → is_session s ≡ there → (call : Call B) (given : Asked B) (new : State B (Work B)) → AskedBy k s call Rests failed there old given new → P given new
+  by_tests true there is call given new a = by_refusal Failed given new a
+  by_tests false false is call given new a = by_refusal BadSession given new a
+  by_tests false true is call given new a = by_phase is call (phase_at (s - 1) old.phases) given new a
+
+  pub by_ask : (call : Call B) (given : Asked B) (new : State B (Work B)) → IsAsked k s call Rests old given new → P given new
+  by_ask call given new a = by_tests old.failed (is_session s) refl call given new a
+
+-- an ask leaves the numbers of commits
+pub numbers_stay : {B : Type 0} (k : Keys B) (s : ℕ) (call : Call B) (old : State B (Work B)) (given : Asked B) (new : State B (Work B)) → IsAsked k s call Rests old given new
+    → (new.latest ≡ old.latest) × (new.durable ≡ old.durable)
+numbers_stay k s call old given new asks =
+    by_ask k s old (λ g n. (n.latest ≡ old.latest) × (n.durable ≡ old.durable)) (λ why. (refl, refl)) (λ is. (refl, refl)) (λ is pending locks. (refl, refl)) (λ is. (refl, refl)) (λ is. (refl, refl))
+    call given new asks
+
+-- an ask leaves an index's log
+asked_log : {B : Type 0} (c : Class B) (s : ℕ) (call : Call B) (given : Asked B) (i : index.State B) → (asked_index c s call given i).log ≡ i.log
+asked_log c s call (asked.Now reply.Ok) i = refl
+asked_log c s call (asked.Now reply.Inserted) i = refl
+asked_log c s call (asked.Now reply.Deleted) i = refl
+asked_log c s call (asked.Now (reply.Found entries)) i = refl
+asked_log c s call (asked.Now (reply.Committed number)) i = refl
+asked_log c s call (asked.Now reply.Aborted) i = refl
+asked_log c s call (asked.Now (reply.Refused why)) i = refl
+asked_log c s call asked.Open i = refl
+
+module _ {B : Type 0} (c : Class B) (s : ℕ) (call : Call B) (i : index.State B) (old : State B (Work B)) (kept : IsKept c.keys old) (is_at : AreAt c.keys old i) where
+  -- what is kept of an ask's sessions
+  record Stays (given : Asked B) (new : State B (Work B)) : Type 0 where
+    pub at : AreAt c.keys new (asked_index c s call given i)
+    pub latest : new.latest ≡ old.latest
+    pub failed : new.failed ≡ old.failed
+
+  asked_stays : (given : Asked B) (new : State B (Work B)) → IsAsked c.keys s call Rests old given new → Stays given new
+  asked_stays given new asks =
+      by_ask c.keys s old Stays
+      (λ why. record { at = is_at; latest = refl; failed = refl })
+      (λ is. record {
+        at = session_at c.keys old (with_transaction s old) i (asked_index c s call (asked.Now reply.Ok) i) kept s is phase.Working (held_at (s - 1) old.table) refl (held_as_it_is s old.table)
+            (λ a ne. changed_beside s _ i.work a ne) (λ a ne. changed_beside s _ i.restored a ne) tt is_at;
+        latest = refl;
+        failed = refl;
+      })
+      (λ is pending locks. record {
+        at = session_at c.keys old (with_session s (phase.Open pending Rests) (with_locks locks (held_by s old.table)) old) i (asked_index c s call asked.Open i) kept s is (phase.Open pending Rests) (with_locks locks (held_by s old.table)) refl refl
+            (λ a ne. changed_beside s _ i.work a ne) (λ a ne. changed_beside s _ i.restored a ne) tt is_at;
+        latest = refl;
+        failed = refl;
+      })
+      (λ is. record {
+        at = session_at c.keys old (with_phase_of s (phase.Open Commit Rests) old) i (asked_index c s call asked.Open i) kept s is (phase.Open Commit Rests) (held_at (s - 1) old.table) refl (held_as_it_is s old.table)
+            (λ a ne. changed_beside s _ i.work a ne) (λ a ne. changed_beside s _ i.restored a ne) tt is_at;
+        latest = refl;
+        failed = refl;
+      })
+      (λ is. record {
+        at = session_at c.keys old (with_phase_of s (phase.Undoing 0 Rests) old) i (asked_index c s call asked.Open i) kept s is (phase.Undoing 0 Rests) (held_at (s - 1) old.table) refl (held_as_it_is s old.table)
+            (λ a ne. changed_beside s _ i.work a ne) (λ a ne. changed_beside s _ i.restored a ne) (tt, λ j n less there. absurd (omega arith)) is_at;
+        latest = refl;
+        failed = refl;
+      })
+      call given new asks
+
+module _ {B D : Type 0} (c : Class B) (r : Reading (Entry B) (Page B)) (f : Format B) (passes : ℕ → Contents → Bool) (lawful : 4 ≤ c.rules.most → IsLawful c)
+    (d : Device) (old : Parts B D) (kept : IsKept c.keys old.sessions) (s : ℕ) (call : Call B) (given : Asked B) (new : State B (Work B)) (asks : IsAsked c.keys s call Rests old.sessions given new) where
+  pub ask_leads : Leads c r f passes d d old (record old { sessions = new }) (asked_event s call old.sessions given ∷ [])
+  ask_leads bodies i h =
+      let came = ask_comes c (lawful h.some) i h.whole old.sessions kept h.sessions s call Rests given new asks in
+      let stays = asked_stays c s call i old.sessions kept h.at given new asks in
+      let log : (asked_index c s call given i).log ≡ i.log = asked_log c s call given i in
+      record {
+        bodies = bodies;
+        index = asked_index c s call given i;
+        happening = (asked_index c s call given i, came.0, refl);
+        holds = record {
+          most = h.most;
+          some = h.some;
+          keeps = subst (λ (x : Logged (Entry B) (Page B)). Keeps (known_of c) r f passes d old.volume bodies x) (sym log) h.keeps;
+          whole = came.0.whole;
+          sessions = came.1;
+          at = stays.at;
+          latest = stays.latest ∙ h.latest ∙ ap (λ (x : Logged (Entry B) (Page B)). logged.latest (known_of c) x) (sym log);
+          flying = λ works.
+              subst (λ (x : Logged (Entry B) (Page B)). KnowsFlight old.volume.log.stage old.in_flight (logged.durable (known_of c) (logged.gate_synced x))) (sym log)
+              (h.flying (sym stays.failed ∙ works));
+        };
+        leaves = nothing_leaves (Stands (known_of c) r i.log) d;
+      }
+
+-- the outcome tells what was given
+pub ask_told : {B D : Type 0} (k : Keys B) (s : ℕ) (call : Call B) (old : Parts B D) (given : Asked B) (new : State B (Work B)) → IsAsked k s call Rests old.sessions given new
+    → AskComes k s call old (told given) (record old { sessions = new })
+ask_told k s call old (asked.Now answer) new asks = (asks, refl)
+ask_told k s call old asked.Open new asks = (asks, refl)
+
+pub told_events : {B : Type 0} (s : ℕ) (call : Call B) (old : State B (Work B)) (given : Asked B) → ask_events s call old (told given) ≡ asked_event s call old given ∷ []
+told_events s call old (asked.Now answer) = refl
+told_events s call old asked.Open = refl

@@ -1,0 +1,4 @@
+pub mod Serving
+pub mod Asking
+pub mod Flushing
+pub mod Sealing

@@ -1,0 +1,120 @@
+-- An engine over a device as an index, and what its events make of that.
+use Rattle.std.specs.Prelude.{ℕ, ◌≡◌, ◌≤◌, ◌<◌, ◌-◌, Bool, true, false, Some, List, slice_get}
+use Rattle.gx_machine.specs.declared.entry.Entry.{Entry}
+use Rattle.gx_machine.specs.declared.call.Call.{Call}
+use Rattle.gx_machine.specs.declared.call.Call.TheVariants.{Begin, Insert, Delete, Search, Commit, Abort}
+use Rattle.gx_machine.specs.Keys.{Keys}
+use Rattle.gx_machine.specs.Sets.{has}
+use Rattle.gx_machine.specs.Machine.{is_session}
+use Rattle.gx_disk.specs.Device.{Device}
+use Rattle.gx_disk.specs.Moments.{Leaves}
+use Rattle.gx_page.specs.Contents.{Contents}
+use Rattle.gx_node.specs.Reading.{Format}
+use Rattle.gx_tree.specs.Found.{pairs_found}
+use Rattle.gx_glog.specs.declared.stage.Stage.{Stage}
+use Rattle.gx_glog.specs.declared.stage.Stage.TheVariants.{Body, BodySync, Gate, GateSync, Idle}
+use Rattle.gx_recovery.specs.Records.{Record}
+use Rattle.gx_recovery.specs.Logged.{durable, gate_synced, latest}
+use Rattle.gx_engine_laws.specs.Events.{Event}
+use Rattle.gx_index_laws.specs.Classes.{Class, Page, known_of}
+use Rattle.gx_index_laws.specs.States as index
+use Rattle.gx_index_laws.specs.Whole.{IsWhole}
+use Rattle.gx_index_laws.specs.Happening.{AreHappening}
+use Rattle.gx_durable.specs.Spelled.{Reading}
+use Rattle.gx_durable.specs.Standing.{Stands}
+use Rattle.gx_txn.specs.declared.note.Note.{Note}
+use Rattle.gx_phases.specs.declared.phase.Phase.{Phase}
+use Rattle.gx_phases.specs.declared.phase.Phase.TheVariants as phase
+use Rattle.gx_phases.specs.Indexes.{AreOf}
+use Rattle.gx_phases.specs.States.{State, held_at, phase_at}
+use Rattle.gx_storage.specs.Keeps.{Keeps}
+use Rattle.gx_engine.specs.declared.work.Work.{Work}
+use Rattle.gx_engine.specs.declared.work.Work.TheVariants.{Rests, Looks, Descends, Seeks}
+use Rattle.gx_engine.specs.States.{Parts}
+
+-- a call whose pair stands in this leaf or to the right of it
+abbrev pub CallSeeks : {B : Type 0} → Call B → ℕ → index.Work B → Type 0
+CallSeeks Begin leaf is = ⊥
+CallSeeks (Insert e) leaf is = is ≡ index.Seeks e leaf
+CallSeeks (Delete e) leaf is = is ≡ index.Seeks e leaf
+CallSeeks (Search query) leaf is = ⊥
+CallSeeks Commit leaf is = ⊥
+CallSeeks Abort leaf is = ⊥
+
+-- a call that descends
+abbrev pub CallDescends : {B : Type 0} → Call B → index.Work B → (Entry B → index.Work B) → Type 0
+CallDescends Begin is descent = ⊥
+CallDescends (Insert e) is descent = is ≡ descent e
+CallDescends (Delete e) is descent = ⊥
+CallDescends (Search query) is descent = ⊥
+CallDescends Commit is descent = ⊥
+CallDescends Abort is descent = ⊥
+
+-- What an open call is at, as the index's laws have it. Of one that has not begun nothing is said.
+abbrev pub CallIsAt : {B : Type 0} → Call B → Work B → index.Work B → Type 0
+CallIsAt call Rests is = Unit {0}
+CallIsAt call (Looks look) is = is ≡ index.Looks look.stack.items (pairs_found look.found.items)
+CallIsAt call (Descends parent item) is = CallDescends call is (λ e. index.Descends e parent item)
+CallIsAt call (Seeks leaf) is = CallSeeks call leaf is
+
+-- what an undo is at: it has not begun with the next note, or seeks that one's pair
+abbrev pub UndoIsAt : {B : Type 0} → List (Note B) → ℕ → Work B → index.Work B → Type 0
+UndoIsAt notes restored Rests is = Unit {0}
+UndoIsAt notes restored (Looks look) is = ⊥
+UndoIsAt notes restored (Descends parent item) is = ⊥
+UndoIsAt {B} notes restored (Seeks leaf) is = (n : Note B) × (slice_get notes restored ≡ Some n) × (is ≡ index.Seeks n.entry leaf)
+
+-- the entries of the first so many notes are restored
+abbrev pub AreDone : {B : Type 0} → Keys B → List (Note B) → ℕ → List (Entry B) → Type 0
+AreDone {B} k notes restored done = (j : ℕ) (n : Note B) → j < restored → slice_get notes j ≡ Some n → has k n.entry done ≡ true
+
+-- what a session is at, by how far it is and by its notes
+abbrev pub IsAt : {B : Type 0} → Keys B → Phase B (Work B) → List (Note B) → index.Work B → List (Entry B) → Type 0
+IsAt k phase.Free notes is done = Unit {0}
+IsAt k phase.Working notes is done = Unit {0}
+IsAt k (phase.Open call work) notes is done = CallIsAt call work is
+IsAt k (phase.Undoing restored work) notes is done = UndoIsAt notes restored work is × AreDone k notes restored done
+IsAt k (phase.Waiting number) notes is done = Unit {0}
+
+-- the sessions are at what an index's sessions are at
+abbrev pub AreAt : {B : Type 0} → Keys B → State B (Work B) → index.State B → Type 0
+AreAt k sessions i = (a : ℕ) → is_session a ≡ true → IsAt k (phase_at (a - 1) sessions.phases) (held_at (a - 1) sessions.table).notes (i.work a) (i.restored a)
+
+-- The number that an engine notes is that of the last commit in flight, where a batch is, whose first call was made.
+abbrev pub KnowsFlight : Stage → ℕ → ℕ → Type 0
+KnowsFlight Idle noted number = Unit {0}
+KnowsFlight Body noted number = ⊥
+KnowsFlight BodySync noted number = noted ≡ number
+KnowsFlight Gate noted number = noted ≡ number
+KnowsFlight GateSync noted number = noted ≡ number
+
+module _ {B : Type 0} (c : Class B) (r : Reading (Entry B) (Page B)) (f : Format B) (passes : ℕ → Contents → Bool) where
+  -- An engine over a device holds an index, which is whole: its pages and log are the index's, its sessions are the index's and at
+  -- the same, and its last commit has the number of the log's. While it hasn't failed, it knows the last commit in flight.
+  pub record Holds {D : Type 0} (d : Device) (e : Parts B D) (bodies : List (List (Record (Entry B) (Page B)))) (i : index.State B) : Type 0 where
+    pub most : e.volume.most ≡ c.rules.most
+    pub some : 4 ≤ c.rules.most
+    pub keeps : Keeps (known_of c) r f passes d e.volume bodies i.log
+    pub whole : IsWhole c i
+    pub sessions : AreOf e.sessions i
+    pub at : AreAt c.keys e.sessions i
+    pub latest : e.sessions.latest ≡ latest (known_of c) i.log
+    pub flying : e.sessions.failed ≡ false → KnowsFlight e.volume.log.stage e.in_flight (durable (known_of c) (gate_synced i.log))
+
+  -- These events happened to an index: the engine holds what they led to. At each moment since, whatever a crash may leave is legal
+  -- and stands for a set that the index of before keeps, with a number from the one that was durable then to the last.
+  pub record Led {D : Type 0} (d e : Device) (new : Parts B D) (i : index.State B) (events : List (Event B)) : Type 0 where
+    pub bodies : List (List (Record (Entry B) (Page B)))
+    pub index : index.State B
+    pub happening : AreHappening c i events index
+    pub holds : Holds e new bodies index
+    pub leaves : Leaves (Stands (known_of c) r i.log) d e
+
+  -- whatever index an engine held, it holds what these events led to
+  abbrev pub Leads : {D : Type 0} → Device → Device → Parts B D → Parts B D → List (Event B) → Type 0
+  Leads d e old new events = (bodies : List (List (Record (Entry B) (Page B)))) (i : index.State B) → Holds d old bodies i → Led d e new i events
+
+  -- the same, where it depends on that index which events these were
+  abbrev pub LeadsSo : {D : Type 0} → Device → Device → Parts B D → Parts B D → (List (Event B) → Type 0) → Type 0
+  LeadsSo d e old new AreSo = (bodies : List (List (Record (Entry B) (Page B)))) (i : index.State B) → Holds d old bodies i
+      → (events : List (Event B)) × AreSo events × Led d e new i events

@@ -1,0 +1,5 @@
+pub mod States
+pub mod Holds
+pub mod Asked
+pub mod Flushing
+pub mod Sealing

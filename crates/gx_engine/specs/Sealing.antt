@@ -1,0 +1,57 @@
+-- What the moves of a commit come to.
+use Rattle.std.specs.Prelude.{ℕ, ◌≡◌, ◌≤◌, ◌+◌, Bool, true, false, Option, None, Some, nat_le, List, [], ◌∷◌}
+use Rattle.gx_machine.specs.declared.entry.Entry.{Entry}
+use Rattle.gx_machine.specs.declared.reply.Reply.TheVariants.{Committed}
+use Rattle.gx_record.specs.Rec as rec
+use Rattle.gx_engine_laws.specs.Events.{Event, Acknowledges, Seals}
+use Rattle.gx_events.specs.declared.outcome.Need.TheVariants as need
+use Rattle.gx_events.specs.declared.outcome.Outcome.{Outcome}
+use Rattle.gx_events.specs.declared.outcome.Outcome.TheVariants.{Replied, More, Help, Nothing, Refused}
+use Rattle.gx_phases.specs.declared.phase.Phase.TheVariants.{Free}
+use Rattle.gx_phases.specs.Moves.{sealed_state, transaction_of}
+use Rattle.gx_phases.specs.States.{with_phase_of}
+use Rattle.gx_storage.specs.Flushing.{HasNoRoom}
+use Rattle.gx_storage.specs.Keeps.{Logs}
+use Rattle.gx_engine.specs.States.{Parts}
+
+-- the record of a session's commit, with the next number
+abbrev pub commit_of : {B D : Type 0} → ℕ → Parts B D → rec.Rec
+commit_of s e = rec.Commit (transaction_of s e.sessions) (e.sessions.latest + 1)
+
+-- the record was appended, and the commit is sealed
+pub record IsSealed {B D : Type 0} (s : ℕ) (old new : Parts B D) : Type 0 where
+  pub logs : Logs (commit_of s old) old.volume.log new.volume.log
+  pub volume : new.volume ≡ record old.volume { log = new.volume.log }
+  pub is : new ≡ record old { volume = new.volume; sessions = sealed_state s old.sessions }
+
+-- it is sealed; or there is no room for the record, or no place, and nothing changes
+abbrev pub SealComes : {B D : Type 0} → ℕ → Parts B D → Parts B D → Outcome B → Type 0
+SealComes s old new More = IsSealed s old new
+SealComes s old new (Help need.Log) = HasNoRoom (commit_of s old) old.volume.log × (new ≡ old)
+SealComes s old new (Help need.Checkpoint) = (32 ≤ old.volume.log.used) × (new ≡ old)
+SealComes s old new (Help (need.Write page)) = ⊥
+SealComes s old new (Replied reply) = ⊥
+SealComes s old new Nothing = ⊥
+SealComes s old new (Refused why) = ⊥
+
+-- the index's event that it is: what stood is the set of that number
+abbrev pub AreSealing : {B : Type 0} → ℕ → ℕ → Outcome B → List (Event B) → Type 0
+AreSealing {B} s number More events = (set : List (Entry B)) × (events ≡ Seals s set number ∷ [])
+AreSealing s number other events = events ≡ []
+
+-- the answer of a commit whose number is durable; another one waits for the log
+abbrev pub told : {B : Type 0} → Option ℕ → Outcome B
+told None = Help need.Log
+told (Some number) = Replied (Committed number)
+
+-- a commit whose number is durable is acknowledged; another one waits
+abbrev pub AcknowledgeBy : {B D : Type 0} → Bool → ℕ → ℕ → Parts B D → Parts B D → Outcome B → Type 0
+AcknowledgeBy true s number old new outcome = (outcome ≡ Replied (Committed number)) × (new ≡ record old { sessions = with_phase_of s Free old.sessions })
+AcknowledgeBy false s number old new outcome = (outcome ≡ Help need.Log) × (new ≡ old)
+
+abbrev pub AcknowledgeComes : {B D : Type 0} → ℕ → ℕ → Parts B D → Parts B D → Outcome B → Type 0
+AcknowledgeComes s number old new outcome = AcknowledgeBy (nat_le number old.sessions.durable) s number old new outcome
+
+abbrev pub acknowledge_events : {B : Type 0} → ℕ → Outcome B → List (Event B)
+acknowledge_events s (Replied (Committed number)) = Acknowledges s number ∷ []
+acknowledge_events s other = []

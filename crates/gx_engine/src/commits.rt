@@ -1,0 +1,75 @@
+//! A commit goes its way: it is sealed, and acknowledged once it is durable.
+ghost use Rattle.std.specs.Prelude.{◌≡◌, ◌-◌, ◌+◌, ℕ, true, false};
+ghost use Rattle.gx_machine.specs.Machine.{is_session};
+ghost use Rattle.gx_node.specs.Reading.{format_of, is_node};
+ghost use Rattle.gx_recovery.specs.Known.{Limits};
+ghost use Rattle.gx_readings.specs.Classes.{class_of, reading_of};
+ghost use Rattle.gx_phases.specs.declared.phase.Phase.TheVariants.{Waiting};
+ghost use Rattle.gx_phases.specs.Moves.{asks_commit};
+ghost use Rattle.gx_phases.specs.States.{phase_at};
+ghost use Rattle.gx_engine.specs.Sealing.{AcknowledgeComes, SealComes, acknowledge_events, AreSealing, told};
+ghost use Rattle.gx_engine.specs.Holds.{Leads, LeadsSo};
+
+use crate::Engine;
+use crate::laws::a_class_is_lawful;
+use gx_disk::SectorDisk;
+use gx_events::{Need, Outcome};
+use gx_machine::Reply;
+use gx_readings::ReadKeys;
+
+/// The answer of a commit whose number is durable; another one waits for the log.
+fn told<B>(number: Option<u64>) -> Outcome<B>
+    ensures { result ≡ told number }
+{
+    match number {
+        Some(number) => Outcome::Replied(Reply::Committed(number)),
+        None => Outcome::Help(Need::Log),
+    }
+}
+
+impl<D: SectorDisk, K: ReadKeys> Engine<D, K> {
+    /// Seals the commit that a session has asked: its record is appended to the batch that fills, and it gets the next number. The
+    /// session then waits for that to be durable, and what it claimed and watched is free: `More`. It makes no call of the device
+    /// and takes no memory.
+    ///
+    /// `Help(Log)` where the record doesn't fit the batch that fills, `Help(Checkpoint)` where all places of the extent are taken;
+    /// nothing has changed then.
+    pub fn seal(&mut self, session: u8) -> Outcome<K::Key>
+        requires session { is_session session ≡ true }
+        requires commit { asks_commit (phase_at (session - 1) self.old.sessions.phases) ≡ true }
+        requires works { self.old.sessions.failed ≡ false }
+        ensures comes { SealComes session self.old self.new result }
+        ensures leads { (l : Limits) → LeadsSo (class_of K.Key.Shape K.is_proper l) (reading_of K.said (format_of K.KeyClass)) (format_of K.KeyClass) (is_node (format_of K.KeyClass))
+            (D.state self.old.volume.shelf.disk) (D.state self.new.volume.shelf.disk) self.old self.new (AreSealing session (self.old.sessions.latest + 1) result) }
+    {
+        a_class_is_lawful::<K>();
+        self.sessions.has_failed();
+        if self.storage.places() >= 32 {
+            return Outcome::Help(Need::Checkpoint);
+        }
+        let transaction = self.sessions.transaction(session);
+        let number = self.sessions.latest() + 1;
+        match self.storage.append_commit(transaction, number) {
+            Ok(()) => {
+                self.sessions.seal(session);
+                Outcome::More
+            }
+            Err(_) => Outcome::Help(Need::Log),
+        }
+    }
+
+    /// Acknowledges a session's commit where its number is durable, and the session is free: `Replied` with `Committed` and that number.
+    /// Else `Help(Log)`, and nothing has changed. It makes no call of the device and takes no memory.
+    pub fn acknowledge(&mut self, session: u8) -> Outcome<K::Key>
+        requires session { is_session session ≡ true }
+        requires works { self.old.sessions.failed ≡ false }
+        ensures comes { (number : ℕ) → phase_at (session - 1) self.old.sessions.phases ≡ Waiting number → AcknowledgeComes session number self.old self.new result }
+        ensures leads { (number : ℕ) → phase_at (session - 1) self.old.sessions.phases ≡ Waiting number → (l : Limits)
+            → Leads (class_of K.Key.Shape K.is_proper l) (reading_of K.said (format_of K.KeyClass)) (format_of K.KeyClass) (is_node (format_of K.KeyClass))
+            (D.state self.old.volume.shelf.disk) (D.state self.new.volume.shelf.disk) self.old self.new (acknowledge_events session result) }
+    {
+        a_class_is_lawful::<K>();
+        self.sessions.has_failed();
+        told(self.sessions.acknowledge(session))
+    }
+}

@@ -1,0 +1,96 @@
+//! The engine.
+ghost use Rattle.std.specs.Prelude.{◌≡◌};
+ghost use Rattle.gx_glog.specs.declared.stage.Turn.TheVariants.{Closed};
+
+use crate::work::Work;
+use gx_disk::SectorDisk;
+use gx_events::Outcome;
+use gx_geom::Refusal;
+use gx_phases::Sessions;
+use gx_readings::ReadKeys;
+use gx_storage::Storage;
+use std::marker::Model;
+
+/// An index at work over a device: pages with their log, and up to eight sessions.
+///
+/// It works in events, each of which makes at most one write or sync of the device. Once a call of the device has failed, or a
+/// page didn't read, it has failed: from then on it only refuses.
+#[derive(Drop)]
+pub struct Engine<D: SectorDisk, K: ReadKeys> {
+    pub(crate) storage: Storage<D, K>,
+    pub(crate) sessions: Sessions<K::Key, Work<K::Key>>,
+    // the number of the last commit in the batch in flight, or in the one that was gated last
+    pub(crate) in_flight: u64,
+}
+
+impl<D: SectorDisk, K: ReadKeys> Model for Engine<D, K> {
+    ghost use Rattle.gx_engine.specs.States.{Parts, IsInOrder};
+
+    ghost Value = { Parts K.Key D };
+
+    ghost view = { λ m. record { volume = m.storage; sessions = m.sessions; in_flight = m.in_flight } };
+
+    ghost invariant = { λ m. IsInOrder (record { volume = m.storage; sessions = m.sessions; in_flight = m.in_flight }) };
+}
+
+impl<D: SectorDisk, K: ReadKeys> Engine<D, K> {
+    ghost use Rattle.gx_machine.specs.Keys.{keys_of};
+    ghost use Rattle.gx_phases.specs.Moves.{failed_state};
+    ghost use Rattle.gx_phases.specs.States.{IsKept};
+
+    /// An engine over pages with their log, of which no batch is in flight and no turn is under way, and over sessions.
+    pub fn new(storage: Storage<D, K>, sessions: Sessions<K::Key, Work<K::Key>>) -> Self
+        requires still { storage.log.turn ≡ Closed }
+        ensures { result ≡ record { volume = storage; sessions = sessions; in_flight = sessions.durable } }
+    {
+        sessions.has_failed();
+        let in_flight = sessions.durable();
+        Engine {
+            storage,
+            sessions,
+            in_flight,
+        }
+    }
+
+    /// The number of the last commit that is sealed.
+    pub fn commits(&self) -> u64
+        ensures { result ≡ self.now.sessions.latest }
+    {
+        self.sessions.latest()
+    }
+
+    /// The greatest page that is taken.
+    pub fn used(&self) -> u32
+        ensures { result ≡ self.now.volume.shelf.used }
+    {
+        self.storage.used()
+    }
+
+    /// How many splits were made, but for the root's: the greatest node sequence number.
+    pub fn counter(&self) -> u64
+        ensures { result ≡ self.now.volume.shelf.counter }
+    {
+        self.storage.counter()
+    }
+
+    /// Gives the engine up for its device, as the calls left it. What isn't written is lost.
+    pub fn into_disk(self) -> D
+        ensures { result ≡ self.volume.shelf.disk }
+    {
+        let Engine {
+            storage,
+            sessions: _,
+            in_flight: _,
+        } = self;
+        storage.into_disk()
+    }
+
+    // A call of the device failed: from now on the engine only refuses.
+    pub(crate) fn fail(&mut self) -> Outcome<K::Key>
+        ensures outcome { result ≡ Outcome.Refused Refusal.Device }
+        ensures failed { self.new ≡ record self.old { sessions = failed_state self.old.sessions } }
+    {
+        self.sessions.fail();
+        Outcome::Refused(Refusal::Device)
+    }
+}

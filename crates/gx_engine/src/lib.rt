@@ -1,0 +1,12 @@
+//! An index at work: the calls of up to eight sessions over pages with their log, an event at a time.
+#![tactic(auto)]
+
+mod asks;
+mod commits;
+mod engine;
+mod flusher;
+pub mod laws;
+mod work;
+
+pub use engine::Engine;
+pub use work::Work;

@@ -1,0 +1,67 @@
+-- Sessions made and handed back, and what a call and a flusher do.
+use Rattle.std.specs.Prelude.{ℕ, zero, suc, ◌≡◌, ◌⊎◌, ◌+◌, ◌%◌, ◌<◌, Bool, true, false, Option, None, Some, sum_by, List, [], ◌∷◌, ◌++◌}
+use Rattle.gx_geom.specs.declared.refusal.Refusal.TheVariants as refusal
+use Rattle.gx_machine.specs.declared.reply.Reply.{Reply}
+use Rattle.gx_machine.specs.declared.reply.Reply.TheVariants as reply
+use Rattle.gx_machine.specs.declared.item.Item.{Item}
+use Rattle.gx_machine.specs.Keys.{Keys}
+use Rattle.gx_machine.specs.Machine.{Machine}
+use Rattle.gx_events.specs.declared.event.Event.{Event}
+use Rattle.gx_events.specs.declared.event.Event.TheVariants.{LogStep, WritePage, CheckpointStep, Sweep}
+use Rattle.gx_events.specs.declared.outcome.Outcome.{Outcome}
+use Rattle.gx_events.specs.declared.outcome.Outcome.TheVariants.{Refused}
+use Rattle.gx_events.specs.declared.driver.Next.{Next}
+use Rattle.gx_events.specs.declared.driver.Next.TheVariants.{Run, Done}
+use Rattle.gx_shared.specs.Books.{IsOf, is_work, IsHold}
+use Rattle.gx_shared.specs.declared.flush.Part.{Part}
+use Rattle.gx_shared.specs.declared.flush.Part.TheVariants as part
+
+-- sessions from number 1 on, so many, with no call finished
+abbrev pub fresh_sessions : ℕ → List (ℕ × ℕ)
+fresh_sessions zero = []
+fresh_sessions (suc n) = fresh_sessions n ++ (suc n, 0) ∷ []
+
+-- the calls that sessions have finished, added up
+abbrev pub shares_of : List (ℕ × ℕ) → ℕ
+shares_of sessions = sum_by (λ s. s.1) sessions
+
+-- a reply to a call that is given up before it is finished: for a fault, or for a record that is full
+abbrev pub gives_up : {B : Type 0} → Reply B → Bool
+gives_up (reply.Refused refusal.Device) = true
+gives_up (reply.Refused refusal.Failed) = true
+gives_up (reply.Refused refusal.Damaged) = true
+gives_up (reply.Refused refusal.HistoryFull) = true
+gives_up other = false
+
+-- A session's call: it is finished, and the session's share rises by one; or it is given up, and its share is as before.
+abbrev pub IsCalled : {B : Type 0} → ℕ × ℕ → Reply B → ℕ × ℕ → Type 0
+IsCalled old r new = (new ≡ (old.0, old.1 + 1)) ⊎ ((new ≡ old) × (gives_up r ≡ true))
+
+-- an event in a call of this session: one of its own, or one that is no session's
+abbrev pub InCall : {B : Type 0} → ℕ → Event B → Type 0
+InCall s event = IsOf s event ⊎ (is_work event ≡ true)
+
+-- where an outcome refuses, the call is given up
+abbrev pub RefusesToGiveUp : {B : Type 0} → Outcome B → Type 0
+RefusesToGiveUp {B} (Refused why) = gives_up {B = B} (reply.Refused why) ≡ true
+RefusesToGiveUp other = Unit {0}
+
+-- what follows a hold in a call: another event of it, and the session is as before; or the end of the call
+abbrev pub Follows : {B : Type 0} → ℕ × ℕ → Next B → ℕ × ℕ → Type 0
+Follows old (Run event) new = (new ≡ old) × InCall old.0 event
+Follows old (Done r) new = IsCalled old r new
+
+-- the event of a flusher's part, in the round of this number, where so many pages are used and this one may be written
+abbrev pub flusher_event : {B : Type 0} → Part → ℕ → ℕ → Option ℕ → Option (Event B)
+flusher_event part.Checkpoint round used dirty = Some CheckpointStep
+flusher_event part.Log round used dirty = Some LogStep
+flusher_event part.Page round used None = None
+flusher_event part.Page round used (Some page) = Some (WritePage page)
+flusher_event part.Leaf round used dirty = Some (Sweep (1 + round % used))
+
+-- A flusher's part was applied: its event is one hold; or it has none, as no page may be written, and nothing changes.
+abbrev pub IsFlushed : {B E : Type 0} → Keys B → (E → Machine B → Type 0) → Part → ℕ → E × List (Item B) → Option (Outcome B) → E × List (Item B) → Type 0
+IsFlushed {B} k sees which round old None new = (which ≡ part.Page) × (new ≡ old)
+IsFlushed {B} k sees which round old (Some outcome) new =
+    (used : ℕ) × (dirty : Option ℕ) × (event : Event B) × (0 < used) × (flusher_event which round used dirty ≡ Some event)
+    × IsHold k sees old event outcome new × (new.1 ≡ old.1)

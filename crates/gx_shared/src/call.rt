@@ -1,0 +1,97 @@
+//! Calls of sessions and rounds of flushers, one hold of the lock an event.
+ghost use Rattle.std.specs.Prelude.{◌≡◌};
+ghost use Rattle.gx_shared.specs.Sharing.{InCall, Follows};
+
+use crate::flush::{Part, ROUND};
+use crate::{Between, Run, Session, Shared};
+use gx_events::{Driver, Event, Events, Next, Outcome};
+use gx_geom::Shape;
+use gx_machine::{Call, Reply};
+use std::sync::Wait;
+use std::sync::ledger::Ledger;
+
+/// One hold of the lock for a session's call, and what follows it.
+#[tactic(auto, using(crate::proofs::Sharing::follows_next))]
+fn hold<B: Shape, E: Events<B>, R: Run<B>, W: Wait>(
+    rt: &W,
+    shared: &Shared<B, E, R>,
+    session: &mut Session<R>,
+    event: Event<B>,
+) -> Next<B>
+    requires { InCall session.old.0 event }
+    ensures { Follows session.old result session.new }
+{
+    let mut driver = Driver::new(session.number());
+    let outcome = shared.book.lock(rt).run(session, event);
+    driver.next(outcome)
+}
+
+/// One hold of the lock for a flusher's part of a round; none has an outcome that has no event.
+fn flush<B: Shape, E: Events<B>, R: Run<B>, W: Wait>(
+    rt: &W,
+    shared: &Shared<B, E, R>,
+    part: Part,
+    round: u64,
+) -> Option<Outcome<B>> {
+    shared.book.lock(rt).flush(part, round)
+}
+
+impl<R: Ledger> Session<R> {
+    ghost use Rattle.gx_shared.specs.Sharing.{IsCalled};
+
+    /// Asks a call and runs its events to the end, one hold of the lock for each; `between` comes between two of them, while no
+    /// lock is held. The session is used with the `Shared` that made it.
+    ///
+    /// The reply is the one that was recorded, and the session's share rises by one. Or the call is given up, and its share is as
+    /// before: with `Device`, `Failed` or `Damaged` where an event of the log or of a page met a fault, with `Failed` where the
+    /// record is full of such refusals, with `HistoryFull` where the record has no room for the call.
+    #[tactic(auto, using(crate::proofs::Sharing::done_of, crate::proofs::Sharing::run_of, crate::proofs::Sharing::call_of))]
+    pub fn call<B: Shape, E: Events<B>, G: Between, W: Wait>(
+        &mut self,
+        rt: &W,
+        shared: &Shared<B, E, R>,
+        call: Call<B>,
+        between: &G,
+    ) -> Reply<B>
+    where
+        R: Run<B>,
+        ensures { IsCalled self.old result self.new }
+    {
+        let number = self.number();
+        let mut event = Event::Ask(number, call);
+        let mut step: u64 = 0;
+        for _ in rt.forever() {
+            match hold(rt, shared, self, event) {
+                Next::Done(reply) => return reply,
+                Next::Run(next) => event = next,
+            }
+            step = step.saturating_add(1);
+            between.between(number, step);
+        }
+        unreachable!()
+    }
+}
+
+/// Runs so many rounds of a flusher: in each the next step of a checkpoint, the next step of the log, the write of a page where
+/// one may be written, and the sweep of a page, each in a hold of the lock of its own. `between` comes after each of them, while
+/// no lock is held. It ends before that where one is refused.
+pub fn flusher<B: Shape, E: Events<B>, R: Run<B>, G: Between, W: Wait>(
+    rt: &W,
+    shared: &Shared<B, E, R>,
+    rounds: u64,
+    between: &G,
+) {
+    let mut step: u64 = 0;
+    for round in 0..rounds {
+        for part in ROUND {
+            match flush(rt, shared, part, round) {
+                Some(Outcome::Refused(_)) => return,
+                Some(_) => {
+                    step = step.saturating_add(1);
+                    between.between(0, step);
+                }
+                None => {}
+            }
+        }
+    }
+}

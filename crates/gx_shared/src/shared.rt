@@ -1,0 +1,105 @@
+//! An engine that is shared by sessions.
+ghost use Rattle.std.specs.Prelude.{◌≡◌, ◌+◌, [], length, IfOk};
+ghost use Rattle.gx_machine.specs.declared.limits.TheConstants.{SESSIONS};
+ghost use Rattle.gx_shared.specs.Sharing.{fresh_sessions, shares_of};
+
+use crate::{Book, Run, Session};
+use gx_events::Events;
+use gx_geom::{Refusal, Shape};
+use gx_machine::SESSIONS;
+use std::alloc::{AllocError, Global};
+use std::sync::Mutex;
+use std::sync::ledger::{Blank, Ledger, Share};
+
+/// All sessions, each with one part of the ledger.
+fn all_sessions<R: Ledger>(alloc: Global, all: Share<R>) -> Result<Vec<Session<R>>, AllocError>
+    requires parts { all.parts ≡ SESSIONS }
+    requires amount { all.amount ≡ 0 }
+    ensures { IfOk result (λ sessions. sessions.items ≡ fresh_sessions SESSIONS) }
+{
+    let mut all = all;
+    let mut sessions = Vec::with_capacity(alloc, SESSIONS)?;
+    for place in 0..SESSIONS {
+        let share = all.split_off(1, 0);
+        sessions.push(Session::new(place as u8 + 1, share))?;
+    }
+    Ok(sessions)
+}
+
+/// A share with the parts of these sessions too, and with their finished calls.
+#[tactic(auto, using(crate::proofs::Sharing::taken_first))]
+fn gathered<R: Ledger>(first: Share<R>, sessions: Vec<Session<R>>) -> Share<R>
+    ensures parts { result.parts ≡ first.parts + length sessions.items }
+    ensures amount { result.amount ≡ first.amount + shares_of sessions.items }
+{
+    let mut all = first;
+    let mut rest = sessions;
+    while !rest.is_empty() {
+        let session = rest.remove(0);
+        all.merge(session.into_share());
+    }
+    all
+}
+
+/// An engine under a lock, with the record of its calls, for sessions in threads of their own.
+#[derive(Drop)]
+pub struct Shared<B: Shape, E: Events<B>, R: Run<B>> {
+    pub(crate) book: Mutex<Book<B, E, R>>,
+}
+
+impl<B: Shape, E: Events<B>, R: Run<B>> Shared<B, E, R> {
+    ghost use Rattle.std.specs.Prelude.{◌≤◌, IfErr};
+    ghost use Rattle.gx_events.specs.Items.{finished};
+    ghost use Rattle.gx_shared.specs.Calls.{open_calls};
+
+    /// Puts an engine under a lock, with an empty record, and makes its eight sessions, of which none has a call finished. The
+    /// blank is that of the run's ledger, in eight parts; the engine is seen as the run's machine, in which no call is open.
+    ///
+    /// It takes all room that the record will need, 65,536 items. Without that memory it answers `Memory`, and the engine comes
+    /// back; the blank is spent.
+    pub fn new(
+        alloc: Global,
+        blank: Blank,
+        engine: E,
+    ) -> Result<(Self, Vec<Session<R>>), (Refusal, E)>
+        requires name { blank.name ≡ R.name }
+        requires parts { (blank.parts ≡ R.parts) × (R.parts ≡ SESSIONS) }
+        requires seen { E.sees engine R.start }
+        requires eight { length R.start.sessions ≡ SESSIONS }
+        requires none_open { open_calls R.start.sessions ≡ 0 }
+        ensures sessions { IfOk result (λ made. made.1.items ≡ fresh_sessions SESSIONS) }
+        ensures memory { IfErr result (λ refused. (refused.0 ≡ Refusal.Memory) × (refused.1 ≡ engine)) }
+    {
+        let (tally, all) = blank.open::<R>();
+        let Ok(sessions) = all_sessions(alloc, all) else {
+            return Err((Refusal::Memory, engine));
+        };
+        match Book::new(alloc, tally, engine) {
+            Ok(book) => Ok((
+                Shared {
+                    book: Mutex::new(book),
+                },
+                sessions,
+            )),
+            Err(engine) => Err((Refusal::Memory, engine)),
+        }
+    }
+
+    /// Ends the sharing: the sessions come back, and the book with them. Its record has as many finished calls as the shares of
+    /// all eight sessions add up to; where fewer come back, at least as many as theirs.
+    pub fn close(self, sessions: Vec<Session<R>>) -> Book<B, E, R>
+        requires { R.parts ≡ SESSIONS }
+        ensures least { shares_of sessions.items ≤ finished result.1 }
+        ensures exact { length sessions.items ≡ SESSIONS → finished result.1 ≡ shares_of sessions.items }
+    {
+        let mut book = self.book.into_inner();
+        let mut rest = sessions;
+        if rest.is_empty() {
+            return book;
+        }
+        let first = rest.remove(0);
+        let mut all = gathered(first.into_share(), rest);
+        book.audit(&mut all);
+        book
+    }
+}

@@ -1,0 +1,137 @@
+use Rattle.std.proofs.Common.{◌≡◌, suc, sym, ap, refl, ◌∙◌, arith}
+use Rattle.std.proofs.lemmas.Result.{err_from_is_err_and}
+use Rattle.gx_node.specs.Reading.{format_of, is_node}
+use Rattle.gx_store.specs.State.{Shelf, IsHeld}
+use Rattle.gx_storage.specs.Giving.{rising}
+use Rattle.gx_storage.specs.State.{Volume}
+use Rattle.gx_storage.proofs.Splitting.{begun_long, begun_pages, damaged_since, logged_these, rising_each, split_stamped, split_stepped, store_begun}
+use Rattle.gx_storage.proofs.Writing.{begun_is, has_room_then, on_err, steady_begun, unlogged, unstepped}
+use Rattle.gx_storage.proofs.storage.Storage.split.Goals as goal
+
+pub returns-in_err-split-clause-unlogged : goal.returns-in_err-split-clause-unlogged
+returns-in_err-split-clause-unlogged g c =
+    let i = c.self.inside in
+    let f = format_of g.K.KeyClass in
+    let state = g.D.SectorDisk.state in
+    let v : Volume g.row.D.Denot = record { log = i.log; shelf = i.store; most = i.most } in
+    let u = c.begin.new.self in
+    let t = c.split_step.new.pages in
+    let is = begun_is v u 12314 _ _ _ c.begin.ensures (c.from.ensures ∙ c.used.ensures.used) c.has_room-room.ensures refl in
+    let since = unstepped (is_node f) state v 12314 t u is c.in_err-split.ensures.kept in
+    rw (← c.self.view_is) (on_err _ _ (unlogged _ _ f (is_node f) state v 12314 t since
+    (λ steady. c.in_err-split.ensures.refused (steady_begun (is_node f) state v 12314 t u is steady) ∙ store_begun f state v 12314 u is)))
+
+pub give_three-requires-clause-place : goal.give_three-requires-clause-place
+give_three-requires-clause-place g c =
+    let i = c.self.inside in
+    let f = format_of g.K.KeyClass in
+    let state = g.D.SectorDisk.state in
+    let v : Volume g.row.D.Denot = record { log = i.log; shelf = i.store; most = i.most } in
+    let u = c.begin.new.self in
+    let t = c.split_step.new.pages in
+    let is = begun_is v u 12314 _ _ _ c.begin.ensures (c.from.ensures ∙ c.used.ensures.used) c.has_room-room.ensures refl in
+    let did = split_stepped (is_node f) state v 12314 t u c.args.page c.args.parent _ (suc i.store.used) is (ap suc (begun_long f state v 12314 u is)) c.in_ok-split.ensures.since in
+    let changing = rw c.in-Some.is at c.in_ok-split.ensures.changing in
+    (has_room_then (is_node f) state v 12314 t (sym did.goes_on.has_room) changing.0).0
+
+pub give_three-requires-clause-room : goal.give_three-requires-clause-room
+give_three-requires-clause-room g c =
+    let i = c.self.inside in
+    let f = format_of g.K.KeyClass in
+    let state = g.D.SectorDisk.state in
+    let v : Volume g.row.D.Denot = record { log = i.log; shelf = i.store; most = i.most } in
+    let u = c.begin.new.self in
+    let t = c.split_step.new.pages in
+    let is = begun_is v u 12314 _ _ _ c.begin.ensures (c.from.ensures ∙ c.used.ensures.used) c.has_room-room.ensures refl in
+    let did = split_stepped (is_node f) state v 12314 t u c.args.page c.args.parent _ (suc i.store.used) is (ap suc (begun_long f state v 12314 u is)) c.in_ok-split.ensures.since in
+    let changing = rw c.in-Some.is at c.in_ok-split.ensures.changing in
+    (has_room_then (is_node f) state v 12314 t (sym did.goes_on.has_room) changing.0).1
+
+pub give_three-requires-clause-held : goal.give_three-requires-clause-held
+give_three-requires-clause-held g c =
+    let held = rw c.in-Some.is at c.in_ok-split.ensures.held in
+    rising_each (λ p. IsHeld c.split_step.new.pages p) c.args.page c.args.parent c.in-Some.split.sibling _ _ _ c.in_rising_order-first.ensures.these held.0 held.1 held.2
+
+pub returns-clause-logged : goal.returns-clause-logged
+returns-clause-logged g c =
+    let i = c.self.inside in
+    let f = format_of g.K.KeyClass in
+    let state = g.D.SectorDisk.state in
+    let v : Volume g.row.D.Denot = record { log = i.log; shelf = i.store; most = i.most } in
+    let u = c.begin.new.self in
+    let t = c.split_step.new.pages in
+    let is = begun_is v u 12314 _ _ _ c.begin.ensures (c.from.ensures ∙ c.used.ensures.used) c.has_room-room.ensures refl in
+    let did = split_stepped (is_node f) state v 12314 t u c.args.page c.args.parent _ (suc i.store.used) is (ap suc (begun_long f state v 12314 u is)) c.in_ok-split.ensures.since in
+    let sibling = rw c.in-Some.is at c.in_ok-split.ensures.sibling in
+    let next : c.in-Some.split.sibling ≡ suc i.store.used = sibling ∙ ap suc (begun_long f state v 12314 u is) in
+    let these = c.in_rising_order-first.ensures.these ∙ ap (λ p. rising c.args.page c.args.parent p) next in
+    rw (← c.self.view_is) (logged_these _ _ f (is_node f) state v 12314 t _ (rising c.args.page c.args.parent (suc i.store.used)) c.give_three.new.log these did c.give_three.ensures.given c.in_order.ensures.taken
+    c.give_three.ensures.last)
+
+pub returns-clause-stamped : goal.returns-clause-stamped
+returns-clause-stamped g c =
+    let i = c.self.inside in
+    let f = format_of g.K.KeyClass in
+    let state = g.D.SectorDisk.state in
+    let v : Volume g.row.D.Denot = record { log = i.log; shelf = i.store; most = i.most } in
+    let u = c.begin.new.self in
+    let t = c.split_step.new.pages in
+    let is = begun_is v u 12314 _ _ _ c.begin.ensures (c.from.ensures ∙ c.used.ensures.used) c.has_room-room.ensures refl in
+    let did = split_stepped (is_node f) state v 12314 t u c.args.page c.args.parent _ (suc i.store.used) is (ap suc (begun_long f state v 12314 u is)) c.in_ok-split.ensures.since in
+    let held = rw c.in-Some.is at c.in_ok-split.ensures.held in
+    let apart = rw c.in-Some.is at c.in_ok-split.ensures.apart in
+    rw (← c.self.view_is) (λ steady.
+    (let made = rw c.in-Some.is at (c.in_ok-split.ensures.split (steady_begun (is_node f) state v 12314 t u is steady)) in
+    split_stamped f (is_node f) state v 12314 t _ g.K.KeyClass.sides_of did.goes_on steady u c.args.page c.args.parent c.in-Some.split is held.0 held.1 apart.1 apart.2 made))
+
+pub returns-in_default-clause-logged : goal.returns-in_default-clause-logged
+returns-in_default-clause-logged g c =
+    let i = c.self.inside in
+    let f = format_of g.K.KeyClass in
+    let state = g.D.SectorDisk.state in
+    let v : Volume g.row.D.Denot = record { log = i.log; shelf = i.store; most = i.most } in
+    let u = c.begin.new.self in
+    let t = c.split_step.new.pages in
+    let is = begun_is v u 12314 _ _ _ c.begin.ensures (c.from.ensures ∙ c.used.ensures.used) c.has_room-room.ensures refl in
+    let none = rw c.in_default.is at c.in_ok-split.ensures.none in
+    let since = unstepped (is_node f) state v 12314 t u is none in
+    rw (← c.self.view_is) (unlogged _ _ f (is_node f) state v 12314 t since
+    (λ steady. (let stays = rw c.in_default.is at (c.in_ok-split.ensures.split (steady_begun (is_node f) state v 12314 t u is steady)) in stays.0 ∙ store_begun f state v 12314 u is)))
+
+pub returns-in_err-split-clause-full : goal.returns-in_err-split-clause-full
+returns-in_err-split-clause-full g c =
+    let i = c.self.inside in
+    let f = format_of g.K.KeyClass in
+    let state = g.D.SectorDisk.state in
+    let v : Volume g.row.D.Denot = record { log = i.log; shelf = i.store; most = i.most } in
+    let u = c.begin.new.self in
+    let t = c.split_step.new.pages in
+    let is = begun_is v u 12314 _ _ _ c.begin.ensures (c.from.ensures ∙ c.used.ensures.used) c.has_room-room.ensures refl in
+    let long = begun_long f state v 12314 u is in
+    let pages = begun_pages f state v 12314 u is in
+    let told = err_from_is_err_and c.from_residual.result c.from_residual.ensures.1 in
+    rw (← c.self.view_is) (λ steady refused. (let full = c.in_err-split.ensures.full (steady_begun (is_node f) state v 12314 t u is steady) (rw (told.1, told.2) at refused) in omega (arith, long, pages, full)))
+
+pub returns-in_err-split-clause-damaged : goal.returns-in_err-split-clause-damaged
+returns-in_err-split-clause-damaged g c =
+    let i = c.self.inside in
+    let f = format_of g.K.KeyClass in
+    let state = g.D.SectorDisk.state in
+    let v : Volume g.row.D.Denot = record { log = i.log; shelf = i.store; most = i.most } in
+    let u = c.begin.new.self in
+    let t = c.split_step.new.pages in
+    let is = begun_is v u 12314 _ _ _ c.begin.ensures (c.from.ensures ∙ c.used.ensures.used) c.has_room-room.ensures refl in
+    let told = err_from_is_err_and c.from_residual.result c.from_residual.ensures.1 in
+    rw (← c.self.view_is) (λ steady refused. damaged_since f state v 12314 u is _ c.args.page c.args.parent (c.in_err-split.ensures.damaged (steady_begun (is_node f) state v 12314 t u is steady) (rw (told.1, told.2) at refused)))
+
+pub returns-clause-sibling : goal.returns-clause-sibling
+returns-clause-sibling g c =
+    let i = c.self.inside in
+    let f = format_of g.K.KeyClass in
+    let state = g.D.SectorDisk.state in
+    let v : Volume g.row.D.Denot = record { log = i.log; shelf = i.store; most = i.most } in
+    let u = c.begin.new.self in
+    let t = c.split_step.new.pages in
+    let is = begun_is v u 12314 _ _ _ c.begin.ensures (c.from.ensures ∙ c.used.ensures.used) c.has_room-room.ensures refl in
+    let sibling = rw c.in-Some.is at c.in_ok-split.ensures.sibling in
+    rw (← c.self.view_is) (sibling ∙ ap suc (begun_long f state v 12314 u is))

@@ -1,0 +1,83 @@
+//! The record of three pages that were changed.
+ghost use Rattle.std.specs.Prelude.{◌≡◌, ◌≢◌, ◌≤◌, ◌<◌, ◌+◌, [], ◌∷◌, length};
+ghost use Rattle.gx_glog.specs.declared.stage.Turn.TheVariants.{Closed};
+ghost use Rattle.gx_node.specs.Reading.{format_of};
+ghost use Rattle.gx_readings.specs.Classes.{reading_of};
+ghost use Rattle.gx_record.specs.Format.{IsPage};
+ghost use Rattle.gx_record.specs.Seen.{numbered};
+ghost use Rattle.gx_store.specs.State.{IsHeld};
+ghost use Rattle.gx_tree_laws.specs.Lists.{Each};
+ghost use Rattle.gx_storage.specs.Changes.{IsLast, image_at, known_at};
+ghost use Rattle.gx_storage.specs.Giving.{IsGiven, pages_given, rising};
+
+use gx_disk::SectorDisk;
+use gx_durable::calls::append;
+use gx_glog::Glog;
+use gx_readings::{OfClass, ReadKeys};
+use gx_record::{PageImage, PageImages, Record};
+use gx_store::PageStore;
+use gx_tree::Pages;
+
+/// Three pages by rising number.
+pub(crate) fn in_rising_order(a: u32, b: u32, c: u32) -> (u32, u32, u32)
+    requires apart { (a ≢ b) × (c ≢ a) × (c ≢ b) }
+    ensures these { result.0 ∷ result.1 ∷ result.2 ∷ [] ≡ rising a b c }
+    ensures rise { (result.0 < result.1) × (result.1 < result.2) }
+{
+    let (low, high) = (a.min(b), a.max(b));
+    if c < low {
+        return (c, low, high);
+    }
+    if c < high {
+        return (low, c, high);
+    }
+    (low, high, c)
+}
+
+/// A page that is held, with its image as it stands.
+fn held_image<D: SectorDisk, K: ReadKeys>(store: &PageStore<D, K>, page: u32) -> PageImage<'_>
+    requires { IsHeld store.now page }
+    ensures number { result.page ≡ page }
+    ensures lent { numbered result ≡ (page, image_at (D.state store.now.disk).seen store.now page) }
+    ensures page { IsPage (numbered result) }
+    ensures given { IsGiven (D.state store.now.disk).seen store.now page }
+{
+    store.in_order();
+    let held = store.held_page(page);
+    PageImage {
+        page,
+        image: held.image(),
+    }
+}
+
+/// Appends the record of three pages that were changed, of which the record has the images as they are held, with the counter and
+/// the number of pages in use as they are now.
+pub(crate) fn give_three<D: SectorDisk, K: ReadKeys>(
+    log: &mut Glog,
+    store: &PageStore<D, K>,
+    first: u32,
+    second: u32,
+    third: u32,
+)
+    requires place { log.old.used < 32 }
+    requires still { log.old.turn ≡ Closed }
+    requires room { length log.old.filling + 12314 ≤ 32764 }
+    requires held { IsHeld store.now first × IsHeld store.now second × IsHeld store.now third }
+    requires rise { (first < second) × (second < third) }
+    ensures last { IsLast (known_at K.Key.Shape K.is_proper) (reading_of K.said (format_of K.KeyClass))
+        (pages_given (first ∷ second ∷ third ∷ []) (D.state store.now.disk).seen store.now) log.old log.new }
+    ensures given { Each (IsGiven (D.state store.now.disk).seen store.now) (first ∷ second ∷ third ∷ []) }
+{
+    let (counter, used) = (store.counter(), store.used());
+    let low = held_image(store, first);
+    let middle = held_image(store, second);
+    let high = held_image(store, third);
+    append::<OfClass<K>>(
+        log,
+        &Record::Pages {
+            counter,
+            used,
+            pages: PageImages::Three(low, middle, high),
+        },
+    );
+}
