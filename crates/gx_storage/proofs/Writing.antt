@@ -5,6 +5,7 @@ use Rattle.std.proofs.lemmas.Bool.{and_parts, eq-eqb, leb-true, ltb-true}
 use Rattle.gx_machine.specs.declared.entry.Entry.{Entry}
 use Rattle.gx_disk.specs.Device.{Device}
 use Rattle.gx_page.specs.Contents.{Contents}
+use Rattle.gx_page.proofs.Images.{read-image}
 use Rattle.gx_page.specs.Format.{image_of, IsWellFormed}
 use Rattle.gx_page.specs.Reading.{IsImage, read_of}
 use Rattle.gx_pool.specs.Laws.{IsPassed}
@@ -35,6 +36,7 @@ use Rattle.gx_store.proofs.Listed.{node_there, nodes_long}
 use Rattle.gx_store.proofs.Shown.{lent, stands_kept}
 use Rattle.gx_storage.specs.Changes.{IsLast, IsLogged, IsUnlogged, begun, has_room}
 use Rattle.gx_storage.specs.Keeps.{KeepsWith, StaysWith}
+use Rattle.gx_storage.specs.Numbers.{HasOwnNumber}
 use Rattle.gx_storage.specs.State.{Volume}
 use Rattle.gx_storage.proofs.Moving.{stays_same}
 use Rattle.gx_storage.proofs.Recording.{write_stays_with}
@@ -76,6 +78,13 @@ held_stands s seen page c held is = let one = lent s.frames page c held.kept is 
 -- and has its number
 pub held_number : {D : Type 0} (passes : Contents → Bool) (s : Shelf D) (page : ℕ) (c : Contents) → IsPassed passes s.frames → IsHeld s page → IfSome (kept s.frames page) (λ k. c ≡ k.page) → c.number ≡ page
 held_number passes s page c passed held is = let one = lent s.frames page c held.kept is in ap (λ (p : Contents). p.number) one.same ∙ (passed page one.k one.is).0
+
+-- so its image, as it stands, has that number as its own
+pub held_own : {D : Type 0} (passes : Contents → Bool) (s : Shelf D) (seen : List ℕ) (page : ℕ) (c : Contents) → IsPassed passes s.frames → IsHeld s page → IfSome (kept s.frames page) (λ k. c ≡ k.page)
+    → IsWellFormed c → HasOwnNumber seen s page
+held_own passes s seen page c passed held is well =
+    let same : c ≡ standing s.frames seen page = held_stands s seen page c held is in
+    ap (λ (x : Contents). x.number) (read-image _ (subst {A = Contents} IsWellFormed same well)) ∙ (ap (λ (x : Contents). x.number) (sym same) ∙ held_number passes s page c passed held is)
 
 -- a write of it is in range
 pub write_in_range : (tx row : ℕ) (key : List ℕ) (before after : Bool) (leaf : ℕ) (image : List ℕ) (c : Contents) → tx < 2 ^ 64 → row < 2 ^ 64 → leaf < 2 ^ 32 → IsImage image → read_of image ≡ c

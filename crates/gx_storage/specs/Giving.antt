@@ -6,6 +6,7 @@ use Rattle.gx_record.specs.Rec.{Rec, Pages}
 use Rattle.gx_durable.specs.Stored.{images_of}
 use Rattle.gx_store.specs.Standing.{standing}
 use Rattle.gx_store.specs.State.{Shelf, IsHeld}
+use Rattle.gx_storage.specs.Numbers.{HasOwnNumber}
 
 -- a number in its place among rising ones
 abbrev pub placed : ℕ → List ℕ → List ℕ
@@ -24,7 +25,8 @@ contents_at seen s pages = map (λ page. (page, standing s.frames seen page)) pa
 abbrev pub pages_given : {D : Type 0} → List ℕ → List ℕ → Shelf D → Rec
 pages_given pages seen s = Pages s.counter s.used (images_of (contents_at seen s pages))
 
--- a page that is held has an image, as it stands
+-- a page that is held has an image, as it stands, under its own number
 pub record IsGiven {D : Type 0} (seen : List ℕ) (s : Shelf D) (page : ℕ) : Type 0 where
   pub held : IsHeld s page
   pub well : IsWellFormed (standing s.frames seen page)
+  pub own : HasOwnNumber seen s page

@@ -12,6 +12,7 @@ ghost use Rattle.gx_tree.specs.Owner.{IsWhy};
 ghost use Rattle.gx_tree.specs.Store.{tree_of};
 ghost use Rattle.gx_tree.specs.Writing.{Appends};
 ghost use Rattle.gx_storage.specs.Changes.{IsLogged, IsUnlogged, begun, known_at, write_of};
+ghost use Rattle.gx_storage.specs.Numbers.{HasOwnNumber};
 
 use crate::Storage;
 use crate::changes::room::has_room;
@@ -44,6 +45,7 @@ impl<D: SectorDisk, K: ReadKeys> Storage<D, K> {
         ensures added { IsSteady (D.state self.old.shelf.disk) self.old.shelf.frames
             → OnOk result (Appends self.old.most (tree_of (store_of (format_of K.KeyClass) (D.state self.old.shelf.disk).seen self.old.shelf)) (tree_of (store_of (format_of K.KeyClass) (D.state self.new.shelf.disk).seen self.new.shelf)) page entry.now) }
         ensures stamped { IsSteady (D.state self.old.shelf.disk) self.old.shelf.frames → OnOk result (IsStamped self.old.log.used self.old.shelf.frames self.new.shelf.frames page) }
+        ensures own { OnOk result (HasOwnNumber (D.state self.new.shelf.disk).seen self.new.shelf page) }
         ensures refused { IsSteady (D.state self.old.shelf.disk) self.old.shelf.frames
             → OnErr result (store_of (format_of K.KeyClass) (D.state self.new.shelf.disk).seen self.new.shelf ≡ store_of (format_of K.KeyClass) (D.state self.old.shelf.disk).seen self.old.shelf) }
         ensures why { IfErr result (IsWhy (faults.IsWhy (is_node (format_of K.KeyClass)) (D.state self.old.shelf.disk) (D.state self.new.shelf.disk) (begun self.old (K.KEY + 4119)) self.new.shelf)) }

@@ -1,5 +1,5 @@
 //! A step of a descent, which may widen a bound.
-ghost use Rattle.std.specs.Prelude.{◌≡◌, ◌≢◌, ◌<◌, length, Err, IfOk, OnErr, IfErr};
+ghost use Rattle.std.specs.Prelude.{◌≡◌, ◌≢◌, ◌<◌, true, length, Err, IfOk, OnErr, IfErr};
 ghost use Rattle.gx_glog.specs.declared.stage.Turn.TheVariants.{Closed};
 ghost use Rattle.gx_node.specs.Reading.{format_of, is_node};
 ghost use Rattle.gx_readings.specs.Classes.{reading_of};
@@ -11,6 +11,7 @@ ghost use Rattle.gx_tree.specs.Descending.{StepsDown, is_widened};
 ghost use Rattle.gx_tree.specs.Owner.{IsWhy};
 ghost use Rattle.gx_tree.specs.Store.{tree_of};
 ghost use Rattle.gx_storage.specs.Changes.{IsLoggedIf, IsUnlogged, begun, known_at, page_given};
+ghost use Rattle.gx_storage.specs.Numbers.{HasOwnNumber};
 
 use crate::Storage;
 use crate::changes::given::give_page;
@@ -54,6 +55,7 @@ impl<D: SectorDisk, K: ReadKeys> Storage<D, K> {
             (begun self.old 4114) (D.state self.old.shelf.disk) (D.state self.new.shelf.disk) self.old self.new) }
         ensures descended { IsSteady (D.state self.old.shelf.disk) self.old.shelf.frames → IfOk result (StepsDown K.cost K.joined self.old.most
             (store_of (format_of K.KeyClass) (D.state self.old.shelf.disk).seen self.old.shelf) (store_of (format_of K.KeyClass) (D.state self.new.shelf.disk).seen self.new.shelf) item.now coming.now) }
+        ensures own { IfOk result (λ did. is_widened did ≡ true → HasOwnNumber (D.state self.new.shelf.disk).seen self.new.shelf item.now.page) }
         ensures refused { IsSteady (D.state self.old.shelf.disk) self.old.shelf.frames
             → OnErr result (store_of (format_of K.KeyClass) (D.state self.new.shelf.disk).seen self.new.shelf ≡ store_of (format_of K.KeyClass) (D.state self.old.shelf.disk).seen self.old.shelf) }
         ensures why { IfErr result (IsWhy (faults.IsWhy (is_node (format_of K.KeyClass)) (D.state self.old.shelf.disk) (D.state self.new.shelf.disk) (begun self.old 4114) self.new.shelf)) }

@@ -13,6 +13,7 @@ ghost use Rattle.gx_tree.specs.Store.{tree_of};
 ghost use Rattle.gx_tree.specs.Wants.{wants};
 ghost use Rattle.gx_tree.specs.Writing.{SetsMark};
 ghost use Rattle.gx_storage.specs.Changes.{IsUnlogged, MarkIsLogged, begun, known_at};
+ghost use Rattle.gx_storage.specs.Numbers.{OwnWhereSet};
 
 use crate::Storage;
 use crate::changes::room::has_room;
@@ -53,6 +54,7 @@ impl<D: SectorDisk, K: ReadKeys + Probing> Storage<D, K> {
             (begun self.old (K.KEY + 4119)) (D.state self.old.shelf.disk) (D.state self.new.shelf.disk) self.old self.new) }
         ensures marked { IsSteady (D.state self.old.shelf.disk) self.old.shelf.frames
             → IfOk result (SetsMark (wants K.passes wanted.now.keys wanted.now.row) (store_of (format_of K.KeyClass) (D.state self.old.shelf.disk).seen self.old.shelf) (store_of (format_of K.KeyClass) (D.state self.new.shelf.disk).seen self.new.shelf) page marked) }
+        ensures own { IfOk result (λ did. OwnWhereSet (D.state self.new.shelf.disk).seen self.new.shelf page did) }
         ensures refused { IsSteady (D.state self.old.shelf.disk) self.old.shelf.frames
             → OnErr result (store_of (format_of K.KeyClass) (D.state self.new.shelf.disk).seen self.new.shelf ≡ store_of (format_of K.KeyClass) (D.state self.old.shelf.disk).seen self.old.shelf) }
         ensures why { IfErr result (IsWhy (faults.IsWhy (is_node (format_of K.KeyClass)) (D.state self.old.shelf.disk) (D.state self.new.shelf.disk) (begun self.old (K.KEY + 4119)) self.new.shelf)) }

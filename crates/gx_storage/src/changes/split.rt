@@ -16,6 +16,8 @@ ghost use Rattle.gx_tree.specs.Splitting.{HasNoPlace, Splits, has_split};
 ghost use Rattle.gx_tree.specs.Store.{node_at, tree_of};
 ghost use Rattle.gx_storage.specs.Changes.{IsLoggedIf, IsUnlogged, begun, known_at};
 ghost use Rattle.gx_storage.specs.Giving.{pages_given, rising};
+ghost use Rattle.gx_storage.specs.Numbers.{HasOwnNumber};
+ghost use Rattle.gx_tree_laws.specs.Lists.{Each};
 
 use crate::Storage;
 use crate::changes::given_pages::{give_three, in_rising_order};
@@ -51,6 +53,7 @@ impl<D: SectorDisk, K: ReadKeys> Storage<D, K> {
             (store_of (format_of K.KeyClass) (D.state self.old.shelf.disk).seen self.old.shelf) (store_of (format_of K.KeyClass) (D.state self.new.shelf.disk).seen self.new.shelf) page parent) }
         ensures stamped { IsSteady (D.state self.old.shelf.disk) self.old.shelf.frames → IfOk result (λ did. IfSome did (λ _.
             IsStamped self.old.log.used self.old.shelf.frames self.new.shelf.frames page × IsStamped self.old.log.used self.old.shelf.frames self.new.shelf.frames parent)) }
+        ensures own { IfOk result (λ did. IfSome did (λ _. Each (HasOwnNumber (D.state self.new.shelf.disk).seen self.new.shelf) (rising page parent (suc self.old.shelf.used)))) }
         ensures sibling { IfOk result (λ did. IfSome did (λ split. split.sibling ≡ suc self.old.shelf.used)) }
         ensures apart { IfOk result (λ did. IfSome did (λ split. (page ≢ parent) × (split.sibling ≢ page) × (split.sibling ≢ parent))) }
         ensures keys { IfOk result (λ did. IfSome did (λ split. K.is_key split.left × K.is_key split.right)) }

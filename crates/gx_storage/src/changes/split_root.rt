@@ -16,6 +16,8 @@ ghost use Rattle.gx_tree.specs.Splitting.{DidSplitRoot};
 ghost use Rattle.gx_tree.specs.Store.{node_at, tree_of};
 ghost use Rattle.gx_storage.specs.Changes.{IsLogged, IsUnlogged, begun, known_at};
 ghost use Rattle.gx_storage.specs.Giving.{pages_given};
+ghost use Rattle.gx_storage.specs.Numbers.{HasOwnNumber};
+ghost use Rattle.gx_tree_laws.specs.Lists.{Each};
 
 use crate::Storage;
 use crate::changes::given_pages::give_three;
@@ -47,6 +49,7 @@ impl<D: SectorDisk, K: ReadKeys> Storage<D, K> {
         ensures split { IsSteady (D.state self.old.shelf.disk) self.old.shelf.frames → IfOk result (DidSplitRoot (rules_of K.Key.Shape self.old.most) K.sides_of
             (store_of (format_of K.KeyClass) (D.state self.old.shelf.disk).seen self.old.shelf) (store_of (format_of K.KeyClass) (D.state self.new.shelf.disk).seen self.new.shelf)) }
         ensures stamped { IsSteady (D.state self.old.shelf.disk) self.old.shelf.frames → OnOk result (IsStamped self.old.log.used self.old.shelf.frames self.new.shelf.frames 1) }
+        ensures own { OnOk result (Each (HasOwnNumber (D.state self.new.shelf.disk).seen self.new.shelf) (1 ∷ suc self.old.shelf.used ∷ suc (suc self.old.shelf.used) ∷ [])) }
         ensures places { IfOk result (λ did. (did.first ≡ suc self.old.shelf.used) × (did.second ≡ suc (suc self.old.shelf.used))) }
         ensures keys { IfOk result (λ did. K.is_key did.left × K.is_key did.right) }
         ensures only_full { IsSteady (D.state self.old.shelf.disk) self.old.shelf.frames

@@ -8,6 +8,7 @@ ghost use Rattle.gx_readings.specs.Classes.{reading_of};
 ghost use Rattle.gx_store.specs.Standing.{standing};
 ghost use Rattle.gx_store.specs.State.{IsHeld};
 ghost use Rattle.gx_storage.specs.Changes.{IsLast, known_at, write_of};
+ghost use Rattle.gx_storage.specs.Numbers.{HasOwnNumber};
 
 use gx_disk::SectorDisk;
 use gx_durable::calls::append;
@@ -38,6 +39,7 @@ pub(crate) fn write_record<D: SectorDisk, K: ReadKeys>(
         (write_of K.spelling transaction row key (is_marked before) (is_marked after) leaf (D.state store.now.disk).seen store.now) log.old log.new }
     ensures formed { IsWellFormed (standing store.now.frames (D.state store.now.disk).seen leaf) }
     ensures spelled { length spelled.new ≡ K.KEY }
+    ensures own { HasOwnNumber (D.state store.now.disk).seen store.now leaf }
 {
     K::known(&key);
     store.in_order();

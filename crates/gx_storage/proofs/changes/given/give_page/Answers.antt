@@ -1,13 +1,11 @@
-use Rattle.std.proofs.Common.{◌≡◌, ℕ, List, [], ◌∷◌, ap, subst, sym, ◌∙◌, arith}
+use Rattle.std.proofs.Common.{ℕ, List, [], ◌∷◌, ap, subst, ◌∙◌, arith}
 use Rattle.gx_page.specs.Contents.{Contents}
 use Rattle.gx_page.specs.Format.{IsWellFormed, image_of}
-use Rattle.gx_page.proofs.Images.{read-image}
 use Rattle.gx_record.specs.Rec.{Rec, Pages}
 use Rattle.gx_record.proofs.Writes.{spelling_size}
 use Rattle.gx_node.specs.Reading.{format_of, is_node}
-use Rattle.gx_store.specs.Standing.{standing}
 use Rattle.gx_storage.proofs.Giving.{page_in_range}
-use Rattle.gx_storage.proofs.Writing.{held_number, held_stands, is_last}
+use Rattle.gx_storage.proofs.Writing.{held_number, held_own, held_stands, is_last}
 use Rattle.gx_storage.proofs.changes.given.give_page.Goals as goal
 
 pub append-requires-clause-in_range : goal.append-requires-clause-in_range
@@ -40,8 +38,4 @@ returns-clause-formed g c =
 pub returns-clause-own : goal.returns-clause-own
 returns-clause-own g c =
     let s = c.args.store.now in
-    let held = c.held_page-held.result.now in
-    let page = c.args.page in
-    let same : held ≡ standing s.frames (g.D.SectorDisk.state s.disk).seen page = held_stands s (g.D.SectorDisk.state s.disk).seen page held c.requires.held c.held_page-held.ensures in
-    let number : held.number ≡ page = held_number (is_node (format_of g.K.KeyClass) s.pages) s page held c.in_order.ensures.passed c.requires.held c.held_page-held.ensures in
-    ap (λ (x : Contents). x.number) (read-image _ (subst {A = Contents} IsWellFormed same c.image.ensures.well_formed)) ∙ (ap (λ (x : Contents). x.number) (sym same) ∙ number)
+    held_own (is_node (format_of g.K.KeyClass) s.pages) s (g.D.SectorDisk.state s.disk).seen c.args.page c.held_page-held.result.now c.in_order.ensures.passed c.requires.held c.held_page-held.ensures c.image.ensures.well_formed

@@ -2,7 +2,7 @@ use Rattle.std.proofs.Common.{ℕ, List, ap, subst, ◌∙◌}
 use Rattle.gx_page.specs.Contents.{Contents}
 use Rattle.gx_page.specs.Format.{IsWellFormed, image_of}
 use Rattle.gx_node.specs.Reading.{format_of, is_node}
-use Rattle.gx_storage.proofs.Writing.{held_number, held_stands}
+use Rattle.gx_storage.proofs.Writing.{held_number, held_own, held_stands}
 use Rattle.gx_storage.proofs.changes.given_pages.held_image.Goals as goal
 
 pub returns-clause-lent : goal.returns-clause-lent
@@ -26,4 +26,5 @@ returns-clause-given g c =
     record {
       held = c.requires;
       well = subst {A = Contents} IsWellFormed (held_stands s (g.D.SectorDisk.state s.disk).seen c.args.page c.held_page-held.result.now c.requires c.held_page-held.ensures) c.image.ensures.well_formed;
+      own = held_own (is_node (format_of g.K.KeyClass) s.pages) s (g.D.SectorDisk.state s.disk).seen c.args.page c.held_page-held.result.now c.in_order.ensures.passed c.requires c.held_page-held.ensures c.image.ensures.well_formed;
     }

@@ -5,7 +5,7 @@ use Rattle.gx_record.specs.Rec.{Rec, Write}
 use Rattle.gx_record.specs.Seen.{is_marked}
 use Rattle.gx_record.proofs.Writes.{spelling_size}
 use Rattle.gx_node.specs.Reading.{format_of, is_node}
-use Rattle.gx_storage.proofs.Writing.{held_number, held_stands, is_last, write_in_range}
+use Rattle.gx_storage.proofs.Writing.{held_number, held_own, held_stands, is_last, write_in_range}
 use Rattle.gx_storage.proofs.changes.written.write_record.Goals as goal
 
 pub append-requires-clause-in_range : goal.append-requires-clause-in_range
@@ -36,3 +36,8 @@ pub returns-clause-formed : goal.returns-clause-formed
 returns-clause-formed g c =
     let s = c.args.store.now in
     subst {A = Contents} IsWellFormed (held_stands s (g.D.SectorDisk.state s.disk).seen c.args.leaf c.held_page-page.result.now c.requires.held c.held_page-page.ensures) c.image.ensures.well_formed
+
+pub returns-clause-own : goal.returns-clause-own
+returns-clause-own g c =
+    let s = c.args.store.now in
+    held_own (is_node (format_of g.K.KeyClass) s.pages) s (g.D.SectorDisk.state s.disk).seen c.args.leaf c.held_page-page.result.now c.in_order.ensures.passed c.requires.held c.held_page-page.ensures c.image.ensures.well_formed

@@ -1,10 +1,10 @@
 use Rattle.std.proofs.Common.{◌≡◌, suc, sym, ap, refl, ◌∙◌, arith}
 use Rattle.std.proofs.lemmas.Result.{err_from_is_err_and}
 use Rattle.gx_node.specs.Reading.{format_of, is_node}
-use Rattle.gx_store.specs.State.{Shelf, IsHeld}
+use Rattle.gx_store.specs.State.{IsHeld}
 use Rattle.gx_storage.specs.Giving.{rising}
 use Rattle.gx_storage.specs.State.{Volume}
-use Rattle.gx_storage.proofs.Splitting.{begun_long, begun_pages, damaged_since, logged_these, rising_each, split_stamped, split_stepped, store_begun}
+use Rattle.gx_storage.proofs.Splitting.{all_own, begun_long, begun_pages, damaged_since, logged_these, rising_each, split_stamped, split_stepped, store_begun}
 use Rattle.gx_storage.proofs.Writing.{begun_is, has_room_then, on_err, steady_begun, unlogged, unstepped}
 use Rattle.gx_storage.proofs.storage.Storage.split.Goals as goal
 
@@ -67,6 +67,20 @@ returns-clause-logged g c =
     let these = c.in_rising_order-first.ensures.these ∙ ap (λ p. rising c.args.page c.args.parent p) next in
     rw (← c.self.view_is) (logged_these _ _ f (is_node f) state v 12314 t _ (rising c.args.page c.args.parent (suc i.store.used)) c.give_three.new.log these did c.give_three.ensures.given c.in_order.ensures.taken
     c.give_three.ensures.last)
+
+pub returns-clause-own : goal.returns-clause-own
+returns-clause-own g c =
+    let i = c.self.inside in
+    let f = format_of g.K.KeyClass in
+    let state = g.D.SectorDisk.state in
+    let v : Volume g.row.D.Denot = record { log = i.log; shelf = i.store; most = i.most } in
+    let u = c.begin.new.self in
+    let t = c.split_step.new.pages in
+    let is = begun_is v u 12314 _ _ _ c.begin.ensures (c.from.ensures ∙ c.used.ensures.used) c.has_room-room.ensures refl in
+    let sibling = rw c.in-Some.is at c.in_ok-split.ensures.sibling in
+    let next : c.in-Some.split.sibling ≡ suc i.store.used = sibling ∙ ap suc (begun_long f state v 12314 u is) in
+    let these = c.in_rising_order-first.ensures.these ∙ ap (λ p. rising c.args.page c.args.parent p) next in
+    rw (← c.self.view_is) (all_own (state t.disk).seen t _ (rising c.args.page c.args.parent (suc i.store.used)) these c.give_three.ensures.given)
 
 pub returns-clause-stamped : goal.returns-clause-stamped
 returns-clause-stamped g c =

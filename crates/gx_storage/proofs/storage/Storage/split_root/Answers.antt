@@ -1,9 +1,8 @@
 use Rattle.std.proofs.Common.{◌≡◌, suc, ℕ, List, [], ◌∷◌, sym, ap, refl, ◌∙◌, arith}
 use Rattle.std.proofs.lemmas.Result.{err_from_is_err_and}
 use Rattle.gx_node.specs.Reading.{format_of, is_node}
-use Rattle.gx_store.specs.State.{Shelf}
 use Rattle.gx_storage.specs.State.{Volume}
-use Rattle.gx_storage.proofs.Splitting.{begun_long, begun_pages, logged_these, no_root, root_damaged_since, root_stamped, root_stepped, store_begun}
+use Rattle.gx_storage.proofs.Splitting.{all_own, begun_long, begun_pages, logged_these, no_root, root_damaged_since, root_stamped, root_stepped, store_begun}
 use Rattle.gx_storage.proofs.Writing.{begun_is, has_room_then, on_err, steady_begun, unlogged, unstepped}
 use Rattle.gx_storage.proofs.storage.Storage.split_root.Goals as goal
 
@@ -54,6 +53,20 @@ give_three-requires-clause-room g c =
     let is = begun_is v u 12314 _ _ _ c.begin.ensures (c.from.ensures ∙ c.used.ensures.used) c.has_room-room.ensures refl in
     let did = root_stepped (is_node f) state v 12314 t u _ _ (suc i.store.used) (suc (suc i.store.used)) is (ap suc (begun_long f state v 12314 u is)) (ap (λ n. suc (suc n)) (begun_long f state v 12314 u is)) c.in_ok-split.ensures.since in
     (has_room_then (is_node f) state v 12314 t (sym did.goes_on.has_room) c.in_ok-split.ensures.changing.0).1
+
+pub returns-clause-own : goal.returns-clause-own
+returns-clause-own g c =
+    let i = c.self.inside in
+    let f = format_of g.K.KeyClass in
+    let state = g.D.SectorDisk.state in
+    let v : Volume g.row.D.Denot = record { log = i.log; shelf = i.store; most = i.most } in
+    let u = c.begin.new.self in
+    let t = c.split_root_step.new.pages in
+    let is = begun_is v u 12314 _ _ _ c.begin.ensures (c.from.ensures ∙ c.used.ensures.used) c.has_room-room.ensures refl in
+    let places = c.in_ok-split.ensures.places in
+    let split = c.in_ok-split.split in
+    let these = ap (λ x. (let xs : List ℕ = 1 ∷ x ∷ split.second ∷ [] in xs)) (places.0 ∙ ap suc (begun_long f state v 12314 u is)) ∙ ap (λ x. (let xs : List ℕ = 1 ∷ suc i.store.used ∷ x ∷ [] in xs)) (places.1 ∙ ap (λ n. suc (suc n)) (begun_long f state v 12314 u is)) in
+    rw (← c.self.view_is) (all_own (state t.disk).seen t (1 ∷ split.first ∷ split.second ∷ []) (1 ∷ suc i.store.used ∷ suc (suc i.store.used) ∷ []) these c.give_three.ensures.given)
 
 pub returns-clause-logged : goal.returns-clause-logged
 returns-clause-logged g c =
