@@ -1,15 +1,14 @@
 -- Several pages that were changed, with the record that gives them; and what a split leaves.
-use Rattle.std.proofs.Common.{◌≡◌, ◌≢◌, ◌∙◌, sym, ap, refl, subst, inl, inr, ℕ, suc, ◌+◌, ◌^◌, ◌<◌, ◌≤◌, Bool, true, false, ◌||◌, ◌==◌, List, [], ◌∷◌, ◌++◌, length, length-append, Option, None, Some, OnErr, IfSome, Result, arith}
-use Rattle.std.specs.Prelude.{if◌then◌else◌, nat_lt, min, max, map}
+use Rattle.std.proofs.Common.{◌≡◌, ◌≢◌, ◌∙◌, sym, ap, refl, subst, inl, inr, ℕ, suc, ◌+◌, ◌^◌, ◌<◌, ◌≤◌, Bool, true, false, ◌||◌, ◌==◌, List, [], ◌∷◌, length, length-append, arith}
+use Rattle.std.specs.Prelude.{if◌then◌else◌, nat_lt, min, max}
 use Rattle.std.specs.List.{list_any}
 use Rattle.std.proofs.lemmas.Bool.{cases_lt, eqb-false}
 use Rattle.std.proofs.lemmas.List.{length-map}
 use Rattle.gx_machine.specs.declared.entry.Entry.{Entry}
 use Rattle.gx_disk.specs.Device.{Device}
 use Rattle.gx_page.specs.Contents.{Contents}
-use Rattle.gx_page.specs.Format.{image_of, IsWellFormed}
-use Rattle.gx_pool.specs.State.{State, kept}
-use Rattle.gx_record.specs.Rec.{Rec, Pages}
+use Rattle.gx_pool.specs.State.{kept}
+use Rattle.gx_record.specs.Rec.{Pages}
 use Rattle.gx_record.specs.Format.{IsInRange, IsPage}
 use Rattle.gx_tree_laws.specs.Lists.{Each, staying, going}
 use Rattle.gx_tree_laws.specs.Legal.{Legal}
@@ -25,11 +24,11 @@ use Rattle.gx_recovery.specs.Known.{Known, Limits}
 use Rattle.gx_recovery.proofs.Tests.{true_or_false, or_none_first, or_none_second}
 use Rattle.gx_index_laws.specs.Classes.{Page}
 use Rattle.gx_glog.specs.State.{Log}
-use Rattle.gx_durable.specs.Spelled.{Reading, images_read}
+use Rattle.gx_durable.specs.Spelled.{images_read}
 use Rattle.gx_durable.specs.Stored.{images_of}
 use Rattle.gx_readings.specs.Classes.{reading_of}
 use Rattle.gx_store.specs.Since.{GoesOn, IsAsItWas, IsSince, IsStamped}
-use Rattle.gx_store.specs.Standing.{nodes_to, standing, standing_node, store_of}
+use Rattle.gx_store.specs.Standing.{nodes_to, standing_node, store_of}
 use Rattle.gx_store.specs.State.{Shelf, IsHeld, IsSteady}
 use Rattle.gx_store.proofs.Changing.{there}
 use Rattle.gx_store.proofs.Listed.{nodes_long}

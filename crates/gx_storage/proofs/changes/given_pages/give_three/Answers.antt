@@ -1,4 +1,4 @@
-use Rattle.std.proofs.Common.{◌≡◌, ◌<◌, ◌≤◌, ◌+◌, ℕ, List, [], ◌∷◌, length, ap, ◌∙◌, arith}
+use Rattle.std.proofs.Common.{[], ◌∷◌, ◌∙◌, arith}
 use Rattle.gx_record.specs.Rec.{Rec, Pages}
 use Rattle.gx_record.specs.Seen.{numbered}
 use Rattle.gx_record.proofs.Writes.{spelling_size}

@@ -1,7 +1,7 @@
 use Rattle.std.proofs.Common.{◌≡◌, suc, sym, ap, refl, ◌∙◌, arith}
 use Rattle.std.proofs.lemmas.Result.{err_from_is_err_and}
 use Rattle.gx_node.specs.Reading.{format_of, is_node}
-use Rattle.gx_store.specs.State.{Shelf, IsHeld}
+use Rattle.gx_store.specs.State.{IsHeld}
 use Rattle.gx_storage.specs.Giving.{rising}
 use Rattle.gx_storage.specs.State.{Volume}
 use Rattle.gx_storage.proofs.Splitting.{begun_long, begun_pages, damaged_since, logged_these, rising_each, split_stamped, split_stepped, store_begun}

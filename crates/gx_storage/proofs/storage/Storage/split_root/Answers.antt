@@ -1,7 +1,6 @@
 use Rattle.std.proofs.Common.{◌≡◌, suc, ℕ, List, [], ◌∷◌, sym, ap, refl, ◌∙◌, arith}
 use Rattle.std.proofs.lemmas.Result.{err_from_is_err_and}
 use Rattle.gx_node.specs.Reading.{format_of, is_node}
-use Rattle.gx_store.specs.State.{Shelf}
 use Rattle.gx_storage.specs.State.{Volume}
 use Rattle.gx_storage.proofs.Splitting.{begun_long, begun_pages, logged_these, no_root, root_damaged_since, root_stamped, root_stepped, store_begun}
 use Rattle.gx_storage.proofs.Writing.{begun_is, has_room_then, on_err, steady_begun, unlogged, unstepped}
