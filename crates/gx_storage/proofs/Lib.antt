@@ -1,6 +1,7 @@
 pub mod Calling
 pub mod Giving
 pub mod Helping
+pub mod Keying
 pub mod Marking
 pub mod Moving
 pub mod OnlyReads

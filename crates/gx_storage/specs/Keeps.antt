@@ -9,6 +9,7 @@ use Rattle.gx_record.specs.Format.{spelling}
 use Rattle.gx_tree_laws.specs.Trees.{Tree}
 use Rattle.gx_tree_laws.specs.Alike.{AgreeOnUsed}
 use Rattle.gx_node.specs.Reading.{Format}
+use Rattle.gx_tree.specs.Keyed.{AreKeys}
 use Rattle.gx_tree.specs.Store as store
 use Rattle.gx_recovery.specs.Known.{Known, IsLawful}
 use Rattle.gx_recovery.specs.Records.{Record}
@@ -24,7 +25,7 @@ use Rattle.gx_durable.specs.Standing.{Stands}
 use Rattle.gx_durable.specs.Stamps.{AllSaid}
 use Rattle.gx_durable.specs.Stored.{IsStored}
 use Rattle.gx_durable.specs.Calls.{Runs}
-use Rattle.gx_store.specs.State.{IsSteady}
+use Rattle.gx_store.specs.State.{IsInOrder, IsSteady}
 use Rattle.gx_store.specs.Faults.{CanBeRead}
 use Rattle.gx_store.specs.Standing.{store_of}
 use Rattle.gx_storage.specs.Formed.{AreFormed}
@@ -58,6 +59,11 @@ module _ {B : Type 0} (k : Known (Entry B) (Page B)) (r : Reading (Entry B) (Pag
   abbrev pub ShowsTheLogs : {D : Type 0} → Device → Volume D → Type 0
   ShowsTheLogs d v = (bodies : List (List (Record (Entry B) (Page B)))) (s : Logged (Entry B) (Page B)) → Keeps d v bodies s
       → AgreeOnUsed (tree_after s) (tree_shown d v)
+
+  -- each key of the tree that a volume shows, whose store is in order, is one of the class
+  abbrev pub ShowsKeys : {D : Type 0} → (B → Type 0) → Device → Volume D → Type 0
+  ShowsKeys IsKey d v = (bodies : List (List (Record (Entry B) (Page B)))) (s : Logged (Entry B) (Page B)) → Keeps d v bodies s
+      → IsInOrder (passes v.shelf.pages) d.sectors v.shelf.frames v.shelf.used v.shelf.pages → AreKeys IsKey (tree_shown d v)
 
   -- A call that appended nothing left the same state, and within it a crash leaves only what stands for a kept set.
   pub record StaysSame {D : Type 0} (d e : Device) (w : Volume D) (bodies : List (List (Record (Entry B) (Page B)))) (s : Logged (Entry B) (Page B)) : Type 0 where

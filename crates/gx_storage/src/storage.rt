@@ -33,6 +33,9 @@ impl<D: SectorDisk, K: ReadKeys> Model for Storage<D, K> {
 }
 
 impl<D: SectorDisk, K: ReadKeys> Storage<D, K> {
+    ghost use Rattle.gx_node.specs.Reading.{format_of, is_node};
+    ghost use Rattle.gx_store.specs.State.{IsInOrder};
+
     /// A log, the pages of a tree whose nodes have at most `most` entries, and a buffer of a key's size, from which records lend
     /// keys.
     pub fn new(log: Glog, store: PageStore<D, K>, most: usize, key: Vec<u8>) -> Storage<D, K>
@@ -46,6 +49,14 @@ impl<D: SectorDisk, K: ReadKeys> Storage<D, K> {
             most,
             key,
         }
+    }
+
+    /// What always holds of the pages: they fit the device, each that is kept is a node of the class under its own number, and none is
+    /// kept that isn't taken.
+    pub fn in_order(&self)
+        ensures { IsInOrder (is_node (format_of K.KeyClass) self.now.shelf.pages) (D.state self.now.shelf.disk).sectors self.now.shelf.frames self.now.shelf.used self.now.shelf.pages }
+    {
+        self.store.in_order()
     }
 
     /// The greatest page that is taken.
