@@ -1,2 +1,4 @@
 pub mod Kept
+pub mod Broken
 pub mod Telling
+pub mod Texts

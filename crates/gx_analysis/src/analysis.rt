@@ -1,12 +1,14 @@
 //! What is kept of a log while its records are read.
-ghost use Rattle.std.specs.Prelude.{◌≡◌, ◌+◌, ◌<◌, ◌≤◌, ◌==◌, ◌&&◌, ◌||◌, not, true, nat_lt, nat_le, max, [], length, IfOk, IfErr, OnErr};
+ghost use Rattle.std.specs.Prelude.{◌≡◌, ◌+◌, ◌<◌, ◌≤◌, ◌==◌, ◌&&◌, ◌||◌, not, true, false, nat_lt, nat_le, max, [], length, IfOk, IfErr, OnErr};
 ghost use Rattle.std.specs.List.{list_all};
 ghost use Rattle.gx_recovery.specs.Analysis.{unread};
 ghost use Rattle.gx_recovery.specs.Damage.{is_transaction, is_page};
+ghost use Rattle.gx_analysis.specs.Broken.{refused, breaks_counters, breaks_touch, breaks_write, breaks_pages, breaks_end, breaks_commit, Tested};
 ghost use Rattle.gx_analysis.specs.Kept.{may_touch, may_write, may_give, may_end, may_commit, may_be_open, has_place, with_counters, with_touch, with_pages, with_end, with_commit, Takes, ClosedBy, Closes};
 ghost use Rattle.gx_analysis.specs.declared.closed.TheConstants.{CLOSINGS};
 
 use crate::closed::Closed;
+use crate::rule::LogRule;
 use crate::touch::Touch;
 use crate::touched;
 use gx_geom::Refusal;
@@ -17,8 +19,8 @@ use std::marker::Model;
 /// What the records of a log tell so far: its numbers, the touches of its open transactions (by transaction, then by entry,
 /// each once, with the first mark before and the last leaf), and the transactions that it closes.
 ///
-/// Each record of the log is told in turn, and refused as `Damaged` exactly where it may not come next. All memory is taken
-/// at the start.
+/// Each record of the log is told in turn, and refused exactly where it may not come next, by a rule that it breaks. All memory
+/// is taken at the start.
 #[derive(Drop)]
 pub struct Analysis<E> {
     number: u64,
@@ -72,13 +74,6 @@ fn may_be_open<E: Copy>(t: u64, touches: &[Touch<E>]) -> bool
     ensures { result ≡ may_be_open t touches.now }
 {
     touched::has_touched(t, touches) || touched::transactions(touches) < TRANSACTIONS
-}
-
-/// Whether there is room for the touch beside those that are.
-fn has_room<E: Copy + Ord>(t: &Touch<E>, touches: &[Touch<E>]) -> bool
-    ensures { result ≡ (may_be_open t.now.transaction touches.now && has_place E.Ord.cmp t.now touches.now) }
-{
-    may_be_open(t.transaction(), touches) && touched::has_place(t, touches)
 }
 
 impl<E: Copy + Ord> Analysis<E> {
@@ -149,14 +144,34 @@ impl<E: Copy + Ord> Analysis<E> {
         self.closed.count()
     }
 
-    /// Whether the touch may be one more.
-    fn may_touch(&self, t: &Touch<E>) -> bool
-        ensures { result ≡ may_touch E.Ord.cmp t.now self.now }
+    /// Tests that there is room for the touch beside those that are.
+    fn test_room(&self, t: &Touch<E>) -> Result<(), LogRule>
+        ensures { Tested (may_be_open t.now.transaction self.now.told.touched && has_place E.Ord.cmp t.now self.now.told.touched)
+            (breaks_touch E.Ord.cmp t.now self.now) result }
     {
-        is_transaction(t.transaction())
-            && is_page(self.used, t.leaf())
-            && touched::lies_apart(t, &self.touched)
-            && has_room(t, &self.touched)
+        if !may_be_open(t.transaction(), &self.touched) {
+            return Err(LogRule::TooManyTransactions);
+        }
+        if !touched::has_place(t, &self.touched) {
+            return Err(LogRule::TooManyTouches);
+        }
+        Ok(())
+    }
+
+    /// Tests that the touch may be one more.
+    fn test_touch(&self, t: &Touch<E>) -> Result<(), LogRule>
+        ensures { Tested (may_touch E.Ord.cmp t.now self.now) (breaks_touch E.Ord.cmp t.now self.now) result }
+    {
+        if !is_transaction(t.transaction()) {
+            return Err(LogRule::TransactionNumber);
+        }
+        if !is_page(self.used, t.leaf()) {
+            return Err(LogRule::LeafInUse);
+        }
+        if !touched::lies_apart(t, &self.touched) {
+            return Err(LogRule::SharedEntry);
+        }
+        self.test_room(t)
     }
 
     /// Takes a touch that may be one more.
@@ -168,18 +183,19 @@ impl<E: Copy + Ord> Analysis<E> {
         touched::put(t, &mut self.touched);
     }
 
-    /// The numbers that a log begins with. `Damaged` where it uses more pages than the device has.
+    /// The numbers that a log begins with. Refused where it uses more pages than the device has (`PagesOfDevice`).
     pub fn on_counters(
         &mut self,
         number: u64,
         counter: u64,
         used: u32,
         next: u64,
-    ) -> Result<(), Refusal>
-        ensures { Takes (nat_le used self.old.pages) (with_counters number counter used next self.old) self.old result self.new }
+    ) -> Result<(), LogRule>
+        ensures takes { Takes (nat_le used self.old.pages) (with_counters number counter used next self.old) self.old (refused result) self.new }
+        ensures rule { IfErr result (λ rule. breaks_counters used self.old rule ≡ true) }
     {
         if used > self.pages {
-            return Err(Refusal::Damaged);
+            return Err(LogRule::PagesOfDevice);
         }
         self.number = number;
         self.counter = counter;
@@ -188,47 +204,94 @@ impl<E: Copy + Ord> Analysis<E> {
         Ok(())
     }
 
-    /// A note of a log's head. `Damaged` where its transaction has the last number or its leaf isn't in use, where another
-    /// transaction has touched the entry, and where it would be one transaction or one touch too many.
-    pub fn on_note(&mut self, t: Touch<E>) -> Result<(), Refusal>
-        ensures { Takes (may_touch E.Ord.cmp t self.old) (with_touch E.Ord.cmp t self.old) self.old result self.new }
+    /// A note of a log's head. Refused where its transaction has the last number (`TransactionNumber`) or its leaf isn't in use
+    /// (`LeafInUse`), where another transaction has touched the entry (`SharedEntry`), and where it would be one transaction or one
+    /// touch too many (`TooManyTransactions`, `TooManyTouches`): by the first of these that holds.
+    pub fn on_note(&mut self, t: Touch<E>) -> Result<(), LogRule>
+        ensures takes { Takes (may_touch E.Ord.cmp t self.old) (with_touch E.Ord.cmp t self.old) self.old (refused result) self.new }
+        ensures rule { IfErr result (λ rule. breaks_touch E.Ord.cmp t self.old rule ≡ true) }
     {
-        if !self.may_touch(&t) {
-            return Err(Refusal::Damaged);
+        match self.test_touch(&t) {
+            Ok(()) => {
+                self.take_touch(t);
+                Ok(())
+            }
+            Err(rule) => Err(rule),
         }
-        self.take_touch(t);
-        Ok(())
     }
 
-    /// A write, with an image of its own leaf. `Damaged` as a note is, and where its transaction is closed.
-    pub fn on_write(&mut self, t: Touch<E>) -> Result<(), Refusal>
-        ensures { Takes (may_write E.Ord.cmp t self.old) (with_touch E.Ord.cmp t self.old) self.old result self.new }
+    /// A write, with an image of its own leaf. Refused where its transaction is closed (`Ended`), and as a note is.
+    pub fn on_write(&mut self, t: Touch<E>) -> Result<(), LogRule>
+        ensures takes { Takes (may_write E.Ord.cmp t self.old) (with_touch E.Ord.cmp t self.old) self.old (refused result) self.new }
+        ensures rule { IfErr result (λ rule. breaks_write E.Ord.cmp t self.old rule ≡ true) }
     {
         if self.closed.has(t.transaction()) {
-            return Err(Refusal::Damaged);
+            return Err(LogRule::Ended);
         }
         self.on_note(t)
     }
 
-    /// Images of the pages of these numbers, each with its own, and the counter and the pages in use after them. `Damaged`
-    /// where one of these two falls, where a page isn't in use then, and where more are in use than the device has.
-    pub fn on_pages(&mut self, counter: u64, used: u32, pages: &[u32]) -> Result<(), Refusal>
-        ensures { Takes (may_give counter used pages.now self.old) (with_pages counter used self.old) self.old result self.new }
+    /// Tests that pages of these numbers may be given, with the counter and the pages in use after them.
+    fn test_pages(&self, counter: u64, used: u32, pages: &[u32]) -> Result<(), LogRule>
+        ensures { Tested (may_give counter used pages.now self.now) (breaks_pages counter used pages.now self.now) result }
     {
-        let rises = self.counter <= counter && self.used <= used;
-        if !rises || !are_pages(used, pages) || used > self.pages {
-            return Err(Refusal::Damaged);
+        if counter < self.counter {
+            return Err(LogRule::CounterFalls);
         }
-        self.counter = counter;
-        self.used = used;
+        if used < self.used {
+            return Err(LogRule::UsedFalls);
+        }
+        if !are_pages(used, pages) {
+            return Err(LogRule::PageInUse);
+        }
+        if self.pages < used {
+            return Err(LogRule::PagesOfDevice);
+        }
         Ok(())
     }
 
-    /// Whether the transaction may end.
-    fn may_end(&self, t: u64) -> bool
-        ensures { result ≡ may_end t self.now }
+    /// Images of the pages of these numbers, each with its own, and the counter and the pages in use after them. Refused
+    /// where one of these two falls (`CounterFalls`, `UsedFalls`), where a page isn't in use then (`PageInUse`), and where more are
+    /// in use than the device has (`PagesOfDevice`): by the first of these that holds.
+    pub fn on_pages(&mut self, counter: u64, used: u32, pages: &[u32]) -> Result<(), LogRule>
+        ensures takes { Takes (may_give counter used pages.now self.old) (with_pages counter used self.old) self.old (refused result) self.new }
+        ensures rule { IfErr result (λ rule. breaks_pages counter used pages.now self.old rule ≡ true) }
     {
-        is_transaction(t) && !self.closed.has(t)
+        match self.test_pages(counter, used, pages) {
+            Ok(()) => {
+                self.counter = counter;
+                self.used = used;
+                Ok(())
+            }
+            Err(rule) => Err(rule),
+        }
+    }
+
+    /// Tests that the transaction may end.
+    fn test_end(&self, t: u64) -> Result<(), LogRule>
+        ensures { Tested (may_end t self.now) (breaks_end t self.now) result }
+    {
+        if !is_transaction(t) {
+            return Err(LogRule::TransactionNumber);
+        }
+        if self.closed.has(t) {
+            return Err(LogRule::Ended);
+        }
+        Ok(())
+    }
+
+    /// Tests that the transaction may end by a commit of this number.
+    fn test_commit(&self, t: u64, number: u64) -> Result<(), LogRule>
+        ensures { Tested (may_commit t number self.now) (breaks_commit t number self.now) result }
+    {
+        match self.test_end(t) {
+            Ok(()) => {}
+            Err(rule) => return Err(rule),
+        }
+        if self.number.checked_add(1) != Some(number) {
+            return Err(LogRule::CommitNumber);
+        }
+        Ok(())
     }
 
     /// Closes a transaction that may end.
@@ -242,29 +305,35 @@ impl<E: Copy + Ord> Analysis<E> {
         self.closed.add(t);
     }
 
-    /// A commit. `Damaged` where its number isn't the last one plus one, where its transaction has the last number, and
-    /// where that is closed.
-    pub fn on_commit(&mut self, t: u64, number: u64) -> Result<(), Refusal>
+    /// A commit. Refused where its transaction has the last number (`TransactionNumber`) or is closed (`Ended`), and where its
+    /// number isn't the last one plus one (`CommitNumber`): by the first of these that holds.
+    pub fn on_commit(&mut self, t: u64, number: u64) -> Result<(), LogRule>
         requires { length self.old.closed < CLOSINGS }
-        ensures { Closes (may_commit t number self.old) t (with_commit t number self.old.told) self.old result self.new }
+        ensures closes { Closes (may_commit t number self.old) t (with_commit t number self.old.told) self.old (refused result) self.new }
+        ensures rule { IfErr result (λ rule. breaks_commit t number self.old rule ≡ true) }
     {
-        if !self.may_end(t) || self.number.checked_add(1) != Some(number) {
-            return Err(Refusal::Damaged);
+        match self.test_commit(t, number) {
+            Ok(()) => {
+                self.close(t);
+                self.number = number;
+                Ok(())
+            }
+            Err(rule) => Err(rule),
         }
-        self.close(t);
-        self.number = number;
-        Ok(())
     }
 
-    /// An end. `Damaged` where its transaction has the last number, and where that is closed.
-    pub fn on_end(&mut self, t: u64) -> Result<(), Refusal>
+    /// An end. Refused where its transaction has the last number (`TransactionNumber`), and where that is closed (`Ended`).
+    pub fn on_end(&mut self, t: u64) -> Result<(), LogRule>
         requires { length self.old.closed < CLOSINGS }
-        ensures { Closes (may_end t self.old) t (with_end t self.old.told) self.old result self.new }
+        ensures closes { Closes (may_end t self.old) t (with_end t self.old.told) self.old (refused result) self.new }
+        ensures rule { IfErr result (λ rule. breaks_end t self.old rule ≡ true) }
     {
-        if !self.may_end(t) {
-            return Err(Refusal::Damaged);
+        match self.test_end(t) {
+            Ok(()) => {
+                self.close(t);
+                Ok(())
+            }
+            Err(rule) => Err(rule),
         }
-        self.close(t);
-        Ok(())
     }
 }

@@ -5,9 +5,11 @@
 mod analysis;
 mod closed;
 pub mod laws;
+mod rule;
 mod touch;
 mod touched;
 
 pub use analysis::Analysis;
 pub use closed::CLOSINGS;
+pub use rule::LogRule;
 pub use touch::Touch;

@@ -46,7 +46,7 @@ lies_in_run seen extent i few before here =
     omega (arith, run)
 
 -- the bytes that are cut out of a body are its records'
-read_as : (seen : List ℕ) (extent : Extent) (i : ℕ) (bytes body : List ℕ) (size : ℕ) → (size ≤ 32764 → bytes ≡ take size (drop 4 body)) → body ≡ body_of seen extent i → size ≡ size_in body
+pub read_as : (seen : List ℕ) (extent : Extent) (i : ℕ) (bytes body : List ℕ) (size : ℕ) → (size ≤ 32764 → bytes ≡ take size (drop 4 body)) → body ≡ body_of seen extent i → size ≡ size_in body
     → IsSize size → bytes ≡ records_in (body_of seen extent i)
 unfolding records_in
 read_as seen extent i bytes body size cut_to read said fits = cut_to fits.1 ∙ ap (λ n. take n (drop 4 body)) said ∙ ap (λ (b : List ℕ). take (size_in b) (drop 4 b)) read
@@ -100,7 +100,7 @@ module _ {E P : Type 0} (k : Known E P) (r : Reading E P) (l : IsLawful k) where
   }
 
   -- what is read so far lets the next body begin
-  begun_at : (seen : List ℕ) (extent : Extent) (i : ℕ) (s : Kept E) → (so : ReadSoFar k r seen extent i s) → IsBegun (part_at i) k (records_of so.bodies)
+  pub begun_at : (seen : List ℕ) (extent : Extent) (i : ℕ) (s : Kept E) → (so : ReadSoFar k r seen extent i s) → IsBegun (part_at i) k (records_of so.bodies)
   begun_at seen extent zero s so = ap (λ (bodies : List (List (Record E P))). records_of bodies) (at_first seen extent so.bodies so.told)
   begun_at seen extent (suc i) s so = bodies_log k so.bodies (so.undamaged (omega arith))
 

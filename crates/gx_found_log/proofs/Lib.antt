@@ -1,4 +1,6 @@
 pub mod Parts
 pub mod Told
 pub mod Reading
+pub mod Broken
 pub mod Extents
+pub mod Shown

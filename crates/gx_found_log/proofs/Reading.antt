@@ -31,7 +31,7 @@ long_enough key rest x n begins =
 abbrev pub no_record : Option (Rec × ℕ)
 no_record = None
 
-no_clash : (x : Rec × ℕ) → no_record ≡ Some x → ⊥
+pub no_clash : (x : Rec × ℕ) → no_record ≡ Some x → ⊥
 no_clash x h = cc
 
 module _ {E P : Type 0} (k : Known E P) (r : Reading E P) (l : IsLawful k) where

@@ -20,22 +20,7 @@ use Rattle.gx_analysis.proofs.Telling.{writes_tell, no_entry_refused, all_pages_
 use Rattle.gx_analysis.proofs.Heads.{no_entry_is_no_note}
 use Rattle.gx_found_log.specs.declared.part.Part.TheVariants.{Start, Head, Later}
 use Rattle.gx_found_log.specs.Told.{page_numbers, Told, RecordTold}
-
-abbrev pub is_counters : rec.Rec → Bool
-is_counters (rec.Pages counter used pages) = false
-is_counters (rec.Write tx row key before after leaf image) = false
-is_counters (rec.Commit tx n) = false
-is_counters (rec.End tx) = false
-is_counters (rec.Counters n counter used next) = true
-is_counters (rec.Note tx row key before leaf) = false
-
-abbrev pub is_noting : rec.Rec → Bool
-is_noting (rec.Pages counter used pages) = false
-is_noting (rec.Write tx row key before after leaf image) = false
-is_noting (rec.Commit tx n) = false
-is_noting (rec.End tx) = false
-is_noting (rec.Counters n counter used next) = false
-is_noting (rec.Note tx row key before leaf) = true
+use Rattle.gx_found_log.specs.Broken.{is_counters, is_noting}
 
 module _ {E P : Type 0} (k : Known E P) (r : Reading E P) (l : IsLawful k) where
   told_from : (log : List (Record E P)) (x : Record E P) (may : Bool) (taken old new : Kept E) (result : Result (Unit {0}) Refusal) → Tells k log x may taken

@@ -1,13 +1,15 @@
 //! The log of a device, read back from the bodies behind its leading open gates.
-ghost use Rattle.std.specs.Prelude.{◌≡◌, ◌+◌, ◌*◌, ◌<◌, ◌≤◌, true, length, take, drop, IfOk, IfErr, [], Err};
+ghost use Rattle.std.specs.Prelude.{◌≡◌, ◌+◌, ◌*◌, ◌<◌, ◌≤◌, ◌⊎◌, true, false, length, take, drop, IfOk, IfErr, [], Err};
 ghost use Rattle.gx_disk.specs.Looks.{Looks};
 ghost use Rattle.gx_recovery.specs.Known.{Limits};
 ghost use Rattle.gx_recovery.specs.Analysis.{unread};
 ghost use Rattle.gx_found_log.specs.Found.{PlaceRead, ExtentRead, LogRead, ReadsAlone};
 ghost use Rattle.gx_found_log.specs.Found as found;
+ghost use Rattle.gx_found_log.specs.Faults.{refusal_of, refusing};
+ghost use Rattle.gx_found_log.specs.Shown.{PlaceShows, ExtentShows, LogShows};
 
-use crate::{Part, Readable, on_body};
-use gx_analysis::Analysis;
+use crate::{LogDamage, LogFault, Part, Readable, on_body};
+use gx_analysis::{Analysis, LogRule};
 use gx_disk::SectorDisk;
 use gx_geom::Refusal;
 use gx_glog::{BODY_SIZE, Extent, PLACES, read_extent, selected};
@@ -44,6 +46,24 @@ fn records(body: &[u8], size: usize) -> &[u8]
     behind.split_at(size.min(BODY_SIZE - 4)).0
 }
 
+/// Why a body wasn't read: the device failed, or its size is out of range.
+fn body_fault(refusal: Refusal, extent: Extent, i: u8) -> LogFault
+    requires { (refusal ≡ Refusal.Device) ⊎ (refusal ≡ Refusal.Damaged) }
+    ensures refusal { refusal_of result ≡ refusal }
+    ensures damage { refusal ≡ Refusal.Damaged → result ≡ LogFault.Damaged (record { extent = extent; body = i; at = 0; rule = LogRule.BodySize }) }
+    ensures device { refusal ≡ Refusal.Device → result ≡ LogFault.Device }
+{
+    match refusal {
+        Refusal::Damaged => LogFault::Damaged(LogDamage {
+            extent,
+            body: i,
+            at: 0,
+            rule: LogRule::BodySize,
+        }),
+        _ => LogFault::Device,
+    }
+}
+
 /// Reads the body of a place and tells it. Answers whether its gate is open.
 fn on_place<M: Readable, D: SectorDisk>(
     disk: &mut D,
@@ -51,7 +71,7 @@ fn on_place<M: Readable, D: SectorDisk>(
     i: u8,
     analysis: &mut Analysis<M::Entry>,
     body: &mut [u8],
-) -> Result<bool, Refusal>
+) -> Result<bool, LogFault>
 where
     M::Entry: Copy + Ord,
     requires place { i < 32 }
@@ -59,28 +79,44 @@ where
     requires device { 4168 ≤ (D.state disk.old).sectors }
     requires closed { 9 * length analysis.old.closed ≤ 32764 * i }
     ensures room { length body.new ≡ length body.old }
-    ensures reads { ReadsAlone (D.state disk.old) (D.state disk.new) result }
+    ensures reads { ReadsAlone (D.state disk.old) (D.state disk.new) (refusing result) }
     ensures looks { (D.state disk.old).honest ≡ true → Looks (D.state disk.old) (D.state disk.new) }
     ensures closed { IfOk result (λ is. 9 * length analysis.new.closed ≤ 32764 * (i + 1)) }
     ensures place { (D.state disk.old).honest ≡ true → (d : Limits) → (M.known d).cmp ≡ M.Entry.Ord.cmp
-        → PlaceRead (M.known d) M.reading (D.state disk.old).seen extent i analysis.old result analysis.new }
+        → PlaceRead (M.known d) M.reading (D.state disk.old).seen extent i analysis.old (refusing result) analysis.new }
+    ensures shows { (D.state disk.old).honest ≡ true → (d : Limits) → (M.known d).cmp ≡ M.Entry.Ord.cmp
+        → IfErr result (λ fault. PlaceShows (M.known d) M.reading (D.state disk.old).seen extent i analysis.old fault) }
 {
     match read_extent(disk, extent, i, body) {
         Ok(Some(size)) => match on_body::<M>(part_at(i), analysis, records(body, size)) {
             Ok(()) => Ok(true),
-            Err(refusal) => Err(refusal),
+            Err(misfit) => Err(LogFault::Damaged(LogDamage {
+                extent,
+                body: i,
+                at: misfit.at,
+                rule: misfit.rule,
+            })),
         },
         Ok(None) => Ok(false),
-        Err(refusal) => Err(refusal),
+        Err(refusal) => Err(body_fault(refusal, extent, i)),
     }
 }
 
-/// How many bodies a log has. `Damaged` where it has none.
-fn some_bodies(i: u8) -> Result<u8, Refusal>
+/// How many bodies a log has. Refused where it has none.
+fn some_bodies(extent: Extent, i: u8) -> Result<u8, LogFault>
     ensures ok { IfOk result (λ n. (1 ≤ n) × (n ≡ i)) }
-    ensures err { IfErr result (λ refusal. (refusal ≡ Refusal.Damaged) × (i ≡ 0)) }
+    ensures err { IfErr result (λ fault. (fault ≡ LogFault.Damaged (record { extent = extent; body = 0; at = 0; rule = LogRule.FirstGate })) × (i ≡ 0)) }
 {
-    if i == 0 { Err(Refusal::Damaged) } else { Ok(i) }
+    if i == 0 {
+        Err(LogFault::Damaged(LogDamage {
+            extent,
+            body: 0,
+            at: 0,
+            rule: LogRule::FirstGate,
+        }))
+    } else {
+        Ok(i)
+    }
 }
 
 /// Reads the bodies behind an extent's leading open gates and tells them. Answers how many there are.
@@ -89,23 +125,26 @@ fn on_extent<M: Readable, D: SectorDisk>(
     extent: Extent,
     analysis: &mut Analysis<M::Entry>,
     body: &mut [u8],
-) -> Result<u8, Refusal>
+) -> Result<u8, LogFault>
 where
     M::Entry: Copy + Ord,
     requires room { length body.old ≡ BODY_SIZE }
     requires device { 4168 ≤ (D.state disk.old).sectors }
     requires closed { length analysis.old.closed ≡ 0 }
-    ensures reads { ReadsAlone (D.state disk.old) (D.state disk.new) result }
+    ensures reads { ReadsAlone (D.state disk.old) (D.state disk.new) (refusing result) }
     ensures looks { (D.state disk.old).honest ≡ true → Looks (D.state disk.old) (D.state disk.new) }
     ensures extent { (D.state disk.old).honest ≡ true → (d : Limits) → (M.known d).cmp ≡ M.Entry.Ord.cmp
-        → ExtentRead (M.known d) M.reading (D.state disk.old).seen extent analysis.old result analysis.new }
+        → ExtentRead (M.known d) M.reading (D.state disk.old).seen extent analysis.old (refusing result) analysis.new }
+    ensures shows { (D.state disk.old).honest ≡ true → (d : Limits) → (M.known d).cmp ≡ M.Entry.Ord.cmp
+        → found.ReadSoFar (M.known d) M.reading (D.state disk.old).seen extent 0 analysis.old
+        → IfErr result (λ fault. ExtentShows (M.known d) M.reading (D.state disk.old).seen extent fault) }
 {
     let mut i: u8 = 0;
     while i < PLACES {
         match on_place::<M, D>(disk, extent, i, analysis, body) {
             Ok(true) => i += 1,
-            Ok(false) => return some_bodies(i),
-            Err(refusal) => return Err(refusal),
+            Ok(false) => return some_bodies(extent, i),
+            Err(fault) => return Err(fault),
         }
     }
     Ok(i)
@@ -116,16 +155,18 @@ fn read_selected<M: Readable, D: SectorDisk>(
     disk: &mut D,
     mut analysis: Analysis<M::Entry>,
     body: &mut [u8],
-) -> Result<FoundLog<M::Entry>, Refusal>
+) -> Result<FoundLog<M::Entry>, LogFault>
 where
     M::Entry: Copy + Ord,
     requires room { length body.old ≡ BODY_SIZE }
     requires device { 4168 ≤ (D.state disk.old).sectors }
     requires unread { (analysis.told ≡ unread) × (analysis.closed ≡ []) }
-    ensures reads { ReadsAlone (D.state disk.old) (D.state disk.new) result }
+    ensures reads { ReadsAlone (D.state disk.old) (D.state disk.new) (refusing result) }
     ensures looks { (D.state disk.old).honest ≡ true → Looks (D.state disk.old) (D.state disk.new) }
     ensures log { (D.state disk.old).honest ≡ true → (d : Limits) → (M.known d).cmp ≡ M.Entry.Ord.cmp → (M.known d).pages ≡ analysis.pages
-        → LogRead (M.known d) M.reading (D.state disk.old).seen result }
+        → LogRead (M.known d) M.reading (D.state disk.old).seen (refusing result) }
+    ensures shows { (D.state disk.old).honest ≡ true → (d : Limits) → (M.known d).cmp ≡ M.Entry.Ord.cmp → (M.known d).pages ≡ analysis.pages
+        → IfErr result (λ fault. LogShows (M.known d) M.reading (D.state disk.old).seen fault) }
 {
     match selected(disk) {
         Ok(extent) => match on_extent::<M, D>(disk, extent, &mut analysis, body) {
@@ -134,9 +175,9 @@ where
                 bodies,
                 analysis,
             }),
-            Err(refusal) => Err(refusal),
+            Err(fault) => Err(fault),
         },
-        Err(refusal) => Err(refusal),
+        Err(_) => Err(LogFault::Device),
     }
 }
 
@@ -147,10 +188,36 @@ fn room(alloc: Global) -> Result<Vec<u8>, AllocError>
     vec![in alloc; 0; BODY_SIZE]
 }
 
+/// Reads the log of a device of so many pages, as [`read_log`] does. Of a log that is damaged it tells where, and which rule is
+/// broken there: what it tells is true of the device's bytes.
+pub fn examine_log<M: Readable, D: SectorDisk>(
+    alloc: Global,
+    disk: &mut D,
+    pages: u32,
+) -> Result<FoundLog<M::Entry>, LogFault>
+where
+    M::Entry: Copy + Ord,
+    requires { 4168 ≤ (D.state disk.old).sectors }
+    ensures reads { ReadsAlone (D.state disk.old) (D.state disk.new) (refusing result) }
+    ensures looks { (D.state disk.old).honest ≡ true → Looks (D.state disk.old) (D.state disk.new) }
+    ensures log { (D.state disk.old).honest ≡ true → (d : Limits) → (M.known d).cmp ≡ M.Entry.Ord.cmp → (M.known d).pages ≡ pages
+        → LogRead (M.known d) M.reading (D.state disk.old).seen (refusing result) }
+    ensures shows { (D.state disk.old).honest ≡ true → (d : Limits) → (M.known d).cmp ≡ M.Entry.Ord.cmp → (M.known d).pages ≡ pages
+        → IfErr result (λ fault. LogShows (M.known d) M.reading (D.state disk.old).seen fault) }
+{
+    match room(alloc) {
+        Ok(mut body) => match Analysis::new(alloc, pages) {
+            Ok(analysis) => read_selected::<M, D>(disk, analysis, &mut body),
+            Err(_) => Err(LogFault::Memory),
+        },
+        Err(_) => Err(LogFault::Memory),
+    }
+}
+
 /// Reads the log of a device of so many pages, the bodies behind the leading open gates of the selected extent; no gate behind the
 /// first closed one is read. `Damaged` exactly where these bodies aren't whole ones whose records are an undamaged log, of
 /// entries of the class. Refused too by the device's fault (`Device`) and for want of memory (`Memory`, before the first read).
-/// It makes no write.
+/// It makes no write. [`examine_log`] tells of a damaged log what is wrong with it.
 pub fn read_log<M: Readable, D: SectorDisk>(
     alloc: Global,
     disk: &mut D,
@@ -164,11 +231,8 @@ where
     ensures log { (D.state disk.old).honest ≡ true → (d : Limits) → (M.known d).cmp ≡ M.Entry.Ord.cmp → (M.known d).pages ≡ pages
         → LogRead (M.known d) M.reading (D.state disk.old).seen result }
 {
-    match room(alloc) {
-        Ok(mut body) => match Analysis::new(alloc, pages) {
-            Ok(analysis) => read_selected::<M, D>(disk, analysis, &mut body),
-            Err(refusal) => Err(refusal),
-        },
-        Err(_) => Err(Refusal::Memory),
+    match examine_log::<M, D>(alloc, disk, pages) {
+        Ok(found) => Ok(found),
+        Err(fault) => Err(fault.refusal()),
     }
 }

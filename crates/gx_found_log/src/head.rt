@@ -3,24 +3,25 @@ ghost use Rattle.std.specs.Prelude.{◌≡◌, IfErr};
 ghost use Rattle.gx_record.specs.Format.{IsRecord};
 ghost use Rattle.gx_record.specs.Seen.{rec_of};
 ghost use Rattle.gx_recovery.specs.Known.{Limits};
+ghost use Rattle.gx_analysis.specs.Broken.{refused};
 ghost use Rattle.gx_found_log.specs.Told.{RecordTold};
+ghost use Rattle.gx_found_log.specs.Broken.{RecordBreaks};
 
 use crate::record::touch_of;
 use crate::{Part, Readable};
-use gx_analysis::Analysis;
-use gx_geom::Refusal;
+use gx_analysis::{Analysis, LogRule};
 use gx_record::Record;
 
 /// Tells the counters that a log starts with.
 pub(crate) fn on_counters<M: Readable>(
     analysis: &mut Analysis<M::Entry>,
     logged: &Record<'_>,
-) -> Result<(), Refusal>
+) -> Result<(), LogRule>
 where
     M::Entry: Copy + Ord,
     ensures closed { analysis.new.closed ≡ analysis.old.closed }
-    ensures refusal { IfErr result (λ refusal. refusal ≡ Refusal.Damaged) }
-    ensures told { (d : Limits) → RecordTold Part.Start (M.known d) M.reading (rec_of logged.now) analysis.old result analysis.new }
+    ensures told { (d : Limits) → RecordTold Part.Start (M.known d) M.reading (rec_of logged.now) analysis.old (refused result) analysis.new }
+    ensures broken { (d : Limits) → IfErr result (λ rule. RecordBreaks Part.Start (M.known d) M.reading (rec_of logged.now) analysis.old rule) }
 {
     match logged {
         Record::Counters {
@@ -33,7 +34,7 @@ where
         | Record::Write { .. }
         | Record::Commit { .. }
         | Record::End { .. }
-        | Record::Note { .. } => Err(Refusal::Damaged),
+        | Record::Note { .. } => Err(LogRule::Misplaced),
     }
 }
 
@@ -41,13 +42,14 @@ where
 pub(crate) fn on_note<M: Readable>(
     analysis: &mut Analysis<M::Entry>,
     logged: &Record<'_>,
-) -> Result<(), Refusal>
+) -> Result<(), LogRule>
 where
     M::Entry: Copy + Ord,
     requires is_record { IsRecord M.reading.key (rec_of logged.now) }
     ensures closed { analysis.new.closed ≡ analysis.old.closed }
-    ensures refusal { IfErr result (λ refusal. refusal ≡ Refusal.Damaged) }
-    ensures told { (d : Limits) → (M.known d).cmp ≡ M.Entry.Ord.cmp → RecordTold Part.Head (M.known d) M.reading (rec_of logged.now) analysis.old result analysis.new }
+    ensures told { (d : Limits) → (M.known d).cmp ≡ M.Entry.Ord.cmp → RecordTold Part.Head (M.known d) M.reading (rec_of logged.now) analysis.old (refused result) analysis.new }
+    ensures broken { (d : Limits) → (M.known d).cmp ≡ M.Entry.Ord.cmp
+        → IfErr result (λ rule. RecordBreaks Part.Head (M.known d) M.reading (rec_of logged.now) analysis.old rule) }
 {
     match logged {
         Record::Note {
@@ -58,12 +60,12 @@ where
             leaf,
         } => match touch_of::<M>(*tx, *row, key, before, *leaf) {
             Some(touch) => analysis.on_note(touch),
-            None => Err(Refusal::Damaged),
+            None => Err(LogRule::NoKey),
         },
         Record::Pages { .. }
         | Record::Write { .. }
         | Record::Commit { .. }
         | Record::End { .. }
-        | Record::Counters { .. } => Err(Refusal::Damaged),
+        | Record::Counters { .. } => Err(LogRule::Misplaced),
     }
 }

@@ -3,6 +3,7 @@
 
 mod body;
 mod classes;
+mod fault;
 mod found;
 mod head;
 mod part;
@@ -10,7 +11,8 @@ mod readable;
 mod record;
 
 pub use body::on_body;
-pub use classes::read_class_log;
-pub use found::{FoundLog, read_log};
+pub use classes::{examine_class_log, read_class_log};
+pub use fault::{LogDamage, LogFault, Misfit};
+pub use found::{FoundLog, examine_log, read_log};
 pub use part::Part;
 pub use readable::Readable;

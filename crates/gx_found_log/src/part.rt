@@ -1,8 +1,10 @@
 //! The parts of a log.
-ghost use Rattle.std.specs.Prelude.{◌≡◌};
+ghost use Rattle.std.specs.Prelude.{◌≡◌, IfErr};
+ghost use Rattle.gx_analysis.specs.Broken.{refused};
 ghost use Rattle.gx_found_log.specs.Parts.{part_behind, ended};
 
-use gx_geom::Refusal;
+use crate::Misfit;
+use gx_analysis::LogRule;
 
 /// Where a record of a log stands, by what may stand there.
 #[derive(Clone, Copy)]
@@ -26,12 +28,13 @@ impl Part {
         }
     }
 
-    /// What comes of a body that ends here. `Damaged` where it has no counters yet.
-    pub(crate) fn end(self) -> Result<(), Refusal>
-        ensures { result ≡ ended self }
+    /// What comes of a body that ends here, behind so many bytes. Refused where it has no counters yet.
+    pub(crate) fn end(self, at: usize) -> Result<(), Misfit>
+        ensures refusal { refused result ≡ ended self }
+        ensures broken { IfErr result (λ misfit. (misfit.at ≡ at) × (misfit.rule ≡ LogRule.NoCounters) × (self ≡ Part.Start)) }
     {
         match self {
-            Part::Start => Err(Refusal::Damaged),
+            Part::Start => Err(Misfit::new(at, LogRule::NoCounters)),
             Part::Head | Part::Later => Ok(()),
         }
     }

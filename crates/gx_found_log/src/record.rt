@@ -1,16 +1,17 @@
 //! One record of a log, told to an analysis.
-ghost use Rattle.std.specs.Prelude.{◌≡◌, ◌+◌, ◌<◌, ◌≤◌, length, is_some, IfErr, IfSome};
+ghost use Rattle.std.specs.Prelude.{◌≡◌, ◌+◌, ◌<◌, ◌≤◌, true, length, is_some, IfErr, IfSome};
 ghost use Rattle.gx_record.specs.Format.{IsRecord};
 ghost use Rattle.gx_record.specs.Seen.{is_marked, rec_of, images};
 ghost use Rattle.gx_recovery.specs.Known.{Limits};
 ghost use Rattle.gx_analysis.specs.Kept.{may_give, with_pages, Takes};
+ghost use Rattle.gx_analysis.specs.Broken.{refused, breaks_pages};
 ghost use Rattle.gx_analysis.specs.declared.closed.TheConstants.{CLOSINGS};
 ghost use Rattle.gx_found_log.specs.Told.{page_numbers, RecordTold};
+ghost use Rattle.gx_found_log.specs.Broken.{RecordBreaks};
 
 use crate::head::{on_counters, on_note};
 use crate::{Part, Readable};
-use gx_analysis::{Analysis, Touch};
-use gx_geom::Refusal;
+use gx_analysis::{Analysis, LogRule, Touch};
 use gx_record::{Mark, PageImages, Record};
 
 /// Tells the pages of a record.
@@ -19,8 +20,9 @@ fn on_pages<E: Copy + Ord>(
     counter: u64,
     used: u32,
     pages: &PageImages<'_>,
-) -> Result<(), Refusal>
-    ensures { Takes (may_give counter used (page_numbers (images pages.now)) analysis.old) (with_pages counter used analysis.old) analysis.old result analysis.new }
+) -> Result<(), LogRule>
+    ensures takes { Takes (may_give counter used (page_numbers (images pages.now)) analysis.old) (with_pages counter used analysis.old) analysis.old (refused result) analysis.new }
+    ensures rule { IfErr result (λ rule. breaks_pages counter used (page_numbers (images pages.now)) analysis.old rule ≡ true) }
 {
     match pages {
         PageImages::One(a) => analysis.on_pages(counter, used, &[a.page]),
@@ -61,14 +63,15 @@ where
 fn on_later<M: Readable>(
     analysis: &mut Analysis<M::Entry>,
     logged: &Record<'_>,
-) -> Result<(), Refusal>
+) -> Result<(), LogRule>
 where
     M::Entry: Copy + Ord,
     requires is_record { IsRecord M.reading.key (rec_of logged.now) }
     requires room { length analysis.old.closed < CLOSINGS }
     ensures count { length analysis.new.closed ≤ length analysis.old.closed + 1 }
-    ensures refusal { IfErr result (λ refusal. refusal ≡ Refusal.Damaged) }
-    ensures told { (d : Limits) → (M.known d).cmp ≡ M.Entry.Ord.cmp → RecordTold Part.Later (M.known d) M.reading (rec_of logged.now) analysis.old result analysis.new }
+    ensures told { (d : Limits) → (M.known d).cmp ≡ M.Entry.Ord.cmp → RecordTold Part.Later (M.known d) M.reading (rec_of logged.now) analysis.old (refused result) analysis.new }
+    ensures broken { (d : Limits) → (M.known d).cmp ≡ M.Entry.Ord.cmp
+        → IfErr result (λ rule. RecordBreaks Part.Later (M.known d) M.reading (rec_of logged.now) analysis.old rule) }
 {
     match logged {
         Record::Pages {
@@ -85,11 +88,11 @@ where
             ..
         } => match touch_of::<M>(*tx, *row, key, before, *leaf) {
             Some(touch) => analysis.on_write(touch),
-            None => Err(Refusal::Damaged),
+            None => Err(LogRule::NoKey),
         },
         Record::Commit { tx, n } => analysis.on_commit(*tx, *n),
         Record::End { tx } => analysis.on_end(*tx),
-        Record::Counters { .. } | Record::Note { .. } => Err(Refusal::Damaged),
+        Record::Counters { .. } | Record::Note { .. } => Err(LogRule::Misplaced),
     }
 }
 
@@ -98,14 +101,15 @@ pub(crate) fn on_record<M: Readable>(
     part: Part,
     analysis: &mut Analysis<M::Entry>,
     logged: &Record<'_>,
-) -> Result<(), Refusal>
+) -> Result<(), LogRule>
 where
     M::Entry: Copy + Ord,
     requires is_record { IsRecord M.reading.key (rec_of logged.now) }
     requires room { length analysis.old.closed < CLOSINGS }
     ensures count { length analysis.new.closed ≤ length analysis.old.closed + 1 }
-    ensures refusal { IfErr result (λ refusal. refusal ≡ Refusal.Damaged) }
-    ensures told { (d : Limits) → (M.known d).cmp ≡ M.Entry.Ord.cmp → RecordTold part (M.known d) M.reading (rec_of logged.now) analysis.old result analysis.new }
+    ensures told { (d : Limits) → (M.known d).cmp ≡ M.Entry.Ord.cmp → RecordTold part (M.known d) M.reading (rec_of logged.now) analysis.old (refused result) analysis.new }
+    ensures broken { (d : Limits) → (M.known d).cmp ≡ M.Entry.Ord.cmp
+        → IfErr result (λ rule. RecordBreaks part (M.known d) M.reading (rec_of logged.now) analysis.old rule) }
 {
     match part {
         Part::Start => on_counters::<M>(analysis, logged),

@@ -5,3 +5,4 @@ pub mod Marks
 pub mod Nodes
 pub mod Owner
 pub mod Placing
+pub mod Texts

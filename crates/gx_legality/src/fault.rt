@@ -1,5 +1,7 @@
 //! Why a tree didn't pass.
 
+use std::fmt;
+
 /// A rule of a legal tree.
 #[derive(Clone, Copy, Debug, PartialEq, Eq)]
 pub enum Rule {
@@ -31,6 +33,39 @@ pub enum Rule {
     PairTwice,
     /// A pair that an open transaction touched stands in its leaf, or to the right of it.
     PairOutOfPlace,
+}
+
+impl fmt::Display for Rule {
+    ghost use Rattle.std.specs.Prelude.{Some};
+    ghost use Rattle.gx_legality.specs.Texts.{text_of};
+
+    ghost output = { λ rule. Some (text_of rule) };
+
+    /// How it is broken, in plain words.
+    fn fmt<W: fmt::Write>(&self, f: &mut fmt::Formatter<W>) -> fmt::Result {
+        match self {
+            Rule::SplitsOutnumberPages => f.write_str("more splits are counted than pages"),
+            Rule::RootIsLeaf => f.write_str("the root is a leaf"),
+            Rule::TooManyEntries => f.write_str("the node has more entries than it has room for"),
+            Rule::NoChild => f.write_str("a node above the leaves has no child"),
+            Rule::SequenceNumber => f.write_str(
+                "the sequence number is above the counter of splits",
+            ),
+            Rule::ChildPage => f.write_str("a child is the root, or not in use"),
+            Rule::ChildLevel => f.write_str("a child is not one level lower"),
+            Rule::Bound => f.write_str("a bound does not cover a key of its child"),
+            Rule::NamedTwice => f.write_str("two entries name the page"),
+            Rule::NotNamed => f.write_str("no entry names the page"),
+            Rule::Chain => f.write_str(
+                "rightlinks lead to a page that is no leaf in use, or was passed",
+            ),
+            Rule::OffTheChain => f.write_str("the leaf is not on the chain of leaves"),
+            Rule::PairTwice => f.write_str("a pair stands twice"),
+            Rule::PairOutOfPlace => f.write_str(
+                "a pair of an open transaction is not in its leaf, nor to the right",
+            ),
+        }
+    }
 }
 
 /// Why a test of legality wasn't passed.

@@ -1,5 +1,7 @@
 use Rattle.std.proofs.Common.{◌≤◌, arith}
 use Rattle.gx_record.specs.Seen.{rec_of}
+use Rattle.gx_geom.specs.declared.refusal.Refusal.TheVariants.{Damaged}
+use Rattle.gx_found_log.proofs.Broken.{record_breaks, none_breaks, later_breaks}
 use Rattle.gx_found_log.proofs.Reading.{long_enough, told_comes, refused_comes, none_comes}
 use Rattle.gx_found_log.proofs.body.on_first.Goals as goal
 
@@ -14,7 +16,7 @@ returns-in-Ok-clause-told g c = λ d ordered.
 pub returns-in-Err-clause-told : goal.returns-in-Err-clause-told
 returns-in-Err-clause-told g c = λ d ordered.
     refused_comes (g.M.Meaning.known d) g.M.Spelled.reading (g.met.M.Readable.lawful d) c.args.part c.key_size.result c.key_size.ensures c.args.bytes.now (rec_of c.in-Some.found.0) c.in-Some.found.1
-    c.in-Some.ensures.found c.args.analysis.now c.on_record.new.analysis c.in-Err.refusal (c.in-Err.ensures.told d ordered)
+    c.in-Some.ensures.found c.args.analysis.now c.on_record.new.analysis Damaged (c.in-Err.ensures.told d ordered)
 
 pub returns-in-None-clause-told : goal.returns-in-None-clause-told
 returns-in-None-clause-told g c = λ d ordered.
@@ -25,3 +27,17 @@ pub on_record-requires-clause-room : goal.on_record-requires-clause-room
 on_record-requires-clause-room g c =
     let long : 9 ≤ c.in-Some.found.1 = long_enough c.key_size.result c.args.bytes.now (rec_of c.in-Some.found.0) c.in-Some.found.1 c.in-Some.ensures.found in
     omega (arith, c.requires.room, long, c.in-Some.ensures.found.within)
+
+pub returns-in-Ok-clause-goes : goal.returns-in-Ok-clause-goes
+returns-in-Ok-clause-goes g c = λ d ordered.
+    later_breaks (g.M.Meaning.known d) g.M.Spelled.reading (g.met.M.Readable.lawful d) c.args.part c.key_size.result c.key_size.ensures c.args.bytes.now (rec_of c.in-Some.found.0) c.in-Some.found.1
+    c.in-Some.ensures.found c.args.analysis.now c.on_record.new.analysis (c.in-Ok.ensures.told d ordered)
+
+pub returns-in-Err-clause-broken : goal.returns-in-Err-clause-broken
+returns-in-Err-clause-broken g c = λ d ordered.
+    record_breaks (g.M.Meaning.known d) g.M.Spelled.reading c.args.part c.key_size.result c.key_size.ensures c.args.bytes.now (rec_of c.in-Some.found.0) c.in-Some.found.1
+    c.in-Some.ensures.found c.args.analysis.now c.in-Err.rule (c.in-Err.ensures.broken d ordered)
+
+pub returns-in-None-clause-broken : goal.returns-in-None-clause-broken
+returns-in-None-clause-broken g c = λ d ordered.
+    none_breaks (g.M.Meaning.known d) g.M.Spelled.reading c.args.part c.key_size.result c.key_size.ensures c.args.bytes.now c.requires.some c.in-None.ensures.only c.args.analysis.now

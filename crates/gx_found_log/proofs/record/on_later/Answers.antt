@@ -1,19 +1,24 @@
-use Rattle.std.proofs.Common.{ap}
+use Rattle.std.proofs.Common.{ap, refl}
+use Rattle.gx_record.specs.Rec as rec
 use Rattle.gx_record.specs.Seen.{is_marked, rec_of, images}
+use Rattle.gx_analysis.specs.Broken.{refused, breaks_pages, breaks_commit, breaks_end}
+use Rattle.gx_found_log.specs.declared.part.Part.TheVariants.{Later}
+use Rattle.gx_found_log.specs.Told.{page_numbers}
+use Rattle.gx_found_log.proofs.Broken.{keyless, next_broken, write_broken}
 use Rattle.gx_found_log.proofs.Told.{pages_come, write_comes, no_entry_comes, commit_comes, end_comes}
 use Rattle.gx_found_log.proofs.record.on_later.Goals as goal
 
 pub returns-in-Pages-clause-told : goal.returns-in-Pages-clause-told
 returns-in-Pages-clause-told g c = λ d ordered.
     pages_come (g.M.Meaning.known d) g.M.Spelled.reading (g.met.M.Readable.lawful d) (g.met.M.Readable.own d) (rec_of c.args.logged.now) c.in-Pages.counter c.in-Pages.used (images c.in-Pages.pages)
-    (ap rec_of c.in-Pages.is) c.requires.is_record c.args.analysis.now c.on_pages.new.analysis c.on_pages.result c.on_pages.ensures
+    (ap rec_of c.in-Pages.is) c.requires.is_record c.args.analysis.now c.on_pages.new.analysis (refused c.on_pages.result) c.on_pages.ensures.takes
 
 pub returns-in-Some-clause-told : goal.returns-in-Some-clause-told
 returns-in-Some-clause-told g c = λ d ordered.
     let w = c.in-Write in
     write_comes (g.M.Meaning.known d) g.M.Spelled.reading (g.met.M.Readable.lawful d) (g.met.M.Readable.own d) g.M.Entry.Ord.cmp ordered (rec_of c.args.logged.now) w.tx w.row w.key.now
     (is_marked w.before) (is_marked w.after) w.leaf w.image.now (ap rec_of w.is) c.requires.is_record (c.in-Some.ensures.of_class d)
-    c.in-Some.touch c.in-Some.ensures.touch c.args.analysis.now c.on_write.new.self c.on_write.result c.on_write.ensures
+    c.in-Some.touch c.in-Some.ensures.touch c.args.analysis.now c.on_write.new.self (refused c.on_write.result) c.on_write.ensures.takes
 
 pub returns-in-None-clause-told : goal.returns-in-None-clause-told
 returns-in-None-clause-told g c = λ d ordered.
@@ -24,9 +29,39 @@ returns-in-None-clause-told g c = λ d ordered.
 pub returns-in-Commit-clause-told : goal.returns-in-Commit-clause-told
 returns-in-Commit-clause-told g c = λ d ordered.
     commit_comes (g.M.Meaning.known d) g.M.Spelled.reading (g.met.M.Readable.lawful d) (rec_of c.args.logged.now) c.in-Commit.tx c.in-Commit.n (ap rec_of c.in-Commit.is)
-    c.args.analysis.now c.on_commit.new.self c.on_commit.result c.on_commit.ensures
+    c.args.analysis.now c.on_commit.new.self (refused c.on_commit.result) c.on_commit.ensures.closes
 
 pub returns-in-End-clause-told : goal.returns-in-End-clause-told
 returns-in-End-clause-told g c = λ d ordered.
     end_comes (g.M.Meaning.known d) g.M.Spelled.reading (g.met.M.Readable.lawful d) (rec_of c.args.logged.now) c.in-End.tx (ap rec_of c.in-End.is)
-    c.args.analysis.now c.on_end.new.self c.on_end.result c.on_end.ensures
+    c.args.analysis.now c.on_end.new.self (refused c.on_end.result) c.on_end.ensures.closes
+
+pub returns-in-Pages-clause-broken : goal.returns-in-Pages-clause-broken
+returns-in-Pages-clause-broken g c = λ d ordered.
+    let w = c.in-Pages in
+    next_broken (g.M.Meaning.known d) g.M.Spelled.reading Later (rec_of c.args.logged.now) (rec.Pages w.counter w.used (images w.pages)) c.args.analysis.now
+    (λ rule. breaks_pages w.counter w.used (page_numbers (images w.pages)) c.args.analysis.now rule) (ap rec_of w.is) (λ rule. refl) c.on_pages.result c.on_pages.ensures.rule
+
+pub returns-in-Some-clause-broken : goal.returns-in-Some-clause-broken
+returns-in-Some-clause-broken g c = λ d ordered.
+    let w = c.in-Write in
+    write_broken (g.M.Meaning.known d) g.M.Spelled.reading g.M.Entry.Ord.cmp ordered (rec_of c.args.logged.now) w.tx w.row w.key.now
+    (is_marked w.before) (is_marked w.after) w.leaf w.image.now (ap rec_of w.is) c.in-Some.touch c.in-Some.ensures.touch c.args.analysis.now c.on_write.result c.on_write.ensures.rule
+
+pub returns-in-None-clause-broken : goal.returns-in-None-clause-broken
+returns-in-None-clause-broken g c = λ d ordered.
+    let w = c.in-Write in
+    keyless (g.M.Meaning.known d) g.M.Spelled.reading Later (rec_of c.args.logged.now)
+    (rec.Write w.tx w.row w.key.now (is_marked w.before) (is_marked w.after) w.leaf w.image.now) c.args.analysis.now (ap rec_of w.is) (c.in-None.ensures.of_class d)
+
+pub returns-in-Commit-clause-broken : goal.returns-in-Commit-clause-broken
+returns-in-Commit-clause-broken g c = λ d ordered.
+    let w = c.in-Commit in
+    next_broken (g.M.Meaning.known d) g.M.Spelled.reading Later (rec_of c.args.logged.now) (rec.Commit w.tx w.n) c.args.analysis.now
+    (λ rule. breaks_commit w.tx w.n c.args.analysis.now rule) (ap rec_of w.is) (λ rule. refl) c.on_commit.result c.on_commit.ensures.rule
+
+pub returns-in-End-clause-broken : goal.returns-in-End-clause-broken
+returns-in-End-clause-broken g c = λ d ordered.
+    let w = c.in-End in
+    next_broken (g.M.Meaning.known d) g.M.Spelled.reading Later (rec_of c.args.logged.now) (rec.End w.tx) c.args.analysis.now
+    (λ rule. breaks_end w.tx c.args.analysis.now rule) (ap rec_of w.is) (λ rule. refl) c.on_end.result c.on_end.ensures.rule
