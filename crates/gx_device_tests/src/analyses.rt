@@ -1,8 +1,9 @@
 //! Short logs told record by record: where the first refusal comes, and what is kept.
 use Step::{Commit, Counters, End, Note, Pages, Write};
-use gx_analysis::{Analysis, Touch};
-use gx_geom::{Box2, Refusal};
+use gx_analysis::{Analysis, LogRule, Touch};
+use gx_geom::Box2;
 use gx_machine::Entry;
+use std::process::Abort;
 use std::test::Fail;
 
 /// A record, with what the rows vary of it.
@@ -32,11 +33,9 @@ fn entry(row: u64) -> Entry<Box2> {
     }
 }
 
-/// Tells one record.
-fn tell(analysis: &mut Analysis<Entry<Box2>>, step: Step) -> Result<(), Refusal> {
-    if analysis.closings() >= 1000 {
-        return Err(Refusal::Memory);
-    }
+/// Tells one record, of fewer than a thousand.
+fn tell(rt: &impl Abort, analysis: &mut Analysis<Entry<Box2>>, step: Step) -> Result<(), LogRule> {
+    assert!(rt; analysis.closings() < 1000);
     match step {
         Step::Counters(used) => analysis.on_counters(7, 3, used, 5),
         Step::Note(t, row, leaf) => analysis.on_note(Touch::new(t, entry(row), false, leaf)),
@@ -47,15 +46,18 @@ fn tell(analysis: &mut Analysis<Entry<Box2>>, step: Step) -> Result<(), Refusal>
     }
 }
 
-/// How many records pass before the first that is damage.
-fn passed(rt: &HostRuntime, steps: &[Step]) -> Result<usize, Fail> {
+/// How many records pass before the first that is damage, and the rule that this one breaks.
+fn passed<R: Abort + AllocGlobal>(
+    rt: &R,
+    steps: &[Step],
+) -> Result<(usize, Option<LogRule>), Fail> {
     let mut analysis = Analysis::new(rt.alloc(), PAGES)?;
     for (i, step) in steps.iter().enumerate() {
-        if tell(&mut analysis, *step).is_err() {
-            return Ok(i);
+        if let Err(rule) = tell(rt, &mut analysis, *step) {
+            return Ok((i, Some(rule)));
         }
     }
-    Ok(steps.len())
+    Ok((steps.len(), None))
 }
 
 #[test]
@@ -100,7 +102,26 @@ fn each_rule_refuses_its_record(rt: HostRuntime) -> Result<(), Fail> {
             &[Counters(4), Write(1, 1, 5), Pages(4, 6, 6), Write(1, 1, 5)],
         )?,
     ];
-    assert_eq!(rt; found, [5, 0, 1, 1, 2, 1, 2, 4, 2, 2, 1, 2, 1, 1, 2, 2, 1]);
+    let wanted = [
+        (5, None),
+        (0, Some(LogRule::PagesOfDevice)),
+        (1, Some(LogRule::LeafInUse)),
+        (1, Some(LogRule::TransactionNumber)),
+        (2, Some(LogRule::SharedEntry)),
+        (1, Some(LogRule::LeafInUse)),
+        (2, Some(LogRule::SharedEntry)),
+        (4, Some(LogRule::Ended)),
+        (2, Some(LogRule::Ended)),
+        (2, Some(LogRule::Ended)),
+        (1, Some(LogRule::CommitNumber)),
+        (2, Some(LogRule::CommitNumber)),
+        (1, Some(LogRule::CounterFalls)),
+        (1, Some(LogRule::UsedFalls)),
+        (2, Some(LogRule::PageInUse)),
+        (2, Some(LogRule::PagesOfDevice)),
+        (1, Some(LogRule::LeafInUse)),
+    ];
+    assert_eq!(rt; found, wanted);
     Ok(())
 }
 
@@ -117,7 +138,7 @@ fn the_first_mark_and_the_last_leaf_are_kept(rt: HostRuntime) -> Result<(), Fail
         Pages(4, 5, 5),
         Write(6, 1, 5),
     ] {
-        tell(&mut analysis, step)?;
+        assert_eq!(rt; tell(&rt, &mut analysis, step), Ok(()));
     }
     let numbers = (
         analysis.number(),
@@ -137,21 +158,30 @@ fn the_first_mark_and_the_last_leaf_are_kept(rt: HostRuntime) -> Result<(), Fail
 #[test]
 fn limits_are_met_and_not_passed(rt: HostRuntime) -> Result<(), Fail> {
     let mut eight = Analysis::new(rt.alloc(), PAGES)?;
-    tell(&mut eight, Counters(4))?;
+    assert_eq!(rt; tell(&rt, &mut eight, Counters(4)), Ok(()));
     for t in 1..9 {
-        tell(&mut eight, Write(t, t, 2))?;
+        assert_eq!(rt; tell(&rt, &mut eight, Write(t, t, 2)), Ok(()));
     }
-    assert_eq!(rt; tell(&mut eight, Write(9, 9, 2)), Err(Refusal::Damaged));
-    assert_eq!(rt; tell(&mut eight, Write(8, 9, 2)), Ok(()));
-    assert_eq!(rt; tell(&mut eight, End(3)), Ok(()));
-    assert_eq!(rt; tell(&mut eight, Write(9, 9, 2)), Err(Refusal::Damaged));
-    assert_eq!(rt; tell(&mut eight, Write(9, 10, 2)), Ok(()));
+    assert_eq!(rt;
+        tell(&rt, &mut eight, Write(9, 9, 2)),
+        Err(LogRule::TooManyTransactions)
+    );
+    assert_eq!(rt; tell(&rt, &mut eight, Write(8, 9, 2)), Ok(()));
+    assert_eq!(rt; tell(&rt, &mut eight, End(3)), Ok(()));
+    assert_eq!(rt;
+        tell(&rt, &mut eight, Write(9, 9, 2)),
+        Err(LogRule::SharedEntry)
+    );
+    assert_eq!(rt; tell(&rt, &mut eight, Write(9, 10, 2)), Ok(()));
     let mut most = Analysis::new(rt.alloc(), PAGES)?;
-    tell(&mut most, Counters(4))?;
+    assert_eq!(rt; tell(&rt, &mut most, Counters(4)), Ok(()));
     for row in 0..512 {
-        tell(&mut most, Note(1, row, 2))?;
+        assert_eq!(rt; tell(&rt, &mut most, Note(1, row, 2)), Ok(()));
     }
-    assert_eq!(rt; tell(&mut most, Note(1, 512, 2)), Err(Refusal::Damaged));
-    assert_eq!(rt; tell(&mut most, Write(1, 511, 2)), Ok(()));
+    assert_eq!(rt;
+        tell(&rt, &mut most, Note(1, 512, 2)),
+        Err(LogRule::TooManyTouches)
+    );
+    assert_eq!(rt; tell(&rt, &mut most, Write(1, 511, 2)), Ok(()));
     Ok(())
 }
