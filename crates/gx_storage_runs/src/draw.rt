@@ -1,0 +1,18 @@
+//! Numbers that are drawn.
+ghost use Rattle.std.specs.Prelude.{◌<◌};
+
+use rand_core::utils::NextWord;
+use rand_pcg::Pcg32;
+
+/// A number below this one; 0 where there is none.
+pub(crate) fn below(draw: &mut Pcg32, bound: usize) -> usize
+    ensures { 0 < bound → result < bound }
+{
+    let word = draw.next_word() as usize;
+    if bound == 0 { 0 } else { word % bound }
+}
+
+/// Whether one of so many throws is made.
+pub(crate) fn one_in(draw: &mut Pcg32, bound: usize) -> bool {
+    below(draw, bound) == 0
+}
