@@ -88,20 +88,20 @@ fn page(alloc: Global, class: u16, number: u32, node: Node) -> Result<Page, RunF
 
 /// A body's records, and where the images stand that it has of pages.
 #[derive(Drop)]
-struct Body {
-    bytes: Vec<u8>,
+pub(crate) struct Body {
+    pub(crate) bytes: Vec<u8>,
     images: Vec<(usize, usize)>,
 }
 
 impl Body {
-    fn new(alloc: Global) -> Body {
+    pub(crate) fn new(alloc: Global) -> Body {
         Body {
             bytes: Vec::new(alloc),
             images: Vec::new(alloc),
         }
     }
 
-    fn put(&mut self, bytes: &[u8]) -> Result<(), RunFault> {
+    pub(crate) fn put(&mut self, bytes: &[u8]) -> Result<(), RunFault> {
         self.bytes.extend_from_slice(bytes)?;
         Ok(())
     }
@@ -117,7 +117,7 @@ impl Body {
     }
 
     /// A record's tag and a transaction.
-    fn begin(&mut self, tag: u8, transaction: u8) -> Result<(), RunFault> {
+    pub(crate) fn begin(&mut self, tag: u8, transaction: u8) -> Result<(), RunFault> {
         self.put(&[tag, 0, 0, 0, 0, 0, 0, 0, transaction])
     }
 

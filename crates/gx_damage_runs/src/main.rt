@@ -2,6 +2,9 @@
 //! boxes, 2 for intervals), a seed and a number of images, and behind it is printed how many were sound and what was wrong with
 //! the others, where both agree on every one.
 //!
+//! `make PATH PAIRS` makes a file with a tree of so many boxes, and `open PATH` opens it as a restart does; both print how many pages
+//! are in use.
+//!
 //! An empty line, and one that begins with `#`, is printed as it stands. The program ends at the first image on which the two
 //! differ, with status 1.
 #![tactic(auto)]
@@ -11,6 +14,8 @@ mod bytes;
 mod damage;
 mod draw;
 mod fault;
+mod large;
+mod opening;
 mod tested;
 
 use base::make_base;
@@ -18,6 +23,8 @@ use damage::damage;
 use fault::RunFault;
 use gx_class::{Box2Class, IntervalClass};
 use gx_plain_reader::{Damage, read};
+use large::make;
+use opening::open;
 use rand_pcg::Pcg32;
 use std::alloc::Global;
 use std::process::ExitCode;
@@ -116,6 +123,24 @@ fn take_images(rt: &HostRuntime, line: &str) -> Result<bool, RunFault> {
     Ok(true)
 }
 
+/// Makes a file with a large tree, or opens one. `None` where the line asks for neither.
+fn take_large(rt: &HostRuntime, line: &str) -> Result<Option<u32>, RunFault> {
+    let mut words = line.split_whitespace();
+    let Some(asked) = words.next() else {
+        return Ok(None);
+    };
+    if asked != "make" && asked != "open" {
+        return Ok(None);
+    }
+    let path = words.next().ok_or(RunFault::BadLine)?;
+    let used = if asked == "make" {
+        make(rt, path, number(&mut words)?)?
+    } else {
+        open(rt, path)?
+    };
+    Ok(Some(used))
+}
+
 /// Takes each line of the input. Answers whether all agreed.
 fn run(rt: &HostRuntime) -> Result<bool, RunFault> {
     for line in rt.lines(rt.alloc()) {
@@ -126,7 +151,9 @@ fn run(rt: &HostRuntime) -> Result<bool, RunFault> {
             continue;
         }
         print!(rt; "{line}:")?;
-        if !take_images(rt, line)? {
+        if let Some(used) = take_large(rt, line)? {
+            println!(rt; " {used} pages in use")?;
+        } else if !take_images(rt, line)? {
             return Ok(false);
         }
     }

@@ -1,5 +1,5 @@
 //! What a restart's tests say of an image.
-ghost use Rattle.std.specs.Prelude.{◌≡◌, length, IfOk};
+ghost use Rattle.std.specs.Prelude.{◌≡◌, ◌<◌, ◌^◌, length, IfOk};
 
 use crate::base::{MOST, PAGES};
 use crate::bytes::{lay, sector};
@@ -131,7 +131,7 @@ fn put<K: ReadKeys>(
 }
 
 /// The notes of what open transactions touched, in order.
-fn notes_of<K: ReadKeys>(
+pub(crate) fn notes_of<K: ReadKeys>(
     alloc: Global,
     touched: &[Touch<Entry<K::Key>>],
 ) -> Result<Vec<Note<Entry<K::Key>>>, RunFault> {
@@ -152,28 +152,33 @@ fn found_by(fault: LegalityFault<StoreFault>) -> Result<Found, RunFault> {
     }
 }
 
-/// A store of the pages in use, over a device that has them.
-fn start<K: ReadKeys>(
+/// A store of the pages in use, over a device that has so many pages.
+pub(crate) fn start<D: SectorDisk + Drop, K: ReadKeys>(
     alloc: Global,
-    disk: MemDisk,
+    disk: D,
     used: u32,
     counter: u64,
-) -> Result<PageStore<MemDisk, K>, RunFault> {
-    a_store_starts::<MemDisk, K>();
-    if disk.sectors() < 4296 || used > PAGES {
+    pages: u32,
+) -> Result<PageStore<D, K>, RunFault> {
+    a_store_starts::<D, K>();
+    if pages > 65_536 || disk.sectors() < 4168 + 8 * u64::from(pages) || used > pages {
         return Err(RunFault::Unexpected);
     }
     let pool = Pool::with_capacity(alloc, 16, NodeTest::new(used))?;
     Ok(PageStore::new(disk, pool, used, counter, used))
 }
 
-/// Tests the tree, and what open transactions touched of it.
-fn test_pages<K: ReadKeys>(
+/// Tests the tree, with so many entries a node and a buffer for twice `half` pairs, and what open transactions touched of it.
+pub(crate) fn test_pages<D: SectorDisk, K: ReadKeys>(
     alloc: Global,
-    store: &mut PageStore<MemDisk, K>,
+    store: &mut PageStore<D, K>,
+    most: u16,
+    half: usize,
     notes: &[Note<Entry<K::Key>>],
-) -> Result<Option<Found>, RunFault> {
-    if let Err(fault) = test_tree(alloc, store, MOST, 2) {
+) -> Result<Option<Found>, RunFault>
+    requires { (0 < half) × (half < 2 ^ 40) }
+{
+    if let Err(fault) = test_tree(alloc, store, most, half) {
         return Ok(Some(found_by(fault)?));
     }
     if !are_in_order(notes) {
@@ -213,7 +218,8 @@ pub(crate) fn tested<K: ReadKeys>(alloc: Global, bytes: &[u8]) -> Result<Found, 
     let analysis = &found.analysis;
     let (counter, used) = (analysis.counter(), analysis.used());
     let notes = notes_of::<K>(alloc, analysis.touched())?;
-    let mut store = start::<K>(alloc, device(alloc, &redone)?, used, counter)?;
-    let wrong = test_pages::<K>(alloc, &mut store, &notes)?;
+    let disk = device(alloc, &redone)?;
+    let mut store = start::<MemDisk, K>(alloc, disk, used, counter, PAGES)?;
+    let wrong = test_pages::<MemDisk, K>(alloc, &mut store, MOST, 2, &notes)?;
     Ok(wrong.unwrap_or(Found::Sound((analysis.number(), counter, used))))
 }
