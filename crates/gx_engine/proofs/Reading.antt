@@ -1,6 +1,6 @@
 -- A search's look that reads a page, over the tree that frames and device show.
 use Rattle.std.proofs.Common.{◌≡◌, ◌≢◌, ◌∙◌, sym, ap, refl, subst, ℕ, ◌-◌, ◌<◌, ◌≤◌, Bool, not, ◌&&◌, true, false, List, [], ◌∷◌, ◌++◌, map, filter, length, arith}
-use Rattle.std.specs.Prelude.{cond}
+use Rattle.std.specs.Prelude.{cond, Result, Err, IfErr, OnErr}
 use Rattle.gx_geom.specs.declared.refusal.Refusal.TheVariants as refusal
 use Rattle.gx_machine.specs.declared.entry.Entry.{Entry}
 use Rattle.gx_machine.specs.declared.query.Query.{Query}
@@ -38,7 +38,10 @@ use Rattle.gx_index_laws.proofs.Standing.{is_legal, known_lawful}
 use Rattle.gx_durable.specs.Spelled.{Reading}
 use Rattle.gx_phases.specs.declared.phase.Phase.TheVariants as phase
 use Rattle.gx_phases.specs.Moves.{answered_state, failed_state}
-use Rattle.gx_phases.specs.States.{State, IsKept, phase_at}
+use Rattle.gx_phases.specs.States.{State, IsKept, phase_at, with_phase_of}
+use Rattle.gx_store.specs.declared.fault.StoreFault.{StoreFault}
+use Rattle.gx_store.specs.declared.fault.StoreFault.TheVariants as fault
+use Rattle.gx_store.specs.Faults as faults
 use Rattle.gx_store.specs.State.{IsInOrder}
 use Rattle.gx_storage.specs.Keeps.{KeepsTheSame, ShowsKeys, ShowsTheLogs, StaysSame, tree_shown}
 use Rattle.gx_storage.specs.State.{Volume}
@@ -46,8 +49,9 @@ use Rattle.gx_engine.specs.declared.work.Work.{Work}
 use Rattle.gx_engine.specs.declared.work.Work.TheVariants.{Looks}
 use Rattle.gx_engine.specs.States.{Parts}
 use Rattle.gx_engine.specs.Holds.{Holds, Led, Leads}
-use Rattle.gx_engine.specs.Searching.{searching}
-use Rattle.gx_engine.proofs.Searching.{looks_at, looks_led, slot_now, closes_led, fails_led, waits_led}
+use Rattle.gx_events.specs.declared.outcome.Outcome.{Outcome}
+use Rattle.gx_engine.specs.Searching.{IsRefused, search_events, searching}
+use Rattle.gx_engine.proofs.Searching.{answered_again, at_work, phase_again, looks_at, looks_led, slot_now, closes_led, fails_led, waits_led}
 
 module _ {B : Type 0} (c : Class B) (l : IsLawful c) (IsKey : B → Type 0) (query : Query B) (wants : Pair B → Bool) (leads may : B → Bool)
     (pairs : (x : Pair B) → IsKey x.key → wants x ≡ (not x.marked && key_matches c.keys query x.key))
@@ -141,3 +145,74 @@ module _ {B D : Type 0} (c : Class B) (lawful : 4 ≤ c.rules.most → IsLawful 
         look.stack.items after.stack.items look.found.items after.found.items some begun step in
         looks_led c l r f passes d old kept s is query (Looks look) at bodies i h e w most same_log (stays bodies i h) after
         (subst (λ (x : Slot B). IsLook one (wants_pair c x) after.stack.items (pairs_found after.found.items)) (sym slot) next)
+
+-- what comes of pages that were refused
+module _ {B D : Type 0} (s : ℕ) (query : Query B) (old : Parts B D) (w : Volume D) (new : Parts B D) (outcome : Outcome B) where
+  abbrev middle : Parts B D
+  middle = record old { volume = w }
+
+  pub by_refusal : (P : Parts B D → List (Event B) → Type 0) → (n : StoreFault) → IsRefused n middle new outcome
+      → P middle [] → P (record middle { sessions = failed_state old.sessions }) (RefusesCall s refusal.Device ∷ []) → (n ≡ fault.Damaged → P (record middle { sessions = failed_state old.sessions }) [])
+      → P new (search_events s query outcome)
+  by_refusal P fault.NoRoom is waits fails never =
+      subst (λ (o : Outcome B). P new (search_events s query o)) (sym is.2) (subst (λ (x : Parts B D). P x []) (sym is.3) waits)
+  by_refusal P (fault.TooFewFrames frames) is waits fails never =
+      subst (λ (o : Outcome B). P new (search_events s query o)) (sym is.2) (subst (λ (x : Parts B D). P x []) (sym is.3) waits)
+  by_refusal P fault.Device is waits fails never =
+      subst (λ (o : Outcome B). P new (search_events s query o)) (sym is.0) (subst (λ (x : Parts B D). P x (RefusesCall s refusal.Device ∷ [])) (sym is.1) fails)
+  by_refusal P fault.Damaged is waits fails never =
+      subst (λ (o : Outcome B). P new (search_events s query o)) (sym is.0) (subst (λ (x : Parts B D). P x []) (sym is.1) (never refl))
+
+-- The same of a look that is at hand.
+module _ {B D : Type 0} (c : Class B) (lawful : 4 ≤ c.rules.most → IsLawful c) (r : Reading (Entry B) (Page B)) (f : Format B) (passes : ℕ → Contents → Bool) (IsKey : B → Type 0)
+    (state : D → Device) (e : Parts B D) (s : ℕ) (is : is_session s ≡ true) (query : Query B) (look : Look B)
+    (kept : IsKept c.keys (searching s query (Looks look) e).sessions) (works : e.sessions.failed ≡ false)
+    (w : Volume D) (most : w.most ≡ e.volume.most) (same_log : w.log ≡ e.volume.log)
+    (keeps : KeepsTheSame (known_of c) r f passes (state e.volume.shelf.disk) (state w.shelf.disk) e.volume w) where
+  abbrev was : Parts B D
+  was = searching s query (Looks look) e
+
+  abbrev d : Device
+  d = state e.volume.shelf.disk
+
+  abbrev now : Device
+  now = state w.shelf.disk
+
+  its_phase : phase_at (s - 1) was.sessions.phases ≡ phase.Open (Search query) (Looks look)
+  its_phase = at_work c.keys e s is query (Looks look) kept
+
+  pub read_at_hand : ShowsTheLogs (known_of c) r f passes now w → ShowsKeys (known_of c) r f passes IsKey now w → IsInOrder (passes w.shelf.pages) now.sectors w.shelf.frames w.shelf.used w.shelf.pages
+      → (wants : Pair B → Bool) (leads may : B → Bool) → ((x : Pair B) → IsKey x.key → wants x ≡ (not x.marked && key_matches c.keys query x.key)) → ((b : B) → IsKey b → leads b ≡ may b)
+      → ((x : Pair B) (b : B) → IsKey x.key → IsKey b → key_matches c.keys query x.key ≡ true → c.rules.covers b x.key ≡ true → may b ≡ true)
+      → (after : Look B) → 0 < length look.stack.items
+      → LookStep (tree_shown (known_of c) r f passes now w) wants leads look.stack.items after.stack.items look.found.items after.found.items
+      → Leads c r f passes d now was (searching s query (Looks after) (record e { volume = w })) (Works ∷ [])
+  read_at_hand shows keyed order wants leads may pairs bounds consistent after some step =
+      subst (λ (x : State B (Work B)). Leads c r f passes d now was (record e { volume = w; sessions = x }) (Works ∷ []))
+      (phase_again c.keys e s is query (Looks look) kept (phase.Open (Search query) (Looks after)))
+      (read_leads c lawful r f passes IsKey d now was kept s is query look its_phase works w most same_log keeps shows keyed order wants leads may pairs bounds consistent after some step)
+
+  pub memory_at_hand : Leads c r f passes d now was (record e { volume = w; sessions = answered_state s e.sessions }) (Closes s (Search query) refusal.Memory ∷ [])
+  memory_at_hand =
+      subst (λ (x : State B (Work B)). Leads c r f passes d now was (record e { volume = w; sessions = x }) (Closes s (Search query) refusal.Memory ∷ []))
+      (sym (answered_again c.keys e s is query (Looks look) kept))
+      (memory_leads c lawful r f passes IsKey d now was kept s is query look its_phase works w most same_log keeps)
+
+  pub pages_at_hand : (n : StoreFault) → faults.IsWhy passes d now e.volume.shelf w.shelf n → (new : Parts B D) (outcome : Outcome B) → IsRefused n (record was { volume = w }) new outcome
+      → Leads c r f passes d (state new.volume.shelf.disk) was new (search_events s query outcome)
+  pages_at_hand n why new outcome refuses =
+      by_refusal s query was w new outcome (λ (x : Parts B D) (events : List (Event B)). Leads c r f passes d (state x.volume.shelf.disk) was x events) n refuses
+      (refused_leads c lawful r f passes IsKey d now was kept s is query look its_phase works w most same_log keeps)
+      (device_leads c lawful r f passes IsKey d now was kept s is query look its_phase works w most same_log keeps)
+      (λ damaged bodies i h. absurd (subst (λ (x : StoreFault). faults.IsWhy passes d now e.volume.shelf w.shelf x) damaged why h.keeps.steady h.keeps.readable))
+
+  pub damaged_at_hand : ShowsTheLogs (known_of c) r f passes now w → (new : Parts B D) (events : List (Event B)) → 0 < length look.stack.items
+      → ((rest : List Item) (item : Item) → look.stack.items ≡ rest ++ item ∷ [] → ¬ Used (tree_shown (known_of c) r f passes now w) item.page) → Leads c r f passes d now was new events
+  damaged_at_hand shows new events some none = never_damaged c lawful r f passes IsKey d now was kept s is query look its_phase works w most same_log keeps shows new events some none
+
+-- what a refusal says
+pub of_err : {A F : Type 0} (P : F → Type 0) (result : Result A F) (x : F) → result ≡ Err x → IfErr result P → P x
+of_err {A} {F} P result x is holds = subst (λ (o : Result A F). IfErr o P) is holds
+
+pub on_err : {A F : Type 0} (P : Type 0) (result : Result A F) (x : F) → result ≡ Err x → OnErr result P → P
+on_err {A} {F} P result x is holds = subst (λ (o : Result A F). OnErr o P) is holds

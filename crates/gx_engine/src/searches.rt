@@ -1,5 +1,5 @@
 //! A search's moves.
-ghost use Rattle.std.specs.Prelude.{◌≡◌, ◌-◌, true, false, map, length, IfOk};
+ghost use Rattle.std.specs.Prelude.{◌≡◌, ◌-◌, ◌<◌, true, false, map, length, IfOk};
 ghost use Rattle.gx_machine.specs.declared.call.Call.TheVariants.{Search};
 ghost use Rattle.gx_machine.specs.Keys.{keys_of};
 ghost use Rattle.gx_machine.specs.Machine.{is_session};
@@ -26,8 +26,9 @@ use gx_geom::{Refusal, Shape};
 use gx_machine::{Entries, Entry, Query, Reply};
 use gx_readings::ReadKeys;
 use gx_storage::Help;
+use gx_storage::laws::{a_volume_shows_keys, a_volume_shows_the_logs_tree};
 use gx_store::StoreFault;
-use gx_tree::{Found, Item, Look};
+use gx_tree::{Found, Item, Look, StepFault, Wanted};
 use std::alloc::{AllocError, Global};
 
 /// What was found, as entries in order, each once.
@@ -127,6 +128,42 @@ where
             )),
             StoreFault::Device => self.break_off(Refusal::Device),
             StoreFault::Damaged => self.break_off(Refusal::Damaged),
+        }
+    }
+
+    // A look reads its next page.
+    fn read_on(&mut self, session: u8, query: Query<K::Key>, look: Look<K::Key>) -> Outcome<K::Key>
+        requires session { is_session session ≡ true }
+        requires phase { phase_at (session - 1) self.old.sessions.phases ≡ Open (Search query) Rests }
+        requires kept { IsKept (keys_of K.Key.Shape) (searching session query (Looks look) self.old).sessions }
+        requires works { self.old.sessions.failed ≡ false }
+        requires more { 0 < length look.stack.items }
+        ensures comes { SearchComes (is_node (format_of K.KeyClass)) (D.state self.old.volume.shelf.disk) (D.state self.new.volume.shelf.disk) session query
+            (searching session query (Looks look) self.old) self.new result }
+        ensures leads { (l : Limits) → Leads (class_of K.Key.Shape K.is_proper l) (reading_of K.said (format_of K.KeyClass)) (format_of K.KeyClass) (is_node (format_of K.KeyClass))
+            (D.state self.old.volume.shelf.disk) (D.state self.new.volume.shelf.disk) (searching session query (Looks look) self.old) self.new (search_events session query result) }
+    {
+        a_class_is_lawful::<K>();
+        a_volume_shows_the_logs_tree::<D, K>();
+        a_volume_shows_keys::<D, K>();
+        let wanted = Wanted::<K>::matching(&query);
+        let mut look = look;
+        let read = self.storage.look_step(&wanted, &mut look);
+        self.storage.in_order();
+        match read {
+            Ok(()) => {
+                self.sessions.replace_work(session, Work::Looks(look));
+                Outcome::More
+            }
+            Err(StepFault::Memory) => self.close(session),
+            Err(StepFault::Pages(fault)) => {
+                self.sessions.replace_work(session, Work::Looks(look));
+                self.refuse(fault)
+            }
+            Err(StepFault::Damaged | StepFault::PagesFull) => {
+                self.sessions.replace_work(session, Work::Looks(look));
+                self.break_off(Refusal::Damaged)
+            }
         }
     }
 }
