@@ -2,3 +2,5 @@ pub mod Serving
 pub mod Asking
 pub mod Flushing
 pub mod Sealing
+pub mod Searching
+pub mod Reading

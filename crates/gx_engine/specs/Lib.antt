@@ -3,3 +3,4 @@ pub mod Holds
 pub mod Asked
 pub mod Flushing
 pub mod Sealing
+pub mod Searching

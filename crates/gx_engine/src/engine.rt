@@ -9,6 +9,7 @@ use gx_geom::Refusal;
 use gx_phases::Sessions;
 use gx_readings::ReadKeys;
 use gx_storage::Storage;
+use std::alloc::Global;
 use std::marker::Model;
 
 /// An index at work over a device: pages with their log, and up to eight sessions.
@@ -21,6 +22,8 @@ pub struct Engine<D: SectorDisk, K: ReadKeys> {
     pub(crate) sessions: Sessions<K::Key, Work<K::Key>>,
     // the number of the last commit in the batch in flight, or in the one that was gated last
     pub(crate) in_flight: u64,
+    // what looks and answers take memory of
+    pub(crate) alloc: Global,
 }
 
 impl<D: SectorDisk, K: ReadKeys> Model for Engine<D, K> {
@@ -39,7 +42,12 @@ impl<D: SectorDisk, K: ReadKeys> Engine<D, K> {
     ghost use Rattle.gx_phases.specs.States.{IsKept};
 
     /// An engine over pages with their log, of which no batch is in flight and no turn is under way, and over sessions.
-    pub fn new(storage: Storage<D, K>, sessions: Sessions<K::Key, Work<K::Key>>) -> Self
+    /// Its looks and answers take memory of `alloc`.
+    pub fn new(
+        storage: Storage<D, K>,
+        sessions: Sessions<K::Key, Work<K::Key>>,
+        alloc: Global,
+    ) -> Self
         requires still { storage.log.turn ≡ Closed }
         ensures { result ≡ record { volume = storage; sessions = sessions; in_flight = sessions.durable } }
     {
@@ -49,6 +57,7 @@ impl<D: SectorDisk, K: ReadKeys> Engine<D, K> {
             storage,
             sessions,
             in_flight,
+            alloc,
         }
     }
 
@@ -81,6 +90,7 @@ impl<D: SectorDisk, K: ReadKeys> Engine<D, K> {
             storage,
             sessions: _,
             in_flight: _,
+            alloc: _,
         } = self;
         storage.into_disk()
     }

@@ -6,6 +6,7 @@ mod commits;
 mod engine;
 mod flusher;
 pub mod laws;
+mod searches;
 mod work;
 
 pub use engine::Engine;

@@ -1,0 +1,169 @@
+//! A search's moves.
+ghost use Rattle.std.specs.Prelude.{◌≡◌, ◌-◌, ◌<◌, true, false, map, length, IfOk};
+ghost use Rattle.gx_machine.specs.declared.call.Call.TheVariants.{Search};
+ghost use Rattle.gx_machine.specs.Keys.{keys_of};
+ghost use Rattle.gx_machine.specs.Machine.{is_session};
+ghost use Rattle.gx_node.specs.Reading.{format_of, is_node};
+ghost use Rattle.gx_recovery.specs.Known.{Limits};
+ghost use Rattle.gx_engine_laws.specs.Engines as laws;
+ghost use Rattle.gx_index_laws.specs.Classes.{entry_of};
+ghost use Rattle.gx_tree.specs.Found.{pairs_found};
+ghost use Rattle.gx_readings.specs.Classes.{class_of, reading_of};
+ghost use Rattle.gx_phases.specs.declared.phase.Phase.TheVariants.{Open};
+ghost use Rattle.gx_phases.specs.Moves.{answered_state, failed_state, is_open};
+ghost use Rattle.gx_phases.specs.States.{IsKept, phase_at};
+ghost use Rattle.gx_engine.specs.declared.work.Work.TheVariants.{Looks, Rests};
+ghost use Rattle.gx_engine.specs.Holds.{Leads};
+ghost use Rattle.gx_engine.specs.Searching.{IsRefused, SearchComes, need_of, search_events, searching};
+
+use crate::Engine;
+use crate::laws::a_class_is_lawful;
+use crate::work::Work;
+use gx_class::Probing;
+use gx_disk::SectorDisk;
+use gx_events::{Need, Outcome};
+use gx_geom::{Refusal, Shape};
+use gx_machine::{Entries, Entry, Query, Reply};
+use gx_readings::ReadKeys;
+use gx_storage::Help;
+use gx_storage::laws::{a_volume_shows_keys, a_volume_shows_the_logs_tree};
+use gx_store::StoreFault;
+use gx_tree::{Found, Item, Look, StepFault, Wanted};
+use std::alloc::{AllocError, Global};
+
+/// What was found, as entries in order, each once.
+fn gathered<B: Shape>(alloc: Global, found: &[Found<B>]) -> Result<Vec<Entry<B>>, AllocError>
+    ensures { IfOk result (λ set. set.items ≡ laws.gathered (keys_of B.Shape) (map entry_of (pairs_found found.now))) }
+{
+    let mut set = Vec::new(alloc);
+    for one in found {
+        gx_locks::include(one.entry, &mut set)?;
+    }
+    Ok(set)
+}
+
+/// The event that helps; a step of the log where storage names none.
+fn need_of(help: Option<Help>) -> Need
+    ensures { result ≡ need_of help }
+{
+    match help {
+        Some(Help::Write(page)) => Need::Write(page),
+        Some(Help::Log) | None => Need::Log,
+    }
+}
+
+impl<D: SectorDisk, K: ReadKeys + Probing> Engine<D, K>
+where
+    K::Probe: Drop,
+{
+    // A session's call is closed: memory was refused.
+    fn close(&mut self, session: u8) -> Outcome<K::Key>
+        requires session { is_session session ≡ true }
+        requires open { is_open (phase_at (session - 1) self.old.sessions.phases) ≡ true }
+        ensures outcome { result ≡ Outcome.Replied (Reply.Refused Refusal.Memory) }
+        ensures closed { self.new ≡ record self.old { sessions = answered_state session self.old.sessions } }
+    {
+        self.sessions.answer(session);
+        Outcome::Replied(Reply::Refused(Refusal::Memory))
+    }
+
+    // A session's call is refused, and the engine has failed.
+    fn break_off(&mut self, why: Refusal) -> Outcome<K::Key>
+        ensures outcome { result ≡ Outcome.Replied (Reply.Refused why) }
+        ensures failed { self.new ≡ record self.old { sessions = failed_state self.old.sessions } }
+    {
+        self.sessions.fail();
+        Outcome::Replied(Reply::Refused(why))
+    }
+
+    // A search begins with a look from the root.
+    fn begin_look(&mut self, session: u8, query: Query<K::Key>) -> Outcome<K::Key>
+        requires session { is_session session ≡ true }
+        requires phase { phase_at (session - 1) self.old.sessions.phases ≡ Open (Search query) Rests }
+        requires works { self.old.sessions.failed ≡ false }
+        ensures comes { SearchComes (is_node (format_of K.KeyClass)) (D.state self.old.volume.shelf.disk) (D.state self.new.volume.shelf.disk) session query self.old self.new result }
+        ensures leads { (l : Limits) → Leads (class_of K.Key.Shape K.is_proper l) (reading_of K.said (format_of K.KeyClass)) (format_of K.KeyClass) (is_node (format_of K.KeyClass))
+            (D.state self.old.volume.shelf.disk) (D.state self.new.volume.shelf.disk) self.old self.new (search_events session query result) }
+    {
+        a_class_is_lawful::<K>();
+        self.sessions.has_failed();
+        match Look::new(self.alloc, Item::new(1, self.storage.counter())) {
+            Ok(look) => {
+                self.sessions.replace_work(session, Work::Looks(look));
+                Outcome::More
+            }
+            Err(_) => self.close(session),
+        }
+    }
+
+    // A look that has ended is the search's answer.
+    fn find(&mut self, session: u8, query: Query<K::Key>, look: Look<K::Key>) -> Outcome<K::Key>
+        requires session { is_session session ≡ true }
+        requires phase { phase_at (session - 1) self.old.sessions.phases ≡ Open (Search query) Rests }
+        requires kept { IsKept (keys_of K.Key.Shape) (searching session query (Looks look) self.old).sessions }
+        requires works { self.old.sessions.failed ≡ false }
+        requires done { length look.stack.items ≡ 0 }
+        ensures comes { SearchComes (is_node (format_of K.KeyClass)) (D.state self.old.volume.shelf.disk) (D.state self.new.volume.shelf.disk) session query
+            (searching session query (Looks look) self.old) self.new result }
+        ensures leads { (l : Limits) → Leads (class_of K.Key.Shape K.is_proper l) (reading_of K.said (format_of K.KeyClass)) (format_of K.KeyClass) (is_node (format_of K.KeyClass))
+            (D.state self.old.volume.shelf.disk) (D.state self.new.volume.shelf.disk) (searching session query (Looks look) self.old) self.new (search_events session query result) }
+    {
+        a_class_is_lawful::<K>();
+        match gathered(self.alloc, look.found()) {
+            Ok(entries) => {
+                self.sessions.answer(session);
+                Outcome::Replied(Reply::Found(Entries::new(entries)))
+            }
+            Err(_) => self.close(session),
+        }
+    }
+
+    // Pages were refused: what helps, or the engine has failed.
+    fn refuse(&mut self, fault: StoreFault) -> Outcome<K::Key>
+        ensures { IsRefused fault self.old self.new result }
+    {
+        match fault {
+            StoreFault::NoRoom | StoreFault::TooFewFrames(_) => Outcome::Help(need_of(
+                self.storage.help(fault),
+            )),
+            StoreFault::Device => self.break_off(Refusal::Device),
+            StoreFault::Damaged => self.break_off(Refusal::Damaged),
+        }
+    }
+
+    // A look reads its next page.
+    fn read_on(&mut self, session: u8, query: Query<K::Key>, look: Look<K::Key>) -> Outcome<K::Key>
+        requires session { is_session session ≡ true }
+        requires phase { phase_at (session - 1) self.old.sessions.phases ≡ Open (Search query) Rests }
+        requires kept { IsKept (keys_of K.Key.Shape) (searching session query (Looks look) self.old).sessions }
+        requires works { self.old.sessions.failed ≡ false }
+        requires more { 0 < length look.stack.items }
+        ensures comes { SearchComes (is_node (format_of K.KeyClass)) (D.state self.old.volume.shelf.disk) (D.state self.new.volume.shelf.disk) session query
+            (searching session query (Looks look) self.old) self.new result }
+        ensures leads { (l : Limits) → Leads (class_of K.Key.Shape K.is_proper l) (reading_of K.said (format_of K.KeyClass)) (format_of K.KeyClass) (is_node (format_of K.KeyClass))
+            (D.state self.old.volume.shelf.disk) (D.state self.new.volume.shelf.disk) (searching session query (Looks look) self.old) self.new (search_events session query result) }
+    {
+        a_class_is_lawful::<K>();
+        a_volume_shows_the_logs_tree::<D, K>();
+        a_volume_shows_keys::<D, K>();
+        let wanted = Wanted::<K>::matching(&query);
+        let mut look = look;
+        let read = self.storage.look_step(&wanted, &mut look);
+        self.storage.in_order();
+        match read {
+            Ok(()) => {
+                self.sessions.replace_work(session, Work::Looks(look));
+                Outcome::More
+            }
+            Err(StepFault::Memory) => self.close(session),
+            Err(StepFault::Pages(fault)) => {
+                self.sessions.replace_work(session, Work::Looks(look));
+                self.refuse(fault)
+            }
+            Err(StepFault::Damaged | StepFault::PagesFull) => {
+                self.sessions.replace_work(session, Work::Looks(look));
+                self.break_off(Refusal::Damaged)
+            }
+        }
+    }
+}
