@@ -1,5 +1,5 @@
 -- A search's look that reads a page, over the tree that frames and device show.
-use Rattle.std.proofs.Common.{◌≡◌, ◌≢◌, ◌∙◌, sym, ap, refl, subst, ℕ, ◌-◌, ◌<◌, ◌≤◌, Bool, not, ◌&&◌, true, false, List, [], ◌∷◌, ◌++◌, map, filter, length, arith}
+use Rattle.std.proofs.Common.{◌≡◌, ◌∙◌, sym, ap, refl, subst, ℕ, ◌-◌, ◌<◌, ◌≤◌, Bool, not, ◌&&◌, true, false, List, [], ◌∷◌, ◌++◌, map, filter, length}
 use Rattle.std.specs.Prelude.{cond, Result, Err, IfErr, OnErr}
 use Rattle.gx_geom.specs.declared.refusal.Refusal.TheVariants as refusal
 use Rattle.gx_machine.specs.declared.entry.Entry.{Entry}
@@ -38,7 +38,7 @@ use Rattle.gx_index_laws.proofs.Standing.{is_legal, known_lawful}
 use Rattle.gx_durable.specs.Spelled.{Reading}
 use Rattle.gx_phases.specs.declared.phase.Phase.TheVariants as phase
 use Rattle.gx_phases.specs.Moves.{answered_state, failed_state}
-use Rattle.gx_phases.specs.States.{State, IsKept, phase_at, with_phase_of}
+use Rattle.gx_phases.specs.States.{State, IsKept, phase_at}
 use Rattle.gx_store.specs.declared.fault.StoreFault.{StoreFault}
 use Rattle.gx_store.specs.declared.fault.StoreFault.TheVariants as fault
 use Rattle.gx_store.specs.Faults as faults
@@ -48,7 +48,7 @@ use Rattle.gx_storage.specs.State.{Volume}
 use Rattle.gx_engine.specs.declared.work.Work.{Work}
 use Rattle.gx_engine.specs.declared.work.Work.TheVariants.{Looks}
 use Rattle.gx_engine.specs.States.{Parts}
-use Rattle.gx_engine.specs.Holds.{Holds, Led, Leads}
+use Rattle.gx_engine.specs.Holds.{Holds, Leads}
 use Rattle.gx_events.specs.declared.outcome.Outcome.{Outcome}
 use Rattle.gx_engine.specs.Searching.{IsRefused, search_events, searching}
 use Rattle.gx_engine.proofs.Searching.{answered_again, at_work, phase_again, looks_at, looks_led, slot_now, closes_led, fails_led, waits_led}

@@ -1,35 +1,25 @@
 -- A search's moves as an index's events.
-use Rattle.std.proofs.Common.{◌≡◌, ◌≢◌, ◌∙◌, sym, ap, refl, subst, ℕ, ◌+◌, ◌-◌, ◌<◌, ◌≤◌, Bool, not, ◌&&◌, true, false, List, [], ◌∷◌, ◌++◌, map, filter, length, None, Some, arith}
+use Rattle.std.proofs.Common.{◌≡◌, ◌∙◌, sym, ap, refl, subst, ℕ, ◌-◌, ◌<◌, ◌≤◌, Bool, true, false, List, [], ◌∷◌, map, length, None, Some, arith}
 use Rattle.std.specs.List.{slice_index_or}
 use Rattle.std.proofs.lemmas.List.{get_or-set_same, length-set, set-get_or, set-set}
 use Rattle.gx_geom.specs.declared.refusal.Refusal.TheVariants.{Device as DeviceRefusal, Memory}
 use Rattle.gx_machine.specs.declared.entry.Entry.{Entry}
 use Rattle.gx_machine.specs.declared.query.Query.{Query}
 use Rattle.gx_machine.specs.declared.call.Call.TheVariants.{Search}
-use Rattle.gx_machine.specs.Keys.{Keys, key_matches}
+use Rattle.gx_machine.specs.Keys.{Keys}
 use Rattle.gx_machine.specs.Machine.{is_session}
 use Rattle.gx_machine.proofs.Places.{session_bounds}
 use Rattle.gx_disk.specs.Device.{Device}
 use Rattle.gx_disk.proofs.Leaving.{nothing_leaves}
 use Rattle.gx_page.specs.Contents.{Contents}
 use Rattle.gx_node.specs.Reading.{Format}
-use Rattle.gx_tree_laws.specs.Lists.{Each}
-use Rattle.gx_tree_laws.specs.Trees.{Pair, Tree, Rules, Used}
-use Rattle.gx_tree_laws.specs.Legal.{Legal}
-use Rattle.gx_tree_laws.specs.Alike.{AgreeOnUsed}
+use Rattle.gx_tree_laws.specs.Trees.{Pair, Tree}
 use Rattle.gx_tree_laws.specs.Reach.{Item}
-use Rattle.gx_tree_laws.specs.Looks.{ItemFits, IsLook, LeadsTo, from_root}
-use Rattle.gx_tree_laws.proofs.AlikeLooks.{look_too}
-use Rattle.gx_tree_laws.proofs.AlikeTrees.{agree_back, legal_too}
-use Rattle.gx_tree_laws.proofs.OwnLook.{item_used, look_begins}
-use Rattle.gx_tree_laws.proofs.Sums.{each_parts}
+use Rattle.gx_tree_laws.specs.Looks.{IsLook, from_root}
+use Rattle.gx_tree_laws.proofs.OwnLook.{look_begins}
 use Rattle.gx_tree.specs.declared.found.Found.{Found}
 use Rattle.gx_tree.specs.declared.look.Look.{Look}
-use Rattle.gx_tree.specs.Found.{found_at, pairs_found}
-use Rattle.gx_tree.specs.Keyed.{AreKeys}
-use Rattle.gx_tree.specs.Looking.{LookStep}
-use Rattle.gx_tree.proofs.Searched.{leads_to}
-use Rattle.gx_tree.proofs.Turned.{goes_on}
+use Rattle.gx_tree.specs.Found.{pairs_found}
 use Rattle.gx_recovery.specs.Records.{Record}
 use Rattle.gx_recovery.specs.Logged.{Logged}
 use Rattle.gx_recovery.specs.Logged as logged
@@ -47,19 +37,19 @@ use Rattle.gx_index_laws.specs.Happening.{AreHappening, slotted, with_work}
 use Rattle.gx_index_laws.proofs.Answering.{closed, look_answers}
 use Rattle.gx_index_laws.proofs.AskedCalls.{faulted}
 use Rattle.gx_index_laws.proofs.Quiet.{as_it_is, turned}
-use Rattle.gx_index_laws.proofs.Standing.{is_legal, known_lawful}
+use Rattle.gx_index_laws.proofs.Standing.{is_legal}
 use Rattle.gx_index_laws.proofs.Tools.{changed_beside, changed_here}
 use Rattle.gx_durable.specs.Spelled.{Reading}
 use Rattle.gx_durable.specs.Standing.{Stands}
-use Rattle.gx_txn.specs.Tables.{Held, with_held}
+use Rattle.gx_txn.specs.Tables.{Held}
 use Rattle.gx_phases.specs.declared.phase.Phase.{Phase}
 use Rattle.gx_phases.specs.declared.phase.Phase.TheVariants as phase
 use Rattle.gx_phases.specs.Indexes.{AreOf}
 use Rattle.gx_phases.specs.Moves as moves
 use Rattle.gx_phases.specs.Moves.{answered_state, failed_state}
-use Rattle.gx_phases.specs.States.{State, IsKept, held_at, note_of, phase_at, slot_of, slots_of, with_phase, with_phase_of}
+use Rattle.gx_phases.specs.States.{State, IsKept, held_at, note_of, phase_at, slot_of, slots_of, with_phase_of}
 use Rattle.gx_phases.proofs.Slots.{slots_at}
-use Rattle.gx_storage.specs.Keeps.{Keeps, KeepsTheSame, StaysSame}
+use Rattle.gx_storage.specs.Keeps.{Keeps, StaysSame}
 use Rattle.gx_storage.specs.State.{Volume}
 use Rattle.gx_engine.specs.declared.work.Work.{Work}
 use Rattle.gx_engine.specs.declared.work.Work.TheVariants.{Rests, Looks}

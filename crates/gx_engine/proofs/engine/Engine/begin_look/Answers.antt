@@ -1,9 +1,6 @@
-use Rattle.std.proofs.Common.{◌≡◌, ◌∙◌, ap, refl, ℕ, ◌-◌, ◌∷◌, []}
-use Rattle.gx_machine.specs.declared.call.Call.TheVariants.{Search}
+use Rattle.std.proofs.Common.{◌∙◌, ap, refl, ℕ, ◌-◌, ◌∷◌, []}
 use Rattle.gx_tree_laws.specs.Reach.{Item}
-use Rattle.gx_phases.specs.declared.phase.Phase.TheVariants.{Open}
-use Rattle.gx_phases.specs.States.{State, phase_at, with_phase_of}
-use Rattle.gx_engine.specs.declared.work.Work.{Work}
+use Rattle.gx_phases.specs.States.{phase_at}
 use Rattle.gx_engine.specs.declared.work.Work.TheVariants.{Looks, Rests}
 use Rattle.gx_engine.specs.States.{Parts}
 use Rattle.gx_engine.proofs.Searching.{begins_leads, closes_leads, replaced}

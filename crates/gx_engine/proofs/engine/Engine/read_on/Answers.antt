@@ -1,4 +1,4 @@
-use Rattle.std.proofs.Common.{◌≡◌, ◌≢◌, ◌∙◌, ap, sym, subst, ◌-◌, Result, Err, rules}
+use Rattle.std.proofs.Common.{◌≡◌, ◌∙◌, ap, sym, subst, ◌-◌, Result, Err, rules}
 use Rattle.gx_machine.specs.declared.call.Call.TheVariants.{Search}
 use Rattle.gx_machine.specs.Keys.{keys}
 use Rattle.gx_tree.specs.declared.look.Look.{Look}
