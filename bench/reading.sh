@@ -1,9 +1,10 @@
 #!/bin/sh
-# Times what an opening reads: a file with a tree of so many drawn boxes and a log that has as many pages as a log can have is
-# made, and opened so far as the parts of an opening stand (the log read, its pages laid, the tree tested over 16 frames), beside
-# `PRAGMA integrity_check` and `rtreecheck` of SQLite's R*Tree of as many boxes drawn alike, on a file too. Times are processor
-# time, the system's too, and the files are in the system's cache. The arguments, if there are any, are how many boxes, how many
-# rounds, and the path of `gx_damage_runs`; else that is proved and built as it stands here. SQLITE names another `sqlite3`.
+# Times what an opening reads: a file with a tree of so many drawn boxes and a log that has as many pages as a log can have, the
+# first ones, is made, and opened so far as the parts of an opening stand (the log read, its pages laid, the tree tested over 16
+# frames), beside `PRAGMA integrity_check` and `rtreecheck` of SQLite's R*Tree of as many boxes drawn alike, on a file too. Times
+# are processor time, the system's too, and the files are in the system's cache. The arguments, if there are any, are how many
+# boxes, how many rounds, and the path of `gx_damage_runs`; else that is proved and built as it stands here. SQLITE names another
+# `sqlite3`.
 set -eu
 top=$(cd "$(dirname "$0")/.." && pwd)
 pairs=${1:-1000000}

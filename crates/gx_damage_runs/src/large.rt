@@ -21,6 +21,9 @@ const BODIES: usize = 31;
 
 const IN_BODY: usize = 7;
 
+/// The last page that the log has.
+const LOGGED: u32 = 217;
+
 /// How many steps an insert takes at most.
 const STEPS: u32 = 1000;
 
@@ -142,7 +145,7 @@ fn lay_log(alloc: Global, bytes: &mut [u8], tree: &Tree) -> Result<(), RunFault>
     Ok(())
 }
 
-/// The bytes of a device that has this tree and no room for more.
+/// The bytes of a device that has this tree and no room for more: each page in the log alone or in its place alone.
 fn image(alloc: Global, tree: &Tree) -> Result<Vec<u8>, RunFault> {
     let used = tree.used();
     let sectors = (used as usize).saturating_mul(8).saturating_add(4168);
@@ -153,9 +156,11 @@ fn image(alloc: Global, tree: &Tree) -> Result<Vec<u8>, RunFault> {
     lay(&mut bytes, 516, &100u16.to_be_bytes());
     lay(&mut bytes, 518, &1u16.to_be_bytes());
     for number in 1..=used {
-        let before = (number as usize).saturating_sub(1);
-        let at = sector(before.saturating_mul(8).saturating_add(4168));
-        lay(&mut bytes, at, tree.page(number).image());
+        if number > LOGGED {
+            let before = (number as usize).saturating_sub(1);
+            let at = sector(before.saturating_mul(8).saturating_add(4168));
+            lay(&mut bytes, at, tree.page(number).image());
+        }
     }
     lay_log(alloc, &mut bytes, tree)?;
     Ok(bytes)

@@ -2,8 +2,8 @@
 //! boxes, 2 for intervals), a seed and a number of images, and behind it is printed how many were sound and what was wrong with
 //! the others, where both agree on every one.
 //!
-//! `make PATH PAIRS` makes a file with a tree of so many boxes, and `open PATH` opens it as a restart does; both print how many pages
-//! are in use.
+//! `make PATH PAIRS` makes a file with a tree of so many boxes, `open PATH` opens it as a restart does, and `remove PATH` removes it;
+//! each prints how many pages are in use then.
 //!
 //! An empty line, and one that begins with `#`, is printed as it stands. The program ends at the first image on which the two
 //! differ, with status 1.
@@ -123,20 +123,23 @@ fn take_images(rt: &HostRuntime, line: &str) -> Result<bool, RunFault> {
     Ok(true)
 }
 
-/// Makes a file with a large tree, or opens one. `None` where the line asks for neither.
+/// Makes a file with a large tree, opens one or removes one. `None` where the line asks for none of these.
 fn take_large(rt: &HostRuntime, line: &str) -> Result<Option<u32>, RunFault> {
     let mut words = line.split_whitespace();
     let Some(asked) = words.next() else {
         return Ok(None);
     };
-    if asked != "make" && asked != "open" {
+    if asked != "make" && asked != "open" && asked != "remove" {
         return Ok(None);
     }
     let path = words.next().ok_or(RunFault::BadLine)?;
-    let used = if asked == "make" {
-        make(rt, path, number(&mut words)?)?
-    } else {
-        open(rt, path)?
+    let used = match asked {
+        "make" => make(rt, path, number(&mut words)?)?,
+        "open" => open(rt, path)?,
+        _ => {
+            std::fs::remove_file(rt, path)?;
+            0
+        }
     };
     Ok(Some(used))
 }
