@@ -4,3 +4,4 @@ pub mod Flushing
 pub mod Sealing
 pub mod Searching
 pub mod Reading
+pub mod Finding

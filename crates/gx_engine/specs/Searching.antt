@@ -1,5 +1,5 @@
 -- What a search's move comes to.
-use Rattle.std.specs.Prelude.{ℕ, ◌≡◌, ◌<◌, Bool, Option, None, Some, List, [], ◌∷◌}
+use Rattle.std.specs.Prelude.{ℕ, ◌≡◌, ◌<◌, ◌⊎◌, Bool, Option, None, Some, List, [], ◌∷◌}
 use Rattle.gx_geom.specs.declared.refusal.Refusal.TheVariants.{Device as DeviceRefusal, Damaged as DamagedRefusal, Memory}
 use Rattle.gx_machine.specs.declared.call.Call.TheVariants.{Search}
 use Rattle.gx_machine.specs.declared.query.Query.{Query}
@@ -78,3 +78,9 @@ IsRefused (fault.TooFewFrames wanted) old new outcome =
     (found : Option storage.Help) × Helps old.volume.shelf (fault.TooFewFrames wanted) found × (outcome ≡ Help (need_of found)) × (new ≡ old)
 IsRefused fault.Device old new outcome = (outcome ≡ Replied (RefusedCall DeviceRefusal)) × (new ≡ record old { sessions = failed_state old.sessions })
 IsRefused fault.Damaged old new outcome = (outcome ≡ Replied (RefusedCall DamagedRefusal)) × (new ≡ record old { sessions = failed_state old.sessions })
+
+-- A search has begun: it is at a look; or it is closed, since memory was refused.
+abbrev pub BeginComes : {B D : Type 0} → ℕ → Query B → Parts B D → Parts B D → Outcome B → Type 0
+BeginComes {B} s query old new outcome =
+    ((outcome ≡ More) × ((look : Look B) × (new ≡ searching s query (Looks look) old)))
+    ⊎ ((outcome ≡ Replied (RefusedCall Memory)) × (new ≡ record old { sessions = answered_state s old.sessions }))

@@ -12,9 +12,10 @@ ghost use Rattle.gx_readings.specs.Classes.{class_of, reading_of};
 ghost use Rattle.gx_phases.specs.declared.phase.Phase.TheVariants.{Open};
 ghost use Rattle.gx_phases.specs.Moves.{answered_state, failed_state, is_open};
 ghost use Rattle.gx_phases.specs.States.{IsKept, phase_at};
+ghost use Rattle.gx_engine.specs.declared.work.Work as declared;
 ghost use Rattle.gx_engine.specs.declared.work.Work.TheVariants.{Looks, Rests};
 ghost use Rattle.gx_engine.specs.Holds.{Leads};
-ghost use Rattle.gx_engine.specs.Searching.{IsRefused, SearchComes, need_of, search_events, searching};
+ghost use Rattle.gx_engine.specs.Searching.{BeginComes, IsRefused, SearchComes, need_of, search_events, searching};
 
 use crate::Engine;
 use crate::laws::a_class_is_lawful;
@@ -81,7 +82,7 @@ where
         requires session { is_session session ≡ true }
         requires phase { phase_at (session - 1) self.old.sessions.phases ≡ Open (Search query) Rests }
         requires works { self.old.sessions.failed ≡ false }
-        ensures comes { SearchComes (is_node (format_of K.KeyClass)) (D.state self.old.volume.shelf.disk) (D.state self.new.volume.shelf.disk) session query self.old self.new result }
+        ensures comes { BeginComes session query self.old self.new result }
         ensures leads { (l : Limits) → Leads (class_of K.Key.Shape K.is_proper l) (reading_of K.said (format_of K.KeyClass)) (format_of K.KeyClass) (is_node (format_of K.KeyClass))
             (D.state self.old.volume.shelf.disk) (D.state self.new.volume.shelf.disk) self.old self.new (search_events session query result) }
     {
@@ -164,6 +165,33 @@ where
                 self.sessions.replace_work(session, Work::Looks(look));
                 self.break_off(Refusal::Damaged)
             }
+        }
+    }
+
+    /// A move of a session's search, which is open. The first one begins a look from the root; each further one reads a page, and where
+    /// none is left to read it answers: `Replied(Found)` with the live pairs that match and stood while it looked, in order. Until
+    /// then `More`. It makes no write and no sync of the device, and takes memory for what it stacks and finds.
+    ///
+    /// `Help` where a page couldn't be brought, with what has to happen first; the search is then at what it was. Refused memory closes
+    /// the call: `Replied(Refused(Memory))`. Where the device failed, or a page didn't read, the engine has failed, and the reply is
+    /// `Device` or `Damaged`.
+    pub fn search(&mut self, session: u8, query: Query<K::Key>) -> Outcome<K::Key>
+        requires session { is_session session ≡ true }
+        requires searches { (work : declared.Work K.Key) × (phase_at (session - 1) self.old.sessions.phases ≡ Open (Search query) work) }
+        requires works { self.old.sessions.failed ≡ false }
+        ensures comes { SearchComes (is_node (format_of K.KeyClass)) (D.state self.old.volume.shelf.disk) (D.state self.new.volume.shelf.disk) session query self.old self.new result }
+        ensures leads { (l : Limits) → Leads (class_of K.Key.Shape K.is_proper l) (reading_of K.said (format_of K.KeyClass)) (format_of K.KeyClass) (is_node (format_of K.KeyClass))
+            (D.state self.old.volume.shelf.disk) (D.state self.new.volume.shelf.disk) self.old self.new (search_events session query result) }
+    {
+        a_class_is_lawful::<K>();
+        self.sessions.has_failed();
+        let Work::Looks(look) = self.sessions.replace_work(session, Work::Rests) else {
+            return self.begin_look(session, query);
+        };
+        if look.is_done() {
+            self.find(session, query, look)
+        } else {
+            self.read_on(session, query, look)
         }
     }
 }

@@ -1,4 +1,4 @@
-use Rattle.std.proofs.Common.{◌∙◌, ap, refl, ℕ, ◌-◌, ◌∷◌, []}
+use Rattle.std.proofs.Common.{◌∙◌, ap, refl, inl, ℕ, ◌-◌, ◌∷◌, []}
 use Rattle.gx_tree_laws.specs.Reach.{Item}
 use Rattle.gx_phases.specs.States.{phase_at}
 use Rattle.gx_engine.specs.declared.work.Work.TheVariants.{Looks, Rests}
@@ -10,7 +10,7 @@ pub returns-in-Ok-clause-comes : goal.returns-in-Ok-clause-comes
 returns-in-Ok-clause-comes g c =
     let old : Parts g.row.K-Key.Denot g.row.D.Denot = record { volume = c.self.inside.storage; sessions = c.self.inside.sessions; in_flight = c.self.inside.in_flight } in
     let at = ap (λ (x : Parts g.row.K-Key.Denot g.row.D.Denot). phase_at (c.args.session - 1) x.sessions.phases) c.self.view_is ∙ c.requires.phase in
-    rw (← c.self.view_is, replaced c.args.session c.args.query Rests (Looks c.in-Ok.look) old.sessions c.replace_work.new.self at c.replace_work.ensures.state) (c.in-Ok.look, refl)
+    rw (← c.self.view_is, replaced c.args.session c.args.query Rests (Looks c.in-Ok.look) old.sessions c.replace_work.new.self at c.replace_work.ensures.state) (inl (refl, (c.in-Ok.look, refl)))
 
 pub returns-in-Ok-clause-leads : goal.returns-in-Ok-clause-leads
 returns-in-Ok-clause-leads g c =
