@@ -11,8 +11,3 @@ pub(crate) fn below(draw: &mut Pcg32, bound: usize) -> usize
     let word = draw.next_word() as usize;
     if bound == 0 { 0 } else { word % bound }
 }
-
-/// Whether one of so many throws is made.
-pub(crate) fn one_in(draw: &mut Pcg32, bound: usize) -> bool {
-    below(draw, bound) == 0
-}

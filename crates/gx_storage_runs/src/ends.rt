@@ -119,6 +119,7 @@ fn end(run: Run) -> Result<(Stood, Counts), RunFault> {
         counts,
         mut draw,
         failing: _,
+        keys: _,
     } = run;
     let mut disk = volume.into_disk().into_inner();
     let left = crash(alloc, &mut disk, &mut draw)?;

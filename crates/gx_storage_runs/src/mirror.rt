@@ -12,8 +12,8 @@ use gx_node::MAX_ENTRIES;
 use gx_page::Page;
 use gx_plain_reader::Node;
 use gx_tree::{
-    Descended, Item, MemoryPages, Pages, Place, Sought, StepFault, Wanted, add_step, descend_step,
-    insert_step, set_mark_step, sweep_step,
+    Descended, Item, MemoryPages, Pages, Place, RootSplit, Sought, Split, StepFault, Wanted,
+    add_step, descend_step, insert_step, set_mark_step, split_root_step, split_step, sweep_step,
 };
 use std::alloc::Global;
 use std::convert::Infallible;
@@ -28,6 +28,13 @@ pub(crate) struct Mirror {
     most: usize,
     /// Room for the keys of a node that is split.
     keys: Vec<Box2>,
+}
+
+/// Room for the keys of a node.
+pub(crate) fn room_for_keys(alloc: Global) -> Result<Vec<Box2>, RunFault> {
+    let mut keys = Vec::new(alloc);
+    keys.resize(MAX_ENTRIES, Box2::point(0, 0))?;
+    Ok(keys)
 }
 
 /// Why a step of the tree in memory is refused.
@@ -60,12 +67,10 @@ impl Mirror {
         for _page in 2..PAGES {
             spare.push(Page::fresh(alloc, 0, 0)?)?;
         }
-        let mut keys = Vec::new(alloc);
-        keys.resize(MAX_ENTRIES, Box2::point(0, 0))?;
         Ok(Mirror {
             pages: MemoryPages::new(fresh(alloc)?, spare, 0)?,
             most,
-            keys,
+            keys: room_for_keys(alloc)?,
         })
     }
 
@@ -138,6 +143,28 @@ impl Mirror {
             is_claimed(rows, &entry)
         });
         swept.map_err(refused)
+    }
+
+    /// Splits a full node below its parent.
+    pub(crate) fn split(
+        &mut self,
+        page: u32,
+        parent: u32,
+    ) -> Result<Option<Split<Box2>>, RunFault> {
+        let most = self.most();
+        if self.keys.len() < MAX_ENTRIES {
+            return Err(RunFault::Unexpected(What::Tree));
+        }
+        split_step(&mut self.pages, page, parent, most, &mut self.keys).map_err(refused)
+    }
+
+    /// Splits the root.
+    pub(crate) fn split_root(&mut self) -> Result<RootSplit<Box2>, RunFault> {
+        let most = self.most();
+        if self.keys.len() < MAX_ENTRIES {
+            return Err(RunFault::Unexpected(What::Tree));
+        }
+        split_root_step(&mut self.pages, most, &mut self.keys).map_err(refused)
     }
 
     /// Inserts a pair that stands nowhere.

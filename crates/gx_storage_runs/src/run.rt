@@ -3,11 +3,12 @@ use crate::base::{Device, make_device, open};
 use crate::book::Book;
 use crate::counts::Counts;
 use crate::fault::RunFault;
-use crate::mirror::Mirror;
+use crate::mirror::{Mirror, room_for_keys};
 use crate::snapshot::Snapshot;
 use crate::volume::Volume;
 use gx_class::Box2Class;
 use gx_disk::{Fuse, FuseDisk};
+use gx_geom::Box2;
 use gx_glog::Stage;
 use rand_pcg::Pcg32;
 use std::alloc::Global;
@@ -56,6 +57,8 @@ pub(crate) struct Run {
     pub(crate) counts: Counts,
     pub(crate) draw: Pcg32,
     pub(crate) failing: Failing,
+    /// Room for the keys of a node that is split.
+    pub(crate) keys: Vec<Box2>,
 }
 
 /// The pages, the set and the numbers as they are.
@@ -103,5 +106,6 @@ pub(crate) fn start(alloc: Global, setting: Setting, failing: Failing) -> Result
         counts: Counts::default(),
         draw,
         failing,
+        keys: room_for_keys(alloc)?,
     })
 }

@@ -23,10 +23,19 @@ impl Run {
         self.book.set_coming(number, Some(Coming { row, place }));
     }
 
-    /// Gives an insert up for which there is no room.
+    /// Splits the node that is in the way. Where no page is left the insert is given up.
     fn make_room(&mut self, number: usize, coming: &Coming) -> Result<(), RunFault> {
-        let _ = coming;
-        self.book.set_coming(number, None);
+        let page = coming.place.item.page();
+        let made = if page == 1 {
+            self.split_root()
+        } else {
+            self.split(page, coming.place.parent)
+        };
+        match made {
+            Ok(()) => self.go_to_top(number, coming.row),
+            Err(RunFault::PagesFull) => self.book.set_coming(number, None),
+            Err(fault) => return Err(fault),
+        }
         Ok(())
     }
 

@@ -7,7 +7,7 @@ use crate::run::Run;
 use gx_class::Box2Class;
 use gx_geom::Box2;
 use gx_machine::Entry;
-use gx_tree::{Descended, Item, Sought, Wanted};
+use gx_tree::{Descended, Item, RootSplit, Sought, Split, Wanted};
 
 /// Whether both descents did the same.
 fn did_the_same(one: &Descended<Box2>, other: &Descended<Box2>) -> bool {
@@ -22,6 +22,28 @@ fn did_the_same(one: &Descended<Box2>, other: &Descended<Box2>) -> bool {
         }
         _ => false,
     }
+}
+
+/// Whether both splits did the same.
+fn did_split_the_same(one: &Option<Split<Box2>>, other: &Option<Split<Box2>>) -> bool {
+    match (one, other) {
+        (None, None) => true,
+        (Some(one), Some(other)) => {
+            one.sibling == other.sibling
+                && one.slot == other.slot
+                && one.left == other.left
+                && one.right == other.right
+        }
+        _ => false,
+    }
+}
+
+/// Whether both splits of the root did the same.
+fn did_raise_the_same(one: &RootSplit<Box2>, other: &RootSplit<Box2>) -> bool {
+    one.first == other.first
+        && one.second == other.second
+        && one.left == other.left
+        && one.right == other.right
 }
 
 /// Whether two answers are the same; else which step differs.
@@ -144,6 +166,42 @@ impl Run {
             }
         }
         Err(RunFault::Unexpected(What::Right))
+    }
+
+    /// Splits a full node below its parent, where that has a place for it.
+    pub(crate) fn split(&mut self, page: u32, parent: u32) -> Result<(), RunFault> {
+        for _try in 0..TRIES {
+            match self.volume.split(page, parent, &mut self.keys) {
+                Ok(did) => {
+                    let other = self.tree.split(page, parent)?;
+                    agree(did_split_the_same(&did, &other), What::Split, page)?;
+                    if did.is_some() {
+                        count(&mut self.counts.split);
+                        self.has_record();
+                    }
+                    return Ok(());
+                }
+                Err(fault) => self.help(fault)?,
+            }
+        }
+        Err(RunFault::Unexpected(What::Split))
+    }
+
+    /// Splits the root.
+    pub(crate) fn split_root(&mut self) -> Result<(), RunFault> {
+        for _try in 0..TRIES {
+            match self.volume.split_root(&mut self.keys) {
+                Ok(did) => {
+                    let other = self.tree.split_root()?;
+                    agree(did_raise_the_same(&did, &other), What::Split, 1)?;
+                    count(&mut self.counts.root_split);
+                    self.has_record();
+                    return Ok(());
+                }
+                Err(fault) => self.help(fault)?,
+            }
+        }
+        Err(RunFault::Unexpected(What::Split))
     }
 
     /// Takes the marked pairs that nobody claims out of a leaf. Answers whether there were any.

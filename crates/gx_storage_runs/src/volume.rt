@@ -10,11 +10,12 @@ use gx_disk::SectorDisk;
 use gx_geom::Refusal;
 use gx_glog::{PLACES, Stage, Turn};
 use gx_machine::Entry;
+use gx_node::MAX_ENTRIES;
 use gx_readings::ReadKeys;
 use gx_record::Record;
 use gx_storage::{Help, Storage};
 use gx_store::StoreFault;
-use gx_tree::{Descended, Item, Sought, StepFault, Wanted};
+use gx_tree::{Descended, Item, RootSplit, Sought, Split, StepFault, Wanted};
 
 /// Why a call of the pages answers nothing.
 pub(crate) type Fault = StepFault<StoreFault>;
@@ -162,6 +163,27 @@ impl<D: SectorDisk, K: ReadKeys> Volume<D, K> {
             return Err(StepFault::Pages(StoreFault::NoRoom));
         }
         self.storage.sweep(page, claimed)
+    }
+}
+
+impl<D: SectorDisk, K: ReadKeys> Volume<D, K> {
+    pub(crate) fn split(
+        &mut self,
+        page: u32,
+        parent: u32,
+        keys: &mut [K::Key],
+    ) -> Result<Option<Split<K::Key>>, Fault> {
+        if self.is_closed() || keys.len() < MAX_ENTRIES {
+            return Err(StepFault::Pages(StoreFault::NoRoom));
+        }
+        self.storage.split(page, parent, keys)
+    }
+
+    pub(crate) fn split_root(&mut self, keys: &mut [K::Key]) -> Result<RootSplit<K::Key>, Fault> {
+        if self.is_closed() || keys.len() < MAX_ENTRIES {
+            return Err(StepFault::Pages(StoreFault::NoRoom));
+        }
+        self.storage.split_root(keys)
     }
 }
 
