@@ -6,12 +6,13 @@ use crate::draw::below;
 use crate::fault::{RunFault, What};
 use crate::run::{Expected, Failing, Run, Setting, start};
 use gx_disk::{MemDisk, SectorDisk, Torn};
+use gx_glog::Stage;
 use gx_plain_reader::{Damage, Reading, read};
 use rand_pcg::Pcg32;
 use std::alloc::{AllocError, Global};
 
 /// What a crash leaves of the sectors that weren't synced.
-#[derive(Clone, Copy, PartialEq, Eq)]
+#[derive(Clone, Copy)]
 enum Left {
     Old,
     New,
@@ -19,7 +20,7 @@ enum Left {
 }
 
 /// What was read back of a run.
-#[derive(Clone, Copy, PartialEq, Eq)]
+#[derive(Clone, Copy)]
 pub(crate) enum Stood {
     /// What is gated.
     Gated,
@@ -97,11 +98,12 @@ fn judge(expected: &Expected, left: Left, found: &Reading) -> Result<Stood, RunF
         expected.gated.stands(found)?;
         return Ok(Stood::Gated);
     };
-    if expected.gate_written && left == Left::New {
+    let is_settled = expected.last == Stage::GateSync;
+    if expected.gate_written && (is_settled || matches!(left, Left::New)) {
         flight.stands(found)?;
         return Ok(Stood::Flight);
     }
-    if expected.gate_written && left == Left::Mixed && flight.stands(found).is_ok() {
+    if expected.gate_written && matches!(left, Left::Mixed) && flight.stands(found).is_ok() {
         return Ok(Stood::Flight);
     }
     expected.gated.stands(found)?;

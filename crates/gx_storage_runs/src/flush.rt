@@ -153,6 +153,9 @@ impl Run {
             match self.volume.sync() {
                 Ok(()) => {
                     count(&mut self.counts.calls);
+                    if self.expected.gate_written {
+                        self.expected.last = Stage::GateSync;
+                    }
                     return Ok(());
                 }
                 Err(refusal) => self.refused(refusal)?,

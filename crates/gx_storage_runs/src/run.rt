@@ -40,7 +40,7 @@ pub(crate) struct Expected {
     pub(crate) flight: Option<Snapshot>,
     /// Whether records fill that aren't in flight.
     pub(crate) fills: bool,
-    /// The log's last call.
+    /// The last of the log's calls; `GateSync` too where another sync has settled the gate in flight.
     pub(crate) last: Stage,
     /// Whether the gate of the batch in flight was written.
     pub(crate) gate_written: bool,
@@ -74,16 +74,16 @@ pub(crate) fn snapshot(alloc: Global, tree: &Mirror, book: &Book) -> Result<Snap
 
 /// How many rows a run has, for so many entries a node.
 fn rows_for(most: usize) -> usize {
-    most.saturating_mul(3).saturating_add(64)
+    most.saturating_mul(24).saturating_add(64)
 }
 
-/// A run before its first step: half of the rows are in the tree.
+/// A run before its first step: a quarter of the rows is in the tree.
 pub(crate) fn start(alloc: Global, setting: Setting, failing: Failing) -> Result<Run, RunFault> {
     let mut draw = Pcg32::new(setting.seed, 11);
     let rows = rows_for(setting.most);
     let mut book = Book::new(alloc, rows, &mut draw)?;
     let mut tree = Mirror::new(alloc, setting.most)?;
-    let disk = make_device(alloc, &mut tree, &mut book, rows / 2)?;
+    let disk = make_device(alloc, &mut tree, &mut book, rows / 4)?;
     let fuse = if failing.stops {
         Fuse::ForEver
     } else {

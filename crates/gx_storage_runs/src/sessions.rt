@@ -2,6 +2,7 @@
 use crate::book::{Coming, SESSIONS};
 use crate::draw::below;
 use crate::fault::{RunFault, What};
+use crate::mirror::PAGES;
 use crate::run::Run;
 use gx_tree::{Descended, Item, Place};
 
@@ -33,7 +34,9 @@ impl Run {
         };
         match made {
             Ok(()) => self.go_to_top(number, coming.row),
-            Err(RunFault::PagesFull) => self.book.set_coming(number, None),
+            Err(RunFault::PagesFull) if self.tree.used().saturating_add(2) > PAGES => {
+                self.book.set_coming(number, None);
+            }
             Err(fault) => return Err(fault),
         }
         Ok(())
