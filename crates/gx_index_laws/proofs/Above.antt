@@ -1,5 +1,5 @@
 -- An inner page that is taken stays one, whatever is done to the tree: so a descent's page of before does.
-use Rattle.std.proofs.Common.{◌≡◌, ◌≢◌, ℕ, suc, ◌<◌, ◌≤◌, Bool, ◌⊎◌, inl, inr, List, ◌∷◌, [], ◌++◌, filter, ap, sym, ◌∙◌, subst, refl, arith}
+use Rattle.std.proofs.Common.{ℕ, ◌≤◌, Bool, inl, inr, List, ◌∷◌, [], ◌++◌, filter, ap, arith}
 use Rattle.std.proofs.lemmas.Bool.{cases_eq}
 use Rattle.gx_tree_laws.specs.Trees.{Pair, Child, Node, Tree, Rules, IsLawful, Used}
 use Rattle.gx_tree_laws.specs.Legal.{Legal}

@@ -1,5 +1,5 @@
 -- A pair that a descent adds to its leaf over frames and device, as an index's: it is inserted.
-use Rattle.std.proofs.Common.{◌≡◌, ◌∙◌, sym, ap, refl, subst, ℕ, ◌<◌, ◌≤◌, Bool, true, false, List, [], ◌∷◌, None, Some, arith}
+use Rattle.std.proofs.Common.{◌≡◌, ◌∙◌, ap, subst, ℕ, ◌≤◌, Bool, true, false, List, None, Some, arith}
 use Rattle.std.proofs.lemmas.Bool.{ne_eqb}
 use Rattle.gx_machine.specs.declared.entry.Entry.{Entry}
 use Rattle.gx_machine.specs.declared.call.Call.TheVariants.{Insert}
@@ -8,7 +8,7 @@ use Rattle.gx_disk.specs.Device.{Device}
 use Rattle.gx_page.specs.Contents.{Contents}
 use Rattle.gx_tree_laws.specs.Reach.{Item}
 use Rattle.gx_tree_laws.specs.Steps.{Adds, IsAdding}
-use Rattle.gx_tree_laws.specs.Trees.{Node, Tree, is_entry, standing}
+use Rattle.gx_tree_laws.specs.Trees.{Tree, is_entry, standing}
 use Rattle.gx_tree_laws.proofs.AlikeTrees.{standing_too}
 use Rattle.gx_node.specs.Reading.{Format}
 use Rattle.gx_tree.specs.Writing.{Appends, live}

@@ -1,6 +1,6 @@
 -- A step of a descent over frames and device, as an index's: where it begins again, and where it goes down.
-use Rattle.std.proofs.Common.{◌≡◌, ◌≢◌, ◌∙◌, sym, ap, refl, subst, inl, inr, ℕ, ◌<◌, ◌≤◌, Bool, true, false, not, ◌&&◌, ◌||◌, ◌==◌, List, [], ◌∷◌, map, length, Some, arith}
-use Rattle.std.specs.Prelude.{nat_lt, slice_get}
+use Rattle.std.proofs.Common.{◌≡◌, ◌≢◌, ◌∙◌, sym, ap, subst, inr, ℕ, ◌<◌, ◌≤◌, Bool, true, not, ◌&&◌, ◌||◌, ◌==◌, List, [], ◌∷◌, length, Some, arith}
+use Rattle.std.specs.Prelude.{nat_lt}
 use Rattle.std.proofs.lemmas.Bool.{lt-ltb}
 use Rattle.gx_machine.specs.declared.entry.Entry.{Entry}
 use Rattle.gx_machine.specs.declared.call.Call.{Call}
@@ -12,7 +12,7 @@ use Rattle.gx_tree_laws.specs.Legal.{ChildFits, Legal}
 use Rattle.gx_tree_laws.specs.Looks.{from_root}
 use Rattle.gx_tree_laws.specs.Reach.{Item}
 use Rattle.gx_tree_laws.specs.Steps.{IsWidening, Widens}
-use Rattle.gx_tree_laws.specs.Trees.{Child, Node, Pair, Tree, Used, child_pages, size, times}
+use Rattle.gx_tree_laws.specs.Trees.{Node, Pair, Tree, Used, child_pages, size, times}
 use Rattle.gx_tree_laws.specs.Writes.{IsDescent, has_place, must_restart}
 use Rattle.gx_tree_laws.proofs.AlikeLooks.{descent_too}
 use Rattle.gx_tree_laws.proofs.AlikeTrees.{agree_back}

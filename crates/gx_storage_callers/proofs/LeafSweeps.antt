@@ -1,5 +1,5 @@
 -- A sweep that a descent makes of its full leaf over frames and device, as an index's: the descent stays there, with less left.
-use Rattle.std.proofs.Common.{◌≡◌, ◌∙◌, sym, ap, refl, subst, ℕ, ◌<◌, ◌≤◌, Bool, true, List, [], ◌∷◌, Some, arith}
+use Rattle.std.proofs.Common.{◌≡◌, ◌∙◌, sym, refl, subst, ℕ, ◌<◌, ◌≤◌, Bool, true, List, [], ◌∷◌, Some, arith}
 use Rattle.std.proofs.Math.Path.{fun_ext}
 use Rattle.gx_machine.specs.declared.entry.Entry.{Entry}
 use Rattle.gx_machine.specs.declared.call.Call.{Call}

@@ -1,5 +1,5 @@
 -- A split that a descent makes over frames and device, as an index's: the descent then begins again.
-use Rattle.std.proofs.Common.{◌≡◌, ◌≢◌, ◌∙◌, sym, ap, refl, subst, inl, inr, ℕ, suc, ◌+◌, ◌^◌, ◌<◌, ◌≤◌, Bool, true, false, ◌&&◌, ◌⊎◌, List, [], ◌∷◌, Some, arith}
+use Rattle.std.proofs.Common.{◌≡◌, ◌≢◌, sym, subst, inl, inr, ℕ, suc, ◌+◌, ◌^◌, ◌<◌, ◌≤◌, Bool, false, ◌&&◌, ◌⊎◌, List, [], ◌∷◌, Some, arith}
 use Rattle.std.specs.Prelude.{if◌then◌else◌, max, min, nat_lt}
 use Rattle.std.proofs.lemmas.Bool.{cases_lt}
 use Rattle.gx_machine.specs.declared.entry.Entry.{Entry}
@@ -13,7 +13,6 @@ use Rattle.gx_tree_laws.specs.Looks.{from_root}
 use Rattle.gx_tree_laws.specs.Reach.{Item}
 use Rattle.gx_tree_laws.specs.Steps.{IsRootSplit, IsSplit, Splits, SplitsRoot}
 use Rattle.gx_tree_laws.specs.Trees.{Node, Tree, Used, child_pages, size, times}
-use Rattle.gx_tree_laws.proofs.Roots.{root_used}
 use Rattle.gx_tree_laws.proofs.Splits.{split_used}
 use Rattle.gx_node.specs.Reading.{Format}
 use Rattle.gx_tree.specs.Splitting.{HasNoPlace}
@@ -25,7 +24,7 @@ use Rattle.gx_index_laws.specs.Classes.{Class, IsLawful, Page, known_of}
 use Rattle.gx_index_laws.specs.Happening.{with_record}
 use Rattle.gx_index_laws.specs.States.{Descends, State, tree_now}
 use Rattle.gx_index_laws.specs.Whole.{IsWhole}
-use Rattle.gx_index_laws.specs.Working.{CameFrom, DescendsFor}
+use Rattle.gx_index_laws.specs.Working.{DescendsFor}
 use Rattle.gx_index_laws.proofs.Answering.{descent_again}
 use Rattle.gx_index_laws.proofs.Measuring.{splits, splits_root}
 use Rattle.gx_index_laws.proofs.Standing.{is_legal}

@@ -1,6 +1,6 @@
 -- What a change that is logged tells of an index: what frames and device show to be a step of the tree is that step of the log's
 -- tree.
-use Rattle.std.proofs.Common.{◌≡◌, ◌≢◌, ◌∙◌, sym, ap, refl, subst, ℕ, ◌<◌, ◌≤◌, Bool, true, false, ◌&&◌, ◌||◌, ◌==◌, List, [], ◌∷◌, arith}
+use Rattle.std.proofs.Common.{◌≡◌, ◌≢◌, ◌∙◌, ap, refl, ℕ, ◌<◌, ◌≤◌, Bool, true, false, ◌||◌, ◌==◌, List, [], ◌∷◌, arith}
 use Rattle.std.specs.Prelude.{nat_le, nat_lt}
 use Rattle.std.specs.List.{list_all, list_any}
 use Rattle.std.proofs.lemmas.Bool.{eq-eqb, le-leb, lt-ltb, leb-true, ltb-true, ne_eqb}
@@ -15,13 +15,12 @@ use Rattle.gx_tree_laws.specs.Trees.{Tree, Used}
 use Rattle.gx_tree_laws.proofs.AlikeSteps.{step_too}
 use Rattle.gx_tree_laws.proofs.AlikeTrees.{agree_back, legal_too}
 use Rattle.gx_node.specs.Reading.{Format}
-use Rattle.gx_engine_laws.specs.Events.{Works}
 use Rattle.gx_recovery.specs.Analysis.{analysis}
 use Rattle.gx_recovery.specs.Damage.{image_fits, is_page}
 use Rattle.gx_recovery.specs.Known.{Known}
 use Rattle.gx_recovery.specs.Logged.{all_records}
 use Rattle.gx_recovery.specs.Records.{Image, Record, speaks_of}
-use Rattle.gx_recovery.specs.Redo.{redo, redone}
+use Rattle.gx_recovery.specs.Redo.{redone}
 use Rattle.gx_recovery.proofs.Folds.{redone-snoc}
 use Rattle.gx_recovery.proofs.Logs.{and_all}
 use Rattle.gx_recovery.proofs.States.{redone_apart}
