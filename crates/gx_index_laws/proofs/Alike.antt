@@ -11,6 +11,7 @@ use Rattle.gx_engine_laws.specs.Slots.{Slot}
 use Rattle.gx_index_laws.specs.Classes.{Class, is_live_of, is_live}
 use Rattle.gx_index_laws.specs.States.{Work, Rests, Looks, Descends, Seeks}
 use Rattle.gx_index_laws.specs.Working.{wants_pair, DoesWork}
+use Rattle.gx_index_laws.proofs.Above.{came_too}
 
 module _ {B : Type 0} (c : Class B) (one other : Tree B) (agree : AgreeOnUsed one other) (legal : Legal c.rules one) where
   pub live_too : (e : Entry B) → is_live c other e ≡ is_live c one e
@@ -25,5 +26,6 @@ module _ {B : Type 0} (c : Class B) (one other : Tree B) (agree : AgreeOnUsed on
     looked = look_too c.rules one other agree legal (wants_pair c slot) [] [] does.looked;
     descent = descent_too c.rules one other agree item e.key does.descent;
     apart = does.apart;
+    came = came_too one other agree parent item.page does.came;
   }
   work_too slot (Seeks e leaf) does = record { wanted = does.wanted; seek = seek_too c.rules one other agree leaf e.row e.key does.seek }

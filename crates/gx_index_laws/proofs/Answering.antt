@@ -163,7 +163,7 @@ module _ {B : Type 0} (c : Class B) (l : IsLawful c) where
 
     pub look_descends : (s : ℕ) (e : Entry B) → old.work s ≡ Looks [] [] → open_call (slot_at s old.slots) ≡ Some (Insert e)
         → DescendsFor c t (slot_at s old.slots) e 0 (from_root t)
-    look_descends s e at call = record { call = call; looked = look_of s [] [] at; descent = descent_begins c.rules e.key t legal; apart = λ is. (omega (arith, is)) }
+    look_descends s e at call = record { call = call; looked = look_of s [] [] at; descent = descent_begins c.rules e.key t legal; apart = λ is. (omega (arith, is)); came = inl (refl, refl) }
 
     -- an open insert wants each pair of its entry
     wants_insert : (slot : Slot B) (e : Entry B) → open_call slot ≡ Some (Insert e) → (live : Bool) → slot_wants c.keys slot (record { entry = e; live = live }) ≡ true
@@ -192,7 +192,7 @@ module _ {B : Type 0} (c : Class B) (l : IsLawful c) where
     pub descent_again : (s : ℕ) (e : Entry B) (parent : ℕ) (item : Item) → old.work s ≡ Descends e parent item → DescendsFor c t (slot_at s old.slots) e 0 (from_root t)
     descent_again s e parent item at =
         let d : DescendsFor c t (slot_at s old.slots) e parent item = descent_of s e parent item at in
-        record { call = d.call; looked = d.looked; descent = descent_begins c.rules e.key t legal; apart = λ is. (omega (arith, is)) }
+        record { call = d.call; looked = d.looked; descent = descent_begins c.rules e.key t legal; apart = λ is. (omega (arith, is)); came = inl (refl, refl) }
 
     pub descent_down : (s : ℕ) (e : Entry B) (parent : ℕ) (item : Item) (x : ℕ) → old.work s ≡ Descends e parent item → 0 < times x (child_pages (t.node item.page))
         → Each (λ (d : Child B). d.page ≡ x → c.rules.covers d.key e.key ≡ true) (t.node item.page).children
@@ -206,6 +206,7 @@ module _ {B : Type 0} (c : Class B) (l : IsLawful c) where
           looked = d.looked;
           descent = descent_goes_down c.rules e.key t legal item.page x u named covers;
           apart = λ is. (let level = pick.1.level in let there = ap (λ q. (t.node q).level) (is ∙ sym pick.2) in omega (arith, level, there));
+          came = inr (u, (let level = pick.1.level in omega (arith, level)));
         }
 
     pub descent_finds_none : (s : ℕ) (e : Entry B) (parent : ℕ) (item : Item) → old.work s ≡ Descends e parent item → standing (is_of c e) t ≡ 0

@@ -16,6 +16,7 @@ use Rattle.gx_index_laws.specs.Classes.{Class, IsLawful, entry_of, pair_of, is_o
 use Rattle.gx_index_laws.specs.Steps.{IsPageStep, SparesClaims, IsWriteOf}
 use Rattle.gx_index_laws.specs.States.{Work, Rests, Looks, Descends, Seeks}
 use Rattle.gx_index_laws.specs.Working.{wants_pair, DoesWork}
+use Rattle.gx_index_laws.proofs.Above.{came_kept}
 use Rattle.gx_index_laws.proofs.Living.{pair_is}
 
 -- a step that leaves a test's pairs alone leaves those of a narrower one
@@ -82,6 +83,7 @@ module _ {B : Type 0} (c : Class B) (l : IsLawful c) where
     looked = look_step c.rules l.rules (wants_pair c slot) [] [] old new step legal is alone work.looked;
     descent = descent_step c.rules e.key l.rules item old new step legal is work.descent;
     apart = work.apart;
+    came = came_kept c.rules l.rules old new legal step is parent item.page work.came;
   }
   work_kept old new step slot (Seeks e leaf) legal is alone work = record {
     wanted = work.wanted;

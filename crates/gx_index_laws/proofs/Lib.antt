@@ -1,3 +1,4 @@
+pub mod Above
 pub mod Tools
 pub mod Living
 pub mod Leaving

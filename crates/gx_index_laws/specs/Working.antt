@@ -1,11 +1,11 @@
 -- What holds of a session's work: what the tree's laws say of it, for what its slot wants.
-use Rattle.std.specs.Prelude.{ℕ, ◌≡◌, ◌≢◌, Bool, true, Option, None, Some, List, []}
+use Rattle.std.specs.Prelude.{ℕ, ◌≡◌, ◌≢◌, ◌<◌, ◌⊎◌, Bool, true, Option, None, Some, List, []}
 use Rattle.gx_machine.specs.declared.entry.Entry.{Entry}
 use Rattle.gx_machine.specs.declared.call.Call.{Call}
 use Rattle.gx_machine.specs.declared.call.Call.TheVariants.{Insert}
 use Rattle.gx_machine.specs.Keys.{Keys}
 use Rattle.gx_machine.specs.Sets.{has}
-use Rattle.gx_tree_laws.specs.Trees.{Pair, Tree}
+use Rattle.gx_tree_laws.specs.Trees.{Pair, Tree, Used}
 use Rattle.gx_tree_laws.specs.Reach.{Item}
 use Rattle.gx_tree_laws.specs.Looks.{IsLook}
 use Rattle.gx_tree_laws.specs.Writes.{IsDescent, IsSeek}
@@ -25,13 +25,18 @@ open_call (Waiting number) = None
 abbrev pub wants_pair : {B : Type 0} → Class B → Slot B → Pair B → Bool
 wants_pair c slot x = slot_wants c.keys slot (pair_of x)
 
+-- a descent is at the root, where it begins, or came from an inner page that is taken
+abbrev pub CameFrom : {B : Type 0} → Tree B → ℕ → ℕ → Type 0
+CameFrom t parent page = ((parent ≡ 0) × (page ≡ 1)) ⊎ (Used t parent × (0 < (t.node parent).level))
+
 -- a descent is an open insert's, and nothing that it wants stands: its look has ended with nothing found; and it came from
--- another page
+-- another page, if any, which is above a leaf
 pub record DescendsFor {B : Type 0} (c : Class B) (t : Tree B) (slot : Slot B) (e : Entry B) (parent : ℕ) (item : Item) : Type 0 where
   pub call : open_call slot ≡ Some (Insert e)
   pub looked : IsLook t (wants_pair c slot) [] []
   pub descent : IsDescent c.rules t item e.key
   pub apart : parent ≢ item.page
+  pub came : CameFrom t parent item.page
 
 -- the pair that is sought is wanted, live or not, and stands in the leaf or to the right of it
 pub record SeeksFor {B : Type 0} (c : Class B) (t : Tree B) (slot : Slot B) (e : Entry B) (leaf : ℕ) : Type 0 where
