@@ -11,6 +11,7 @@ use Rattle.gx_machine.specs.declared.reply.Asked.TheVariants as asked
 use Rattle.gx_machine.specs.Keys.{Keys}
 use Rattle.gx_machine.specs.Machine.{is_session}
 use Rattle.gx_machine.specs.Sessions.{Locks}
+use Rattle.gx_machine.specs.Sets.{has}
 use Rattle.gx_disk.specs.Device.{Device}
 use Rattle.gx_disk.proofs.Leaving.{nothing_leaves}
 use Rattle.gx_page.specs.Contents.{Contents}
@@ -19,7 +20,8 @@ use Rattle.gx_recovery.specs.Logged.{Logged}
 use Rattle.gx_recovery.specs.Logged as logged
 use Rattle.gx_index_laws.specs.Classes.{Class, IsLawful, Page, known_of}
 use Rattle.gx_index_laws.specs.States as index
-use Rattle.gx_index_laws.proofs.Tools.{changed_beside}
+use Rattle.gx_index_laws.specs.Happening.{first_work}
+use Rattle.gx_index_laws.proofs.Tools.{changed_beside, changed_here}
 use Rattle.gx_durable.specs.Spelled.{Reading}
 use Rattle.gx_durable.specs.Standing.{Stands}
 use Rattle.gx_txn.specs.Tables.{held_by, with_locks, locks_for}
@@ -38,12 +40,12 @@ use Rattle.gx_engine.specs.Holds.{AreAt, KnowsFlight, Leads}
 use Rattle.gx_engine.proofs.Serving.{held_as_it_is, session_at}
 
 -- What an ask comes to, case by case: it is refused; a transaction begins; a call opens, with its lock or without; an undo begins.
-module _ {B : Type 0} (k : Keys B) (s : ℕ) (old : State B (Work B)) (P : Asked B → State B (Work B) → Type 0)
+module _ {B : Type 0} (k : Keys B) (s : ℕ) (asked_call : Call B) (old : State B (Work B)) (P : Asked B → State B (Work B) → Type 0)
     (refused : (why : Refusal) → P (asked.Now (reply.Refused why)) old)
     (begins : is_session s ≡ true → P (asked.Now reply.Ok) (with_transaction s old))
     (opens : is_session s ≡ true → (call : Call B) (locks : Locks B) → P asked.Open (with_session s (phase.Open call Rests) (with_locks locks (held_by s old.table)) old))
     (waits : is_session s ≡ true → P asked.Open (with_phase_of s (phase.Open Commit Rests) old))
-    (undoes : is_session s ≡ true → P asked.Open (with_phase_of s (phase.Undoing 0 Rests) old)) where
+    (undoes : is_session s ≡ true → asked_call ≡ Abort → P asked.Open (with_phase_of s (phase.Undoing 0 Rests) old)) where
   at : (given g : Asked B) (new n : State B (Work B)) → given ≡ g → new ≡ n → P g n → P given new
   at given g new n one other p = subst (λ (x : Asked B). P x new) (sym one) (subst (λ (x : State B (Work B)). P g x) (sym other) p)
 
@@ -66,35 +68,35 @@ module _ {B : Type 0} (k : Keys B) (s : ℕ) (old : State B (Work B)) (P : Asked
   by_free is Commit given new a = by_refusal NoTransaction given new a
   by_free is Abort given new a = by_refusal NoTransaction given new a
 
-  by_working : is_session s ≡ true → (call : Call B) (given : Asked B) (new : State B (Work B)) → AskedWorking k s call Rests old given new → P given new
-  by_working is Begin given new a = by_refusal InTransaction given new a
-  by_working is (Insert e) given new a = by_lock is (locks_for k (Insert e) s old.table) (Insert e) given new a
-  by_working is (Delete e) given new a = by_lock is (locks_for k (Delete e) s old.table) (Delete e) given new a
-  by_working is (Search q) given new a = by_lock is (locks_for k (Search q) s old.table) (Search q) given new a
-  by_working is Commit given new a = at given asked.Open new _ a.0 a.1 (waits is)
-  by_working is Abort given new a = at given asked.Open new _ a.0 a.1 (undoes is)
+  by_working : is_session s ≡ true → (call : Call B) → asked_call ≡ call → (given : Asked B) (new : State B (Work B)) → AskedWorking k s call Rests old given new → P given new
+  by_working is Begin same given new a = by_refusal InTransaction given new a
+  by_working is (Insert e) same given new a = by_lock is (locks_for k (Insert e) s old.table) (Insert e) given new a
+  by_working is (Delete e) same given new a = by_lock is (locks_for k (Delete e) s old.table) (Delete e) given new a
+  by_working is (Search q) same given new a = by_lock is (locks_for k (Search q) s old.table) (Search q) given new a
+  by_working is Commit same given new a = at given asked.Open new _ a.0 a.1 (waits is)
+  by_working is Abort same given new a = at given asked.Open new _ a.0 a.1 (undoes is same)
 
-  by_phase : is_session s ≡ true → (call : Call B) (p : Phase B (Work B)) (given : Asked B) (new : State B (Work B)) → AskedAt k s call Rests p old given new → P given new
-  by_phase is call phase.Free given new a = by_free is call given new a
-  by_phase is call phase.Working given new a = by_working is call given new a
-  by_phase is call (phase.Open pending on) given new a = by_refusal CallOpen given new a
-  by_phase is call (phase.Undoing restored on) given new a = by_refusal CallOpen given new a
-  by_phase is call (phase.Waiting number) given new a = by_refusal CallOpen given new a
+  by_phase : is_session s ≡ true → (call : Call B) → asked_call ≡ call → (p : Phase B (Work B)) (given : Asked B) (new : State B (Work B)) → AskedAt k s call Rests p old given new → P given new
+  by_phase is call same phase.Free given new a = by_free is call given new a
+  by_phase is call same phase.Working given new a = by_working is call same given new a
+  by_phase is call same (phase.Open pending on) given new a = by_refusal CallOpen given new a
+  by_phase is call same (phase.Undoing restored on) given new a = by_refusal CallOpen given new a
+  by_phase is call same (phase.Waiting number) given new a = by_refusal CallOpen given new a
 
-  by_tests : (failed there : Bool) → is_session s ≡ there → (call : Call B) (given : Asked B) (new : State B (Work B)) → AskedBy k s call Rests failed there old given new → P given new
-  by_tests true there is call given new a = by_refusal Failed given new a
-  by_tests false false is call given new a = by_refusal BadSession given new a
-  by_tests false true is call given new a = by_phase is call (phase_at (s - 1) old.phases) given new a
+  by_tests : (failed there : Bool) → is_session s ≡ there → (call : Call B) → asked_call ≡ call → (given : Asked B) (new : State B (Work B)) → AskedBy k s call Rests failed there old given new → P given new
+  by_tests true there is call same given new a = by_refusal Failed given new a
+  by_tests false false is call same given new a = by_refusal BadSession given new a
+  by_tests false true is call same given new a = by_phase is call same (phase_at (s - 1) old.phases) given new a
 
-  pub by_ask : (call : Call B) (given : Asked B) (new : State B (Work B)) → IsAsked k s call Rests old given new → P given new
-  by_ask call given new a = by_tests old.failed (is_session s) refl call given new a
+  pub by_ask : (given : Asked B) (new : State B (Work B)) → IsAsked k s asked_call Rests old given new → P given new
+  by_ask given new a = by_tests old.failed (is_session s) refl asked_call refl given new a
 
 -- an ask leaves the numbers of commits
 pub numbers_stay : {B : Type 0} (k : Keys B) (s : ℕ) (call : Call B) (old : State B (Work B)) (given : Asked B) (new : State B (Work B)) → IsAsked k s call Rests old given new
     → (new.latest ≡ old.latest) × (new.durable ≡ old.durable)
 numbers_stay k s call old given new asks =
-    by_ask k s old (λ g n. (n.latest ≡ old.latest) × (n.durable ≡ old.durable)) (λ why. (refl, refl)) (λ is. (refl, refl)) (λ is pending locks. (refl, refl)) (λ is. (refl, refl)) (λ is. (refl, refl))
-    call given new asks
+    by_ask k s call old (λ g n. (n.latest ≡ old.latest) × (n.durable ≡ old.durable)) (λ why. (refl, refl)) (λ is. (refl, refl)) (λ is pending locks. (refl, refl)) (λ is. (refl, refl)) (λ is aborts. (refl, refl))
+    given new asks
 
 -- an ask leaves an index's log
 asked_log : {B : Type 0} (c : Class B) (s : ℕ) (call : Call B) (given : Asked B) (i : index.State B) → (asked_index c s call given i).log ≡ i.log
@@ -116,7 +118,7 @@ module _ {B : Type 0} (c : Class B) (s : ℕ) (call : Call B) (i : index.State B
 
   asked_stays : (given : Asked B) (new : State B (Work B)) → IsAsked c.keys s call Rests old given new → Stays given new
   asked_stays given new asks =
-      by_ask c.keys s old Stays
+      by_ask c.keys s call old Stays
       (λ why. record { at = is_at; latest = refl; failed = refl })
       (λ is. record {
         at = session_at c.keys old (with_transaction s old) i (asked_index c s call (asked.Now reply.Ok) i) kept s is phase.Working (held_at (s - 1) old.table) refl (held_as_it_is s old.table)
@@ -136,13 +138,13 @@ module _ {B : Type 0} (c : Class B) (s : ℕ) (call : Call B) (i : index.State B
         latest = refl;
         failed = refl;
       })
-      (λ is. record {
+      (λ is aborts. record {
         at = session_at c.keys old (with_phase_of s (phase.Undoing 0 Rests) old) i (asked_index c s call asked.Open i) kept s is (phase.Undoing 0 Rests) (held_at (s - 1) old.table) refl (held_as_it_is s old.table)
-            (λ a ne. changed_beside s _ i.work a ne) (λ a ne. changed_beside s _ i.restored a ne) (tt, λ j n less there. absurd (omega arith)) is_at;
+            (λ a ne. changed_beside s _ i.work a ne) (λ a ne. changed_beside s _ i.restored a ne) (changed_here s _ i.work s refl ∙ ap (λ (x : Call B). first_work (index.tree_now c i) x) aborts, λ e. ap (λ xs. has c.keys e xs) (changed_here s _ i.restored s refl)) is_at;
         latest = refl;
         failed = refl;
       })
-      call given new asks
+      given new asks
 
 module _ {B D : Type 0} (c : Class B) (r : Reading (Entry B) (Page B)) (f : Format B) (passes : ℕ → Contents → Bool) (lawful : 4 ≤ c.rules.most → IsLawful c)
     (d : Device) (old : Parts B D) (kept : IsKept c.keys old.sessions) (s : ℕ) (call : Call B) (given : Asked B) (new : State B (Work B)) (asks : IsAsked c.keys s call Rests old.sessions given new) where

@@ -5,3 +5,7 @@ pub mod Sealing
 pub mod Searching
 pub mod Reading
 pub mod Finding
+pub mod Touching
+pub mod Noting
+pub mod Restored
+pub mod Undoing

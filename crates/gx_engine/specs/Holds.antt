@@ -1,5 +1,5 @@
 -- An engine over a device as an index, and what its events make of that.
-use Rattle.std.specs.Prelude.{ℕ, ◌≡◌, ◌≤◌, ◌<◌, ◌-◌, Bool, true, false, Some, List, slice_get}
+use Rattle.std.specs.Prelude.{ℕ, ◌≡◌, ◌≤◌, ◌<◌, ◌-◌, Bool, true, false, Some, List, slice_get, take}
 use Rattle.gx_machine.specs.declared.entry.Entry.{Entry}
 use Rattle.gx_machine.specs.declared.call.Call.{Call}
 use Rattle.gx_machine.specs.declared.call.Call.TheVariants.{Begin, Insert, Delete, Search, Commit, Abort}
@@ -23,6 +23,7 @@ use Rattle.gx_index_laws.specs.Happening.{AreHappening}
 use Rattle.gx_durable.specs.Spelled.{Reading}
 use Rattle.gx_durable.specs.Standing.{Stands}
 use Rattle.gx_txn.specs.declared.note.Note.{Note}
+use Rattle.gx_txn.specs.Notes.{entries_of}
 use Rattle.gx_phases.specs.declared.phase.Phase.{Phase}
 use Rattle.gx_phases.specs.declared.phase.Phase.TheVariants as phase
 use Rattle.gx_phases.specs.Indexes.{AreOf}
@@ -59,14 +60,14 @@ CallIsAt call (Seeks leaf) is = CallSeeks call leaf is
 
 -- what an undo is at: it has not begun with the next note, or seeks that one's pair
 abbrev pub UndoIsAt : {B : Type 0} → List (Note B) → ℕ → Work B → index.Work B → Type 0
-UndoIsAt notes restored Rests is = Unit {0}
+UndoIsAt notes restored Rests is = is ≡ index.Rests
 UndoIsAt notes restored (Looks look) is = ⊥
 UndoIsAt notes restored (Descends parent item) is = ⊥
 UndoIsAt {B} notes restored (Seeks leaf) is = (n : Note B) × (slice_get notes restored ≡ Some n) × (is ≡ index.Seeks n.entry leaf)
 
--- the entries of the first so many notes are restored
+-- the entries of the first so many notes are restored, and no others
 abbrev pub AreDone : {B : Type 0} → Keys B → List (Note B) → ℕ → List (Entry B) → Type 0
-AreDone {B} k notes restored done = (j : ℕ) (n : Note B) → j < restored → slice_get notes j ≡ Some n → has k n.entry done ≡ true
+AreDone {B} k notes restored done = (e : Entry B) → has k e done ≡ has k e (take restored (entries_of notes))
 
 -- what a session is at, by how far it is and by its notes
 abbrev pub IsAt : {B : Type 0} → Keys B → Phase B (Work B) → List (Note B) → index.Work B → List (Entry B) → Type 0

@@ -4,3 +4,5 @@ pub mod Asked
 pub mod Flushing
 pub mod Sealing
 pub mod Searching
+pub mod Noted
+pub mod Undoing

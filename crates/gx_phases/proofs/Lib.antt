@@ -3,6 +3,7 @@ pub mod Claiming
 pub mod Keeping
 pub mod Asking
 pub mod Parts
+pub mod Moved
 pub mod Moving
 pub mod Undoing
 pub mod Noting

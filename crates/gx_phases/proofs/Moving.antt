@@ -16,7 +16,8 @@ use Rattle.gx_txn.proofs.Noted.{entries_of-noting}
 use Rattle.gx_phases.specs.declared.phase.Phase.{Phase}
 use Rattle.gx_phases.specs.declared.phase.Phase.TheVariants as phase
 use Rattle.gx_phases.specs.States.{State, phase_at, held_at, with_phase, HoldsNothing, ClaimsItsEntry, may_commit, IsPlaced, IsKept}
-use Rattle.gx_phases.specs.Moves.{is_open, asks_commit, WritesEntry, HasWrite, waits_for, with_work, covered}
+use Rattle.gx_phases.specs.Moves.{is_open, asks_commit, WritesEntry, HasWrite, MovedIn, moved, waits_for, with_work, covered}
+use Rattle.gx_phases.proofs.Moved.{set_map}
 use Rattle.gx_phases.proofs.Keeping.{low, kept_with, kept_session, same_session, numbers_left}
 
 module _ {B W : Type 0} where
@@ -158,10 +159,18 @@ module _ {B W : Type 0} (k : Keys B) (old now : State B W) (same : old ≡ now) 
       phase_kept phases' phase.Free changed
       (record { nothing = waiting_nothing p number old.durable h covers_old was.nothing; claimed = tt; in_order = was.in_order }) (omega arith)
 
-  pub restored_kept : (phases' : List (Phase B W)) (restored : ℕ) (work : W) → phases' ≡ with_phase s (phase.Undoing (restored + 1) work) old.phases
-      → IsKept k (record old { phases = phases' })
-  restored_kept phases' restored work changed =
-      phase_kept phases' (phase.Undoing (restored + 1) work) changed (record { nothing = tt; claimed = tt; in_order = was.in_order }) (omega arith)
+  pub restored_kept : (phases' : List (Phase B W)) (table' : List (Held B)) (restored leaf : ℕ) (work : W) → phases' ≡ with_phase s (phase.Undoing (restored + 1) work) old.phases
+      → MovedIn s restored leaf old.table table' → IsKept k (record old { phases = phases'; table = table' })
+  restored_kept phases' table' restored leaf work changed written =
+      let n : txn.Note B = written.0 in
+      kept_session k old kept s is (record old { phases = phases'; table = table' }) (phase.Undoing (restored + 1) work) (with_notes (moved restored n leaf h.notes) h)
+      (λ i. record old { phases = changed i; table = written.2 i })
+      (record {
+        nothing = tt;
+        claimed = tt;
+        in_order = subst (InOrder k) (sym (set_map (λ (x : txn.Note B). x.entry) h.notes restored n (record n { leaf = leaf }) written.1 refl)) was.in_order;
+      })
+      (omega arith)
 
   pub end_kept : (phases' : List (Phase B W)) (table' : List (Held B)) → phases' ≡ with_phase s phase.Free old.phases
       → table' ≡ with_held s nothing_held old.table → IsKept k (record old { phases = phases'; table = table' })

@@ -46,7 +46,7 @@ module _ {B : Type 0} (k : Keys B) where
     pub was : noted k n.entry (map note_of notes) ≡ Some (not n.before)
 
   module _ (l : IsLawful k) where
-    apart_by : (e x : Entry B) (xs : List (Entry B)) (same : Bool) → same_entry k e x ≡ same → Before k x xs → has k e xs ≡ true → same ≡ false
+    pub apart_by : (e x : Entry B) (xs : List (Entry B)) (same : Bool) → same_entry k e x ≡ same → Before k x xs → has k e xs ≡ true → same ≡ false
     apart_by e x xs true is before there =
         let less : entry_cmp k x e ≡ Less = comes_before_each k l x e xs before there in
         let equal : entry_cmp k x e ≡ Equal = ap (λ z. entry_cmp k x z) (same_is k l e x is) ∙ entry_itself k l x in

@@ -1,5 +1,5 @@
 -- What a session's call comes to.
-use Rattle.std.specs.Prelude.{ℕ, ◌≡◌, ◌+◌, ◌-◌, nat_le, nat_lt, Bool, true, false, if◌then◌else◌, length, Option, None, Some, Result, Ok, Err, IsOk, List, slice_set}
+use Rattle.std.specs.Prelude.{ℕ, ◌≡◌, ◌+◌, ◌-◌, nat_le, nat_lt, Bool, true, false, if◌then◌else◌, length, Option, None, Some, Result, Ok, Err, IsOk, List, slice_get, slice_set}
 use Rattle.std.specs.List.{slice_index_or}
 use Rattle.gx_geom.specs.declared.refusal.Refusal.{Refusal}
 use Rattle.gx_machine.specs.declared.entry.Entry.{Entry}
@@ -121,10 +121,25 @@ before_last notes (Some restored) = if nat_lt restored notes then Some restored 
 abbrev pub next_of : {B W : Type 0} → ℕ → State B W → Option ℕ
 next_of s state = before_last (length (held_by s state.table).notes) (restored_by (phase_at (s - 1) state.phases))
 
--- one note more is restored, where one is left, and this is the work on the next
-abbrev pub RestoredOne : {B W : Type 0} → Option ℕ → ℕ → W → State B W → State B W → Type 0
-RestoredOne None s work old new = new ≡ old
-RestoredOne (Some restored) s work old new = new ≡ with_phase_of s (phase.Undoing (restored + 1) work) old
+-- the notes with the one at a place written in this leaf
+abbrev pub moved : {B : Type 0} → ℕ → txn.Note B → ℕ → List (txn.Note B) → List (txn.Note B)
+moved place n leaf notes = slice_set notes place (record n { leaf = leaf })
+
+-- a session's undo has restored so many notes and this one, by a write in this leaf
+abbrev pub restored_state : {B W : Type 0} → ℕ → ℕ → txn.Note B → ℕ → W → State B W → State B W
+restored_state s restored n leaf work state =
+    with_session s (phase.Undoing (restored + 1) work) (with_notes (moved restored n leaf (held_by s state.table).notes) (held_by s state.table)) state
+
+-- one note more is restored, where one is left, by a write in this leaf, and this is the work on the next
+abbrev pub RestoredOne : {B W : Type 0} → Option ℕ → ℕ → ℕ → W → State B W → State B W → Type 0
+RestoredOne None s leaf work old new = new ≡ old
+RestoredOne {B} (Some restored) s leaf work old new =
+    (n : txn.Note B) × (slice_get (held_by s old.table).notes restored ≡ Some n) × (new ≡ restored_state s restored n leaf work old)
+
+-- the note at a place is of a last write in this leaf, which it keeps beside its mark from before
+abbrev pub MovedIn : {B : Type 0} → ℕ → ℕ → ℕ → List (Held B) → List (Held B) → Type 0
+MovedIn {B} s place leaf old new =
+    (n : txn.Note B) × (slice_get (held_by s old).notes place ≡ Some n) × (new ≡ with_held s (with_notes (moved place n leaf (held_by s old).notes) (held_by s old)) old)
 
 -- a session's undo has ended: what it held is free
 abbrev pub ended_state : {B W : Type 0} → ℕ → State B W → State B W

@@ -286,12 +286,14 @@ impl<B: Shape, W: Drop> Sessions<B, W> {
         }
     }
 
-    /// Counts one note more as restored, and takes the work on the next. Where none is left, nothing changes.
-    pub fn restored(&mut self, session: u8, work: W)
+    /// Counts one note more as restored, by a write in this leaf, and takes the work on the next. The note keeps its mark from before,
+    /// and has this leaf from now on. Where none is left, nothing changes.
+    pub fn restored(&mut self, session: u8, leaf: u32, work: W)
         requires { is_session session ≡ true }
-        ensures { RestoredOne (next_of session self.old) session work self.old self.new }
+        ensures { RestoredOne (next_of session self.old) session leaf work self.old self.new }
     {
         if let Some(restored) = self.next_restored(session) {
+            steps::write_again(&mut self.table, session, restored, leaf);
             asks::set_phase(
                 &mut self.phases,
                 session,

@@ -1,12 +1,12 @@
 //! What is read of a session that is so far, and how its work is changed.
-ghost use Rattle.std.specs.Prelude.{◌≡◌, ◌-◌, true, length};
+ghost use Rattle.std.specs.Prelude.{◌≡◌, ◌-◌, ◌<◌, true, length};
 ghost use Rattle.gx_machine.specs.declared.limits.TheConstants.{SESSIONS};
 ghost use Rattle.gx_machine.specs.Machine.{is_session};
 ghost use Rattle.gx_machine.specs.declared.call.Call.TheVariants.{Insert};
 ghost use Rattle.gx_machine.specs.Keys.{keys_of};
-ghost use Rattle.gx_txn.specs.Tables.{nothing_held, with_held, locks_for};
+ghost use Rattle.gx_txn.specs.Tables.{nothing_held, held_by, with_held, locks_for};
 ghost use Rattle.gx_phases.specs.declared.phase.Phase.TheVariants as phase;
-ghost use Rattle.gx_phases.specs.Moves.{HeldNote, restored_by, waits_for, with_work};
+ghost use Rattle.gx_phases.specs.Moves.{HeldNote, MovedIn, restored_by, waits_for, with_work};
 ghost use Rattle.gx_phases.specs.States.{phase_at, with_phase};
 
 use crate::asks::{place_of, set_phase};
@@ -54,6 +54,16 @@ pub fn hold<B: Shape>(
     table.claim(session, note.entry)?;
     table.note(session, note.entry, note.before, note.leaf);
     Ok(())
+}
+
+/// A session's note at a place is written again, in this leaf.
+pub fn write_again<B: Shape>(table: &mut Transactions<B>, session: u8, place: usize, leaf: u32)
+    requires session { is_session session ≡ true }
+    requires there { place < length (held_by session table.old).notes }
+    ensures { MovedIn session place leaf table.old table.new }
+{
+    let note = table.notes(session)[place];
+    table.note(session, note.entry, note.before, leaf);
 }
 
 /// The number of a commit that isn't acknowledged.
