@@ -23,7 +23,7 @@ use Rattle.gx_index_laws.specs.States as index
 use Rattle.gx_index_laws.specs.Happening.{first_work}
 use Rattle.gx_index_laws.proofs.Tools.{changed_beside, changed_here}
 use Rattle.gx_durable.specs.Spelled.{Reading}
-use Rattle.gx_durable.specs.Standing.{Stands}
+use Rattle.gx_durable.specs.Standing.{MayRenew, Stands}
 use Rattle.gx_txn.specs.Tables.{held_by, with_locks, locks_for}
 use Rattle.gx_phases.specs.declared.phase.Phase.{Phase}
 use Rattle.gx_phases.specs.declared.phase.Phase.TheVariants as phase
@@ -168,6 +168,8 @@ module _ {B D : Type 0} (c : Class B) (r : Reading (Entry B) (Page B)) (f : Form
           flying = λ works.
               subst (λ (x : Logged (Entry B) (Page B)). KnowsFlight old.volume.log.stage old.in_flight (logged.durable (known_of c) (logged.gate_synced x))) (sym log)
               (h.flying (sym stays.failed ∙ works));
+          turns = λ works turning.
+              subst (λ (x : Logged (Entry B) (Page B)). MayRenew (known_of c) r old.volume.log.flight d.sectors d.pending x) (sym log) (h.turns (sym stays.failed ∙ works) turning);
         };
         leaves = nothing_leaves (Stands (known_of c) r i.log) d;
       }

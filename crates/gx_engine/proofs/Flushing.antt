@@ -39,6 +39,7 @@ use Rattle.gx_storage.specs.Flushing.{Becomes, Rewrites, StepsLog, WritesGated}
 use Rattle.gx_storage.specs.Keeps.{Keeps}
 use Rattle.gx_storage.specs.State.{Volume}
 use Rattle.gx_storage.proofs.Calling.{rests_none}
+use Rattle.gx_engine.specs.declared.checkpoint.Checkpoint.TheVariants.{Turning}
 use Rattle.gx_engine.specs.States.{Parts}
 use Rattle.gx_engine.specs.Flushing.{log_events, log_outcome, noted}
 use Rattle.gx_engine.specs.Holds.{AreAt, Holds, KnowsFlight, Led, Leads}
@@ -57,7 +58,7 @@ all_begun {E} {P} k s none =
 
 module _ {B D : Type 0} (c : Class B) (l : IsLawful c) (r : Reading (Entry B) (Page B)) (f : Format B) (passes : ℕ → Contents → Bool)
     (d e : Device) (old : Parts B D) (w : Volume D) (bodies : List (List (Record (Entry B) (Page B)))) (i : index.State B) (h : Holds c r f passes d old bodies i)
-    (same_most : w.most ≡ old.volume.most) where
+    (same_most : w.most ≡ old.volume.most) (calm : old.checkpoint ≢ Turning) where
   abbrev k : Known (Entry B) (Page B)
   k = known_of c
 
@@ -76,6 +77,7 @@ module _ {B D : Type 0} (c : Class B) (l : IsLawful c) (r : Reading (Entry B) (P
     at = at;
     latest = last;
     flying = λ works. absurd (let never : true ≡ false = works in cc);
+    turns = λ works. absurd (let never : true ≡ false = works in cc);
   }
 
   fails_now : (j : index.State B) → IsWhole c j → Happens c j Fails (happening.failed_state j)
@@ -88,7 +90,7 @@ module _ {B D : Type 0} (c : Class B) (l : IsLawful c) (r : Reading (Entry B) (P
     bodies = bodies;
     index = i;
     happening = refl;
-    holds = record { most = most; some = h.some; keeps = b.keeps; whole = h.whole; sessions = h.sessions; at = h.at; latest = h.latest; flying = flying };
+    holds = record { most = most; some = h.some; keeps = b.keeps; whole = h.whole; sessions = h.sessions; at = h.at; latest = h.latest; flying = flying; turns = λ works turning. absurd (calm turning) };
     leaves = b.safely.leaves;
   }
 
@@ -133,6 +135,7 @@ module _ {B D : Type 0} (c : Class B) (l : IsLawful c) (r : Reading (Entry B) (P
         at = h.at;
         latest = last;
         flying = λ works. flight_known stage;
+        turns = λ works turning. absurd (calm turning);
       };
       leaves = b.safely.leaves;
     }
@@ -171,6 +174,7 @@ module _ {B D : Type 0} (c : Class B) (l : IsLawful c) (r : Reading (Entry B) (P
           at = h.at;
           latest = h.latest ∙ sym (all_gated k i.log);
           flying = λ works. subst (λ (x : Stage). KnowsFlight x old.in_flight (durable k (gate_synced (gate_synced i.log)))) (sym idle) tt;
+          turns = λ works turning. absurd (calm turning);
         };
         leaves = b.safely.leaves;
       }
@@ -200,6 +204,7 @@ module _ {B D : Type 0} (c : Class B) (l : IsLawful c) (r : Reading (Entry B) (P
         at = h.at;
         latest = h.latest;
         flying = λ works. subst (λ (x : Log). KnowsFlight x.stage old.in_flight (durable k (gate_synced i.log))) (sym same_log) (h.flying works);
+        turns = λ works turning. absurd (calm turning);
       };
       leaves = b.safely.leaves;
     }
@@ -220,7 +225,7 @@ nothing_led c r f passes d old bodies i h = record { bodies = bodies; index = i;
 -- A step of the log.
 module _ {B D : Type 0} (c : Class B) (l : IsLawful c) (r : Reading (Entry B) (Page B)) (f : Format B) (passes : ℕ → Contents → Bool)
     (d e : Device) (old : Parts B D) (w : Volume D) (bodies : List (List (Record (Entry B) (Page B)))) (i : index.State B) (h : Holds c r f passes d old bodies i)
-    (works : old.sessions.failed ≡ false) (same_most : w.most ≡ old.volume.most) where
+    (works : old.sessions.failed ≡ false) (same_most : w.most ≡ old.volume.most) (calm : old.checkpoint ≢ Turning) where
   -- by what comes of the log's call
   abbrev Comes : Stage → List ℕ → Result Stage Refusal → Type 0
   Comes stage filling result =
@@ -253,27 +258,27 @@ module _ {B D : Type 0} (c : Class B) (l : IsLawful c) (r : Reading (Entry B) (P
   led_in_flight Idle is filling result made b busy = absurd (busy refl)
   led_in_flight Body is filling result made b busy = absurd (known Body is)
   led_in_flight BodySync is filling (Ok done) made b busy =
-      is_made BodySync done BodySync filling (made.0 ∙ is) (λ b. quiet c l r f passes d e old w bodies i h same_most b (λ works. known_at Gate (stage_after BodySync is made.1) (known BodySync is))) b
+      is_made BodySync done BodySync filling (made.0 ∙ is) (λ b. quiet c l r f passes d e old w bodies i h same_most calm b (λ works. known_at Gate (stage_after BodySync is made.1) (known BodySync is))) b
   led_in_flight Gate is filling (Ok done) made b busy =
-      is_made Gate done Gate filling (made.0 ∙ is) (λ b. quiet c l r f passes d e old w bodies i h same_most b (λ works. known_at GateSync (stage_after Gate is made.1) (known Gate is))) b
+      is_made Gate done Gate filling (made.0 ∙ is) (λ b. quiet c l r f passes d e old w bodies i h same_most calm b (λ works. known_at GateSync (stage_after Gate is made.1) (known Gate is))) b
   led_in_flight GateSync is filling (Ok done) made b busy =
-      is_made GateSync done GateSync filling (made.0 ∙ is) (λ b. gates c l r f passes d e old w bodies i h same_most _ works (known GateSync is) (stage_after GateSync is made.1) b) b
-  led_in_flight BodySync is filling (Err why) made b busy = fails c l r f passes d e old w bodies i h same_most b
-  led_in_flight Gate is filling (Err why) made b busy = fails c l r f passes d e old w bodies i h same_most b
-  led_in_flight GateSync is filling (Err why) made b busy = fails c l r f passes d e old w bodies i h same_most b
+      is_made GateSync done GateSync filling (made.0 ∙ is) (λ b. gates c l r f passes d e old w bodies i h same_most calm _ works (known GateSync is) (stage_after GateSync is made.1) b) b
+  led_in_flight BodySync is filling (Err why) made b busy = fails c l r f passes d e old w bodies i h same_most calm b
+  led_in_flight Gate is filling (Err why) made b busy = fails c l r f passes d e old w bodies i h same_most calm b
+  led_in_flight GateSync is filling (Err why) made b busy = fails c l r f passes d e old w bodies i h same_most calm b
 
   led_idle : old.volume.log.stage ≡ Idle → (filling : List ℕ) → old.volume.log.filling ≡ filling → (result : Result Stage Refusal) → GoesFrom Idle old.volume.log w.log result → Comes Idle filling result
       → IsLed Idle result
   led_idle is [] empty result (inl rests) b =
       subst (λ (x : Result Stage Refusal). Comes Idle [] x → IsLed Idle x) (sym rests.1)
-      (λ b. quiet c l r f passes d e old w bodies i h same_most b (λ works. known_at Idle (ap (λ (x : Log). x.stage) rests.2 ∙ is) tt)) b
+      (λ b. quiet c l r f passes d e old w bodies i h same_most calm b (λ works. known_at Idle (ap (λ (x : Log). x.stage) rests.2 ∙ is) tt)) b
   led_idle is [] empty result (inr takes) b = absurd (let none : length old.volume.log.filling ≡ 0 = ap length empty in omega (arith, none, takes.0))
   led_idle is (byte ∷ bytes) empty result (inl rests) b = absurd (let both : ◌≡◌ {A = List ℕ} [] (byte ∷ bytes) = sym rests.0 ∙ empty in cc)
   led_idle is (byte ∷ bytes) empty (Ok done) (inr takes) b =
       is_made Idle done Body (byte ∷ bytes) takes.1.0
-      (λ b. begins_batch c l r f passes d e old w bodies i h same_most (rests_none (known_of c) r old.volume.log d bodies i.log h.keeps.runs.up is) b (ap (λ (x : Log). x.stage) takes.1.1)) b
+      (λ b. begins_batch c l r f passes d e old w bodies i h same_most calm (rests_none (known_of c) r old.volume.log d bodies i.log h.keeps.runs.up is) b (ap (λ (x : Log). x.stage) takes.1.1)) b
   led_idle is (byte ∷ bytes) empty (Err why) (inr takes) b =
-      fails_in_batch c l r f passes d e old w bodies i h same_most (rests_none (known_of c) r old.volume.log d bodies i.log h.keeps.runs.up is) b
+      fails_in_batch c l r f passes d e old w bodies i h same_most calm (rests_none (known_of c) r old.volume.log d bodies i.log h.keeps.runs.up is) b
 
   led_from : (stage : Stage) → old.volume.log.stage ≡ stage → (filling : List ℕ) → old.volume.log.filling ≡ filling → (result : Result Stage Refusal) → GoesFrom stage old.volume.log w.log result → Comes stage filling result
       → IsLed stage result
@@ -289,22 +294,22 @@ module _ {B D : Type 0} (c : Class B) (l : IsLawful c) (r : Reading (Entry B) (P
 -- The same as what an event leads to, whatever index the engine held.
 module _ {B D : Type 0} (c : Class B) (lawful : 4 ≤ c.rules.most → IsLawful c) (r : Reading (Entry B) (Page B)) (f : Format B) (passes : ℕ → Contents → Bool)
     (d e : Device) (old : Parts B D) (w : Volume D) where
-  pub log_made : old.sessions.failed ≡ false → w.most ≡ old.volume.most → (done : Stage) → glog.Goes old.volume.log w.log (Ok done) → StepsLog (known_of c) r f passes d e old.volume w (Ok done)
+  pub log_made : old.sessions.failed ≡ false → w.most ≡ old.volume.most → old.checkpoint ≢ Turning → (done : Stage) → glog.Goes old.volume.log w.log (Ok done) → StepsLog (known_of c) r f passes d e old.volume w (Ok done)
       → Leads c r f passes d e old (noted done (record old { volume = w })) (log_events old.volume.log.stage old.in_flight (log_outcome done))
-  log_made works most done goes steps bodies i h =
-      log_led c (lawful h.some) r f passes d e old w bodies i h works most (Ok done) goes (steps bodies i.log (known_lawful c (lawful h.some)) h.keeps)
+  log_made works most calm done goes steps bodies i h =
+      log_led c (lawful h.some) r f passes d e old w bodies i h works most calm (Ok done) goes (steps bodies i.log (known_lawful c (lawful h.some)) h.keeps)
 
-  pub log_fails : old.sessions.failed ≡ false → w.most ≡ old.volume.most → (why : Refusal) → glog.Goes old.volume.log w.log (Err why) → StepsLog (known_of c) r f passes d e old.volume w (Err why)
+  pub log_fails : old.sessions.failed ≡ false → w.most ≡ old.volume.most → old.checkpoint ≢ Turning → (why : Refusal) → glog.Goes old.volume.log w.log (Err why) → StepsLog (known_of c) r f passes d e old.volume w (Err why)
       → Leads c r f passes d e old (record old { volume = w; sessions = failed_state old.sessions }) (log_events old.volume.log.stage old.in_flight (Refused DeviceRefusal))
-  log_fails works most why goes steps bodies i h =
-      log_led c (lawful h.some) r f passes d e old w bodies i h works most (Err why) goes (steps bodies i.log (known_lawful c (lawful h.some)) h.keeps)
+  log_fails works most calm why goes steps bodies i h =
+      log_led c (lawful h.some) r f passes d e old w bodies i h works most calm (Err why) goes (steps bodies i.log (known_lawful c (lawful h.some)) h.keeps)
 
-  module _ (most : w.most ≡ old.volume.most) (log : w.log ≡ old.volume.log) (closed : old.volume.log.turn ≡ Closed) (gated : WritesGated (known_of c) r f passes d e old.volume w) where
+  module _ (most : w.most ≡ old.volume.most) (calm : old.checkpoint ≢ Turning) (log : w.log ≡ old.volume.log) (closed : old.volume.log.turn ≡ Closed) (gated : WritesGated (known_of c) r f passes d e old.volume w) where
     pub page_made : Leads c r f passes d e old (record old { volume = w }) (Works ∷ [])
-    page_made bodies i h = writes c (lawful h.some) r f passes d e old w bodies i h most (gated bodies i.log (known_lawful c (lawful h.some)) closed h.keeps) log
+    page_made bodies i h = writes c (lawful h.some) r f passes d e old w bodies i h most calm (gated bodies i.log (known_lawful c (lawful h.some)) closed h.keeps) log
 
     pub page_fails : Leads c r f passes d e old (record old { volume = w; sessions = failed_state old.sessions }) (Works ∷ Fails ∷ [])
-    page_fails bodies i h = write_fails c (lawful h.some) r f passes d e old w bodies i h most (gated bodies i.log (known_lawful c (lawful h.some)) closed h.keeps) log
+    page_fails bodies i h = write_fails c (lawful h.some) r f passes d e old w bodies i h most calm (gated bodies i.log (known_lawful c (lawful h.some)) closed h.keeps) log
 
 -- what is noted leaves pages and log
 pub noted_volume : {B D : Type 0} (stage : Stage) (e : Parts B D) → (noted stage e).volume ≡ e.volume

@@ -10,6 +10,7 @@ use Rattle.gx_machine.specs.Machine.{is_session}
 use Rattle.gx_disk.specs.Device.{Device}
 use Rattle.gx_page.specs.Contents.{Contents}
 use Rattle.gx_node.specs.Reading.{Format}
+use Rattle.gx_pool.specs.Bringing.{OnlyRead}
 use Rattle.gx_tree_laws.specs.Lists.{Each}
 use Rattle.gx_tree_laws.specs.Trees.{Pair, Tree, Used}
 use Rattle.gx_tree_laws.specs.Legal.{Legal}
@@ -50,7 +51,9 @@ use Rattle.gx_engine.specs.declared.work.Work.TheVariants.{Looks}
 use Rattle.gx_engine.specs.States.{Parts}
 use Rattle.gx_engine.specs.Holds.{Holds, Leads}
 use Rattle.gx_events.specs.declared.outcome.Outcome.{Outcome}
-use Rattle.gx_engine.specs.Searching.{IsRefused, search_events, searching}
+use Rattle.gx_engine.specs.Refusals.{IsRefused}
+use Rattle.gx_engine.specs.Searching.{SearchComes, search_events, searching}
+use Rattle.gx_engine.proofs.Serving.{StaysSettled, of_reads}
 use Rattle.gx_engine.proofs.Searching.{answered_again, at_work, phase_again, looks_at, looks_led, slot_now, closes_led, fails_led, waits_led}
 
 module _ {B : Type 0} (c : Class B) (l : IsLawful c) (IsKey : B → Type 0) (query : Query B) (wants : Pair B → Bool) (leads may : B → Bool)
@@ -93,10 +96,13 @@ module _ {B : Type 0} (c : Class B) (l : IsLawful c) (IsKey : B → Type 0) (que
 module _ {B D : Type 0} (c : Class B) (lawful : 4 ≤ c.rules.most → IsLawful c) (r : Reading (Entry B) (Page B)) (f : Format B) (passes : ℕ → Contents → Bool) (IsKey : B → Type 0)
     (d e : Device) (old : Parts B D) (kept : IsKept c.keys old.sessions) (s : ℕ) (is : is_session s ≡ true) (query : Query B) (look : Look B)
     (at : phase_at (s - 1) old.sessions.phases ≡ phase.Open (Search query) (Looks look)) (works : old.sessions.failed ≡ false)
-    (w : Volume D) (most : w.most ≡ old.volume.most) (same_log : w.log ≡ old.volume.log) (keeps : KeepsTheSame (known_of c) r f passes d e old.volume w) where
+    (w : Volume D) (most : w.most ≡ old.volume.most) (same_log : w.log ≡ old.volume.log) (reads : OnlyRead d e) (keeps : KeepsTheSame (known_of c) r f passes d e old.volume w) where
   module _ (bodies : List (List (Record (Entry B) (Page B)))) (i : index.State B) (h : Holds c r f passes d old bodies i) where
     stays : StaysSame (known_of c) r f passes d e w bodies i.log
     stays = keeps bodies i.log (known_lawful c (lawful h.some)) h.keeps
+
+    settled : StaysSettled d e
+    settled = of_reads d e reads h.keeps.steady.honest
 
     abbrev its_look : index.State B → Type 0
     its_look j = IsLook (tree_now c j) (wants_pair c (slot_at s j.slots)) look.stack.items (pairs_found look.found.items)
@@ -106,13 +112,13 @@ module _ {B D : Type 0} (c : Class B) (lawful : 4 ≤ c.rules.most → IsLawful 
         subst (λ (x : index.Work B). DoesWork c (tree_now c i) (slot_at s i.slots) x) (looks_at c (lawful h.some) r f passes d old kept s is query (Looks look) at bodies i h look refl) (h.whole.works s)
 
   pub refused_leads : Leads c r f passes d e old (record old { volume = w }) []
-  refused_leads bodies i h = waits_led c (lawful h.some) r f passes d old kept s is query (Looks look) at bodies i h e w most same_log (stays bodies i h)
+  refused_leads bodies i h = waits_led c (lawful h.some) r f passes d old kept s is query (Looks look) at bodies i h e w most same_log (settled bodies i h) (stays bodies i h)
 
   pub memory_leads : Leads c r f passes d e old (record old { volume = w; sessions = answered_state s old.sessions }) (Closes s (Search query) refusal.Memory ∷ [])
-  memory_leads bodies i h = closes_led c (lawful h.some) r f passes d old kept s is query (Looks look) at bodies i h e w most same_log (stays bodies i h) works
+  memory_leads bodies i h = closes_led c (lawful h.some) r f passes d old kept s is query (Looks look) at bodies i h e w most same_log (settled bodies i h) (stays bodies i h) works
 
   pub device_leads : Leads c r f passes d e old (record old { volume = w; sessions = failed_state old.sessions }) (RefusesCall s refusal.Device ∷ [])
-  device_leads bodies i h = fails_led c (lawful h.some) r f passes d old kept s is query (Looks look) at bodies i h e w most same_log (stays bodies i h) works
+  device_leads bodies i h = fails_led c (lawful h.some) r f passes d old kept s is query (Looks look) at bodies i h e w most same_log (settled bodies i h) (stays bodies i h) works
 
   module _ (shows : ShowsTheLogs (known_of c) r f passes e w) where
     -- the page that is read next is taken, in the tree that is shown
@@ -143,7 +149,7 @@ module _ {B D : Type 0} (c : Class B) (lawful : 4 ≤ c.rules.most → IsLawful 
         let begun = subst (λ (x : Slot B). IsLook one (wants_pair c x) look.stack.items (pairs_found look.found.items)) slot (is_look bodies i h) in
         let next = goes_further c l IsKey query wants leads may pairs bounds consistent one other (is_legal c l i h.whole) (shows bodies i.log kept_now) (keyed bodies i.log kept_now order)
         look.stack.items after.stack.items look.found.items after.found.items some begun step in
-        looks_led c l r f passes d old kept s is query (Looks look) at bodies i h e w most same_log (stays bodies i h) after
+        looks_led c l r f passes d old kept s is query (Looks look) at bodies i h e w most same_log (settled bodies i h) (stays bodies i h) after
         (subst (λ (x : Slot B). IsLook one (wants_pair c x) after.stack.items (pairs_found after.found.items)) (sym slot) next)
 
 -- what comes of pages that were refused
@@ -167,7 +173,7 @@ module _ {B D : Type 0} (s : ℕ) (query : Query B) (old : Parts B D) (w : Volum
 module _ {B D : Type 0} (c : Class B) (lawful : 4 ≤ c.rules.most → IsLawful c) (r : Reading (Entry B) (Page B)) (f : Format B) (passes : ℕ → Contents → Bool) (IsKey : B → Type 0)
     (state : D → Device) (e : Parts B D) (s : ℕ) (is : is_session s ≡ true) (query : Query B) (look : Look B)
     (kept : IsKept c.keys (searching s query (Looks look) e).sessions) (works : e.sessions.failed ≡ false)
-    (w : Volume D) (most : w.most ≡ e.volume.most) (same_log : w.log ≡ e.volume.log)
+    (w : Volume D) (most : w.most ≡ e.volume.most) (same_log : w.log ≡ e.volume.log) (reads : OnlyRead (state e.volume.shelf.disk) (state w.shelf.disk))
     (keeps : KeepsTheSame (known_of c) r f passes (state e.volume.shelf.disk) (state w.shelf.disk) e.volume w) where
   abbrev was : Parts B D
   was = searching s query (Looks look) e
@@ -190,25 +196,42 @@ module _ {B D : Type 0} (c : Class B) (lawful : 4 ≤ c.rules.most → IsLawful 
   read_at_hand shows keyed order wants leads may pairs bounds consistent after some step =
       subst (λ (x : State B (Work B)). Leads c r f passes d now was (record e { volume = w; sessions = x }) (Works ∷ []))
       (phase_again c.keys e s is query (Looks look) kept (phase.Open (Search query) (Looks after)))
-      (read_leads c lawful r f passes IsKey d now was kept s is query look its_phase works w most same_log keeps shows keyed order wants leads may pairs bounds consistent after some step)
+      (read_leads c lawful r f passes IsKey d now was kept s is query look its_phase works w most same_log reads keeps shows keyed order wants leads may pairs bounds consistent after some step)
 
   pub memory_at_hand : Leads c r f passes d now was (record e { volume = w; sessions = answered_state s e.sessions }) (Closes s (Search query) refusal.Memory ∷ [])
   memory_at_hand =
       subst (λ (x : State B (Work B)). Leads c r f passes d now was (record e { volume = w; sessions = x }) (Closes s (Search query) refusal.Memory ∷ []))
       (sym (answered_again c.keys e s is query (Looks look) kept))
-      (memory_leads c lawful r f passes IsKey d now was kept s is query look its_phase works w most same_log keeps)
+      (memory_leads c lawful r f passes IsKey d now was kept s is query look its_phase works w most same_log reads keeps)
 
   pub pages_at_hand : (n : StoreFault) → faults.IsWhy passes d now e.volume.shelf w.shelf n → (new : Parts B D) (outcome : Outcome B) → IsRefused n (record was { volume = w }) new outcome
       → Leads c r f passes d (state new.volume.shelf.disk) was new (search_events s query outcome)
   pages_at_hand n why new outcome refuses =
       by_refusal s query was w new outcome (λ (x : Parts B D) (events : List (Event B)). Leads c r f passes d (state x.volume.shelf.disk) was x events) n refuses
-      (refused_leads c lawful r f passes IsKey d now was kept s is query look its_phase works w most same_log keeps)
-      (device_leads c lawful r f passes IsKey d now was kept s is query look its_phase works w most same_log keeps)
+      (refused_leads c lawful r f passes IsKey d now was kept s is query look its_phase works w most same_log reads keeps)
+      (device_leads c lawful r f passes IsKey d now was kept s is query look its_phase works w most same_log reads keeps)
       (λ damaged bodies i h. absurd (subst (λ (x : StoreFault). faults.IsWhy passes d now e.volume.shelf w.shelf x) damaged why h.keeps.steady h.keeps.readable))
 
   pub damaged_at_hand : ShowsTheLogs (known_of c) r f passes now w → (new : Parts B D) (events : List (Event B)) → 0 < length look.stack.items
       → ((rest : List Item) (item : Item) → look.stack.items ≡ rest ++ item ∷ [] → ¬ Used (tree_shown (known_of c) r f passes now w) item.page) → Leads c r f passes d now was new events
-  damaged_at_hand shows new events some none = never_damaged c lawful r f passes IsKey d now was kept s is query look its_phase works w most same_log keeps shows new events some none
+  damaged_at_hand shows new events some none = never_damaged c lawful r f passes IsKey d now was kept s is query look its_phase works w most same_log reads keeps shows new events some none
+
+-- what a refused search comes to
+module _ {B D : Type 0} (passes : ℕ → Contents → Bool) (state : D → Device) (d : Device) (s : ℕ) (query : Query B) (was : Parts B D) (w : Volume D) where
+  abbrev Comes : Parts B D → Outcome B → Type 0
+  Comes new outcome = SearchComes passes d (state new.volume.shelf.disk) s query was new outcome
+
+  at : (new there : Parts B D) (outcome given : Outcome B) → outcome ≡ given → new ≡ there → Comes there given → Comes new outcome
+  at new there outcome given one other comes = subst (λ (o : Outcome B). Comes new o) (sym one) (subst (λ (x : Parts B D). Comes x given) (sym other) comes)
+
+  pub refused_comes : (n : StoreFault) → faults.IsWhy passes d (state w.shelf.disk) was.volume.shelf w.shelf n → (new : Parts B D) (outcome : Outcome B)
+      → IsRefused n (record was { volume = w }) new outcome → Comes new outcome
+  refused_comes fault.NoRoom why new outcome is =
+      at new _ outcome _ is.2 is.3 (record { fault = fault.NoRoom; can = tt; why = why; help = is.0; helps = is.1; is = refl }, refl)
+  refused_comes (fault.TooFewFrames frames) why new outcome is =
+      at new _ outcome _ is.2 is.3 (record { fault = fault.TooFewFrames frames; can = tt; why = why; help = is.0; helps = is.1; is = refl }, refl)
+  refused_comes fault.Device why new outcome is = at new _ outcome _ is.0 is.1 (why, refl)
+  refused_comes fault.Damaged why new outcome is = at new _ outcome _ is.0 is.1 refl
 
 -- what a refusal says
 pub of_err : {A F : Type 0} (P : F → Type 0) (result : Result A F) (x : F) → result ≡ Err x → IfErr result P → P x

@@ -1,5 +1,5 @@
 -- The moves of a commit as an index's events.
-use Rattle.std.proofs.Common.{◌≡◌, ◌∙◌, sym, ap, refl, subst, ℕ, ◌-◌, ◌+◌, ◌≤◌, Bool, true, false, Option, None, Some, List, [], ◌∷◌, ◌++◌, length, map, length-append, arith}
+use Rattle.std.proofs.Common.{◌≡◌, ◌≢◌, ◌∙◌, sym, ap, refl, subst, ℕ, ◌-◌, ◌+◌, ◌≤◌, Bool, true, false, Option, None, Some, List, [], ◌∷◌, ◌++◌, length, map, length-append, arith}
 use Rattle.std.specs.Prelude.{if◌then◌else◌, nat_le}
 use Rattle.std.proofs.lemmas.Bool.{leb-true}
 use Rattle.gx_machine.specs.declared.entry.Entry.{Entry}
@@ -38,7 +38,8 @@ use Rattle.gx_storage.specs.Flushing.{KeepsRecord}
 use Rattle.gx_storage.specs.Keeps.{Keeps}
 use Rattle.gx_storage.specs.State.{Volume}
 use Rattle.gx_engine.specs.declared.work.Work.{Work}
-use Rattle.gx_engine.specs.States.{Parts}
+use Rattle.gx_engine.specs.declared.checkpoint.Checkpoint.TheVariants.{Turning}
+use Rattle.gx_engine.specs.States.{Parts, runs}
 use Rattle.gx_engine.specs.Holds.{Holds, KnowsFlight, Led, Leads, LeadsSo}
 use Rattle.gx_engine.specs.Sealing.{AcknowledgeBy, AcknowledgeComes, AreSealing, acknowledge_events, told}
 use Rattle.gx_engine.proofs.Flushing.{nothing_led}
@@ -67,7 +68,7 @@ module _ {B D : Type 0} (c : Class B) (l : IsLawful c) (r : Reading (Entry B) (P
   abbrev k : Known (Entry B) (Page B)
   k = known_of c
 
-  module _ (asks : asks_commit (phase_at (s - 1) old.sessions.phases) ≡ true) (w : Volume D) (same_most : w.most ≡ old.volume.most) (same_stage : w.log.stage ≡ old.volume.log.stage)
+  module _ (calm : old.checkpoint ≢ Turning) (asks : asks_commit (phase_at (s - 1) old.sessions.phases) ≡ true) (w : Volume D) (same_most : w.most ≡ old.volume.most) (same_stage : w.log.stage ≡ old.volume.log.stage)
       (keeps : MayCome k i.log.area (all_records i.log) (records.Commit (transaction_of s old.sessions) (old.sessions.latest + 1)) → Keeps k r f passes d old.volume bodies i.log
       → Keeps k r f passes d w bodies (appended (records.Commit (transaction_of s old.sessions) (old.sessions.latest + 1)) i.log)) where
     abbrev number : ℕ
@@ -114,6 +115,7 @@ module _ {B D : Type 0} (c : Class B) (l : IsLawful c) (r : Reading (Entry B) (P
                 let same = h.latest in
                 omega (arith, now, before, one, same));
             flying = λ works. subst (λ (x : Stage). KnowsFlight x old.in_flight (durable k (gate_synced i.log))) (sym same_stage) (h.flying works);
+            turns = λ works turning. absurd (calm turning);
           };
           leaves = nothing_leaves (Stands k r i.log) d;
         }
@@ -141,6 +143,7 @@ module _ {B D : Type 0} (c : Class B) (l : IsLawful c) (r : Reading (Entry B) (P
               (λ a ne. changed_beside s index.Rests i.work a ne) (λ a ne. changed_beside s [] i.restored a ne) tt h.at;
           latest = h.latest;
           flying = h.flying;
+          turns = h.turns;
         };
         leaves = nothing_leaves (Stands k r i.log) d;
       }
@@ -151,36 +154,36 @@ module _ {B D : Type 0} (c : Class B) (l : 4 ≤ c.rules.most → IsLawful c) (r
     (waits : phase_at (s - 1) old.sessions.phases ≡ phase.Waiting number) where
   abbrev Leading : Bool → Type 0
   Leading b = (o : Option ℕ) (new : State B (Work B)) → o ≡ (if b then Some number else None) → Acknowledged o s old.sessions new
-      → AcknowledgeBy b s number old (record old { sessions = new }) (told o) × Leads c r f passes d d old (record old { sessions = new }) (acknowledge_events s (told o))
+      → AcknowledgeBy b s number old (record old { sessions = new }) (told (runs old.checkpoint) o) × Leads c r f passes d d old (record old { sessions = new }) (acknowledge_events s (told (runs old.checkpoint) o))
 
   by_number : (b : Bool) → nat_le number old.sessions.durable ≡ b → Leading b
   by_number true low o new one is_so =
       let P : Option ℕ → Type 0 = λ x. Acknowledged x s old.sessions new
-      → AcknowledgeBy true s number old (record old { sessions = new }) (told x) × Leads c r f passes d d old (record old { sessions = new }) (acknowledge_events s (told x)) in
+      → AcknowledgeBy true s number old (record old { sessions = new }) (told (runs old.checkpoint) x) × Leads c r f passes d d old (record old { sessions = new }) (acknowledge_events s (told (runs old.checkpoint) x)) in
       subst P (sym one)
       (λ now. rw now ((refl, refl), λ bodies i h. acknowledge_led c (l h.some) r f passes d old kept works s is bodies i h number waits (leb-true number old.sessions.durable low))) is_so
   by_number false low o new one is_so =
       let P : Option ℕ → Type 0 = λ x. Acknowledged x s old.sessions new
-      → AcknowledgeBy false s number old (record old { sessions = new }) (told x) × Leads c r f passes d d old (record old { sessions = new }) (acknowledge_events s (told x)) in
+      → AcknowledgeBy false s number old (record old { sessions = new }) (told (runs old.checkpoint) x) × Leads c r f passes d d old (record old { sessions = new }) (acknowledge_events s (told (runs old.checkpoint) x)) in
       subst P (sym one) (λ now. rw now ((refl, refl), nothing_led c r f passes d old)) is_so
 
   pub acknowledge_leads : (o : Option ℕ) (new : State B (Work B)) → o ≡ covered old.sessions.durable (waits_for (phase_at (s - 1) old.sessions.phases)) → Acknowledged o s old.sessions new
-      → AcknowledgeComes s number old (record old { sessions = new }) (told o) × Leads c r f passes d d old (record old { sessions = new }) (acknowledge_events s (told o))
+      → AcknowledgeComes s number old (record old { sessions = new }) (told (runs old.checkpoint) o) × Leads c r f passes d d old (record old { sessions = new }) (acknowledge_events s (told (runs old.checkpoint) o))
   acknowledge_leads o new one now =
       by_number (nat_le number old.sessions.durable) refl o new
       (one ∙ ap (λ (p : Phase B (Work B)). covered old.sessions.durable (waits_for p)) waits) now
 
 -- a commit is sealed, whatever index the engine held
 pub seal_leads : {B D : Type 0} (c : Class B) (lawful : 4 ≤ c.rules.most → IsLawful c) (r : Reading (Entry B) (Page B)) (f : Format B) (passes : ℕ → Contents → Bool)
-    (d : Device) (old : Parts B D) → IsKept c.keys old.sessions → old.sessions.failed ≡ false → (s : ℕ) → is_session s ≡ true → asks_commit (phase_at (s - 1) old.sessions.phases) ≡ true
+    (d : Device) (old : Parts B D) → IsKept c.keys old.sessions → old.sessions.failed ≡ false → (s : ℕ) → is_session s ≡ true → asks_commit (phase_at (s - 1) old.sessions.phases) ≡ true → old.checkpoint ≢ Turning
     → (w : Volume D) → w.most ≡ old.volume.most → w.log.stage ≡ old.volume.log.stage → (t n : ℕ) → t ≡ transaction_of s old.sessions → n ≡ old.sessions.latest + 1
     → KeepsRecord (known_of c) r f passes d old.volume w (rec.Commit t n)
     → LeadsSo c r f passes d d old (record old { volume = w; sessions = sealed_state s old.sessions }) (AreSealing s (old.sessions.latest + 1) More)
-seal_leads c lawful r f passes d old kept works s is asks w most stage t n its next keeps bodies i h =
+seal_leads c lawful r f passes d old kept works s is asks calm w most stage t n its next keeps bodies i h =
     let l = lawful h.some in
     let K : ℕ → ℕ → Type 0 = λ t n. KeepsRecord (known_of c) r f passes d old.volume w (rec.Commit t n) in
     let sealed_keeps : K (transaction_of s old.sessions) (old.sessions.latest + 1) = subst (λ x. K (transaction_of s old.sessions) x) next (subst (λ x. K x n) its keeps) in (
       Seals s h.whole.machine.latest (old.sessions.latest + 1) ∷ [],
       (h.whole.machine.latest, refl),
-      seal_led c l r f passes d old kept works s is bodies i h asks w most stage (λ may_come before. sealed_keeps.keeps bodies i.log (known_lawful c l) may_come before),
+      seal_led c l r f passes d old kept works s is bodies i h calm asks w most stage (λ may_come before. sealed_keeps.keeps bodies i.log (known_lawful c l) may_come before),
     )

@@ -20,6 +20,7 @@ use Rattle.gx_tree_laws.proofs.OwnLook.{look_begins}
 use Rattle.gx_tree.specs.declared.found.Found.{Found}
 use Rattle.gx_tree.specs.declared.look.Look.{Look}
 use Rattle.gx_tree.specs.Found.{pairs_found}
+use Rattle.gx_glog.specs.State.{Log}
 use Rattle.gx_recovery.specs.Records.{Record}
 use Rattle.gx_recovery.specs.Logged.{Logged}
 use Rattle.gx_recovery.specs.Logged as logged
@@ -40,7 +41,7 @@ use Rattle.gx_index_laws.proofs.Quiet.{as_it_is, turned}
 use Rattle.gx_index_laws.proofs.Standing.{is_legal}
 use Rattle.gx_index_laws.proofs.Tools.{changed_beside, changed_here}
 use Rattle.gx_durable.specs.Spelled.{Reading}
-use Rattle.gx_durable.specs.Standing.{Stands}
+use Rattle.gx_durable.specs.Standing.{MayRenew, Stands}
 use Rattle.gx_txn.specs.Tables.{Held}
 use Rattle.gx_phases.specs.declared.phase.Phase.{Phase}
 use Rattle.gx_phases.specs.declared.phase.Phase.TheVariants as phase
@@ -56,7 +57,7 @@ use Rattle.gx_engine.specs.declared.work.Work.TheVariants.{Rests, Looks}
 use Rattle.gx_engine.specs.States.{Parts}
 use Rattle.gx_engine.specs.Holds.{AreAt, CallIsAt, Holds, KnowsFlight, Led, Leads}
 use Rattle.gx_engine.specs.Searching.{searching}
-use Rattle.gx_engine.proofs.Serving.{held_as_it_is, session_at, session_of, session_slots, slot_is}
+use Rattle.gx_engine.proofs.Serving.{StaysSettled, held_as_it_is, may_renew_still, same_device, session_at, session_of, session_slots, slot_is}
 
 -- An engine that holds an index, one of whose sessions searches.
 module _ {B D : Type 0} (c : Class B) (l : IsLawful c) (r : Reading (Entry B) (Page B)) (f : Format B) (passes : ℕ → Contents → Bool)
@@ -106,6 +107,7 @@ module _ {B D : Type 0} (c : Class B) (l : IsLawful c) (r : Reading (Entry B) (P
     at = session_at c.keys old.sessions (working Rests) i i kept s is (phase.Open (Search query) Rests) held refl (held_as_it_is s old.sessions.table) (λ a ne. refl) (λ a ne. refl) tt h.at;
     latest = h.latest;
     flying = h.flying;
+    turns = h.turns;
   }
 
   -- what the search's look is at
@@ -116,7 +118,8 @@ module _ {B D : Type 0} (c : Class B) (l : IsLawful c) (r : Reading (Entry B) (P
       subst (λ (w : Work B). CallIsAt (Search query) w (i.work s)) here open_at
 
   -- the pages may have been brought meanwhile
-  module _ (e : Device) (w : Volume D) (same_most : w.most ≡ old.volume.most) (same_log : w.log ≡ old.volume.log) (stays : StaysSame (known_of c) r f passes d e w bodies i.log) where
+  module _ (e : Device) (w : Volume D) (same_most : w.most ≡ old.volume.most) (same_log : w.log ≡ old.volume.log) (settled : StaysSettled d e)
+      (stays : StaysSame (known_of c) r f passes d e w bodies i.log) where
     goes : (events : List (Event B)) (j : index.State B) → AreHappening c i events j → IsWhole c j → j.log ≡ i.log → (new : State B (Work B)) → AreOf new j → AreAt c.keys new j
         → new.latest ≡ old.sessions.latest → (new.failed ≡ false → old.sessions.failed ≡ false) → Led c r f passes d e (record old { volume = w; sessions = new }) i events
     goes events j are whole log new of is_at latest working_yet = record {
@@ -134,6 +137,10 @@ module _ {B D : Type 0} (c : Class B) (l : IsLawful c) (r : Reading (Entry B) (P
         flying = λ works.
             subst (λ (x : Logged (Entry B) (Page B)). KnowsFlight w.log.stage old.in_flight (logged.durable (known_of c) (logged.gate_synced x))) (sym log)
             (subst (λ x. KnowsFlight x.stage old.in_flight (logged.durable (known_of c) (logged.gate_synced i.log))) (sym same_log) (h.flying (working_yet works)));
+        turns = λ works turning.
+            let may = may_renew_still (known_of c) r old.volume.log.flight d e i.log settled (h.turns (working_yet works) turning) in
+            subst (λ (x : Logged (Entry B) (Page B)). MayRenew (known_of c) r w.log.flight e.sectors e.pending x) (sym log)
+            (subst (λ (x : Log). MayRenew (known_of c) r x.flight e.sectors e.pending i.log) (sym same_log) may);
       };
       leaves = stays.leaves;
     }
@@ -209,20 +216,20 @@ module _ {B D : Type 0} (c : Class B) (lawful : 4 ≤ c.rules.most → IsLawful 
       → Leads c r f passes d d old (searching s query (Looks look) old) (Works ∷ [])
   begins_leads look stack found bodies i h =
       let l = lawful h.some in
-      looks_led c l r f passes d old kept s is query was at bodies i h d old.volume refl refl (as_it_stays c l r f passes d old kept s is query was at bodies i h)
+      looks_led c l r f passes d old kept s is query was at bodies i h d old.volume refl refl (same_device d) (as_it_stays c l r f passes d old kept s is query was at bodies i h)
       look (root_looks c l r f passes d old kept s is query was at bodies i h look stack found)
 
   pub closes_leads : old.sessions.failed ≡ false → Leads c r f passes d d old (record old { sessions = answered_state s old.sessions }) (Closes s (Search query) Memory ∷ [])
   closes_leads works bodies i h =
       let l = lawful h.some in
-      closes_led c l r f passes d old kept s is query was at bodies i h d old.volume refl refl (as_it_stays c l r f passes d old kept s is query was at bodies i h) works
+      closes_led c l r f passes d old kept s is query was at bodies i h d old.volume refl refl (same_device d) (as_it_stays c l r f passes d old kept s is query was at bodies i h) works
 
   -- a look that has ended is the answer
   pub finds_leads : old.sessions.failed ≡ false → (look : Look B) → was ≡ Looks look → length look.stack.items ≡ 0 → (entries : List (Entry B))
       → entries ≡ gathered c.keys (map entry_of (pairs_found look.found.items)) → Leads c r f passes d d old (record old { sessions = answered_state s old.sessions }) (Finds s query entries ∷ [])
   finds_leads works look here none entries are bodies i h =
       let l = lawful h.some in
-      finds_led c l r f passes d old kept s is query was at bodies i h d old.volume refl refl (as_it_stays c l r f passes d old kept s is query was at bodies i h) works
+      finds_led c l r f passes d old kept s is query was at bodies i h d old.volume refl refl (same_device d) (as_it_stays c l r f passes d old kept s is query was at bodies i h) works
       (pairs_found look.found.items) (ended look.stack.items none (looks_at c l r f passes d old kept s is query was at bodies i h look here)) entries are
     where
       ended : (stack : List Item) → length stack ≡ 0 → i.work s ≡ index.Looks stack (pairs_found look.found.items) → i.work s ≡ index.Looks [] (pairs_found look.found.items)

@@ -1,11 +1,25 @@
 -- An engine that holds an index: what a change of it keeps.
-use Rattle.std.proofs.Common.{◌≡◌, ◌≢◌, ◌∙◌, sym, ap, subst, ℕ, ◌-◌, ◌<◌, true, List, arith}
+use Rattle.std.proofs.Common.{◌≡◌, ◌≢◌, ◌∙◌, sym, ap, refl, subst, ℕ, ◌-◌, ◌<◌, ◌≤◌, true, false, List, Option, length, arith}
+use Rattle.std.specs.Prelude.{nat_le}
 use Rattle.std.specs.List.{slice_index_or}
+use Rattle.std.proofs.lemmas.Bool.{leb-false, or_parts}
 use Rattle.std.proofs.lemmas.List.{set-get_or}
 use Rattle.gx_machine.specs.declared.entry.Entry.{Entry}
 use Rattle.gx_machine.specs.Keys.{Keys}
 use Rattle.gx_machine.specs.Machine.{is_session}
 use Rattle.gx_machine.proofs.Places.{session_bounds}
+use Rattle.gx_disk.specs.Device.{Device}
+use Rattle.gx_pool.specs.Bringing.{OnlyRead}
+use Rattle.gx_pool.specs.Marks.{is_gated}
+use Rattle.gx_pool.specs.State.{kept, stamp_of}
+use Rattle.gx_glog.specs.State.{Log}
+use Rattle.gx_glog.specs.declared.stage.Turn.TheVariants.{Closed}
+use Rattle.gx_recovery.specs.Known.{Known}
+use Rattle.gx_recovery.specs.Logged.{Logged}
+use Rattle.gx_durable.specs.Area.{IsSettledBut}
+use Rattle.gx_durable.specs.Spelled.{Reading}
+use Rattle.gx_durable.specs.Standing.{MayRenew}
+use Rattle.gx_storage.specs.State.{Volume}
 use Rattle.gx_index_laws.specs.States as index
 use Rattle.gx_engine_laws.specs.Slots.{Slot, slot_at, with_slot}
 use Rattle.gx_index_laws.specs.Happening.{slotted}
@@ -14,8 +28,11 @@ use Rattle.gx_phases.specs.Indexes.{AreOf}
 use Rattle.gx_phases.specs.declared.phase.Phase.{Phase}
 use Rattle.gx_phases.specs.States.{State, IsKept, held_at, phase_at, slot_of, slots_of, with_phase}
 use Rattle.gx_phases.proofs.Slots.{placed_set, slot_here, slots_set}
+use Rattle.gx_engine.specs.declared.checkpoint.Checkpoint.{Checkpoint}
+use Rattle.gx_engine.specs.declared.checkpoint.Checkpoint.TheVariants.{Off, Running, Turning}
 use Rattle.gx_engine.specs.declared.work.Work.{Work}
 use Rattle.gx_engine.specs.Holds.{AreAt, IsAt}
+use Rattle.gx_engine.specs.States.{Parts, StandsIn, is_due, runs}
 
 -- One session's phase and what it holds have changed, and what it is at; the others are at what they were.
 module _ {B : Type 0} (k : Keys B) (old new : State B (Work B)) (i j : index.State B) (kept : IsKept k old) (s : ℕ) (is : is_session s ≡ true) (p : Phase B (Work B)) (h : Held B)
@@ -63,3 +80,67 @@ module _ {B : Type 0} (k : Keys B) (old new : State B (Work B)) (i : index.State
 pub slot_is : {B : Type 0} (k : Keys B) (old : State B (Work B)) (i : index.State B) → IsKept k old → AreOf old i → (s : ℕ) → is_session s ≡ true
     → slot_at s i.slots ≡ slot_of (phase_at (s - 1) old.phases) (held_at (s - 1) old.table)
 slot_is {B} k old i kept of s is = ap (λ (xs : List (Slot B)). slot_at s xs) of.slots ∙ slot_here s old.phases old.table is (kept.phases ∙ sym kept.table)
+
+-- A device is as large as it was, and what was settled on it is.
+pub record StaysSettled (d e : Device) : Type 0 where
+  pub sectors : e.sectors ≡ d.sectors
+  pub settled : (s : ℕ) → d.pending s ≡ false → e.pending s ≡ false
+
+pub same_device : (d : Device) → StaysSettled d d
+same_device d = record { sectors = refl; settled = λ s is. is }
+
+pub of_reads : (d e : Device) → OnlyRead d e → d.honest ≡ true → StaysSettled d e
+of_reads d e read honest = record { sectors = read.sectors; settled = (read.rests honest).settled }
+
+-- so a log that may be renewed may be still
+pub may_renew_still : {E P : Type 0} (k : Known E P) (r : Reading E P) (head : List ℕ) (d e : Device) (s : Logged E P) → StaysSettled d e
+    → MayRenew k r head d.sectors d.pending s → MayRenew k r head e.sectors e.pending s
+may_renew_still k r head d e s stays may = record {
+  no_flight = may.no_flight;
+  no_filling = may.no_filling;
+  written = may.written;
+  settled =
+      subst (λ (n : ℕ). IsSettledBut (λ p. false) n e.pending) (sym stays.sectors)
+      (λ page sector is named within. stays.settled sector (may.settled page sector is named within));
+  next = may.next;
+  covers = may.covers;
+  head_is = may.head_is;
+}
+
+-- no checkpoint runs, so none turns
+pub is_calm : (x : Checkpoint) → runs x ≡ false → x ≢ Turning
+is_calm Off off turns = absurd (let no : ◌≡◌ {A = Checkpoint} Off Turning = turns in cc)
+is_calm Running off turns = absurd (let no : true ≡ false = off in cc)
+is_calm Turning off turns = absurd (let no : true ≡ false = off in cc)
+
+-- where no checkpoint runs the log doesn't turn
+pub is_still : {D : Type 0} (x : Checkpoint) (v : Volume D) → StandsIn x v → runs x ≡ false → v.log.turn ≡ Closed
+is_still Off v stands off = stands
+is_still Running v stands off = stands
+is_still Turning v stands off = absurd (let no : true ≡ false = off in cc)
+
+-- where a page may be written the log doesn't turn
+pub writes_still : {D : Type 0} (x : Checkpoint) (v : Volume D) (page : ℕ) → StandsIn x v → is_gated v.shelf.frames.gated (stamp_of (kept v.shelf.frames page)) ≡ true
+    → (x ≢ Turning) × (v.log.turn ≡ Closed)
+writes_still Off v page stands gated = (λ turns. (let no : ◌≡◌ {A = Checkpoint} Off Turning = turns in cc), stands)
+writes_still Running v page stands gated = (λ turns. (let no : ◌≡◌ {A = Checkpoint} Running Turning = turns in cc), stands)
+writes_still Turning v page stands gated =
+    absurd (let no : true ≡ false = sym gated ∙ ap (λ (x : Option ℕ). is_gated v.shelf.frames.gated x) (stands.clean page) in cc)
+
+-- an event that doesn't wait for a checkpoint: none runs, and fewer than 24 places are taken
+pub not_due : {B D : Type 0} (e : Parts B D) → is_due e ≡ false → (runs e.checkpoint ≡ false) × (e.volume.log.used < 24)
+not_due e early =
+    let both = or_parts (runs e.checkpoint) (nat_le 24 e.volume.log.used) early in
+    (both.0, leb-false 24 e.volume.log.used both.1)
+
+-- pages that were only read stand in a checkpoint as they did
+pub reads_stand : {D : Type 0} (x : Checkpoint) (v w : Volume D) → w.log ≡ v.log → ((page : ℕ) → stamp_of (kept w.shelf.frames page) ≡ stamp_of (kept v.shelf.frames page))
+    → StandsIn x v → StandsIn x w
+reads_stand Off v w log stamps stands = ap (λ (g : Log). g.turn) log ∙ stands
+reads_stand Running v w log stamps stands = ap (λ (g : Log). g.turn) log ∙ stands
+reads_stand Turning v w log stamps stands = record {
+  idle = ap (λ (g : Log). g.stage) log ∙ stands.idle;
+  quiet = ap (λ (g : Log). g.filling) log ∙ stands.quiet;
+  head = subst (λ (g : Log). 1 ≤ length g.flight) (sym log) stands.head;
+  clean = λ page. stamps page ∙ stands.clean page;
+}

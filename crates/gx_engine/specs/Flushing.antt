@@ -48,10 +48,11 @@ abbrev pub LogComes : {B D : Type 0} → Parts B D → Parts B D → Outcome B �
 LogComes old new outcome (Ok stage) = (outcome ≡ log_outcome stage) × (new ≡ noted stage (record old { volume = new.volume }))
 LogComes old new outcome (Err why) = (outcome ≡ Refused DeviceRefusal) × (new ≡ record old { volume = new.volume; sessions = failed_state old.sessions })
 
--- a step of the log, by whether a fault has ended the engine
-abbrev pub LogSteps : {B D : Type 0} → Device → Device → Parts B D → Parts B D → Bool → Outcome B → Type 0
-LogSteps d e old new true outcome = IsEnded old new outcome
-LogSteps d e old new false outcome = (result : Result Stage Refusal) × LogGoes d e old.volume new.volume result × LogComes old new outcome result
+-- a step of the log, by whether a fault has ended the engine and whether a checkpoint runs, whose calls the log's then are
+abbrev pub LogSteps : {B D : Type 0} → Device → Device → Parts B D → Parts B D → Bool → Bool → Outcome B → Type 0
+LogSteps d e old new true running outcome = IsEnded old new outcome
+LogSteps d e old new false true outcome = (outcome ≡ Nothing) × (new ≡ old)
+LogSteps d e old new false false outcome = (result : Result Stage Refusal) × LogGoes d e old.volume new.volume result × LogComes old new outcome result
 
 -- the index's events that it is: a batch begins; its gate is synced, so that commits are durable up to this number; a fault
 abbrev pub log_events : {B : Type 0} → Stage → ℕ → Outcome B → List (Event B)

@@ -21,7 +21,7 @@ use Rattle.gx_index_laws.specs.States as index
 use Rattle.gx_index_laws.specs.Whole.{IsWhole}
 use Rattle.gx_index_laws.specs.Happening.{AreHappening}
 use Rattle.gx_durable.specs.Spelled.{Reading}
-use Rattle.gx_durable.specs.Standing.{Stands}
+use Rattle.gx_durable.specs.Standing.{MayRenew, Stands}
 use Rattle.gx_txn.specs.declared.note.Note.{Note}
 use Rattle.gx_txn.specs.Notes.{entries_of}
 use Rattle.gx_phases.specs.declared.phase.Phase.{Phase}
@@ -29,6 +29,7 @@ use Rattle.gx_phases.specs.declared.phase.Phase.TheVariants as phase
 use Rattle.gx_phases.specs.Indexes.{AreOf}
 use Rattle.gx_phases.specs.States.{State, held_at, phase_at}
 use Rattle.gx_storage.specs.Keeps.{Keeps}
+use Rattle.gx_engine.specs.declared.checkpoint.Checkpoint.TheVariants.{Turning}
 use Rattle.gx_engine.specs.declared.work.Work.{Work}
 use Rattle.gx_engine.specs.declared.work.Work.TheVariants.{Rests, Looks, Descends, Seeks}
 use Rattle.gx_engine.specs.States.{Parts}
@@ -91,7 +92,8 @@ KnowsFlight GateSync noted number = noted ≡ number
 
 module _ {B : Type 0} (c : Class B) (r : Reading (Entry B) (Page B)) (f : Format B) (passes : ℕ → Contents → Bool) where
   -- An engine over a device holds an index, which is whole: its pages and log are the index's, its sessions are the index's and at
-  -- the same, and its last commit has the number of the log's. While it hasn't failed, it knows the last commit in flight.
+  -- the same, and its last commit has the number of the log's. While it hasn't failed, it knows the last commit in flight, and in a
+  -- checkpoint that turns the log may be renewed.
   pub record Holds {D : Type 0} (d : Device) (e : Parts B D) (bodies : List (List (Record (Entry B) (Page B)))) (i : index.State B) : Type 0 where
     pub most : e.volume.most ≡ c.rules.most
     pub some : 4 ≤ c.rules.most
@@ -101,6 +103,7 @@ module _ {B : Type 0} (c : Class B) (r : Reading (Entry B) (Page B)) (f : Format
     pub at : AreAt c.keys e.sessions i
     pub latest : e.sessions.latest ≡ latest (known_of c) i.log
     pub flying : e.sessions.failed ≡ false → KnowsFlight e.volume.log.stage e.in_flight (durable (known_of c) (gate_synced i.log))
+    pub turns : e.sessions.failed ≡ false → e.checkpoint ≡ Turning → MayRenew (known_of c) r e.volume.log.flight d.sectors d.pending i.log
 
   -- These events happened to an index: the engine holds what they led to. At each moment since, whatever a crash may leave is legal
   -- and stands for a set that the index of before keeps, with a number from the one that was durable then to the last.

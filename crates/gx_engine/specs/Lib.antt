@@ -3,6 +3,7 @@ pub mod Holds
 pub mod Asked
 pub mod Flushing
 pub mod Sealing
+pub mod Refusals
 pub mod Searching
 pub mod Noted
 pub mod Undoing

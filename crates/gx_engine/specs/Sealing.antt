@@ -12,7 +12,8 @@ use Rattle.gx_phases.specs.Moves.{sealed_state, transaction_of}
 use Rattle.gx_phases.specs.States.{with_phase_of}
 use Rattle.gx_storage.specs.Flushing.{HasNoRoom}
 use Rattle.gx_storage.specs.Keeps.{Logs}
-use Rattle.gx_engine.specs.States.{Parts}
+use Rattle.gx_engine.specs.Refusals.{log_need}
+use Rattle.gx_engine.specs.States.{Parts, is_due, runs}
 
 -- the record of a session's commit, with the next number
 abbrev pub commit_of : {B D : Type 0} → ℕ → Parts B D → rec.Rec
@@ -24,11 +25,11 @@ pub record IsSealed {B D : Type 0} (s : ℕ) (old new : Parts B D) : Type 0 wher
   pub volume : new.volume ≡ record old.volume { log = new.volume.log }
   pub is : new ≡ record old { volume = new.volume; sessions = sealed_state s old.sessions }
 
--- it is sealed; or there is no room for the record, or no place, and nothing changes
+-- it is sealed; or there is no room for the record, or a checkpoint has to come first, and nothing changes
 abbrev pub SealComes : {B D : Type 0} → ℕ → Parts B D → Parts B D → Outcome B → Type 0
-SealComes s old new More = IsSealed s old new
-SealComes s old new (Help need.Log) = HasNoRoom (commit_of s old) old.volume.log × (new ≡ old)
-SealComes s old new (Help need.Checkpoint) = (32 ≤ old.volume.log.used) × (new ≡ old)
+SealComes s old new More = (is_due old ≡ false) × IsSealed s old new
+SealComes s old new (Help need.Log) = (is_due old ≡ false) × HasNoRoom (commit_of s old) old.volume.log × (new ≡ old)
+SealComes s old new (Help need.Checkpoint) = (is_due old ≡ true) × (new ≡ old)
 SealComes s old new (Help (need.Write page)) = ⊥
 SealComes s old new (Replied reply) = ⊥
 SealComes s old new Nothing = ⊥
@@ -39,15 +40,15 @@ abbrev pub AreSealing : {B : Type 0} → ℕ → ℕ → Outcome B → List (Eve
 AreSealing {B} s number More events = (set : List (Entry B)) × (events ≡ Seals s set number ∷ [])
 AreSealing s number other events = events ≡ []
 
--- the answer of a commit whose number is durable; another one waits for the log
-abbrev pub told : {B : Type 0} → Option ℕ → Outcome B
-told None = Help need.Log
-told (Some number) = Replied (Committed number)
+-- the answer of a commit whose number is durable; another one waits for the log, by whether a checkpoint runs
+abbrev pub told : {B : Type 0} → Bool → Option ℕ → Outcome B
+told running None = Help (log_need running)
+told running (Some number) = Replied (Committed number)
 
 -- a commit whose number is durable is acknowledged; another one waits
 abbrev pub AcknowledgeBy : {B D : Type 0} → Bool → ℕ → ℕ → Parts B D → Parts B D → Outcome B → Type 0
 AcknowledgeBy true s number old new outcome = (outcome ≡ Replied (Committed number)) × (new ≡ record old { sessions = with_phase_of s Free old.sessions })
-AcknowledgeBy false s number old new outcome = (outcome ≡ Help need.Log) × (new ≡ old)
+AcknowledgeBy false s number old new outcome = (outcome ≡ Help (log_need (runs old.checkpoint))) × (new ≡ old)
 
 abbrev pub AcknowledgeComes : {B D : Type 0} → ℕ → ℕ → Parts B D → Parts B D → Outcome B → Type 0
 AcknowledgeComes s number old new outcome = AcknowledgeBy (nat_le number old.sessions.durable) s number old new outcome

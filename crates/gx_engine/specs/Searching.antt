@@ -1,5 +1,5 @@
 -- What a search's move comes to.
-use Rattle.std.specs.Prelude.{ℕ, ◌≡◌, ◌<◌, ◌⊎◌, Bool, Option, None, Some, List, [], ◌∷◌}
+use Rattle.std.specs.Prelude.{ℕ, ◌≡◌, ◌<◌, ◌⊎◌, Bool, List, [], ◌∷◌}
 use Rattle.gx_geom.specs.declared.refusal.Refusal.TheVariants.{Device as DeviceRefusal, Damaged as DamagedRefusal, Memory}
 use Rattle.gx_machine.specs.declared.call.Call.TheVariants.{Search}
 use Rattle.gx_machine.specs.declared.query.Query.{Query}
@@ -8,49 +8,19 @@ use Rattle.gx_disk.specs.Device.{Device}
 use Rattle.gx_page.specs.Contents.{Contents}
 use Rattle.gx_tree.specs.declared.look.Look.{Look}
 use Rattle.gx_engine_laws.specs.Events.{Event, Works, Finds, Closes, RefusesCall}
-use Rattle.gx_events.specs.declared.outcome.Need.{Need}
-use Rattle.gx_events.specs.declared.outcome.Need.TheVariants as need
 use Rattle.gx_events.specs.declared.outcome.Outcome.{Outcome}
 use Rattle.gx_events.specs.declared.outcome.Outcome.TheVariants.{Replied, More, Help}
 use Rattle.gx_phases.specs.declared.phase.Phase.TheVariants.{Open}
 use Rattle.gx_phases.specs.Moves.{answered_state, failed_state}
 use Rattle.gx_phases.specs.States.{with_phase_of}
-use Rattle.gx_store.specs.declared.fault.StoreFault.{StoreFault}
-use Rattle.gx_store.specs.declared.fault.StoreFault.TheVariants as fault
-use Rattle.gx_store.specs.Faults as faults
-use Rattle.gx_store.specs.State.{Shelf}
-use Rattle.gx_storage.specs.declared.flusher.Help.TheVariants as help
-use Rattle.gx_storage.specs.declared.flusher.Help as storage
-use Rattle.gx_storage.specs.Flushing.{Helps}
 use Rattle.gx_engine.specs.declared.work.Work.{Work}
 use Rattle.gx_engine.specs.declared.work.Work.TheVariants.{Looks}
-use Rattle.gx_engine.specs.States.{Parts}
+use Rattle.gx_engine.specs.Refusals.{IsHelp}
+use Rattle.gx_engine.specs.States.{Parts, runs}
 
 -- the engine with a session's search at this work
 abbrev pub searching : {B D : Type 0} → ℕ → Query B → Work B → Parts B D → Parts B D
 searching s query work e = record e { sessions = with_phase_of s (Open (Search query) work) e.sessions }
-
--- the event that helps
-abbrev pub need_of : Option storage.Help → Need
-need_of None = need.Log
-need_of (Some help.Log) = need.Log
-need_of (Some (help.Write page)) = need.Write page
-
--- want of room or of frames: another event can help
-abbrev pub CanBeHelped : StoreFault → Type 0
-CanBeHelped fault.NoRoom = Unit {0}
-CanBeHelped (fault.TooFewFrames wanted) = Unit {0}
-CanBeHelped fault.Device = ⊥
-CanBeHelped fault.Damaged = ⊥
-
--- pages were refused for want of room or of frames, and this is what helps
-pub record IsHelp {D : Type 0} (passes : ℕ → Contents → Bool) (d e : Device) (old new : Shelf D) (n : Need) : Type 0 where
-  pub fault : StoreFault
-  pub can : CanBeHelped fault
-  pub why : faults.IsWhy passes d e old new fault
-  pub help : Option storage.Help
-  pub helps : Helps new fault help
-  pub is : n ≡ need_of help
 
 -- The search is at a look; it is answered; it is closed, since memory was refused; the engine has failed; or another event has to
 -- come first, and the search is at what it was.
@@ -60,7 +30,7 @@ SearchComes passes d e s query old new (Replied (Found entries)) = new ≡ recor
 SearchComes passes d e s query old new (Replied (RefusedCall Memory)) = new ≡ record old { volume = new.volume; sessions = answered_state s old.sessions }
 SearchComes passes d e s query old new (Replied (RefusedCall DeviceRefusal)) = (d.faults < e.faults) × (new ≡ record old { volume = new.volume; sessions = failed_state old.sessions })
 SearchComes passes d e s query old new (Replied (RefusedCall DamagedRefusal)) = new ≡ record old { volume = new.volume; sessions = failed_state old.sessions }
-SearchComes passes d e s query old new (Help n) = IsHelp passes d e old.volume.shelf new.volume.shelf n × (new ≡ record old { volume = new.volume })
+SearchComes passes d e s query old new (Help n) = IsHelp passes d e (runs old.checkpoint) old.volume.shelf new.volume.shelf n × (new ≡ record old { volume = new.volume })
 SearchComes passes d e s query old new other = ⊥
 
 -- the index's event that it is
@@ -70,14 +40,6 @@ search_events s query (Replied (Found entries)) = Finds s query entries ∷ []
 search_events s query (Replied (RefusedCall Memory)) = Closes s (Search query) Memory ∷ []
 search_events s query (Replied (RefusedCall DeviceRefusal)) = RefusesCall s DeviceRefusal ∷ []
 search_events s query other = []
-
--- what comes of pages that were refused: what helps, or the engine has failed
-abbrev pub IsRefused : {B D : Type 0} → StoreFault → Parts B D → Parts B D → Outcome B → Type 0
-IsRefused fault.NoRoom old new outcome = (found : Option storage.Help) × Helps old.volume.shelf fault.NoRoom found × (outcome ≡ Help (need_of found)) × (new ≡ old)
-IsRefused (fault.TooFewFrames wanted) old new outcome =
-    (found : Option storage.Help) × Helps old.volume.shelf (fault.TooFewFrames wanted) found × (outcome ≡ Help (need_of found)) × (new ≡ old)
-IsRefused fault.Device old new outcome = (outcome ≡ Replied (RefusedCall DeviceRefusal)) × (new ≡ record old { sessions = failed_state old.sessions })
-IsRefused fault.Damaged old new outcome = (outcome ≡ Replied (RefusedCall DamagedRefusal)) × (new ≡ record old { sessions = failed_state old.sessions })
 
 -- A search has begun: it is at a look; or it is closed, since memory was refused.
 abbrev pub BeginComes : {B D : Type 0} → ℕ → Query B → Parts B D → Parts B D → Outcome B → Type 0

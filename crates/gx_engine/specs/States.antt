@@ -1,19 +1,40 @@
 -- What contracts see of an engine.
-use Rattle.std.specs.Prelude.{ℕ, ◌≡◌, ◌≤◌}
+use Rattle.std.specs.Prelude.{ℕ, ◌≡◌, ◌≤◌, nat_le, Bool, true, false, ◌||◌}
 use Rattle.gx_glog.specs.declared.stage.Turn.TheVariants.{Closed}
 use Rattle.gx_phases.specs.States.{State}
+use Rattle.gx_storage.specs.Flushing.{ReadyToTurn}
 use Rattle.gx_storage.specs.State.{Volume}
+use Rattle.gx_engine.specs.declared.checkpoint.Checkpoint.{Checkpoint}
+use Rattle.gx_engine.specs.declared.checkpoint.Checkpoint.TheVariants.{Off, Running, Turning}
 use Rattle.gx_engine.specs.declared.work.Work.{Work}
 
--- The pages with their log; the sessions, with what their calls are at; and the number of the last commit in the batch in flight.
+-- The pages with their log; the sessions, with what their calls are at; the number of the last commit in the batch in flight; and
+-- how far a checkpoint is.
 pub record Parts (B D : Type 0) : Type 0 where
   pub volume : Volume D
   pub sessions : State B (Work B)
   pub in_flight : ℕ
+  pub checkpoint : Checkpoint
 
--- What an engine keeps on any device: no turn of its log is under way, and the last commit in flight is sealed, and none before one
--- that is durable.
+-- a checkpoint runs
+abbrev pub runs : Checkpoint → Bool
+runs Off = false
+runs Running = true
+runs Turning = true
+
+-- an event that would append a record has to wait: a checkpoint runs, or 24 places of the extent are taken
+abbrev pub is_due : {B D : Type 0} → Parts B D → Bool
+is_due e = runs e.checkpoint || nat_le 24 e.volume.log.used
+
+-- The log turns to the other extent only in a checkpoint that turns: then nothing is logged, and no page is dirty.
+abbrev pub StandsIn : {D : Type 0} → Checkpoint → Volume D → Type 0
+StandsIn Off v = v.log.turn ≡ Closed
+StandsIn Running v = v.log.turn ≡ Closed
+StandsIn Turning v = ReadyToTurn v
+
+-- What an engine keeps on any device: its log stands as the checkpoint has it, and the last commit in flight is sealed, and none before
+-- one that is durable.
 pub record IsInOrder {B D : Type 0} (e : Parts B D) : Type 0 where
-  pub still : e.volume.log.turn ≡ Closed
+  pub stands : StandsIn e.checkpoint e.volume
   pub durable : e.sessions.durable ≤ e.in_flight
   pub sealed : e.in_flight ≤ e.sessions.latest

@@ -12,18 +12,19 @@ ghost use Rattle.gx_engine.specs.Holds.{Leads, LeadsSo};
 
 use crate::Engine;
 use crate::laws::a_class_is_lawful;
+use crate::refusals::log_need;
 use gx_disk::SectorDisk;
 use gx_events::{Need, Outcome};
 use gx_machine::Reply;
 use gx_readings::ReadKeys;
 
-/// The answer of a commit whose number is durable; another one waits for the log.
-fn told<B>(number: Option<u64>) -> Outcome<B>
-    ensures { result ≡ told number }
+/// The answer of a commit whose number is durable; another one waits for the log, by whether a checkpoint runs.
+fn told<B>(running: bool, number: Option<u64>) -> Outcome<B>
+    ensures { result ≡ told running number }
 {
     match number {
         Some(number) => Outcome::Replied(Reply::Committed(number)),
-        None => Outcome::Help(Need::Log),
+        None => Outcome::Help(log_need(running)),
     }
 }
 
@@ -32,8 +33,8 @@ impl<D: SectorDisk, K: ReadKeys> Engine<D, K> {
     /// session then waits for that to be durable, and what it claimed and watched is free: `More`. It makes no call of the device
     /// and takes no memory.
     ///
-    /// `Help(Log)` where the record doesn't fit the batch that fills, `Help(Checkpoint)` where all places of the extent are taken;
-    /// nothing has changed then.
+    /// `Help(Checkpoint)` exactly where a checkpoint runs or 24 places of the extent are taken, `Help(Log)` where the record doesn't fit
+    /// the batch that fills; nothing has changed then.
     pub fn seal(&mut self, session: u8) -> Outcome<K::Key>
         requires session { is_session session ≡ true }
         requires commit { asks_commit (phase_at (session - 1) self.old.sessions.phases) ≡ true }
@@ -44,7 +45,7 @@ impl<D: SectorDisk, K: ReadKeys> Engine<D, K> {
     {
         a_class_is_lawful::<K>();
         self.sessions.has_failed();
-        if self.storage.places() >= 32 {
+        if self.is_due() {
             return Outcome::Help(Need::Checkpoint);
         }
         let transaction = self.sessions.transaction(session);
@@ -59,7 +60,7 @@ impl<D: SectorDisk, K: ReadKeys> Engine<D, K> {
     }
 
     /// Acknowledges a session's commit where its number is durable, and the session is free: `Replied` with `Committed` and that number.
-    /// Else `Help(Log)`, and nothing has changed. It makes no call of the device and takes no memory.
+    /// Else `Help(Log)`, or `Help(Checkpoint)` while a checkpoint runs, and nothing has changed. It makes no call of the device and takes no memory.
     pub fn acknowledge(&mut self, session: u8) -> Outcome<K::Key>
         requires session { is_session session ≡ true }
         requires works { self.old.sessions.failed ≡ false }
@@ -70,6 +71,7 @@ impl<D: SectorDisk, K: ReadKeys> Engine<D, K> {
     {
         a_class_is_lawful::<K>();
         self.sessions.has_failed();
-        told(self.sessions.acknowledge(session))
+        let running = self.is_checkpointing();
+        told(running, self.sessions.acknowledge(session))
     }
 }

@@ -2,6 +2,7 @@
 ghost use Rattle.std.specs.Prelude.{◌≡◌};
 ghost use Rattle.gx_glog.specs.declared.stage.Turn.TheVariants.{Closed};
 
+use crate::checkpoint::Checkpoint;
 use crate::work::Work;
 use gx_disk::SectorDisk;
 use gx_events::Outcome;
@@ -22,6 +23,7 @@ pub struct Engine<D: SectorDisk, K: ReadKeys> {
     pub(crate) sessions: Sessions<K::Key, Work<K::Key>>,
     // the number of the last commit in the batch in flight, or in the one that was gated last
     pub(crate) in_flight: u64,
+    pub(crate) checkpoint: Checkpoint,
     // what looks and answers take memory of
     pub(crate) alloc: Global,
 }
@@ -31,9 +33,9 @@ impl<D: SectorDisk, K: ReadKeys> Model for Engine<D, K> {
 
     ghost Value = { Parts K.Key D };
 
-    ghost view = { λ m. record { volume = m.storage; sessions = m.sessions; in_flight = m.in_flight } };
+    ghost view = { λ m. record { volume = m.storage; sessions = m.sessions; in_flight = m.in_flight; checkpoint = m.checkpoint } };
 
-    ghost invariant = { λ m. IsInOrder (record { volume = m.storage; sessions = m.sessions; in_flight = m.in_flight }) };
+    ghost invariant = { λ m. IsInOrder (record { volume = m.storage; sessions = m.sessions; in_flight = m.in_flight; checkpoint = m.checkpoint }) };
 }
 
 impl<D: SectorDisk, K: ReadKeys> Engine<D, K> {
@@ -41,15 +43,15 @@ impl<D: SectorDisk, K: ReadKeys> Engine<D, K> {
     ghost use Rattle.gx_phases.specs.Moves.{failed_state};
     ghost use Rattle.gx_phases.specs.States.{IsKept};
 
-    /// An engine over pages with their log, of which no batch is in flight and no turn is under way, and over sessions.
-    /// Its looks and answers take memory of `alloc`.
+    /// An engine over pages with their log, of which no batch is in flight and no turn is under way, and over sessions. No checkpoint
+    /// runs. Its looks and answers take memory of `alloc`.
     pub fn new(
         storage: Storage<D, K>,
         sessions: Sessions<K::Key, Work<K::Key>>,
         alloc: Global,
     ) -> Self
         requires still { storage.log.turn ≡ Closed }
-        ensures { result ≡ record { volume = storage; sessions = sessions; in_flight = sessions.durable } }
+        ensures { result ≡ record { volume = storage; sessions = sessions; in_flight = sessions.durable; checkpoint = Checkpoint.Off } }
     {
         sessions.has_failed();
         let in_flight = sessions.durable();
@@ -57,6 +59,7 @@ impl<D: SectorDisk, K: ReadKeys> Engine<D, K> {
             storage,
             sessions,
             in_flight,
+            checkpoint: Checkpoint::Off,
             alloc,
         }
     }
@@ -90,6 +93,7 @@ impl<D: SectorDisk, K: ReadKeys> Engine<D, K> {
             storage,
             sessions: _,
             in_flight: _,
+            checkpoint: _,
             alloc: _,
         } = self;
         storage.into_disk()

@@ -5,6 +5,7 @@ ghost use Rattle.gx_recovery.specs.Known.{Limits};
 ghost use Rattle.gx_readings.specs.Classes.{class_of, reading_of};
 ghost use Rattle.gx_engine.specs.Flushing.{LogSteps, PageIsWritten, log_events, log_outcome, page_events, noted};
 ghost use Rattle.gx_engine.specs.Holds.{Leads};
+ghost use Rattle.gx_engine.specs.States.{runs};
 
 use crate::Engine;
 use crate::laws::a_class_is_lawful;
@@ -36,18 +37,22 @@ impl<D: SectorDisk, K: ReadKeys> Engine<D, K> {
         }
     }
 
-    /// Makes the log's next write or sync: `More`. `Nothing` exactly where nothing is logged; no call was made then. Refused with
-    /// `Failed` by an engine that has failed, and with `Device` exactly where the device failed; the engine has failed then.
+    /// Makes the log's next write or sync: `More`. `Nothing` exactly where nothing is logged or a checkpoint runs; no call was made
+    /// then. Refused with `Failed` by an engine that has failed, and with `Device` exactly where the device failed; the engine has
+    /// failed then.
     ///
     /// It takes no memory. What filled is in flight from its first call on, and its commits are durable from its gate's sync on.
     pub fn log_step(&mut self) -> Outcome<K::Key>
-        ensures steps { LogSteps (D.state self.old.volume.shelf.disk) (D.state self.new.volume.shelf.disk) self.old self.new self.old.sessions.failed result }
+        ensures steps { LogSteps (D.state self.old.volume.shelf.disk) (D.state self.new.volume.shelf.disk) self.old self.new self.old.sessions.failed (runs self.old.checkpoint) result }
         ensures leads { (l : Limits) → Leads (class_of K.Key.Shape K.is_proper l) (reading_of K.said (format_of K.KeyClass)) (format_of K.KeyClass) (is_node (format_of K.KeyClass))
             (D.state self.old.volume.shelf.disk) (D.state self.new.volume.shelf.disk) self.old self.new (log_events self.old.volume.log.stage self.old.in_flight result) }
     {
         a_class_is_lawful::<K>();
         if self.sessions.has_failed() {
             return Outcome::Refused(Refusal::Failed);
+        }
+        if self.is_checkpointing() {
+            return Outcome::Nothing;
         }
         match self.storage.log_step() {
             Ok(stage) => self.note(stage),

@@ -2,12 +2,15 @@
 #![tactic(auto)]
 
 mod asks;
+mod checkpoint;
 mod commits;
 mod engine;
 mod flusher;
 pub mod laws;
+mod refusals;
 mod searches;
 mod work;
 
+pub use checkpoint::Checkpoint;
 pub use engine::Engine;
 pub use work::Work;

@@ -10,25 +10,22 @@ ghost use Rattle.gx_index_laws.specs.Classes.{entry_of};
 ghost use Rattle.gx_tree.specs.Found.{pairs_found};
 ghost use Rattle.gx_readings.specs.Classes.{class_of, reading_of};
 ghost use Rattle.gx_phases.specs.declared.phase.Phase.TheVariants.{Open};
-ghost use Rattle.gx_phases.specs.Moves.{answered_state, failed_state, is_open};
 ghost use Rattle.gx_phases.specs.States.{IsKept, phase_at};
 ghost use Rattle.gx_engine.specs.declared.work.Work as declared;
 ghost use Rattle.gx_engine.specs.declared.work.Work.TheVariants.{Looks, Rests};
 ghost use Rattle.gx_engine.specs.Holds.{Leads};
-ghost use Rattle.gx_engine.specs.Searching.{BeginComes, IsRefused, SearchComes, need_of, search_events, searching};
+ghost use Rattle.gx_engine.specs.Searching.{BeginComes, SearchComes, search_events, searching};
 
 use crate::Engine;
 use crate::laws::a_class_is_lawful;
 use crate::work::Work;
 use gx_class::Probing;
 use gx_disk::SectorDisk;
-use gx_events::{Need, Outcome};
+use gx_events::Outcome;
 use gx_geom::{Refusal, Shape};
 use gx_machine::{Entries, Entry, Query, Reply};
 use gx_readings::ReadKeys;
-use gx_storage::Help;
 use gx_storage::laws::{a_volume_shows_keys, a_volume_shows_the_logs_tree};
-use gx_store::StoreFault;
 use gx_tree::{Found, Item, Look, StepFault, Wanted};
 use std::alloc::{AllocError, Global};
 
@@ -43,40 +40,10 @@ fn gathered<B: Shape>(alloc: Global, found: &[Found<B>]) -> Result<Vec<Entry<B>>
     Ok(set)
 }
 
-/// The event that helps; a step of the log where storage names none.
-fn need_of(help: Option<Help>) -> Need
-    ensures { result ≡ need_of help }
-{
-    match help {
-        Some(Help::Write(page)) => Need::Write(page),
-        Some(Help::Log) | None => Need::Log,
-    }
-}
-
 impl<D: SectorDisk, K: ReadKeys + Probing> Engine<D, K>
 where
     K::Probe: Drop,
 {
-    // A session's call is closed: memory was refused.
-    fn close(&mut self, session: u8) -> Outcome<K::Key>
-        requires session { is_session session ≡ true }
-        requires open { is_open (phase_at (session - 1) self.old.sessions.phases) ≡ true }
-        ensures outcome { result ≡ Outcome.Replied (Reply.Refused Refusal.Memory) }
-        ensures closed { self.new ≡ record self.old { sessions = answered_state session self.old.sessions } }
-    {
-        self.sessions.answer(session);
-        Outcome::Replied(Reply::Refused(Refusal::Memory))
-    }
-
-    // A session's call is refused, and the engine has failed.
-    fn break_off(&mut self, why: Refusal) -> Outcome<K::Key>
-        ensures outcome { result ≡ Outcome.Replied (Reply.Refused why) }
-        ensures failed { self.new ≡ record self.old { sessions = failed_state self.old.sessions } }
-    {
-        self.sessions.fail();
-        Outcome::Replied(Reply::Refused(why))
-    }
-
     // A search begins with a look from the root.
     fn begin_look(&mut self, session: u8, query: Query<K::Key>) -> Outcome<K::Key>
         requires session { is_session session ≡ true }
@@ -93,7 +60,7 @@ where
                 self.sessions.replace_work(session, Work::Looks(look));
                 Outcome::More
             }
-            Err(_) => self.close(session),
+            Err(_) => self.close(session, Refusal::Memory),
         }
     }
 
@@ -115,20 +82,7 @@ where
                 self.sessions.answer(session);
                 Outcome::Replied(Reply::Found(Entries::new(entries)))
             }
-            Err(_) => self.close(session),
-        }
-    }
-
-    // Pages were refused: what helps, or the engine has failed.
-    fn refuse(&mut self, fault: StoreFault) -> Outcome<K::Key>
-        ensures { IsRefused fault self.old self.new result }
-    {
-        match fault {
-            StoreFault::NoRoom | StoreFault::TooFewFrames(_) => Outcome::Help(need_of(
-                self.storage.help(fault),
-            )),
-            StoreFault::Device => self.break_off(Refusal::Device),
-            StoreFault::Damaged => self.break_off(Refusal::Damaged),
+            Err(_) => self.close(session, Refusal::Memory),
         }
     }
 
@@ -156,7 +110,7 @@ where
                 self.sessions.replace_work(session, Work::Looks(look));
                 Outcome::More
             }
-            Err(StepFault::Memory) => self.close(session),
+            Err(StepFault::Memory) => self.close(session, Refusal::Memory),
             Err(StepFault::Pages(fault)) => {
                 self.sessions.replace_work(session, Work::Looks(look));
                 self.refuse(fault)

@@ -6,7 +6,7 @@ use Rattle.gx_engine.proofs.engine.Engine.search.Goals as goal
 
 pub find-requires-clause-kept : goal.find-requires-clause-kept
 find-requires-clause-kept g c =
-    let old : Parts g.row.K-Key.Denot g.row.D.Denot = record { volume = c.self.inside.storage; sessions = c.self.inside.sessions; in_flight = c.self.inside.in_flight } in
+    let old : Parts g.row.K-Key.Denot g.row.D.Denot = record { volume = c.self.inside.storage; sessions = c.self.inside.sessions; in_flight = c.self.inside.in_flight; checkpoint = c.self.inside.checkpoint } in
     let at = ap (λ (x : Parts g.row.K-Key.Denot g.row.D.Denot). phase_at (c.args.session - 1) x.sessions.phases) c.self.view_is ∙ c.requires.searches.1 in
     let now = c.replace_work.new.self in
     let is = c.replace_work.ensures.state in
@@ -15,7 +15,7 @@ find-requires-clause-kept g c =
 
 pub read_on-requires-clause-kept : goal.read_on-requires-clause-kept
 read_on-requires-clause-kept g c =
-    let old : Parts g.row.K-Key.Denot g.row.D.Denot = record { volume = c.self.inside.storage; sessions = c.self.inside.sessions; in_flight = c.self.inside.in_flight } in
+    let old : Parts g.row.K-Key.Denot g.row.D.Denot = record { volume = c.self.inside.storage; sessions = c.self.inside.sessions; in_flight = c.self.inside.in_flight; checkpoint = c.self.inside.checkpoint } in
     let at = ap (λ (x : Parts g.row.K-Key.Denot g.row.D.Denot). phase_at (c.args.session - 1) x.sessions.phases) c.self.view_is ∙ c.requires.searches.1 in
     let now = c.replace_work.new.self in
     let is = c.replace_work.ensures.state in
@@ -24,7 +24,7 @@ read_on-requires-clause-kept g c =
 
 pub returns-then-is_done-clause-comes : goal.returns-then-is_done-clause-comes
 returns-then-is_done-clause-comes g c =
-    let old : Parts g.row.K-Key.Denot g.row.D.Denot = record { volume = c.self.inside.storage; sessions = c.self.inside.sessions; in_flight = c.self.inside.in_flight } in
+    let old : Parts g.row.K-Key.Denot g.row.D.Denot = record { volume = c.self.inside.storage; sessions = c.self.inside.sessions; in_flight = c.self.inside.in_flight; checkpoint = c.self.inside.checkpoint } in
     let at = ap (λ (x : Parts g.row.K-Key.Denot g.row.D.Denot). phase_at (c.args.session - 1) x.sessions.phases) c.self.view_is ∙ c.requires.searches.1 in
     let now = c.replace_work.new.self in
     let is = c.replace_work.ensures.state in
@@ -33,7 +33,7 @@ returns-then-is_done-clause-comes g c =
 
 pub returns-then-is_done-clause-leads : goal.returns-then-is_done-clause-leads
 returns-then-is_done-clause-leads g c =
-    let old : Parts g.row.K-Key.Denot g.row.D.Denot = record { volume = c.self.inside.storage; sessions = c.self.inside.sessions; in_flight = c.self.inside.in_flight } in
+    let old : Parts g.row.K-Key.Denot g.row.D.Denot = record { volume = c.self.inside.storage; sessions = c.self.inside.sessions; in_flight = c.self.inside.in_flight; checkpoint = c.self.inside.checkpoint } in
     let at = ap (λ (x : Parts g.row.K-Key.Denot g.row.D.Denot). phase_at (c.args.session - 1) x.sessions.phases) c.self.view_is ∙ c.requires.searches.1 in
     let now = c.replace_work.new.self in
     let is = c.replace_work.ensures.state in
@@ -42,7 +42,7 @@ returns-then-is_done-clause-leads g c =
 
 pub returns-else-is_done-clause-comes : goal.returns-else-is_done-clause-comes
 returns-else-is_done-clause-comes g c =
-    let old : Parts g.row.K-Key.Denot g.row.D.Denot = record { volume = c.self.inside.storage; sessions = c.self.inside.sessions; in_flight = c.self.inside.in_flight } in
+    let old : Parts g.row.K-Key.Denot g.row.D.Denot = record { volume = c.self.inside.storage; sessions = c.self.inside.sessions; in_flight = c.self.inside.in_flight; checkpoint = c.self.inside.checkpoint } in
     let at = ap (λ (x : Parts g.row.K-Key.Denot g.row.D.Denot). phase_at (c.args.session - 1) x.sessions.phases) c.self.view_is ∙ c.requires.searches.1 in
     let now = c.replace_work.new.self in
     let is = c.replace_work.ensures.state in
@@ -51,7 +51,7 @@ returns-else-is_done-clause-comes g c =
 
 pub returns-else-is_done-clause-leads : goal.returns-else-is_done-clause-leads
 returns-else-is_done-clause-leads g c =
-    let old : Parts g.row.K-Key.Denot g.row.D.Denot = record { volume = c.self.inside.storage; sessions = c.self.inside.sessions; in_flight = c.self.inside.in_flight } in
+    let old : Parts g.row.K-Key.Denot g.row.D.Denot = record { volume = c.self.inside.storage; sessions = c.self.inside.sessions; in_flight = c.self.inside.in_flight; checkpoint = c.self.inside.checkpoint } in
     let at = ap (λ (x : Parts g.row.K-Key.Denot g.row.D.Denot). phase_at (c.args.session - 1) x.sessions.phases) c.self.view_is ∙ c.requires.searches.1 in
     let now = c.replace_work.new.self in
     let is = c.replace_work.ensures.state in
@@ -60,7 +60,7 @@ returns-else-is_done-clause-leads g c =
 
 pub returns-in_default-clause-comes : goal.returns-in_default-clause-comes
 returns-in_default-clause-comes g c =
-    let old : Parts g.row.K-Key.Denot g.row.D.Denot = record { volume = c.self.inside.storage; sessions = c.self.inside.sessions; in_flight = c.self.inside.in_flight } in
+    let old : Parts g.row.K-Key.Denot g.row.D.Denot = record { volume = c.self.inside.storage; sessions = c.self.inside.sessions; in_flight = c.self.inside.in_flight; checkpoint = c.self.inside.checkpoint } in
     let at = ap (λ (x : Parts g.row.K-Key.Denot g.row.D.Denot). phase_at (c.args.session - 1) x.sessions.phases) c.self.view_is ∙ c.requires.searches.1 in
     let now = c.replace_work.new.self in
     let is = c.replace_work.ensures.state in
@@ -68,7 +68,7 @@ returns-in_default-clause-comes g c =
 
 pub returns-in_default-clause-leads : goal.returns-in_default-clause-leads
 returns-in_default-clause-leads g c =
-    let old : Parts g.row.K-Key.Denot g.row.D.Denot = record { volume = c.self.inside.storage; sessions = c.self.inside.sessions; in_flight = c.self.inside.in_flight } in
+    let old : Parts g.row.K-Key.Denot g.row.D.Denot = record { volume = c.self.inside.storage; sessions = c.self.inside.sessions; in_flight = c.self.inside.in_flight; checkpoint = c.self.inside.checkpoint } in
     let at = ap (λ (x : Parts g.row.K-Key.Denot g.row.D.Denot). phase_at (c.args.session - 1) x.sessions.phases) c.self.view_is ∙ c.requires.searches.1 in
     let now = c.replace_work.new.self in
     let is = c.replace_work.ensures.state in

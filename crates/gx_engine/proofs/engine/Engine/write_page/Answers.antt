@@ -6,21 +6,23 @@ use Rattle.gx_recovery.proofs.Tests.{true_or_false}
 use Rattle.gx_storage.specs.State.{Volume}
 use Rattle.gx_engine.specs.States.{Parts}
 use Rattle.gx_engine.proofs.Flushing.{page_fails, page_made}
+use Rattle.gx_engine.proofs.Serving.{writes_still}
 use Rattle.gx_engine.proofs.engine.Engine.write_page.Goals as goal
 
 pub returns-in-Ok-true-clause-leads : goal.returns-in-Ok-true-clause-leads
 returns-in-Ok-true-clause-leads g c =
-    let old : Parts g.row.K-Key.Denot g.row.D.Denot = record { volume = c.self.inside.storage; sessions = c.self.inside.sessions; in_flight = c.self.inside.in_flight } in
+    let old : Parts g.row.K-Key.Denot g.row.D.Denot = record { volume = c.self.inside.storage; sessions = c.self.inside.sessions; in_flight = c.self.inside.in_flight; checkpoint = c.self.inside.checkpoint } in
     let w = c.write_page.new.self in
     let state = g.D.SectorDisk.state in
     let did = c.write_page.ensures in
     let gated : is_gated old.volume.shelf.frames.gated (stamp_of (kept old.volume.shelf.frames c.args.page)) ≡ true = sym c.in-Ok-true.ensures.answer ∙ c.in-Ok-true.field-0-test in
+    let still = writes_still old.checkpoint old.volume c.args.page c.self.invariant.stands gated in
     rw (← c.self.view_is) (λ l. page_made _ (c.a_class_is_lawful.ensures l) _ _ _
-    (state old.volume.shelf.disk) (state w.shelf.disk) old w (ap (λ (v : Volume g.row.D.Denot). v.most) did.only) (ap (λ (v : Volume g.row.D.Denot). v.log) did.only) c.self.invariant.still (did.keeps gated l))
+    (state old.volume.shelf.disk) (state w.shelf.disk) old w (ap (λ (v : Volume g.row.D.Denot). v.most) did.only) still.0 (ap (λ (v : Volume g.row.D.Denot). v.log) did.only) still.1 (did.keeps gated l))
 
 pub returns-in-Err-clause-leads : goal.returns-in-Err-clause-leads
 returns-in-Err-clause-leads g c =
-    let old : Parts g.row.K-Key.Denot g.row.D.Denot = record { volume = c.self.inside.storage; sessions = c.self.inside.sessions; in_flight = c.self.inside.in_flight } in
+    let old : Parts g.row.K-Key.Denot g.row.D.Denot = record { volume = c.self.inside.storage; sessions = c.self.inside.sessions; in_flight = c.self.inside.in_flight; checkpoint = c.self.inside.checkpoint } in
     let w = c.write_page.new.self in
     let state = g.D.SectorDisk.state in
     let did = c.write_page.ensures in
@@ -30,5 +32,6 @@ returns-in-Err-clause-leads g c =
       | inl does ↦ does
       | inr fails ↦ absurd (let both : ◌≡◌ {A = Result Bool Refusal} (Err c.in-Err.field-0) (Ok false) = sym c.in-Err.is ∙ (did.idle fails).0 in cc)
     ] in
+    let still = writes_still old.checkpoint old.volume c.args.page c.self.invariant.stands gated in
     rw (← c.self.view_is, c.fail.ensures.failed, c.fail.ensures.outcome) (λ l. page_fails _ (c.a_class_is_lawful.ensures l) _ _ _
-    (state old.volume.shelf.disk) (state w.shelf.disk) old w (ap (λ (v : Volume g.row.D.Denot). v.most) did.only) (ap (λ (v : Volume g.row.D.Denot). v.log) did.only) c.self.invariant.still (did.keeps gated l))
+    (state old.volume.shelf.disk) (state w.shelf.disk) old w (ap (λ (v : Volume g.row.D.Denot). v.most) did.only) still.0 (ap (λ (v : Volume g.row.D.Denot). v.log) did.only) still.1 (did.keeps gated l))

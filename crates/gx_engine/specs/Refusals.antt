@@ -1,0 +1,54 @@
+-- What comes of pages that were refused.
+use Rattle.std.specs.Prelude.{ℕ, ◌≡◌, Bool, true, false, Option, None, Some}
+use Rattle.gx_geom.specs.declared.refusal.Refusal.TheVariants.{Device as DeviceRefusal, Damaged as DamagedRefusal}
+use Rattle.gx_machine.specs.declared.reply.Reply.TheVariants.{Refused as RefusedCall}
+use Rattle.gx_disk.specs.Device.{Device}
+use Rattle.gx_page.specs.Contents.{Contents}
+use Rattle.gx_events.specs.declared.outcome.Need.{Need}
+use Rattle.gx_events.specs.declared.outcome.Need.TheVariants as need
+use Rattle.gx_events.specs.declared.outcome.Outcome.{Outcome}
+use Rattle.gx_events.specs.declared.outcome.Outcome.TheVariants.{Replied, Help}
+use Rattle.gx_phases.specs.Moves.{failed_state}
+use Rattle.gx_store.specs.declared.fault.StoreFault.{StoreFault}
+use Rattle.gx_store.specs.declared.fault.StoreFault.TheVariants as fault
+use Rattle.gx_store.specs.Faults as faults
+use Rattle.gx_store.specs.State.{Shelf}
+use Rattle.gx_storage.specs.declared.flusher.Help.TheVariants as help
+use Rattle.gx_storage.specs.declared.flusher.Help as storage
+use Rattle.gx_storage.specs.Flushing.{Helps}
+use Rattle.gx_engine.specs.States.{Parts, runs}
+
+-- what makes the log's next call: its own step, or a running checkpoint's
+abbrev pub log_need : Bool → Need
+log_need true = need.Checkpoint
+log_need false = need.Log
+
+-- the event that helps, by whether a checkpoint runs
+abbrev pub need_of : Bool → Option storage.Help → Need
+need_of running None = log_need running
+need_of running (Some help.Log) = log_need running
+need_of running (Some (help.Write page)) = need.Write page
+
+-- want of room or of frames: another event can help
+abbrev pub CanBeHelped : StoreFault → Type 0
+CanBeHelped fault.NoRoom = Unit {0}
+CanBeHelped (fault.TooFewFrames wanted) = Unit {0}
+CanBeHelped fault.Device = ⊥
+CanBeHelped fault.Damaged = ⊥
+
+-- pages were refused for want of room or of frames, and this is what helps
+pub record IsHelp {D : Type 0} (passes : ℕ → Contents → Bool) (d e : Device) (running : Bool) (old new : Shelf D) (n : Need) : Type 0 where
+  pub fault : StoreFault
+  pub can : CanBeHelped fault
+  pub why : faults.IsWhy passes d e old new fault
+  pub help : Option storage.Help
+  pub helps : Helps new fault help
+  pub is : n ≡ need_of running help
+
+-- what comes of pages that were refused: what helps, or the engine has failed
+abbrev pub IsRefused : {B D : Type 0} → StoreFault → Parts B D → Parts B D → Outcome B → Type 0
+IsRefused fault.NoRoom old new outcome = (found : Option storage.Help) × Helps old.volume.shelf fault.NoRoom found × (outcome ≡ Help (need_of (runs old.checkpoint) found)) × (new ≡ old)
+IsRefused (fault.TooFewFrames wanted) old new outcome =
+    (found : Option storage.Help) × Helps old.volume.shelf (fault.TooFewFrames wanted) found × (outcome ≡ Help (need_of (runs old.checkpoint) found)) × (new ≡ old)
+IsRefused fault.Device old new outcome = (outcome ≡ Replied (RefusedCall DeviceRefusal)) × (new ≡ record old { sessions = failed_state old.sessions })
+IsRefused fault.Damaged old new outcome = (outcome ≡ Replied (RefusedCall DamagedRefusal)) × (new ≡ record old { sessions = failed_state old.sessions })

@@ -1,0 +1,37 @@
+//! How far a checkpoint is, and what waits for it.
+ghost use Rattle.std.specs.Prelude.{◌≡◌, true};
+ghost use Rattle.gx_engine.specs.States.{is_due, runs};
+
+use crate::Engine;
+use gx_disk::SectorDisk;
+use gx_readings::ReadKeys;
+
+/// How far a checkpoint is.
+#[derive(Clone, Copy, Debug, PartialEq, Eq, Drop)]
+pub enum Checkpoint {
+    /// None runs.
+    Off,
+    /// One runs: what is logged is gated, and the dirty pages are written.
+    Running,
+    /// All is written and settled, and the log turns to the other extent.
+    Turning,
+}
+
+impl<D: SectorDisk, K: ReadKeys> Engine<D, K> {
+    // Whether a checkpoint runs.
+    pub(crate) fn is_checkpointing(&self) -> bool
+        ensures { result ≡ runs self.now.checkpoint }
+    {
+        match self.checkpoint {
+            Checkpoint::Off => false,
+            Checkpoint::Running | Checkpoint::Turning => true,
+        }
+    }
+
+    // Whether an event that would append a record has to wait for a checkpoint: one runs, or 24 places of the extent are taken.
+    pub(crate) fn is_due(&self) -> bool
+        ensures { result ≡ is_due self.now }
+    {
+        self.is_checkpointing() || self.storage.places() >= 24
+    }
+}

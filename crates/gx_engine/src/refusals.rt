@@ -1,0 +1,68 @@
+//! What all moves do where they are refused: the call is closed, the engine fails, or another event has to come first.
+ghost use Rattle.std.specs.Prelude.{◌≡◌, ◌-◌, true};
+ghost use Rattle.gx_machine.specs.Machine.{is_session};
+ghost use Rattle.gx_phases.specs.Moves.{answered_state, failed_state, is_open};
+ghost use Rattle.gx_phases.specs.States.{phase_at};
+ghost use Rattle.gx_engine.specs.Refusals.{IsRefused, log_need, need_of};
+
+use crate::Engine;
+use gx_disk::SectorDisk;
+use gx_events::{Need, Outcome};
+use gx_geom::Refusal;
+use gx_machine::Reply;
+use gx_readings::ReadKeys;
+use gx_storage::Help;
+use gx_store::StoreFault;
+
+/// The event that makes the log's next call: its own step, or that of a checkpoint that runs.
+pub(crate) fn log_need(running: bool) -> Need
+    ensures { result ≡ log_need running }
+{
+    if running { Need::Checkpoint } else { Need::Log }
+}
+
+/// The event that helps, by whether a checkpoint runs; the log's next call where storage names none.
+fn need_of(running: bool, help: Option<Help>) -> Need
+    ensures { result ≡ need_of running help }
+{
+    match help {
+        Some(Help::Write(page)) => Need::Write(page),
+        Some(Help::Log) | None => log_need(running),
+    }
+}
+
+impl<D: SectorDisk, K: ReadKeys> Engine<D, K> {
+    // A session's call is closed for want of memory or of pages.
+    pub(crate) fn close(&mut self, session: u8, why: Refusal) -> Outcome<K::Key>
+        requires session { is_session session ≡ true }
+        requires open { is_open (phase_at (session - 1) self.old.sessions.phases) ≡ true }
+        ensures outcome { result ≡ Outcome.Replied (Reply.Refused why) }
+        ensures closed { self.new ≡ record self.old { sessions = answered_state session self.old.sessions } }
+    {
+        self.sessions.answer(session);
+        Outcome::Replied(Reply::Refused(why))
+    }
+
+    // A session's call is refused, and the engine has failed.
+    pub(crate) fn break_off(&mut self, why: Refusal) -> Outcome<K::Key>
+        ensures outcome { result ≡ Outcome.Replied (Reply.Refused why) }
+        ensures failed { self.new ≡ record self.old { sessions = failed_state self.old.sessions } }
+    {
+        self.sessions.fail();
+        Outcome::Replied(Reply::Refused(why))
+    }
+
+    // Pages were refused: what helps, or the engine has failed.
+    pub(crate) fn refuse(&mut self, fault: StoreFault) -> Outcome<K::Key>
+        ensures { IsRefused fault self.old self.new result }
+    {
+        match fault {
+            StoreFault::NoRoom | StoreFault::TooFewFrames(_) => Outcome::Help(need_of(
+                self.is_checkpointing(),
+                self.storage.help(fault),
+            )),
+            StoreFault::Device => self.break_off(Refusal::Device),
+            StoreFault::Damaged => self.break_off(Refusal::Damaged),
+        }
+    }
+}
