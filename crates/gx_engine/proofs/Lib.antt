@@ -5,3 +5,4 @@ pub mod Sealing
 pub mod Searching
 pub mod Reading
 pub mod Finding
+pub mod Marking
