@@ -9,3 +9,4 @@ pub mod Touching
 pub mod Noting
 pub mod Restored
 pub mod Undoing
+pub mod Marking
