@@ -15,8 +15,8 @@ use Rattle.gx_glog.specs.State as glog
 use Rattle.gx_glog.specs.declared.stage.Turn.TheVariants.{Closed}
 use Rattle.gx_recovery.specs.Known.{Known}
 use Rattle.gx_recovery.specs.Records.{Record}
-use Rattle.gx_recovery.specs.Analysis.{number_of}
-use Rattle.gx_recovery.specs.Logged.{Logged, begun, durable, gate_synced, latest}
+use Rattle.gx_recovery.specs.Analysis.{analysis, number_of}
+use Rattle.gx_recovery.specs.Logged.{Logged, all_records, begun, durable, gate_synced, latest}
 use Rattle.gx_engine_laws.specs.Events.{Works, Durable, Fails}
 use Rattle.gx_index_laws.specs.Classes.{Class, IsLawful, Page, known_of}
 use Rattle.gx_index_laws.specs.States as index
@@ -42,11 +42,20 @@ use Rattle.gx_storage.proofs.Calling.{rests_none}
 use Rattle.gx_engine.specs.declared.checkpoint.Checkpoint.TheVariants.{Turning}
 use Rattle.gx_engine.specs.States.{Parts}
 use Rattle.gx_engine.specs.Flushing.{log_events, log_outcome, noted}
+use Rattle.gx_engine.specs.Noted.{AreTold}
 use Rattle.gx_engine.specs.Holds.{AreAt, Holds, KnowsFlight, Led, Leads}
 
 -- the commits up to the last one of a log without a batch in flight are those of its gated records with those that fill
 all_in_flight : {E P : Type 0} (k : Known E P) (s : Logged E P) → s.flight ≡ [] → latest k s ≡ durable k (gate_synced (begun s))
 all_in_flight {E} {P} k s none = ap (λ (x : List (Record E P)). number_of k (s.gated ++ (x ++ s.filling))) none
+
+-- a batch that begins, and a gate's sync, leave the records as they are
+begun_records : {E P : Type 0} (s : Logged E P) → s.flight ≡ [] → all_records (begun s) ≡ all_records s
+begun_records {E} {P} s none =
+    ap (λ (x : List (Record E P)). s.gated ++ x) (append-nil s.filling) ∙ sym (ap (λ (x : List (Record E P)). s.gated ++ (x ++ s.filling)) none)
+
+synced_records : {E P : Type 0} (s : Logged E P) → all_records (gate_synced s) ≡ all_records s
+synced_records s = append_assoc s.gated s.flight s.filling
 
 -- a gate's sync adds no record
 all_gated : {E P : Type 0} (k : Known E P) (s : Logged E P) → latest k (gate_synced s) ≡ latest k s
@@ -66,15 +75,16 @@ module _ {B D : Type 0} (c : Class B) (l : IsLawful c) (r : Reading (Entry B) (P
   most = same_most ∙ h.most
 
   -- what an engine leads to whose fault is met with the index at this
-  failed_holds : (now : List (List (Record (Entry B) (Page B)))) (j : index.State B) → IsWhole c j → AreOf old.sessions j → AreAt c.keys old.sessions j → old.sessions.latest ≡ latest k j.log
+  failed_holds : (now : List (List (Record (Entry B) (Page B)))) (j : index.State B) → IsWhole c j → AreOf old.sessions j → AreAt c.keys old.sessions j → AreTold old.sessions (analysis k (all_records j.log)).touched → old.sessions.latest ≡ latest k j.log
       → Keeps k r f passes e w now j.log → Holds c r f passes e (record old { volume = w; sessions = failed_state old.sessions }) now (happening.failed_state j)
-  failed_holds now j whole of at last keeps = record {
+  failed_holds now j whole of at told last keeps = record {
     most = most;
     some = h.some;
     keeps = keeps;
     whole = (faulted c l j whole Fails (as_it_is (index.engine_of c (happening.failed_state j))) refl).whole;
     sessions = record { slots = of.slots; transactions = of.transactions; next = of.next; oldest = of.oldest; failed = refl };
     at = at;
+    told = told;
     latest = last;
     flying = λ works. absurd (let never : true ≡ false = works in cc);
     turns = λ works. absurd (let never : true ≡ false = works in cc);
@@ -90,7 +100,7 @@ module _ {B D : Type 0} (c : Class B) (l : IsLawful c) (r : Reading (Entry B) (P
     bodies = bodies;
     index = i;
     happening = refl;
-    holds = record { most = most; some = h.some; keeps = b.keeps; whole = h.whole; sessions = h.sessions; at = h.at; latest = h.latest; flying = flying; turns = λ works turning. absurd (calm turning) };
+    holds = record { most = most; some = h.some; keeps = b.keeps; whole = h.whole; sessions = h.sessions; at = h.at; told = h.told; latest = h.latest; flying = flying; turns = λ works turning. absurd (calm turning) };
     leaves = b.safely.leaves;
   }
 
@@ -99,7 +109,7 @@ module _ {B D : Type 0} (c : Class B) (l : IsLawful c) (r : Reading (Entry B) (P
     bodies = bodies;
     index = happening.failed_state i;
     happening = (happening.failed_state i, fails_now i h.whole, refl);
-    holds = failed_holds bodies i h.whole h.sessions h.at h.latest b.keeps;
+    holds = failed_holds bodies i h.whole h.sessions h.at h.told h.latest b.keeps;
     leaves = b.safely.leaves;
   }
 
@@ -118,6 +128,9 @@ module _ {B D : Type 0} (c : Class B) (l : IsLawful c) (r : Reading (Entry B) (P
     its_sessions : AreOf old.sessions with_flight
     its_sessions = record { slots = h.sessions.slots; transactions = h.sessions.transactions; next = h.sessions.next; oldest = h.sessions.oldest; failed = h.sessions.failed }
 
+    told_still : AreTold old.sessions (analysis k (all_records (begun i.log))).touched
+    told_still = subst (λ (rs : List (Record (Entry B) (Page B))). AreTold old.sessions (analysis k rs).touched) (sym (begun_records i.log none)) h.told
+
     last : old.sessions.latest ≡ latest k (begun i.log)
     last = h.latest ∙ sym (all_begun k i.log none)
 
@@ -133,6 +146,7 @@ module _ {B D : Type 0} (c : Class B) (l : IsLawful c) (r : Reading (Entry B) (P
         whole = begun_now.whole;
         sessions = its_sessions;
         at = h.at;
+        told = told_still;
         latest = last;
         flying = λ works. flight_known stage;
         turns = λ works turning. absurd (calm turning);
@@ -145,7 +159,7 @@ module _ {B D : Type 0} (c : Class B) (l : IsLawful c) (r : Reading (Entry B) (P
       bodies = bodies;
       index = happening.failed_state with_flight;
       happening = (with_flight, begun_now, (happening.failed_state with_flight, fails_now with_flight begun_now.whole, refl));
-      holds = failed_holds bodies with_flight begun_now.whole its_sessions h.at last b.keeps;
+      holds = failed_holds bodies with_flight begun_now.whole its_sessions h.at told_still last b.keeps;
       leaves = b.safely.leaves;
     }
 
@@ -172,6 +186,7 @@ module _ {B D : Type 0} (c : Class B) (l : IsLawful c) (r : Reading (Entry B) (P
           whole = made.whole;
           sessions = record { slots = h.sessions.slots; transactions = h.sessions.transactions; next = h.sessions.next; oldest = sym number; failed = h.sessions.failed };
           at = h.at;
+          told = subst (λ (rs : List (Record (Entry B) (Page B))). AreTold old.sessions (analysis k rs).touched) (sym (synced_records i.log)) h.told;
           latest = h.latest ∙ sym (all_gated k i.log);
           flying = λ works. subst (λ (x : Stage). KnowsFlight x old.in_flight (durable k (gate_synced (gate_synced i.log)))) (sym idle) tt;
           turns = λ works turning. absurd (calm turning);
@@ -202,6 +217,7 @@ module _ {B D : Type 0} (c : Class B) (l : IsLawful c) (r : Reading (Entry B) (P
         whole = written_now.whole;
         sessions = area_sessions;
         at = h.at;
+        told = h.told;
         latest = h.latest;
         flying = λ works. subst (λ (x : Log). KnowsFlight x.stage old.in_flight (durable k (gate_synced i.log))) (sym same_log) (h.flying works);
         turns = λ works turning. absurd (calm turning);
@@ -214,7 +230,7 @@ module _ {B D : Type 0} (c : Class B) (l : IsLawful c) (r : Reading (Entry B) (P
       bodies = bodies;
       index = happening.failed_state with_area;
       happening = (with_area, written_now, (happening.failed_state with_area, fails_now with_area written_now.whole, refl));
-      holds = failed_holds bodies with_area written_now.whole area_sessions h.at h.latest b.keeps;
+      holds = failed_holds bodies with_area written_now.whole area_sessions h.at h.told h.latest b.keeps;
       leaves = b.safely.leaves;
     }
 

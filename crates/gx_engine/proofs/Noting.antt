@@ -1,21 +1,25 @@
 -- The notes of sessions and the touches of the log: how they stay the same.
-use Rattle.std.proofs.Common.{◌≡◌, ◌≢◌, ◌∙◌, sym, ap, refl, subst, ℕ, ◌-◌, ◌<◌, Bool, true, false, not, cond, List, [], ◌∷◌, map, arith}
+use Rattle.std.proofs.Common.{◌≡◌, ◌≢◌, ◌∙◌, sym, ap, refl, subst, ℕ, ◌-◌, ◌<◌, Bool, true, false, not, ◌&&◌, cond, List, [], ◌∷◌, map, arith}
 use Rattle.std.specs.Prelude.{◌==◌}
-use Rattle.std.proofs.lemmas.Bool.{eqb-true, ne_eqb}
+use Rattle.std.proofs.lemmas.Bool.{and_from, eqb-true, ne_eqb, or_parts}
+use Rattle.std.proofs.lemmas.List.{get_or-set_other, get_or-set_same}
 use Rattle.gx_machine.specs.declared.entry.Entry.{Entry}
 use Rattle.gx_machine.specs.Machine.{is_session}
 use Rattle.gx_machine.specs.Keys.{Keys}
 use Rattle.gx_machine.proofs.Places.{session_bounds}
 use Rattle.gx_recovery.specs.Records.{Touch}
-use Rattle.gx_recovery.specs.Analysis.{without}
+use Rattle.gx_recovery.specs.Analysis.{lists, without}
+use Rattle.gx_recovery.specs.Known.{Known, same}
 use Rattle.gx_index_laws.specs.Whole.{is_busy}
+use Rattle.gx_txn.specs.declared.note.Note.{Note}
 use Rattle.gx_txn.specs.Tables.{Held, with_held}
 use Rattle.gx_phases.specs.declared.phase.Phase.{Phase}
 use Rattle.gx_phases.specs.declared.phase.Phase.TheVariants as phase
 use Rattle.gx_phases.specs.Moves.{transaction_of}
-use Rattle.gx_phases.specs.States.{State, IsKept, held_at, phase_at, slot_of, with_phase}
+use Rattle.gx_phases.specs.States.{State, HoldsNothing, IsKept, held_at, phase_at, slot_of, with_phase, with_phase_of, with_session, with_transaction}
 use Rattle.gx_phases.proofs.Slots.{placed_set}
 use Rattle.gx_engine.specs.Noted.{AreTold, has_transaction, touch_by, touched_by}
+use Rattle.gx_engine.proofs.Serving.{held_as_it_is}
 
 -- One session has changed, of which this is known; what the transactions of the others have touched is the same.
 module _ {B W : Type 0} (k : Keys B) (old new : State B W) (xs ys : List (Touch (Entry B))) (kept : IsKept k old) (s : ℕ) (is : is_session s ≡ true) (p : Phase B W) (h : Held B)
@@ -54,3 +58,46 @@ busy_slot phase.Working h busy = busy
 busy_slot (phase.Open call work) h busy = busy
 busy_slot (phase.Undoing restored work) h busy = busy
 busy_slot (phase.Waiting number) h busy = busy
+
+-- One session is at another phase, and has the notes that it had.
+module _ {B W : Type 0} (k : Keys B) (old : State B W) (kept : IsKept k old) (s : ℕ) (is : is_session s ≡ true) (xs : List (Touch (Entry B))) (p : Phase B W)
+    (had : has_transaction p ≡ true → has_transaction (phase_at (s - 1) old.phases) ≡ true) (told : AreTold old xs) where
+  pub told_session : (h : Held B) → h.notes ≡ (held_at (s - 1) old.table).notes → AreTold (with_session s p h old) xs
+  told_session h same =
+      told_set k old (with_session s p h old) xs xs kept s is p h refl refl (λ a there ne busy. refl) (λ a there ne. refl)
+      (λ busy. told s is (had busy) ∙ ap (λ (ns : List (Note B)). map (touch_by (transaction_of s old)) ns) (sym same)) told
+
+  pub told_phase : AreTold (with_phase_of s p old) xs
+  told_phase =
+      told_set k old (with_phase_of s p old) xs xs kept s is p (held_at (s - 1) old.table) refl (held_as_it_is s old.table) (λ a there ne busy. refl) (λ a there ne. refl)
+      (λ busy. told s is (had busy)) told
+
+-- what a transaction that a log doesn't name has touched: nothing
+module _ {E P : Type 0} (k : Known E P) (itself : (e : E) → same k e e ≡ true) (t : ℕ) where
+  none_by : (x : Touch E) (xs : List (Touch E)) (b : Bool) → (x.transaction == t) ≡ b → lists k t x.entry (x ∷ xs) ≡ false → touched_by t xs ≡ [] → touched_by t (x ∷ xs) ≡ []
+  none_by x xs true is none rest =
+      let here : (x.transaction == t && same k x.entry x.entry) ≡ true = and_from (x.transaction == t) (same k x.entry x.entry) is (itself x.entry) in
+      absurd (let never : true ≡ false = sym here ∙ (or_parts (x.transaction == t && same k x.entry x.entry) (lists k t x.entry xs) none).0 in cc)
+  none_by x xs false is none rest = ap (λ b. cond b (x ∷ touched_by t xs) (touched_by t xs)) is ∙ rest
+
+  pub none_touched : (xs : List (Touch E)) → ((e : E) → lists k t e xs ≡ false) → touched_by t xs ≡ []
+  none_touched [] none = refl
+  none_touched (x ∷ xs) none =
+      none_by x xs (x.transaction == t) refl (none x.entry)
+      (none_touched xs (λ e. (or_parts (x.transaction == t && same k e x.entry) (lists k t e xs) (none e)).1))
+
+-- a session begins a transaction that has touched nothing, and has noted nothing
+pub told_begun : {B W : Type 0} (k : Keys B) (old : State B W) → IsKept k old → (s : ℕ) → is_session s ≡ true → phase_at (s - 1) old.phases ≡ phase.Free
+    → (xs : List (Touch (Entry B))) → touched_by old.next xs ≡ [] → AreTold old xs → AreTold (with_transaction s old) xs
+told_begun {B} {W} k old kept s is free xs none told =
+    let mine : (0 < s) × (s < 9) = session_bounds s is in
+    let new : State B W = with_transaction s old in
+    let its : transaction_of s new ≡ old.next = get_or-set_same old.transactions (s - 1) old.next 0 (omega (arith, kept.transactions, mine.0, mine.1)) in
+    let empty : (held_at (s - 1) old.table).notes ≡ [] =
+    ap (λ (h : Held B). h.notes)
+    (subst (λ (p : Phase B W). HoldsNothing p (held_at (s - 1) old.table)) free (kept.placed (s - 1) (omega (arith, mine.0, mine.1))).nothing) in
+    let other : (a : ℕ) → is_session a ≡ true → a ≢ s → transaction_of a new ≡ transaction_of a old =
+    λ a there ne. get_or-set_other old.transactions (s - 1) (a - 1) old.next 0 (λ same. ne (let at = session_bounds a there in omega (arith, same, at.0, mine.0))) in
+    told_set k old new xs xs kept s is phase.Working (held_at (s - 1) old.table) refl (held_as_it_is s old.table)
+    (λ a there ne busy. ap (λ (t : ℕ). touched_by t xs) (other a there ne)) other
+    (λ busy. ap (λ (t : ℕ). touched_by t xs) its ∙ none ∙ sym (ap (λ (ns : List (Note B)). map (touch_by (transaction_of s new)) ns) empty)) told

@@ -12,7 +12,9 @@ use Rattle.gx_node.specs.Reading.{Format}
 use Rattle.gx_glog.specs.declared.stage.Stage.{Stage}
 use Rattle.gx_recovery.specs.Known.{Known}
 use Rattle.gx_recovery.specs.Coming.{MayCome}
-use Rattle.gx_recovery.specs.Records.{Record}
+use Rattle.gx_recovery.specs.Analysis.{Analysis, analysis, without}
+use Rattle.gx_recovery.specs.Records.{Record, Touch}
+use Rattle.gx_recovery.proofs.Folds.{analysis-snoc}
 use Rattle.gx_recovery.specs.Records as records
 use Rattle.gx_recovery.specs.Logged.{all_records, appended, durable, gate_synced, latest}
 use Rattle.gx_engine_laws.specs.Slots as slots
@@ -21,9 +23,10 @@ use Rattle.gx_engine_laws.specs.Events.{Acknowledges, Seals}
 use Rattle.gx_index_laws.specs.Classes.{Class, IsLawful, Page, known_of}
 use Rattle.gx_index_laws.specs.States as index
 use Rattle.gx_index_laws.specs.Happening.{Happens, slotted}
+use Rattle.gx_index_laws.specs.Whole.{is_busy}
 use Rattle.gx_index_laws.proofs.AskedCalls.{acknowledged}
 use Rattle.gx_index_laws.proofs.Closing.{sealed}
-use Rattle.gx_index_laws.proofs.Standing.{known_lawful}
+use Rattle.gx_index_laws.proofs.Standing.{grown, known_lawful}
 use Rattle.gx_index_laws.proofs.Tools.{changed_beside}
 use Rattle.gx_durable.specs.Spelled.{Reading}
 use Rattle.gx_events.specs.declared.outcome.Outcome.TheVariants.{More}
@@ -43,6 +46,8 @@ use Rattle.gx_engine.specs.States.{Parts, runs}
 use Rattle.gx_engine.specs.Holds.{Holds, KnowsFlight, Led, Leads, LeadsSo}
 use Rattle.gx_engine.specs.Sealing.{AcknowledgeBy, AcknowledgeComes, AreSealing, acknowledge_events, told}
 use Rattle.gx_engine.proofs.Flushing.{nothing_led}
+use Rattle.gx_engine.specs.Noted.{has_transaction, touched_by}
+use Rattle.gx_engine.proofs.Noting.{busy_slot, told_phase, told_set, without_others}
 use Rattle.gx_engine.proofs.Serving.{held_as_it_is, session_at, session_of, slot_is}
 
 -- a session that asked a commit has that call open
@@ -68,6 +73,9 @@ module _ {B D : Type 0} (c : Class B) (l : IsLawful c) (r : Reading (Entry B) (P
   abbrev k : Known (Entry B) (Page B)
   k = known_of c
 
+  abbrev touches : List (Touch (Entry B))
+  touches = (analysis k (all_records i.log)).touched
+
   module _ (calm : old.checkpoint ≢ Turning) (asks : asks_commit (phase_at (s - 1) old.sessions.phases) ≡ true) (w : Volume D) (same_most : w.most ≡ old.volume.most) (same_stage : w.log.stage ≡ old.volume.log.stage)
       (keeps : MayCome k i.log.area (all_records i.log) (records.Commit (transaction_of s old.sessions) (old.sessions.latest + 1)) → Keeps k r f passes d old.volume bodies i.log
       → Keeps k r f passes d w bodies (appended (records.Commit (transaction_of s old.sessions) (old.sessions.latest + 1)) i.log)) where
@@ -79,6 +87,21 @@ module _ {B D : Type 0} (c : Class B) (l : IsLawful c) (r : Reading (Entry B) (P
 
     abbrev record_of : ℕ → ℕ → Record (Entry B) (Page B)
     record_of t n = records.Commit t n
+
+    -- what the transaction has touched is closed; another session's transaction is another
+    sealed_touches : (t n : ℕ) → (analysis k (all_records (appended (record_of t n) i.log))).touched ≡ without t touches
+    sealed_touches t n =
+        ap (λ (a : Analysis (Entry B)). a.touched)
+        (ap (λ (rs : List (Record (Entry B) (Page B))). analysis k rs) (grown (record_of t n) i.log) ∙ analysis-snoc k (all_records i.log) (record_of t n))
+
+    apart : (a : ℕ) → is_session a ≡ true → a ≢ s → has_transaction (phase_at (a - 1) old.sessions.phases) ≡ true → transaction_of a old.sessions ≢ transaction_of s old.sessions
+    apart a there ne busy same =
+        let open_now = commit_is_open (phase_at (s - 1) old.sessions.phases) asks in
+        let held = held_at (s - 1) old.sessions.table in
+        ne (h.whole.tied.own a s
+        (ap is_busy (slot_is c.keys old.sessions i kept h.sessions a there) ∙ busy_slot (phase_at (a - 1) old.sessions.phases) (held_at (a - 1) old.sessions.table) busy)
+        (ap is_busy (slot_is c.keys old.sessions i kept h.sessions s is ∙ ap (λ (p : Phase B (Work B)). slot_of p held) open_now.is))
+        (h.sessions.transactions a there ∙ same ∙ sym (h.sessions.transactions s is)))
 
     came : (t n : ℕ) → t ≡ i.transaction s → n ≡ latest k i.log + 1 → MayCome k i.log.area (all_records i.log) (record_of t n) × Happens c i (Seals s h.whole.machine.latest n) (its i (record_of t n) n)
     came t n one other =
@@ -108,6 +131,10 @@ module _ {B D : Type 0} (c : Class B) (l : IsLawful c) (r : Reading (Entry B) (P
             sessions = record { slots = of.slots; transactions = of.transactions; next = of.next; oldest = of.oldest; failed = of.failed };
             at = session_at c.keys old.sessions (sealed_state s old.sessions) i j kept s is (phase.Waiting number) nothing_held refl refl
                 (λ a ne. changed_beside s index.Rests i.work a ne) (λ a ne. changed_beside s [] i.restored a ne) tt h.at;
+            told = told_set c.keys old.sessions (sealed_state s old.sessions) touches (analysis k (all_records j.log)).touched kept s is (phase.Waiting number) nothing_held refl refl
+                (λ a there ne busy. ap (λ (xs : List (Touch (Entry B))). touched_by (transaction_of a old.sessions) xs) (sealed_touches t number)
+                ∙ without_others t (transaction_of a old.sessions) touches (apart a there ne busy))
+                (λ a there ne. refl) (λ busy. let no : ⊥ = cc in absurd no) h.told;
             latest =
                 (let now = both.1.whole.sets.last in
                 let before = h.whole.sets.last in
@@ -141,6 +168,7 @@ module _ {B D : Type 0} (c : Class B) (l : IsLawful c) (r : Reading (Entry B) (P
           sessions = session_of c.keys old.sessions (with_phase_of s phase.Free old.sessions) i kept h.sessions s phase.Free held refl (held_as_it_is s old.sessions.table) index.Rests refl refl refl refl;
           at = session_at c.keys old.sessions (with_phase_of s phase.Free old.sessions) i j kept s is phase.Free held refl (held_as_it_is s old.sessions.table)
               (λ a ne. changed_beside s index.Rests i.work a ne) (λ a ne. changed_beside s [] i.restored a ne) tt h.at;
+          told = told_phase c.keys old.sessions kept s is touches phase.Free (λ busy. let no : ⊥ = cc in absurd no) h.told;
           latest = h.latest;
           flying = h.flying;
           turns = h.turns;

@@ -22,7 +22,8 @@ use Rattle.gx_tree.specs.declared.look.Look.{Look}
 use Rattle.gx_tree.specs.Found.{pairs_found}
 use Rattle.gx_glog.specs.State.{Log}
 use Rattle.gx_recovery.specs.Records.{Record}
-use Rattle.gx_recovery.specs.Logged.{Logged}
+use Rattle.gx_recovery.specs.Analysis.{analysis}
+use Rattle.gx_recovery.specs.Logged.{Logged, all_records}
 use Rattle.gx_recovery.specs.Logged as logged
 use Rattle.gx_engine_laws.specs.Slots.{Slot, Working, slot_at, with_slot, is_unanswered}
 use Rattle.gx_engine_laws.specs.Slots as slots
@@ -57,6 +58,8 @@ use Rattle.gx_engine.specs.declared.work.Work.TheVariants.{Rests, Looks}
 use Rattle.gx_engine.specs.States.{Parts}
 use Rattle.gx_engine.specs.Holds.{AreAt, CallIsAt, Holds, KnowsFlight, Led, Leads}
 use Rattle.gx_engine.specs.Searching.{searching}
+use Rattle.gx_engine.specs.Noted.{AreTold, has_transaction}
+use Rattle.gx_engine.proofs.Noting.{told_phase}
 use Rattle.gx_engine.proofs.Serving.{StaysSettled, held_as_it_is, may_renew_still, same_device, session_at, session_of, session_slots, slot_is}
 
 -- An engine that holds an index, one of whose sessions searches.
@@ -96,6 +99,12 @@ module _ {B D : Type 0} (c : Class B) (l : IsLawful c) (r : Reading (Entry B) (P
     failed = failed ∙ h.sessions.failed;
   }
 
+  -- whatever phase it comes to, its notes tell the same
+  told_at : (p : Phase B (Work B)) → AreTold (with_phase_of s p old.sessions) (analysis (known_of c) (all_records i.log)).touched
+  told_at p =
+      told_phase c.keys old.sessions kept s is (analysis (known_of c) (all_records i.log)).touched p
+      (λ busy. ap (λ (q : Phase B (Work B)). has_transaction q) at) h.told
+
   -- a session whose work is begun anew is held as it was
   pub rests_held : Holds c r f passes d (searching s query Rests old) bodies i
   rests_held = record {
@@ -105,6 +114,7 @@ module _ {B D : Type 0} (c : Class B) (l : IsLawful c) (r : Reading (Entry B) (P
     whole = h.whole;
     sessions = of_working Rests i refl refl refl refl refl;
     at = session_at c.keys old.sessions (working Rests) i i kept s is (phase.Open (Search query) Rests) held refl (held_as_it_is s old.sessions.table) (λ a ne. refl) (λ a ne. refl) tt h.at;
+    told = told_at (phase.Open (Search query) Rests);
     latest = h.latest;
     flying = h.flying;
     turns = h.turns;
@@ -120,9 +130,9 @@ module _ {B D : Type 0} (c : Class B) (l : IsLawful c) (r : Reading (Entry B) (P
   -- the pages may have been brought meanwhile
   module _ (e : Device) (w : Volume D) (same_most : w.most ≡ old.volume.most) (same_log : w.log ≡ old.volume.log) (settled : StaysSettled d e)
       (stays : StaysSame (known_of c) r f passes d e w bodies i.log) where
-    goes : (events : List (Event B)) (j : index.State B) → AreHappening c i events j → IsWhole c j → j.log ≡ i.log → (new : State B (Work B)) → AreOf new j → AreAt c.keys new j
+    goes : (events : List (Event B)) (j : index.State B) → AreHappening c i events j → IsWhole c j → j.log ≡ i.log → (new : State B (Work B)) → AreOf new j → AreAt c.keys new j → AreTold new (analysis (known_of c) (all_records i.log)).touched
         → new.latest ≡ old.sessions.latest → (new.failed ≡ false → old.sessions.failed ≡ false) → Led c r f passes d e (record old { volume = w; sessions = new }) i events
-    goes events j are whole log new of is_at latest working_yet = record {
+    goes events j are whole log new of is_at told latest working_yet = record {
       bodies = bodies;
       index = j;
       happening = are;
@@ -133,6 +143,7 @@ module _ {B D : Type 0} (c : Class B) (l : IsLawful c) (r : Reading (Entry B) (P
         whole = whole;
         sessions = of;
         at = is_at;
+        told = subst (λ (x : Logged (Entry B) (Page B)). AreTold new (analysis (known_of c) (all_records x)).touched) (sym log) told;
         latest = latest ∙ h.latest ∙ ap (λ (x : Logged (Entry B) (Page B)). logged.latest (known_of c) x) (sym log);
         flying = λ works.
             subst (λ (x : Logged (Entry B) (Page B)). KnowsFlight w.log.stage old.in_flight (logged.durable (known_of c) (logged.gate_synced x))) (sym log)
@@ -146,7 +157,7 @@ module _ {B D : Type 0} (c : Class B) (l : IsLawful c) (r : Reading (Entry B) (P
     }
 
     pub waits_led : Led c r f passes d e (record old { volume = w }) i []
-    waits_led = goes [] i refl h.whole refl old.sessions h.sessions h.at refl (λ works. works)
+    waits_led = goes [] i refl h.whole refl old.sessions h.sessions h.at h.told refl (λ works. works)
 
     -- the search is at a look
     pub looks_led : (look : Look B) → DoesWork c (tree_now c i) (slot_at s i.slots) (index.Looks look.stack.items (pairs_found look.found.items))
@@ -158,6 +169,7 @@ module _ {B D : Type 0} (c : Class B) (l : IsLawful c) (r : Reading (Entry B) (P
         goes (Works ∷ []) j (j, now, refl) now.whole refl (working (Looks look)) (of_working (Looks look) j refl refl refl refl refl)
         (session_at c.keys old.sessions (working (Looks look)) i j kept s is (phase.Open (Search query) (Looks look)) held refl (held_as_it_is s old.sessions.table)
         (λ a ne. changed_beside s work i.work a ne) (λ a ne. refl) (changed_here s work i.work s refl) h.at)
+        (told_at (phase.Open (Search query) (Looks look)))
         refl (λ works. works)
 
     -- the call is answered or closed
@@ -170,6 +182,7 @@ module _ {B D : Type 0} (c : Class B) (l : IsLawful c) (r : Reading (Entry B) (P
         goes (event ∷ []) answered_index (answered_index, now, refl) now.whole refl (answered_state s old.sessions) of
         (session_at c.keys old.sessions (answered_state s old.sessions) i answered_index kept s is phase.Working held refl (held_as_it_is s old.sessions.table)
         (λ a ne. changed_beside s index.Rests i.work a ne) (λ a ne. changed_beside s [] i.restored a ne) tt h.at)
+        (told_at phase.Working)
         refl (λ works. works)
 
     pub closes_led : old.sessions.failed ≡ false → Led c r f passes d e (record old { volume = w; sessions = answered_state s old.sessions }) i (Closes s (Search query) Memory ∷ [])
@@ -192,7 +205,7 @@ module _ {B D : Type 0} (c : Class B) (l : IsLawful c) (r : Reading (Entry B) (P
         let now = faulted c l i h.whole (RefusesCall s DeviceRefusal) (unanswered, (h.sessions.failed ∙ works, as_it_is (index.engine_of c j))) refl in
         goes (RefusesCall s DeviceRefusal ∷ []) j (j, now, refl) now.whole refl (failed_state old.sessions)
         (record { slots = h.sessions.slots; transactions = h.sessions.transactions; next = h.sessions.next; oldest = h.sessions.oldest; failed = refl })
-        h.at refl (λ works. absurd (let never : true ≡ false = works in cc))
+        h.at h.told refl (λ works. absurd (let never : true ≡ false = works in cc))
 
   -- nothing of the pages has changed
   pub as_it_stays : StaysSame (known_of c) r f passes d d old.volume bodies i.log

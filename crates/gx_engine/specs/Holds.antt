@@ -14,7 +14,8 @@ use Rattle.gx_tree.specs.Found.{pairs_found}
 use Rattle.gx_glog.specs.declared.stage.Stage.{Stage}
 use Rattle.gx_glog.specs.declared.stage.Stage.TheVariants.{Body, BodySync, Gate, GateSync, Idle}
 use Rattle.gx_recovery.specs.Records.{Record}
-use Rattle.gx_recovery.specs.Logged.{durable, gate_synced, latest}
+use Rattle.gx_recovery.specs.Analysis.{analysis}
+use Rattle.gx_recovery.specs.Logged.{all_records, durable, gate_synced, latest}
 use Rattle.gx_engine_laws.specs.Events.{Event}
 use Rattle.gx_index_laws.specs.Classes.{Class, Page, known_of}
 use Rattle.gx_index_laws.specs.States as index
@@ -32,6 +33,7 @@ use Rattle.gx_storage.specs.Keeps.{Keeps}
 use Rattle.gx_engine.specs.declared.checkpoint.Checkpoint.TheVariants.{Turning}
 use Rattle.gx_engine.specs.declared.work.Work.{Work}
 use Rattle.gx_engine.specs.declared.work.Work.TheVariants.{Rests, Looks, Descends, Seeks}
+use Rattle.gx_engine.specs.Noted.{AreTold}
 use Rattle.gx_engine.specs.States.{Parts}
 
 -- a call whose pair stands in this leaf or to the right of it
@@ -92,7 +94,7 @@ KnowsFlight GateSync noted number = noted ≡ number
 
 module _ {B : Type 0} (c : Class B) (r : Reading (Entry B) (Page B)) (f : Format B) (passes : ℕ → Contents → Bool) where
   -- An engine over a device holds an index, which is whole: its pages and log are the index's, its sessions are the index's and at
-  -- the same, and its last commit has the number of the log's. While it hasn't failed, it knows the last commit in flight, and in a
+  -- the same, its sessions' notes are what the log's transactions have touched, and its last commit has the number of the log's. While it hasn't failed, it knows the last commit in flight, and in a
   -- checkpoint that turns the log may be renewed.
   pub record Holds {D : Type 0} (d : Device) (e : Parts B D) (bodies : List (List (Record (Entry B) (Page B)))) (i : index.State B) : Type 0 where
     pub most : e.volume.most ≡ c.rules.most
@@ -101,6 +103,7 @@ module _ {B : Type 0} (c : Class B) (r : Reading (Entry B) (Page B)) (f : Format
     pub whole : IsWhole c i
     pub sessions : AreOf e.sessions i
     pub at : AreAt c.keys e.sessions i
+    pub told : AreTold e.sessions (analysis (known_of c) (all_records i.log)).touched
     pub latest : e.sessions.latest ≡ latest (known_of c) i.log
     pub flying : e.sessions.failed ≡ false → KnowsFlight e.volume.log.stage e.in_flight (durable (known_of c) (gate_synced i.log))
     pub turns : e.sessions.failed ≡ false → e.checkpoint ≡ Turning → MayRenew (known_of c) r e.volume.log.flight d.sectors d.pending i.log

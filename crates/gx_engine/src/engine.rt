@@ -42,6 +42,7 @@ impl<D: SectorDisk, K: ReadKeys> Engine<D, K> {
     ghost use Rattle.gx_machine.specs.Keys.{keys_of};
     ghost use Rattle.gx_phases.specs.Moves.{failed_state};
     ghost use Rattle.gx_phases.specs.States.{IsKept};
+    ghost use Rattle.gx_storage.specs.Flushing.{IsLeastWritable};
 
     /// An engine over pages with their log, of which no batch is in flight and no turn is under way, and over sessions. No checkpoint
     /// runs. Its looks and answers take memory of `alloc`.
@@ -83,6 +84,13 @@ impl<D: SectorDisk, K: ReadKeys> Engine<D, K> {
         ensures { result ≡ self.now.volume.shelf.counter }
     {
         self.storage.counter()
+    }
+
+    /// The least page that has changes, all of them in gated batches: one that `write_page` writes.
+    pub fn dirty(&self) -> Option<u32>
+        ensures { IsLeastWritable self.now.volume.shelf.frames result }
+    {
+        self.storage.dirty()
     }
 
     /// Gives the engine up for its device, as the calls left it. What isn't written is lost.
