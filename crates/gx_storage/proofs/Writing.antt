@@ -99,11 +99,14 @@ has_room_for log size is =
     let both = and_parts (nat_lt log.used 32) (nat_le (length log.filling + size) 32764) is in
     (ltb-true log.used 32 both.0, leb-true (length log.filling + size) 32764 both.1)
 
-pub begun_is : {D : Type 0} (v : Volume D) (u : Shelf D) (size said used : ℕ) (room : Bool) → u ≡ record v.shelf { batch = used; has_room = room } → used ≡ v.log.used → room ≡ has_room v.log said
-    → said ≡ size → u ≡ begun v size
-begun_is {D} v u size said used room is place has same =
-    is ∙ ap (λ n. (let x : Shelf D = record v.shelf { batch = n; has_room = room } in x)) place
-    ∙ ap (λ b. (let x : Shelf D = record v.shelf { batch = v.log.used; has_room = b } in x)) (has ∙ ap (λ n. has_room v.log n) same)
+pub begun_with : {D : Type 0} (s u : Shelf D) (l : Log) (size used : ℕ) (room : Bool) → u ≡ record s { batch = used; has_room = room } → used ≡ l.used → room ≡ has_room l size
+    → u ≡ record s { batch = l.used; has_room = has_room l size }
+begun_with {D} s u l size used room is place has =
+    is ∙ ap (λ n. (let x : Shelf D = record s { batch = n; has_room = room } in x)) place
+    ∙ ap (λ b. (let x : Shelf D = record s { batch = l.used; has_room = b } in x)) has
+
+pub begun_is : {D : Type 0} (v : Volume D) (u : Shelf D) (size said : ℕ) → u ≡ begun v said → said ≡ size → u ≡ begun v size
+begun_is v u size said is same = is ∙ ap (λ n. begun v n) same
 
 -- ---- what a step leaves
 

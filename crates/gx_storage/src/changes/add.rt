@@ -15,8 +15,8 @@ ghost use Rattle.gx_storage.specs.Changes.{IsLogged, IsUnlogged, begun, known_at
 ghost use Rattle.gx_storage.specs.Numbers.{HasOwnNumber};
 
 use crate::Storage;
-use crate::changes::room::has_room;
-use crate::changes::written::write_record;
+use crate::changes::room::begin;
+use crate::changes::written::{write_record, write_size};
 use gx_disk::SectorDisk;
 use gx_machine::Entry;
 use gx_readings::ReadKeys;
@@ -56,8 +56,7 @@ impl<D: SectorDisk, K: ReadKeys> Storage<D, K> {
         ensures memory { result ≢ Err StepFault.Memory }
         ensures full { result ≢ Err StepFault.PagesFull }
     {
-        let room = has_room(&self.log, K::KEY + 4119);
-        self.store.begin(u64::from(self.log.used()), room);
+        begin(&self.log, &mut self.store, write_size::<K>());
         add_step(&mut self.store, page, entry, self.most)?;
         self.store.in_order();
         write_record(

@@ -15,7 +15,7 @@ ghost use Rattle.gx_storage.specs.Numbers.{HasOwnNumber};
 
 use crate::Storage;
 use crate::changes::given::give_page;
-use crate::changes::room::has_room;
+use crate::changes::room::begin;
 use gx_disk::SectorDisk;
 use gx_geom::Shape;
 use gx_readings::ReadKeys;
@@ -66,8 +66,7 @@ impl<D: SectorDisk, K: ReadKeys> Storage<D, K> {
         ensures memory { result ≢ Err StepFault.Memory }
         ensures full { result ≢ Err StepFault.PagesFull }
     {
-        let room = has_room(&self.log, 4114);
-        self.store.begin(u64::from(self.log.used()), room);
+        begin(&self.log, &mut self.store, 4114);
         let did = descend_step(&mut self.store, item, coming, self.most)?;
         if !was_widened(&did) {
             return Ok(did);

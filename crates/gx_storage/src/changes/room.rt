@@ -1,13 +1,29 @@
-//! Whether the log has room for an event's record.
+//! An event begins, with the room that the log has for its record.
 ghost use Rattle.std.specs.Prelude.{◌≡◌};
 ghost use Rattle.gx_storage.specs.Changes.{has_room};
 
+use gx_disk::SectorDisk;
 use gx_glog::Glog;
+use gx_readings::ReadKeys;
+use gx_store::PageStore;
 
 /// Whether a log has room for a record of so many bytes, while no turn to the other extent is under way: a place is left for its
 /// batch, and the record fits the batch that fills.
-pub(crate) fn has_room(log: &Glog, size: usize) -> bool
+fn has_room(log: &Glog, size: usize) -> bool
     ensures { result ≡ has_room log.now size }
 {
     log.used() < 32 && size <= log.free()
+}
+
+/// Begins an event whose record has so many bytes: its changes are of the batch that the log's next place takes, and the pages are
+/// told whether the log has room for the record.
+pub(crate) fn begin<D: SectorDisk, K: ReadKeys>(
+    log: &Glog,
+    store: &mut PageStore<D, K>,
+    size: usize,
+)
+    ensures { store.new ≡ record store.old { batch = log.now.used; has_room = has_room log.now size } }
+{
+    let room = has_room(log, size);
+    store.begin(u64::from(log.used()), room);
 }

@@ -16,8 +16,8 @@ ghost use Rattle.gx_storage.specs.Changes.{IsUnlogged, MarkIsLogged, begun, know
 ghost use Rattle.gx_storage.specs.Numbers.{OwnWhereSet};
 
 use crate::Storage;
-use crate::changes::room::has_room;
-use crate::changes::written::write_record;
+use crate::changes::room::begin;
+use crate::changes::written::{write_record, write_size};
 use gx_class::Probing;
 use gx_disk::SectorDisk;
 use gx_machine::Entry;
@@ -64,8 +64,7 @@ impl<D: SectorDisk, K: ReadKeys + Probing> Storage<D, K> {
         ensures memory { result ≢ Err StepFault.Memory }
         ensures full { result ≢ Err StepFault.PagesFull }
     {
-        let room = has_room(&self.log, K::KEY + 4119);
-        self.store.begin(u64::from(self.log.used()), room);
+        begin(&self.log, &mut self.store, write_size::<K>());
         match set_mark_step(&mut self.store, wanted, page, marked)? {
             Sought::Here(slot, before) => {
                 self.store.in_order();

@@ -21,7 +21,7 @@ ghost use Rattle.gx_tree_laws.specs.Lists.{Each};
 
 use crate::Storage;
 use crate::changes::given_pages::{give_three, in_rising_order};
-use crate::changes::room::has_room;
+use crate::changes::room::begin;
 use gx_disk::SectorDisk;
 use gx_readings::ReadKeys;
 use gx_store::StoreFault;
@@ -74,8 +74,7 @@ impl<D: SectorDisk, K: ReadKeys> Storage<D, K> {
             → self.old.shelf.counter + 1 < 2 ^ 64 → ⊥ }
         ensures memory { result ≢ Err StepFault.Memory }
     {
-        let room = has_room(&self.log, 12314);
-        self.store.begin(u64::from(self.log.used()), room);
+        begin(&self.log, &mut self.store, 12314);
         let Some(split) = split_step(&mut self.store, page, parent, self.most, keys)? else {
             return Ok(None);
         };

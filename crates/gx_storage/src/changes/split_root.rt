@@ -21,7 +21,7 @@ ghost use Rattle.gx_tree_laws.specs.Lists.{Each};
 
 use crate::Storage;
 use crate::changes::given_pages::give_three;
-use crate::changes::room::has_room;
+use crate::changes::room::begin;
 use gx_disk::SectorDisk;
 use gx_readings::ReadKeys;
 use gx_store::StoreFault;
@@ -64,8 +64,7 @@ impl<D: SectorDisk, K: ReadKeys> Storage<D, K> {
             → (node_at (store_of (format_of K.KeyClass) (D.state self.old.shelf.disk).seen self.old.shelf).nodes 1).level + 1 < 2 ^ 16 → ⊥ }
         ensures memory { result ≢ Err StepFault.Memory }
     {
-        let room = has_room(&self.log, 12314);
-        self.store.begin(u64::from(self.log.used()), room);
+        begin(&self.log, &mut self.store, 12314);
         if self.store.used() == 0 {
             return Err(StepFault::Damaged);
         }

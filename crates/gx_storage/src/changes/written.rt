@@ -17,6 +17,13 @@ use gx_readings::{OfClass, ReadKeys};
 use gx_record::{Mark, Record};
 use gx_store::PageStore;
 
+/// How many bytes the record of a write has.
+pub(crate) fn write_size<K: ReadKeys>() -> usize
+    ensures { result ≡ K.KEY + 4119 }
+{
+    K::KEY + 4119
+}
+
 /// Appends the record of a write: the transaction changed the entry's mark, or added it, on a leaf, of which the record has the
 /// image as it is held. The key's bytes are written over `spelled`.
 pub(crate) fn write_record<D: SectorDisk, K: ReadKeys>(

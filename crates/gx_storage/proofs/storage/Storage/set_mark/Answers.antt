@@ -14,10 +14,10 @@ returns-in_err-slot-clause-unlogged g c =
     let f = format_of g.K.KeyClass in
     let state = g.D.SectorDisk.state in
     let v : Volume g.row.D.Denot = record { log = i.log; shelf = i.store; most = i.most } in
-    let u = c.begin.new.self in
+    let u = c.begin.new.store in
     let t = c.set_mark_step.new.pages in
     let size = g.K.KeyClass.KEY + 4119 in
-    let is = begun_is v u size _ _ _ c.begin.ensures (c.from.ensures ∙ c.used.ensures.used) c.has_room-room.ensures (ap (λ n. n + 4119) c.KEY.ensures) in
+    let is = begun_is v u size _ c.begin.ensures c.write_size.ensures in
     let since = unstepped (is_node f) state v size t u is c.in_err-slot.ensures.kept in
     rw (← c.self.view_is) (on_err _ _ (unlogged _ _ f (is_node f) state v size t since
     (λ steady. c.in_err-slot.ensures.refused (steady_begun (is_node f) state v size t u is steady) ∙ ap (λ (x : Shelf g.row.D.Denot). store_of f (state x.disk).seen x) is)))
@@ -28,10 +28,10 @@ write_record-requires-clause-place g c =
     let f = format_of g.K.KeyClass in
     let state = g.D.SectorDisk.state in
     let v : Volume g.row.D.Denot = record { log = i.log; shelf = i.store; most = i.most } in
-    let u = c.begin.new.self in
+    let u = c.begin.new.store in
     let t = c.set_mark_step.new.pages in
     let size = g.K.KeyClass.KEY + 4119 in
-    let is = begun_is v u size _ _ _ c.begin.ensures (c.from.ensures ∙ c.used.ensures.used) c.has_room-room.ensures (ap (λ n. n + 4119) c.KEY.ensures) in
+    let is = begun_is v u size _ c.begin.ensures c.write_size.ensures in
     let did = stepped (is_node f) state v size t u c.args.page is c.in_ok-slot.ensures.since in
     (has_room_then (is_node f) state v size t (sym did.goes_on.has_room) (c.in_ok-slot.ensures.changing (ap is_here c.in-Here.is))).0
 
@@ -41,10 +41,10 @@ write_record-requires-clause-room g c =
     let f = format_of g.K.KeyClass in
     let state = g.D.SectorDisk.state in
     let v : Volume g.row.D.Denot = record { log = i.log; shelf = i.store; most = i.most } in
-    let u = c.begin.new.self in
+    let u = c.begin.new.store in
     let t = c.set_mark_step.new.pages in
     let size = g.K.KeyClass.KEY + 4119 in
-    let is = begun_is v u size _ _ _ c.begin.ensures (c.from.ensures ∙ c.used.ensures.used) c.has_room-room.ensures (ap (λ n. n + 4119) c.KEY.ensures) in
+    let is = begun_is v u size _ c.begin.ensures c.write_size.ensures in
     let did = stepped (is_node f) state v size t u c.args.page is c.in_ok-slot.ensures.since in
     (has_room_then (is_node f) state v size t (sym did.goes_on.has_room) (c.in_ok-slot.ensures.changing (ap is_here c.in-Here.is))).1
 
@@ -54,10 +54,10 @@ returns-in-Here-clause-logged g c =
     let f = format_of g.K.KeyClass in
     let state = g.D.SectorDisk.state in
     let v : Volume g.row.D.Denot = record { log = i.log; shelf = i.store; most = i.most } in
-    let u = c.begin.new.self in
+    let u = c.begin.new.store in
     let t = c.set_mark_step.new.pages in
     let size = g.K.KeyClass.KEY + 4119 in
-    let is = begun_is v u size _ _ _ c.begin.ensures (c.from.ensures ∙ c.used.ensures.used) c.has_room-room.ensures (ap (λ n. n + 4119) c.KEY.ensures) in
+    let is = begun_is v u size _ c.begin.ensures c.write_size.ensures in
     let did = stepped (is_node f) state v size t u c.args.page is c.in_ok-slot.ensures.since in
     rw (← c.self.view_is) (logged_write _ _ f (is_node f) state v size t c.args.transaction c.args.entry.now.row (g.K.KeyClass.spelling c.args.entry.now.key) c.in-Here.before c.args.marked c.args.page c.write_record.new.log did
     c.in_ok-slot.ensures.held c.in_order.ensures.taken
@@ -72,10 +72,10 @@ returns-in-Here-clause-marked g c =
     let f = format_of g.K.KeyClass in
     let state = g.D.SectorDisk.state in
     let v : Volume g.row.D.Denot = record { log = i.log; shelf = i.store; most = i.most } in
-    let u = c.begin.new.self in
+    let u = c.begin.new.store in
     let t = c.set_mark_step.new.pages in
     let size = g.K.KeyClass.KEY + 4119 in
-    let is = begun_is v u size _ _ _ c.begin.ensures (c.from.ensures ∙ c.used.ensures.used) c.has_room-room.ensures (ap (λ n. n + 4119) c.KEY.ensures) in
+    let is = begun_is v u size _ c.begin.ensures c.write_size.ensures in
     rw (← c.self.view_is) (λ steady. marked_since f state v size u _ _ c.args.page c.args.marked _ _ is c.in-Here.is (c.in_ok-slot.ensures.marked (steady_begun (is_node f) state v size t u is steady)))
 
 pub returns-in-Right-clause-logged : goal.returns-in-Right-clause-logged
@@ -84,10 +84,10 @@ returns-in-Right-clause-logged g c =
     let f = format_of g.K.KeyClass in
     let state = g.D.SectorDisk.state in
     let v : Volume g.row.D.Denot = record { log = i.log; shelf = i.store; most = i.most } in
-    let u = c.begin.new.self in
+    let u = c.begin.new.store in
     let t = c.set_mark_step.new.pages in
     let size = g.K.KeyClass.KEY + 4119 in
-    let is = begun_is v u size _ _ _ c.begin.ensures (c.from.ensures ∙ c.used.ensures.used) c.has_room-room.ensures (ap (λ n. n + 4119) c.KEY.ensures) in
+    let is = begun_is v u size _ c.begin.ensures c.write_size.ensures in
     let since = unstepped (is_node f) state v size t u is (c.in_ok-slot.ensures.passed (ap is_here c.in-Right.is)) in
     rw (← c.self.view_is) (unlogged _ _ f (is_node f) state v size t since
     (λ steady. unmarked_stays _ _ _ c.args.page c.args.marked _ c.in-Right.next c.in-Right.is (c.in_ok-slot.ensures.marked (steady_begun (is_node f) state v size t u is steady)) ∙ ap (λ (x : Shelf g.row.D.Denot). store_of f (state x.disk).seen x) is))

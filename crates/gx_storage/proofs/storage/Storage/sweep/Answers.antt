@@ -18,9 +18,9 @@ returns-in_err-plan-clause-unlogged g c =
     let f = format_of g.K.KeyClass in
     let state = g.D.SectorDisk.state in
     let v : Volume g.row.D.Denot = record { log = i.log; shelf = i.store; most = i.most } in
-    let u = c.begin.new.self in
+    let u = c.begin.new.store in
     let read = c.plan_sweep.new.pages in
-    let is = begun_is v u 4114 _ _ _ c.begin.ensures (c.from.ensures ∙ c.used.ensures.used) c.has_room-room.ensures refl in
+    let is = begun_is v u 4114 _ c.begin.ensures refl in
     let since = unstepped (is_node f) state v 4114 read u is c.in_err-plan.ensures.since in
     rw (← c.self.view_is) (on_err _ _ (unlogged _ _ f (is_node f) state v 4114 read since
     (λ steady. read_since f state v 4114 u is _ (c.in_err-plan.ensures.same (steady_begun (is_node f) state v 4114 read u is steady)))))
@@ -31,9 +31,9 @@ returns-then-is_empty-clause-logged g c =
     let f = format_of g.K.KeyClass in
     let state = g.D.SectorDisk.state in
     let v : Volume g.row.D.Denot = record { log = i.log; shelf = i.store; most = i.most } in
-    let u = c.begin.new.self in
+    let u = c.begin.new.store in
     let read = c.plan_sweep.new.pages in
-    let is = begun_is v u 4114 _ _ _ c.begin.ensures (c.from.ensures ∙ c.used.ensures.used) c.has_room-room.ensures refl in
+    let is = begun_is v u 4114 _ c.begin.ensures refl in
     let since = unstepped (is_node f) state v 4114 read u is c.in_ok-plan.ensures.since in
     rw (← c.self.view_is) (unlogged _ _ f (is_node f) state v 4114 read since
     (λ steady. read_since f state v 4114 u is _ (c.in_ok-plan.ensures.same (steady_begun (is_node f) state v 4114 read u is steady))))
@@ -44,9 +44,9 @@ returns-then-is_empty-clause-swept g c =
     let f = format_of g.K.KeyClass in
     let state = g.D.SectorDisk.state in
     let v : Volume g.row.D.Denot = record { log = i.log; shelf = i.store; most = i.most } in
-    let u = c.begin.new.self in
+    let u = c.begin.new.store in
     let read = c.plan_sweep.new.pages in
-    let is = begun_is v u 4114 _ _ _ c.begin.ensures (c.from.ensures ∙ c.used.ensures.used) c.has_room-room.ensures refl in
+    let is = begun_is v u 4114 _ c.begin.ensures refl in
     let none : takes_none c.in_ok-plan.plan ≡ true = sym c.is_empty.ensures ∙ c.if-is_empty.true in
     rw (← c.self.view_is) (λ steady test agrees. unswept_since f state v 4114 u is _ (c.in_ok-plan.ensures.same (steady_begun (is_node f) state v 4114 read u is steady))
     c.in_ok-plan.plan c.args.page c.in_ok-plan.ensures.page test (c.in_ok-plan.ensures.plans test agrees) none)
@@ -57,9 +57,9 @@ make_sweep-requires-clause-held g c =
     let f = format_of g.K.KeyClass in
     let state = g.D.SectorDisk.state in
     let v : Volume g.row.D.Denot = record { log = i.log; shelf = i.store; most = i.most } in
-    let u = c.begin.new.self in
+    let u = c.begin.new.store in
     let read = c.plan_sweep.new.pages in
-    let is = begun_is v u 4114 _ _ _ c.begin.ensures (c.from.ensures ∙ c.used.ensures.used) c.has_room-room.ensures refl in
+    let is = begun_is v u 4114 _ c.begin.ensures refl in
     subst {A = ℕ} (λ a. IsHeld read a × Used (tree_of (store_of f (state read.disk).seen read)) a) (sym c.in_ok-plan.ensures.page) c.in_ok-plan.ensures.held
 
 pub make_sweep-requires-clause-fits : goal.make_sweep-requires-clause-fits
@@ -68,9 +68,9 @@ make_sweep-requires-clause-fits g c =
     let f = format_of g.K.KeyClass in
     let state = g.D.SectorDisk.state in
     let v : Volume g.row.D.Denot = record { log = i.log; shelf = i.store; most = i.most } in
-    let u = c.begin.new.self in
+    let u = c.begin.new.store in
     let read = c.plan_sweep.new.pages in
-    let is = begun_is v u 4114 _ _ _ c.begin.ensures (c.from.ensures ∙ c.used.ensures.used) c.has_room-room.ensures refl in
+    let is = begun_is v u 4114 _ c.begin.ensures refl in
     subst {A = ℕ} (λ a. FitsLeaf c.in_ok-plan.plan ((tree_of (store_of f (state read.disk).seen read)).node a)) (sym c.in_ok-plan.ensures.page) c.in_ok-plan.ensures.fits
 
 pub returns-in_err-make_sweep-clause-unlogged : goal.returns-in_err-make_sweep-clause-unlogged
@@ -79,9 +79,9 @@ returns-in_err-make_sweep-clause-unlogged g c =
     let f = format_of g.K.KeyClass in
     let state = g.D.SectorDisk.state in
     let v : Volume g.row.D.Denot = record { log = i.log; shelf = i.store; most = i.most } in
-    let u = c.begin.new.self in
+    let u = c.begin.new.store in
     let read = c.plan_sweep.new.pages in
-    let is = begun_is v u 4114 _ _ _ c.begin.ensures (c.from.ensures ∙ c.used.ensures.used) c.has_room-room.ensures refl in
+    let is = begun_is v u 4114 _ c.begin.ensures refl in
     let t = c.make_sweep.new.pages in
     let since = unstepped (is_node f) state v 4114 t u is (λ was q before. c.in_err-make_sweep.ensures.kept was q (c.in_ok-plan.ensures.since was q before)) in
     rw (← c.self.view_is) (on_err _ _ (unlogged _ _ f (is_node f) state v 4114 t since
@@ -93,9 +93,9 @@ give_page-requires-clause-place g c =
     let f = format_of g.K.KeyClass in
     let state = g.D.SectorDisk.state in
     let v : Volume g.row.D.Denot = record { log = i.log; shelf = i.store; most = i.most } in
-    let u = c.begin.new.self in
+    let u = c.begin.new.store in
     let read = c.plan_sweep.new.pages in
-    let is = begun_is v u 4114 _ _ _ c.begin.ensures (c.from.ensures ∙ c.used.ensures.used) c.has_room-room.ensures refl in
+    let is = begun_is v u 4114 _ c.begin.ensures refl in
     let t = c.make_sweep.new.pages in
     let plan = c.in_ok-plan.plan in
     let here = c.in_ok-plan.ensures.page in
@@ -109,9 +109,9 @@ give_page-requires-clause-room g c =
     let f = format_of g.K.KeyClass in
     let state = g.D.SectorDisk.state in
     let v : Volume g.row.D.Denot = record { log = i.log; shelf = i.store; most = i.most } in
-    let u = c.begin.new.self in
+    let u = c.begin.new.store in
     let read = c.plan_sweep.new.pages in
-    let is = begun_is v u 4114 _ _ _ c.begin.ensures (c.from.ensures ∙ c.used.ensures.used) c.has_room-room.ensures refl in
+    let is = begun_is v u 4114 _ c.begin.ensures refl in
     let t = c.make_sweep.new.pages in
     let plan = c.in_ok-plan.plan in
     let here = c.in_ok-plan.ensures.page in
@@ -134,9 +134,9 @@ returns-clause-logged g c =
     let f = format_of g.K.KeyClass in
     let state = g.D.SectorDisk.state in
     let v : Volume g.row.D.Denot = record { log = i.log; shelf = i.store; most = i.most } in
-    let u = c.begin.new.self in
+    let u = c.begin.new.store in
     let read = c.plan_sweep.new.pages in
-    let is = begun_is v u 4114 _ _ _ c.begin.ensures (c.from.ensures ∙ c.used.ensures.used) c.has_room-room.ensures refl in
+    let is = begun_is v u 4114 _ c.begin.ensures refl in
     let t = c.make_sweep.new.pages in
     let plan = c.in_ok-plan.plan in
     let here = c.in_ok-plan.ensures.page in
@@ -150,9 +150,9 @@ returns-clause-swept g c =
     let f = format_of g.K.KeyClass in
     let state = g.D.SectorDisk.state in
     let v : Volume g.row.D.Denot = record { log = i.log; shelf = i.store; most = i.most } in
-    let u = c.begin.new.self in
+    let u = c.begin.new.store in
     let read = c.plan_sweep.new.pages in
-    let is = begun_is v u 4114 _ _ _ c.begin.ensures (c.from.ensures ∙ c.used.ensures.used) c.has_room-room.ensures refl in
+    let is = begun_is v u 4114 _ c.begin.ensures refl in
     let t = c.make_sweep.new.pages in
     let plan = c.in_ok-plan.plan in
     let here = c.in_ok-plan.ensures.page in
@@ -166,9 +166,9 @@ returns-clause-stamped g c =
     let f = format_of g.K.KeyClass in
     let state = g.D.SectorDisk.state in
     let v : Volume g.row.D.Denot = record { log = i.log; shelf = i.store; most = i.most } in
-    let u = c.begin.new.self in
+    let u = c.begin.new.store in
     let read = c.plan_sweep.new.pages in
-    let is = begun_is v u 4114 _ _ _ c.begin.ensures (c.from.ensures ∙ c.used.ensures.used) c.has_room-room.ensures refl in
+    let is = begun_is v u 4114 _ c.begin.ensures refl in
     let t = c.make_sweep.new.pages in
     let plan = c.in_ok-plan.plan in
     let here = c.in_ok-plan.ensures.page in

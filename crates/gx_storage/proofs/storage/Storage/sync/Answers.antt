@@ -3,6 +3,12 @@ use Rattle.gx_storage.specs.State.{Volume}
 use Rattle.gx_storage.proofs.Calling.{sync_keeps}
 use Rattle.gx_storage.proofs.storage.Storage.sync.Goals as goal
 
+pub returns-clause-counts : goal.returns-clause-counts
+returns-clause-counts g c = rw (← c.self.view_is) c.sync.ensures.counts
+
+pub returns-clause-settled : goal.returns-clause-settled
+returns-clause-settled g c = rw (← c.self.view_is) c.sync.ensures.settled
+
 pub returns-clause-keeps : goal.returns-clause-keeps
 returns-clause-keeps g c =
     let i = c.self.inside in
