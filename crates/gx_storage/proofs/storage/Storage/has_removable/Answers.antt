@@ -15,7 +15,12 @@ pub returns : goal.returns
 returns g c test says =
     let page = c.held_page-held.result.now in
     let told : c.if-level-eq0.result ≡ has_removable test (node_of (format_of g.K.KeyClass) page) = elim c.if-level-eq0.branch [
-      | then-level-eq0 w ↦ (let here : (page.level == 0) ≡ true = eq-eqb page.level 0 (sym c.level.ensures ∙ w.if-level-eq0.true) in rw here (rw here (w.result-is ∙ w.any_removable.ensures test says ∙ ap (λ (n : Node g.row.K-Key.Denot). nat_lt 0 (how_many (is_sweepable (λ x. test (entry_of x))) n.pairs)) w.of.ensures)))
-      | else-level-eq0 w ↦ (let other : (page.level == 0) ≡ false = ne_eqb page.level 0 (λ is. w.if-level-eq0.false (c.level.ensures ∙ is)) in rw other (rw other (w.result-is ∙ ne_eqb c.level.result 0 w.if-level-eq0.false)))
+      | then-level-eq0 w ↦
+          let here : (page.level == 0) ≡ true = eq-eqb page.level 0 (sym c.level.ensures ∙ w.if-level-eq0.true) in
+          let pairs = ap (λ (n : Node g.row.K-Key.Denot). nat_lt 0 (how_many (is_sweepable (λ x. test (entry_of x))) n.pairs)) w.of.ensures in
+          rw here (rw here (w.result-is ∙ w.any_removable.ensures test says ∙ pairs))
+      | else-level-eq0 w ↦
+          let other : (page.level == 0) ≡ false = ne_eqb page.level 0 (λ is. w.if-level-eq0.false (c.level.ensures ∙ is)) in
+          rw other (rw other (w.result-is ∙ ne_eqb c.level.result 0 w.if-level-eq0.false))
     ] in
     subst {A = Node g.row.K-Key.Denot} (λ n. c.if-level-eq0.result ≡ has_removable test n) c.held_page-held.ensures.node told
