@@ -6,6 +6,7 @@ pub mod Marking
 pub mod Moving
 pub mod OnlyReads
 pub mod Recording
+pub mod Removing
 pub mod Shown
 pub mod Splitting
 pub mod Sweeping

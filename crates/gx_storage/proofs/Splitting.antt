@@ -38,7 +38,8 @@ use Rattle.gx_storage.specs.Numbers.{HasOwnNumber}
 use Rattle.gx_storage.specs.Giving.{IsGiven, contents_at, pages_given, placed, rising}
 use Rattle.gx_storage.specs.State.{Volume}
 use Rattle.gx_storage.proofs.Giving.{AreThere, pages_stay_with}
-use Rattle.gx_storage.proofs.Writing.{same_node, since_begun}
+use Rattle.gx_storage.proofs.OnlyReads.{since_begun}
+use Rattle.gx_storage.proofs.Writing.{same_node}
 
 -- ---- three pages by rising number
 
@@ -115,8 +116,8 @@ module _ {D : Type 0} (passes : ℕ → Contents → Bool) (state : D → Device
   stepped_three u a b c pages is keeps apart =
       let beside = suc (a + (b + c)) in
       record {
-        goes_on = (since_begun passes state v size t u beside is (λ was. keeps was beside (omega arith) (omega arith) (omega arith))).goes_on;
-        others = λ q other. (let one = apart q other in (since_begun passes state v size t u q is (λ was. keeps was q one.0 one.1 one.2)).same);
+        goes_on = (since_begun passes state v t u v.log.used beside (has_room v.log size) is (λ was. keeps was beside (omega arith) (omega arith) (omega arith))).goes_on;
+        others = λ q other. (let one = apart q other in (since_begun passes state v t u v.log.used q (has_room v.log size) is (λ was. keeps was q one.0 one.1 one.2)).same);
       }
 
   -- a node, its parent and a new sibling, by rising number

@@ -31,7 +31,6 @@ use Rattle.gx_store.specs.Since.{GoesOn, IsAsItWas, IsSince, IsStamped}
 use Rattle.gx_store.specs.Standing.{standing, standing_node, store_of}
 use Rattle.gx_store.specs.State.{Shelf, IsHeld, IsSteady}
 use Rattle.gx_store.proofs.Changing.{there}
-use Rattle.gx_store.proofs.Going.{begins}
 use Rattle.gx_store.proofs.Listed.{node_there, nodes_long}
 use Rattle.gx_store.proofs.Shown.{lent, stands_kept}
 use Rattle.gx_storage.specs.Changes.{IsLast, IsLogged, IsUnlogged, begun, has_room}
@@ -39,6 +38,7 @@ use Rattle.gx_storage.specs.Keeps.{KeepsWith, StaysWith}
 use Rattle.gx_storage.specs.Numbers.{HasOwnNumber}
 use Rattle.gx_storage.specs.State.{Volume}
 use Rattle.gx_storage.proofs.Moving.{stays_same}
+use Rattle.gx_storage.proofs.OnlyReads.{since_begun}
 use Rattle.gx_storage.proofs.Recording.{write_stays_with}
 
 pub on_err : {A E : Type 0} (result : Result A E) (P : Type 0) → P → OnErr result P
@@ -116,26 +116,20 @@ module _ {D : Type 0} (passes : ℕ → Contents → Bool) (state : D → Device
     pub goes_on : GoesOn passes (state v.shelf.disk) (state t.disk) (begun v size) t
     pub others : (q : ℕ) → (page == q) ≡ false → IsAsItWas (state v.shelf.disk) (state t.disk) v.shelf.frames t.frames q
 
-  pub since_begun : (u : Shelf D) (q : ℕ) → u ≡ begun v size → ((was : Shelf D) → IsSince passes (state was.disk) (state u.disk) was u q → IsSince passes (state was.disk) (state t.disk) was t q)
-      → IsSince passes (state v.shelf.disk) (state t.disk) (begun v size) t q
-  since_begun u q is keeps =
-      let I : Shelf D → Type 0 = λ x. ((was : Shelf D) → IsSince passes (state was.disk) (state x.disk) was x q → IsSince passes (state was.disk) (state t.disk) was t q) in
-      (subst I is keeps) (begun v size) (begins passes (state v.shelf.disk) (begun v size) q)
-
   apart : (page q : ℕ) → (page == q) ≡ false → q ≢ page
   apart page q other = λ same. clash (page == q) (eq-eqb page q (sym same)) other
 
   pub stepped : (u : Shelf D) (page : ℕ) → u ≡ begun v size
       → ((was : Shelf D) (q : ℕ) → q ≢ page → IsSince passes (state was.disk) (state u.disk) was u q → IsSince passes (state was.disk) (state t.disk) was t q) → Stepped page
   stepped u page is keeps = record {
-    goes_on = (since_begun u (suc page) is (λ was. keeps was (suc page) (omega arith))).goes_on;
-    others = λ q other. (since_begun u q is (λ was. keeps was q (apart page q other))).same;
+    goes_on = (since_begun passes state v t u v.log.used (suc page) (has_room v.log size) is (λ was. keeps was (suc page) (omega arith))).goes_on;
+    others = λ q other. (since_begun passes state v t u v.log.used q (has_room v.log size) is (λ was. keeps was q (apart page q other))).same;
   }
 
   -- each page is as it was
   pub unstepped : (u : Shelf D) → u ≡ begun v size → ((was : Shelf D) (q : ℕ) → IsSince passes (state was.disk) (state u.disk) was u q → IsSince passes (state was.disk) (state t.disk) was t q)
       → (q : ℕ) → IsSince passes (state v.shelf.disk) (state t.disk) (begun v size) t q
-  unstepped u is keeps q = since_begun u q is (λ was. keeps was q)
+  unstepped u is keeps q = since_begun passes state v t u v.log.used q (has_room v.log size) is (λ was. keeps was q)
 
   pub steady_begun : (u : Shelf D) → u ≡ begun v size → IsSteady (state v.shelf.disk) v.shelf.frames → IsSteady (state u.disk) u.frames
   steady_begun u is steady = subst {A = Shelf D} (λ x. IsSteady (state x.disk) x.frames) (sym is) steady

@@ -6,6 +6,7 @@ mod changes;
 mod checkpoint;
 mod flusher;
 pub mod laws;
+mod pages;
 mod reads;
 mod storage;
 

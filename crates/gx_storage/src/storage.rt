@@ -59,6 +59,14 @@ impl<D: SectorDisk, K: ReadKeys> Storage<D, K> {
         self.store.in_order()
     }
 
+    /// How many entries a node has at most.
+    pub fn most(&self) -> usize
+        ensures most { result ≡ self.now.most }
+        ensures few { self.now.most ≤ MAX_ENTRIES }
+    {
+        self.most
+    }
+
     /// The greatest page that is taken.
     pub fn used(&self) -> u32
         ensures { result ≡ self.now.shelf.used }
