@@ -10,3 +10,5 @@ pub mod Noting
 pub mod Restored
 pub mod Undoing
 pub mod Marking
+pub mod Touched
+pub mod Noted
