@@ -53,12 +53,14 @@ module _ {B W : Type 0} (c : Class B) (l : IsLawful c) (i : index.State B) (w : 
       let a : ℕ = had.session in
       let there : is_session a ≡ true = busy_session c l i w a had.busy in
       let slot : slot_at a i.slots ≡ slot_of (phase_at (a - 1) sessions.phases) (held_at (a - 1) sessions.table) =
-      ap (λ (all : List (Slot B)). slot_at a all) of.slots ∙ slot_here a sessions.phases sessions.table there (kept.phases ∙ sym kept.table) in
-      (a, record {
-        is = there;
-        busy = busy_phase (phase_at (a - 1) sessions.phases) (held_at (a - 1) sessions.table) (sym (ap is_busy slot) ∙ had.busy);
-        its = sym (of.transactions a there) ∙ had.has;
-      })
+      ap (λ (all : List (Slot B)). slot_at a all) of.slots ∙ slot_here a sessions.phases sessions.table there (kept.phases ∙ sym kept.table) in (
+        a,
+        record {
+          is = there;
+          busy = busy_phase (phase_at (a - 1) sessions.phases) (held_at (a - 1) sessions.table) (sym (ap is_busy slot) ∙ had.busy);
+          its = sym (of.transactions a there) ∙ had.has;
+        },
+      )
 
   listed_had : (t : ℕ) (e : Entry B) → lists k t e xs ≡ true → (session : ℕ) × HasIt sessions t session
   listed_had t e listed =
