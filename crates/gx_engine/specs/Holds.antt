@@ -94,8 +94,8 @@ KnowsFlight GateSync noted number = noted ≡ number
 
 module _ {B : Type 0} (c : Class B) (r : Reading (Entry B) (Page B)) (f : Format B) (passes : ℕ → Contents → Bool) where
   -- An engine over a device holds an index, which is whole: its pages and log are the index's, its sessions are the index's and at
-  -- the same, its sessions' notes are what the log's transactions have touched, and its last commit has the number of the log's. While it hasn't failed, it knows the last commit in flight, and in a
-  -- checkpoint that turns the log may be renewed.
+  -- the same, its sessions' notes are what the log's transactions have touched, and its last commit has the number of the log's.
+  -- While it hasn't failed, it knows the last commit in flight, and in a checkpoint that turns the log may be renewed.
   pub record Holds {D : Type 0} (d : Device) (e : Parts B D) (bodies : List (List (Record (Entry B) (Page B)))) (i : index.State B) : Type 0 where
     pub most : e.volume.most ≡ c.rules.most
     pub some : 4 ≤ c.rules.most

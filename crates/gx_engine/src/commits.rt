@@ -60,7 +60,8 @@ impl<D: SectorDisk, K: ReadKeys> Engine<D, K> {
     }
 
     /// Acknowledges a session's commit where its number is durable, and the session is free: `Replied` with `Committed` and that number.
-    /// Else `Help(Log)`, or `Help(Checkpoint)` while a checkpoint runs, and nothing has changed. It makes no call of the device and takes no memory.
+    /// Else `Help(Log)`, or `Help(Checkpoint)` while a checkpoint runs, and nothing has changed. It makes no call of the device and
+    /// takes no memory.
     pub fn acknowledge(&mut self, session: u8) -> Outcome<K::Key>
         requires session { is_session session ≡ true }
         requires works { self.old.sessions.failed ≡ false }
