@@ -6,6 +6,7 @@ use Rattle.gx_glog.specs.declared.filling.Appended.{Appended}
 use Rattle.gx_glog.specs.declared.filling.Appended.TheVariants.{At, NoRoom}
 use Rattle.gx_glog.specs.Appending.{Appends}
 use Rattle.gx_glog.specs.State.{Log, turning}
+use Rattle.gx_glog.proofs.Besides.{spelled_some}
 use Rattle.gx_glog.proofs.Keeping.{append_on}
 use Rattle.gx_recovery.specs.Known.{Known}
 use Rattle.gx_recovery.specs.Logged.{appended}
@@ -13,8 +14,9 @@ use Rattle.gx_recovery.proofs.Lives.{appended_healthy}
 use Rattle.gx_durable.specs.Spelled.{Reading, record_read}
 use Rattle.gx_durable.specs.Stamps.{Stamped}
 use Rattle.gx_durable.specs.Standing.{Up}
-use Rattle.gx_durable.specs.Calls.{AppendStaysUp, AppendStaysStamped}
+use Rattle.gx_durable.specs.Calls.{AppendPlaces, AppendStaysUp, AppendStaysStamped}
 use Rattle.gx_durable.proofs.Spellings.{spelling_adds}
+use Rattle.gx_durable.proofs.Stamping.{longer_placed, same_placed}
 
 module _ {E P : Type 0} (k : Known E P) (r : Reading E P) (x : Rec) (old new : Log) where
   pub append_up : (result : Appended) → IsInRange x → old.used < 32 → Appends (spelling x) old new result → AppendStaysUp k r x old new result
@@ -49,3 +51,8 @@ module _ {E P : Type 0} (r : Reading E P) (x : Rec) (old new : Log) where
       let S : Log → Type 0 = λ g. Stamped g frames (appended (record_read r x) s) in
       subst S (sym appends.2) (record { behind = stamped.behind; places = stamped.places; gated = stamped.gated; flight = stamped.flight })
   append_stamped NoRoom appends frames s stamped = let S : Log → Type 0 = λ g. Stamped g frames s in subst S (sym appends.1) stamped
+
+pub append_placed : (x : Rec) (old new : Log) (result : Appended) → Appends (spelling x) old new result → AppendPlaces old new result
+append_placed x old new (At place) appends = λ frames last.
+    longer_placed old new (spelling x) frames (spelled_some x) (ap (λ (g : Log). g.used) appends.2) (ap (λ (g : Log). g.filling) appends.2) last
+append_placed x old new NoRoom appends = λ frames placed. same_placed old new frames (ap (λ (g : Log). g.used) appends.1) (ap (λ (g : Log). g.filling) appends.1) placed

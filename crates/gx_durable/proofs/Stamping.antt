@@ -1,16 +1,21 @@
 -- The stamps of a pool over a step of the log.
-use Rattle.std.proofs.Common.{◌≡◌, ◌∙◌, sym, ap, refl, subst, inl, inr, ℕ, ◌+◌, ◌-◌, List, [], ◌∷◌, ◌++◌, length, Option, None, Some, Result, Ok, Err, append_assoc, arith}
+use Rattle.std.proofs.Common.{◌≡◌, ◌∙◌, sym, ap, refl, subst, inl, inr, ℕ, ◌+◌, ◌-◌, ◌≤◌, true, List, [], ◌∷◌, ◌++◌, length, length-append, Option, None, Some, Result, Ok, Err, append_assoc, arith}
+use Rattle.std.proofs.Math.Nat.{eq-or-lt_of_le}
+use Rattle.std.proofs.lemmas.Bool.{le-leb}
 use Rattle.std.proofs.lemmas.List.{append-nil}
 use Rattle.gx_geom.specs.declared.refusal.Refusal.{Refusal}
 use Rattle.gx_glog.specs.declared.stage.Stage.{Stage}
 use Rattle.gx_glog.specs.declared.stage.Stage.TheVariants.{Body, BodySync, Gate, GateSync, Idle}
-use Rattle.gx_glog.specs.State.{Log, in_flight, begun, after, Made, GoesFrom}
-use Rattle.gx_pool.specs.State.{State, kept, kept_at, place_of, stamp_of}
+use Rattle.gx_glog.specs.State.{Log, in_flight, begun, after, Made, Goes, GoesFrom}
+use Rattle.gx_pool.specs.Marks.{is_gated}
+use Rattle.gx_pool.specs.State.{State, IsWritable, kept, kept_at, place_of, stamp_of}
 use Rattle.gx_recovery.specs.Records.{Record}
 use Rattle.gx_recovery.specs.Logged.{Logged, all_records, gate_synced}
 use Rattle.gx_recovery.specs.Logged as logged
 use Rattle.gx_durable.specs.Area.{is_given}
-use Rattle.gx_durable.specs.Stamps.{Stamped, AllSaid}
+use Rattle.gx_durable.specs.Calls.{StaysPlaced}
+use Rattle.gx_durable.specs.PoolLaws.{NoneWritableIsClean}
+use Rattle.gx_durable.specs.Stamps.{Stamped, AllSaid, AllPlaced, IsPlaced, NoneLater}
 use Rattle.gx_durable.specs.Steps.{with_batch, stepped, told, told_frames}
 use Rattle.gx_durable.proofs.Moving.{given_more}
 
@@ -114,3 +119,98 @@ module _ {E P : Type 0} (frames : State) where
         let flies : in_flight Gate ≡ in_flight old.stage = ap in_flight is in made_stamped old new result s made (sym flies) (omega (arith, places, flies)) stamped
     step_stamped GateSync filling result is fills made =
         let flies : in_flight GateSync ≡ in_flight old.stage = ap in_flight is in made_stamped old new result s made (sym flies) (omega (arith, places, flies)) stamped
+
+-- ---- the places of what is dirty
+
+-- no dirty page is of a batch after the one that fills
+pub none_later : (log : Log) (frames : State) → AllPlaced log frames → NoneLater log.used frames
+none_later log frames placed p place is = elim (placed p place is) [
+  | inl began ↦ omega (arith, began)
+  | inr fills ↦ omega (arith, fills.0)
+]
+
+-- a log that has as many places taken, and fills with as much
+pub same_placed : (old new : Log) (frames : State) → new.used ≡ old.used → new.filling ≡ old.filling → AllPlaced old frames → AllPlaced new frames
+same_placed old new frames used filling placed p place is = elim (placed p place is) [
+  | inl began ↦ inl (omega (arith, began, used))
+  | inr fills ↦ inr (omega (arith, fills.0, used), (let long : length new.filling ≡ length old.filling = ap length filling in omega (arith, long, fills.1)))
+]
+
+-- a place up to that of the batch that fills
+placed_at : (log : Log) (place : ℕ) → place ≤ log.used → 1 ≤ length log.filling → IsPlaced log place
+placed_at log place last fills = elim (eq-or-lt_of_le last) [
+  | inl same ↦ inr (same, fills)
+  | inr began ↦ inl began
+]
+
+-- a log that fills with something more
+pub longer_placed : (old new : Log) (bytes : List ℕ) (frames : State) → 1 ≤ length bytes → new.used ≡ old.used → new.filling ≡ old.filling ++ bytes → NoneLater old.used frames → AllPlaced new frames
+longer_placed old new bytes frames some used filling last p place is =
+    let long : length new.filling ≡ length (old.filling ++ bytes) = ap length filling in
+    placed_at new place (omega (arith, last p place is, used)) (omega (arith, long, length-append old.filling bytes, some))
+
+-- frames whose dirty pages were dirty with the same stamp
+pub fewer_placed : (log : Log) (old new : State) → ((p place : ℕ) → stamp_of (kept new p) ≡ Some place → stamp_of (kept old p) ≡ Some place) → AllPlaced log old → AllPlaced log new
+fewer_placed log old new dirty placed p place is = placed p place (dirty p place is)
+
+after_used : (stage : Stage) (log : Log) → (after stage log).used ≡ log.used
+after_used Body log = refl
+after_used BodySync log = refl
+after_used Gate log = refl
+after_used GateSync log = refl
+after_used Idle log = refl
+
+after_filling : (stage : Stage) (log : Log) → (after stage log).filling ≡ log.filling
+after_filling Body log = refl
+after_filling BodySync log = refl
+after_filling Gate log = refl
+after_filling GateSync log = refl
+after_filling Idle log = refl
+
+module _ (frames : State) where
+  made_placed : (due new : Log) (result : Result Stage Refusal) → Made due new result → AllPlaced due frames → AllPlaced new frames
+  made_placed due new (Ok stage) made placed =
+      same_placed due new frames (ap (λ (g : Log). g.used) made.1 ∙ after_used due.stage due) (ap (λ (g : Log). g.filling) made.1 ∙ after_filling due.stage due) placed
+  made_placed due new (Err refusal) made placed = same_placed due new frames (ap (λ (g : Log). g.used) made.1) (ap (λ (g : Log). g.filling) made.1) placed
+
+  -- the place of what filled is taken
+  begun_placed : (old : Log) → AllPlaced old frames → AllPlaced (begun old) frames
+  begun_placed old placed p place is = inl (omega (arith, none_later old frames placed p place is))
+
+  goes_placed : (stage : Stage) (old new : Log) (result : Result Stage Refusal) → GoesFrom stage old new result → AllPlaced old frames → AllPlaced new frames
+  goes_placed Idle old new result (inl (nothing, idle, same)) placed = same_placed old new frames (ap (λ (g : Log). g.used) same) (ap (λ (g : Log). g.filling) same) placed
+  goes_placed Idle old new result (inr (some, made)) placed = made_placed (begun old) new result made (begun_placed old placed)
+  goes_placed Body old new result made placed = made_placed old new result made placed
+  goes_placed BodySync old new result made placed = made_placed old new result made placed
+  goes_placed Gate old new result made placed = made_placed old new result made placed
+  goes_placed GateSync old new result made placed = made_placed old new result made placed
+
+  told_dirty : (result : Result Stage Refusal) (new : Log) (p place : ℕ) → stamp_of (kept (told_frames result new frames) p) ≡ Some place → stamp_of (kept frames p) ≡ Some place
+  told_dirty (Ok Idle) new p place is = is
+  told_dirty (Ok Body) new p place is = is
+  told_dirty (Ok BodySync) new p place is = is
+  told_dirty (Ok Gate) new p place is = is
+  told_dirty (Ok GateSync) new p place is = told_stamp frames (new.used - 1) p place is
+  told_dirty (Err refusal) new p place is = is
+
+  pub step_placed : (old new : Log) (frames' : State) (result : Result Stage Refusal) → frames' ≡ told_frames result new frames → Goes old new result → StaysPlaced old new frames frames'
+  step_placed old new frames' result tells goes placed =
+      subst {A = State} (λ f. AllPlaced new f) (sym tells) (fewer_placed new frames (told_frames result new frames) (told_dirty result new) (goes_placed old.stage old new result goes placed))
+
+-- where all that began is gated and nothing fills, a dirty page may be written
+module _ {E P : Type 0} (log : Log) (frames : State) (s : Logged E P) (stamped : Stamped log frames s) (placed : AllPlaced log frames) (gated : log.used ≡ log.gated) (quiet : log.filling ≡ []) where
+  place_gated : (p place : ℕ) → stamp_of (kept frames p) ≡ Some place → place ≤ frames.gated
+  place_gated p place is = elim (placed p place is) [
+    | inl began ↦ omega (arith, began, gated, stamped.behind)
+    | inr fills ↦ absurd (let none : length log.filling ≡ 0 = ap length quiet in omega (arith, none, fills.1))
+  ]
+
+  dirty_writable : (p place : ℕ) → stamp_of (kept frames p) ≡ Some place → is_gated frames.gated (stamp_of (kept frames p)) ≡ true
+  dirty_writable p place is = ap (is_gated frames.gated) is ∙ le-leb place frames.gated (place_gated p place is)
+
+  none_by : (p : ℕ) (o : Option ℕ) → stamp_of (kept frames p) ≡ o → (IsWritable frames p → ⊥) → stamp_of (kept frames p) ≡ None
+  none_by p None is none = is
+  none_by p (Some place) is none = absurd (none (dirty_writable p place is))
+
+pub none_writable : (E P : Type 0) → NoneWritableIsClean E P
+none_writable E P log frames s stamped placed gated quiet none p = none_by log frames s stamped placed gated quiet p (stamp_of (kept frames p)) refl (none p)

@@ -72,7 +72,7 @@ none_dirty : (frames : State) (p place : ℕ) {X : Type 0} → NoneDirty frames 
 none_dirty frames p place clean is = absurd (let never : ◌≡◌ {A = Option ℕ} None (Some place) = sym (clean p) ∙ is in cc)
 
 -- where nothing is dirty, each stamp is a place
-pub none_stamped : {E P : Type 0} → (log : Log) (frames : State) (s : Logged E P) → frames.gated + 1 ≤ log.gated → log.gated ≤ log.used → NoneDirty frames → Stamped log frames s
+pub none_stamped : {E P : Type 0} → (log : Log) (frames : State) (s : Logged E P) → frames.gated + 1 ≡ log.gated → log.gated ≤ log.used → NoneDirty frames → Stamped log frames s
 none_stamped log frames s behind places clean = record {
   behind = behind;
   places = places;
@@ -83,7 +83,7 @@ none_stamped log frames s behind places clean = record {
 told_clean : (frames : State) (n : ℕ) → NoneDirty frames → NoneDirty (record frames { gated = n })
 told_clean frames n clean p = ap stamp_of (told_kept frames n p) ∙ clean p
 
-by_call : {E P : Type 0} → (log : Log) (frames : State) (s : Logged E P) (t : Turn) → frames.gated + 1 ≤ log.gated → log.gated ≤ log.used → NoneDirty frames → Stamped (after_turn t log) (told_turn t frames) s
+by_call : {E P : Type 0} → (log : Log) (frames : State) (s : Logged E P) (t : Turn) → frames.gated + 1 ≡ log.gated → log.gated ≤ log.used → NoneDirty frames → Stamped (after_turn t log) (told_turn t frames) s
 by_call log frames s turn.Closed behind places clean = none_stamped (after_turn turn.Closed log) frames s behind places clean
 by_call log frames s turn.Body behind places clean = none_stamped (after_turn turn.Body log) frames s behind places clean
 by_call log frames s turn.BodySync behind places clean = none_stamped (after_turn turn.BodySync log) frames s behind places clean
@@ -93,7 +93,7 @@ by_call log frames s turn.Selector behind places clean = none_stamped (after_tur
 by_call log frames s turn.Done behind places clean =
     none_stamped (after_turn turn.Done log) (record frames { gated = 0 }) s (omega arith) (omega arith) (told_clean frames 0 clean)
 
-turned_stamped : {E P : Type 0} → (log new : Log) (frames : State) (s : Logged E P) (result : Result Turn Refusal) → log_state.Turns log new result → frames.gated + 1 ≤ log.gated → log.gated ≤ log.used → NoneDirty frames
+turned_stamped : {E P : Type 0} → (log new : Log) (frames : State) (s : Logged E P) (result : Result Turn Refusal) → log_state.Turns log new result → frames.gated + 1 ≡ log.gated → log.gated ≤ log.used → NoneDirty frames
     → Stamped new (told_result result frames) s
 turned_stamped log new frames s (Ok t) turns behind places clean =
     let L : Log → Type 0 = λ g. Stamped g (told_turn t frames) s in

@@ -6,6 +6,7 @@ use Rattle.gx_disk.specs.Moments.{Leaves}
 use Rattle.gx_record.specs.Rec.{Rec}
 use Rattle.gx_record.specs.Format.{HasKey}
 use Rattle.gx_glog.specs.declared.filling.Appended.{Appended}
+use Rattle.gx_glog.specs.declared.filling.Appended.TheVariants.{At, NoRoom}
 use Rattle.gx_glog.specs.declared.stage.Stage.{Stage}
 use Rattle.gx_glog.specs.State.{Log}
 use Rattle.gx_pool.specs.State.{State}
@@ -14,7 +15,7 @@ use Rattle.gx_recovery.specs.Records.{Record}
 use Rattle.gx_recovery.specs.Coming.{MayCome}
 use Rattle.gx_recovery.specs.Logged.{Logged, all_records}
 use Rattle.gx_durable.specs.Spelled.{Reading, record_read}
-use Rattle.gx_durable.specs.Stamps.{Stamped, AllSaid}
+use Rattle.gx_durable.specs.Stamps.{Stamped, AllSaid, AllPlaced, NoneLater}
 use Rattle.gx_durable.specs.Standing.{Up, Stands}
 use Rattle.gx_durable.specs.Steps.{added, with_batch, stepped, bodies_stepped, GoesOn}
 
@@ -38,6 +39,15 @@ AppendStaysUp {E} {P} k r x old new result = (sectors : ℕ) (seen : List ℕ) (
 -- A page that no record gives as yet may be changed, but not when a batch begins.
 abbrev pub AppendStaysStamped : {E P : Type 0} → Reading E P → Rec → Log → Log → Appended → Type 0
 AppendStaysStamped {E} {P} r x old new result = (frames : State) (s : Logged E P) → Stamped old frames s → Stamped new frames (added result (record_read r x) s)
+
+-- Each dirty page is of a batch that began or of the one that fills, also a page that was changed for the record that came.
+abbrev pub AppendPlaces : Log → Log → Appended → Type 0
+AppendPlaces old new (At place) = (frames : State) → NoneLater old.used frames → AllPlaced new frames
+AppendPlaces old new NoRoom = (frames : State) → AllPlaced old frames → AllPlaced new frames
+
+-- each dirty page still is
+abbrev pub StaysPlaced : Log → Log → State → State → Type 0
+StaysPlaced old new frames frames' = AllPlaced old frames → AllPlaced new frames'
 
 -- what a step of the log makes of the state, also where it fails
 pub record AfterStep {E P : Type 0} (k : Known E P) (r : Reading E P) (log : Log) (frames : State) (d e : Device) (bodies : List (List (Record E P))) (s t : Logged E P) (result : Result Stage Refusal) : Type 0 where

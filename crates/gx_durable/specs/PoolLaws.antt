@@ -3,7 +3,7 @@ use Rattle.std.specs.Prelude.{◌≡◌, ℕ, ◌+◌, ◌≤◌, Bool, true, Li
 use Rattle.gx_disk.specs.Device.{Device}
 use Rattle.gx_page.specs.Contents.{Contents}
 use Rattle.gx_glog.specs.State.{Log}
-use Rattle.gx_pool.specs.State.{State, IsSound, NoneDirty}
+use Rattle.gx_pool.specs.State.{State, IsSound, IsWritable, NoneDirty}
 use Rattle.gx_pool.specs.Edits.{changed}
 use Rattle.gx_pool.specs.Bringing.{Brings, OnlyRead}
 use Rattle.gx_pool.specs.Creating.{Creates}
@@ -12,7 +12,7 @@ use Rattle.gx_recovery.specs.Records.{Record}
 use Rattle.gx_recovery.specs.Logged.{Logged, all_records, appended}
 use Rattle.gx_durable.specs.Spelled.{Reading}
 use Rattle.gx_durable.specs.Area.{is_given}
-use Rattle.gx_durable.specs.Stamps.{Stamped, AllSaid, SaidBut, OnlyLater}
+use Rattle.gx_durable.specs.Stamps.{Stamped, AllSaid, SaidBut, OnlyLater, AllPlaced}
 use Rattle.gx_durable.specs.Standing.{Up}
 use Rattle.gx_durable.specs.Calls.{GoesSafely}
 
@@ -22,7 +22,12 @@ LaterStampsStay E P = (log : Log) (old new : State) (s : Logged E P) → new.gat
 
 -- where nothing is dirty, each stamp is a place
 abbrev pub CleanIsStamped : (E P : Type 0) → Type 0
-CleanIsStamped E P = (log : Log) (frames : State) (s : Logged E P) → frames.gated + 1 ≤ log.gated → log.gated ≤ log.used → NoneDirty frames → Stamped log frames s
+CleanIsStamped E P = (log : Log) (frames : State) (s : Logged E P) → frames.gated + 1 ≡ log.gated → log.gated ≤ log.used → NoneDirty frames → Stamped log frames s
+
+-- Where each place that is taken is gated and nothing fills, a dirty page is one that may be written: so where none is, none is dirty.
+abbrev pub NoneWritableIsClean : (E P : Type 0) → Type 0
+NoneWritableIsClean E P = (log : Log) (frames : State) (s : Logged E P) → Stamped log frames s → AllPlaced log frames → log.used ≡ log.gated → log.filling ≡ []
+    → ((p : ℕ) → IsWritable frames p → ⊥) → NoneDirty frames
 
 -- pages that are brought are clean
 abbrev pub BringingIsClean : Type 0

@@ -10,7 +10,7 @@ ghost use Rattle.gx_pool.specs.Elsewhere.{LeavesPages};
 ghost use Rattle.gx_recovery.specs.Known.{Limits};
 ghost use Rattle.gx_durable.specs.Steps.{told, told_frames};
 ghost use Rattle.gx_durable.specs.PoolLaws.{StaysUp};
-ghost use Rattle.gx_durable.specs.Calls.{AppendStaysUp, AppendStaysStamped, StepKeepsRunning};
+ghost use Rattle.gx_durable.specs.Calls.{AppendPlaces, AppendStaysUp, AppendStaysStamped, StaysPlaced, StepKeepsRunning};
 
 use crate::Spelled;
 use gx_disk::SectorDisk;
@@ -27,6 +27,7 @@ pub fn append<M: Spelled>(log: &mut Glog, logged: &Record<'_>) -> Appended
     ensures appends { Appends (spelling (rec_of logged.now)) log.old log.new result }
     ensures up { (d : Limits) → AppendStaysUp (M.known d) M.reading (rec_of logged.now) log.old log.new result }
     ensures stamped { AppendStaysStamped M.reading (rec_of logged.now) log.old log.new result }
+    ensures placed { AppendPlaces log.old log.new result }
 {
     log.append(logged)
 }
@@ -59,6 +60,7 @@ pub fn log_step<M: Spelled, T: PageTest, D: SectorDisk>(
     ensures told { pool.new.frames ≡ told_frames result log.new pool.old.frames }
     ensures test { pool.new.test ≡ pool.old.test }
     ensures pages { (D.state disk.old).honest ≡ true → On log.old (D.state disk.old).seen (D.state disk.old).pending → LeavesPages (D.state disk.old) (D.state disk.new) }
+    ensures placed { StaysPlaced log.old log.new pool.old.frames pool.new.frames }
     ensures runs { (d : Limits) → StepKeepsRunning (M.known d) M.reading log.old log.new pool.old.frames pool.new.frames (D.state disk.old) (D.state disk.new) result }
 {
     match log.log_step(disk) {

@@ -3,7 +3,7 @@ ghost use Rattle.gx_recovery.specs.Known.{Limits};
 ghost use Rattle.gx_durable.specs.Beginning.{FirstIsUp, HeadsFit};
 ghost use Rattle.gx_durable.specs.Opening.{FoundIsUpToTurn, ACrashBeforeTheTurn, UpMayTurn};
 ghost use Rattle.gx_durable.specs.Joining.{CallsJoin, EachMomentStands};
-ghost use Rattle.gx_durable.specs.PoolLaws.{LaterStampsStay, CleanIsStamped, BringingIsClean, CreatingIsLater, ChangeIsLater, RecordSays, ReadsStayUp};
+ghost use Rattle.gx_durable.specs.PoolLaws.{LaterStampsStay, CleanIsStamped, NoneWritableIsClean, BringingIsClean, CreatingIsLater, ChangeIsLater, RecordSays, ReadsStayUp};
 ghost use Rattle.gx_durable.specs.Legal.{WhatStandsIsLegal};
 ghost use Rattle.gx_durable.specs.Stored.{NothingDirtyIsWritten, BringingStoresTheSame, ChangingStoresOne, CreatingStoresOne, RecordingStaysStored, WriteStaysStored, PagesStayStored};
 ghost use Rattle.gx_durable.specs.Laws.{OneWay, PartsJoin, SpellingAdds, NoneAreNone, OnlyNoneAreNone, BodiesOneWay, BodyAdds, BodiesJoin, ACrashLeavesAKeptSet, StandsOfBefore};
@@ -39,10 +39,12 @@ pub fn a_crash_leaves_a_kept_set<M: Spelled>()
 {}
 
 /// A pool's stamps stay places of batches where what is dirty was so before, or was changed as of the batch that fills. That is
-/// so of what is brought, made and changed. Once the record that gives what was changed is appended, each dirty page is given.
+/// so of what is brought, made and changed. Once the record that gives what was changed is appended, each dirty page is given. Once each
+/// batch that began is gated and nothing fills, each dirty page may be written.
 pub fn stamps_stay<M: Spelled>()
     ensures later { LaterStampsStay M.Entry M.Page }
     ensures clean { CleanIsStamped M.Entry M.Page }
+    ensures writable { NoneWritableIsClean M.Entry M.Page }
     ensures brought { BringingIsClean }
     ensures created { CreatingIsLater }
     ensures changed { ChangeIsLater }

@@ -1,81 +1,121 @@
--- A search's work that was taken out is put back.
-use Rattle.std.proofs.Common.{◌≡◌, ◌∙◌, sym, ap, subst, inl, inr, ℕ, ◌-◌, ◌≤◌, Bool, true, List}
-use Rattle.std.specs.Prelude.{slice_set}
-use Rattle.std.proofs.lemmas.List.{set-get_or, set-set}
+-- A search: its look begins, goes on, and is its answer once it has ended.
+use Rattle.std.proofs.Common.{◌≡◌, ◌≢◌, ◌∙◌, sym, ap, refl, subst, inl, inr, ℕ, ◌-◌, ◌≤◌, Bool, true, false, List, [], ◌∷◌, map, length, None, arith}
+use Rattle.gx_geom.specs.declared.refusal.Refusal.{Refusal}
+use Rattle.gx_geom.specs.declared.refusal.Refusal.TheVariants as refusal
 use Rattle.gx_machine.specs.declared.entry.Entry.{Entry}
 use Rattle.gx_machine.specs.declared.query.Query.{Query}
-use Rattle.gx_machine.specs.Keys.{Keys}
-use Rattle.gx_machine.specs.Machine.{is_session}
 use Rattle.gx_machine.specs.declared.call.Call.TheVariants.{Search}
+use Rattle.gx_machine.specs.declared.reply.Reply.TheVariants as reply
+use Rattle.gx_machine.specs.Machine.{is_session}
 use Rattle.gx_disk.specs.Device.{Device}
 use Rattle.gx_page.specs.Contents.{Contents}
 use Rattle.gx_node.specs.Reading.{Format}
-use Rattle.gx_engine_laws.specs.Events.{Event}
-use Rattle.gx_index_laws.specs.Classes.{Class, IsLawful, Page}
-use Rattle.gx_durable.specs.Spelled.{Reading}
+use Rattle.gx_tree_laws.specs.Reach.{Item}
 use Rattle.gx_tree.specs.declared.look.Look.{Look}
+use Rattle.gx_tree.specs.Found.{pairs_found}
+use Rattle.gx_engine_laws.specs.Engines.{gathered}
+use Rattle.gx_engine_laws.specs.Events.{Event, Closes, Finds}
+use Rattle.gx_engine_laws.specs.Slots.{Working}
+use Rattle.gx_index_laws.specs.Classes.{Class, IsLawful, Page, entry_of}
+use Rattle.gx_index_laws.specs.Happening as happening
+use Rattle.gx_index_laws.specs.States as index
+use Rattle.gx_index_laws.proofs.Answering.{look_answers}
+use Rattle.gx_durable.specs.Spelled.{Reading}
 use Rattle.gx_events.specs.declared.outcome.Outcome.{Outcome}
-use Rattle.gx_phases.specs.declared.phase.Phase.{Phase}
+use Rattle.gx_events.specs.declared.outcome.Outcome.TheVariants.{Replied, Help}
 use Rattle.gx_phases.specs.declared.phase.Phase.TheVariants as phase
 use Rattle.gx_phases.specs.Moves as moves
 use Rattle.gx_phases.specs.Moves.{answered_state}
-use Rattle.gx_phases.specs.States.{State, IsKept, phase_at, with_phase_of}
+use Rattle.gx_phases.specs.States.{State, IsKept, note_of, phase_at, with_phase_of}
 use Rattle.gx_storage.specs.State.{Volume}
 use Rattle.gx_engine.specs.declared.work.Work.{Work}
-use Rattle.gx_engine.specs.declared.work.Work.TheVariants.{Rests, Looks}
+use Rattle.gx_engine.specs.declared.work.Work.TheVariants.{Descends, Looks, Rests, Seeks}
 use Rattle.gx_engine.specs.States.{Parts}
-use Rattle.gx_engine.specs.Holds.{Holds, Leads}
-use Rattle.gx_engine.specs.Searching.{BeginComes, SearchComes, searching}
-use Rattle.gx_engine.proofs.Searching.{replaced, rests_held}
+use Rattle.gx_engine.specs.Looking.{BeginComes, StopComes, look_events}
+use Rattle.gx_engine.specs.Moves.{Moves, calling}
+use Rattle.gx_engine.specs.Searching.{SearchComes, search_events}
+use Rattle.gx_engine.proofs.Looking.{answered_again, answers, as_it_stays, at_work, closes_moves, held, its_work, looks_at, put_kept, slot_now}
+use Rattle.gx_engine.proofs.Serving.{same_device}
+use Rattle.gx_engine.proofs.Taking.{as_it_was}
 
-module _ {B D : Type 0} (e : Parts B D) (s : ℕ) (query : Query B) (was : Work B) (at : phase_at (s - 1) e.sessions.phases ≡ phase.Open (Search query) was)
-    (now : State B (Work B)) (is : now ≡ with_phase_of s (moves.with_work Rests (phase_at (s - 1) e.sessions.phases)).1 e.sessions) where
-  pub rests : now ≡ with_phase_of s (phase.Open (Search query) Rests) e.sessions
-  rests = replaced s query was Rests e.sessions now at is
+-- a stack of no items
+ended : (stack : List Item) → length stack ≡ 0 → stack ≡ []
+ended [] none = refl
+ended (x ∷ xs) none = absurd (omega (arith, none))
 
-  -- what was taken out
-  pub taken : (result : Work B) → result ≡ (moves.with_work Rests (phase_at (s - 1) e.sessions.phases)).0 → result ≡ was
-  taken result given = given ∙ ap (λ (p : Phase B (Work B)). (moves.with_work Rests p).0) at
+-- a look that has ended is the answer
+module _ {B D : Type 0} (c : Class B) (lawful : 4 ≤ c.rules.most → IsLawful c) (r : Reading (Entry B) (Page B)) (f : Format B) (passes : ℕ → Contents → Bool)
+    (d : Device) (e : Parts B D) (kept : IsKept c.keys e.sessions) (s : ℕ) (is : is_session s ≡ true) (query : Query B) (rest : Work B)
+    (at : phase_at (s - 1) e.sessions.phases ≡ phase.Open (Search query) rest) (look : Look B) (works : e.sessions.failed ≡ false) where
+  abbrev was : Parts B D
+  was = calling s (Search query) (Looks look) e
 
-  pub put_back : (look : Look B) → was ≡ Looks look → searching s query (Looks look) (record e { sessions = now }) ≡ e
-  put_back look here =
-      ap (λ (x : State B (Work B)). searching s query (Looks look) (record e { sessions = x })) rests
-      ∙ ap (λ (ps : List (Phase B (Work B))). record e { sessions = record e.sessions { phases = ps } })
-      (set-set e.sessions.phases (s - 1) (phase.Open (Search query) Rests) (phase.Open (Search query) (Looks look))
-      ∙ ap (λ (p : Phase B (Work B)). slice_set e.sessions.phases (s - 1) p) (sym (at ∙ ap (λ (w : Work B). phase.Open (Search query) w) here))
-      ∙ set-get_or e.sessions.phases (s - 1) phase.Free)
+  was_kept : IsKept c.keys was.sessions
+  was_kept = put_kept c.keys e kept s is (Search query) rest at (Looks look)
 
-  -- what a search with nothing begun comes to is what it comes to with the work that was taken out
-  pub begun_comes : (passes : ℕ → Contents → Bool) (d f : Device) (new : Parts B D) (outcome : Outcome B) → BeginComes s query (record e { sessions = now }) new outcome
-      → SearchComes passes d f s query e new outcome
-  begun_comes passes d f new outcome (inl more) =
-      let is_so : new ≡ searching s query (Looks more.1.0) e =
-      more.1.1 ∙ ap (λ (x : State B (Work B)). searching s query (Looks more.1.0) (record e { sessions = x })) rests
-      ∙ ap (λ (ps : List (Phase B (Work B))). record e { sessions = record e.sessions { phases = ps } })
-      (set-set e.sessions.phases (s - 1) (phase.Open (Search query) Rests) (phase.Open (Search query) (Looks more.1.0))) in
-      rw (more.0) (more.1.0, is_so ∙ ap (λ (v : Volume D). searching s query (Looks more.1.0) (record e { volume = v })) (sym (ap (λ (x : Parts B D). x.volume) is_so)))
-  begun_comes passes d f new outcome (inr closed) =
-      let is_so : new ≡ record e { sessions = answered_state s e.sessions } =
-      closed.1 ∙ ap (λ (x : State B (Work B)). record e { sessions = answered_state s x }) rests
-      ∙ ap (λ (ps : List (Phase B (Work B))). record e { sessions = record e.sessions { phases = ps } })
-      (set-set e.sessions.phases (s - 1) (phase.Open (Search query) Rests) phase.Working) in
-      rw (closed.0) (is_so ∙ ap (λ (v : Volume D). record e { volume = v; sessions = answered_state s e.sessions }) (sym (ap (λ (x : Parts B D). x.volume) is_so)))
+  its_phase : phase_at (s - 1) was.sessions.phases ≡ phase.Open (Search query) (Looks look)
+  its_phase = at_work c.keys e kept s is (Search query) rest at (Looks look)
 
-  -- what is said of a look that was taken out is said of the engine that has it
-  module _ (look : Look B) (here : was ≡ Looks look) where
-    pub kept_too : (k : Keys B) → IsKept k e.sessions → IsKept k (searching s query (Looks look) (record e { sessions = now })).sessions
-    kept_too k kept = subst (λ (x : Parts B D). IsKept k x.sessions) (sym (put_back look here)) kept
+  same_answer : answered_state s e.sessions ≡ answered_state s was.sessions
+  same_answer = answered_again c.keys e kept s is (Search query) rest at (Looks look)
 
-    pub comes_too : (passes : ℕ → Contents → Bool) (d f : Device) (new : Parts B D) (outcome : Outcome B)
-        → SearchComes passes d f s query (searching s query (Looks look) (record e { sessions = now })) new outcome → SearchComes passes d f s query e new outcome
-    comes_too passes d f new outcome comes = subst (λ (x : Parts B D). SearchComes passes d f s query x new outcome) (put_back look here) comes
+  finds : length look.stack.items ≡ 0 → (entries : List (Entry B)) → entries ≡ gathered c.keys (map entry_of (pairs_found look.found.items))
+      → Moves c r f passes d d s was (record was { sessions = answered_state s was.sessions }) (Replied (reply.Found entries)) (Finds s query entries ∷ [])
+  finds none entries are bodies i h =
+      let l = lawful h.some in
+      let looks = looks_at c l r f passes d was was_kept s is (Search query) (Looks look) its_phase bodies i h look refl in
+      let its = held c l r f passes d was was_kept s is (Search query) (Looks look) its_phase bodies i h in
+      let done : i.work s ≡ index.Looks [] (pairs_found look.found.items) = looks ∙ ap (λ (xs : List Item). index.Looks xs (pairs_found look.found.items)) (ended look.stack.items none) in
+      answers c l r f passes d was was_kept s is (Search query) (Looks look) its_phase bodies i h d e.volume refl refl (same_device d)
+      (as_it_stays c l r f passes d was was_kept s is (Search query) (Looks look) its_phase bodies i h) (reply.Found entries) (Finds s query entries)
+      (subst (λ (es : List (Entry B)). happening.Happens c i (Finds s query es) (happening.slotted s (Working its.locks (map note_of its.notes) None) index.Rests i)) (sym are)
+      (look_answers c l i h.whole (h.sessions.failed ∙ works) s its.locks (map note_of its.notes) query (pairs_found look.found.items)
+      (slot_now c l r f passes d was was_kept s is (Search query) (Looks look) its_phase bodies i h) done))
 
-    pub leads_too : (c : Class B) (r : Reading (Entry B) (Page B)) (format : Format B) (passes : ℕ → Contents → Bool) (d f : Device) (new : Parts B D) (events : List (Event B))
-        → Leads c r format passes d f (searching s query (Looks look) (record e { sessions = now })) new events → Leads c r format passes d f e new events
-    leads_too c r format passes d f new events leads = subst (λ (x : Parts B D). Leads c r format passes d f x new events) (put_back look here) leads
+  pub found_moves : length look.stack.items ≡ 0 → (entries : List (Entry B)) → entries ≡ gathered c.keys (map entry_of (pairs_found look.found.items))
+      → Moves c r f passes d d s was (record e { sessions = answered_state s e.sessions }) (Replied (reply.Found entries)) (Finds s query entries ∷ [])
+  found_moves none entries are =
+      subst (λ (x : State B (Work B)). Moves c r f passes d d s was (record e { sessions = x }) (Replied (reply.Found entries)) (Finds s query entries ∷ [])) (sym same_answer)
+      (finds none entries are)
 
-  -- and what is said of a search with nothing begun is said of the engine from which the work was taken
-  pub begun_leads : (c : Class B) (lawful : 4 ≤ c.rules.most → IsLawful c) (r : Reading (Entry B) (Page B)) (format : Format B) (passes : ℕ → Contents → Bool) (d f : Device) (kept : IsKept c.keys e.sessions) (is_one : is_session s ≡ true)
-      (new : Parts B D) (events : List (Event B)) → Leads c r format passes d f (record e { sessions = now }) new events → Leads c r format passes d f e new events
-  begun_leads c lawful r format passes d f kept is_one new events leads bodies i h =
-      leads bodies i (subst (λ (x : State B (Work B)). Holds c r format passes d (record e { sessions = x }) bodies i) (sym rests) (rests_held c (lawful h.some) r format passes d e kept s is_one query was at bodies i h))
+  pub closed_moves : Moves c r f passes d d s was (record e { sessions = answered_state s e.sessions }) (Replied (reply.Refused refusal.Memory)) (Closes s (Search query) refusal.Memory ∷ [])
+  closed_moves =
+      subst (λ (x : State B (Work B)). Moves c r f passes d d s was (record e { sessions = x }) (Replied (reply.Refused refusal.Memory)) (Closes s (Search query) refusal.Memory ∷ [])) (sym same_answer)
+      (closes_moves c lawful r f passes d was was_kept s is (Search query) (Looks look) its_phase works)
+
+-- a search that is at no look rests, in every index
+module _ {B D : Type 0} (c : Class B) (lawful : 4 ≤ c.rules.most → IsLawful c) (r : Reading (Entry B) (Page B)) (f : Format B) (passes : ℕ → Contents → Bool)
+    (d g : Device) (e : Parts B D) (kept : IsKept c.keys e.sessions) (s : ℕ) (is : is_session s ≡ true) (query : Query B) (now : State B (Work B))
+    (taken : now ≡ with_phase_of s (moves.with_work Rests (phase_at (s - 1) e.sessions.phases)).1 e.sessions) (new : Parts B D) (outcome : Outcome B) (events : List (Event B))
+    (begun : Moves c r f passes d g s (record e { sessions = now }) new outcome events) where
+  pub begun_moves : (was : Work B) → phase_at (s - 1) e.sessions.phases ≡ phase.Open (Search query) was → ((look : Look B) → was ≢ Looks look) → Moves c r f passes d g s e new outcome events
+  begun_moves Rests at never = subst (λ (x : Parts B D). Moves c r f passes d g s x new outcome events) (as_it_was e s (Search query) Rests at now taken refl) begun
+  begun_moves (Looks look) at never = absurd (never look refl)
+  begun_moves (Descends parent item) at never = λ bodies i h. absurd (its_work c (lawful h.some) r f passes d e kept s is (Search query) (Descends parent item) at bodies i h)
+  begun_moves (Seeks leaf) at never = λ bodies i h. absurd (its_work c (lawful h.some) r f passes d e kept s is (Search query) (Seeks leaf) at bodies i h)
+
+-- What begins and what stops as any call's look is a search's.
+module _ {B D : Type 0} (passes : ℕ → Contents → Bool) (d e : Device) (s : ℕ) (query : Query B) (old new : Parts B D) where
+  pub begun_search : (outcome : Outcome B) → BeginComes s (Search query) old new outcome → SearchComes passes d e s query old new outcome
+  begun_search outcome (inl more) =
+      rw (more.0) (more.1.0, more.1.1 ∙ sym (ap (λ (v : Volume D). calling s (Search query) (Looks more.1.0) (record old { volume = record old.volume { shelf = v.shelf } })) (ap (λ (x : Parts B D). x.volume) more.1.1)))
+  begun_search outcome (inr closed) =
+      rw (closed.0) (closed.1 ∙ sym (ap (λ (v : Volume D). record old { volume = record old.volume { shelf = v.shelf }; sessions = answered_state s old.sessions }) (ap (λ (x : Parts B D). x.volume) closed.1)))
+
+  pub begun_tells : (outcome : Outcome B) → BeginComes s (Search query) old new outcome → search_events s query outcome ≡ look_events s (Search query) outcome
+  begun_tells outcome (inl more) = rw (more.0) refl
+  begun_tells outcome (inr closed) = rw (closed.0) refl
+
+  stop_refused : (why : Refusal) → StopComes passes d e s old new (Replied (reply.Refused why))
+      → SearchComes passes d e s query old new (Replied (reply.Refused why)) × (search_events s query (Replied (reply.Refused why)) ≡ look_events s (Search query) (Replied (reply.Refused why)))
+  stop_refused refusal.Memory comes = (comes, refl)
+  stop_refused refusal.Device comes = (comes, refl)
+  stop_refused refusal.Damaged comes = (comes, refl)
+  stop_refused why comes = absurd comes
+
+  -- an outcome by which a look stops is a search's, and so are its events
+  pub stop_search : (outcome : Outcome B) → StopComes passes d e s old new outcome
+      → SearchComes passes d e s query old new outcome × (search_events s query outcome ≡ look_events s (Search query) outcome)
+  stop_search (Replied (reply.Refused why)) comes = stop_refused why comes
+  stop_search (Help n) comes = (comes, refl)
+  stop_search other comes = absurd comes

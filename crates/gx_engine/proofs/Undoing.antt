@@ -53,7 +53,7 @@ use Rattle.gx_phases.proofs.Slots.{slots_at}
 use Rattle.gx_phases.proofs.Undoing.{IsNoted, each_noted}
 use Rattle.gx_engine.specs.declared.work.Work.{Work}
 use Rattle.gx_engine.specs.declared.work.Work.TheVariants.{Descends, Looks, Rests, Seeks}
-use Rattle.gx_engine.specs.Holds.{AreAt, AreDone, IsAt, UndoIsAt}
+use Rattle.gx_engine.specs.Holds.{AreAt, AreDone, IsAt, Sits, UndoIsAt}
 use Rattle.gx_engine.specs.Noted.{AreTold, has_transaction, touch_by, touched_by}
 use Rattle.gx_engine.specs.Undoing.{leaf_of}
 use Rattle.gx_engine.proofs.Noting.{busy_slot, told_set, without_others}
@@ -83,12 +83,6 @@ kept_stands test (y ∷ ys) i x at = kept_by (filter test ys) ys x y (test y) i 
 twice_not : (b : Bool) → not (not b) ≡ b
 twice_not true = refl
 twice_not false = refl
-
--- The sessions of a whole index: what they are at, and what they have noted.
-pub record Sits {B : Type 0} (c : Class B) (sessions : State B (Work B)) (i : index.State B) : Type 0 where
-  pub of : AreOf sessions i
-  pub at : AreAt c.keys sessions i
-  pub told : AreTold sessions (analysis (known_of c) (all_records i.log)).touched
 
 -- One of them undoes.
 module _ {B : Type 0} (c : Class B) (l : IsLawful c) (old : State B (Work B)) (kept : IsKept c.keys old) (works : old.failed ≡ false) (s : ℕ) (is : is_session s ≡ true)

@@ -1,5 +1,5 @@
 -- An engine over a device as an index, and what its events make of that.
-use Rattle.std.specs.Prelude.{ℕ, ◌≡◌, ◌≤◌, ◌<◌, ◌-◌, Bool, true, false, Some, List, slice_get, take}
+use Rattle.std.specs.Prelude.{ℕ, ◌≡◌, ◌≤◌, ◌-◌, Bool, true, false, Some, List, [], slice_get, take}
 use Rattle.gx_machine.specs.declared.entry.Entry.{Entry}
 use Rattle.gx_machine.specs.declared.call.Call.{Call}
 use Rattle.gx_machine.specs.declared.call.Call.TheVariants.{Begin, Insert, Delete, Search, Commit, Abort}
@@ -10,6 +10,7 @@ use Rattle.gx_disk.specs.Device.{Device}
 use Rattle.gx_disk.specs.Moments.{Leaves}
 use Rattle.gx_page.specs.Contents.{Contents}
 use Rattle.gx_node.specs.Reading.{Format}
+use Rattle.gx_tree_laws.specs.Trees.{Pair}
 use Rattle.gx_tree.specs.Found.{pairs_found}
 use Rattle.gx_glog.specs.declared.stage.Stage.{Stage}
 use Rattle.gx_glog.specs.declared.stage.Stage.TheVariants.{Body, BodySync, Gate, GateSync, Idle}
@@ -54,10 +55,20 @@ CallDescends (Search query) is descent = ⊥
 CallDescends Commit is descent = ⊥
 CallDescends Abort is descent = ⊥
 
+-- What the look of a call may have found: a search's any pairs; a write's none, since it seeks where it finds its pair. No other call
+-- looks.
+abbrev pub MayHaveFound : {B : Type 0} → Call B → List (Pair B) → Type 0
+MayHaveFound Begin found = ⊥
+MayHaveFound (Insert e) found = found ≡ []
+MayHaveFound (Delete e) found = found ≡ []
+MayHaveFound (Search query) found = Unit {0}
+MayHaveFound Commit found = ⊥
+MayHaveFound Abort found = ⊥
+
 -- What an open call is at, as the index's laws have it. Of one that has not begun nothing is said.
 abbrev pub CallIsAt : {B : Type 0} → Call B → Work B → index.Work B → Type 0
 CallIsAt call Rests is = Unit {0}
-CallIsAt call (Looks look) is = is ≡ index.Looks look.stack.items (pairs_found look.found.items)
+CallIsAt call (Looks look) is = (is ≡ index.Looks look.stack.items (pairs_found look.found.items)) × MayHaveFound call (pairs_found look.found.items)
 CallIsAt call (Descends parent item) is = CallDescends call is (λ e. index.Descends e parent item)
 CallIsAt call (Seeks leaf) is = CallSeeks call leaf is
 
@@ -83,6 +94,12 @@ IsAt k (phase.Waiting number) notes is done = Unit {0}
 -- the sessions are at what an index's sessions are at
 abbrev pub AreAt : {B : Type 0} → Keys B → State B (Work B) → index.State B → Type 0
 AreAt k sessions i = (a : ℕ) → is_session a ≡ true → IsAt k (phase_at (a - 1) sessions.phases) (held_at (a - 1) sessions.table).notes (i.work a) (i.restored a)
+
+-- The sessions are an index's: what they are at, and what they have noted.
+pub record Sits {B : Type 0} (c : Class B) (sessions : State B (Work B)) (i : index.State B) : Type 0 where
+  pub of : AreOf sessions i
+  pub at : AreAt c.keys sessions i
+  pub told : AreTold sessions (analysis (known_of c) (all_records i.log)).touched
 
 -- The number that an engine notes is that of the last commit in flight, where a batch is, whose first call was made.
 abbrev pub KnowsFlight : Stage → ℕ → ℕ → Type 0

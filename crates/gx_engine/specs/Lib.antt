@@ -4,6 +4,13 @@ pub mod Asked
 pub mod Flushing
 pub mod Sealing
 pub mod Refusals
+pub mod Moves
+pub mod Writing
+pub mod Sweeping
+pub mod Lending
+pub mod Looking
 pub mod Searching
 pub mod Noted
 pub mod Undoing
+pub mod Stepping
+pub mod Running

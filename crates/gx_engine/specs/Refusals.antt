@@ -1,5 +1,6 @@
 -- What comes of pages that were refused.
 use Rattle.std.specs.Prelude.{ℕ, ◌≡◌, Bool, true, false, Option, None, Some}
+use Rattle.gx_geom.specs.declared.refusal.Refusal.{Refusal}
 use Rattle.gx_geom.specs.declared.refusal.Refusal.TheVariants.{Device as DeviceRefusal, Damaged as DamagedRefusal}
 use Rattle.gx_machine.specs.declared.reply.Reply.TheVariants.{Refused as RefusedCall}
 use Rattle.gx_disk.specs.Device.{Device}
@@ -7,7 +8,7 @@ use Rattle.gx_page.specs.Contents.{Contents}
 use Rattle.gx_events.specs.declared.outcome.Need.{Need}
 use Rattle.gx_events.specs.declared.outcome.Need.TheVariants as need
 use Rattle.gx_events.specs.declared.outcome.Outcome.{Outcome}
-use Rattle.gx_events.specs.declared.outcome.Outcome.TheVariants.{Replied, Help}
+use Rattle.gx_events.specs.declared.outcome.Outcome.TheVariants.{Replied, Help, Refused}
 use Rattle.gx_phases.specs.Moves.{failed_state}
 use Rattle.gx_store.specs.declared.fault.StoreFault.{StoreFault}
 use Rattle.gx_store.specs.declared.fault.StoreFault.TheVariants as fault
@@ -45,10 +46,18 @@ pub record IsHelp {D : Type 0} (passes : ℕ → Contents → Bool) (d e : Devic
   pub helps : Helps new fault help
   pub is : n ≡ need_of running help
 
--- what comes of pages that were refused: what helps, or the engine has failed
-abbrev pub IsRefused : {B D : Type 0} → StoreFault → Parts B D → Parts B D → Outcome B → Type 0
-IsRefused fault.NoRoom old new outcome = (found : Option storage.Help) × Helps old.volume.shelf fault.NoRoom found × (outcome ≡ Help (need_of (runs old.checkpoint) found)) × (new ≡ old)
-IsRefused (fault.TooFewFrames wanted) old new outcome =
+-- What comes of pages that were refused: what helps; or the engine has failed, and that is told so.
+abbrev pub IsRefusedAs : {B D : Type 0} → (Refusal → Outcome B) → StoreFault → Parts B D → Parts B D → Outcome B → Type 0
+IsRefusedAs told fault.NoRoom old new outcome = (found : Option storage.Help) × Helps old.volume.shelf fault.NoRoom found × (outcome ≡ Help (need_of (runs old.checkpoint) found)) × (new ≡ old)
+IsRefusedAs told (fault.TooFewFrames wanted) old new outcome =
     (found : Option storage.Help) × Helps old.volume.shelf (fault.TooFewFrames wanted) found × (outcome ≡ Help (need_of (runs old.checkpoint) found)) × (new ≡ old)
-IsRefused fault.Device old new outcome = (outcome ≡ Replied (RefusedCall DeviceRefusal)) × (new ≡ record old { sessions = failed_state old.sessions })
-IsRefused fault.Damaged old new outcome = (outcome ≡ Replied (RefusedCall DamagedRefusal)) × (new ≡ record old { sessions = failed_state old.sessions })
+IsRefusedAs told fault.Device old new outcome = (outcome ≡ told DeviceRefusal) × (new ≡ record old { sessions = failed_state old.sessions })
+IsRefusedAs told fault.Damaged old new outcome = (outcome ≡ told DamagedRefusal) × (new ≡ record old { sessions = failed_state old.sessions })
+
+-- in a session's move: its call ends with the refusal
+abbrev pub IsRefused : {B D : Type 0} → StoreFault → Parts B D → Parts B D → Outcome B → Type 0
+IsRefused fault old new outcome = IsRefusedAs (λ why. Replied (RefusedCall why)) fault old new outcome
+
+-- in an event of no session
+abbrev pub IsTurnedAway : {B D : Type 0} → StoreFault → Parts B D → Parts B D → Outcome B → Type 0
+IsTurnedAway fault old new outcome = IsRefusedAs Refused fault old new outcome

@@ -1,5 +1,5 @@
 -- What a search's move comes to.
-use Rattle.std.specs.Prelude.{ℕ, ◌≡◌, ◌<◌, ◌⊎◌, Bool, List, [], ◌∷◌}
+use Rattle.std.specs.Prelude.{ℕ, ◌≡◌, ◌<◌, Bool, List, [], ◌∷◌}
 use Rattle.gx_geom.specs.declared.refusal.Refusal.TheVariants.{Device as DeviceRefusal, Damaged as DamagedRefusal, Memory}
 use Rattle.gx_machine.specs.declared.call.Call.TheVariants.{Search}
 use Rattle.gx_machine.specs.declared.query.Query.{Query}
@@ -10,27 +10,23 @@ use Rattle.gx_tree.specs.declared.look.Look.{Look}
 use Rattle.gx_engine_laws.specs.Events.{Event, Works, Finds, Closes, RefusesCall}
 use Rattle.gx_events.specs.declared.outcome.Outcome.{Outcome}
 use Rattle.gx_events.specs.declared.outcome.Outcome.TheVariants.{Replied, More, Help}
-use Rattle.gx_phases.specs.declared.phase.Phase.TheVariants.{Open}
 use Rattle.gx_phases.specs.Moves.{answered_state, failed_state}
-use Rattle.gx_phases.specs.States.{with_phase_of}
-use Rattle.gx_engine.specs.declared.work.Work.{Work}
+use Rattle.gx_storage.specs.Bringing.{bringing}
 use Rattle.gx_engine.specs.declared.work.Work.TheVariants.{Looks}
+use Rattle.gx_engine.specs.Moves.{calling}
 use Rattle.gx_engine.specs.Refusals.{IsHelp}
 use Rattle.gx_engine.specs.States.{Parts, runs}
-
--- the engine with a session's search at this work
-abbrev pub searching : {B D : Type 0} → ℕ → Query B → Work B → Parts B D → Parts B D
-searching s query work e = record e { sessions = with_phase_of s (Open (Search query) work) e.sessions }
+use Rattle.gx_engine.specs.Writing.{brought}
 
 -- The search is at a look; it is answered; it is closed, since memory was refused; the engine has failed; or another event has to
 -- come first, and the search is at what it was.
 abbrev pub SearchComes : {B D : Type 0} → (ℕ → Contents → Bool) → Device → Device → ℕ → Query B → Parts B D → Parts B D → Outcome B → Type 0
-SearchComes {B} passes d e s query old new More = (look : Look B) × (new ≡ searching s query (Looks look) (record old { volume = new.volume }))
+SearchComes {B} passes d e s query old new More = (look : Look B) × (new ≡ calling s (Search query) (Looks look) (brought old new))
 SearchComes passes d e s query old new (Replied (Found entries)) = new ≡ record old { sessions = answered_state s old.sessions }
-SearchComes passes d e s query old new (Replied (RefusedCall Memory)) = new ≡ record old { volume = new.volume; sessions = answered_state s old.sessions }
-SearchComes passes d e s query old new (Replied (RefusedCall DeviceRefusal)) = (d.faults < e.faults) × (new ≡ record old { volume = new.volume; sessions = failed_state old.sessions })
-SearchComes passes d e s query old new (Replied (RefusedCall DamagedRefusal)) = new ≡ record old { volume = new.volume; sessions = failed_state old.sessions }
-SearchComes passes d e s query old new (Help n) = IsHelp passes d e (runs old.checkpoint) old.volume.shelf new.volume.shelf n × (new ≡ record old { volume = new.volume })
+SearchComes passes d e s query old new (Replied (RefusedCall Memory)) = new ≡ record (brought old new) { sessions = answered_state s old.sessions }
+SearchComes passes d e s query old new (Replied (RefusedCall DeviceRefusal)) = (d.faults < e.faults) × (new ≡ record (brought old new) { sessions = failed_state old.sessions })
+SearchComes passes d e s query old new (Replied (RefusedCall DamagedRefusal)) = new ≡ record (brought old new) { sessions = failed_state old.sessions }
+SearchComes passes d e s query old new (Help n) = IsHelp passes d e (runs old.checkpoint) (bringing old.volume) new.volume.shelf n × (new ≡ brought old new)
 SearchComes passes d e s query old new other = ⊥
 
 -- the index's event that it is
@@ -40,9 +36,3 @@ search_events s query (Replied (Found entries)) = Finds s query entries ∷ []
 search_events s query (Replied (RefusedCall Memory)) = Closes s (Search query) Memory ∷ []
 search_events s query (Replied (RefusedCall DeviceRefusal)) = RefusesCall s DeviceRefusal ∷ []
 search_events s query other = []
-
--- A search has begun: it is at a look; or it is closed, since memory was refused.
-abbrev pub BeginComes : {B D : Type 0} → ℕ → Query B → Parts B D → Parts B D → Outcome B → Type 0
-BeginComes {B} s query old new outcome =
-    ((outcome ≡ More) × ((look : Look B) × (new ≡ searching s query (Looks look) old)))
-    ⊎ ((outcome ≡ Replied (RefusedCall Memory)) × (new ≡ record old { sessions = answered_state s old.sessions }))

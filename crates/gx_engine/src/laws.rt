@@ -1,12 +1,42 @@
 //! Laws of an engine's class. Each function is its contract alone.
-ghost use Rattle.std.specs.Prelude.{◌≤◌};
+ghost use Rattle.std.specs.Prelude.{◌≤◌, ℕ, Bool, List};
+ghost use Rattle.gx_machine.specs.declared.entry.Entry.{Entry};
+ghost use Rattle.gx_page.specs.Contents.{Contents};
+ghost use Rattle.gx_node.specs.Reading.{Format};
+ghost use Rattle.gx_engine_laws.specs.Events as laws;
+ghost use Rattle.gx_events.specs.declared.event.Event.{Event};
+ghost use Rattle.gx_events.specs.declared.outcome.Outcome.{Outcome};
+ghost use Rattle.gx_events.specs.Engines.{AreOf, Leads};
 ghost use Rattle.gx_recovery.specs.Known.{Limits};
-ghost use Rattle.gx_index_laws.specs.Classes.{IsLawful};
+ghost use Rattle.gx_recovery.specs.Records.{Record};
+ghost use Rattle.gx_index_laws.specs.Classes.{Class, IsLawful, Page};
+ghost use Rattle.gx_index_laws.specs.Happening.{AreHappening};
+ghost use Rattle.gx_index_laws.specs.States.{State, engine_of};
+ghost use Rattle.gx_index_laws.specs.Whole.{IsWhole};
+ghost use Rattle.gx_durable.specs.Spelled.{Reading};
 ghost use Rattle.gx_readings.specs.Classes.{class_of};
+ghost use Rattle.gx_engine.specs.Holds.{Holds};
+ghost use Rattle.gx_engine.specs.Running.{AreSteps, Ran};
+ghost use Rattle.gx_engine.specs.States.{Parts};
 
+use gx_disk::SectorDisk;
 use gx_readings::ReadKeys;
 
 /// Where a node may have four entries, a class of keys is as the laws of the whole index want it.
 pub fn a_class_is_lawful<K: ReadKeys>()
     ensures { (l : Limits) → 4 ≤ l.most → IsLawful (class_of K.Key.Shape K.is_proper l) }
+{}
+
+/// What happens to a whole index in an event does to the set machine that it is seen as what that event with its outcome may do.
+pub fn an_event_is_the_machines<B>()
+    ensures { (c : Class B) → IsLawful c → (i j : State B) → IsWhole c i → (event : Event B) (outcome : Outcome B) (events : List (laws.Event B))
+        → AreOf (engine_of c i) event outcome events → AreHappening c i events j → Leads c.keys (engine_of c i) event outcome (engine_of c j) }
+{}
+
+/// Any events, each as the contract of a step has it, lead from an engine that holds an index to one that holds what happened to it, in
+/// the order of the events; and at each moment of them, whatever a crash may leave stands for a kept set of an index that was passed.
+pub fn any_events_lead_on<D: SectorDisk, B>()
+    ensures { (c : Class B) (r : Reading (Entry B) (Page B)) (f : Format B) (passes : ℕ → Contents → Bool) (steps : List (Event B × Outcome B)) (old new : Parts B D)
+        → AreSteps c r f passes D.state old steps new → (bodies : List (List (Record (Entry B) (Page B)))) (i : State B)
+        → Holds c r f passes (D.state old.volume.shelf.disk) old bodies i → Ran c r f passes (D.state old.volume.shelf.disk) (D.state new.volume.shelf.disk) new i }
 {}

@@ -7,9 +7,14 @@ mod commits;
 mod engine;
 mod flusher;
 pub mod laws;
+mod looks;
+mod pages;
 mod refusals;
 mod searches;
+mod sweeps;
+mod undoes;
 mod work;
+mod writes;
 
 pub use checkpoint::Checkpoint;
 pub use engine::Engine;

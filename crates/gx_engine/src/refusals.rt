@@ -3,7 +3,7 @@ ghost use Rattle.std.specs.Prelude.{◌≡◌, ◌-◌, true};
 ghost use Rattle.gx_machine.specs.Machine.{is_session};
 ghost use Rattle.gx_phases.specs.Moves.{answered_state, failed_state, is_open};
 ghost use Rattle.gx_phases.specs.States.{phase_at};
-ghost use Rattle.gx_engine.specs.Refusals.{IsRefused, log_need, need_of};
+ghost use Rattle.gx_engine.specs.Refusals.{IsRefused, IsTurnedAway, log_need, need_of};
 
 use crate::Engine;
 use gx_disk::SectorDisk;
@@ -63,6 +63,29 @@ impl<D: SectorDisk, K: ReadKeys> Engine<D, K> {
             )),
             StoreFault::Device => self.break_off(Refusal::Device),
             StoreFault::Damaged => self.break_off(Refusal::Damaged),
+        }
+    }
+
+    // The engine has failed, which is told to no session.
+    pub(crate) fn end(&mut self, why: Refusal) -> Outcome<K::Key>
+        ensures outcome { result ≡ Outcome.Refused why }
+        ensures failed { self.new ≡ record self.old { sessions = failed_state self.old.sessions } }
+    {
+        self.sessions.fail();
+        Outcome::Refused(why)
+    }
+
+    // Pages were refused in an event of no session: what helps, or the engine has failed.
+    pub(crate) fn turn_away(&mut self, fault: StoreFault) -> Outcome<K::Key>
+        ensures { IsTurnedAway fault self.old self.new result }
+    {
+        match fault {
+            StoreFault::NoRoom | StoreFault::TooFewFrames(_) => Outcome::Help(need_of(
+                self.is_checkpointing(),
+                self.storage.help(fault),
+            )),
+            StoreFault::Device => self.end(Refusal::Device),
+            StoreFault::Damaged => self.end(Refusal::Damaged),
         }
     }
 }

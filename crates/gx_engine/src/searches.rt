@@ -10,11 +10,11 @@ ghost use Rattle.gx_index_laws.specs.Classes.{entry_of};
 ghost use Rattle.gx_tree.specs.Found.{pairs_found};
 ghost use Rattle.gx_readings.specs.Classes.{class_of, reading_of};
 ghost use Rattle.gx_phases.specs.declared.phase.Phase.TheVariants.{Open};
-ghost use Rattle.gx_phases.specs.States.{IsKept, phase_at};
+ghost use Rattle.gx_phases.specs.States.{phase_at};
 ghost use Rattle.gx_engine.specs.declared.work.Work as declared;
 ghost use Rattle.gx_engine.specs.declared.work.Work.TheVariants.{Looks, Rests};
-ghost use Rattle.gx_engine.specs.Holds.{Leads};
-ghost use Rattle.gx_engine.specs.Searching.{BeginComes, SearchComes, search_events, searching};
+ghost use Rattle.gx_engine.specs.Moves.{Moves, calling};
+ghost use Rattle.gx_engine.specs.Searching.{SearchComes, search_events};
 
 use crate::Engine;
 use crate::laws::a_class_is_lawful;
@@ -26,7 +26,7 @@ use gx_geom::{Refusal, Shape};
 use gx_machine::{Entries, Entry, Query, Reply};
 use gx_readings::ReadKeys;
 use gx_storage::laws::{a_volume_shows_keys, a_volume_shows_the_logs_tree};
-use gx_tree::{Found, Item, Look, StepFault, Wanted};
+use gx_tree::{Found, Look, Wanted};
 use std::alloc::{AllocError, Global};
 
 /// What was found, as entries in order, each once.
@@ -44,39 +44,20 @@ impl<D: SectorDisk, K: ReadKeys + Probing> Engine<D, K>
 where
     K::Probe: Drop,
 {
-    // A search begins with a look from the root.
-    fn begin_look(&mut self, session: u8, query: Query<K::Key>) -> Outcome<K::Key>
-        requires session { is_session session ≡ true }
-        requires phase { phase_at (session - 1) self.old.sessions.phases ≡ Open (Search query) Rests }
-        requires works { self.old.sessions.failed ≡ false }
-        ensures comes { BeginComes session query self.old self.new result }
-        ensures leads { (l : Limits) → Leads (class_of K.Key.Shape K.is_proper l) (reading_of K.said (format_of K.KeyClass)) (format_of K.KeyClass) (is_node (format_of K.KeyClass))
-            (D.state self.old.volume.shelf.disk) (D.state self.new.volume.shelf.disk) self.old self.new (search_events session query result) }
-    {
-        a_class_is_lawful::<K>();
-        self.sessions.has_failed();
-        match Look::new(self.alloc, Item::new(1, self.storage.counter())) {
-            Ok(look) => {
-                self.sessions.replace_work(session, Work::Looks(look));
-                Outcome::More
-            }
-            Err(_) => self.close(session, Refusal::Memory),
-        }
-    }
-
     // A look that has ended is the search's answer.
     fn find(&mut self, session: u8, query: Query<K::Key>, look: Look<K::Key>) -> Outcome<K::Key>
         requires session { is_session session ≡ true }
         requires phase { phase_at (session - 1) self.old.sessions.phases ≡ Open (Search query) Rests }
-        requires kept { IsKept (keys_of K.Key.Shape) (searching session query (Looks look) self.old).sessions }
         requires works { self.old.sessions.failed ≡ false }
         requires done { length look.stack.items ≡ 0 }
         ensures comes { SearchComes (is_node (format_of K.KeyClass)) (D.state self.old.volume.shelf.disk) (D.state self.new.volume.shelf.disk) session query
-            (searching session query (Looks look) self.old) self.new result }
-        ensures leads { (l : Limits) → Leads (class_of K.Key.Shape K.is_proper l) (reading_of K.said (format_of K.KeyClass)) (format_of K.KeyClass) (is_node (format_of K.KeyClass))
-            (D.state self.old.volume.shelf.disk) (D.state self.new.volume.shelf.disk) (searching session query (Looks look) self.old) self.new (search_events session query result) }
+            (calling session (Search query) (Looks look) self.old) self.new result }
+        ensures moves { (l : Limits) → Moves (class_of K.Key.Shape K.is_proper l) (reading_of K.said (format_of K.KeyClass)) (format_of K.KeyClass) (is_node (format_of K.KeyClass))
+            (D.state self.old.volume.shelf.disk) (D.state self.new.volume.shelf.disk) session (calling session (Search query) (Looks look) self.old) self.new result
+            (search_events session query result) }
     {
         a_class_is_lawful::<K>();
+        self.sessions.has_failed();
         match gathered(self.alloc, look.found()) {
             Ok(entries) => {
                 self.sessions.answer(session);
@@ -86,45 +67,38 @@ where
         }
     }
 
-    // A look reads its next page.
+    // A search's look reads its next page, and goes on.
     fn read_on(&mut self, session: u8, query: Query<K::Key>, look: Look<K::Key>) -> Outcome<K::Key>
         requires session { is_session session ≡ true }
         requires phase { phase_at (session - 1) self.old.sessions.phases ≡ Open (Search query) Rests }
-        requires kept { IsKept (keys_of K.Key.Shape) (searching session query (Looks look) self.old).sessions }
         requires works { self.old.sessions.failed ≡ false }
         requires more { 0 < length look.stack.items }
         ensures comes { SearchComes (is_node (format_of K.KeyClass)) (D.state self.old.volume.shelf.disk) (D.state self.new.volume.shelf.disk) session query
-            (searching session query (Looks look) self.old) self.new result }
-        ensures leads { (l : Limits) → Leads (class_of K.Key.Shape K.is_proper l) (reading_of K.said (format_of K.KeyClass)) (format_of K.KeyClass) (is_node (format_of K.KeyClass))
-            (D.state self.old.volume.shelf.disk) (D.state self.new.volume.shelf.disk) (searching session query (Looks look) self.old) self.new (search_events session query result) }
+            (calling session (Search query) (Looks look) self.old) self.new result }
+        ensures moves { (l : Limits) → Moves (class_of K.Key.Shape K.is_proper l) (reading_of K.said (format_of K.KeyClass)) (format_of K.KeyClass) (is_node (format_of K.KeyClass))
+            (D.state self.old.volume.shelf.disk) (D.state self.new.volume.shelf.disk) session (calling session (Search query) (Looks look) self.old) self.new result
+            (search_events session query result) }
     {
         a_class_is_lawful::<K>();
         a_volume_shows_the_logs_tree::<D, K>();
         a_volume_shows_keys::<D, K>();
+        self.sessions.has_failed();
         let wanted = Wanted::<K>::matching(&query);
-        let mut look = look;
-        let read = self.storage.look_step(&wanted, &mut look);
+        let read = self.read_look(session, &wanted, look);
         self.storage.in_order();
         match read {
-            Ok(()) => {
+            Ok(look) => {
                 self.sessions.replace_work(session, Work::Looks(look));
                 Outcome::More
             }
-            Err(StepFault::Memory) => self.close(session, Refusal::Memory),
-            Err(StepFault::Pages(fault)) => {
-                self.sessions.replace_work(session, Work::Looks(look));
-                self.refuse(fault)
-            }
-            Err(StepFault::Damaged | StepFault::PagesFull) => {
-                self.sessions.replace_work(session, Work::Looks(look));
-                self.break_off(Refusal::Damaged)
-            }
+            Err(outcome) => outcome,
         }
     }
 
     /// A move of a session's search, which is open. The first one begins a look from the root; each further one reads a page, and where
     /// none is left to read it answers: `Replied(Found)` with the live pairs that match and stood while it looked, in order. Until
-    /// then `More`. It makes no write and no sync of the device, and takes memory for what it stacks and finds.
+    /// then `More`, and each such move leaves less to do. It makes no write and no sync of the device, and takes memory for what it
+    /// stacks and finds.
     ///
     /// `Help` where a page couldn't be brought, with what has to happen first; the search is then at what it was. Refused memory closes
     /// the call: `Replied(Refused(Memory))`. Where the device failed, or a page didn't read, the engine has failed, and the reply is
@@ -134,18 +108,19 @@ where
         requires searches { (work : declared.Work K.Key) × (phase_at (session - 1) self.old.sessions.phases ≡ Open (Search query) work) }
         requires works { self.old.sessions.failed ≡ false }
         ensures comes { SearchComes (is_node (format_of K.KeyClass)) (D.state self.old.volume.shelf.disk) (D.state self.new.volume.shelf.disk) session query self.old self.new result }
-        ensures leads { (l : Limits) → Leads (class_of K.Key.Shape K.is_proper l) (reading_of K.said (format_of K.KeyClass)) (format_of K.KeyClass) (is_node (format_of K.KeyClass))
-            (D.state self.old.volume.shelf.disk) (D.state self.new.volume.shelf.disk) self.old self.new (search_events session query result) }
+        ensures moves { (l : Limits) → Moves (class_of K.Key.Shape K.is_proper l) (reading_of K.said (format_of K.KeyClass)) (format_of K.KeyClass) (is_node (format_of K.KeyClass))
+            (D.state self.old.volume.shelf.disk) (D.state self.new.volume.shelf.disk) session self.old self.new result (search_events session query result) }
     {
         a_class_is_lawful::<K>();
         self.sessions.has_failed();
-        let Work::Looks(look) = self.sessions.replace_work(session, Work::Rests) else {
-            return self.begin_look(session, query);
-        };
-        if look.is_done() {
-            self.find(session, query, look)
-        } else {
-            self.read_on(session, query, look)
+        match self.sessions.replace_work(session, Work::Rests) {
+            Work::Looks(look) => if look.is_done() {
+                self.find(session, query, look)
+            } else {
+                self.read_on(session, query, look)
+            },
+            // a search descends and seeks in no index
+            Work::Rests | Work::Descends(_, _) | Work::Seeks(_) => self.begin_look(session),
         }
     }
 }

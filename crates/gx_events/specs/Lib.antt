@@ -2,3 +2,4 @@ pub mod Driven
 pub mod Happens
 pub mod Items
 pub mod Replay
+pub mod Engines

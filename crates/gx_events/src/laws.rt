@@ -4,12 +4,16 @@ ghost use Rattle.gx_geom.specs.declared.refusal.Refusal.TheVariants.{Memory};
 ghost use Rattle.gx_machine.specs.declared.entry.Entry.{Entry};
 ghost use Rattle.gx_machine.specs.declared.item.Item.{Item};
 ghost use Rattle.gx_machine.specs.declared.reply.Reply.TheVariants.{Found, Refused};
-ghost use Rattle.gx_machine.specs.Keys.{Keys};
+ghost use Rattle.gx_machine.specs.Keys.{Keys, IsLawful};
 ghost use Rattle.gx_machine.specs.Machine.{Machine, newest};
 ghost use Rattle.gx_events.specs.declared.event.Event.{Event};
 ghost use Rattle.gx_events.specs.declared.event.Event.TheVariants.{Move};
 ghost use Rattle.gx_events.specs.declared.outcome.Outcome.{Outcome};
 ghost use Rattle.gx_events.specs.declared.outcome.Outcome.TheVariants.{Replied};
+ghost use Rattle.gx_engine_laws.specs.Engines.{Engine, IsSound};
+ghost use Rattle.gx_engine_laws.specs.Events as laws;
+ghost use Rattle.gx_engine_laws.specs.Runs.{AreEvents};
+ghost use Rattle.gx_events.specs.Engines.{AreOf, Leads};
 ghost use Rattle.gx_events.specs.Happens.{Happens};
 ghost use Rattle.gx_events.specs.Items.{items_of};
 ghost use Rattle.gx_events.specs.Replay.{ReplaysAs};
@@ -27,4 +31,11 @@ pub fn records_replay<B>()
 pub fn what_is_found_may_be_given_up<B>()
     ensures { (k : Keys B) (old new : Machine B) (s : ℕ) (entries : List (Entry B))
         → Happens k old (Move s) (Replied (Found entries)) new → Happens k old (Move s) (Replied (Refused Memory)) new }
+{}
+
+/// What an event of an engine with its outcome is, by the events that the engine's laws know, it does to the machine that the engine is
+/// seen as.
+pub fn an_engines_events_happen<B>()
+    ensures { (k : Keys B) → IsLawful k → (old new : Engine B) → IsSound k old → (event : Event B) (outcome : Outcome B) (events : List (laws.Event B))
+        → AreOf old event outcome events → AreEvents k old events new → Leads k old event outcome new }
 {}

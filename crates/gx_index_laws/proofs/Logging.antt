@@ -166,9 +166,9 @@ module _ {B : Type 0} (c : Class B) (l : IsLawful c) (old : State B) (w : IsWhol
         }
 
   -- A checkpoint's new log.
-  module _ (no_flight : old.log.flight ≡ []) (no_filling : old.log.filling ≡ []) (written : AllWritten old.log) where
+  module _ (no_flight : old.log.flight ≡ []) (no_filling : old.log.filling ≡ []) (written : AllWritten old.log) (next : ℕ) where
     abbrev new_log : Logged (Entry B) (Page B)
-    new_log = record old.log { gated = renewed k old.next old.log.gated }
+    new_log = record old.log { gated = renewed k next old.log.gated }
 
     none_else : old.log.flight ++ old.log.filling ≡ []
     none_else = ap (λ x. x ++ old.log.filling) no_flight ∙ no_filling
@@ -176,38 +176,38 @@ module _ {B : Type 0} (c : Class B) (l : IsLawful c) (old : State B) (w : IsWhol
     old_records : log ≡ old.log.gated
     old_records = ap (λ x. old.log.gated ++ x) none_else ∙ append-nil old.log.gated
 
-    new_records : all_records new_log ≡ renewed k old.next old.log.gated
-    new_records = ap (λ x. renewed k old.next old.log.gated ++ x) none_else ∙ append-nil (renewed k old.next old.log.gated)
+    new_records : all_records new_log ≡ renewed k next old.log.gated
+    new_records = ap (λ x. renewed k next old.log.gated ++ x) none_else ∙ append-nil (renewed k next old.log.gated)
 
     area_is : old.log.area ≡ redone old.log.area old.log.gated
     area_is = λ i p. written p i
 
     pub new_tree : tree_of k old.log.area (all_records new_log) ≡ tree_of k old.log.area log
     new_tree =
-        ap (tree_of k old.log.area) new_records ∙ ap (λ (a : ℕ → Page B). tree_of k a (renewed k old.next old.log.gated)) area_is
-        ∙ same_tree k (known_lawful c l) old.next old.log.area old.log.gated w.healthy.gated ∙ sym (ap (tree_of k old.log.area) old_records)
+        ap (tree_of k old.log.area) new_records ∙ ap (λ (a : ℕ → Page B). tree_of k a (renewed k next old.log.gated)) area_is
+        ∙ same_tree k (known_lawful c l) next old.log.area old.log.gated w.healthy.gated ∙ sym (ap (tree_of k old.log.area) old_records)
 
     now_open : (t : ℕ) → settled any_number t (all_records new_log) ≡ false
-    now_open t = ap (settled any_number t) new_records ∙ renewed_open k old.next t old.log.gated
+    now_open t = ap (settled any_number t) new_records ∙ renewed_open k next t old.log.gated
 
     now_own : (t : ℕ) (e : Entry B) → settled any_number t log ≡ false → own_before k t e (all_records new_log) ≡ own_before k t e log
     now_own t e open_yet =
         ap (own_before k t e) new_records
-        ∙ renewed_marks k (known_lawful c l) old.next old.log.area old.log.gated w.healthy.gated t e (ap (settled any_number t) (sym old_records) ∙ open_yet)
+        ∙ renewed_marks k (known_lawful c l) next old.log.area old.log.gated w.healthy.gated t e (ap (settled any_number t) (sym old_records) ∙ open_yet)
         ∙ ap (own_before k t e) (sym old_records)
 
-    told_now : Told k (renewed k old.next old.log.gated)
-    told_now = told_log k (known_lawful c l) (renewed k old.next old.log.gated) (renewed_is_log k (known_lawful c l) old.next old.log.area old.log.gated w.healthy.gated)
+    told_now : Told k (renewed k next old.log.gated)
+    told_now = told_log k (known_lawful c l) (renewed k next old.log.gated) (renewed_is_log k (known_lawful c l) next old.log.area old.log.gated w.healthy.gated)
 
     -- what the new log says is touched is touched in the old one, by an open transaction
     touched_before : (t : ℕ) (e : Entry B) → is_some (own_before k t e (all_records new_log)) ≡ true → (settled any_number t log ≡ false) × (is_some (own_before k t e log) ≡ true)
     touched_before t e some =
-        let there : is_some (own_before k t e (renewed k old.next old.log.gated)) ≡ true = ap (λ x. is_some (own_before k t e x)) (sym new_records) ∙ some in
-        let listed : lists k t e (analysis k (renewed k old.next old.log.gated)).touched ≡ true =
-        told_now.listed t e ∙ ap (λ b. not b && is_some (own_before k t e (renewed k old.next old.log.gated))) (renewed_open k old.next t old.log.gated) ∙ there in
+        let there : is_some (own_before k t e (renewed k next old.log.gated)) ≡ true = ap (λ x. is_some (own_before k t e x)) (sym new_records) ∙ some in
+        let listed : lists k t e (analysis k (renewed k next old.log.gated)).touched ≡ true =
+        told_now.listed t e ∙ ap (λ b. not b && is_some (own_before k t e (renewed k next old.log.gated))) (renewed_open k next t old.log.gated) ∙ there in
         let before : lists k t e (analysis k log).touched ≡ true =
         ap (λ x. lists k t e (analysis k x).touched) old_records
-        ∙ ap (lists k t e) (sym (same_touched k (known_lawful c l) old.next old.log.area old.log.gated w.healthy.gated)) ∙ listed in
+        ∙ ap (lists k t e) (sym (same_touched k (known_lawful c l) next old.log.area old.log.gated w.healthy.gated)) ∙ listed in
         let both : (not (settled any_number t log) && is_some (own_before k t e log)) ≡ true = sym ((tells c l old w).listed t e) ∙ before in
         (untrue (settled any_number t log) (and_first (not (settled any_number t log)) (is_some (own_before k t e log)) both), and_second (not (settled any_number t log)) (is_some (own_before k t e log)) both)
 
@@ -231,11 +231,10 @@ module _ {B : Type 0} (c : Class B) (l : IsLawful c) (old : State B) (w : IsWhol
           record { session = h.session; busy = h.busy; has = h.has };
     }
 
-    pub renews : Happens c old events.Works (record old { log = new_log })
-    renews =
-        goes_on new_log new_tree (checkpoint_healthy k (known_lawful c l) old.log w.healthy no_flight no_filling written old.next) new_tied
-        (let covers : (analysis k old.log.gated).next ≤ old.next = subst (λ x. (analysis k x).next ≤ old.next) old_records w.next in
-        let carried = next_renewed k (known_lawful c l) old.next old.log.gated w.healthy.gated covers in
+    pub renews : (analysis k old.log.gated).next ≤ next → next ≤ old.next → Happens c old events.Works (record old { log = new_log })
+    renews covers upto =
+        goes_on new_log new_tree (checkpoint_healthy k (known_lawful c l) old.log w.healthy no_flight no_filling written next) new_tied
+        (let carried = next_renewed k (known_lawful c l) next old.log.gated w.healthy.gated covers in
         let same = ap (λ x. (analysis k x).next) new_records in
-        omega (arith, carried, same))
-        (checkpoint_stays k (known_lawful c l) old.log w.healthy no_flight no_filling written old.next)
+        omega (arith, carried, same, upto))
+        (checkpoint_stays k (known_lawful c l) old.log w.healthy no_flight no_filling written next)

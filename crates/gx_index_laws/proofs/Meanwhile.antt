@@ -244,6 +244,6 @@ module _ {B : Type 0} (c : Class B) (l : IsLawful c) (old : State B) (w : IsWhol
             omega (arith, stays)
         by (Waiting number) does = omega arith
 
-  pub renewed_stays : old.log.flight ≡ [] → old.log.filling ≡ [] → AllWritten old.log → (s : ℕ)
-      → work_left c (record old { log = record old.log { gated = renewed (known_of c) old.next old.log.gated } }) s ≡ work_left c old s
-  renewed_stays no_flight no_filling written s = ap (λ x. left_over c old (tree_in x) s) (new_tree c l old w no_flight no_filling written)
+  pub renewed_stays : old.log.flight ≡ [] → old.log.filling ≡ [] → AllWritten old.log → (next s : ℕ)
+      → work_left c (record old { log = record old.log { gated = renewed (known_of c) next old.log.gated } }) s ≡ work_left c old s
+  renewed_stays no_flight no_filling written next s = ap (λ x. left_over c old (tree_in x) s) (new_tree c l old w no_flight no_filling written next)

@@ -356,7 +356,7 @@ module _ {B : Type 0} (c : Class B) where
             let marked = product c.pages c.rules.most 65536 100 small few in
             omega (arith, free, marked, small)
 
-        call_below : (s : ℕ) (work : Work B) → old.work s ≡ work → call_left c t old.slots work < 2 ^ 40
+        call_below : (s : ℕ) (work : Work B) → old.work s ≡ work → call_left c t old.slots work < 2 ^ 39
         call_below s Rests is = omega arith
         call_below s (Looks stack found) is =
             let look : IsLook t (wants_pair c (slot_at s old.slots)) stack found = subst (λ (x : Work B). DoesWork c t (slot_at s old.slots) x) is (w.works s) in
@@ -377,10 +377,10 @@ module _ {B : Type 0} (c : Class B) where
         undo_below (Descends e parent item) = omega arith
         undo_below (Seeks e leaf) = let below = seek_below leaf in omega (arith, below)
 
-        pub left_below : (s : ℕ) → work_left c old s < 2 ^ 40
+        pub left_below : (s : ℕ) → work_left c old s < 2 ^ 39
         left_below s = by (slot_at s old.slots) refl
           where
-            by : (slot : Slot B) → slot_at s old.slots ≡ slot → slot_left c t old.slots slot (old.work s) (old.restored s) < 2 ^ 40
+            by : (slot : Slot B) → slot_at s old.slots ≡ slot → slot_left c t old.slots slot (old.work s) (old.restored s) < 2 ^ 39
             by Free at = omega arith
             by (Working locks notes None) at = omega arith
             by (Working locks notes (Some call)) at = call_below s (old.work s) refl

@@ -6,6 +6,7 @@ ghost use Rattle.gx_machine.specs.declared.call.Call.{Call};
 ghost use Rattle.gx_tree_laws.specs.Steps.{Step, IsStep};
 ghost use Rattle.gx_engine_laws.specs.Slots.{slot_at, is_unanswered};
 ghost use Rattle.gx_engine_laws.specs.Events.{Durable, Works, Fails, RefusesAsk, RefusesCall};
+ghost use Rattle.gx_recovery.specs.Analysis.{analysis};
 ghost use Rattle.gx_recovery.specs.Records.{Image, Change, Pages, Adjust};
 ghost use Rattle.gx_recovery.specs.Damage.{image_fits};
 ghost use Rattle.gx_recovery.specs.Given.{given, change_fits};
@@ -48,10 +49,11 @@ pub fn the_log_goes_on<B>()
 {}
 
 /// A checkpoint's new log, of numbers and notes, takes the old one's place, where all is gated and all pages are written. It
-/// carries the next transaction's number, which may be above what the old log told.
+/// carries a next transaction's number from the old log's to the index's, which may have begun transactions since the head was made.
 pub fn a_log_is_renewed<B>()
     ensures { (c : Class B) → IsLawful c → (old : State B) → IsWhole c old → old.log.flight ≡ [] → old.log.filling ≡ [] → AllWritten old.log
-        → Happens c old Works (record old { log = record old.log { gated = renewed (known_of c) old.next old.log.gated } }) }
+        → (next : ℕ) → (analysis (known_of c) old.log.gated).next ≤ next → next ≤ old.next
+        → Happens c old Works (record old { log = record old.log { gated = renewed (known_of c) next old.log.gated } }) }
 {}
 
 /// A fault makes an index fail, whether a session sees it or not, and changes nothing else. A failed index refuses.

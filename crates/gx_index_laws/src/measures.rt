@@ -1,4 +1,4 @@
-//! How far an unanswered call still is from its end: a number below 2^40, which each of its own moves lowers.
+//! How far an unanswered call still is from its end: a number below 2^39, which each of its own moves lowers.
 ghost use Rattle.std.specs.Prelude.{◌≡◌, ◌≢◌, ◌≤◌, ◌<◌, ◌+◌, ◌^◌, ℕ, Bool, true, false, Some, None, List, [], ◌∷◌, length};
 ghost use Rattle.gx_machine.specs.declared.entry.Entry.{Entry};
 ghost use Rattle.gx_machine.specs.declared.call.Call.{Call};
@@ -25,10 +25,10 @@ ghost use Rattle.gx_index_laws.specs.Happening.{with_record, with_work, slotted,
 ghost use Rattle.gx_index_laws.specs.Measures.{claims_pair, work_left};
 ghost use Rattle.gx_index_laws.specs.Upkeep.{Upkeep, IsWithin, upkeep_left, Chore, IsChore};
 
-/// What a session's call has left is below 2^40, on a device of at most 65,536 pages, with at most 100 entries a node.
+/// What a session's call has left is below 2^39, on a device of at most 65,536 pages, with at most 100 entries a node.
 pub fn what_a_call_has_left_is_bounded<B>()
     ensures { (c : Class B) → IsLawful c → (old : State B) → IsWhole c old → c.pages ≤ 65536 → c.rules.most ≤ 100
-        → (s : ℕ) → work_left c old s < 2 ^ 40 }
+        → (s : ℕ) → work_left c old s < 2 ^ 39 }
 {}
 
 /// A look has less left with each page that it reads, and where it turns into a descent or a seek.
@@ -115,8 +115,8 @@ pub fn what_is_no_sessions_leaves_no_more<B>()
         → work_left c (record old { log = record old.log { area = area } }) s ≡ work_left c old s }
     ensures synced { (c : Class B) (old : State B) (older : List (List (Entry B))) (oldest s : ℕ)
         → work_left c (record old { log = gate_synced old.log; older = older; oldest = oldest }) s ≡ work_left c old s }
-    ensures renewed { (c : Class B) → IsLawful c → (old : State B) → IsWhole c old → old.log.flight ≡ [] → old.log.filling ≡ [] → AllWritten old.log → (s : ℕ)
-        → work_left c (record old { log = record old.log { gated = renewed (known_of c) old.next old.log.gated } }) s ≡ work_left c old s }
+    ensures renewed { (c : Class B) → IsLawful c → (old : State B) → IsWhole c old → old.log.flight ≡ [] → old.log.filling ≡ [] → AllWritten old.log → (next s : ℕ)
+        → work_left c (record old { log = record old.log { gated = renewed (known_of c) next old.log.gated } }) s ≡ work_left c old s }
     ensures steps { (c : Class B) → IsLawful c → (old : State B) → IsWhole c old → (r : Record (Entry B) (Page B)) (step : Step B) → IsPageStep step
         → IsStep c.rules (tree_now c old) step (tree_now c (with_record r old)) → (tree_now c (with_record r old)).used ≤ c.pages
         → (s : ℕ) → work_left c (with_record r old) s ≤ work_left c old s }

@@ -10,7 +10,7 @@ use Rattle.gx_page.specs.Format.{IsWellFormed}
 use Rattle.gx_glog.specs.declared.stage.Stage.{Stage}
 use Rattle.gx_glog.specs.declared.stage.Stage.TheVariants.{Body, BodySync, Gate, GateSync, Idle}
 use Rattle.gx_glog.specs.Standing.{On}
-use Rattle.gx_glog.specs.State.{Log}
+use Rattle.gx_glog.specs.State.{Log, Goes}
 use Rattle.gx_pool.specs.Area.{IsPassing, bytes_of}
 use Rattle.gx_pool.specs.Elsewhere.{LeavesPages}
 use Rattle.gx_pool.specs.Laws.{IsBacked}
@@ -26,7 +26,7 @@ use Rattle.gx_recovery.specs.Logged.{Logged, all_records}
 use Rattle.gx_recovery.specs.Logged as logged
 use Rattle.gx_index_laws.specs.Classes.{Page}
 use Rattle.gx_durable.specs.Spelled.{Reading, AreRecords}
-use Rattle.gx_durable.specs.Stamps.{AllSaid}
+use Rattle.gx_durable.specs.Stamps.{AllPlaced, AllSaid}
 use Rattle.gx_durable.specs.Standing.{batch_of, Up}
 use Rattle.gx_durable.specs.Stored.{bytes_by, stored}
 use Rattle.gx_durable.specs.Steps.{told, told_frames, with_batch, stepped}
@@ -34,7 +34,7 @@ use Rattle.gx_durable.specs.Calls.{Runs, StepKeepsRunning}
 use Rattle.gx_durable.specs.Pages.{PageKeepsRunning, rewritten}
 use Rattle.gx_durable.specs.PoolLaws.{StaysUp}
 use Rattle.gx_durable.proofs.Spellings.{one_way, none_are}
-use Rattle.gx_durable.proofs.Stamping.{told_kept}
+use Rattle.gx_durable.proofs.Stamping.{fewer_placed, step_placed, told_kept}
 use Rattle.gx_store.specs.Faults.{CanBeRead, is_taken}
 use Rattle.gx_store.specs.State.{Shelf}
 use Rattle.gx_storage.specs.Formed.{AreFormed}
@@ -126,10 +126,10 @@ rests_none k r log d bodies s up idle =
 module _ {B : Type 0} (k : Known (Entry B) (Page B)) (r : Reading (Entry B) (Page B)) (f : Format B) (passes : ℕ → Contents → Bool) {D : Type 0} (d e : Device) (v w : Volume D) where
   -- A call that leaves the pages, where the records leave the same of them as before.
   pub keeps_on : (fr : State) → w.shelf ≡ record v.shelf { disk = w.shelf.disk; frames = fr } → ((p : ℕ) → kept fr p ≡ kept v.shelf.frames p) → e.honest ≡ d.honest → LeavesPages d e
-      → (bodies now : List (List (Record (Entry B) (Page B)))) (s t : Logged (Entry B) (Page B)) → Keeps k r f passes d v bodies s → Runs k r w.log w.shelf.frames e now t → AllSaid w.shelf.frames t
+      → (bodies now : List (List (Record (Entry B) (Page B)))) (s t : Logged (Entry B) (Page B)) → Keeps k r f passes d v bodies s → Runs k r w.log w.shelf.frames e now t → AllSaid w.shelf.frames t → AllPlaced w.log w.shelf.frames
       → (analysis k (all_records t)).used ≡ (analysis k (all_records s)).used → (analysis k (all_records t)).counter ≡ (analysis k (all_records s)).counter
       → ((p : ℕ) → redone t.area (all_records t) p ≡ redone s.area (all_records s) p) → Keeps k r f passes e w now t
-  keeps_on fr only same honest leaves bodies now s t old runs said used counter pages =
+  keeps_on fr only same honest leaves bodies now s t old runs said placed used counter pages =
       let frames_are : w.shelf.frames ≡ fr = ap (λ (x : Shelf D). x.frames) only in
       let used_is : w.shelf.used ≡ v.shelf.used = ap (λ (x : Shelf D). x.used) only in
       let pages_are : w.shelf.pages ≡ v.shelf.pages = ap (λ (x : Shelf D). x.pages) only in
@@ -139,6 +139,7 @@ module _ {B : Type 0} (k : Known (Entry B) (Page B)) (r : Reading (Entry B) (Pag
       record {
         runs = runs;
         said = said;
+        placed = placed;
         steady = record { honest = honest ∙ old.steady.honest; backed = λ page x is clean. backed page x (sym (kept_is page) ∙ is) clean };
         readable = λ page from taken none.
             (let P : ℕ → Type 0 = λ n. IsPassing (passes n) page (bytes_of e.seen page) in
@@ -152,8 +153,9 @@ module _ {B : Type 0} (k : Known (Entry B) (Page B)) (r : Reading (Entry B) (Pag
 
   -- a step of the log
   pub log_keeps : (result : Result Stage Refusal) → w.shelf ≡ record v.shelf { disk = w.shelf.disk; frames = told_frames result w.log v.shelf.frames } → e.honest ≡ d.honest
-      → (d.honest ≡ true → On v.log d.seen d.pending → LeavesPages d e) → StepKeepsRunning k r v.log w.log v.shelf.frames w.shelf.frames d e result → StepsLog k r f passes d e v w result
-  log_keeps result only honest leaves steps bodies s l old =
+      → (d.honest ≡ true → On v.log d.seen d.pending → LeavesPages d e) → Goes v.log w.log result
+      → StepKeepsRunning k r v.log w.log v.shelf.frames w.shelf.frames d e result → StepsLog k r f passes d e v w result
+  log_keeps result only honest leaves goes steps bodies s l old =
       let now = steps bodies s l old.steady.honest old.runs old.said in
       let t : Logged (Entry B) (Page B) = with_batch v.log.stage v.log.filling s in
       let all : all_records (stepped result t) ≡ all_records s =
@@ -161,7 +163,7 @@ module _ {B : Type 0} (k : Known (Entry B) (Page B)) (r : Reading (Entry B) (Pag
       let area : (stepped result t).area ≡ s.area = result_area result t ∙ batch_area v.log.stage v.log.filling s in
       record {
         keeps = keeps_on (told_frames result w.log v.shelf.frames) only (told_same result w.log v.shelf.frames) honest (leaves old.steady.honest old.runs.up.on) bodies _ s (stepped result t) old
-            now.runs now.said
+            now.runs now.said (step_placed v.shelf.frames v.log w.log w.shelf.frames result (ap (λ (x : Shelf D). x.frames) only) goes old.placed)
             (ap (λ (x : List (Record (Entry B) (Page B))). (analysis k x).used) all)
             (ap (λ (x : List (Record (Entry B) (Page B))). (analysis k x).counter) all)
             (λ p. ap (λ (a : ℕ → Page B). redone a (all_records (stepped result t)) p) area ∙ ap (λ (x : List (Record (Entry B) (Page B))). redone s.area x p) all);
@@ -176,10 +178,12 @@ module _ {B : Type 0} (k : Known (Entry B) (Page B)) (r : Reading (Entry B) (Pag
       let R : State → Type 0 = λ x. Runs k r v.log x e bodies s in
       let L : Log → Type 0 = λ x. Runs k r x w.shelf.frames e bodies s in
       let S : State → Type 0 = λ x. AllSaid x s in
+      let P : State → Type 0 = λ x. AllPlaced v.log x in
+      let Q : Log → Type 0 = λ x. AllPlaced x w.shelf.frames in
       record {
         keeps = keeps_on v.shelf.frames only (λ p. refl) honest (leaves old.steady.honest) bodies bodies s s old
             (subst L (sym log) (subst R (sym frames_are) (record { up = now.0; stamped = old.runs.stamped })))
-            (subst S (sym frames_are) old.said) refl refl (λ p. refl);
+            (subst S (sym frames_are) old.said) (subst Q (sym log) (subst P (sym frames_are) old.placed)) refl refl (λ p. refl);
         safely = now.1;
       }
 
@@ -194,6 +198,7 @@ module _ {B : Type 0} (k : Known (Entry B) (Page B)) (r : Reading (Entry B) (Pag
         keeps = record {
           runs = subst L (sym log) now.runs;
           said = now.said old.said;
+          placed = subst {A = Log} (λ x. AllPlaced x w.shelf.frames) (sym log) (fewer_placed v.log v.shelf.frames w.shelf.frames at_most.dirty old.placed);
           steady = record { honest = honest ∙ old.steady.honest; backed = (shown old.steady.honest old.steady.backed).backed };
           readable = readable old.steady.honest old.readable;
           stored = now.stored old.stored;

@@ -94,7 +94,7 @@ module _ {E P : Type 0} (r : Reading E P) (pages : ℕ) (frames : State) (seen :
 module _ {B D : Type 0} (k : Known (Entry B) (Page B)) (said : List ℕ → B) (f : Format B) (passes : ℕ → Contents → Bool)
     (d e : Device) (v : Volume D) (batch : ℕ) (room : Bool) (t : Shelf D) (bodies : List (List (Record (Entry B) (Page B)))) (s : Logged (Entry B) (Page B))
     (l : IsLawful k) (keeps : Keeps k (reading_of said f) f passes d v bodies s) (on : GoesOn passes d e (record v.shelf { batch = batch; has_room = room }) t)
-    (least : v.log.used ≤ batch) (fits : t.used ≤ t.pages) where
+    (least : batch ≡ v.log.used) (fits : t.used ≤ t.pages) where
   -- some pages, which a record gives with the numbers as they are now
   pub pages_stay_with : (known : Limits → Known (Entry B) (Page B)) (limits : Limits) → known limits ≡ k → (changes : List (ℕ × Contents)) (log : Log) (most : ℕ) → AreThere t.frames t.used changes
       → IsLast known (reading_of said f) (Pages t.counter t.used (images_of changes)) v.log log
@@ -103,7 +103,7 @@ module _ {B D : Type 0} (k : Known (Entry B) (Page B)) (said : List ℕ → B) (
   pages_stay_with known limits is changes log most there last others =
       let on_device : t.used ≤ k.pages = omega (arith, fits, keeps.pages, on.pages) in
       stays_with k said f passes d e v batch room t bodies s l keeps on least fits (Pages t.counter t.used (images_of changes)) log most
-      (rw (← is) (last.up limits)) last.stamped tt others
+      (rw (← is) (last.up limits)) last.stamped last.placed tt others
       (λ q given. images_stored (reading_of said f) k.pages t.frames e.seen t.used on_device changes q (stored (reading_of said f) k.pages v.shelf.frames d.seen) there (λ none. absurd (clash _ given none)))
       (λ q other. images_beside (images_read (reading_of said f) (images_of changes)) q (stored (reading_of said f) k.pages v.shelf.frames d.seen) other)
       (λ q j given at. formed_there (reading_of said f) k.pages t.frames e.seen t.used on_device changes q j there given at)

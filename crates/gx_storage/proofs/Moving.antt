@@ -16,10 +16,11 @@ use Rattle.gx_recovery.specs.Logged.{Logged}
 use Rattle.gx_index_laws.specs.Classes.{Page}
 use Rattle.gx_durable.specs.Calls.{GoesSafely}
 use Rattle.gx_durable.specs.Spelled.{Reading}
-use Rattle.gx_durable.specs.Stamps.{Stamped, OnlyLater, SaidBut}
+use Rattle.gx_durable.specs.Stamps.{NoneLater, OnlyLater, SaidBut, Stamped}
 use Rattle.gx_durable.specs.Standing.{Up}
 use Rattle.gx_durable.specs.Stored.{bytes_by, stored}
 use Rattle.gx_durable.proofs.Reading.{later_stamps, reads_up}
+use Rattle.gx_durable.proofs.Stamping.{fewer_placed, none_later}
 use Rattle.gx_durable.proofs.Storing.{clean_bytes, stored_same}
 use Rattle.gx_store.specs.Faults.{CanBeRead}
 use Rattle.gx_store.specs.Since.{GoesOn, IsAsItWas, IsStamped}
@@ -30,6 +31,10 @@ use Rattle.gx_storage.specs.State.{Volume}
 later_least : (batch : ℕ) (was : Option ℕ) → batch ≤ later batch was
 later_least batch None = omega arith
 later_least batch (Some stamp) = omega arith
+
+later_most : (batch last : ℕ) (was : Option ℕ) → batch ≤ last → ((stamp : ℕ) → was ≡ Some stamp → stamp ≤ last) → later batch was ≤ last
+later_most batch last None new old = new
+later_most batch last (Some stamp) new old = omega (arith, new, old stamp refl)
 
 module _ {B D : Type 0} (k : Known (Entry B) (Page B)) (r : Reading (Entry B) (Page B)) (f : Format B) (passes : ℕ → Contents → Bool)
     (d e : Device) (v : Volume D) (batch : ℕ) (room : Bool) (t : Shelf D) (bodies : List (List (Record (Entry B) (Page B)))) (s : Logged (Entry B) (Page B))
@@ -53,6 +58,16 @@ module _ {B D : Type 0} (k : Known (Entry B) (Page B)) (r : Reading (Entry B) (P
       (λ (changed : IsStamped batch v.shelf.frames t.frames p).
       (let now = some-injective (later batch (stamp_of (kept v.shelf.frames p))) stamp (sym changed ∙ is) in
       inr (omega (arith, now, least, later_least batch (stamp_of (kept v.shelf.frames p))))))
+      (on.each p)
+
+  -- and nothing was changed for a later one
+  pub now_none_later : batch ≤ v.log.used → NoneLater v.log.used t.frames
+  now_none_later most p stamp is =
+      let before : (n : ℕ) → stamp_of (kept v.shelf.frames p) ≡ Some n → n ≤ v.log.used = λ n was. none_later v.log v.shelf.frames keeps.placed p n was in
+      ⊎_elim (λ (same : IsAsItWas d e v.shelf.frames t.frames p). before stamp (sym same.stamp ∙ is))
+      (λ (changed : IsStamped batch v.shelf.frames t.frames p).
+      (let now = some-injective (later batch (stamp_of (kept v.shelf.frames p))) stamp (sym changed ∙ is) in
+      omega (arith, now, later_most batch v.log.used (stamp_of (kept v.shelf.frames p)) most before)))
       (on.each p)
 
   pub now_stamped : OnlyLater v.log.used v.shelf.frames t.frames → Stamped v.log t.frames s
@@ -99,6 +114,7 @@ module _ {B D : Type 0} (k : Known (Entry B) (Page B)) (r : Reading (Entry B) (P
     keeps = record {
       runs = record { up = now_up.0; stamped = now_stamped (λ p stamp is. inl (sym (same p).stamp ∙ is)) };
       said = λ p place is. keeps.said p place (sym (same p).stamp ∙ is);
+      placed = fewer_placed v.log v.shelf.frames t.frames (λ p place is. sym (same p).stamp ∙ is) keeps.placed;
       steady = now_steady;
       readable = now_readable;
       stored = λ p. now_stored p (same p) ∙ keeps.stored p;

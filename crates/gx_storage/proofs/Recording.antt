@@ -25,7 +25,7 @@ use Rattle.gx_index_laws.specs.Classes.{Page}
 use Rattle.gx_glog.specs.State.{Log}
 use Rattle.gx_glog.specs.declared.filling.Appended.TheVariants.{At}
 use Rattle.gx_durable.specs.Area.{is_given}
-use Rattle.gx_durable.specs.Calls.{AppendStaysUp, AppendStaysStamped}
+use Rattle.gx_durable.specs.Calls.{AppendPlaces, AppendStaysUp, AppendStaysStamped}
 use Rattle.gx_durable.specs.Spelled.{Reading, record_read}
 use Rattle.gx_durable.specs.Stored.{bytes_by, stored, IsStored}
 use Rattle.gx_durable.proofs.Reading.{one_more, record_says}
@@ -36,7 +36,7 @@ use Rattle.gx_store.specs.State.{Shelf}
 use Rattle.gx_storage.specs.Formed.{AreFormed}
 use Rattle.gx_storage.specs.Keeps.{Keeps, StaysWith}
 use Rattle.gx_storage.specs.State.{Volume}
-use Rattle.gx_storage.proofs.Moving.{now_formed, now_readable, now_said, now_seen, now_stamped, now_steady, now_stored, now_up, only_later}
+use Rattle.gx_storage.proofs.Moving.{now_formed, now_none_later, now_readable, now_said, now_seen, now_stamped, now_steady, now_stored, now_up, only_later}
 use Rattle.gx_storage.proofs.Shown.{stored_shows}
 
 or_last : (a b : Bool) → b ≡ true → (a || (b || false)) ≡ true
@@ -61,9 +61,9 @@ stored_kept r pages frames seen p j is low high =
 module _ {B D : Type 0} (k : Known (Entry B) (Page B)) (said : List ℕ → B) (f : Format B) (passes : ℕ → Contents → Bool)
     (d e : Device) (v : Volume D) (batch : ℕ) (room : Bool) (t : Shelf D) (bodies : List (List (Record (Entry B) (Page B)))) (s : Logged (Entry B) (Page B))
     (l : IsLawful k) (keeps : Keeps k (reading_of said f) f passes d v bodies s) (on : GoesOn passes d e (record v.shelf { batch = batch; has_room = room }) t)
-    (least : v.log.used ≤ batch) (fits : t.used ≤ t.pages) where
+    (least : batch ≡ v.log.used) (fits : t.used ≤ t.pages) where
   module _ (x : Rec) (log : Log) (most : ℕ) (up : AppendStaysUp k (reading_of said f) x v.log log (At v.log.used)) (stamped : AppendStaysStamped (reading_of said f) x v.log log (At v.log.used))
-      (key : HasKey f.key x)
+      (placed : AppendPlaces v.log log (At v.log.used)) (key : HasKey f.key x)
       (others : (q : ℕ) → gives q (record_read (reading_of said f) x) ≡ false → IsAsItWas d e v.shelf.frames t.frames q)
       (given : (q : ℕ) → gives q (record_read (reading_of said f) x) ≡ true
       → stored (reading_of said f) k.pages t.frames e.seen q ≡ redo (stored (reading_of said f) k.pages v.shelf.frames d.seen) (record_read (reading_of said f) x) q)
@@ -113,11 +113,12 @@ module _ {B D : Type 0} (k : Known (Entry B) (Page B)) (said : List ℕ → B) (
             runs = record {
               up = up e.sectors e.seen e.pending bodies s l key may safely.0;
               stamped = stamped t.frames s (now_stamped k (reading_of said f) f passes d e v batch room t bodies s l keeps on
-                  (only_later k (reading_of said f) f passes d e v batch room t bodies s l keeps on least));
+                  (only_later k (reading_of said f) f passes d e v batch room t bodies s l keeps on (omega (arith, least))));
             };
             said = record_says _ _ (λ q. gives q (record_read (reading_of said f) x)) t.frames s (record_read (reading_of said f) x)
                 (λ q is. given_last (all_records s) (record_read (reading_of said f) x) q is)
                 (now_said k (reading_of said f) f passes d e v batch room t bodies s l keeps on (λ q. gives q (record_read (reading_of said f) x)) others);
+            placed = placed t.frames (now_none_later k (reading_of said f) f passes d e v batch room t bodies s l keeps on (omega (arith, least)));
             steady = steady;
             readable = now_readable k (reading_of said f) f passes d e v batch room t bodies s l keeps on;
             stored = all_stored;
@@ -134,7 +135,7 @@ module _ {B D : Type 0} (k : Known (Entry B) (Page B)) (said : List ℕ → B) (
       (low : 1 ≤ page) (high : page ≤ t.used)
       (up : AppendStaysUp k (reading_of said f) (rec.Write tx row key before after page (image_of j.page)) v.log log (At v.log.used))
       (stamped : AppendStaysStamped (reading_of said f) (rec.Write tx row key before after page (image_of j.page)) v.log log (At v.log.used))
-      (long : HasKey f.key (rec.Write tx row key before after page (image_of j.page)))
+      (placed : AppendPlaces v.log log (At v.log.used)) (long : HasKey f.key (rec.Write tx row key before after page (image_of j.page)))
       (others : (q : ℕ) → (page == q) ≡ false → IsAsItWas d e v.shelf.frames t.frames q) (used : t.used ≡ v.shelf.used) (counter : t.counter ≡ v.shelf.counter) where
     on_device : page ≤ k.pages
     on_device = omega (arith, high, fits, keeps.pages ∙ sym on.pages)
@@ -151,7 +152,7 @@ module _ {B D : Type 0} (k : Known (Entry B) (Page B)) (said : List ℕ → B) (
 
     pub write_stays_with : StaysWith k (reading_of said f) f passes d e (record { log = log; shelf = t; most = most }) bodies s
         (record_read (reading_of said f) (rec.Write tx row key before after page (image_of j.page)))
-    write_stays_with = stays_with (rec.Write tx row key before after page (image_of j.page)) log most up stamped long others
+    write_stays_with = stays_with (rec.Write tx row key before after page (image_of j.page)) log most up stamped placed long others
         (λ q this. stored_now q this ∙ sym (ap (λ b. if b then (reading_of said f).content (image_of j.page) else stored (reading_of said f) k.pages v.shelf.frames d.seen q) this))
         (λ q other. ap (λ b. if b then (reading_of said f).content (image_of j.page) else stored (reading_of said f) k.pages v.shelf.frames d.seen q) other)
         formed_now

@@ -1,23 +1,35 @@
 -- What the sweep of a leaf leaves.
-use Rattle.std.proofs.Common.{◌≡◌, ◌≢◌, ◌∙◌, sym, ap, subst, inl, inr, ℕ, zero, suc, ◌<◌, ◌≤◌, ◌==◌, Bool, true, false, List, [], ◌∷◌, length, arith}
+use Rattle.std.proofs.Common.{◌≡◌, ◌≢◌, ◌∙◌, sym, ap, refl, subst, inl, inr, ℕ, zero, suc, ◌<◌, ◌≤◌, ◌==◌, Bool, true, false, List, [], ◌∷◌, length, Result, Ok, Err, arith}
+use Rattle.std.specs.Prelude.{nat_lt, IfErr}
+use Rattle.std.proofs.lemmas.Bool.{eq-eqb, lt-ltb}
 use Rattle.gx_machine.specs.declared.entry.Entry.{Entry}
+use Rattle.gx_recovery.proofs.Logs.{and_all}
 use Rattle.gx_disk.specs.Device.{Device}
 use Rattle.gx_page.specs.Contents.{Contents}
-use Rattle.gx_tree_laws.specs.Lists.{staying}
+use Rattle.gx_tree_laws.specs.Lists.{how_many, staying}
 use Rattle.gx_tree_laws.specs.Trees.{Node}
+use Rattle.gx_tree_laws.specs.Writes.{is_sweepable}
 use Rattle.gx_tree_laws.proofs.Sums.{length_parted}
 use Rattle.gx_node.specs.Reading.{Format}
 use Rattle.gx_tree.specs.Store.{Store, node_at, tree_of}
 use Rattle.gx_tree.specs.Sweeping.{FitsLeaf, Planned, PlansSweep, TakesOut, slots_from, slots_of, takes_none}
 use Rattle.gx_tree.specs.Writing.{Swept}
-use Rattle.gx_tree.proofs.Swept.{is_swept, is_unswept}
+use Rattle.gx_tree.proofs.Swept.{is_swept, is_unswept, sweep_size}
+use Rattle.gx_tree.specs.Owner.{IsWhy}
+use Rattle.gx_tree.specs.declared.fault.StepFault.{StepFault}
+use Rattle.gx_tree.specs.declared.fault.StepFault.TheVariants.{Damaged, Memory, Pages, PagesFull}
+use Rattle.gx_node.specs.Edits.{entry_of}
+use Rattle.gx_store.specs.Faults as faults
+use Rattle.gx_store.specs.declared.fault.StoreFault.{StoreFault}
+use Rattle.gx_store.specs.declared.fault.StoreFault.TheVariants as fault
 use Rattle.gx_store.specs.Since.{IsSince, IsStamped}
 use Rattle.gx_store.specs.Standing.{standing_node, store_of}
 use Rattle.gx_store.specs.State.{Shelf, IsHeld, IsSteady}
 use Rattle.gx_store.proofs.Listed.{nodes_long}
+use Rattle.gx_storage.specs.Bringing.{has_removable}
 use Rattle.gx_storage.specs.Changes.{begun}
 use Rattle.gx_storage.specs.State.{Volume}
-use Rattle.gx_storage.proofs.Writing.{Stepped, same_node, stepped}
+use Rattle.gx_storage.proofs.Writing.{Stepped, same_node, stepped_since}
 
 -- ---- a leaf that is swept isn't as it was
 
@@ -70,19 +82,67 @@ module _ {B : Type 0} (plan : Planned) where
 
 -- ---- since before the event began
 
--- the store goes on from one call of the tree to the next
-pub swept_step : {D : Type 0} (passes : ℕ → Contents → Bool) (state : D → Device) (v : Volume D) (size : ℕ) (u read t : Shelf D) (planned page : ℕ) → planned ≡ page → u ≡ begun v size
-    → ((was : Shelf D) (q : ℕ) → IsSince passes (state was.disk) (state u.disk) was u q → IsSince passes (state was.disk) (state read.disk) was read q)
+-- an event that only read begins anew, with its room
+pub begun_anew : {D : Type 0} (passes : ℕ → Contents → Bool) (state : D → Device) (s read : Shelf D) (batch : ℕ) (before room : Bool) (q : ℕ)
+    → IsSince passes (state s.disk) (state read.disk) (record s { batch = batch; has_room = before }) read q
+    → IsSince passes (state s.disk) (state read.disk) (record s { batch = batch; has_room = room }) (record read { batch = batch; has_room = room }) q
+begun_anew passes state s read batch before room q since =
+    let on = since.goes_on in
+    record {
+      goes_on = record {
+        device = on.device;
+        faults = on.faults;
+        used = on.used;
+        counter = on.counter;
+        pages = on.pages;
+        batch = refl;
+        has_room = refl;
+        gated = on.gated;
+        frames = on.frames;
+        each = on.each;
+        steady = on.steady;
+        readable = on.readable;
+      };
+      same = since.same;
+    }
+
+pub held_anew : {D : Type 0} (read : Shelf D) (batch page : ℕ) (room : Bool) → IsHeld read page → IsHeld (record read { batch = batch; has_room = room }) page
+held_anew read batch page room held = record { from = held.from; to = held.to; kept = held.kept; stays = held.stays }
+
+-- why pages were refused, told otherwise
+pub whys : {A : Type 0} (old new : StoreFault → Type 0) → ((why : StoreFault) → old why → new why) → (result : Result A (StepFault StoreFault)) → IfErr result (IsWhy old) → IfErr result (IsWhy new)
+whys old new goes (Ok done) is = tt
+whys old new goes (Err Memory) is = tt
+whys old new goes (Err Damaged) is = tt
+whys old new goes (Err PagesFull) is = tt
+whys old new goes (Err (Pages why)) is = goes why is
+
+-- of an event that only read, which begins anew
+pub why_anew : {D : Type 0} (passes : ℕ → Contents → Bool) (d e : Device) (s read : Shelf D) (batch : ℕ) (room : Bool) (why : StoreFault)
+    → faults.IsWhy passes d e (record s { batch = batch; has_room = true }) read why
+    → faults.IsWhy passes d e (record s { batch = batch; has_room = room }) (record read { batch = batch; has_room = room }) why
+why_anew passes d e s read batch room fault.NoRoom is = absurd (let no : true ≡ false = is in cc)
+why_anew passes d e s read batch room (fault.TooFewFrames wanted) is = record { more = is.more; few = is.few }
+why_anew passes d e s read batch room fault.Device is = is
+why_anew passes d e s read batch room fault.Damaged is = is
+
+-- a plan that takes something is of a leaf that has something to take
+pub takes_some : {B : Type 0} (plan : Planned) (test : Entry B → Bool) (node : Node B) → PlansSweep test node plan → takes_none plan ≡ false → has_removable test node ≡ true
+takes_some plan test node plans some =
+    let count : 0 < how_many (is_sweepable (λ x. test (entry_of x))) node.pairs =
+    omega (arith, sweep_size plan test node plans, positive (length (slots_of plan)) some) in
+    and_all (node.level == 0) (nat_lt 0 (how_many (is_sweepable (λ x. test (entry_of x))) node.pairs)) (eq-eqb node.level 0 plans.leaf)
+    (lt-ltb 0 (how_many (is_sweepable (λ x. test (entry_of x))) node.pairs) count)
+
+-- where a plan was only read, and the event then began, what changes is the page that is planned
+pub swept_step : {D : Type 0} (passes : ℕ → Contents → Bool) (state : D → Device) (v : Volume D) (size : ℕ) (read t : Shelf D) (planned page : ℕ) → planned ≡ page
+    → ((q : ℕ) → IsSince passes (state v.shelf.disk) (state read.disk) (begun v size) read q)
     → ((was : Shelf D) (q : ℕ) → q ≢ planned → IsSince passes (state was.disk) (state read.disk) was read q → IsSince passes (state was.disk) (state t.disk) was t q)
     → Stepped passes state v size t page
-swept_step passes state v size u read t planned page here is first second =
-    stepped passes state v size t u page is (λ was q apart before. second was q (λ same. apart (same ∙ here)) (first was q before))
+swept_step passes state v size read t planned page here first second =
+    stepped_since passes state v size t page (λ q apart. second (begun v size) q (λ same. apart (same ∙ here)) (first q))
 
-module _ {B D : Type 0} (f : Format B) (state : D → Device) (v : Volume D) (size : ℕ) (u : Shelf D) (is : u ≡ begun v size) (read : Store B) (same : read ≡ store_of f (state u.disk).seen u) where
-  -- where a store was only read it is as before
-  pub read_since : read ≡ store_of f (state v.shelf.disk).seen v.shelf
-  read_since = same ∙ ap (λ (x : Shelf D). store_of f (state x.disk).seen x) is
-
+module _ {B D : Type 0} (f : Format B) (state : D → Device) (v : Volume D) (read : Store B) (same : read ≡ store_of f (state v.shelf.disk).seen v.shelf) where
   module _ (plan : Planned) (page : ℕ) (here : plan.page ≡ page) (test : Entry B → Bool) (plans : PlansSweep test (node_at read.nodes page) plan) where
     planned_there : PlansSweep test (node_at read.nodes plan.page) plan
     planned_there = subst {A = ℕ} (λ a. PlansSweep test (node_at read.nodes a) plan) (sym here) plans
@@ -90,9 +150,9 @@ module _ {B D : Type 0} (f : Format B) (state : D → Device) (v : Volume D) (si
     pub unswept_since : takes_none plan ≡ true → Swept test (store_of f (state v.shelf.disk).seen v.shelf) read page false
     unswept_since none =
         subst {A = ℕ} (λ a. Swept test (store_of f (state v.shelf.disk).seen v.shelf) read a false) here
-        (is_unswept plan test _ read read_since planned_there none)
+        (is_unswept plan test _ read same planned_there none)
 
     pub swept_since : (new : Store B) → TakesOut plan read new → takes_none plan ≡ false → Swept test (store_of f (state v.shelf.disk).seen v.shelf) new page true
     swept_since new takes some =
         subst {A = ℕ} (λ a. Swept test (store_of f (state v.shelf.disk).seen v.shelf) new a true) here
-        (is_swept plan test _ read new read_since planned_there takes some)
+        (is_swept plan test _ read new same planned_there takes some)

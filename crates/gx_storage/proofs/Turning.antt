@@ -29,13 +29,13 @@ use Rattle.gx_recovery.specs.Renewal.{renewed}
 use Rattle.gx_recovery.proofs.Renewals.{same_tree}
 use Rattle.gx_index_laws.specs.Classes.{Page}
 use Rattle.gx_durable.specs.Spelled.{Reading, AreRecords}
-use Rattle.gx_durable.specs.Stamps.{Stamped}
+use Rattle.gx_durable.specs.Stamps.{AllPlaced, Stamped}
 use Rattle.gx_durable.specs.Standing.{Stands}
 use Rattle.gx_durable.specs.Steps.{turned}
 use Rattle.gx_durable.specs.Turns.{HeadStaysUp, TurnKeepsRunning, told_turn, told_result}
 use Rattle.gx_durable.proofs.Moving.{goes_nowhere}
 use Rattle.gx_durable.proofs.Spellings.{one_way, none_are}
-use Rattle.gx_durable.proofs.Stamping.{told_kept}
+use Rattle.gx_durable.proofs.Stamping.{same_placed, told_kept}
 use Rattle.gx_durable.proofs.Storing.{nothing_dirty}
 use Rattle.gx_store.specs.State.{Shelf}
 use Rattle.gx_storage.specs.State.{Volume}
@@ -88,6 +88,10 @@ head_stamped x old new (At place) frames s puts stamped =
     subst S (sym puts.2) (record { behind = stamped.behind; places = stamped.places; gated = stamped.gated; flight = stamped.flight })
 head_stamped x old new NoRoom frames s puts stamped = let S : Log → Type 0 = λ g. Stamped g frames s in subst S (sym puts.1) stamped
 
+head_placed : (x : Rec) (old new : Log) (result : Appended) (frames : State) → PutsFirst (spelling x) old new result → AllPlaced old frames → AllPlaced new frames
+head_placed x old new (At place) frames puts placed = same_placed old new frames (ap (λ (g : Log). g.used) puts.2) (ap (λ (g : Log). g.filling) puts.2) placed
+head_placed x old new NoRoom frames puts placed = same_placed old new frames (ap (λ (g : Log). g.used) puts.1) (ap (λ (g : Log). g.filling) puts.1) placed
+
 -- nothing was done
 pub nothing_leaves : (P : List ℕ → Type 0) (d : Device) → Leaves P d d
 nothing_leaves P d = record { later = omega arith; only = λ t image before left. inl left; keeps = λ t image before left. left }
@@ -104,7 +108,7 @@ module _ {B : Type 0} (k : Known (Entry B) (Page B)) (r : Reading (Entry B) (Pag
       let none : NoneDirty w.shelf.frames = λ p. ap stamp_of (ap (λ (x : State). kept x p) frames_are ∙ turned_same result v.shelf.frames p) ∙ clean p in
       record {
         keeps = keeps_on k r f passes d e v w (told_result result v.shelf.frames) only (turned_same result v.shelf.frames) honest (leaves old.steady.honest old.runs.up.on) bodies _ s t old
-            now.runs (λ p place is. none_dirty w.shelf.frames p place none is)
+            now.runs (λ p place is. none_dirty w.shelf.frames p place none is) (λ p place is. none_dirty w.shelf.frames p place none is)
             (ap (λ (x : Tree (Page B)). x.used) tree)
             (ap (λ (x : Tree (Page B)). x.counter) tree)
             (λ p. ap (λ (x : Tree (Page B)). x.page p) tree);
@@ -120,6 +124,7 @@ module _ {B : Type 0} (k : Known (Entry B) (Page B)) (r : Reading (Entry B) (Pag
         keeps = subst S (sym shelf) (record {
           runs = record { up = up d.sectors d.seen d.pending bodies s old.runs.up; stamped = head_stamped x v.log w.log result v.shelf.frames s puts old.runs.stamped };
           said = old.said;
+          placed = head_placed x v.log w.log result v.shelf.frames puts old.placed;
           steady = old.steady;
           readable = old.readable;
           stored = old.stored;

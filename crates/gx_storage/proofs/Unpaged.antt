@@ -21,9 +21,10 @@ use Rattle.gx_index_laws.specs.Classes.{Page, tree_in}
 use Rattle.gx_durable.specs.Spelled.{Reading, record_read}
 use Rattle.gx_durable.specs.Standing.{Stands}
 use Rattle.gx_durable.specs.Stored.{stored}
-use Rattle.gx_durable.specs.Calls.{AppendStaysUp, AppendStaysStamped}
+use Rattle.gx_durable.specs.Calls.{AppendPlaces, AppendStaysUp, AppendStaysStamped}
 use Rattle.gx_durable.proofs.Reading.{one_more, record_says}
 use Rattle.gx_durable.proofs.Recording.{recording_stores}
+use Rattle.gx_durable.proofs.Stamping.{none_later}
 use Rattle.gx_store.specs.State.{Shelf}
 use Rattle.gx_storage.specs.State.{Volume}
 use Rattle.gx_storage.specs.Keeps.{Keeps, tree_after, tree_shown}
@@ -65,9 +66,9 @@ same_after {E} {P} k y s leaves =
 
 module _ {B : Type 0} (k : Known (Entry B) (Page B)) (r : Reading (Entry B) (Page B)) (f : Format B) (passes : ℕ → Contents → Bool) {D : Type 0} (d : Device) (v w : Volume D) where
   keeps_with : (x : Rec) (place : ℕ) → GivesNoPage x → w.shelf ≡ v.shelf → AppendStaysUp k r x v.log w.log (At place) → AppendStaysStamped r x v.log w.log (At place)
-      → (bodies : List (List (Record (Entry B) (Page B)))) (s : Logged (Entry B) (Page B)) → IsLawful k → MayCome k s.area (all_records s) (record_read r x)
+      → AppendPlaces v.log w.log (At place) → (bodies : List (List (Record (Entry B) (Page B)))) (s : Logged (Entry B) (Page B)) → IsLawful k → MayCome k s.area (all_records s) (record_read r x)
       → Keeps k r f passes d v bodies s → Keeps k r f passes d w bodies (appended (record_read r x) s)
-  keeps_with x place is shelf up stamped bodies s l may old =
+  keeps_with x place is shelf up stamped placed bodies s l may old =
       let y : Record (Entry B) (Page B) = record_read r x in
       let leaves = leaves_pages k r x is in
       let S : Shelf D → Type 0 = λ z. Keeps k r f passes d (record { log = w.log; shelf = z; most = w.most }) bodies (appended y s) in
@@ -75,6 +76,7 @@ module _ {B : Type 0} (k : Known (Entry B) (Page B)) (r : Reading (Entry B) (Pag
       subst S (sym shelf) (record {
         runs = record { up = up d.sectors d.seen d.pending bodies s l (has_key r.key x is) may old.runs.up; stamped = stamped v.shelf.frames s old.runs.stamped };
         said = record_says (Entry B) (Page B) (λ p. false) v.shelf.frames s y (λ p never. absurd (let no : false ≡ true = never in cc)) (λ p stamp dirty no. old.said p stamp dirty);
+        placed = placed v.shelf.frames (none_later v.log v.shelf.frames old.placed);
         steady = old.steady;
         readable = old.readable;
         stored = recording_stores r k.pages d.seen v.shelf.frames v.shelf.frames s y (λ p. sym (ap (λ (a : ℕ → Page B). a p) (leaves.area (stored r k.pages v.shelf.frames d.seen)))) old.stored;
@@ -84,17 +86,18 @@ module _ {B : Type 0} (k : Known (Entry B) (Page B)) (r : Reading (Entry B) (Pag
         formed = old.formed;
       })
 
-  pub record_keeps : (x : Rec) (place : ℕ) → GivesNoPage x → w.shelf ≡ v.shelf → AppendStaysUp k r x v.log w.log (At place) → AppendStaysStamped r x v.log w.log (At place) → KeepsRecord k r f passes d v w x
-  record_keeps x place is shelf up stamped =
+  pub record_keeps : (x : Rec) (place : ℕ) → GivesNoPage x → w.shelf ≡ v.shelf → AppendStaysUp k r x v.log w.log (At place) → AppendStaysStamped r x v.log w.log (At place)
+      → AppendPlaces v.log w.log (At place) → KeepsRecord k r f passes d v w x
+  record_keeps x place is shelf up stamped placed =
       let y : Record (Entry B) (Page B) = record_read r x in
       record {
-        keeps = keeps_with x place is shelf up stamped;
+        keeps = keeps_with x place is shelf up stamped placed;
         with_tree = λ shows bodies s l old.
             (let A : trees.Tree B → Type 0 = λ t. AgreeOnUsed t (tree_shown k r f passes d v) in
             let S : Shelf D → Type 0 = λ z. AgreeOnUsed (tree_after k r f passes (appended y s)) (tree_shown k r f passes d (record { log = w.log; shelf = z; most = w.most })) in
             record {
               shows = subst S (sym shelf) (subst A (sym (ap tree_in (same_after k y s (leaves_pages k r x is)))) (shows bodies s old));
-              keeps = λ may. keeps_with x place is shelf up stamped bodies s l may old;
+              keeps = λ may. keeps_with x place is shelf up stamped placed bodies s l may old;
               leaves = nothing_leaves (Stands k r s) d;
             });
       }

@@ -26,6 +26,7 @@ use Rattle.gx_glog.specs.declared.filling.Appended.TheVariants.{At, NoRoom}
 use Rattle.gx_glog.specs.declared.stage.Turn.TheVariants.{Closed}
 use Rattle.gx_durable.specs.Calls.{AppendStaysUp, AppendStaysStamped}
 use Rattle.gx_durable.specs.Spelled.{Reading, record_read}
+use Rattle.gx_durable.proofs.Appending.{append_placed}
 use Rattle.gx_readings.specs.Classes.{reading_of}
 use Rattle.gx_store.specs.Since.{GoesOn, IsAsItWas, IsSince, IsStamped}
 use Rattle.gx_store.specs.Standing.{standing, standing_node, store_of}
@@ -58,7 +59,7 @@ appended_at bytes old new NoRoom is still room = absurd (elim is.0 [
 module _ {B : Type 0} (known : Limits → Known (Entry B) (Page B)) (r : Reading (Entry B) (Page B)) where
   last_at : (x : Rec) (old new : Log) → Appends (spelling x) old new (At old.used) → old.turn ≡ Closed → old.used < 32 → HasKey r.key x
       → ((l : Limits) → AppendStaysUp (known l) r x old new (At old.used)) → AppendStaysStamped r x old new (At old.used) → IsLast known r x old new
-  last_at x old new is still place key up stamped = record { logs = record { place = place; still = still; fits = is.0; log = is.2 }; key = key; up = up; stamped = stamped }
+  last_at x old new is still place key up stamped = record { logs = record { place = place; still = still; fits = is.0; log = is.2 }; key = key; up = up; stamped = stamped; placed = append_placed x old new (At old.used) is }
 
   -- a record that was appended is the log's last
   pub is_last : (x y : Rec) (old new : Log) (result : Appended) → x ≡ y → Appends (spelling x) old new result → old.turn ≡ Closed → old.used < 32 → length old.filling + length (spelling x) ≤ 32764
@@ -126,6 +127,13 @@ module _ {D : Type 0} (passes : ℕ → Contents → Bool) (state : D → Device
     others = λ q other. (since_begun passes state v t u v.log.used q (has_room v.log size) is (λ was. keeps was q (apart page q other))).same;
   }
 
+  -- the same, since the event began
+  pub stepped_since : (page : ℕ) → ((q : ℕ) → q ≢ page → IsSince passes (state v.shelf.disk) (state t.disk) (begun v size) t q) → Stepped page
+  stepped_since page since = record {
+    goes_on = (since (suc page) (omega arith)).goes_on;
+    others = λ q other. (since q (apart page q other)).same;
+  }
+
   -- each page is as it was
   pub unstepped : (u : Shelf D) → u ≡ begun v size → ((was : Shelf D) (q : ℕ) → IsSince passes (state was.disk) (state u.disk) was u q → IsSince passes (state was.disk) (state t.disk) was t q)
       → (q : ℕ) → IsSince passes (state v.shelf.disk) (state t.disk) (begun v size) t q
@@ -171,7 +179,7 @@ module _ {B D : Type 0} (known : Limits → Known (Entry B) (Page B)) (said : Li
         subst {A = Contents} (λ x. StaysWith (known l) (reading_of said f) f passes (state v.shelf.disk) (state t.disk) (record { log = log; shelf = t; most = v.most }) bodies s
         (record_read (reading_of said f) (Write tx row key before after page (image_of x)))) same
         (write_stays_with (known l) said f passes (state v.shelf.disk) (state t.disk) v v.log.used (has_room v.log size) t bodies s lawful keeps did.goes_on (omega arith) fits
-        tx row key before after page one.0 log v.most one.1 (subst {A = Contents} IsWellFormed (sym same) well) held.from held.to (last_now.up l) last_now.stamped last_now.key did.others now.0 now.1)
+        tx row key before after page one.0 log v.most one.1 (subst {A = Contents} IsWellFormed (sym same) well) held.from held.to (last_now.up l) last_now.stamped last_now.placed last_now.key did.others now.0 now.1)
 
     pub logged_write : IsLast known (reading_of said f) (Write tx row key before after page (image_of (standing t.frames (state t.disk).seen page))) v.log log
         → IsWellFormed (standing t.frames (state t.disk).seen page)

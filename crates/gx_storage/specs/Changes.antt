@@ -13,7 +13,7 @@ use Rattle.gx_recovery.specs.Records.{gives}
 use Rattle.gx_index_laws.specs.Classes.{Page, known_of}
 use Rattle.gx_glog.specs.State.{Log}
 use Rattle.gx_glog.specs.declared.filling.Appended.TheVariants.{At}
-use Rattle.gx_durable.specs.Calls.{AppendStaysUp, AppendStaysStamped}
+use Rattle.gx_durable.specs.Calls.{AppendPlaces, AppendStaysUp, AppendStaysStamped}
 use Rattle.gx_durable.specs.Spelled.{Reading, record_read}
 use Rattle.gx_readings.specs.Classes.{class_of}
 use Rattle.gx_store.specs.Since.{GoesOn, IsAsItWas, IsSince}
@@ -56,6 +56,7 @@ module _ {B : Type 0} (known : Limits → Known (Entry B) (Page B)) (r : Reading
     pub key : HasKey r.key x
     pub up : (l : Limits) → AppendStaysUp (known l) r x old new (At old.used)
     pub stamped : AppendStaysStamped r x old new (At old.used)
+    pub placed : AppendPlaces old new (At old.used)
 
   module _ (f : Format B) (passes : ℕ → Contents → Bool) where
     -- A change that is logged by a record of so many bytes: the log is longer by just that record. Each page but those that it gives is

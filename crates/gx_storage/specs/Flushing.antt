@@ -1,5 +1,5 @@
 -- What the flusher's calls do to pages with their log, and what they keep.
-use Rattle.std.specs.Prelude.{◌≡◌, ◌⊎◌, ℕ, ◌+◌, ◌<◌, ◌≤◌, Bool, false, List, [], ◌++◌, length, Option, None, Some, Result, Ok, Err}
+use Rattle.std.specs.Prelude.{◌≡◌, ◌⊎◌, ℕ, ◌+◌, ◌<◌, ◌≤◌, Bool, false, List, [], ◌∷◌, ◌++◌, length, Option, None, Some, Result, Ok, Err}
 use Rattle.gx_geom.specs.declared.refusal.Refusal.{Refusal}
 use Rattle.gx_machine.specs.declared.entry.Entry.{Entry}
 use Rattle.gx_disk.specs.Device.{Device}
@@ -77,6 +77,10 @@ pub record GoesInHead (x : Rec) (old new : Log) : Type 0 where
 abbrev pub PutInHead : {D : Type 0} → Rec → Volume D → Volume D → Result (Unit {0}) StoreFault → Type 0
 PutInHead x v w (Ok done) = GoesInHead x v.log w.log × (w ≡ record v { log = w.log })
 PutInHead x v w (Err fault) = (fault ≡ NoRoom) × ((32764 < length v.log.flight + length (spelling x)) ⊎ (1 ≤ turning v.log.turn)) × (w ≡ v)
+
+-- the head's records are those of before and this one
+abbrev pub HeadHas : {E P : Type 0} → Reading E P → Record E P → Log → Log → Type 0
+HeadHas {E} {P} r x old new = (head : List (Record E P)) → AreRecords r old.flight head → AreRecords r new.flight (head ++ x ∷ [])
 
 -- a record that gives no page
 abbrev pub GivesNoPage : Rec → Type 0

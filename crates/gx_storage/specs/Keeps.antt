@@ -22,7 +22,7 @@ use Rattle.gx_glog.specs.State.{Log}
 use Rattle.gx_glog.specs.declared.stage.Turn.TheVariants.{Closed}
 use Rattle.gx_durable.specs.Spelled.{Reading, record_read}
 use Rattle.gx_durable.specs.Standing.{Stands}
-use Rattle.gx_durable.specs.Stamps.{AllSaid}
+use Rattle.gx_durable.specs.Stamps.{AllPlaced, AllSaid}
 use Rattle.gx_durable.specs.Stored.{IsStored}
 use Rattle.gx_durable.specs.Calls.{Runs}
 use Rattle.gx_store.specs.State.{IsInOrder, IsSteady}
@@ -33,12 +33,13 @@ use Rattle.gx_storage.specs.State.{Volume}
 
 -- the entries and pages of a class, as its log's theory has them
 module _ {B : Type 0} (k : Known (Entry B) (Page B)) (r : Reading (Entry B) (Page B)) (f : Format B) (passes : ℕ → Contents → Bool) where
-  -- A volume keeps a state: log and frames run on the device that carries it; each dirty page is given by a record; what is read
-  -- is what stands there, and can be read; each page is as all records leave it; and so are the numbers; and each kept page has an
-  -- image.
+  -- A volume keeps a state: log and frames run on the device that carries it; each dirty page is given by a record, and was changed
+  -- for a batch that began or for the one that fills; what is read is what stands there, and can be read; each page is as all records
+  -- leave it; and so are the numbers; and each kept page has an image.
   pub record Keeps {D : Type 0} (d : Device) (v : Volume D) (bodies : List (List (Record (Entry B) (Page B)))) (s : Logged (Entry B) (Page B)) : Type 0 where
     pub runs : Runs k r v.log v.shelf.frames d bodies s
     pub said : AllSaid v.shelf.frames s
+    pub placed : AllPlaced v.log v.shelf.frames
     pub steady : IsSteady d v.shelf.frames
     pub readable : CanBeRead passes d v.shelf
     pub stored : IsStored r k.pages v.shelf.frames d.seen s

@@ -1,19 +1,22 @@
 //! The device calls of a checkpoint, one a call: the sync of the pages, the head of the renewed log, and the turn to the other extent.
-ghost use Rattle.std.specs.Prelude.{◌≡◌, ◌↔◌, true, IfErr, OnOk};
+ghost use Rattle.std.specs.Prelude.{◌≡◌, ◌↔◌, ◌⊎◌, ◌≤◌, [], length, true, IfErr, OnOk};
 ghost use Rattle.std.specs.Bool.{OnTrue, OnFalse};
 ghost use Rattle.gx_disk.specs.Device.{Counts, IsSettled};
-ghost use Rattle.gx_glog.specs.State.{Turns};
+ghost use Rattle.gx_glog.specs.State.{in_flight, Turns};
 ghost use Rattle.gx_node.specs.Reading.{format_of, is_node};
 ghost use Rattle.gx_pool.specs.State.{NoneDirty, dirty_count};
 ghost use Rattle.gx_record.specs.Format.{IsInRange};
+ghost use Rattle.gx_record.specs.Rec.{Note};
 ghost use Rattle.gx_record.specs.Seen.{rec_of};
 ghost use Rattle.gx_recovery.specs.Known.{Limits};
+ghost use Rattle.gx_recovery.specs.Records as records;
 ghost use Rattle.gx_durable.specs.Turns.{HeadGrows, told_result};
 ghost use Rattle.gx_index_laws.specs.Classes.{known_of};
 ghost use Rattle.gx_readings.specs.Classes.{class_of, reading_of};
-ghost use Rattle.gx_storage.specs.Flushing.{KeepsOn, MayTurn, PutInHead, ReadyToTurn, TurnsOn};
+ghost use Rattle.gx_storage.specs.Flushing.{HeadHas, KeepsOn, MayTurn, PutInHead, ReadyToTurn, TurnsOn};
 
 use crate::Storage;
+use crate::changes::set_mark::mark_of;
 use gx_disk::SectorDisk;
 use gx_durable::turn::put_first;
 use gx_geom::Refusal;
@@ -29,6 +32,14 @@ impl<D: SectorDisk, K: ReadKeys> Storage<D, K> {
         ensures zero { (result ≡ 0) ↔ NoneDirty self.now.shelf.frames }
     {
         self.store.dirty_frames()
+    }
+
+    /// Whether nothing is in flight, and nothing waits for the next batch.
+    pub fn is_idle(&self) -> bool
+        ensures yes { OnTrue result ((self.now.log.stage ≡ Stage.Idle) × (self.now.log.filling ≡ [])) }
+        ensures no { OnFalse result ((in_flight self.now.log.stage ≡ 1) ⊎ (1 ≤ length self.now.log.filling)) }
+    {
+        self.log.is_idle()
     }
 
     /// Whether a turn's next call may be made: nothing is in flight or fills, a head was put, and no page is dirty.
@@ -65,6 +76,36 @@ impl<D: SectorDisk, K: ReadKeys> Storage<D, K> {
         ensures keeps { (l : Limits) → KeepsOn (known_of (class_of K.Key.Shape K.is_proper l)) (reading_of K.said (format_of K.KeyClass)) (format_of K.KeyClass) (is_node (format_of K.KeyClass)) (D.state self.old.shelf.disk) (D.state self.new.shelf.disk) self.old self.new }
     {
         match put_first::<OfClass<K>>(&mut self.log, logged) {
+            Appended::At(_) => Ok(()),
+            Appended::NoRoom => Err(StoreFault::NoRoom),
+        }
+    }
+
+    /// Puts the note of an entry that an open transaction wrote behind the records of the head, with its mark from before and the leaf
+    /// that it was last written on. Nothing is written to the device. `NoRoom` exactly as `put_head`; nothing then changes.
+    pub fn put_note(
+        &mut self,
+        transaction: u64,
+        row: u64,
+        key: K::Key,
+        before: bool,
+        leaf: u32,
+    ) -> Result<(), StoreFault>
+        requires idle { self.old.log.stage ≡ Stage.Idle }
+        ensures puts { PutInHead (Note transaction row (K.spelling key) before leaf) self.old self.new result }
+        ensures head { OnOk result (HeadHas (reading_of K.said (format_of K.KeyClass)) (records.Note transaction (record { row = row; key = key }) before leaf) self.old.log self.new.log) }
+        ensures keeps { (l : Limits) → KeepsOn (known_of (class_of K.Key.Shape K.is_proper l)) (reading_of K.said (format_of K.KeyClass)) (format_of K.KeyClass) (is_node (format_of K.KeyClass)) (D.state self.old.shelf.disk) (D.state self.new.shelf.disk) self.old self.new }
+    {
+        K::known(&key);
+        K::encode(key, &mut self.key);
+        let note = Record::Note {
+            tx: transaction,
+            row,
+            key: &self.key,
+            before: mark_of(before),
+            leaf,
+        };
+        match put_first::<OfClass<K>>(&mut self.log, &note) {
             Appended::At(_) => Ok(()),
             Appended::NoRoom => Err(StoreFault::NoRoom),
         }

@@ -15,6 +15,7 @@ ghost use Rattle.gx_storage.specs.Bringing.{bringing, has_removable};
 ghost use Rattle.gx_storage.specs.Changes.{IsUnlogged, known_at};
 
 use crate::Storage;
+use crate::changes::room::begin_reading;
 use gx_class::KeyClass;
 use gx_disk::SectorDisk;
 use gx_machine::Entry;
@@ -70,7 +71,7 @@ impl<D: SectorDisk, K: ReadKeys> Storage<D, K> {
         ensures why { IfErr result (faults.IsWhy (is_node (format_of K.KeyClass)) (D.state self.old.shelf.disk) (D.state self.new.shelf.disk) (bringing self.old) self.new.shelf) }
         ensures room { result ≢ Err StoreFault.NoRoom }
     {
-        self.store.begin(u64::from(self.log.used()), true);
+        begin_reading(&self.log, &mut self.store);
         self.store.bring(&[page])
     }
 

@@ -12,9 +12,11 @@ ghost use Rattle.gx_tree.specs.Owner.{IsWhy};
 ghost use Rattle.gx_tree.specs.Seeking.{Seeks};
 ghost use Rattle.gx_tree.specs.Store.{Stays, tree_of};
 ghost use Rattle.gx_tree.specs.Wants.{wants};
+ghost use Rattle.gx_storage.specs.Bringing.{bringing};
 ghost use Rattle.gx_storage.specs.Changes.{IsUnlogged, known_at};
 
 use crate::Storage;
+use crate::changes::room::begin_reading;
 use gx_class::Probing;
 use gx_disk::SectorDisk;
 use gx_readings::ReadKeys;
@@ -22,8 +24,8 @@ use gx_store::StoreFault;
 use gx_tree::{Look, Sought, StepFault, Wanted};
 
 impl<D: SectorDisk, K: ReadKeys + Probing> Storage<D, K> {
-    /// Reads the page of a look's next item, as the tree's `look_step` says. Nothing is logged, and whether it succeeds or not no node
-    /// has changed.
+    /// Reads the page of a look's next item, as the tree's `look_step` says. Nothing is logged and no room in the log is asked for, and
+    /// whether it succeeds or not no node has changed.
     ///
     /// Refused with `Pages` where the page could not be brought, `Damaged` where the item names no page that is taken: the look is
     /// then as it was. And with `Memory` where that is refused; the look is of no use then.
@@ -34,22 +36,24 @@ impl<D: SectorDisk, K: ReadKeys + Probing> Storage<D, K> {
     ) -> Result<(), StepFault<StoreFault>>
         requires { 0 < length look.old.stack.items }
         ensures unlogged { IsUnlogged (known_at K.Key.Shape K.is_proper) (reading_of K.said (format_of K.KeyClass)) (format_of K.KeyClass) (is_node (format_of K.KeyClass))
-            self.old.shelf (D.state self.old.shelf.disk) (D.state self.new.shelf.disk) self.old self.new }
+            (bringing self.old) (D.state self.old.shelf.disk) (D.state self.new.shelf.disk) self.old self.new }
         ensures stays { Stays (IsSteady (D.state self.old.shelf.disk) self.old.shelf.frames) (store_of (format_of K.KeyClass) (D.state self.old.shelf.disk).seen self.old.shelf)
             (store_of (format_of K.KeyClass) (D.state self.new.shelf.disk).seen self.new.shelf) }
         ensures step { OnOk result (LookStep (tree_of (store_of (format_of K.KeyClass) (D.state self.new.shelf.disk).seen self.new.shelf)) (wants K.passes wanted.now.keys wanted.now.row)
             (K.passes wanted.now.bounds) look.old.stack.items look.new.stack.items look.old.found.items look.new.found.items) }
-        ensures why { IfErr result (IsWhy (faults.IsWhy (is_node (format_of K.KeyClass)) (D.state self.old.shelf.disk) (D.state self.new.shelf.disk) self.old.shelf self.new.shelf)) }
+        ensures why { IfErr result (IsWhy (faults.IsWhy (is_node (format_of K.KeyClass)) (D.state self.old.shelf.disk) (D.state self.new.shelf.disk) (bringing self.old) self.new.shelf)) }
+        ensures room { result ≢ Err (StepFault.Pages StoreFault.NoRoom) }
         ensures damaged { result ≡ Err StepFault.Damaged → (rest : List reach.Item) (item : reach.Item) → look.old.stack.items ≡ rest ++ item ∷ []
             → ¬ Used (tree_of (store_of (format_of K.KeyClass) (D.state self.new.shelf.disk).seen self.new.shelf)) item.page }
         ensures refused { OnErr result (result ≢ Err StepFault.Memory → look.new ≡ look.old) }
         ensures full { result ≢ Err StepFault.PagesFull }
     {
+        begin_reading(&self.log, &mut self.store);
         gx_tree::look_step(&mut self.store, wanted, look)
     }
 
-    /// Looks for a pair in the leaf on a page, as the tree's `seek_step` says. Nothing is logged, and whether it succeeds or not no
-    /// node has changed.
+    /// Looks for a pair in the leaf on a page, as the tree's `seek_step` says. Nothing is logged and no room in the log is asked for, and
+    /// whether it succeeds or not no node has changed.
     ///
     /// Refused with `Pages` where the page could not be brought, and with `Damaged` only where it isn't a leaf that is taken.
     pub fn seek_step(
@@ -58,17 +62,19 @@ impl<D: SectorDisk, K: ReadKeys + Probing> Storage<D, K> {
         page: u32,
     ) -> Result<Sought, StepFault<StoreFault>>
         ensures unlogged { IsUnlogged (known_at K.Key.Shape K.is_proper) (reading_of K.said (format_of K.KeyClass)) (format_of K.KeyClass) (is_node (format_of K.KeyClass))
-            self.old.shelf (D.state self.old.shelf.disk) (D.state self.new.shelf.disk) self.old self.new }
+            (bringing self.old) (D.state self.old.shelf.disk) (D.state self.new.shelf.disk) self.old self.new }
         ensures stays { Stays (IsSteady (D.state self.old.shelf.disk) self.old.shelf.frames) (store_of (format_of K.KeyClass) (D.state self.old.shelf.disk).seen self.old.shelf)
             (store_of (format_of K.KeyClass) (D.state self.new.shelf.disk).seen self.new.shelf) }
         ensures held { OnOk result (IsHeld self.new.shelf page) }
         ensures sought { IfOk result (Seeks (wants K.passes wanted.now.keys wanted.now.row) ((tree_of (store_of (format_of K.KeyClass) (D.state self.new.shelf.disk).seen self.new.shelf)).node page)) }
-        ensures why { IfErr result (IsWhy (faults.IsWhy (is_node (format_of K.KeyClass)) (D.state self.old.shelf.disk) (D.state self.new.shelf.disk) self.old.shelf self.new.shelf)) }
+        ensures why { IfErr result (IsWhy (faults.IsWhy (is_node (format_of K.KeyClass)) (D.state self.old.shelf.disk) (D.state self.new.shelf.disk) (bringing self.old) self.new.shelf)) }
+        ensures room { result ≢ Err (StepFault.Pages StoreFault.NoRoom) }
         ensures damaged { result ≡ Err StepFault.Damaged → Used (tree_of (store_of (format_of K.KeyClass) (D.state self.new.shelf.disk).seen self.new.shelf)) page
             → ((tree_of (store_of (format_of K.KeyClass) (D.state self.new.shelf.disk).seen self.new.shelf)).node page).level ≢ 0 }
         ensures memory { result ≢ Err StepFault.Memory }
         ensures full { result ≢ Err StepFault.PagesFull }
     {
+        begin_reading(&self.log, &mut self.store);
         gx_tree::seek_step(&mut self.store, wanted, page)
     }
 }

@@ -19,17 +19,14 @@ ghost use Rattle.gx_storage_callers.specs.Sweeps.{SweepsLeaf};
 use gx_class::{Box2Class, IntervalClass};
 use gx_disk::SectorDisk;
 use gx_geom::{Box2, Interval};
-use gx_index_laws::logged::a_page_step_is_no_event;
 use gx_machine::Entry;
 use gx_machine::laws::keys_are_lawful;
 use gx_readings::ReadKeys;
 use gx_readings::laws::what_stands_is_legal;
 use gx_storage::Storage;
-use gx_storage::laws::a_volume_shows_the_logs_tree;
 use gx_store::StoreFault;
 use gx_tree::StepFault;
 use gx_tree::laws::keys_are_lawful as tree_keys_are_lawful;
-use gx_tree_laws::alike::{steps_of_trees_that_agree_are_alike, trees_that_agree_are_alike};
 
 /// Sweeps a leaf of pages that keep a whole index, where what any session claims is claimed. The record of the page may come, no
 /// session notices, and the pages keep the index with it; where nothing was to be swept, or it is refused, they keep it as it was.
@@ -53,10 +50,6 @@ pub fn sweep_leaf<D: SectorDisk, K: ReadKeys, F: Fn(Entry<K::Key>) -> bool>(
     what_stands_is_legal::<K>();
     keys_are_lawful::<K::Key>();
     tree_keys_are_lawful::<K::Key>();
-    a_volume_shows_the_logs_tree::<D, K>();
-    trees_that_agree_are_alike::<K::Key>();
-    steps_of_trees_that_agree_are_alike::<K::Key>();
-    a_page_step_is_no_event::<K::Key>();
     storage.sweep(page, claimed)
 }
 

@@ -1,11 +1,11 @@
 -- There are fewer levels than pages, and few pairs.
-use Rattle.std.proofs.Common.{subst, ◌≢◌, ◌≡◌, ℕ, zero, suc, ◌+◌, ◌-◌, ◌*◌, ◌<◌, ◌≤◌, Bool, true, false, inl, inr, List, [], ◌∷◌, length, refl, ap, arith}
+use Rattle.std.proofs.Common.{subst, sym, map, ◌≢◌, ◌≡◌, ℕ, zero, suc, ◌+◌, ◌-◌, ◌*◌, ◌<◌, ◌≤◌, Bool, true, false, inl, inr, List, [], ◌∷◌, length, refl, ap, arith}
 use Rattle.std.specs.Prelude.{◌==◌}
 use Rattle.std.proofs.lemmas.Bool.{cases_eq, cases_lt}
 use Rattle.gx_tree_laws.specs.Lists.{one_if, how_many, Each, total}
 use Rattle.gx_tree_laws.specs.Trees.{Pair, Child, Tree, Rules, Used, child_pages, times, standing}
 use Rattle.gx_tree_laws.specs.Legal.{ChildFits, Legal}
-use Rattle.gx_tree_laws.proofs.Sums.{total_le, total_one, total_none}
+use Rattle.gx_tree_laws.proofs.Sums.{total_add, total_le, total_one, total_two, total_none}
 use Rattle.gx_tree_laws.proofs.Chains.{one_at, one_off, some_child}
 use Rattle.gx_tree_laws.proofs.Whole.{total_swap, chain_is}
 
@@ -52,30 +52,83 @@ module _ {K : Type 0} (r : Rules K) (t : Tree K) (legal : Legal r t) where
       let low = f.low in
       ((child.0).page, (omega (arith, low), f.used), (let l = f.level in omega (arith, l, level)))
 
-  pub level_below_used : (top : ℕ) → Used t top → (t.node top).level < t.used
-  level_below_used top taken =
-      let above : ℕ = suc (t.node top).level in
-      let each : total (λ k. 1) above ≤ total (λ k. total (λ q. one_if (suc (t.node q).level == k)) t.used) above =
-      total_le (λ k. 1) (λ k. total (λ q. one_if (suc (t.node q).level == k)) t.used) above (λ k low high. some_page k low high) in
-      let swap : total (λ k. total (λ q. one_if (suc (t.node q).level == k)) t.used) above ≡ total (λ q. total (λ k. one_if (suc (t.node q).level == k)) above) t.used =
+  -- so many pages have a child of this level, or would
+  abbrev pages_below : ℕ → ℕ
+  pages_below k = total (λ q. one_if (suc (t.node q).level == k)) t.used
+
+  -- what is at most the pages of each level is in all at most the pages
+  counted : (many : ℕ → ℕ) (above : ℕ) → ((k : ℕ) → 0 < k → k ≤ above → many k ≤ pages_below k) → total many above ≤ t.used
+  counted many above each =
+      let low : total many above ≤ total pages_below above = total_le many pages_below above each in
+      let swap : total pages_below above ≡ total (λ q. total (λ k. one_if (suc (t.node q).level == k)) above) t.used =
       total_swap (λ k q. one_if (suc (t.node q).level == k)) above t.used in
       let most : total (λ q. total (λ k. one_if (suc (t.node q).level == k)) above) t.used ≤ total (λ q. 1) t.used =
       total_le (λ q. total (λ k. one_if (suc (t.node q).level == k)) above) (λ q. 1) t.used (λ q low high. at_most_one (suc (t.node q).level) above) in
-      let count : total (λ k. 1) above ≡ above = ones above in
       let pages : total (λ q. 1) t.used ≡ t.used = ones t.used in
-      omega (arith, each, swap, most, count, pages)
+      omega (arith, low, swap, most, pages)
+
+  some_page : (top : ℕ) → Used t top → (k : ℕ) → 0 < k → k ≤ suc (t.node top).level → 1 ≤ pages_below k
+  some_page top taken zero low high = absurd (omega arith)
+  some_page top taken (suc k) low high = gap_by k ((t.node top).level - k) (omega (arith, high))
     where
-      some_page : (k : ℕ) → 0 < k → k ≤ suc (t.node top).level → 1 ≤ total (λ q. one_if (suc (t.node q).level == k)) t.used
-      some_page zero low high = absurd (omega arith)
-      some_page (suc k) low high = gap_by k ((t.node top).level - k) (omega (arith, high))
-        where
-          gap_by : (k d : ℕ) → k + d ≡ (t.node top).level → 1 ≤ total (λ q. one_if (suc (t.node q).level == suc k)) t.used
-          gap_by k d e =
-              let page = page_of_level top taken d k e in
-              let u = page.1 in
-              let one = one_at (suc (t.node page.0).level) (suc k) (ap (λ l. suc l) page.2) in
-              let le = total_one (λ q. one_if (suc (t.node q).level == suc k)) t.used page.0 u.0 u.1 in
-              omega (arith, one, le)
+      gap_by : (k d : ℕ) → k + d ≡ (t.node top).level → 1 ≤ pages_below (suc k)
+      gap_by k d e =
+          let page = page_of_level top taken d k e in
+          let u = page.1 in
+          let one = one_at (suc (t.node page.0).level) (suc k) (ap (λ l. suc l) page.2) in
+          let le = total_one (λ q. one_if (suc (t.node q).level == suc k)) t.used page.0 u.0 u.1 in
+          omega (arith, one, le)
+
+  pub level_below_used : (top : ℕ) → Used t top → (t.node top).level < t.used
+  level_below_used top taken =
+      let above : ℕ = suc (t.node top).level in
+      let all = counted (λ k. 1) above (λ k low high. some_page top taken k low high) in
+      let count : total (λ k. 1) above ≡ above = ones above in
+      omega (arith, all, count)
+
+  -- Where the root has two children, two pages stand one level below it, and one at least of each other.
+  pub root_below_used : Used t 1 → 2 ≤ length (t.node 1).children → (t.node 1).level + 2 ≤ t.used
+  root_below_used taken two = by (t.node 1).children refl
+    where
+      top : ℕ
+      top = (t.node 1).level
+
+      twice : (a b : Child K) (cs : List (Child K)) → b.page ≡ a.page → 2 ≤ times a.page (map (λ (c : Child K). c.page) (a ∷ b ∷ cs))
+      twice a b cs same = let one = one_at a.page a.page refl in let other = one_at b.page a.page same in omega (arith, one, other)
+
+      by : (children : List (Child K)) → (t.node 1).children ≡ children → top + 2 ≤ t.used
+      by [] is = let none = ap (λ (cs : List (Child K)). length cs) is in absurd (omega (arith, two, none))
+      by (a ∷ []) is = let one = ap (λ (cs : List (Child K)). length cs) is in absurd (omega (arith, two, one))
+      by (a ∷ b ∷ cs) is =
+          let fits : Each (ChildFits r t top) (a ∷ b ∷ cs) = subst (λ (xs : List (Child K)). Each (ChildFits r t top) xs) is (legal.pages 1 taken).children in
+          let fa : ChildFits r t top a = fits.0 in
+          let fb : ChildFits r t top b = fits.1.0 in
+          let low_a = fa.low in
+          let low_b = fb.low in
+          let level_a = fa.level in
+          let apart : a.page ≢ b.page = λ same.
+          (let parents = legal.parent a.page low_a fa.used in
+          let here = total_one (λ p. times a.page (child_pages (t.node p))) t.used 1 taken.0 taken.1 in
+          let names = ap (λ (xs : List (Child K)). times a.page (map (λ (c : Child K). c.page) xs)) is in
+          let more = twice a b cs (sym same) in
+          omega (arith, parents, here, names, more)) in
+          let at_a = one_at (suc (t.node a.page).level) top fa.level in
+          let at_b = one_at (suc (t.node b.page).level) top fb.level in
+          let both = total_two (λ q. one_if (suc (t.node q).level == top)) t.used a.page b.page (omega (arith, low_a)) fa.used (omega (arith, low_b)) fb.used apart in
+          let many : ℕ → ℕ = λ k. 1 + one_if (top == k) in
+          let each : (k : ℕ) → 0 < k → k ≤ suc top → many k ≤ pages_below k = λ k low high. elim (cases_eq top k) [
+            | inl e ↦
+                let one = one_at top k e in
+                let same = ap pages_below (sym e) in
+                omega (arith, one, same, at_a, at_b, both)
+            | inr ne ↦ let none = one_off top k ne in let some = some_page 1 taken k low high in omega (arith, none, some)
+          ] in
+          let all = counted many (suc top) each in
+          let sum = total_add (λ k. 1) (λ k. one_if (top == k)) (suc top) in
+          let count = ones (suc top) in
+          let one = one_at top top refl in
+          let share = total_one (λ k. one_if (top == k)) (suc top) top (omega (arith, level_a)) (omega arith) in
+          omega (arith, all, sum, count, one, share)
 
   -- each page but the root has a parent, one level above it
   pub parent_of : (q : ℕ) → Used t q → q ≢ 1 → (p : ℕ) × Used t p × (suc (t.node q).level ≡ (t.node p).level)

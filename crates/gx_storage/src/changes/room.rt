@@ -1,5 +1,5 @@
 //! An event begins, with the room that the log has for its record.
-ghost use Rattle.std.specs.Prelude.{◌≡◌};
+ghost use Rattle.std.specs.Prelude.{◌≡◌, true};
 ghost use Rattle.gx_storage.specs.Changes.{has_room};
 
 use gx_disk::SectorDisk;
@@ -13,6 +13,13 @@ fn has_room(log: &Glog, size: usize) -> bool
     ensures { result ≡ has_room log.now size }
 {
     log.used() < 32 && size <= log.free()
+}
+
+/// Begins an event that appends no record, and so wants no room for one.
+pub(crate) fn begin_reading<D: SectorDisk, K: ReadKeys>(log: &Glog, store: &mut PageStore<D, K>)
+    ensures { store.new ≡ record store.old { batch = log.now.used; has_room = true } }
+{
+    store.begin(u64::from(log.used()), true);
 }
 
 /// Begins an event whose record has so many bytes: its changes are of the batch that the log's next place takes, and the pages are

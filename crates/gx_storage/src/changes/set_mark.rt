@@ -27,7 +27,7 @@ use gx_store::StoreFault;
 use gx_tree::{Sought, StepFault, Wanted, set_mark_step};
 
 /// A mark as a record has it.
-fn mark_of(marked: bool) -> Mark
+pub(crate) fn mark_of(marked: bool) -> Mark
     ensures { is_marked result ≡ marked }
 {
     if marked { Mark::Marked } else { Mark::Live }

@@ -1,29 +1,63 @@
 //! The sweep of a leaf.
-ghost use Rattle.std.specs.Prelude.{◌≡◌, ◌≢◌, ◌<◌, Bool, true, length, Err, IfOk, OnErr, IfErr};
+ghost use Rattle.std.specs.Prelude.{◌≡◌, ◌≢◌, ◌<◌, ℕ, Bool, true, length, Err, IfOk, OnErr, OnOk, IfErr};
 ghost use Rattle.gx_glog.specs.declared.stage.Turn.TheVariants.{Closed};
 ghost use Rattle.gx_machine.specs.declared.entry.Entry.{Entry};
 ghost use Rattle.gx_node.specs.Reading.{format_of, is_node};
 ghost use Rattle.gx_node.specs.declared.items.TheConstants.{MAX_ENTRIES};
 ghost use Rattle.gx_readings.specs.Classes.{reading_of};
 ghost use Rattle.gx_store.specs.Faults as faults;
-ghost use Rattle.gx_store.specs.Since.{IsStamped};
+ghost use Rattle.gx_store.specs.Since.{IsSince, IsStamped};
 ghost use Rattle.gx_store.specs.Standing.{store_of};
-ghost use Rattle.gx_store.specs.State.{IsSteady};
+ghost use Rattle.gx_store.specs.State.{IsHeld, IsSteady};
 ghost use Rattle.gx_tree_laws.specs.Trees.{Used};
 ghost use Rattle.gx_tree.specs.Owner.{IsWhy};
 ghost use Rattle.gx_tree.specs.Store.{tree_of};
+ghost use Rattle.gx_tree.specs.Sweeping.{FitsLeaf, PlansSweep};
 ghost use Rattle.gx_tree.specs.Writing.{Swept};
-ghost use Rattle.gx_storage.specs.Changes.{IsLoggedIf, IsUnlogged, begun, known_at, page_given};
+ghost use Rattle.gx_storage.specs.Bringing.{has_removable};
+ghost use Rattle.gx_storage.specs.Changes.{IsLoggedIf, IsUnlogged, begun, has_room, known_at, page_given};
 ghost use Rattle.gx_storage.specs.Numbers.{HasOwnNumber};
 
 use crate::Storage;
 use crate::changes::given::give_page;
-use crate::changes::room::begin;
+use crate::changes::room::{begin, begin_reading};
 use gx_disk::SectorDisk;
+use gx_glog::Glog;
 use gx_machine::Entry;
 use gx_readings::ReadKeys;
-use gx_store::StoreFault;
-use gx_tree::{Pages, StepFault, make_sweep, plan_sweep};
+use gx_store::{PageStore, StoreFault};
+use gx_tree::{Pages, StepFault, Sweep, make_sweep, plan_sweep};
+
+/// Says which pairs of the leaf on a page a sweep takes, as the tree's `plan_sweep` does. No room in the log is asked for. The event
+/// then begins whose record gives the page.
+fn plan<D: SectorDisk, K: ReadKeys, F: Fn(Entry<K::Key>) -> bool>(
+    log: &Glog,
+    store: &mut PageStore<D, K>,
+    page: u32,
+    claimed: F,
+) -> Result<Sweep, StepFault<StoreFault>>
+    requires claimed { F.IsAlwaysCallable claimed }
+    ensures since { (q : ℕ) → IsSince (is_node (format_of K.KeyClass)) (D.state store.old.disk) (D.state store.new.disk) (record store.old { batch = log.now.used; has_room = has_room log.now 4114 }) store.new q }
+    ensures same { IsSteady (D.state store.old.disk) store.old.frames
+        → store_of (format_of K.KeyClass) (D.state store.new.disk).seen store.new ≡ store_of (format_of K.KeyClass) (D.state store.old.disk).seen store.old }
+    ensures why { IfErr result (IsWhy (faults.IsWhy (is_node (format_of K.KeyClass)) (D.state store.old.disk) (D.state store.new.disk) (record store.old { batch = log.now.used; has_room = has_room log.now 4114 }) store.new)) }
+    ensures held { OnOk result (IsHeld store.new page × Used (tree_of (store_of (format_of K.KeyClass) (D.state store.new.disk).seen store.new)) page) }
+    ensures page { IfOk result (λ sweep. sweep.page ≡ page) }
+    ensures fits { IfOk result (λ sweep. FitsLeaf sweep ((tree_of (store_of (format_of K.KeyClass) (D.state store.new.disk).seen store.new)).node page)) }
+    ensures plans { (test : Entry K.Key → Bool) → ((entry : Entry K.Key) (answer : Bool) → F.post claimed entry answer → answer ≡ test entry)
+        → IfOk result (PlansSweep test ((tree_of (store_of (format_of K.KeyClass) (D.state store.new.disk).seen store.new)).node page)) }
+    ensures damaged { result ≡ Err StepFault.Damaged → Used (tree_of (store_of (format_of K.KeyClass) (D.state store.new.disk).seen store.new)) page
+        → ((tree_of (store_of (format_of K.KeyClass) (D.state store.new.disk).seen store.new)).node page).level ≡ 0
+        → MAX_ENTRIES < length ((tree_of (store_of (format_of K.KeyClass) (D.state store.new.disk).seen store.new)).node page).pairs }
+    ensures room { result ≢ Err (StepFault.Pages StoreFault.NoRoom) }
+    ensures memory { result ≢ Err StepFault.Memory }
+    ensures full { result ≢ Err StepFault.PagesFull }
+{
+    begin_reading(log, store);
+    let plan = plan_sweep(store, page, claimed);
+    begin(log, store, 4114);
+    plan
+}
 
 impl<D: SectorDisk, K: ReadKeys> Storage<D, K> {
     /// Takes the marked pairs that nobody claims out of the leaf on a page, and appends the record of the page. Whether there were any;
@@ -56,11 +90,13 @@ impl<D: SectorDisk, K: ReadKeys> Storage<D, K> {
             → Used (tree_of (store_of (format_of K.KeyClass) (D.state self.old.shelf.disk).seen self.old.shelf)) page
             → ((tree_of (store_of (format_of K.KeyClass) (D.state self.old.shelf.disk).seen self.old.shelf)).node page).level ≡ 0
             → MAX_ENTRIES < length ((tree_of (store_of (format_of K.KeyClass) (D.state self.old.shelf.disk).seen self.old.shelf)).node page).pairs }
+        ensures room { IsSteady (D.state self.old.shelf.disk) self.old.shelf.frames → result ≡ Err (StepFault.Pages StoreFault.NoRoom)
+            → (test : Entry K.Key → Bool) → ((entry : Entry K.Key) (answer : Bool) → F.post claimed entry answer → answer ≡ test entry)
+            → has_removable test ((tree_of (store_of (format_of K.KeyClass) (D.state self.old.shelf.disk).seen self.old.shelf)).node page) ≡ true }
         ensures memory { result ≢ Err StepFault.Memory }
         ensures full { result ≢ Err StepFault.PagesFull }
     {
-        begin(&self.log, &mut self.store, 4114);
-        let plan = plan_sweep(&mut self.store, page, claimed)?;
+        let plan = plan(&self.log, &mut self.store, page, claimed)?;
         if plan.is_empty() {
             return Ok(false);
         }

@@ -11,7 +11,7 @@ pub returns-clause-synced : goal.returns-clause-synced
 returns-clause-synced g c = λ k old older oldest s. synced_stays k old older oldest s
 
 pub returns-clause-renewed : goal.returns-clause-renewed
-returns-clause-renewed g c = λ k l old w no_flight no_filling written s. renewed_stays k l old w no_flight no_filling written s
+returns-clause-renewed g c = λ k l old w no_flight no_filling written next s. renewed_stays k l old w no_flight no_filling written next s
 
 pub returns-clause-steps : goal.returns-clause-steps
 returns-clause-steps g c = λ k l old w r step page is room s. page_step_stays k l old w r step page is room s

@@ -11,9 +11,8 @@ returns-clause-swept g c = λ l two bodies old whole keeps test agrees claims.
     let shape : Members g.row.K-Key.Denot =
     record { partial_cmp = g.K.Key.PartialOrd.partial_cmp; eq = g.K.Key.PartialEq.eq; cmp = g.K.Key.Ord.cmp; overlap = g.K.Key.Shape.overlap; inside = g.K.Key.Shape.inside } in
     let law : IsLawful (class_of shape g.K.ReadKeys.is_proper l) = record { keys = c.keys_are_lawful.ensures; rules = c.keys_are_lawful-2.ensures l.most two; same = λ a b. refl } in
-    sweeps_leaf shape g.K.ReadKeys.is_proper l law _ _ _ _ _ _ _ c.args.page bodies old whole c.sweep.result
-    c.steps_of_trees_that_agree_are_alike.ensures c.a_page_step_is_no_event.ensures.whole c.trees_that_agree_are_alike.ensures.back c.trees_that_agree_are_alike.ensures.legal
-    (c.a_volume_shows_the_logs_tree.ensures l _ bodies old.log keeps) keeps test claims c.sweep.ensures.logged (c.sweep.ensures.swept keeps.steady test agrees) c.sweep.ensures.own
+    sweeps_leaf shape g.K.ReadKeys.is_proper l law _ _ _ _ _ _ _ c.args.page bodies old whole keeps c.sweep.result test claims
+    c.sweep.ensures.logged (c.sweep.ensures.swept keeps.steady test agrees) c.sweep.ensures.own
 
 pub returns-clause-refused : goal.returns-clause-refused
 returns-clause-refused g c = λ l bodies old keeps. kept_on_err _ _ _ _ _ _ _ _ _ bodies old.log c.sweep.result l (c.what_stands_is_legal.ensures.lawful l) keeps c.sweep.ensures.unlogged

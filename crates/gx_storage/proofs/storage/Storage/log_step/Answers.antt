@@ -8,4 +8,4 @@ returns-clause-keeps g c =
     let v : Volume g.row.D.Denot = record { log = i.log; shelf = i.store; most = i.most } in
     let w : Volume g.row.D.Denot = record { log = c.log_step.new.log; shelf = c.log_step.new.self; most = i.most } in
     rw (← c.self.view_is) (λ l. log_keeps _ _ _ _ (g.D.SectorDisk.state i.store.disk) (g.D.SectorDisk.state c.log_step.new.self.disk) v w c.log_step.result
-    c.log_step.ensures.only c.log_step.ensures.counts.honest c.log_step.ensures.pages (c.log_step.ensures.runs l))
+    c.log_step.ensures.only c.log_step.ensures.counts.honest c.log_step.ensures.pages c.log_step.ensures.goes (c.log_step.ensures.runs l))

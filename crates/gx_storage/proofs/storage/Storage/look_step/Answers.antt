@@ -1,10 +1,21 @@
+use Rattle.std.proofs.Common.{◌≡◌, subst, true}
 use Rattle.gx_node.specs.Reading.{format_of, is_node}
+use Rattle.gx_store.specs.Standing.{store_of}
+use Rattle.gx_store.specs.State.{Shelf, IsSteady}
+use Rattle.gx_tree.specs.Store.{Stays}
+use Rattle.gx_storage.specs.Bringing.{bringing}
 use Rattle.gx_storage.specs.State.{Volume}
-use Rattle.gx_storage.proofs.OnlyReads.{only_reads}
+use Rattle.gx_storage.proofs.OnlyReads.{begun_reads, since_begun}
 use Rattle.gx_storage.proofs.storage.Storage.look_step.Goals as goal
 
 pub returns-clause-unlogged : goal.returns-clause-unlogged
 returns-clause-unlogged g c =
     let i = c.self.inside in
+    let f = format_of g.K.KeyClass in
+    let state = g.D.SectorDisk.state in
     let v : Volume g.row.D.Denot = record { log = i.log; shelf = i.store; most = i.most } in
-    rw (← c.self.view_is) (only_reads _ _ (format_of g.K.KeyClass) (is_node (format_of g.K.KeyClass)) g.D.SectorDisk.state v c.look_step.new.pages c.look_step.ensures.since c.look_step.ensures.stays)
+    let u = c.begin_reading.new.store in
+    let is : u ≡ bringing v = c.begin_reading.ensures in
+    let t = c.look_step.new.pages in
+    let stays = subst {A = Shelf g.row.D.Denot} (λ x. Stays (IsSteady (state x.disk) x.frames) (store_of f (state x.disk).seen x) (store_of f (state t.disk).seen t)) is c.look_step.ensures.stays in
+    rw (← c.self.view_is) (begun_reads _ _ f (is_node f) state v t i.log.used true (λ q. since_begun (is_node f) state v t u i.log.used q true is (λ was. c.look_step.ensures.since was q)) stays)

@@ -1,15 +1,24 @@
-use Rattle.std.proofs.Common.{◌≡◌, true, false, sym, refl, subst, ◌∙◌, ℕ}
+use Rattle.std.proofs.Common.{◌≡◌, Bool, true, false, sym, subst, ◌∙◌, ℕ, Result, Err, rules}
+use Rattle.std.specs.Prelude.{IfErr}
 use Rattle.gx_node.specs.Reading.{format_of, is_node}
 use Rattle.gx_store.specs.Standing.{standing_node, store_of}
-use Rattle.gx_store.specs.State.{IsHeld}
+use Rattle.gx_store.specs.Faults as faults
+use Rattle.gx_store.specs.Since.{IsSince}
+use Rattle.gx_store.specs.State.{IsHeld, Shelf}
+use Rattle.gx_store.specs.declared.fault.StoreFault.{StoreFault}
+use Rattle.gx_store.proofs.Going.{why_later}
 use Rattle.gx_store.proofs.Listed.{nodes_long}
 use Rattle.gx_tree_laws.specs.Trees.{Used}
-use Rattle.gx_tree.specs.Store.{tree_of}
+use Rattle.gx_tree.specs.Store.{Store, tree_of}
+use Rattle.gx_tree.specs.Owner.{IsWhy}
+use Rattle.gx_tree.specs.declared.fault.StepFault.{StepFault}
 use Rattle.gx_tree.specs.Sweeping.{FitsLeaf, takes_none}
+use Rattle.gx_storage.specs.Bringing.{has_removable}
+use Rattle.gx_storage.specs.Changes.{begun}
 use Rattle.gx_storage.specs.State.{Volume}
 use Rattle.gx_storage.proofs.Giving.{logged_page}
-use Rattle.gx_storage.proofs.Sweeping.{read_since, swept_since, swept_stamped, swept_step, unswept_since}
-use Rattle.gx_storage.proofs.Writing.{begun_is, has_room_then, on_err, steady_begun, unlogged, unstepped}
+use Rattle.gx_storage.proofs.Sweeping.{swept_since, swept_stamped, swept_step, takes_some, unswept_since, whys}
+use Rattle.gx_storage.proofs.Writing.{has_room_then, on_err, unlogged}
 use Rattle.gx_storage.proofs.storage.Storage.sweep.Goals as goal
 
 pub returns-in_err-plan-clause-unlogged : goal.returns-in_err-plan-clause-unlogged
@@ -18,12 +27,10 @@ returns-in_err-plan-clause-unlogged g c =
     let f = format_of g.K.KeyClass in
     let state = g.D.SectorDisk.state in
     let v : Volume g.row.D.Denot = record { log = i.log; shelf = i.store; most = i.most } in
-    let u = c.begin.new.store in
-    let read = c.plan_sweep.new.pages in
-    let is = begun_is v u 4114 _ c.begin.ensures refl in
-    let since = unstepped (is_node f) state v 4114 read u is c.in_err-plan.ensures.since in
+    let read = c.plan.new.store in
+    let since = c.in_err-plan.ensures.since in
     rw (← c.self.view_is) (on_err _ _ (unlogged _ _ f (is_node f) state v 4114 read since
-    (λ steady. read_since f state v 4114 u is _ (c.in_err-plan.ensures.same (steady_begun (is_node f) state v 4114 read u is steady)))))
+    (λ steady. c.in_err-plan.ensures.same steady)))
 
 pub returns-then-is_empty-clause-logged : goal.returns-then-is_empty-clause-logged
 returns-then-is_empty-clause-logged g c =
@@ -31,12 +38,10 @@ returns-then-is_empty-clause-logged g c =
     let f = format_of g.K.KeyClass in
     let state = g.D.SectorDisk.state in
     let v : Volume g.row.D.Denot = record { log = i.log; shelf = i.store; most = i.most } in
-    let u = c.begin.new.store in
-    let read = c.plan_sweep.new.pages in
-    let is = begun_is v u 4114 _ c.begin.ensures refl in
-    let since = unstepped (is_node f) state v 4114 read u is c.in_ok-plan.ensures.since in
+    let read = c.plan.new.store in
+    let since = c.in_ok-plan.ensures.since in
     rw (← c.self.view_is) (unlogged _ _ f (is_node f) state v 4114 read since
-    (λ steady. read_since f state v 4114 u is _ (c.in_ok-plan.ensures.same (steady_begun (is_node f) state v 4114 read u is steady))))
+    (λ steady. c.in_ok-plan.ensures.same steady))
 
 pub returns-then-is_empty-clause-swept : goal.returns-then-is_empty-clause-swept
 returns-then-is_empty-clause-swept g c =
@@ -44,11 +49,9 @@ returns-then-is_empty-clause-swept g c =
     let f = format_of g.K.KeyClass in
     let state = g.D.SectorDisk.state in
     let v : Volume g.row.D.Denot = record { log = i.log; shelf = i.store; most = i.most } in
-    let u = c.begin.new.store in
-    let read = c.plan_sweep.new.pages in
-    let is = begun_is v u 4114 _ c.begin.ensures refl in
+    let read = c.plan.new.store in
     let none : takes_none c.in_ok-plan.plan ≡ true = sym c.is_empty.ensures ∙ c.if-is_empty.true in
-    rw (← c.self.view_is) (λ steady test agrees. unswept_since f state v 4114 u is _ (c.in_ok-plan.ensures.same (steady_begun (is_node f) state v 4114 read u is steady))
+    rw (← c.self.view_is) (λ steady test agrees. unswept_since f state v _ (c.in_ok-plan.ensures.same steady)
     c.in_ok-plan.plan c.args.page c.in_ok-plan.ensures.page test (c.in_ok-plan.ensures.plans test agrees) none)
 
 pub make_sweep-requires-clause-held : goal.make_sweep-requires-clause-held
@@ -57,9 +60,7 @@ make_sweep-requires-clause-held g c =
     let f = format_of g.K.KeyClass in
     let state = g.D.SectorDisk.state in
     let v : Volume g.row.D.Denot = record { log = i.log; shelf = i.store; most = i.most } in
-    let u = c.begin.new.store in
-    let read = c.plan_sweep.new.pages in
-    let is = begun_is v u 4114 _ c.begin.ensures refl in
+    let read = c.plan.new.store in
     subst {A = ℕ} (λ a. IsHeld read a × Used (tree_of (store_of f (state read.disk).seen read)) a) (sym c.in_ok-plan.ensures.page) c.in_ok-plan.ensures.held
 
 pub make_sweep-requires-clause-fits : goal.make_sweep-requires-clause-fits
@@ -68,9 +69,7 @@ make_sweep-requires-clause-fits g c =
     let f = format_of g.K.KeyClass in
     let state = g.D.SectorDisk.state in
     let v : Volume g.row.D.Denot = record { log = i.log; shelf = i.store; most = i.most } in
-    let u = c.begin.new.store in
-    let read = c.plan_sweep.new.pages in
-    let is = begun_is v u 4114 _ c.begin.ensures refl in
+    let read = c.plan.new.store in
     subst {A = ℕ} (λ a. FitsLeaf c.in_ok-plan.plan ((tree_of (store_of f (state read.disk).seen read)).node a)) (sym c.in_ok-plan.ensures.page) c.in_ok-plan.ensures.fits
 
 pub returns-in_err-make_sweep-clause-unlogged : goal.returns-in_err-make_sweep-clause-unlogged
@@ -79,13 +78,11 @@ returns-in_err-make_sweep-clause-unlogged g c =
     let f = format_of g.K.KeyClass in
     let state = g.D.SectorDisk.state in
     let v : Volume g.row.D.Denot = record { log = i.log; shelf = i.store; most = i.most } in
-    let u = c.begin.new.store in
-    let read = c.plan_sweep.new.pages in
-    let is = begun_is v u 4114 _ c.begin.ensures refl in
+    let read = c.plan.new.store in
     let t = c.make_sweep.new.pages in
-    let since = unstepped (is_node f) state v 4114 t u is (λ was q before. c.in_err-make_sweep.ensures.kept was q (c.in_ok-plan.ensures.since was q before)) in
+    let since : (q : ℕ) → IsSince (is_node f) (state v.shelf.disk) (state t.disk) (begun v 4114) t q = λ q. c.in_err-make_sweep.ensures.kept (begun v 4114) q (c.in_ok-plan.ensures.since q) in
     rw (← c.self.view_is) (on_err _ _ (unlogged _ _ f (is_node f) state v 4114 t since
-    (λ steady. c.in_err-make_sweep.ensures.refused ∙ read_since f state v 4114 u is _ (c.in_ok-plan.ensures.same (steady_begun (is_node f) state v 4114 t u is steady)))))
+    (λ steady. c.in_err-make_sweep.ensures.refused ∙ c.in_ok-plan.ensures.same steady)))
 
 pub give_page-requires-clause-place : goal.give_page-requires-clause-place
 give_page-requires-clause-place g c =
@@ -93,14 +90,12 @@ give_page-requires-clause-place g c =
     let f = format_of g.K.KeyClass in
     let state = g.D.SectorDisk.state in
     let v : Volume g.row.D.Denot = record { log = i.log; shelf = i.store; most = i.most } in
-    let u = c.begin.new.store in
-    let read = c.plan_sweep.new.pages in
-    let is = begun_is v u 4114 _ c.begin.ensures refl in
+    let read = c.plan.new.store in
     let t = c.make_sweep.new.pages in
     let plan = c.in_ok-plan.plan in
     let here = c.in_ok-plan.ensures.page in
     let some : takes_none c.in_ok-plan.plan ≡ false = sym c.is_empty.ensures ∙ c.if-is_empty.false in
-    let step = swept_step (is_node f) state v 4114 u read t plan.page c.args.page here is c.in_ok-plan.ensures.since c.in_ok-make_sweep.ensures.since in
+    let step = swept_step (is_node f) state v 4114 read t plan.page c.args.page here c.in_ok-plan.ensures.since c.in_ok-make_sweep.ensures.since in
     (has_room_then (is_node f) state v 4114 t (sym step.goes_on.has_room) (c.in_ok-make_sweep.ensures.changing some)).0
 
 pub give_page-requires-clause-room : goal.give_page-requires-clause-room
@@ -109,14 +104,12 @@ give_page-requires-clause-room g c =
     let f = format_of g.K.KeyClass in
     let state = g.D.SectorDisk.state in
     let v : Volume g.row.D.Denot = record { log = i.log; shelf = i.store; most = i.most } in
-    let u = c.begin.new.store in
-    let read = c.plan_sweep.new.pages in
-    let is = begun_is v u 4114 _ c.begin.ensures refl in
+    let read = c.plan.new.store in
     let t = c.make_sweep.new.pages in
     let plan = c.in_ok-plan.plan in
     let here = c.in_ok-plan.ensures.page in
     let some : takes_none c.in_ok-plan.plan ≡ false = sym c.is_empty.ensures ∙ c.if-is_empty.false in
-    let step = swept_step (is_node f) state v 4114 u read t plan.page c.args.page here is c.in_ok-plan.ensures.since c.in_ok-make_sweep.ensures.since in
+    let step = swept_step (is_node f) state v 4114 read t plan.page c.args.page here c.in_ok-plan.ensures.since c.in_ok-make_sweep.ensures.since in
     (has_room_then (is_node f) state v 4114 t (sym step.goes_on.has_room) (c.in_ok-make_sweep.ensures.changing some)).1
 
 pub give_page-requires-clause-held : goal.give_page-requires-clause-held
@@ -134,13 +127,11 @@ returns-clause-logged g c =
     let f = format_of g.K.KeyClass in
     let state = g.D.SectorDisk.state in
     let v : Volume g.row.D.Denot = record { log = i.log; shelf = i.store; most = i.most } in
-    let u = c.begin.new.store in
-    let read = c.plan_sweep.new.pages in
-    let is = begun_is v u 4114 _ c.begin.ensures refl in
+    let read = c.plan.new.store in
     let t = c.make_sweep.new.pages in
     let plan = c.in_ok-plan.plan in
     let here = c.in_ok-plan.ensures.page in
-    let step = swept_step (is_node f) state v 4114 u read t plan.page c.args.page here is c.in_ok-plan.ensures.since c.in_ok-make_sweep.ensures.since in
+    let step = swept_step (is_node f) state v 4114 read t plan.page c.args.page here c.in_ok-plan.ensures.since c.in_ok-make_sweep.ensures.since in
     let held = subst {A = ℕ} (λ a. IsHeld t a) here c.in_ok-make_sweep.ensures.held in
     rw (← c.self.view_is) (logged_page _ _ f (is_node f) state v 4114 t c.args.page c.give_page.new.log step held c.in_order.ensures.taken c.give_page.ensures.last c.give_page.ensures.formed)
 
@@ -150,14 +141,12 @@ returns-clause-swept g c =
     let f = format_of g.K.KeyClass in
     let state = g.D.SectorDisk.state in
     let v : Volume g.row.D.Denot = record { log = i.log; shelf = i.store; most = i.most } in
-    let u = c.begin.new.store in
-    let read = c.plan_sweep.new.pages in
-    let is = begun_is v u 4114 _ c.begin.ensures refl in
+    let read = c.plan.new.store in
     let t = c.make_sweep.new.pages in
     let plan = c.in_ok-plan.plan in
     let here = c.in_ok-plan.ensures.page in
     let some : takes_none c.in_ok-plan.plan ≡ false = sym c.is_empty.ensures ∙ c.if-is_empty.false in
-    rw (← c.self.view_is) (λ steady test agrees. swept_since f state v 4114 u is _ (c.in_ok-plan.ensures.same (steady_begun (is_node f) state v 4114 t u is steady))
+    rw (← c.self.view_is) (λ steady test agrees. swept_since f state v _ (c.in_ok-plan.ensures.same steady)
     plan c.args.page here test (c.in_ok-plan.ensures.plans test agrees) _ c.in_ok-make_sweep.ensures.takes some)
 
 pub returns-clause-stamped : goal.returns-clause-stamped
@@ -166,17 +155,39 @@ returns-clause-stamped g c =
     let f = format_of g.K.KeyClass in
     let state = g.D.SectorDisk.state in
     let v : Volume g.row.D.Denot = record { log = i.log; shelf = i.store; most = i.most } in
-    let u = c.begin.new.store in
-    let read = c.plan_sweep.new.pages in
-    let is = begun_is v u 4114 _ c.begin.ensures refl in
+    let read = c.plan.new.store in
     let t = c.make_sweep.new.pages in
     let plan = c.in_ok-plan.plan in
     let here = c.in_ok-plan.ensures.page in
     let some : takes_none c.in_ok-plan.plan ≡ false = sym c.is_empty.ensures ∙ c.if-is_empty.false in
-    let step = swept_step (is_node f) state v 4114 u read t plan.page c.args.page here is c.in_ok-plan.ensures.since c.in_ok-make_sweep.ensures.since in
+    let step = swept_step (is_node f) state v 4114 read t plan.page c.args.page here c.in_ok-plan.ensures.since c.in_ok-make_sweep.ensures.since in
     rw (← c.self.view_is) (λ steady swept. swept_stamped plan f (is_node f) state v 4114 t _ c.args.page here step c.in_ok-make_sweep.ensures.held steady
-    (read_since f state v 4114 u is _ (c.in_ok-plan.ensures.same (steady_begun (is_node f) state v 4114 t u is steady))) c.in_ok-plan.ensures.fits some c.in_ok-make_sweep.ensures.takes)
+    (c.in_ok-plan.ensures.same steady) c.in_ok-plan.ensures.fits some c.in_ok-make_sweep.ensures.takes)
 
 pub returns-clause-own : goal.returns-clause-own
 returns-clause-own g c =
     λ swept. c.give_page.ensures.own
+
+pub returns-in_err-make_sweep-clause-why : goal.returns-in_err-make_sweep-clause-why
+returns-in_err-make_sweep-clause-why g c =
+    let i = c.self.inside in
+    let state = g.D.SectorDisk.state in
+    let v : Volume g.row.D.Denot = record { log = i.log; shelf = i.store; most = i.most } in
+    let passes = is_node (format_of g.K.KeyClass) in
+    let read : Shelf g.row.D.Denot = c.plan.new.store in
+    let t : Shelf g.row.D.Denot = c.make_sweep.new.pages in
+    let W : Shelf g.row.D.Denot → StoreFault → Type 0 = λ x why. faults.IsWhy passes (state x.disk) (state t.disk) x t why in
+    let failed : c.from_residual-in_err-make_sweep.result ≡ Err c.in_err-make_sweep.field-0.0 = search rules in
+    rw (← c.self.view_is) (subst {A = Result Bool (StepFault StoreFault)} (λ x. IfErr x (IsWhy (W (begun v 4114)))) (sym failed)
+    (whys {A = Bool} (W read) (W (begun v 4114)) (λ why is. why_later passes (state v.shelf.disk) (state read.disk) (state t.disk) (begun v 4114) read t why (c.in_ok-plan.ensures.since 0).goes_on is)
+    (Err c.in_err-make_sweep.field-0.0) c.in_err-make_sweep.ensures.why))
+
+pub returns-in_err-make_sweep-clause-room : goal.returns-in_err-make_sweep-clause-room
+returns-in_err-make_sweep-clause-room g c =
+    let i = c.self.inside in
+    let f = format_of g.K.KeyClass in
+    let state = g.D.SectorDisk.state in
+    let some : takes_none c.in_ok-plan.plan ≡ false = sym c.is_empty.ensures ∙ c.if-is_empty.false in
+    rw (← c.self.view_is) (λ steady fault test agrees.
+    subst {A = Store g.row.K-Key.Denot} (λ x. has_removable test ((tree_of x).node c.args.page) ≡ true) (c.in_ok-plan.ensures.same steady)
+    (takes_some c.in_ok-plan.plan test _ (c.in_ok-plan.ensures.plans test agrees) some))

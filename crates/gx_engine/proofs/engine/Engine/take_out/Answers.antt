@@ -1,0 +1,95 @@
+use Rattle.std.proofs.Common.{◌≡◌, ◌≤◌, ◌<◌, ◌∙◌, ap, inr, refl, true, length, Err, rules}
+use Rattle.gx_machine.specs.Keys.{keys}
+use Rattle.gx_glog.specs.State.{Log}
+use Rattle.gx_node.specs.Reading.{format_of, is_node}
+use Rattle.gx_node.specs.declared.items.TheConstants.{MAX_ENTRIES}
+use Rattle.gx_store.specs.Faults.{CanBeRead}
+use Rattle.gx_store.specs.State.{IsSteady}
+use Rattle.gx_tree.specs.declared.fault.StepFault.TheVariants.{Damaged, Pages}
+use Rattle.gx_phases.specs.Moves.{failed_state}
+use Rattle.gx_storage.specs.Bringing.{has_removable}
+use Rattle.gx_storage.specs.Changes.{has_room}
+use Rattle.gx_storage.specs.State.{Volume}
+use Rattle.gx_engine.specs.States.{Parts, is_due}
+use Rattle.gx_engine.specs.Sweeping.{is_held, node_shown}
+use Rattle.gx_engine.proofs.Brought.{as_brought, brought_leads, refused_leads}
+use Rattle.gx_engine.proofs.Reading.{of_err}
+use Rattle.gx_engine.proofs.Serving.{is_calm, not_due}
+use Rattle.gx_engine.proofs.Sweeping.{logged_so, more_than_fit, never_full, never_none, none_taken, sweep_leads, swept_so, unlogged_so}
+use Rattle.gx_engine.proofs.engine.Engine.take_out.Goals as goal
+
+pub returns-in-Ok-true-clause-sweeps : goal.returns-in-Ok-true-clause-sweeps
+returns-in-Ok-true-clause-sweeps g c =
+    let old : Parts g.row.K-Key.Denot g.row.D.Denot = record { volume = c.self.inside.storage; sessions = c.self.inside.sessions; in_flight = c.self.inside.in_flight; checkpoint = c.self.inside.checkpoint } in
+    let k = keys g.K.Key.Ord.cmp g.K.Key.Shape.overlap g.K.Key.Shape.inside in
+    let early = ap (λ (x : Parts g.row.K-Key.Denot g.row.D.Denot). is_due x) c.self.view_is ∙ c.requires.early in
+    let did = c.in-Ok-true.ensures in
+    rw (← c.self.view_is) (record {
+      early = early;
+      logged = logged_so _ _ _ _ _ _ _ _ _ _ c.in-Ok-true.field-0 c.in-Ok-true.field-0-test did.logged;
+      swept = λ steady. swept_so _ _ _ _ c.in-Ok-true.field-0 c.in-Ok-true.field-0-test (did.swept steady (is_held k old) (λ entry answer post. search rules));
+      only = refl;
+    })
+
+pub returns-in-Ok-true-clause-leads : goal.returns-in-Ok-true-clause-leads
+returns-in-Ok-true-clause-leads g c =
+    let old : Parts g.row.K-Key.Denot g.row.D.Denot = record { volume = c.self.inside.storage; sessions = c.self.inside.sessions; in_flight = c.self.inside.in_flight; checkpoint = c.self.inside.checkpoint } in
+    let k = keys g.K.Key.Ord.cmp g.K.Key.Shape.overlap g.K.Key.Shape.inside in
+    let w : Volume g.row.D.Denot = c.sweep.new.self in
+    let early = ap (λ (x : Parts g.row.K-Key.Denot g.row.D.Denot). is_due x) c.self.view_is ∙ c.requires.early in
+    let any = c.in-Ok-true.field-0-test in
+    let said = c.in-Ok-true.ensures in
+    let did = logged_so _ _ _ _ _ _ _ _ _ _ c.in-Ok-true.field-0 any said.logged in
+    rw (← c.self.view_is) (λ l. sweep_leads _ (c.a_class_is_lawful.ensures l) _ _ _ c.args.page _ _ old c.has_failed.ensures.kept w (is_calm old.checkpoint (not_due old early).0) did.most (ap (λ (x : Log). x.stage) did.logs.log)
+    (did.keeps l) (λ steady. swept_so _ _ _ _ c.in-Ok-true.field-0 any (said.swept steady (is_held k old) (λ entry answer post. search rules))) (said.own any))
+
+pub returns-in-Ok-false-clause-sweeps : goal.returns-in-Ok-false-clause-sweeps
+returns-in-Ok-false-clause-sweeps g c =
+    let old : Parts g.row.K-Key.Denot g.row.D.Denot = record { volume = c.self.inside.storage; sessions = c.self.inside.sessions; in_flight = c.self.inside.in_flight; checkpoint = c.self.inside.checkpoint } in
+    let k = keys g.K.Key.Ord.cmp g.K.Key.Shape.overlap g.K.Key.Shape.inside in
+    let d = g.D.SectorDisk.state old.volume.shelf.disk in
+    let f = format_of g.K.KeyClass in
+    let some : has_removable (is_held k old) (node_shown f d c.args.page old) ≡ true =
+    ap (λ (x : Parts g.row.K-Key.Denot g.row.D.Denot). has_removable (is_held k x) (node_shown f (g.D.SectorDisk.state x.volume.shelf.disk) c.args.page x)) c.self.view_is ∙ c.requires.some in
+    let said = c.in-Ok-false.ensures in
+    let did = unlogged_so _ _ _ _ _ _ _ _ _ _ c.in-Ok-false.field-0 c.in-Ok-false.field-0-test said.logged in
+    rw (← c.self.view_is) (
+      (λ steady. absurd (never_none (is_held k old) (node_shown f d c.args.page old) some
+          (none_taken _ _ _ _ c.in-Ok-false.field-0 c.in-Ok-false.field-0-test (said.swept steady (is_held k old) (λ entry answer post. search rules))))),
+      as_brought old c.sweep.new.self old.sessions did.log did.most,
+    )
+
+pub returns-in-Ok-false-clause-leads : goal.returns-in-Ok-false-clause-leads
+returns-in-Ok-false-clause-leads g c =
+    let old : Parts g.row.K-Key.Denot g.row.D.Denot = record { volume = c.self.inside.storage; sessions = c.self.inside.sessions; in_flight = c.self.inside.in_flight; checkpoint = c.self.inside.checkpoint } in
+    let w : Volume g.row.D.Denot = c.sweep.new.self in
+    let did = unlogged_so _ _ _ _ _ _ _ _ _ _ c.in-Ok-false.field-0 c.in-Ok-false.field-0-test c.in-Ok-false.ensures.logged in
+    rw (← c.self.view_is) (λ l. brought_leads _ (c.a_class_is_lawful.ensures l) _ _ _ _ _ old w did.most did.log (did.since 0).goes_on.device (did.keeps l))
+
+pub returns-in-Err-Pages-clause-leads : goal.returns-in-Err-Pages-clause-leads
+returns-in-Err-Pages-clause-leads g c =
+    let old : Parts g.row.K-Key.Denot g.row.D.Denot = record { volume = c.self.inside.storage; sessions = c.self.inside.sessions; in_flight = c.self.inside.in_flight; checkpoint = c.self.inside.checkpoint } in
+    let w : Volume g.row.D.Denot = c.sweep.new.self in
+    let did = c.in-Err-Pages.ensures.unlogged in
+    let failed : c.sweep.result ≡ Err (Pages c.in-Err-Pages.fault) = search rules in
+    let why = of_err _ c.sweep.result (Pages c.in-Err-Pages.fault) failed c.sweep.ensures.why in
+    rw (← c.self.view_is) (λ l. refused_leads _ (c.a_class_is_lawful.ensures l) _ _ _ g.D.SectorDisk.state old w did.most did.log (did.since 0).goes_on.device (did.keeps l)
+    (has_room old.volume.log 4114) c.in-Err-Pages.fault why c.turn_away.new.self c.turn_away.result c.turn_away.ensures)
+
+pub returns-in-Err-Damaged : goal.returns-in-Err-Damaged
+returns-in-Err-Damaged g c =
+    let old : Parts g.row.K-Key.Denot g.row.D.Denot = record { volume = c.self.inside.storage; sessions = c.self.inside.sessions; in_flight = c.self.inside.in_flight; checkpoint = c.self.inside.checkpoint } in
+    let k = keys g.K.Key.Ord.cmp g.K.Key.Shape.overlap g.K.Key.Shape.inside in
+    let d = g.D.SectorDisk.state old.volume.shelf.disk in
+    let f = format_of g.K.KeyClass in
+    let some : has_removable (is_held k old) (node_shown f d c.args.page old) ≡ true =
+    ap (λ (x : Parts g.row.K-Key.Denot g.row.D.Denot). has_removable (is_held k x) (node_shown f (g.D.SectorDisk.state x.volume.shelf.disk) c.args.page x)) c.self.view_is ∙ c.requires.some in
+    let high : c.args.page ≤ old.volume.shelf.used = search rules in
+    let failed : c.sweep.result ≡ Err Damaged = search rules in
+    let did = c.in-Err-Damaged.ensures.unlogged in
+    let full : IsSteady d old.volume.shelf.frames → CanBeRead (is_node f) d old.volume.shelf → MAX_ENTRIES < length (node_shown f d c.args.page old).pairs =
+    λ steady readable. more_than_fit f c.args.page d old (is_held k old) c.requires.from high some (c.sweep.ensures.damaged steady failed) in
+    rw (← c.self.view_is, c.end.ensures.failed, c.end.ensures.outcome) (record {
+      sweeps = (inr (refl, full), as_brought old c.sweep.new.self (failed_state old.sessions) did.log did.most);
+      leads = λ l. never_full _ (c.a_class_is_lawful.ensures l) _ _ _ c.args.page d _ old c.has_failed.ensures.kept _ _ c.requires.from high c.most.ensures.few full;
+    })

@@ -1,0 +1,54 @@
+-- What the moves of a call that looks come to.
+use Rattle.std.specs.Prelude.{ℕ, ◌≡◌, ◌<◌, ◌⊎◌, Bool, true, false, List, [], ◌∷◌}
+use Rattle.gx_geom.specs.declared.refusal.Refusal.TheVariants.{Device as DeviceRefusal, Damaged as DamagedRefusal, Memory}
+use Rattle.gx_machine.specs.declared.call.Call.{Call}
+use Rattle.gx_machine.specs.declared.reply.Reply.TheVariants.{Refused as RefusedCall}
+use Rattle.gx_disk.specs.Device.{Device}
+use Rattle.gx_page.specs.Contents.{Contents}
+use Rattle.gx_tree.specs.declared.found.Found.{Found}
+use Rattle.gx_tree.specs.declared.look.Look.{Look}
+use Rattle.gx_engine_laws.specs.Events.{Event, Works, Closes, RefusesCall}
+use Rattle.gx_events.specs.declared.outcome.Outcome.{Outcome}
+use Rattle.gx_events.specs.declared.outcome.Outcome.TheVariants.{Replied, More, Help}
+use Rattle.gx_phases.specs.Moves.{answered_state, failed_state}
+use Rattle.gx_storage.specs.Bringing.{bringing}
+use Rattle.gx_engine.specs.declared.work.Work.{Work}
+use Rattle.gx_engine.specs.declared.work.Work.TheVariants.{Rests, Looks, Descends, Seeks}
+use Rattle.gx_engine.specs.Moves.{calling}
+use Rattle.gx_engine.specs.Refusals.{IsHelp}
+use Rattle.gx_engine.specs.States.{Parts, runs}
+use Rattle.gx_engine.specs.Writing.{brought}
+
+-- a call's work is a look, or has yet to begin with one
+abbrev pub is_looking : {B : Type 0} → Work B → Bool
+is_looking Rests = true
+is_looking (Looks look) = true
+is_looking (Descends parent item) = false
+is_looking (Seeks leaf) = false
+
+-- A look has begun: the call is at it; or it is closed, since memory was refused.
+abbrev pub BeginComes : {B D : Type 0} → ℕ → Call B → Parts B D → Parts B D → Outcome B → Type 0
+BeginComes {B} s call old new outcome =
+    ((outcome ≡ More) × ((look : Look B) × (new ≡ calling s call (Looks look) old)))
+    ⊎ ((outcome ≡ Replied (RefusedCall Memory)) × (new ≡ record old { sessions = answered_state s old.sessions }))
+
+-- A look read no page: its call is closed, since memory was refused; or the engine has failed; or another event has to come first, and
+-- the call is at what it was.
+abbrev pub StopComes : {B D : Type 0} → (ℕ → Contents → Bool) → Device → Device → ℕ → Parts B D → Parts B D → Outcome B → Type 0
+StopComes passes d e s old new (Replied (RefusedCall Memory)) = new ≡ record (brought old new) { sessions = answered_state s old.sessions }
+StopComes passes d e s old new (Replied (RefusedCall DeviceRefusal)) = (d.faults < e.faults) × (new ≡ record (brought old new) { sessions = failed_state old.sessions })
+StopComes passes d e s old new (Replied (RefusedCall DamagedRefusal)) = new ≡ record (brought old new) { sessions = failed_state old.sessions }
+StopComes passes d e s old new (Help n) = IsHelp passes d e (runs old.checkpoint) (bringing old.volume) new.volume.shelf n × (new ≡ brought old new)
+StopComes passes d e s old new other = ⊥
+
+-- the index's event that it is
+abbrev pub look_events : {B : Type 0} → ℕ → Call B → Outcome B → List (Event B)
+look_events s call More = Works ∷ []
+look_events s call (Replied (RefusedCall Memory)) = Closes s call Memory ∷ []
+look_events s call (Replied (RefusedCall DeviceRefusal)) = RefusesCall s DeviceRefusal ∷ []
+look_events s call other = []
+
+-- what a write's look turns into, by what it has found: it seeks its pair in the leaf where that stood, and else it goes on
+abbrev pub turned_by : {B : Type 0} → List (Found B) → Look B → Work B
+turned_by [] look = Looks look
+turned_by (one ∷ found) look = Seeks one.leaf

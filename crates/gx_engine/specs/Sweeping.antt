@@ -1,0 +1,94 @@
+-- What comes of a page that is brought in an event of no session, and of the sweep of a leaf.
+use Rattle.std.specs.Prelude.{ℕ, ◌≡◌, ◌≤◌, ◌<◌, ◌⊎◌, nat_le, nat_lt, Bool, true, false, ◌&&◌, Result, Ok, Err, length, List, [], ◌∷◌}
+use Rattle.gx_geom.specs.declared.refusal.Refusal.{Refusal}
+use Rattle.gx_geom.specs.declared.refusal.Refusal.TheVariants.{Damaged as DamagedRefusal, Device as DeviceRefusal}
+use Rattle.gx_machine.specs.declared.entry.Entry.{Entry}
+use Rattle.gx_machine.specs.Keys.{Keys}
+use Rattle.gx_disk.specs.Device.{Device}
+use Rattle.gx_page.specs.Contents.{Contents}
+use Rattle.gx_node.specs.Reading.{Format}
+use Rattle.gx_node.specs.declared.items.TheConstants.{MAX_ENTRIES}
+use Rattle.gx_tree_laws.specs.Trees.{Node}
+use Rattle.gx_tree.specs.Store.{tree_of}
+use Rattle.gx_tree.specs.Writing.{Swept}
+use Rattle.gx_engine_laws.specs.Events.{Event, Works, Fails}
+use Rattle.gx_recovery.specs.Known.{Known, Limits}
+use Rattle.gx_index_laws.specs.Classes.{Page}
+use Rattle.gx_durable.specs.Spelled.{Reading}
+use Rattle.gx_events.specs.declared.outcome.Need.{Need}
+use Rattle.gx_events.specs.declared.outcome.Need.TheVariants as need
+use Rattle.gx_events.specs.declared.outcome.Outcome.{Outcome}
+use Rattle.gx_events.specs.declared.outcome.Outcome.TheVariants.{More, Help, Nothing, Refused}
+use Rattle.gx_txn.specs.Tables.{claimed_in}
+use Rattle.gx_phases.specs.Moves.{failed_state}
+use Rattle.gx_store.specs.Faults.{CanBeRead}
+use Rattle.gx_store.specs.Standing.{store_of}
+use Rattle.gx_store.specs.State.{IsSteady}
+use Rattle.gx_storage.specs.Bringing.{bringing, has_removable}
+use Rattle.gx_storage.specs.Changes.{IsLogged, begun, page_given}
+use Rattle.gx_engine.specs.Flushing.{IsEnded}
+use Rattle.gx_engine.specs.Refusals.{IsHelp}
+use Rattle.gx_engine.specs.States.{Parts, is_due, runs}
+use Rattle.gx_engine.specs.Writing.{brought}
+
+-- The engine has failed: the device failed meanwhile; or it holds that it lies, or hasn't what it should have. Pages may have been
+-- brought, and nothing else has changed.
+abbrev pub HasFailed : {B D : Type 0} → Type 0 → Device → Device → Parts B D → Parts B D → Refusal → Type 0
+HasFailed Lies d e old new why =
+    (((why ≡ DeviceRefusal) × (d.faults < e.faults)) ⊎ ((why ≡ DamagedRefusal) × Lies)) × (new ≡ record (brought old new) { sessions = failed_state old.sessions })
+
+-- A page that is taken was brought; or it wasn't, and something gives it a frame; or the engine has failed.
+abbrev pub BringComes : {A B D : Type 0} → (ℕ → Contents → Bool) → Device → Device → Parts B D → Parts B D → Result A (Outcome B) → Type 0
+BringComes passes d e old new (Ok done) = new ≡ brought old new
+BringComes passes d e old new (Err (Help n)) = IsHelp passes d e (runs old.checkpoint) (bringing old.volume) new.volume.shelf n × (new ≡ brought old new)
+BringComes passes d e old new (Err (Refused why)) = HasFailed (IsSteady d old.volume.shelf.frames → CanBeRead passes d old.volume.shelf → ⊥) d e old new why
+BringComes passes d e old new (Err other) = ⊥
+
+-- the index's event that it is
+abbrev pub sweep_events : {B : Type 0} → Outcome B → List (Event B)
+sweep_events More = Works ∷ []
+sweep_events (Refused DeviceRefusal) = Fails ∷ []
+sweep_events other = []
+
+abbrev pub bring_events : {A B : Type 0} → Result A (Outcome B) → List (Event B)
+bring_events (Ok done) = []
+bring_events (Err outcome) = sweep_events outcome
+
+-- the node that a page shows
+abbrev pub node_shown : {B D : Type 0} → Format B → Device → ℕ → Parts B D → Node B
+node_shown f d page e = (tree_of (store_of f d.seen e.volume.shelf)).node page
+
+-- whether some session claims an entry
+abbrev pub is_held : {B D : Type 0} → Keys B → Parts B D → Entry B → Bool
+is_held k e entry = claimed_in k entry e.sessions.table
+
+-- whether a sweep takes anything: the page is taken, and is a leaf that has a marked pair that no session claims
+abbrev pub takes_any : {B D : Type 0} → Keys B → Format B → Device → ℕ → Parts B D → Bool
+takes_any k f d page e = (nat_lt 0 page && nat_le page e.volume.shelf.used) && has_removable (is_held k e) (node_shown f d page e)
+
+module _ {B : Type 0} (k : Keys B) (known : Limits → Known (Entry B) (Page B)) (r : Reading (Entry B) (Page B)) (f : Format B) (passes : ℕ → Contents → Bool) where
+  -- The leaf's marked pairs that no session claims are gone, and the record of its page is logged.
+  pub record IsSwept {D : Type 0} (page : ℕ) (d e : Device) (old new : Parts B D) : Type 0 where
+    pub early : is_due old ≡ false
+    pub logged : IsLogged known r f passes 4114 d e old.volume new.volume (page_given page e.seen new.volume.shelf)
+    pub swept : IsSteady d old.volume.shelf.frames → Swept (is_held k old) (store_of f d.seen old.volume.shelf) (store_of f e.seen new.volume.shelf) page true
+    pub only : new ≡ record old { volume = new.volume }
+
+  -- Another event has to come first: the page isn't in a frame yet; or something is to be taken of it, and a checkpoint is due, or
+  -- there is no room for the record or among the frames.
+  abbrev pub SweepWaits : {D : Type 0} → ℕ → Device → Device → Parts B D → Parts B D → Need → Type 0
+  SweepWaits page d e old new n =
+      IsHelp passes d e (runs old.checkpoint) (bringing old.volume) new.volume.shelf n
+      ⊎ ((IsSteady d old.volume.shelf.frames → takes_any k f d page old ≡ true)
+      × (((n ≡ need.Checkpoint) × (is_due old ≡ true)) ⊎ IsHelp passes d e (runs old.checkpoint) (begun old.volume 4114) new.volume.shelf n))
+
+  -- Something was taken; or there was nothing to take; or it waits; or the engine has failed: the device failed, or it lies, or had no
+  -- right page there, or one with more pairs than fit. But for what was taken pages may have been brought, and nothing else has changed.
+  abbrev pub SweepComes : {D : Type 0} → ℕ → Device → Device → Parts B D → Parts B D → Bool → Outcome B → Type 0
+  SweepComes page d e old new true outcome = IsEnded old new outcome
+  SweepComes page d e old new false More = IsSwept page d e old new
+  SweepComes page d e old new false Nothing = (IsSteady d old.volume.shelf.frames → takes_any k f d page old ≡ false) × (new ≡ brought old new)
+  SweepComes page d e old new false (Help n) = SweepWaits page d e old new n × (new ≡ brought old new)
+  SweepComes page d e old new false (Refused why) =
+      HasFailed (IsSteady d old.volume.shelf.frames → CanBeRead passes d old.volume.shelf → MAX_ENTRIES < length (node_shown f d page old).pairs) d e old new why
+  SweepComes page d e old new false other = ⊥

@@ -1,0 +1,73 @@
+//! A page that is brought in an event of no session, and lent as it stands.
+ghost use Rattle.std.specs.Prelude.{◌≡◌, ◌≤◌, true, false, OnOk};
+ghost use Rattle.gx_node.specs.Reading.{format_of, is_node};
+ghost use Rattle.gx_recovery.specs.Known.{Limits};
+ghost use Rattle.gx_readings.specs.Classes.{class_of, reading_of};
+ghost use Rattle.gx_store.specs.Standing.{store_of};
+ghost use Rattle.gx_store.specs.State.{IsHeld, IsSteady};
+ghost use Rattle.gx_storage.specs.Bringing.{bringing};
+ghost use Rattle.gx_storage.specs.Changes.{IsUnlogged, known_at};
+ghost use Rattle.gx_tree.specs.Store.{Stays};
+ghost use Rattle.gx_engine.specs.Holds.{Leads};
+ghost use Rattle.gx_engine.specs.Lending.{BringPageComes, StandsAs};
+ghost use Rattle.gx_engine.specs.Sweeping.{BringComes, bring_events};
+
+use crate::Engine;
+use crate::laws::a_class_is_lawful;
+use gx_disk::SectorDisk;
+use gx_events::Outcome;
+use gx_geom::Refusal;
+use gx_page::Page;
+use gx_readings::ReadKeys;
+
+impl<D: SectorDisk, K: ReadKeys> Engine<D, K> {
+    // Brings a page that is taken into a frame, where it is held until pages are brought again; or what comes of it that it was
+    // refused. No node has changed, and nothing is logged.
+    pub(crate) fn bring(&mut self, page: u32) -> Result<(), Outcome<K::Key>>
+        requires from { 1 ≤ page }
+        requires to { page ≤ self.old.volume.shelf.used }
+        requires works { self.old.sessions.failed ≡ false }
+        ensures unlogged { IsUnlogged (known_at K.Key.Shape K.is_proper) (reading_of K.said (format_of K.KeyClass)) (format_of K.KeyClass) (is_node (format_of K.KeyClass))
+            (bringing self.old.volume) (D.state self.old.volume.shelf.disk) (D.state self.new.volume.shelf.disk) self.old.volume self.new.volume }
+        ensures stays { Stays (IsSteady (D.state self.old.volume.shelf.disk) self.old.volume.shelf.frames) (store_of (format_of K.KeyClass) (D.state self.old.volume.shelf.disk).seen self.old.volume.shelf)
+            (store_of (format_of K.KeyClass) (D.state self.new.volume.shelf.disk).seen self.new.volume.shelf) }
+        ensures held { OnOk result (IsHeld self.new.volume.shelf page) }
+        ensures comes { BringComes (is_node (format_of K.KeyClass)) (D.state self.old.volume.shelf.disk) (D.state self.new.volume.shelf.disk) self.old self.new result }
+        ensures leads { (l : Limits) → Leads (class_of K.Key.Shape K.is_proper l) (reading_of K.said (format_of K.KeyClass)) (format_of K.KeyClass) (is_node (format_of K.KeyClass))
+            (D.state self.old.volume.shelf.disk) (D.state self.new.volume.shelf.disk) self.old self.new (bring_events result) }
+    {
+        a_class_is_lawful::<K>();
+        match self.storage.bring(page) {
+            Ok(()) => Ok(()),
+            Err(fault) => Err(self.turn_away(fault)),
+        }
+    }
+
+    /// Brings a page that is taken into a frame, where it is held until pages are brought again, so that `page` lends it. No node has
+    /// changed, and nothing is logged.
+    ///
+    /// `Help` where no frame is clean, with what gives one. Refused with `Failed` by an engine that has failed, with `Device` where the
+    /// device failed, and with `Damaged` where what it has there is no right page; the engine has failed then. It makes no write and
+    /// no sync of the device, and takes no memory.
+    pub fn bring_page(&mut self, page: u32) -> Result<(), Outcome<K::Key>>
+        requires from { 1 ≤ page }
+        requires to { page ≤ self.old.volume.shelf.used }
+        ensures held { OnOk result (IsHeld self.new.volume.shelf page) }
+        ensures comes { BringPageComes (is_node (format_of K.KeyClass)) (D.state self.old.volume.shelf.disk) (D.state self.new.volume.shelf.disk) self.old self.new self.old.sessions.failed result }
+        ensures leads { (l : Limits) → Leads (class_of K.Key.Shape K.is_proper l) (reading_of K.said (format_of K.KeyClass)) (format_of K.KeyClass) (is_node (format_of K.KeyClass))
+            (D.state self.old.volume.shelf.disk) (D.state self.new.volume.shelf.disk) self.old self.new (bring_events result) }
+    {
+        if self.sessions.has_failed() {
+            return Err(Outcome::Refused(Refusal::Failed));
+        }
+        self.bring(page)
+    }
+
+    /// A page that is held, as it stands.
+    pub fn page(&self, page: u32) -> &Page
+        requires held { IsHeld self.now.volume.shelf page }
+        ensures { StandsAs (format_of K.KeyClass) (is_node (format_of K.KeyClass)) (D.state self.now.volume.shelf.disk) page self.now result.now }
+    {
+        self.storage.held_page(page)
+    }
+}

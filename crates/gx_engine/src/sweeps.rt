@@ -1,0 +1,104 @@
+//! The sweep of a leaf.
+ghost use Rattle.std.specs.Prelude.{◌≡◌, ◌≤◌, ◌<◌, true, false};
+ghost use Rattle.gx_machine.specs.Keys.{keys_of};
+ghost use Rattle.gx_node.specs.Reading.{format_of, is_node};
+ghost use Rattle.gx_recovery.specs.Known.{Limits};
+ghost use Rattle.gx_readings.specs.Classes.{class_of, reading_of};
+ghost use Rattle.gx_store.specs.State.{IsHeld, IsSteady};
+ghost use Rattle.gx_storage.specs.Bringing.{has_removable};
+ghost use Rattle.gx_storage.specs.Changes.{known_at};
+ghost use Rattle.gx_engine.specs.Holds.{Leads};
+ghost use Rattle.gx_engine.specs.States.{is_due};
+ghost use Rattle.gx_engine.specs.Sweeping.{SweepComes, is_held, node_shown, sweep_events};
+
+use crate::Engine;
+use crate::laws::a_class_is_lawful;
+use gx_disk::SectorDisk;
+use gx_events::{Need, Outcome};
+use gx_geom::Refusal;
+use gx_readings::ReadKeys;
+use gx_tree::StepFault;
+
+impl<D: SectorDisk, K: ReadKeys> Engine<D, K> {
+    // Whether a page that is held is a leaf that has a marked pair that no session claims.
+    fn has_removable(&self, page: u32) -> bool
+        requires held { IsHeld self.now.volume.shelf page }
+        ensures { result ≡ has_removable (is_held (keys_of K.Key.Shape) self.now) (node_shown (format_of K.KeyClass) (D.state self.now.volume.shelf.disk) page self.now) }
+    {
+        let sessions = &self.sessions;
+        self.storage
+            .has_removable(page, |entry| sessions.is_claimed(&entry))
+    }
+
+    // Takes out of a leaf what is marked and no session claims, where no checkpoint is due.
+    fn take_out(&mut self, page: u32) -> Outcome<K::Key>
+        requires from { 1 ≤ page }
+        requires to { page ≤ self.old.volume.shelf.used }
+        requires some { has_removable (is_held (keys_of K.Key.Shape) self.old) (node_shown (format_of K.KeyClass) (D.state self.old.volume.shelf.disk) page self.old) ≡ true }
+        requires early { is_due self.old ≡ false }
+        requires works { self.old.sessions.failed ≡ false }
+        ensures sweeps { SweepComes (keys_of K.Key.Shape) (known_at K.Key.Shape K.is_proper) (reading_of K.said (format_of K.KeyClass)) (format_of K.KeyClass) (is_node (format_of K.KeyClass))
+            page (D.state self.old.volume.shelf.disk) (D.state self.new.volume.shelf.disk) self.old self.new false result }
+        ensures leads { (l : Limits) → Leads (class_of K.Key.Shape K.is_proper l) (reading_of K.said (format_of K.KeyClass)) (format_of K.KeyClass) (is_node (format_of K.KeyClass))
+            (D.state self.old.volume.shelf.disk) (D.state self.new.volume.shelf.disk) self.old self.new (sweep_events result) }
+    {
+        a_class_is_lawful::<K>();
+        self.sessions.has_failed();
+        self.storage.most();
+        let sessions = &self.sessions;
+        match self
+            .storage
+            .sweep(page, |entry| sessions.is_claimed(&entry))
+        {
+            Ok(true) => Outcome::More,
+            Ok(false) => Outcome::Nothing,
+            Err(StepFault::Pages(fault)) => self.turn_away(fault),
+            Err(StepFault::Damaged | StepFault::Memory | StepFault::PagesFull) => {
+                self.end(Refusal::Damaged)
+            }
+        }
+    }
+
+    // The same of a page that is held, where there is anything to take.
+    fn sweep_held(&mut self, page: u32) -> Outcome<K::Key>
+        requires held { IsHeld self.old.volume.shelf page }
+        requires works { self.old.sessions.failed ≡ false }
+        ensures sweeps { SweepComes (keys_of K.Key.Shape) (known_at K.Key.Shape K.is_proper) (reading_of K.said (format_of K.KeyClass)) (format_of K.KeyClass) (is_node (format_of K.KeyClass))
+            page (D.state self.old.volume.shelf.disk) (D.state self.new.volume.shelf.disk) self.old self.new false result }
+        ensures leads { (l : Limits) → Leads (class_of K.Key.Shape K.is_proper l) (reading_of K.said (format_of K.KeyClass)) (format_of K.KeyClass) (is_node (format_of K.KeyClass))
+            (D.state self.old.volume.shelf.disk) (D.state self.new.volume.shelf.disk) self.old self.new (sweep_events result) }
+    {
+        if !self.has_removable(page) {
+            return Outcome::Nothing;
+        }
+        if self.is_due() {
+            return Outcome::Help(Need::Checkpoint);
+        }
+        self.take_out(page)
+    }
+
+    /// Takes the marked pairs that no session claims out of the leaf on a page, and logs the page: `More`. `Nothing` where no such page
+    /// is taken, it isn't a leaf, or it has no such pair.
+    ///
+    /// `Help` where the page couldn't be brought, or something is to be taken and a checkpoint is due, or the log has no room for the
+    /// record, with what has to happen first. Refused with `Failed` by an engine that has failed, with `Device` where the device
+    /// failed, and with `Damaged` where what it has there is no right page; the engine has failed then. Whatever else comes of it,
+    /// pages may have been brought and nothing else has changed. It takes no memory.
+    pub fn sweep(&mut self, page: u32) -> Outcome<K::Key>
+        ensures sweeps { SweepComes (keys_of K.Key.Shape) (known_at K.Key.Shape K.is_proper) (reading_of K.said (format_of K.KeyClass)) (format_of K.KeyClass) (is_node (format_of K.KeyClass))
+            page (D.state self.old.volume.shelf.disk) (D.state self.new.volume.shelf.disk) self.old self.new self.old.sessions.failed result }
+        ensures leads { (l : Limits) → Leads (class_of K.Key.Shape K.is_proper l) (reading_of K.said (format_of K.KeyClass)) (format_of K.KeyClass) (is_node (format_of K.KeyClass))
+            (D.state self.old.volume.shelf.disk) (D.state self.new.volume.shelf.disk) self.old self.new (sweep_events result) }
+    {
+        if self.sessions.has_failed() {
+            return Outcome::Refused(Refusal::Failed);
+        }
+        if page == 0 || page > self.storage.used() {
+            return Outcome::Nothing;
+        }
+        match self.bring(page) {
+            Ok(()) => self.sweep_held(page),
+            Err(outcome) => outcome,
+        }
+    }
+}

@@ -1,0 +1,3 @@
+//! An insert's and a delete's moves.
+
+mod looks;

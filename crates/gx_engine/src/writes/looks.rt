@@ -1,0 +1,164 @@
+//! An insert or a delete looks for its pair.
+ghost use Rattle.std.specs.Prelude.{◌≡◌, ◌-◌, ◌<◌, true, false, length};
+ghost use Rattle.gx_machine.specs.declared.call.Call.{Call};
+ghost use Rattle.gx_machine.specs.declared.entry.Entry.{Entry};
+ghost use Rattle.gx_machine.specs.declared.call.Call.TheVariants.{Delete, Insert};
+ghost use Rattle.gx_machine.specs.Keys.{keys_of};
+ghost use Rattle.gx_machine.specs.Machine.{is_session};
+ghost use Rattle.gx_node.specs.Reading.{format_of, is_node};
+ghost use Rattle.gx_recovery.specs.Known.{Limits};
+ghost use Rattle.gx_readings.specs.Classes.{class_of, reading_of};
+ghost use Rattle.gx_phases.specs.declared.phase.Phase.TheVariants.{Open};
+ghost use Rattle.gx_phases.specs.Moves.{WritesEntry, is_open};
+ghost use Rattle.gx_phases.specs.States.{phase_at};
+ghost use Rattle.gx_engine.specs.declared.work.Work as declared;
+ghost use Rattle.gx_engine.specs.declared.work.Work.TheVariants.{Looks, Rests};
+ghost use Rattle.gx_engine.specs.Looking.{is_looking, turned_by};
+ghost use Rattle.gx_engine.specs.Moves.{Moves, calling};
+ghost use Rattle.gx_engine.specs.Writing.{WriteComes, write_events};
+
+use crate::Engine;
+use crate::laws::a_class_is_lawful;
+use crate::work::Work;
+use gx_class::Probing;
+use gx_disk::SectorDisk;
+use gx_events::Outcome;
+use gx_geom::{Refusal, Shape};
+use gx_machine::Entry;
+use gx_readings::ReadKeys;
+use gx_storage::laws::{a_volume_shows_keys, a_volume_shows_the_logs_tree};
+use gx_tree::{Item, Look, Wanted};
+
+/// What a write's look turns into: where it has found its pair, a seek from the leaf in which that stood; else it goes on.
+fn turned<B: Shape>(look: Look<B>) -> Work<B>
+    ensures { result ≡ turned_by look.found.items look }
+{
+    if look.found().is_empty() {
+        return Work::Looks(look);
+    }
+    Work::Seeks(look.found()[0].leaf)
+}
+
+impl<D: SectorDisk, K: ReadKeys + Probing> Engine<D, K>
+where
+    K::Probe: Drop,
+{
+    // A write's look reads its next page. It goes on, or where it has found its pair seeks that.
+    fn look_on(&mut self, session: u8, entry: &Entry<K::Key>, look: Look<K::Key>) -> Outcome<K::Key>
+        requires session { is_session session ≡ true }
+        requires open { is_open (phase_at (session - 1) self.old.sessions.phases) ≡ true }
+        requires works { self.old.sessions.failed ≡ false }
+        requires more { 0 < length look.stack.items }
+        ensures comes { (call : Call K.Key) → WritesEntry entry.now call → phase_at (session - 1) self.old.sessions.phases ≡ Open call Rests
+            → WriteComes (keys_of K.Key.Shape) (is_node (format_of K.KeyClass)) (D.state self.old.volume.shelf.disk) (D.state self.new.volume.shelf.disk) session call
+            (calling session call (Looks look) self.old) self.new result }
+        ensures moves { (call : Call K.Key) → WritesEntry entry.now call → phase_at (session - 1) self.old.sessions.phases ≡ Open call Rests → (l : Limits)
+            → Moves (class_of K.Key.Shape K.is_proper l) (reading_of K.said (format_of K.KeyClass)) (format_of K.KeyClass) (is_node (format_of K.KeyClass))
+            (D.state self.old.volume.shelf.disk) (D.state self.new.volume.shelf.disk) session (calling session call (Looks look) self.old) self.new result
+            (write_events session call result) }
+    {
+        a_class_is_lawful::<K>();
+        a_volume_shows_the_logs_tree::<D, K>();
+        a_volume_shows_keys::<D, K>();
+        self.sessions.has_failed();
+        let wanted = Wanted::<K>::entry(entry);
+        let read = self.read_look(session, &wanted, look);
+        self.storage.in_order();
+        match read {
+            Ok(look) => {
+                self.sessions.replace_work(session, turned(look));
+                Outcome::More
+            }
+            Err(outcome) => outcome,
+        }
+    }
+
+    // An insert's look has ended, and its pair is nowhere: the insert descends from the root.
+    fn begin_descent(&mut self, session: u8, look: &Look<K::Key>) -> Outcome<K::Key>
+        requires session { is_session session ≡ true }
+        requires works { self.old.sessions.failed ≡ false }
+        requires done { length look.now.stack.items ≡ 0 }
+        ensures comes { (entry : Entry K.Key) → phase_at (session - 1) self.old.sessions.phases ≡ Open (Insert entry) Rests
+            → WriteComes (keys_of K.Key.Shape) (is_node (format_of K.KeyClass)) (D.state self.old.volume.shelf.disk) (D.state self.new.volume.shelf.disk) session (Insert entry)
+            (calling session (Insert entry) (Looks look.now) self.old) self.new result }
+        ensures moves { (entry : Entry K.Key) → phase_at (session - 1) self.old.sessions.phases ≡ Open (Insert entry) Rests → (l : Limits)
+            → Moves (class_of K.Key.Shape K.is_proper l) (reading_of K.said (format_of K.KeyClass)) (format_of K.KeyClass) (is_node (format_of K.KeyClass))
+            (D.state self.old.volume.shelf.disk) (D.state self.new.volume.shelf.disk) session (calling session (Insert entry) (Looks look.now) self.old) self.new result
+            (write_events session (Insert entry) result) }
+    {
+        a_class_is_lawful::<K>();
+        self.sessions.has_failed();
+        let root = Item::new(1, self.storage.counter());
+        self.sessions.replace_work(session, Work::Descends(0, root));
+        Outcome::More
+    }
+
+    // A delete's look has ended, and its pair is nowhere.
+    fn find_absent(&mut self, session: u8, look: &Look<K::Key>) -> Outcome<K::Key>
+        requires session { is_session session ≡ true }
+        requires open { is_open (phase_at (session - 1) self.old.sessions.phases) ≡ true }
+        requires works { self.old.sessions.failed ≡ false }
+        requires done { length look.now.stack.items ≡ 0 }
+        ensures comes { (entry : Entry K.Key) → phase_at (session - 1) self.old.sessions.phases ≡ Open (Delete entry) Rests
+            → WriteComes (keys_of K.Key.Shape) (is_node (format_of K.KeyClass)) (D.state self.old.volume.shelf.disk) (D.state self.new.volume.shelf.disk) session (Delete entry)
+            (calling session (Delete entry) (Looks look.now) self.old) self.new result }
+        ensures moves { (entry : Entry K.Key) → phase_at (session - 1) self.old.sessions.phases ≡ Open (Delete entry) Rests → (l : Limits)
+            → Moves (class_of K.Key.Shape K.is_proper l) (reading_of K.said (format_of K.KeyClass)) (format_of K.KeyClass) (is_node (format_of K.KeyClass))
+            (D.state self.old.volume.shelf.disk) (D.state self.new.volume.shelf.disk) session (calling session (Delete entry) (Looks look.now) self.old) self.new result
+            (write_events session (Delete entry) result) }
+    {
+        a_class_is_lawful::<K>();
+        self.sessions.has_failed();
+        self.close(session, Refusal::Absent)
+    }
+
+    /// A move of a session's insert, which is open, while it looks for its pair. The first one begins a look from the root, and each
+    /// further one reads a page: `More`. Where the page has the pair, live or marked, the insert seeks it from there on; and where no
+    /// page is left to read, it descends from the root. It makes no write and no sync of the device. The look takes memory for what it
+    /// stacks and finds, and what comes after it takes none.
+    ///
+    /// `Help` where a page couldn't be brought, with what has to happen first; the insert is then at what it was. Refused memory closes
+    /// the call: `Replied(Refused(Memory))`. Where the device failed, or a page didn't read, the engine has failed, and the reply is
+    /// `Device` or `Damaged`.
+    pub(crate) fn insert_look(&mut self, session: u8, entry: Entry<K::Key>) -> Outcome<K::Key>
+        requires session { is_session session ≡ true }
+        requires looks { (work : declared.Work K.Key) × (phase_at (session - 1) self.old.sessions.phases ≡ Open (Insert entry) work) × (is_looking work ≡ true) }
+        requires works { self.old.sessions.failed ≡ false }
+        ensures comes { WriteComes (keys_of K.Key.Shape) (is_node (format_of K.KeyClass)) (D.state self.old.volume.shelf.disk) (D.state self.new.volume.shelf.disk) session
+            (Insert entry) self.old self.new result }
+        ensures moves { (l : Limits) → Moves (class_of K.Key.Shape K.is_proper l) (reading_of K.said (format_of K.KeyClass)) (format_of K.KeyClass) (is_node (format_of K.KeyClass))
+            (D.state self.old.volume.shelf.disk) (D.state self.new.volume.shelf.disk) session self.old self.new result (write_events session (Insert entry) result) }
+    {
+        self.sessions.has_failed();
+        match self.sessions.replace_work(session, Work::Rests) {
+            Work::Looks(look) => if look.is_done() {
+                self.begin_descent(session, &look)
+            } else {
+                self.look_on(session, &entry, look)
+            },
+            Work::Rests | Work::Descends(_, _) | Work::Seeks(_) => self.begin_look(session),
+        }
+    }
+
+    /// A move of a session's delete, which is open, while it looks for its pair: as an insert's, but where no page is left to read the
+    /// pair is nowhere, and the reply is `Refused(Absent)`.
+    pub(crate) fn delete_look(&mut self, session: u8, entry: Entry<K::Key>) -> Outcome<K::Key>
+        requires session { is_session session ≡ true }
+        requires looks { (work : declared.Work K.Key) × (phase_at (session - 1) self.old.sessions.phases ≡ Open (Delete entry) work) × (is_looking work ≡ true) }
+        requires works { self.old.sessions.failed ≡ false }
+        ensures comes { WriteComes (keys_of K.Key.Shape) (is_node (format_of K.KeyClass)) (D.state self.old.volume.shelf.disk) (D.state self.new.volume.shelf.disk) session
+            (Delete entry) self.old self.new result }
+        ensures moves { (l : Limits) → Moves (class_of K.Key.Shape K.is_proper l) (reading_of K.said (format_of K.KeyClass)) (format_of K.KeyClass) (is_node (format_of K.KeyClass))
+            (D.state self.old.volume.shelf.disk) (D.state self.new.volume.shelf.disk) session self.old self.new result (write_events session (Delete entry) result) }
+    {
+        self.sessions.has_failed();
+        match self.sessions.replace_work(session, Work::Rests) {
+            Work::Looks(look) => if look.is_done() {
+                self.find_absent(session, &look)
+            } else {
+                self.look_on(session, &entry, look)
+            },
+            Work::Rests | Work::Descends(_, _) | Work::Seeks(_) => self.begin_look(session),
+        }
+    }
+}
