@@ -47,7 +47,7 @@ use Rattle.gx_engine.specs.declared.work.Work.{Work}
 use Rattle.gx_engine.specs.declared.work.Work.TheVariants.{Rests}
 use Rattle.gx_engine.specs.Asked.{AskComes, ask_events, told}
 use Rattle.gx_engine.specs.States.{Parts}
-use Rattle.gx_engine.specs.Holds.{AreAt, KnowsFlight, Leads}
+use Rattle.gx_engine.specs.Holds.{AreAt, KnowsFlight, Leads, MayBegin}
 use Rattle.gx_engine.specs.Noted.{AreTold, has_transaction, touched_by}
 use Rattle.gx_engine.proofs.Noting.{none_touched, told_begun, told_phase, told_session}
 use Rattle.gx_engine.proofs.Serving.{held_as_it_is, session_at}
@@ -56,7 +56,7 @@ use Rattle.gx_engine.proofs.Serving.{held_as_it_is, session_at}
 module _ {B : Type 0} (k : Keys B) (s : ℕ) (asked_call : Call B) (old : State B (Work B)) (P : Asked B → State B (Work B) → Type 0)
     (refused : (why : Refusal) → P (asked.Now (reply.Refused why)) old)
     (begins : is_session s ≡ true → phase_at (s - 1) old.phases ≡ phase.Free → P (asked.Now reply.Ok) (with_transaction s old))
-    (opens : is_session s ≡ true → phase_at (s - 1) old.phases ≡ phase.Working → (call : Call B) (locks : Locks B) → P asked.Open (with_session s (phase.Open call Rests) (with_locks locks (held_by s old.table)) old))
+    (opens : is_session s ≡ true → phase_at (s - 1) old.phases ≡ phase.Working → (call : Call B) → MayBegin call → (locks : Locks B) → P asked.Open (with_session s (phase.Open call Rests) (with_locks locks (held_by s old.table)) old))
     (waits : is_session s ≡ true → phase_at (s - 1) old.phases ≡ phase.Working → P asked.Open (with_phase_of s (phase.Open Commit Rests) old))
     (undoes : is_session s ≡ true → phase_at (s - 1) old.phases ≡ phase.Working → asked_call ≡ Abort → P asked.Open (with_phase_of s (phase.Undoing 0 Rests) old)) where
   at : (given g : Asked B) (new n : State B (Work B)) → given ≡ g → new ≡ n → P g n → P given new
@@ -65,9 +65,9 @@ module _ {B : Type 0} (k : Keys B) (s : ℕ) (asked_call : Call B) (old : State 
   by_refusal : (why : Refusal) (given : Asked B) (new : State B (Work B)) → IsRefused why old given new → P given new
   by_refusal why given new a = at given (asked.Now (reply.Refused why)) new old a.0 a.1 (refused why)
 
-  by_lock : is_session s ≡ true → phase_at (s - 1) old.phases ≡ phase.Working → (lock : Result (Locks B) Refusal) (call : Call B) (given : Asked B) (new : State B (Work B)) → LockTaken lock s call Rests old given new → P given new
-  by_lock is here (Ok locks) call given new a = at given asked.Open new _ a.0 a.1 (opens is here call locks)
-  by_lock is here (Err why) call given new a = by_refusal why given new a
+  by_lock : is_session s ≡ true → phase_at (s - 1) old.phases ≡ phase.Working → (lock : Result (Locks B) Refusal) (call : Call B) → MayBegin call → (given : Asked B) (new : State B (Work B)) → LockTaken lock s call Rests old given new → P given new
+  by_lock is here (Ok locks) call may given new a = at given asked.Open new _ a.0 a.1 (opens is here call may locks)
+  by_lock is here (Err why) call may given new a = by_refusal why given new a
 
   by_begin : is_session s ≡ true → phase_at (s - 1) old.phases ≡ phase.Free → (full : Bool) (given : Asked B) (new : State B (Work B)) → Begun full s old given new → P given new
   by_begin is here true given new a = by_refusal HistoryFull given new a
@@ -83,9 +83,9 @@ module _ {B : Type 0} (k : Keys B) (s : ℕ) (asked_call : Call B) (old : State 
 
   by_working : is_session s ≡ true → phase_at (s - 1) old.phases ≡ phase.Working → (call : Call B) → asked_call ≡ call → (given : Asked B) (new : State B (Work B)) → AskedWorking k s call Rests old given new → P given new
   by_working is here Begin same given new a = by_refusal InTransaction given new a
-  by_working is here (Insert e) same given new a = by_lock is here (locks_for k (Insert e) s old.table) (Insert e) given new a
-  by_working is here (Delete e) same given new a = by_lock is here (locks_for k (Delete e) s old.table) (Delete e) given new a
-  by_working is here (Search q) same given new a = by_lock is here (locks_for k (Search q) s old.table) (Search q) given new a
+  by_working is here (Insert e) same given new a = by_lock is here (locks_for k (Insert e) s old.table) (Insert e) tt given new a
+  by_working is here (Delete e) same given new a = by_lock is here (locks_for k (Delete e) s old.table) (Delete e) tt given new a
+  by_working is here (Search q) same given new a = by_lock is here (locks_for k (Search q) s old.table) (Search q) tt given new a
   by_working is here Commit same given new a = at given asked.Open new _ a.0 a.1 (waits is here)
   by_working is here Abort same given new a = at given asked.Open new _ a.0 a.1 (undoes is here same)
 
@@ -108,7 +108,7 @@ module _ {B : Type 0} (k : Keys B) (s : ℕ) (asked_call : Call B) (old : State 
 pub numbers_stay : {B : Type 0} (k : Keys B) (s : ℕ) (call : Call B) (old : State B (Work B)) (given : Asked B) (new : State B (Work B)) → IsAsked k s call Rests old given new
     → (new.latest ≡ old.latest) × (new.durable ≡ old.durable)
 numbers_stay k s call old given new asks =
-    by_ask k s call old (λ g n. (n.latest ≡ old.latest) × (n.durable ≡ old.durable)) (λ why. (refl, refl)) (λ is here. (refl, refl)) (λ is here pending locks. (refl, refl)) (λ is here. (refl, refl)) (λ is here aborts. (refl, refl))
+    by_ask k s call old (λ g n. (n.latest ≡ old.latest) × (n.durable ≡ old.durable)) (λ why. (refl, refl)) (λ is here. (refl, refl)) (λ is here pending may locks. (refl, refl)) (λ is here. (refl, refl)) (λ is here aborts. (refl, refl))
     given new asks
 
 -- an ask leaves an index's log
@@ -142,10 +142,10 @@ module _ {B : Type 0} (c : Class B) (s : ℕ) (call : Call B) (i : index.State B
         latest = refl;
         failed = refl;
       })
-      (λ is here pending locks. record {
+      (λ is here pending may locks. record {
         told = told_session c.keys old kept s is touches (phase.Open pending Rests) (λ busy. ap (λ (p : Phase B (Work B)). has_transaction p) here) was_told (with_locks locks (held_by s old.table)) refl;
         at = session_at c.keys old (with_session s (phase.Open pending Rests) (with_locks locks (held_by s old.table)) old) i (asked_index c s call asked.Open i) kept s is (phase.Open pending Rests) (with_locks locks (held_by s old.table)) refl refl
-            (λ a ne. changed_beside s _ i.work a ne) (λ a ne. changed_beside s _ i.restored a ne) tt is_at;
+            (λ a ne. changed_beside s _ i.work a ne) (λ a ne. changed_beside s _ i.restored a ne) may is_at;
         latest = refl;
         failed = refl;
       })

@@ -23,3 +23,13 @@ pub mod Running
 pub mod Waiting
 pub mod Undone
 pub mod Claimed
+pub mod Seeking
+pub mod Setting
+pub mod Stopping
+pub mod Inserted
+pub mod Descents
+pub mod ReadFirst
+pub mod MakingRoom
+pub mod DescentMoves
+pub mod WriteMoves
+pub mod Further

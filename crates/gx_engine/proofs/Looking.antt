@@ -63,7 +63,7 @@ use Rattle.gx_engine.specs.declared.work.Work.{Work}
 use Rattle.gx_engine.specs.declared.work.Work.TheVariants.{Rests, Looks}
 use Rattle.gx_engine.specs.States.{Parts}
 use Rattle.gx_engine.specs.Holds.{AreAt, CallIsAt, Holds, IsAt, KnowsFlight, MayHaveFound}
-use Rattle.gx_engine.specs.Moves.{Lowers, Moved, Moves, calling, left, left_by}
+use Rattle.gx_engine.specs.Moves.{Lowers, Moved, Moves, MovesOn, calling, left, left_by}
 use Rattle.gx_engine.specs.Noted.{AreTold, has_transaction}
 use Rattle.gx_engine.proofs.Noting.{told_phase}
 use Rattle.gx_engine.proofs.Serving.{StaysSettled, held_as_it_is, may_renew_still, same_device, session_at, session_of, session_slots, slot_is}
@@ -187,6 +187,13 @@ module _ {B D : Type 0} (c : Class B) (l : IsLawful c) (r : Reading (Entry B) (P
         subst (λ (m : ℕ). m < left c r f passes s old i) (sym (ap (λ (p : Phase B (Work B)). left_by p (work_left c j s)) here))
         (subst (λ (m : ℕ). left_by (phase.Open call now) (work_left c j s) < m) (sym left_now) less))
 
+    -- the log's state is as it was then
+    pub moves_on : (now : Work B) (its : index.Work B) → CallIsAt call now its → DoesWork c (tree_now c i) (slot_at s i.slots) its
+        → left_by (phase.Open call now) (work_left c (with_work s its i) s) < left_by (phase.Open call was) (work_left c i s)
+        → (moved : Moved c r f passes d e s old (calling s call now (record old { volume = w })) More i (Works ∷ [])) × (moved.led.index.log ≡ i.log)
+    unfolding goes_on goes
+    moves_on now its is_at does less = (goes_on now its is_at does less, refl)
+
     -- the call is answered or closed
     abbrev pub answered_index : index.State B
     answered_index = slotted s (Working held.locks (map note_of held.notes) None) index.Rests i
@@ -235,7 +242,7 @@ module _ {B D : Type 0} (c : Class B) (l : IsLawful c) (r : Reading (Entry B) (P
   -- it leaves less than a call that rests
   pub begins : was ≡ Rests → MayHaveFound call [] → old.volume.shelf.pages ≤ 65536 → old.volume.most ≤ 100
       → (look : Look B) → look.stack.items ≡ record { page = 1; seen = old.volume.shelf.counter } ∷ [] → look.found.items ≡ []
-      → Moved c r f passes d d s old (calling s call (Looks look) old) More i (Works ∷ [])
+      → (moved : Moved c r f passes d d s old (calling s call (Looks look) old) More i (Works ∷ [])) × (moved.led.index.log ≡ i.log)
   begins rests may small few look stack found =
       let its : index.Work B = index.Looks look.stack.items (pairs_found look.found.items) in
       let does = root_looks look stack found in
@@ -243,7 +250,7 @@ module _ {B D : Type 0} (c : Class B) (l : IsLawful c) (r : Reading (Entry B) (P
       let pages = h.keeps.pages in
       let most = h.most in
       let below = left_below c l (with_work s its i) turns.whole (omega (arith, pages, small)) (omega (arith, most, few)) s in
-      goes_on d old.volume refl refl (same_device d) as_it_stays (Looks look) its
+      moves_on d old.volume refl refl (same_device d) as_it_stays (Looks look) its
       (refl, subst (λ (fs : List (Found B)). MayHaveFound call (pairs_found fs)) (sym found) may) does
       (subst (λ (x : Work B). work_left c (with_work s its i) s < left_by (phase.Open call x) (work_left c i s)) (sym rests) below)
 
@@ -253,7 +260,7 @@ module _ {B D : Type 0} (c : Class B) (lawful : 4 ≤ c.rules.most → IsLawful 
     (at : phase_at (s - 1) old.sessions.phases ≡ phase.Open call was) where
   pub begins_moves : was ≡ Rests → MayHaveFound call [] → old.volume.shelf.pages ≤ 65536 → old.volume.most ≤ 100
       → (look : Look B) → look.stack.items ≡ record { page = 1; seen = old.volume.shelf.counter } ∷ [] → look.found.items ≡ []
-      → Moves c r f passes d d s old (calling s call (Looks look) old) More (Works ∷ [])
+      → MovesOn c r f passes d d s old (calling s call (Looks look) old)
   begins_moves rests may small few look stack found bodies i h =
       begins c (lawful h.some) r f passes d old kept s is call was at bodies i h rests may small few look stack found
 

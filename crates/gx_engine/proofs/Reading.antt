@@ -1,6 +1,6 @@
 -- A call's look that reads a page, over the tree that frames and device show.
 use Rattle.std.proofs.Common.{◌≡◌, ◌∙◌, sym, ap, refl, subst, ℕ, ◌+◌, ◌-◌, ◌<◌, ◌≤◌, Bool, true, false, List, [], ◌∷◌, ◌++◌, map, filter, length, arith}
-use Rattle.std.specs.Prelude.{cond, Result, Err, IfErr, OnErr}
+use Rattle.std.specs.Prelude.{cond, Result, Err, IfErr, IfOk, Ok, OnErr, OnOk}
 use Rattle.gx_geom.specs.declared.refusal.Refusal.TheVariants as refusal
 use Rattle.gx_machine.specs.declared.entry.Entry.{Entry}
 use Rattle.gx_machine.specs.declared.call.Call.{Call}
@@ -30,7 +30,7 @@ use Rattle.gx_tree.proofs.Searched.{leads_to}
 use Rattle.gx_tree.proofs.Turned.{falls, goes_on, next_is_used}
 use Rattle.gx_recovery.specs.Records.{Record}
 use Rattle.gx_engine_laws.specs.Slots.{Slot, slot_at}
-use Rattle.gx_engine_laws.specs.Events.{Event, Works, Closes, RefusesCall}
+use Rattle.gx_engine_laws.specs.Events.{Event, Closes, RefusesCall}
 use Rattle.gx_engine_laws.specs.Wants as laws
 use Rattle.gx_index_laws.specs.Classes.{Class, IsLawful, Page, known_of, pair_of}
 use Rattle.gx_index_laws.specs.Happening.{with_work}
@@ -53,16 +53,15 @@ use Rattle.gx_storage.specs.Keeps.{KeepsTheSame, ShowsKeys, ShowsTheLogs, StaysS
 use Rattle.gx_storage.specs.State.{Volume}
 use Rattle.gx_events.specs.declared.outcome.Need.{Need}
 use Rattle.gx_events.specs.declared.outcome.Outcome.{Outcome}
-use Rattle.gx_events.specs.declared.outcome.Outcome.TheVariants.{Replied, More, Help}
+use Rattle.gx_events.specs.declared.outcome.Outcome.TheVariants.{Replied, Help}
 use Rattle.gx_engine.specs.declared.work.Work.{Work}
 use Rattle.gx_engine.specs.declared.work.Work.TheVariants.{Looks}
 use Rattle.gx_engine.specs.States.{Parts, runs}
 use Rattle.gx_engine.specs.Holds.{Holds, MayHaveFound}
 use Rattle.gx_engine.specs.Looking.{StopComes, look_events}
-use Rattle.gx_engine.specs.Moves.{Moves, calling}
+use Rattle.gx_engine.specs.Moves.{Moves, MovesOn, calling}
 use Rattle.gx_engine.specs.Refusals.{IsRefused, need_of}
-use Rattle.gx_engine.proofs.Looking as looking
-use Rattle.gx_engine.proofs.Looking.{answered_again, at_work, closes, fails, its_slot, looks_at, may_have_found, phase_again, put_kept, slot_now, waits}
+use Rattle.gx_engine.proofs.Looking.{answered_again, at_work, closes, fails, its_slot, looks_at, moves_on, phase_again, put_kept, slot_now, waits}
 use Rattle.gx_engine.proofs.Serving.{StaysSettled, of_reads}
 
 -- What a look wants, by a probe that says so of keys; and two trees that agree on their pages.
@@ -114,8 +113,8 @@ module _ {B : Type 0} (c : Class B) (l : IsLawful c) (IsKey : B → Type 0) (wan
 
 -- A page was read, or it was refused.
 module _ {B D : Type 0} (c : Class B) (lawful : 4 ≤ c.rules.most → IsLawful c) (r : Reading (Entry B) (Page B)) (f : Format B) (passes : ℕ → Contents → Bool)
-    (d e : Device) (old : Parts B D) (kept : IsKept c.keys old.sessions) (s : ℕ) (is : is_session s ≡ true) (call : Call B) (look : Look B)
-    (at : phase_at (s - 1) old.sessions.phases ≡ phase.Open call (Looks look)) (works : old.sessions.failed ≡ false)
+    (d e : Device) (old : Parts B D) (kept : IsKept c.keys old.sessions) (s : ℕ) (is : is_session s ≡ true) (call : Call B) (was : Work B)
+    (at : phase_at (s - 1) old.sessions.phases ≡ phase.Open call was) (works : old.sessions.failed ≡ false)
     (w : Volume D) (most : w.most ≡ old.volume.most) (same_log : w.log ≡ old.volume.log) (reads : OnlyRead d e) (keeps : KeepsTheSame (known_of c) r f passes d e old.volume w) where
   module _ (bodies : List (List (Record (Entry B) (Page B)))) (i : index.State B) (h : Holds c r f passes d old bodies i) where
     pub stays : StaysSame (known_of c) r f passes d e w bodies i.log
@@ -123,6 +122,24 @@ module _ {B D : Type 0} (c : Class B) (lawful : 4 ≤ c.rules.most → IsLawful 
 
     pub settled : StaysSettled d e
     settled = of_reads d e reads h.keeps.steady.honest
+
+  pub refused_moves : (n : Need) → Moves c r f passes d e s old (record old { volume = w }) (Help n) []
+  refused_moves n bodies i h = waits c (lawful h.some) r f passes d old kept s is call was at bodies i h e w most same_log (settled bodies i h) (stays bodies i h) n
+
+  pub memory_moves : Moves c r f passes d e s old (record old { volume = w; sessions = answered_state s old.sessions }) (Replied (RefusedCall refusal.Memory)) (Closes s call refusal.Memory ∷ [])
+  memory_moves bodies i h = closes c (lawful h.some) r f passes d old kept s is call was at bodies i h e w most same_log (settled bodies i h) (stays bodies i h) works
+
+  pub device_moves : Moves c r f passes d e s old (record old { volume = w; sessions = failed_state old.sessions }) (Replied (RefusedCall refusal.Device)) (RefusesCall s refusal.Device ∷ [])
+  device_moves bodies i h = fails c (lawful h.some) r f passes d old kept s is call was at bodies i h e w most same_log (settled bodies i h) (stays bodies i h) works
+
+-- The same of a call that is at a look.
+module _ {B D : Type 0} (c : Class B) (lawful : 4 ≤ c.rules.most → IsLawful c) (r : Reading (Entry B) (Page B)) (f : Format B) (passes : ℕ → Contents → Bool)
+    (d e : Device) (old : Parts B D) (kept : IsKept c.keys old.sessions) (s : ℕ) (is : is_session s ≡ true) (call : Call B) (look : Look B)
+    (at : phase_at (s - 1) old.sessions.phases ≡ phase.Open call (Looks look)) (works : old.sessions.failed ≡ false)
+    (w : Volume D) (most : w.most ≡ old.volume.most) (same_log : w.log ≡ old.volume.log) (reads : OnlyRead d e) (keeps : KeepsTheSame (known_of c) r f passes d e old.volume w) where
+  module _ (bodies : List (List (Record (Entry B) (Page B)))) (i : index.State B) (h : Holds c r f passes d old bodies i) where
+    its_stays : StaysSame (known_of c) r f passes d e w bodies i.log
+    its_stays = stays c lawful r f passes d e old kept s is call (Looks look) at works w most same_log reads keeps bodies i h
 
     is_look : IsLook (tree_now c i) (wants_pair c (slot_at s i.slots)) look.stack.items (pairs_found look.found.items)
     is_look =
@@ -134,27 +151,18 @@ module _ {B D : Type 0} (c : Class B) (lawful : 4 ≤ c.rules.most → IsLawful 
         subst (λ (x : Slot B). IsLook (tree_now c i) (wants_pair c x) look.stack.items (pairs_found look.found.items))
         (slot_now c (lawful h.some) r f passes d old kept s is call (Looks look) at bodies i h) is_look
 
-  pub refused_moves : (n : Need) → Moves c r f passes d e s old (record old { volume = w }) (Help n) []
-  refused_moves n bodies i h = waits c (lawful h.some) r f passes d old kept s is call (Looks look) at bodies i h e w most same_log (settled bodies i h) (stays bodies i h) n
-
-  pub memory_moves : Moves c r f passes d e s old (record old { volume = w; sessions = answered_state s old.sessions }) (Replied (RefusedCall refusal.Memory)) (Closes s call refusal.Memory ∷ [])
-  memory_moves bodies i h = closes c (lawful h.some) r f passes d old kept s is call (Looks look) at bodies i h e w most same_log (settled bodies i h) (stays bodies i h) works
-
-  pub device_moves : Moves c r f passes d e s old (record old { volume = w; sessions = failed_state old.sessions }) (Replied (RefusedCall refusal.Device)) (RefusesCall s refusal.Device ∷ [])
-  device_moves bodies i h = fails c (lawful h.some) r f passes d old kept s is call (Looks look) at bodies i h e w most same_log (settled bodies i h) (stays bodies i h) works
-
   module _ (shows : ShowsTheLogs (known_of c) r f passes e w) where
     -- the page that is read next is taken, in the tree that is shown
-    pub never_damaged : (new : Parts B D) (outcome : Outcome B) (events : List (Event B)) → 0 < length look.stack.items
-        → ((rest : List Item) (item : Item) → look.stack.items ≡ rest ++ item ∷ [] → ¬ Used (tree_shown (known_of c) r f passes e w) item.page) → Moves c r f passes d e s old new outcome events
-    never_damaged new outcome events some none bodies i h =
+    pub never_damaged : 0 < length look.stack.items → ((rest : List Item) (item : Item) → look.stack.items ≡ rest ++ item ∷ [] → ¬ Used (tree_shown (known_of c) r f passes e w) item.page)
+        → (bodies : List (List (Record (Entry B) (Page B)))) (i : index.State B) → Holds c r f passes d old bodies i → ⊥
+    never_damaged some none bodies i h =
         let one : Tree B = tree_now c i in
         let other : Tree B = tree_shown (known_of c) r f passes e w in
-        let agree : AgreeOnUsed one other = shows bodies i.log (stays bodies i h).keeps in
+        let agree : AgreeOnUsed one other = shows bodies i.log (its_stays bodies i h).keeps in
         let v : Pair B → Bool = wants_pair c (slot_at s i.slots) in
         let there : IsLook other v look.stack.items (pairs_found look.found.items) =
         look_too c.rules one other agree (is_legal c (lawful h.some) i h.whole) v look.stack.items (pairs_found look.found.items) (is_look bodies i h) in
-        absurd (next_is_used other v look.stack.items (pairs_found look.found.items) there some none)
+        next_is_used other v look.stack.items (pairs_found look.found.items) there some none
 
     -- the look goes on with what it found and stacked
     module _ (IsKey : B → Type 0) (keyed : ShowsKeys (known_of c) r f passes IsKey e w) (order : IsInOrder (passes w.shelf.pages) e.sectors w.shelf.frames w.shelf.used w.shelf.pages)
@@ -162,12 +170,12 @@ module _ {B D : Type 0} (c : Class B) (lawful : 4 ≤ c.rules.most → IsLawful 
         (consistent : (x : Pair B) (b : B) → IsKey x.key → IsKey b → laws.wants c.keys call (pair_of x) ≡ true → c.rules.covers b x.key ≡ true → may b ≡ true)
         (after : Look B) (some : 0 < length look.stack.items)
         (step : LookStep (tree_shown (known_of c) r f passes e w) wants leads look.stack.items after.stack.items look.found.items after.found.items) where
-      pub read_moves : MayHaveFound call (pairs_found after.found.items) → Moves c r f passes d e s old (calling s call (Looks after) (record old { volume = w })) More (Works ∷ [])
+      pub read_moves : MayHaveFound call (pairs_found after.found.items) → MovesOn c r f passes d e s old (calling s call (Looks after) (record old { volume = w }))
       read_moves may_find bodies i h =
           let l = lawful h.some in
           let one : Tree B = tree_now c i in
           let other : Tree B = tree_shown (known_of c) r f passes e w in
-          let kept_now = (stays bodies i h).keeps in
+          let kept_now = (its_stays bodies i h).keeps in
           let slot = slot_now c l r f passes d old kept s is call (Looks look) at bodies i h in
           let its : Slot B = its_slot c l r f passes d old kept s is call (Looks look) at bodies i h in
           let was_at = looks_at c l r f passes d old kept s is call (Looks look) at bodies i h look refl in
@@ -183,7 +191,8 @@ module _ {B D : Type 0} (c : Class B) (lawful : 4 ≤ c.rules.most → IsLawful 
           let was : work_left c i s ≡ descent_most c + (pages_ahead one look.stack.items + pages_free c one) =
           left_of c i s its (index.Looks look.stack.items (pairs_found look.found.items)) slot was_at in
           let now : work_left c (with_work s now_at i) s ≡ descent_most c + (pages_ahead one after.stack.items + pages_free c one) = turned_left c i s its now_at slot in
-          looking.goes_on c l r f passes d old kept s is call (Looks look) at bodies i h e w most same_log (settled bodies i h) (stays bodies i h) (Looks after) now_at (refl, may_find)
+          let its_settled = settled c lawful r f passes d e old kept s is call (Looks look) at works w most same_log reads keeps bodies i h in
+          moves_on c l r f passes d old kept s is call (Looks look) at bodies i h e w most same_log its_settled (its_stays bodies i h) (Looks after) now_at (refl, may_find)
           (subst (λ (x : Slot B). IsLook one (wants_pair c x) after.stack.items (pairs_found after.found.items)) (sym slot) next)
           (omega (arith, fewer, was, now))
 
@@ -234,22 +243,22 @@ module _ {B D : Type 0} (passes : ℕ → Contents → Bool) (state : D → Devi
   refused_comes fault.Device why new outcome is = at new _ outcome _ is.0 is.1 (why, with_sessions (failed_state was.sessions))
   refused_comes fault.Damaged why new outcome is = at new _ outcome _ is.0 is.1 (with_sessions (failed_state was.sessions))
 
--- a call that is closed while its look is at hand
+-- a call that is closed while its work is at hand
 pub closed_comes : {B D : Type 0} (k : Keys B) (passes : ℕ → Contents → Bool) (state : D → Device) (e : Parts B D) (kept : IsKept k e.sessions) (s : ℕ) (is : is_session s ≡ true) (call : Call B) (rest : Work B)
-    (at : phase_at (s - 1) e.sessions.phases ≡ phase.Open call rest) (look : Look B) (w : Volume D) (log : w.log ≡ e.volume.log) (most : w.most ≡ e.volume.most)
-    → StopComes passes (state e.volume.shelf.disk) (state w.shelf.disk) s (calling s call (Looks look) e) (record e { volume = w; sessions = answered_state s e.sessions }) (Replied (RefusedCall refusal.Memory))
-closed_comes {B} {D} k passes state e kept s is call rest at look w log most =
-    ap (λ (x : State B (Work B)). record e { volume = w; sessions = x }) (answered_again k e kept s is call rest at (Looks look))
-    ∙ with_sessions passes state (state e.volume.shelf.disk) s (calling s call (Looks look) e) w log most (answered_state s (calling s call (Looks look) e).sessions)
+    (at : phase_at (s - 1) e.sessions.phases ≡ phase.Open call rest) (work : Work B) (w : Volume D) (log : w.log ≡ e.volume.log) (most : w.most ≡ e.volume.most)
+    → StopComes passes (state e.volume.shelf.disk) (state w.shelf.disk) s (calling s call work e) (record e { volume = w; sessions = answered_state s e.sessions }) (Replied (RefusedCall refusal.Memory))
+closed_comes {B} {D} k passes state e kept s is call rest at work w log most =
+    ap (λ (x : State B (Work B)). record e { volume = w; sessions = x }) (answered_again k e kept s is call rest at work)
+    ∙ with_sessions passes state (state e.volume.shelf.disk) s (calling s call work e) w log most (answered_state s (calling s call work e).sessions)
 
--- The same of a look that is at hand.
+-- The same of work that is at hand.
 module _ {B D : Type 0} (c : Class B) (lawful : 4 ≤ c.rules.most → IsLawful c) (r : Reading (Entry B) (Page B)) (f : Format B) (passes : ℕ → Contents → Bool)
     (state : D → Device) (e : Parts B D) (kept : IsKept c.keys e.sessions) (s : ℕ) (is : is_session s ≡ true) (call : Call B) (rest : Work B)
-    (at : phase_at (s - 1) e.sessions.phases ≡ phase.Open call rest) (look : Look B) (works : e.sessions.failed ≡ false)
+    (at : phase_at (s - 1) e.sessions.phases ≡ phase.Open call rest) (work : Work B) (works : e.sessions.failed ≡ false)
     (w : Volume D) (most : w.most ≡ e.volume.most) (same_log : w.log ≡ e.volume.log) (reads : OnlyRead (state e.volume.shelf.disk) (state w.shelf.disk))
     (keeps : KeepsTheSame (known_of c) r f passes (state e.volume.shelf.disk) (state w.shelf.disk) e.volume w) where
   abbrev pub was : Parts B D
-  was = calling s call (Looks look) e
+  was = calling s call work e
 
   abbrev pub d : Device
   d = state e.volume.shelf.disk
@@ -258,41 +267,81 @@ module _ {B D : Type 0} (c : Class B) (lawful : 4 ≤ c.rules.most → IsLawful 
   now = state w.shelf.disk
 
   pub was_kept : IsKept c.keys was.sessions
-  was_kept = put_kept c.keys e kept s is call rest at (Looks look)
+  was_kept = put_kept c.keys e kept s is call rest at work
 
-  pub its_phase : phase_at (s - 1) was.sessions.phases ≡ phase.Open call (Looks look)
-  its_phase = at_work c.keys e kept s is call rest at (Looks look)
+  pub its_phase : phase_at (s - 1) was.sessions.phases ≡ phase.Open call work
+  its_phase = at_work c.keys e kept s is call rest at work
 
   pub memory_at_hand : Moves c r f passes d now s was (record e { volume = w; sessions = answered_state s e.sessions }) (Replied (RefusedCall refusal.Memory)) (Closes s call refusal.Memory ∷ [])
   memory_at_hand =
       subst (λ (x : State B (Work B)). Moves c r f passes d now s was (record e { volume = w; sessions = x }) (Replied (RefusedCall refusal.Memory)) (Closes s call refusal.Memory ∷ []))
-      (sym (answered_again c.keys e kept s is call rest at (Looks look)))
-      (memory_moves c lawful r f passes d now was was_kept s is call look its_phase works w most same_log reads keeps)
+      (sym (answered_again c.keys e kept s is call rest at work))
+      (memory_moves c lawful r f passes d now was was_kept s is call work its_phase works w most same_log reads keeps)
 
   pub pages_at_hand : (n : StoreFault) → faults.IsWhy passes d now (bringing e.volume) w.shelf n → (new : Parts B D) (outcome : Outcome B) → IsRefused n (record was { volume = w }) new outcome
       → Moves c r f passes d (state new.volume.shelf.disk) s was new outcome (look_events s call outcome)
   pages_at_hand n why new outcome refuses =
       by_refusal s call was w new outcome (λ (x : Parts B D) (o : Outcome B) (events : List (Event B)). Moves c r f passes d (state x.volume.shelf.disk) s was x o events) n refuses
-      (refused_moves c lawful r f passes d now was was_kept s is call look its_phase works w most same_log reads keeps)
-      (device_moves c lawful r f passes d now was was_kept s is call look its_phase works w most same_log reads keeps)
+      (refused_moves c lawful r f passes d now was was_kept s is call work its_phase works w most same_log reads keeps)
+      (device_moves c lawful r f passes d now was was_kept s is call work its_phase works w most same_log reads keeps)
       (λ damaged bodies i h. absurd (subst (λ (x : StoreFault). faults.IsWhy passes d now (bringing e.volume) w.shelf x) damaged why h.keeps.steady h.keeps.readable))
 
-  pub damaged_at_hand : ShowsTheLogs (known_of c) r f passes now w → (new : Parts B D) (outcome : Outcome B) (events : List (Event B)) → 0 < length look.stack.items
-      → ((rest : List Item) (item : Item) → look.stack.items ≡ rest ++ item ∷ [] → ¬ Used (tree_shown (known_of c) r f passes now w) item.page) → Moves c r f passes d now s was new outcome events
-  damaged_at_hand shows new outcome events some none =
-      never_damaged c lawful r f passes d now was was_kept s is call look its_phase works w most same_log reads keeps shows new outcome events some none
+-- A look that is at hand.
+module _ {B D : Type 0} (c : Class B) (lawful : 4 ≤ c.rules.most → IsLawful c) (r : Reading (Entry B) (Page B)) (f : Format B) (passes : ℕ → Contents → Bool)
+    (state : D → Device) (e : Parts B D) (kept : IsKept c.keys e.sessions) (s : ℕ) (is : is_session s ≡ true) (call : Call B) (rest : Work B)
+    (at : phase_at (s - 1) e.sessions.phases ≡ phase.Open call rest) (look : Look B) (works : e.sessions.failed ≡ false)
+    (w : Volume D) (most : w.most ≡ e.volume.most) (same_log : w.log ≡ e.volume.log) (reads : OnlyRead (state e.volume.shelf.disk) (state w.shelf.disk))
+    (keeps : KeepsTheSame (known_of c) r f passes (state e.volume.shelf.disk) (state w.shelf.disk) e.volume w) where
+  abbrev held : Parts B D
+  held = calling s call (Looks look) e
 
-  module _ (shows : ShowsTheLogs (known_of c) r f passes now w) (IsKey : B → Type 0) (keyed : ShowsKeys (known_of c) r f passes IsKey now w)
-      (order : IsInOrder (passes w.shelf.pages) now.sectors w.shelf.frames w.shelf.used w.shelf.pages)
+  abbrev old_device : Device
+  old_device = state e.volume.shelf.disk
+
+  abbrev new_device : Device
+  new_device = state w.shelf.disk
+
+  held_kept : IsKept c.keys held.sessions
+  held_kept = put_kept c.keys e kept s is call rest at (Looks look)
+
+  held_phase : phase_at (s - 1) held.sessions.phases ≡ phase.Open call (Looks look)
+  held_phase = at_work c.keys e kept s is call rest at (Looks look)
+
+  -- its page is taken
+  pub damaged_at_hand : ShowsTheLogs (known_of c) r f passes new_device w → 0 < length look.stack.items
+      → ((rest : List Item) (item : Item) → look.stack.items ≡ rest ++ item ∷ [] → ¬ Used (tree_shown (known_of c) r f passes new_device w) item.page)
+      → (bodies : List (List (Record (Entry B) (Page B)))) (i : index.State B) → Holds c r f passes old_device held bodies i → ⊥
+  damaged_at_hand shows some none =
+      never_damaged c lawful r f passes old_device new_device held held_kept s is call look held_phase works w most same_log reads keeps shows some none
+
+  module _ (shows : ShowsTheLogs (known_of c) r f passes new_device w) (IsKey : B → Type 0) (keyed : ShowsKeys (known_of c) r f passes IsKey new_device w)
+      (order : IsInOrder (passes w.shelf.pages) new_device.sectors w.shelf.frames w.shelf.used w.shelf.pages)
       (wants : Pair B → Bool) (leads may : B → Bool) (pairs : (x : Pair B) → IsKey x.key → wants x ≡ laws.wants c.keys call (pair_of x)) (bounds : (b : B) → IsKey b → leads b ≡ may b)
       (consistent : (x : Pair B) (b : B) → IsKey x.key → IsKey b → laws.wants c.keys call (pair_of x) ≡ true → c.rules.covers b x.key ≡ true → may b ≡ true)
       (after : Look B) (some : 0 < length look.stack.items)
-      (step : LookStep (tree_shown (known_of c) r f passes now w) wants leads look.stack.items after.stack.items look.found.items after.found.items) where
-    pub read_at_hand : MayHaveFound call (pairs_found after.found.items) → Moves c r f passes d now s was (calling s call (Looks after) (record e { volume = w })) More (Works ∷ [])
+      (step : LookStep (tree_shown (known_of c) r f passes new_device w) wants leads look.stack.items after.stack.items look.found.items after.found.items) where
+    pub read_at_hand : MayHaveFound call (pairs_found after.found.items) → MovesOn c r f passes old_device new_device s held (calling s call (Looks after) (record e { volume = w }))
     read_at_hand may_find =
-        subst (λ (x : State B (Work B)). Moves c r f passes d now s was (record e { volume = w; sessions = x }) More (Works ∷ []))
+        subst (λ (x : State B (Work B)). MovesOn c r f passes old_device new_device s held (record e { volume = w; sessions = x }))
         (phase_again c.keys e kept s is call rest at (Looks look) (phase.Open call (Looks after)))
-        (read_moves c lawful r f passes d now was was_kept s is call look its_phase works w most same_log reads keeps shows IsKey keyed order wants leads may pairs bounds consistent after some step may_find)
+        (read_moves c lawful r f passes old_device new_device held held_kept s is call look held_phase works w most same_log reads keeps shows IsKey keyed order wants leads may pairs bounds consistent after some step may_find)
+
+-- what is said of a result, whichever it is
+pub ok_map : {A F : Type 0} (P Q : A → Type 0) (result : Result A F) → ((x : A) → P x → Q x) → IfOk result P → IfOk result Q
+ok_map P Q (Ok x) leads said = leads x said
+ok_map P Q (Err x) leads said = tt
+
+pub err_map : {A F : Type 0} (P Q : F → Type 0) (result : Result A F) → ((x : F) → P x → Q x) → IfErr result P → IfErr result Q
+err_map P Q (Ok x) leads said = tt
+err_map P Q (Err x) leads said = leads x said
+
+pub on_ok_map : {A F : Type 0} (P Q : Type 0) (result : Result A F) → (P → Q) → OnOk result P → OnOk result Q
+on_ok_map P Q (Ok x) leads said = leads said
+on_ok_map P Q (Err x) leads said = tt
+
+pub on_err_map : {A F : Type 0} (P Q : Type 0) (result : Result A F) → (P → Q) → OnErr result P → OnErr result Q
+on_err_map P Q (Ok x) leads said = tt
+on_err_map P Q (Err x) leads said = leads said
 
 -- what a refusal says
 pub of_err : {A F : Type 0} (P : F → Type 0) (result : Result A F) (x : F) → result ≡ Err x → IfErr result P → P x

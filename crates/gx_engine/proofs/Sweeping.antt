@@ -1,7 +1,7 @@
 -- The sweep of a leaf as an index's event.
 use Rattle.std.proofs.Common.{◌≡◌, ◌≢◌, ◌∙◌, sym, ap, refl, subst, inl, inr, ⊎_elim, ℕ, ◌<◌, ◌≤◌, Bool, ◌&&◌, true, false, List, [], ◌∷◌, ◌++◌, length, Result, Ok, Err, arith}
 use Rattle.std.specs.Prelude.{nat_le, nat_lt, ◌==◌}
-use Rattle.std.proofs.lemmas.Bool.{eqb-true, ltb-true}
+use Rattle.std.proofs.lemmas.Bool.{eqb-true, le-leb, lt-ltb, ltb-true}
 use Rattle.gx_machine.specs.declared.entry.Entry.{Entry}
 use Rattle.gx_machine.specs.Keys.{Keys}
 use Rattle.gx_disk.specs.Device.{Device}
@@ -21,6 +21,7 @@ use Rattle.gx_recovery.specs.Known.{Known, Limits}
 use Rattle.gx_recovery.specs.Logged.{all_records, appended}
 use Rattle.gx_recovery.specs.Records.{Record, Touch}
 use Rattle.gx_recovery.proofs.Folds.{analysis-snoc}
+use Rattle.gx_recovery.proofs.Logs.{and_all}
 use Rattle.gx_recovery.proofs.Tests.{and_first, and_second}
 use Rattle.gx_index_laws.specs.Classes.{Class, IsLawful, Page, known_of}
 use Rattle.gx_index_laws.specs.Happening.{with_record}
@@ -30,7 +31,10 @@ use Rattle.gx_durable.specs.Spelled.{Reading, record_read}
 use Rattle.gx_readings.specs.Classes.{reading_of}
 use Rattle.gx_events.specs.declared.outcome.Outcome.{Outcome}
 use Rattle.gx_events.specs.declared.outcome.Outcome.TheVariants.{Help, More, Nothing, Refused, Replied}
+use Rattle.gx_phases.specs.Moves.{failed_state}
 use Rattle.gx_phases.specs.States.{IsKept}
+use Rattle.gx_store.specs.declared.fault.StoreFault.{StoreFault}
+use Rattle.gx_store.specs.Faults as faults
 use Rattle.gx_store.specs.Faults.{CanBeRead}
 use Rattle.gx_store.specs.Standing.{standing_node, store_of}
 use Rattle.gx_store.specs.State.{IsSteady, Shelf}
@@ -47,10 +51,11 @@ use Rattle.gx_storage_callers.proofs.Sweeping.{sweep_works}
 use Rattle.gx_engine.specs.declared.checkpoint.Checkpoint.TheVariants.{Turning}
 use Rattle.gx_engine.specs.Holds.{Holds, Led, Leads, Sits}
 use Rattle.gx_engine.specs.Noted.{AreTold}
+use Rattle.gx_engine.specs.Refusals.{IsTurnedAway}
 use Rattle.gx_engine.specs.States.{Parts, runs}
 use Rattle.gx_engine.specs.Sweeping.{SweepComes, is_held, node_shown, takes_any}
 use Rattle.gx_engine.specs.Writing.{brought}
-use Rattle.gx_engine.proofs.Brought.{begun_on, help_later, logged_later}
+use Rattle.gx_engine.proofs.Brought.{as_brought, begun_on, by_refusal, help_later, logged_later}
 use Rattle.gx_engine.proofs.Claimed.{claimed_alike}
 use Rattle.gx_engine.proofs.Growing.{grown_led}
 
@@ -209,3 +214,29 @@ module _ {B D : Type 0} (c : Class B) (lawful : 4 ≤ c.rules.most → IsLawful 
       let more = full h.keeps.steady h.keeps.readable in
       let same = h.most in
       absurd (omega (arith, fits, more, same, most))
+
+-- Pages were refused to the sweep of a leaf that has something to take.
+pub turned_comes : {B D : Type 0} (k : Keys B) (known : Limits → Known (Entry B) (Page B)) (r : Reading (Entry B) (Page B)) (f : Format B) (passes : ℕ → Contents → Bool) (page : ℕ) (state : D → Device)
+    (old : Parts B D) (w : Volume D) → w.most ≡ old.volume.most → w.log ≡ old.volume.log → 1 ≤ page → page ≤ old.volume.shelf.used
+    → has_removable (is_held k old) (node_shown f (state old.volume.shelf.disk) page old) ≡ true
+    → (n : StoreFault) → faults.IsWhy passes (state old.volume.shelf.disk) (state w.shelf.disk) (begun old.volume 4114) w.shelf n → (new : Parts B D) (o : Outcome B)
+    → IsTurnedAway n (record old { volume = w }) new o → SweepComes k known r f passes page (state old.volume.shelf.disk) (state new.volume.shelf.disk) old new false o
+turned_comes {B} {D} k known r f passes page state old w most log low high some n why new o is =
+    let d = state old.volume.shelf.disk in
+    let taken : (nat_lt 0 page && nat_le page old.volume.shelf.used) ≡ true =
+    and_all (nat_lt 0 page) (nat_le page old.volume.shelf.used) (lt-ltb 0 page low) (le-leb page old.volume.shelf.used high) in
+    let takes : takes_any k f d page old ≡ true =
+    and_all (nat_lt 0 page && nat_le page old.volume.shelf.used) (has_removable (is_held k old) (node_shown f d page old)) taken some in
+    by_refusal Refused (record old { volume = w }) new o (λ x y. SweepComes k known r f passes page d (state x.volume.shelf.disk) old x false y) n is
+    (λ can found helps. (
+      inr ((λ steady. takes), inr (record { fault = n; can = can; why = why; help = found; helps = helps; is = refl })),
+      as_brought old w old.sessions log most,
+    ))
+    (λ device. (
+      inl (refl, subst (λ (x : StoreFault). faults.IsWhy passes d (state w.shelf.disk) (begun old.volume 4114) w.shelf x) device why),
+      as_brought old w (failed_state old.sessions) log most,
+    ))
+    (λ lies. (
+      inr (refl, λ steady readable. absurd (subst (λ (x : StoreFault). faults.IsWhy passes d (state w.shelf.disk) (begun old.volume 4114) w.shelf x) lies why steady readable)),
+      as_brought old w (failed_state old.sessions) log most,
+    ))

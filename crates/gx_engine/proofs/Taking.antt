@@ -1,19 +1,12 @@
 -- A call's work that was taken out, and is put back.
-use Rattle.std.proofs.Common.{◌≡◌, ◌≢◌, ◌∙◌, ◌⊎◌, sym, ap, subst, inl, inr, ℕ, ◌-◌, Bool, true, List}
+use Rattle.std.proofs.Common.{◌≡◌, ◌≢◌, ◌∙◌, ◌⊎◌, sym, ap, refl, subst, inl, inr, ℕ, ◌-◌, true, List}
 use Rattle.std.proofs.lemmas.List.{set-get_or, set-set}
 use Rattle.gx_machine.specs.declared.call.Call.{Call}
-use Rattle.gx_machine.specs.declared.entry.Entry.{Entry}
 use Rattle.gx_machine.specs.Keys.{Keys}
 use Rattle.gx_machine.specs.Machine.{is_session}
 use Rattle.gx_disk.specs.Device.{Device}
-use Rattle.gx_page.specs.Contents.{Contents}
-use Rattle.gx_node.specs.Reading.{Format}
 use Rattle.gx_tree_laws.specs.Reach.{Item}
 use Rattle.gx_tree.specs.declared.look.Look.{Look}
-use Rattle.gx_engine_laws.specs.Events.{Event}
-use Rattle.gx_index_laws.specs.Classes.{Class, Page}
-use Rattle.gx_durable.specs.Spelled.{Reading}
-use Rattle.gx_events.specs.declared.outcome.Outcome.{Outcome}
 use Rattle.gx_phases.specs.declared.phase.Phase.{Phase}
 use Rattle.gx_phases.specs.declared.phase.Phase.TheVariants as phase
 use Rattle.gx_phases.specs.Moves as moves
@@ -21,10 +14,9 @@ use Rattle.gx_phases.specs.Moves.{answered_state}
 use Rattle.gx_phases.specs.States.{State, IsKept, phase_at, with_phase_of}
 use Rattle.gx_engine.specs.declared.work.Work.{Work}
 use Rattle.gx_engine.specs.declared.work.Work.TheVariants.{Descends, Looks, Rests, Seeks}
-use Rattle.gx_engine.specs.Looking.{BeginComes}
-use Rattle.gx_engine.specs.Moves.{Moves, calling}
+use Rattle.gx_engine.specs.Moves.{calling}
 use Rattle.gx_engine.specs.States.{Parts}
-use Rattle.gx_engine.specs.Writing.{brought}
+use Rattle.gx_engine.specs.Writing.{OnlyReads, brought, only_read}
 use Rattle.gx_engine.proofs.Looking.{phase_again, put_there, replaced}
 
 module _ {B D : Type 0} (e : Parts B D) (s : ℕ) (call : Call B) (was : Work B) (at : phase_at (s - 1) e.sessions.phases ≡ phase.Open call was)
@@ -51,34 +43,46 @@ module _ {B D : Type 0} (e : Parts B D) (s : ℕ) (call : Call B) (was : Work B)
       ∙ ap (λ (p : Phase B (Work B)). record e { sessions = with_phase_of s p e.sessions }) (sym (at ∙ ap (λ (w : Work B). phase.Open call w) here))
       ∙ ap (λ (ps : List (Phase B (Work B))). record e { sessions = record e.sessions { phases = ps } }) (set-get_or e.sessions.phases (s - 1) phase.Free)
 
+  -- pages were brought since
+  pub read_rests : (new : Parts B D) → new ≡ brought (record e { sessions = now }) new → new ≡ calling s call Rests (brought e new)
+  read_rests new read = read ∙ ap (λ (x : State B (Work B)). record (brought e new) { sessions = x }) rests
+
+  pub reads_rested : (new : Parts B D) → OnlyReads (record e { sessions = now }) new → OnlyReads e new
+  reads_rested new read = read ∙ ap (λ (x : State B (Work B)). only_read (record e { sessions = x }) new) rests
+
+  -- its call is answered
+  pub answered_taken : ◌≡◌ {A = Parts B D} (record e { sessions = answered_state s now }) (record e { sessions = answered_state s e.sessions })
+  answered_taken = ap (λ (x : State B (Work B)). record e { sessions = x }) (phase_anew phase.Working)
+
+  -- it is put back
+  pub returned : (work : Work B) → was ≡ work → (k : Keys B) → IsKept k e.sessions → is_session s ≡ true → (back : State B (Work B))
+      → back ≡ with_phase_of s (moves.with_work work (phase_at (s - 1) now.phases)).1 now → back ≡ e.sessions
+  returned work here k kept is_one back put =
+      replaced s call Rests work now back (phase_now k kept is_one) put ∙ ap (λ (x : Parts B D). x.sessions) (put_back work here)
+
   -- of a call that rests nothing was taken out
   pub as_it_was : was ≡ Rests → record e { sessions = now } ≡ e
   as_it_was here = ap (λ (x : State B (Work B)). record e { sessions = x }) rests ∙ sym (ap (λ (x : State B (Work B)). record e { sessions = x }) (phase_anew (phase.Open call Rests))) ∙ put_back Rests here
 
-  pub rested_moves : was ≡ Rests → (c : Class B) (r : Reading (Entry B) (Page B)) (format : Format B) (passes : ℕ → Contents → Bool) (d f : Device) (new : Parts B D) (outcome : Outcome B) (events : List (Event B))
-      → Moves c r format passes d f s (record e { sessions = now }) new outcome events → Moves c r format passes d f s e new outcome events
-  rested_moves here c r format passes d f new outcome events moves = subst (λ (x : Parts B D). Moves c r format passes d f s x new outcome events) (as_it_was here) moves
+  -- what is said of the engine with work that was taken out is said of the engine that had it
+  pub again : (work : Work B) → was ≡ work → (P : Parts B D → Type 0) → P (calling s call work (record e { sessions = now })) → P e
+  again work here P said = subst P (put_back work here) said
 
-  -- what a call with nothing begun comes to is what it comes to with the work that was taken out
-  pub begun_comes : (new : Parts B D) (outcome : Outcome B) → BeginComes s call (record e { sessions = now }) new outcome → BeginComes s call e new outcome
-  begun_comes new outcome (inl more) = inl (more.0, (more.1.0, more.1.1 ∙ ap (λ (x : State B (Work B)). record e { sessions = x }) (phase_anew (phase.Open call (Looks more.1.0)))))
-  begun_comes new outcome (inr closed) = inr (closed.0, closed.1 ∙ ap (λ (x : State B (Work B)). record e { sessions = x }) (phase_anew phase.Working))
+-- what is an engine of which only pages were brought
+pub reads_of : {B D : Type 0} (old new known : Parts B D) → new ≡ known → known ≡ only_read old known → OnlyReads old new
+reads_of old new known is reads = is ∙ reads ∙ sym (ap (λ (x : Parts _ _). only_read old x) is)
 
-  -- what is said of the engine with a look that was taken out is said of the engine that had it
-  module _ (look : Look B) (here : was ≡ Looks look) where
-    pub again : (P : Parts B D → Type 0) → P (calling s call (Looks look) (record e { sessions = now })) → P e
-    again P said = subst P (put_back (Looks look) here) said
+-- the engine with a call's work, where only pages were brought since
+pub same_calling : {B D : Type 0} (s : ℕ) (call : Call B) (work : Work B) (e there : Parts B D) → there ≡ brought e there → calling s call work there ≡ calling s call work (record e { volume = there.volume })
+same_calling s call work e there only =
+    λ j. record { volume = there.volume; sessions = with_phase_of s (phase.Open call work) (only j).sessions; in_flight = (only j).in_flight; checkpoint = (only j).checkpoint }
 
-    pub moves_again : (c : Class B) (r : Reading (Entry B) (Page B)) (format : Format B) (passes : ℕ → Contents → Bool) (d f : Device) (new : Parts B D) (outcome : Outcome B) (events : List (Event B))
-        → Moves c r format passes d f s (calling s call (Looks look) (record e { sessions = now })) new outcome events → Moves c r format passes d f s e new outcome events
-    moves_again c r format passes d f new outcome events moves = again (λ (x : Parts B D). Moves c r format passes d f s x new outcome events) moves
-
--- A look that read a page is at hand, and its call's work is put in its place.
+-- A look that read a page is at hand, and its call's work is put in the place of what was held.
 module _ {B D : Type 0} (k : Keys B) (e : Parts B D) (kept : IsKept k e.sessions) (s : ℕ) (is_one : is_session s ≡ true) (call : Call B) (rest : Work B)
-    (at : phase_at (s - 1) e.sessions.phases ≡ phase.Open call rest) (look : Look B) (there : Parts B D) (only : there ≡ brought e there) (work : Work B) (now : State B (Work B))
+    (at : phase_at (s - 1) e.sessions.phases ≡ phase.Open call rest) (held : Work B) (there : Parts B D) (only : there ≡ brought e there) (work : Work B) (now : State B (Work B))
     (placed : now ≡ with_phase_of s (moves.with_work work (phase_at (s - 1) there.sessions.phases)).1 there.sessions) where
   abbrev before : Parts B D
-  before = calling s call (Looks look) e
+  before = calling s call held e
 
   abbrev after : Parts B D
   after = record there { sessions = now }
@@ -92,7 +96,7 @@ module _ {B D : Type 0} (k : Keys B) (e : Parts B D) (kept : IsKept k e.sessions
   after_is = λ j. record { volume = there.volume; sessions = now_is j; in_flight = (only j).in_flight; checkpoint = (only j).checkpoint }
 
   again_is : after ≡ calling s call work (record before { volume = there.volume })
-  again_is = after_is ∙ sym (ap (λ (x : State B (Work B)). record e { volume = there.volume; sessions = x }) (phase_again k e kept s is_one call rest at (Looks look) (phase.Open call work)))
+  again_is = after_is ∙ sym (ap (λ (x : State B (Work B)). record e { volume = there.volume; sessions = x }) (phase_again k e kept s is_one call rest at held (phase.Open call work)))
 
   -- as a write's move
   pub put_write : (x : Work B) × (after ≡ calling s call x (record before { volume = there.volume })) × (there.volume.most ≡ e.volume.most)
@@ -102,12 +106,36 @@ module _ {B D : Type 0} (k : Keys B) (e : Parts B D) (kept : IsKept k e.sessions
   pub put_search : after ≡ calling s call work (brought before after)
   put_search = again_is ∙ ap (λ (x : Parts B D). record before { volume = x.volume; sessions = with_phase_of s (phase.Open call work) before.sessions }) only
 
-  pub put_moves : (c : Class B) (r : Reading (Entry B) (Page B)) (format : Format B) (passes : ℕ → Contents → Bool) (state : D → Device) (d : Device) (same : Parts B D) → there ≡ same
-      → (outcome : Outcome B) (events : List (Event B)) → Moves c r format passes d (state same.volume.shelf.disk) s before (calling s call work (record e { volume = same.volume })) outcome events
-      → Moves c r format passes d (state there.volume.shelf.disk) s before after outcome events
-  put_moves c r format passes state d same view outcome events moves =
-      subst (λ (x : Parts B D). Moves c r format passes d (state there.volume.shelf.disk) s before x outcome events) (sym after_is)
-      (subst (λ (x : Parts B D). Moves c r format passes d (state x.volume.shelf.disk) s before (calling s call work (record e { volume = x.volume })) outcome events) (sym view) moves)
+  -- what is said of the engine with that work and the pages that were brought is said of it
+  pub put_moves : (state : D → Device) (same : Parts B D) → there ≡ same → (P : Device → Parts B D → Type 0)
+      → P (state same.volume.shelf.disk) (calling s call work (record e { volume = same.volume })) → P (state there.volume.shelf.disk) after
+  put_moves state same view P said =
+      subst (λ (x : Parts B D). P (state there.volume.shelf.disk) x) (sym after_is)
+      (subst (λ (x : Parts B D). P (state x.volume.shelf.disk) (calling s call work (record e { volume = x.volume }))) (sym view) said)
+
+  -- only how far the session is has changed, and pages
+  pub put_reads : OnlyReads e after
+  put_reads = reads_of e after (calling s call work (brought e there)) (after_is ∙ ap (λ (x : Parts B D). calling s call work (record e { volume = x.volume })) only) refl
+
+-- a session whose work was taken out, and whose call is answered then
+pub answered_anew : {B : Type 0} (s : ℕ) (p : Phase B (Work B)) (sessions : State B (Work B)) → answered_state s (with_phase_of s p sessions) ≡ answered_state s sessions
+answered_anew {B} s p sessions = ap (λ (ps : List (Phase B (Work B))). record sessions { phases = ps }) (set-set sessions.phases (s - 1) p phase.Working)
+
+-- what an engine comes to, in the move that took its work out and brought pages, as its call is answered
+pub answered_so : {B D : Type 0} (s : ℕ) (call : Call B) (old mid new : Parts B D) → mid ≡ calling s call Rests (brought old mid) → new ≡ record mid { sessions = answered_state s mid.sessions }
+    → new ≡ record (brought old new) { sessions = answered_state s old.sessions }
+answered_so {B} {D} s call old mid new rest is =
+    let known : new ≡ record (brought old mid) { sessions = answered_state s old.sessions } =
+    is ∙ ap (λ (x : Parts B D). record x { sessions = answered_state s x.sessions }) rest
+    ∙ ap (λ (x : State B (Work B)). record (brought old mid) { sessions = x }) (answered_anew s (phase.Open call Rests) old.sessions) in
+    known ∙ sym (ap (λ (x : Parts B D). record (brought old x) { sessions = answered_state s old.sessions }) known)
+
+-- and as it goes on with other work
+pub worked_so : {B D : Type 0} (s : ℕ) (call : Call B) (work : Work B) (old mid new : Parts B D) → mid ≡ calling s call Rests (brought old mid) → new ≡ calling s call work mid
+    → new ≡ calling s call work (brought old mid)
+worked_so {B} {D} s call work old mid new rest is =
+    is ∙ ap (λ (x : Parts B D). calling s call work x) rest
+    ∙ ap (λ (ps : List (Phase B (Work B))). record (brought old mid) { sessions = record old.sessions { phases = ps } }) (set-set old.sessions.phases (s - 1) (phase.Open call Rests) (phase.Open call work))
 
 -- work that is none of a look
 pub no_look : {B : Type 0} (work : Work B) → (work ≡ Rests) ⊎ (((parent : ℕ) × (item : Item) × (work ≡ Descends parent item)) ⊎ ((leaf : ℕ) × (work ≡ Seeks leaf)))

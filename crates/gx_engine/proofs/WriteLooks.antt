@@ -60,17 +60,18 @@ use Rattle.gx_storage.specs.State.{Volume}
 use Rattle.gx_engine.specs.declared.work.Work.{Work}
 use Rattle.gx_engine.specs.declared.work.Work.TheVariants.{Descends, Looks, Rests, Seeks}
 use Rattle.gx_engine.specs.Holds.{CallDescends, CallSeeks, Holds, MayHaveFound}
-use Rattle.gx_engine.specs.Looking.{BeginComes, StopComes, is_looking, look_events, turned_by}
-use Rattle.gx_engine.specs.Moves.{Moves, calling}
+use Rattle.gx_engine.specs.Looking.{StopComes, is_looking, look_events, turned_by}
+use Rattle.gx_engine.specs.Moves.{Moves, MovesOn, MovesSo, calling}
 use Rattle.gx_engine.specs.Refusals.{CanBeHelped, IsHelp}
 use Rattle.gx_engine.specs.States.{Parts, runs}
-use Rattle.gx_engine.specs.Writing.{IsDelayed, WriteComes, write_events}
-use Rattle.gx_engine.proofs.Looking.{answered_again, answers, as_it_stays, at_work, goes_on, held, looks_at, may_have_found, phase_again, put_kept, slot_now}
+use Rattle.gx_engine.specs.Writing.{AreWriting, IsDelayed, OnlyReads, WriteComes, brought, write_events}
+use Rattle.gx_engine.proofs.Looking.{answered_again, answers, as_it_stays, at_work, goes_on, held, looks_at, may_have_found, moves_on, phase_again, put_kept, slot_now}
 use Rattle.gx_engine.proofs.Reading.{its_phase, read_at_hand, settled, stays, step_here, look_wants, was_kept}
 use Rattle.gx_engine.proofs.Serving.{same_device}
+use Rattle.gx_engine.proofs.Taking.{reads_of, worked_so}
 
 -- the events of what any call's look may come to
-memory_told : {B : Type 0} (s : ℕ) (call : Call B) → write_events s call (Replied (reply.Refused refusal.Memory)) ≡ Closes s call refusal.Memory ∷ []
+pub memory_told : {B : Type 0} (s : ℕ) (call : Call B) → write_events s call (Replied (reply.Refused refusal.Memory)) ≡ Closes s call refusal.Memory ∷ []
 memory_told s Begin = refl
 memory_told s (Insert e) = refl
 memory_told s (Delete e) = refl
@@ -102,19 +103,13 @@ help_told s (Search query) n = refl
 help_told s Commit n = refl
 help_told s Abort n = refl
 
--- What begins and what stops as any call's look is a write's.
+-- the events of any move may be a write's
+pub are_writing : {B : Type 0} (s : ℕ) (call : Call B) (outcome : Outcome B) → AreWriting s call outcome (write_events s call outcome)
+are_writing s (Delete e) (Replied (reply.Refused refusal.Absent)) = inl refl
+are_writing s call outcome = refl
+
+-- What stops as any call's look is a write's.
 module _ {B D : Type 0} (k : Keys B) (passes : ℕ → Contents → Bool) (d e : Device) (s : ℕ) (call : Call B) (old new : Parts B D) where
-  pub begun_write : (outcome : Outcome B) → BeginComes s call old new outcome → WriteComes k passes d e s call old new outcome
-  begun_write outcome (inl more) =
-      let volume : new.volume ≡ old.volume = ap (λ (x : Parts B D). x.volume) more.1.1 in
-      rw (more.0) (Looks more.1.0, more.1.1 ∙ sym (ap (λ (v : Volume D). calling s call (Looks more.1.0) (record old { volume = v })) volume), ap (λ (v : Volume D). v.most) volume)
-  begun_write outcome (inr closed) =
-      rw (closed.0) (closed.1 ∙ sym (ap (λ (v : Volume D). record old { volume = record old.volume { shelf = v.shelf }; sessions = answered_state s old.sessions }) (ap (λ (x : Parts B D). x.volume) closed.1)))
-
-  pub begun_tells : (outcome : Outcome B) → BeginComes s call old new outcome → write_events s call outcome ≡ look_events s call outcome
-  begun_tells outcome (inl more) = rw (more.0) refl
-  begun_tells outcome (inr closed) = rw (closed.0) (memory_told s call)
-
   -- what helps a look asks for no room in the log
   help_delays : (n : Need) → IsHelp passes d e (runs old.checkpoint) (bringing old.volume) new.volume.shelf n → IsDelayed passes d e old new n
   help_delays n help = inr (0, omega arith, by help.fault refl)
@@ -148,6 +143,30 @@ module _ {B D : Type 0} (k : Keys B) (passes : ℕ → Contents → Bool) (d e :
   stop_write (Replied (reply.Refused why)) comes = stop_refused why comes
   stop_write (Help n) comes = ((help_delays n comes.0, comes.1), help_told s call n)
   stop_write other comes = absurd comes
+
+-- only pages were brought by a look that stops
+stop_reads_refused : {B D : Type 0} (passes : ℕ → Contents → Bool) (d e : Device) (s : ℕ) (old new : Parts B D) (why : Refusal) → StopComes passes d e s old new (Replied (reply.Refused why)) → OnlyReads old new
+stop_reads_refused passes d e s old new refusal.Memory comes = reads_of old new _ comes refl
+stop_reads_refused passes d e s old new refusal.Device comes = reads_of old new _ comes.1 refl
+stop_reads_refused passes d e s old new refusal.Damaged comes = reads_of old new _ comes refl
+stop_reads_refused passes d e s old new why comes = absurd comes
+
+pub stop_reads : {B D : Type 0} (passes : ℕ → Contents → Bool) (d e : Device) (s : ℕ) (old new : Parts B D) (outcome : Outcome B) → StopComes passes d e s old new outcome → OnlyReads old new
+stop_reads passes d e s old new (Replied (reply.Refused why)) comes = stop_reads_refused passes d e s old new why comes
+stop_reads passes d e s old new (Help n) comes = reads_of old new _ comes.1 refl
+stop_reads passes d e s old new other comes = absurd comes
+
+-- an insert whose look ended in the move, and that descends
+pub descends_comes : {B D : Type 0} (k : Keys B) (passes : ℕ → Contents → Bool) (d e : Device) (s : ℕ) (call : Call B) (work : Work B) (old mid new : Parts B D) → mid ≡ calling s call Rests (brought old mid)
+    → new ≡ calling s call work mid → WriteComes k passes d e s call old new More × OnlyReads old new
+descends_comes {B} {D} k passes d e s call work old mid new rest is =
+    let known : new ≡ calling s call work (brought old mid) = worked_so s call work old mid new rest is in
+    ((work, known ∙ sym (ap (λ (x : Parts B D). calling s call work (record old { volume = x.volume })) known), ap (λ (x : Parts B D). x.volume.most) known), reads_of old new _ known refl)
+
+-- the same move, as its events
+pub write_so : {B D : Type 0} (c : Class B) (r : Reading (Entry B) (Page B)) (f : Format B) (passes : ℕ → Contents → Bool) (d e : Device) (s : ℕ) (call : Call B) (old new : Parts B D) (outcome : Outcome B)
+    → Moves c r f passes d e s old new outcome (write_events s call outcome) → MovesSo c r f passes d e s old new outcome (AreWriting s call outcome)
+write_so c r f passes d e s call old new outcome moves bodies i h = (write_events s call outcome, are_writing s call outcome, moves bodies i h)
 
 -- a write that looks, and is at no look, rests
 pub rests_yet : {B : Type 0} (was : Work B) → is_looking was ≡ true → ((look : Look B) → was ≢ Looks look) → was ≡ Rests
@@ -207,7 +226,7 @@ module _ {B : Type 0} (c : Class B) (l : IsLawful c) (e : Entry B) where
 seeks_at : {B : Type 0} (e : Entry B) (call : Call B) → WritesEntry e call → (leaf : ℕ) → CallSeeks call leaf (index.Seeks e leaf)
 seeks_at {B} e call writes leaf = by_write e (λ (y : Call B). CallSeeks y leaf (index.Seeks e leaf)) refl refl call writes
 
-may_find_none : {B : Type 0} (e : Entry B) (call : Call B) → WritesEntry e call → MayHaveFound call []
+pub may_find_none : {B : Type 0} (e : Entry B) (call : Call B) → WritesEntry e call → MayHaveFound call []
 may_find_none {B} e call writes = by_write e (λ (y : Call B). MayHaveFound y []) refl refl call writes
 
 -- A write's look that read a page.
@@ -232,10 +251,10 @@ module _ {B D : Type 0} (c : Class B) (lawful : 4 ≤ c.rules.most → IsLawful 
   now = state w.shelf.disk
 
   abbrev kept_here : IsKept c.keys was.sessions
-  kept_here = was_kept c lawful r f passes state e kept s is call rest at look works w most same_log reads keeps
+  kept_here = was_kept c lawful r f passes state e kept s is call rest at (Looks look) works w most same_log reads keeps
 
   abbrev phase_here : phase_at (s - 1) was.sessions.phases ≡ phase.Open call (Looks look)
-  phase_here = its_phase c lawful r f passes state e kept s is call rest at look works w most same_log reads keeps
+  phase_here = its_phase c lawful r f passes state e kept s is call rest at (Looks look) works w most same_log reads keeps
 
   -- the pair was found in the leaf that was read
   module _ (bodies : List (List (Record (Entry B) (Page B)))) (i : index.State B) (h : Holds c r f passes d was bodies i) (one : Found B) (found : List (Found B)) (has : after.found.items ≡ one ∷ found) where
@@ -250,7 +269,7 @@ module _ {B D : Type 0} (c : Class B) (lawful : 4 ≤ c.rules.most → IsLawful 
 
     step_now : LookStep t (is_of c entry) leads look.stack.items after.stack.items look.found.items after.found.items
     step_now =
-        let kept_now = (stays c lawful r f passes d now was kept_here s is call look phase_here works w most same_log reads keeps bodies i h).keeps in
+        let kept_now = (stays c lawful r f passes d now was kept_here s is call (Looks look) phase_here works w most same_log reads keeps bodies i h).keeps in
         step_here c (lawful h.some) IsKey wants (is_of c entry) leads may pairs bounds
         (λ x b isx isb of covers. consistent x b isx isb (and_second (x.row == entry.row) (c.rules.same x.key entry.key) of) covers)
         t (tree_shown (known_of c) r f passes now w) legal (shows bodies i.log kept_now) (keyed bodies i.log kept_now order)
@@ -294,21 +313,21 @@ module _ {B D : Type 0} (c : Class B) (lawful : 4 ≤ c.rules.most → IsLawful 
         stands_there.0 stands_there.1 stands_there.2
 
   seek_moves : (one : Found B) (found : List (Found B)) → after.found.items ≡ one ∷ found
-      → Moves c r f passes d now s was (calling s call (Seeks one.leaf) (record was { volume = w })) More (Works ∷ [])
+      → MovesOn c r f passes d now s was (calling s call (Seeks one.leaf) (record was { volume = w }))
   seek_moves one found has bodies i h =
       let l = lawful h.some in
       let its = held c l r f passes d was kept_here s is call (Looks look) phase_here bodies i h in
       let slot = slot_now c l r f passes d was kept_here s is call (Looks look) phase_here bodies i h in
       let was_at = looks_at c l r f passes d was kept_here s is call (Looks look) phase_here bodies i h look refl in
-      goes_on c l r f passes d was kept_here s is call (Looks look) phase_here bodies i h now w most same_log
-      (settled c lawful r f passes d now was kept_here s is call look phase_here works w most same_log reads keeps bodies i h)
-      (stays c lawful r f passes d now was kept_here s is call look phase_here works w most same_log reads keeps bodies i h)
+      let its_settled = settled c lawful r f passes d now was kept_here s is call (Looks look) phase_here works w most same_log reads keeps bodies i h in
+      let its_stays = stays c lawful r f passes d now was kept_here s is call (Looks look) phase_here works w most same_log reads keeps bodies i h in
+      moves_on c l r f passes d was kept_here s is call (Looks look) phase_here bodies i h now w most same_log its_settled its_stays
       (Seeks one.leaf) (index.Seeks entry one.leaf) (seeks_at entry call writes one.leaf) (seeks bodies i h one found has)
       (look_seeks_falls c l i h.whole s its.locks (map note_of its.notes) call slot look.stack.items (pairs_found look.found.items) entry one.leaf was_at)
 
   -- the look goes on, or its call seeks
   pub turned_moves : (found : List (Found B)) → after.found.items ≡ found
-      → Moves c r f passes d now s was (calling s call (turned_by found after) (record e { volume = w })) More (Works ∷ [])
+      → MovesOn c r f passes d now s was (calling s call (turned_by found after) (record e { volume = w }))
   turned_moves [] has bodies i h =
       let same = wants_of c (lawful h.some) entry call writes in
       read_at_hand c lawful r f passes state e kept s is call rest at look works w most same_log reads keeps shows IsKey keyed order wants leads may
@@ -316,12 +335,12 @@ module _ {B D : Type 0} (c : Class B) (lawful : 4 ≤ c.rules.most → IsLawful 
       (λ x b isx isb wanted covers. consistent x b isx isb (and_second (x.row == entry.row) (c.rules.same x.key entry.key) (sym (same x) ∙ wanted)) covers)
       after some step (subst (λ (fs : List (Found B)). MayHaveFound call (pairs_found fs)) (sym has) (may_find_none entry call writes)) bodies i h
   turned_moves (one ∷ found) has bodies i h =
-      subst (λ (x : State B (Work B)). Moves c r f passes d now s was (record e { volume = w; sessions = x }) More (Works ∷ []))
+      subst (λ (x : State B (Work B)). MovesOn c r f passes d now s was (record e { volume = w; sessions = x }))
       (phase_again c.keys e kept s is call rest at (Looks look) (phase.Open call (Seeks one.leaf)))
       (seek_moves one found has) bodies i h
 
--- a stack of no items
-none_left : (stack : List Item) → length stack ≡ 0 → stack ≡ []
+-- a list of no items
+pub none_left : {X : Type 0} (stack : List X) → length stack ≡ 0 → stack ≡ []
 none_left [] none = refl
 none_left (x ∷ xs) none = absurd (omega (arith, none))
 

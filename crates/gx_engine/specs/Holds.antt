@@ -65,9 +65,18 @@ MayHaveFound (Search query) found = Unit {0}
 MayHaveFound Commit found = ⊥
 MayHaveFound Abort found = ⊥
 
--- What an open call is at, as the index's laws have it. Of one that has not begun nothing is said.
+-- a call that an ask leaves open, and that has not begun
+abbrev pub MayBegin : {B : Type 0} → Call B → Type 0
+MayBegin Begin = ⊥
+MayBegin (Insert e) = Unit {0}
+MayBegin (Delete e) = Unit {0}
+MayBegin (Search query) = Unit {0}
+MayBegin Commit = Unit {0}
+MayBegin Abort = ⊥
+
+-- What an open call is at, as the index's laws have it. Of one that has not begun nothing is said but that it may.
 abbrev pub CallIsAt : {B : Type 0} → Call B → Work B → index.Work B → Type 0
-CallIsAt call Rests is = Unit {0}
+CallIsAt call Rests is = MayBegin call
 CallIsAt call (Looks look) is = (is ≡ index.Looks look.stack.items (pairs_found look.found.items)) × MayHaveFound call (pairs_found look.found.items)
 CallIsAt call (Descends parent item) is = CallDescends call is (λ e. index.Descends e parent item)
 CallIsAt call (Seeks leaf) is = CallSeeks call leaf is

@@ -12,5 +12,7 @@ pub mod Looking
 pub mod Searching
 pub mod Noted
 pub mod Undoing
+pub mod Seeking
 pub mod Stepping
 pub mod Running
+pub mod Descending

@@ -1,12 +1,12 @@
 -- What a session's moves come to, and what its call has left.
-use Rattle.std.specs.Prelude.{ℕ, ◌<◌, ◌-◌, ◌^◌, Bool, List}
+use Rattle.std.specs.Prelude.{ℕ, ◌≡◌, ◌<◌, ◌-◌, ◌^◌, Bool, List, [], ◌∷◌}
 use Rattle.gx_machine.specs.declared.call.Call.{Call}
 use Rattle.gx_machine.specs.declared.entry.Entry.{Entry}
 use Rattle.gx_disk.specs.Device.{Device}
 use Rattle.gx_page.specs.Contents.{Contents}
 use Rattle.gx_node.specs.Reading.{Format}
 use Rattle.gx_recovery.specs.Records.{Record}
-use Rattle.gx_engine_laws.specs.Events.{Event}
+use Rattle.gx_engine_laws.specs.Events.{Event, Works}
 use Rattle.gx_index_laws.specs.Classes.{Class, Page}
 use Rattle.gx_index_laws.specs.Measures.{work_left}
 use Rattle.gx_index_laws.specs.States as index
@@ -55,3 +55,8 @@ module _ {B : Type 0} (c : Class B) (r : Reading (Entry B) (Page B)) (f : Format
   abbrev pub MovesSo : {D : Type 0} → Device → Device → ℕ → Parts B D → Parts B D → Outcome B → (List (Event B) → Type 0) → Type 0
   MovesSo d e s old new outcome AreSo = (bodies : List (List (Record (Entry B) (Page B)))) (i : index.State B) → Holds c r f passes d old bodies i
       → (events : List (Event B)) × AreSo events × Moved d e s old new outcome i events
+
+  -- whatever index an engine held, a move goes on, and the log's state is as it was
+  abbrev pub MovesOn : {D : Type 0} → Device → Device → ℕ → Parts B D → Parts B D → Type 0
+  MovesOn d e s old new = (bodies : List (List (Record (Entry B) (Page B)))) (i : index.State B) → Holds c r f passes d old bodies i
+      → (moved : Moved d e s old new More i (Works ∷ [])) × (moved.led.index.log ≡ i.log)

@@ -1,6 +1,7 @@
 -- What contracts see of an engine.
-use Rattle.std.specs.Prelude.{ℕ, ◌≡◌, ◌≤◌, nat_le, Bool, true, false, ◌||◌}
+use Rattle.std.specs.Prelude.{ℕ, ◌≡◌, ◌≤◌, nat_le, Bool, true, false, ◌||◌, List, length}
 use Rattle.gx_glog.specs.declared.stage.Turn.TheVariants.{Closed}
+use Rattle.gx_node.specs.declared.items.TheConstants.{MAX_ENTRIES}
 use Rattle.gx_phases.specs.States.{State}
 use Rattle.gx_storage.specs.Flushing.{ReadyToTurn}
 use Rattle.gx_storage.specs.State.{Volume}
@@ -32,9 +33,11 @@ StandsIn Off v = v.log.turn ≡ Closed
 StandsIn Running v = v.log.turn ≡ Closed
 StandsIn Turning v = ReadyToTurn v
 
--- What an engine keeps on any device: its log stands as the checkpoint has it, and the last commit in flight is sealed, and none before
--- one that is durable.
-pub record IsInOrder {B D : Type 0} (e : Parts B D) : Type 0 where
+-- What an engine keeps on any device: its log stands as the checkpoint has it; the last commit in flight is sealed, and none before one
+-- that is durable; a node may have four entries; and there is room for the keys of one that is split.
+pub record IsInOrder {B D : Type 0} (e : Parts B D) (keys : List B) : Type 0 where
   pub stands : StandsIn e.checkpoint e.volume
   pub durable : e.sessions.durable ≤ e.in_flight
   pub sealed : e.in_flight ≤ e.sessions.latest
+  pub some : 4 ≤ e.volume.most
+  pub space : MAX_ENTRIES ≤ length keys

@@ -1,5 +1,5 @@
 -- One event, whichever it is.
-use Rattle.std.specs.Prelude.{ℕ, Bool, List}
+use Rattle.std.specs.Prelude.{ℕ, Bool, true, false, List}
 use Rattle.gx_machine.specs.declared.entry.Entry.{Entry}
 use Rattle.gx_disk.specs.Device.{Device}
 use Rattle.gx_page.specs.Contents.{Contents}
@@ -14,9 +14,20 @@ use Rattle.gx_events.specs.declared.event.Event.{Event}
 use Rattle.gx_events.specs.declared.event.Event.TheVariants.{Ask, Move, LogStep, WritePage, CheckpointStep, Sweep}
 use Rattle.gx_events.specs.declared.outcome.Outcome.{Outcome}
 use Rattle.gx_events.specs.Engines.{AreOf}
+use Rattle.gx_phases.specs.declared.phase.Phase.{Phase}
+use Rattle.gx_phases.specs.declared.phase.Phase.TheVariants as phase
+use Rattle.gx_engine.specs.declared.work.Work.{Work}
 use Rattle.gx_engine.specs.Holds.{Holds, Led}
 use Rattle.gx_engine.specs.Moves.{Lowers}
 use Rattle.gx_engine.specs.States.{Parts}
+
+-- a session has a call that isn't answered
+abbrev pub has_call : {B : Type 0} → Phase B (Work B) → Bool
+has_call phase.Free = false
+has_call phase.Working = false
+has_call (phase.Open call work) = true
+has_call (phase.Undoing restored work) = true
+has_call (phase.Waiting number) = true
 
 module _ {B : Type 0} (c : Class B) (r : Reading (Entry B) (Page B)) (f : Format B) (passes : ℕ → Contents → Bool) where
   -- what a move lowers; of other events nothing is said

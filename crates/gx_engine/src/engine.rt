@@ -1,6 +1,7 @@
 //! The engine.
-ghost use Rattle.std.specs.Prelude.{◌≡◌};
+ghost use Rattle.std.specs.Prelude.{◌≡◌, ◌≤◌, length};
 ghost use Rattle.gx_glog.specs.declared.stage.Turn.TheVariants.{Closed};
+ghost use Rattle.gx_node.specs.declared.items.TheConstants.{MAX_ENTRIES};
 
 use crate::checkpoint::Checkpoint;
 use crate::work::Work;
@@ -24,6 +25,8 @@ pub struct Engine<D: SectorDisk, K: ReadKeys> {
     // the number of the last commit in the batch in flight, or in the one that was gated last
     pub(crate) in_flight: u64,
     pub(crate) checkpoint: Checkpoint,
+    // the keys of a node that is split
+    pub(crate) keys: Vec<K::Key>,
     // what looks and answers take memory of
     pub(crate) alloc: Global,
 }
@@ -35,7 +38,7 @@ impl<D: SectorDisk, K: ReadKeys> Model for Engine<D, K> {
 
     ghost view = { λ m. record { volume = m.storage; sessions = m.sessions; in_flight = m.in_flight; checkpoint = m.checkpoint } };
 
-    ghost invariant = { λ m. IsInOrder (record { volume = m.storage; sessions = m.sessions; in_flight = m.in_flight; checkpoint = m.checkpoint }) };
+    ghost invariant = { λ m. IsInOrder (record { volume = m.storage; sessions = m.sessions; in_flight = m.in_flight; checkpoint = m.checkpoint }) m.keys.items };
 }
 
 impl<D: SectorDisk, K: ReadKeys> Engine<D, K> {
@@ -45,13 +48,16 @@ impl<D: SectorDisk, K: ReadKeys> Engine<D, K> {
     ghost use Rattle.gx_storage.specs.Flushing.{IsLeastWritable};
 
     /// An engine over pages with their log, of which no batch is in flight and no turn is under way, and over sessions. No checkpoint
-    /// runs. Its looks and answers take memory of `alloc`.
+    /// runs. A node that is split has its keys written over `keys`; looks and answers take memory of `alloc`.
     pub fn new(
         storage: Storage<D, K>,
         sessions: Sessions<K::Key, Work<K::Key>>,
+        keys: Vec<K::Key>,
         alloc: Global,
     ) -> Self
         requires still { storage.log.turn ≡ Closed }
+        requires most { 4 ≤ storage.most }
+        requires space { MAX_ENTRIES ≤ length keys.items }
         ensures { result ≡ record { volume = storage; sessions = sessions; in_flight = sessions.durable; checkpoint = Checkpoint.Off } }
     {
         sessions.has_failed();
@@ -61,6 +67,7 @@ impl<D: SectorDisk, K: ReadKeys> Engine<D, K> {
             sessions,
             in_flight,
             checkpoint: Checkpoint::Off,
+            keys,
             alloc,
         }
     }
@@ -102,6 +109,7 @@ impl<D: SectorDisk, K: ReadKeys> Engine<D, K> {
             sessions: _,
             in_flight: _,
             checkpoint: _,
+            keys: _,
             alloc: _,
         } = self;
         storage.into_disk()

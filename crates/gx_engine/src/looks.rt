@@ -14,9 +14,9 @@ ghost use Rattle.gx_tree.specs.Wants.{wants};
 ghost use Rattle.gx_phases.specs.declared.phase.Phase.TheVariants.{Open};
 ghost use Rattle.gx_phases.specs.Moves.{is_open};
 ghost use Rattle.gx_phases.specs.States.{phase_at};
-ghost use Rattle.gx_engine.specs.declared.work.Work.TheVariants.{Looks, Rests};
+ghost use Rattle.gx_engine.specs.declared.work.Work.TheVariants.{Rests};
 ghost use Rattle.gx_engine.specs.Holds.{MayHaveFound};
-ghost use Rattle.gx_engine.specs.Looking.{BeginComes, StopComes, look_events};
+ghost use Rattle.gx_engine.specs.Looking.{IsFirst, IsFirstUnless, StopComes, look_events, work_before};
 ghost use Rattle.gx_engine.specs.Moves.{Moves, calling};
 ghost use Rattle.gx_engine.specs.Writing.{brought};
 
@@ -26,47 +26,45 @@ use crate::work::Work;
 use gx_class::Probing;
 use gx_disk::SectorDisk;
 use gx_events::Outcome;
-use gx_geom::Refusal;
+use gx_geom::{Refusal, Shape};
 use gx_readings::ReadKeys;
 use gx_storage::laws::a_volume_shows_the_logs_tree;
 use gx_tree::{Item, Look, StepFault, Wanted};
+use std::alloc::AllocError;
+
+/// What a call is at where its look was refused a page: the look, or nothing where that hadn't begun.
+fn held_work<B: Shape>(begun: bool, look: Look<B>) -> Work<B>
+    ensures { result ≡ work_before begun look }
+{
+    if begun {
+        Work::Looks(look)
+    } else {
+        Work::Rests
+    }
+}
 
 impl<D: SectorDisk, K: ReadKeys + Probing> Engine<D, K> {
-    // A call's look begins at the root. The call is closed where memory is refused.
-    pub(crate) fn begin_look(&mut self, session: u8) -> Outcome<K::Key>
-        requires session { is_session session ≡ true }
-        requires open { is_open (phase_at (session - 1) self.old.sessions.phases) ≡ true }
-        requires works { self.old.sessions.failed ≡ false }
-        ensures comes { (call : Call K.Key) → phase_at (session - 1) self.old.sessions.phases ≡ Open call Rests → BeginComes session call self.old self.new result }
-        ensures moves { (call : Call K.Key) → phase_at (session - 1) self.old.sessions.phases ≡ Open call Rests → MayHaveFound call [] → (l : Limits)
-            → Moves (class_of K.Key.Shape K.is_proper l) (reading_of K.said (format_of K.KeyClass)) (format_of K.KeyClass) (is_node (format_of K.KeyClass))
-            (D.state self.old.volume.shelf.disk) (D.state self.new.volume.shelf.disk) session self.old self.new result (look_events session call result) }
+    // The look that a call begins with, at the root.
+    pub(crate) fn first_look(&self) -> Result<Look<K::Key>, AllocError>
+        ensures { IfOk result (IsFirst self.now) }
     {
-        a_class_is_lawful::<K>();
-        self.sessions.has_failed();
-        self.storage.in_order();
-        self.storage.most();
-        match Look::new(self.alloc, Item::new(1, self.storage.counter())) {
-            Ok(look) => {
-                self.sessions.replace_work(session, Work::Looks(look));
-                Outcome::More
-            }
-            Err(_) => self.close(session, Refusal::Memory),
-        }
+        Look::new(self.alloc, Item::new(1, self.storage.counter()))
     }
 
-    // A look reads its next page. `Err` is what came of it where that was refused: then the call has the look as it was, or is closed,
-    // or the engine has failed.
+    // A look reads its next page; one that hasn't begun reads the root. `Err` is what came of it where that was refused: then the call
+    // is at what it was, or is closed, or the engine has failed.
     pub(crate) fn read_look(
         &mut self,
         session: u8,
         wanted: &Wanted<K>,
         look: Look<K::Key>,
+        begun: bool,
     ) -> Result<Look<K::Key>, Outcome<K::Key>>
         requires session { is_session session ≡ true }
         requires open { is_open (phase_at (session - 1) self.old.sessions.phases) ≡ true }
         requires works { self.old.sessions.failed ≡ false }
         requires more { 0 < length look.stack.items }
+        requires first { IsFirstUnless begun self.old look }
         ensures unlogged { OnOk result (IsUnlogged (known_at K.Key.Shape K.is_proper) (reading_of K.said (format_of K.KeyClass)) (format_of K.KeyClass) (is_node (format_of K.KeyClass))
             (bringing self.old.volume) (D.state self.old.volume.shelf.disk) (D.state self.new.volume.shelf.disk) self.old.volume self.new.volume) }
         ensures rest { OnOk result (self.new ≡ brought self.old self.new) }
@@ -74,25 +72,27 @@ impl<D: SectorDisk, K: ReadKeys + Probing> Engine<D, K> {
             (wants K.passes wanted.now.keys wanted.now.row) (K.passes wanted.now.bounds) look.stack.items after.stack.items look.found.items after.found.items) }
         ensures stops { IfErr result (λ outcome. (call : Call K.Key) → phase_at (session - 1) self.old.sessions.phases ≡ Open call Rests
             → StopComes (is_node (format_of K.KeyClass)) (D.state self.old.volume.shelf.disk) (D.state self.new.volume.shelf.disk) session
-            (calling session call (Looks look) self.old) self.new outcome) }
-        ensures moves { IfErr result (λ outcome. (call : Call K.Key) → phase_at (session - 1) self.old.sessions.phases ≡ Open call Rests → (l : Limits)
+            (calling session call (work_before begun look) self.old) self.new outcome) }
+        ensures moves { IfErr result (λ outcome. (call : Call K.Key) → phase_at (session - 1) self.old.sessions.phases ≡ Open call Rests → MayHaveFound call [] → (l : Limits)
             → Moves (class_of K.Key.Shape K.is_proper l) (reading_of K.said (format_of K.KeyClass)) (format_of K.KeyClass) (is_node (format_of K.KeyClass))
-            (D.state self.old.volume.shelf.disk) (D.state self.new.volume.shelf.disk) session (calling session call (Looks look) self.old) self.new outcome
+            (D.state self.old.volume.shelf.disk) (D.state self.new.volume.shelf.disk) session (calling session call (work_before begun look) self.old) self.new outcome
             (look_events session call outcome)) }
     {
         a_class_is_lawful::<K>();
         self.sessions.has_failed();
+        self.storage.in_order();
+        self.storage.most();
         a_volume_shows_the_logs_tree::<D, K>();
         let mut look = look;
         match self.storage.look_step(wanted, &mut look) {
             Ok(()) => Ok(look),
             Err(StepFault::Memory) => Err(self.close(session, Refusal::Memory)),
             Err(StepFault::Pages(fault)) => {
-                self.sessions.replace_work(session, Work::Looks(look));
+                self.sessions.replace_work(session, held_work(begun, look));
                 Err(self.refuse(fault))
             }
             Err(StepFault::Damaged | StepFault::PagesFull) => {
-                self.sessions.replace_work(session, Work::Looks(look));
+                self.sessions.replace_work(session, held_work(begun, look));
                 Err(self.break_off(Refusal::Damaged))
             }
         }

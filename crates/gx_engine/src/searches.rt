@@ -1,5 +1,5 @@
 //! A search's moves.
-ghost use Rattle.std.specs.Prelude.{◌≡◌, ◌-◌, ◌<◌, true, false, map, length, IfOk};
+ghost use Rattle.std.specs.Prelude.{◌≡◌, ◌-◌, ◌<◌, true, false, map, length, IfErr, IfOk, OnOk};
 ghost use Rattle.gx_machine.specs.declared.call.Call.TheVariants.{Search};
 ghost use Rattle.gx_machine.specs.Keys.{keys_of};
 ghost use Rattle.gx_machine.specs.Machine.{is_session};
@@ -13,8 +13,10 @@ ghost use Rattle.gx_phases.specs.declared.phase.Phase.TheVariants.{Open};
 ghost use Rattle.gx_phases.specs.States.{phase_at};
 ghost use Rattle.gx_engine.specs.declared.work.Work as declared;
 ghost use Rattle.gx_engine.specs.declared.work.Work.TheVariants.{Looks, Rests};
-ghost use Rattle.gx_engine.specs.Moves.{Moves, calling};
-ghost use Rattle.gx_engine.specs.Searching.{SearchComes, search_events};
+ghost use Rattle.gx_engine.specs.Looking.{IsFirstUnless, Reaches, work_before};
+ghost use Rattle.gx_engine.specs.Moves.{Moves, MovesOn, MovesSo, calling};
+ghost use Rattle.gx_engine.specs.Searching.{AreSearching, FindComes, SearchComes, search_events};
+ghost use Rattle.gx_engine.specs.Writing.{OnlyReads, brought};
 
 use crate::Engine;
 use crate::laws::a_class_is_lawful;
@@ -50,8 +52,7 @@ where
         requires phase { phase_at (session - 1) self.old.sessions.phases ≡ Open (Search query) Rests }
         requires works { self.old.sessions.failed ≡ false }
         requires done { length look.stack.items ≡ 0 }
-        ensures comes { SearchComes (is_node (format_of K.KeyClass)) (D.state self.old.volume.shelf.disk) (D.state self.new.volume.shelf.disk) session query
-            (calling session (Search query) (Looks look) self.old) self.new result }
+        ensures comes { FindComes session self.old self.new result }
         ensures moves { (l : Limits) → Moves (class_of K.Key.Shape K.is_proper l) (reading_of K.said (format_of K.KeyClass)) (format_of K.KeyClass) (is_node (format_of K.KeyClass))
             (D.state self.old.volume.shelf.disk) (D.state self.new.volume.shelf.disk) session (calling session (Search query) (Looks look) self.old) self.new result
             (search_events session query result) }
@@ -67,38 +68,92 @@ where
         }
     }
 
-    // A search's look reads its next page, and goes on.
-    fn read_on(&mut self, session: u8, query: Query<K::Key>, look: Look<K::Key>) -> Outcome<K::Key>
+    // A search's look reads its next page; one that hasn't begun reads the root. `Ok` gives the look where nothing is left to read, and
+    // `Err` is what else came of it.
+    fn read_on(
+        &mut self,
+        session: u8,
+        query: &Query<K::Key>,
+        look: Look<K::Key>,
+        begun: bool,
+    ) -> Result<Look<K::Key>, Outcome<K::Key>>
         requires session { is_session session ≡ true }
-        requires phase { phase_at (session - 1) self.old.sessions.phases ≡ Open (Search query) Rests }
+        requires phase { phase_at (session - 1) self.old.sessions.phases ≡ Open (Search query.now) Rests }
         requires works { self.old.sessions.failed ≡ false }
         requires more { 0 < length look.stack.items }
-        ensures comes { SearchComes (is_node (format_of K.KeyClass)) (D.state self.old.volume.shelf.disk) (D.state self.new.volume.shelf.disk) session query
-            (calling session (Search query) (Looks look) self.old) self.new result }
-        ensures moves { (l : Limits) → Moves (class_of K.Key.Shape K.is_proper l) (reading_of K.said (format_of K.KeyClass)) (format_of K.KeyClass) (is_node (format_of K.KeyClass))
-            (D.state self.old.volume.shelf.disk) (D.state self.new.volume.shelf.disk) session (calling session (Search query) (Looks look) self.old) self.new result
-            (search_events session query result) }
+        requires first { IsFirstUnless begun self.old look }
+        ensures done { IfOk result (λ after. length after.stack.items ≡ 0) }
+        ensures rest { OnOk result (self.new ≡ brought self.old self.new) }
+        ensures goes_on { IfOk result (λ after. (l : Limits) → MovesOn (class_of K.Key.Shape K.is_proper l) (reading_of K.said (format_of K.KeyClass)) (format_of K.KeyClass) (is_node (format_of K.KeyClass))
+            (D.state self.old.volume.shelf.disk) (D.state self.new.volume.shelf.disk) session (calling session (Search query.now) (work_before begun look) self.old)
+            (calling session (Search query.now) (Looks after) self.new)) }
+        ensures comes { IfErr result (SearchComes (is_node (format_of K.KeyClass)) (D.state self.old.volume.shelf.disk) (D.state self.new.volume.shelf.disk) session query.now
+            (calling session (Search query.now) (work_before begun look) self.old) self.new) }
+        ensures moves { IfErr result (λ outcome. (l : Limits) → Moves (class_of K.Key.Shape K.is_proper l) (reading_of K.said (format_of K.KeyClass)) (format_of K.KeyClass) (is_node (format_of K.KeyClass))
+            (D.state self.old.volume.shelf.disk) (D.state self.new.volume.shelf.disk) session (calling session (Search query.now) (work_before begun look) self.old) self.new outcome
+            (search_events session query.now outcome)) }
     {
         a_class_is_lawful::<K>();
         a_volume_shows_the_logs_tree::<D, K>();
         a_volume_shows_keys::<D, K>();
         self.sessions.has_failed();
-        let wanted = Wanted::<K>::matching(&query);
-        let read = self.read_look(session, &wanted, look);
+        self.storage.most();
+        let wanted = Wanted::<K>::matching(query);
+        let read = self.read_look(session, &wanted, look, begun);
         self.storage.in_order();
         match read {
-            Ok(look) => {
+            Ok(look) => if look.is_done() {
+                Ok(look)
+            } else {
                 self.sessions.replace_work(session, Work::Looks(look));
-                Outcome::More
-            }
-            Err(outcome) => outcome,
+                Err(Outcome::More)
+            },
+            Err(outcome) => Err(outcome),
         }
     }
 
-    /// A move of a session's search, which is open. The first one begins a look from the root; each further one reads a page, and where
-    /// none is left to read it answers: `Replied(Found)` with the live pairs that match and stood while it looked, in order. Until
-    /// then `More`, and each such move leaves less to do. It makes no write and no sync of the device, and takes memory for what it
-    /// stacks and finds.
+    // A search's look begins at the root, or goes on, and reads a page. `Ok` gives the look where nothing is left to read, and `Err` is
+    // what else came of it.
+    fn search_look(
+        &mut self,
+        session: u8,
+        query: &Query<K::Key>,
+    ) -> Result<Look<K::Key>, Outcome<K::Key>>
+        requires session { is_session session ≡ true }
+        requires searches { (work : declared.Work K.Key) × (phase_at (session - 1) self.old.sessions.phases ≡ Open (Search query.now) work) }
+        requires works { self.old.sessions.failed ≡ false }
+        ensures done { IfOk result (λ look. length look.stack.items ≡ 0) }
+        ensures phase { OnOk result (phase_at (session - 1) self.new.sessions.phases ≡ Open (Search query.now) Rests) }
+        ensures rest { OnOk result (self.new ≡ calling session (Search query.now) Rests (brought self.old self.new)) }
+        ensures reaches { IfOk result (λ look. (l : Limits) → Reaches (class_of K.Key.Shape K.is_proper l) (reading_of K.said (format_of K.KeyClass)) (format_of K.KeyClass) (is_node (format_of K.KeyClass))
+            D.state session self.old (calling session (Search query.now) (Looks look) self.new)) }
+        ensures comes { IfErr result (SearchComes (is_node (format_of K.KeyClass)) (D.state self.old.volume.shelf.disk) (D.state self.new.volume.shelf.disk) session query.now self.old self.new) }
+        ensures moves { IfErr result (λ outcome. (l : Limits) → Moves (class_of K.Key.Shape K.is_proper l) (reading_of K.said (format_of K.KeyClass)) (format_of K.KeyClass) (is_node (format_of K.KeyClass))
+            (D.state self.old.volume.shelf.disk) (D.state self.new.volume.shelf.disk) session self.old self.new outcome (search_events session query.now outcome)) }
+    {
+        a_class_is_lawful::<K>();
+        self.sessions.has_failed();
+        match self.sessions.replace_work(session, Work::Rests) {
+            Work::Looks(look) => if look.is_done() {
+                Ok(look)
+            } else {
+                self.read_on(session, query, look, true)
+            },
+            Work::Rests => match self.first_look() {
+                Ok(look) => self.read_on(session, query, look, false),
+                Err(_) => Err(self.close(session, Refusal::Memory)),
+            },
+            // a search descends and seeks in no index
+            other => {
+                self.sessions.replace_work(session, other);
+                Err(self.break_off(Refusal::Damaged))
+            }
+        }
+    }
+
+    /// A move of a session's search, which is open. Each reads one page, the first one the root. The move that reads the last page
+    /// answers: `Replied(Found)` with the live pairs that match and stood while it looked, in order. Until then `More`, and each such
+    /// move leaves less to do. It makes no write and no sync of the device, and takes memory for what it stacks and finds.
     ///
     /// `Help` where a page couldn't be brought, with what has to happen first; the search is then at what it was. Refused memory closes
     /// the call: `Replied(Refused(Memory))`. Where the device failed, or a page didn't read, the engine has failed, and the reply is
@@ -108,19 +163,14 @@ where
         requires searches { (work : declared.Work K.Key) × (phase_at (session - 1) self.old.sessions.phases ≡ Open (Search query) work) }
         requires works { self.old.sessions.failed ≡ false }
         ensures comes { SearchComes (is_node (format_of K.KeyClass)) (D.state self.old.volume.shelf.disk) (D.state self.new.volume.shelf.disk) session query self.old self.new result }
-        ensures moves { (l : Limits) → Moves (class_of K.Key.Shape K.is_proper l) (reading_of K.said (format_of K.KeyClass)) (format_of K.KeyClass) (is_node (format_of K.KeyClass))
-            (D.state self.old.volume.shelf.disk) (D.state self.new.volume.shelf.disk) session self.old self.new result (search_events session query result) }
+        ensures reads { OnlyReads self.old self.new }
+        ensures moves { (l : Limits) → MovesSo (class_of K.Key.Shape K.is_proper l) (reading_of K.said (format_of K.KeyClass)) (format_of K.KeyClass) (is_node (format_of K.KeyClass))
+            (D.state self.old.volume.shelf.disk) (D.state self.new.volume.shelf.disk) session self.old self.new result (AreSearching session query result) }
     {
         a_class_is_lawful::<K>();
-        self.sessions.has_failed();
-        match self.sessions.replace_work(session, Work::Rests) {
-            Work::Looks(look) => if look.is_done() {
-                self.find(session, query, look)
-            } else {
-                self.read_on(session, query, look)
-            },
-            // a search descends and seeks in no index
-            Work::Rests | Work::Descends(_, _) | Work::Seeks(_) => self.begin_look(session),
+        match self.search_look(session, &query) {
+            Ok(look) => self.find(session, query, look),
+            Err(outcome) => outcome,
         }
     }
 }

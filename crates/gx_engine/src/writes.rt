@@ -1,3 +1,97 @@
 //! An insert's and a delete's moves.
+ghost use Rattle.std.specs.Prelude.{◌≡◌, ◌-◌, true, false};
+ghost use Rattle.gx_machine.specs.declared.call.Call.TheVariants.{Delete, Insert};
+ghost use Rattle.gx_machine.specs.Keys.{keys_of};
+ghost use Rattle.gx_machine.specs.Machine.{is_session};
+ghost use Rattle.gx_node.specs.Reading.{format_of, is_node};
+ghost use Rattle.gx_recovery.specs.Known.{Limits};
+ghost use Rattle.gx_readings.specs.Classes.{class_of, reading_of};
+ghost use Rattle.gx_phases.specs.declared.phase.Phase.TheVariants.{Open};
+ghost use Rattle.gx_phases.specs.States.{phase_at};
+ghost use Rattle.gx_engine.specs.declared.work.Work as declared;
+ghost use Rattle.gx_engine.specs.Moves.{MovesSo};
+ghost use Rattle.gx_engine.specs.Writing.{AreWriting, WriteComes};
 
+mod descents;
 mod looks;
+mod seeks;
+
+use crate::Engine;
+use crate::work::Work;
+use gx_class::Probing;
+use gx_disk::SectorDisk;
+use gx_events::Outcome;
+use gx_geom::{Refusal, Shape};
+use gx_machine::Entry;
+use gx_phases::Phase;
+use gx_readings::ReadKeys;
+
+impl<D: SectorDisk, K: ReadKeys + Probing> Engine<D, K>
+where
+    K::Probe: Drop,
+{
+    /// A move of a session's insert, which is open. It looks for its pair, a page a move; where that stands, it seeks it and clears its
+    /// mark; and where it stands nowhere, it descends and adds it to a leaf, with as many moves as bounds are widened, full leaves swept
+    /// and full nodes split on the way. Until it is answered `More`, and each such move leaves less to do. `Replied(Inserted)` once the
+    /// pair is there, noted, and its record is logged; `Replied(Refused(Present))` where it is live already. It makes no write and no
+    /// sync of the device.
+    ///
+    /// `Help(Checkpoint)` where a move would log while a checkpoint runs or 24 places of the extent are taken; `Help` where its record finds
+    /// no room in the batch that fills, or a page no frame, with what has to happen first. The insert is then at what it was. Refused
+    /// memory, in its look alone, closes the call with `Memory`, and want of pages with `PagesFull`. Where the device failed, or a page
+    /// didn't read, the engine has failed, and the reply is `Device` or `Damaged`.
+    pub fn insert(&mut self, session: u8, entry: Entry<K::Key>) -> Outcome<K::Key>
+        requires session { is_session session ≡ true }
+        requires inserts { (work : declared.Work K.Key) × (phase_at (session - 1) self.old.sessions.phases ≡ Open (Insert entry) work) }
+        requires works { self.old.sessions.failed ≡ false }
+        ensures comes { WriteComes (keys_of K.Key.Shape) (is_node (format_of K.KeyClass)) (D.state self.old.volume.shelf.disk) (D.state self.new.volume.shelf.disk) session
+            (Insert entry) self.old self.new result }
+        ensures moves { (l : Limits) → MovesSo (class_of K.Key.Shape K.is_proper l) (reading_of K.said (format_of K.KeyClass)) (format_of K.KeyClass) (is_node (format_of K.KeyClass))
+            (D.state self.old.volume.shelf.disk) (D.state self.new.volume.shelf.disk) session self.old self.new result (AreWriting session (Insert entry) result) }
+    {
+        self.sessions.has_failed();
+        match self.sessions.phase(session) {
+            Phase::Open(_, Work::Descends(parent, item)) => {
+                let parent = *parent;
+                let item = *item;
+                self.descend(session, entry, parent, item)
+            }
+            Phase::Open(_, Work::Seeks(leaf)) => {
+                let leaf = *leaf;
+                self.insert_at(session, entry, leaf)
+            }
+            Phase::Open(_, Work::Rests | Work::Looks(_))
+            | Phase::Free
+            | Phase::Working
+            | Phase::Undoing(..)
+            | Phase::Waiting(_) => self.insert_look(session, entry),
+        }
+    }
+
+    /// A move of a session's delete, which is open: it looks for its pair, seeks it where it stands, and marks it: `Replied(Deleted)`. Where
+    /// it stands nowhere, or is marked, the reply is `Refused(Absent)`. All else is as for an insert; a delete takes no pages.
+    pub fn delete(&mut self, session: u8, entry: Entry<K::Key>) -> Outcome<K::Key>
+        requires session { is_session session ≡ true }
+        requires deletes { (work : declared.Work K.Key) × (phase_at (session - 1) self.old.sessions.phases ≡ Open (Delete entry) work) }
+        requires works { self.old.sessions.failed ≡ false }
+        ensures comes { WriteComes (keys_of K.Key.Shape) (is_node (format_of K.KeyClass)) (D.state self.old.volume.shelf.disk) (D.state self.new.volume.shelf.disk) session
+            (Delete entry) self.old self.new result }
+        ensures moves { (l : Limits) → MovesSo (class_of K.Key.Shape K.is_proper l) (reading_of K.said (format_of K.KeyClass)) (format_of K.KeyClass) (is_node (format_of K.KeyClass))
+            (D.state self.old.volume.shelf.disk) (D.state self.new.volume.shelf.disk) session self.old self.new result (AreWriting session (Delete entry) result) }
+    {
+        self.sessions.has_failed();
+        match self.sessions.phase(session) {
+            Phase::Open(_, Work::Seeks(leaf)) => {
+                let leaf = *leaf;
+                self.delete_at(session, entry, leaf)
+            }
+            // a delete descends in no index
+            Phase::Open(_, Work::Descends(..)) => self.break_off(Refusal::Damaged),
+            Phase::Open(_, Work::Rests | Work::Looks(_))
+            | Phase::Free
+            | Phase::Working
+            | Phase::Undoing(..)
+            | Phase::Waiting(_) => self.delete_look(session, entry),
+        }
+    }
+}

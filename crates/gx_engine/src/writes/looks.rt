@@ -1,5 +1,5 @@
 //! An insert or a delete looks for its pair.
-ghost use Rattle.std.specs.Prelude.{◌≡◌, ◌-◌, ◌<◌, true, false, length};
+ghost use Rattle.std.specs.Prelude.{◌≡◌, ◌-◌, ◌<◌, [], ◌∷◌, true, false, length, IfErr, IfOk, OnErr, OnOk};
 ghost use Rattle.gx_machine.specs.declared.call.Call.{Call};
 ghost use Rattle.gx_machine.specs.declared.entry.Entry.{Entry};
 ghost use Rattle.gx_machine.specs.declared.call.Call.TheVariants.{Delete, Insert};
@@ -7,15 +7,16 @@ ghost use Rattle.gx_machine.specs.Keys.{keys_of};
 ghost use Rattle.gx_machine.specs.Machine.{is_session};
 ghost use Rattle.gx_node.specs.Reading.{format_of, is_node};
 ghost use Rattle.gx_recovery.specs.Known.{Limits};
+ghost use Rattle.gx_engine_laws.specs.Events.{FindsAbsent, Works};
 ghost use Rattle.gx_readings.specs.Classes.{class_of, reading_of};
 ghost use Rattle.gx_phases.specs.declared.phase.Phase.TheVariants.{Open};
-ghost use Rattle.gx_phases.specs.Moves.{WritesEntry, is_open};
+ghost use Rattle.gx_phases.specs.Moves.{WritesEntry, answered_state, is_open};
 ghost use Rattle.gx_phases.specs.States.{phase_at};
 ghost use Rattle.gx_engine.specs.declared.work.Work as declared;
 ghost use Rattle.gx_engine.specs.declared.work.Work.TheVariants.{Looks, Rests};
-ghost use Rattle.gx_engine.specs.Looking.{is_looking, turned_by};
-ghost use Rattle.gx_engine.specs.Moves.{Moves, calling};
-ghost use Rattle.gx_engine.specs.Writing.{WriteComes, write_events};
+ghost use Rattle.gx_engine.specs.Looking.{IsFirstUnless, LooksFor, Reaches, is_looking, turned_by, work_before};
+ghost use Rattle.gx_engine.specs.Moves.{Moves, MovesOn, MovesSo, calling};
+ghost use Rattle.gx_engine.specs.Writing.{AreWriting, OnlyReads, WriteComes, brought, write_events};
 
 use crate::Engine;
 use crate::laws::a_class_is_lawful;
@@ -24,7 +25,7 @@ use gx_class::Probing;
 use gx_disk::SectorDisk;
 use gx_events::Outcome;
 use gx_geom::{Refusal, Shape};
-use gx_machine::Entry;
+use gx_machine::{Entry, Reply};
 use gx_readings::ReadKeys;
 use gx_storage::laws::{a_volume_shows_keys, a_volume_shows_the_logs_tree};
 use gx_tree::{Item, Look, Wanted};
@@ -43,33 +44,88 @@ impl<D: SectorDisk, K: ReadKeys + Probing> Engine<D, K>
 where
     K::Probe: Drop,
 {
-    // A write's look reads its next page. It goes on, or where it has found its pair seeks that.
-    fn look_on(&mut self, session: u8, entry: &Entry<K::Key>, look: Look<K::Key>) -> Outcome<K::Key>
+    // A write's look reads its next page; one that hasn't begun reads the root. It goes on, or where it has found its pair seeks that.
+    // `Ok` gives the look where nothing is left to read and its pair is nowhere, and `Err` is what else came of it.
+    fn look_on(
+        &mut self,
+        session: u8,
+        entry: &Entry<K::Key>,
+        look: Look<K::Key>,
+        begun: bool,
+    ) -> Result<Look<K::Key>, Outcome<K::Key>>
         requires session { is_session session ≡ true }
         requires open { is_open (phase_at (session - 1) self.old.sessions.phases) ≡ true }
         requires works { self.old.sessions.failed ≡ false }
         requires more { 0 < length look.stack.items }
-        ensures comes { (call : Call K.Key) → WritesEntry entry.now call → phase_at (session - 1) self.old.sessions.phases ≡ Open call Rests
+        requires first { IsFirstUnless begun self.old look }
+        ensures done { IfOk result (λ after. length after.stack.items ≡ 0) }
+        ensures rest { OnOk result (self.new ≡ brought self.old self.new) }
+        ensures goes_on { IfOk result (λ after. (call : Call K.Key) → WritesEntry entry.now call → phase_at (session - 1) self.old.sessions.phases ≡ Open call Rests → (l : Limits)
+            → MovesOn (class_of K.Key.Shape K.is_proper l) (reading_of K.said (format_of K.KeyClass)) (format_of K.KeyClass) (is_node (format_of K.KeyClass))
+            (D.state self.old.volume.shelf.disk) (D.state self.new.volume.shelf.disk) session (calling session call (work_before begun look) self.old) (calling session call (Looks after) self.new)) }
+        ensures reads { OnErr result ((call : Call K.Key) → phase_at (session - 1) self.old.sessions.phases ≡ Open call Rests → OnlyReads self.old self.new) }
+        ensures comes { IfErr result (λ outcome. (call : Call K.Key) → WritesEntry entry.now call → phase_at (session - 1) self.old.sessions.phases ≡ Open call Rests
             → WriteComes (keys_of K.Key.Shape) (is_node (format_of K.KeyClass)) (D.state self.old.volume.shelf.disk) (D.state self.new.volume.shelf.disk) session call
-            (calling session call (Looks look) self.old) self.new result }
-        ensures moves { (call : Call K.Key) → WritesEntry entry.now call → phase_at (session - 1) self.old.sessions.phases ≡ Open call Rests → (l : Limits)
+            (calling session call (work_before begun look) self.old) self.new outcome) }
+        ensures moves { IfErr result (λ outcome. (call : Call K.Key) → WritesEntry entry.now call → phase_at (session - 1) self.old.sessions.phases ≡ Open call Rests → (l : Limits)
             → Moves (class_of K.Key.Shape K.is_proper l) (reading_of K.said (format_of K.KeyClass)) (format_of K.KeyClass) (is_node (format_of K.KeyClass))
-            (D.state self.old.volume.shelf.disk) (D.state self.new.volume.shelf.disk) session (calling session call (Looks look) self.old) self.new result
-            (write_events session call result) }
+            (D.state self.old.volume.shelf.disk) (D.state self.new.volume.shelf.disk) session (calling session call (work_before begun look) self.old) self.new outcome
+            (write_events session call outcome)) }
     {
         a_class_is_lawful::<K>();
         a_volume_shows_the_logs_tree::<D, K>();
         a_volume_shows_keys::<D, K>();
         self.sessions.has_failed();
+        self.storage.most();
         let wanted = Wanted::<K>::entry(entry);
-        let read = self.read_look(session, &wanted, look);
+        let read = self.read_look(session, &wanted, look, begun);
         self.storage.in_order();
         match read {
-            Ok(look) => {
+            Ok(look) => if look.found().is_empty() && look.is_done() {
+                Ok(look)
+            } else {
                 self.sessions.replace_work(session, turned(look));
-                Outcome::More
-            }
-            Err(outcome) => outcome,
+                Err(Outcome::More)
+            },
+            Err(outcome) => Err(outcome),
+        }
+    }
+
+    // A write's look begins at the root, or goes on, and reads a page. `Ok` gives the look where nothing is left to read and its pair is
+    // nowhere, and `Err` is what else came of it.
+    fn write_look(
+        &mut self,
+        session: u8,
+        entry: &Entry<K::Key>,
+    ) -> Result<Look<K::Key>, Outcome<K::Key>>
+        requires session { is_session session ≡ true }
+        requires looks { (call : Call K.Key) × (work : declared.Work K.Key) × LooksFor entry.now call work (phase_at (session - 1) self.old.sessions.phases) }
+        requires works { self.old.sessions.failed ≡ false }
+        ensures done { IfOk result (λ look. length look.stack.items ≡ 0) }
+        ensures rest { OnOk result ((call : Call K.Key) (work : declared.Work K.Key) → LooksFor entry.now call work (phase_at (session - 1) self.old.sessions.phases)
+            → (phase_at (session - 1) self.new.sessions.phases ≡ Open call Rests) × (self.new ≡ calling session call Rests (brought self.old self.new))) }
+        ensures reaches { IfOk result (λ look. (call : Call K.Key) (work : declared.Work K.Key) → LooksFor entry.now call work (phase_at (session - 1) self.old.sessions.phases) → (l : Limits)
+            → Reaches (class_of K.Key.Shape K.is_proper l) (reading_of K.said (format_of K.KeyClass)) (format_of K.KeyClass) (is_node (format_of K.KeyClass))
+            D.state session self.old (calling session call (Looks look) self.new)) }
+        ensures reads { OnErr result (OnlyReads self.old self.new) }
+        ensures comes { IfErr result (λ outcome. (call : Call K.Key) (work : declared.Work K.Key) → LooksFor entry.now call work (phase_at (session - 1) self.old.sessions.phases)
+            → WriteComes (keys_of K.Key.Shape) (is_node (format_of K.KeyClass)) (D.state self.old.volume.shelf.disk) (D.state self.new.volume.shelf.disk) session call self.old self.new outcome) }
+        ensures moves { IfErr result (λ outcome. (call : Call K.Key) (work : declared.Work K.Key) → LooksFor entry.now call work (phase_at (session - 1) self.old.sessions.phases) → (l : Limits)
+            → Moves (class_of K.Key.Shape K.is_proper l) (reading_of K.said (format_of K.KeyClass)) (format_of K.KeyClass) (is_node (format_of K.KeyClass))
+            (D.state self.old.volume.shelf.disk) (D.state self.new.volume.shelf.disk) session self.old self.new outcome (write_events session call outcome)) }
+    {
+        a_class_is_lawful::<K>();
+        self.sessions.has_failed();
+        match self.sessions.replace_work(session, Work::Rests) {
+            Work::Looks(look) => if look.is_done() {
+                Ok(look)
+            } else {
+                self.look_on(session, entry, look, true)
+            },
+            Work::Rests | Work::Descends(_, _) | Work::Seeks(_) => match self.first_look() {
+                Ok(look) => self.look_on(session, entry, look, false),
+                Err(_) => Err(self.close(session, Refusal::Memory)),
+            },
         }
     }
 
@@ -78,13 +134,12 @@ where
         requires session { is_session session ≡ true }
         requires works { self.old.sessions.failed ≡ false }
         requires done { length look.now.stack.items ≡ 0 }
-        ensures comes { (entry : Entry K.Key) → phase_at (session - 1) self.old.sessions.phases ≡ Open (Insert entry) Rests
-            → WriteComes (keys_of K.Key.Shape) (is_node (format_of K.KeyClass)) (D.state self.old.volume.shelf.disk) (D.state self.new.volume.shelf.disk) session (Insert entry)
-            (calling session (Insert entry) (Looks look.now) self.old) self.new result }
+        ensures outcome { result ≡ Outcome.More }
+        ensures descends { (entry : Entry K.Key) → phase_at (session - 1) self.old.sessions.phases ≡ Open (Insert entry) Rests
+            → (work : declared.Work K.Key) × (self.new ≡ calling session (Insert entry) work self.old) }
         ensures moves { (entry : Entry K.Key) → phase_at (session - 1) self.old.sessions.phases ≡ Open (Insert entry) Rests → (l : Limits)
             → Moves (class_of K.Key.Shape K.is_proper l) (reading_of K.said (format_of K.KeyClass)) (format_of K.KeyClass) (is_node (format_of K.KeyClass))
-            (D.state self.old.volume.shelf.disk) (D.state self.new.volume.shelf.disk) session (calling session (Insert entry) (Looks look.now) self.old) self.new result
-            (write_events session (Insert entry) result) }
+            (D.state self.old.volume.shelf.disk) (D.state self.new.volume.shelf.disk) session (calling session (Insert entry) (Looks look.now) self.old) self.new Outcome.More (Works ∷ []) }
     {
         a_class_is_lawful::<K>();
         self.sessions.has_failed();
@@ -99,23 +154,22 @@ where
         requires open { is_open (phase_at (session - 1) self.old.sessions.phases) ≡ true }
         requires works { self.old.sessions.failed ≡ false }
         requires done { length look.now.stack.items ≡ 0 }
-        ensures comes { (entry : Entry K.Key) → phase_at (session - 1) self.old.sessions.phases ≡ Open (Delete entry) Rests
-            → WriteComes (keys_of K.Key.Shape) (is_node (format_of K.KeyClass)) (D.state self.old.volume.shelf.disk) (D.state self.new.volume.shelf.disk) session (Delete entry)
-            (calling session (Delete entry) (Looks look.now) self.old) self.new result }
+        ensures outcome { result ≡ Outcome.Replied (Reply.Refused Refusal.Absent) }
+        ensures closed { self.new ≡ record self.old { sessions = answered_state session self.old.sessions } }
         ensures moves { (entry : Entry K.Key) → phase_at (session - 1) self.old.sessions.phases ≡ Open (Delete entry) Rests → (l : Limits)
             → Moves (class_of K.Key.Shape K.is_proper l) (reading_of K.said (format_of K.KeyClass)) (format_of K.KeyClass) (is_node (format_of K.KeyClass))
-            (D.state self.old.volume.shelf.disk) (D.state self.new.volume.shelf.disk) session (calling session (Delete entry) (Looks look.now) self.old) self.new result
-            (write_events session (Delete entry) result) }
+            (D.state self.old.volume.shelf.disk) (D.state self.new.volume.shelf.disk) session (calling session (Delete entry) (Looks look.now) self.old) self.new
+            (Outcome.Replied (Reply.Refused Refusal.Absent)) (FindsAbsent session entry ∷ []) }
     {
         a_class_is_lawful::<K>();
         self.sessions.has_failed();
         self.close(session, Refusal::Absent)
     }
 
-    /// A move of a session's insert, which is open, while it looks for its pair. The first one begins a look from the root, and each
-    /// further one reads a page: `More`. Where the page has the pair, live or marked, the insert seeks it from there on; and where no
-    /// page is left to read, it descends from the root. It makes no write and no sync of the device. The look takes memory for what it
-    /// stacks and finds, and what comes after it takes none.
+    /// A move of a session's insert, which is open, while it looks for its pair. Each reads one page, the first one the root: `More`.
+    /// Where the page has the pair, live or marked, the insert seeks it from there on; and where no page is left to read, it descends
+    /// from the root. It makes no write and no sync of the device. The look takes memory for what it stacks and finds, and what comes
+    /// after it takes none.
     ///
     /// `Help` where a page couldn't be brought, with what has to happen first; the insert is then at what it was. Refused memory closes
     /// the call: `Replied(Refused(Memory))`. Where the device failed, or a page didn't read, the engine has failed, and the reply is
@@ -126,17 +180,14 @@ where
         requires works { self.old.sessions.failed ≡ false }
         ensures comes { WriteComes (keys_of K.Key.Shape) (is_node (format_of K.KeyClass)) (D.state self.old.volume.shelf.disk) (D.state self.new.volume.shelf.disk) session
             (Insert entry) self.old self.new result }
-        ensures moves { (l : Limits) → Moves (class_of K.Key.Shape K.is_proper l) (reading_of K.said (format_of K.KeyClass)) (format_of K.KeyClass) (is_node (format_of K.KeyClass))
-            (D.state self.old.volume.shelf.disk) (D.state self.new.volume.shelf.disk) session self.old self.new result (write_events session (Insert entry) result) }
+        ensures reads { OnlyReads self.old self.new }
+        ensures moves { (l : Limits) → MovesSo (class_of K.Key.Shape K.is_proper l) (reading_of K.said (format_of K.KeyClass)) (format_of K.KeyClass) (is_node (format_of K.KeyClass))
+            (D.state self.old.volume.shelf.disk) (D.state self.new.volume.shelf.disk) session self.old self.new result (AreWriting session (Insert entry) result) }
     {
-        self.sessions.has_failed();
-        match self.sessions.replace_work(session, Work::Rests) {
-            Work::Looks(look) => if look.is_done() {
-                self.begin_descent(session, &look)
-            } else {
-                self.look_on(session, &entry, look)
-            },
-            Work::Rests | Work::Descends(_, _) | Work::Seeks(_) => self.begin_look(session),
+        a_class_is_lawful::<K>();
+        match self.write_look(session, &entry) {
+            Ok(look) => self.begin_descent(session, &look),
+            Err(outcome) => outcome,
         }
     }
 
@@ -148,17 +199,14 @@ where
         requires works { self.old.sessions.failed ≡ false }
         ensures comes { WriteComes (keys_of K.Key.Shape) (is_node (format_of K.KeyClass)) (D.state self.old.volume.shelf.disk) (D.state self.new.volume.shelf.disk) session
             (Delete entry) self.old self.new result }
-        ensures moves { (l : Limits) → Moves (class_of K.Key.Shape K.is_proper l) (reading_of K.said (format_of K.KeyClass)) (format_of K.KeyClass) (is_node (format_of K.KeyClass))
-            (D.state self.old.volume.shelf.disk) (D.state self.new.volume.shelf.disk) session self.old self.new result (write_events session (Delete entry) result) }
+        ensures reads { OnlyReads self.old self.new }
+        ensures moves { (l : Limits) → MovesSo (class_of K.Key.Shape K.is_proper l) (reading_of K.said (format_of K.KeyClass)) (format_of K.KeyClass) (is_node (format_of K.KeyClass))
+            (D.state self.old.volume.shelf.disk) (D.state self.new.volume.shelf.disk) session self.old self.new result (AreWriting session (Delete entry) result) }
     {
-        self.sessions.has_failed();
-        match self.sessions.replace_work(session, Work::Rests) {
-            Work::Looks(look) => if look.is_done() {
-                self.find_absent(session, &look)
-            } else {
-                self.look_on(session, &entry, look)
-            },
-            Work::Rests | Work::Descends(_, _) | Work::Seeks(_) => self.begin_look(session),
+        a_class_is_lawful::<K>();
+        match self.write_look(session, &entry) {
+            Ok(look) => self.find_absent(session, &look),
+            Err(outcome) => outcome,
         }
     }
 }

@@ -1,35 +1,24 @@
-use Rattle.std.proofs.Common.{◌∙◌, ap, sym, refl, ℕ, ◌-◌}
+use Rattle.std.proofs.Common.{◌∙◌, ap, refl, ℕ, ◌-◌}
 use Rattle.gx_machine.specs.declared.call.Call.TheVariants.{Insert}
-use Rattle.gx_machine.specs.Keys.{keys}
-use Rattle.gx_phases.specs.declared.phase.Phase.TheVariants.{Open}
-use Rattle.gx_phases.specs.States.{State, phase_at}
-use Rattle.gx_engine.specs.declared.work.Work.{Work}
-use Rattle.gx_engine.specs.declared.work.Work.TheVariants.{Descends, Looks, Rests}
+use Rattle.gx_phases.specs.States.{phase_at}
+use Rattle.gx_engine.specs.declared.work.Work.TheVariants.{Descends, Rests}
 use Rattle.gx_engine.specs.States.{Parts}
-use Rattle.gx_engine.proofs.Looking.{phase_again, replaced}
+use Rattle.gx_engine.proofs.Looking.{replaced}
 use Rattle.gx_engine.proofs.WriteLooks.{descends_moves}
 use Rattle.gx_engine.proofs.engine.Engine.begin_descent.Goals as goal
 
-pub returns-clause-comes : goal.returns-clause-comes
-returns-clause-comes g c entry phase =
+pub returns-clause-descends : goal.returns-clause-descends
+returns-clause-descends g c entry phase =
     let e : Parts g.row.K-Key.Denot g.row.D.Denot =
     record { volume = c.self.inside.storage; sessions = c.self.inside.sessions; in_flight = c.self.inside.in_flight; checkpoint = c.self.inside.checkpoint } in
-    let k = keys g.K.Key.Ord.cmp g.K.Key.Shape.overlap g.K.Key.Shape.inside in
     let at = ap (λ (x : Parts g.row.K-Key.Denot g.row.D.Denot). phase_at (c.args.session - 1) x.sessions.phases) c.self.view_is ∙ phase in
-    let works = ap (λ (x : Parts g.row.K-Key.Denot g.row.D.Denot). x.sessions.failed) c.self.view_is ∙ c.requires.works in
     let work = Descends 0 c.new-root.result in
-    rw (← c.self.view_is, replaced c.args.session (Insert entry) Rests work e.sessions c.replace_work.new.self at c.replace_work.ensures.state) (
-      work,
-      ap (λ (x : State g.row.K-Key.Denot (Work g.row.K-Key.Denot)). record e { sessions = x })
-          (sym (phase_again k e c.has_failed.ensures.kept c.args.session c.requires.session (Insert entry) Rests at (Looks c.args.look.now) (Open (Insert entry) work))),
-      refl,
-    )
+    rw (← c.self.view_is, replaced c.args.session (Insert entry) Rests work e.sessions c.replace_work.new.self at c.replace_work.ensures.state) (work, refl)
 
 pub returns-clause-moves : goal.returns-clause-moves
 returns-clause-moves g c entry phase l =
     let e : Parts g.row.K-Key.Denot g.row.D.Denot =
     record { volume = c.self.inside.storage; sessions = c.self.inside.sessions; in_flight = c.self.inside.in_flight; checkpoint = c.self.inside.checkpoint } in
-    let k = keys g.K.Key.Ord.cmp g.K.Key.Shape.overlap g.K.Key.Shape.inside in
     let at = ap (λ (x : Parts g.row.K-Key.Denot g.row.D.Denot). phase_at (c.args.session - 1) x.sessions.phases) c.self.view_is ∙ phase in
     let works = ap (λ (x : Parts g.row.K-Key.Denot g.row.D.Denot). x.sessions.failed) c.self.view_is ∙ c.requires.works in
     let work = Descends 0 c.new-root.result in

@@ -1,119 +1,65 @@
-use Rattle.std.proofs.Common.{◌∙◌, ap, refl, sym, ◌-◌}
+use Rattle.std.proofs.Common.{◌∙◌, ap, refl, ◌-◌}
+use Rattle.gx_geom.specs.declared.refusal.Refusal.TheVariants.{Absent}
 use Rattle.gx_machine.specs.declared.call.Call.TheVariants.{Delete}
-use Rattle.gx_machine.specs.Keys.{keys}
-use Rattle.gx_node.specs.Reading.{format_of, is_node}
+use Rattle.gx_machine.specs.declared.reply.Reply.TheVariants.{Refused}
+use Rattle.gx_engine_laws.specs.Events.{FindsAbsent}
 use Rattle.gx_phases.specs.declared.phase.Phase.{Phase}
 use Rattle.gx_phases.specs.Moves.{is_open}
 use Rattle.gx_phases.specs.States.{phase_at}
 use Rattle.gx_engine.specs.declared.work.Work.{Work}
+use Rattle.gx_engine.specs.declared.work.Work.TheVariants.{Looks}
+use Rattle.gx_engine.specs.Looking.{LooksFor}
+use Rattle.gx_engine.specs.Moves.{calling}
 use Rattle.gx_engine.specs.States.{Parts}
-use Rattle.gx_engine.specs.Writing.{WriteComes}
-use Rattle.gx_engine.proofs.Looking.{same_events}
-use Rattle.gx_engine.proofs.Taking.{again, begun_comes, moves_again, no_look, phase_now, rested_moves, taken}
-use Rattle.gx_engine.proofs.WriteLooks.{begun_tells, begun_write, rests_yet}
+use Rattle.gx_engine.proofs.Further.{reached_reply}
+use Rattle.gx_engine.proofs.Taking.{answered_so, reads_of}
+use Rattle.gx_engine.proofs.WriteLooks.{write_so}
 use Rattle.gx_engine.proofs.engine.Engine.delete_look.Goals as goal
+
+pub write_look-requires-clause-looks : goal.write_look-requires-clause-looks
+write_look-requires-clause-looks g c = (Delete c.args.entry, c.requires.looks.0, record { writes = refl; at = c.requires.looks.1; looking = c.requires.looks.2 })
+
+pub find_absent-requires-clause-works : goal.find_absent-requires-clause-works
+find_absent-requires-clause-works g c =
+    let looks : LooksFor c.args.entry (Delete c.args.entry) c.requires.looks.0 (phase_at (c.args.session - 1) c.args.self.now.sessions.phases) = record { writes = refl; at = c.requires.looks.1; looking = c.requires.looks.2 } in
+    let rest = c.in-Ok.ensures.rest (Delete c.args.entry) c.requires.looks.0 looks in
+    ap (λ (x : Parts g.row.K-Key.Denot g.row.D.Denot). x.sessions.failed) rest.1 ∙ c.requires.works
 
 pub find_absent-requires-clause-open : goal.find_absent-requires-clause-open
 find_absent-requires-clause-open g c =
-    let e : Parts g.row.K-Key.Denot g.row.D.Denot =
-    record { volume = c.self.inside.storage; sessions = c.self.inside.sessions; in_flight = c.self.inside.in_flight; checkpoint = c.self.inside.checkpoint } in
-    let at = ap (λ (x : Parts g.row.K-Key.Denot g.row.D.Denot). phase_at (c.args.session - 1) x.sessions.phases) c.self.view_is ∙ c.requires.looks.1 in
-    let now = c.replace_work.new.self in
-    let is = c.replace_work.ensures.state in
-    let k = keys g.K.Key.Ord.cmp g.K.Key.Shape.overlap g.K.Key.Shape.inside in
-    let rests = phase_now e c.args.session (Delete c.args.entry) c.requires.looks.0 at now is k c.has_failed.ensures.kept c.requires.session in
-    ap (λ (p : Phase g.row.K-Key.Denot (Work g.row.K-Key.Denot)). is_open p) rests
+    let looks : LooksFor c.args.entry (Delete c.args.entry) c.requires.looks.0 (phase_at (c.args.session - 1) c.args.self.now.sessions.phases) = record { writes = refl; at = c.requires.looks.1; looking = c.requires.looks.2 } in
+    let rest = c.in-Ok.ensures.rest (Delete c.args.entry) c.requires.looks.0 looks in
+    ap (λ (p : Phase g.row.K-Key.Denot (Work g.row.K-Key.Denot)). is_open p) rest.0
 
-pub look_on-requires-clause-open : goal.look_on-requires-clause-open
-look_on-requires-clause-open g c =
-    let e : Parts g.row.K-Key.Denot g.row.D.Denot =
-    record { volume = c.self.inside.storage; sessions = c.self.inside.sessions; in_flight = c.self.inside.in_flight; checkpoint = c.self.inside.checkpoint } in
-    let at = ap (λ (x : Parts g.row.K-Key.Denot g.row.D.Denot). phase_at (c.args.session - 1) x.sessions.phases) c.self.view_is ∙ c.requires.looks.1 in
-    let now = c.replace_work.new.self in
-    let is = c.replace_work.ensures.state in
-    let k = keys g.K.Key.Ord.cmp g.K.Key.Shape.overlap g.K.Key.Shape.inside in
-    let rests = phase_now e c.args.session (Delete c.args.entry) c.requires.looks.0 at now is k c.has_failed.ensures.kept c.requires.session in
-    ap (λ (p : Phase g.row.K-Key.Denot (Work g.row.K-Key.Denot)). is_open p) rests
+pub returns-in-Ok-clause-comes : goal.returns-in-Ok-clause-comes
+returns-in-Ok-clause-comes g c =
+    let looks : LooksFor c.args.entry (Delete c.args.entry) c.requires.looks.0 (phase_at (c.args.session - 1) c.args.self.now.sessions.phases) = record { writes = refl; at = c.requires.looks.1; looking = c.requires.looks.2 } in
+    let rest = c.in-Ok.ensures.rest (Delete c.args.entry) c.requires.looks.0 looks in
+    rw (c.find_absent.ensures.outcome)
+    (c.args.entry, refl, answered_so c.args.session (Delete c.args.entry) c.args.self.now c.write_look.new.self c.find_absent.new.self rest.1 c.find_absent.ensures.closed)
 
-pub returns-then-is_done-clause-comes : goal.returns-then-is_done-clause-comes
-returns-then-is_done-clause-comes g c =
-    let e : Parts g.row.K-Key.Denot g.row.D.Denot =
-    record { volume = c.self.inside.storage; sessions = c.self.inside.sessions; in_flight = c.self.inside.in_flight; checkpoint = c.self.inside.checkpoint } in
-    let at = ap (λ (x : Parts g.row.K-Key.Denot g.row.D.Denot). phase_at (c.args.session - 1) x.sessions.phases) c.self.view_is ∙ c.requires.looks.1 in
-    let now = c.replace_work.new.self in
-    let is = c.replace_work.ensures.state in
-    let k = keys g.K.Key.Ord.cmp g.K.Key.Shape.overlap g.K.Key.Shape.inside in
-    let rests = phase_now e c.args.session (Delete c.args.entry) c.requires.looks.0 at now is k c.has_failed.ensures.kept c.requires.session in
-    let here = sym (taken e c.args.session (Delete c.args.entry) c.requires.looks.0 at now is c.replace_work.result c.replace_work.ensures.given) ∙ c.in-Looks.is in
-    rw (← c.self.view_is)
-    (again e c.args.session (Delete c.args.entry) c.requires.looks.0 at now is c.in-Looks.look here
-    (λ (x : Parts g.row.K-Key.Denot g.row.D.Denot).
-    WriteComes k (is_node (format_of g.K.KeyClass)) (g.D.SectorDisk.state e.volume.shelf.disk) (g.D.SectorDisk.state c.find_absent.new.self.volume.shelf.disk)
-    c.args.session (Delete c.args.entry) x c.find_absent.new.self c.find_absent.result)
-    (c.find_absent.ensures.comes c.args.entry rests))
+pub returns-in-Ok-clause-reads : goal.returns-in-Ok-clause-reads
+returns-in-Ok-clause-reads g c =
+    let looks : LooksFor c.args.entry (Delete c.args.entry) c.requires.looks.0 (phase_at (c.args.session - 1) c.args.self.now.sessions.phases) = record { writes = refl; at = c.requires.looks.1; looking = c.requires.looks.2 } in
+    let rest = c.in-Ok.ensures.rest (Delete c.args.entry) c.requires.looks.0 looks in
+    reads_of c.args.self.now c.find_absent.new.self _
+    (answered_so c.args.session (Delete c.args.entry) c.args.self.now c.write_look.new.self c.find_absent.new.self rest.1 c.find_absent.ensures.closed) refl
 
-pub returns-then-is_done-clause-moves : goal.returns-then-is_done-clause-moves
-returns-then-is_done-clause-moves g c l =
-    let e : Parts g.row.K-Key.Denot g.row.D.Denot =
-    record { volume = c.self.inside.storage; sessions = c.self.inside.sessions; in_flight = c.self.inside.in_flight; checkpoint = c.self.inside.checkpoint } in
-    let at = ap (λ (x : Parts g.row.K-Key.Denot g.row.D.Denot). phase_at (c.args.session - 1) x.sessions.phases) c.self.view_is ∙ c.requires.looks.1 in
-    let now = c.replace_work.new.self in
-    let is = c.replace_work.ensures.state in
-    let k = keys g.K.Key.Ord.cmp g.K.Key.Shape.overlap g.K.Key.Shape.inside in
-    let rests = phase_now e c.args.session (Delete c.args.entry) c.requires.looks.0 at now is k c.has_failed.ensures.kept c.requires.session in
-    let here = sym (taken e c.args.session (Delete c.args.entry) c.requires.looks.0 at now is c.replace_work.result c.replace_work.ensures.given) ∙ c.in-Looks.is in
-    rw (← c.self.view_is) (moves_again e c.args.session (Delete c.args.entry) c.requires.looks.0 at now is
-    c.in-Looks.look here _ _ _ _ _ _ c.find_absent.new.self _ _ (c.find_absent.ensures.moves c.args.entry rests l))
+pub returns-in-Ok-clause-moves : goal.returns-in-Ok-clause-moves
+returns-in-Ok-clause-moves g c l =
+    let looks : LooksFor c.args.entry (Delete c.args.entry) c.requires.looks.0 (phase_at (c.args.session - 1) c.args.self.now.sessions.phases) = record { writes = refl; at = c.requires.looks.1; looking = c.requires.looks.2 } in
+    let rest = c.in-Ok.ensures.rest (Delete c.args.entry) c.requires.looks.0 looks in
+    rw (c.find_absent.ensures.outcome)
+    (reached_reply _ (c.a_class_is_lawful.ensures l) _ _ _ g.D.SectorDisk.state _ c.args.session c.args.self.now
+    (calling c.args.session (Delete c.args.entry) (Looks c.in-Ok.look) c.write_look.new.self) c.find_absent.new.self
+    (c.in-Ok.ensures.reaches (Delete c.args.entry) c.requires.looks.0 looks l) (Refused Absent) (FindsAbsent c.args.session c.args.entry) (c.find_absent.ensures.moves c.args.entry rest.0 l))
 
-pub returns-else-is_done-clause-comes : goal.returns-else-is_done-clause-comes
-returns-else-is_done-clause-comes g c =
-    let e : Parts g.row.K-Key.Denot g.row.D.Denot =
-    record { volume = c.self.inside.storage; sessions = c.self.inside.sessions; in_flight = c.self.inside.in_flight; checkpoint = c.self.inside.checkpoint } in
-    let at = ap (λ (x : Parts g.row.K-Key.Denot g.row.D.Denot). phase_at (c.args.session - 1) x.sessions.phases) c.self.view_is ∙ c.requires.looks.1 in
-    let now = c.replace_work.new.self in
-    let is = c.replace_work.ensures.state in
-    let k = keys g.K.Key.Ord.cmp g.K.Key.Shape.overlap g.K.Key.Shape.inside in
-    let rests = phase_now e c.args.session (Delete c.args.entry) c.requires.looks.0 at now is k c.has_failed.ensures.kept c.requires.session in
-    let here = sym (taken e c.args.session (Delete c.args.entry) c.requires.looks.0 at now is c.replace_work.result c.replace_work.ensures.given) ∙ c.in-Looks.is in
-    rw (← c.self.view_is)
-    (again e c.args.session (Delete c.args.entry) c.requires.looks.0 at now is c.in-Looks.look here
-    (λ (x : Parts g.row.K-Key.Denot g.row.D.Denot).
-    WriteComes k (is_node (format_of g.K.KeyClass)) (g.D.SectorDisk.state e.volume.shelf.disk) (g.D.SectorDisk.state c.look_on.new.self.volume.shelf.disk)
-    c.args.session (Delete c.args.entry) x c.look_on.new.self c.look_on.result)
-    (c.look_on.ensures.comes (Delete c.args.entry) refl rests))
+pub returns-in-Err-clause-comes : goal.returns-in-Err-clause-comes
+returns-in-Err-clause-comes g c =
+    let looks : LooksFor c.args.entry (Delete c.args.entry) c.requires.looks.0 (phase_at (c.args.session - 1) c.args.self.now.sessions.phases) = record { writes = refl; at = c.requires.looks.1; looking = c.requires.looks.2 } in
+    c.in-Err.ensures.comes (Delete c.args.entry) c.requires.looks.0 looks
 
-pub returns-else-is_done-clause-moves : goal.returns-else-is_done-clause-moves
-returns-else-is_done-clause-moves g c l =
-    let e : Parts g.row.K-Key.Denot g.row.D.Denot =
-    record { volume = c.self.inside.storage; sessions = c.self.inside.sessions; in_flight = c.self.inside.in_flight; checkpoint = c.self.inside.checkpoint } in
-    let at = ap (λ (x : Parts g.row.K-Key.Denot g.row.D.Denot). phase_at (c.args.session - 1) x.sessions.phases) c.self.view_is ∙ c.requires.looks.1 in
-    let now = c.replace_work.new.self in
-    let is = c.replace_work.ensures.state in
-    let k = keys g.K.Key.Ord.cmp g.K.Key.Shape.overlap g.K.Key.Shape.inside in
-    let rests = phase_now e c.args.session (Delete c.args.entry) c.requires.looks.0 at now is k c.has_failed.ensures.kept c.requires.session in
-    let here = sym (taken e c.args.session (Delete c.args.entry) c.requires.looks.0 at now is c.replace_work.result c.replace_work.ensures.given) ∙ c.in-Looks.is in
-    rw (← c.self.view_is) (moves_again e c.args.session (Delete c.args.entry) c.requires.looks.0 at now is
-    c.in-Looks.look here _ _ _ _ _ _ c.look_on.new.self _ _ (c.look_on.ensures.moves (Delete c.args.entry) refl rests l))
-
-pub returns-in-Rests : goal.returns-in-Rests
-returns-in-Rests g c =
-    let e : Parts g.row.K-Key.Denot g.row.D.Denot =
-    record { volume = c.self.inside.storage; sessions = c.self.inside.sessions; in_flight = c.self.inside.in_flight; checkpoint = c.self.inside.checkpoint } in
-    let at = ap (λ (x : Parts g.row.K-Key.Denot g.row.D.Denot). phase_at (c.args.session - 1) x.sessions.phases) c.self.view_is ∙ c.requires.looks.1 in
-    let now = c.replace_work.new.self in
-    let is = c.replace_work.ensures.state in
-    let k = keys g.K.Key.Ord.cmp g.K.Key.Shape.overlap g.K.Key.Shape.inside in
-    let rests = phase_now e c.args.session (Delete c.args.entry) c.requires.looks.0 at now is k c.has_failed.ensures.kept c.requires.session in
-    let had = taken e c.args.session (Delete c.args.entry) c.requires.looks.0 at now is c.replace_work.result c.replace_work.ensures.given in
-    let new = c.begin_look.new.self in
-    let outcome = c.begin_look.result in
-    let begun = begun_comes e c.args.session (Delete c.args.entry) c.requires.looks.0 at now is new outcome (c.begin_look.ensures.comes (Delete c.args.entry) rests) in
-    let d = g.D.SectorDisk.state e.volume.shelf.disk in
-    let told = begun_tells k (is_node (format_of g.K.KeyClass)) d d c.args.session (Delete c.args.entry) e new outcome begun in
-    let resting = rests_yet c.requires.looks.0 c.requires.looks.2 (λ look same. no_look c.replace_work.result c.in-Rests.is look (had ∙ same)) in
-    rw (← c.self.view_is) (record {
-      comes = begun_write k (is_node (format_of g.K.KeyClass)) _ _ c.args.session (Delete c.args.entry) e new outcome begun;
-      moves = λ l.
-          same_events _ _ _ _ _ _ c.args.session e new outcome _ _ told
-          (rested_moves e c.args.session (Delete c.args.entry) c.requires.looks.0 at now is resting _ _ _ _ _ _ new _ _ (c.begin_look.ensures.moves (Delete c.args.entry) rests refl l));
-    })
+pub returns-in-Err-clause-moves : goal.returns-in-Err-clause-moves
+returns-in-Err-clause-moves g c l =
+    let looks : LooksFor c.args.entry (Delete c.args.entry) c.requires.looks.0 (phase_at (c.args.session - 1) c.args.self.now.sessions.phases) = record { writes = refl; at = c.requires.looks.1; looking = c.requires.looks.2 } in
+    write_so _ _ _ _ _ _ c.args.session (Delete c.args.entry) c.args.self.now c.write_look.new.self c.in-Err.outcome (c.in-Err.ensures.moves (Delete c.args.entry) c.requires.looks.0 looks l)

@@ -3,24 +3,12 @@ use Rattle.gx_tree.specs.declared.found.Found.{Found}
 use Rattle.gx_tree.specs.Found.{pairs_found}
 use Rattle.gx_index_laws.specs.Classes.{entry_of}
 use Rattle.gx_engine_laws.specs.Engines.{gathered}
-use Rattle.gx_machine.specs.declared.call.Call.TheVariants.{Search}
 use Rattle.gx_machine.specs.Keys.{keys}
-use Rattle.gx_phases.specs.States.{State, phase_at}
-use Rattle.gx_engine.specs.declared.work.Work.{Work}
-use Rattle.gx_engine.specs.declared.work.Work.TheVariants.{Looks, Rests}
+use Rattle.gx_phases.specs.States.{phase_at}
+use Rattle.gx_engine.specs.declared.work.Work.TheVariants.{Rests}
 use Rattle.gx_engine.specs.States.{Parts}
 use Rattle.gx_engine.proofs.Finding.{closed_moves, found_moves}
-use Rattle.gx_engine.proofs.Looking.{answered_again}
 use Rattle.gx_engine.proofs.engine.Engine.find.Goals as goal
-
-pub returns-in-Ok-clause-comes : goal.returns-in-Ok-clause-comes
-returns-in-Ok-clause-comes g c =
-    let e : Parts g.row.K-Key.Denot g.row.D.Denot =
-    record { volume = c.self.inside.storage; sessions = c.self.inside.sessions; in_flight = c.self.inside.in_flight; checkpoint = c.self.inside.checkpoint } in
-    let k = keys g.K.Key.Ord.cmp g.K.Key.Shape.overlap g.K.Key.Shape.inside in
-    let at = ap (λ (x : Parts g.row.K-Key.Denot g.row.D.Denot). phase_at (c.args.session - 1) x.sessions.phases) c.self.view_is ∙ c.requires.phase in
-    rw (c.answer.ensures, ← c.self.view_is) (ap (λ (x : State g.row.K-Key.Denot (Work g.row.K-Key.Denot)). record e { sessions = x })
-    (answered_again k e c.has_failed.ensures.kept c.args.session c.requires.session (Search c.args.query) Rests at (Looks c.args.look)))
 
 pub returns-in-Ok-clause-moves : goal.returns-in-Ok-clause-moves
 returns-in-Ok-clause-moves g c l =
@@ -33,15 +21,6 @@ returns-in-Ok-clause-moves g c l =
     (found_moves _ (c.a_class_is_lawful.ensures l) _ _ _ (g.D.SectorDisk.state e.volume.shelf.disk) e c.has_failed.ensures.kept c.args.session c.requires.session c.args.query Rests at c.args.look
     works c.requires.done _
     (c.new.ensures ∙ c.in-Ok.ensures ∙ ap (λ (fs : List (Found g.row.K-Key.Denot)). gathered k (map entry_of (pairs_found fs))) c.found.ensures))
-
-pub returns-clause-comes : goal.returns-clause-comes
-returns-clause-comes g c =
-    let e : Parts g.row.K-Key.Denot g.row.D.Denot =
-    record { volume = c.self.inside.storage; sessions = c.self.inside.sessions; in_flight = c.self.inside.in_flight; checkpoint = c.self.inside.checkpoint } in
-    let k = keys g.K.Key.Ord.cmp g.K.Key.Shape.overlap g.K.Key.Shape.inside in
-    let at = ap (λ (x : Parts g.row.K-Key.Denot g.row.D.Denot). phase_at (c.args.session - 1) x.sessions.phases) c.self.view_is ∙ c.requires.phase in
-    rw (c.close.ensures.closed, c.close.ensures.outcome, ← c.self.view_is) (ap (λ (x : State g.row.K-Key.Denot (Work g.row.K-Key.Denot)). record e { sessions = x })
-    (answered_again k e c.has_failed.ensures.kept c.args.session c.requires.session (Search c.args.query) Rests at (Looks c.args.look)))
 
 pub returns-clause-moves : goal.returns-clause-moves
 returns-clause-moves g c l =

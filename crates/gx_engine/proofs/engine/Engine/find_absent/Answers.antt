@@ -1,32 +1,17 @@
 use Rattle.std.proofs.Common.{◌∙◌, ap, refl, ◌-◌}
 use Rattle.gx_machine.specs.declared.call.Call.TheVariants.{Delete}
-use Rattle.gx_machine.specs.Keys.{keys}
-use Rattle.gx_phases.specs.States.{State, phase_at}
-use Rattle.gx_engine.specs.declared.work.Work.{Work}
-use Rattle.gx_engine.specs.declared.work.Work.TheVariants.{Looks, Rests}
+use Rattle.gx_phases.specs.States.{phase_at}
+use Rattle.gx_engine.specs.declared.work.Work.TheVariants.{Rests}
 use Rattle.gx_engine.specs.States.{Parts}
-use Rattle.gx_engine.proofs.Looking.{answered_again}
 use Rattle.gx_engine.proofs.WriteLooks.{absent_moves}
 use Rattle.gx_engine.proofs.engine.Engine.find_absent.Goals as goal
-
-pub returns-clause-comes : goal.returns-clause-comes
-returns-clause-comes g c entry phase =
-    let e : Parts g.row.K-Key.Denot g.row.D.Denot =
-    record { volume = c.self.inside.storage; sessions = c.self.inside.sessions; in_flight = c.self.inside.in_flight; checkpoint = c.self.inside.checkpoint } in
-    let k = keys g.K.Key.Ord.cmp g.K.Key.Shape.overlap g.K.Key.Shape.inside in
-    let at = ap (λ (x : Parts g.row.K-Key.Denot g.row.D.Denot). phase_at (c.args.session - 1) x.sessions.phases) c.self.view_is ∙ phase in
-    let works = ap (λ (x : Parts g.row.K-Key.Denot g.row.D.Denot). x.sessions.failed) c.self.view_is ∙ c.requires.works in
-    rw (c.close.ensures.closed, c.close.ensures.outcome, ← c.self.view_is)
-    (ap (λ (x : State g.row.K-Key.Denot (Work g.row.K-Key.Denot)). record e { sessions = x })
-    (answered_again k e c.has_failed.ensures.kept c.args.session c.requires.session (Delete entry) Rests at (Looks c.args.look.now)))
 
 pub returns-clause-moves : goal.returns-clause-moves
 returns-clause-moves g c entry phase l =
     let e : Parts g.row.K-Key.Denot g.row.D.Denot =
     record { volume = c.self.inside.storage; sessions = c.self.inside.sessions; in_flight = c.self.inside.in_flight; checkpoint = c.self.inside.checkpoint } in
-    let k = keys g.K.Key.Ord.cmp g.K.Key.Shape.overlap g.K.Key.Shape.inside in
     let at = ap (λ (x : Parts g.row.K-Key.Denot g.row.D.Denot). phase_at (c.args.session - 1) x.sessions.phases) c.self.view_is ∙ phase in
     let works = ap (λ (x : Parts g.row.K-Key.Denot g.row.D.Denot). x.sessions.failed) c.self.view_is ∙ c.requires.works in
-    rw (c.close.ensures.closed, c.close.ensures.outcome, ← c.self.view_is)
+    rw (c.close.ensures.closed, ← c.self.view_is)
     (absent_moves _ (c.a_class_is_lawful.ensures l) _ _ _ (g.D.SectorDisk.state e.volume.shelf.disk) e c.has_failed.ensures.kept c.args.session c.requires.session entry (Delete entry) refl Rests at
     c.args.look.now works c.requires.done refl)

@@ -9,10 +9,12 @@ use Rattle.gx_phases.specs.declared.phase.Phase.TheVariants.{Open}
 use Rattle.gx_phases.specs.States.{State, phase_at, with_phase_of}
 use Rattle.gx_storage.specs.State.{Volume}
 use Rattle.gx_engine.specs.declared.work.Work.{Work}
-use Rattle.gx_engine.specs.declared.work.Work.TheVariants.{Looks, Rests}
+use Rattle.gx_engine.specs.declared.work.Work.TheVariants.{Rests}
+use Rattle.gx_engine.specs.Looking.{IsFirstUnless, work_before}
 use Rattle.gx_engine.specs.Moves.{calling}
 use Rattle.gx_engine.specs.Refusals.{IsRefused}
 use Rattle.gx_engine.specs.States.{Parts}
+use Rattle.gx_engine.proofs.Further.{none_at_hand}
 use Rattle.gx_engine.proofs.Looking.{replaced}
 use Rattle.gx_engine.proofs.Reading.{closed_comes, damaged_at_hand, memory_at_hand, of_err, on_err, pages_at_hand, refused_comes}
 use Rattle.gx_engine.proofs.engine.Engine.read_look.Goals as goal
@@ -26,17 +28,17 @@ returns-in-Err-Memory-clause-stops g c call phase =
     let did = c.look_step.ensures.unlogged in
     rw (← c.self.view_is, c.close.ensures.closed, c.close.ensures.outcome)
     (closed_comes k (is_node (format_of g.K.KeyClass)) g.D.SectorDisk.state e c.has_failed.ensures.kept
-    c.args.session c.requires.session call Rests at c.args.look c.look_step.new.self did.log did.most)
+    c.args.session c.requires.session call Rests at (work_before c.args.begun c.args.look) c.look_step.new.self did.log did.most)
 
 pub returns-in-Err-Memory-clause-moves : goal.returns-in-Err-Memory-clause-moves
-returns-in-Err-Memory-clause-moves g c call phase l =
+returns-in-Err-Memory-clause-moves g c call phase may l =
     let e : Parts g.row.K-Key.Denot g.row.D.Denot =
     record { volume = c.self.inside.storage; sessions = c.self.inside.sessions; in_flight = c.self.inside.in_flight; checkpoint = c.self.inside.checkpoint } in
     let at = ap (λ (x : Parts g.row.K-Key.Denot g.row.D.Denot). phase_at (c.args.session - 1) x.sessions.phases) c.self.view_is ∙ phase in
     let works = ap (λ (x : Parts g.row.K-Key.Denot g.row.D.Denot). x.sessions.failed) c.self.view_is ∙ c.requires.works in
     let did = c.look_step.ensures.unlogged in
     rw (← c.self.view_is, c.close.ensures.closed, c.close.ensures.outcome)
-    (memory_at_hand _ (c.a_class_is_lawful.ensures l) _ _ _ g.D.SectorDisk.state e c.has_failed.ensures.kept c.args.session c.requires.session call Rests at c.args.look works
+    (memory_at_hand _ (c.a_class_is_lawful.ensures l) _ _ _ g.D.SectorDisk.state e c.has_failed.ensures.kept c.args.session c.requires.session call Rests at (work_before c.args.begun c.args.look) works
     c.look_step.new.self did.most did.log (did.since 0).goes_on.device (did.keeps l))
 
 pub returns-in-Err-Pages-clause-stops : goal.returns-in-Err-Pages-clause-stops
@@ -50,15 +52,15 @@ returns-in-Err-Pages-clause-stops g c call phase =
     let same : c.look_step.new.look ≡ c.args.look = on_err _ c.look_step.result (Pages c.in-Err-Pages.fault) failed c.look_step.ensures.refused
     (λ m. let both : ◌≡◌ {A = Result (Unit {0}) (StepFault StoreFault)} (Err (Pages c.in-Err-Pages.fault)) (Err Memory) = sym failed ∙ m in cc) in
     let why = of_err _ c.look_step.result (Pages c.in-Err-Pages.fault) failed c.look_step.ensures.why in
-    let put = replaced c.args.session call Rests (Looks c.look_step.new.look) e.sessions c.replace_work.new.self at c.replace_work.ensures.state
-    ∙ ap (λ (x : Look g.row.K-Key.Denot). with_phase_of c.args.session (Open call (Looks x)) e.sessions) same in
+    let put = replaced c.args.session call Rests c.held_work.result e.sessions c.replace_work.new.self at c.replace_work.ensures.state
+    ∙ ap (λ (x : Work g.row.K-Key.Denot). with_phase_of c.args.session (Open call x) e.sessions) (c.held_work.ensures ∙ ap (λ (x : Look g.row.K-Key.Denot). work_before c.args.begun x) same) in
     rw (← c.self.view_is)
     (refused_comes (is_node (format_of g.K.KeyClass)) g.D.SectorDisk.state _
-    c.args.session (calling c.args.session call (Looks c.args.look) e) w did.log did.most c.in-Err-Pages.fault why c.refuse.new.self c.refuse.result
+    c.args.session (calling c.args.session call (work_before c.args.begun c.args.look) e) w did.log did.most c.in-Err-Pages.fault why c.refuse.new.self c.refuse.result
     (subst (λ (x : State g.row.K-Key.Denot (Work g.row.K-Key.Denot)). IsRefused c.in-Err-Pages.fault (record e { volume = w; sessions = x }) c.refuse.new.self c.refuse.result) put c.refuse.ensures))
 
 pub returns-in-Err-Pages-clause-moves : goal.returns-in-Err-Pages-clause-moves
-returns-in-Err-Pages-clause-moves g c call phase l =
+returns-in-Err-Pages-clause-moves g c call phase may l =
     let e : Parts g.row.K-Key.Denot g.row.D.Denot =
     record { volume = c.self.inside.storage; sessions = c.self.inside.sessions; in_flight = c.self.inside.in_flight; checkpoint = c.self.inside.checkpoint } in
     let w : Volume g.row.D.Denot = c.look_step.new.self in
@@ -69,15 +71,15 @@ returns-in-Err-Pages-clause-moves g c call phase l =
     let same : c.look_step.new.look ≡ c.args.look = on_err _ c.look_step.result (Pages c.in-Err-Pages.fault) failed c.look_step.ensures.refused
     (λ m. let both : ◌≡◌ {A = Result (Unit {0}) (StepFault StoreFault)} (Err (Pages c.in-Err-Pages.fault)) (Err Memory) = sym failed ∙ m in cc) in
     let why = of_err _ c.look_step.result (Pages c.in-Err-Pages.fault) failed c.look_step.ensures.why in
-    let put = replaced c.args.session call Rests (Looks c.look_step.new.look) e.sessions c.replace_work.new.self at c.replace_work.ensures.state
-    ∙ ap (λ (x : Look g.row.K-Key.Denot). with_phase_of c.args.session (Open call (Looks x)) e.sessions) same in
+    let put = replaced c.args.session call Rests c.held_work.result e.sessions c.replace_work.new.self at c.replace_work.ensures.state
+    ∙ ap (λ (x : Work g.row.K-Key.Denot). with_phase_of c.args.session (Open call x) e.sessions) (c.held_work.ensures ∙ ap (λ (x : Look g.row.K-Key.Denot). work_before c.args.begun x) same) in
     rw (← c.self.view_is)
-    (pages_at_hand _ (c.a_class_is_lawful.ensures l) _ _ _ g.D.SectorDisk.state e c.has_failed.ensures.kept c.args.session c.requires.session call Rests at c.args.look works
+    (pages_at_hand _ (c.a_class_is_lawful.ensures l) _ _ _ g.D.SectorDisk.state e c.has_failed.ensures.kept c.args.session c.requires.session call Rests at (work_before c.args.begun c.args.look) works
     w did.most did.log (did.since 0).goes_on.device (did.keeps l) c.in-Err-Pages.fault why c.refuse.new.self c.refuse.result
     (subst (λ (x : State g.row.K-Key.Denot (Work g.row.K-Key.Denot)). IsRefused c.in-Err-Pages.fault (record e { volume = w; sessions = x }) c.refuse.new.self c.refuse.result) put c.refuse.ensures))
 
 pub returns-in-Err-Damaged-clause-moves : goal.returns-in-Err-Damaged-clause-moves
-returns-in-Err-Damaged-clause-moves g c call phase l =
+returns-in-Err-Damaged-clause-moves g c call phase may l =
     let e : Parts g.row.K-Key.Denot g.row.D.Denot =
     record { volume = c.self.inside.storage; sessions = c.self.inside.sessions; in_flight = c.self.inside.in_flight; checkpoint = c.self.inside.checkpoint } in
     let w : Volume g.row.D.Denot = c.look_step.new.self in
@@ -85,6 +87,10 @@ returns-in-Err-Damaged-clause-moves g c call phase l =
     let works = ap (λ (x : Parts g.row.K-Key.Denot g.row.D.Denot). x.sessions.failed) c.self.view_is ∙ c.requires.works in
     let did = c.look_step.ensures.unlogged in
     let failed : c.look_step.result ≡ Err Damaged = search rules in
+    let first = subst (λ (x : Parts g.row.K-Key.Denot g.row.D.Denot). IsFirstUnless c.args.begun x c.args.look) (sym c.self.view_is) c.requires.first in
     rw (← c.self.view_is, c.break_off.ensures.failed, c.break_off.ensures.outcome)
+    (none_at_hand _ (c.a_class_is_lawful.ensures l) _ _ _ (g.D.SectorDisk.state e.volume.shelf.disk) e c.has_failed.ensures.kept c.args.session c.requires.session call Rests at c.args.look
+    may c.in_order.ensures.few c.most.ensures.few c.args.begun first
     (damaged_at_hand _ (c.a_class_is_lawful.ensures l) _ _ _ g.D.SectorDisk.state e c.has_failed.ensures.kept c.args.session c.requires.session call Rests at c.args.look works
-    w did.most did.log (did.since 0).goes_on.device (did.keeps l) (c.a_volume_shows_the_logs_tree.ensures l w) _ _ _ c.requires.more (c.look_step.ensures.damaged failed))
+    w did.most did.log (did.since 0).goes_on.device (did.keeps l) (c.a_volume_shows_the_logs_tree.ensures l w) c.requires.more (c.look_step.ensures.damaged failed))
+    _ _ _ _)

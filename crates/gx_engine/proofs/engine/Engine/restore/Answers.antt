@@ -7,7 +7,7 @@ use Rattle.gx_phases.specs.Moves.{failed_state}
 use Rattle.gx_engine.specs.Refusals.{IsRefused}
 use Rattle.gx_node.specs.Reading.{format_of, is_node}
 use Rattle.gx_engine.specs.States.{Parts}
-use Rattle.gx_engine.proofs.Undone.{never_comes, never_moves, noted_moves, refused_moves, sought_comes, sought_moves, why_pages}
+use Rattle.gx_engine.proofs.Undone.{never_comes, never_moves, noted_moves, refused_comes, refused_moves, sought_comes, sought_moves, why_pages}
 use Rattle.gx_engine.proofs.engine.Engine.restore.Goals as goal
 
 pub returns-in-Ok-clause-comes : goal.returns-in-Ok-clause-comes
@@ -63,3 +63,10 @@ returns-in-Err-Memory-clause-moves g c =
     λ l. never_moves _ (c.a_class_is_lawful.ensures l) _ _ _ (state old.volume.shelf.disk) (state c.set_noted.new.self.volume.shelf.disk) old kept c.requires.works c.args.session c.requires.session
     c.requires.early c.set_noted.new.self.volume did.unlogged.most c.args.note c.requires.next c.args.leaf c.requires.leaf (c.a_volume_shows_the_logs_tree.ensures l old.volume)
     (λ steady. did.damaged steady damaged) _ c.break_off.new.self c.break_off.result
+
+pub returns-in-Err-Pages-clause-comes : goal.returns-in-Err-Pages-clause-comes
+returns-in-Err-Pages-clause-comes g c =
+    let did = c.in-Err-Pages.ensures.sought in
+    λ restored place. refused_comes _ _ _ _ _ _ _ _ g.D.SectorDisk.state _ c.args.session restored c.args.note c.args.leaf c.args.self.now c.set_noted.new.self.volume did.unlogged
+    c.in-Err-Pages.fault (why_pages _ c.in-Err-Pages.field-0 c.in-Err-Pages.fault c.in-Err-Pages.field-0-is did.why) c.refuse.new.self c.refuse.result
+    (subst (λ (x : Parts g.row.K-Key.Denot g.row.D.Denot). IsRefused c.in-Err-Pages.fault x c.refuse.new.self c.refuse.result) c.set_noted.ensures.only c.refuse.ensures)

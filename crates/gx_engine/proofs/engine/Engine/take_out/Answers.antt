@@ -15,7 +15,7 @@ use Rattle.gx_engine.specs.Sweeping.{is_held, node_shown}
 use Rattle.gx_engine.proofs.Brought.{as_brought, brought_leads, refused_leads}
 use Rattle.gx_engine.proofs.Reading.{of_err}
 use Rattle.gx_engine.proofs.Serving.{is_calm, not_due}
-use Rattle.gx_engine.proofs.Sweeping.{logged_so, more_than_fit, never_full, never_none, none_taken, sweep_leads, swept_so, unlogged_so}
+use Rattle.gx_engine.proofs.Sweeping.{logged_so, more_than_fit, never_full, never_none, none_taken, sweep_leads, swept_so, turned_comes, unlogged_so}
 use Rattle.gx_engine.proofs.engine.Engine.take_out.Goals as goal
 
 pub returns-in-Ok-true-clause-sweeps : goal.returns-in-Ok-true-clause-sweeps
@@ -93,3 +93,18 @@ returns-in-Err-Damaged g c =
       sweeps = (inr (refl, full), as_brought old c.sweep.new.self (failed_state old.sessions) did.log did.most);
       leads = λ l. never_full _ (c.a_class_is_lawful.ensures l) _ _ _ c.args.page d _ old c.has_failed.ensures.kept _ _ c.requires.from high c.most.ensures.few full;
     })
+
+pub returns-in-Err-Pages-clause-sweeps : goal.returns-in-Err-Pages-clause-sweeps
+returns-in-Err-Pages-clause-sweeps g c =
+    let old : Parts g.row.K-Key.Denot g.row.D.Denot = record { volume = c.self.inside.storage; sessions = c.self.inside.sessions; in_flight = c.self.inside.in_flight; checkpoint = c.self.inside.checkpoint } in
+    let k = keys g.K.Key.Ord.cmp g.K.Key.Shape.overlap g.K.Key.Shape.inside in
+    let d = g.D.SectorDisk.state old.volume.shelf.disk in
+    let f = format_of g.K.KeyClass in
+    let some : has_removable (is_held k old) (node_shown f d c.args.page old) ≡ true =
+    ap (λ (x : Parts g.row.K-Key.Denot g.row.D.Denot). has_removable (is_held k x) (node_shown f (g.D.SectorDisk.state x.volume.shelf.disk) c.args.page x)) c.self.view_is ∙ c.requires.some in
+    let high : c.args.page ≤ old.volume.shelf.used = search rules in
+    let did = c.in-Err-Pages.ensures.unlogged in
+    let failed : c.sweep.result ≡ Err (Pages c.in-Err-Pages.fault) = search rules in
+    let why = of_err _ c.sweep.result (Pages c.in-Err-Pages.fault) failed c.sweep.ensures.why in
+    rw (← c.self.view_is) (turned_comes k _ _ f (is_node f) c.args.page g.D.SectorDisk.state old c.sweep.new.self did.most did.log c.requires.from high some
+    c.in-Err-Pages.fault why c.turn_away.new.self c.turn_away.result c.turn_away.ensures)

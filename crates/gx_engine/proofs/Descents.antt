@@ -1,0 +1,297 @@
+-- The moves of an insert's descent: what its steps tell, and what they do to an index.
+use Rattle.std.proofs.Common.{◌≡◌, ◌≢◌, ◌∙◌, ap, sym, refl, subst, ℕ, suc, ◌+◌, ◌-◌, ◌^◌, ◌<◌, ◌≤◌, Bool, true, false, Option, None, Some, Result, Ok, Err, IfOk, IfErr, IfSome, OnErr, OnOk, List, [], ◌∷◌, length, map}
+use Rattle.gx_machine.specs.declared.call.Call.{Call}
+use Rattle.gx_machine.specs.declared.call.Call.TheVariants.{Insert}
+use Rattle.gx_machine.specs.declared.entry.Entry.{Entry}
+use Rattle.gx_machine.specs.Machine.{is_session}
+use Rattle.gx_disk.specs.Device.{Device}
+use Rattle.gx_disk.specs.Moments.{Leaves}
+use Rattle.gx_page.specs.Contents.{Contents}
+use Rattle.gx_pool.specs.Bringing.{OnlyRead}
+use Rattle.gx_node.specs.Reading.{Format}
+use Rattle.gx_node.specs.declared.items.TheConstants.{MAX_ENTRIES}
+use Rattle.gx_tree_laws.specs.Legal.{Legal}
+use Rattle.gx_tree_laws.specs.Lists.{Each}
+use Rattle.gx_tree_laws.specs.Reach.{Item}
+use Rattle.gx_tree_laws.specs.Trees.{Rules, Used, size}
+use Rattle.gx_tree.specs.declared.descent.Descended.{Descended}
+use Rattle.gx_tree.specs.declared.descent.Descended.TheVariants.{Down, Widened}
+use Rattle.gx_tree.specs.declared.fault.StepFault.{StepFault}
+use Rattle.gx_tree.specs.declared.fault.StepFault.TheVariants as step
+use Rattle.gx_tree.specs.Descending.{StepsDown, is_widened}
+use Rattle.gx_tree.specs.declared.split.Split.{Split}
+use Rattle.gx_tree.specs.declared.split_root.RootSplit.{RootSplit}
+use Rattle.gx_tree.specs.Owner.{IsWhy}
+use Rattle.gx_tree.specs.Splitting.{DidSplitRoot, Splits, has_split}
+use Rattle.gx_tree.specs.Writing.{Swept}
+use Rattle.gx_tree.specs.Store.{tree_of}
+use Rattle.gx_recovery.specs.Analysis.{Analysis, analysis, read}
+use Rattle.gx_recovery.specs.Known.{Known, Limits}
+use Rattle.gx_recovery.specs.Logged.{Logged, all_records, appended}
+use Rattle.gx_recovery.specs.Records.{Record, Touch}
+use Rattle.gx_recovery.proofs.Folds.{analysis-snoc}
+use Rattle.gx_engine_laws.specs.Events.{Works}
+use Rattle.gx_engine_laws.specs.Slots.{Working, slot_at}
+use Rattle.gx_index_laws.specs.Classes.{Class, IsLawful, Page, known_of}
+use Rattle.gx_index_laws.specs.Happening.{Happens, with_record, with_work}
+use Rattle.gx_index_laws.specs.Measures.{work_left}
+use Rattle.gx_index_laws.specs.States as index
+use Rattle.gx_index_laws.specs.States.{tree_now}
+use Rattle.gx_index_laws.specs.Working.{DoesWork}
+use Rattle.gx_index_laws.proofs.Quiet.{turned}
+use Rattle.gx_index_laws.proofs.Standing.{grown, known_lawful}
+use Rattle.gx_index_laws.proofs.Tools.{changed_beside, changed_here}
+use Rattle.gx_durable.specs.Spelled.{Reading, record_read}
+use Rattle.gx_durable.specs.Standing.{Stands}
+use Rattle.gx_readings.specs.Classes.{reading_of}
+use Rattle.gx_events.specs.declared.outcome.Outcome.TheVariants.{More}
+use Rattle.gx_txn.specs.Tables.{Held}
+use Rattle.gx_phases.specs.declared.phase.Phase.{Phase}
+use Rattle.gx_phases.specs.declared.phase.Phase.TheVariants as phase
+use Rattle.gx_phases.specs.States.{State, IsKept, held_at, note_of, phase_at, with_phase_of}
+use Rattle.gx_store.specs.declared.fault.StoreFault.{StoreFault}
+use Rattle.gx_store.specs.Faults as faults
+use Rattle.gx_store.specs.Standing.{store_of}
+use Rattle.gx_store.specs.State.{IsInOrder, IsSteady}
+use Rattle.gx_storage.specs.Changes.{IsLogged, IsLoggedIf, IsUnlogged, begun, page_given}
+use Rattle.gx_storage.specs.Giving.{pages_given, rising}
+use Rattle.gx_storage.specs.Keeps.{KeepsTheSame, KeepsWith, ShowsKeys}
+use Rattle.gx_storage.specs.Numbers.{HasOwnNumber}
+use Rattle.gx_storage.specs.State.{Volume}
+use Rattle.gx_storage_callers.specs.Sweeps.{WorksWith}
+use Rattle.gx_storage_callers.proofs.Descending.{GoesTo, IsJoin, was_split, went_down_to, widened_to, widened_works}
+use Rattle.gx_engine.specs.declared.checkpoint.Checkpoint.TheVariants.{Turning}
+use Rattle.gx_engine.specs.declared.work.Work.{Work}
+use Rattle.gx_engine.specs.declared.work.Work.TheVariants.{Descends}
+use Rattle.gx_engine.specs.Descending.{LeafSweeping, RootSplitting, Splitting, Stepping}
+use Rattle.gx_engine.specs.Holds.{CallIsAt, Holds}
+use Rattle.gx_engine.specs.Moves.{Moved, Moves, calling, left, left_by}
+use Rattle.gx_engine.specs.Noted.{AreTold}
+use Rattle.gx_engine.specs.States.{Parts, is_due}
+use Rattle.gx_engine.proofs.Growing.{grown_led}
+use Rattle.gx_engine.proofs.Looking.{goes_on, its_work, left_now, of_working, put_there, slot_now, told_at}
+use Rattle.gx_engine.proofs.Serving.{held_as_it_is, is_calm, not_due, of_reads, session_at}
+
+-- what storage tells of a step, as the engine has it
+pub stepping : {B D : Type 0} (known : Limits → Known (Entry B) (Page B)) (r : Reading (Entry B) (Page B)) (f : Format B) (passes : ℕ → Contents → Bool)
+    (cost : B → B → ℕ × ℕ) (joined : B → B → B) (d e : Device) (v w : Volume D) (item : Item) (coming : B) (result : Result (Descended B) (StepFault StoreFault))
+    → IfOk result (λ did. IsLoggedIf known r f passes 4114 d e v w (page_given item.page e.seen w.shelf) (is_widened did))
+    → OnErr result (IsUnlogged known r f passes (begun v 4114) d e v w)
+    → (IsSteady d v.shelf.frames → IfOk result (StepsDown cost joined v.most (store_of f d.seen v.shelf) (store_of f e.seen w.shelf) item coming))
+    → IfOk result (λ did. is_widened did ≡ true → HasOwnNumber e.seen w.shelf item.page) → IfErr result (IsWhy (faults.IsWhy passes d e (begun v 4114) w.shelf))
+    → (IsSteady d v.shelf.frames → result ≡ Err step.Damaged → Used (tree_of (store_of f d.seen v.shelf)) item.page
+    → (0 < ((tree_of (store_of f d.seen v.shelf)).node item.page).level) × (length ((tree_of (store_of f d.seen v.shelf)).node item.page).children ≡ 0))
+    → result ≢ Err step.Memory → result ≢ Err step.PagesFull → Stepping known r f passes cost joined d e v w item coming result
+stepping known r f passes cost joined d e v w item coming (Ok did) logged unlogged steps own why damaged memory full = record { logged = logged; steps = steps; own = own }
+stepping {B} known r f passes cost joined d e v w item coming (Err fault) logged unlogged steps own why damaged memory full =
+    let result : StepFault StoreFault → Result (Descended B) (StepFault StoreFault) = λ x. Err x in
+    record {
+      stops = record { unlogged = unlogged; why = why; memory = λ is. memory (ap result is) };
+      damaged = λ steady is. damaged steady (ap result is);
+      full = λ is. full (ap result is);
+    }
+
+-- A record changes no note.
+pub untouched : {E P : Type 0} (k : Known E P) (x : Record E P) (log : Logged E P) → ((a : Analysis E) → (read k a x).touched ≡ a.touched)
+    → (analysis k (all_records (appended x log))).touched ≡ (analysis k (all_records log)).touched
+untouched {E} {P} k x log quiet =
+    ap (λ (a : Analysis E). a.touched) (ap (λ (rs : List (Record E P)). analysis k rs) (grown x log) ∙ analysis-snoc k (all_records log) x) ∙ quiet (analysis k (all_records log))
+
+-- An engine's session has a call open, and a record was logged that no session notices.
+module _ {B D : Type 0} (c : Class B) (l : IsLawful c) (r : Reading (Entry B) (Page B)) (f : Format B) (passes : ℕ → Contents → Bool) (d e : Device) (old : Parts B D)
+    (kept : IsKept c.keys old.sessions) (s : ℕ) (is : is_session s ≡ true) (call : Call B) (was : Work B) (at : phase_at (s - 1) old.sessions.phases ≡ phase.Open call was)
+    (bodies : List (List (Record (Entry B) (Page B)))) (i : index.State B) (h : Holds c r f passes d old bodies i) (calm : old.checkpoint ≢ Turning)
+    (w : Volume D) (most : w.most ≡ old.volume.most) (stage : w.log.stage ≡ old.volume.log.stage) (leaves : Leaves (Stands (known_of c) r i.log) d e)
+    (x : Record (Entry B) (Page B)) (quiet : (a : Analysis (Entry B)) → (read (known_of c) a x).touched ≡ a.touched) (with : WorksWith c r f passes e w bodies i x) where
+  abbrev mid : index.State B
+  mid = with_record x i
+
+  same_touched : (analysis (known_of c) (all_records mid.log)).touched ≡ (analysis (known_of c) (all_records i.log)).touched
+  same_touched = untouched (known_of c) x i.log quiet
+
+  -- the call goes on with other work
+  pub logged_on : (now : Work B) (its : index.Work B) → CallIsAt call now its → DoesWork c (tree_now c mid) (slot_at s i.slots) its
+      → left_by (phase.Open call now) (work_left c (with_work s its mid) s) < left_by (phase.Open call was) (work_left c i s)
+      → Moved c r f passes d e s old (calling s call now (record old { volume = w })) More i (Works ∷ [])
+  unfolding grown_led
+  logged_on now its is_at does less =
+      let j : index.State B = with_work s its mid in
+      let first = with.comes.happens in
+      let turns = turned c l mid first.whole s its does in
+      let both : Happens c i Works j = record { is_event = first.is_event; steps = first.steps; whole = turns.whole } in
+      let new : State B (Work B) = with_phase_of s (phase.Open call now) old.sessions in
+      let of = of_working c l r f passes d old kept s is call was at bodies i h now i refl refl refl refl refl in
+      record {
+        led =
+            grown_led c r f passes d e old bodies i h calm w most stage leaves x with.keeps (Works ∷ []) j (j, both, refl) turns.whole refl refl refl new
+            (record {
+              of = record { slots = of.slots; transactions = of.transactions; next = of.next; oldest = of.oldest; failed = of.failed };
+              at = session_at c.keys old.sessions new i j kept s is (phase.Open call now) (held_at (s - 1) old.sessions.table) refl (held_as_it_is s old.sessions.table)
+                  (λ a ne. changed_beside s its i.work a ne) (λ a ne. refl) (subst (λ (y : index.Work B). CallIsAt call now y) (sym (changed_here s its i.work s refl)) is_at) h.at;
+              told = subst (λ (xs : List (Touch (Entry B))). AreTold new xs) (sym same_touched) (told_at c l r f passes d old kept s is call was at bodies i h (phase.Open call now));
+            })
+            refl (λ go. go);
+        lowers =
+            subst (λ (m : ℕ). m < left c r f passes s old i)
+            (sym (ap (λ (p : Phase B (Work B)). left_by p (work_left c j s)) (put_there c.keys old.sessions kept s is (phase.Open call now))))
+            (subst (λ (m : ℕ). left_by (phase.Open call now) (work_left c j s) < m) (sym (left_now c l r f passes d old kept s is call was at bodies i h)) less);
+      }
+
+  -- or with the work that it had
+  pub logged_yet : left_by (phase.Open call was) (work_left c mid s) < left_by (phase.Open call was) (work_left c i s)
+      → Moved c r f passes d e s old (record old { volume = w }) More i (Works ∷ [])
+  unfolding grown_led
+  logged_yet less = record {
+    led =
+        grown_led c r f passes d e old bodies i h calm w most stage leaves x with.keeps (Works ∷ []) mid (mid, with.comes.happens, refl) with.comes.happens.whole refl refl refl old.sessions
+        (record {
+          of = record { slots = h.sessions.slots; transactions = h.sessions.transactions; next = h.sessions.next; oldest = h.sessions.oldest; failed = h.sessions.failed };
+          at = h.at;
+          told = subst (λ (xs : List (Touch (Entry B))). AreTold old.sessions xs) (sym same_touched) h.told;
+        })
+        refl (λ go. go);
+    lowers =
+        subst (λ (m : ℕ). m < left c r f passes s old i) (sym (ap (λ (p : Phase B (Work B)). left_by p (work_left c mid s)) at))
+        (subst (λ (m : ℕ). left_by (phase.Open call was) (work_left c mid s) < m) (sym (left_now c l r f passes d old kept s is call was at bodies i h)) less);
+  }
+
+-- An insert's descent has made a step.
+module _ {B D : Type 0} (c : Class B) (lawful : 4 ≤ c.rules.most → IsLawful c) (said : List ℕ → B) (f : Format B) (passes : ℕ → Contents → Bool) (d e : Device)
+    (old : Parts B D) (kept : IsKept c.keys old.sessions) (s : ℕ) (is : is_session s ≡ true) (early : is_due old ≡ false)
+    (entry : Entry B) (parent : ℕ) (item : Item) (at : phase_at (s - 1) old.sessions.phases ≡ phase.Open (Insert entry) (Descends parent item))
+    (w : Volume D) (most : w.most ≡ old.volume.most) where
+  abbrev r : Reading (Entry B) (Page B)
+  r = reading_of said f
+
+  abbrev call : Call B
+  call = Insert entry
+
+  module _ (bodies : List (List (Record (Entry B) (Page B)))) (i : index.State B) (h : Holds c r f passes d old bodies i) where
+    abbrev held : Held B
+    held = held_at (s - 1) old.sessions.table
+
+    abbrev l : IsLawful c
+    l = lawful h.some
+
+    abbrev slot : slot_at s i.slots ≡ Working held.locks (map note_of held.notes) (Some call)
+    slot = slot_now c l r f passes d old kept s is call (Descends parent item) at bodies i h
+
+    abbrev work : i.work s ≡ index.Descends entry parent item
+    work = its_work c l r f passes d old kept s is call (Descends parent item) at bodies i h
+
+    -- where a step over frames and device leads an index
+    abbrev pub Goes : index.State B → ℕ → Item → Type 0
+    Goes j from next = GoesTo c l said f passes d e old.volume w bodies i h.whole s entry parent item work held.locks (map note_of held.notes) call slot h.keeps j from next
+
+  -- nothing is logged, and the descent is elsewhere
+  module _ (same_log : w.log ≡ old.volume.log) (reads : OnlyRead d e) (keeps : KeepsTheSame (known_of c) r f passes d e old.volume w) where
+    pub quiet_moves : (from : ℕ) (next : Item) → ((bodies : List (List (Record (Entry B) (Page B)))) (i : index.State B) (h : Holds c r f passes d old bodies i) → Goes bodies i h i from next)
+        → Moves c r f passes d e s old (calling s call (Descends from next) (record old { volume = w })) More (Works ∷ [])
+    quiet_moves from next to bodies i h =
+        let l = lawful h.some in
+        let goes = to bodies i h in
+        goes_on c l r f passes d old kept s is call (Descends parent item) at bodies i h e w most same_log (of_reads d e reads h.keeps.steady.honest) (keeps bodies i.log (known_lawful c l) h.keeps)
+        (Descends from next) (index.Descends entry from next) refl goes.does goes.lower
+
+    -- it begins again at the root, since its page was split
+    pub again_moves : (IsSteady d old.volume.shelf.frames → item.seen < ((tree_of (store_of f d.seen old.volume.shelf)).node item.page).nsn)
+        → Moves c r f passes d e s old (calling s call (Descends 0 (record { page = 1; seen = w.shelf.counter })) (record old { volume = w })) More (Works ∷ [])
+    again_moves later =
+        quiet_moves 0 (record { page = 1; seen = w.shelf.counter })
+        (λ bodies i h. subst (λ (n : ℕ). Goes bodies i h i 0 (record { page = 1; seen = n })) (keeps bodies i.log (known_lawful c (lawful h.some)) h.keeps).keeps.counter
+        (was_split c (lawful h.some) said f passes d e old.volume w bodies i h.whole s entry parent item (work bodies i h) (held bodies i h).locks (map note_of (held bodies i h).notes) call
+        (slot bodies i h) h.keeps (later h.keeps.steady)))
+
+    -- it goes down
+    pub down_moves : (IsKey : B → Type 0) (cost : B → B → ℕ × ℕ) (joined : B → B → B) → IsJoin c IsKey joined → IsKey entry.key
+        → ShowsKeys (known_of c) r f passes IsKey d old.volume → IsInOrder (passes old.volume.shelf.pages) d.sectors old.volume.shelf.frames old.volume.shelf.used old.volume.shelf.pages
+        → (next : Item)
+        → (IsSteady d old.volume.shelf.frames → StepsDown cost joined old.volume.most (store_of f d.seen old.volume.shelf) (store_of f e.seen w.shelf) item entry.key (Down next))
+        → Moves c r f passes d e s old (calling s call (Descends item.page next) (record old { volume = w })) More (Works ∷ [])
+    down_moves IsKey cost joined join is_key keyed order next steps =
+        quiet_moves item.page next
+        (λ bodies i h. went_down_to c (lawful h.some) said f passes d e old.volume w bodies i h.whole s entry parent item (work bodies i h) (held bodies i h).locks
+        (map note_of (held bodies i h).notes) call (slot bodies i h) h.keeps IsKey cost joined join (keyed bodies i.log h.keeps order) is_key next
+        (subst (λ m. StepsDown cost joined m (store_of f d.seen old.volume.shelf) (store_of f e.seen w.shelf) item entry.key (Down next)) h.most (steps h.keeps.steady)))
+
+  -- a record is logged
+  module _ (stage : w.log.stage ≡ old.volume.log.stage) where
+    pub widened_moves : (IsKey : B → Type 0) (cost : B → B → ℕ × ℕ) (joined : B → B → B) → IsJoin c IsKey joined → IsKey entry.key
+        → ShowsKeys (known_of c) r f passes IsKey d old.volume → IsInOrder (passes old.volume.shelf.pages) d.sectors old.volume.shelf.frames old.volume.shelf.used old.volume.shelf.pages
+        → (next : Item) (place : ℕ) (key : B)
+        → (IsSteady d old.volume.shelf.frames → StepsDown cost joined old.volume.most (store_of f d.seen old.volume.shelf) (store_of f e.seen w.shelf) item entry.key (Widened next place key))
+        → HasOwnNumber e.seen w.shelf item.page → KeepsWith (known_of c) r f passes d e old.volume w (page_given item.page e.seen w.shelf)
+        → Moves c r f passes d e s old (calling s call (Descends item.page next) (record old { volume = w })) More (Works ∷ [])
+    widened_moves IsKey cost joined join is_key keyed order next place key steps own keeps bodies i h =
+        let l = lawful h.some in
+        let after = keeps bodies i.log (known_lawful c l) h.keeps in
+        let keys = keyed bodies i.log h.keeps order in
+        let step = subst (λ m. StepsDown cost joined m (store_of f d.seen old.volume.shelf) (store_of f e.seen w.shelf) item entry.key (Widened next place key)) h.most (steps h.keeps.steady) in
+        let its = held bodies i h in
+        let with = widened_works c l said f passes d e old.volume w bodies i h.whole s entry parent item (work bodies i h) its.locks (map note_of its.notes) call (slot bodies i h) h.keeps
+        IsKey cost joined join keys is_key next place key step own after in
+        let goes = widened_to c l said f passes d e old.volume w bodies i h.whole s entry parent item (work bodies i h) its.locks (map note_of its.notes) call (slot bodies i h) h.keeps
+        IsKey cost joined join keys is_key next place key step own after in
+        logged_on c l r f passes d e old kept s is call (Descends parent item) at bodies i h (is_calm old.checkpoint (not_due old early).0) w most stage after.leaves
+        (record_read r (page_given item.page e.seen w.shelf)) (λ a. refl) with (Descends item.page next) (index.Descends entry item.page next) refl goes.does goes.lower
+
+-- What storage tells of a sweep and of a split, as the engine has it.
+module _ {B D : Type 0} (known : Limits → Known (Entry B) (Page B)) (r : Reading (Entry B) (Page B)) (f : Format B) (passes : ℕ → Contents → Bool) (d e : Device) (v w : Volume D) where
+  pub leaf_sweeping : (claimed : Entry B → Bool) (page : ℕ) (result : Result Bool (StepFault StoreFault))
+      → IfOk result (λ any. IsLoggedIf known r f passes 4114 d e v w (page_given page e.seen w.shelf) any) → OnErr result (IsUnlogged known r f passes (begun v 4114) d e v w)
+      → (IsSteady d v.shelf.frames → IfOk result (Swept claimed (store_of f d.seen v.shelf) (store_of f e.seen w.shelf) page))
+      → IfOk result (λ any. any ≡ true → HasOwnNumber e.seen w.shelf page) → IfErr result (IsWhy (faults.IsWhy passes d e (begun v 4114) w.shelf))
+      → (IsSteady d v.shelf.frames → result ≡ Err step.Damaged → Used (tree_of (store_of f d.seen v.shelf)) page
+      → ((tree_of (store_of f d.seen v.shelf)).node page).level ≡ 0 → MAX_ENTRIES < length ((tree_of (store_of f d.seen v.shelf)).node page).pairs)
+      → result ≢ Err step.Memory → result ≢ Err step.PagesFull → LeafSweeping known r f passes claimed d e v w page result
+  leaf_sweeping claimed page (Ok true) logged unlogged swept own why damaged memory full = record { logged = logged; swept = swept; own = own refl }
+  leaf_sweeping claimed page (Ok false) logged unlogged swept own why damaged memory full =
+      record { unlogged = logged; same = λ steady. ((swept steady).none refl).0; none = λ steady. ((swept steady).none refl).1 }
+  leaf_sweeping claimed page (Err fault) logged unlogged swept own why damaged memory full =
+      let result : StepFault StoreFault → Result Bool (StepFault StoreFault) = λ x. Err x in
+      record {
+        stops = record { unlogged = unlogged; why = why; memory = λ is. memory (ap result is) };
+        damaged = λ steady is. damaged steady (ap result is);
+        full = λ is. full (ap result is);
+      }
+
+  module _ (rules : ℕ → Rules B) (sides_of : List B → ℕ → List Bool) where
+    pub splitting : (page parent : ℕ) (result : Result (Option (Split B)) (StepFault StoreFault))
+        → IfOk result (λ did. IsLoggedIf known r f passes 12314 d e v w (pages_given (rising page parent (suc v.shelf.used)) e.seen w.shelf) (has_split did))
+        → OnErr result (IsUnlogged known r f passes (begun v 12314) d e v w)
+        → (IsSteady d v.shelf.frames → IfOk result (Splits (rules v.most) sides_of (store_of f d.seen v.shelf) (store_of f e.seen w.shelf) page parent))
+        → IfOk result (λ did. IfSome did (λ some. Each (HasOwnNumber e.seen w.shelf) (rising page parent (suc v.shelf.used))))
+        → IfErr result (IsWhy (faults.IsWhy passes d e (begun v 12314) w.shelf))
+        → (IsSteady d v.shelf.frames → result ≡ Err step.PagesFull → v.shelf.pages ≤ v.shelf.used)
+        → (IsSteady d v.shelf.frames → result ≡ Err step.Damaged → Legal (rules v.most) (tree_of (store_of f d.seen v.shelf)) → Used (tree_of (store_of f d.seen v.shelf)) page
+        → Used (tree_of (store_of f d.seen v.shelf)) parent → page ≢ parent → 0 < ((tree_of (store_of f d.seen v.shelf)).node parent).level
+        → v.most ≤ size ((tree_of (store_of f d.seen v.shelf)).node page) → v.shelf.counter + 1 < 2 ^ 64 → ⊥)
+        → result ≢ Err step.Memory → Splitting known r f passes rules sides_of d e v w page parent result
+    splitting page parent (Ok (Some did)) logged unlogged split own why full damaged memory = record { logged = logged; split = split; own = own }
+    splitting page parent (Ok None) logged unlogged split own why full damaged memory = record { unlogged = logged; none = λ steady. (split steady).1 }
+    splitting page parent (Err fault) logged unlogged split own why full damaged memory =
+        let result : StepFault StoreFault → Result (Option (Split B)) (StepFault StoreFault) = λ x. Err x in
+        record {
+          stops = record { unlogged = unlogged; why = why; memory = λ is. memory (ap result is) };
+          full = λ steady is. full steady (ap result is);
+          damaged = λ steady is. damaged steady (ap result is);
+        }
+
+    pub root_splitting : (result : Result (RootSplit B) (StepFault StoreFault))
+        → OnOk result (IsLogged known r f passes 12314 d e v w (pages_given (1 ∷ suc v.shelf.used ∷ suc (suc v.shelf.used) ∷ []) e.seen w.shelf))
+        → OnErr result (IsUnlogged known r f passes (begun v 12314) d e v w)
+        → (IsSteady d v.shelf.frames → IfOk result (DidSplitRoot (rules v.most) sides_of (store_of f d.seen v.shelf) (store_of f e.seen w.shelf)))
+        → OnOk result (Each (HasOwnNumber e.seen w.shelf) (1 ∷ suc v.shelf.used ∷ suc (suc v.shelf.used) ∷ []))
+        → IfErr result (IsWhy (faults.IsWhy passes d e (begun v 12314) w.shelf))
+        → (IsSteady d v.shelf.frames → result ≡ Err step.PagesFull → v.shelf.pages < v.shelf.used + 2)
+        → (IsSteady d v.shelf.frames → result ≡ Err step.Damaged → Legal (rules v.most) (tree_of (store_of f d.seen v.shelf))
+        → v.most ≤ size ((tree_of (store_of f d.seen v.shelf)).node 1) → ((tree_of (store_of f d.seen v.shelf)).node 1).level + 1 < 2 ^ 16 → ⊥)
+        → result ≢ Err step.Memory → RootSplitting known r f passes rules sides_of d e v w result
+    root_splitting (Ok did) logged unlogged split own why full damaged memory = record { logged = logged; split = split; own = own }
+    root_splitting (Err fault) logged unlogged split own why full damaged memory =
+        let result : StepFault StoreFault → Result (RootSplit B) (StepFault StoreFault) = λ x. Err x in
+        record {
+          stops = record { unlogged = unlogged; why = why; memory = λ is. memory (ap result is) };
+          full = λ steady is. full steady (ap result is);
+          damaged = λ steady is. damaged steady (ap result is);
+        }

@@ -1,0 +1,314 @@
+-- A descent makes room: its full leaf is swept, or its node is split.
+use Rattle.std.proofs.Common.{◌≡◌, ◌≢◌, ◌∙◌, ap, sym, refl, subst, ℕ, suc, ◌+◌, ◌-◌, ◌^◌, ◌<◌, ◌≤◌, Bool, true, false, Option, None, Some, Ok, List, [], ◌∷◌, length, map, arith}
+use Rattle.std.proofs.lemmas.List.{set-get_or}
+use Rattle.gx_geom.specs.declared.refusal.Refusal.TheVariants as refusal
+use Rattle.gx_machine.specs.declared.call.Call.{Call}
+use Rattle.gx_machine.specs.declared.call.Call.TheVariants.{Insert}
+use Rattle.gx_machine.specs.declared.entry.Entry.{Entry}
+use Rattle.gx_machine.specs.declared.reply.Reply.TheVariants.{Refused as RefusedCall}
+use Rattle.gx_machine.specs.Keys.{Keys, Members, keys_of}
+use Rattle.gx_machine.specs.Machine.{is_session}
+use Rattle.gx_disk.specs.Device.{Device}
+use Rattle.gx_page.specs.Contents.{Contents}
+use Rattle.gx_pool.specs.Bringing.{OnlyRead}
+use Rattle.gx_node.specs.Reading.{Format}
+use Rattle.gx_node.specs.declared.items.TheConstants.{MAX_ENTRIES}
+use Rattle.gx_tree_laws.specs.Legal.{Legal}
+use Rattle.gx_tree_laws.specs.Lists.{Each}
+use Rattle.gx_tree_laws.specs.Reach.{Item}
+use Rattle.gx_tree_laws.specs.Trees.{Pair, Rules, Used, size}
+use Rattle.gx_tree_laws.proofs.Levels.{root_below_used}
+use Rattle.gx_tree.specs.declared.split.Split.{Split}
+use Rattle.gx_tree.specs.declared.split_root.RootSplit.{RootSplit}
+use Rattle.gx_tree.specs.Splitting.{DidSplit, DidSplitRoot, HasNoPlace}
+use Rattle.gx_tree.specs.Store.{tree_of}
+use Rattle.gx_tree.specs.Writing.{Swept}
+use Rattle.gx_glog.specs.State.{Log}
+use Rattle.gx_tree.specs.Keyed.{rules_of}
+use Rattle.gx_recovery.specs.Known.{Limits}
+use Rattle.gx_recovery.specs.Records.{Record}
+use Rattle.gx_engine_laws.specs.Events.{Closes, Event, Works}
+use Rattle.gx_engine_laws.specs.Slots.{Working, slot_at}
+use Rattle.gx_engine_laws.specs.Wants.{is_claimed}
+use Rattle.gx_index_laws.specs.Classes.{Class, IsLawful, Page, known_of}
+use Rattle.gx_index_laws.specs.Happening.{with_record}
+use Rattle.gx_index_laws.specs.States as index
+use Rattle.gx_index_laws.proofs.Answering.{closed}
+use Rattle.gx_index_laws.proofs.Standing.{known_lawful}
+use Rattle.gx_durable.specs.Spelled.{Reading, record_read}
+use Rattle.gx_readings.specs.Classes.{class_of, reading_of}
+use Rattle.gx_events.specs.declared.outcome.Outcome.{Outcome}
+use Rattle.gx_events.specs.declared.outcome.Outcome.TheVariants.{More, Replied}
+use Rattle.gx_txn.specs.Tables.{Held}
+use Rattle.gx_phases.specs.declared.phase.Phase.{Phase}
+use Rattle.gx_phases.specs.declared.phase.Phase.TheVariants as phase
+use Rattle.gx_phases.specs.Moves.{answered_state}
+use Rattle.gx_phases.specs.States.{State, IsKept, held_at, note_of, phase_at, with_phase_of}
+use Rattle.gx_store.specs.Standing.{store_of}
+use Rattle.gx_store.specs.State.{IsSteady}
+use Rattle.gx_storage.specs.Changes.{known_at, page_given}
+use Rattle.gx_storage.specs.Giving.{pages_given, rising}
+use Rattle.gx_storage.specs.Keeps.{KeepsTheSame, KeepsWith}
+use Rattle.gx_storage.specs.Numbers.{HasOwnNumber}
+use Rattle.gx_storage.specs.State.{Volume}
+use Rattle.gx_storage_callers.proofs.Descending.{GoesTo, shown_descent}
+use Rattle.gx_storage_callers.proofs.LeafSweeps.{sweep_lowers, sweep_works}
+use Rattle.gx_storage_callers.proofs.Splitting.{no_place, root_split_to, root_split_works, split_is_sound, split_to, split_works}
+use Rattle.gx_storage_callers.proofs.Stepping.{shown_legal, stood, used_few}
+use Rattle.gx_engine.specs.declared.work.Work.{Work}
+use Rattle.gx_engine.specs.declared.work.Work.TheVariants.{Descends}
+use Rattle.gx_engine.specs.Descending.{HasSplitRoot, Splitting}
+use Rattle.gx_engine.specs.Holds.{Holds}
+use Rattle.gx_engine.specs.Moves.{Moves, calling}
+use Rattle.gx_engine.specs.States.{Parts, is_due}
+use Rattle.gx_engine.specs.Sweeping.{is_held}
+use Rattle.gx_engine.specs.Writing.{WriteComes}
+use Rattle.gx_engine.proofs.Brought.{as_brought}
+use Rattle.gx_engine.proofs.Claimed.{claimed_alike}
+use Rattle.gx_engine.proofs.Descents.{logged_on, logged_yet, quiet_moves}
+use Rattle.gx_engine.proofs.Looking.{answers, its_work, slot_now}
+use Rattle.gx_engine.proofs.Serving.{is_calm, not_due, of_reads}
+
+-- a session that is put in the phase that it is in
+pub phase_yet : {B W : Type 0} (s : ℕ) (sessions : State B W) (p : Phase B W) → phase_at (s - 1) sessions.phases ≡ p → with_phase_of s p sessions ≡ sessions
+phase_yet {B} {W} s sessions p at =
+    ap (λ (q : Phase B W). with_phase_of s q sessions) (sym at)
+    ∙ ap (λ (ps : List (Phase B W)). record sessions { phases = ps }) (set-get_or sessions.phases (s - 1) phase.Free)
+
+-- A call goes on with other work, after its pages were changed or read.
+module _ {B D : Type 0} (s : ℕ) (call : Call B) (from : ℕ) (next : Item) (old mid new : Parts B D) (only : mid ≡ record old { volume = mid.volume })
+    (there : new ≡ calling s call (Descends from next) mid) (o : Outcome B) (one : o ≡ More) where
+  abbrev its_end : Parts B D
+  its_end = calling s call (Descends from next) (record old { volume = mid.volume })
+
+  pub on_is : (P : Parts B D → Outcome B → Type 0) → P its_end More → P new o
+  on_is P at_end =
+      let is_end : new ≡ its_end = there ∙ ap (λ (x : Parts B D). calling s call (Descends from next) x) only in
+      subst (λ (y : Outcome B). P new y) (sym one) (subst (λ (x : Parts B D). P x More) (sym is_end) at_end)
+
+  pub on_comes : (k : Keys B) (passes : ℕ → Contents → Bool) (state : D → Device) → mid.volume.most ≡ old.volume.most
+      → WriteComes k passes (state old.volume.shelf.disk) (state new.volume.shelf.disk) s call old new o
+  on_comes k passes state most =
+      on_is (λ x y. WriteComes k passes (state old.volume.shelf.disk) (state x.volume.shelf.disk) s call old x y) (Descends from next, refl, most)
+
+-- or with the work that it had
+pub yet_comes : {B D : Type 0} (k : Keys B) (passes : ℕ → Contents → Bool) (d e : Device) (s : ℕ) (call : Call B) (was : Work B) (old mid : Parts B D) → mid ≡ record old { volume = mid.volume }
+    → mid.volume.most ≡ old.volume.most → phase_at (s - 1) old.sessions.phases ≡ phase.Open call was → WriteComes k passes d e s call old mid More
+yet_comes {B} k passes d e s call was old mid only most at = (
+  was,
+  only ∙ sym (ap (λ (x : State B (Work B)). record old { volume = mid.volume; sessions = x }) (phase_yet s old.sessions (phase.Open call was) at)),
+  most,
+)
+
+module _ {B D : Type 0} (c : Class B) (lawful : 4 ≤ c.rules.most → IsLawful c) (said : List ℕ → B) (f : Format B) (passes : ℕ → Contents → Bool) (d e : Device)
+    (old : Parts B D) (kept : IsKept c.keys old.sessions) (works : old.sessions.failed ≡ false) (s : ℕ) (is : is_session s ≡ true) (early : is_due old ≡ false)
+    (entry : Entry B) (parent : ℕ) (item : Item) (at : phase_at (s - 1) old.sessions.phases ≡ phase.Open (Insert entry) (Descends parent item))
+    (w : Volume D) (most : w.most ≡ old.volume.most) where
+  abbrev r : Reading (Entry B) (Page B)
+  r = reading_of said f
+
+  abbrev call : Call B
+  call = Insert entry
+
+  abbrev v : Volume D
+  v = old.volume
+
+  module _ (bodies : List (List (Record (Entry B) (Page B)))) (i : index.State B) (h : Holds c r f passes d old bodies i) where
+    abbrev held : Held B
+    held = held_at (s - 1) old.sessions.table
+
+    abbrev l : IsLawful c
+    l = lawful h.some
+
+    abbrev slot : slot_at s i.slots ≡ Working held.locks (map note_of held.notes) (Some call)
+    slot = slot_now c l r f passes d old kept s is call (Descends parent item) at bodies i h
+
+    abbrev work : i.work s ≡ index.Descends entry parent item
+    work = its_work c l r f passes d old kept s is call (Descends parent item) at bodies i h
+
+    its_page : Used (tree_of (store_of f d.seen v.shelf)) item.page
+    its_page = (shown_descent c l said f passes d e v w bodies i h.whole s entry parent item work held.locks (map note_of held.notes) call slot h.keeps).there
+
+    legal : Legal c.rules (tree_of (store_of f d.seen v.shelf))
+    legal = shown_legal c l said f passes d e v w bodies i h.whole h.keeps
+
+  -- its leaf was swept
+  pub swept_moves : w.log.stage ≡ v.log.stage → (IsSteady d v.shelf.frames → Swept (is_held c.keys old) (store_of f d.seen v.shelf) (store_of f e.seen w.shelf) item.page true)
+      → HasOwnNumber e.seen w.shelf item.page → KeepsWith (known_of c) r f passes d e v w (page_given item.page e.seen w.shelf)
+      → Moves c r f passes d e s old (record old { volume = w }) More (Works ∷ [])
+  swept_moves stage swept own keeps bodies i h =
+      let l = lawful h.some in
+      let its = held bodies i h in
+      let after = keeps bodies i.log (known_lawful c l) h.keeps in
+      let test : Entry B → Bool = is_held c.keys old in
+      let claims : (x : Entry B) → test x ≡ is_claimed c.keys x i.slots = claimed_alike c.keys old.sessions i kept h.sessions in
+      logged_yet c l r f passes d e old kept s is call (Descends parent item) at bodies i h (is_calm old.checkpoint (not_due old early).0) w most stage after.leaves
+      (record_read r (page_given item.page e.seen w.shelf)) (λ a. refl)
+      (sweep_works c l said f passes d e v w bodies i h.whole s entry parent item (work bodies i h) its.locks (map note_of its.notes) call (slot bodies i h) h.keeps test claims
+      (swept h.keeps.steady) own after)
+      (sweep_lowers c l said f passes d e v w bodies i h.whole s entry parent item (work bodies i h) its.locks (map note_of its.notes) call (slot bodies i h) h.keeps test claims
+      (swept h.keeps.steady) own after)
+
+  -- no leaf has more pairs than fit
+  pub never_swept : v.most ≤ MAX_ENTRIES → (IsSteady d v.shelf.frames → ((tree_of (store_of f d.seen v.shelf)).node item.page).level ≡ 0)
+      → (IsSteady d v.shelf.frames → Used (tree_of (store_of f d.seen v.shelf)) item.page → ((tree_of (store_of f d.seen v.shelf)).node item.page).level ≡ 0
+      → MAX_ENTRIES < length ((tree_of (store_of f d.seen v.shelf)).node item.page).pairs)
+      → (new : Parts B D) (o : Outcome B) (events : List (Event B)) → Moves c r f passes d e s old new o events
+  never_swept fits leaf damaged new o events bodies i h =
+      let there = its_page bodies i h in
+      let more = damaged h.keeps.steady there (leaf h.keeps.steady) in
+      let room = ((legal bodies i h).pages item.page there).room in
+      let same = h.most in
+      absurd (omega (arith, fits, more, room, same))
+
+  -- no page is left: the call is closed
+  module _ (same_log : w.log ≡ v.log) (reads : OnlyRead d e) (keeps : KeepsTheSame (known_of c) r f passes d e v w) where
+    pub full_moves : Moves c r f passes d e s old (record old { volume = w; sessions = answered_state s old.sessions }) (Replied (RefusedCall refusal.PagesFull)) (Closes s call refusal.PagesFull ∷ [])
+    full_moves bodies i h =
+        let l = lawful h.some in
+        let its = held bodies i h in
+        answers c l r f passes d old kept s is call (Descends parent item) at bodies i h e w most same_log (of_reads d e reads h.keeps.steady.honest) (keeps bodies i.log (known_lawful c l) h.keeps)
+        (RefusedCall refusal.PagesFull) (Closes s call refusal.PagesFull)
+        (closed c l i h.whole (Closes s call refusal.PagesFull) s its.locks (map note_of its.notes) call (h.sessions.failed ∙ works) (slot bodies i h) (λ it. (refl, it)) refl)
+
+    -- the parent has no place for a split: the descent begins again
+    module _ (rules : ℕ → Rules B) (its_rules : rules c.rules.most ≡ c.rules) (below : item.page ≢ 1) where
+      pub none_moves : (IsSteady d v.shelf.frames → HasNoPlace (rules v.most) (tree_of (store_of f d.seen v.shelf)) item.page parent)
+          → Moves c r f passes d e s old (calling s call (Descends 0 (record { page = 1; seen = w.shelf.counter })) (record old { volume = w })) More (Works ∷ [])
+      none_moves none =
+          quiet_moves c lawful said f passes d e old kept s is early entry parent item at w most same_log reads keeps 0 (record { page = 1; seen = w.shelf.counter })
+          (λ bodies i h.
+          let l = lawful h.some in
+          let its = held bodies i h in
+          let counter = (keeps bodies i.log (known_lawful c l) h.keeps).keeps.counter in
+          subst (λ (n : ℕ). GoesTo c l said f passes d e v w bodies i h.whole s entry parent item (work bodies i h) its.locks (map note_of its.notes) call (slot bodies i h) h.keeps i 0
+          (record { page = 1; seen = n })) counter
+          (no_place c l said f passes d e v w bodies i h.whole s entry parent item (work bodies i h) its.locks (map note_of its.notes) call (slot bodies i h) h.keeps below
+          (subst (λ (x : Rules B). HasNoPlace x (tree_of (store_of f d.seen v.shelf)) item.page parent) (ap rules h.most ∙ its_rules) (none h.keeps.steady))))
+
+  module _ (stage : w.log.stage ≡ v.log.stage) (room : w.shelf.pages ≡ v.shelf.pages) (fits : w.shelf.used ≤ w.shelf.pages) (rules : ℕ → Rules B) (its_rules : rules c.rules.most ≡ c.rules)
+      (sides_of : List B → ℕ → List Bool) where
+    -- its node was split: the descent begins again
+    pub split_moves : (did : Split B) → (IsSteady d v.shelf.frames → DidSplit (rules v.most) sides_of (store_of f d.seen v.shelf) (store_of f e.seen w.shelf) item.page parent did)
+        → Each (HasOwnNumber e.seen w.shelf) (rising item.page parent (suc v.shelf.used))
+        → KeepsWith (known_of c) r f passes d e v w (pages_given (rising item.page parent (suc v.shelf.used)) e.seen w.shelf)
+        → Moves c r f passes d e s old (calling s call (Descends 0 (record { page = 1; seen = w.shelf.counter })) (record old { volume = w })) More (Works ∷ [])
+    split_moves did split own keeps bodies i h =
+        let l = lawful h.some in
+        let its = held bodies i h in
+        let after = keeps bodies i.log (known_lawful c l) h.keeps in
+        let done = subst (λ (x : Rules B). DidSplit x sides_of (store_of f d.seen v.shelf) (store_of f e.seen w.shelf) item.page parent did) (ap rules h.most ∙ its_rules) (split h.keeps.steady) in
+        let x : Record (Entry B) (Page B) = record_read r (pages_given (rising item.page parent (suc v.shelf.used)) e.seen w.shelf) in
+        let with = split_works c l said f passes d e v w bodies i h.whole s entry parent item (work bodies i h) its.locks (map note_of its.notes) call (slot bodies i h) h.keeps room fits
+        _ did.left did.right done.split own after in
+        let goes = split_to c l said f passes d e v w bodies i h.whole s entry parent item (work bodies i h) its.locks (map note_of its.notes) call (slot bodies i h) h.keeps room fits
+        _ did.left did.right done.split own after in
+        let root = subst (λ (n : ℕ). GoesTo c l said f passes d e v w bodies i h.whole s entry parent item (work bodies i h) its.locks (map note_of its.notes) call (slot bodies i h) h.keeps
+        (with_record x i) 0 (record { page = 1; seen = n })) with.keeps.counter goes in
+        logged_on c l r f passes d e old kept s is call (Descends parent item) at bodies i h (is_calm old.checkpoint (not_due old early).0) w most stage after.leaves x (λ a. refl) with
+        (Descends 0 (record { page = 1; seen = w.shelf.counter })) (index.Descends entry 0 (record { page = 1; seen = w.shelf.counter })) refl root.does root.lower
+
+    -- the root was
+    pub root_moves : (did : RootSplit B) → (IsSteady d v.shelf.frames → DidSplitRoot (rules v.most) sides_of (store_of f d.seen v.shelf) (store_of f e.seen w.shelf) did)
+        → Each (HasOwnNumber e.seen w.shelf) (1 ∷ suc v.shelf.used ∷ suc (suc v.shelf.used) ∷ [])
+        → KeepsWith (known_of c) r f passes d e v w (pages_given (1 ∷ suc v.shelf.used ∷ suc (suc v.shelf.used) ∷ []) e.seen w.shelf)
+        → Moves c r f passes d e s old (calling s call (Descends 0 (record { page = 1; seen = w.shelf.counter })) (record old { volume = w })) More (Works ∷ [])
+    root_moves did split own keeps bodies i h =
+        let l = lawful h.some in
+        let its = held bodies i h in
+        let after = keeps bodies i.log (known_lawful c l) h.keeps in
+        let done = subst (λ (x : Rules B). DidSplitRoot x sides_of (store_of f d.seen v.shelf) (store_of f e.seen w.shelf) did) (ap rules h.most ∙ its_rules) (split h.keeps.steady) in
+        let x : Record (Entry B) (Page B) = record_read r (pages_given (1 ∷ suc v.shelf.used ∷ suc (suc v.shelf.used) ∷ []) e.seen w.shelf) in
+        let with = root_split_works c l said f passes d e v w bodies i h.whole s entry parent item (work bodies i h) its.locks (map note_of its.notes) call (slot bodies i h) h.keeps room fits
+        _ did.left did.right done.split own after in
+        let goes = root_split_to c l said f passes d e v w bodies i h.whole s entry parent item (work bodies i h) its.locks (map note_of its.notes) call (slot bodies i h) h.keeps room fits
+        _ did.left did.right done.split own after in
+        let root = subst (λ (n : ℕ). GoesTo c l said f passes d e v w bodies i h.whole s entry parent item (work bodies i h) its.locks (map note_of its.notes) call (slot bodies i h) h.keeps
+        (with_record x i) 0 (record { page = 1; seen = n })) with.keeps.counter goes in
+        logged_on c l r f passes d e old kept s is call (Descends parent item) at bodies i h (is_calm old.checkpoint (not_due old early).0) w most stage after.leaves x (λ a. refl) with
+        (Descends 0 (record { page = 1; seen = w.shelf.counter })) (index.Descends entry 0 (record { page = 1; seen = w.shelf.counter })) refl root.does root.lower
+
+  -- a split isn't refused as damage
+  module _ (rules : ℕ → Rules B) (its_rules : rules c.rules.most ≡ c.rules) (small : v.shelf.pages ≤ 65536)
+      (full : IsSteady d v.shelf.frames → v.most ≤ size ((tree_of (store_of f d.seen v.shelf)).node item.page)) where
+    pub never_split : item.page ≢ 1
+        → (IsSteady d v.shelf.frames → Legal (rules v.most) (tree_of (store_of f d.seen v.shelf)) → Used (tree_of (store_of f d.seen v.shelf)) item.page
+        → Used (tree_of (store_of f d.seen v.shelf)) parent → item.page ≢ parent → 0 < ((tree_of (store_of f d.seen v.shelf)).node parent).level
+        → v.most ≤ size ((tree_of (store_of f d.seen v.shelf)).node item.page) → v.shelf.counter + 1 < 2 ^ 64 → ⊥)
+        → (new : Parts B D) (o : Outcome B) (events : List (Event B)) → Moves c r f passes d e s old new o events
+    never_split below damaged new o events bodies i h =
+        let its = held bodies i h in
+        let same : c.rules ≡ rules v.most = sym (ap rules h.most ∙ its_rules) in
+        let steady = h.keeps.steady in
+        absurd (split_is_sound c (lawful h.some) said f passes d e v w bodies i h.whole s entry parent item (work bodies i h) its.locks (map note_of its.notes) call (slot bodies i h) h.keeps below small
+        (subst (λ n. n ≤ size ((tree_of (store_of f d.seen v.shelf)).node item.page)) h.most (full steady))
+        (λ legal its_node above apart inner most low.
+        damaged steady (subst (λ (x : Rules B). Legal x (tree_of (store_of f d.seen v.shelf))) same legal) its_node above apart inner (full steady) low))
+
+    pub never_split_root : item.page ≡ 1
+        → (IsSteady d v.shelf.frames → Legal (rules v.most) (tree_of (store_of f d.seen v.shelf)) → v.most ≤ size ((tree_of (store_of f d.seen v.shelf)).node 1)
+        → ((tree_of (store_of f d.seen v.shelf)).node 1).level + 1 < 2 ^ 16 → ⊥)
+        → (new : Parts B D) (o : Outcome B) (events : List (Event B)) → Moves c r f passes d e s old new o events
+    never_split_root root damaged new o events bodies i h =
+        let law = lawful h.some in
+        let t = tree_of (store_of f d.seen v.shelf) in
+        let its_legal = legal bodies i h in
+        let same : c.rules ≡ rules v.most = sym (ap rules h.most ∙ its_rules) in
+        let steady = h.keeps.steady in
+        let its_full : v.most ≤ size (t.node 1) = subst (λ q. v.most ≤ size (t.node q)) root (full steady) in
+        let there : Used t 1 = subst (λ q. Used t q) root (its_page bodies i h) in
+        let no_pairs : length (t.node 1).pairs ≡ 0 = ap (λ (xs : List (Pair B)). length xs) ((its_legal.pages 1 there).inner its_legal.root).0 in
+        let enough = h.some in
+        let same_most = h.most in
+        let two : 2 ≤ length (t.node 1).children = omega (arith, its_full, no_pairs, enough, same_most) in
+        let below = root_below_used c.rules t its_legal there two in
+        let before = stood c law said f passes d e v w bodies i h.whole h.keeps in
+        let few = used_few c law said f passes d e v w bodies i h.whole h.keeps in
+        let pages = h.keeps.pages in
+        let large : 65536 ≤ 2 ^ 16 = omega arith in
+        absurd (damaged steady (subst (λ (x : Rules B). Legal x t) same its_legal) its_full (omega (arith, below, before, few, pages, small, large)))
+
+-- No page is left, and the call is closed.
+module _ {B D : Type 0} (s : ℕ) (old mid new : Parts B D) (only : mid ≡ record old { volume = mid.volume })
+    (shut : new ≡ record mid { sessions = answered_state s mid.sessions }) (o : Outcome B) (one : o ≡ Replied (RefusedCall refusal.PagesFull)) where
+  pub full_is : (P : Parts B D → Outcome B → Type 0) → P (record old { volume = mid.volume; sessions = answered_state s old.sessions }) (Replied (RefusedCall refusal.PagesFull)) → P new o
+  full_is P at_end =
+      let is_end : new ≡ record old { volume = mid.volume; sessions = answered_state s old.sessions } = shut ∙ ap (λ (x : Parts B D). record x { sessions = answered_state s x.sessions }) only in
+      subst (λ (y : Outcome B). P new y) (sym one) (subst (λ (x : Parts B D). P x (Replied (RefusedCall refusal.PagesFull))) (sym is_end) at_end)
+
+  pub full_comes : (k : Keys B) (passes : ℕ → Contents → Bool) (state : D → Device) (entry : Entry B) → mid.volume.most ≡ old.volume.most → mid.volume.log ≡ old.volume.log
+      → (IsSteady (state old.volume.shelf.disk) old.volume.shelf.frames → old.volume.shelf.pages < old.volume.shelf.used + 2)
+      → WriteComes k passes (state old.volume.shelf.disk) (state new.volume.shelf.disk) s (Insert entry) old new o
+  full_comes k passes state entry most log few =
+      full_is (λ x y. WriteComes k passes (state old.volume.shelf.disk) (state x.volume.shelf.disk) s (Insert entry) old x y)
+      (few, as_brought old mid.volume (answered_state s old.sessions) log most)
+
+-- A split that was made, or for which there was no place.
+module _ {B D : Type 0} (shape : Members B) (proper : B → Bool) (said : List ℕ → B) (f : Format B) (passes : ℕ → Contents → Bool) (sides_of : List B → ℕ → List Bool)
+    (d e : Device) (old : Parts B D) (w : Volume D) (parent : ℕ) (item : Item) where
+  pub split_most : (did : Option (Split B)) → Splitting (known_at shape proper) (reading_of said f) f passes (rules_of shape) sides_of d e old.volume w item.page parent (Ok did)
+      → w.most ≡ old.volume.most
+  split_most (Some did) has = has.logged.most
+  split_most None has = has.unlogged.most
+
+  module _ (limits : Limits) (lawful : 4 ≤ limits.most → IsLawful (class_of shape proper limits)) (kept : IsKept (keys_of shape) old.sessions) (works : old.sessions.failed ≡ false)
+      (s : ℕ) (is : is_session s ≡ true) (early : is_due old ≡ false) (entry : Entry B)
+      (at : phase_at (s - 1) old.sessions.phases ≡ phase.Open (Insert entry) (Descends parent item)) (fits : w.shelf.used ≤ w.shelf.pages) where
+    abbrev Begins : Type 0
+    Begins =
+        Moves (class_of shape proper limits) (reading_of said f) f passes d e s old
+        (calling s (Insert entry) (Descends 0 (record { page = 1; seen = w.shelf.counter })) (record old { volume = w })) More (Works ∷ [])
+
+    pub split_any : item.page ≢ 1 → (did : Option (Split B))
+        → Splitting (known_at shape proper) (reading_of said f) f passes (rules_of shape) sides_of d e old.volume w item.page parent (Ok did) → Begins
+    split_any below (Some did) has =
+        split_moves (class_of shape proper limits) lawful said f passes d e old kept works s is early entry parent item at w has.logged.most (ap (λ (g : Log). g.stage) has.logged.logs.log)
+        has.logged.goes_on.pages fits (rules_of shape) refl sides_of did has.split has.own (has.logged.keeps limits)
+    split_any below None has =
+        none_moves (class_of shape proper limits) lawful said f passes d e old kept works s is early entry parent item at w has.unlogged.most has.unlogged.log
+        (has.unlogged.since 0).goes_on.device (has.unlogged.keeps limits) (rules_of shape) refl below has.none
+
+    pub root_any : (did : RootSplit B) → HasSplitRoot (known_at shape proper) (reading_of said f) f passes (rules_of shape) sides_of d e old.volume w did → Begins
+    root_any did has =
+        root_moves (class_of shape proper limits) lawful said f passes d e old kept works s is early entry parent item at w has.logged.most (ap (λ (g : Log). g.stage) has.logged.logs.log)
+        has.logged.goes_on.pages fits (rules_of shape) refl sides_of did has.split has.own (has.logged.keeps limits)

@@ -1,0 +1,271 @@
+use Rattle.std.proofs.Common.{◌≡◌, ◌≤◌, length, ◌-◌, ◌∙◌, ap, refl, subst, arith, rules}
+use Rattle.gx_machine.specs.declared.call.Call.TheVariants.{Insert}
+use Rattle.gx_machine.specs.Keys.{Members, keys}
+use Rattle.gx_glog.specs.State.{Log}
+use Rattle.gx_node.specs.Reading.{format_of, is_node}
+use Rattle.gx_readings.specs.Classes.{class_of, reading_of}
+use Rattle.gx_tree.specs.declared.fault.StepFault.TheVariants.{Damaged}
+use Rattle.gx_phases.specs.Moves.{failed_state}
+use Rattle.gx_phases.specs.States.{IsKept, phase_at}
+use Rattle.gx_store.specs.declared.fault.StoreFault.{StoreFault}
+use Rattle.gx_engine.specs.declared.work.Work.TheVariants.{Descends}
+use Rattle.gx_engine.specs.Moves.{Moves}
+use Rattle.gx_engine.specs.Refusals.{IsRefused}
+use Rattle.gx_engine.specs.States.{Parts}
+use Rattle.gx_engine.specs.Writing.{write_events}
+use Rattle.gx_tree.specs.declared.descent.Descended.TheVariants.{Again, Down, FullInner, FullLeaf, Leaf, Widened}
+use Rattle.gx_tree.specs.declared.descent.Way.TheVariants.{Add}
+use Rattle.gx_tree.specs.declared.descent.Descended.{Descended}
+use Rattle.gx_tree.specs.Descending.{WayAt, next_of}
+use Rattle.gx_tree.specs.Store.{tree_of}
+use Rattle.gx_tree_laws.specs.Trees.{size}
+use Rattle.gx_store.specs.State.{IsInOrder}
+use Rattle.gx_storage.specs.Changes.{known_at}
+use Rattle.gx_storage_callers.proofs.Descending.{IsJoin}
+use Rattle.gx_engine.specs.Sweeping.{is_held, node_shown}
+use Rattle.gx_engine.proofs.DescentMoves.{full_inner, inner_removable, never_stepped, removable_again, said_again, stepped_as}
+use Rattle.gx_engine.proofs.Descents.{again_moves, down_moves, widened_moves}
+use Rattle.gx_engine.proofs.MakingRoom.{on_comes, on_is}
+use Rattle.gx_engine.proofs.ReadFirst.{comes_then, moves_then}
+use Rattle.gx_engine.proofs.Stopping.{lost_comes, stopped_comes, stopped_moves}
+use Rattle.gx_engine.proofs.Undone.{why_pages}
+use Rattle.gx_engine.proofs.engine.Engine.descend_on.Goals as goal
+
+pub returns-in-Widened-clause-comes : goal.returns-in-Widened-clause-comes
+returns-in-Widened-clause-comes g c =
+    let old : Parts g.row.K-Key.Denot g.row.D.Denot = c.args.self.now in
+    let k = keys g.K.Key.Ord.cmp g.K.Key.Shape.overlap g.K.Key.Shape.inside in
+    let state = g.D.SectorDisk.state in
+    let shape : Members g.row.K-Key.Denot =
+    record { partial_cmp = g.K.Key.PartialOrd.partial_cmp; eq = g.K.Key.PartialEq.eq; cmp = g.K.Key.Ord.cmp; overlap = g.K.Key.Shape.overlap; inside = g.K.Key.Shape.inside } in
+    let f = format_of g.K.KeyClass in
+    let has = stepped_as (known_at shape g.K.ReadKeys.is_proper) (reading_of g.K.ReadKeys.said f) f (is_node f) (state old.volume.shelf.disk) (state c.step_down.new.self.volume.shelf.disk) old.volume c.step_down.new.self.volume g.K.KeyClass.cost g.K.KeyClass.joined c.args.item c.args.entry.key c.in-Ok.did (Widened c.in-Widened.field-0 c.in-Widened.field-1 c.in-Widened.field-2) c.in-Widened.is c.in-Ok.ensures.step in
+    let there = c.go_down.ensures.there c.in-Widened.field-0 (ap (λ (x : Descended g.row.K-Key.Denot). next_of x) c.in-Widened.is) (Insert c.args.entry) (Descends c.args.parent c.args.item) (ap (λ (x : Parts g.row.K-Key.Denot g.row.D.Denot). phase_at (c.args.session - 1) x.sessions.phases) c.step_down.ensures.only ∙ c.requires.descends) in
+    on_comes c.args.session (Insert c.args.entry) c.args.item.page c.in-Widened.field-0 old c.step_down.new.self c.go_down.new.self c.step_down.ensures.only there c.go_down.result c.go_down.ensures.outcome k (is_node f) state has.logged.most
+
+pub returns-in-Widened-clause-moves : goal.returns-in-Widened-clause-moves
+returns-in-Widened-clause-moves g c l =
+    let old : Parts g.row.K-Key.Denot g.row.D.Denot = c.args.self.now in
+    let k = keys g.K.Key.Ord.cmp g.K.Key.Shape.overlap g.K.Key.Shape.inside in
+    let state = g.D.SectorDisk.state in
+    let shape : Members g.row.K-Key.Denot =
+    record { partial_cmp = g.K.Key.PartialOrd.partial_cmp; eq = g.K.Key.PartialEq.eq; cmp = g.K.Key.Ord.cmp; overlap = g.K.Key.Shape.overlap; inside = g.K.Key.Shape.inside } in
+    let f = format_of g.K.KeyClass in
+    let kept = subst (λ (x : Parts g.row.K-Key.Denot g.row.D.Denot). IsKept k x.sessions) c.self.view_is c.has_failed.ensures.kept in
+    let has = stepped_as (known_at shape g.K.ReadKeys.is_proper) (reading_of g.K.ReadKeys.said f) f (is_node f) (state old.volume.shelf.disk) (state c.step_down.new.self.volume.shelf.disk) old.volume c.step_down.new.self.volume g.K.KeyClass.cost g.K.KeyClass.joined c.args.item c.args.entry.key c.in-Ok.did (Widened c.in-Widened.field-0 c.in-Widened.field-1 c.in-Widened.field-2) c.in-Widened.is c.in-Ok.ensures.step in
+    let there = c.go_down.ensures.there c.in-Widened.field-0 (ap (λ (x : Descended g.row.K-Key.Denot). next_of x) c.in-Widened.is) (Insert c.args.entry) (Descends c.args.parent c.args.item) (ap (λ (x : Parts g.row.K-Key.Denot g.row.D.Denot). phase_at (c.args.session - 1) x.sessions.phases) c.step_down.ensures.only ∙ c.requires.descends) in
+    let order = subst (λ (x : Parts g.row.K-Key.Denot g.row.D.Denot). IsInOrder (is_node f x.volume.shelf.pages) (state x.volume.shelf.disk).sectors x.volume.shelf.frames x.volume.shelf.used x.volume.shelf.pages)
+    c.self.view_is c.in_order.ensures in
+    let join : IsJoin (class_of shape g.K.ReadKeys.is_proper l) g.K.KeyClass.is_key g.K.KeyClass.joined = record {
+      is_key = g.met.K.KeyClass.union_is_key;
+      first = g.met.K.KeyClass.union_covers_first;
+      second = g.met.K.KeyClass.union_covers_second;
+      least = g.met.K.KeyClass.union_is_least;
+    } in
+    on_is c.args.session (Insert c.args.entry) c.args.item.page c.in-Widened.field-0 old c.step_down.new.self c.go_down.new.self c.step_down.ensures.only there c.go_down.result c.go_down.ensures.outcome
+    (λ x y. Moves (class_of shape g.K.ReadKeys.is_proper l) (reading_of g.K.ReadKeys.said f) f (is_node f)
+    (state old.volume.shelf.disk) (state x.volume.shelf.disk) c.args.session old x y (write_events c.args.session (Insert c.args.entry) y))
+    (widened_moves _ (c.a_class_is_lawful.ensures l) g.K.ReadKeys.said f (is_node f) (state old.volume.shelf.disk) (state c.step_down.new.self.volume.shelf.disk)
+    old kept c.args.session c.requires.session c.requires.early c.args.entry c.args.parent c.args.item c.requires.descends c.step_down.new.self.volume has.logged.most (ap (λ (x : Log). x.stage) has.logged.logs.log)
+    g.K.KeyClass.is_key g.K.KeyClass.cost g.K.KeyClass.joined join c.known.ensures (c.a_volume_shows_keys.ensures l old.volume) order c.in-Widened.field-0 c.in-Widened.field-1 c.in-Widened.field-2 has.steps (has.own refl) (has.logged.keeps l))
+
+pub returns-in-Down-clause-comes : goal.returns-in-Down-clause-comes
+returns-in-Down-clause-comes g c =
+    let old : Parts g.row.K-Key.Denot g.row.D.Denot = c.args.self.now in
+    let k = keys g.K.Key.Ord.cmp g.K.Key.Shape.overlap g.K.Key.Shape.inside in
+    let state = g.D.SectorDisk.state in
+    let shape : Members g.row.K-Key.Denot =
+    record { partial_cmp = g.K.Key.PartialOrd.partial_cmp; eq = g.K.Key.PartialEq.eq; cmp = g.K.Key.Ord.cmp; overlap = g.K.Key.Shape.overlap; inside = g.K.Key.Shape.inside } in
+    let f = format_of g.K.KeyClass in
+    let has = stepped_as (known_at shape g.K.ReadKeys.is_proper) (reading_of g.K.ReadKeys.said f) f (is_node f) (state old.volume.shelf.disk) (state c.step_down.new.self.volume.shelf.disk) old.volume c.step_down.new.self.volume g.K.KeyClass.cost g.K.KeyClass.joined c.args.item c.args.entry.key c.in-Ok.did (Down c.in-Down.field-0) c.in-Down.is c.in-Ok.ensures.step in
+    let there = c.go_down-in-Down.ensures.there c.in-Down.field-0 (ap (λ (x : Descended g.row.K-Key.Denot). next_of x) c.in-Down.is) (Insert c.args.entry) (Descends c.args.parent c.args.item) (ap (λ (x : Parts g.row.K-Key.Denot g.row.D.Denot). phase_at (c.args.session - 1) x.sessions.phases) c.step_down.ensures.only ∙ c.requires.descends) in
+    on_comes c.args.session (Insert c.args.entry) c.args.item.page c.in-Down.field-0 old c.step_down.new.self c.go_down-in-Down.new.self c.step_down.ensures.only there c.go_down-in-Down.result c.go_down-in-Down.ensures.outcome k (is_node f) state has.logged.most
+
+pub returns-in-Down-clause-moves : goal.returns-in-Down-clause-moves
+returns-in-Down-clause-moves g c l =
+    let old : Parts g.row.K-Key.Denot g.row.D.Denot = c.args.self.now in
+    let k = keys g.K.Key.Ord.cmp g.K.Key.Shape.overlap g.K.Key.Shape.inside in
+    let state = g.D.SectorDisk.state in
+    let shape : Members g.row.K-Key.Denot =
+    record { partial_cmp = g.K.Key.PartialOrd.partial_cmp; eq = g.K.Key.PartialEq.eq; cmp = g.K.Key.Ord.cmp; overlap = g.K.Key.Shape.overlap; inside = g.K.Key.Shape.inside } in
+    let f = format_of g.K.KeyClass in
+    let kept = subst (λ (x : Parts g.row.K-Key.Denot g.row.D.Denot). IsKept k x.sessions) c.self.view_is c.has_failed.ensures.kept in
+    let has = stepped_as (known_at shape g.K.ReadKeys.is_proper) (reading_of g.K.ReadKeys.said f) f (is_node f) (state old.volume.shelf.disk) (state c.step_down.new.self.volume.shelf.disk) old.volume c.step_down.new.self.volume g.K.KeyClass.cost g.K.KeyClass.joined c.args.item c.args.entry.key c.in-Ok.did (Down c.in-Down.field-0) c.in-Down.is c.in-Ok.ensures.step in
+    let there = c.go_down-in-Down.ensures.there c.in-Down.field-0 (ap (λ (x : Descended g.row.K-Key.Denot). next_of x) c.in-Down.is) (Insert c.args.entry) (Descends c.args.parent c.args.item) (ap (λ (x : Parts g.row.K-Key.Denot g.row.D.Denot). phase_at (c.args.session - 1) x.sessions.phases) c.step_down.ensures.only ∙ c.requires.descends) in
+    let order = subst (λ (x : Parts g.row.K-Key.Denot g.row.D.Denot). IsInOrder (is_node f x.volume.shelf.pages) (state x.volume.shelf.disk).sectors x.volume.shelf.frames x.volume.shelf.used x.volume.shelf.pages)
+    c.self.view_is c.in_order.ensures in
+    let join : IsJoin (class_of shape g.K.ReadKeys.is_proper l) g.K.KeyClass.is_key g.K.KeyClass.joined = record {
+      is_key = g.met.K.KeyClass.union_is_key;
+      first = g.met.K.KeyClass.union_covers_first;
+      second = g.met.K.KeyClass.union_covers_second;
+      least = g.met.K.KeyClass.union_is_least;
+    } in
+    on_is c.args.session (Insert c.args.entry) c.args.item.page c.in-Down.field-0 old c.step_down.new.self c.go_down-in-Down.new.self c.step_down.ensures.only there c.go_down-in-Down.result c.go_down-in-Down.ensures.outcome
+    (λ x y. Moves (class_of shape g.K.ReadKeys.is_proper l) (reading_of g.K.ReadKeys.said f) f (is_node f)
+    (state old.volume.shelf.disk) (state x.volume.shelf.disk) c.args.session old x y (write_events c.args.session (Insert c.args.entry) y))
+    (down_moves _ (c.a_class_is_lawful.ensures l) g.K.ReadKeys.said f (is_node f) (state old.volume.shelf.disk) (state c.step_down.new.self.volume.shelf.disk)
+    old kept c.args.session c.requires.session c.requires.early c.args.entry c.args.parent c.args.item c.requires.descends c.step_down.new.self.volume has.logged.most has.logged.log (has.logged.since 0).goes_on.device (has.logged.keeps l)
+    g.K.KeyClass.is_key g.K.KeyClass.cost g.K.KeyClass.joined join c.known.ensures (c.a_volume_shows_keys.ensures l old.volume) order c.in-Down.field-0 has.steps)
+
+pub returns-in-Again-clause-comes : goal.returns-in-Again-clause-comes
+returns-in-Again-clause-comes g c =
+    let old : Parts g.row.K-Key.Denot g.row.D.Denot = c.args.self.now in
+    let k = keys g.K.Key.Ord.cmp g.K.Key.Shape.overlap g.K.Key.Shape.inside in
+    let state = g.D.SectorDisk.state in
+    let shape : Members g.row.K-Key.Denot =
+    record { partial_cmp = g.K.Key.PartialOrd.partial_cmp; eq = g.K.Key.PartialEq.eq; cmp = g.K.Key.Ord.cmp; overlap = g.K.Key.Shape.overlap; inside = g.K.Key.Shape.inside } in
+    let f = format_of g.K.KeyClass in
+    let has = stepped_as (known_at shape g.K.ReadKeys.is_proper) (reading_of g.K.ReadKeys.said f) f (is_node f) (state old.volume.shelf.disk) (state c.step_down.new.self.volume.shelf.disk) old.volume c.step_down.new.self.volume g.K.KeyClass.cost g.K.KeyClass.joined c.args.item c.args.entry.key c.in-Ok.did Again c.in-Again.is c.in-Ok.ensures.step in
+    let there = c.begin_again.ensures.there (Insert c.args.entry) (Descends c.args.parent c.args.item) (ap (λ (x : Parts g.row.K-Key.Denot g.row.D.Denot). phase_at (c.args.session - 1) x.sessions.phases) c.step_down.ensures.only ∙ c.requires.descends) in
+    on_comes c.args.session (Insert c.args.entry) 0 (record { page = 1; seen = c.step_down.new.self.volume.shelf.counter }) old c.step_down.new.self c.begin_again.new.self c.step_down.ensures.only there c.begin_again.result c.begin_again.ensures.outcome k (is_node f) state has.logged.most
+
+pub returns-in-Again-clause-moves : goal.returns-in-Again-clause-moves
+returns-in-Again-clause-moves g c l =
+    let old : Parts g.row.K-Key.Denot g.row.D.Denot = c.args.self.now in
+    let k = keys g.K.Key.Ord.cmp g.K.Key.Shape.overlap g.K.Key.Shape.inside in
+    let state = g.D.SectorDisk.state in
+    let shape : Members g.row.K-Key.Denot =
+    record { partial_cmp = g.K.Key.PartialOrd.partial_cmp; eq = g.K.Key.PartialEq.eq; cmp = g.K.Key.Ord.cmp; overlap = g.K.Key.Shape.overlap; inside = g.K.Key.Shape.inside } in
+    let f = format_of g.K.KeyClass in
+    let kept = subst (λ (x : Parts g.row.K-Key.Denot g.row.D.Denot). IsKept k x.sessions) c.self.view_is c.has_failed.ensures.kept in
+    let has = stepped_as (known_at shape g.K.ReadKeys.is_proper) (reading_of g.K.ReadKeys.said f) f (is_node f) (state old.volume.shelf.disk) (state c.step_down.new.self.volume.shelf.disk) old.volume c.step_down.new.self.volume g.K.KeyClass.cost g.K.KeyClass.joined c.args.item c.args.entry.key c.in-Ok.did Again c.in-Again.is c.in-Ok.ensures.step in
+    let there = c.begin_again.ensures.there (Insert c.args.entry) (Descends c.args.parent c.args.item) (ap (λ (x : Parts g.row.K-Key.Denot g.row.D.Denot). phase_at (c.args.session - 1) x.sessions.phases) c.step_down.ensures.only ∙ c.requires.descends) in
+    on_is c.args.session (Insert c.args.entry) 0 (record { page = 1; seen = c.step_down.new.self.volume.shelf.counter }) old c.step_down.new.self c.begin_again.new.self c.step_down.ensures.only there c.begin_again.result c.begin_again.ensures.outcome
+    (λ x y. Moves (class_of shape g.K.ReadKeys.is_proper l) (reading_of g.K.ReadKeys.said f) f (is_node f)
+    (state old.volume.shelf.disk) (state x.volume.shelf.disk) c.args.session old x y (write_events c.args.session (Insert c.args.entry) y))
+    (again_moves _ (c.a_class_is_lawful.ensures l) g.K.ReadKeys.said f (is_node f) (state old.volume.shelf.disk) (state c.step_down.new.self.volume.shelf.disk)
+    old kept c.args.session c.requires.session c.requires.early c.args.entry c.args.parent c.args.item c.requires.descends c.step_down.new.self.volume has.logged.most has.logged.log (has.logged.since 0).goes_on.device (has.logged.keeps l)
+    (λ steady. (has.steps steady).0))
+
+pub returns-in-Leaf-clause-comes : goal.returns-in-Leaf-clause-comes
+returns-in-Leaf-clause-comes g c =
+    let old : Parts g.row.K-Key.Denot g.row.D.Denot = c.args.self.now in
+    let k = keys g.K.Key.Ord.cmp g.K.Key.Shape.overlap g.K.Key.Shape.inside in
+    let state = g.D.SectorDisk.state in
+    let shape : Members g.row.K-Key.Denot =
+    record { partial_cmp = g.K.Key.PartialOrd.partial_cmp; eq = g.K.Key.PartialEq.eq; cmp = g.K.Key.Ord.cmp; overlap = g.K.Key.Shape.overlap; inside = g.K.Key.Shape.inside } in
+    let f = format_of g.K.KeyClass in
+    let has = stepped_as (known_at shape g.K.ReadKeys.is_proper) (reading_of g.K.ReadKeys.said f) f (is_node f) (state old.volume.shelf.disk) (state c.step_down.new.self.volume.shelf.disk) old.volume c.step_down.new.self.volume g.K.KeyClass.cost g.K.KeyClass.joined c.args.item c.args.entry.key c.in-Ok.did Leaf c.in-Leaf.is c.in-Ok.ensures.step in
+    comes_then k (known_at shape g.K.ReadKeys.is_proper) (reading_of g.K.ReadKeys.said f) f (is_node f) 4114 (state old.volume.shelf.disk) (state c.step_down.new.self.volume.shelf.disk) (state c.add_here.new.self.volume.shelf.disk) c.args.session c.args.entry old c.step_down.new.self c.step_down.ensures.only has.logged
+    (λ steady. (has.steps steady).1) c.add_here.new.self c.add_here.result c.add_here.ensures.comes
+
+pub returns-in-Leaf-clause-moves : goal.returns-in-Leaf-clause-moves
+returns-in-Leaf-clause-moves g c l bodies i h =
+    let old : Parts g.row.K-Key.Denot g.row.D.Denot = c.args.self.now in
+    let k = keys g.K.Key.Ord.cmp g.K.Key.Shape.overlap g.K.Key.Shape.inside in
+    let state = g.D.SectorDisk.state in
+    let shape : Members g.row.K-Key.Denot =
+    record { partial_cmp = g.K.Key.PartialOrd.partial_cmp; eq = g.K.Key.PartialEq.eq; cmp = g.K.Key.Ord.cmp; overlap = g.K.Key.Shape.overlap; inside = g.K.Key.Shape.inside } in
+    let f = format_of g.K.KeyClass in
+    let has = stepped_as (known_at shape g.K.ReadKeys.is_proper) (reading_of g.K.ReadKeys.said f) f (is_node f) (state old.volume.shelf.disk) (state c.step_down.new.self.volume.shelf.disk) old.volume c.step_down.new.self.volume g.K.KeyClass.cost g.K.KeyClass.joined c.args.item c.args.entry.key c.in-Ok.did Leaf c.in-Leaf.is c.in-Ok.ensures.step in
+    let un = has.logged in
+    let step = has.steps h.keeps.steady in
+    moves_then (class_of shape g.K.ReadKeys.is_proper l) (c.a_class_is_lawful.ensures l) (reading_of g.K.ReadKeys.said f) f (is_node f) (state old.volume.shelf.disk) (state c.step_down.new.self.volume.shelf.disk) (state c.add_here.new.self.volume.shelf.disk) c.args.session old
+    c.step_down.new.self c.step_down.ensures.only un.most un.log (un.since 0).goes_on.device (un.keeps l) c.add_here.new.self c.add_here.result (write_events c.args.session (Insert c.args.entry) c.add_here.result)
+    (c.add_here.ensures.moves (λ still. said_again k f (state old.volume.shelf.disk) (state c.step_down.new.self.volume.shelf.disk) old c.step_down.new.self c.step_down.ensures.only un.most step.1 c.args.item.page (λ n s. WayAt g.K.KeyClass.cost g.K.KeyClass.joined n s c.args.item c.args.entry.key Add) step.0) l)
+    bodies i h
+
+pub returns-in-FullLeaf-clause-comes : goal.returns-in-FullLeaf-clause-comes
+returns-in-FullLeaf-clause-comes g c =
+    let old : Parts g.row.K-Key.Denot g.row.D.Denot = c.args.self.now in
+    let k = keys g.K.Key.Ord.cmp g.K.Key.Shape.overlap g.K.Key.Shape.inside in
+    let state = g.D.SectorDisk.state in
+    let shape : Members g.row.K-Key.Denot =
+    record { partial_cmp = g.K.Key.PartialOrd.partial_cmp; eq = g.K.Key.PartialEq.eq; cmp = g.K.Key.Ord.cmp; overlap = g.K.Key.Shape.overlap; inside = g.K.Key.Shape.inside } in
+    let f = format_of g.K.KeyClass in
+    let has = stepped_as (known_at shape g.K.ReadKeys.is_proper) (reading_of g.K.ReadKeys.said f) f (is_node f) (state old.volume.shelf.disk) (state c.step_down.new.self.volume.shelf.disk) old.volume c.step_down.new.self.volume g.K.KeyClass.cost g.K.KeyClass.joined c.args.item c.args.entry.key c.in-Ok.did FullLeaf c.in-FullLeaf.is c.in-Ok.ensures.step in
+    comes_then k (known_at shape g.K.ReadKeys.is_proper) (reading_of g.K.ReadKeys.said f) f (is_node f) 4114 (state old.volume.shelf.disk) (state c.step_down.new.self.volume.shelf.disk) (state c.make_room.new.self.volume.shelf.disk) c.args.session c.args.entry old c.step_down.new.self c.step_down.ensures.only has.logged
+    (λ steady. (has.steps steady).1) c.make_room.new.self c.make_room.result (c.make_room.ensures.comes c.args.entry (ap (λ (x : Parts g.row.K-Key.Denot g.row.D.Denot). phase_at (c.args.session - 1) x.sessions.phases) c.step_down.ensures.only ∙ c.requires.descends))
+
+pub returns-in-FullLeaf-clause-moves : goal.returns-in-FullLeaf-clause-moves
+returns-in-FullLeaf-clause-moves g c l bodies i h =
+    let old : Parts g.row.K-Key.Denot g.row.D.Denot = c.args.self.now in
+    let k = keys g.K.Key.Ord.cmp g.K.Key.Shape.overlap g.K.Key.Shape.inside in
+    let state = g.D.SectorDisk.state in
+    let shape : Members g.row.K-Key.Denot =
+    record { partial_cmp = g.K.Key.PartialOrd.partial_cmp; eq = g.K.Key.PartialEq.eq; cmp = g.K.Key.Ord.cmp; overlap = g.K.Key.Shape.overlap; inside = g.K.Key.Shape.inside } in
+    let f = format_of g.K.KeyClass in
+    let has = stepped_as (known_at shape g.K.ReadKeys.is_proper) (reading_of g.K.ReadKeys.said f) f (is_node f) (state old.volume.shelf.disk) (state c.step_down.new.self.volume.shelf.disk) old.volume c.step_down.new.self.volume g.K.KeyClass.cost g.K.KeyClass.joined c.args.item c.args.entry.key c.in-Ok.did FullLeaf c.in-FullLeaf.is c.in-Ok.ensures.step in
+    let un = has.logged in
+    let step = has.steps h.keeps.steady in
+    moves_then (class_of shape g.K.ReadKeys.is_proper l) (c.a_class_is_lawful.ensures l) (reading_of g.K.ReadKeys.said f) f (is_node f) (state old.volume.shelf.disk) (state c.step_down.new.self.volume.shelf.disk) (state c.make_room.new.self.volume.shelf.disk) c.args.session old
+    c.step_down.new.self c.step_down.ensures.only un.most un.log (un.since 0).goes_on.device (un.keeps l) c.make_room.new.self c.make_room.result (write_events c.args.session (Insert c.args.entry) c.make_room.result)
+    (c.make_room.ensures.moves c.args.entry (ap (λ (x : Parts g.row.K-Key.Denot g.row.D.Denot). phase_at (c.args.session - 1) x.sessions.phases) c.step_down.ensures.only ∙ c.requires.descends)
+    (λ still. said_again k f (state old.volume.shelf.disk) (state c.step_down.new.self.volume.shelf.disk) old c.step_down.new.self c.step_down.ensures.only un.most step.1 c.args.item.page (λ n s. (((tree_of s).node c.args.item.page).level ≡ 0) × (n ≤ length ((tree_of s).node c.args.item.page).pairs)) (step.0.1, step.0.2)) l)
+    bodies i h
+
+pub returns-in-FullInner-clause-comes : goal.returns-in-FullInner-clause-comes
+returns-in-FullInner-clause-comes g c =
+    let old : Parts g.row.K-Key.Denot g.row.D.Denot = c.args.self.now in
+    let k = keys g.K.Key.Ord.cmp g.K.Key.Shape.overlap g.K.Key.Shape.inside in
+    let state = g.D.SectorDisk.state in
+    let shape : Members g.row.K-Key.Denot =
+    record { partial_cmp = g.K.Key.PartialOrd.partial_cmp; eq = g.K.Key.PartialEq.eq; cmp = g.K.Key.Ord.cmp; overlap = g.K.Key.Shape.overlap; inside = g.K.Key.Shape.inside } in
+    let f = format_of g.K.KeyClass in
+    let has = stepped_as (known_at shape g.K.ReadKeys.is_proper) (reading_of g.K.ReadKeys.said f) f (is_node f) (state old.volume.shelf.disk) (state c.step_down.new.self.volume.shelf.disk) old.volume c.step_down.new.self.volume g.K.KeyClass.cost g.K.KeyClass.joined c.args.item c.args.entry.key c.in-Ok.did FullInner c.in-FullInner.is c.in-Ok.ensures.step in
+    comes_then k (known_at shape g.K.ReadKeys.is_proper) (reading_of g.K.ReadKeys.said f) f (is_node f) 4114 (state old.volume.shelf.disk) (state c.step_down.new.self.volume.shelf.disk) (state c.split_here.new.self.volume.shelf.disk) c.args.session c.args.entry old c.step_down.new.self c.step_down.ensures.only has.logged
+    (λ steady. (has.steps steady).1) c.split_here.new.self c.split_here.result (c.split_here.ensures.comes c.args.entry (ap (λ (x : Parts g.row.K-Key.Denot g.row.D.Denot). phase_at (c.args.session - 1) x.sessions.phases) c.step_down.ensures.only ∙ c.requires.descends))
+
+pub returns-in-FullInner-clause-moves : goal.returns-in-FullInner-clause-moves
+returns-in-FullInner-clause-moves g c l bodies i h =
+    let old : Parts g.row.K-Key.Denot g.row.D.Denot = c.args.self.now in
+    let k = keys g.K.Key.Ord.cmp g.K.Key.Shape.overlap g.K.Key.Shape.inside in
+    let state = g.D.SectorDisk.state in
+    let shape : Members g.row.K-Key.Denot =
+    record { partial_cmp = g.K.Key.PartialOrd.partial_cmp; eq = g.K.Key.PartialEq.eq; cmp = g.K.Key.Ord.cmp; overlap = g.K.Key.Shape.overlap; inside = g.K.Key.Shape.inside } in
+    let f = format_of g.K.KeyClass in
+    let has = stepped_as (known_at shape g.K.ReadKeys.is_proper) (reading_of g.K.ReadKeys.said f) f (is_node f) (state old.volume.shelf.disk) (state c.step_down.new.self.volume.shelf.disk) old.volume c.step_down.new.self.volume g.K.KeyClass.cost g.K.KeyClass.joined c.args.item c.args.entry.key c.in-Ok.did FullInner c.in-FullInner.is c.in-Ok.ensures.step in
+    let un = has.logged in
+    let step = has.steps h.keeps.steady in
+    moves_then (class_of shape g.K.ReadKeys.is_proper l) (c.a_class_is_lawful.ensures l) (reading_of g.K.ReadKeys.said f) f (is_node f) (state old.volume.shelf.disk) (state c.step_down.new.self.volume.shelf.disk) (state c.split_here.new.self.volume.shelf.disk) c.args.session old
+    c.step_down.new.self c.step_down.ensures.only un.most un.log (un.since 0).goes_on.device (un.keeps l) c.split_here.new.self c.split_here.result (write_events c.args.session (Insert c.args.entry) c.split_here.result)
+    (c.split_here.ensures.moves c.args.entry (ap (λ (x : Parts g.row.K-Key.Denot g.row.D.Denot). phase_at (c.args.session - 1) x.sessions.phases) c.step_down.ensures.only ∙ c.requires.descends)
+    (λ still. said_again k f (state old.volume.shelf.disk) (state c.step_down.new.self.volume.shelf.disk) old c.step_down.new.self c.step_down.ensures.only un.most step.1 c.args.item.page (λ n s. n ≤ size ((tree_of s).node c.args.item.page)) (full_inner (node_shown f (state old.volume.shelf.disk) c.args.item.page old) old.volume.most step.0.2))
+    (λ still. removable_again k f (state old.volume.shelf.disk) (state c.step_down.new.self.volume.shelf.disk) old c.step_down.new.self c.step_down.ensures.only un.most step.1 c.args.item.page (inner_removable (is_held k old) (node_shown f (state old.volume.shelf.disk) c.args.item.page old) step.0.1)) l)
+    bodies i h
+
+pub returns-in-Err-Pages-clause-comes : goal.returns-in-Err-Pages-clause-comes
+returns-in-Err-Pages-clause-comes g c =
+    let old : Parts g.row.K-Key.Denot g.row.D.Denot = c.args.self.now in
+    let k = keys g.K.Key.Ord.cmp g.K.Key.Shape.overlap g.K.Key.Shape.inside in
+    let state = g.D.SectorDisk.state in
+    let did = c.in-Err-Pages.ensures.step in
+    stopped_comes k (is_node (format_of g.K.KeyClass)) state old c.args.session c.args.entry c.step_down.new.self.volume did.stops.unlogged.most did.stops.unlogged.log
+    4114 (omega arith) c.in-Err-Pages.fault (why_pages _ c.in-Err-Pages.field-0 c.in-Err-Pages.fault c.in-Err-Pages.field-0-is did.stops.why)
+    c.refuse.new.self c.refuse.result
+    (subst (λ (x : Parts g.row.K-Key.Denot g.row.D.Denot). IsRefused c.in-Err-Pages.fault x c.refuse.new.self c.refuse.result) c.step_down.ensures.only
+    (subst (λ (n : StoreFault). IsRefused n c.step_down.new.self c.refuse.new.self c.refuse.result) c.in-Err-Pages.fault-is c.refuse.ensures))
+
+pub returns-in-Err-Pages-clause-moves : goal.returns-in-Err-Pages-clause-moves
+returns-in-Err-Pages-clause-moves g c =
+    let old : Parts g.row.K-Key.Denot g.row.D.Denot = c.args.self.now in
+    let k = keys g.K.Key.Ord.cmp g.K.Key.Shape.overlap g.K.Key.Shape.inside in
+    let state = g.D.SectorDisk.state in
+    let kept = subst (λ (x : Parts g.row.K-Key.Denot g.row.D.Denot). IsKept k x.sessions) c.self.view_is c.has_failed.ensures.kept in
+    let did = c.in-Err-Pages.ensures.step in
+    let un = did.stops.unlogged in
+    λ l. stopped_moves _ (c.a_class_is_lawful.ensures l) _ _ _ state old kept c.requires.works c.args.session c.requires.session c.args.entry _ c.requires.descends
+    c.step_down.new.self.volume un.most un.log (un.since 0).goes_on.device (un.keeps l)
+    4114 c.in-Err-Pages.fault (why_pages _ c.in-Err-Pages.field-0 c.in-Err-Pages.fault c.in-Err-Pages.field-0-is did.stops.why)
+    c.refuse.new.self c.refuse.result
+    (subst (λ (x : Parts g.row.K-Key.Denot g.row.D.Denot). IsRefused c.in-Err-Pages.fault x c.refuse.new.self c.refuse.result) c.step_down.ensures.only
+    (subst (λ (n : StoreFault). IsRefused n c.step_down.new.self c.refuse.new.self c.refuse.result) c.in-Err-Pages.fault-is c.refuse.ensures))
+
+pub returns-in-Err-Memory : goal.returns-in-Err-Memory
+returns-in-Err-Memory g c =
+    let old : Parts g.row.K-Key.Denot g.row.D.Denot = c.args.self.now in
+    let k = keys g.K.Key.Ord.cmp g.K.Key.Shape.overlap g.K.Key.Shape.inside in
+    let state = g.D.SectorDisk.state in
+    let kept = subst (λ (x : Parts g.row.K-Key.Denot g.row.D.Denot). IsKept k x.sessions) c.self.view_is c.has_failed.ensures.kept in
+    let did = c.in-Err-Memory.ensures.step in
+    let un = did.stops.unlogged in
+    let f = format_of g.K.KeyClass in
+    let damaged : c.in-Err-Memory.field-0 ≡ Damaged = search rules in
+    record {
+      comes =
+          lost_comes k (is_node f) state old c.args.session c.args.entry c.step_down.new.self.volume un.most un.log c.break_off.new.self c.break_off.result c.break_off.ensures.outcome
+          (c.break_off.ensures.failed ∙ ap (λ (x : Parts g.row.K-Key.Denot g.row.D.Denot). record x { sessions = failed_state x.sessions }) c.step_down.ensures.only);
+      moves = λ l.
+          never_stepped _ (c.a_class_is_lawful.ensures l) g.K.ReadKeys.said f (is_node f) (state old.volume.shelf.disk) _ old kept c.args.session c.requires.session c.args.entry c.args.parent c.args.item
+          c.requires.descends (λ steady. did.damaged steady damaged) c.break_off.new.self c.break_off.result _;
+    }

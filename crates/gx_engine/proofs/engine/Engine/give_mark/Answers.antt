@@ -1,0 +1,11 @@
+use Rattle.gx_txn.specs.declared.note.Note.{Note}
+use Rattle.gx_engine.proofs.Undone.{seeking}
+use Rattle.gx_engine.proofs.engine.Engine.give_mark.Goals as goal
+
+pub returns-clause-sought : goal.returns-clause-sought
+returns-clause-sought g c =
+    let did = c.set_mark.ensures in
+    let n : Note g.row.K-Key.Denot = record { entry = c.args.entry.now; before = c.args.marked; leaf = c.args.leaf } in
+    rw (← c.self.view_is, ← c.transaction-transaction.ensures)
+    (seeking _ _ _ _ g.K.KeyClass.is_key _ _ _ _ _ _ _ c.transaction-transaction.result n c.args.leaf _ c.entry-wanted.ensures.pairs c.set_mark.result
+    did.logged did.unlogged did.marked did.own did.why did.damaged did.memory did.full)

@@ -1,0 +1,132 @@
+use Rattle.std.proofs.Common.{◌≡◌, ◌≤◌, ◌-◌, ◌∙◌, ap, sym, subst, arith, rules}
+use Rattle.gx_machine.specs.declared.call.Call.TheVariants.{Insert}
+use Rattle.gx_machine.specs.Keys.{Members, keys}
+use Rattle.gx_glog.specs.State.{Log}
+use Rattle.gx_node.specs.Reading.{format_of, is_node}
+use Rattle.gx_readings.specs.Classes.{class_of, reading_of}
+use Rattle.gx_tree.specs.declared.fault.StepFault.TheVariants.{Damaged}
+use Rattle.gx_phases.specs.Moves.{failed_state}
+use Rattle.gx_phases.specs.States.{IsKept, phase_at}
+use Rattle.gx_store.specs.declared.fault.StoreFault.{StoreFault}
+use Rattle.gx_engine.specs.declared.work.Work.TheVariants.{Descends}
+use Rattle.gx_events.specs.declared.outcome.Outcome.TheVariants.{More}
+use Rattle.gx_node.specs.declared.items.TheConstants.{MAX_ENTRIES}
+use Rattle.gx_engine.specs.Moves.{Moves}
+use Rattle.gx_engine.specs.Refusals.{IsRefused}
+use Rattle.gx_engine.specs.States.{Parts}
+use Rattle.gx_engine.specs.Writing.{write_events}
+use Rattle.gx_tree.specs.Store.{tree_of}
+use Rattle.gx_tree_laws.specs.Trees.{size}
+use Rattle.gx_storage.specs.Changes.{known_at}
+use Rattle.gx_engine.specs.Sweeping.{is_held, node_shown}
+use Rattle.gx_engine.proofs.DescentMoves.{full_leaf, none_removable, removable_again, said_again, swept_false, swept_true}
+use Rattle.gx_engine.proofs.MakingRoom.{never_swept, swept_moves, yet_comes}
+use Rattle.gx_engine.proofs.ReadFirst.{comes_then, moves_then}
+use Rattle.gx_engine.proofs.Stopping.{lost_comes, stopped_comes, stopped_moves}
+use Rattle.gx_engine.proofs.Undone.{why_pages}
+use Rattle.gx_engine.proofs.engine.Engine.make_room.Goals as goal
+
+pub returns-in-Ok-true-clause-comes : goal.returns-in-Ok-true-clause-comes
+returns-in-Ok-true-clause-comes g c entry at =
+    let old : Parts g.row.K-Key.Denot g.row.D.Denot = c.args.self.now in
+    let k = keys g.K.Key.Ord.cmp g.K.Key.Shape.overlap g.K.Key.Shape.inside in
+    let state = g.D.SectorDisk.state in
+    let shape : Members g.row.K-Key.Denot =
+    record { partial_cmp = g.K.Key.PartialOrd.partial_cmp; eq = g.K.Key.PartialEq.eq; cmp = g.K.Key.Ord.cmp; overlap = g.K.Key.Shape.overlap; inside = g.K.Key.Shape.inside } in
+    let has = swept_true (known_at shape g.K.ReadKeys.is_proper) (reading_of g.K.ReadKeys.said (format_of g.K.KeyClass)) (format_of g.K.KeyClass) (is_node (format_of g.K.KeyClass)) (state old.volume.shelf.disk) (state c.sweep_leaf.new.self.volume.shelf.disk) old.volume c.sweep_leaf.new.self.volume (is_held k old) c.args.item.page c.in-Ok-true.field-0 c.in-Ok-true.field-0-test c.in-Ok-true.ensures.sweeps in
+    yet_comes k (is_node (format_of g.K.KeyClass)) (state old.volume.shelf.disk) (state c.sweep_leaf.new.self.volume.shelf.disk) c.args.session (Insert entry) (Descends c.args.parent c.args.item) old c.sweep_leaf.new.self c.sweep_leaf.ensures.only has.logged.most at
+
+pub returns-in-Ok-true-clause-moves : goal.returns-in-Ok-true-clause-moves
+returns-in-Ok-true-clause-moves g c entry at leaf l =
+    let old : Parts g.row.K-Key.Denot g.row.D.Denot = c.args.self.now in
+    let k = keys g.K.Key.Ord.cmp g.K.Key.Shape.overlap g.K.Key.Shape.inside in
+    let state = g.D.SectorDisk.state in
+    let kept = subst (λ (x : Parts g.row.K-Key.Denot g.row.D.Denot). IsKept k x.sessions) c.self.view_is c.has_failed.ensures.kept in
+    let shape : Members g.row.K-Key.Denot =
+    record { partial_cmp = g.K.Key.PartialOrd.partial_cmp; eq = g.K.Key.PartialEq.eq; cmp = g.K.Key.Ord.cmp; overlap = g.K.Key.Shape.overlap; inside = g.K.Key.Shape.inside } in
+    let has = swept_true (known_at shape g.K.ReadKeys.is_proper) (reading_of g.K.ReadKeys.said (format_of g.K.KeyClass)) (format_of g.K.KeyClass) (is_node (format_of g.K.KeyClass)) (state old.volume.shelf.disk) (state c.sweep_leaf.new.self.volume.shelf.disk) old.volume c.sweep_leaf.new.self.volume (is_held k old) c.args.item.page c.in-Ok-true.field-0 c.in-Ok-true.field-0-test c.in-Ok-true.ensures.sweeps in
+    subst (λ (x : Parts g.row.K-Key.Denot g.row.D.Denot). Moves (class_of shape g.K.ReadKeys.is_proper l) (reading_of g.K.ReadKeys.said (format_of g.K.KeyClass)) (format_of g.K.KeyClass) (is_node (format_of g.K.KeyClass))
+    (state old.volume.shelf.disk) (state c.sweep_leaf.new.self.volume.shelf.disk) c.args.session old x More (write_events c.args.session (Insert entry) More)) (sym c.sweep_leaf.ensures.only)
+    (swept_moves _ (c.a_class_is_lawful.ensures l) g.K.ReadKeys.said (format_of g.K.KeyClass) (is_node (format_of g.K.KeyClass)) (state old.volume.shelf.disk) (state c.sweep_leaf.new.self.volume.shelf.disk) old kept c.requires.works c.args.session c.requires.session c.requires.early entry c.args.parent c.args.item at
+    c.sweep_leaf.new.self.volume has.logged.most (ap (λ (x : Log). x.stage) has.logged.logs.log) has.swept has.own (has.logged.keeps l))
+
+pub returns-in-Ok-false-clause-comes : goal.returns-in-Ok-false-clause-comes
+returns-in-Ok-false-clause-comes g c entry at =
+    let old : Parts g.row.K-Key.Denot g.row.D.Denot = c.args.self.now in
+    let k = keys g.K.Key.Ord.cmp g.K.Key.Shape.overlap g.K.Key.Shape.inside in
+    let state = g.D.SectorDisk.state in
+    let shape : Members g.row.K-Key.Denot =
+    record { partial_cmp = g.K.Key.PartialOrd.partial_cmp; eq = g.K.Key.PartialEq.eq; cmp = g.K.Key.Ord.cmp; overlap = g.K.Key.Shape.overlap; inside = g.K.Key.Shape.inside } in
+    let has = swept_false (known_at shape g.K.ReadKeys.is_proper) (reading_of g.K.ReadKeys.said (format_of g.K.KeyClass)) (format_of g.K.KeyClass) (is_node (format_of g.K.KeyClass)) (state old.volume.shelf.disk) (state c.sweep_leaf.new.self.volume.shelf.disk) old.volume c.sweep_leaf.new.self.volume (is_held k old) c.args.item.page c.in-Ok-false.field-0 c.in-Ok-false.field-0-test c.in-Ok-false.ensures.sweeps in
+    comes_then k (known_at shape g.K.ReadKeys.is_proper) (reading_of g.K.ReadKeys.said (format_of g.K.KeyClass)) (format_of g.K.KeyClass) (is_node (format_of g.K.KeyClass)) 4114 (state old.volume.shelf.disk) (state c.sweep_leaf.new.self.volume.shelf.disk) (state c.split_here.new.self.volume.shelf.disk) c.args.session entry old c.sweep_leaf.new.self c.sweep_leaf.ensures.only has.unlogged has.same
+    c.split_here.new.self c.split_here.result (c.split_here.ensures.comes entry (ap (λ (x : Parts g.row.K-Key.Denot g.row.D.Denot). phase_at (c.args.session - 1) x.sessions.phases) c.sweep_leaf.ensures.only ∙ at))
+
+pub returns-in-Ok-false-clause-moves : goal.returns-in-Ok-false-clause-moves
+returns-in-Ok-false-clause-moves g c entry at leaf l bodies i h =
+    let old : Parts g.row.K-Key.Denot g.row.D.Denot = c.args.self.now in
+    let k = keys g.K.Key.Ord.cmp g.K.Key.Shape.overlap g.K.Key.Shape.inside in
+    let state = g.D.SectorDisk.state in
+    let shape : Members g.row.K-Key.Denot =
+    record { partial_cmp = g.K.Key.PartialOrd.partial_cmp; eq = g.K.Key.PartialEq.eq; cmp = g.K.Key.Ord.cmp; overlap = g.K.Key.Shape.overlap; inside = g.K.Key.Shape.inside } in
+    let has = swept_false (known_at shape g.K.ReadKeys.is_proper) (reading_of g.K.ReadKeys.said (format_of g.K.KeyClass)) (format_of g.K.KeyClass) (is_node (format_of g.K.KeyClass)) (state old.volume.shelf.disk) (state c.sweep_leaf.new.self.volume.shelf.disk) old.volume c.sweep_leaf.new.self.volume (is_held k old) c.args.item.page c.in-Ok-false.field-0 c.in-Ok-false.field-0-test c.in-Ok-false.ensures.sweeps in
+    let un = has.unlogged in
+    let f = format_of g.K.KeyClass in
+    let steady = h.keeps.steady in
+    moves_then (class_of shape g.K.ReadKeys.is_proper l) (c.a_class_is_lawful.ensures l) (reading_of g.K.ReadKeys.said f) f (is_node f) (state old.volume.shelf.disk) (state c.sweep_leaf.new.self.volume.shelf.disk) (state c.split_here.new.self.volume.shelf.disk) c.args.session old
+    c.sweep_leaf.new.self c.sweep_leaf.ensures.only un.most un.log (un.since 0).goes_on.device (un.keeps l) c.split_here.new.self c.split_here.result (write_events c.args.session (Insert entry) c.split_here.result)
+    (c.split_here.ensures.moves entry (ap (λ (x : Parts g.row.K-Key.Denot g.row.D.Denot). phase_at (c.args.session - 1) x.sessions.phases) c.sweep_leaf.ensures.only ∙ at)
+    (λ still. said_again k f (state old.volume.shelf.disk) (state c.sweep_leaf.new.self.volume.shelf.disk) old c.sweep_leaf.new.self c.sweep_leaf.ensures.only un.most (has.same steady) c.args.item.page (λ n s. n ≤ size ((tree_of s).node c.args.item.page))
+    (full_leaf (node_shown f (state old.volume.shelf.disk) c.args.item.page old) old.volume.most (leaf steady).1))
+    (λ still. removable_again k f (state old.volume.shelf.disk) (state c.sweep_leaf.new.self.volume.shelf.disk) old c.sweep_leaf.new.self c.sweep_leaf.ensures.only un.most (has.same steady) c.args.item.page
+    (none_removable (is_held k old) (node_shown f (state old.volume.shelf.disk) c.args.item.page old) (has.none steady))) l)
+    bodies i h
+
+pub returns-in-Err-Pages-clause-comes : goal.returns-in-Err-Pages-clause-comes
+returns-in-Err-Pages-clause-comes g c entry at =
+    let old : Parts g.row.K-Key.Denot g.row.D.Denot = c.args.self.now in
+    let k = keys g.K.Key.Ord.cmp g.K.Key.Shape.overlap g.K.Key.Shape.inside in
+    let state = g.D.SectorDisk.state in
+    let did = c.in-Err-Pages.ensures.sweeps in
+    stopped_comes k (is_node (format_of g.K.KeyClass)) state old c.args.session entry c.sweep_leaf.new.self.volume did.stops.unlogged.most did.stops.unlogged.log
+    4114 (omega arith) c.in-Err-Pages.fault (why_pages _ c.in-Err-Pages.field-0 c.in-Err-Pages.fault c.in-Err-Pages.field-0-is did.stops.why)
+    c.refuse.new.self c.refuse.result
+    (subst (λ (x : Parts g.row.K-Key.Denot g.row.D.Denot). IsRefused c.in-Err-Pages.fault x c.refuse.new.self c.refuse.result) c.sweep_leaf.ensures.only
+    (subst (λ (n : StoreFault). IsRefused n c.sweep_leaf.new.self c.refuse.new.self c.refuse.result) c.in-Err-Pages.fault-is c.refuse.ensures))
+
+pub returns-in-Err-Pages-clause-moves : goal.returns-in-Err-Pages-clause-moves
+returns-in-Err-Pages-clause-moves g c entry at leaf =
+    let old : Parts g.row.K-Key.Denot g.row.D.Denot = c.args.self.now in
+    let k = keys g.K.Key.Ord.cmp g.K.Key.Shape.overlap g.K.Key.Shape.inside in
+    let state = g.D.SectorDisk.state in
+    let kept = subst (λ (x : Parts g.row.K-Key.Denot g.row.D.Denot). IsKept k x.sessions) c.self.view_is c.has_failed.ensures.kept in
+    let did = c.in-Err-Pages.ensures.sweeps in
+    let un = did.stops.unlogged in
+    λ l. stopped_moves _ (c.a_class_is_lawful.ensures l) _ _ _ state old kept c.requires.works c.args.session c.requires.session entry _ at
+    c.sweep_leaf.new.self.volume un.most un.log (un.since 0).goes_on.device (un.keeps l)
+    4114 c.in-Err-Pages.fault (why_pages _ c.in-Err-Pages.field-0 c.in-Err-Pages.fault c.in-Err-Pages.field-0-is did.stops.why)
+    c.refuse.new.self c.refuse.result
+    (subst (λ (x : Parts g.row.K-Key.Denot g.row.D.Denot). IsRefused c.in-Err-Pages.fault x c.refuse.new.self c.refuse.result) c.sweep_leaf.ensures.only
+    (subst (λ (n : StoreFault). IsRefused n c.sweep_leaf.new.self c.refuse.new.self c.refuse.result) c.in-Err-Pages.fault-is c.refuse.ensures))
+
+pub returns-in-Err-Memory-clause-comes : goal.returns-in-Err-Memory-clause-comes
+returns-in-Err-Memory-clause-comes g c entry at =
+    let old : Parts g.row.K-Key.Denot g.row.D.Denot = c.args.self.now in
+    let k = keys g.K.Key.Ord.cmp g.K.Key.Shape.overlap g.K.Key.Shape.inside in
+    let state = g.D.SectorDisk.state in
+    let un = c.in-Err-Memory.ensures.sweeps.stops.unlogged in
+    lost_comes k (is_node (format_of g.K.KeyClass)) state old c.args.session entry c.sweep_leaf.new.self.volume un.most un.log c.break_off.new.self c.break_off.result c.break_off.ensures.outcome
+    (c.break_off.ensures.failed ∙ ap (λ (x : Parts g.row.K-Key.Denot g.row.D.Denot). record x { sessions = failed_state x.sessions }) c.sweep_leaf.ensures.only)
+
+pub returns-in-Err-Memory-clause-moves : goal.returns-in-Err-Memory-clause-moves
+returns-in-Err-Memory-clause-moves g c entry at leaf l =
+    let old : Parts g.row.K-Key.Denot g.row.D.Denot = c.args.self.now in
+    let k = keys g.K.Key.Ord.cmp g.K.Key.Shape.overlap g.K.Key.Shape.inside in
+    let state = g.D.SectorDisk.state in
+    let kept = subst (λ (x : Parts g.row.K-Key.Denot g.row.D.Denot). IsKept k x.sessions) c.self.view_is c.has_failed.ensures.kept in
+    let did = c.in-Err-Memory.ensures.sweeps in
+    let un = did.stops.unlogged in
+    let damaged : c.in-Err-Memory.field-0 ≡ Damaged = search rules in
+    let fits = subst (λ (x : Parts g.row.K-Key.Denot g.row.D.Denot). x.volume.most ≤ MAX_ENTRIES) c.self.view_is c.most.ensures.few in
+    never_swept _ (c.a_class_is_lawful.ensures l) g.K.ReadKeys.said (format_of g.K.KeyClass) (is_node (format_of g.K.KeyClass)) (state old.volume.shelf.disk) _
+    old kept c.requires.works c.args.session c.requires.session c.requires.early entry c.args.parent c.args.item at c.sweep_leaf.new.self.volume un.most
+    fits (λ steady. (leaf steady).0) (λ steady. did.damaged steady damaged) c.break_off.new.self c.break_off.result _

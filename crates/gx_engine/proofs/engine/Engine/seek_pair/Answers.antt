@@ -1,0 +1,11 @@
+use Rattle.gx_engine.proofs.Seeking.{found, unfound}
+use Rattle.gx_engine.proofs.engine.Engine.seek_pair.Goals as goal
+
+pub returns-clause-sought : goal.returns-clause-sought
+returns-clause-sought g c =
+    found _ g.K.KeyClass.is_key _ _ _ c.args.leaf c.args.entry.now _ c.entry-wanted.ensures.pairs c.seek_step.result c.seek_step.ensures.sought
+
+pub returns-clause-refused : goal.returns-clause-refused
+returns-clause-refused g c =
+    let did = c.seek_step.ensures in
+    rw (← c.self.view_is) (unfound _ g.K.KeyClass.is_key _ _ _ c.args.leaf _ _ _ c.seek_step.result did.why did.damaged did.memory did.full)

@@ -1,0 +1,8 @@
+use Rattle.gx_engine.proofs.Descents.{splitting}
+use Rattle.gx_engine.proofs.engine.Engine.split_node.Goals as goal
+
+pub returns-clause-splits : goal.returns-clause-splits
+returns-clause-splits g c =
+    let did = c.split-split.ensures in
+    rw (← c.self.view_is, ← c.page.ensures)
+    (splitting _ _ _ _ _ _ _ _ _ g.K.KeyClass.sides_of c.page.result c.args.parent c.split-split.result did.logged did.unlogged did.split did.own did.why did.full did.damaged did.memory)

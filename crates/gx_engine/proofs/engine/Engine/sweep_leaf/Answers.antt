@@ -1,0 +1,15 @@
+use Rattle.std.proofs.Common.{rules}
+use Rattle.gx_machine.specs.Keys.{keys}
+use Rattle.gx_engine.specs.States.{Parts}
+use Rattle.gx_engine.specs.Sweeping.{is_held}
+use Rattle.gx_engine.proofs.Descents.{leaf_sweeping}
+use Rattle.gx_engine.proofs.engine.Engine.sweep_leaf.Goals as goal
+
+pub returns-clause-sweeps : goal.returns-clause-sweeps
+returns-clause-sweeps g c =
+    let old : Parts g.row.K-Key.Denot g.row.D.Denot = record { volume = c.self.inside.storage; sessions = c.self.inside.sessions; in_flight = c.self.inside.in_flight; checkpoint = c.self.inside.checkpoint } in
+    let k = keys g.K.Key.Ord.cmp g.K.Key.Shape.overlap g.K.Key.Shape.inside in
+    let did = c.sweep.ensures in
+    rw (← c.self.view_is, ← c.page.ensures)
+    (leaf_sweeping _ _ _ _ _ _ _ _ (is_held k old) c.page.result c.sweep.result did.logged did.unlogged
+    (λ steady. did.swept steady (is_held k old) (λ entry answer post. search rules)) did.own did.why did.damaged did.memory did.full)

@@ -1,0 +1,368 @@
+//! The descent of an insert whose pair stands nowhere yet: from the root to a leaf that has room.
+ghost use Rattle.std.specs.Prelude.{◌≡◌, ◌≢◌, ◌-◌, ◌≤◌, true, false, Some, length};
+ghost use Rattle.gx_machine.specs.declared.call.Call.{Call};
+ghost use Rattle.gx_machine.specs.declared.call.Call.TheVariants.{Insert};
+ghost use Rattle.gx_machine.specs.Keys.{keys_of};
+ghost use Rattle.gx_machine.specs.Machine.{is_session};
+ghost use Rattle.gx_node.specs.Reading.{format_of, is_node};
+ghost use Rattle.gx_recovery.specs.Known.{Limits};
+ghost use Rattle.gx_readings.specs.Classes.{class_of, reading_of};
+ghost use Rattle.gx_store.specs.Standing.{store_of};
+ghost use Rattle.gx_store.specs.State.{IsSteady};
+ghost use Rattle.gx_storage.specs.Bringing.{has_removable};
+ghost use Rattle.gx_tree.specs.declared.descent.Way.TheVariants.{Add};
+ghost use Rattle.gx_tree.specs.Descending.{WayAt, next_of};
+ghost use Rattle.gx_tree_laws.specs.Reach as reach;
+ghost use Rattle.gx_tree.specs.Keyed.{rules_of};
+ghost use Rattle.gx_tree.specs.Store.{tree_of};
+ghost use Rattle.gx_tree_laws.specs.Trees.{size};
+ghost use Rattle.gx_phases.specs.declared.phase.Phase.TheVariants.{Open};
+ghost use Rattle.gx_phases.specs.Moves.{HasWrite, is_open, transaction_of, written_state};
+ghost use Rattle.gx_phases.specs.States.{phase_at};
+ghost use Rattle.gx_storage.specs.Changes.{known_at};
+ghost use Rattle.gx_engine.specs.declared.work.Work as declared;
+ghost use Rattle.gx_engine.specs.declared.work.Work.TheVariants.{Descends};
+ghost use Rattle.gx_engine.specs.Descending.{Adding, LeafSweeping, RootSplitting, Splitting, Stepping};
+ghost use Rattle.gx_engine.specs.Moves.{Moves, calling};
+ghost use Rattle.gx_engine.specs.States.{is_due};
+ghost use Rattle.gx_engine.specs.Sweeping.{is_held, node_shown};
+ghost use Rattle.gx_engine.specs.Writing.{WriteComes, write_events};
+
+use crate::Engine;
+use crate::laws::a_class_is_lawful;
+use crate::work::Work;
+use gx_disk::SectorDisk;
+use gx_events::{Need, Outcome};
+use gx_geom::Refusal;
+use gx_machine::{Entry, Reply};
+use gx_readings::ReadKeys;
+use gx_storage::laws::a_volume_shows_keys;
+use gx_store::StoreFault;
+use gx_tree::{Descended, Item, RootSplit, Split, StepFault};
+
+impl<D: SectorDisk, K: ReadKeys> Engine<D, K> {
+    // A call descends at this item, to which it came from this page.
+    fn go_to(&mut self, session: u8, from: u32, item: Item) -> Outcome<K::Key>
+        requires session { is_session session ≡ true }
+        ensures outcome { result ≡ Outcome.More }
+        ensures there { (call : Call K.Key) (was : declared.Work K.Key) → phase_at (session - 1) self.old.sessions.phases ≡ Open call was
+            → self.new ≡ calling session call (Descends from item) self.old }
+    {
+        self.sessions
+            .replace_work(session, Work::Descends(from, item));
+        Outcome::More
+    }
+
+    // A call's descent begins again at the root.
+    fn begin_again(&mut self, session: u8) -> Outcome<K::Key>
+        requires session { is_session session ≡ true }
+        ensures outcome { result ≡ Outcome.More }
+        ensures there { (call : Call K.Key) (was : declared.Work K.Key) → phase_at (session - 1) self.old.sessions.phases ≡ Open call was
+            → self.new ≡ calling session call (Descends 0 (record { page = 1; seen = self.old.volume.shelf.counter })) self.old }
+    {
+        let root = Item::new(1, self.storage.counter());
+        self.go_to(session, 0, root)
+    }
+
+    // A step at an item's page has gone down, and the descent with it.
+    fn go_down(&mut self, session: u8, from: &Item, did: &Descended<K::Key>) -> Outcome<K::Key>
+        requires session { is_session session ≡ true }
+        ensures outcome { result ≡ Outcome.More }
+        ensures there { (next : reach.Item) → next_of did.now ≡ Some next → (call : Call K.Key) (was : declared.Work K.Key)
+            → phase_at (session - 1) self.old.sessions.phases ≡ Open call was → self.new ≡ calling session call (Descends from.now.page next) self.old }
+    {
+        let next = did.next().unwrap_or(Item::new(from.page(), from.seen()));
+        self.go_to(session, from.page(), next)
+    }
+
+    // A descent's step at the page of its item, as storage makes it.
+    fn step_down(
+        &mut self,
+        item: &Item,
+        coming: &K::Key,
+    ) -> Result<Descended<K::Key>, StepFault<StoreFault>>
+        requires early { is_due self.old ≡ false }
+        ensures step { Stepping (known_at K.Key.Shape K.is_proper) (reading_of K.said (format_of K.KeyClass)) (format_of K.KeyClass) (is_node (format_of K.KeyClass)) K.cost K.joined
+            (D.state self.old.volume.shelf.disk) (D.state self.new.volume.shelf.disk) self.old.volume self.new.volume item.now coming.now result }
+        ensures only { self.new ≡ record self.old { volume = self.new.volume } }
+    {
+        self.storage.descend(item, coming)
+    }
+
+    // A session's transaction adds an entry's pair to the leaf of an item, as storage does.
+    fn add_pair(
+        &mut self,
+        session: u8,
+        entry: &Entry<K::Key>,
+        item: &Item,
+    ) -> Result<(), StepFault<StoreFault>>
+        requires session { is_session session ≡ true }
+        requires early { is_due self.old ≡ false }
+        ensures adds { Adding (known_at K.Key.Shape K.is_proper) (reading_of K.said (format_of K.KeyClass)) (format_of K.KeyClass) (is_node (format_of K.KeyClass)) K.spelling K.KEY
+            (D.state self.old.volume.shelf.disk) (D.state self.new.volume.shelf.disk) self.old.volume self.new.volume (transaction_of session self.old.sessions) entry.now item.now.page result }
+        ensures only { self.new ≡ record self.old { volume = self.new.volume } }
+    {
+        let transaction = self.sessions.transaction(session);
+        self.storage.add(transaction, item.page(), entry)
+    }
+
+    // An insert's pair, which was absent, was added to the leaf of an item: that is noted, and the call is answered.
+    fn note_added(&mut self, session: u8, entry: Entry<K::Key>, item: &Item) -> Outcome<K::Key>
+        requires session { is_session session ≡ true }
+        requires write { HasWrite entry (phase_at (session - 1) self.old.sessions.phases) }
+        ensures outcome { result ≡ Outcome.Replied Reply.Inserted }
+        ensures noted { self.new ≡ record self.old {
+          sessions = written_state (keys_of K.Key.Shape) session (record { entry = entry; before = true; leaf = item.now.page }) self.old.sessions;
+        } }
+    {
+        self.sessions.note(session, entry, true, item.page());
+        Outcome::Replied(Reply::Inserted)
+    }
+
+    // An insert has descended to a leaf that has room: its pair is added there, and noted.
+    fn add_here(
+        &mut self,
+        session: u8,
+        entry: Entry<K::Key>,
+        parent: u32,
+        item: Item,
+    ) -> Outcome<K::Key>
+        requires session { is_session session ≡ true }
+        requires descends { phase_at (session - 1) self.old.sessions.phases ≡ Open (Insert entry) (Descends parent item) }
+        requires works { self.old.sessions.failed ≡ false }
+        requires early { is_due self.old ≡ false }
+        ensures comes { WriteComes (keys_of K.Key.Shape) (is_node (format_of K.KeyClass)) (D.state self.old.volume.shelf.disk) (D.state self.new.volume.shelf.disk) session
+            (Insert entry) self.old self.new result }
+        ensures moves { (IsSteady (D.state self.old.volume.shelf.disk) self.old.volume.shelf.frames → WayAt K.cost K.joined self.old.volume.most
+            (store_of (format_of K.KeyClass) (D.state self.old.volume.shelf.disk).seen self.old.volume.shelf) item entry.key Add) → (l : Limits)
+            → Moves (class_of K.Key.Shape K.is_proper l) (reading_of K.said (format_of K.KeyClass)) (format_of K.KeyClass) (is_node (format_of K.KeyClass))
+            (D.state self.old.volume.shelf.disk) (D.state self.new.volume.shelf.disk) session self.old self.new result (write_events session (Insert entry) result) }
+    {
+        a_class_is_lawful::<K>();
+        K::known(&entry.key);
+        self.sessions.has_failed();
+        match self.add_pair(session, &entry, &item) {
+            Ok(()) => self.note_added(session, entry, &item),
+            Err(StepFault::Pages(fault)) => self.refuse(fault),
+            Err(StepFault::Memory | StepFault::Damaged | StepFault::PagesFull) => self.break_off(
+                Refusal::Damaged,
+            ),
+        }
+    }
+
+    // Takes out of a leaf what is marked and no session claims, as storage does.
+    fn sweep_leaf(&mut self, item: &Item) -> Result<bool, StepFault<StoreFault>>
+        requires early { is_due self.old ≡ false }
+        ensures sweeps { LeafSweeping (known_at K.Key.Shape K.is_proper) (reading_of K.said (format_of K.KeyClass)) (format_of K.KeyClass) (is_node (format_of K.KeyClass))
+            (is_held (keys_of K.Key.Shape) self.old) (D.state self.old.volume.shelf.disk) (D.state self.new.volume.shelf.disk) self.old.volume self.new.volume item.now.page result }
+        ensures only { self.new ≡ record self.old { volume = self.new.volume } }
+    {
+        let sessions = &self.sessions;
+        self.storage
+            .sweep(item.page(), |entry| sessions.is_claimed(&entry))
+    }
+
+    // Splits the node of an item below its parent, as storage does.
+    fn split_node(
+        &mut self,
+        parent: u32,
+        item: &Item,
+    ) -> Result<Option<Split<K::Key>>, StepFault<StoreFault>>
+        requires early { is_due self.old ≡ false }
+        ensures splits { Splitting (known_at K.Key.Shape K.is_proper) (reading_of K.said (format_of K.KeyClass)) (format_of K.KeyClass) (is_node (format_of K.KeyClass))
+            (rules_of K.Key.Shape) K.sides_of (D.state self.old.volume.shelf.disk) (D.state self.new.volume.shelf.disk) self.old.volume self.new.volume item.now.page parent result }
+        ensures only { self.new ≡ record self.old { volume = self.new.volume } }
+        ensures fits { (self.new.volume.shelf.used ≤ self.new.volume.shelf.pages) × (self.new.volume.shelf.pages ≤ 65536) }
+    {
+        let split = self.storage.split(item.page(), parent, &mut self.keys);
+        self.storage.in_order();
+        split
+    }
+
+    // Splits the root, as storage does.
+    fn split_root(&mut self) -> Result<RootSplit<K::Key>, StepFault<StoreFault>>
+        requires early { is_due self.old ≡ false }
+        ensures splits { RootSplitting (known_at K.Key.Shape K.is_proper) (reading_of K.said (format_of K.KeyClass)) (format_of K.KeyClass) (is_node (format_of K.KeyClass))
+            (rules_of K.Key.Shape) K.sides_of (D.state self.old.volume.shelf.disk) (D.state self.new.volume.shelf.disk) self.old.volume self.new.volume result }
+        ensures only { self.new ≡ record self.old { volume = self.new.volume } }
+        ensures fits { (self.new.volume.shelf.used ≤ self.new.volume.shelf.pages) × (self.new.volume.shelf.pages ≤ 65536) }
+    {
+        let split = self.storage.split_root(&mut self.keys);
+        self.storage.in_order();
+        split
+    }
+
+    // The node of a descent's item is full, and below the root: it is split, or its parent has no place for that. The descent begins
+    // again.
+    fn split_below(&mut self, session: u8, parent: u32, item: Item) -> Outcome<K::Key>
+        requires session { is_session session ≡ true }
+        requires open { is_open (phase_at (session - 1) self.old.sessions.phases) ≡ true }
+        requires works { self.old.sessions.failed ≡ false }
+        requires early { is_due self.old ≡ false }
+        requires below { item.page ≢ 1 }
+        ensures comes { (entry : Entry K.Key) → phase_at (session - 1) self.old.sessions.phases ≡ Open (Insert entry) (Descends parent item)
+            → WriteComes (keys_of K.Key.Shape) (is_node (format_of K.KeyClass)) (D.state self.old.volume.shelf.disk)
+            (D.state self.new.volume.shelf.disk) session (Insert entry) self.old self.new result }
+        ensures moves { (entry : Entry K.Key) → phase_at (session - 1) self.old.sessions.phases ≡ Open (Insert entry) (Descends parent item)
+            → (IsSteady (D.state self.old.volume.shelf.disk) self.old.volume.shelf.frames → self.old.volume.most
+            ≤ size ((tree_of (store_of (format_of K.KeyClass) (D.state self.old.volume.shelf.disk).seen self.old.volume.shelf)).node item.page)) → (l : Limits)
+            → Moves (class_of K.Key.Shape K.is_proper l) (reading_of K.said (format_of K.KeyClass)) (format_of K.KeyClass) (is_node (format_of K.KeyClass))
+            (D.state self.old.volume.shelf.disk) (D.state self.new.volume.shelf.disk) session self.old self.new result (write_events session (Insert entry) result) }
+    {
+        a_class_is_lawful::<K>();
+        self.sessions.has_failed();
+        match self.split_node(parent, &item) {
+            Ok(_) => self.begin_again(session),
+            Err(StepFault::Pages(fault)) => self.refuse(fault),
+            Err(StepFault::PagesFull) => self.close(session, Refusal::PagesFull),
+            Err(StepFault::Memory | StepFault::Damaged) => self.break_off(Refusal::Damaged),
+        }
+    }
+
+    // The root is full: it is split, and the descent begins again.
+    fn split_top(&mut self, session: u8, parent: u32, item: Item) -> Outcome<K::Key>
+        requires session { is_session session ≡ true }
+        requires open { is_open (phase_at (session - 1) self.old.sessions.phases) ≡ true }
+        requires works { self.old.sessions.failed ≡ false }
+        requires early { is_due self.old ≡ false }
+        requires top { item.page ≡ 1 }
+        ensures comes { (entry : Entry K.Key) → phase_at (session - 1) self.old.sessions.phases ≡ Open (Insert entry) (Descends parent item)
+            → WriteComes (keys_of K.Key.Shape) (is_node (format_of K.KeyClass)) (D.state self.old.volume.shelf.disk)
+            (D.state self.new.volume.shelf.disk) session (Insert entry) self.old self.new result }
+        ensures moves { (entry : Entry K.Key) → phase_at (session - 1) self.old.sessions.phases ≡ Open (Insert entry) (Descends parent item)
+            → (IsSteady (D.state self.old.volume.shelf.disk) self.old.volume.shelf.frames → self.old.volume.most
+            ≤ size ((tree_of (store_of (format_of K.KeyClass) (D.state self.old.volume.shelf.disk).seen self.old.volume.shelf)).node item.page)) → (l : Limits)
+            → Moves (class_of K.Key.Shape K.is_proper l) (reading_of K.said (format_of K.KeyClass)) (format_of K.KeyClass) (is_node (format_of K.KeyClass))
+            (D.state self.old.volume.shelf.disk) (D.state self.new.volume.shelf.disk) session self.old self.new result (write_events session (Insert entry) result) }
+    {
+        a_class_is_lawful::<K>();
+        self.sessions.has_failed();
+        match self.split_root() {
+            Ok(_) => self.begin_again(session),
+            Err(StepFault::Pages(fault)) => self.refuse(fault),
+            Err(StepFault::PagesFull) => self.close(session, Refusal::PagesFull),
+            Err(StepFault::Memory | StepFault::Damaged) => self.break_off(Refusal::Damaged),
+        }
+    }
+
+    // The node of a descent's item is full, and has no pair that a sweep takes: it is split.
+    fn split_here(&mut self, session: u8, parent: u32, item: Item) -> Outcome<K::Key>
+        requires session { is_session session ≡ true }
+        requires open { is_open (phase_at (session - 1) self.old.sessions.phases) ≡ true }
+        requires works { self.old.sessions.failed ≡ false }
+        requires early { is_due self.old ≡ false }
+        ensures comes { (entry : Entry K.Key) → phase_at (session - 1) self.old.sessions.phases ≡ Open (Insert entry) (Descends parent item)
+            → WriteComes (keys_of K.Key.Shape) (is_node (format_of K.KeyClass)) (D.state self.old.volume.shelf.disk)
+            (D.state self.new.volume.shelf.disk) session (Insert entry) self.old self.new result }
+        ensures moves { (entry : Entry K.Key) → phase_at (session - 1) self.old.sessions.phases ≡ Open (Insert entry) (Descends parent item)
+            → (IsSteady (D.state self.old.volume.shelf.disk) self.old.volume.shelf.frames → self.old.volume.most
+            ≤ size ((tree_of (store_of (format_of K.KeyClass) (D.state self.old.volume.shelf.disk).seen self.old.volume.shelf)).node item.page))
+            → (IsSteady (D.state self.old.volume.shelf.disk) self.old.volume.shelf.frames
+            → has_removable (is_held (keys_of K.Key.Shape) self.old) (node_shown (format_of K.KeyClass) (D.state self.old.volume.shelf.disk) item.page self.old) ≡ false) → (l : Limits)
+            → Moves (class_of K.Key.Shape K.is_proper l) (reading_of K.said (format_of K.KeyClass)) (format_of K.KeyClass) (is_node (format_of K.KeyClass))
+            (D.state self.old.volume.shelf.disk) (D.state self.new.volume.shelf.disk) session self.old self.new result (write_events session (Insert entry) result) }
+    {
+        if item.page() == 1 {
+            self.split_top(session, parent, item)
+        } else {
+            self.split_below(session, parent, item)
+        }
+    }
+
+    // A descent has come to a full leaf: that is swept, or where it has nothing to take split.
+    fn make_room(&mut self, session: u8, parent: u32, item: Item) -> Outcome<K::Key>
+        requires session { is_session session ≡ true }
+        requires open { is_open (phase_at (session - 1) self.old.sessions.phases) ≡ true }
+        requires works { self.old.sessions.failed ≡ false }
+        requires early { is_due self.old ≡ false }
+        ensures comes { (entry : Entry K.Key) → phase_at (session - 1) self.old.sessions.phases ≡ Open (Insert entry) (Descends parent item)
+            → WriteComes (keys_of K.Key.Shape) (is_node (format_of K.KeyClass)) (D.state self.old.volume.shelf.disk)
+            (D.state self.new.volume.shelf.disk) session (Insert entry) self.old self.new result }
+        ensures moves { (entry : Entry K.Key) → phase_at (session - 1) self.old.sessions.phases ≡ Open (Insert entry) (Descends parent item)
+            → (IsSteady (D.state self.old.volume.shelf.disk) self.old.volume.shelf.frames → (((tree_of (store_of (format_of K.KeyClass) (D.state self.old.volume.shelf.disk).seen self.old.volume.shelf)).node item.page).level ≡ 0)
+            × (self.old.volume.most ≤ length ((tree_of (store_of (format_of K.KeyClass) (D.state self.old.volume.shelf.disk).seen self.old.volume.shelf)).node item.page).pairs)) → (l : Limits)
+            → Moves (class_of K.Key.Shape K.is_proper l) (reading_of K.said (format_of K.KeyClass)) (format_of K.KeyClass) (is_node (format_of K.KeyClass))
+            (D.state self.old.volume.shelf.disk) (D.state self.new.volume.shelf.disk) session self.old self.new result (write_events session (Insert entry) result) }
+    {
+        a_class_is_lawful::<K>();
+        self.sessions.has_failed();
+        self.storage.most();
+        match self.sweep_leaf(&item) {
+            Ok(true) => Outcome::More,
+            Ok(false) => self.split_here(session, parent, item),
+            Err(StepFault::Pages(fault)) => self.refuse(fault),
+            Err(StepFault::Memory | StepFault::Damaged | StepFault::PagesFull) => self.break_off(
+                Refusal::Damaged,
+            ),
+        }
+    }
+
+    // A descent makes its next step, where no checkpoint is due.
+    fn descend_on(
+        &mut self,
+        session: u8,
+        entry: Entry<K::Key>,
+        parent: u32,
+        item: Item,
+    ) -> Outcome<K::Key>
+        requires session { is_session session ≡ true }
+        requires descends { phase_at (session - 1) self.old.sessions.phases ≡ Open (Insert entry) (Descends parent item) }
+        requires works { self.old.sessions.failed ≡ false }
+        requires early { is_due self.old ≡ false }
+        ensures comes { WriteComes (keys_of K.Key.Shape) (is_node (format_of K.KeyClass)) (D.state self.old.volume.shelf.disk)
+            (D.state self.new.volume.shelf.disk) session (Insert entry) self.old self.new result }
+        ensures moves { (l : Limits) → Moves (class_of K.Key.Shape K.is_proper l) (reading_of K.said (format_of K.KeyClass)) (format_of K.KeyClass) (is_node (format_of K.KeyClass))
+            (D.state self.old.volume.shelf.disk) (D.state self.new.volume.shelf.disk) session self.old self.new result (write_events session (Insert entry) result) }
+    {
+        a_class_is_lawful::<K>();
+        a_volume_shows_keys::<D, K>();
+        K::known(&entry.key);
+        self.sessions.has_failed();
+        self.storage.in_order();
+        match self.step_down(&item, &entry.key) {
+            Ok(did) => match did {
+                Descended::Widened(..) => self.go_down(session, &item, &did),
+                Descended::Down(_) => self.go_down(session, &item, &did),
+                Descended::Again => self.begin_again(session),
+                Descended::Leaf => self.add_here(session, entry, parent, item),
+                Descended::FullLeaf => self.make_room(session, parent, item),
+                Descended::FullInner => self.split_here(session, parent, item),
+            },
+            Err(StepFault::Pages(fault)) => self.refuse(fault),
+            Err(StepFault::Memory | StepFault::Damaged | StepFault::PagesFull) => self.break_off(
+                Refusal::Damaged,
+            ),
+        }
+    }
+
+    /// A move of a session's insert, which is open, while it descends: its pair stands nowhere yet. The step at the page of its item goes
+    /// down to the entry of least penalty, whose bound is widened first where it doesn't cover the key; or adds the pair to a leaf that
+    /// has room, and the call is answered; or sweeps a full leaf, or splits a full node, and the descent begins again at the root, as it
+    /// does where its page was split meanwhile: `More`. Whatever it changes is logged. It makes no write and no sync of the device and
+    /// takes no memory.
+    ///
+    /// `Help(Checkpoint)` exactly where a checkpoint runs or 24 places of the extent are taken, and nothing has changed. `Help` where
+    /// the record doesn't fit the batch that fills or a page couldn't be brought, with what has to happen first; the insert is then at
+    /// what it was. Where too few pages are left for a split the call is closed: `Replied(Refused(PagesFull))`. Where the device failed,
+    /// or a page didn't read, the engine has failed, and the reply is `Device` or `Damaged`.
+    pub(crate) fn descend(
+        &mut self,
+        session: u8,
+        entry: Entry<K::Key>,
+        parent: u32,
+        item: Item,
+    ) -> Outcome<K::Key>
+        requires session { is_session session ≡ true }
+        requires descends { phase_at (session - 1) self.old.sessions.phases ≡ Open (Insert entry) (Descends parent item) }
+        requires works { self.old.sessions.failed ≡ false }
+        ensures comes { WriteComes (keys_of K.Key.Shape) (is_node (format_of K.KeyClass)) (D.state self.old.volume.shelf.disk)
+            (D.state self.new.volume.shelf.disk) session (Insert entry) self.old self.new result }
+        ensures moves { (l : Limits) → Moves (class_of K.Key.Shape K.is_proper l) (reading_of K.said (format_of K.KeyClass)) (format_of K.KeyClass) (is_node (format_of K.KeyClass))
+            (D.state self.old.volume.shelf.disk) (D.state self.new.volume.shelf.disk) session self.old self.new result (write_events session (Insert entry) result) }
+    {
+        if self.is_due() {
+            return Outcome::Help(Need::Checkpoint);
+        }
+        self.descend_on(session, entry, parent, item)
+    }
+}

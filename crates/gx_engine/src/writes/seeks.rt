@@ -1,0 +1,272 @@
+//! An insert or a delete whose pair stands seeks it, and clears or sets its mark.
+ghost use Rattle.std.specs.Prelude.{◌≡◌, ◌-◌, ℕ, not, true, false, IfOk, IfErr};
+ghost use Rattle.gx_machine.specs.declared.call.Call.TheVariants.{Delete, Insert};
+ghost use Rattle.gx_machine.specs.Keys.{keys_of};
+ghost use Rattle.gx_machine.specs.Machine.{is_session};
+ghost use Rattle.gx_node.specs.Reading.{format_of, is_node};
+ghost use Rattle.gx_recovery.specs.Known.{Limits};
+ghost use Rattle.gx_readings.specs.Classes.{class_of, reading_of};
+ghost use Rattle.gx_tree.specs.declared.seek.Sought.TheVariants.{Here};
+ghost use Rattle.gx_phases.specs.declared.phase.Phase.TheVariants.{Open};
+ghost use Rattle.gx_phases.specs.Moves.{transaction_of};
+ghost use Rattle.gx_phases.specs.States.{phase_at};
+ghost use Rattle.gx_storage.specs.Bringing.{bringing};
+ghost use Rattle.gx_storage.specs.Changes.{IsUnlogged, known_at};
+ghost use Rattle.gx_engine.specs.declared.work.Work.TheVariants.{Seeks};
+ghost use Rattle.gx_engine.specs.Moves.{Moves};
+ghost use Rattle.gx_engine.specs.Seeking.{IsSought, IsUnsought, SeekComes, set_outcome, set_state, standing_refusal, write_call, written_reply};
+ghost use Rattle.gx_engine.specs.States.{is_due};
+ghost use Rattle.gx_engine.specs.Undoing.{Seeking};
+ghost use Rattle.gx_engine.specs.Writing.{WriteComes, write_events};
+
+use crate::Engine;
+use crate::laws::a_class_is_lawful;
+use crate::work::Work;
+use gx_class::Probing;
+use gx_disk::SectorDisk;
+use gx_events::{Need, Outcome};
+use gx_geom::Refusal;
+use gx_machine::{Entry, Reply};
+use gx_readings::ReadKeys;
+use gx_storage::laws::{a_volume_shows_keys, a_volume_shows_the_logs_tree};
+use gx_store::StoreFault;
+use gx_tree::{Sought, StepFault, Wanted};
+
+/// The reply of a write that has given its pair this mark: a delete sets it, and an insert clears it.
+fn written<B>(marked: bool) -> Reply<B>
+    ensures { result ≡ written_reply marked }
+{
+    if marked {
+        Reply::Deleted
+    } else {
+        Reply::Inserted
+    }
+}
+
+/// The refusal of a write whose pair has this mark already.
+fn standing(marked: bool) -> Refusal
+    ensures { result ≡ standing_refusal marked }
+{
+    if marked {
+        Refusal::Absent
+    } else {
+        Refusal::Present
+    }
+}
+
+impl<D: SectorDisk, K: ReadKeys> Engine<D, K> {
+    // What is noted of a write: it was made in this leaf, with the mark that was found, and is answered; or its pair is sought further to
+    // the right.
+    fn note_set(
+        &mut self,
+        session: u8,
+        entry: Entry<K::Key>,
+        leaf: u32,
+        marked: bool,
+        sought: Sought,
+    ) -> Outcome<K::Key>
+        requires session { is_session session ≡ true }
+        requires seeks { phase_at (session - 1) self.old.sessions.phases ≡ Open (write_call marked entry) (Seeks leaf) }
+        ensures outcome { result ≡ set_outcome marked sought }
+        ensures noted { self.new ≡ record self.old { sessions = set_state (keys_of K.Key.Shape) session entry leaf marked sought self.old.sessions } }
+    {
+        match sought {
+            Sought::Here(_, before) => {
+                self.sessions.note(session, entry, before, leaf);
+                Outcome::Replied(written(marked))
+            }
+            Sought::Right(next) => {
+                self.sessions.replace_work(session, Work::Seeks(next));
+                Outcome::More
+            }
+        }
+    }
+}
+
+impl<D: SectorDisk, K: ReadKeys + Probing> Engine<D, K>
+where
+    K::Probe: Drop,
+{
+    // Gives an entry's pair a mark, where it is in this leaf.
+    fn give_mark(
+        &mut self,
+        session: u8,
+        entry: &Entry<K::Key>,
+        leaf: u32,
+        marked: bool,
+    ) -> Result<Sought, StepFault<StoreFault>>
+        requires session { is_session session ≡ true }
+        requires early { is_due self.old ≡ false }
+        ensures sought { Seeking (known_at K.Key.Shape K.is_proper) (reading_of K.said (format_of K.KeyClass)) (format_of K.KeyClass) (is_node (format_of K.KeyClass)) K.is_key (keys_of K.Key.Shape)
+            K.spelling K.KEY (D.state self.old.volume.shelf.disk) (D.state self.new.volume.shelf.disk) self.old.volume self.new.volume (transaction_of session self.old.sessions)
+            (record { entry = entry.now; before = marked; leaf = leaf }) leaf result }
+        ensures only { self.new ≡ record self.old { volume = self.new.volume } }
+    {
+        let wanted = Wanted::<K>::entry(entry);
+        let transaction = self.sessions.transaction(session);
+        self.storage
+            .set_mark(transaction, &wanted, leaf, entry, marked)
+    }
+
+    // Seeks an entry's pair in this leaf. Nothing is logged.
+    fn seek_pair(
+        &mut self,
+        entry: &Entry<K::Key>,
+        leaf: u32,
+    ) -> Result<Sought, StepFault<StoreFault>>
+        ensures unlogged { IsUnlogged (known_at K.Key.Shape K.is_proper) (reading_of K.said (format_of K.KeyClass)) (format_of K.KeyClass) (is_node (format_of K.KeyClass))
+            (bringing self.old.volume) (D.state self.old.volume.shelf.disk) (D.state self.new.volume.shelf.disk) self.old.volume self.new.volume }
+        ensures sought { IfOk result (IsSought (format_of K.KeyClass) K.is_key (keys_of K.Key.Shape) (D.state self.new.volume.shelf.disk) self.new.volume entry.now leaf) }
+        ensures refused { IfErr result (IsUnsought (format_of K.KeyClass) K.is_key (keys_of K.Key.Shape) (is_node (format_of K.KeyClass))
+            (D.state self.old.volume.shelf.disk) (D.state self.new.volume.shelf.disk) self.old.volume self.new.volume leaf) }
+        ensures only { self.new ≡ record self.old { volume = self.new.volume } }
+    {
+        let wanted = Wanted::<K>::entry(entry);
+        self.storage.seek_step(&wanted, leaf)
+    }
+
+    // A write whose pair stands in this leaf with the other mark, while no checkpoint is due: the mark is set, and that is logged, noted
+    // and answered.
+    fn set_found(
+        &mut self,
+        session: u8,
+        entry: Entry<K::Key>,
+        leaf: u32,
+        marked: bool,
+    ) -> Outcome<K::Key>
+        requires session { is_session session ≡ true }
+        requires seeks { phase_at (session - 1) self.old.sessions.phases ≡ Open (write_call marked entry) (Seeks leaf) }
+        requires works { self.old.sessions.failed ≡ false }
+        requires early { is_due self.old ≡ false }
+        requires found { (slot : ℕ) × IsSought (format_of K.KeyClass) K.is_key (keys_of K.Key.Shape) (D.state self.old.volume.shelf.disk) self.old.volume entry leaf (Here slot (not marked)) }
+        ensures comes { SeekComes (format_of K.KeyClass) K.is_key (keys_of K.Key.Shape) (is_node (format_of K.KeyClass)) (D.state self.old.volume.shelf.disk) (D.state self.new.volume.shelf.disk)
+            session entry leaf marked self.old self.new result }
+        ensures moves { (l : Limits) → Moves (class_of K.Key.Shape K.is_proper l) (reading_of K.said (format_of K.KeyClass)) (format_of K.KeyClass) (is_node (format_of K.KeyClass))
+            (D.state self.old.volume.shelf.disk) (D.state self.new.volume.shelf.disk) session self.old self.new result (write_events session (write_call marked entry) result) }
+    {
+        a_class_is_lawful::<K>();
+        a_volume_shows_the_logs_tree::<D, K>();
+        a_volume_shows_keys::<D, K>();
+        K::known(&entry.key);
+        self.sessions.has_failed();
+        self.storage.in_order();
+        match self.give_mark(session, &entry, leaf, marked) {
+            Ok(sought) => self.note_set(session, entry, leaf, marked, sought),
+            Err(StepFault::Pages(fault)) => self.refuse(fault),
+            Err(StepFault::Memory | StepFault::Damaged | StepFault::PagesFull) => self.break_off(
+                Refusal::Damaged,
+            ),
+        }
+    }
+
+    // What comes of a write whose pair was sought: it is sought further to the right; or it stands as the write would leave it, and the
+    // call is closed; or its mark is set, once no checkpoint is due.
+    fn write_sought(
+        &mut self,
+        session: u8,
+        entry: Entry<K::Key>,
+        leaf: u32,
+        marked: bool,
+        sought: Sought,
+    ) -> Outcome<K::Key>
+        requires session { is_session session ≡ true }
+        requires seeks { phase_at (session - 1) self.old.sessions.phases ≡ Open (write_call marked entry) (Seeks leaf) }
+        requires works { self.old.sessions.failed ≡ false }
+        requires found { IsSought (format_of K.KeyClass) K.is_key (keys_of K.Key.Shape) (D.state self.old.volume.shelf.disk) self.old.volume entry leaf sought }
+        ensures comes { SeekComes (format_of K.KeyClass) K.is_key (keys_of K.Key.Shape) (is_node (format_of K.KeyClass)) (D.state self.old.volume.shelf.disk) (D.state self.new.volume.shelf.disk)
+            session entry leaf marked self.old self.new result }
+        ensures moves { (l : Limits) → Moves (class_of K.Key.Shape K.is_proper l) (reading_of K.said (format_of K.KeyClass)) (format_of K.KeyClass) (is_node (format_of K.KeyClass))
+            (D.state self.old.volume.shelf.disk) (D.state self.new.volume.shelf.disk) session self.old self.new result (write_events session (write_call marked entry) result) }
+    {
+        a_class_is_lawful::<K>();
+        a_volume_shows_the_logs_tree::<D, K>();
+        a_volume_shows_keys::<D, K>();
+        self.sessions.has_failed();
+        self.storage.in_order();
+        match sought {
+            Sought::Right(next) => {
+                self.sessions.replace_work(session, Work::Seeks(next));
+                Outcome::More
+            }
+            Sought::Here(_, before) => if before == marked {
+                self.close(session, standing(marked))
+            } else if self.is_due() {
+                Outcome::Help(Need::Checkpoint)
+            } else {
+                self.set_found(session, entry, leaf, marked)
+            },
+        }
+    }
+
+    // A move of a write whose pair stands in this leaf or to the right of it.
+    fn write_at(
+        &mut self,
+        session: u8,
+        entry: Entry<K::Key>,
+        leaf: u32,
+        marked: bool,
+    ) -> Outcome<K::Key>
+        requires session { is_session session ≡ true }
+        requires seeks { phase_at (session - 1) self.old.sessions.phases ≡ Open (write_call marked entry) (Seeks leaf) }
+        requires works { self.old.sessions.failed ≡ false }
+        ensures comes { SeekComes (format_of K.KeyClass) K.is_key (keys_of K.Key.Shape) (is_node (format_of K.KeyClass)) (D.state self.old.volume.shelf.disk) (D.state self.new.volume.shelf.disk)
+            session entry leaf marked self.old self.new result }
+        ensures moves { (l : Limits) → Moves (class_of K.Key.Shape K.is_proper l) (reading_of K.said (format_of K.KeyClass)) (format_of K.KeyClass) (is_node (format_of K.KeyClass))
+            (D.state self.old.volume.shelf.disk) (D.state self.new.volume.shelf.disk) session self.old self.new result (write_events session (write_call marked entry) result) }
+    {
+        a_class_is_lawful::<K>();
+        a_volume_shows_the_logs_tree::<D, K>();
+        self.sessions.has_failed();
+        match self.seek_pair(&entry, leaf) {
+            Ok(sought) => self.write_sought(session, entry, leaf, marked, sought),
+            Err(StepFault::Pages(fault)) => self.refuse(fault),
+            Err(StepFault::Memory | StepFault::Damaged | StepFault::PagesFull) => self.break_off(
+                Refusal::Damaged,
+            ),
+        }
+    }
+
+    /// A move of a session's insert, which is open, while it seeks its pair, which stands in this leaf or to the right of it. Where it isn't
+    /// in this leaf, the insert seeks it in the next one: `More`. Where it is live, the call is closed: `Replied(Refused(Present))`, and
+    /// nothing is logged. Where it is marked, the mark is cleared, which is logged and noted: `Replied(Inserted)`. It makes no write and no
+    /// sync of the device, and takes no memory.
+    ///
+    /// `Help(Checkpoint)` where the mark is to be cleared while a checkpoint runs or 24 places of the extent are taken; `Help` where the
+    /// record doesn't fit the batch that fills or a page couldn't be brought, with what has to happen first. The insert is then at what it
+    /// was. Where the device failed, or a page didn't read, the engine has failed, and the reply is `Device` or `Damaged`.
+    pub(crate) fn insert_at(
+        &mut self,
+        session: u8,
+        entry: Entry<K::Key>,
+        leaf: u32,
+    ) -> Outcome<K::Key>
+        requires session { is_session session ≡ true }
+        requires seeks { phase_at (session - 1) self.old.sessions.phases ≡ Open (Insert entry) (Seeks leaf) }
+        requires works { self.old.sessions.failed ≡ false }
+        ensures comes { WriteComes (keys_of K.Key.Shape) (is_node (format_of K.KeyClass)) (D.state self.old.volume.shelf.disk) (D.state self.new.volume.shelf.disk) session
+            (Insert entry) self.old self.new result }
+        ensures moves { (l : Limits) → Moves (class_of K.Key.Shape K.is_proper l) (reading_of K.said (format_of K.KeyClass)) (format_of K.KeyClass) (is_node (format_of K.KeyClass))
+            (D.state self.old.volume.shelf.disk) (D.state self.new.volume.shelf.disk) session self.old self.new result (write_events session (Insert entry) result) }
+    {
+        self.write_at(session, entry, leaf, false)
+    }
+
+    /// A move of a session's delete, which is open, while it seeks its pair: as an insert's, but the mark is set where the pair is live,
+    /// `Replied(Deleted)`, and where it is marked the reply is `Refused(Absent)`.
+    pub(crate) fn delete_at(
+        &mut self,
+        session: u8,
+        entry: Entry<K::Key>,
+        leaf: u32,
+    ) -> Outcome<K::Key>
+        requires session { is_session session ≡ true }
+        requires seeks { phase_at (session - 1) self.old.sessions.phases ≡ Open (Delete entry) (Seeks leaf) }
+        requires works { self.old.sessions.failed ≡ false }
+        ensures comes { WriteComes (keys_of K.Key.Shape) (is_node (format_of K.KeyClass)) (D.state self.old.volume.shelf.disk) (D.state self.new.volume.shelf.disk) session
+            (Delete entry) self.old self.new result }
+        ensures moves { (l : Limits) → Moves (class_of K.Key.Shape K.is_proper l) (reading_of K.said (format_of K.KeyClass)) (format_of K.KeyClass) (is_node (format_of K.KeyClass))
+            (D.state self.old.volume.shelf.disk) (D.state self.new.volume.shelf.disk) session self.old self.new result (write_events session (Delete entry) result) }
+    {
+        self.write_at(session, entry, leaf, true)
+    }
+}
