@@ -34,7 +34,7 @@ use Rattle.gx_index_laws.specs.Whole.{IsWhole}
 use Rattle.gx_index_laws.proofs.Standing.{is_log, known_lawful, tells}
 use Rattle.gx_index_laws.proofs.Tools.{changed_beside, changed_here}
 use Rattle.gx_durable.specs.Spelled.{Reading}
-use Rattle.gx_durable.specs.Standing.{MayRenew, Stands}
+use Rattle.gx_durable.specs.Standing.{Stands}
 use Rattle.gx_txn.specs.Tables.{held_by, with_locks, locks_for}
 use Rattle.gx_phases.specs.declared.phase.Phase.{Phase}
 use Rattle.gx_phases.specs.declared.phase.Phase.TheVariants as phase
@@ -47,10 +47,10 @@ use Rattle.gx_engine.specs.declared.work.Work.{Work}
 use Rattle.gx_engine.specs.declared.work.Work.TheVariants.{Rests}
 use Rattle.gx_engine.specs.Asked.{AskComes, ask_events, told}
 use Rattle.gx_engine.specs.States.{Parts}
-use Rattle.gx_engine.specs.Holds.{AreAt, KnowsFlight, Leads, MayBegin}
+use Rattle.gx_engine.specs.Holds.{AreAt, KnowsFlight, Leads, MayBegin, MayRenewBy}
 use Rattle.gx_engine.specs.Noted.{AreTold, has_transaction, touched_by}
 use Rattle.gx_engine.proofs.Noting.{none_touched, told_begun, told_phase, told_session}
-use Rattle.gx_engine.proofs.Serving.{held_as_it_is, session_at}
+use Rattle.gx_engine.proofs.Serving.{held_as_it_is, renews_still, same_device, session_at}
 
 -- What an ask comes to, case by case: it is refused; a transaction begins; a call opens, with its lock or without; an undo begins.
 module _ {B : Type 0} (k : Keys B) (s : ℕ) (asked_call : Call B) (old : State B (Work B)) (P : Asked B → State B (Work B) → Type 0)
@@ -121,6 +121,17 @@ asked_log c s call (asked.Now (reply.Committed number)) i = refl
 asked_log c s call (asked.Now reply.Aborted) i = refl
 asked_log c s call (asked.Now (reply.Refused why)) i = refl
 asked_log c s call asked.Open i = refl
+
+-- no ask lowers the next transaction's number
+asked_next : {B : Type 0} (c : Class B) (s : ℕ) (call : Call B) (given : Asked B) (i : index.State B) → i.next ≤ (asked_index c s call given i).next
+asked_next c s call (asked.Now reply.Ok) i = omega arith
+asked_next c s call (asked.Now reply.Inserted) i = omega arith
+asked_next c s call (asked.Now reply.Deleted) i = omega arith
+asked_next c s call (asked.Now (reply.Found entries)) i = omega arith
+asked_next c s call (asked.Now (reply.Committed number)) i = omega arith
+asked_next c s call (asked.Now reply.Aborted) i = omega arith
+asked_next c s call (asked.Now (reply.Refused why)) i = omega arith
+asked_next c s call asked.Open i = omega arith
 
 module _ {B : Type 0} (c : Class B) (s : ℕ) (call : Call B) (i : index.State B) (old : State B (Work B)) (kept : IsKept c.keys old) (is_at : AreAt c.keys old i)
     (touches : List (Touch (Entry B))) (was_told : AreTold old touches) (none : touched_by old.next touches ≡ []) where
@@ -205,8 +216,10 @@ module _ {B D : Type 0} (c : Class B) (r : Reading (Entry B) (Page B)) (f : Form
           flying = λ works.
               subst (λ (x : Logged (Entry B) (Page B)). KnowsFlight old.volume.log.stage old.in_flight (logged.durable (known_of c) (logged.gate_synced x))) (sym log)
               (h.flying (sym stays.failed ∙ works));
+          bare = λ works. h.bare (sym stays.failed ∙ works);
           turns = λ works turning.
-              subst (λ (x : Logged (Entry B) (Page B)). MayRenew (known_of c) r old.volume.log.flight d.sectors d.pending x) (sym log) (h.turns (sym stays.failed ∙ works) turning);
+              subst (λ (x : Logged (Entry B) (Page B)). MayRenewBy (known_of c) r (asked_index c s call given i).next old.volume.log.flight d.sectors d.pending x) (sym log)
+              (renews_still (known_of c) r i.next (asked_index c s call given i).next old.volume.log.flight d d i.log (same_device d) (asked_next c s call given i) (h.turns (sym stays.failed ∙ works) turning));
         };
         leaves = nothing_leaves (Stands (known_of c) r i.log) d;
       }

@@ -70,7 +70,7 @@ use Rattle.gx_engine.specs.Noted.{AreTold}
 use Rattle.gx_engine.specs.States.{Parts, is_due}
 use Rattle.gx_engine.proofs.Growing.{grown_led}
 use Rattle.gx_engine.proofs.Looking.{goes_on, its_work, left_now, of_working, put_there, slot_now, told_at}
-use Rattle.gx_engine.proofs.Serving.{held_as_it_is, is_calm, not_due, of_reads, session_at}
+use Rattle.gx_engine.proofs.Serving.{FliesOn, held_as_it_is, is_calm, not_due, of_reads, session_at}
 
 -- what storage tells of a step, as the engine has it
 pub stepping : {B D : Type 0} (known : Limits → Known (Entry B) (Page B)) (r : Reading (Entry B) (Page B)) (f : Format B) (passes : ℕ → Contents → Bool)
@@ -101,7 +101,7 @@ untouched {E} {P} k x log quiet =
 module _ {B D : Type 0} (c : Class B) (l : IsLawful c) (r : Reading (Entry B) (Page B)) (f : Format B) (passes : ℕ → Contents → Bool) (d e : Device) (old : Parts B D)
     (kept : IsKept c.keys old.sessions) (s : ℕ) (is : is_session s ≡ true) (call : Call B) (was : Work B) (at : phase_at (s - 1) old.sessions.phases ≡ phase.Open call was)
     (bodies : List (List (Record (Entry B) (Page B)))) (i : index.State B) (h : Holds c r f passes d old bodies i) (calm : old.checkpoint ≢ Turning)
-    (w : Volume D) (most : w.most ≡ old.volume.most) (stage : w.log.stage ≡ old.volume.log.stage) (leaves : Leaves (Stands (known_of c) r i.log) d e)
+    (w : Volume D) (most : w.most ≡ old.volume.most) (flies : FliesOn old.volume.log w.log) (leaves : Leaves (Stands (known_of c) r i.log) d e)
     (x : Record (Entry B) (Page B)) (quiet : (a : Analysis (Entry B)) → (read (known_of c) a x).touched ≡ a.touched) (with : WorksWith c r f passes e w bodies i x) where
   abbrev mid : index.State B
   mid = with_record x i
@@ -123,7 +123,7 @@ module _ {B D : Type 0} (c : Class B) (l : IsLawful c) (r : Reading (Entry B) (P
       let of = of_working c l r f passes d old kept s is call was at bodies i h now i refl refl refl refl refl in
       record {
         led =
-            grown_led c r f passes d e old bodies i h calm w most stage leaves x with.keeps (Works ∷ []) j (j, both, refl) turns.whole refl refl refl new
+            grown_led c r f passes d e old bodies i h calm w most flies leaves x with.keeps (Works ∷ []) j (j, both, refl) turns.whole refl refl refl new
             (record {
               of = record { slots = of.slots; transactions = of.transactions; next = of.next; oldest = of.oldest; failed = of.failed };
               at = session_at c.keys old.sessions new i j kept s is (phase.Open call now) (held_at (s - 1) old.sessions.table) refl (held_as_it_is s old.sessions.table)
@@ -143,7 +143,7 @@ module _ {B D : Type 0} (c : Class B) (l : IsLawful c) (r : Reading (Entry B) (P
   unfolding grown_led
   logged_yet less = record {
     led =
-        grown_led c r f passes d e old bodies i h calm w most stage leaves x with.keeps (Works ∷ []) mid (mid, with.comes.happens, refl) with.comes.happens.whole refl refl refl old.sessions
+        grown_led c r f passes d e old bodies i h calm w most flies leaves x with.keeps (Works ∷ []) mid (mid, with.comes.happens, refl) with.comes.happens.whole refl refl refl old.sessions
         (record {
           of = record { slots = h.sessions.slots; transactions = h.sessions.transactions; next = h.sessions.next; oldest = h.sessions.oldest; failed = h.sessions.failed };
           at = h.at;
@@ -215,7 +215,7 @@ module _ {B D : Type 0} (c : Class B) (lawful : 4 ≤ c.rules.most → IsLawful 
         (subst (λ m. StepsDown cost joined m (store_of f d.seen old.volume.shelf) (store_of f e.seen w.shelf) item entry.key (Down next)) h.most (steps h.keeps.steady)))
 
   -- a record is logged
-  module _ (stage : w.log.stage ≡ old.volume.log.stage) where
+  module _ (flies : FliesOn old.volume.log w.log) where
     pub widened_moves : (IsKey : B → Type 0) (cost : B → B → ℕ × ℕ) (joined : B → B → B) → IsJoin c IsKey joined → IsKey entry.key
         → ShowsKeys (known_of c) r f passes IsKey d old.volume → IsInOrder (passes old.volume.shelf.pages) d.sectors old.volume.shelf.frames old.volume.shelf.used old.volume.shelf.pages
         → (next : Item) (place : ℕ) (key : B)
@@ -232,7 +232,7 @@ module _ {B D : Type 0} (c : Class B) (lawful : 4 ≤ c.rules.most → IsLawful 
         IsKey cost joined join keys is_key next place key step own after in
         let goes = widened_to c l said f passes d e old.volume w bodies i h.whole s entry parent item (work bodies i h) its.locks (map note_of its.notes) call (slot bodies i h) h.keeps
         IsKey cost joined join keys is_key next place key step own after in
-        logged_on c l r f passes d e old kept s is call (Descends parent item) at bodies i h (is_calm old.checkpoint (not_due old early).0) w most stage after.leaves
+        logged_on c l r f passes d e old kept s is call (Descends parent item) at bodies i h (is_calm old.checkpoint (not_due old early).0) w most flies after.leaves
         (record_read r (page_given item.page e.seen w.shelf)) (λ a. refl) with (Descends item.page next) (index.Descends entry item.page next) refl goes.does goes.lower
 
 -- What storage tells of a sweep and of a split, as the engine has it.

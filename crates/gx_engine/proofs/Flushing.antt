@@ -87,6 +87,7 @@ module _ {B D : Type 0} (c : Class B) (l : IsLawful c) (r : Reading (Entry B) (P
     told = told;
     latest = last;
     flying = λ works. absurd (let never : true ≡ false = works in cc);
+    bare = λ works. absurd (let never : true ≡ false = works in cc);
     turns = λ works. absurd (let never : true ≡ false = works in cc);
   }
 
@@ -95,12 +96,12 @@ module _ {B D : Type 0} (c : Class B) (l : IsLawful c) (r : Reading (Entry B) (P
 
   -- the log goes on without an event
   quiet : Becomes k r f passes d e w bodies i.log i.log → (old.sessions.failed ≡ false → KnowsFlight w.log.stage old.in_flight (durable k (gate_synced i.log)))
-      → Led c r f passes d e (record old { volume = w }) i []
-  quiet b flying = record {
+      → (w.log.stage ≡ Idle → w.log.flight ≡ []) → Led c r f passes d e (record old { volume = w }) i []
+  quiet b flying none = record {
     bodies = bodies;
     index = i;
     happening = refl;
-    holds = record { most = most; some = h.some; keeps = b.keeps; whole = h.whole; sessions = h.sessions; at = h.at; told = h.told; latest = h.latest; flying = flying; turns = λ works turning. absurd (calm turning) };
+    holds = record { most = most; some = h.some; keeps = b.keeps; whole = h.whole; sessions = h.sessions; at = h.at; told = h.told; latest = h.latest; flying = flying; bare = λ works calm idle. none idle; turns = λ works turning. absurd (calm turning) };
     leaves = b.safely.leaves;
   }
 
@@ -149,6 +150,7 @@ module _ {B D : Type 0} (c : Class B) (l : IsLawful c) (r : Reading (Entry B) (P
         told = told_still;
         latest = last;
         flying = λ works. flight_known stage;
+        bare = λ works calm idle. (let no : BodySync ≡ Idle = sym stage ∙ idle in cc);
         turns = λ works turning. absurd (calm turning);
       };
       leaves = b.safely.leaves;
@@ -171,9 +173,9 @@ module _ {B D : Type 0} (c : Class B) (l : IsLawful c) (r : Reading (Entry B) (P
     oldest = durable k (gate_synced i.log);
   }
 
-  gates : (now : List (List (Record (Entry B) (Page B)))) → old.sessions.failed ≡ false → old.in_flight ≡ durable k (gate_synced i.log) → w.log.stage ≡ Idle
+  gates : (now : List (List (Record (Entry B) (Page B)))) → old.sessions.failed ≡ false → old.in_flight ≡ durable k (gate_synced i.log) → w.log.stage ≡ Idle → w.log.flight ≡ []
       → Becomes k r f passes d e w now i.log (gate_synced i.log) → Led c r f passes d e (record old { volume = w; sessions = synced_state old.in_flight old.sessions }) i (Durable old.in_flight ∷ [])
-  gates now works number idle b =
+  gates now works number idle none b =
       let made = synced c l i h.whole (h.sessions.failed ∙ works) in
       record {
         bodies = now;
@@ -189,6 +191,7 @@ module _ {B D : Type 0} (c : Class B) (l : IsLawful c) (r : Reading (Entry B) (P
           told = subst (λ (rs : List (Record (Entry B) (Page B))). AreTold old.sessions (analysis k rs).touched) (sym (synced_records i.log)) h.told;
           latest = h.latest ∙ sym (all_gated k i.log);
           flying = λ works. subst (λ (x : Stage). KnowsFlight x old.in_flight (durable k (gate_synced (gate_synced i.log)))) (sym idle) tt;
+          bare = λ works calm idle. none;
           turns = λ works turning. absurd (calm turning);
         };
         leaves = b.safely.leaves;
@@ -220,6 +223,7 @@ module _ {B D : Type 0} (c : Class B) (l : IsLawful c) (r : Reading (Entry B) (P
         told = h.told;
         latest = h.latest;
         flying = λ works. subst (λ (x : Log). KnowsFlight x.stage old.in_flight (durable k (gate_synced i.log))) (sym same_log) (h.flying works);
+        bare = λ works calm idle. ap (λ (x : Log). x.flight) same_log ∙ h.bare works calm (sym (ap (λ (x : Log). x.stage) same_log) ∙ idle);
         turns = λ works turning. absurd (calm turning);
       };
       leaves = b.safely.leaves;
@@ -266,6 +270,13 @@ module _ {B D : Type 0} (c : Class B) (l : IsLawful c) (r : Reading (Entry B) (P
   stage_after : (stage : Stage) → old.volume.log.stage ≡ stage → w.log ≡ glog.done old.volume.log → w.log.stage ≡ (glog.after stage old.volume.log).stage
   stage_after stage is made = ap (λ (x : Log). x.stage) made ∙ ap (λ (x : Stage). (glog.after x old.volume.log).stage) is
 
+  -- what is in flight after the call that was due
+  flight_after : (stage : Stage) → old.volume.log.stage ≡ stage → w.log ≡ glog.done old.volume.log → w.log.flight ≡ (glog.after stage old.volume.log).flight
+  flight_after stage is made = ap (λ (x : Log). x.flight) made ∙ ap (λ (x : Stage). (glog.after x old.volume.log).flight) is
+
+  flies_yet : (stage : Stage) → w.log.stage ≡ stage → stage ≢ Idle → w.log.stage ≡ Idle → w.log.flight ≡ []
+  flies_yet stage at busy idle = absurd (busy (sym at ∙ idle))
+
   known_at : (stage : Stage) → w.log.stage ≡ stage → KnowsFlight stage old.in_flight number → KnowsFlight w.log.stage old.in_flight number
   known_at stage is knows = subst (λ (x : Stage). KnowsFlight x old.in_flight number) (sym is) knows
 
@@ -274,11 +285,11 @@ module _ {B D : Type 0} (c : Class B) (l : IsLawful c) (r : Reading (Entry B) (P
   led_in_flight Idle is filling result made b busy = absurd (busy refl)
   led_in_flight Body is filling result made b busy = absurd (known Body is)
   led_in_flight BodySync is filling (Ok done) made b busy =
-      is_made BodySync done BodySync filling (made.0 ∙ is) (λ b. quiet c l r f passes d e old w bodies i h same_most calm b (λ works. known_at Gate (stage_after BodySync is made.1) (known BodySync is))) b
+      is_made BodySync done BodySync filling (made.0 ∙ is) (λ b. quiet c l r f passes d e old w bodies i h same_most calm b (λ works. known_at Gate (stage_after BodySync is made.1) (known BodySync is)) (flies_yet Gate (stage_after BodySync is made.1) (λ no. cc))) b
   led_in_flight Gate is filling (Ok done) made b busy =
-      is_made Gate done Gate filling (made.0 ∙ is) (λ b. quiet c l r f passes d e old w bodies i h same_most calm b (λ works. known_at GateSync (stage_after Gate is made.1) (known Gate is))) b
+      is_made Gate done Gate filling (made.0 ∙ is) (λ b. quiet c l r f passes d e old w bodies i h same_most calm b (λ works. known_at GateSync (stage_after Gate is made.1) (known Gate is)) (flies_yet GateSync (stage_after Gate is made.1) (λ no. cc))) b
   led_in_flight GateSync is filling (Ok done) made b busy =
-      is_made GateSync done GateSync filling (made.0 ∙ is) (λ b. gates c l r f passes d e old w bodies i h same_most calm _ works (known GateSync is) (stage_after GateSync is made.1) b) b
+      is_made GateSync done GateSync filling (made.0 ∙ is) (λ b. gates c l r f passes d e old w bodies i h same_most calm _ works (known GateSync is) (stage_after GateSync is made.1) (flight_after GateSync is made.1) b) b
   led_in_flight BodySync is filling (Err why) made b busy = fails c l r f passes d e old w bodies i h same_most calm b
   led_in_flight Gate is filling (Err why) made b busy = fails c l r f passes d e old w bodies i h same_most calm b
   led_in_flight GateSync is filling (Err why) made b busy = fails c l r f passes d e old w bodies i h same_most calm b
@@ -287,7 +298,8 @@ module _ {B D : Type 0} (c : Class B) (l : IsLawful c) (r : Reading (Entry B) (P
       → IsLed Idle result
   led_idle is [] empty result (inl rests) b =
       subst (λ (x : Result Stage Refusal). Comes Idle [] x → IsLed Idle x) (sym rests.1)
-      (λ b. quiet c l r f passes d e old w bodies i h same_most calm b (λ works. known_at Idle (ap (λ (x : Log). x.stage) rests.2 ∙ is) tt)) b
+      (λ b. quiet c l r f passes d e old w bodies i h same_most calm b (λ works. known_at Idle (ap (λ (x : Log). x.stage) rests.2 ∙ is) tt)
+      (λ idle. ap (λ (x : Log). x.flight) rests.2 ∙ h.bare works calm is)) b
   led_idle is [] empty result (inr takes) b = absurd (let none : length old.volume.log.filling ≡ 0 = ap length empty in omega (arith, none, takes.0))
   led_idle is (byte ∷ bytes) empty result (inl rests) b = absurd (let both : ◌≡◌ {A = List ℕ} [] (byte ∷ bytes) = sym rests.0 ∙ empty in cc)
   led_idle is (byte ∷ bytes) empty (Ok done) (inr takes) b =

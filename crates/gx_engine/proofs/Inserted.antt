@@ -57,7 +57,7 @@ use Rattle.gx_engine.specs.Writing.{WriteComes}
 use Rattle.gx_engine.proofs.Growing.{grown_led}
 use Rattle.gx_engine.proofs.Looking.{its_work, slot_now}
 use Rattle.gx_engine.proofs.Noting.{busy_slot, told_set}
-use Rattle.gx_engine.proofs.Serving.{is_calm, not_due, session_at, session_of, slot_is}
+use Rattle.gx_engine.proofs.Serving.{FliesOn, is_calm, not_due, session_at, session_of, slot_is}
 use Rattle.gx_engine.proofs.Touching.{touching_notes, touching_other, touching_own}
 
 -- One of an index's sessions has written an entry, with a note of it.
@@ -125,7 +125,7 @@ module _ {B : Type 0} (c : Class B) (l : IsLawful c) (old : State B (Work B)) (k
 module _ {B D : Type 0} (c : Class B) (lawful : 4 ≤ c.rules.most → IsLawful c) (said : List ℕ → B) (f : Format B) (passes : ℕ → Contents → Bool) (d e : Device)
     (old : Parts B D) (kept : IsKept c.keys old.sessions) (works : old.sessions.failed ≡ false) (s : ℕ) (is : is_session s ≡ true) (early : is_due old ≡ false)
     (entry : Entry B) (parent : ℕ) (item : Item) (at : phase_at (s - 1) old.sessions.phases ≡ phase.Open (Insert entry) (Descends parent item))
-    (w : Volume D) (most : w.most ≡ old.volume.most) (stage : w.log.stage ≡ old.volume.log.stage) where
+    (w : Volume D) (most : w.most ≡ old.volume.most) (flies : FliesOn old.volume.log w.log) where
   abbrev r : Reading (Entry B) (Page B)
   r = reading_of said f
 
@@ -156,7 +156,7 @@ module _ {B D : Type 0} (c : Class B) (lawful : 4 ≤ c.rules.most → IsLawful 
       (ap (λ (rs : List (Record (Entry B) (Page B))). analysis (known_of c) rs) (grown x i.log) ∙ analysis-snoc (known_of c) (all_records i.log) x) in
       record {
         led =
-            grown_led c r f passes d e old bodies i h (is_calm old.checkpoint (not_due old early).0) w most stage after.leaves x done.kept (Inserts s entry ∷ []) j
+            grown_led c r f passes d e old bodies i h (is_calm old.checkpoint (not_due old early).0) w most flies after.leaves x done.kept (Inserts s entry ∷ []) j
             (j, done.comes.happens, refl) done.comes.happens.whole refl refl refl (written_state c.keys s note old.sessions)
             (written_sits c l old.sessions kept s is (ap (λ (p : Phase B (Work B)). has_transaction p) at) i h.whole (record { of = h.sessions; at = h.at; told = h.told }) note j
             refl refl refl refl refl refl refl touched) refl (λ go. go);

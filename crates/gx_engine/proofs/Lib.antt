@@ -33,3 +33,7 @@ pub mod MakingRoom
 pub mod DescentMoves
 pub mod WriteMoves
 pub mod Further
+pub mod Checkpointing
+pub mod Putting
+pub mod TurnBegins
+pub mod Steps

@@ -44,7 +44,7 @@ use Rattle.gx_index_laws.proofs.Quiet.{as_it_is, turned}
 use Rattle.gx_index_laws.proofs.Standing.{is_legal}
 use Rattle.gx_index_laws.proofs.Tools.{changed_beside, changed_here}
 use Rattle.gx_durable.specs.Spelled.{Reading}
-use Rattle.gx_durable.specs.Standing.{MayRenew, Stands}
+use Rattle.gx_durable.specs.Standing.{Stands}
 use Rattle.gx_txn.specs.Tables.{Held}
 use Rattle.gx_events.specs.declared.outcome.Need.{Need}
 use Rattle.gx_events.specs.declared.outcome.Outcome.{Outcome}
@@ -62,11 +62,12 @@ use Rattle.gx_storage.specs.State.{Volume}
 use Rattle.gx_engine.specs.declared.work.Work.{Work}
 use Rattle.gx_engine.specs.declared.work.Work.TheVariants.{Rests, Looks}
 use Rattle.gx_engine.specs.States.{Parts}
-use Rattle.gx_engine.specs.Holds.{AreAt, CallIsAt, Holds, IsAt, KnowsFlight, MayHaveFound}
+use Rattle.gx_engine.specs.Holds.{AreAt, CallIsAt, Holds, IsAt, KnowsFlight, MayHaveFound, MayRenewBy}
 use Rattle.gx_engine.specs.Moves.{Lowers, Moved, Moves, MovesOn, calling, left, left_by}
 use Rattle.gx_engine.specs.Noted.{AreTold, has_transaction}
 use Rattle.gx_engine.proofs.Noting.{told_phase}
-use Rattle.gx_engine.proofs.Serving.{StaysSettled, held_as_it_is, may_renew_still, same_device, session_at, session_of, session_slots, slot_is}
+use Rattle.gx_engine.proofs.Growing.{SameLog}
+use Rattle.gx_engine.proofs.Serving.{StaysSettled, held_as_it_is, renews_still, same_device, session_at, session_of, session_slots, slot_is}
 
 -- a session's phase is what it was put in
 pub put_there : {B : Type 0} (k : Keys B) (sessions : State B (Work B)) (kept : IsKept k sessions) (s : ℕ) (is : is_session s ≡ true) (p : Phase B (Work B))
@@ -138,35 +139,38 @@ module _ {B D : Type 0} (c : Class B) (l : IsLawful c) (r : Reading (Entry B) (P
   -- the pages may have been brought meanwhile
   module _ (e : Device) (w : Volume D) (same_most : w.most ≡ old.volume.most) (same_log : w.log ≡ old.volume.log) (settled : StaysSettled d e)
       (stays : StaysSame (known_of c) r f passes d e w bodies i.log) where
-    goes : (outcome : Outcome B) (events : List (Event B)) (j : index.State B) → AreHappening c i events j → IsWhole c j → j.log ≡ i.log → (new : State B (Work B)) → AreOf new j → AreAt c.keys new j
+    goes : (outcome : Outcome B) (events : List (Event B)) (j : index.State B) → AreHappening c i events j → IsWhole c j → SameLog i j → (new : State B (Work B)) → AreOf new j → AreAt c.keys new j
         → AreTold new (analysis (known_of c) (all_records i.log)).touched → new.latest ≡ old.sessions.latest → (new.failed ≡ false → old.sessions.failed ≡ false)
         → Lowers c r f passes s outcome old (record old { volume = w; sessions = new }) i j → Moved c r f passes d e s old (record old { volume = w; sessions = new }) outcome i events
-    goes outcome events j are whole log new of is_at told latest working_yet lowers = record {
-      led = record {
-        bodies = bodies;
-        index = j;
-        happening = are;
-        holds = record {
-          most = same_most ∙ h.most;
-          some = h.some;
-          keeps = subst (λ (x : Logged (Entry B) (Page B)). Keeps (known_of c) r f passes e w bodies x) (sym log) stays.keeps;
-          whole = whole;
-          sessions = of;
-          at = is_at;
-          told = subst (λ (x : Logged (Entry B) (Page B)). AreTold new (analysis (known_of c) (all_records x)).touched) (sym log) told;
-          latest = latest ∙ h.latest ∙ ap (λ (x : Logged (Entry B) (Page B)). logged.latest (known_of c) x) (sym log);
-          flying = λ works.
-              subst (λ (x : Logged (Entry B) (Page B)). KnowsFlight w.log.stage old.in_flight (logged.durable (known_of c) (logged.gate_synced x))) (sym log)
-              (subst (λ x. KnowsFlight x.stage old.in_flight (logged.durable (known_of c) (logged.gate_synced i.log))) (sym same_log) (h.flying (working_yet works)));
-          turns = λ works turning.
-              let may = may_renew_still (known_of c) r old.volume.log.flight d e i.log settled (h.turns (working_yet works) turning) in
-              subst (λ (x : Logged (Entry B) (Page B)). MayRenew (known_of c) r w.log.flight e.sectors e.pending x) (sym log)
-              (subst (λ (x : Log). MayRenew (known_of c) r x.flight e.sectors e.pending i.log) (sym same_log) may);
-        };
-        leaves = stays.leaves;
-      };
-      lowers = lowers;
-    }
+    goes outcome events j are whole as_it_was new of is_at told latest working_yet lowers =
+        let log : j.log ≡ i.log = ap (λ (x : Logged (Entry B) (Page B) × ℕ). x.0) as_it_was in
+        let next : j.next ≡ i.next = ap (λ (x : Logged (Entry B) (Page B) × ℕ). x.1) as_it_was in record {
+          led = record {
+            bodies = bodies;
+            index = j;
+            happening = are;
+            holds = record {
+              most = same_most ∙ h.most;
+              some = h.some;
+              keeps = subst (λ (x : Logged (Entry B) (Page B)). Keeps (known_of c) r f passes e w bodies x) (sym log) stays.keeps;
+              whole = whole;
+              sessions = of;
+              at = is_at;
+              told = subst (λ (x : Logged (Entry B) (Page B)). AreTold new (analysis (known_of c) (all_records x)).touched) (sym log) told;
+              latest = latest ∙ h.latest ∙ ap (λ (x : Logged (Entry B) (Page B)). logged.latest (known_of c) x) (sym log);
+              flying = λ works.
+                  subst (λ (x : Logged (Entry B) (Page B)). KnowsFlight w.log.stage old.in_flight (logged.durable (known_of c) (logged.gate_synced x))) (sym log)
+                  (subst (λ x. KnowsFlight x.stage old.in_flight (logged.durable (known_of c) (logged.gate_synced i.log))) (sym same_log) (h.flying (working_yet works)));
+              bare = λ works calm idle. ap (λ (x : Log). x.flight) same_log ∙ h.bare (working_yet works) calm (sym (ap (λ (x : Log). x.stage) same_log) ∙ idle);
+              turns = λ works turning.
+                  let by = renews_still (known_of c) r i.next j.next old.volume.log.flight d e i.log settled (omega (arith, next)) (h.turns (working_yet works) turning) in
+                  subst (λ (x : Logged (Entry B) (Page B)). MayRenewBy (known_of c) r j.next w.log.flight e.sectors e.pending x) (sym log)
+                  (subst (λ (x : Log). MayRenewBy (known_of c) r j.next x.flight e.sectors e.pending i.log) (sym same_log) by);
+            };
+            leaves = stays.leaves;
+          };
+          lowers = lowers;
+        }
 
     -- the call waits for another event
     pub waits : (n : Need) → Moved c r f passes d e s old (record old { volume = w }) (Help n) i []

@@ -67,7 +67,7 @@ use Rattle.gx_engine.proofs.Brought.{as_brought}
 use Rattle.gx_engine.proofs.Claimed.{claimed_alike}
 use Rattle.gx_engine.proofs.Descents.{logged_on, logged_yet, quiet_moves}
 use Rattle.gx_engine.proofs.Looking.{answers, its_work, slot_now}
-use Rattle.gx_engine.proofs.Serving.{is_calm, not_due, of_reads}
+use Rattle.gx_engine.proofs.Serving.{FliesOn, flies_on, is_calm, not_due, of_reads}
 
 -- a session that is put in the phase that it is in
 pub phase_yet : {B W : Type 0} (s : ℕ) (sessions : State B W) (p : Phase B W) → phase_at (s - 1) sessions.phases ≡ p → with_phase_of s p sessions ≡ sessions
@@ -133,16 +133,16 @@ module _ {B D : Type 0} (c : Class B) (lawful : 4 ≤ c.rules.most → IsLawful 
     legal = shown_legal c l said f passes d e v w bodies i h.whole h.keeps
 
   -- its leaf was swept
-  pub swept_moves : w.log.stage ≡ v.log.stage → (IsSteady d v.shelf.frames → Swept (is_held c.keys old) (store_of f d.seen v.shelf) (store_of f e.seen w.shelf) item.page true)
+  pub swept_moves : FliesOn v.log w.log → (IsSteady d v.shelf.frames → Swept (is_held c.keys old) (store_of f d.seen v.shelf) (store_of f e.seen w.shelf) item.page true)
       → HasOwnNumber e.seen w.shelf item.page → KeepsWith (known_of c) r f passes d e v w (page_given item.page e.seen w.shelf)
       → Moves c r f passes d e s old (record old { volume = w }) More (Works ∷ [])
-  swept_moves stage swept own keeps bodies i h =
+  swept_moves flies swept own keeps bodies i h =
       let l = lawful h.some in
       let its = held bodies i h in
       let after = keeps bodies i.log (known_lawful c l) h.keeps in
       let test : Entry B → Bool = is_held c.keys old in
       let claims : (x : Entry B) → test x ≡ is_claimed c.keys x i.slots = claimed_alike c.keys old.sessions i kept h.sessions in
-      logged_yet c l r f passes d e old kept s is call (Descends parent item) at bodies i h (is_calm old.checkpoint (not_due old early).0) w most stage after.leaves
+      logged_yet c l r f passes d e old kept s is call (Descends parent item) at bodies i h (is_calm old.checkpoint (not_due old early).0) w most flies after.leaves
       (record_read r (page_given item.page e.seen w.shelf)) (λ a. refl)
       (sweep_works c l said f passes d e v w bodies i h.whole s entry parent item (work bodies i h) its.locks (map note_of its.notes) call (slot bodies i h) h.keeps test claims
       (swept h.keeps.steady) own after)
@@ -186,7 +186,7 @@ module _ {B D : Type 0} (c : Class B) (lawful : 4 ≤ c.rules.most → IsLawful 
           (no_place c l said f passes d e v w bodies i h.whole s entry parent item (work bodies i h) its.locks (map note_of its.notes) call (slot bodies i h) h.keeps below
           (subst (λ (x : Rules B). HasNoPlace x (tree_of (store_of f d.seen v.shelf)) item.page parent) (ap rules h.most ∙ its_rules) (none h.keeps.steady))))
 
-  module _ (stage : w.log.stage ≡ v.log.stage) (room : w.shelf.pages ≡ v.shelf.pages) (fits : w.shelf.used ≤ w.shelf.pages) (rules : ℕ → Rules B) (its_rules : rules c.rules.most ≡ c.rules)
+  module _ (flies : FliesOn v.log w.log) (room : w.shelf.pages ≡ v.shelf.pages) (fits : w.shelf.used ≤ w.shelf.pages) (rules : ℕ → Rules B) (its_rules : rules c.rules.most ≡ c.rules)
       (sides_of : List B → ℕ → List Bool) where
     -- its node was split: the descent begins again
     pub split_moves : (did : Split B) → (IsSteady d v.shelf.frames → DidSplit (rules v.most) sides_of (store_of f d.seen v.shelf) (store_of f e.seen w.shelf) item.page parent did)
@@ -205,7 +205,7 @@ module _ {B D : Type 0} (c : Class B) (lawful : 4 ≤ c.rules.most → IsLawful 
         _ did.left did.right done.split own after in
         let root = subst (λ (n : ℕ). GoesTo c l said f passes d e v w bodies i h.whole s entry parent item (work bodies i h) its.locks (map note_of its.notes) call (slot bodies i h) h.keeps
         (with_record x i) 0 (record { page = 1; seen = n })) with.keeps.counter goes in
-        logged_on c l r f passes d e old kept s is call (Descends parent item) at bodies i h (is_calm old.checkpoint (not_due old early).0) w most stage after.leaves x (λ a. refl) with
+        logged_on c l r f passes d e old kept s is call (Descends parent item) at bodies i h (is_calm old.checkpoint (not_due old early).0) w most flies after.leaves x (λ a. refl) with
         (Descends 0 (record { page = 1; seen = w.shelf.counter })) (index.Descends entry 0 (record { page = 1; seen = w.shelf.counter })) refl root.does root.lower
 
     -- the root was
@@ -225,7 +225,7 @@ module _ {B D : Type 0} (c : Class B) (lawful : 4 ≤ c.rules.most → IsLawful 
         _ did.left did.right done.split own after in
         let root = subst (λ (n : ℕ). GoesTo c l said f passes d e v w bodies i h.whole s entry parent item (work bodies i h) its.locks (map note_of its.notes) call (slot bodies i h) h.keeps
         (with_record x i) 0 (record { page = 1; seen = n })) with.keeps.counter goes in
-        logged_on c l r f passes d e old kept s is call (Descends parent item) at bodies i h (is_calm old.checkpoint (not_due old early).0) w most stage after.leaves x (λ a. refl) with
+        logged_on c l r f passes d e old kept s is call (Descends parent item) at bodies i h (is_calm old.checkpoint (not_due old early).0) w most flies after.leaves x (λ a. refl) with
         (Descends 0 (record { page = 1; seen = w.shelf.counter })) (index.Descends entry 0 (record { page = 1; seen = w.shelf.counter })) refl root.does root.lower
 
   -- a split isn't refused as damage
@@ -302,7 +302,7 @@ module _ {B D : Type 0} (shape : Members B) (proper : B → Bool) (said : List �
     pub split_any : item.page ≢ 1 → (did : Option (Split B))
         → Splitting (known_at shape proper) (reading_of said f) f passes (rules_of shape) sides_of d e old.volume w item.page parent (Ok did) → Begins
     split_any below (Some did) has =
-        split_moves (class_of shape proper limits) lawful said f passes d e old kept works s is early entry parent item at w has.logged.most (ap (λ (g : Log). g.stage) has.logged.logs.log)
+        split_moves (class_of shape proper limits) lawful said f passes d e old kept works s is early entry parent item at w has.logged.most (flies_on _ _ has.logged.logs)
         has.logged.goes_on.pages fits (rules_of shape) refl sides_of did has.split has.own (has.logged.keeps limits)
     split_any below None has =
         none_moves (class_of shape proper limits) lawful said f passes d e old kept works s is early entry parent item at w has.unlogged.most has.unlogged.log
@@ -310,5 +310,5 @@ module _ {B D : Type 0} (shape : Members B) (proper : B → Bool) (said : List �
 
     pub root_any : (did : RootSplit B) → HasSplitRoot (known_at shape proper) (reading_of said f) f passes (rules_of shape) sides_of d e old.volume w did → Begins
     root_any did has =
-        root_moves (class_of shape proper limits) lawful said f passes d e old kept works s is early entry parent item at w has.logged.most (ap (λ (g : Log). g.stage) has.logged.logs.log)
+        root_moves (class_of shape proper limits) lawful said f passes d e old kept works s is early entry parent item at w has.logged.most (flies_on _ _ has.logged.logs)
         has.logged.goes_on.pages fits (rules_of shape) refl sides_of did has.split has.own (has.logged.keeps limits)

@@ -48,7 +48,7 @@ use Rattle.gx_engine.specs.Sealing.{AcknowledgeBy, AcknowledgeComes, AreSealing,
 use Rattle.gx_engine.proofs.Flushing.{nothing_led}
 use Rattle.gx_engine.specs.Noted.{has_transaction, touched_by}
 use Rattle.gx_engine.proofs.Noting.{busy_slot, told_phase, told_set, without_others}
-use Rattle.gx_engine.proofs.Serving.{held_as_it_is, session_at, session_of, slot_is}
+use Rattle.gx_engine.proofs.Serving.{FliesOn, held_as_it_is, session_at, session_of, slot_is}
 
 -- a session that asked a commit has that call open
 record CommitIsOpen {B : Type 0} (p : Phase B (Work B)) : Type 0 where
@@ -76,7 +76,7 @@ module _ {B D : Type 0} (c : Class B) (l : IsLawful c) (r : Reading (Entry B) (P
   abbrev touches : List (Touch (Entry B))
   touches = (analysis k (all_records i.log)).touched
 
-  module _ (calm : old.checkpoint ≢ Turning) (asks : asks_commit (phase_at (s - 1) old.sessions.phases) ≡ true) (w : Volume D) (same_most : w.most ≡ old.volume.most) (same_stage : w.log.stage ≡ old.volume.log.stage)
+  module _ (calm : old.checkpoint ≢ Turning) (asks : asks_commit (phase_at (s - 1) old.sessions.phases) ≡ true) (w : Volume D) (same_most : w.most ≡ old.volume.most) (flies : FliesOn old.volume.log w.log)
       (keeps : MayCome k i.log.area (all_records i.log) (records.Commit (transaction_of s old.sessions) (old.sessions.latest + 1)) → Keeps k r f passes d old.volume bodies i.log
       → Keeps k r f passes d w bodies (appended (records.Commit (transaction_of s old.sessions) (old.sessions.latest + 1)) i.log)) where
     abbrev number : ℕ
@@ -141,7 +141,8 @@ module _ {B D : Type 0} (c : Class B) (l : IsLawful c) (r : Reading (Entry B) (P
                 let one : length (i.older ++ h.whole.machine.latest ∷ []) ≡ length i.older + 1 = length-append i.older (h.whole.machine.latest ∷ []) in
                 let same = h.latest in
                 omega (arith, now, before, one, same));
-            flying = λ works. subst (λ (x : Stage). KnowsFlight x old.in_flight (durable k (gate_synced i.log))) (sym same_stage) (h.flying works);
+            flying = λ works. subst (λ (x : Stage). KnowsFlight x old.in_flight (durable k (gate_synced i.log))) (sym flies.stage) (h.flying works);
+            bare = λ works calm idle. flies.flight ∙ h.bare works calm (sym flies.stage ∙ idle);
             turns = λ works turning. absurd (calm turning);
           };
           leaves = nothing_leaves (Stands k r i.log) d;
@@ -171,6 +172,7 @@ module _ {B D : Type 0} (c : Class B) (l : IsLawful c) (r : Reading (Entry B) (P
           told = told_phase c.keys old.sessions kept s is touches phase.Free (λ busy. let no : ⊥ = cc in absurd no) h.told;
           latest = h.latest;
           flying = h.flying;
+          bare = h.bare;
           turns = h.turns;
         };
         leaves = nothing_leaves (Stands k r i.log) d;
@@ -204,14 +206,14 @@ module _ {B D : Type 0} (c : Class B) (l : 4 ≤ c.rules.most → IsLawful c) (r
 -- a commit is sealed, whatever index the engine held
 pub seal_leads : {B D : Type 0} (c : Class B) (lawful : 4 ≤ c.rules.most → IsLawful c) (r : Reading (Entry B) (Page B)) (f : Format B) (passes : ℕ → Contents → Bool)
     (d : Device) (old : Parts B D) → IsKept c.keys old.sessions → old.sessions.failed ≡ false → (s : ℕ) → is_session s ≡ true → asks_commit (phase_at (s - 1) old.sessions.phases) ≡ true → old.checkpoint ≢ Turning
-    → (w : Volume D) → w.most ≡ old.volume.most → w.log.stage ≡ old.volume.log.stage → (t n : ℕ) → t ≡ transaction_of s old.sessions → n ≡ old.sessions.latest + 1
+    → (w : Volume D) → w.most ≡ old.volume.most → FliesOn old.volume.log w.log → (t n : ℕ) → t ≡ transaction_of s old.sessions → n ≡ old.sessions.latest + 1
     → KeepsRecord (known_of c) r f passes d old.volume w (rec.Commit t n)
     → LeadsSo c r f passes d d old (record old { volume = w; sessions = sealed_state s old.sessions }) (AreSealing s (old.sessions.latest + 1) More)
-seal_leads c lawful r f passes d old kept works s is asks calm w most stage t n its next keeps bodies i h =
+seal_leads c lawful r f passes d old kept works s is asks calm w most flies t n its next keeps bodies i h =
     let l = lawful h.some in
     let K : ℕ → ℕ → Type 0 = λ t n. KeepsRecord (known_of c) r f passes d old.volume w (rec.Commit t n) in
     let sealed_keeps : K (transaction_of s old.sessions) (old.sessions.latest + 1) = subst (λ x. K (transaction_of s old.sessions) x) next (subst (λ x. K x n) its keeps) in (
       Seals s h.whole.machine.latest (old.sessions.latest + 1) ∷ [],
       (h.whole.machine.latest, refl),
-      seal_led c l r f passes d old kept works s is bodies i h calm asks w most stage (λ may_come before. sealed_keeps.keeps bodies i.log (known_lawful c l) may_come before),
+      seal_led c l r f passes d old kept works s is bodies i h calm asks w most flies (λ may_come before. sealed_keeps.keeps bodies i.log (known_lawful c l) may_come before),
     )

@@ -12,6 +12,7 @@ use Rattle.gx_disk.specs.Device.{Device}
 use Rattle.gx_pool.specs.Bringing.{OnlyRead}
 use Rattle.gx_pool.specs.Marks.{is_gated}
 use Rattle.gx_pool.specs.State.{kept, stamp_of}
+use Rattle.gx_record.specs.Rec.{Rec}
 use Rattle.gx_glog.specs.State.{Log}
 use Rattle.gx_glog.specs.declared.stage.Turn.TheVariants.{Closed}
 use Rattle.gx_recovery.specs.Known.{Known}
@@ -19,6 +20,7 @@ use Rattle.gx_recovery.specs.Logged.{Logged}
 use Rattle.gx_durable.specs.Area.{IsSettledBut}
 use Rattle.gx_durable.specs.Spelled.{Reading}
 use Rattle.gx_durable.specs.Standing.{MayRenew}
+use Rattle.gx_storage.specs.Keeps.{Logs}
 use Rattle.gx_storage.specs.State.{Volume}
 use Rattle.gx_index_laws.specs.States as index
 use Rattle.gx_engine_laws.specs.Slots.{Slot, slot_at, with_slot}
@@ -31,7 +33,7 @@ use Rattle.gx_phases.proofs.Slots.{placed_set, slot_here, slots_set}
 use Rattle.gx_engine.specs.declared.checkpoint.Checkpoint.{Checkpoint}
 use Rattle.gx_engine.specs.declared.checkpoint.Checkpoint.TheVariants.{Off, Running, Turning}
 use Rattle.gx_engine.specs.declared.work.Work.{Work}
-use Rattle.gx_engine.specs.Holds.{AreAt, IsAt}
+use Rattle.gx_engine.specs.Holds.{AreAt, IsAt, MayRenewBy}
 use Rattle.gx_engine.specs.States.{Parts, StandsIn, is_due, runs}
 
 -- One session's phase and what it holds have changed, and what it is at; the others are at what they were.
@@ -93,7 +95,7 @@ pub of_reads : (d e : Device) → OnlyRead d e → d.honest ≡ true → StaysSe
 of_reads d e read honest = record { sectors = read.sectors; settled = (read.rests honest).settled }
 
 -- so a log that may be renewed may be still
-pub may_renew_still : {E P : Type 0} (k : Known E P) (r : Reading E P) (head : List ℕ) (d e : Device) (s : Logged E P) → StaysSettled d e
+unfoldable pub may_renew_still : {E P : Type 0} (k : Known E P) (r : Reading E P) (head : List ℕ) (d e : Device) (s : Logged E P) → StaysSettled d e
     → MayRenew k r head d.sectors d.pending s → MayRenew k r head e.sectors e.pending s
 may_renew_still k r head d e s stays may = record {
   no_flight = may.no_flight;
@@ -106,6 +108,20 @@ may_renew_still k r head d e s stays may = record {
   covers = may.covers;
   head_is = may.head_is;
 }
+
+pub renews_still : {E P : Type 0} (k : Known E P) (r : Reading E P) (now next : ℕ) (head : List ℕ) (d e : Device) (s : Logged E P) → StaysSettled d e → now ≤ next
+    → MayRenewBy k r now head d.sectors d.pending s → MayRenewBy k r next head e.sectors e.pending s
+unfolding may_renew_still
+renews_still k r now next head d e s stays rises by = record { may = may_renew_still k r head d e s stays by.may; begun = (let low = by.begun in omega (arith, low, rises)) }
+
+-- A log has the same batch in flight, or the same head, at the same call.
+pub record FliesOn (old new : Log) : Type 0 where
+  pub stage : new.stage ≡ old.stage
+  pub flight : new.flight ≡ old.flight
+
+-- so has one that is longer by a record
+pub flies_on : {x : Rec} (old new : Log) → Logs x old new → FliesOn old new
+flies_on old new logs = record { stage = ap (λ (g : Log). g.stage) logs.log; flight = ap (λ (g : Log). g.flight) logs.log }
 
 -- no checkpoint runs, so none turns
 pub is_calm : (x : Checkpoint) → runs x ≡ false → x ≢ Turning

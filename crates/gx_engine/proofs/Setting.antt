@@ -79,7 +79,7 @@ use Rattle.gx_engine.proofs.Growing.{grown_led}
 use Rattle.gx_engine.proofs.Looking.{answers, as_it_stays, fails, goes_on, held, slot_now, waits}
 use Rattle.gx_engine.proofs.Marking.{here_counts, here_live, marks_too, right_none}
 use Rattle.gx_engine.proofs.Noting.{busy_slot, told_set}
-use Rattle.gx_engine.proofs.Serving.{StaysSettled, is_calm, not_due, of_reads, same_device, session_at, session_of, slot_is}
+use Rattle.gx_engine.proofs.Serving.{FliesOn, StaysSettled, flies_on, is_calm, not_due, of_reads, same_device, session_at, session_of, slot_is}
 use Rattle.gx_engine.proofs.Touching.{touching_notes, touching_other, touching_own}
 use Rattle.gx_engine.proofs.Waiting.{sits_of, waits_led}
 
@@ -416,7 +416,7 @@ module _ {B D : Type 0} (c : Class B) (lawful : 4 ≤ c.rules.most → IsLawful 
 
       module _ (at_slot : ℕ) (before : Bool) (content : Page B) (of_class : c.is_key entry.key ≡ true) (own : content.own ≡ leaf)
           (sets : IsSteady d old.volume.shelf.frames → SetsMark wants (store_of f d.seen old.volume.shelf) (store_of f e.seen w.shelf) leaf marked (Here at_slot before))
-          (stage : w.log.stage ≡ old.volume.log.stage)
+          (flies : FliesOn old.volume.log w.log)
           (keeps : (bodies : List (List (Record (Entry B) (Page B)))) (log : Logged (Entry B) (Page B)) → known.IsLawful (known_of c)
           → Keeps (known_of c) r f passes d old.volume bodies log
           → StaysWith (known_of c) r f passes d e w bodies log (Write (transaction_of s old.sessions) entry before marked leaf (Whole content))) where
@@ -443,7 +443,7 @@ module _ {B D : Type 0} (c : Class B) (lawful : 4 ≤ c.rules.most → IsLawful 
             subst (λ (events : List (Event B)). Moved c r f passes d e s old (record old { volume = w; sessions = new }) (Replied (written_reply marked)) i events) (sym (written_told s entry marked))
             (record {
               led =
-                  grown_led c r f passes d e old bodies i h (is_calm old.checkpoint (not_due old early).0) w most stage after.leaves x (after.keeps comes.0)
+                  grown_led c r f passes d e old bodies i h (is_calm old.checkpoint (not_due old early).0) w most flies after.leaves x (after.keeps comes.0)
                   (written_event s entry marked ∷ []) j (j, comes.1, refl) comes.1.whole refl refl refl new
                   (written_sits c l old.sessions kept works s is entry leaf marked before same at i h.whole sits content) refl (λ works. works);
               lowers = tt;
@@ -474,7 +474,7 @@ module _ {B D : Type 0} (shape : Members B) (proper : B → Bool) (limits : Limi
       ap (λ (x : B). (let y : Record (Entry B) (Page B) = Write t (record { row = entry.row; key = x }) before marked leaf (Whole content) in y)) back in
       here_moves its_class lawful its_reading f passes d old kept works s is entry leaf marked at IsKey shows keyed order early spot found e w set.logged.most set.wants
       set.wanted slot before content of_class set.own
-      set.sets (ap (λ (g : Log). g.stage) set.logged.logs.log)
+      set.sets (flies_on _ _ set.logged.logs)
       (λ bodies log lawful_log keeps. subst (λ (y : Record (Entry B) (Page B)). StaysWith (known_of its_class) its_reading f passes d e w bodies log y) same
       (set.logged.keeps limits bodies log lawful_log keeps))
   set_moves shows keyed order back of_class spot found (Right page) set =

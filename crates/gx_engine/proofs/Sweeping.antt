@@ -58,6 +58,7 @@ use Rattle.gx_engine.specs.Writing.{brought}
 use Rattle.gx_engine.proofs.Brought.{as_brought, begun_on, by_refusal, help_later, logged_later}
 use Rattle.gx_engine.proofs.Claimed.{claimed_alike}
 use Rattle.gx_engine.proofs.Growing.{grown_led}
+use Rattle.gx_engine.proofs.Serving.{FliesOn}
 
 same_parts : {B : Type 0} (one other : Store B) → one.nodes ≡ other.nodes → one.counter ≡ other.counter → one.room ≡ other.room → one ≡ other
 same_parts {B} one other nodes counter room =
@@ -167,7 +168,7 @@ more_than_fit f page d old claimed low high some full =
 -- A leaf was swept.
 module _ {B D : Type 0} (c : Class B) (lawful : 4 ≤ c.rules.most → IsLawful c) (said : List ℕ → B) (f : Format B) (passes : ℕ → Contents → Bool) (page : ℕ) (d e : Device) (old : Parts B D)
     (kept : IsKept c.keys old.sessions) where
-  module _ (w : Volume D) (calm : old.checkpoint ≢ Turning) (most : w.most ≡ old.volume.most) (stage : w.log.stage ≡ old.volume.log.stage)
+  module _ (w : Volume D) (calm : old.checkpoint ≢ Turning) (most : w.most ≡ old.volume.most) (flies : FliesOn old.volume.log w.log)
       (keeps : KeepsWith (known_of c) (reading_of said f) f passes d e old.volume w (page_given page e.seen w.shelf))
       (swept : IsSteady d old.volume.shelf.frames → Swept (is_held c.keys old) (store_of f d.seen old.volume.shelf) (store_of f e.seen w.shelf) page true) (own : HasOwnNumber e.seen w.shelf page) where
     abbrev given : Record (Entry B) (Page B)
@@ -193,7 +194,7 @@ module _ {B D : Type 0} (c : Class B) (lawful : 4 ≤ c.rules.most → IsLawful 
       sweep_led =
           let with = works_with in
           let j : index.State B = with_record given i in
-          grown_led c (reading_of said f) f passes d e old bodies i h calm w most stage after.leaves given with.keeps (Works ∷ []) j (j, with.comes.happens, refl) with.comes.happens.whole refl refl refl old.sessions
+          grown_led c (reading_of said f) f passes d e old bodies i h calm w most flies after.leaves given with.keeps (Works ∷ []) j (j, with.comes.happens, refl) with.comes.happens.whole refl refl refl old.sessions
           (record {
             of = record { slots = h.sessions.slots; transactions = h.sessions.transactions; next = h.sessions.next; oldest = h.sessions.oldest; failed = h.sessions.failed };
             at = h.at;

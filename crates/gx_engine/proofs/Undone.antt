@@ -78,7 +78,7 @@ use Rattle.gx_engine.proofs.Waiting.{fails_led, sits_of, waits_led}
 use Rattle.gx_engine.proofs.Flushing.{nothing_led}
 use Rattle.gx_engine.proofs.Growing.{grown_led, stayed_led}
 use Rattle.gx_engine.proofs.Marking.{here_counts, here_live, marks_too, right_none}
-use Rattle.gx_engine.proofs.Serving.{is_calm, not_due, of_reads, slot_is}
+use Rattle.gx_engine.proofs.Serving.{FliesOn, flies_on, is_calm, not_due, of_reads, slot_is}
 use Rattle.gx_engine.proofs.Undoing as undoing
 
 -- An undo's phase: so many are restored, and this is its work.
@@ -165,10 +165,10 @@ module _ {B D : Type 0} (c : Class B) (lawful : 4 ≤ c.rules.most → IsLawful 
     (d e : Device) (old : Parts B D) (kept : IsKept c.keys old.sessions) (works : old.sessions.failed ≡ false) (s : ℕ) (is : is_session s ≡ true) (early : is_due old ≡ false)
     (w : Volume D) (most : w.most ≡ old.volume.most) where
   -- No note is left.
-  pub end_moves : is_undoing (phase_at (s - 1) old.sessions.phases) ≡ true → next_of s old.sessions ≡ None → w.log.stage ≡ old.volume.log.stage
+  pub end_moves : is_undoing (phase_at (s - 1) old.sessions.phases) ≡ true → next_of s old.sessions ≡ None → FliesOn old.volume.log w.log
       → (t : ℕ) → t ≡ transaction_of s old.sessions → KeepsRecord (known_of c) r f passes d old.volume w (rec.End t)
       → MovesSo c r f passes d d s old (record old { volume = w; sessions = ended_state s old.sessions }) (Replied Aborted) (AreUndoing s old.sessions (Replied Aborted))
-  end_moves undoes none stage t its keeps bodies i h =
+  end_moves undoes none flies t its keeps bodies i h =
       let l = lawful h.some in
       let past = past_by (phase_at (s - 1) old.sessions.phases) (length (held_by s old.sessions.table).notes) undoes none in
       let was : Work B = undo_work (phase_at (s - 1) old.sessions.phases) in
@@ -181,7 +181,7 @@ module _ {B D : Type 0} (c : Class B) (lawful : 4 ≤ c.rules.most → IsLawful 
         refl,
         record {
           led =
-              grown_led c r f passes d d old bodies i h (is_calm old.checkpoint (not_due old early).0) w most stage (nothing_leaves (Stands (known_of c) r i.log) d)
+              grown_led c r f passes d d old bodies i h (is_calm old.checkpoint (not_due old early).0) w most flies (nothing_leaves (Stands (known_of c) r i.log) d)
               (records.End own) (kept_record.keeps bodies i.log (known_lawful c l) comes.0 h.keeps) (EndsUndo s ∷ []) j (j, comes.1, refl) comes.1.whole refl refl refl
               (ended_state s old.sessions) (undoing.end_sits c l old.sessions kept works s is past.restored was past.is i h.whole sits past.past) refl (λ works. works);
           lowers = tt;
@@ -298,7 +298,7 @@ module _ {B D : Type 0} (c : Class B) (lawful : 4 ≤ c.rules.most → IsLawful 
         (wants : Pair B → Bool) (wanted : (x : Pair B) → IsKey x.key → wants x ≡ ((x.row == n.entry.row) && is_eq (c.keys.cmp x.key n.entry.key)))
         (slot : ℕ) (before : Bool) (content : Page B) (of_class : c.is_key n.entry.key ≡ true) (own : content.own ≡ leaf)
         (sets : IsSteady d old.volume.shelf.frames → SetsMark wants (store_of f d.seen old.volume.shelf) (store_of f e.seen w.shelf) leaf n.before (Here slot before))
-        (stage : w.log.stage ≡ old.volume.log.stage)
+        (flies : FliesOn old.volume.log w.log)
         (keeps : (bodies : List (List (Record (Entry B) (Page B)))) (log : Logged (Entry B) (Page B)) → known.IsLawful (known_of c)
         → Keeps (known_of c) r f passes d old.volume bodies log
         → StaysWith (known_of c) r f passes d e w bodies log (Write (transaction_of s old.sessions) n.entry before n.before leaf (Whole content))) where
@@ -329,7 +329,7 @@ module _ {B D : Type 0} (c : Class B) (lawful : 4 ≤ c.rules.most → IsLawful 
             inr (n, next, refl),
             record {
               led =
-                  grown_led c r f passes d e old bodies i h (is_calm old.checkpoint (not_due old early).0) w most stage after.leaves x (after.keeps comes.0)
+                  grown_led c r f passes d e old bodies i h (is_calm old.checkpoint (not_due old early).0) w most flies after.leaves x (after.keeps comes.0)
                   (Undoes s n.entry ∷ []) j (j, comes.1, refl) comes.1.whole refl refl refl (restored_state s m n leaf Rests old.sessions)
                   (undoing.restored_sits c law old.sessions kept works s is m was at i h.whole (sits bodies i h) n next.note before leaf content of_class own lived some marks) refl (λ works. works);
               lowers = lower_by _ _ _ _ past now lowers;
@@ -445,7 +445,7 @@ module _ {B D : Type 0} (shape : Members B) (proper : B → Bool) (limits : Limi
       let same : record_read r (write_of spelling t n.entry.row n.entry.key before n.before leaf e.seen w.shelf) ≡ Write t n.entry before n.before leaf (Whole content) =
       ap (λ (x : B). (let y : Record (Entry B) (Page B) = Write t (record { row = n.entry.row; key = x }) before n.before leaf (Whole content) in y)) back in
       here_moves c lawful r f passes d e old kept works s is early w found.logged.most n next leaf its_leaf IsKey shows keyed order found.wants found.wanted slot before content of_class found.own
-      found.sets (ap (λ (g : Log). g.stage) found.logged.logs.log)
+      found.sets (flies_on old.volume.log w.log found.logged.logs)
       (λ bodies log lawful_log keeps. subst (λ (y : Record (Entry B) (Page B)). StaysWith (known_of c) r f passes d e w bodies log y) same (found.logged.keeps limits bodies log lawful_log keeps))
   sought_moves shows keyed order back of_class (Right page) found =
       right_moves c lawful r f passes d e old kept works s is early w found.logged.most n next leaf its_leaf found.logged.log (found.logged.since 0).goes_on.device (found.logged.keeps limits)

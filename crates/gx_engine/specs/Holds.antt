@@ -1,5 +1,5 @@
 -- An engine over a device as an index, and what its events make of that.
-use Rattle.std.specs.Prelude.{ℕ, ◌≡◌, ◌≤◌, ◌-◌, Bool, true, false, Some, List, [], slice_get, take}
+use Rattle.std.specs.Prelude.{ℕ, ◌≡◌, ◌≢◌, ◌≤◌, ◌-◌, Bool, true, false, Some, List, [], slice_get, take}
 use Rattle.gx_machine.specs.declared.entry.Entry.{Entry}
 use Rattle.gx_machine.specs.declared.call.Call.{Call}
 use Rattle.gx_machine.specs.declared.call.Call.TheVariants.{Begin, Insert, Delete, Search, Commit, Abort}
@@ -14,9 +14,10 @@ use Rattle.gx_tree_laws.specs.Trees.{Pair}
 use Rattle.gx_tree.specs.Found.{pairs_found}
 use Rattle.gx_glog.specs.declared.stage.Stage.{Stage}
 use Rattle.gx_glog.specs.declared.stage.Stage.TheVariants.{Body, BodySync, Gate, GateSync, Idle}
+use Rattle.gx_recovery.specs.Known.{Known}
 use Rattle.gx_recovery.specs.Records.{Record}
 use Rattle.gx_recovery.specs.Analysis.{analysis}
-use Rattle.gx_recovery.specs.Logged.{all_records, durable, gate_synced, latest}
+use Rattle.gx_recovery.specs.Logged.{Logged, all_records, durable, gate_synced, latest}
 use Rattle.gx_engine_laws.specs.Events.{Event}
 use Rattle.gx_index_laws.specs.Classes.{Class, Page, known_of}
 use Rattle.gx_index_laws.specs.States as index
@@ -110,6 +111,11 @@ pub record Sits {B : Type 0} (c : Class B) (sessions : State B (Work B)) (i : in
   pub at : AreAt c.keys sessions i
   pub told : AreTold sessions (analysis (known_of c) (all_records i.log)).touched
 
+-- A checkpoint that turns may renew the log, with a next transaction's number that the index has come to.
+pub record MayRenewBy {E P : Type 0} (k : Known E P) (r : Reading E P) (next : ℕ) (head : List ℕ) (sectors : ℕ) (pending : ℕ → Bool) (s : Logged E P) : Type 0 where
+  pub may : MayRenew k r head sectors pending s
+  pub begun : may.next ≤ next
+
 -- The number that an engine notes is that of the last commit in flight, where a batch is, whose first call was made.
 abbrev pub KnowsFlight : Stage → ℕ → ℕ → Type 0
 KnowsFlight Idle noted number = Unit {0}
@@ -121,7 +127,8 @@ KnowsFlight GateSync noted number = noted ≡ number
 module _ {B : Type 0} (c : Class B) (r : Reading (Entry B) (Page B)) (f : Format B) (passes : ℕ → Contents → Bool) where
   -- An engine over a device holds an index, which is whole: its pages and log are the index's, its sessions are the index's and at
   -- the same, its sessions' notes are what the log's transactions have touched, and its last commit has the number of the log's.
-  -- While it hasn't failed, it knows the last commit in flight, and in a checkpoint that turns the log may be renewed.
+  -- While it hasn't failed, it knows the last commit in flight, no head is there before a checkpoint turns, and in one that turns the
+  -- log may be renewed.
   pub record Holds {D : Type 0} (d : Device) (e : Parts B D) (bodies : List (List (Record (Entry B) (Page B)))) (i : index.State B) : Type 0 where
     pub most : e.volume.most ≡ c.rules.most
     pub some : 4 ≤ c.rules.most
@@ -132,7 +139,8 @@ module _ {B : Type 0} (c : Class B) (r : Reading (Entry B) (Page B)) (f : Format
     pub told : AreTold e.sessions (analysis (known_of c) (all_records i.log)).touched
     pub latest : e.sessions.latest ≡ latest (known_of c) i.log
     pub flying : e.sessions.failed ≡ false → KnowsFlight e.volume.log.stage e.in_flight (durable (known_of c) (gate_synced i.log))
-    pub turns : e.sessions.failed ≡ false → e.checkpoint ≡ Turning → MayRenew (known_of c) r e.volume.log.flight d.sectors d.pending i.log
+    pub bare : e.sessions.failed ≡ false → e.checkpoint ≢ Turning → e.volume.log.stage ≡ Idle → e.volume.log.flight ≡ []
+    pub turns : e.sessions.failed ≡ false → e.checkpoint ≡ Turning → MayRenewBy (known_of c) r i.next e.volume.log.flight d.sectors d.pending i.log
 
   -- These events happened to an index: the engine holds what they led to. At each moment since, whatever a crash may leave is legal
   -- and stands for a set that the index of before keeps, with a number from the one that was durable then to the last.

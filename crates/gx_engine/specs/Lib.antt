@@ -13,6 +13,8 @@ pub mod Searching
 pub mod Noted
 pub mod Undoing
 pub mod Seeking
+pub mod Checkpoints
+pub mod Putting
 pub mod Stepping
 pub mod Running
 pub mod Descending

@@ -18,7 +18,7 @@ use gx_readings::ReadKeys;
 impl<D: SectorDisk, K: ReadKeys> Engine<D, K> {
     // What is noted of a log's call: with a batch's first one, the last commit that is in it; with its gate's sync, that commits
     // are durable up to that one.
-    fn note(&mut self, stage: Stage) -> Outcome<K::Key>
+    pub(crate) fn note(&mut self, stage: Stage) -> Outcome<K::Key>
         requires { self.old.sessions.durable ≤ self.old.sessions.latest }
         ensures outcome { result ≡ log_outcome stage }
         ensures noted { self.new ≡ noted stage self.old }

@@ -3,14 +3,17 @@
 
 mod asks;
 mod checkpoint;
+mod checkpoints;
 mod commits;
 mod engine;
 mod flusher;
+mod heads;
 pub mod laws;
 mod looks;
 mod pages;
 mod refusals;
 mod searches;
+mod step;
 mod sweeps;
 mod undoes;
 mod work;

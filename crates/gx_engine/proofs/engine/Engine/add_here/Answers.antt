@@ -12,6 +12,7 @@ use Rattle.gx_engine.specs.Moves.{Moves}
 use Rattle.gx_engine.specs.Refusals.{IsRefused}
 use Rattle.gx_engine.specs.States.{Parts}
 use Rattle.gx_engine.specs.Writing.{write_events}
+use Rattle.gx_engine.proofs.Serving.{flies_on}
 use Rattle.gx_engine.proofs.Inserted.{added_comes, added_is, added_moves, never_added}
 use Rattle.gx_engine.proofs.Stopping.{lost_comes, stopped_comes, stopped_moves}
 use Rattle.gx_engine.proofs.Undone.{why_pages}
@@ -37,7 +38,7 @@ returns-in-Ok-clause-moves g c leaf =
     (λ x y. Moves (class_of shape g.K.ReadKeys.is_proper l) (reading_of g.K.ReadKeys.said (format_of g.K.KeyClass)) (format_of g.K.KeyClass) (is_node (format_of g.K.KeyClass))
     (state old.volume.shelf.disk) (state x.volume.shelf.disk) c.args.session old x y (write_events c.args.session (Insert c.args.entry) y))
     (added_moves _ (c.a_class_is_lawful.ensures l) _ _ _ (state old.volume.shelf.disk) (state c.add_pair.new.self.volume.shelf.disk) old kept c.requires.works c.args.session c.requires.session
-    c.requires.early c.args.entry c.args.parent c.args.item c.requires.descends c.add_pair.new.self.volume did.logged.most (ap (λ (x : Log). x.stage) did.logged.logs.log)
+    c.requires.early c.args.entry c.args.parent c.args.item c.requires.descends c.add_pair.new.self.volume did.logged.most (flies_on _ _ did.logged.logs)
     (λ steady. (leaf steady).0) did.adds _ refl g.K.KeyClass.spelling (g.met.K.ReadKeys.said_back key c.known.ensures) (g.met.K.ReadKeys.key_is_proper key c.known.ensures)
     (did.logged.keeps l) did.own)
 

@@ -23,6 +23,7 @@ use Rattle.gx_store.specs.State.{IsInOrder}
 use Rattle.gx_storage.specs.Changes.{known_at}
 use Rattle.gx_storage_callers.proofs.Descending.{IsJoin}
 use Rattle.gx_engine.specs.Sweeping.{is_held, node_shown}
+use Rattle.gx_engine.proofs.Serving.{flies_on}
 use Rattle.gx_engine.proofs.DescentMoves.{full_inner, inner_removable, never_stepped, removable_again, said_again, stepped_as}
 use Rattle.gx_engine.proofs.Descents.{again_moves, down_moves, widened_moves}
 use Rattle.gx_engine.proofs.MakingRoom.{on_comes, on_is}
@@ -66,7 +67,7 @@ returns-in-Widened-clause-moves g c l =
     (λ x y. Moves (class_of shape g.K.ReadKeys.is_proper l) (reading_of g.K.ReadKeys.said f) f (is_node f)
     (state old.volume.shelf.disk) (state x.volume.shelf.disk) c.args.session old x y (write_events c.args.session (Insert c.args.entry) y))
     (widened_moves _ (c.a_class_is_lawful.ensures l) g.K.ReadKeys.said f (is_node f) (state old.volume.shelf.disk) (state c.step_down.new.self.volume.shelf.disk)
-    old kept c.args.session c.requires.session c.requires.early c.args.entry c.args.parent c.args.item c.requires.descends c.step_down.new.self.volume has.logged.most (ap (λ (x : Log). x.stage) has.logged.logs.log)
+    old kept c.args.session c.requires.session c.requires.early c.args.entry c.args.parent c.args.item c.requires.descends c.step_down.new.self.volume has.logged.most (flies_on _ _ has.logged.logs)
     g.K.KeyClass.is_key g.K.KeyClass.cost g.K.KeyClass.joined join c.known.ensures (c.a_volume_shows_keys.ensures l old.volume) order c.in-Widened.field-0 c.in-Widened.field-1 c.in-Widened.field-2 has.steps (has.own refl) (has.logged.keeps l))
 
 pub returns-in-Down-clause-comes : goal.returns-in-Down-clause-comes

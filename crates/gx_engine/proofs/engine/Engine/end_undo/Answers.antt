@@ -1,11 +1,11 @@
 use Rattle.std.proofs.Common.{◌≡◌, ◌∙◌, ap, subst, ℕ, ◌-◌}
-use Rattle.gx_glog.specs.State.{Log}
 use Rattle.gx_phases.specs.Moves.{is_undoing, next_of}
 use Rattle.gx_phases.specs.States.{phase_at}
 use Rattle.gx_record.specs.Rec as rec
 use Rattle.gx_storage.specs.Flushing.{HasNoRoom}
 use Rattle.gx_storage.specs.State.{Volume}
 use Rattle.gx_engine.specs.States.{Parts, is_due}
+use Rattle.gx_engine.proofs.Serving.{flies_on}
 use Rattle.gx_engine.proofs.Undone.{end_moves}
 use Rattle.gx_engine.proofs.engine.Engine.end_undo.Goals as goal
 
@@ -22,7 +22,7 @@ returns-in-Ok-clause-moves g c =
     let none = ap (λ (x : Parts g.row.K-Key.Denot g.row.D.Denot). next_of c.args.session x.sessions) c.self.view_is ∙ c.requires.none in
     rw (← c.self.view_is, c.end.ensures, same) (λ l. end_moves _ (c.a_class_is_lawful.ensures l) _ _ _
     (state old.volume.shelf.disk) (state old.volume.shelf.disk) old c.has_failed.ensures.kept works c.args.session c.requires.session early w (ap (λ (v : Volume g.row.D.Denot). v.most) did.recorded.1)
-    undoes none (ap (λ (x : Log). x.stage) did.recorded.0.log) c.transaction-transaction.result c.transaction-transaction.ensures (did.keeps l))
+    undoes none (flies_on old.volume.log w.log did.recorded.0) c.transaction-transaction.result c.transaction-transaction.ensures (did.keeps l))
 
 pub returns-in-Err-clause-comes : goal.returns-in-Err-clause-comes
 returns-in-Err-clause-comes g c =

@@ -19,6 +19,7 @@ use Rattle.gx_tree.specs.Store.{tree_of}
 use Rattle.gx_tree_laws.specs.Trees.{size}
 use Rattle.gx_storage.specs.Changes.{known_at}
 use Rattle.gx_engine.specs.Sweeping.{is_held, node_shown}
+use Rattle.gx_engine.proofs.Serving.{flies_on}
 use Rattle.gx_engine.proofs.DescentMoves.{full_leaf, none_removable, removable_again, said_again, swept_false, swept_true}
 use Rattle.gx_engine.proofs.MakingRoom.{never_swept, swept_moves, yet_comes}
 use Rattle.gx_engine.proofs.ReadFirst.{comes_then, moves_then}
@@ -48,7 +49,7 @@ returns-in-Ok-true-clause-moves g c entry at leaf l =
     subst (λ (x : Parts g.row.K-Key.Denot g.row.D.Denot). Moves (class_of shape g.K.ReadKeys.is_proper l) (reading_of g.K.ReadKeys.said (format_of g.K.KeyClass)) (format_of g.K.KeyClass) (is_node (format_of g.K.KeyClass))
     (state old.volume.shelf.disk) (state c.sweep_leaf.new.self.volume.shelf.disk) c.args.session old x More (write_events c.args.session (Insert entry) More)) (sym c.sweep_leaf.ensures.only)
     (swept_moves _ (c.a_class_is_lawful.ensures l) g.K.ReadKeys.said (format_of g.K.KeyClass) (is_node (format_of g.K.KeyClass)) (state old.volume.shelf.disk) (state c.sweep_leaf.new.self.volume.shelf.disk) old kept c.requires.works c.args.session c.requires.session c.requires.early entry c.args.parent c.args.item at
-    c.sweep_leaf.new.self.volume has.logged.most (ap (λ (x : Log). x.stage) has.logged.logs.log) has.swept has.own (has.logged.keeps l))
+    c.sweep_leaf.new.self.volume has.logged.most (flies_on _ _ has.logged.logs) has.swept has.own (has.logged.keeps l))
 
 pub returns-in-Ok-false-clause-comes : goal.returns-in-Ok-false-clause-comes
 returns-in-Ok-false-clause-comes g c entry at =

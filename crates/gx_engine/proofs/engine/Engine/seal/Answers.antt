@@ -1,11 +1,10 @@
 use Rattle.std.proofs.Common.{◌≡◌, ◌∙◌, ap, sym, ◌+◌, ◌-◌}
-use Rattle.gx_glog.specs.State.{Log}
 use Rattle.gx_phases.specs.Moves.{asks_commit}
 use Rattle.gx_phases.specs.States.{phase_at}
 use Rattle.gx_storage.specs.State.{Volume}
 use Rattle.gx_engine.specs.States.{Parts, is_due}
 use Rattle.gx_engine.proofs.Sealing.{seal_leads}
-use Rattle.gx_engine.proofs.Serving.{is_calm, not_due}
+use Rattle.gx_engine.proofs.Serving.{flies_on, is_calm, not_due}
 use Rattle.gx_engine.proofs.engine.Engine.seal.Goals as goal
 
 pub returns-in-Ok-clause-leads : goal.returns-in-Ok-clause-leads
@@ -20,4 +19,4 @@ returns-in-Ok-clause-leads g c =
     rw (← c.self.view_is, c.seal.ensures.state, same) (λ l. seal_leads _ (c.a_class_is_lawful.ensures l) _ _ _
     (state old.volume.shelf.disk) old c.has_failed.ensures.kept works c.args.session c.requires.session asks
     (is_calm old.checkpoint (not_due old (ap (λ (x : Parts g.row.K-Key.Denot g.row.D.Denot). is_due x) c.self.view_is ∙ sym c.is_due.ensures ∙ c.if-is_due.false)).0) w
-    (ap (λ (v : Volume g.row.D.Denot). v.most) did.recorded.1) (ap (λ (x : Log). x.stage) did.recorded.0.log) c.transaction-transaction.result (c.latest-number.result + 1) c.transaction-transaction.ensures (ap (λ n. n + 1) c.latest-number.ensures) (did.keeps l))
+    (ap (λ (v : Volume g.row.D.Denot). v.most) did.recorded.1) (flies_on old.volume.log w.log did.recorded.0) c.transaction-transaction.result (c.latest-number.result + 1) c.transaction-transaction.ensures (ap (λ n. n + 1) c.latest-number.ensures) (did.keeps l))

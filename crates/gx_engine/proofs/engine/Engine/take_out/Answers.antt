@@ -1,6 +1,5 @@
 use Rattle.std.proofs.Common.{◌≡◌, ◌≤◌, ◌<◌, ◌∙◌, ap, inr, refl, true, length, Err, rules}
 use Rattle.gx_machine.specs.Keys.{keys}
-use Rattle.gx_glog.specs.State.{Log}
 use Rattle.gx_node.specs.Reading.{format_of, is_node}
 use Rattle.gx_node.specs.declared.items.TheConstants.{MAX_ENTRIES}
 use Rattle.gx_store.specs.Faults.{CanBeRead}
@@ -14,7 +13,7 @@ use Rattle.gx_engine.specs.States.{Parts, is_due}
 use Rattle.gx_engine.specs.Sweeping.{is_held, node_shown}
 use Rattle.gx_engine.proofs.Brought.{as_brought, brought_leads, refused_leads}
 use Rattle.gx_engine.proofs.Reading.{of_err}
-use Rattle.gx_engine.proofs.Serving.{is_calm, not_due}
+use Rattle.gx_engine.proofs.Serving.{flies_on, is_calm, not_due}
 use Rattle.gx_engine.proofs.Sweeping.{logged_so, more_than_fit, never_full, never_none, none_taken, sweep_leads, swept_so, turned_comes, unlogged_so}
 use Rattle.gx_engine.proofs.engine.Engine.take_out.Goals as goal
 
@@ -40,7 +39,7 @@ returns-in-Ok-true-clause-leads g c =
     let any = c.in-Ok-true.field-0-test in
     let said = c.in-Ok-true.ensures in
     let did = logged_so _ _ _ _ _ _ _ _ _ _ c.in-Ok-true.field-0 any said.logged in
-    rw (← c.self.view_is) (λ l. sweep_leads _ (c.a_class_is_lawful.ensures l) _ _ _ c.args.page _ _ old c.has_failed.ensures.kept w (is_calm old.checkpoint (not_due old early).0) did.most (ap (λ (x : Log). x.stage) did.logs.log)
+    rw (← c.self.view_is) (λ l. sweep_leads _ (c.a_class_is_lawful.ensures l) _ _ _ c.args.page _ _ old c.has_failed.ensures.kept w (is_calm old.checkpoint (not_due old early).0) did.most (flies_on old.volume.log w.log did.logs)
     (did.keeps l) (λ steady. swept_so _ _ _ _ c.in-Ok-true.field-0 any (said.swept steady (is_held k old) (λ entry answer post. search rules))) (said.own any))
 
 pub returns-in-Ok-false-clause-sweeps : goal.returns-in-Ok-false-clause-sweeps

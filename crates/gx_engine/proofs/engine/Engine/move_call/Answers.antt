@@ -1,0 +1,33 @@
+use Rattle.std.proofs.Common.{◌≡◌, ◌∙◌, sym, ap, subst, refl, ◌-◌, ◌≤◌, true, false}
+use Rattle.gx_machine.specs.declared.call.Call.TheVariants.{Begin, Abort}
+use Rattle.gx_machine.specs.Keys.{keys}
+use Rattle.gx_node.specs.Reading.{format_of, is_node}
+use Rattle.gx_phases.specs.declared.phase.Phase.TheVariants as phase
+use Rattle.gx_phases.specs.States.{IsKept, phase_at}
+use Rattle.gx_engine.specs.States.{Parts}
+use Rattle.gx_engine.proofs.Steps.{delete_steps, insert_steps, never_steps, seal_steps, search_steps}
+use Rattle.gx_engine.proofs.engine.Engine.move_call.Goals as goal
+
+pub returns-in-Insert : goal.returns-in-Insert
+returns-in-Insert g c l =
+    let k = keys g.K.Key.Ord.cmp g.K.Key.Shape.overlap g.K.Key.Shape.inside in
+    insert_steps _ _ _ _ _ _ c.args.self.now c.insert.new.self c.requires.works c.args.session k c.in-Insert.entry c.insert.result c.insert.ensures.comes (c.insert.ensures.moves l)
+
+pub returns-in-Delete : goal.returns-in-Delete
+returns-in-Delete g c l =
+    let k = keys g.K.Key.Ord.cmp g.K.Key.Shape.overlap g.K.Key.Shape.inside in
+    delete_steps _ _ _ _ _ _ c.args.self.now c.delete.new.self c.requires.works c.args.session k c.in-Delete.entry c.delete.result c.delete.ensures.comes (c.delete.ensures.moves l)
+
+pub returns-in-Search : goal.returns-in-Search
+returns-in-Search g c l =
+    search_steps _ _ _ _ _ _ c.args.self.now c.search.new.self c.requires.works c.args.session c.in-Search.query c.search.result c.search.ensures.comes (c.search.ensures.moves l)
+
+pub returns-in-Commit : goal.returns-in-Commit
+returns-in-Commit g c l =
+    let k = keys g.K.Key.Ord.cmp g.K.Key.Shape.overlap g.K.Key.Shape.inside in
+    let kept = subst (λ (x : Parts g.row.K-Key.Denot g.row.D.Denot). IsKept k x.sessions) c.self.view_is c.has_failed.ensures.kept in
+    let pages = subst (λ (x : Parts g.row.K-Key.Denot g.row.D.Denot). x.volume.shelf.pages ≤ 65536) c.self.view_is c.in_order.ensures.few in
+    let most = subst (λ (x : Parts g.row.K-Key.Denot g.row.D.Denot). x.volume.most ≤ 100) c.self.view_is c.most.ensures.few in
+    let at = c.requires.open.1 ∙ ap (λ x. phase.Open x c.requires.open.0) c.in-Commit.is in
+    seal_steps _ _ _ _ _ _ c.args.self.now c.seal.new.self (c.a_class_is_lawful.ensures l) kept c.args.session c.requires.session c.requires.works pages most
+    c.requires.open.0 at c.seal.result c.seal.ensures.comes (c.seal.ensures.leads l)

@@ -1,0 +1,45 @@
+use Rattle.std.proofs.Common.{◌≡◌, ◌∙◌, sym, ap, subst, refl, ◌-◌, true, false, Bool}
+use Rattle.gx_machine.specs.Keys.{keys}
+use Rattle.gx_phases.specs.declared.phase.Phase.{Phase}
+use Rattle.gx_phases.specs.declared.phase.Phase.TheVariants as phase
+use Rattle.gx_phases.specs.States.{IsKept, phase_at}
+use Rattle.gx_engine.specs.declared.work.Work.{Work}
+use Rattle.gx_engine.specs.States.{Parts}
+use Rattle.gx_engine.specs.Stepping.{has_call}
+use Rattle.gx_engine.proofs.Steps.{acknowledge_steps, ended_steps, no_call_steps, undo_steps}
+use Rattle.gx_engine.proofs.engine.Engine.move_on.Goals as goal
+
+pub returns-then-not-has_call : goal.returns-then-not-has_call
+returns-then-not-has_call g c l =
+    let k = keys g.K.Key.Ord.cmp g.K.Key.Shape.overlap g.K.Key.Shape.inside in
+    let kept = subst (λ (x : Parts g.row.K-Key.Denot g.row.D.Denot). IsKept k x.sessions) c.self.view_is c.has_failed-failed.ensures.kept in
+    let is = sym c.is_session.ensures ∙ c.if-not-is_session.false in
+    let none = ap (λ (p : Phase g.row.K-Key.Denot (Work g.row.K-Key.Denot)). has_call p) (sym c.phase.ensures) ∙ sym c.has_call.ensures ∙ c.if-not-has_call.true in
+    no_call_steps _ _ _ _ _ c.args.self.now c.args.session kept is
+    (subst (λ (x : Parts g.row.K-Key.Denot g.row.D.Denot). has_call (phase_at (c.args.session - 1) x.sessions.phases) ≡ false) c.self.view_is none)
+
+pub returns-then-failed : goal.returns-then-failed
+returns-then-failed g c l =
+    let k = keys g.K.Key.Ord.cmp g.K.Key.Shape.overlap g.K.Key.Shape.inside in
+    let kept = subst (λ (x : Parts g.row.K-Key.Denot g.row.D.Denot). IsKept k x.sessions) c.self.view_is c.has_failed-failed.ensures.kept in
+    let is = sym c.is_session.ensures ∙ c.if-not-is_session.false in
+    let some = ap (λ (p : Phase g.row.K-Key.Denot (Work g.row.K-Key.Denot)). has_call p) (sym c.phase.ensures) ∙ sym c.has_call.ensures ∙ c.if-not-has_call.false in
+    let failed = sym c.has_failed-failed.ensures.failed ∙ c.if-failed.true in
+    ended_steps _ _ _ _ _ c.args.self.now c.args.session kept is (c.a_class_is_lawful.ensures l)
+    (subst (λ (x : Parts g.row.K-Key.Denot g.row.D.Denot). x.sessions.failed ≡ true) c.self.view_is failed)
+    (subst (λ (x : Parts g.row.K-Key.Denot g.row.D.Denot). has_call (phase_at (c.args.session - 1) x.sessions.phases) ≡ true) c.self.view_is some)
+
+pub returns-in-Undoing : goal.returns-in-Undoing
+returns-in-Undoing g c l =
+    let works = sym c.has_failed-failed.ensures.failed ∙ c.if-failed.false in
+    undo_steps _ _ _ _ _ _ c.args.self.now c.undo.new.self
+    (subst (λ (x : Parts g.row.K-Key.Denot g.row.D.Denot). x.sessions.failed ≡ false) c.self.view_is works) c.args.session _ _ _ _ _ c.undo.result c.undo.ensures.comes (c.undo.ensures.moves l)
+
+pub returns-in-Waiting : goal.returns-in-Waiting
+returns-in-Waiting g c l =
+    let works = sym c.has_failed-failed.ensures.failed ∙ c.if-failed.false in
+    let waits = subst (λ (x : Parts g.row.K-Key.Denot g.row.D.Denot). phase_at (c.args.session - 1) x.sessions.phases ≡ phase.Waiting c.in-Waiting.field-0) c.self.view_is
+    (sym c.phase-2.ensures ∙ c.in-Waiting.is) in
+    acknowledge_steps _ _ _ _ _ _ c.args.self.now c.acknowledge.new.self
+    (subst (λ (x : Parts g.row.K-Key.Denot g.row.D.Denot). x.sessions.failed ≡ false) c.self.view_is works) c.args.session c.in-Waiting.field-0 c.acknowledge.result
+    (c.acknowledge.ensures.comes c.in-Waiting.field-0 waits) (c.acknowledge.ensures.leads c.in-Waiting.field-0 waits l)
