@@ -18,3 +18,4 @@ pub mod Putting
 pub mod Stepping
 pub mod Running
 pub mod Descending
+pub mod Comes

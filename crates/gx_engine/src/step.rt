@@ -9,6 +9,9 @@ ghost use Rattle.gx_readings.specs.Classes.{class_of, reading_of};
 ghost use Rattle.gx_phases.specs.declared.phase.Phase.TheVariants as phase;
 ghost use Rattle.gx_phases.specs.States.{held_at, phase_at, slot_of};
 ghost use Rattle.gx_engine.specs.declared.work.Work as work;
+ghost use Rattle.gx_machine.specs.Keys.{keys_of};
+ghost use Rattle.gx_storage.specs.Changes.{known_at};
+ghost use Rattle.gx_engine.specs.Comes.{CallMoves, MoveComes, StepComes};
 ghost use Rattle.gx_engine.specs.Stepping.{Steps, has_call};
 
 use crate::Engine;
@@ -48,7 +51,9 @@ where
         requires session { is_session session ≡ true }
         requires open { (work : work.Work K.Key) × (phase_at (session - 1) self.old.sessions.phases ≡ phase.Open call work) }
         requires works { self.old.sessions.failed ≡ false }
-        ensures { (l : Limits) → Steps (class_of K.Key.Shape K.is_proper l) (reading_of K.said (format_of K.KeyClass)) (format_of K.KeyClass) (is_node (format_of K.KeyClass))
+        ensures comes { CallMoves (keys_of K.Key.Shape) (known_at K.Key.Shape K.is_proper) (reading_of K.said (format_of K.KeyClass)) (format_of K.KeyClass) (is_node (format_of K.KeyClass)) K.is_key
+            K.spelling K.KEY (D.state self.old.volume.shelf.disk) (D.state self.new.volume.shelf.disk) session self.old self.new call result }
+        ensures steps { (l : Limits) → Steps (class_of K.Key.Shape K.is_proper l) (reading_of K.said (format_of K.KeyClass)) (format_of K.KeyClass) (is_node (format_of K.KeyClass))
             (D.state self.old.volume.shelf.disk) (D.state self.new.volume.shelf.disk) (Event.Move session) self.old self.new result }
     {
         a_class_is_lawful::<K>();
@@ -67,7 +72,9 @@ where
 
     // A session's move.
     fn move_on(&mut self, session: u8) -> Outcome<K::Key>
-        ensures { (l : Limits) → Steps (class_of K.Key.Shape K.is_proper l) (reading_of K.said (format_of K.KeyClass)) (format_of K.KeyClass) (is_node (format_of K.KeyClass))
+        ensures comes { MoveComes (keys_of K.Key.Shape) (known_at K.Key.Shape K.is_proper) (reading_of K.said (format_of K.KeyClass)) (format_of K.KeyClass) (is_node (format_of K.KeyClass)) K.is_key
+            K.spelling K.KEY (D.state self.old.volume.shelf.disk) (D.state self.new.volume.shelf.disk) session self.old self.new result }
+        ensures steps { (l : Limits) → Steps (class_of K.Key.Shape K.is_proper l) (reading_of K.said (format_of K.KeyClass)) (format_of K.KeyClass) (is_node (format_of K.KeyClass))
             (D.state self.old.volume.shelf.disk) (D.state self.new.volume.shelf.disk) (Event.Move session) self.old self.new result }
     {
         a_class_is_lawful::<K>();
@@ -102,7 +109,9 @@ where
     ///
     /// `More` did its work; `Help` changed nothing that anyone sees and names the event to run first; `Nothing` had nothing to do.
     pub fn step(&mut self, event: Event<K::Key>) -> Outcome<K::Key>
-        ensures { (l : Limits) → Steps (class_of K.Key.Shape K.is_proper l) (reading_of K.said (format_of K.KeyClass)) (format_of K.KeyClass) (is_node (format_of K.KeyClass))
+        ensures comes { StepComes (keys_of K.Key.Shape) (known_at K.Key.Shape K.is_proper) (reading_of K.said (format_of K.KeyClass)) (format_of K.KeyClass) (is_node (format_of K.KeyClass)) K.is_key
+            K.spelling K.KEY (D.state self.old.volume.shelf.disk) (D.state self.new.volume.shelf.disk) event self.old self.new result }
+        ensures steps { (l : Limits) → Steps (class_of K.Key.Shape K.is_proper l) (reading_of K.said (format_of K.KeyClass)) (format_of K.KeyClass) (is_node (format_of K.KeyClass))
             (D.state self.old.volume.shelf.disk) (D.state self.new.volume.shelf.disk) event self.old self.new result }
     {
         self.sessions.has_failed();

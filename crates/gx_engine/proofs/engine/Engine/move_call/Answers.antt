@@ -8,22 +8,22 @@ use Rattle.gx_engine.specs.States.{Parts}
 use Rattle.gx_engine.proofs.Steps.{delete_steps, insert_steps, never_steps, seal_steps, search_steps}
 use Rattle.gx_engine.proofs.engine.Engine.move_call.Goals as goal
 
-pub returns-in-Insert : goal.returns-in-Insert
-returns-in-Insert g c l =
+pub returns-in-Insert-clause-steps : goal.returns-in-Insert-clause-steps
+returns-in-Insert-clause-steps g c l =
     let k = keys g.K.Key.Ord.cmp g.K.Key.Shape.overlap g.K.Key.Shape.inside in
     insert_steps _ _ _ _ _ _ c.args.self.now c.insert.new.self c.requires.works c.args.session k c.in-Insert.entry c.insert.result c.insert.ensures.comes (c.insert.ensures.moves l)
 
-pub returns-in-Delete : goal.returns-in-Delete
-returns-in-Delete g c l =
+pub returns-in-Delete-clause-steps : goal.returns-in-Delete-clause-steps
+returns-in-Delete-clause-steps g c l =
     let k = keys g.K.Key.Ord.cmp g.K.Key.Shape.overlap g.K.Key.Shape.inside in
     delete_steps _ _ _ _ _ _ c.args.self.now c.delete.new.self c.requires.works c.args.session k c.in-Delete.entry c.delete.result c.delete.ensures.comes (c.delete.ensures.moves l)
 
-pub returns-in-Search : goal.returns-in-Search
-returns-in-Search g c l =
+pub returns-in-Search-clause-steps : goal.returns-in-Search-clause-steps
+returns-in-Search-clause-steps g c l =
     search_steps _ _ _ _ _ _ c.args.self.now c.search.new.self c.requires.works c.args.session c.in-Search.query c.search.result c.search.ensures.comes (c.search.ensures.moves l)
 
-pub returns-in-Commit : goal.returns-in-Commit
-returns-in-Commit g c l =
+pub returns-in-Commit-clause-steps : goal.returns-in-Commit-clause-steps
+returns-in-Commit-clause-steps g c l =
     let k = keys g.K.Key.Ord.cmp g.K.Key.Shape.overlap g.K.Key.Shape.inside in
     let kept = subst (λ (x : Parts g.row.K-Key.Denot g.row.D.Denot). IsKept k x.sessions) c.self.view_is c.has_failed.ensures.kept in
     let pages = subst (λ (x : Parts g.row.K-Key.Denot g.row.D.Denot). x.volume.shelf.pages ≤ 65536) c.self.view_is c.in_order.ensures.few in
@@ -31,3 +31,15 @@ returns-in-Commit g c l =
     let at = c.requires.open.1 ∙ ap (λ x. phase.Open x c.requires.open.0) c.in-Commit.is in
     seal_steps _ _ _ _ _ _ c.args.self.now c.seal.new.self (c.a_class_is_lawful.ensures l) kept c.args.session c.requires.session c.requires.works pages most
     c.requires.open.0 at c.seal.result c.seal.ensures.comes (c.seal.ensures.leads l)
+
+pub returns-in-Insert-clause-comes : goal.returns-in-Insert-clause-comes
+returns-in-Insert-clause-comes g c = rw (c.in-Insert.is) c.insert.ensures.comes
+
+pub returns-in-Delete-clause-comes : goal.returns-in-Delete-clause-comes
+returns-in-Delete-clause-comes g c = rw (c.in-Delete.is) c.delete.ensures.comes
+
+pub returns-in-Search-clause-comes : goal.returns-in-Search-clause-comes
+returns-in-Search-clause-comes g c = rw (c.in-Search.is) c.search.ensures.comes
+
+pub returns-in-Commit-clause-comes : goal.returns-in-Commit-clause-comes
+returns-in-Commit-clause-comes g c = rw (c.in-Commit.is) c.seal.ensures.comes

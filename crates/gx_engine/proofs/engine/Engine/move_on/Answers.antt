@@ -9,8 +9,8 @@ use Rattle.gx_engine.specs.Stepping.{has_call}
 use Rattle.gx_engine.proofs.Steps.{acknowledge_steps, ended_steps, no_call_steps, undo_steps}
 use Rattle.gx_engine.proofs.engine.Engine.move_on.Goals as goal
 
-pub returns-then-not-has_call : goal.returns-then-not-has_call
-returns-then-not-has_call g c l =
+pub returns-then-not-has_call-clause-steps : goal.returns-then-not-has_call-clause-steps
+returns-then-not-has_call-clause-steps g c l =
     let k = keys g.K.Key.Ord.cmp g.K.Key.Shape.overlap g.K.Key.Shape.inside in
     let kept = subst (λ (x : Parts g.row.K-Key.Denot g.row.D.Denot). IsKept k x.sessions) c.self.view_is c.has_failed-failed.ensures.kept in
     let is = sym c.is_session.ensures ∙ c.if-not-is_session.false in
@@ -18,8 +18,8 @@ returns-then-not-has_call g c l =
     no_call_steps _ _ _ _ _ c.args.self.now c.args.session kept is
     (subst (λ (x : Parts g.row.K-Key.Denot g.row.D.Denot). has_call (phase_at (c.args.session - 1) x.sessions.phases) ≡ false) c.self.view_is none)
 
-pub returns-then-failed : goal.returns-then-failed
-returns-then-failed g c l =
+pub returns-then-failed-clause-steps : goal.returns-then-failed-clause-steps
+returns-then-failed-clause-steps g c l =
     let k = keys g.K.Key.Ord.cmp g.K.Key.Shape.overlap g.K.Key.Shape.inside in
     let kept = subst (λ (x : Parts g.row.K-Key.Denot g.row.D.Denot). IsKept k x.sessions) c.self.view_is c.has_failed-failed.ensures.kept in
     let is = sym c.is_session.ensures ∙ c.if-not-is_session.false in
@@ -29,14 +29,14 @@ returns-then-failed g c l =
     (subst (λ (x : Parts g.row.K-Key.Denot g.row.D.Denot). x.sessions.failed ≡ true) c.self.view_is failed)
     (subst (λ (x : Parts g.row.K-Key.Denot g.row.D.Denot). has_call (phase_at (c.args.session - 1) x.sessions.phases) ≡ true) c.self.view_is some)
 
-pub returns-in-Undoing : goal.returns-in-Undoing
-returns-in-Undoing g c l =
+pub returns-in-Undoing-clause-steps : goal.returns-in-Undoing-clause-steps
+returns-in-Undoing-clause-steps g c l =
     let works = sym c.has_failed-failed.ensures.failed ∙ c.if-failed.false in
     undo_steps _ _ _ _ _ _ c.args.self.now c.undo.new.self
     (subst (λ (x : Parts g.row.K-Key.Denot g.row.D.Denot). x.sessions.failed ≡ false) c.self.view_is works) c.args.session _ _ _ _ _ c.undo.result c.undo.ensures.comes (c.undo.ensures.moves l)
 
-pub returns-in-Waiting : goal.returns-in-Waiting
-returns-in-Waiting g c l =
+pub returns-in-Waiting-clause-steps : goal.returns-in-Waiting-clause-steps
+returns-in-Waiting-clause-steps g c l =
     let works = sym c.has_failed-failed.ensures.failed ∙ c.if-failed.false in
     let waits = subst (λ (x : Parts g.row.K-Key.Denot g.row.D.Denot). phase_at (c.args.session - 1) x.sessions.phases ≡ phase.Waiting c.in-Waiting.field-0) c.self.view_is
     (sym c.phase-2.ensures ∙ c.in-Waiting.is) in
