@@ -4,6 +4,7 @@ pub mod Areas
 pub mod Beginning
 pub mod BodyLists
 pub mod Crashes
+pub mod GoingOn
 pub mod Images
 pub mod Joining
 pub mod Legality

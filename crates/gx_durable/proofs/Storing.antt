@@ -35,7 +35,7 @@ by_test false x y z same = refl
 
 module _ {E P : Type 0} (r : Reading E P) where
   -- what is stored of a page whose bytes are these
-  stored_as : (pages : ℕ) (frames : State) (seen : List ℕ) (p : ℕ) → bytes_by (kept frames p) (bytes_of seen p) ≡ bytes_of seen p → stored r pages frames seen p ≡ area_of r pages seen p
+  pub stored_as : (pages : ℕ) (frames : State) (seen : List ℕ) (p : ℕ) → bytes_by (kept frames p) (bytes_of seen p) ≡ bytes_of seen p → stored r pages frames seen p ≡ area_of r pages seen p
   unfolding stored area_of
   stored_as pages frames seen p same =
       by_test (nat_lt 0 p && nat_le p pages) (r.content (bytes_by (kept frames p) (bytes_of seen p))) (r.content (bytes_of seen p)) r.no_page (ap (λ (bytes : List ℕ). r.content bytes) same)

@@ -2,6 +2,7 @@
 ghost use Rattle.gx_recovery.specs.Known.{Limits};
 ghost use Rattle.gx_durable.specs.Beginning.{FirstIsUp, HeadsFit};
 ghost use Rattle.gx_durable.specs.Opening.{FoundIsUpToTurn, ACrashBeforeTheTurn, UpMayTurn};
+ghost use Rattle.gx_durable.specs.GoingOn.{FoundIsUp, FoundRuns, SameLogStands, ClosingKeepsFound};
 ghost use Rattle.gx_durable.specs.Joining.{CallsJoin, EachMomentStands};
 ghost use Rattle.gx_durable.specs.PoolLaws.{LaterStampsStay, CleanIsStamped, NoneWritableIsClean, BringingIsClean, CreatingIsLater, ChangeIsLater, RecordSays, ReadsStayUp};
 ghost use Rattle.gx_durable.specs.Legal.{WhatStandsIsLegal};
@@ -87,6 +88,17 @@ pub fn a_found_log_is_up_to_its_turn<M: Spelled>()
     ensures found { (l : Limits) → FoundIsUpToTurn (M.known l) M.reading }
     ensures up { (l : Limits) → UpMayTurn (M.known l) M.reading }
     ensures kept { (l : Limits) → ACrashBeforeTheTurn (M.known l) M.reading }
+{}
+
+/// A log that starts behind an image's open bodies, where these are undamaged and the page area is good for them, goes on there once no
+/// later gate is open: it is up, and with a pool that has kept nothing as yet, and was told of the last body, it runs; each page is stored as
+/// the records leave it where all are written. Closing the later gates leaves the log and the pages as they were found: at each moment
+/// what a crash may leave stands for the kept set that was found, as does each image with those bodies and pages.
+pub fn a_found_log_goes_on<M: Spelled, D: SectorDisk>()
+    ensures up { (l : Limits) → FoundIsUp (M.known l) M.reading }
+    ensures runs { (l : Limits) (d : D) → FoundRuns (M.known l) M.reading (D.state d) }
+    ensures same { (l : Limits) → SameLogStands (M.known l) M.reading }
+    ensures closing { (l : Limits) (d e : D) → ClosingKeepsFound (M.known l) M.reading (D.state d) (D.state e) }
 {}
 
 /// Calls in a row are one: no set changes, and at each moment what a crash may leave stands for a kept set of the state before the

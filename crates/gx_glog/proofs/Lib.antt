@@ -1,4 +1,5 @@
 pub mod Besides
+pub mod Closing
 pub mod Cuts
 pub mod Fills
 pub mod FirstLog

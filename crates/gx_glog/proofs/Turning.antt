@@ -27,11 +27,11 @@ use Rattle.gx_glog.proofs.Keeping.{KeptExtent, touched_kept, rested_kept, select
 use Rattle.gx_glog.proofs.Stepping.{log_at}
 
 -- what was written is read
-written_back : (first n : ℕ) (bytes : List ℕ) (before now : Device) → IsWritten first n bytes before now → 512 * first + length bytes ≤ length before.seen → take (length bytes) (drop (512 * first) now.seen) ≡ bytes
+pub written_back : (first n : ℕ) (bytes : List ℕ) (before now : Device) → IsWritten first n bytes before now → 512 * first + length bytes ≤ length before.seen → take (length bytes) (drop (512 * first) now.seen) ≡ bytes
 written_back first n bytes before now written fits = ap (λ seen. take (length bytes) (drop (512 * first) seen)) written.seen ∙ put_back (512 * first) bytes before.seen fits
 
 -- the first byte of a sector that was written
-first_read : (first k n : ℕ) (bytes seen : List ℕ) → length bytes ≡ n → 512 * k < n → take (length bytes) (drop (512 * first) seen) ≡ bytes → get_or (take 512 (drop (512 * (first + k)) seen)) 0 0 ≡ get_or bytes (512 * k) 0
+pub first_read : (first k n : ℕ) (bytes seen : List ℕ) → length bytes ≡ n → 512 * k < n → take (length bytes) (drop (512 * first) seen) ≡ bytes → get_or (take 512 (drop (512 * (first + k)) seen)) 0 0 ≡ get_or bytes (512 * k) 0
 first_read first k n bytes seen size less reads =
     let here : get_or (take 512 (drop (512 * (first + k)) seen)) 0 0 ≡ get_or seen (512 * (first + k) + 0) 0 = get_or-take 512 (drop (512 * (first + k)) seen) 0 0 (omega arith) ∙ get_or-drop (512 * (first + k)) seen 0 0 in
     let there : get_or (take (length bytes) (drop (512 * first) seen)) (512 * k) 0 ≡ get_or seen (512 * first + 512 * k) 0 = get_or-take (length bytes) (drop (512 * first) seen) (512 * k) 0 (omega arith) ∙ get_or-drop (512 * first) seen (512 * k) 0 in

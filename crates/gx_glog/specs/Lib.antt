@@ -3,6 +3,7 @@ pub mod Beside
 pub mod Bodies
 pub mod Cuts
 pub mod First
+pub mod Later
 pub mod Laws
 pub mod Layout
 pub mod Parameters

@@ -124,7 +124,11 @@ fn size_of_records(body: &[u8]) -> u32
 
 // Whether a gate is open.
 #[tactic(auto, unfolding(crate::specs::Layout::is_open))]
-fn is_open_gate<D: SectorDisk>(disk: &mut D, extent: Extent, i: u8) -> Result<bool, Refusal>
+pub(crate) fn is_open_gate<D: SectorDisk>(
+    disk: &mut D,
+    extent: Extent,
+    i: u8,
+) -> Result<bool, Refusal>
     requires place { i < 32 }
     requires device { 4168 ≤ (D.state disk.old).sectors }
     ensures counts { Counts 0 (D.state disk.old) (D.state disk.new) result }

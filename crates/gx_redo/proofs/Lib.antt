@@ -7,3 +7,4 @@ pub mod Giving
 pub mod Reaching
 pub mod Redone
 pub mod Found
+pub mod GoingOn

@@ -4,3 +4,4 @@ pub mod Told
 pub mod Laid
 pub mod Redone
 pub mod Restart
+pub mod GoingOn
