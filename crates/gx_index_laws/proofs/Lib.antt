@@ -18,7 +18,8 @@ pub mod FreshIndex
 pub mod Joins
 pub mod Numbered
 pub mod Undoing
-pub mod Opened
+pub mod Found
+pub mod Keeping
 pub mod Restarts
 pub mod Images
 pub mod Measuring

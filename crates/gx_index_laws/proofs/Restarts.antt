@@ -1,21 +1,18 @@
 -- A crash of a whole index and its opening: the kept set of the log's number is left, and the index is whole.
-use Rattle.std.proofs.Common.{◌≡◌, ℕ, ◌+◌, ◌-◌, ◌<◌, ◌≤◌, Bool, true, false, List, [], ◌∷◌, length, replicate, refl, ap, sym, ◌∙◌, subst, le_refl, arith, ltb-true, ltb-false}
-use Rattle.std.specs.Prelude.{nat_lt, if◌then◌else◌}
-use Rattle.std.specs.List.{slice_index_or}
+use Rattle.std.proofs.Common.{◌≡◌, ℕ, ◌+◌, ◌-◌, ◌<◌, ◌≤◌, Bool, true, false, List, [], ◌∷◌, length, replicate, refl, ap, sym, ◌∙◌, subst, arith, ltb-true, ltb-false}
+use Rattle.std.specs.Prelude.{nat_lt, if◌then◌else◌, unwrap_or}
+use Rattle.std.specs.List.{slice_index_or, list_any}
+use Rattle.std.proofs.Math.Bool.{or-false}
 use Rattle.gx_machine.specs.declared.entry.Entry.{Entry}
 use Rattle.gx_machine.specs.Sets.{has, IsSetOf}
-use Rattle.gx_machine.specs.Machine as machine
-use Rattle.gx_machine.proofs.SetsByTests.{set_of_a_test_that_agrees}
 use Rattle.gx_machine.proofs.SetLaws.{entry_total, entry_exact}
-use Rattle.gx_engine_laws.specs.Slots.{Note, Free}
+use Rattle.gx_engine_laws.specs.Slots.{Slot, Free, noted_in}
 use Rattle.gx_engine_laws.specs.Engines as engines
-use Rattle.gx_engine_laws.specs.Engines.{Engine, last_number, stood}
+use Rattle.gx_engine_laws.specs.Engines.{Engine, SeenAs, last_number, stood, sessions_of, opened_machine}
 use Rattle.gx_engine_laws.specs.Events.{Event, Opens, IsEvent}
 use Rattle.gx_engine_laws.specs.Runs.{AreEvents}
-use Rattle.gx_engine_laws.specs.Losers.{AreLosers, IsReopened}
-use Rattle.gx_engine_laws.proofs.Faults.{kept_set}
+use Rattle.gx_engine_laws.specs.Losers.{IsReopened}
 use Rattle.gx_engine_laws.proofs.EventRuns.{run_follows}
-use Rattle.gx_engine_laws.proofs.Reopened.{reopened_opens, same_number, reopened_again}
 use Rattle.gx_recovery.specs.Known as known
 use Rattle.gx_recovery.specs.Known.{Known}
 use Rattle.gx_recovery.specs.Records.{Record}
@@ -27,8 +24,8 @@ use Rattle.gx_index_laws.specs.Classes.{Class, IsLawful, Page, known_of}
 use Rattle.gx_index_laws.specs.States.{State, engine_of}
 use Rattle.gx_index_laws.specs.Whole.{IsWhole}
 use Rattle.gx_index_laws.specs.Happening.{Happens, AreHappening}
-use Rattle.gx_index_laws.specs.Openings.{losers_of, opened_state, Try, IsRestart, AreRestarts}
-use Rattle.gx_index_laws.proofs.Opened.{are, opened_stood, opened_whole}
+use Rattle.gx_index_laws.specs.Openings.{losers_of, found_state, is_fault, Try, GoesOpening, IsRestart, AreRestarts}
+use Rattle.gx_index_laws.proofs.Keeping.{KeepsOne, goes_on, fails_by, one_left, found_keeps, all_may_come, no_faults}
 
 at_last : (number oldest more last : ℕ) → nat_lt number (oldest + more) ≡ false → number ≤ oldest + more → oldest + more ≡ last → number ≡ last
 at_last number oldest more last not_below up is =
@@ -58,12 +55,9 @@ module _ {B : Type 0} (c : Class B) (l : IsLawful c) (old : State B) (w : IsWhol
   pub kept_alike : (number : ℕ) → old.oldest ≤ number → number ≤ last_number engine → (e : Entry B) → engines.kept c.keys number engine e ≡ kept k old.log number e
   kept_alike number low up e = kept_by number (nat_lt number (last_number engine)) refl low up e
 
-  module _ (next : ℕ) (area : ℕ → Page B) (log : List (Record (Entry B) (Page B))) (left : IsLeft old.log area log) (up : (analysis k log).next ≤ next) where
+  module _ (area : ℕ → Page B) (log : List (Record (Entry B) (Page B))) (left : IsLeft old.log area log) where
     stands : StandsForKept k old.log area log
     stands = left_stands k kl old.log w.healthy area log left
-
-    abbrev opened : State B
-    opened = opened_state c next area log
 
     rises : old.oldest ≤ number_of k log
     rises = let first = w.sets.first in let low = stands.at_least in omega (arith, first, low)
@@ -71,25 +65,28 @@ module _ {B : Type 0} (c : Class B) (l : IsLawful c) (old : State B) (w : IsWhol
     sealed : number_of k log ≤ last_number engine
     sealed = let last = w.sets.last in let high = stands.at_most in omega (arith, last, high)
 
-    -- it is opened over the kept set of the log's number, with those for losers whom the crash cut off
-    pub is_reopened : IsReopened c.keys (number_of k log) (losers_of (analysis k log).touched) engine (engine_of c opened)
-    is_reopened = record {
-      rises = rises;
-      sealed = sealed;
-      stands = λ e. opened_stood c l next area log stands.is_log up e ∙ stands.same_set e ∙ sym (kept_alike (number_of k log) rises sealed e);
-      slots = refl;
-      older = refl;
-      oldest = refl;
-      failed = refl;
-    }
+    -- what it stands for is the engine's kept set
+    stands_kept : (e : Entry B) → stands_for k area log e ≡ engines.kept c.keys (number_of k log) engine e
+    stands_kept e = stands.same_set e ∙ sym (kept_alike (number_of k log) rises sealed e)
 
-    pub is_whole : IsWhole c opened
-    is_whole =
-        let set : List (Entry B) = machine.set_of (number_of k log) w.machine in
-        let engines_set : IsSetOf c.keys (engines.kept c.keys (number_of k log) engine) set = kept_set c.keys l.keys engine w.machine w.sound w.seen (number_of k log) rises sealed in
-        opened_whole c l next area log stands.is_log up stands.good set
-        (set_of_a_test_that_agrees c.keys l.keys (engines.kept c.keys (number_of k log) engine) (stands_for k area log) set
-        (λ e. kept_alike (number_of k log) rises sealed e ∙ sym (stands.same_set e)) engines_set)
+    module _ (next : ℕ) (up : (analysis k log).next ≤ next) where
+      abbrev start : State B
+      start = found_state c next area log
+
+      pub start_keeps : KeepsOne c (number_of k log) (stands_for k area log) start
+      start_keeps = found_keeps c l next area log stands.is_log stands.good up
+
+      -- it is opened over the kept set of the log's number, with those for losers whom the crash cut off
+      pub is_reopened : IsReopened c.keys (number_of k log) (losers_of (analysis k log).touched) engine (engine_of c start)
+      is_reopened = record {
+        rises = rises;
+        sealed = sealed;
+        stands = λ e. start_keeps.stands e ∙ stands_kept e;
+        slots = refl;
+        older = refl;
+        oldest = refl;
+        failed = refl;
+      }
 
 module _ {B : Type 0} (c : Class B) where
   pub are_events : (events : List (Event B)) (old new : State B) → AreHappening c old events new → AreEvents c.keys (engine_of c old) events (engine_of c new)
@@ -100,99 +97,104 @@ module _ {B : Type 0} (c : Class B) where
   whole_on [] old new w are = subst (IsWhole c) (sym are) w
   whole_on (event ∷ events) old new w are = whole_on events are.0 new are.1.whole are.2
 
+  -- where all slots are free, what stood is what is live
+  all_live : (s : State B) → s.slots ≡ replicate 8 Free → (e : Entry B) → (engine_of c s).live e ≡ stood c.keys (engine_of c s) e
+  all_live s free e = sym (ap (λ (slots : List (Slot B)). unwrap_or (noted_in c.keys e slots) ((engine_of c s).live e)) free)
+
   module _ (l : IsLawful c) where
-    -- an opening is whole at each moment
-    pub restart_whole : (old : State B) (one : Try B) (new : State B) → IsWhole c old → IsRestart c old one new → IsWhole c new
-    restart_whole old one new w r =
-        whole_on one.events (opened_state c one.next one.area one.log) new (is_whole c l old w one.next one.area one.log r.left r.covers) r.happening
+    abbrev KeepsIts : Try B → State B → Type 0
+    KeepsIts one s = KeepsOne c (number_of (known_of c) one.log) (stands_for (known_of c) one.area one.log) s
 
-    abbrev losers : List (Record (Entry B) (Page B)) → List (List (Note B))
-    losers log = losers_of (analysis (known_of c) log).touched
+    -- An opening by itself, over any undamaged log.
+    module _ (one : Try B) (s : State B) (o : GoesOpening c one s) where
+      at_first : KeepsIts one (found_state c one.next one.area one.log)
+      at_first = found_keeps c l one.next one.area one.log o.is_log o.good o.covers
 
-    abbrev opened_by : Try B → State B
-    opened_by one = opened_state c one.next one.area one.log
+      pub opening_keeps : KeepsIts one s
+      opening_keeps =
+          goes_on c l (number_of (known_of c) one.log) (stands_for (known_of c) one.area one.log) one.events
+          (found_state c one.next one.area one.log) s at_first o.happening o.of_opening
 
-    module _ (old : State B) (w : IsWhole c old) (number : ℕ) where
-      -- an engine that is opened over the index that was lost
-      abbrev Opened : ℕ → (ℕ → Page B) → List (Record (Entry B) (Page B)) → Type 0
-      Opened next area log = IsReopened c.keys number (losers log) (engine_of c old) (engine_of c (opened_state c next area log))
+      pub opening_leaves : (area : ℕ → Page B) (log : List (Record (Entry B) (Page B))) → IsLeft s.log area log
+          → (number_of (known_of c) log ≡ number_of (known_of c) one.log)
+          × ((e : Entry B) → stands_for (known_of c) area log e ≡ stands_for (known_of c) one.area one.log e)
+      opening_leaves area log left = one_left c l (number_of (known_of c) one.log) (stands_for (known_of c) one.area one.log) s opening_keeps area log left
 
-      -- the last of openings one after another
-      record LastTry (new : State B) : Type 0 where
-        one : Try B
-        start : State B
-        whole : IsWhole c start
-        restart : IsRestart c start one new
-        opened : Opened one.next one.area one.log
+      failed_by : s.failed ≡ list_any is_fault one.events
+      failed_by =
+          fails_by c l (number_of (known_of c) one.log) (stands_for (known_of c) one.area one.log) one.events
+          (found_state c one.next one.area one.log) s at_first o.happening o.of_opening ∙ or-false (list_any is_fault one.events)
 
-      -- what a crash leaves of an opening is opened over the index that was lost first
-      opened_again : (new : State B) → LastTry new → (next : ℕ) (area : ℕ → Page B) (log : List (Record (Entry B) (Page B))) → IsLeft new.log area log
-          → (analysis (known_of c) log).next ≤ next → (number_of (known_of c) log ≡ number) × Opened next area log
-      opened_again new last next area log left up =
-          let one : Try B = last.one in
-          let cut_whole : IsWhole c new = restart_whole last.start one new last.whole last.restart in
-          let second : IsReopened c.keys (number_of (known_of c) log) (losers log) (engine_of c new) (engine_of c (opened_state c next area log)) = is_reopened c l new cut_whole next area log left up in
-          let events : AreEvents c.keys (engine_of c (opened_by one)) one.events (engine_of c new) = are_events one.events (opened_by one) new last.restart.happening in
-          let apart : AreLosers c.keys (losers one.log) = are c l one.next one.area one.log (stands c l last.start last.whole one.next one.area one.log last.restart.left last.restart.covers).is_log in (
-            same_number c.keys l.keys number (losers one.log) (engine_of c old) (engine_of c (opened_by one)) w.machine w.sound w.seen last.opened
-                one.events (engine_of c new) apart events last.restart.of_opening
-                (number_of (known_of c) log) (losers log) (engine_of c (opened_state c next area log)) second,
-            reopened_again c.keys l.keys number (losers one.log) (engine_of c old) (engine_of c (opened_by one)) w.machine w.sound w.seen last.opened
-                one.events (engine_of c new) apart events last.restart.of_opening
-                (number_of (known_of c) log) (losers log) (engine_of c (opened_state c next area log)) second,
-          )
+      -- at its end it is seen as the machine with that one set
+      pub opening_seen : (set : List (Entry B)) → IsSetOf c.keys (stands_for (known_of c) one.area one.log) set → s.slots ≡ replicate 8 Free
+          → SeenAs c.keys (engine_of c s) (record (opened_machine (number_of (known_of c) one.log) set) { failed = list_any is_fault one.events })
+      opening_seen set is free = record {
+        sessions = sym (ap (sessions_of c.keys (engine_of c s).live) free);
+        latest = record { in_order = is.in_order; members = λ e. is.members e ∙ sym (opening_keeps.stands e) };
+        older = sym opening_keeps.older;
+        oldest = sym opening_keeps.oldest;
+        failed = sym failed_by;
+      }
 
-      first_left : (tries : List (Try B)) (from : State B) (one : Try B) (new : State B) → AreRestarts c from one tries new → IsLeft from.log one.area one.log
-      first_left [] from one new r = r.left
-      first_left (again ∷ tries) from one new r = r.1.left
+    -- an opening over what a crash left is one
+    pub restart_goes : (old : State B) (one : Try B) (new : State B) → IsWhole c old → IsRestart c old one new → GoesOpening c one new
+    restart_goes old one new w r =
+        let left : StandsForKept (known_of c) old.log one.area one.log = stands c l old w one.area one.log r.left in
+        record { is_log = left.is_log; good = left.good; covers = r.covers; happening = r.happening; of_opening = all_may_come one.events r.of_opening }
 
-      first_covers : (tries : List (Try B)) (from : State B) (one : Try B) (new : State B) → AreRestarts c from one tries new → (analysis (known_of c) one.log).next ≤ one.next
-      first_covers [] from one new r = r.covers
-      first_covers (again ∷ tries) from one new r = r.1.covers
+    restart_keeps : (old : State B) (one : Try B) (new : State B) → IsWhole c old → IsRestart c old one new → KeepsIts one new
+    restart_keeps old one new w r = opening_keeps one new (restart_goes old one new w r)
 
-      last_try : (tries : List (Try B)) (from : State B) (one : Try B) (new : State B) → IsWhole c from → Opened one.next one.area one.log
-          → AreRestarts c from one tries new → LastTry new
-      last_try [] from one new whole opened r = record { one = one; start = from; whole = whole; restart = r; opened = opened }
-      last_try (again ∷ tries) from one new whole opened r =
-          let here : LastTry r.0 = record { one = one; start = from; whole = whole; restart = r.1; opened = opened } in
-          last_try tries r.0 again new (restart_whole from one r.0 whole r.1)
-          (opened_again r.0 here again.next again.area again.log (first_left tries r.0 again new r.2) (first_covers tries r.0 again new r.2)).1 r.2
+    restart_works : (old : State B) (one : Try B) (new : State B) → IsWhole c old → IsRestart c old one new → new.failed ≡ false
+    restart_works old one new w r = failed_by one new (restart_goes old one new w r) ∙ no_faults one.events r.of_opening
+
+    first_left : (tries : List (Try B)) (from : State B) (one : Try B) (new : State B) → AreRestarts c from one tries new → IsLeft from.log one.area one.log
+    first_left [] from one new r = r.left
+    first_left (again ∷ tries) from one new r = r.1.left
+
+    -- and so do openings one after another: what a crash leaves of one stands for what the first one's log does
+    tries_keep : (tries : List (Try B)) (from : State B) (one : Try B) (new : State B) → IsWhole c from → AreRestarts c from one tries new → KeepsIts one new
+    tries_keep [] from one new w r = restart_keeps from one new w r
+    tries_keep (again ∷ tries) from one new w r =
+        let cut : KeepsIts one r.0 = restart_keeps from one r.0 w r.1 in
+        let later : KeepsIts again new = tries_keep tries r.0 again new cut.whole r.2 in
+        let same = one_left c l (number_of (known_of c) one.log) (stands_for (known_of c) one.area one.log) r.0 cut again.area again.log (first_left tries r.0 again new r.2) in
+        record { whole = later.whole; older = later.older; oldest = later.oldest ∙ same.0; stands = λ e. later.stands e ∙ same.1 e }
+
+    tries_work : (tries : List (Try B)) (from : State B) (one : Try B) (new : State B) → IsWhole c from → AreRestarts c from one tries new → new.failed ≡ false
+    tries_work [] from one new w r = restart_works from one new w r
+    tries_work (again ∷ tries) from one new w r = tries_work tries r.0 again new (restart_keeps from one r.0 w r.1).whole r.2
 
     module _ (old : State B) (w : IsWhole c old) (one : Try B) (tries : List (Try B)) (new : State B) (r : AreRestarts c old one tries new) where
       abbrev number : ℕ
       number = number_of (known_of c) one.log
 
-      first : IsReopened c.keys number (losers one.log) (engine_of c old) (engine_of c (opened_by one))
-      first = is_reopened c l old w one.next one.area one.log (first_left old w number tries old one new r) (first_covers old w number tries old one new r)
+      keeps : KeepsIts one new
+      keeps = tries_keep tries old one new w r
 
-      last : LastTry old w number new
-      last = last_try old w number tries old one new w first r
+      left : IsLeft old.log one.area one.log
+      left = first_left tries old one new r
 
       -- openings keep the index whole at each moment
       pub restarts_whole : IsWhole c new
-      restarts_whole = restart_whole last.start last.one new last.whole last.restart
+      restarts_whole = keeps.whole
 
       -- whatever a crash leaves in their midst stands for the very set that was left first
       pub restarts_stand : (area : ℕ → Page B) (log : List (Record (Entry B) (Page B))) → IsLeft new.log area log
           → (number_of (known_of c) log ≡ number) × ((e : Entry B) → stands_for (known_of c) area log e ≡ stands_for (known_of c) one.area one.log e)
-      restarts_stand area log left =
-          let next : ℕ = (analysis (known_of c) log).next in
-          let again = opened_again old w number new last next area log left (le_refl next) in
-          let log_is : StandsForKept (known_of c) new.log area log = stands c l new restarts_whole next area log left (le_refl next) in
-          let one_is : StandsForKept (known_of c) old.log one.area one.log =
-          stands c l old w one.next one.area one.log (first_left old w number tries old one new r) (first_covers old w number tries old one new r) in (
-            again.0,
-            λ e. sym (opened_stood c l next area log log_is.is_log (le_refl next) e) ∙ again.1.stands e ∙ sym (first.stands e)
-                ∙ opened_stood c l one.next one.area one.log one_is.is_log (first_covers old w number tries old one new r) e,
-          )
+      restarts_stand area log again = one_left c l number (stands_for (known_of c) one.area one.log) new keeps area log again
 
       module _ (free : new.slots ≡ replicate 8 Free) where
         is_opened : IsEvent c.keys (engine_of c old) (Opens number) (engine_of c new)
-        is_opened =
-            let apart : AreLosers c.keys (losers last.one.log) =
-            are c l last.one.next last.one.area last.one.log (stands c l last.start last.whole last.one.next last.one.area last.one.log last.restart.left last.restart.covers).is_log in
-            reopened_opens c.keys l.keys number (losers last.one.log) (engine_of c old) (engine_of c (opened_by last.one)) w.machine w.sound w.seen last.opened
-            (engine_of c new) apart last.one.events (are_events last.one.events (opened_by last.one) new last.restart.happening) last.restart.of_opening free
+        is_opened = record {
+          rises = rises c l old w one.area one.log left;
+          sealed = sealed c l old w one.area one.log left;
+          live = λ e. all_live new free e ∙ keeps.stands e ∙ stands_kept c l old w one.area one.log left e;
+          slots = free;
+          older = keeps.older;
+          oldest = keeps.oldest;
+          failed = tries_work tries old one new w r;
+        }
 
         -- once all that was cut off is undone, the whole of it is one opening, and a crash of the machine
         pub restarts_happen : Happens c old (Opens number) new

@@ -1,4 +1,4 @@
--- What an opening's sessions undo: by touches, by the log that is written anew, and by what stood.
+-- What an opening's sessions undo: by touches, by the notes of the log renewed, and by what stood.
 use Rattle.std.proofs.Common.{◌≡◌, ℕ, zero, suc, ◌-◌, ◌<◌, ◌≤◌, Bool, true, false, not, ◌&&◌, ◌||◌, inl, inr, cond, List, [], ◌∷◌, length, Option, Some, None, refl, ap, sym, ◌∙◌, arith}
 use Rattle.std.specs.Prelude.{◌==◌, if◌then◌else◌, is_some, option_map, map, sum_by}
 use Rattle.std.specs.List.{slice_index_or, filter}
@@ -148,7 +148,8 @@ module _ {B P : Type 0} (keys : Keys B) (k : Known (Entry B) P) (cmp : k.cmp ≡
     one_session : (a b : ℕ) → (0 < a) × (a < 9) → (0 < b) × (b < 9) → a - 1 ≡ b - 1 → a ≡ b
     one_session a b p q same = omega arith
 
-    listed_with : (a : ℕ) (e : Entry B) (is : IsOf a) → has keys e (entries_of (loser_at a losers)) ≡ true → lists k (slice_index_or ts (a - 1) 0) e xs ≡ true
+    -- and what it undoes is listed
+    pub listed_with : (a : ℕ) (e : Entry B) (is : IsOf a) → has keys e (entries_of (loser_at a losers)) ≡ true → lists k (slice_index_or ts (a - 1) 0) e xs ≡ true
     listed_with a e is h =
         sym (has_for e (slice_index_or ts (a - 1) 0) xs) ∙ ap (λ (ns : List (Note B)). has keys e (entries_of ns)) (sym is.notes) ∙ h
 

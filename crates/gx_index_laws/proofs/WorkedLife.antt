@@ -25,7 +25,6 @@ use Rattle.gx_engine_laws.specs.Slots.{Note, slot_at, noted, WithNote}
 use Rattle.gx_engine_laws.specs.Engines.{stood}
 use Rattle.gx_engine_laws.specs.Events.{Event, Asks, Inserts, Finds, Seals, Durable, Acknowledges, Undoes, EndsUndo, Opens, Works}
 use Rattle.gx_engine_laws.specs.Kinds.{changes_what_stood}
-use Rattle.gx_engine_laws.specs.Losers.{is_of_opening}
 use Rattle.gx_engine_laws.proofs.WhatStood.{event_stood}
 use Rattle.gx_recovery.specs.Records.{Image, Whole}
 use Rattle.gx_recovery.specs.Redo.{with_page, redone}
@@ -35,8 +34,8 @@ use Rattle.gx_index_laws.specs.States.{State, Descends, Seeks, tree_now, engine_
 use Rattle.gx_index_laws.specs.Working.{wants_pair}
 use Rattle.gx_index_laws.specs.Whole.{IsWhole}
 use Rattle.gx_index_laws.specs.Happening.{Happens, AreHappening}
-use Rattle.gx_index_laws.specs.Openings.{IsRestart}
-use Rattle.gx_index_laws.specs.WorkedLife.{numbers, nth, fifth, query, up_to, nth_pair, child, leaf, root, pair, item, claiming, searching, note, nth_note, state_0, state_1, state_2, state_3, state_4, state_5, state_6, state_7, state_8, state_9, state_10, state_11, state_12, state_13, committed, state_15, state_16, state_17, state_18, state_19, state_20, state_21, state_22, state_23, state_24, state_25, state_26, state_27, state_28, state_29, state_30, lost, found_log, opened, sought, restored, reopened, inserting, committing, descending, finding, undoing, opening, worked_events}
+use Rattle.gx_index_laws.specs.Openings.{is_in_opening, GoesOpening, IsRestart}
+use Rattle.gx_index_laws.specs.WorkedLife.{numbers, nth, fifth, query, up_to, nth_pair, child, leaf, root, pair, item, claiming, searching, note, nth_note, state_0, state_1, state_2, state_3, state_4, state_5, state_6, state_7, state_8, state_9, state_10, state_11, state_12, state_13, committed, state_15, state_16, state_17, state_18, state_19, state_20, state_21, state_22, state_23, state_24, state_25, state_26, state_27, state_28, state_29, state_30, lost, found_log, opened, sought, restored, undone, sent, reopened, inserting, committing, descending, finding, undoing, opening, worked_events}
 use Rattle.gx_index_laws.proofs.FreshIndex.{fresh_whole, fresh_seen}
 use Rattle.gx_index_laws.proofs.AskedCalls.{transaction_begins, call_opens, acknowledged}
 use Rattle.gx_index_laws.proofs.Answering.{look_read, look_descends, descent_again, descent_down, look_answers, look_seeks}
@@ -45,7 +44,7 @@ use Rattle.gx_index_laws.proofs.Entering.{insert_adds, undo_restores}
 use Rattle.gx_index_laws.proofs.Paging.{paged}
 use Rattle.gx_index_laws.proofs.Logging.{begins, synced}
 use Rattle.gx_index_laws.proofs.Closing.{sealed, ended}
-use Rattle.gx_index_laws.proofs.Restarts.{is_whole, restarts_happen}
+use Rattle.gx_index_laws.proofs.Restarts.{start_keeps, restart_goes, restarts_happen}
 
 equal_is : (o : Ordering) → is_eq o ≡ true → o ≡ Equal
 equal_is Less h = let no : ⊥ = cc in absurd no
@@ -364,7 +363,7 @@ pub is_left : IsLeft lost.log lost.log.area found_log
 is_left = record { area_agrees = λ p none. refl; log_read = inr refl }
 
 opened_whole : IsWhole numbers opened
-opened_whole = is_whole numbers numbers_lawful lost happens_31.whole 4 lost.log.area found_log is_left (leb-true 4 4 refl)
+opened_whole = (start_keeps numbers numbers_lawful lost happens_31.whole lost.log.area found_log is_left 4 (leb-true 4 4 refl)).whole
 
 happens_32 : Happens numbers opened Works sought
 happens_32 =
@@ -392,27 +391,40 @@ all_restored : (b : Bool) (was : Bool) → (if b then Some false else None) ≡ 
 all_restored true was h = refl
 all_restored false was h = let no : ⊥ = cc in absurd no
 
-happens_34 : Happens numbers restored (EndsUndo 1) reopened
+happens_34 : Happens numbers restored (EndsUndo 1) undone
 happens_34 =
     (ended numbers numbers_lawful restored happens_33.whole refl 1 (claiming (fifth ∷ [])) (note fifth ∷ []) refl
     (λ e was is. all_restored (same_entry number_keys e fifth) was is)).happens
 
-of_opening : All (λ (event : Event ℕ). is_of_opening event ≡ true) undoing
+happens_35 : Happens numbers undone Works sent
+happens_35 = begins numbers numbers_lawful undone happens_34.whole refl
+
+happens_36 : Happens numbers sent (Durable 1) reopened
+happens_36 = synced numbers numbers_lawful sent happens_35.whole refl
+
+abbrev InOpening : Event ℕ → Type 0
+InOpening event = is_in_opening event ≡ true
+
+of_opening : All InOpening undoing
 of_opening =
-    All-cons (λ (event : Event ℕ). is_of_opening event ≡ true) Works (Undoes 1 fifth ∷ EndsUndo 1 ∷ []) refl
-    (All-cons (λ (event : Event ℕ). is_of_opening event ≡ true) (Undoes 1 fifth) (EndsUndo 1 ∷ []) refl
-    (All-cons (λ (event : Event ℕ). is_of_opening event ≡ true) (EndsUndo 1) [] refl (All-nil (λ (event : Event ℕ). is_of_opening event ≡ true))))
+    All-cons InOpening Works (Undoes 1 fifth ∷ EndsUndo 1 ∷ Works ∷ Durable 1 ∷ []) refl
+    (All-cons InOpening (Undoes 1 fifth) (EndsUndo 1 ∷ Works ∷ Durable 1 ∷ []) refl
+    (All-cons InOpening (EndsUndo 1) (Works ∷ Durable 1 ∷ []) refl
+    (All-cons InOpening Works (Durable 1 ∷ []) refl (All-cons InOpening (Durable 1) [] refl (All-nil InOpening)))))
 
 pub restarts : IsRestart numbers lost opening reopened
 restarts = record {
   left = is_left;
   covers = leb-true 4 4 refl;
-  happening = (sought, happens_32, (restored, happens_33, (reopened, happens_34, refl)));
+  happening = (sought, happens_32, (restored, happens_33, (undone, happens_34, (sent, happens_35, (reopened, happens_36, refl)))));
   of_opening = of_opening;
 }
 
-happens_35 : Happens numbers lost (Opens 1) reopened
-happens_35 = restarts_happen numbers numbers_lawful lost happens_31.whole opening [] reopened restarts refl
+pub goes : GoesOpening numbers opening reopened
+goes = restart_goes numbers numbers_lawful lost opening reopened happens_31.whole restarts
+
+happens_37 : Happens numbers lost (Opens 1) reopened
+happens_37 = restarts_happen numbers numbers_lawful lost happens_31.whole opening [] reopened restarts refl
 
 -- All of it.
 
@@ -434,7 +446,7 @@ are_finding : AreHappening numbers state_24 finding lost
 are_finding = (state_25, happens_25, (state_26, happens_26, (state_27, happens_27, (state_28, happens_28, (state_29, happens_29, (state_30, happens_30, (lost, happens_31, refl)))))))
 
 are_opening : AreHappening numbers lost (Opens 1 ∷ []) reopened
-are_opening = (reopened, happens_35, refl)
+are_opening = (reopened, happens_37, refl)
 
 pub worked_life : AreHappening numbers (fresh_state 9) worked_events reopened
 worked_life =
@@ -444,4 +456,4 @@ worked_life =
     (joined finding (Opens 1 ∷ []) state_24 lost reopened are_finding are_opening)))
 
 pub last_whole : IsWhole numbers reopened
-last_whole = happens_35.whole
+last_whole = happens_37.whole

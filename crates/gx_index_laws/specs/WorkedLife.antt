@@ -1,6 +1,6 @@
 -- A life of a small index, with its states: numbers as keys, four entries a node, eight pages. One session inserts four
 -- entries and commits; another searches while the first inserts a fifth, for which the leaf is split; then power is lost,
--- with the split and the fifth entry in flight, and the opening undoes it.
+-- with the split and the fifth entry in flight, and the opening undoes it and gates that.
 use Rattle.std.specs.Prelude.{ℕ, zero, suc, nat_le, true, false, Bool, None, Some, List, [], ◌∷◌, ◌++◌}
 use Rattle.std.specs.Ordering.{is_eq, nat_cmp}
 use Rattle.gx_machine.specs.declared.entry.Entry.{Entry}
@@ -20,7 +20,7 @@ use Rattle.gx_recovery.specs.Logged.{begun, gate_synced}
 use Rattle.gx_index_laws.specs.Classes.{Class, Page}
 use Rattle.gx_index_laws.specs.States.{State, Rests, Looks, Descends, Seeks, fresh_state}
 use Rattle.gx_index_laws.specs.Happening.{with_record, with_work, slotted, with_restored, with_transaction}
-use Rattle.gx_index_laws.specs.Openings.{opened_state, Try}
+use Rattle.gx_index_laws.specs.Openings.{found_state, Try}
 
 -- a key covers those that are no greater
 abbrev pub numbers : Class ℕ
@@ -204,12 +204,12 @@ state_30 = slotted 2 (Working searching [] None) Rests state_29
 abbrev pub lost : State ℕ
 lost = record state_30 { log = begun state_30.log }
 
--- The opening over the page area as it is, with that batch read; its undo.
+-- The opening over the page area as it is, with that batch read; its undo, whose records are gated.
 abbrev pub found_log : List (Record (Entry ℕ) (Page ℕ))
 found_log = lost.log.gated ++ lost.log.flight
 
 abbrev pub opened : State ℕ
-opened = opened_state numbers 4 lost.log.area found_log
+opened = found_state numbers 4 lost.log.area found_log
 
 abbrev pub sought : State ℕ
 sought = with_work 1 (Seeks fifth 3) opened
@@ -217,8 +217,14 @@ sought = with_work 1 (Seeks fifth 3) opened
 abbrev pub restored : State ℕ
 restored = with_restored 1 fifth (with_record fifth_undone sought)
 
+abbrev pub undone : State ℕ
+undone = slotted 1 Free Rests (with_record (End 3) restored)
+
+abbrev pub sent : State ℕ
+sent = record undone { log = begun undone.log }
+
 abbrev pub reopened : State ℕ
-reopened = slotted 1 Free Rests (with_record (End 3) restored)
+reopened = record sent { log = gate_synced sent.log; older = []; oldest = 1 }
 
 -- The events.
 abbrev pub inserting : List (Event ℕ)
@@ -240,7 +246,7 @@ abbrev pub finding : List (Event ℕ)
 finding = Works ∷ Works ∷ Inserts 1 fifth ∷ Works ∷ Works ∷ Finds 2 query (nth 4 ∷ []) ∷ Works ∷ []
 
 abbrev pub undoing : List (Event ℕ)
-undoing = Works ∷ Undoes 1 fifth ∷ EndsUndo 1 ∷ []
+undoing = Works ∷ Undoes 1 fifth ∷ EndsUndo 1 ∷ Works ∷ Durable 1 ∷ []
 
 abbrev pub opening : Try ℕ
 opening = record { area = lost.log.area; log = found_log; next = 4; events = undoing }

@@ -10,11 +10,11 @@ ghost use Rattle.gx_index_laws.specs.States.{Looks, tree_now, fresh_state};
 ghost use Rattle.gx_index_laws.specs.Working.{open_call};
 ghost use Rattle.gx_index_laws.specs.Whole.{IsWhole};
 ghost use Rattle.gx_index_laws.specs.Happening.{AreHappening};
-ghost use Rattle.gx_index_laws.specs.Openings.{IsRestart};
+ghost use Rattle.gx_index_laws.specs.Openings.{GoesOpening, IsRestart};
 ghost use Rattle.gx_index_laws.specs.WorkedLife.{numbers, query, nth, fifth, note, claiming, item, split, state_23, state_24, lost, found_log, opened, reopened, opening, worked_events};
 
 /// From a fresh index on: one session inserts four entries and commits; a search of another is open while a leaf is split
-/// for a fifth entry; power is lost with the split and that entry in flight; an opening undoes it. The events happen, one
+/// for a fifth entry; power is lost with the split and that entry in flight; an opening undoes it and gates that. The events happen, one
 /// after another, and the index is whole after each.
 pub fn a_worked_life_happens()
     ensures lawful { IsLawful numbers }
@@ -23,7 +23,8 @@ pub fn a_worked_life_happens()
 {}
 
 /// What that life shows. The search is open, and has the split leaf stacked, before the split and after it. The crash comes
-/// with a batch in flight, which is read; the opening over it has one loser, in session 1, and ends with all slots free.
+/// with a batch in flight, which is read; the opening over it has one loser, in session 1, and ends with all slots free and the
+/// undo's records gated.
 pub fn what_the_worked_life_shows()
     ensures searches { open_call (slot_at 2 state_23.slots) ≡ Some (Search query) }
     ensures stacked { state_24.work 2 ≡ Looks (item 2 0 ∷ []) [] }
@@ -32,6 +33,7 @@ pub fn what_the_worked_life_shows()
     ensures left { IsLeft lost.log lost.log.area found_log }
     ensures loser { slot_at 1 opened.slots ≡ Undoing (claiming (fifth ∷ [])) (note fifth ∷ []) }
     ensures restarts { IsRestart numbers lost opening reopened }
+    ensures goes { GoesOpening numbers opening reopened }
     ensures ended { reopened.slots ≡ replicate 8 Free }
     ensures committed { stands_for (known_of numbers) lost.log.area found_log (nth 4) ≡ true }
     ensures undone { stands_for (known_of numbers) lost.log.area found_log fifth ≡ false }

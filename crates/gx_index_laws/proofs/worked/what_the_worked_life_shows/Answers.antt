@@ -1,6 +1,6 @@
 use Rattle.std.proofs.Common.{refl}
 use Rattle.gx_index_laws.specs.Classes.{is_live}
-use Rattle.gx_index_laws.proofs.WorkedLife.{splits, is_left, restarts}
+use Rattle.gx_index_laws.proofs.WorkedLife.{splits, is_left, restarts, goes}
 use Rattle.gx_index_laws.proofs.worked.what_the_worked_life_shows.Goals as goal
 
 pub returns-clause-searches : goal.returns-clause-searches
@@ -23,6 +23,9 @@ returns-clause-loser c = refl
 
 pub returns-clause-restarts : goal.returns-clause-restarts
 returns-clause-restarts c = restarts
+
+pub returns-clause-goes : goal.returns-clause-goes
+returns-clause-goes c = goes
 
 pub returns-clause-ended : goal.returns-clause-ended
 returns-clause-ended c = refl
