@@ -43,15 +43,15 @@ module _ {B W : Type 0} where
 
   -- numbers are left where no more may commit, and where one more does and they weren't used up
   pub numbers_left : (phases phases' : List (Phase B W)) (i : ℕ) (q : Phase B W) (last last' : ℕ) → length phases ≡ 8 → i < 8 → phases' ≡ slice_set phases i q
-      → last + sum_by may_commit phases < 18446744073709551615 → last' + may_commit q ≤ last + may_commit (phase_at i phases)
-      → last' + sum_by may_commit phases' < 18446744073709551615
+      → last + sum_by may_commit phases ≤ 18446744073709551615 → last' + may_commit q ≤ last + may_commit (phase_at i phases)
+      → last' + sum_by may_commit phases' ≤ 18446744073709551615
   numbers_left phases phases' i q last last' eight low is few less =
       let changed : sum_by may_commit (slice_set phases i q) + may_commit (phase_at i phases) ≡ sum_by may_commit phases + may_commit q =
       sum_by-set may_commit phases i q phase.Free (omega (arith, eight, low)) in
       omega (arith, changed, ap (sum_by may_commit) is, few, less)
 
   pub numbers_left_to_begin : (phases phases' : List (Phase B W)) (i : ℕ) (q : Phase B W) (last : ℕ) → length phases ≡ 8 → phases' ≡ slice_set phases i q
-      → last < 18446744073709551607 → last + sum_by may_commit phases' < 18446744073709551615
+      → last < 18446744073709551607 → last + sum_by may_commit phases' ≤ 18446744073709551615
   numbers_left_to_begin phases phases' i q last eight is low =
       omega (arith, commits_in_all phases', ap length is, length-set phases i q, eight, low)
 
@@ -61,7 +61,7 @@ module _ {B W : Type 0} (k : Keys B) (old : State B W) (kept : IsKept k old) (s 
 
   -- one session is changed
   pub kept_with : (new : State B W) (q : Phase B W) (h : Held B) → new.phases ≡ with_phase s q old.phases → new.table ≡ with_held s h old.table
-      → length new.transactions ≡ 8 → IsPlaced k q h → new.latest + sum_by may_commit new.phases < 18446744073709551615 → new.durable ≤ new.latest → IsKept k new
+      → length new.transactions ≡ 8 → IsPlaced k q h → new.latest + sum_by may_commit new.phases ≤ 18446744073709551615 → new.durable ≤ new.latest → IsKept k new
   kept_with new q h phases table transactions own numbers durable = record {
     phases = ap (λ (ps : List (Phase B W)). length ps) phases ∙ length-set old.phases (s - 1) q ∙ kept.phases;
     table = ap (λ (hs : List (Held B)). length hs) table ∙ length-set old.table (s - 1) h ∙ kept.table;

@@ -136,7 +136,7 @@ module _ {B W : Type 0} (k : Keys B) (old now : State B W) (same : old ≡ now) 
     one : may_commit p ≡ 1
     one = commit_commits p (test_old (λ (x : Phase B W). asks_commit x) commit)
 
-    pub latest_small : old.latest + 1 < 18446744073709551615
+    pub latest_small : old.latest + 1 ≤ 18446744073709551615
     latest_small =
         let most : may_commit p ≤ sum_by may_commit old.phases =
         get_or-le-sum_by may_commit old.phases (s - 1) phase.Free (omega (arith, kept.phases, low k old kept s is)) in

@@ -136,5 +136,5 @@ pub record IsKept {B : Type 0} {W : Type 0} (k : Keys B) (state : State B W) : T
   pub table : length state.table ≡ SESSIONS
   pub transactions : length state.transactions ≡ SESSIONS
   pub placed : (i : ℕ) → i < SESSIONS → IsPlaced k (phase_at i state.phases) (held_at i state.table)
-  pub numbers : state.latest + sum_by may_commit state.phases < LAST_NUMBER + SESSIONS
+  pub numbers : state.latest + sum_by may_commit state.phases ≤ LAST_NUMBER + SESSIONS
   pub durable : state.durable ≤ state.latest

@@ -65,7 +65,6 @@ impl<B: Shape, W: Drop> Sessions<B, W> {
     /// next transaction gets the number `next`. It takes all places for claims, notes and predicates.
     pub fn new(alloc: Global, latest: u64, durable: u64, next: u64) -> Result<Self, AllocError>
         requires sealed { durable ≤ latest }
-        requires numbers { latest < LAST_NUMBER + SESSIONS }
         ensures { IfOk result (λ sessions. sessions ≡ fresh_state W latest durable next) }
     {
         Ok(Sessions {
