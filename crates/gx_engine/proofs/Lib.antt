@@ -37,3 +37,8 @@ pub mod Checkpointing
 pub mod Putting
 pub mod TurnBegins
 pub mod Steps
+pub mod Losing
+pub mod LosingStates
+pub mod LosingEnds
+pub mod LosingSteps
+pub mod Starting

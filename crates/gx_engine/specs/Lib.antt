@@ -19,3 +19,5 @@ pub mod Stepping
 pub mod Running
 pub mod Descending
 pub mod Comes
+pub mod Losing
+pub mod Starting

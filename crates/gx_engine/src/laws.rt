@@ -7,15 +7,18 @@ ghost use Rattle.gx_engine_laws.specs.Events as laws;
 ghost use Rattle.gx_events.specs.declared.event.Event.{Event};
 ghost use Rattle.gx_events.specs.declared.outcome.Outcome.{Outcome};
 ghost use Rattle.gx_events.specs.Engines.{AreOf, Leads};
+ghost use Rattle.gx_recovery.specs.Analysis.{analysis};
+ghost use Rattle.gx_recovery.specs.Damage.{IsLog};
 ghost use Rattle.gx_recovery.specs.Known.{Limits};
 ghost use Rattle.gx_recovery.specs.Records.{Record};
-ghost use Rattle.gx_index_laws.specs.Classes.{Class, IsLawful, Page};
+ghost use Rattle.gx_index_laws.specs.Classes.{Class, IsLawful, Page, known_of};
 ghost use Rattle.gx_index_laws.specs.Happening.{AreHappening};
 ghost use Rattle.gx_index_laws.specs.States.{State, engine_of};
 ghost use Rattle.gx_index_laws.specs.Whole.{IsWhole};
 ghost use Rattle.gx_durable.specs.Spelled.{Reading};
 ghost use Rattle.gx_readings.specs.Classes.{class_of};
 ghost use Rattle.gx_engine.specs.Holds.{Holds};
+ghost use Rattle.gx_engine.specs.Losing.{AreCutOff};
 ghost use Rattle.gx_engine.specs.Running.{AreSteps, Ran};
 ghost use Rattle.gx_engine.specs.States.{Parts};
 
@@ -39,4 +42,10 @@ pub fn any_events_lead_on<D: SectorDisk, B>()
     ensures { (c : Class B) (r : Reading (Entry B) (Page B)) (f : Format B) (passes : ℕ → Contents → Bool) (steps : List (Event B × Outcome B)) (old new : Parts B D)
         → AreSteps c r f passes D.state old steps new → (bodies : List (List (Record (Entry B) (Page B)))) (i : State B)
         → Holds c r f passes (D.state old.volume.shelf.disk) old bodies i → Ran c r f passes (D.state old.volume.shelf.disk) (D.state new.volume.shelf.disk) new i }
+{}
+
+/// What the analysis of an undamaged log tells of touches, an opening can give sessions: they come by transaction and then entry, no entry
+/// twice, and are no more than eight transactions' and no more than 512.
+pub fn a_log_tells_who_was_cut_off<B>()
+    ensures { (c : Class B) → IsLawful c → (log : List (Record (Entry B) (Page B))) → IsLog (known_of c) log → AreCutOff c.keys (analysis (known_of c) log).touched }
 {}

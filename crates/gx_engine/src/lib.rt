@@ -10,9 +10,11 @@ mod flusher;
 mod heads;
 pub mod laws;
 mod looks;
+mod losers;
 mod pages;
 mod refusals;
 mod searches;
+mod start;
 mod step;
 mod sweeps;
 mod undoes;
@@ -21,4 +23,6 @@ mod writes;
 
 pub use checkpoint::Checkpoint;
 pub use engine::Engine;
+pub use losers::Loser;
+pub use start::{NotOpened, Start};
 pub use work::Work;

@@ -1,0 +1,200 @@
+//! An engine's start over a device, from what was found there.
+ghost use Rattle.std.specs.Prelude.{◌≡◌, ◌≤◌, ◌<◌, ◌+◌, ◌*◌, ◌-◌, length, IfOk, IfErr};
+ghost use Rattle.gx_node.specs.declared.items.TheConstants.{MAX_ENTRIES};
+ghost use Rattle.gx_pool.specs.declared.frames.TheConstants.{FRAMES};
+ghost use Rattle.gx_machine.specs.Keys.{keys_of};
+ghost use Rattle.gx_node.specs.Reading.{format_of, is_node};
+ghost use Rattle.gx_recovery.specs.Known.{Limits};
+ghost use Rattle.gx_readings.specs.Classes.{class_of, reading_of};
+ghost use Rattle.gx_store.specs.State.{IsInOrder};
+ghost use Rattle.gx_engine.specs.Starting.{AreFresh, HoldsFrom, Started, TakenUp, WhyNot, rested};
+
+use crate::Engine;
+use crate::checkpoint::Checkpoint;
+use crate::laws::a_class_is_lawful;
+use crate::losers::{Loser, hold_losers};
+use crate::work::Work;
+use gx_class::KeyClass;
+use gx_disk::SectorDisk;
+use gx_geom::{Refusal, Shape};
+use gx_glog::{Extent, Glog};
+use gx_node::MAX_ENTRIES;
+use gx_phases::Sessions;
+use gx_pool::Pool;
+use gx_readings::ReadKeys;
+use gx_storage::Storage;
+use gx_store::{NodeTest, PageStore};
+use std::alloc::{AllocError, Global};
+
+/// What an engine starts from: what was found on its device.
+#[derive(Drop)]
+pub struct Start<B> {
+    /// The extent that is selected.
+    pub extent: Extent,
+    /// How many of its gates are open in a row from the first on, 1 to 32. All later ones are closed.
+    pub bodies: u8,
+    /// How many pages the device has, up to 65,536.
+    pub pages: u32,
+    /// How many entries a node has at most, 4 to 100.
+    pub fanout: u16,
+    /// How many frames pages are kept in, up to 4,096.
+    pub frames: usize,
+    /// The number of the last commit.
+    pub commits: u64,
+    /// The greatest node sequence number.
+    pub counter: u64,
+    /// The greatest page that is taken.
+    pub used: u32,
+    /// The next transaction's number.
+    pub next: u64,
+    /// What transactions wrote that have neither a commit nor an end, by transaction, then by entry.
+    pub losers: Vec<Loser<B>>,
+}
+
+/// Why a device wasn't opened, and the device.
+#[derive(Debug, Drop)]
+pub struct NotOpened<D> {
+    /// Why.
+    pub why: Refusal,
+    /// The device, as the calls left it.
+    pub disk: D,
+}
+
+// The memory that an engine takes beside its log and its sessions.
+#[derive(Drop)]
+struct Room<K: KeyClass> {
+    pool: Pool<NodeTest<K>>,
+    key: Vec<u8>,
+    keys: Vec<K::Key>,
+}
+
+/// So many bytes for a key.
+fn key_room(alloc: Global, size: usize) -> Result<Vec<u8>, AllocError>
+    ensures { IfOk result (λ bytes. length bytes.items ≡ size) }
+{
+    vec![in alloc; 0; size]
+}
+
+/// Room for the keys of a node that is split.
+fn keys_room<K: KeyClass>(alloc: Global) -> Result<Vec<K::Key>, AllocError>
+    ensures { IfOk result (λ keys. MAX_ENTRIES ≤ length keys.items) }
+{
+    vec![in alloc; K::start(); MAX_ENTRIES]
+}
+
+/// Frames for pages, all empty, that know of batches up to this one.
+fn frames<K: KeyClass>(
+    alloc: Global,
+    count: usize,
+    pages: u32,
+    batch: u64,
+) -> Result<Pool<NodeTest<K>>, AllocError>
+    requires few { count ≤ FRAMES }
+    ensures { IfOk result (λ pool. AreFresh count batch pool.frames × (pool.test.pages ≡ pages)) }
+{
+    let mut pool = Pool::with_capacity(alloc, count, NodeTest::new(pages))?;
+    pool.gated(batch);
+    Ok(pool)
+}
+
+/// Takes the memory for pages and keys.
+fn take_room<K: KeyClass>(
+    alloc: Global,
+    count: usize,
+    pages: u32,
+    batch: u64,
+) -> Result<Room<K>, AllocError>
+    requires few { count ≤ FRAMES }
+    ensures pool { IfOk result (λ room. AreFresh count batch room.pool.frames × (room.pool.test.pages ≡ pages)) }
+    ensures key { IfOk result (λ room. length room.key.items ≡ K.KEY) }
+    ensures keys { IfOk result (λ room. MAX_ENTRIES ≤ length room.keys.items) }
+{
+    Ok(Room {
+        pool: frames(alloc, count, pages, batch)?,
+        key: key_room(alloc, K::KEY)?,
+        keys: keys_room::<K>(alloc)?,
+    })
+}
+
+/// Sessions that undo what was cut off, and have no other transaction.
+fn sessions<B: Shape>(alloc: Global, start: &Start<B>) -> Result<Sessions<B, Work<B>>, Refusal>
+    ensures taken { IfOk result (λ sessions. TakenUp (keys_of B.Shape) start.now sessions) }
+    ensures why { IfErr result (WhyNot (keys_of B.Shape) start.now) }
+{
+    match Sessions::new(alloc, start.commits, start.commits, start.next) {
+        Ok(mut sessions) => {
+            hold_losers(&mut sessions, &start.losers)?;
+            Ok(sessions)
+        }
+        Err(_) => Err(Refusal::Memory),
+    }
+}
+
+impl<D: SectorDisk, K: ReadKeys> Engine<D, K> {
+    // The engine over its device, with all that it took memory for.
+    fn over(
+        disk: D,
+        start: &Start<K::Key>,
+        log: Glog,
+        room: Room<K>,
+        sessions: Sessions<K::Key, Work<K::Key>>,
+        alloc: Global,
+    ) -> Self
+        requires inside { (start.now.pages ≤ 65536) × (4168 + 8 * start.now.pages ≤ (D.state disk).sectors) × (start.now.used ≤ start.now.pages) }
+        requires fanout { (4 ≤ start.now.fanout) × (start.now.fanout ≤ MAX_ENTRIES) }
+        requires log { log ≡ rested start.now }
+        requires pool { AreFresh start.now.frames (start.now.bodies - 1) room.pool.frames × (room.pool.test.pages ≡ start.now.pages) }
+        requires key { length room.key.items ≡ K.KEY }
+        requires keys { MAX_ENTRIES ≤ length room.keys.items }
+        requires sessions { TakenUp (keys_of K.Key.Shape) start.now sessions }
+        ensures { Started (keys_of K.Key.Shape) start.now disk result }
+    {
+        let Room { pool, key, keys } = room;
+        let store = PageStore::new(disk, pool, start.used, start.counter, start.pages);
+        let mut engine = Engine::new(
+            Storage::new(log, store, usize::from(start.fanout), key),
+            sessions,
+            keys,
+            alloc,
+        );
+        engine.checkpoint = Checkpoint::Running;
+        engine
+    }
+
+    /// An engine over a device on which this stands, with a checkpoint running. Each transaction that has neither a commit nor an end is held
+    /// by a session, from 1 on, which undoes it; all other sessions are free. It makes no call of the device, and takes all the
+    /// memory that the engine ever takes but for searches' stacks and answers.
+    ///
+    /// Refused with `Memory`, and with `Damaged` where what was cut off isn't what a log tells: more than eight transactions, more than
+    /// 512 entries, or an entry twice. The device is handed back.
+    ///
+    /// Where a log that is undamaged, with its pages laid and good for it, stands on an honest device that is settled, the engine
+    /// holds the index that is opened over them.
+    pub fn start(alloc: Global, disk: D, start: Start<K::Key>) -> Result<Self, NotOpened<D>>
+        requires bodies { (1 ≤ start.bodies) × (start.bodies ≤ 32) }
+        requires inside { (start.pages ≤ 65536) × (4168 + 8 * start.pages ≤ (D.state disk).sectors) × (start.used ≤ start.pages) }
+        requires fanout { (4 ≤ start.fanout) × (start.fanout ≤ MAX_ENTRIES) }
+        requires frames { start.frames ≤ FRAMES }
+        ensures started { IfOk result (Started (keys_of K.Key.Shape) start disk) }
+        ensures refused { IfErr result (λ n. (n.disk ≡ disk) × WhyNot (keys_of K.Key.Shape) start n.why) }
+        ensures holds { (l : Limits) → IfOk result (HoldsFrom (class_of K.Key.Shape K.is_proper l) (reading_of K.said (format_of K.KeyClass)) (format_of K.KeyClass)
+            (is_node (format_of K.KeyClass)) (D.state disk) start) }
+    {
+        a_class_is_lawful::<K>();
+        let log = match Glog::start(alloc, start.extent, start.bodies) {
+            Ok(log) => log,
+            Err(why) => return Err(NotOpened { why, disk }),
+        };
+        let batch = u64::from(start.bodies - 1);
+        let Ok(room) = take_room(alloc, start.frames, start.pages, batch) else {
+            return Err(NotOpened {
+                why: Refusal::Memory,
+                disk,
+            });
+        };
+        match sessions(alloc, &start) {
+            Ok(sessions) => Ok(Self::over(disk, &start, log, room, sessions, alloc)),
+            Err(why) => Err(NotOpened { why, disk }),
+        }
+    }
+}
