@@ -98,9 +98,10 @@ module _ {B : Type 0} where
 
   of_each : (Q : ℕ → Type 0) (xs : List (Touch (Entry B))) → ((t : ℕ) → touches t xs ≡ true → Q t) → AllByRecursion (λ x. Q x.transaction) xs
   of_each Q [] each = tt
-  of_each Q (x ∷ xs) each =
-      (each x.transaction (or_first (x.transaction == x.transaction) (touches x.transaction xs) (itself x.transaction)),
-      of_each Q xs (λ t there. each t (or_second (x.transaction == t) (touches t xs) there)))
+  of_each Q (x ∷ xs) each = (
+    each x.transaction (or_first (x.transaction == x.transaction) (touches x.transaction xs) (itself x.transaction)),
+    of_each Q xs (λ t there. each t (or_second (x.transaction == t) (touches t xs) there)),
+  )
 
   all_from : (k : Keys B) (n : ℕ) (x : Touch (Entry B)) (ys : List (Touch (Entry B))) → n ≤ x.transaction → AllByRecursion (ComesBefore k x) ys → AreFrom n ys
   all_from k n x [] low before = tt

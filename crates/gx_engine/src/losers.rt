@@ -25,7 +25,11 @@ fn session_after(session: u8, last: Option<u64>, transaction: u64) -> u8
     ensures { result ≡ session_after session last transaction }
 {
     match last {
-        Some(before) => if before == transaction { session } else { session + 1 },
+        Some(before) => if before == transaction {
+            session
+        } else {
+            session + 1
+        },
         None => session + 1,
     }
 }
@@ -52,12 +56,7 @@ pub(crate) fn hold_losers<B: Shape>(
             return Err(Refusal::Damaged);
         }
         last = Some(loser.transaction);
-        if let Err(_) = sessions.hold_loser(
-            session,
-            loser.transaction,
-            loser.note,
-            Work::Rests,
-        ) {
+        if let Err(_) = sessions.hold_loser(session, loser.transaction, loser.note, Work::Rests) {
             return Err(Refusal::Damaged);
         }
     }

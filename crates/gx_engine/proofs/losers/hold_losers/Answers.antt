@@ -94,8 +94,8 @@ returns-clause-holds g c =
     let lawful : IsLawful k = record { total = g.met.B.Ord.total; exact = g.met.B.Shape.same } in
     let low = c.loop-loser-test.false in
     λ cut.
-        all_taken k lawful c.args.losers.now cut c.args.sessions.now c.loop-loser.loser-index c.loop-loser.session c.loop-loser.last c.loop-loser.sessions
-        (take_all c.loop-loser.loser-index c.args.losers.now (omega (arith, low))) (c.loop-loser.invariant.4 cut)
+    all_taken k lawful c.args.losers.now cut c.args.sessions.now c.loop-loser.loser-index c.loop-loser.session c.loop-loser.last c.loop-loser.sessions
+    (take_all c.loop-loser.loser-index c.args.losers.now (omega (arith, low))) (c.loop-loser.invariant.4 cut)
 
 pub returns-clause-rests : goal.returns-clause-rests
 returns-clause-rests g c = c.loop-loser.invariant.2
