@@ -1,5 +1,5 @@
 -- Pages that were changed, with the record that gives them.
-use Rattle.std.proofs.Common.{◌≡◌, ◌∙◌, sym, ap, refl, subst, inl, inr, ℕ, ◌^◌, ◌<◌, ◌≤◌, Bool, true, false, ◌||◌, ◌==◌, List, [], ◌∷◌, Option, Some, arith}
+use Rattle.std.proofs.Common.{◌≡◌, ◌∙◌, sym, ap, refl, subst, inl, inr, ℕ, ◌^◌, ◌<◌, ◌≤◌, Bool, true, false, ◌||◌, ◌==◌, List, [], ◌∷◌, Option, None, Some, arith}
 use Rattle.std.specs.Prelude.{if◌then◌else◌}
 use Rattle.std.specs.List.{list_any}
 use Rattle.std.proofs.lemmas.Bool.{eqb-true}
@@ -27,7 +27,9 @@ use Rattle.gx_readings.specs.Classes.{reading_of}
 use Rattle.gx_store.specs.Since.{GoesOn, IsAsItWas}
 use Rattle.gx_store.specs.State.{Shelf, IsHeld}
 use Rattle.gx_tree.specs.Store.{Store}
-use Rattle.gx_tree.specs.Descending.{StepsDown, is_widened}
+use Rattle.gx_tree.specs.Descending.{StepsDown, WayAt, is_widened}
+use Rattle.gx_tree.specs.declared.descent.Way.{Way}
+use Rattle.gx_tree.specs.declared.descent.Way.TheVariants.{Again, Add, FullLeaf, FullInner, Down, Widen}
 use Rattle.gx_tree.specs.declared.descent.Descended.{Descended}
 use Rattle.gx_tree.specs.declared.descent.Descended.TheVariants as did
 use Rattle.gx_tree_laws.specs.Reach.{Item}
@@ -35,6 +37,7 @@ use Rattle.gx_store.specs.Standing.{standing, store_of}
 use Rattle.gx_store.proofs.Changing.{there}
 use Rattle.gx_store.proofs.Shown.{stands_kept}
 use Rattle.gx_storage.specs.Changes.{IsLast, IsLogged, IsLoggedIf, IsUnlogged, begun, has_room, page_given}
+use Rattle.gx_storage.specs.Changing.{HasToWiden, unwidened}
 use Rattle.gx_storage.specs.Keeps.{Keeps, StaysWith}
 use Rattle.gx_storage.specs.State.{Volume}
 use Rattle.gx_storage.proofs.Recording.{stays_with, stored_kept}
@@ -161,3 +164,31 @@ page_in_range counter used page image c counter_fits used_fits page_fits is read
 pub descended_since : {B D : Type 0} (f : Format B) (state : D → Device) (v : Volume D) (size : ℕ) (u : Shelf D) (cost : B → B → ℕ × ℕ) (joined : B → B → B) (most : ℕ) (new : Store B) (item : Item) (coming : B) (d : Descended B)
     → u ≡ begun v size → StepsDown cost joined most (store_of f (state u.disk).seen u) new item coming d → StepsDown cost joined most (store_of f (state v.shelf.disk).seen v.shelf) new item coming d
 descended_since f state v size u cost joined most new item coming d is down = subst {A = Shelf _} (λ x. StepsDown cost joined most (store_of f (state x.disk).seen x) new item coming d) is down
+
+-- ---- a way that was only read
+
+abbrev widened_in : {B : Type 0} → Option (Descended B) → Bool
+widened_in None = false
+widened_in (Some d) = is_widened d
+
+never_widened : {B : Type 0} (way : Way B) (seen : ℕ) → widened_in (unwidened way seen) ≡ false
+never_widened Again seen = refl
+never_widened Add seen = refl
+never_widened FullLeaf seen = refl
+never_widened FullInner seen = refl
+never_widened (Down slot child) seen = refl
+never_widened (Widen slot child key) seen = refl
+
+-- what it comes to widened nothing
+pub unwidened_narrow : {B : Type 0} (way : Way B) (seen : ℕ) (d : Descended B) → unwidened way seen ≡ Some d → is_widened d ≡ false
+unwidened_narrow way seen d is = sym (ap widened_in is) ∙ never_widened way seen
+
+-- and where it comes to nothing, a bound has to be widened
+pub has_to_widen : {B : Type 0} (cost : B → B → ℕ × ℕ) (joined : B → B → B) (most : ℕ) (s : Store B) (item : Item) (coming : B) (way : Way B) (seen : ℕ) → unwidened way seen ≡ None
+    → WayAt cost joined most s item coming way → HasToWiden cost joined most s item coming
+has_to_widen {B} cost joined most s item coming Again seen is at = absurd (let never : ◌≡◌ {A = Option (Descended B)} (Some did.Again) None = is in cc)
+has_to_widen {B} cost joined most s item coming Add seen is at = absurd (let never : ◌≡◌ {A = Option (Descended B)} (Some did.Leaf) None = is in cc)
+has_to_widen {B} cost joined most s item coming FullLeaf seen is at = absurd (let never : ◌≡◌ {A = Option (Descended B)} (Some did.FullLeaf) None = is in cc)
+has_to_widen {B} cost joined most s item coming FullInner seen is at = absurd (let never : ◌≡◌ {A = Option (Descended B)} (Some did.FullInner) None = is in cc)
+has_to_widen {B} cost joined most s item coming (Down slot child) seen is at = absurd (let never : ◌≡◌ {A = Option (Descended B)} (Some (did.Down (record { page = child; seen = seen }))) None = is in cc)
+has_to_widen cost joined most s item coming (Widen slot child key) seen is at = (slot, child, key, at)

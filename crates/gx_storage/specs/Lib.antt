@@ -1,5 +1,6 @@
 pub mod Bringing
 pub mod Changes
+pub mod Changing
 pub mod Flushing
 pub mod Formed
 pub mod Giving

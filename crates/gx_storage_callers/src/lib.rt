@@ -2,4 +2,7 @@
 #![tactic(auto)]
 
 pub mod adds;
+pub mod descents;
+pub mod marks;
+pub mod splits;
 pub mod sweeps;

@@ -2,11 +2,12 @@
 //! alone, and is to have the pages, the set and the numbers of the tree as it was when the last batch was gated.
 //!
 //! A line of `stdin` begins with a word, the greatest number of entries a node, a number of frames, a seed and a number of
-//! steps. `run` makes a run of so many steps and prints how often each thing was done. `fail` has three numbers more, and makes
-//! two runs for each of so many calls of the device, from a first one on by a stride: in one the call fails once and is made
-//! again, in the other the machine stops there. It prints where they stopped with the last batch gated, and where with the
-//! batch in flight. An empty line, and one that begins with `#`, is printed as it stands. The program ends at the first
-//! difference, with status 1.
+//! steps. `run` makes a run of so many steps and prints how often each thing was done. `each` has a stride, and makes the run of
+//! that many steps, of twice as many, and so on up to its steps, so that the device is read back after each so many of them; it
+//! prints how often it was. `fail` has three numbers more, and makes two runs for each of so many calls of the device, from a
+//! first one on by a stride: in one the call fails once and is made again, in the other the machine stops there. It prints where
+//! they stopped with the last batch gated, and where with the batch in flight. An empty line, and one that begins with `#`, is
+//! printed as it stands. The program ends at the first difference, with status 1.
 #![tactic(auto)]
 
 mod base;
@@ -52,16 +53,39 @@ fn setting(words: &mut SplitWhitespace<'_>) -> Result<Setting, RunFault> {
     })
 }
 
+/// No call of the device fails.
+const NEVER: Failing = Failing {
+    call: u64::MAX,
+    stops: false,
+    done: false,
+};
+
 /// A run over a device that never fails.
 fn run_whole<R: Print>(rt: &R, alloc: Global, setting: Setting) -> Result<(), RunFault> {
-    let never = Failing {
-        call: u64::MAX,
-        stops: false,
-        done: false,
-    };
-    let (_, _, counts) = make_run(alloc, setting, never)?;
+    let (_, _, counts) = make_run(alloc, setting, NEVER)?;
     print!(rt; " agrees")?;
     counts.print(rt)
+}
+
+/// A run that is read back after each so many steps: for each such number of them the same run, which ends there.
+fn run_each<R: Print>(
+    rt: &R,
+    alloc: Global,
+    setting: Setting,
+    words: &mut SplitWhitespace<'_>,
+) -> Result<(), RunFault> {
+    let stride = number(words)?.max(1);
+    let runs = setting.steps / stride;
+    let mut part = Setting {
+        steps: 0,
+        ..setting
+    };
+    for _run in 0..runs {
+        part.steps = part.steps.saturating_add(stride);
+        make_run(alloc, part, NEVER)?;
+    }
+    print!(rt; " agree: read back {runs} times")?;
+    Ok(())
 }
 
 /// How the runs of a line ended.
@@ -133,6 +157,7 @@ fn take_line<R: Print>(rt: &R, alloc: Global, line: &str) -> Result<(), RunFault
     let setting = setting(&mut words)?;
     match name {
         "run" => run_whole(rt, alloc, setting),
+        "each" => run_each(rt, alloc, setting, &mut words),
         "fail" => run_all_failing(rt, alloc, setting, &mut words),
         _ => Err(RunFault::BadLine),
     }

@@ -1,26 +1,29 @@
 //! A step of a descent, which may widen a bound.
-ghost use Rattle.std.specs.Prelude.{◌≡◌, ◌≢◌, ◌<◌, true, length, Err, IfOk, OnErr, IfErr};
+ghost use Rattle.std.specs.Prelude.{◌≡◌, ◌≢◌, ◌<◌, ℕ, true, length, Err, IfOk, OnErr, IfErr};
 ghost use Rattle.gx_glog.specs.declared.stage.Turn.TheVariants.{Closed};
 ghost use Rattle.gx_node.specs.Reading.{format_of, is_node};
 ghost use Rattle.gx_readings.specs.Classes.{reading_of};
 ghost use Rattle.gx_store.specs.Faults as faults;
+ghost use Rattle.gx_store.specs.Since.{IsSince};
 ghost use Rattle.gx_store.specs.Standing.{store_of};
 ghost use Rattle.gx_store.specs.State.{IsSteady};
 ghost use Rattle.gx_tree_laws.specs.Trees.{Used};
-ghost use Rattle.gx_tree.specs.Descending.{StepsDown, is_widened};
+ghost use Rattle.gx_tree.specs.Descending.{StepsDown, WayAt, is_widened};
 ghost use Rattle.gx_tree.specs.Owner.{IsWhy};
 ghost use Rattle.gx_tree.specs.Store.{tree_of};
-ghost use Rattle.gx_storage.specs.Changes.{IsLoggedIf, IsUnlogged, begun, known_at, page_given};
+ghost use Rattle.gx_storage.specs.Changes.{IsLoggedIf, IsUnlogged, begun, has_room, known_at, page_given};
+ghost use Rattle.gx_storage.specs.Changing.{HasToWiden, unwidened};
 ghost use Rattle.gx_storage.specs.Numbers.{HasOwnNumber};
 
 use crate::Storage;
 use crate::changes::given::give_page;
-use crate::changes::room::begin;
+use crate::changes::room::{begin, begin_reading, has_room};
 use gx_disk::SectorDisk;
 use gx_geom::Shape;
+use gx_glog::Glog;
 use gx_readings::ReadKeys;
-use gx_store::StoreFault;
-use gx_tree::{Descended, Item, Pages, StepFault, descend_step};
+use gx_store::{PageStore, StoreFault};
+use gx_tree::{Descended, Item, Pages, StepFault, Way, descend_step, way_step};
 
 /// Whether a step of a descent widened a bound.
 fn was_widened<B: Shape>(did: &Descended<B>) -> bool
@@ -34,6 +37,47 @@ fn was_widened<B: Shape>(did: &Descended<B>) -> bool
         | Descended::FullLeaf
         | Descended::FullInner => false,
     }
+}
+
+/// What a step of a descent did that took this way, where the counter of splits is `seen`. `None` where it has to widen a bound.
+fn unwidened<B: Shape>(way: Way<B>, seen: u64) -> Option<Descended<B>>
+    ensures { result ≡ unwidened way seen }
+{
+    match way {
+        Way::Again => Some(Descended::Again),
+        Way::Add => Some(Descended::Leaf),
+        Way::FullLeaf => Some(Descended::FullLeaf),
+        Way::FullInner => Some(Descended::FullInner),
+        Way::Down(_, child) => Some(Descended::Down(Item::new(child, seen))),
+        Way::Widen(..) => None,
+    }
+}
+
+/// Says what a descent does at the page of its item, as the tree's `way_step` does. No room in the log is asked for. The event then
+/// begins whose record gives the page.
+fn read_way<D: SectorDisk, K: ReadKeys>(
+    log: &Glog,
+    store: &mut PageStore<D, K>,
+    item: &Item,
+    coming: &K::Key,
+    most: usize,
+) -> Result<Way<K::Key>, StepFault<StoreFault>>
+    ensures since { (q : ℕ) → IsSince (is_node (format_of K.KeyClass)) (D.state store.old.disk) (D.state store.new.disk) (record store.old { batch = log.now.used; has_room = has_room log.now 4114 }) store.new q }
+    ensures same { IsSteady (D.state store.old.disk) store.old.frames
+        → store_of (format_of K.KeyClass) (D.state store.new.disk).seen store.new ≡ store_of (format_of K.KeyClass) (D.state store.old.disk).seen store.old }
+    ensures why { IfErr result (IsWhy (faults.IsWhy (is_node (format_of K.KeyClass)) (D.state store.old.disk) (D.state store.new.disk) (record store.old { batch = log.now.used; has_room = has_room log.now 4114 }) store.new)) }
+    ensures way { IfOk result (WayAt K.cost K.joined most (store_of (format_of K.KeyClass) (D.state store.new.disk).seen store.new) item.now coming.now) }
+    ensures damaged { result ≡ Err StepFault.Damaged → Used (tree_of (store_of (format_of K.KeyClass) (D.state store.new.disk).seen store.new)) item.now.page
+        → (0 < ((tree_of (store_of (format_of K.KeyClass) (D.state store.new.disk).seen store.new)).node item.now.page).level)
+        × (length ((tree_of (store_of (format_of K.KeyClass) (D.state store.new.disk).seen store.new)).node item.now.page).children ≡ 0) }
+    ensures room { result ≢ Err (StepFault.Pages StoreFault.NoRoom) }
+    ensures memory { result ≢ Err StepFault.Memory }
+    ensures full { result ≢ Err StepFault.PagesFull }
+{
+    begin_reading(log, store);
+    let way = way_step(store, item, coming, most);
+    begin(log, store, 4114);
+    way
 }
 
 impl<D: SectorDisk, K: ReadKeys> Storage<D, K> {
@@ -63,9 +107,18 @@ impl<D: SectorDisk, K: ReadKeys> Storage<D, K> {
             → Used (tree_of (store_of (format_of K.KeyClass) (D.state self.old.shelf.disk).seen self.old.shelf)) item.now.page
             → (0 < ((tree_of (store_of (format_of K.KeyClass) (D.state self.old.shelf.disk).seen self.old.shelf)).node item.now.page).level)
             × (length ((tree_of (store_of (format_of K.KeyClass) (D.state self.old.shelf.disk).seen self.old.shelf)).node item.now.page).children ≡ 0) }
+        ensures room { result ≡ Err (StepFault.Pages StoreFault.NoRoom)
+            → HasToWiden K.cost K.joined self.old.most (store_of (format_of K.KeyClass) (D.state self.new.shelf.disk).seen self.new.shelf) item.now coming.now }
         ensures memory { result ≢ Err StepFault.Memory }
         ensures full { result ≢ Err StepFault.PagesFull }
     {
+        if !has_room(&self.log, 4114) {
+            let way = read_way(&self.log, &mut self.store, item, coming, self.most)?;
+            match unwidened(way, self.store.counter()) {
+                Some(did) => return Ok(did),
+                None => return Err(StepFault::Pages(StoreFault::NoRoom)),
+            }
+        }
         begin(&self.log, &mut self.store, 4114);
         let did = descend_step(&mut self.store, item, coming, self.most)?;
         if !was_widened(&did) {

@@ -9,7 +9,7 @@ use gx_store::PageStore;
 
 /// Whether a log has room for a record of so many bytes, while no turn to the other extent is under way: a place is left for its
 /// batch, and the record fits the batch that fills.
-fn has_room(log: &Glog, size: usize) -> bool
+pub(crate) fn has_room(log: &Glog, size: usize) -> bool
     ensures { result ≡ has_room log.now size }
 {
     log.used() < 32 && size <= log.free()

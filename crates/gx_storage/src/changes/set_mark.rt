@@ -5,26 +5,30 @@ ghost use Rattle.gx_node.specs.Reading.{format_of, is_node};
 ghost use Rattle.gx_readings.specs.Classes.{reading_of};
 ghost use Rattle.gx_record.specs.Seen.{is_marked};
 ghost use Rattle.gx_store.specs.Faults as faults;
+ghost use Rattle.gx_store.specs.Since.{IsSince};
 ghost use Rattle.gx_store.specs.Standing.{store_of};
 ghost use Rattle.gx_store.specs.State.{IsSteady};
 ghost use Rattle.gx_tree_laws.specs.Trees.{Used};
 ghost use Rattle.gx_tree.specs.Owner.{IsWhy};
+ghost use Rattle.gx_tree.specs.Seeking.{Seeks};
 ghost use Rattle.gx_tree.specs.Store.{tree_of};
 ghost use Rattle.gx_tree.specs.Wants.{wants};
 ghost use Rattle.gx_tree.specs.Writing.{SetsMark};
-ghost use Rattle.gx_storage.specs.Changes.{IsUnlogged, MarkIsLogged, begun, known_at};
+ghost use Rattle.gx_storage.specs.Changes.{IsUnlogged, MarkIsLogged, begun, has_room, known_at};
+ghost use Rattle.gx_storage.specs.Changing.{HasWanted};
 ghost use Rattle.gx_storage.specs.Numbers.{OwnWhereSet};
 
 use crate::Storage;
-use crate::changes::room::begin;
+use crate::changes::room::{begin, begin_reading, has_room};
 use crate::changes::written::{write_record, write_size};
 use gx_class::Probing;
 use gx_disk::SectorDisk;
+use gx_glog::Glog;
 use gx_machine::Entry;
 use gx_readings::ReadKeys;
 use gx_record::Mark;
-use gx_store::StoreFault;
-use gx_tree::{Sought, StepFault, Wanted, set_mark_step};
+use gx_store::{PageStore, StoreFault};
+use gx_tree::{Sought, StepFault, Wanted, seek_step, set_mark_step};
 
 /// A mark as a record has it.
 pub(crate) fn mark_of(marked: bool) -> Mark
@@ -33,12 +37,38 @@ pub(crate) fn mark_of(marked: bool) -> Mark
     if marked { Mark::Marked } else { Mark::Live }
 }
 
+/// Looks for a pair in the leaf on a page, as the tree's `seek_step` does. No room in the log is asked for. The event then begins
+/// whose record has so many bytes.
+fn read_leaf<D: SectorDisk, K: ReadKeys + Probing>(
+    log: &Glog,
+    store: &mut PageStore<D, K>,
+    wanted: &Wanted<K>,
+    page: u32,
+    size: usize,
+) -> Result<Sought, StepFault<StoreFault>>
+    ensures since { (q : ℕ) → IsSince (is_node (format_of K.KeyClass)) (D.state store.old.disk) (D.state store.new.disk) (record store.old { batch = log.now.used; has_room = has_room log.now size }) store.new q }
+    ensures same { IsSteady (D.state store.old.disk) store.old.frames
+        → store_of (format_of K.KeyClass) (D.state store.new.disk).seen store.new ≡ store_of (format_of K.KeyClass) (D.state store.old.disk).seen store.old }
+    ensures why { IfErr result (IsWhy (faults.IsWhy (is_node (format_of K.KeyClass)) (D.state store.old.disk) (D.state store.new.disk) (record store.old { batch = log.now.used; has_room = has_room log.now size }) store.new)) }
+    ensures sought { IfOk result (Seeks (wants K.passes wanted.now.keys wanted.now.row) ((tree_of (store_of (format_of K.KeyClass) (D.state store.new.disk).seen store.new)).node page)) }
+    ensures damaged { result ≡ Err StepFault.Damaged → Used (tree_of (store_of (format_of K.KeyClass) (D.state store.new.disk).seen store.new)) page
+        → ((tree_of (store_of (format_of K.KeyClass) (D.state store.new.disk).seen store.new)).node page).level ≢ 0 }
+    ensures room { result ≢ Err (StepFault.Pages StoreFault.NoRoom) }
+    ensures memory { result ≢ Err StepFault.Memory }
+    ensures full { result ≢ Err StepFault.PagesFull }
+{
+    begin_reading(log, store);
+    let sought = seek_step(store, wanted, page);
+    begin(log, store, size);
+    sought
+}
+
 impl<D: SectorDisk, K: ReadKeys + Probing> Storage<D, K> {
     /// Sets or clears the mark of the wanted pair in the leaf on a page, and appends the transaction's write of the entry, with the
     /// mark that was found. Where the pair isn't in this leaf the next one is told, as `seek_step` does, and nothing is logged.
     ///
-    /// Refused with `Pages` where the log has no room for the record (`NoRoom`), or the page could not be brought; with `Damaged` only
-    /// where it isn't a leaf that is taken. Nothing has changed then, and nothing is logged.
+    /// Refused with `Pages` where the pair is in this leaf and the log has no room for the record (`NoRoom`), or the page could not be
+    /// brought; with `Damaged` only where it isn't a leaf that is taken. Nothing has changed then, and nothing is logged.
     pub fn set_mark(
         &mut self,
         transaction: u64,
@@ -61,10 +91,20 @@ impl<D: SectorDisk, K: ReadKeys + Probing> Storage<D, K> {
         ensures damaged { IsSteady (D.state self.old.shelf.disk) self.old.shelf.frames → result ≡ Err StepFault.Damaged
             → Used (tree_of (store_of (format_of K.KeyClass) (D.state self.old.shelf.disk).seen self.old.shelf)) page
             → ((tree_of (store_of (format_of K.KeyClass) (D.state self.old.shelf.disk).seen self.old.shelf)).node page).level ≢ 0 }
+        ensures room { result ≡ Err (StepFault.Pages StoreFault.NoRoom)
+            → HasWanted (wants K.passes wanted.now.keys wanted.now.row) ((tree_of (store_of (format_of K.KeyClass) (D.state self.new.shelf.disk).seen self.new.shelf)).node page) }
         ensures memory { result ≢ Err StepFault.Memory }
         ensures full { result ≢ Err StepFault.PagesFull }
     {
-        begin(&self.log, &mut self.store, write_size::<K>());
+        let size = write_size::<K>();
+        if !has_room(&self.log, size) {
+            let sought = read_leaf(&self.log, &mut self.store, wanted, page, size)?;
+            match sought {
+                Sought::Here(..) => return Err(StepFault::Pages(StoreFault::NoRoom)),
+                Sought::Right(next) => return Ok(Sought::Right(next)),
+            }
+        }
+        begin(&self.log, &mut self.store, size);
         match set_mark_step(&mut self.store, wanted, page, marked)? {
             Sought::Here(slot, before) => {
                 self.store.in_order();

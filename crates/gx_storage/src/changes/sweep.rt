@@ -90,9 +90,9 @@ impl<D: SectorDisk, K: ReadKeys> Storage<D, K> {
             → Used (tree_of (store_of (format_of K.KeyClass) (D.state self.old.shelf.disk).seen self.old.shelf)) page
             → ((tree_of (store_of (format_of K.KeyClass) (D.state self.old.shelf.disk).seen self.old.shelf)).node page).level ≡ 0
             → MAX_ENTRIES < length ((tree_of (store_of (format_of K.KeyClass) (D.state self.old.shelf.disk).seen self.old.shelf)).node page).pairs }
-        ensures room { IsSteady (D.state self.old.shelf.disk) self.old.shelf.frames → result ≡ Err (StepFault.Pages StoreFault.NoRoom)
+        ensures room { result ≡ Err (StepFault.Pages StoreFault.NoRoom)
             → (test : Entry K.Key → Bool) → ((entry : Entry K.Key) (answer : Bool) → F.post claimed entry answer → answer ≡ test entry)
-            → has_removable test ((tree_of (store_of (format_of K.KeyClass) (D.state self.old.shelf.disk).seen self.old.shelf)).node page) ≡ true }
+            → has_removable test ((tree_of (store_of (format_of K.KeyClass) (D.state self.new.shelf.disk).seen self.new.shelf)).node page) ≡ true }
         ensures memory { result ≢ Err StepFault.Memory }
         ensures full { result ≢ Err StepFault.PagesFull }
     {

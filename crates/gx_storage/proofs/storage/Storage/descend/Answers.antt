@@ -5,9 +5,42 @@ use Rattle.gx_store.specs.State.{Shelf}
 use Rattle.gx_store.proofs.Listed.{nodes_long}
 use Rattle.gx_tree.specs.Descending.{is_widened}
 use Rattle.gx_storage.specs.State.{Volume}
-use Rattle.gx_storage.proofs.Giving.{descended_since, logged_if, logged_page, unlogged_if, unwidened_stays}
+use Rattle.gx_storage.proofs.Giving.{descended_since, has_to_widen, logged_if, logged_page, unlogged_if, unwidened_narrow, unwidened_stays}
 use Rattle.gx_storage.proofs.Writing.{begun_is, has_room_then, on_err, stepped, steady_begun, unlogged, unstepped}
 use Rattle.gx_storage.proofs.storage.Storage.descend.Goals as goal
+
+pub returns-in_err-way-clause-unlogged : goal.returns-in_err-way-clause-unlogged
+returns-in_err-way-clause-unlogged g c =
+    let i = c.self.inside in
+    let f = format_of g.K.KeyClass in
+    let state = g.D.SectorDisk.state in
+    let v : Volume g.row.D.Denot = record { log = i.log; shelf = i.store; most = i.most } in
+    rw (← c.self.view_is) (on_err _ _ (unlogged _ _ f (is_node f) state v 4114 c.read_way.new.store c.in_err-way.ensures.since (λ steady. c.in_err-way.ensures.same steady)))
+
+pub returns-in-Some-clause-logged : goal.returns-in-Some-clause-logged
+returns-in-Some-clause-logged g c =
+    let i = c.self.inside in
+    let f = format_of g.K.KeyClass in
+    let state = g.D.SectorDisk.state in
+    let v : Volume g.row.D.Denot = record { log = i.log; shelf = i.store; most = i.most } in
+    let narrow = unwidened_narrow c.in_ok-way.way _ c.in-Some.did (sym c.unwidened.ensures ∙ c.in-Some.is) in
+    rw (← c.self.view_is) (unlogged_if _ _ f (is_node f) 4114 _ _ v _ _ _ narrow
+    (unlogged _ _ f (is_node f) state v 4114 c.read_way.new.store c.in_ok-way.ensures.since (λ steady. c.in_ok-way.ensures.same steady)))
+
+pub returns-in-None-clause-unlogged : goal.returns-in-None-clause-unlogged
+returns-in-None-clause-unlogged g c =
+    let i = c.self.inside in
+    let f = format_of g.K.KeyClass in
+    let state = g.D.SectorDisk.state in
+    let v : Volume g.row.D.Denot = record { log = i.log; shelf = i.store; most = i.most } in
+    rw (← c.self.view_is) (unlogged _ _ f (is_node f) state v 4114 c.read_way.new.store c.in_ok-way.ensures.since (λ steady. c.in_ok-way.ensures.same steady))
+
+pub returns-in-None-clause-room : goal.returns-in-None-clause-room
+returns-in-None-clause-room g c =
+    let t : Shelf g.row.D.Denot = c.read_way.new.store in
+    rw (← c.self.view_is)
+    (λ told. has_to_widen g.K.KeyClass.cost g.K.KeyClass.joined c.self.inside.most (store_of (format_of g.K.KeyClass) (g.D.SectorDisk.state t.disk).seen t) c.args.item.now c.args.coming.now c.in_ok-way.way _
+    (sym c.unwidened.ensures ∙ c.in-None.is) c.in_ok-way.ensures.way)
 
 pub returns-in_err-did-clause-unlogged : goal.returns-in_err-did-clause-unlogged
 returns-in_err-did-clause-unlogged g c =

@@ -184,10 +184,7 @@ returns-in_err-make_sweep-clause-why g c =
 
 pub returns-in_err-make_sweep-clause-room : goal.returns-in_err-make_sweep-clause-room
 returns-in_err-make_sweep-clause-room g c =
-    let i = c.self.inside in
-    let f = format_of g.K.KeyClass in
-    let state = g.D.SectorDisk.state in
     let some : takes_none c.in_ok-plan.plan ≡ false = sym c.is_empty.ensures ∙ c.if-is_empty.false in
-    rw (← c.self.view_is) (λ steady fault test agrees.
-    subst {A = Store g.row.K-Key.Denot} (λ x. has_removable test ((tree_of x).node c.args.page) ≡ true) (c.in_ok-plan.ensures.same steady)
-    (takes_some c.in_ok-plan.plan test _ (c.in_ok-plan.ensures.plans test agrees) some))
+    λ told test agrees.
+    subst {A = Store g.row.K-Key.Denot} (λ x. has_removable test ((tree_of x).node c.args.page) ≡ true) (sym c.in_err-make_sweep.ensures.refused)
+    (takes_some c.in_ok-plan.plan test _ (c.in_ok-plan.ensures.plans test agrees) some)
