@@ -37,3 +37,4 @@ pub mod Checkpointing
 pub mod Putting
 pub mod TurnBegins
 pub mod Steps
+pub mod Ending
