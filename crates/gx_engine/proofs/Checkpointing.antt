@@ -1,9 +1,9 @@
 -- A checkpoint's turn as an index's events.
-use Rattle.std.proofs.Common.{◌≡◌, ◌≢◌, ◌∙◌, sym, ap, refl, subst, inl, inr, ℕ, ◌+◌, ◌≤◌, Bool, true, false, List, [], ◌∷◌, ◌++◌, Result, Ok, Err, arith}
+use Rattle.std.proofs.Common.{◌≡◌, ◌≢◌, ◌∙◌, sym, ap, refl, subst, inl, inr, ℕ, ◌+◌, ◌-◌, ◌≤◌, Bool, true, false, List, [], ◌∷◌, ◌++◌, Result, Ok, Err, arith}
 use Rattle.std.proofs.lemmas.List.{append-nil}
 use Rattle.std.specs.Prelude.{None}
 use Rattle.gx_geom.specs.declared.refusal.Refusal.{Refusal}
-use Rattle.gx_geom.specs.declared.refusal.Refusal.TheVariants.{Device as DeviceRefusal}
+use Rattle.gx_geom.specs.declared.refusal.Refusal.TheVariants.{Device as DeviceRefusal, Failed}
 use Rattle.gx_machine.specs.declared.entry.Entry.{Entry}
 use Rattle.gx_disk.specs.Device.{Device}
 use Rattle.gx_disk.specs.Moments.{Leaves}
@@ -29,6 +29,7 @@ use Rattle.gx_index_laws.specs.Happening as happening
 use Rattle.gx_index_laws.specs.Happening.{Happens}
 use Rattle.gx_index_laws.proofs.AskedCalls.{faulted}
 use Rattle.gx_index_laws.proofs.Logging.{renews}
+use Rattle.gx_index_laws.proofs.Meanwhile.{renewed_stays}
 use Rattle.gx_index_laws.proofs.Quiet.{as_it_is}
 use Rattle.gx_index_laws.proofs.Standing.{known_lawful}
 use Rattle.gx_durable.specs.Spelled.{Reading, AreRecords}
@@ -38,6 +39,7 @@ use Rattle.gx_events.specs.declared.outcome.Outcome.{Outcome}
 use Rattle.gx_events.specs.declared.outcome.Outcome.TheVariants.{More, Nothing, Refused}
 use Rattle.gx_events.specs.Engines.{IsSync}
 use Rattle.gx_phases.specs.Moves.{failed_state}
+use Rattle.gx_phases.specs.States.{phase_at}
 use Rattle.gx_storage.specs.Flushing.{HasTurned, IsLeastWritable, StepsLog, TurnsOn}
 use Rattle.gx_storage.specs.Keeps.{Keeps}
 use Rattle.gx_storage.specs.State.{Volume}
@@ -45,10 +47,12 @@ use Rattle.gx_engine.specs.declared.checkpoint.Checkpoint.{Checkpoint}
 use Rattle.gx_engine.specs.declared.checkpoint.Checkpoint.TheVariants.{Off, Running, Turning}
 use Rattle.gx_engine.specs.Checkpoints.{IsQuiet, after_call}
 use Rattle.gx_engine.specs.Flushing.{PageComes, PageIsWritten, log_events, log_outcome, noted, page_events}
-use Rattle.gx_engine.specs.Holds.{Holds, KnowsFlight, Led, Leads, LeadsSo, MayRenewBy}
+use Rattle.gx_engine.specs.Ending.{Spared, Spares, SparesSo}
+use Rattle.gx_engine.specs.Holds.{Holds, KnowsFlight, MayRenewBy}
+use Rattle.gx_engine.specs.Moves.{left_by}
 use Rattle.gx_engine.specs.Noted.{AreTold}
 use Rattle.gx_engine.specs.States.{Parts}
-use Rattle.gx_engine.proofs.Flushing.{log_fails, log_made}
+use Rattle.gx_engine.proofs.Flushing.{log_fails, log_made, nothing_spared}
 
 -- the events that a turn's call is
 abbrev pub call_events : {B : Type 0} → Turn → List (Event B)
@@ -67,50 +71,56 @@ module _ {B D : Type 0} (c : Class B) (l : IsLawful c) (r : Reading (Entry B) (P
   k = known_of c
 
   -- a fault that nothing else comes with
-  pub fault_led : Keeps k r f passes e w bodies i.log → Leaves (Stands k r i.log) d e → Led c r f passes d e (record old { volume = w; sessions = failed_state old.sessions }) i (Fails ∷ [])
+  pub fault_led : Keeps k r f passes e w bodies i.log → Leaves (Stands k r i.log) d e → Spared c r f passes d e old (record old { volume = w; sessions = failed_state old.sessions }) i (Fails ∷ [])
   fault_led keeps leaves =
       let now = faulted c l i h.whole Fails (as_it_is (index.engine_of c (happening.failed_state i))) refl in
       record {
-        bodies = bodies;
-        index = happening.failed_state i;
-        happening = (happening.failed_state i, now, refl);
-        holds = record {
-          most = same_most ∙ h.most;
-          some = h.some;
-          keeps = keeps;
-          whole = now.whole;
-          sessions = record { slots = h.sessions.slots; transactions = h.sessions.transactions; next = h.sessions.next; oldest = h.sessions.oldest; failed = refl };
-          at = h.at;
-          told = h.told;
-          latest = h.latest;
-          flying = λ works. absurd (let never : true ≡ false = works in cc);
-          bare = λ works. absurd (let never : true ≡ false = works in cc);
-          turns = λ works. absurd (let never : true ≡ false = works in cc);
+        led = record {
+          bodies = bodies;
+          index = happening.failed_state i;
+          happening = (happening.failed_state i, now, refl);
+          holds = record {
+            most = same_most ∙ h.most;
+            some = h.some;
+            keeps = keeps;
+            whole = now.whole;
+            sessions = record { slots = h.sessions.slots; transactions = h.sessions.transactions; next = h.sessions.next; oldest = h.sessions.oldest; failed = refl };
+            at = h.at;
+            told = h.told;
+            latest = h.latest;
+            flying = λ works. absurd (let never : true ≡ false = works in cc);
+            bare = λ works. absurd (let never : true ≡ false = works in cc);
+            turns = λ works. absurd (let never : true ≡ false = works in cc);
+          };
+          leaves = leaves;
         };
-        leaves = leaves;
+        spares = λ s. refl;
       }
 
   -- the checkpoint turns, of a log that is quiet
   pub turns_led : w.log.stage ≡ Idle → MayRenewBy k r i.next w.log.flight e.sectors e.pending i.log → Keeps k r f passes e w bodies i.log → Leaves (Stands k r i.log) d e
-      → Led c r f passes d e (record old { volume = w; checkpoint = Turning }) i []
+      → Spared c r f passes d e old (record old { volume = w; checkpoint = Turning }) i []
   turns_led idle by keeps leaves = record {
-    bodies = bodies;
-    index = i;
-    happening = refl;
-    holds = record {
-      most = same_most ∙ h.most;
-      some = h.some;
-      keeps = keeps;
-      whole = h.whole;
-      sessions = h.sessions;
-      at = h.at;
-      told = h.told;
-      latest = h.latest;
-      flying = λ works. subst (λ (x : Stage). KnowsFlight x old.in_flight (durable k (gate_synced i.log))) (sym idle) tt;
-      bare = λ works calm. absurd (calm refl);
-      turns = λ works turning. by;
+    led = record {
+      bodies = bodies;
+      index = i;
+      happening = refl;
+      holds = record {
+        most = same_most ∙ h.most;
+        some = h.some;
+        keeps = keeps;
+        whole = h.whole;
+        sessions = h.sessions;
+        at = h.at;
+        told = h.told;
+        latest = h.latest;
+        flying = λ works. subst (λ (x : Stage). KnowsFlight x old.in_flight (durable k (gate_synced i.log))) (sym idle) tt;
+        bare = λ works calm. absurd (calm refl);
+        turns = λ works turning. by;
+      };
+      leaves = leaves;
     };
-    leaves = leaves;
+    spares = λ s. refl;
   }
 
   -- The log is renewed.
@@ -142,25 +152,28 @@ module _ {B D : Type 0} (c : Class B) (l : IsLawful c) (r : Reading (Entry B) (P
         ∙ sym (ap (number_of k) (none_else i.log.gated))
 
     pub renewed_led : w.log.stage ≡ Idle → w.log.flight ≡ [] → Keeps k r f passes e w (renewed k may.next i.log.gated ∷ []) new_log → Leaves (Stands k r i.log) d e
-        → Led c r f passes d e (record old { volume = w; checkpoint = Off }) i (Works ∷ [])
+        → Spared c r f passes d e old (record old { volume = w; checkpoint = Off }) i (Works ∷ [])
     renewed_led idle none keeps leaves = record {
-      bodies = renewed k may.next i.log.gated ∷ [];
-      index = turned_index;
-      happening = (turned_index, turned_now, refl);
-      holds = record {
-        most = same_most ∙ h.most;
-        some = h.some;
-        keeps = keeps;
-        whole = turned_now.whole;
-        sessions = record { slots = h.sessions.slots; transactions = h.sessions.transactions; next = h.sessions.next; oldest = h.sessions.oldest; failed = h.sessions.failed };
-        at = h.at;
-        told = subst (λ (xs : List (Touch (Entry B))). AreTold old.sessions xs) (sym touched_still) h.told;
-        latest = h.latest ∙ sym number_still;
-        flying = λ works. subst (λ (x : Stage). KnowsFlight x old.in_flight (durable k (gate_synced new_log))) (sym idle) tt;
-        bare = λ works calm at. none;
-        turns = λ works turning. absurd (let no : ◌≡◌ {A = Checkpoint} Off Turning = turning in cc);
+      led = record {
+        bodies = renewed k may.next i.log.gated ∷ [];
+        index = turned_index;
+        happening = (turned_index, turned_now, refl);
+        holds = record {
+          most = same_most ∙ h.most;
+          some = h.some;
+          keeps = keeps;
+          whole = turned_now.whole;
+          sessions = record { slots = h.sessions.slots; transactions = h.sessions.transactions; next = h.sessions.next; oldest = h.sessions.oldest; failed = h.sessions.failed };
+          at = h.at;
+          told = subst (λ (xs : List (Touch (Entry B))). AreTold old.sessions xs) (sym touched_still) h.told;
+          latest = h.latest ∙ sym number_still;
+          flying = λ works. subst (λ (x : Stage). KnowsFlight x old.in_flight (durable k (gate_synced new_log))) (sym idle) tt;
+          bare = λ works calm at. none;
+          turns = λ works turning. absurd (let no : ◌≡◌ {A = Checkpoint} Off Turning = turning in cc);
+        };
+        leaves = leaves;
       };
-      leaves = leaves;
+      spares = λ s. ap (λ (n : ℕ). left_by (phase_at (s - 1) old.sessions.phases) n) (renewed_stays c l i h.whole may.no_flight may.no_filling may.written may.next s);
     }
 
     -- the turn goes on behind the same head
@@ -179,7 +192,7 @@ module _ {B D : Type 0} (c : Class B) (l : IsLawful c) (r : Reading (Entry B) (P
     }
 
     abbrev IsLed : Turn → Type 0
-    IsLed call = Led c r f passes d e (record old { volume = w; checkpoint = after_call call }) i (call_events call)
+    IsLed call = Spared c r f passes d e old (record old { volume = w; checkpoint = after_call call }) i (call_events call)
 
     -- by the call that was made
     pub call_led : (call : Turn) → old.volume.log.stage ≡ Idle → w.log ≡ glog.after_turn call old.volume.log → HasTurned k r f passes d e w bodies i.log may.next (Ok call) → IsLed call
@@ -251,13 +264,13 @@ module _ {B D : Type 0} (page : ℕ) (d e : Device) (old new : Parts B D) (outco
   page_sync is = written_sync is.0 is.2
 
   pub page_leads : (c : Class B) (r : Reading (Entry B) (Page B)) (f : Format B) (passes : ℕ → Contents → Bool) → PageIsWritten page d e old new false outcome
-      → Leads c r f passes d e old new (page_events outcome) → LeadsSo c r f passes d e old new (IsSync false outcome)
+      → Spares c r f passes d e old new (page_events outcome) → SparesSo c r f passes d e old new (IsSync false outcome)
   page_leads c r f passes is leads bodies i h = (page_events outcome, page_sync is, leads bodies i h)
 
 module _ {B D : Type 0} (c : Class B) (r : Reading (Entry B) (Page B)) (f : Format B) (passes : ℕ → Contents → Bool) (d e : Device) (old : Parts B D) where
   -- with a quiet log some dirty page may be written
   pub some_writable : (new : Parts B D) (outcome : Outcome B) → IsQuiet old.volume → (NoneDirty old.volume.shelf.frames → ⊥) → IsLeastWritable old.volume.shelf.frames None
-      → LeadsSo c r f passes d e old new (IsSync false outcome)
+      → SparesSo c r f passes d e old new (IsSync false outcome)
   some_writable new outcome quiet dirty none bodies i h =
       let log : Log = old.volume.log in
       let places : log.used ≡ log.gated + glog.in_flight log.stage = h.keeps.runs.up.on.sound.places in
@@ -267,18 +280,18 @@ module _ {B D : Type 0} (c : Class B) (r : Reading (Entry B) (Page B)) (f : Form
   module _ (lawful : 4 ≤ c.rules.most → IsLawful c) (w : Volume D) (works : old.sessions.failed ≡ false) (most : w.most ≡ old.volume.most) where
     -- the log's next call while the checkpoint runs
     pub gate_leads : old.checkpoint ≢ Turning → (done : Stage) → glog.Goes old.volume.log w.log (Ok done) → StepsLog (known_of c) r f passes d e old.volume w (Ok done)
-        → LeadsSo c r f passes d e old (noted done (record old { volume = w })) (IsSync false (log_outcome done))
+        → SparesSo c r f passes d e old (noted done (record old { volume = w })) (IsSync false (log_outcome done))
     gate_leads calm done goes steps bodies i h =
         (log_events old.volume.log.stage old.in_flight (log_outcome done), log_sync B old.volume.log.stage done old.in_flight, log_made c lawful r f passes d e old w works most calm done goes steps bodies i h)
 
     pub gate_fails : old.checkpoint ≢ Turning → (why : Refusal) → glog.Goes old.volume.log w.log (Err why) → StepsLog (known_of c) r f passes d e old.volume w (Err why)
-        → LeadsSo c r f passes d e old (record old { volume = w; sessions = failed_state old.sessions }) (IsSync false (Refused DeviceRefusal))
+        → SparesSo c r f passes d e old (record old { volume = w; sessions = failed_state old.sessions }) (IsSync false (Refused DeviceRefusal))
     gate_fails calm why goes steps bodies i h =
         (log_events old.volume.log.stage old.in_flight (Refused DeviceRefusal), fault_sync old.volume.log.stage old.in_flight, log_fails c lawful r f passes d e old w works most calm why goes steps bodies i h)
 
     -- the turn's next call
     pub turn_leads : old.checkpoint ≡ Turning → old.volume.log.stage ≡ Idle → (call : Turn) → glog.Turns old.volume.log w.log (Ok call) → TurnsOn (known_of c) r f passes d e old.volume w (Ok call)
-        → LeadsSo c r f passes d e old (record old { volume = w; checkpoint = after_call call }) (IsSync false More)
+        → SparesSo c r f passes d e old (record old { volume = w; checkpoint = after_call call }) (IsSync false More)
     turn_leads turning idle call turns on bodies i h =
         let l = lawful h.some in
         let by = h.turns works turning in (
@@ -288,7 +301,7 @@ module _ {B D : Type 0} (c : Class B) (r : Reading (Entry B) (Page B)) (f : Form
         )
 
     pub turn_fails : old.checkpoint ≡ Turning → (why : Refusal) → TurnsOn (known_of c) r f passes d e old.volume w (Err why)
-        → LeadsSo c r f passes d e old (record old { volume = w; sessions = failed_state old.sessions }) (IsSync false (Refused DeviceRefusal))
+        → SparesSo c r f passes d e old (record old { volume = w; sessions = failed_state old.sessions }) (IsSync false (Refused DeviceRefusal))
     turn_fails turning why on bodies i h =
         let l = lawful h.some in
         let t = on bodies i.log (known_lawful c l) h.keeps (h.turns works turning).may in
@@ -315,12 +328,22 @@ module _ {B D : Type 0} (c : Class B) (r : Reading (Entry B) (Page B)) (f : Form
     turns = λ works turning. absurd (let no : ◌≡◌ {A = Checkpoint} Running Turning = turning in cc);
   }
 
-  pub begun_leads : (new : Parts B D) (AreSo : List (Event B) → Type 0) → LeadsSo c r f passes d e (record old { checkpoint = Running }) new AreSo → LeadsSo c r f passes d e old new AreSo
-  begun_leads new AreSo leads bodies i h = leads bodies i (running_holds bodies i h)
+  pub begun_leads : (new : Parts B D) (AreSo : List (Event B) → Type 0) → SparesSo c r f passes d e (record old { checkpoint = Running }) new AreSo → SparesSo c r f passes d e old new AreSo
+  begun_leads new AreSo leads bodies i h =
+      let led = leads bodies i (running_holds bodies i h) in
+      (led.0, led.1, record { led = led.2.led; spares = led.2.spares })
+
+-- nothing was to be done; or a fault had ended the engine
+module _ {B D : Type 0} (c : Class B) (r : Reading (Entry B) (Page B)) (f : Format B) (passes : ℕ → Contents → Bool) (d : Device) (old : Parts B D) where
+  pub rests_so : SparesSo c r f passes d d old old (IsSync false Nothing)
+  rests_so bodies i h = ([], (refl, refl), nothing_spared c r f passes d old bodies i h)
+
+  pub ended_so : (failed : Bool) → failed ≡ true → SparesSo c r f passes d d old old (IsSync failed (Refused Failed))
+  ended_so failed is bodies i h = ([], (is, refl), nothing_spared c r f passes d old bodies i h)
 
 -- the same of an engine that works
 pub sync_works : {B D : Type 0} (c : Class B) (r : Reading (Entry B) (Page B)) (f : Format B) (passes : ℕ → Contents → Bool) (d e : Device) (old new : Parts B D) (outcome : Outcome B) (failed : Bool)
-    → failed ≡ false → LeadsSo c r f passes d e old new (IsSync false outcome) → LeadsSo c r f passes d e old new (IsSync failed outcome)
+    → failed ≡ false → SparesSo c r f passes d e old new (IsSync false outcome) → SparesSo c r f passes d e old new (IsSync failed outcome)
 sync_works c r f passes d e old new outcome failed works leads bodies i h =
     let led = leads bodies i h in
     (led.0, subst (λ (b : Bool). IsSync b outcome led.0) (sym works) led.1, led.2)

@@ -2,7 +2,7 @@
 use Rattle.std.proofs.Common.{◌≡◌, ◌≢◌, ◌∙◌, sym, ap, refl, subst, inl, inr, ℕ, ◌-◌, ◌≤◌, Bool, drop, true, false, List, [], ◌∷◌, ◌++◌, length, Result, Ok, Err, append_assoc, arith}
 use Rattle.std.proofs.lemmas.List.{append-nil}
 use Rattle.gx_geom.specs.declared.refusal.Refusal.{Refusal}
-use Rattle.gx_geom.specs.declared.refusal.Refusal.TheVariants.{Device as DeviceRefusal}
+use Rattle.gx_geom.specs.declared.refusal.Refusal.TheVariants.{Device as DeviceRefusal, Failed}
 use Rattle.gx_machine.specs.declared.entry.Entry.{Entry}
 use Rattle.gx_disk.specs.Device.{Device}
 use Rattle.gx_disk.proofs.Leaving.{nothing_leaves}
@@ -25,6 +25,7 @@ use Rattle.gx_index_laws.specs.Happening as happening
 use Rattle.gx_index_laws.specs.Happening.{Happens}
 use Rattle.gx_index_laws.proofs.AskedCalls.{faulted}
 use Rattle.gx_index_laws.proofs.Logging.{begins, synced, writes_pages}
+use Rattle.gx_index_laws.proofs.Meanwhile.{begun_stays, synced_stays, written_stays}
 use Rattle.gx_index_laws.proofs.Quiet.{as_it_is}
 use Rattle.gx_index_laws.proofs.Standing.{known_lawful}
 use Rattle.gx_durable.specs.Area.{area_of}
@@ -32,14 +33,17 @@ use Rattle.gx_durable.specs.Pages.{rewritten}
 use Rattle.gx_durable.specs.Spelled.{Reading}
 use Rattle.gx_durable.specs.Standing.{Stands}
 use Rattle.gx_durable.specs.Steps.{bodies_stepped, stepped, with_batch}
-use Rattle.gx_events.specs.declared.outcome.Outcome.TheVariants.{Refused}
+use Rattle.gx_events.specs.declared.outcome.Outcome.TheVariants.{Nothing, Refused}
 use Rattle.gx_phases.specs.Indexes.{AreOf}
 use Rattle.gx_phases.specs.Moves.{failed_state, synced_state}
+use Rattle.gx_phases.specs.States.{phase_at}
 use Rattle.gx_storage.specs.Flushing.{Becomes, Rewrites, StepsLog, WritesGated}
 use Rattle.gx_storage.specs.Keeps.{Keeps}
 use Rattle.gx_storage.specs.State.{Volume}
 use Rattle.gx_storage.proofs.Calling.{rests_none}
 use Rattle.gx_engine.specs.declared.checkpoint.Checkpoint.TheVariants.{Turning}
+use Rattle.gx_engine.specs.Ending.{Spared, Spares}
+use Rattle.gx_engine.specs.Moves.{left_by}
 use Rattle.gx_engine.specs.States.{Parts}
 use Rattle.gx_engine.specs.Flushing.{log_events, log_outcome, noted}
 use Rattle.gx_engine.specs.Noted.{AreTold}
@@ -96,22 +100,28 @@ module _ {B D : Type 0} (c : Class B) (l : IsLawful c) (r : Reading (Entry B) (P
 
   -- the log goes on without an event
   quiet : Becomes k r f passes d e w bodies i.log i.log → (old.sessions.failed ≡ false → KnowsFlight w.log.stage old.in_flight (durable k (gate_synced i.log)))
-      → (w.log.stage ≡ Idle → w.log.flight ≡ []) → Led c r f passes d e (record old { volume = w }) i []
+      → (w.log.stage ≡ Idle → w.log.flight ≡ []) → Spared c r f passes d e old (record old { volume = w }) i []
   quiet b flying none = record {
-    bodies = bodies;
-    index = i;
-    happening = refl;
-    holds = record { most = most; some = h.some; keeps = b.keeps; whole = h.whole; sessions = h.sessions; at = h.at; told = h.told; latest = h.latest; flying = flying; bare = λ works calm idle. none idle; turns = λ works turning. absurd (calm turning) };
-    leaves = b.safely.leaves;
+    led = record {
+      bodies = bodies;
+      index = i;
+      happening = refl;
+      holds = record { most = most; some = h.some; keeps = b.keeps; whole = h.whole; sessions = h.sessions; at = h.at; told = h.told; latest = h.latest; flying = flying; bare = λ works calm idle. none idle; turns = λ works turning. absurd (calm turning) };
+      leaves = b.safely.leaves;
+    };
+    spares = λ s. refl;
   }
 
-  fails : Becomes k r f passes d e w bodies i.log i.log → Led c r f passes d e (record old { volume = w; sessions = failed_state old.sessions }) i (Fails ∷ [])
+  fails : Becomes k r f passes d e w bodies i.log i.log → Spared c r f passes d e old (record old { volume = w; sessions = failed_state old.sessions }) i (Fails ∷ [])
   fails b = record {
-    bodies = bodies;
-    index = happening.failed_state i;
-    happening = (happening.failed_state i, fails_now i h.whole, refl);
-    holds = failed_holds bodies i h.whole h.sessions h.at h.told h.latest b.keeps;
-    leaves = b.safely.leaves;
+    led = record {
+      bodies = bodies;
+      index = happening.failed_state i;
+      happening = (happening.failed_state i, fails_now i h.whole, refl);
+      holds = failed_holds bodies i h.whole h.sessions h.at h.told h.latest b.keeps;
+      leaves = b.safely.leaves;
+    };
+    spares = λ s. refl;
   }
 
   -- a batch begins
@@ -135,34 +145,40 @@ module _ {B D : Type 0} (c : Class B) (l : IsLawful c) (r : Reading (Entry B) (P
     last : old.sessions.latest ≡ latest k (begun i.log)
     last = h.latest ∙ sym (all_begun k i.log none)
 
-    begins_batch : w.log.stage ≡ BodySync → Led c r f passes d e (record old { volume = w; in_flight = old.sessions.latest }) i (Works ∷ [])
+    begins_batch : w.log.stage ≡ BodySync → Spared c r f passes d e old (record old { volume = w; in_flight = old.sessions.latest }) i (Works ∷ [])
     begins_batch stage = record {
-      bodies = bodies;
-      index = with_flight;
-      happening = (with_flight, begun_now, refl);
-      holds = record {
-        most = most;
-        some = h.some;
-        keeps = b.keeps;
-        whole = begun_now.whole;
-        sessions = its_sessions;
-        at = h.at;
-        told = told_still;
-        latest = last;
-        flying = λ works. flight_known stage;
-        bare = λ works calm idle. (let no : BodySync ≡ Idle = sym stage ∙ idle in cc);
-        turns = λ works turning. absurd (calm turning);
+      led = record {
+        bodies = bodies;
+        index = with_flight;
+        happening = (with_flight, begun_now, refl);
+        holds = record {
+          most = most;
+          some = h.some;
+          keeps = b.keeps;
+          whole = begun_now.whole;
+          sessions = its_sessions;
+          at = h.at;
+          told = told_still;
+          latest = last;
+          flying = λ works. flight_known stage;
+          bare = λ works calm idle. (let no : BodySync ≡ Idle = sym stage ∙ idle in cc);
+          turns = λ works turning. absurd (calm turning);
+        };
+        leaves = b.safely.leaves;
       };
-      leaves = b.safely.leaves;
+      spares = λ s. ap (λ (n : ℕ). left_by (phase_at (s - 1) old.sessions.phases) n) (begun_stays c i none s);
     }
 
-    fails_in_batch : Led c r f passes d e (record old { volume = w; sessions = failed_state old.sessions }) i (Works ∷ Fails ∷ [])
+    fails_in_batch : Spared c r f passes d e old (record old { volume = w; sessions = failed_state old.sessions }) i (Works ∷ Fails ∷ [])
     fails_in_batch = record {
-      bodies = bodies;
-      index = happening.failed_state with_flight;
-      happening = (with_flight, begun_now, (happening.failed_state with_flight, fails_now with_flight begun_now.whole, refl));
-      holds = failed_holds bodies with_flight begun_now.whole its_sessions h.at told_still last b.keeps;
-      leaves = b.safely.leaves;
+      led = record {
+        bodies = bodies;
+        index = happening.failed_state with_flight;
+        happening = (with_flight, begun_now, (happening.failed_state with_flight, fails_now with_flight begun_now.whole, refl));
+        holds = failed_holds bodies with_flight begun_now.whole its_sessions h.at told_still last b.keeps;
+        leaves = b.safely.leaves;
+      };
+      spares = λ s. ap (λ (n : ℕ). left_by (phase_at (s - 1) old.sessions.phases) n) (begun_stays c i none s);
     }
 
   -- the gate of the batch in flight is synced
@@ -174,27 +190,30 @@ module _ {B D : Type 0} (c : Class B) (l : IsLawful c) (r : Reading (Entry B) (P
   }
 
   gates : (now : List (List (Record (Entry B) (Page B)))) → old.sessions.failed ≡ false → old.in_flight ≡ durable k (gate_synced i.log) → w.log.stage ≡ Idle → w.log.flight ≡ []
-      → Becomes k r f passes d e w now i.log (gate_synced i.log) → Led c r f passes d e (record old { volume = w; sessions = synced_state old.in_flight old.sessions }) i (Durable old.in_flight ∷ [])
+      → Becomes k r f passes d e w now i.log (gate_synced i.log) → Spared c r f passes d e old (record old { volume = w; sessions = synced_state old.in_flight old.sessions }) i (Durable old.in_flight ∷ [])
   gates now works number idle none b =
       let made = synced c l i h.whole (h.sessions.failed ∙ works) in
       record {
-        bodies = now;
-        index = gated_index;
-        happening = (gated_index, subst (λ n. Happens c i (Durable n) gated_index) (sym number) made, refl);
-        holds = record {
-          most = most;
-          some = h.some;
-          keeps = b.keeps;
-          whole = made.whole;
-          sessions = record { slots = h.sessions.slots; transactions = h.sessions.transactions; next = h.sessions.next; oldest = sym number; failed = h.sessions.failed };
-          at = h.at;
-          told = subst (λ (rs : List (Record (Entry B) (Page B))). AreTold old.sessions (analysis k rs).touched) (sym (synced_records i.log)) h.told;
-          latest = h.latest ∙ sym (all_gated k i.log);
-          flying = λ works. subst (λ (x : Stage). KnowsFlight x old.in_flight (durable k (gate_synced (gate_synced i.log)))) (sym idle) tt;
-          bare = λ works calm idle. none;
-          turns = λ works turning. absurd (calm turning);
+        led = record {
+          bodies = now;
+          index = gated_index;
+          happening = (gated_index, subst (λ n. Happens c i (Durable n) gated_index) (sym number) made, refl);
+          holds = record {
+            most = most;
+            some = h.some;
+            keeps = b.keeps;
+            whole = made.whole;
+            sessions = record { slots = h.sessions.slots; transactions = h.sessions.transactions; next = h.sessions.next; oldest = sym number; failed = h.sessions.failed };
+            at = h.at;
+            told = subst (λ (rs : List (Record (Entry B) (Page B))). AreTold old.sessions (analysis k rs).touched) (sym (synced_records i.log)) h.told;
+            latest = h.latest ∙ sym (all_gated k i.log);
+            flying = λ works. subst (λ (x : Stage). KnowsFlight x old.in_flight (durable k (gate_synced (gate_synced i.log)))) (sym idle) tt;
+            bare = λ works calm idle. none;
+            turns = λ works turning. absurd (calm turning);
+          };
+          leaves = b.safely.leaves;
         };
-        leaves = b.safely.leaves;
+        spares = λ s. ap (λ (n : ℕ). left_by (phase_at (s - 1) old.sessions.phases) n) (synced_stays c i (drop (durable k (gate_synced i.log) - i.oldest) i.older) (durable k (gate_synced i.log)) s);
       }
 
   -- a page is written: the page area is another
@@ -208,39 +227,66 @@ module _ {B D : Type 0} (c : Class B) (l : IsLawful c) (r : Reading (Entry B) (P
     area_sessions : AreOf old.sessions with_area
     area_sessions = record { slots = h.sessions.slots; transactions = h.sessions.transactions; next = h.sessions.next; oldest = h.sessions.oldest; failed = h.sessions.failed }
 
-    writes : Led c r f passes d e (record old { volume = w }) i (Works ∷ [])
+    writes : Spared c r f passes d e old (record old { volume = w }) i (Works ∷ [])
     writes = record {
-      bodies = bodies;
-      index = with_area;
-      happening = (with_area, written_now, refl);
-      holds = record {
-        most = most;
-        some = h.some;
-        keeps = b.keeps;
-        whole = written_now.whole;
-        sessions = area_sessions;
-        at = h.at;
-        told = h.told;
-        latest = h.latest;
-        flying = λ works. subst (λ (x : Log). KnowsFlight x.stage old.in_flight (durable k (gate_synced i.log))) (sym same_log) (h.flying works);
-        bare = λ works calm idle. ap (λ (x : Log). x.flight) same_log ∙ h.bare works calm (sym (ap (λ (x : Log). x.stage) same_log) ∙ idle);
-        turns = λ works turning. absurd (calm turning);
+      led = record {
+        bodies = bodies;
+        index = with_area;
+        happening = (with_area, written_now, refl);
+        holds = record {
+          most = most;
+          some = h.some;
+          keeps = b.keeps;
+          whole = written_now.whole;
+          sessions = area_sessions;
+          at = h.at;
+          told = h.told;
+          latest = h.latest;
+          flying = λ works. subst (λ (x : Log). KnowsFlight x.stage old.in_flight (durable k (gate_synced i.log))) (sym same_log) (h.flying works);
+          bare = λ works calm idle. ap (λ (x : Log). x.flight) same_log ∙ h.bare works calm (sym (ap (λ (x : Log). x.stage) same_log) ∙ idle);
+          turns = λ works turning. absurd (calm turning);
+        };
+        leaves = b.safely.leaves;
       };
-      leaves = b.safely.leaves;
+      spares = λ s. ap (λ (n : ℕ). left_by (phase_at (s - 1) old.sessions.phases) n) (written_stays c i l (area_of r k.pages e.seen) b.beside s);
     }
 
-    write_fails : Led c r f passes d e (record old { volume = w; sessions = failed_state old.sessions }) i (Works ∷ Fails ∷ [])
+    write_fails : Spared c r f passes d e old (record old { volume = w; sessions = failed_state old.sessions }) i (Works ∷ Fails ∷ [])
     write_fails = record {
-      bodies = bodies;
-      index = happening.failed_state with_area;
-      happening = (with_area, written_now, (happening.failed_state with_area, fails_now with_area written_now.whole, refl));
-      holds = failed_holds bodies with_area written_now.whole area_sessions h.at h.told h.latest b.keeps;
-      leaves = b.safely.leaves;
+      led = record {
+        bodies = bodies;
+        index = happening.failed_state with_area;
+        happening = (with_area, written_now, (happening.failed_state with_area, fails_now with_area written_now.whole, refl));
+        holds = failed_holds bodies with_area written_now.whole area_sessions h.at h.told h.latest b.keeps;
+        leaves = b.safely.leaves;
+      };
+      spares = λ s. ap (λ (n : ℕ). left_by (phase_at (s - 1) old.sessions.phases) n) (written_stays c i l (area_of r k.pages e.seen) b.beside s);
     }
 
 -- An event of an engine that a fault has ended, and one that did nothing.
 pub nothing_led : {B D : Type 0} (c : Class B) (r : Reading (Entry B) (Page B)) (f : Format B) (passes : ℕ → Contents → Bool) (d : Device) (old : Parts B D) → Leads c r f passes d d old old []
 nothing_led c r f passes d old bodies i h = record { bodies = bodies; index = i; happening = refl; holds = h; leaves = nothing_leaves (Stands (known_of c) r i.log) d }
+
+-- it leaves each session's call as much
+module _ {B D : Type 0} (c : Class B) (r : Reading (Entry B) (Page B)) (f : Format B) (passes : ℕ → Contents → Bool) (d : Device) (old : Parts B D) where
+  pub nothing_spared : Spares c r f passes d d old old []
+  unfolding nothing_led
+  nothing_spared bodies i h = record { led = nothing_led c r f passes d old bodies i h; spares = λ s. refl }
+
+  -- so does a step of the log that a fault had ended, and one that had nothing to do
+  pub ended_spared : (stage : Stage) (number : ℕ) → Spares c r f passes d d old old (log_events stage number (Refused Failed))
+  ended_spared Idle number = nothing_spared
+  ended_spared Body number = nothing_spared
+  ended_spared BodySync number = nothing_spared
+  ended_spared Gate number = nothing_spared
+  ended_spared GateSync number = nothing_spared
+
+  pub idle_spared : (stage : Stage) (number : ℕ) → Spares c r f passes d d old old (log_events stage number Nothing)
+  idle_spared Idle number = nothing_spared
+  idle_spared Body number = nothing_spared
+  idle_spared BodySync number = nothing_spared
+  idle_spared Gate number = nothing_spared
+  idle_spared GateSync number = nothing_spared
 
 -- A step of the log.
 module _ {B D : Type 0} (c : Class B) (l : IsLawful c) (r : Reading (Entry B) (Page B)) (f : Format B) (passes : ℕ → Contents → Bool)
@@ -252,8 +298,8 @@ module _ {B D : Type 0} (c : Class B) (l : IsLawful c) (r : Reading (Entry B) (P
       Becomes (known_of c) r f passes d e w (bodies_stepped result bodies (with_batch stage filling i.log)) i.log (stepped result (with_batch stage filling i.log))
 
   abbrev IsLed : Stage → Result Stage Refusal → Type 0
-  IsLed stage (Ok done) = Led c r f passes d e (noted done (record old { volume = w })) i (log_events stage old.in_flight (log_outcome done))
-  IsLed stage (Err why) = Led c r f passes d e (record old { volume = w; sessions = failed_state old.sessions }) i (log_events stage old.in_flight (Refused DeviceRefusal))
+  IsLed stage (Ok done) = Spared c r f passes d e old (noted done (record old { volume = w })) i (log_events stage old.in_flight (log_outcome done))
+  IsLed stage (Err why) = Spared c r f passes d e old (record old { volume = w; sessions = failed_state old.sessions }) i (log_events stage old.in_flight (Refused DeviceRefusal))
 
   -- the call that is due was made, as this one
   is_made : (stage done due : Stage) (filling : List ℕ) → done ≡ due → (Comes stage filling (Ok due) → IsLed stage (Ok due)) → Comes stage filling (Ok done) → IsLed stage (Ok done)
@@ -323,20 +369,20 @@ module _ {B D : Type 0} (c : Class B) (l : IsLawful c) (r : Reading (Entry B) (P
 module _ {B D : Type 0} (c : Class B) (lawful : 4 ≤ c.rules.most → IsLawful c) (r : Reading (Entry B) (Page B)) (f : Format B) (passes : ℕ → Contents → Bool)
     (d e : Device) (old : Parts B D) (w : Volume D) where
   pub log_made : old.sessions.failed ≡ false → w.most ≡ old.volume.most → old.checkpoint ≢ Turning → (done : Stage) → glog.Goes old.volume.log w.log (Ok done) → StepsLog (known_of c) r f passes d e old.volume w (Ok done)
-      → Leads c r f passes d e old (noted done (record old { volume = w })) (log_events old.volume.log.stage old.in_flight (log_outcome done))
+      → Spares c r f passes d e old (noted done (record old { volume = w })) (log_events old.volume.log.stage old.in_flight (log_outcome done))
   log_made works most calm done goes steps bodies i h =
       log_led c (lawful h.some) r f passes d e old w bodies i h works most calm (Ok done) goes (steps bodies i.log (known_lawful c (lawful h.some)) h.keeps)
 
   pub log_fails : old.sessions.failed ≡ false → w.most ≡ old.volume.most → old.checkpoint ≢ Turning → (why : Refusal) → glog.Goes old.volume.log w.log (Err why) → StepsLog (known_of c) r f passes d e old.volume w (Err why)
-      → Leads c r f passes d e old (record old { volume = w; sessions = failed_state old.sessions }) (log_events old.volume.log.stage old.in_flight (Refused DeviceRefusal))
+      → Spares c r f passes d e old (record old { volume = w; sessions = failed_state old.sessions }) (log_events old.volume.log.stage old.in_flight (Refused DeviceRefusal))
   log_fails works most calm why goes steps bodies i h =
       log_led c (lawful h.some) r f passes d e old w bodies i h works most calm (Err why) goes (steps bodies i.log (known_lawful c (lawful h.some)) h.keeps)
 
   module _ (most : w.most ≡ old.volume.most) (calm : old.checkpoint ≢ Turning) (log : w.log ≡ old.volume.log) (closed : old.volume.log.turn ≡ Closed) (gated : WritesGated (known_of c) r f passes d e old.volume w) where
-    pub page_made : Leads c r f passes d e old (record old { volume = w }) (Works ∷ [])
+    pub page_made : Spares c r f passes d e old (record old { volume = w }) (Works ∷ [])
     page_made bodies i h = writes c (lawful h.some) r f passes d e old w bodies i h most calm (gated bodies i.log (known_lawful c (lawful h.some)) closed h.keeps) log
 
-    pub page_fails : Leads c r f passes d e old (record old { volume = w; sessions = failed_state old.sessions }) (Works ∷ Fails ∷ [])
+    pub page_fails : Spares c r f passes d e old (record old { volume = w; sessions = failed_state old.sessions }) (Works ∷ Fails ∷ [])
     page_fails bodies i h = write_fails c (lawful h.some) r f passes d e old w bodies i h most calm (gated bodies i.log (known_lawful c (lawful h.some)) closed h.keeps) log
 
 -- what is noted leaves pages and log

@@ -42,3 +42,4 @@ pub mod LosingStates
 pub mod LosingEnds
 pub mod LosingSteps
 pub mod Starting
+pub mod Ending

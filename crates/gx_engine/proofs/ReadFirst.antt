@@ -30,9 +30,9 @@ use Rattle.gx_storage.specs.Changes.{IsUnlogged, begun, has_room}
 use Rattle.gx_storage.specs.Keeps.{KeepsTheSame}
 use Rattle.gx_storage.specs.State.{Volume}
 use Rattle.gx_engine.specs.Moves.{Lowers, Moves}
-use Rattle.gx_engine.specs.States.{Parts, runs}
+use Rattle.gx_engine.specs.States.{Parts, is_due, runs}
 use Rattle.gx_engine.specs.Writing.{WriteComes}
-use Rattle.gx_engine.proofs.Brought.{as_brought, begun_on, brought_leads, help_later}
+use Rattle.gx_engine.proofs.Brought.{as_brought, begun_on, brought_leads, help_early}
 
 module _ {B D : Type 0} (k : Keys B) (known : Limits → Known (Entry B) (Page B)) (r : Reading (Entry B) (Page B)) (f : Format B) (passes : ℕ → Contents → Bool) (size : ℕ)
     (d m e : Device) (s : ℕ) (entry : Entry B) (old : Parts B D) where
@@ -75,8 +75,8 @@ module _ {B D : Type 0} (k : Keys B) (known : Limits → Known (Entry B) (Page B
           (λ room. inr (
             room.0,
             room.1,
-            help_later passes d m e (runs old.checkpoint) (begun old.volume room.0) (begun mid.volume room.0) new.volume.shelf n
-                (begun_on passes d m (begun old.volume size) t (has_room old.volume.log room.0) on) room.2,
+            help_early passes d m e (runs old.checkpoint) (begun old.volume room.0) (begun mid.volume room.0) new.volume.shelf n
+                (begun_on passes d m (begun old.volume size) t (has_room old.volume.log room.0) on) (is_due old) room.2.0 room.2.1,
           ))
           is.0,
       is.1,

@@ -42,9 +42,9 @@ use Rattle.gx_storage.specs.State.{Volume}
 use Rattle.gx_engine.specs.declared.work.Work.{Work}
 use Rattle.gx_engine.specs.declared.work.Work.TheVariants.{Seeks}
 use Rattle.gx_engine.specs.Moves.{calling}
-use Rattle.gx_engine.specs.Refusals.{CanBeHelped, IsHelp, IsRefused}
+use Rattle.gx_engine.specs.Refusals.{CanBeHelped, IsEarly, IsHelp, IsRefused}
 use Rattle.gx_engine.specs.Seeking.{IsNoted, IsPutOff, IsSought, IsUnsought, SeekComes, set_outcome, set_state, write_call, written_reply}
-use Rattle.gx_engine.specs.States.{Parts, runs}
+use Rattle.gx_engine.specs.States.{Parts, is_due, runs}
 use Rattle.gx_engine.specs.Undoing.{PairIsSought}
 use Rattle.gx_engine.specs.Writing.{IsDelayed, WriteComes, brought}
 use Rattle.gx_engine.proofs.Reading.{only_shelf}
@@ -81,6 +81,11 @@ why_begun passes d e v w (fault.TooFewFrames frames) why = why
 why_begun passes d e v w fault.Device why = why
 why_begun passes d e v w fault.Damaged why = why
 
+-- nor is it refused for want of that
+pub no_room : {D : Type 0} {P : Type 0} (passes : ℕ → Contents → Bool) (d e : Device) (v w : Volume D) (refused : StoreFault) → faults.IsWhy passes d e (bringing v) w.shelf refused
+    → refused ≡ fault.NoRoom → P
+no_room passes d e v w refused why is = absurd (let no : true ≡ false = subst (λ (x : StoreFault). faults.IsWhy passes d e (bringing v) w.shelf x) is why in cc)
+
 -- Pages may have been brought.
 module _ {B D : Type 0} (old : Parts B D) (w : Volume D) (log : w.log ≡ old.volume.log) (most : w.most ≡ old.volume.most) where
   abbrev mid : Parts B D
@@ -100,14 +105,14 @@ module _ {B D : Type 0} (old : Parts B D) (w : Volume D) (log : w.log ≡ old.vo
     at new there o given one other comes = subst (λ (y : Outcome B). Comes new y) (sym one) (subst (λ (x : Parts B D). Comes x given) (sym other) comes)
 
     -- what a move comes to that was refused pages
-    pub refused_comes : (size : ℕ) → size ≤ 12314 → (refused : StoreFault) → faults.IsWhy passes d (state w.shelf.disk) (begun old.volume size) w.shelf refused
+    pub refused_comes : (size : ℕ) → size ≤ 12314 → (refused : StoreFault) → (refused ≡ fault.NoRoom → is_due old ≡ false) → faults.IsWhy passes d (state w.shelf.disk) (begun old.volume size) w.shelf refused
         → (new : Parts B D) (o : Outcome B) → IsRefused refused mid new o → Comes new o
-    refused_comes size small fault.NoRoom why new o is =
-        at new mid o _ is.2 is.3 (inr (size, small, record { fault = fault.NoRoom; can = tt; why = why; help = is.0; helps = is.1; is = refl }), brought_with old.sessions)
-    refused_comes size small (fault.TooFewFrames frames) why new o is =
-        at new mid o _ is.2 is.3 (inr (size, small, record { fault = fault.TooFewFrames frames; can = tt; why = why; help = is.0; helps = is.1; is = refl }), brought_with old.sessions)
-    refused_comes size small fault.Device why new o is = at new _ o _ is.0 is.1 (why, brought_with (failed_state old.sessions))
-    refused_comes size small fault.Damaged why new o is = at new _ o _ is.0 is.1 (brought_with (failed_state old.sessions))
+    refused_comes size small fault.NoRoom early why new o is =
+        at new mid o _ is.2 is.3 (inr (size, small, (record { fault = fault.NoRoom; can = tt; why = why; help = is.0; helps = is.1; is = refl }, early refl)), brought_with old.sessions)
+    refused_comes size small (fault.TooFewFrames frames) early why new o is =
+        at new mid o _ is.2 is.3 (inr (size, small, (record { fault = fault.TooFewFrames frames; can = tt; why = why; help = is.0; helps = is.1; is = refl }, tt)), brought_with old.sessions)
+    refused_comes size small fault.Device early why new o is = at new _ o _ is.0 is.1 (why, brought_with (failed_state old.sessions))
+    refused_comes size small fault.Damaged early why new o is = at new _ o _ is.0 is.1 (brought_with (failed_state old.sessions))
 
     -- and one whose page is no leaf
     pub damaged_comes : (new : Parts B D) (o : Outcome B) → o ≡ Replied (reply.Refused refusal.Damaged) → new ≡ record mid { sessions = failed_state old.sessions } → Comes new o
@@ -116,9 +121,12 @@ module _ {B D : Type 0} (old : Parts B D) (w : Volume D) (log : w.log ≡ old.vo
   -- What comes of a part that begins with them is what comes of the whole.
   module _ (f : Format B) (IsKey : B → Type 0) (k : Keys B) (passes : ℕ → Contents → Bool) (d e later : Device) (sooner : d.faults ≤ e.faults) (s : ℕ) (entry : Entry B) (leaf : ℕ) (marked : Bool)
       (new : Parts B D) where
-    help_on : (size : ℕ) (n : Need) → IsHelp passes e later (runs old.checkpoint) (begun w size) new.volume.shelf n
-        → IsHelp passes d later (runs old.checkpoint) (begun old.volume size) new.volume.shelf n
-    help_on size n help = by help.fault refl
+    due_same : is_due mid ≡ is_due old
+    due_same = ap (λ (g : Log). runs old.checkpoint || nat_le 24 g.used) log
+
+    help_on : (size : ℕ) (n : Need) (help : IsHelp passes e later (runs old.checkpoint) (begun w size) new.volume.shelf n) → IsEarly help.fault (is_due mid)
+        → (now : IsHelp passes d later (runs old.checkpoint) (begun old.volume size) new.volume.shelf n) × IsEarly now.fault (is_due old)
+    help_on size n help early = by help.fault refl
       where
         why_is : (x : StoreFault) → help.fault ≡ x → faults.IsWhy passes e later (begun w size) new.volume.shelf x
         why_is x is = subst (λ (y : StoreFault). faults.IsWhy passes e later (begun w size) new.volume.shelf y) is help.why
@@ -126,29 +134,35 @@ module _ {B D : Type 0} (old : Parts B D) (w : Volume D) (log : w.log ≡ old.vo
         helps_is : (x : StoreFault) → help.fault ≡ x → Helps new.volume.shelf x help.help
         helps_is x is = subst (λ (y : StoreFault). Helps new.volume.shelf y help.help) is help.helps
 
-        by : (x : StoreFault) → help.fault ≡ x → IsHelp passes d later (runs old.checkpoint) (begun old.volume size) new.volume.shelf n
-        by fault.NoRoom is = record {
-          fault = fault.NoRoom;
-          can = tt;
-          why = sym (ap (λ (g : Log). has_room g size) log) ∙ why_is fault.NoRoom is;
-          help = help.help;
-          helps = helps_is fault.NoRoom is;
-          is = help.is;
-        }
-        by (fault.TooFewFrames frames) is = record {
-          fault = fault.TooFewFrames frames;
-          can = tt;
-          why = why_is (fault.TooFewFrames frames) is;
-          help = help.help;
-          helps = helps_is (fault.TooFewFrames frames) is;
-          is = help.is;
-        }
+        by : (x : StoreFault) → help.fault ≡ x → (now : IsHelp passes d later (runs old.checkpoint) (begun old.volume size) new.volume.shelf n) × IsEarly now.fault (is_due old)
+        by fault.NoRoom is = (
+          record {
+            fault = fault.NoRoom;
+            can = tt;
+            why = sym (ap (λ (g : Log). has_room g size) log) ∙ why_is fault.NoRoom is;
+            help = help.help;
+            helps = helps_is fault.NoRoom is;
+            is = help.is;
+          },
+          sym due_same ∙ subst (λ (x : StoreFault). IsEarly x (is_due mid)) is early,
+        )
+        by (fault.TooFewFrames frames) is = (
+          record {
+            fault = fault.TooFewFrames frames;
+            can = tt;
+            why = why_is (fault.TooFewFrames frames) is;
+            help = help.help;
+            helps = helps_is (fault.TooFewFrames frames) is;
+            is = help.is;
+          },
+          tt,
+        )
         by fault.Device is = absurd (subst (λ (x : StoreFault). CanBeHelped x) is help.can)
         by fault.Damaged is = absurd (subst (λ (x : StoreFault). CanBeHelped x) is help.can)
 
     delayed_on : (n : Need) → IsPutOff f IsKey k passes e later entry leaf marked mid new n → IsPutOff f IsKey k passes d later entry leaf marked old new n
-    delayed_on n (inl due) = inl (due.0, sym (ap (λ (g : Log). runs old.checkpoint || nat_le 24 g.used) log) ∙ due.1, due.2)
-    delayed_on n (inr room) = inr (room.0, room.1, help_on room.0 n room.2)
+    delayed_on n (inl due) = inl (due.0, sym due_same ∙ due.1, due.2)
+    delayed_on n (inr room) = inr (room.0, room.1, help_on room.0 n room.2.0 room.2.1)
 
     noted_on : IsNoted k s entry leaf mid new → IsNoted k s entry leaf old new
     noted_on noted = record { before = noted.before; is = noted.is; most = noted.most ∙ most }

@@ -48,6 +48,7 @@ use Rattle.gx_phases.specs.Moves.{failed_state}
 use Rattle.gx_engine.specs.declared.work.Work.{Work}
 use Rattle.gx_engine.specs.declared.work.Work.TheVariants.{Rests, Looks, Descends, Seeks}
 use Rattle.gx_engine.specs.Asked.{AskComes, ask_events}
+use Rattle.gx_engine.specs.Ending.{Spares, SparesSo}
 use Rattle.gx_engine.specs.Flushing.{IsEnded, LogSteps, PageIsWritten, log_events, page_events}
 use Rattle.gx_engine.specs.Holds.{CallIsAt, Holds, IsAt, Leads, LeadsSo, Led}
 use Rattle.gx_engine.specs.Moves.{Lowers, MovesSo, left, left_by}
@@ -318,22 +319,24 @@ module _ {B D : Type 0} (c : Class B) (r : Reading (Entry B) (Page B)) (f : Form
 
   -- the log's next call
   pub log_steps : (outcome : Outcome B) → LogSteps d e old new old.sessions.failed (runs old.checkpoint) outcome
-      → Leads c r f passes d e old new (log_events old.volume.log.stage old.in_flight outcome) → Steps c r f passes d e LogStep old new outcome
+      → Spares c r f passes d e old new (log_events old.volume.log.stage old.in_flight outcome) → Steps c r f passes d e LogStep old new outcome
   log_steps outcome steps leads bodies i h =
       let events = log_events old.volume.log.stage old.in_flight outcome in
+      let now = leads bodies i h in
       let is = joining.log_is d e old new old.sessions.failed (runs old.checkpoint) old.volume.log.stage old.in_flight outcome steps in
-      record { events = events; are = subst (λ (failed : Bool). IsSync failed outcome events) (sym h.sessions.failed) is; led = leads bodies i h; lowers = tt }
+      record { events = events; are = subst (λ (failed : Bool). IsSync failed outcome events) (sym h.sessions.failed) is; led = now.led; lowers = now.spares }
 
   -- a page's write
   pub page_steps : (page : ℕ) (outcome : Outcome B) → PageIsWritten page d e old new old.sessions.failed outcome
-      → Leads c r f passes d e old new (page_events outcome) → Steps c r f passes d e (WritePage page) old new outcome
+      → Spares c r f passes d e old new (page_events outcome) → Steps c r f passes d e (WritePage page) old new outcome
   page_steps page outcome writes leads bodies i h =
+      let now = leads bodies i h in
       let is = joining.page_is d e old new old.sessions.failed page outcome writes in
       record {
         events = page_events outcome;
         are = subst (λ (failed : Bool). IsWork failed outcome (page_events outcome)) (sym h.sessions.failed) is;
-        led = leads bodies i h;
-        lowers = tt;
+        led = now.led;
+        lowers = now.spares;
       }
 
   -- the sweep of a leaf
@@ -368,10 +371,10 @@ module _ {B D : Type 0} (c : Class B) (r : Reading (Entry B) (Page B)) (f : Form
       }
 
   -- a step of a checkpoint
-  pub checkpoint_steps : (outcome : Outcome B) → LeadsSo c r f passes d e old new (IsSync old.sessions.failed outcome) → Steps c r f passes d e CheckpointStep old new outcome
+  pub checkpoint_steps : (outcome : Outcome B) → SparesSo c r f passes d e old new (IsSync old.sessions.failed outcome) → Steps c r f passes d e CheckpointStep old new outcome
   checkpoint_steps outcome leads bodies i h =
       let m = leads bodies i h in
-      record { events = m.0; are = subst (λ (failed : Bool). IsSync failed outcome m.0) (sym h.sessions.failed) m.1; led = m.2; lowers = tt }
+      record { events = m.0; are = subst (λ (failed : Bool). IsSync failed outcome m.0) (sym h.sessions.failed) m.1; led = m.2.led; lowers = m.2.spares }
 
 -- A move that is refused: nothing changes.
 module _ {B D : Type 0} (c : Class B) (r : Reading (Entry B) (Page B)) (f : Format B) (passes : ℕ → Contents → Bool) (d : Device) (old : Parts B D) (s : ℕ) where

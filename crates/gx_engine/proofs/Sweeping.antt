@@ -52,7 +52,7 @@ use Rattle.gx_engine.specs.declared.checkpoint.Checkpoint.TheVariants.{Turning}
 use Rattle.gx_engine.specs.Holds.{Holds, Led, Leads, Sits}
 use Rattle.gx_engine.specs.Noted.{AreTold}
 use Rattle.gx_engine.specs.Refusals.{IsTurnedAway}
-use Rattle.gx_engine.specs.States.{Parts, runs}
+use Rattle.gx_engine.specs.States.{Parts, is_due, runs}
 use Rattle.gx_engine.specs.Sweeping.{SweepComes, is_held, node_shown, takes_any}
 use Rattle.gx_engine.specs.Writing.{brought}
 use Rattle.gx_engine.proofs.Brought.{as_brought, begun_on, by_refusal, help_later, logged_later}
@@ -102,7 +102,10 @@ module _ {B D : Type 0} (k : Keys B) (known : Limits → Known (Entry B) (Page B
           (λ steady. sym (takes_same steady) ∙ some.0 (on.steady steady)),
           ⊎_elim
               (λ due. inl due)
-              (λ room. inr (help_later passes d m e (runs old.checkpoint) _ _ new.volume.shelf n (begun_on passes d m (bringing old.volume) t (has_room old.volume.log 4114) on) room))
+              (λ room. inr (
+                room.0,
+                help_later passes d m e (runs old.checkpoint) _ _ new.volume.shelf n (begun_on passes d m (bringing old.volume) t (has_room old.volume.log 4114) on) room.1,
+              ))
               some.1,
         ))
         is.0,
@@ -219,10 +222,10 @@ module _ {B D : Type 0} (c : Class B) (lawful : 4 ≤ c.rules.most → IsLawful 
 -- Pages were refused to the sweep of a leaf that has something to take.
 pub turned_comes : {B D : Type 0} (k : Keys B) (known : Limits → Known (Entry B) (Page B)) (r : Reading (Entry B) (Page B)) (f : Format B) (passes : ℕ → Contents → Bool) (page : ℕ) (state : D → Device)
     (old : Parts B D) (w : Volume D) → w.most ≡ old.volume.most → w.log ≡ old.volume.log → 1 ≤ page → page ≤ old.volume.shelf.used
-    → has_removable (is_held k old) (node_shown f (state old.volume.shelf.disk) page old) ≡ true
+    → has_removable (is_held k old) (node_shown f (state old.volume.shelf.disk) page old) ≡ true → is_due old ≡ false
     → (n : StoreFault) → faults.IsWhy passes (state old.volume.shelf.disk) (state w.shelf.disk) (begun old.volume 4114) w.shelf n → (new : Parts B D) (o : Outcome B)
     → IsTurnedAway n (record old { volume = w }) new o → SweepComes k known r f passes page (state old.volume.shelf.disk) (state new.volume.shelf.disk) old new false o
-turned_comes {B} {D} k known r f passes page state old w most log low high some n why new o is =
+turned_comes {B} {D} k known r f passes page state old w most log low high some early n why new o is =
     let d = state old.volume.shelf.disk in
     let taken : (nat_lt 0 page && nat_le page old.volume.shelf.used) ≡ true =
     and_all (nat_lt 0 page) (nat_le page old.volume.shelf.used) (lt-ltb 0 page low) (le-leb page old.volume.shelf.used high) in
@@ -230,7 +233,7 @@ turned_comes {B} {D} k known r f passes page state old w most log low high some 
     and_all (nat_lt 0 page && nat_le page old.volume.shelf.used) (has_removable (is_held k old) (node_shown f d page old)) taken some in
     by_refusal Refused (record old { volume = w }) new o (λ x y. SweepComes k known r f passes page d (state x.volume.shelf.disk) old x false y) n is
     (λ can found helps. (
-      inr ((λ steady. takes), inr (record { fault = n; can = can; why = why; help = found; helps = helps; is = refl })),
+      inr ((λ steady. takes), inr (early, record { fault = n; can = can; why = why; help = found; helps = helps; is = refl })),
       as_brought old w old.sessions log most,
     ))
     (λ device. (

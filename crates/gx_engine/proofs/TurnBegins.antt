@@ -41,7 +41,8 @@ use Rattle.gx_phases.specs.Moves.{failed_state}
 use Rattle.gx_phases.specs.States.{IsKept}
 use Rattle.gx_engine.specs.declared.checkpoint.Checkpoint.TheVariants.{Turning}
 use Rattle.gx_engine.specs.Checkpoints.{IsQuiet}
-use Rattle.gx_engine.specs.Holds.{Holds, LeadsSo, MayRenewBy}
+use Rattle.gx_engine.specs.Ending.{SparesSo}
+use Rattle.gx_engine.specs.Holds.{Holds, MayRenewBy}
 use Rattle.gx_engine.specs.Noted.{AreNoted}
 use Rattle.gx_engine.specs.Putting.{OnlyHead, Puts, PutsHead}
 use Rattle.gx_engine.specs.States.{Parts}
@@ -189,7 +190,7 @@ module _ {B D : Type 0} (c : Class B) (lawful : 4 ≤ c.rules.most → IsLawful 
     (quiet : IsQuiet old.volume) (clean : NoneDirty old.volume.shelf.frames) (closed : old.volume.log.turn ≡ Closed)
     (u w : Volume D) (same_log : u.log ≡ old.volume.log) (counter : u.shelf.counter ≡ old.volume.shelf.counter) (used : u.shelf.used ≡ old.volume.shelf.used) (most : u.most ≡ old.volume.most)
     (keeps : KeepsOn (known_of c) r f passes d e old.volume u) where
-  pub sync_fails : LeadsSo c r f passes d e old (record old { volume = u; sessions = failed_state old.sessions }) (IsSync false (Refused DeviceRefusal))
+  pub sync_fails : SparesSo c r f passes d e old (record old { volume = u; sessions = failed_state old.sessions }) (IsSync false (Refused DeviceRefusal))
   sync_fails bodies i h =
       let l = lawful h.some in
       let b = keeps bodies i.log (known_lawful c l) h.keeps in
@@ -199,7 +200,7 @@ module _ {B D : Type 0} (c : Class B) (lawful : 4 ≤ c.rules.most → IsLawful 
     still_closed : u.log.turn ≡ Closed
     still_closed = ap (λ (g : Log). g.turn) same_log ∙ closed
 
-    pub turn_led : PutsHead r old.sessions u w (Ok tt) → LeadsSo c r f passes d e old (record old { volume = w; checkpoint = Turning }) (IsSync false More)
+    pub turn_led : PutsHead r old.sessions u w (Ok tt) → SparesSo c r f passes d e old (record old { volume = w; checkpoint = Turning }) (IsSync false More)
     turn_led puts bodies i h =
         let l = lawful h.some in
         let bare = h.bare works calm quiet.idle in
@@ -217,7 +218,7 @@ module _ {B D : Type 0} (c : Class B) (lawful : 4 ≤ c.rules.most → IsLawful 
         )
 
     -- there is room for it
-    pub never_full : (fault : StoreFault) → PutsHead r old.sessions u w (Err fault) → (new : Parts B D) (outcome : Outcome B) → LeadsSo c r f passes d e old new (IsSync false outcome)
+    pub never_full : (fault : StoreFault) → PutsHead r old.sessions u w (Err fault) → (new : Parts B D) (outcome : Outcome B) → SparesSo c r f passes d e old new (IsSync false outcome)
     never_full fault puts new outcome bodies i h =
         let l = lawful h.some in
         let bare = h.bare works calm quiet.idle in

@@ -62,8 +62,8 @@ use Rattle.gx_engine.specs.declared.work.Work.TheVariants.{Descends, Looks, Rest
 use Rattle.gx_engine.specs.Holds.{CallDescends, CallSeeks, Holds, MayHaveFound}
 use Rattle.gx_engine.specs.Looking.{StopComes, is_looking, look_events, turned_by}
 use Rattle.gx_engine.specs.Moves.{Moves, MovesOn, MovesSo, calling}
-use Rattle.gx_engine.specs.Refusals.{CanBeHelped, IsHelp}
-use Rattle.gx_engine.specs.States.{Parts, runs}
+use Rattle.gx_engine.specs.Refusals.{CanBeHelped, IsEarly, IsHelp}
+use Rattle.gx_engine.specs.States.{Parts, is_due, runs}
 use Rattle.gx_engine.specs.Writing.{AreWriting, IsDelayed, OnlyReads, WriteComes, brought, write_events}
 use Rattle.gx_engine.proofs.Looking.{answered_again, answers, as_it_stays, at_work, goes_on, held, looks_at, may_have_found, moves_on, phase_again, put_kept, slot_now}
 use Rattle.gx_engine.proofs.Reading.{its_phase, read_at_hand, settled, stays, step_here, look_wants, was_kept}
@@ -117,16 +117,19 @@ module _ {B D : Type 0} (k : Keys B) (passes : ℕ → Contents → Bool) (d e :
       why_is : (x : StoreFault) → help.fault ≡ x → IsWhy passes d e (bringing old.volume) new.volume.shelf x
       why_is x is = subst (λ (y : StoreFault). IsWhy passes d e (bringing old.volume) new.volume.shelf y) is help.why
 
-      by : (x : StoreFault) → help.fault ≡ x → IsHelp passes d e (runs old.checkpoint) (begun old.volume 0) new.volume.shelf n
+      by : (x : StoreFault) → help.fault ≡ x → (now : IsHelp passes d e (runs old.checkpoint) (begun old.volume 0) new.volume.shelf n) × IsEarly now.fault (is_due old)
       by fault.NoRoom is = absurd (let no : true ≡ false = why_is fault.NoRoom is in cc)
-      by (fault.TooFewFrames frames) is = record {
-        fault = fault.TooFewFrames frames;
-        can = tt;
-        why = why_is (fault.TooFewFrames frames) is;
-        help = help.help;
-        helps = subst (λ (x : StoreFault). Helps new.volume.shelf x help.help) is help.helps;
-        is = help.is;
-      }
+      by (fault.TooFewFrames frames) is = (
+        record {
+          fault = fault.TooFewFrames frames;
+          can = tt;
+          why = why_is (fault.TooFewFrames frames) is;
+          help = help.help;
+          helps = subst (λ (x : StoreFault). Helps new.volume.shelf x help.help) is help.helps;
+          is = help.is;
+        },
+        tt,
+      )
       by fault.Device is = absurd (subst (λ (x : StoreFault). CanBeHelped x) is help.can)
       by fault.Damaged is = absurd (subst (λ (x : StoreFault). CanBeHelped x) is help.can)
 

@@ -5,6 +5,7 @@ pub mod Flushing
 pub mod Sealing
 pub mod Refusals
 pub mod Moves
+pub mod Ending
 pub mod Writing
 pub mod Sweeping
 pub mod Lending

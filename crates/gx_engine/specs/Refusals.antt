@@ -46,6 +46,13 @@ pub record IsHelp {D : Type 0} (passes : ℕ → Contents → Bool) (d e : Devic
   pub helps : Helps new fault help
   pub is : n ≡ need_of running help
 
+-- want of room in the log is told only where no checkpoint is due
+abbrev pub IsEarly : StoreFault → Bool → Type 0
+IsEarly fault.NoRoom due = due ≡ false
+IsEarly (fault.TooFewFrames wanted) due = Unit {0}
+IsEarly fault.Device due = Unit {0}
+IsEarly fault.Damaged due = Unit {0}
+
 -- What comes of pages that were refused: what helps; or the engine has failed, and that is told so.
 abbrev pub IsRefusedAs : {B D : Type 0} → (Refusal → Outcome B) → StoreFault → Parts B D → Parts B D → Outcome B → Type 0
 IsRefusedAs told fault.NoRoom old new outcome = (found : Option storage.Help) × Helps old.volume.shelf fault.NoRoom found × (outcome ≡ Help (need_of (runs old.checkpoint) found)) × (new ≡ old)

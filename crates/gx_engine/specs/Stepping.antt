@@ -17,6 +17,7 @@ use Rattle.gx_events.specs.Engines.{AreOf}
 use Rattle.gx_phases.specs.declared.phase.Phase.{Phase}
 use Rattle.gx_phases.specs.declared.phase.Phase.TheVariants as phase
 use Rattle.gx_engine.specs.declared.work.Work.{Work}
+use Rattle.gx_engine.specs.Ending.{LeavesAll}
 use Rattle.gx_engine.specs.Holds.{Holds, Led}
 use Rattle.gx_engine.specs.Moves.{Lowers}
 use Rattle.gx_engine.specs.States.{Parts}
@@ -30,16 +31,18 @@ has_call (phase.Undoing restored work) = true
 has_call (phase.Waiting number) = true
 
 module _ {B : Type 0} (c : Class B) (r : Reading (Entry B) (Page B)) (f : Format B) (passes : ℕ → Contents → Bool) where
-  -- what a move lowers; of other events nothing is said
+  -- What a move lowers; a step of the log or of a checkpoint and a page's write leave each session's call as much to do. Of an ask and of a
+  -- sweep nothing is said.
   abbrev pub LowersBy : {D : Type 0} → Event B → Outcome B → Parts B D → Parts B D → index.State B → index.State B → Type 0
   LowersBy (Ask s call) outcome old new i j = Unit {0}
   LowersBy (Move s) outcome old new i j = Lowers c r f passes s outcome old new i j
-  LowersBy LogStep outcome old new i j = Unit {0}
-  LowersBy (WritePage page) outcome old new i j = Unit {0}
-  LowersBy CheckpointStep outcome old new i j = Unit {0}
+  LowersBy LogStep outcome old new i j = LeavesAll c r f passes old new i j
+  LowersBy (WritePage page) outcome old new i j = LeavesAll c r f passes old new i j
+  LowersBy CheckpointStep outcome old new i j = LeavesAll c r f passes old new i j
   LowersBy (Sweep page) outcome old new i j = Unit {0}
 
-  -- An event with its outcome is these events of the index, the engine holds what they led to, and a move that goes on leaves less.
+  -- An event with its outcome is these events of the index, the engine holds what they led to, a move that goes on leaves less, and the
+  -- flusher's events leave as much.
   pub record Stepped {D : Type 0} (d e : Device) (event : Event B) (old new : Parts B D) (outcome : Outcome B) (i : index.State B) : Type 0 where
     pub events : List (laws.Event B)
     pub are : AreOf (engine_of c i) event outcome events

@@ -80,7 +80,7 @@ module _ {B : Type 0} (k : Keys B) (known : Limits → Known (Entry B) (Page B))
   SweepWaits page d e old new n =
       IsHelp passes d e (runs old.checkpoint) (bringing old.volume) new.volume.shelf n
       ⊎ ((IsSteady d old.volume.shelf.frames → takes_any k f d page old ≡ true)
-      × (((n ≡ need.Checkpoint) × (is_due old ≡ true)) ⊎ IsHelp passes d e (runs old.checkpoint) (begun old.volume 4114) new.volume.shelf n))
+      × (((n ≡ need.Checkpoint) × (is_due old ≡ true)) ⊎ ((is_due old ≡ false) × IsHelp passes d e (runs old.checkpoint) (begun old.volume 4114) new.volume.shelf n)))
 
   -- Something was taken; or there was nothing to take; or it waits; or the engine has failed: the device failed, or it lies, or had no
   -- right page there, or one with more pairs than fit. But for what was taken pages may have been brought, and nothing else has changed.

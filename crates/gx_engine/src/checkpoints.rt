@@ -7,7 +7,7 @@ ghost use Rattle.gx_recovery.specs.Known.{Limits};
 ghost use Rattle.gx_readings.specs.Classes.{class_of, reading_of};
 ghost use Rattle.gx_engine.specs.declared.checkpoint.Checkpoint.TheVariants.{Off, Running, Turning};
 ghost use Rattle.gx_engine.specs.Checkpoints.{BeginsTurn, CheckpointSteps, GatesNext, IsQuiet, RunsOn, StepsOff, TurnsNext, WritesDirty, after_call};
-ghost use Rattle.gx_engine.specs.Holds.{LeadsSo};
+ghost use Rattle.gx_engine.specs.Ending.{SparesSo};
 
 use crate::Engine;
 use crate::checkpoint::Checkpoint;
@@ -37,7 +37,7 @@ impl<D: SectorDisk, K: ReadKeys> Engine<D, K> {
         requires running { self.old.checkpoint ≡ Running }
         requires busy { IsQuiet self.old.volume → ⊥ }
         ensures gates { GatesNext (D.state self.old.volume.shelf.disk) (D.state self.new.volume.shelf.disk) self.old self.new result }
-        ensures leads { (l : Limits) → LeadsSo (class_of K.Key.Shape K.is_proper l) (reading_of K.said (format_of K.KeyClass)) (format_of K.KeyClass) (is_node (format_of K.KeyClass))
+        ensures leads { (l : Limits) → SparesSo (class_of K.Key.Shape K.is_proper l) (reading_of K.said (format_of K.KeyClass)) (format_of K.KeyClass) (is_node (format_of K.KeyClass))
             (D.state self.old.volume.shelf.disk) (D.state self.new.volume.shelf.disk) self.old self.new (IsSync false result) }
     {
         a_class_is_lawful::<K>();
@@ -54,7 +54,7 @@ impl<D: SectorDisk, K: ReadKeys> Engine<D, K> {
         requires quiet { IsQuiet self.old.volume }
         requires dirty { NoneDirty self.old.volume.shelf.frames → ⊥ }
         ensures writes { WritesDirty (D.state self.old.volume.shelf.disk) (D.state self.new.volume.shelf.disk) self.old self.new result }
-        ensures leads { (l : Limits) → LeadsSo (class_of K.Key.Shape K.is_proper l) (reading_of K.said (format_of K.KeyClass)) (format_of K.KeyClass) (is_node (format_of K.KeyClass))
+        ensures leads { (l : Limits) → SparesSo (class_of K.Key.Shape K.is_proper l) (reading_of K.said (format_of K.KeyClass)) (format_of K.KeyClass) (is_node (format_of K.KeyClass))
             (D.state self.old.volume.shelf.disk) (D.state self.new.volume.shelf.disk) self.old self.new (IsSync false result) }
     {
         match self.storage.dirty() {
@@ -68,7 +68,7 @@ impl<D: SectorDisk, K: ReadKeys> Engine<D, K> {
         requires works { self.old.sessions.failed ≡ false }
         requires turning { self.old.checkpoint ≡ Turning }
         ensures turns { TurnsNext (D.state self.old.volume.shelf.disk) (D.state self.new.volume.shelf.disk) self.old self.new result }
-        ensures leads { (l : Limits) → LeadsSo (class_of K.Key.Shape K.is_proper l) (reading_of K.said (format_of K.KeyClass)) (format_of K.KeyClass) (is_node (format_of K.KeyClass))
+        ensures leads { (l : Limits) → SparesSo (class_of K.Key.Shape K.is_proper l) (reading_of K.said (format_of K.KeyClass)) (format_of K.KeyClass) (is_node (format_of K.KeyClass))
             (D.state self.old.volume.shelf.disk) (D.state self.new.volume.shelf.disk) self.old self.new (IsSync false result) }
     {
         a_class_is_lawful::<K>();
@@ -88,7 +88,7 @@ impl<D: SectorDisk, K: ReadKeys> Engine<D, K> {
         requires quiet { IsQuiet self.old.volume }
         requires clean { NoneDirty self.old.volume.shelf.frames }
         ensures begins { BeginsTurn (D.state self.old.volume.shelf.disk) (D.state self.new.volume.shelf.disk) self.old self.new result }
-        ensures leads { (l : Limits) → LeadsSo (class_of K.Key.Shape K.is_proper l) (reading_of K.said (format_of K.KeyClass)) (format_of K.KeyClass) (is_node (format_of K.KeyClass))
+        ensures leads { (l : Limits) → SparesSo (class_of K.Key.Shape K.is_proper l) (reading_of K.said (format_of K.KeyClass)) (format_of K.KeyClass) (is_node (format_of K.KeyClass))
             (D.state self.old.volume.shelf.disk) (D.state self.new.volume.shelf.disk) self.old self.new (IsSync false result) }
     {
         a_class_is_lawful::<K>();
@@ -110,7 +110,7 @@ impl<D: SectorDisk, K: ReadKeys> Engine<D, K> {
         requires works { self.old.sessions.failed ≡ false }
         requires running { self.old.checkpoint ≡ Running }
         ensures runs { RunsOn (D.state self.old.volume.shelf.disk) (D.state self.new.volume.shelf.disk) self.old self.new result }
-        ensures leads { (l : Limits) → LeadsSo (class_of K.Key.Shape K.is_proper l) (reading_of K.said (format_of K.KeyClass)) (format_of K.KeyClass) (is_node (format_of K.KeyClass))
+        ensures leads { (l : Limits) → SparesSo (class_of K.Key.Shape K.is_proper l) (reading_of K.said (format_of K.KeyClass)) (format_of K.KeyClass) (is_node (format_of K.KeyClass))
             (D.state self.old.volume.shelf.disk) (D.state self.new.volume.shelf.disk) self.old self.new (IsSync false result) }
     {
         if !self.storage.is_idle() {
@@ -127,7 +127,7 @@ impl<D: SectorDisk, K: ReadKeys> Engine<D, K> {
         requires works { self.old.sessions.failed ≡ false }
         requires off { self.old.checkpoint ≡ Off }
         ensures steps { StepsOff (D.state self.old.volume.shelf.disk) (D.state self.new.volume.shelf.disk) self.old self.new (nat_le 24 self.old.volume.log.used) result }
-        ensures leads { (l : Limits) → LeadsSo (class_of K.Key.Shape K.is_proper l) (reading_of K.said (format_of K.KeyClass)) (format_of K.KeyClass) (is_node (format_of K.KeyClass))
+        ensures leads { (l : Limits) → SparesSo (class_of K.Key.Shape K.is_proper l) (reading_of K.said (format_of K.KeyClass)) (format_of K.KeyClass) (is_node (format_of K.KeyClass))
             (D.state self.old.volume.shelf.disk) (D.state self.new.volume.shelf.disk) self.old self.new (IsSync false result) }
     {
         if self.storage.places() < 24 {
@@ -146,7 +146,7 @@ impl<D: SectorDisk, K: ReadKeys> Engine<D, K> {
     /// dirty page may be written or the head has no room, both only over a device that lied; the engine has failed then. It takes no memory.
     pub fn checkpoint_step(&mut self) -> Outcome<K::Key>
         ensures steps { CheckpointSteps (D.state self.old.volume.shelf.disk) (D.state self.new.volume.shelf.disk) self.old self.new self.old.sessions.failed result }
-        ensures leads { (l : Limits) → LeadsSo (class_of K.Key.Shape K.is_proper l) (reading_of K.said (format_of K.KeyClass)) (format_of K.KeyClass) (is_node (format_of K.KeyClass))
+        ensures leads { (l : Limits) → SparesSo (class_of K.Key.Shape K.is_proper l) (reading_of K.said (format_of K.KeyClass)) (format_of K.KeyClass) (is_node (format_of K.KeyClass))
             (D.state self.old.volume.shelf.disk) (D.state self.new.volume.shelf.disk) self.old self.new (IsSync self.old.sessions.failed result) }
     {
         if self.sessions.has_failed() {

@@ -3,8 +3,8 @@ ghost use Rattle.std.specs.Prelude.{◌≡◌, ◌≤◌, ℕ};
 ghost use Rattle.gx_node.specs.Reading.{format_of, is_node};
 ghost use Rattle.gx_recovery.specs.Known.{Limits};
 ghost use Rattle.gx_readings.specs.Classes.{class_of, reading_of};
+ghost use Rattle.gx_engine.specs.Ending.{Spares};
 ghost use Rattle.gx_engine.specs.Flushing.{LogSteps, PageIsWritten, log_events, log_outcome, page_events, noted};
-ghost use Rattle.gx_engine.specs.Holds.{Leads};
 ghost use Rattle.gx_engine.specs.States.{runs};
 
 use crate::Engine;
@@ -44,7 +44,7 @@ impl<D: SectorDisk, K: ReadKeys> Engine<D, K> {
     /// It takes no memory. What filled is in flight from its first call on, and its commits are durable from its gate's sync on.
     pub fn log_step(&mut self) -> Outcome<K::Key>
         ensures steps { LogSteps (D.state self.old.volume.shelf.disk) (D.state self.new.volume.shelf.disk) self.old self.new self.old.sessions.failed (runs self.old.checkpoint) result }
-        ensures leads { (l : Limits) → Leads (class_of K.Key.Shape K.is_proper l) (reading_of K.said (format_of K.KeyClass)) (format_of K.KeyClass) (is_node (format_of K.KeyClass))
+        ensures leads { (l : Limits) → Spares (class_of K.Key.Shape K.is_proper l) (reading_of K.said (format_of K.KeyClass)) (format_of K.KeyClass) (is_node (format_of K.KeyClass))
             (D.state self.old.volume.shelf.disk) (D.state self.new.volume.shelf.disk) self.old self.new (log_events self.old.volume.log.stage self.old.in_flight result) }
     {
         a_class_is_lawful::<K>();
@@ -65,7 +65,7 @@ impl<D: SectorDisk, K: ReadKeys> Engine<D, K> {
     /// failed then. It takes no memory.
     pub fn write_page(&mut self, page: u32) -> Outcome<K::Key>
         ensures writes { PageIsWritten page (D.state self.old.volume.shelf.disk) (D.state self.new.volume.shelf.disk) self.old self.new self.old.sessions.failed result }
-        ensures leads { (l : Limits) → Leads (class_of K.Key.Shape K.is_proper l) (reading_of K.said (format_of K.KeyClass)) (format_of K.KeyClass) (is_node (format_of K.KeyClass))
+        ensures leads { (l : Limits) → Spares (class_of K.Key.Shape K.is_proper l) (reading_of K.said (format_of K.KeyClass)) (format_of K.KeyClass) (is_node (format_of K.KeyClass))
             (D.state self.old.volume.shelf.disk) (D.state self.new.volume.shelf.disk) self.old self.new (page_events result) }
     {
         a_class_is_lawful::<K>();

@@ -102,8 +102,9 @@ returns-in-Err-Pages-clause-sweeps g c =
     let some : has_removable (is_held k old) (node_shown f d c.args.page old) ≡ true =
     ap (λ (x : Parts g.row.K-Key.Denot g.row.D.Denot). has_removable (is_held k x) (node_shown f (g.D.SectorDisk.state x.volume.shelf.disk) c.args.page x)) c.self.view_is ∙ c.requires.some in
     let high : c.args.page ≤ old.volume.shelf.used = search rules in
+    let early = ap (λ (x : Parts g.row.K-Key.Denot g.row.D.Denot). is_due x) c.self.view_is ∙ c.requires.early in
     let did = c.in-Err-Pages.ensures.unlogged in
     let failed : c.sweep.result ≡ Err (Pages c.in-Err-Pages.fault) = search rules in
     let why = of_err _ c.sweep.result (Pages c.in-Err-Pages.fault) failed c.sweep.ensures.why in
-    rw (← c.self.view_is) (turned_comes k _ _ f (is_node f) c.args.page g.D.SectorDisk.state old c.sweep.new.self did.most did.log c.requires.from high some
+    rw (← c.self.view_is) (turned_comes k _ _ f (is_node f) c.args.page g.D.SectorDisk.state old c.sweep.new.self did.most did.log c.requires.from high some early
     c.in-Err-Pages.fault why c.turn_away.new.self c.turn_away.result c.turn_away.ensures)

@@ -10,7 +10,7 @@ use Rattle.gx_engine.specs.Refusals.{IsRefused}
 use Rattle.gx_engine.specs.Seeking.{SeekComes, write_call}
 use Rattle.gx_engine.specs.States.{Parts}
 use Rattle.gx_engine.specs.Writing.{write_events}
-use Rattle.gx_engine.proofs.Seeking.{comes_on, damaged_comes, refused_comes, why_begun}
+use Rattle.gx_engine.proofs.Seeking.{comes_on, damaged_comes, no_room, refused_comes, why_begun}
 use Rattle.gx_engine.proofs.Setting.{moves_on, never_moves, refused_moves}
 use Rattle.gx_engine.proofs.Undone.{why_pages}
 use Rattle.gx_engine.proofs.engine.Engine.write_at.Goals as goal
@@ -63,6 +63,8 @@ returns-in-Err-Pages-clause-comes g c =
     let why = why_pages _ c.in-Err-Pages.field-0 c.in-Err-Pages.fault c.in-Err-Pages.field-0-is c.in-Err-Pages.ensures.refused.why in
     refused_comes c.args.self.now c.seek_pair.new.self.volume did.log did.most (format_of g.K.KeyClass) g.K.KeyClass.is_key k (is_node (format_of g.K.KeyClass)) state
     (state c.args.self.now.volume.shelf.disk) c.args.session c.args.entry c.args.leaf c.args.marked 0 (omega arith) c.in-Err-Pages.fault
+    (no_room (is_node (format_of g.K.KeyClass)) (state c.args.self.now.volume.shelf.disk) (state c.seek_pair.new.self.volume.shelf.disk) c.args.self.now.volume c.seek_pair.new.self.volume
+    c.in-Err-Pages.fault why)
     (why_begun (is_node (format_of g.K.KeyClass)) (state c.args.self.now.volume.shelf.disk) (state c.seek_pair.new.self.volume.shelf.disk) c.args.self.now.volume c.seek_pair.new.self.volume
     c.in-Err-Pages.fault why) c.refuse.new.self c.refuse.result
     (subst (λ (x : Parts g.row.K-Key.Denot g.row.D.Denot). IsRefused c.in-Err-Pages.fault x c.refuse.new.self c.refuse.result) c.seek_pair.ensures.only refused)
