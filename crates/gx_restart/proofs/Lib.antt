@@ -1,0 +1,8 @@
+pub mod Driven
+pub mod Repeated
+pub mod Resting
+pub mod Settling
+pub mod Driving
+pub mod Alone
+pub mod Durable
+pub mod Scripts

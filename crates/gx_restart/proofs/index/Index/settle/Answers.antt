@@ -1,0 +1,20 @@
+use Rattle.std.proofs.Common.{refl, false}
+use Rattle.gx_restart.proofs.Alone.{runs_same, settled_by}
+use Rattle.gx_restart.proofs.Settling.{settles_keeps, settles_rests_on}
+use Rattle.gx_restart.proofs.index.Index.settle.Goals as goal
+
+pub returns-then-self-clause-runs : goal.returns-then-self-clause-runs
+returns-then-self-clause-runs g c = λ l.
+    runs_same (record { partial_cmp = g.K.Key.PartialOrd.partial_cmp; eq = g.K.Key.PartialEq.eq; cmp = g.K.Key.Ord.cmp; overlap = g.K.Key.Shape.overlap; inside = g.K.Key.Shape.inside }) g.K.ReadKeys.is_proper g.K.ReadKeys.said g.K.KeyClass g.D.SectorDisk.state l c.args.self.now.engine c.args.self.now.engine refl
+
+pub returns-clause-runs : goal.returns-clause-runs
+returns-clause-runs g c = λ l.
+    settled_by (record { partial_cmp = g.K.Key.PartialOrd.partial_cmp; eq = g.K.Key.PartialEq.eq; cmp = g.K.Key.Ord.cmp; overlap = g.K.Key.Shape.overlap; inside = g.K.Key.Shape.inside }) g.K.ReadKeys.is_proper g.K.ReadKeys.said g.K.KeyClass g.D.SectorDisk.state l false c.args.self.now c.exhaust_both.result c.exhaust_both.new.self c.exhaust_both.ensures
+
+pub returns-clause-keeps : goal.returns-clause-keeps
+returns-clause-keeps g c =
+    settles_keeps (record { partial_cmp = g.K.Key.PartialOrd.partial_cmp; eq = g.K.Key.PartialEq.eq; cmp = g.K.Key.Ord.cmp; overlap = g.K.Key.Shape.overlap; inside = g.K.Key.Shape.inside }) g.K.ReadKeys.is_proper g.K.ReadKeys.said g.K.KeyClass g.D.SectorDisk.state false c.args.self.now c.exhaust_both.result c.exhaust_both.new.self c.exhaust_both.ensures
+
+pub returns-clause-rests : goal.returns-clause-rests
+returns-clause-rests g c =
+    settles_rests_on (record { partial_cmp = g.K.Key.PartialOrd.partial_cmp; eq = g.K.Key.PartialEq.eq; cmp = g.K.Key.Ord.cmp; overlap = g.K.Key.Shape.overlap; inside = g.K.Key.Shape.inside }) g.K.ReadKeys.is_proper g.K.ReadKeys.said g.K.KeyClass g.D.SectorDisk.state c.args.self.now c.exhaust_both.result c.exhaust_both.new.self c.exhaust_both.ensures

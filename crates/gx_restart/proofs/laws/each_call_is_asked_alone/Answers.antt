@@ -1,0 +1,7 @@
+use Rattle.std.proofs.Common.{arith}
+use Rattle.gx_restart.proofs.Alone.{call_alone}
+use Rattle.gx_restart.proofs.laws.each_call_is_asked_alone.Goals as goal
+
+pub returns : goal.returns
+returns g c = λ l s call reply old new calls was is bodies i h m seen.
+    call_alone _ _ _ _ _ l old s call reply new calls was is (c.a_class_is_lawful.ensures l h.some) bodies i h m seen

@@ -1,0 +1,5 @@
+pub mod States
+pub mod Made
+pub mod Called
+pub mod Settled
+pub mod Alone

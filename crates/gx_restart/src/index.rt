@@ -1,0 +1,114 @@
+//! An index, and its calls.
+ghost use Rattle.std.specs.Prelude.{◌≡◌, false, MatchOption};
+ghost use Rattle.gx_node.specs.Reading.{format_of, is_node};
+ghost use Rattle.gx_recovery.specs.Known.{Limits};
+ghost use Rattle.gx_readings.specs.Classes.{class_of, reading_of};
+ghost use Rattle.gx_restart.specs.Alone.{RunsOn};
+ghost use Rattle.gx_restart.specs.Called.{CallsBy, CallsIndex, IsCalled, IsGivenUp};
+ghost use Rattle.gx_restart.specs.Made.{Makes};
+
+use gx_class::Probing;
+use gx_disk::SectorDisk;
+use gx_engine::Engine;
+use gx_events::{Driver, Event, Next};
+use gx_geom::Refusal;
+use gx_machine::{Call, Reply};
+use gx_readings::ReadKeys;
+use std::marker::Model;
+
+/// How many events are run for one call, and for each part of a settling.
+pub const EVENTS: u64 = 1 << 56;
+
+/// An index for one thread: an engine whose calls are asked one after another, each run to its end. Contracts see its engine, and
+/// whether the bound on a call's events was passed.
+#[derive(Drop)]
+pub struct Index<D: SectorDisk, K: ReadKeys> {
+    pub(crate) engine: Engine<D, K>,
+    // the bound was passed: from then on it only refuses
+    pub(crate) ended: bool,
+}
+
+impl<D: SectorDisk, K: ReadKeys> Model for Index<D, K> {
+    ghost use Rattle.gx_restart.specs.States.{State};
+
+    ghost Value = { State K.Key D };
+
+    ghost view = { λ m. record { engine = m.engine; ended = m.ended } };
+}
+
+impl<D: SectorDisk, K: ReadKeys> Index<D, K> {
+    /// An index over an engine.
+    pub fn new(engine: Engine<D, K>) -> Self
+        ensures { result ≡ record { engine = engine; ended = false } }
+    {
+        Index {
+            engine,
+            ended: false,
+        }
+    }
+
+    /// The engine, as the calls left it.
+    pub fn into_engine(self) -> Engine<D, K>
+        ensures { result ≡ self.engine }
+    {
+        self.engine
+    }
+}
+
+// Asks a call of a session, and runs its events to the end. None where the bound is passed before.
+fn drive<D: SectorDisk, K: ReadKeys + Probing>(
+    engine: &mut Engine<D, K>,
+    session: u8,
+    call: Call<K::Key>,
+) -> Option<Reply<K::Key>>
+where
+    K::Probe: Drop,
+    ensures { MatchOption result (IsGivenUp (Makes K.Key.Shape K.is_proper K.said K.KeyClass D.state) session call engine.old engine.new)
+        (λ reply. IsCalled (Makes K.Key.Shape K.is_proper K.said K.KeyClass D.state) session call engine.old reply engine.new) }
+{
+    let mut driver = Driver::new(session);
+    let mut next = Event::Ask(session, call);
+    for _turn in 0..EVENTS {
+        match driver.next(engine.step(next)) {
+            Next::Run(event) => next = event,
+            Next::Done(reply) => return Some(reply),
+        }
+    }
+    None
+}
+
+impl<D: SectorDisk, K: ReadKeys + Probing> Index<D, K>
+where
+    K::Probe: Drop,
+{
+    // A call of an index that goes on.
+    fn run(&mut self, session: u8, call: Call<K::Key>) -> Reply<K::Key>
+        requires { self.old.ended ≡ false }
+        ensures { CallsBy (Makes K.Key.Shape K.is_proper K.said K.KeyClass D.state) false self.old session call result self.new }
+    {
+        match drive(&mut self.engine, session, call) {
+            Some(reply) => reply,
+            None => {
+                self.ended = true;
+                Reply::Refused(Refusal::Damaged)
+            }
+        }
+    }
+
+    /// Asks a call of a session, and runs its events to the end: its moves, and the steps of the log and of a checkpoint and the writes of
+    /// pages that help them.
+    ///
+    /// The reply is the one with which the call ended. After `Device`, `Failed` and `Damaged` the call stands open, and each further one is
+    /// answered with `Failed`. A call that has not ended within `EVENTS` events is given up, and answered with `Damaged`; from then on the
+    /// index only refuses, with `Failed`.
+    pub fn call(&mut self, session: u8, call: Call<K::Key>) -> Reply<K::Key>
+        ensures calls { CallsIndex (Makes K.Key.Shape K.is_proper K.said K.KeyClass D.state) self.old session call result self.new }
+        ensures runs { (l : Limits) → RunsOn (class_of K.Key.Shape K.is_proper l) (reading_of K.said (format_of K.KeyClass)) (format_of K.KeyClass) (is_node (format_of K.KeyClass))
+            D.state self.old.engine self.new.engine }
+    {
+        if self.ended {
+            return Reply::Refused(Refusal::Failed);
+        }
+        self.run(session, call)
+    }
+}

@@ -1,0 +1,56 @@
+//! What calls of an index have to do with runs of the set machine. Each function is its contract alone.
+ghost use Rattle.std.specs.Prelude.{◌≡◌, ℕ, Bool, List, false};
+ghost use Rattle.gx_geom.specs.Rectangles.{Rectangle};
+ghost use Rattle.gx_machine.specs.declared.entry.Entry.{Entry};
+ghost use Rattle.gx_machine.specs.declared.call.Call.{Call};
+ghost use Rattle.gx_machine.specs.declared.reply.Reply.{Reply};
+ghost use Rattle.gx_node.specs.Reading.{format_of, is_node};
+ghost use Rattle.gx_recovery.specs.Known.{Limits};
+ghost use Rattle.gx_recovery.specs.Records.{Record};
+ghost use Rattle.gx_index_laws.specs.Classes.{Class, IsLawful, Page};
+ghost use Rattle.gx_index_laws.specs.States as index;
+ghost use Rattle.gx_readings.specs.Classes.{class_of, reading_of};
+ghost use Rattle.gx_engine.specs.Holds.{Holds};
+ghost use Rattle.gx_engine.specs.States.{Parts};
+ghost use Rattle.gx_script.specs.declared.line.Line.{Line};
+ghost use Rattle.gx_script.specs.Scripts.{IsScript};
+ghost use Rattle.gx_plain.specs.OneRun.{IsOneRun};
+ghost use Rattle.gx_restart.specs.Alone.{CallsAlone, RunsFrom};
+ghost use Rattle.gx_restart.specs.Called.{CallsIndex};
+ghost use Rattle.gx_restart.specs.Made.{Makes};
+ghost use Rattle.gx_restart.specs.Settled.{IsAtRest};
+ghost use Rattle.gx_restart.specs.States.{State};
+
+use gx_disk::SectorDisk;
+use gx_class::KeyClass;
+use gx_geom::{Box2, Shape};
+use gx_readings::ReadKeys;
+
+/// A call of an index over an engine that holds an index's state, which was not given up, is a run of the machine as which that state is
+/// seen: the call is asked and given its reply, and nothing else is asked or replied. So the reply is the machine's for that call asked
+/// alone, or tells of a fault that was met.
+pub fn each_call_is_asked_alone<D: SectorDisk, K: ReadKeys>()
+    ensures { (l : Limits) (s : ℕ) (call : Call K.Key) (reply : Reply K.Key) (old new : State K.Key D)
+        → CallsIndex (Makes K.Key.Shape K.is_proper K.said K.KeyClass D.state) old s call reply new → old.ended ≡ false → new.ended ≡ false
+        → CallsAlone (class_of K.Key.Shape K.is_proper l) (reading_of K.said (format_of K.KeyClass)) (format_of K.KeyClass) (is_node (format_of K.KeyClass)) D.state s call reply old.engine new.engine }
+{
+    gx_engine::laws::a_class_is_lawful::<K>();
+}
+
+/// What the lines of a script ask of an index over an engine that holds an index's state, and are answered, is one run of the machine as
+/// which that state is seen, joined over all lines, where no call was given up; its replies are those of the text.
+pub fn each_script_is_one_run<D: SectorDisk, K: ReadKeys + KeyClass<Key = Box2>>()
+    ensures { (l : Limits) (number : ℕ) (lines : List Line) (old new : State Rectangle D) (text : List ℕ)
+        → IsScript (CallsIndex (Makes ⟦<Box2 as Shape>⟧ K.is_proper K.said K.KeyClass D.state)) number lines old text new → new.ended ≡ false
+        → RunsFrom (class_of ⟦<Box2 as Shape>⟧ K.is_proper l) (reading_of K.said (format_of K.KeyClass)) (format_of K.KeyClass) (is_node (format_of K.KeyClass)) D.state old.engine new.engine
+        (λ m n. IsOneRun number lines m n text) }
+{
+    gx_engine::laws::a_class_is_lawful::<K>();
+}
+
+/// Where a settling has ended well over an engine that holds an index's state, each commit that was sealed is durable.
+pub fn a_settled_index_is_durable<D: SectorDisk, K: ReadKeys>()
+    ensures { (l : Limits) (e : Parts K.Key D) (bodies : List (List (Record (Entry K.Key) (Page K.Key)))) (i : index.State K.Key)
+        → Holds (class_of K.Key.Shape K.is_proper l) (reading_of K.said (format_of K.KeyClass)) (format_of K.KeyClass) (is_node (format_of K.KeyClass)) (D.state e.volume.shelf.disk) e bodies i
+        → IsAtRest e → e.sessions.durable ≡ e.sessions.latest }
+{}

@@ -1,0 +1,14 @@
+//! An index for one thread: calls that are run to their end over an engine, all that is logged gated, and scripts.
+#![tactic(auto)]
+
+mod index;
+pub mod laws;
+mod script;
+mod settle;
+#[cfg(test)]
+mod tests;
+
+pub use gx_format::format;
+pub use gx_script::ScriptFault;
+pub use index::{EVENTS, Index};
+pub use script::run_script;

@@ -1,0 +1,45 @@
+//! Scripts for an index over a device.
+ghost use Rattle.std.specs.Prelude.{OnOk, IfErr};
+ghost use Rattle.gx_script.specs.Scripts.{IsDone, IsStopped};
+ghost use Rattle.gx_restart.specs.Called.{CallsIndex};
+ghost use Rattle.gx_restart.specs.Made.{Makes};
+
+use crate::Index;
+use gx_class::{KeyClass, Probing};
+use gx_disk::SectorDisk;
+use gx_geom::{Box2, Shape};
+use gx_machine::{Call, Reply};
+use gx_readings::ReadKeys;
+use gx_script::{Answers, ScriptFault};
+use std::io::{Read, Write};
+
+impl<D: SectorDisk, K: ReadKeys + KeyClass<Key = Box2> + Probing> Answers for Index<D, K>
+where
+    K::Probe: Drop,
+{
+    ghost answered = { CallsIndex (Makes ⟦<Box2 as Shape>⟧ K.is_proper K.said K.KeyClass D.state) };
+
+    fn call(&mut self, session: u8, call: Call<Box2>) -> Reply<Box2> {
+        self.call(session, call)
+    }
+}
+
+/// Reads a script of boxes to its end, asks the index for the calls of its lines, and writes the replies, as `gx_plain::run_plain` does.
+///
+/// All lines of a reply are written before the next line's call is asked. A line that isn't one of a script's is answered by its number,
+/// and the script goes on. Faults: `Read` where the reader fails, or was read 2^32 times; `Write` where the writer fails, or takes
+/// nothing. What was written then is a beginning of the text, and replies given before stand.
+pub fn run_script<R: Read, W: Write, D: SectorDisk, K: ReadKeys + KeyClass<Key = Box2> + Probing>(
+    reader: &mut R,
+    writer: &mut W,
+    index: &mut Index<D, K>,
+) -> Result<(), ScriptFault>
+where
+    K::Probe: Drop,
+    ensures done { OnOk result (IsDone (CallsIndex (Makes ⟦<Box2 as Shape>⟧ K.is_proper K.said K.KeyClass D.state)) (R.remaining reader.old) (R.remaining reader.new)
+        (W.contents writer.old) (W.contents writer.new) index.old index.new) }
+    ensures stopped { IfErr result (IsStopped (CallsIndex (Makes ⟦<Box2 as Shape>⟧ K.is_proper K.said K.KeyClass D.state)) (R.remaining reader.old) (R.remaining reader.new)
+        (W.contents writer.old) (W.contents writer.new) index.old index.new) }
+{
+    gx_script::run(reader, writer, index)
+}

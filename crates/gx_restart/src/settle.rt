@@ -1,0 +1,83 @@
+//! What is logged is gated.
+ghost use Rattle.std.specs.Prelude.{OnOk, ◌≡◌, false, MatchOption};
+ghost use Rattle.gx_node.specs.Reading.{format_of, is_node};
+ghost use Rattle.gx_recovery.specs.Known.{Limits};
+ghost use Rattle.gx_readings.specs.Classes.{class_of, reading_of};
+ghost use Rattle.gx_restart.specs.Alone.{RunsOn};
+ghost use Rattle.gx_restart.specs.Made.{Makes};
+ghost use Rattle.gx_restart.specs.Settled.{IsAtRest, IsExhausted, IsGoingOn, IsRepeated, KeepsSessions, Settles, SettlesOn, last_of};
+
+use crate::Index;
+use crate::index::EVENTS;
+use gx_class::Probing;
+use gx_disk::SectorDisk;
+use gx_engine::Engine;
+use gx_events::{Event, Outcome};
+use gx_geom::Refusal;
+use gx_readings::ReadKeys;
+
+// Makes an event over and over, until there is nothing to do or it is refused. None where the bound is passed before.
+fn repeat<D: SectorDisk, K: ReadKeys + Probing>(
+    engine: &mut Engine<D, K>,
+    event: Event<K::Key>,
+) -> Option<Result<(), Refusal>>
+where
+    K::Probe: Drop,
+    ensures { MatchOption result (IsGoingOn (Makes K.Key.Shape K.is_proper K.said K.KeyClass D.state) event engine.old EVENTS engine.new)
+        (λ ends. IsRepeated (Makes K.Key.Shape K.is_proper K.said K.KeyClass D.state) event engine.old (last_of ends) engine.new) }
+{
+    for _turn in 0..EVENTS {
+        match engine.step(event) {
+            Outcome::Nothing => return Some(Ok(())),
+            Outcome::Refused(why) => return Some(Err(why)),
+            Outcome::Replied(_) | Outcome::More | Outcome::Help(_) => {}
+        }
+    }
+    None
+}
+
+impl<D: SectorDisk, K: ReadKeys + Probing> Index<D, K>
+where
+    K::Probe: Drop,
+{
+    // Makes an event over and over, until it has nothing to do.
+    fn exhaust(&mut self, event: Event<K::Key>) -> Result<(), Refusal>
+        requires { self.old.ended ≡ false }
+        ensures { IsExhausted (Makes K.Key.Shape K.is_proper K.said K.KeyClass D.state) event self.old.engine result self.new.engine self.new.ended }
+    {
+        match repeat(&mut self.engine, event) {
+            Some(ends) => ends,
+            None => {
+                self.ended = true;
+                Err(Refusal::Damaged)
+            }
+        }
+    }
+
+    // Steps of the checkpoint, and then of the log, until there is nothing to do.
+    fn exhaust_both(&mut self) -> Result<(), Refusal>
+        requires { self.old.ended ≡ false }
+        ensures { SettlesOn (Makes K.Key.Shape K.is_proper K.said K.KeyClass D.state) self.old result self.new }
+    {
+        self.exhaust(Event::CheckpointStep)?;
+        self.exhaust(Event::LogStep)
+    }
+
+    /// Ends a checkpoint that runs or is due, and gates all that is logged: checkpoint steps until there is nothing to do, and then
+    /// log steps. It takes no memory, and changes no set, claim or predicate, and no call that is open.
+    ///
+    /// Refused with `Device`, `Failed` or `Damaged` as an event was. Where one of both takes more than `EVENTS` events it is given up,
+    /// with `Damaged`; from then on the index only refuses, with `Failed`.
+    pub fn settle(&mut self) -> Result<(), Refusal>
+        ensures settles { Settles (Makes K.Key.Shape K.is_proper K.said K.KeyClass D.state) self.old result self.new }
+        ensures runs { (l : Limits) → RunsOn (class_of K.Key.Shape K.is_proper l) (reading_of K.said (format_of K.KeyClass)) (format_of K.KeyClass) (is_node (format_of K.KeyClass))
+            D.state self.old.engine self.new.engine }
+        ensures rests { OnOk result (IsAtRest self.new.engine) }
+        ensures keeps { KeepsSessions self.old.engine self.new.engine }
+    {
+        if self.ended {
+            return Err(Refusal::Failed);
+        }
+        self.exhaust_both()
+    }
+}
