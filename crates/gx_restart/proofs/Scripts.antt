@@ -172,7 +172,7 @@ module _ {C D : Type 0} (shape : Members Rectangle) (proper : Rectangle → Bool
             calls_and_replies (record_of rest.runs.steps),
             script.1,
             joined box_keys first.runs.steps rest.runs.steps
-            ∙ ap (λ (items : List (Item Rectangle)). items ++ calls_and_replies (record_of rest.runs.steps)) first.runs.record_is,
+                ∙ ap (λ (items : List (Item Rectangle)). items ++ calls_and_replies (record_of rest.runs.steps)) first.runs.record_is,
             script.5 ∙ ap (λ (t : List ℕ). t ++ script.1) told.2,
             rest.runs.tells,
           );

@@ -21,8 +21,8 @@ ghost use Rattle.gx_restart.specs.Made.{Makes};
 ghost use Rattle.gx_restart.specs.Settled.{IsAtRest};
 ghost use Rattle.gx_restart.specs.States.{State};
 
-use gx_disk::SectorDisk;
 use gx_class::KeyClass;
+use gx_disk::SectorDisk;
 use gx_geom::{Box2, Shape};
 use gx_readings::ReadKeys;
 

@@ -22,6 +22,7 @@ use std::process::Abort;
 
 // How many pages the tests' devices have, and how many entries a node.
 const PAGES: u32 = 16;
+
 const MOST: u16 = 4;
 
 // So many bytes.
@@ -42,7 +43,9 @@ fn fresh(alloc: Global) -> Option<Index<MemDisk, Box2Class>> {
     }
     let pool = Pool::with_capacity(alloc, 16, NodeTest::new(PAGES)).ok()?;
     let store = PageStore::new(disk, pool, 2, 0, PAGES);
-    let log = Glog::start(alloc, Extent::A, 1).ok()?;
+    let Ok(log) = Glog::start(alloc, Extent::A, 1) else {
+        return None;
+    };
     let key = room(alloc, Box2Class::KEY)?;
     let storage = Storage::new(log, store, usize::from(MOST), key);
     let sessions = Sessions::new(alloc, 0, 0, 1).ok()?;
