@@ -1,0 +1,179 @@
+-- The pages of a store that is only read: what tests of them say of the pages of a device.
+use Rattle.std.proofs.Common.{◌≡◌, inl, inr, ℕ, ◌+◌, Bool, List, [], ◌∷◌, length, Option, Some, None, IsSome, Result, Ok, Err, refl, sym, ap, subst, ◌∙◌, arith}
+use Rattle.std.specs.Prelude.{slice_get}
+use Rattle.std.specs.declared.cmp.Ordering.{Ordering}
+use Rattle.std.proofs.lemmas.Bool.{leb-true, le-leb, cases_eq}
+use Rattle.std.proofs.lemmas.Option.{slice_get_within}
+use Rattle.gx_disk.specs.Device.{Device}
+use Rattle.gx_geom.specs.declared.refusal.Refusal.{Refusal}
+use Rattle.gx_machine.specs.declared.entry.Entry.{Entry}
+use Rattle.gx_page.specs.Contents.{Contents}
+use Rattle.gx_pool.specs.Area.{IsPassing, bytes_of}
+use Rattle.gx_pool.specs.Bringing.{HasImage}
+use Rattle.gx_pool.specs.State.{Kept, kept, stamp_of}
+use Rattle.gx_node.specs.Reading.{Format}
+use Rattle.gx_recovery.specs.Records.{Touch}
+use Rattle.gx_legality.specs.Owner.{IsFound, IsWhy}
+use Rattle.gx_legality.specs.Gathered.{Ascends}
+use Rattle.gx_legality.specs.Placing.{IsPlaced, IsOutOfPlace, noted}
+use Rattle.gx_legality.specs.declared.fault.Rule.{Rule}
+use Rattle.gx_legality.specs.declared.fault.LegalityFault.{LegalityFault}
+use Rattle.gx_legality.specs.declared.fault.LegalityFault.TheVariants as fault
+use Rattle.gx_legality.specs.declared.notes.Note.{Note}
+use Rattle.gx_legality.proofs.Children.{reads_same}
+use Rattle.gx_legality.proofs.Slots.{each_slot, slot_of, some_against}
+use Rattle.gx_store.specs.Faults as faults
+use Rattle.gx_store.specs.Faults.{CanBeRead, is_taken}
+use Rattle.gx_store.specs.Since.{IsSince}
+use Rattle.gx_store.specs.Standing.{standing_node}
+use Rattle.gx_store.specs.State.{IsInOrder, IsSteady, Shelf}
+use Rattle.gx_store.specs.declared.fault.StoreFault.{StoreFault}
+use Rattle.gx_store.specs.declared.fault.StoreFault.TheVariants as store_fault
+use Rattle.gx_store.proofs.Listed.{nodes_long}
+use Rattle.gx_tree.specs.Store as store
+use Rattle.gx_tree_laws.specs.Legal.{Legal}
+use Rattle.gx_tree_laws.specs.Lists.{Each, SomeOf}
+use Rattle.gx_tree_laws.specs.Trees.{Rules, Tree}
+use Rattle.gx_opening.specs.Noting.{AreNoted, AreOfOthers, IsOfOne, note_of}
+use Rattle.gx_opening.specs.Sound.{AllInPlace, AreClean, CanAllBeRead, CanReadStore, IsDamage, IsShownSound, IsSoundStore, OnlyReadsStore, Tells, shown_tree}
+
+-- ---- one page that was brought
+
+some_kept : (o : Option Kept) → IsSome o → (k : Kept) × (o ≡ Some k)
+some_kept None is = absurd (grind (arith, is))
+some_kept (Some k) is = (k, refl)
+
+-- a page that is kept clean, of a store that is only read, passes on its device
+pub brought_passes : {D : Type 0} (passes : ℕ → Contents → Bool) (d e : Device) (old new : Shelf D) (page : ℕ) → IsSteady d old.frames → AreClean old.frames → IsSince passes d e old new page
+    → IsInOrder (passes new.pages) e.sectors new.frames new.used new.pages → IsSome (kept new.frames page) → IsPassing (passes old.pages) page (bytes_of d.seen page)
+brought_passes passes d e old new page steady clean since order is =
+    let one = some_kept (kept new.frames page) is in
+    let k : Kept = one.0 in
+    let stamp : k.stamp ≡ None = ap stamp_of (sym one.1) ∙ since.same.stamp ∙ clean page in
+    let image : HasImage (bytes_of e.seen page) k.page = (since.goes_on.steady steady).backed page k one.1 stamp in
+    let seen : e.seen ≡ d.seen = (since.goes_on.device.rests steady.honest).seen in
+    let passed = order.passed page k one.1 in
+    subst (λ (s : List ℕ). IsPassing (passes old.pages) page (bytes_of s page)) seen (record {
+      image = image.image;
+      number = ap (λ (c : Contents). c.number) image.read ∙ passed.0;
+      passing = ap (passes old.pages) image.read ∙ ap (λ n. passes n k.page) (sym since.goes_on.pages) ∙ passed.1;
+    })
+
+-- what can all be read can be read by a store
+pub can_be_read : {D : Type 0} (passes : ℕ → Contents → Bool) (d : Device) (s : Shelf D) → CanAllBeRead (passes s.pages) s.used d.seen → CanBeRead passes d s
+can_be_read passes d s all = λ page low taken none. all page low (leb-true page s.used taken)
+
+-- and the other way round, of a store that keeps none
+pub can_all_be_read : {D : Type 0} (passes : ℕ → Contents → Bool) (d : Device) (s : Shelf D) → ((page : ℕ) → kept s.frames page ≡ None) → CanBeRead passes d s → CanAllBeRead (passes s.pages) s.used d.seen
+can_all_be_read passes d s none can = λ page low high. can page low (le-leb page s.used high) (none page)
+
+-- ---- why a test was refused
+
+module _ {D : Type 0} (breaks : ℕ → Rule → Type 0) (passes : ℕ → Contents → Bool) (d e : Device) (old new : Shelf D) where
+  -- what is damage isn't legal, where pages can be read
+  pub damage_told : (P : Type 0) (why : LegalityFault StoreFault) → IsDamage why → IsWhy (faults.IsWhy passes d e old new) why → IsFound breaks why
+      → ((page : ℕ) (rule : Rule) → breaks page rule → P → ⊥) → IsSteady d old.frames → CanBeRead passes d old → P → ⊥
+  damage_told P fault.Memory is told found never steady can so = is
+  damage_told P (fault.Pages store_fault.NoRoom) is told found never steady can so = is
+  damage_told P (fault.Pages (store_fault.TooFewFrames n)) is told found never steady can so = is
+  damage_told P (fault.Pages store_fault.Device) is told found never steady can so = is
+  damage_told P (fault.Pages store_fault.Damaged) is told found never steady can so = told steady can
+  damage_told P (fault.Broken page rule) is told found never steady can so = never page rule found so
+  damage_told P fault.Unsteady is told found never steady can so = found
+
+-- ---- notes and touches
+
+module _ {E : Type 0} (cmp : E → E → Ordering) where
+  some_in : (P : Note E → Type 0) (notes : List (Note E)) (m : Note E) → SomeOf (λ x. x ≡ m) notes → Each P notes → P m
+  some_in P [] m some each = absurd some
+  some_in P (n ∷ notes) m (inl here) each = subst P here each.0
+  some_in P (n ∷ notes) m (inr some) each = some_in P notes m some each.1
+
+  each_of_one : (P : Note E → Type 0) (touched : List (Touch E)) (n : ℕ) (notes : List (Note E)) → Each (IsOfOne cmp touched n) notes → ((k : ℕ) (t : Touch E) → slice_get touched k ≡ Some t → P (note_of t))
+      → Each P notes
+  each_of_one P touched n [] only all = tt
+  each_of_one P touched n (x ∷ notes) only all = (subst P (sym only.0.same) (all only.0.at only.0.touch only.0.there), each_of_one P touched n notes only.1 all)
+
+  -- what holds of all notes holds of all touches
+  pub touches_have : (P : Note E → Type 0) (touched : List (Touch E)) (notes : List (Note E)) → AreNoted cmp touched (length touched) notes → Each P notes → Each (λ t. P (note_of t)) touched
+  touches_have P touched notes so each =
+      each_slot (λ t. P (note_of t)) touched (λ k t there. some_in P notes (note_of t) (so.all k t (slice_get_within touched k t there) there) each)
+
+  -- and the other way round
+  pub notes_have : (P : Note E → Type 0) (touched : List (Touch E)) (notes : List (Note E)) → AreNoted cmp touched (length touched) notes → Each (λ t. P (note_of t)) touched → Each P notes
+  notes_have P touched notes so each = each_of_one P touched (length touched) notes so.only (λ k t there. slot_of (λ t. P (note_of t)) touched k t each there)
+
+module _ {B : Type 0} (r : Rules B) (t : Tree B) (cmp : Entry B → Entry B → Ordering) (touched : List (Touch (Entry B))) (notes : List (Note (Entry B))) (so : AreNoted cmp touched (length touched) notes) where
+  pub all_in_place : Each (IsPlaced r t) notes → AllInPlace r t touched
+  all_in_place each = touches_have cmp (IsPlaced r t) touched notes so each
+
+  pub one_out_of_place : (page : ℕ) (rule : Rule) → IsOutOfPlace r t notes page rule → AllInPlace r t touched → ⊥
+  one_out_of_place page rule out placed =
+      some_against (λ n. (n.leaf ≡ page) × (¬ IsPlaced r t n)) (IsPlaced r t) notes (λ n no is. no.1 is) out.1 (notes_have cmp (IsPlaced r t) touched notes so placed)
+
+-- ---- a store that was only read
+
+module _ {B D : Type 0} (f : Format B) (passes : ℕ → Contents → Bool) (state : D → Device) where
+  abbrev Reads : Shelf D → Shelf D → Type 0
+  Reads old new = OnlyReadsStore f passes state old new
+
+  -- it has gone on for each page
+  pub since_all : (old new : Shelf D) → Reads old new → ((page : ℕ) → IsSince passes (state old.disk) (state old.disk) old old page) → (page : ℕ)
+      → IsSince passes (state old.disk) (state new.disk) old new page
+  since_all old new reads begins page = reads.goes_on old page (begins page)
+
+  -- as many pages are taken
+  pub used_same : (old new : Shelf D) → Reads old new → new.used ≡ old.used
+  used_same old new reads =
+      sym (nodes_long (standing_node f new.frames (state new.disk).seen) new.used) ∙ reads.stays.used ∙ nodes_long (standing_node f old.frames (state old.disk).seen) old.used
+
+  -- pages that can be read still can be
+  pub can_still : (old new : Shelf D) → Reads old new → ((page : ℕ) → IsSince passes (state old.disk) (state old.disk) old old page) → IsSteady (state old.disk) old.frames
+      → CanReadStore f passes state old → CanReadStore f passes state new
+  can_still old new reads begins steady can = (since_all old new reads begins 1).goes_on.readable steady can
+
+  -- the same tree is shown
+  pub shows_same : (old new : Shelf D) → Reads old new → IsSteady (state old.disk) old.frames → shown_tree f passes state new ≡ shown_tree f passes state old
+  shows_same old new reads steady = ap (λ (s : store.Store B). store.tree_of s) (reads_same old new reads steady)
+
+  module _ (r : Rules B) (touched : List (Touch (Entry B))) (a b : Shelf D) (reads : Reads a b) (steady : IsSteady (state a.disk) a.frames) where
+    -- what is shown behind a reading was shown before it
+    pub shown_before : (result : Result (Unit {0}) Refusal) → Tells {T = Unit {0}} (AllInPlace r (shown_tree f passes state b) touched) result → Legal r (shown_tree f passes state a)
+        → Tells {T = Unit {0}} (IsShownSound r touched (shown_tree f passes state a)) result
+    shown_before (Ok done) placed legal = record { legal = legal; placed = subst (λ (t : Tree B). AllInPlace r t touched) (shows_same a b reads steady) placed }
+    shown_before (Err why) refused legal = λ is sound. refused is (subst (λ (t : Tree B). AllInPlace r t touched) (sym (shows_same a b reads steady)) sound.placed)
+
+    -- so is a store's soundness, where its pages can be read
+    pub sound_before : (result : Result (Unit {0}) Refusal) → CanAllBeRead (passes a.pages) a.used (state a.disk).seen
+        → Tells {T = Unit {0}} (IsShownSound r touched (shown_tree f passes state b)) result → Tells {T = Unit {0}} (IsSoundStore f passes state r touched a) result
+    sound_before (Ok done) read shown = record { read = read; shown = subst (λ (t : Tree B). IsShownSound r touched t) (shows_same a b reads steady) shown }
+    sound_before (Err why) read refused = λ is sound. refused is (subst (λ (t : Tree B). IsShownSound r touched t) (sym (shows_same a b reads steady)) sound.shown)
+
+-- what is said of one thing is said of another that holds just where it does
+pub tells_so : {T : Type 0} (P Q : Type 0) (result : Result T Refusal) → (P → Q) → (Q → P) → Tells {T = T} P result → Tells {T = T} Q result
+tells_so P Q (Ok done) there back told = there told
+tells_so P Q (Err why) there back told = λ is q. told is (back q)
+
+-- one page more can be read
+pub read_more : (passes : Contents → Bool) (n : ℕ) (seen : List ℕ) → CanAllBeRead passes n seen → IsPassing passes (n + 1) (bytes_of seen (n + 1)) → CanAllBeRead passes (n + 1) seen
+read_more passes n seen all here = λ page low high. elim (cases_eq page (n + 1)) [
+  | inl same ↦ subst (λ p. IsPassing passes p (bytes_of seen p)) (sym same) here
+  | inr other ↦ all page low (omega (arith, high, other))
+]
+
+pub none_read : (passes : Contents → Bool) (seen : List ℕ) → CanAllBeRead passes 0 seen
+none_read passes seen = λ page low high. absurd (omega (arith, low, high))
+
+module _ {B : Type 0} (r : Rules B) (t : Tree B) where
+  -- a note out of place is one that isn't in it
+  pub notes_out : (notes : List (Note (Entry B))) (page : ℕ) (rule : Rule) → IsOutOfPlace r t notes page rule → Each (IsPlaced r t) notes → ⊥
+  notes_out notes page rule out placed = some_against (λ n. (n.leaf ≡ page) × (¬ IsPlaced r t n)) (IsPlaced r t) notes (λ n un is. un.1 is) out.1 placed
+
+  -- a test of notes is one of touches
+  pub touched_told : (cmp : Entry B → Entry B → Ordering) (touched : List (Touch (Entry B))) (notes slice : List (Note (Entry B))) (result : Result (Unit {0}) Refusal) → slice ≡ notes
+      → AreNoted cmp touched (length touched) notes → (Ascends cmp (noted slice) → Tells {T = Unit {0}} (Each (IsPlaced r t) slice) result) → AreOfOthers cmp touched
+      → Tells {T = Unit {0}} (AllInPlace r t touched) result
+  touched_told cmp touched notes slice result same so told others =
+      tells_so (Each (IsPlaced r t) notes) (AllInPlace r t touched) result (touches_have cmp (IsPlaced r t) touched notes so) (notes_have cmp (IsPlaced r t) touched notes so)
+      (subst (λ (ns : List (Note (Entry B))). Tells {T = Unit {0}} (Each (IsPlaced r t) ns) result) same
+      (told (subst (λ (ns : List (Note (Entry B))). Ascends cmp (noted ns)) (sym same) (so.in_order others))))

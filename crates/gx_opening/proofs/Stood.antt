@@ -1,0 +1,179 @@
+-- An index that stands on a device, from its calls.
+use Rattle.std.proofs.Common.{◌≡◌, inl, inr, ℕ, Bool, true, List, Result, Ok, Err, ◌≤◌, refl, sym, subst, ◌∙◌, ⊎_elim, arith}
+use Rattle.gx_disk.specs.Device.{Device, MayLeave, Rests, SamePending}
+use Rattle.gx_disk.specs.Moments.{Leaves}
+use Rattle.gx_disk.proofs.Leaving.{call_leaves, leaves_joined, leaves_weaker, rested_image}
+use Rattle.gx_pool.specs.Bringing.{OnlyRead}
+use Rattle.gx_glog.specs.declared.parameters.Parameters.{Parameters}
+use Rattle.gx_glog.proofs.Told.{told}
+use Rattle.gx_geom.specs.declared.refusal.Refusal.{Refusal}
+use Rattle.gx_geom.specs.declared.refusal.Refusal.TheVariants as refusal
+use Rattle.gx_machine.specs.declared.entry.Entry.{Entry}
+use Rattle.gx_machine.specs.Keys.{Members}
+use Rattle.gx_node.specs.Reading.{Format, is_node}
+use Rattle.gx_found_log.specs.declared.found.FoundLog.{FoundLog}
+use Rattle.gx_found_log.specs.Found.{FaultsTold, HasUndamaged}
+use Rattle.gx_index_laws.specs.Classes.{Page}
+use Rattle.gx_recovery.specs.Known.{Known, IsLawful}
+use Rattle.gx_durable.specs.Spelled.{Reading}
+use Rattle.gx_opening.specs.Formatted.{OnlyRests, Says, Settles}
+use Rattle.gx_opening.specs.Laid.{HasFoundLog, IsKeptOrFound, IsLaid, LaysLog}
+use Rattle.gx_opening.specs.Sound.{AreSound, IsCause, Tells}
+use Rattle.gx_opening.specs.Standing.{IsFormatted, IsTested, IsUnlaid, Stands, StaysSafe, known_for, reading, told_with}
+use Rattle.gx_opening.specs.Noting.{AreOfOthers}
+use Rattle.gx_opening.specs.declared.standing.Standing.{Standing}
+use Rattle.gx_opening.proofs.Others.{log_of_others}
+use Rattle.std.specs.Prelude.{IfOk, IfErr}
+use Rattle.gx_recovery.specs.Analysis.{Analysis}
+use Rattle.gx_recovery.specs.Damage.{records_of}
+use Rattle.gx_recovery.specs.Redo.{redone}
+use Rattle.gx_redo.specs.Redone.{HasSamePages}
+use Rattle.gx_durable.specs.Area.{area_of}
+
+-- an image says one thing
+pub one_saying : (image : List ℕ) (p q : Parameters) → Says image p → Says image q → p ≡ q
+one_saying image p q this that = told p q this.fit that.fit (sym this.bytes ∙ that.bytes)
+
+module _ {E P : Type 0} (k : Known E P) (r : Reading E P) where
+  -- a device that only rests keeps what it could leave
+  pub rests_safe : (a b : Device) → OnlyRests a b → Leaves (IsKeptOrFound k r a) a b
+  rests_safe a b only = leaves_weaker (MayLeave a) (IsKeptOrFound k r a) a b (λ image may. inl may) only.leaves
+
+  found_since : (a b : List ℕ) (image : List ℕ) → b ≡ a → HasFoundLog k r b image → HasFoundLog k r a image
+  found_since a b image same has = subst (λ (s : List ℕ). HasFoundLog k r s image) same has
+
+  -- so what is laid behind it is safe since before
+  pub laid_safe : (a b c : Device) → OnlyRests a b → Leaves (IsKeptOrFound k r b) b c → Leaves (IsKeptOrFound k r a) a c
+  laid_safe a b c only next =
+      leaves_joined (IsKeptOrFound k r a) a b c (rests_safe a b only)
+      (leaves_weaker (IsKeptOrFound k r b) (IsKeptOrFound k r a) b c
+      (λ image has. ⊎_elim (λ may. inl (rested_image a b only.rests image may)) (λ found. inr (found_since a.seen b.seen image only.rests.seen found)) has) next)
+
+  -- what may be left now was so left at some moment since
+  module _ {D : Type 0} (state : D → Device)
+      (counts_now : (d : D) (t : ℕ) (image : List ℕ) → (state d).honest ≡ true → t ≤ (state d).moment → MayLeave (state d) image → (state d).left_since t image)
+      (only_now : (d : D) (image : List ℕ) → (state d).honest ≡ true → (state d).left_since (state d).moment image → MayLeave (state d) image) where
+    left_now : (a b : D) → (state a).honest ≡ true → (state b).honest ≡ true → Leaves (IsKeptOrFound k r (state a)) (state a) (state b) → (image : List ℕ) → MayLeave (state b) image
+        → IsKeptOrFound k r (state a) image
+    left_now a b one other leaves image may =
+        ⊎_elim (λ left. inl (only_now a image one left)) (λ has. has)
+        (leaves.only (state a).moment image (omega arith) (counts_now b (state a).moment image other leaves.later may))
+
+    -- and reading behind that is safe too
+    pub read_safe : (a b c : D) → (state a).honest ≡ true → (state b).honest ≡ true → Leaves (IsKeptOrFound k r (state a)) (state a) (state b) → OnlyRead (state b) (state c)
+        → Leaves (IsKeptOrFound k r (state a)) (state a) (state c)
+    read_safe a b c one other first read =
+        leaves_joined (IsKeptOrFound k r (state a)) (state a) (state b) (state c) first
+        (call_leaves (IsKeptOrFound k r (state a)) (state b) (state c) (read.time other)
+        (λ image may. left_now a b one other first image (rested_image (state b) (state c) (read.rests other) image may)))
+
+-- ---- why a reading is refused
+
+pub told_cause : (T : Type 0) (before now : ℕ) (why : Refusal) → FaultsTold {T = T} before now (Err why) → IsCause why
+told_cause T before now refusal.Device is = inl refl
+told_cause T before now refusal.Memory is = inr (inl refl)
+told_cause T before now refusal.Damaged is = inr (inr refl)
+told_cause T before now (refusal.Busy n) is = absurd is
+told_cause T before now refusal.NoTransaction is = absurd is
+told_cause T before now refusal.InTransaction is = absurd is
+told_cause T before now refusal.Present is = absurd is
+told_cause T before now refusal.Absent is = absurd is
+told_cause T before now refusal.BadBox is = absurd is
+told_cause T before now refusal.PagesFull is = absurd is
+told_cause T before now refusal.ClaimsFull is = absurd is
+told_cause T before now refusal.PredicatesFull is = absurd is
+told_cause T before now refusal.Failed is = absurd is
+told_cause T before now refusal.NotFormatted is = absurd is
+told_cause T before now refusal.BadSession is = absurd is
+told_cause T before now refusal.CallOpen is = absurd is
+told_cause T before now refusal.TooSmall is = absurd is
+told_cause T before now refusal.BadParameter is = absurd is
+told_cause T before now refusal.NoCall is = absurd is
+told_cause T before now refusal.HistoryFull is = absurd is
+
+module _ {B : Type 0} (shape : Members B) (is_key : B → Bool) (said : List ℕ → B) (f : Format B) (class : ℕ) (a b : Device) where
+  -- what was read behind a settling
+  pub formatted_so : (p : Parameters) → 4232 ≤ a.sectors → Settles class a b (Ok p) → IsFormatted shape is_key said f class a p
+  formatted_so p large settles =
+      let t = settles.told large in
+      record { magic = t.0; says = t.1.0; allowed = t.1.1.0; large = t.1.1.1 }
+
+  -- what was refused before the log was read is safe
+  pub settled_safe : OnlyRests a b → StaysSafe shape is_key said f a b
+  settled_safe only = λ p says. rests_safe (known_for shape is_key said f p) (reading shape is_key said f) a b only
+
+  module _ (c : Device) (p : Parameters) (says : Says a.seen p) (only : OnlyRests a b) where
+    abbrev k : Known (Entry B) (Page B)
+    k = known_for shape is_key said f p
+
+    abbrev r : Reading (Entry B) (Page B)
+    r = reading shape is_key said f
+
+    -- what was read and laid is safe
+    pub stood_safe : Leaves (IsKeptOrFound k r b) b c → StaysSafe shape is_key said f a c
+    stood_safe leaves = λ q so. subst (λ (x : Parameters). Leaves (IsKeptOrFound (known_for shape is_key said f x) r a) a c) (one_saying a.seen p q says so) (laid_safe k r a b c only leaves)
+
+    pub laid_so : (log : FoundLog (Entry B)) → LaysLog k r b c (Ok log) → IsLaid k r a.seen c log
+    laid_so log lays = subst (λ (s : List ℕ). IsLaid k r s c log) only.rests.seen lays.log
+
+    pub unlaid_so : (why : Refusal) → IsFormatted shape is_key said f class a p → FaultsTold {T = FoundLog (Entry B)} b.faults c.faults (Err why) → LaysLog k r b c (Err why)
+        → IsUnlaid shape is_key said f class a why
+    unlaid_so why formatted faults lays = record {
+      parameters = p;
+      formatted = formatted;
+      cause = told_cause (FoundLog (Entry B)) b.faults c.faults why faults;
+      damaged = λ is log. lays.log is (subst (λ (s : List ℕ). HasUndamaged k r s) (sym only.rests.seen) log);
+    }
+
+module _ {B : Type 0} (shape : Members B) (is_key : B → Bool) (said : List ℕ → B) (f : Format B) (class : ℕ) (a b c : Device) (s : Standing B) where
+  abbrev known_there : Known (Entry B) (Page B)
+  known_there = known_for shape is_key said f s.parameters
+
+  abbrev reading_there : Reading (Entry B) (Page B)
+  reading_there = reading shape is_key said f
+
+  abbrev sound_on : List ℕ → Type 0
+  sound_on seen = AreSound known_there reading_there (is_node f s.parameters.pages) s.log.analysis.told seen
+
+  -- what was cut off is of others
+  pub cut_off_others : IsLawful known_there → IsLaid known_there reading_there a.seen b s.log → AreOfOthers known_there.cmp s.log.analysis.told.touched
+  cut_off_others lawful laid =
+      subst (λ (x : Analysis (Entry B)). AreOfOthers known_there.cmp x.touched) (sym laid.is.kept.told) (log_of_others known_there lawful laid.is.log.bodies laid.is.log.undamaged)
+
+  module _ (formatted : IsFormatted shape is_key said f class a s.parameters) (laid : IsLaid known_there reading_there a.seen b s.log) (rests : Rests b c) (pending : SamePending b c) where
+    -- what is laid stays so where the device is read
+    laid_read : IsLaid known_there reading_there a.seen c s.log
+    laid_read = record {
+      is = laid.is;
+      settled = λ n. pending n ∙ laid.settled n;
+      area = subst (λ (x : List ℕ). (p : ℕ) → area_of reading_there known_there.pages x p ≡ redone (area_of reading_there known_there.pages a.seen) (records_of laid.is.log.bodies) p) (sym rests.seen) laid.area;
+      same = subst (λ (x : List ℕ). HasSamePages known_there reading_there a.seen (records_of laid.is.log.bodies) x) (sym rests.seen) laid.same;
+    }
+
+    -- its pages were tested
+    pub tested_so : (result : Result (Standing B) Refusal) → IfOk result (λ x. x ≡ s) → IfErr result IsCause → Tells {T = Standing B} (sound_on b.seen) result
+        → IsTested shape is_key said f class a c result
+    tested_so (Ok x) same cause sound = subst (λ (y : Standing B). Stands shape is_key said f class a c y) (sym same)
+        (record { formatted = formatted; laid = laid_read; sound = subst sound_on (sym rests.seen) sound })
+    tested_so (Err why) same cause unsound = inr (inr (record {
+      parameters = s.parameters;
+      formatted = formatted;
+      log = s.log;
+      laid = laid_read;
+      cause = cause;
+      unsound = λ is sound. unsound is (subst sound_on rests.seen sound);
+    }))
+
+-- what a test passed leaves of what was found
+module _ {T : Type 0} where
+  pub with_same : (sound : Result (Unit {0}) Refusal) (x : T) → IfOk (told_with sound x) (λ y. y ≡ x)
+  with_same (Ok done) x = refl
+  with_same (Err why) x = tt
+
+  pub with_cause : (sound : Result (Unit {0}) Refusal) (x : T) → IfErr sound IsCause → IfErr (told_with sound x) IsCause
+  with_cause (Ok done) x cause = tt
+  with_cause (Err why) x cause = cause
+
+  pub with_told : (P : Type 0) (sound : Result (Unit {0}) Refusal) (x : T) → Tells {T = Unit {0}} P sound → Tells {T = T} P (told_with sound x)
+  with_told P (Ok done) x told = told
+  with_told P (Err why) x told = told

@@ -1,0 +1,19 @@
+use Rattle.std.proofs.Common.{inl, inr}
+use Rattle.gx_opening.proofs.Laying.{none_laid, redone_lays, redo_refused}
+use Rattle.gx_opening.proofs.log.lay_found.Goals as goal
+use Rattle.gx_opening.proofs.log.lay_found.Goals.{then-found-eq0-via-then-found-eq0, then-found-eq0-via-else-found-eq0+then-found-gt32}
+
+pub returns-then-found-eq0-clause-lays : goal.returns-then-found-eq0-clause-lays
+returns-then-found-eq0-clause-lays g c = λ l same lawful honest settled is.
+    none_laid _ _ (g.D.SectorDisk.state c.args.disk.now) c.args.found is (elim c.then-found-eq0.branch [
+      | then-found-eq0-via-then-found-eq0 w ↦ inl w.if-found-eq0.true
+      | then-found-eq0-via-else-found-eq0+then-found-gt32 w ↦ inr w.if-found-gt32.true
+    ])
+
+pub returns-in-Ok-clause-lays : goal.returns-in-Ok-clause-lays
+returns-in-Ok-clause-lays g c = λ l same lawful honest settled is.
+    redone_lays _ _ (g.D.SectorDisk.state c.args.disk.now) (g.D.SectorDisk.state c.redo_log.new.disk) c.args.found lawful honest settled is c.in-Ok.field-0 (c.in-Ok.ensures.redoes l same)
+
+pub returns-in-Err-clause-lays : goal.returns-in-Err-clause-lays
+returns-in-Err-clause-lays g c = λ l same lawful honest settled is.
+    redo_refused _ _ (g.D.SectorDisk.state c.args.disk.now) (g.D.SectorDisk.state c.redo_log.new.disk) c.args.found lawful honest settled is c.in-Err.why (c.in-Err.ensures.redoes l same)

@@ -1,0 +1,78 @@
+use Rattle.std.proofs.Common.{◌≤◌, ◌∙◌, inr, refl, arith}
+use Rattle.gx_machine.specs.Keys.{Members}
+use Rattle.gx_node.specs.Reading.{format_of}
+use Rattle.gx_opening.specs.Standing.{limits_of}
+use Rattle.gx_opening.proofs.Stood.{formatted_so, laid_so, stood_safe, unlaid_so}
+use Rattle.gx_opening.proofs.standing.stand.Goals as goal
+
+pub returns-in-Ok-lay_log-clause-safe : goal.returns-in-Ok-lay_log-clause-safe
+returns-in-Ok-lay_log-clause-safe g c = λ honest.
+    (let shape : Members g.row.K-Key.Denot = record { partial_cmp = g.K.Key.PartialOrd.partial_cmp; eq = g.K.Key.PartialEq.eq; cmp = g.K.Key.Ord.cmp; overlap = g.K.Key.Shape.overlap; inside = g.K.Key.Shape.inside } in
+    let proper = g.K.ReadKeys.is_proper in
+    let said = g.K.ReadKeys.said in
+    let f = format_of g.K.KeyClass in
+    let state = g.D.SectorDisk.state in
+    let a = state c.args.disk.now in
+    let b = state c.formatted_for.new.disk in
+    let e = state c.lay_log.new.disk in
+    let p = c.in-Ok.parameters in
+    let settles = c.in-Ok.ensures.settles honest in
+    let allowed = c.in-Ok.ensures.allowed in
+    let enough : 4232 ≤ a.sectors = (let least = allowed.0.range.least_pages in let large = allowed.1 in omega (arith, least, large)) in
+    let formatted = formatted_so shape proper said f _ a b p enough settles in
+    let lays = c.in-Ok-lay_log.ensures.lays (limits_of p) refl (c.what_stands_is_legal.ensures.lawful (limits_of p)) (c.in-Ok.ensures.counted.honest ∙ honest) settles.settled in
+    stood_safe shape proper said f 0 a b e p formatted.says settles.only lays.leaves)
+
+pub returns-in-Ok-lay_log-clause-stood : goal.returns-in-Ok-lay_log-clause-stood
+returns-in-Ok-lay_log-clause-stood g c = λ honest large.
+    (let shape : Members g.row.K-Key.Denot = record { partial_cmp = g.K.Key.PartialOrd.partial_cmp; eq = g.K.Key.PartialEq.eq; cmp = g.K.Key.Ord.cmp; overlap = g.K.Key.Shape.overlap; inside = g.K.Key.Shape.inside } in
+    let proper = g.K.ReadKeys.is_proper in
+    let said = g.K.ReadKeys.said in
+    let f = format_of g.K.KeyClass in
+    let state = g.D.SectorDisk.state in
+    let a = state c.args.disk.now in
+    let b = state c.formatted_for.new.disk in
+    let e = state c.lay_log.new.disk in
+    let p = c.in-Ok.parameters in
+    let settles = c.in-Ok.ensures.settles honest in
+    let allowed = c.in-Ok.ensures.allowed in
+    let enough : 4232 ≤ a.sectors = (let least = allowed.0.range.least_pages in let large = allowed.1 in omega (arith, least, large)) in
+    let formatted = formatted_so shape proper said f _ a b p enough settles in
+    let lays = c.in-Ok-lay_log.ensures.lays (limits_of p) refl (c.what_stands_is_legal.ensures.lawful (limits_of p)) (c.in-Ok.ensures.counted.honest ∙ honest) settles.settled in
+    (formatted, laid_so shape proper said f 0 a b e p formatted.says settles.only c.in-Ok-lay_log.log lays))
+
+pub returns-in-Err-lay_log-clause-safe : goal.returns-in-Err-lay_log-clause-safe
+returns-in-Err-lay_log-clause-safe g c = λ honest.
+    (let shape : Members g.row.K-Key.Denot = record { partial_cmp = g.K.Key.PartialOrd.partial_cmp; eq = g.K.Key.PartialEq.eq; cmp = g.K.Key.Ord.cmp; overlap = g.K.Key.Shape.overlap; inside = g.K.Key.Shape.inside } in
+    let proper = g.K.ReadKeys.is_proper in
+    let said = g.K.ReadKeys.said in
+    let f = format_of g.K.KeyClass in
+    let state = g.D.SectorDisk.state in
+    let a = state c.args.disk.now in
+    let b = state c.formatted_for.new.disk in
+    let e = state c.lay_log.new.disk in
+    let p = c.in-Ok.parameters in
+    let settles = c.in-Ok.ensures.settles honest in
+    let allowed = c.in-Ok.ensures.allowed in
+    let enough : 4232 ≤ a.sectors = (let least = allowed.0.range.least_pages in let large = allowed.1 in omega (arith, least, large)) in
+    let formatted = formatted_so shape proper said f _ a b p enough settles in
+    let lays = c.in-Err-lay_log.ensures.lays (limits_of p) refl (c.what_stands_is_legal.ensures.lawful (limits_of p)) (c.in-Ok.ensures.counted.honest ∙ honest) settles.settled in
+    stood_safe shape proper said f 0 a b e p formatted.says settles.only lays.leaves)
+
+pub returns-in-Err-lay_log-clause-stood : goal.returns-in-Err-lay_log-clause-stood
+returns-in-Err-lay_log-clause-stood g c = λ honest large.
+    (let shape : Members g.row.K-Key.Denot = record { partial_cmp = g.K.Key.PartialOrd.partial_cmp; eq = g.K.Key.PartialEq.eq; cmp = g.K.Key.Ord.cmp; overlap = g.K.Key.Shape.overlap; inside = g.K.Key.Shape.inside } in
+    let proper = g.K.ReadKeys.is_proper in
+    let said = g.K.ReadKeys.said in
+    let f = format_of g.K.KeyClass in
+    let state = g.D.SectorDisk.state in
+    let a = state c.args.disk.now in
+    let b = state c.formatted_for.new.disk in
+    let e = state c.lay_log.new.disk in
+    let p = c.in-Ok.parameters in
+    let settles = c.in-Ok.ensures.settles honest in
+    let allowed = c.in-Ok.ensures.allowed in
+    let enough : 4232 ≤ a.sectors = (let least = allowed.0.range.least_pages in let large = allowed.1 in omega (arith, least, large)) in
+    let formatted = formatted_so shape proper said f _ a b p enough settles in
+    let lays = c.in-Err-lay_log.ensures.lays (limits_of p) refl (c.what_stands_is_legal.ensures.lawful (limits_of p)) (c.in-Ok.ensures.counted.honest ∙ honest) settles.settled in
+    inr (unlaid_so shape proper said f _ a b e p formatted.says settles.only c.in-Err-lay_log.why formatted c.in-Err-lay_log.ensures.faults lays))

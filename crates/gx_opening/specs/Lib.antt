@@ -1,0 +1,5 @@
+pub mod Formatted
+pub mod Laid
+pub mod Noting
+pub mod Sound
+pub mod Standing

@@ -1,0 +1,17 @@
+//! Laws of what is found on a device. Each function is its contract alone.
+ghost use Rattle.gx_glog.specs.declared.parameters.Parameters.{Parameters};
+ghost use Rattle.gx_node.specs.Reading.{format_of};
+ghost use Rattle.gx_opening.specs.Standing.{FoundStands, SoundIsGood};
+
+use gx_disk::SectorDisk;
+use gx_readings::ReadKeys;
+use gx_readings::laws::what_stands_is_legal;
+
+/// Pages that are found sound are good for the log that was laid on them. So at each moment of that, whatever a crash may leave that wasn't there
+/// before stands for what the log keeps, as it was found.
+pub fn what_is_found_stands<D: SectorDisk, K: ReadKeys>()
+    ensures stands { (p : Parameters) → FoundStands K.Key.Shape K.is_proper K.said (format_of K.KeyClass) p }
+    ensures good { (p : Parameters) → SoundIsGood K.Key.Shape K.is_proper K.said (format_of K.KeyClass) D.state p }
+{
+    what_stands_is_legal::<K>();
+}

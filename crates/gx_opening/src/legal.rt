@@ -1,0 +1,237 @@
+//! The pages of a device whose log is laid are tested: that each can be read, that they are a legal tree, and that what open transactions have
+//! touched is in its place.
+ghost use Rattle.std.specs.Prelude.{◌≡◌, ◌≤◌, ◌<◌, ◌+◌, ◌*◌, ℕ, true, OnOk, IfErr, Err};
+ghost use Rattle.gx_machine.specs.Keys.{keys_of, entry_cmp};
+ghost use Rattle.gx_node.specs.Reading.{format_of, is_node};
+ghost use Rattle.gx_pool.specs.Bringing.{OnlyRead};
+ghost use Rattle.gx_recovery.specs.Known.{Limits};
+ghost use Rattle.gx_index_laws.specs.Classes.{known_of};
+ghost use Rattle.gx_readings.specs.Classes.{class_of, reading_of};
+ghost use Rattle.gx_tree.specs.Keyed.{rules_of};
+ghost use Rattle.gx_tree_laws.specs.Legal.{Legal};
+ghost use Rattle.gx_tree_laws.specs.Lists.{Each};
+ghost use Rattle.gx_legality.specs.Gathered.{Ascends};
+ghost use Rattle.gx_legality.specs.Placing.{IsPlaced, noted};
+ghost use Rattle.gx_opening.specs.Noting.{AreOfOthers};
+ghost use Rattle.gx_opening.specs.Sound.{AllInPlace, AreClean, AreSound, CanAllBeRead, CanReadStore, IsCause, IsDamage, IsShownSound, IsSoundStore, IsSteadyStore, OnlyReadsStore, Tells, shown_tree};
+
+use crate::notes::notes_of;
+use gx_analysis::{Analysis, Touch};
+use gx_disk::SectorDisk;
+use gx_geom::Refusal;
+use gx_legality::laws::what_breaks_a_rule_is_not_legal;
+use gx_legality::{LegalityFault, Note, are_in_order, test_placed, test_tree};
+use gx_machine::Entry;
+use gx_pool::Pool;
+use gx_readings::ReadKeys;
+use gx_store::laws::{a_store_starts, going_on};
+use gx_store::{NodeTest, PageStore, StoreFault};
+use gx_tree::Pages;
+use std::alloc::Global;
+
+/// How many frames the tests take: two pages are held at a time.
+const TEST_FRAMES: usize = 16;
+
+/// Half of how many pairs are kept at once at most: with 24 bytes each, 64 MiB in all.
+const MOST_HALF: usize = 1_398_101;
+
+// Half of how many pairs a test has to keep at once: no more than stand in so many pages.
+fn half_of(used: u32, most: u16) -> usize
+    ensures { (0 < result) × (result ≤ MOST_HALF) }
+{
+    let pairs = u64::from(used) * u64::from(most);
+    (pairs / 2 + 1).min(MOST_HALF as u64) as usize
+}
+
+// What a store's refusal is, of a test that only reads.
+fn store_refusal(fault: StoreFault) -> Refusal
+    ensures damaged { result ≡ Refusal.Damaged → fault ≡ StoreFault.Damaged }
+    ensures device { result ≡ Refusal.Device → fault ≡ StoreFault.Device }
+    ensures cause { IsCause result }
+{
+    match fault {
+        StoreFault::Device => Refusal::Device,
+        StoreFault::Damaged => Refusal::Damaged,
+        // never, with frames that are all clean
+        StoreFault::NoRoom | StoreFault::TooFewFrames(_) => Refusal::Memory,
+    }
+}
+
+// What a refusal of a test is.
+fn test_refusal(fault: LegalityFault<StoreFault>) -> Refusal
+    ensures damaged { result ≡ Refusal.Damaged → IsDamage fault }
+    ensures cause { IsCause result }
+{
+    match fault {
+        LegalityFault::Memory => Refusal::Memory,
+        LegalityFault::Pages(fault) => store_refusal(fault),
+        LegalityFault::Broken(_, _) | LegalityFault::Unsteady => Refusal::Damaged,
+    }
+}
+
+// Tests that each page in use can be read.
+fn test_readable<D: SectorDisk, K: ReadKeys>(store: &mut PageStore<D, K>) -> Result<(), Refusal>
+    ensures cause { IfErr result IsCause }
+    ensures reads { OnlyReadsStore (format_of K.KeyClass) (is_node (format_of K.KeyClass)) D.state store.old store.new }
+    ensures read { IsSteadyStore (format_of K.KeyClass) (is_node (format_of K.KeyClass)) D.state store.old → AreClean store.old.frames
+        → OnOk result (CanAllBeRead (is_node (format_of K.KeyClass) store.old.pages) store.old.used (D.state store.old.disk).seen) }
+    ensures refused { IsSteadyStore (format_of K.KeyClass) (is_node (format_of K.KeyClass)) D.state store.old
+        → result ≡ Err Refusal.Damaged → CanReadStore (format_of K.KeyClass) (is_node (format_of K.KeyClass)) D.state store.old → ⊥ }
+{
+    going_on::<D, K>();
+    let used = store.used();
+    for before in 0..used {
+        if let Err(fault) = store.bring(&[before + 1]) {
+            return Err(store_refusal(fault));
+        }
+        store.in_order();
+    }
+    Ok(())
+}
+
+// Tests that the tree is legal.
+fn test_legal<D: SectorDisk, K: ReadKeys>(
+    alloc: Global,
+    store: &mut PageStore<D, K>,
+    most: u16,
+) -> Result<(), Refusal>
+    ensures cause { IfErr result IsCause }
+    ensures reads { OnlyReadsStore (format_of K.KeyClass) (is_node (format_of K.KeyClass)) D.state store.old store.new }
+    ensures legal { IsSteadyStore (format_of K.KeyClass) (is_node (format_of K.KeyClass)) D.state store.old → CanReadStore (format_of K.KeyClass) (is_node (format_of K.KeyClass)) D.state store.old
+        → Tells (Legal (rules_of K.Key.Shape most) (shown_tree (format_of K.KeyClass) (is_node (format_of K.KeyClass)) D.state store.old)) result }
+{
+    what_breaks_a_rule_is_not_legal::<K::Key>();
+    let half = half_of(store.used(), most);
+    match test_tree(alloc, store, most, half) {
+        Ok(()) => Ok(()),
+        Err(fault) => Err(test_refusal(fault)),
+    }
+}
+
+// Tests that the entries of notes are in their places, in a legal tree.
+fn test_notes<D: SectorDisk, K: ReadKeys>(
+    alloc: Global,
+    store: &mut PageStore<D, K>,
+    notes: &[Note<Entry<K::Key>>],
+) -> Result<(), Refusal>
+    ensures cause { IfErr result IsCause }
+    ensures reads { OnlyReadsStore (format_of K.KeyClass) (is_node (format_of K.KeyClass)) D.state store.old store.new }
+    ensures placed { (most : ℕ) → IsSteadyStore (format_of K.KeyClass) (is_node (format_of K.KeyClass)) D.state store.old → CanReadStore (format_of K.KeyClass) (is_node (format_of K.KeyClass)) D.state store.old
+        → Legal (rules_of K.Key.Shape most) (shown_tree (format_of K.KeyClass) (is_node (format_of K.KeyClass)) D.state store.old)
+        → Ascends (entry_cmp (keys_of K.Key.Shape)) (noted notes.now)
+        → Tells (Each (IsPlaced (rules_of K.Key.Shape most) (shown_tree (format_of K.KeyClass) (is_node (format_of K.KeyClass)) D.state store.old)) notes.now) result }
+{
+    if !are_in_order(notes) {
+        return Err(Refusal::Damaged);
+    }
+    match test_placed(alloc, store, notes) {
+        Ok(()) => Ok(()),
+        Err(fault) => Err(test_refusal(fault)),
+    }
+}
+
+// Tests that what was touched is in its place, in a legal tree.
+fn test_touched<D: SectorDisk, K: ReadKeys>(
+    alloc: Global,
+    store: &mut PageStore<D, K>,
+    touched: &[Touch<Entry<K::Key>>],
+) -> Result<(), Refusal>
+    ensures cause { IfErr result IsCause }
+    ensures reads { OnlyReadsStore (format_of K.KeyClass) (is_node (format_of K.KeyClass)) D.state store.old store.new }
+    ensures placed { (most : ℕ) → IsSteadyStore (format_of K.KeyClass) (is_node (format_of K.KeyClass)) D.state store.old → CanReadStore (format_of K.KeyClass) (is_node (format_of K.KeyClass)) D.state store.old
+        → Legal (rules_of K.Key.Shape most) (shown_tree (format_of K.KeyClass) (is_node (format_of K.KeyClass)) D.state store.old)
+        → AreOfOthers (entry_cmp (keys_of K.Key.Shape)) touched.now
+        → Tells (AllInPlace (rules_of K.Key.Shape most) (shown_tree (format_of K.KeyClass) (is_node (format_of K.KeyClass)) D.state store.old) touched.now) result }
+{
+    match notes_of(alloc, touched) {
+        Ok(notes) => test_notes(alloc, store, &notes),
+        Err(_) => Err(Refusal::Memory),
+    }
+}
+
+// Tests the tree that pages are which can be read.
+fn test_shown<D: SectorDisk, K: ReadKeys>(
+    alloc: Global,
+    store: &mut PageStore<D, K>,
+    most: u16,
+    touched: &[Touch<Entry<K::Key>>],
+) -> Result<(), Refusal>
+    ensures cause { IfErr result IsCause }
+    ensures reads { OnlyReadsStore (format_of K.KeyClass) (is_node (format_of K.KeyClass)) D.state store.old store.new }
+    ensures shown { IsSteadyStore (format_of K.KeyClass) (is_node (format_of K.KeyClass)) D.state store.old → CanReadStore (format_of K.KeyClass) (is_node (format_of K.KeyClass)) D.state store.old
+        → AreOfOthers (entry_cmp (keys_of K.Key.Shape)) touched.now
+        → Tells (IsShownSound (rules_of K.Key.Shape most) touched.now (shown_tree (format_of K.KeyClass) (is_node (format_of K.KeyClass)) D.state store.old)) result }
+{
+    going_on::<D, K>();
+    match test_legal(alloc, store, most) {
+        Ok(()) => test_touched(alloc, store, touched),
+        Err(why) => Err(why),
+    }
+}
+
+// Makes the three tests over a store that starts.
+fn test_store<D: SectorDisk, K: ReadKeys>(
+    alloc: Global,
+    store: &mut PageStore<D, K>,
+    most: u16,
+    touched: &[Touch<Entry<K::Key>>],
+) -> Result<(), Refusal>
+    ensures cause { IfErr result IsCause }
+    ensures reads { OnlyReadsStore (format_of K.KeyClass) (is_node (format_of K.KeyClass)) D.state store.old store.new }
+    ensures tested { IsSteadyStore (format_of K.KeyClass) (is_node (format_of K.KeyClass)) D.state store.old → AreClean store.old.frames → AreOfOthers (entry_cmp (keys_of K.Key.Shape)) touched.now
+        → Tells (IsSoundStore (format_of K.KeyClass) (is_node (format_of K.KeyClass)) D.state (rules_of K.Key.Shape most) touched.now store.old) result }
+{
+    going_on::<D, K>();
+    match test_readable(store) {
+        Ok(()) => test_shown(alloc, store, most, touched),
+        Err(why) => Err(why),
+    }
+}
+
+// Makes the three tests over a store that starts, and hands its device back.
+fn test_over<D: SectorDisk, K: ReadKeys>(
+    alloc: Global,
+    store: PageStore<D, K>,
+    most: u16,
+    touched: &[Touch<Entry<K::Key>>],
+) -> (D, Result<(), Refusal>)
+    ensures cause { IfErr result.1 IsCause }
+    ensures read { OnlyRead (D.state store.disk) (D.state result.0) }
+    ensures tested { IsSteadyStore (format_of K.KeyClass) (is_node (format_of K.KeyClass)) D.state store → AreClean store.frames → AreOfOthers (entry_cmp (keys_of K.Key.Shape)) touched.now
+        → Tells (IsSoundStore (format_of K.KeyClass) (is_node (format_of K.KeyClass)) D.state (rules_of K.Key.Shape most) touched.now store) result.1 }
+{
+    going_on::<D, K>();
+    let mut store = store;
+    let tested = test_store(alloc, &mut store, most, touched);
+    (store.into_disk(), tested)
+}
+
+/// Tests the pages of a device of so many, with so many entries a node at most, by what its log tells. The device is handed back.
+///
+/// Refused as `Damaged` where more pages are in use than there are, where one of them can't be read, where they aren't a legal tree, or where an
+/// entry that an open transaction touched is neither in its leaf nor to the right of it; by the device's fault (`Device`), and for want
+/// of memory (`Memory`). The device is only read.
+pub(crate) fn test_pages<D: SectorDisk, K: ReadKeys>(
+    alloc: Global,
+    disk: D,
+    analysis: &Analysis<Entry<K::Key>>,
+    pages: u32,
+    most: u16,
+) -> (D, Result<(), Refusal>)
+    requires inside { (pages ≤ 65536) × (4168 + 8 * pages ≤ (D.state disk).sectors) }
+    ensures cause { IfErr result.1 IsCause }
+    ensures read { OnlyRead (D.state disk) (D.state result.0) }
+    ensures tested { (l : Limits) → l.pages ≡ pages → l.most ≡ most → (D.state disk).honest ≡ true → AreOfOthers (entry_cmp (keys_of K.Key.Shape)) analysis.now.told.touched
+        → Tells (AreSound (known_of (class_of K.Key.Shape K.is_proper l)) (reading_of K.said (format_of K.KeyClass)) (is_node (format_of K.KeyClass) pages) analysis.now.told (D.state disk).seen) result.1 }
+{
+    a_store_starts::<D, K>();
+    let used = analysis.used();
+    if pages < used {
+        return (disk, Err(Refusal::Damaged));
+    }
+    let Ok(pool) = Pool::with_capacity(alloc, TEST_FRAMES, NodeTest::<K>::new(pages)) else {
+        return (disk, Err(Refusal::Memory));
+    };
+    let store = PageStore::<D, K>::new(disk, pool, used, analysis.counter(), pages);
+    test_over(alloc, store, most, analysis.touched())
+}

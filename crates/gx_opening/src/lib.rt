@@ -1,0 +1,11 @@
+//! What an opening finds on a device: it is settled and read for what it is formatted for, its log is read and laid, and its pages are tested.
+#![tactic(auto)]
+
+mod formatted;
+pub mod laws;
+mod legal;
+mod log;
+mod notes;
+mod standing;
+
+pub use standing::{Standing, find};

@@ -1,0 +1,50 @@
+//! What open transactions have touched, in the order of entries.
+ghost use Rattle.std.specs.Prelude.{◌≡◌, ◌≤◌, length, take, drop, IfOk};
+ghost use Rattle.gx_opening.specs.Noting.{AreLess, AreNoted, IsNoLess, IsPut};
+
+use gx_analysis::Touch;
+use gx_legality::Note;
+use std::alloc::{AllocError, Global};
+use std::cmp::Ordering;
+
+// How many of these notes at the front are of lesser entries.
+fn place_of<E: Copy + Ord>(notes: &[Note<E>], entry: &E) -> usize
+    ensures inside { result ≤ length notes.now }
+    ensures before { AreLess E.cmp entry.now (take result notes.now) }
+    ensures behind { IsNoLess E.cmp entry.now (drop result notes.now) }
+{
+    for at in 0..notes.len() {
+        if notes[at].entry.cmp(entry) != Ordering::Less {
+            return at;
+        }
+    }
+    notes.len()
+}
+
+// Puts a note behind those of lesser entries.
+fn put<E: Copy + Ord>(notes: &mut Vec<Note<E>>, note: Note<E>) -> Result<(), AllocError>
+    ensures { IfOk result (λ _. IsPut E.cmp note notes.old.items notes.new.items) }
+{
+    let place = place_of(notes, &note.entry);
+    notes.insert(place, note)?;
+    Ok(())
+}
+
+/// A note of each touch, in the order of entries where no two are of one entry.
+pub(crate) fn notes_of<E: Copy + Ord>(
+    alloc: Global,
+    touched: &[Touch<E>],
+) -> Result<Vec<Note<E>>, AllocError>
+    ensures { IfOk result (λ notes. AreNoted E.cmp touched.now (length touched.now) notes.items) }
+{
+    let mut notes = Vec::new(alloc);
+    for at in 0..touched.len() {
+        let touch = &touched[at];
+        let note = Note {
+            entry: touch.entry(),
+            leaf: touch.leaf(),
+        };
+        put(&mut notes, note)?;
+    }
+    Ok(notes)
+}

@@ -1,0 +1,104 @@
+//! What stands on a device.
+ghost use Rattle.std.specs.Prelude.{◌≡◌, ◌+◌, ◌*◌, ◌≤◌, true, IfOk, IfErr};
+ghost use Rattle.gx_machine.specs.Keys.{keys_of, entry_cmp};
+ghost use Rattle.gx_node.specs.Reading.{format_of, is_node};
+ghost use Rattle.gx_pool.specs.Bringing.{OnlyRead};
+ghost use Rattle.gx_index_laws.specs.Classes.{known_of};
+ghost use Rattle.gx_readings.specs.Classes.{class_of, reading_of};
+ghost use Rattle.gx_opening.specs.Formatted.{IsAllowed, IsLarge};
+ghost use Rattle.gx_opening.specs.Noting.{AreOfOthers};
+ghost use Rattle.gx_opening.specs.Sound.{AreSound, IsCause, Tells};
+ghost use Rattle.gx_opening.specs.Standing.{IsStood, IsTested, StaysSafe, limits_of, told_with};
+
+use crate::formatted::formatted_for;
+use crate::legal::test_pages;
+use crate::log::lay_log;
+use gx_disk::SectorDisk;
+use gx_found_log::FoundLog;
+use gx_geom::Refusal;
+use gx_glog::Parameters;
+use gx_machine::Entry;
+use gx_readings::ReadKeys;
+use gx_readings::laws::what_stands_is_legal;
+use std::alloc::Global;
+
+/// An index that stands on a device.
+#[derive(Drop)]
+pub struct Standing<B> {
+    /// What the device is formatted for.
+    pub parameters: Parameters,
+    /// Its log.
+    pub log: FoundLog<Entry<B>>,
+}
+
+// Settles a device, reads what it is formatted for, and lays its log.
+fn stand<D: SectorDisk, K: ReadKeys>(
+    alloc: Global,
+    disk: &mut D,
+) -> Result<Standing<K::Key>, Refusal>
+    ensures device { ((D.state disk.new).sectors ≡ (D.state disk.old).sectors) × ((D.state disk.new).honest ≡ (D.state disk.old).honest) }
+    ensures allowed { IfOk result (λ s. IsAllowed K.CLASS s.parameters × IsLarge (D.state disk.old).sectors s.parameters) }
+    ensures safe { (D.state disk.old).honest ≡ true → StaysSafe K.Key.Shape K.is_proper K.said (format_of K.KeyClass) (D.state disk.old) (D.state disk.new) }
+    ensures stood { (D.state disk.old).honest ≡ true → 4232 ≤ (D.state disk.old).sectors
+        → IsStood K.Key.Shape K.is_proper K.said (format_of K.KeyClass) K.CLASS (D.state disk.old) (D.state disk.new) result }
+{
+    what_stands_is_legal::<K>();
+    match formatted_for::<D, K>(disk) {
+        Ok(parameters) => match lay_log::<D, K>(alloc, disk, parameters.pages) {
+            Ok(log) => Ok(Standing { parameters, log }),
+            Err(why) => Err(why),
+        },
+        Err(why) => Err(why),
+    }
+}
+
+// What was found, where its test passed.
+fn with_standing<B: Copy>(
+    sound: Result<(), Refusal>,
+    standing: Standing<B>,
+) -> Result<Standing<B>, Refusal>
+    ensures { result ≡ told_with sound standing }
+{
+    match sound {
+        Ok(()) => Ok(standing),
+        Err(why) => Err(why),
+    }
+}
+
+// Tests the pages of an index that stands on a device.
+fn tested<D: SectorDisk, K: ReadKeys>(
+    alloc: Global,
+    disk: D,
+    standing: Standing<K::Key>,
+) -> (D, Result<Standing<K::Key>, Refusal>)
+    requires inside { (standing.parameters.pages ≤ 65536) × (4168 + 8 * standing.parameters.pages ≤ (D.state disk).sectors) }
+    ensures read { OnlyRead (D.state disk) (D.state result.0) }
+    ensures ok { IfOk result.1 (λ s. s ≡ standing) }
+    ensures cause { IfErr result.1 IsCause }
+    ensures tested { (D.state disk).honest ≡ true → AreOfOthers (entry_cmp (keys_of K.Key.Shape)) standing.log.analysis.told.touched
+        → Tells (AreSound (known_of (class_of K.Key.Shape K.is_proper (limits_of standing.parameters))) (reading_of K.said (format_of K.KeyClass)) (is_node (format_of K.KeyClass) standing.parameters.pages)
+        standing.log.analysis.told (D.state disk).seen) result.1 }
+{
+    let Parameters { pages, most, .. } = standing.parameters;
+    let (disk, sound) = test_pages::<D, K>(alloc, disk, &standing.log.analysis, pages, most);
+    (disk, with_standing(sound, standing))
+}
+
+/// Settles a device, reads what it is formatted for, lays its log, and tests its pages. The device is handed back.
+pub fn find<D: SectorDisk, K: ReadKeys>(
+    alloc: Global,
+    disk: D,
+) -> (D, Result<Standing<K::Key>, Refusal>)
+    ensures device { ((D.state result.0).sectors ≡ (D.state disk).sectors) × ((D.state result.0).honest ≡ (D.state disk).honest) }
+    ensures allowed { IfOk result.1 (λ s. IsAllowed K.CLASS s.parameters × IsLarge (D.state disk).sectors s.parameters) }
+    ensures safe { (D.state disk).honest ≡ true → StaysSafe K.Key.Shape K.is_proper K.said (format_of K.KeyClass) (D.state disk) (D.state result.0) }
+    ensures tested { (D.state disk).honest ≡ true → 4232 ≤ (D.state disk).sectors
+        → IsTested K.Key.Shape K.is_proper K.said (format_of K.KeyClass) K.CLASS (D.state disk) (D.state result.0) result.1 }
+{
+    what_stands_is_legal::<K>();
+    let mut disk = disk;
+    match stand::<D, K>(alloc, &mut disk) {
+        Ok(standing) => tested::<D, K>(alloc, disk, standing),
+        Err(why) => (disk, Err(why)),
+    }
+}
