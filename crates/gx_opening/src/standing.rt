@@ -1,5 +1,5 @@
 //! What stands on a device.
-ghost use Rattle.std.specs.Prelude.{◌≡◌, ◌+◌, ◌*◌, ◌≤◌, true, IfOk, IfErr};
+ghost use Rattle.std.specs.Prelude.{◌≡◌, ◌+◌, ◌*◌, ◌<◌, ◌≤◌, true, IfOk, IfErr, Err};
 ghost use Rattle.gx_machine.specs.Keys.{keys_of, entry_cmp};
 ghost use Rattle.gx_node.specs.Reading.{format_of, is_node};
 ghost use Rattle.gx_pool.specs.Bringing.{OnlyRead};
@@ -38,6 +38,7 @@ fn stand<D: SectorDisk, K: ReadKeys>(
 ) -> Result<Standing<K::Key>, Refusal>
     ensures device { ((D.state disk.new).sectors ≡ (D.state disk.old).sectors) × ((D.state disk.new).honest ≡ (D.state disk.old).honest) }
     ensures allowed { IfOk result (λ s. IsAllowed K.CLASS s.parameters × IsLarge (D.state disk.old).sectors s.parameters) }
+    ensures small { (D.state disk.old).sectors < 4232 → (result ≡ Err Refusal.TooSmall) × (disk.new ≡ disk.old) }
     ensures safe { (D.state disk.old).honest ≡ true → StaysSafe K.Key.Shape K.is_proper K.said (format_of K.KeyClass) (D.state disk.old) (D.state disk.new) }
     ensures stood { (D.state disk.old).honest ≡ true → 4232 ≤ (D.state disk.old).sectors
         → IsStood K.Key.Shape K.is_proper K.said (format_of K.KeyClass) K.CLASS (D.state disk.old) (D.state disk.new) result }
@@ -85,12 +86,19 @@ fn tested<D: SectorDisk, K: ReadKeys>(
 }
 
 /// Settles a device, reads what it is formatted for, lays its log, and tests its pages. The device is handed back.
+///
+/// Refused, by the first that holds: with fewer sectors than the smallest index takes (`TooSmall`, and no call is made), without the magic
+/// (`NotFormatted`), with numbers out of range or of another class (`BadParameter`), with fewer sectors than that index takes
+/// (`TooSmall`), with a damaged log, or pages that can't be read, aren't a legal tree, or haven't what open transactions touched in its place
+/// (`Damaged`); and where a call fails (`Device`), or memory is refused (`Memory`). At each moment a crash may leave what it could at the
+/// start, or an image with the log that was found and after it the same pages.
 pub fn find<D: SectorDisk, K: ReadKeys>(
     alloc: Global,
     disk: D,
 ) -> (D, Result<Standing<K::Key>, Refusal>)
     ensures device { ((D.state result.0).sectors ≡ (D.state disk).sectors) × ((D.state result.0).honest ≡ (D.state disk).honest) }
     ensures allowed { IfOk result.1 (λ s. IsAllowed K.CLASS s.parameters × IsLarge (D.state disk).sectors s.parameters) }
+    ensures small { (D.state disk).sectors < 4232 → (result.1 ≡ Err Refusal.TooSmall) × (result.0 ≡ disk) }
     ensures safe { (D.state disk).honest ≡ true → StaysSafe K.Key.Shape K.is_proper K.said (format_of K.KeyClass) (D.state disk) (D.state result.0) }
     ensures tested { (D.state disk).honest ≡ true → 4232 ≤ (D.state disk).sectors
         → IsTested K.Key.Shape K.is_proper K.said (format_of K.KeyClass) K.CLASS (D.state disk) (D.state result.0) result.1 }
