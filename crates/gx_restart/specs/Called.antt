@@ -11,7 +11,6 @@ use Rattle.gx_events.specs.declared.driver.Next.{Next}
 use Rattle.gx_events.specs.declared.driver.Next.TheVariants.{Run, Done}
 use Rattle.gx_events.specs.Driven.{next_of}
 use Rattle.gx_engine.specs.States.{Parts}
-use Rattle.gx_restart.specs.declared.index.TheConstants.{EVENTS}
 use Rattle.gx_restart.specs.Made.{AreMade}
 use Rattle.gx_restart.specs.States.{State}
 
@@ -29,16 +28,16 @@ module _ {B D : Type 0} (makes : Parts B D → Event B → Outcome B → Parts B
     pub made : AreMade makes old steps new
     pub many : length steps ≡ count
 
-  -- It was asked, and its events were made to its end, which is this reply.
+  -- It was asked, and its events, 2^56 at most, were made to its end, which is this reply.
   pub record IsCalled (s : ℕ) (call : Call B) (old : Parts B D) (reply : Reply B) (new : Parts B D) : Type 0 where
     pub steps : List (Event B × Outcome B)
     pub driven : AreDriven s (Run (Ask s call)) steps (Done reply)
     pub made : AreMade makes old steps new
-    pub few : length steps ≤ EVENTS
+    pub few : length steps ≤ 72057594037927936
 
-  -- It was asked, and as many events of it were made as the bound lets be made; and one more is due.
+  -- It was asked, and 2^56 events of it were made; and one more is due.
   abbrev pub IsGivenUp : ℕ → Call B → Parts B D → Parts B D → Type 0
-  IsGivenUp s call old new = (due : Event B) × IsUnderWay s call old EVENTS due new
+  IsGivenUp s call old new = (due : Event B) × IsUnderWay s call old 72057594037927936 due new
 
   -- by whether the bound was passed before
   abbrev pub CallsBy : Bool → State B D → ℕ → Call B → Reply B → State B D → Type 0

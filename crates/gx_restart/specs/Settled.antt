@@ -9,7 +9,6 @@ use Rattle.gx_events.specs.declared.outcome.Outcome.TheVariants as outcome
 use Rattle.gx_engine.specs.declared.checkpoint.Checkpoint.TheVariants.{Off}
 use Rattle.gx_engine.specs.Checkpoints.{IsQuiet}
 use Rattle.gx_engine.specs.States.{Parts}
-use Rattle.gx_restart.specs.declared.index.TheConstants.{EVENTS}
 use Rattle.gx_restart.specs.Made.{AreMade}
 use Rattle.gx_restart.specs.States.{State}
 
@@ -39,20 +38,20 @@ module _ {B D : Type 0} (makes : Parts B D → Event B → Outcome B → Parts B
     pub made : AreMade makes old steps new
     pub many : length steps ≡ count
 
-  -- It was made over and over, until its outcome was this.
+  -- It was made over and over, 2^56 times at most, until its outcome was this.
   pub record IsRepeated (event : Event B) (old : Parts B D) (last : Outcome B) (new : Parts B D) : Type 0 where
     pub count : ℕ
     pub middle : Parts B D
     pub before : IsGoingOn event old count middle
     pub last_made : makes middle event last new
-    pub few : count < EVENTS
+    pub few : count < 72057594037927936
 
   -- until there was nothing to do, or it was refused, or the bound was passed; of which this is the result, and whether the index only
   -- refuses from then on
   abbrev pub IsExhausted : Event B → Parts B D → Result (Unit {0}) Refusal → Parts B D → Bool → Type 0
   IsExhausted event old (Ok done) new ended = IsRepeated event old outcome.Nothing new × (ended ≡ false)
   IsExhausted event old (Err why) new ended =
-      (IsRepeated event old (outcome.Refused why) new × (ended ≡ false)) ⊎ (IsGoingOn event old EVENTS new × (why ≡ Damaged) × (ended ≡ true))
+      (IsRepeated event old (outcome.Refused why) new × (ended ≡ false)) ⊎ (IsGoingOn event old 72057594037927936 new × (why ≡ Damaged) × (ended ≡ true))
 
   -- the checkpoint's steps, and then the log's
   abbrev pub SettlesOn : State B D → Result (Unit {0}) Refusal → State B D → Type 0

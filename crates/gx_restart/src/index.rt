@@ -16,7 +16,7 @@ use gx_machine::{Call, Reply};
 use gx_readings::ReadKeys;
 use std::marker::Model;
 
-/// How many events are run for one call, and for each part of a settling.
+/// How many events are run for one call at most, and for each part of a settling: 2^56.
 pub const EVENTS: u64 = 1 << 56;
 
 /// An index for one thread: an engine whose calls are asked one after another, each run to its end. Contracts see its engine, and

@@ -1,4 +1,4 @@
-//! Scripts over a device in memory: the same replies as the plain index, and dumps.
+//! Scripts over a device in memory: the same replies as the plain index.
 ghost use Rattle.std.specs.Prelude.{◌≡◌, length, IfSome};
 
 use super::*;
