@@ -3,21 +3,21 @@ ghost use Rattle.std.specs.Prelude.{◌≡◌};
 ghost use Rattle.gx_machine.specs.declared.limits.TheConstants.{SESSIONS};
 ghost use Rattle.gx_machine.specs.Machine.{fresh_machine};
 
+use crate::callers::{Caller, back, next_caller, start, wanted};
+use crate::draws::draws;
 use crate::replayed::{Replay, replay_record};
+use gx_events::Events;
 use gx_geom::Box2;
-use gx_shared::{Book, NoBetween, Run, flusher};
-use gx_shared_tests::callers::{Caller, Engine, TestShared, back, next_caller, start, wanted};
-use gx_shared_tests::draws::draws;
+use gx_shared::{Book, NoBetween, Run, Shared, flusher};
 use std::alloc::{AllocError, Global};
-use std::marker::Brand;
 use std::sync::Wait;
 use std::sync::ledger::Blank;
 use std::test::Fail;
 use std::thread::{Threads, join};
 
 /// Fails unless the record has the replies of a session that the plain index gives.
-fn agrees_with<R: Run<Box2>>(
-    book: &Book<Box2, Engine, R>,
+fn agrees_with<E: Events<Box2>, R: Run<Box2>>(
+    book: &Book<Box2, E, R>,
     session: u8,
     replay: &Replay,
 ) -> Result<(), Fail> {
@@ -35,7 +35,10 @@ fn agrees_with<R: Run<Box2>>(
 }
 
 /// Fails unless the plain index, told the record, replies the same to each of the four sessions.
-fn replies_the_same<R: Run<Box2>>(alloc: Global, book: &Book<Box2, Engine, R>) -> Result<(), Fail> {
+fn replies_the_same<E: Events<Box2>, R: Run<Box2>>(
+    alloc: Global,
+    book: &Book<Box2, E, R>,
+) -> Result<(), Fail> {
     let replay = replay_record(alloc, book.calls())?;
     for session in 1..=4u8 {
         agrees_with(book, session, &replay)?;
@@ -44,9 +47,9 @@ fn replies_the_same<R: Run<Box2>>(alloc: Global, book: &Book<Box2, Engine, R>) -
 }
 
 /// Two sessions draw their calls, by this seed and the next.
-fn two_draw<R: Run<Box2> + Send + Sync, W: Threads + Wait + Sync>(
+fn two_draw<E: Events<Box2> + Send, R: Run<Box2> + Send + Sync, W: Threads + Wait + Sync>(
     rt: &W,
-    shared: &TestShared<R>,
+    shared: &Shared<Box2, E, R>,
     one: Caller<R>,
     two: Caller<R>,
     seed: u32,
@@ -60,9 +63,9 @@ fn two_draw<R: Run<Box2> + Send + Sync, W: Threads + Wait + Sync>(
 }
 
 /// The same, beside a flusher.
-fn two_draw_beside_flusher<R: Run<Box2> + Send + Sync, W: Threads + Wait + Sync>(
+fn two_draw_beside_flusher<E: Events<Box2> + Send, R: Run<Box2> + Send + Sync, W: Threads + Wait + Sync>(
     rt: &W,
-    shared: &TestShared<R>,
+    shared: &Shared<Box2, E, R>,
     one: Caller<R>,
     two: Caller<R>,
     seed: u32,
@@ -76,16 +79,18 @@ fn two_draw_beside_flusher<R: Run<Box2> + Send + Sync, W: Threads + Wait + Sync>
 }
 
 /// Four sessions draw their calls, beside a flusher; the plain index replays the record, and replies the same.
-fn seeded<R: Run<Box2> + Send + Sync, W: Threads + Wait + Sync>(
+pub fn seeded<E: Events<Box2> + Drop + Send, R: Run<Box2> + Send + Sync, W: Threads + Wait + Sync>(
     rt: &W,
     alloc: Global,
     blank: Blank,
+    engine: E,
 ) -> Result<(), Fail>
     requires name { blank.name ≡ R.name }
     requires parts { (blank.parts ≡ R.parts) × (R.parts ≡ SESSIONS) }
     requires fresh { R.start ≡ fresh_machine }
+    requires seen { E.sees engine fresh_machine }
 {
-    let (shared, mut sessions) = start::<R>(alloc, blank)?;
+    let (shared, mut sessions) = start::<E, R>(alloc, blank, engine)?;
     let one = next_caller(alloc, &mut sessions)?;
     let two = next_caller(alloc, &mut sessions)?;
     let three = next_caller(alloc, &mut sessions)?;
@@ -103,9 +108,4 @@ fn seeded<R: Run<Box2> + Send + Sync, W: Threads + Wait + Sync>(
     let _ = back(&mut sessions, four)?;
     let book = shared.close(sessions);
     replies_the_same(alloc, &book)
-}
-
-#[test]
-fn the_plain_index_replays_a_record_of_four_threads(rt: HostRuntime) -> Result<(), Fail> {
-    seeded::<Brand, _>(&rt, rt.alloc(), Blank::new(8))
 }

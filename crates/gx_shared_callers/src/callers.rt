@@ -3,20 +3,14 @@ ghost use Rattle.std.specs.Prelude.{◌≡◌};
 ghost use Rattle.gx_machine.specs.declared.limits.TheConstants.{SESSIONS};
 ghost use Rattle.gx_machine.specs.Machine.{fresh_machine};
 
+use gx_events::Events;
 use gx_geom::Box2;
 use gx_machine::{Call, Entry, Query, Reply};
 use gx_shared::{Between, NoBetween, Run, Session, Shared};
-use gx_small_events::SmallEvents;
 use std::alloc::{AllocError, Global};
 use std::sync::Wait;
 use std::sync::ledger::{Blank, Ledger};
 use std::test::Fail;
-
-/// The engine of the tests.
-pub type Engine = SmallEvents<Box2>;
-
-/// It, shared.
-pub type TestShared<R> = Shared<Box2, Engine, R>;
 
 /// Fails unless this holds.
 pub fn wanted(holds: bool, what: &'static str) -> Result<(), Fail> {
@@ -36,9 +30,9 @@ pub fn entry(row: u64, x: i32, y: i32) -> Entry<Box2> {
     Entry { row, key: at(x, y) }
 }
 
-/// A search for what overlaps a box at a corner.
-pub fn overlap(x: i32, y: i32) -> Call<Box2> {
-    Call::Search(Query::Overlap(at(x, y)))
+/// A search for what overlaps this box.
+pub fn overlap(key: Box2) -> Call<Box2> {
+    Call::Search(Query::Overlap(key))
 }
 
 /// A session, and the replies that it was handed, in their order.
@@ -58,10 +52,10 @@ impl<R: Ledger> Caller<R> {
     }
 
     /// One call, with what comes between its events.
-    pub fn held<G: Between, W: Wait>(
+    pub fn held<E: Events<Box2>, G: Between, W: Wait>(
         &mut self,
         rt: &W,
-        shared: &TestShared<R>,
+        shared: &Shared<Box2, E, R>,
         call: Call<Box2>,
         between: &G,
     ) -> Result<(), AllocError>
@@ -74,10 +68,10 @@ impl<R: Ledger> Caller<R> {
     }
 
     /// One call.
-    pub fn call<W: Wait>(
+    pub fn call<E: Events<Box2>, W: Wait>(
         &mut self,
         rt: &W,
-        shared: &TestShared<R>,
+        shared: &Shared<Box2, E, R>,
         call: Call<Box2>,
     ) -> Result<(), AllocError>
     where
@@ -87,10 +81,10 @@ impl<R: Ledger> Caller<R> {
     }
 
     /// Calls, one after another.
-    pub fn calls<W: Wait>(
+    pub fn calls<E: Events<Box2>, W: Wait>(
         &mut self,
         rt: &W,
-        shared: &TestShared<R>,
+        shared: &Shared<Box2, E, R>,
         calls: &[Call<Box2>],
     ) -> Result<(), AllocError>
     where
@@ -103,16 +97,17 @@ impl<R: Ledger> Caller<R> {
     }
 }
 
-/// A fresh engine, shared by eight sessions.
-pub fn start<R: Run<Box2>>(
+/// An engine with nothing committed, shared by eight sessions.
+pub fn start<E: Events<Box2> + Drop, R: Run<Box2>>(
     alloc: Global,
     blank: Blank,
-) -> Result<(TestShared<R>, Vec<Session<R>>), Fail>
+    engine: E,
+) -> Result<(Shared<Box2, E, R>, Vec<Session<R>>), Fail>
     requires name { blank.name ≡ R.name }
     requires parts { (blank.parts ≡ R.parts) × (R.parts ≡ SESSIONS) }
     requires fresh { R.start ≡ fresh_machine }
+    requires seen { E.sees engine fresh_machine }
 {
-    let engine = SmallEvents::new(alloc)?;
     match Shared::new(alloc, blank, engine) {
         Ok(made) => Ok(made),
         Err(_) => Err(Fail::new("no memory for the record")),

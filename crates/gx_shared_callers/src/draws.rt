@@ -1,8 +1,9 @@
 //! Calls that are drawn.
-use crate::callers::{Caller, TestShared, at, entry};
+use crate::callers::{Caller, at, entry};
+use gx_events::Events;
 use gx_geom::Box2;
 use gx_machine::{Call, Query};
-use gx_shared::Run;
+use gx_shared::{Run, Shared};
 use rand_core::utils::NextWord;
 use rand_pcg::Pcg32;
 use std::alloc::AllocError;
@@ -31,9 +32,9 @@ fn drawn(draw: &mut Pcg32) -> Call<Box2> {
 }
 
 /// Calls that are drawn, one after another.
-pub fn draws<R: Run<Box2>, W: Wait>(
+pub fn draws<E: Events<Box2>, R: Run<Box2>, W: Wait>(
     rt: &W,
-    shared: &TestShared<R>,
+    shared: &Shared<Box2, E, R>,
     caller: Caller<R>,
     seed: u64,
     calls: u32,

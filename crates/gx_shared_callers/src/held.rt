@@ -19,7 +19,7 @@ fn comes(flag: &AtomicBool) -> bool {
 
 /// Holds a call after one of its events, until it is let go, and counts the events that it came after.
 #[derive(Drop)]
-pub(crate) struct Hold {
+pub struct Hold {
     after: u64,
     reached: AtomicBool,
     free: AtomicBool,
@@ -30,7 +30,7 @@ pub(crate) struct Hold {
 
 impl Hold {
     /// A hold after the event of this step.
-    pub(crate) fn new(after: u64) -> Self {
+    pub fn new(after: u64) -> Self {
         Hold {
             after,
             reached: AtomicBool::new(false),
@@ -42,22 +42,22 @@ impl Hold {
     }
 
     /// Waits until the call is held; false where it isn't, within a million turns.
-    pub(crate) fn is_reached(&self) -> bool {
+    pub fn is_reached(&self) -> bool {
         comes(&self.reached)
     }
 
     /// Lets the call go on.
-    pub(crate) fn let_go(&self) {
+    pub fn let_go(&self) {
         self.free.store(true, Ordering::SeqCst);
     }
 
     /// Whether the call went on before it was let go.
-    pub(crate) fn was_late(&self) -> bool {
+    pub fn was_late(&self) -> bool {
         self.late.load(Ordering::SeqCst)
     }
 
     /// The last step, and the number of events.
-    pub(crate) fn steps(&self) -> (u64, u64) {
+    pub fn steps(&self) -> (u64, u64) {
         (
             self.last.load(Ordering::SeqCst),
             self.events.load(Ordering::SeqCst),
