@@ -59,7 +59,11 @@ fn looks_meanwhile<E: Events<Box2>, R: Run<Box2>, W: Wait>(
 }
 
 /// While a call is held: a flusher of four rounds runs to its end.
-fn flushes_meanwhile<E: Events<Box2>, R: Run<Box2>, W: Wait>(rt: &W, shared: &Shared<Box2, E, R>, hold: &Hold) {
+fn flushes_meanwhile<E: Events<Box2>, R: Run<Box2>, W: Wait>(
+    rt: &W,
+    shared: &Shared<Box2, E, R>,
+    hold: &Hold,
+) {
     if hold.is_reached() {
         flusher(rt, shared, 4, &NoBetween);
     }
@@ -84,12 +88,11 @@ fn first_judged(hold: &Hold, one: &[Reply<Box2>], two: &[Reply<Box2>]) -> Result
 }
 
 /// Session 1's commit is held after its first event, until session 2 has begun and has searched.
-pub fn first_hold<E: Events<Box2> + Drop + Send, R: Run<Box2> + Send + Sync, W: Threads + Wait + Sync>(
-    rt: &W,
-    alloc: Global,
-    blank: Blank,
-    engine: E,
-) -> Result<(), Fail>
+pub fn first_hold<
+    E: Events<Box2> + Drop + Send,
+    R: Run<Box2> + Send + Sync,
+    W: Threads + Wait + Sync,
+>(rt: &W, alloc: Global, blank: Blank, engine: E) -> Result<(), Fail>
     requires name { blank.name ≡ R.name }
     requires parts { (blank.parts ≡ R.parts) × (R.parts ≡ SESSIONS) }
     requires fresh { R.start ≡ fresh_machine }
@@ -125,12 +128,11 @@ fn flusher_judged(hold: &Hold, one: &[Reply<Box2>]) -> Result<(), Fail> {
 
 /// Session 1's commit is held after its second event, until a flusher of four rounds has ended: it has made the commit durable,
 /// so that the third event acknowledges it.
-pub fn flusher_hold<E: Events<Box2> + Drop + Send, R: Run<Box2> + Send + Sync, W: Threads + Wait + Sync>(
-    rt: &W,
-    alloc: Global,
-    blank: Blank,
-    engine: E,
-) -> Result<(), Fail>
+pub fn flusher_hold<
+    E: Events<Box2> + Drop + Send,
+    R: Run<Box2> + Send + Sync,
+    W: Threads + Wait + Sync,
+>(rt: &W, alloc: Global, blank: Blank, engine: E) -> Result<(), Fail>
     requires name { blank.name ≡ R.name }
     requires parts { (blank.parts ≡ R.parts) × (R.parts ≡ SESSIONS) }
     requires fresh { R.start ≡ fresh_machine }
@@ -230,12 +232,11 @@ fn search_judged(hold: &Hold, one: &[Reply<Box2>], two: &[Reply<Box2>]) -> Resul
 }
 
 /// Session 1's search is held after its second event, until session 2 has inserted five rows and committed them.
-pub fn search_hold<E: Events<Box2> + Drop + Send, R: Run<Box2> + Send + Sync, W: Threads + Wait + Sync>(
-    rt: &W,
-    alloc: Global,
-    blank: Blank,
-    engine: E,
-) -> Result<(), Fail>
+pub fn search_hold<
+    E: Events<Box2> + Drop + Send,
+    R: Run<Box2> + Send + Sync,
+    W: Threads + Wait + Sync,
+>(rt: &W, alloc: Global, blank: Blank, engine: E) -> Result<(), Fail>
     requires name { blank.name ≡ R.name }
     requires parts { (blank.parts ≡ R.parts) × (R.parts ≡ SESSIONS) }
     requires fresh { R.start ≡ fresh_machine }

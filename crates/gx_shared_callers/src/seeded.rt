@@ -63,7 +63,11 @@ fn two_draw<E: Events<Box2> + Send, R: Run<Box2> + Send + Sync, W: Threads + Wai
 }
 
 /// The same, beside a flusher.
-fn two_draw_beside_flusher<E: Events<Box2> + Send, R: Run<Box2> + Send + Sync, W: Threads + Wait + Sync>(
+fn two_draw_beside_flusher<
+    E: Events<Box2> + Send,
+    R: Run<Box2> + Send + Sync,
+    W: Threads + Wait + Sync,
+>(
     rt: &W,
     shared: &Shared<Box2, E, R>,
     one: Caller<R>,

@@ -1,0 +1,82 @@
+//! What one thread does.
+use gx_events::Events;
+use gx_geom::Box2;
+use gx_machine::{Call, Entry, Query, Reply};
+use gx_shared::{NoBetween, Run, Session, Shared};
+use std::alloc::{AllocError, Global};
+use std::sync::Wait;
+use std::sync::ledger::Ledger;
+
+/// How many transactions a thread makes.
+const TRANSACTIONS: i32 = 5;
+
+/// A session with the replies that it was handed, in their order.
+#[derive(Drop)]
+pub(crate) struct Worker<R: Ledger> {
+    pub(crate) session: Session<R>,
+    pub(crate) replies: Vec<Reply<Box2>>,
+}
+
+impl<R: Ledger> Worker<R> {
+    /// A session that was handed none.
+    pub(crate) fn new(alloc: Global, session: Session<R>) -> Self {
+        Worker {
+            session,
+            replies: Vec::new(alloc),
+        }
+    }
+
+    /// One call, to its end.
+    fn call<E: Events<Box2>, W: Wait>(
+        &mut self,
+        rt: &W,
+        shared: &Shared<Box2, E, R>,
+        call: Call<Box2>,
+    ) -> Result<(), AllocError>
+    where
+        R: Run<Box2>,
+    {
+        let reply = self.session.call(rt, shared, call, &NoBetween);
+        self.replies.push(reply)?;
+        Ok(())
+    }
+}
+
+/// A box one wide and one high, in a strip that this session alone uses.
+fn place(session: u8, x: i32) -> Box2 {
+    let y = i32::from(session) * 100;
+    match Box2::new(x, y, x.saturating_add(1), y + 1) {
+        Ok(key) => key,
+        Err(_) => Box2::point(x, y),
+    }
+}
+
+/// The session's strip, as far as it uses it.
+fn strip(session: u8) -> Box2 {
+    let y = i32::from(session) * 100;
+    match Box2::new(0, y, 1000, y + 1) {
+        Ok(key) => key,
+        Err(_) => Box2::point(0, y),
+    }
+}
+
+/// Transactions, one after another: three inserts, a search of all that the session has inserted so far, and a commit.
+pub(crate) fn work<E: Events<Box2>, R: Run<Box2>, W: Wait>(
+    rt: &W,
+    shared: &Shared<Box2, E, R>,
+    worker: Worker<R>,
+) -> Result<Worker<R>, AllocError> {
+    let mut worker = worker;
+    let session = worker.session.number();
+    for turn in 0..TRANSACTIONS {
+        worker.call(rt, shared, Call::Begin)?;
+        for place_in_turn in 0..3 {
+            let key = place(session, 10 * (3 * turn + place_in_turn));
+            let row = u64::from(session);
+            worker.call(rt, shared, Call::Insert(Entry { row, key }))?;
+        }
+        worker.call(rt, shared, Call::Search(Query::Overlap(strip(session))))?;
+        worker.call(rt, shared, Call::Commit)?;
+    }
+    Ok(worker)
+}
