@@ -21,7 +21,9 @@ use run::run;
 use std::alloc::Global;
 use std::marker::Brand;
 use std::process::ExitCode;
+use std::sync::Wait;
 use std::sync::ledger::Blank;
+use std::thread::Threads;
 use trouble::Trouble;
 
 /// A new index of 256 pages, with eight entries in a node at most and 32 frames, on a device in memory.
@@ -39,14 +41,13 @@ fn fresh(alloc: Global) -> Result<EngineEvents<MemDisk, Box2Class>, Trouble>
 }
 
 /// The program, but for how its trouble is told.
-fn shared_by_four(rt: &HostRuntime) -> Result<(), Trouble> {
-    let alloc = rt.alloc();
+fn shared_by_four<W: Threads + Wait + Sync + Print>(rt: &W, alloc: Global) -> Result<(), Trouble> {
     let engine = fresh(alloc)?;
     run::<_, Brand, _>(rt, alloc, Blank::new(8), engine)
 }
 
 fn main(rt: HostRuntime) -> ExitCode {
-    match shared_by_four(&rt) {
+    match shared_by_four(&rt, rt.alloc()) {
         Ok(()) => ExitCode::SUCCESS,
         Err(trouble) => {
             let text = trouble.text();

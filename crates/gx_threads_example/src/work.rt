@@ -8,7 +8,7 @@ use std::sync::Wait;
 use std::sync::ledger::Ledger;
 
 /// How many transactions a thread makes.
-const TRANSACTIONS: i32 = 5;
+const TRANSACTIONS: u8 = 5;
 
 /// A session with the replies that it was handed, in their order.
 #[derive(Drop)]
@@ -42,10 +42,11 @@ impl<R: Ledger> Worker<R> {
     }
 }
 
-/// A box one wide and one high, in a strip that this session alone uses.
-fn place(session: u8, x: i32) -> Box2 {
+/// A box one wide and one high, in a strip that this session alone uses: one for each insert of each transaction.
+fn place(session: u8, turn: u8, insert: u8) -> Box2 {
+    let x = i32::from(turn) * 100 + i32::from(insert) * 10;
     let y = i32::from(session) * 100;
-    match Box2::new(x, y, x.saturating_add(1), y + 1) {
+    match Box2::new(x, y, x + 1, y + 1) {
         Ok(key) => key,
         Err(_) => Box2::point(x, y),
     }
@@ -60,23 +61,33 @@ fn strip(session: u8) -> Box2 {
     }
 }
 
-/// Transactions, one after another: three inserts, a search of all that the session has inserted so far, and a commit.
+/// A transaction: three inserts, a search of all that the session has inserted so far, and a commit.
+fn transact<E: Events<Box2>, R: Run<Box2>, W: Wait>(
+    rt: &W,
+    shared: &Shared<Box2, E, R>,
+    worker: &mut Worker<R>,
+    turn: u8,
+) -> Result<(), AllocError> {
+    let session = worker.session.number();
+    worker.call(rt, shared, Call::Begin)?;
+    for insert in 0..3 {
+        let row = u64::from(session);
+        let key = place(session, turn, insert);
+        worker.call(rt, shared, Call::Insert(Entry { row, key }))?;
+    }
+    worker.call(rt, shared, Call::Search(Query::Overlap(strip(session))))?;
+    worker.call(rt, shared, Call::Commit)
+}
+
+/// Transactions, one after another.
 pub(crate) fn work<E: Events<Box2>, R: Run<Box2>, W: Wait>(
     rt: &W,
     shared: &Shared<Box2, E, R>,
     worker: Worker<R>,
 ) -> Result<Worker<R>, AllocError> {
     let mut worker = worker;
-    let session = worker.session.number();
     for turn in 0..TRANSACTIONS {
-        worker.call(rt, shared, Call::Begin)?;
-        for place_in_turn in 0..3 {
-            let key = place(session, 10 * (3 * turn + place_in_turn));
-            let row = u64::from(session);
-            worker.call(rt, shared, Call::Insert(Entry { row, key }))?;
-        }
-        worker.call(rt, shared, Call::Search(Query::Overlap(strip(session))))?;
-        worker.call(rt, shared, Call::Commit)?;
+        transact(rt, shared, &mut worker, turn)?;
     }
     Ok(worker)
 }
