@@ -218,9 +218,18 @@ fn finds_row_2(reply: Option<&Reply<Box2>>) -> bool {
     }
 }
 
-/// Fails unless session 2 committed while session 1's search was held, which found row 2 all the same.
-fn search_judged(hold: &Hold, one: &[Reply<Box2>], two: &[Reply<Box2>]) -> Result<(), Fail> {
+/// Fails unless session 2 committed while session 1's search was held, which found row 2 all the same, after so many events.
+fn search_judged(
+    hold: &Hold,
+    events: u64,
+    one: &[Reply<Box2>],
+    two: &[Reply<Box2>],
+) -> Result<(), Fail> {
     wanted(!hold.was_late(), "session 2 wasn't answered in a hold")?;
+    wanted(
+        hold.steps() == (events, events),
+        "session 1's search took other events",
+    )?;
     wanted(
         matches!(two.get(10), Some(Reply::Committed(2))),
         "session 2 didn't commit",
@@ -231,12 +240,13 @@ fn search_judged(hold: &Hold, one: &[Reply<Box2>], two: &[Reply<Box2>]) -> Resul
     )
 }
 
-/// Session 1's search is held after its second event, until session 2 has inserted five rows and committed them.
+/// Session 1's search is held after its second event, until session 2 has inserted five rows and committed them. It comes after so many
+/// events before its last.
 pub fn search_hold<
     E: Events<Box2> + Drop + Send,
     R: Run<Box2> + Send + Sync,
     W: Threads + Wait + Sync,
->(rt: &W, alloc: Global, blank: Blank, engine: E) -> Result<(), Fail>
+>(rt: &W, alloc: Global, blank: Blank, engine: E, events: u64) -> Result<(), Fail>
     requires name { blank.name ≡ R.name }
     requires parts { (blank.parts ≡ R.parts) × (R.parts ≡ SESSIONS) }
     requires fresh { R.start ≡ fresh_machine }
@@ -255,7 +265,7 @@ pub fn search_hold<
     let one = back(&mut sessions, one?)?;
     let two = back(&mut sessions, two?)?;
     let _book = shared.close(sessions);
-    search_judged(&hold, one.as_slice(), two.as_slice())
+    search_judged(&hold, events, one.as_slice(), two.as_slice())
 }
 
 /// Fails unless the record has what both sessions were handed, each for its own session.

@@ -15,7 +15,7 @@ fn the_lock_is_free_between_the_events_of_a_call(rt: HostRuntime) -> Result<(), 
 #[test]
 fn a_search_stays_open_while_others_commit(rt: HostRuntime) -> Result<(), Fail> {
     let alloc = rt.alloc();
-    search_hold::<_, Brand, _>(&rt, alloc, Blank::new(8), SmallEvents::new(alloc)?)
+    search_hold::<_, Brand, _>(&rt, alloc, Blank::new(8), SmallEvents::new(alloc)?, 4)
 }
 
 #[test]

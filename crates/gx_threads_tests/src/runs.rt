@@ -17,7 +17,7 @@ fn the_lock_is_free_between_the_events_of_a_call(rt: HostRuntime) -> Result<(), 
 fn a_search_stays_open_while_others_commit(rt: HostRuntime) -> Result<(), Fail> {
     let alloc = rt.alloc();
     let engine = fresh(alloc, 16, 4, 16)?;
-    search_hold::<_, Brand, _>(&rt, alloc, Blank::new(8), engine)
+    search_hold::<_, Brand, _>(&rt, alloc, Blank::new(8), engine, 4)
 }
 
 #[test]
