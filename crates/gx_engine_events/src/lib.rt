@@ -4,7 +4,9 @@
 //! log and its pages stand on the device, isn't stored: the indexes that one engine may hold are all seen as one machine.
 #![tactic(auto)]
 
+mod books;
 mod engine;
 pub mod laws;
 
+pub use books::outlives_a_crash;
 pub use engine::EngineEvents;
