@@ -12,7 +12,7 @@ use gx_shared::{Book, Run, Session, Shared};
 use std::alloc::{AllocError, Global};
 use std::sync::Wait;
 use std::sync::ledger::Blank;
-use std::thread::{Threads, join};
+use std::thread::{Threads, map_vec};
 
 /// A worker by the first session that is left.
 fn next_worker<R: Run<Box2>>(
@@ -20,25 +20,22 @@ fn next_worker<R: Run<Box2>>(
     sessions: &mut Vec<Session<R>>,
 ) -> Result<Worker<R>, Trouble> {
     if sessions.is_empty() {
-        return Err(Trouble::Memory);
+        return Err(Trouble::BadLine);
     }
     Ok(Worker::new(alloc, sessions.remove(0)))
 }
 
-/// Two sessions work, in a thread each.
-fn two_work<E, R, W>(
-    rt: &W,
-    shared: &Shared<Box2, E, R>,
-    one: Worker<R>,
-    two: Worker<R>,
-) -> Result<(Worker<R>, Worker<R>), AllocError>
-where
-    E: Events<Box2> + Send,
-    R: Run<Box2> + Send + Sync,
-    W: Threads + Wait + Sync,
-{
-    let (one, two) = join(rt, || work(rt, shared, one), || work(rt, shared, two));
-    Ok((one?, two?))
+/// So many workers, by the first sessions.
+fn workers<R: Run<Box2>>(
+    alloc: Global,
+    sessions: &mut Vec<Session<R>>,
+    threads: u8,
+) -> Result<Vec<Worker<R>>, Trouble> {
+    let mut workers = Vec::new(alloc);
+    for _ in 0..threads {
+        workers.push(next_worker(alloc, sessions)?)?;
+    }
+    Ok(workers)
 }
 
 /// How many calls were finished, by the record.
@@ -62,26 +59,57 @@ fn tell<E: Events<Box2>, R: Run<Box2>, W: Print>(
     Ok(())
 }
 
-/// A worker's session back among the others, with what it was handed.
+/// What a worker was handed: its session's number, the calls that it finished, and the replies.
+#[derive(Drop)]
+struct Handed {
+    session: u8,
+    share: u64,
+    replies: Vec<Reply<Box2>>,
+}
+
+/// A worker's session back among the others; what it was handed.
 fn back<R: Run<Box2>>(
     sessions: &mut Vec<Session<R>>,
     worker: Worker<R>,
-) -> Result<(u8, u64, Vec<Reply<Box2>>), Trouble> {
+) -> Result<Handed, Trouble> {
     let Worker { session, replies } = worker;
     let number = session.number();
     let share = session.share();
     sessions.push(session)?;
-    Ok((number, share, replies))
+    Ok(Handed {
+        session: number,
+        share,
+        replies,
+    })
+}
+
+/// All workers' sessions back among the others; what they were handed.
+fn all_back<R: Run<Box2>>(
+    alloc: Global,
+    sessions: &mut Vec<Session<R>>,
+    workers: Vec<Result<Worker<R>, AllocError>>,
+) -> Result<Vec<Handed>, Trouble> {
+    let mut handed = Vec::new(alloc);
+    for worker in workers {
+        handed.push(back(sessions, worker?)?)?;
+    }
+    Ok(handed)
 }
 
 /// Prints what the record says of all.
 fn tell_all<E: Events<Box2>, R: Run<Box2>, W: Print>(
     rt: &W,
     book: &Book<Box2, E, R>,
-    all: &[(u8, u64, Vec<Reply<Box2>>)],
+    all: &[Handed],
 ) -> Result<(), Trouble> {
-    for (session, share, replies) in all {
-        tell(rt, book, *session, *share, replies.as_slice())?;
+    for handed in all {
+        tell(
+            rt,
+            book,
+            handed.session,
+            handed.share,
+            handed.replies.as_slice(),
+        )?;
     }
     let calls = finished(book.calls());
     let commits = book.engine().commits();
@@ -89,12 +117,20 @@ fn tell_all<E: Events<Box2>, R: Run<Box2>, W: Print>(
     Ok(())
 }
 
-/// Shares an engine with nothing committed among four threads, and prints what the record says once they are joined.
-pub(crate) fn run<E, R, W>(rt: &W, alloc: Global, blank: Blank, engine: E) -> Result<(), Trouble>
-where
+/// Shares an engine with nothing committed among so many threads, each of which makes so many transactions, and prints what the record
+/// says once they are joined.
+pub(crate) fn run<
     E: Events<Box2> + Drop + Send,
     R: Run<Box2> + Send + Sync,
     W: Threads + Wait + Sync + Print,
+>(
+    rt: &W,
+    alloc: Global,
+    blank: Blank,
+    engine: E,
+    threads: u8,
+    transactions: u16,
+) -> Result<(), Trouble>
     requires name { blank.name ≡ R.name }
     requires parts { (blank.parts ≡ R.parts) × (R.parts ≡ SESSIONS) }
     requires fresh { R.start ≡ fresh_machine }
@@ -103,22 +139,13 @@ where
     let Ok((shared, mut sessions)) = Shared::<Box2, E, R>::new(alloc, blank, engine) else {
         return Err(Trouble::Memory);
     };
-    let one = next_worker(alloc, &mut sessions)?;
-    let two = next_worker(alloc, &mut sessions)?;
-    let three = next_worker(alloc, &mut sessions)?;
-    let four = next_worker(alloc, &mut sessions)?;
-    let (first, second) = join(
+    let workers = workers(alloc, &mut sessions, threads)?;
+    let done = map_vec(
         rt,
-        || two_work(rt, &shared, one, two),
-        || two_work(rt, &shared, three, four),
-    );
-    let (one, two) = first?;
-    let (three, four) = second?;
-    let mut all = Vec::new(alloc);
-    all.push(back(&mut sessions, one)?)?;
-    all.push(back(&mut sessions, two)?)?;
-    all.push(back(&mut sessions, three)?)?;
-    all.push(back(&mut sessions, four)?)?;
+        workers,
+        &|worker| work(rt, &shared, worker, transactions),
+    )?;
+    let handed = all_back(alloc, &mut sessions, done)?;
     let book = shared.close(sessions);
-    tell_all(rt, &book, all.as_slice())
+    tell_all(rt, &book, handed.as_slice())
 }

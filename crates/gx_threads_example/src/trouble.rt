@@ -5,18 +5,21 @@ use std::io;
 /// What ends the program early.
 #[derive(Clone, Copy, Debug)]
 pub(crate) enum Trouble {
+    /// A line hasn't two numbers, or asks for more threads than there are sessions.
+    BadLine,
     /// Memory lacks.
     Memory,
-    /// A line can't be written.
-    Output,
+    /// A line can't be read or written.
+    Stream,
 }
 
 impl Trouble {
     /// A text for it.
     pub(crate) fn text(self) -> &'static str {
         match self {
+            Trouble::BadLine => "a line wants two numbers: 1 to 8 threads, and transactions",
             Trouble::Memory => "memory lacks",
-            Trouble::Output => "a line can't be written",
+            Trouble::Stream => "a line can't be read or written",
         }
     }
 }
@@ -35,6 +38,6 @@ impl<T: Drop> From<AllocFailed<T>> for Trouble {
 
 impl From<io::Error> for Trouble {
     fn from(_fault: io::Error) -> Trouble {
-        Trouble::Output
+        Trouble::Stream
     }
 }

@@ -7,9 +7,6 @@ use std::alloc::{AllocError, Global};
 use std::sync::Wait;
 use std::sync::ledger::Ledger;
 
-/// How many transactions a thread makes.
-const TRANSACTIONS: u8 = 5;
-
 /// A session with the replies that it was handed, in their order.
 #[derive(Drop)]
 pub(crate) struct Worker<R: Ledger> {
@@ -43,7 +40,7 @@ impl<R: Ledger> Worker<R> {
 }
 
 /// A box one wide and one high, in a strip that this session alone uses: one for each insert of each transaction.
-fn place(session: u8, turn: u8, insert: u8) -> Box2 {
+fn place(session: u8, turn: u16, insert: u8) -> Box2 {
     let x = i32::from(turn) * 100 + i32::from(insert) * 10;
     let y = i32::from(session) * 100;
     match Box2::new(x, y, x + 1, y + 1) {
@@ -52,7 +49,7 @@ fn place(session: u8, turn: u8, insert: u8) -> Box2 {
     }
 }
 
-/// The session's strip, as far as it uses it.
+/// The beginning of the session's strip.
 fn strip(session: u8) -> Box2 {
     let y = i32::from(session) * 100;
     match Box2::new(0, y, 1000, y + 1) {
@@ -61,12 +58,12 @@ fn strip(session: u8) -> Box2 {
     }
 }
 
-/// A transaction: three inserts, a search of all that the session has inserted so far, and a commit.
+/// A transaction: three inserts, a search of what the session has inserted first, and a commit.
 fn transact<E: Events<Box2>, R: Run<Box2>, W: Wait>(
     rt: &W,
     shared: &Shared<Box2, E, R>,
     worker: &mut Worker<R>,
-    turn: u8,
+    turn: u16,
 ) -> Result<(), AllocError> {
     let session = worker.session.number();
     worker.call(rt, shared, Call::Begin)?;
@@ -84,9 +81,10 @@ pub(crate) fn work<E: Events<Box2>, R: Run<Box2>, W: Wait>(
     rt: &W,
     shared: &Shared<Box2, E, R>,
     worker: Worker<R>,
+    transactions: u16,
 ) -> Result<Worker<R>, AllocError> {
     let mut worker = worker;
-    for turn in 0..TRANSACTIONS {
+    for turn in 0..transactions {
         transact(rt, shared, &mut worker, turn)?;
     }
     Ok(worker)
