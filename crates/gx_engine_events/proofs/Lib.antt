@@ -1,0 +1,4 @@
+pub mod Stepping
+pub mod Crashes
+pub mod AtOnce
+pub mod Acknowledged

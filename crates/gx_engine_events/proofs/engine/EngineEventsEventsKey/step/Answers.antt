@@ -1,0 +1,9 @@
+use Rattle.gx_engine_events.proofs.Crashes.{step_leaves}
+use Rattle.gx_engine_events.proofs.Stepping.{step_leads}
+use Rattle.gx_engine_events.proofs.engine.EngineEventsEventsKey.step.Goals as goal
+
+pub returns-clause-happens : goal.returns-clause-happens
+returns-clause-happens g c = rw (← c.self.view_is) (step_leads _ _ _ _ _ c.a_class_is_lawful.ensures _ _ _ _ c.step.ensures.steps)
+
+pub returns-clause-leaves : goal.returns-clause-leaves
+returns-clause-leaves g c = rw (← c.self.view_is) (step_leaves _ _ _ _ _ c.a_class_is_lawful.ensures _ _ _ _ c.step.ensures.steps)

@@ -1,0 +1,4 @@
+pub mod Seen
+pub mod One
+pub mod Crashes
+pub mod Books

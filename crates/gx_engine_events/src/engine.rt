@@ -1,0 +1,109 @@
+//! The engine as an engine of events.
+ghost use Rattle.std.specs.Prelude.{◌≡◌};
+
+use gx_class::Probing;
+use gx_disk::SectorDisk;
+use gx_engine::Engine;
+use gx_engine::laws::a_class_is_lawful;
+use gx_events::{Event, Events, Outcome};
+use gx_readings::ReadKeys;
+use std::marker::Model;
+
+/// An engine over pages and a log that is run by events. Contracts see it as the engine's parts.
+#[derive(Drop)]
+pub struct EngineEvents<D: SectorDisk, K: ReadKeys> {
+    engine: Engine<D, K>,
+}
+
+impl<D: SectorDisk, K: ReadKeys> Model for EngineEvents<D, K> {
+    ghost use Rattle.gx_engine.specs.States.{Parts};
+
+    ghost Value = { Parts K.Key D };
+
+    ghost view = { λ e. e.engine };
+}
+
+impl<D: SectorDisk, K: ReadKeys> EngineEvents<D, K> {
+    ghost use Rattle.std.specs.Prelude.{List};
+    ghost use Rattle.gx_machine.specs.declared.entry.Entry.{Entry};
+    ghost use Rattle.gx_machine.specs.Keys.{keys_of};
+    ghost use Rattle.gx_machine.specs.Machine.{Machine};
+    ghost use Rattle.gx_node.specs.Reading.{format_of, is_node};
+    ghost use Rattle.gx_engine_laws.specs.Engines.{SeenAs};
+    ghost use Rattle.gx_recovery.specs.Known.{Limits};
+    ghost use Rattle.gx_recovery.specs.Records.{Record};
+    ghost use Rattle.gx_index_laws.specs.Classes.{Page};
+    ghost use Rattle.gx_index_laws.specs.States as index;
+    ghost use Rattle.gx_index_laws.specs.States.{engine_of};
+    ghost use Rattle.gx_readings.specs.Classes.{class_of, reading_of};
+    ghost use Rattle.gx_engine.specs.Holds.{Holds};
+    ghost use Rattle.gx_engine_events.specs.Seen.{Sees};
+
+    /// An engine, to be run by events. Where it holds an index that is seen as a machine, it is seen as that machine.
+    pub fn new(engine: Engine<D, K>) -> Self
+        ensures same { result ≡ engine }
+        ensures seen { (l : Limits) (bodies : List (List (Record (Entry K.Key) (Page K.Key)))) (i : index.State K.Key) (m : Machine K.Key)
+            → Holds (class_of K.Key.Shape K.is_proper l) (reading_of K.said (format_of K.KeyClass)) (format_of K.KeyClass) (is_node (format_of K.KeyClass)) (D.state engine.volume.shelf.disk) engine bodies i
+            → SeenAs (keys_of K.Key.Shape) (engine_of (class_of K.Key.Shape K.is_proper l) i) m → Sees K.Key.Shape K.is_proper K.said (format_of K.KeyClass) D.state result m }
+    {
+        EngineEvents { engine }
+    }
+
+    /// The engine, as the events left it.
+    pub fn into_inner(self) -> Engine<D, K>
+        ensures { result ≡ self }
+    {
+        self.engine
+    }
+}
+
+impl<D: SectorDisk, K: ReadKeys + Probing> Events<K::Key> for EngineEvents<D, K>
+where
+    K::Probe: Drop,
+{
+    ghost use Rattle.std.specs.Prelude.{◌≡◌, max};
+    ghost use Rattle.gx_machine.specs.Keys.{keys_of};
+    ghost use Rattle.gx_machine.specs.Machine.{Machine, newest};
+    ghost use Rattle.gx_node.specs.Reading.{format_of};
+    ghost use Rattle.gx_storage.specs.Flushing.{IsLeastWritable};
+    ghost use Rattle.gx_events.specs.Happens.{Happens};
+    ghost use Rattle.gx_engine_events.specs.Crashes.{LeavesSets};
+    ghost use Rattle.gx_engine_events.specs.Seen.{Sees};
+    ghost use Rattle.gx_engine_events.specs.One.{one_seen};
+
+    ghost sees = { λ e m. Sees K.Key.Shape K.is_proper K.said (format_of K.KeyClass) D.state e m };
+
+    /// As the trait says. And at each moment within the event, whatever a crash may leave stands for a set that the machine of before it
+    /// keeps: one from the last durable commit's to the last one's.
+    fn step(&mut self, event: Event<K::Key>) -> Outcome<K::Key>
+        ensures happens { (m : Machine K.Key) → Sees K.Key.Shape K.is_proper K.said (format_of K.KeyClass) D.state self.old m
+            → (n : Machine K.Key) × Happens (keys_of K.Key.Shape) m event result n × Sees K.Key.Shape K.is_proper K.said (format_of K.KeyClass) D.state self.new n }
+        ensures leaves { (m : Machine K.Key) → Sees K.Key.Shape K.is_proper K.said (format_of K.KeyClass) D.state self.old m
+            → LeavesSets K.Key.Shape K.is_proper K.said (format_of K.KeyClass) D.state m self.old self.new }
+    {
+        a_class_is_lawful::<K>();
+        self.engine.step(event)
+    }
+
+    fn commits(&self) -> u64
+        ensures number { result ≡ self.now.sessions.latest }
+        ensures seen { (m : Machine K.Key) → Sees K.Key.Shape K.is_proper K.said (format_of K.KeyClass) D.state self.now m → result ≡ newest m }
+    {
+        a_class_is_lawful::<K>();
+        self.engine.commits()
+    }
+
+    fn used(&self) -> u32
+        ensures { result ≡ max 1 self.now.volume.shelf.used }
+    {
+        self.engine.used().max(1)
+    }
+
+    fn dirty(&self) -> Option<u32>
+        ensures { IsLeastWritable self.now.volume.shelf.frames result }
+    {
+        self.engine.dirty()
+    }
+
+    ghost one = { λ e m n a b. one_seen _ _ _ _ _ (record { total = K.Key.Ord.total; exact = K.Key.Shape.same }) e m n a b };
+}

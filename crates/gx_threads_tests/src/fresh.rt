@@ -1,0 +1,33 @@
+//! A new index on a device in memory.
+ghost use Rattle.std.specs.Prelude.{IfOk};
+ghost use Rattle.gx_machine.specs.Machine.{fresh_machine};
+ghost use Rattle.gx_events.specs.declared.engine.Events as events;
+
+use gx_class::Box2Class;
+use gx_disk::MemDisk;
+use gx_engine_events::EngineEvents;
+use gx_events::Events;
+use gx_format::sectors_for;
+use gx_geom::Box2;
+use gx_new_index::new_index;
+use std::alloc::Global;
+use std::test::Fail;
+
+/// An engine on a new index of boxes, with so many pages, entries in a node and frames.
+pub(crate) fn fresh(
+    alloc: Global,
+    pages: u32,
+    most: u16,
+    frames: usize,
+) -> Result<EngineEvents<MemDisk, Box2Class>, Fail>
+    ensures { IfOk result (λ engine. ⟦<EngineEvents<MemDisk, Box2Class> as Events<Box2>>⟧.sees engine fresh_machine) }
+{
+    let Ok(sectors) = usize::try_from(sectors_for(pages)) else {
+        return Err(Fail::new("the device is too large"));
+    };
+    let disk = MemDisk::new(alloc, sectors)?;
+    match new_index::<MemDisk, Box2Class>(alloc, disk, pages, most, frames) {
+        Ok(engine) => Ok(engine),
+        Err(_) => Err(Fail::new("there is no new index")),
+    }
+}
