@@ -17,7 +17,8 @@ use Rattle.gx_engine.specs.Flushing.{IsEnded, LogComes, LogGoes, LogSteps, PageC
 use Rattle.gx_phases.specs.States.{State as Sessions}
 use Rattle.gx_engine.specs.declared.work.Work.{Work}
 use Rattle.gx_engine.specs.States.{Parts, runs}
-use Rattle.gx_restart.specs.Settled.{GoesOn, IsAtRest, KeepsSessions}
+use Rattle.gx_driven.specs.Repeated.{GoesOn}
+use Rattle.gx_restart.specs.Settled.{IsAtRest, KeepsSessions}
 
 -- where the log has nothing to do, nothing is in flight or waits
 nothing_made : (st : Stage) (due new : Log) → due.stage ≡ st → (st ≡ Idle → ⊥) → Made due new (Ok Idle) → ⊥

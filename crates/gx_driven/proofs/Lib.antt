@@ -1,0 +1,4 @@
+pub mod Making
+pub mod Driving
+pub mod Repeating
+pub mod Stepping
