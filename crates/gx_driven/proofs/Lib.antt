@@ -2,3 +2,4 @@ pub mod Making
 pub mod Driving
 pub mod Repeating
 pub mod Stepping
+pub mod Resting

@@ -1,3 +1,4 @@
 pub mod Made
 pub mod Driven
 pub mod Repeated
+pub mod Resting

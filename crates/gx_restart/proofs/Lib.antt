@@ -1,5 +1,4 @@
 pub mod Exhausting
-pub mod Resting
 pub mod Settling
 pub mod Driving
 pub mod Alone

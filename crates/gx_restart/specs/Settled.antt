@@ -6,8 +6,6 @@ use Rattle.gx_events.specs.declared.event.Event.{Event}
 use Rattle.gx_events.specs.declared.event.Event.TheVariants.{CheckpointStep, LogStep}
 use Rattle.gx_events.specs.declared.outcome.Outcome.{Outcome}
 use Rattle.gx_events.specs.declared.outcome.Outcome.TheVariants as outcome
-use Rattle.gx_engine.specs.declared.checkpoint.Checkpoint.TheVariants.{Off}
-use Rattle.gx_engine.specs.Checkpoints.{IsQuiet}
 use Rattle.gx_engine.specs.States.{Parts}
 use Rattle.gx_driven.specs.Repeated.{IsGoingOn, IsRepeated}
 use Rattle.gx_restart.specs.States.{State}
@@ -35,13 +33,3 @@ module _ {B D : Type 0} (makes : Parts B D → Event B → Outcome B → Parts B
 
   abbrev pub Settles : State B D → Result (Unit {0}) Refusal → State B D → Type 0
   Settles old result new = SettlesBy old.ended old result new
-
--- No checkpoint runs, no batch is in flight, and none fills.
-pub record IsAtRest {B D : Type 0} (e : Parts B D) : Type 0 where
-  pub works : e.sessions.failed ≡ false
-  pub off : e.checkpoint ≡ Off
-  pub quiet : IsQuiet e.volume
-
--- the sessions are as before, but for the number up to which commits are durable, and for a fault
-abbrev pub KeepsSessions : {B D : Type 0} → Parts B D → Parts B D → Type 0
-KeepsSessions old new = new.sessions ≡ record old.sessions { durable = new.sessions.durable; failed = new.sessions.failed }

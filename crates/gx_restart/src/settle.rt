@@ -5,7 +5,8 @@ ghost use Rattle.gx_recovery.specs.Known.{Limits};
 ghost use Rattle.gx_readings.specs.Classes.{class_of, reading_of};
 ghost use Rattle.gx_restart.specs.Alone.{RunsOn};
 ghost use Rattle.gx_driven.specs.Made.{Makes};
-ghost use Rattle.gx_restart.specs.Settled.{IsAtRest, IsExhausted, KeepsSessions, Settles, SettlesOn};
+ghost use Rattle.gx_driven.specs.Resting.{IsAtRest, KeepsSessions};
+ghost use Rattle.gx_restart.specs.Settled.{IsExhausted, Settles, SettlesOn};
 
 use crate::Index;
 use gx_class::Probing;
