@@ -1,3 +1,5 @@
 pub mod Phases
 pub mod Going
 pub mod Closing
+pub mod Runs
+pub mod Opened

@@ -15,6 +15,7 @@ use Rattle.gx_engine.specs.States.{Parts}
 use Rattle.gx_driven.specs.Driven.{IsGivenUp}
 use Rattle.gx_driven.specs.Made.{AreMade}
 use Rattle.gx_driven.specs.Repeated.{IsGoingOn}
+use Rattle.gx_driven.specs.Resting.{WorksOff}
 
 -- a session is free, or undoes
 abbrev pub MayUndo : {B W : Type 0} → Phase B W → Type 0
@@ -34,6 +35,11 @@ IsFreeAt place e = phase_at place e.sessions.phases ≡ phase.Free
 
 abbrev pub AreFreeBelow : {B D : Type 0} → ℕ → Parts B D → Type 0
 AreFreeBelow count e = (place : ℕ) → place < count → IsFreeAt place e
+
+-- no session has a transaction, no checkpoint runs, and no fault has come
+pub record IsIdle {B D : Type 0} (e : Parts B D) : Type 0 where
+  pub free : AreFreeBelow 8 e
+  pub works : WorksOff e
 
 -- an event that an opening makes
 abbrev pub IsOfOpening : {B : Type 0} → Event B → Type 0

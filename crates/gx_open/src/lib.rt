@@ -3,4 +3,5 @@
 
 mod begin;
 mod losers;
+mod opening;
 mod undo;
