@@ -3,3 +3,4 @@ pub mod Going
 pub mod Closing
 pub mod Runs
 pub mod Opened
+pub mod Ends

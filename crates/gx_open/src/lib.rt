@@ -5,3 +5,5 @@ mod begin;
 mod losers;
 mod opening;
 mod undo;
+
+pub use opening::open;
