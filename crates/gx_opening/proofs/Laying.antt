@@ -94,7 +94,13 @@ module _ {E P : Type 0} (k : Known E P) (r : Reading E P) where
         let whole = redoes lawful honest settled is in
         record {
           leaves = leaves_weaker (HasSamePages k r a.seen (records_of is.log.bodies)) (IsKeptOrFound k r a) a b kept_so whole.redone.leaves;
-          log = record { is = is; settled = whole.redone.done.settled; area = whole.redone.done.area; same = whole.redone.done.same };
+          log = record {
+            is = is;
+            settled = whole.redone.done.settled;
+            area = whole.redone.done.area;
+            same = whole.redone.done.same;
+            stays = record { glog = whole.redone.done.glog; written = whole.redone.done.written; sizes = λ good j below. (whole.redone.done.turn good).may_turn.run.sizes j below };
+          };
         }
 
     -- or that is refused

@@ -17,9 +17,9 @@ use Rattle.gx_index_laws.specs.Classes.{Page}
 use Rattle.gx_recovery.specs.Known.{Known, IsLawful}
 use Rattle.gx_durable.specs.Spelled.{Reading}
 use Rattle.gx_opening.specs.Formatted.{OnlyRests, Says, Settles}
-use Rattle.gx_opening.specs.Laid.{HasFoundLog, IsKeptOrFound, IsLaid, LaysLog}
+use Rattle.gx_opening.specs.Laid.{HasFoundLog, IsKeptOrFound, IsLaid, LaysLog, StaysBehind}
 use Rattle.gx_opening.specs.Sound.{AreSound, IsCause, Tells}
-use Rattle.gx_opening.specs.Standing.{IsFormatted, IsTested, IsUnlaid, Stands, StaysSafe, known_for, reading, told_with}
+use Rattle.gx_opening.specs.Standing.{IsFormatted, IsTested, IsUnlaid, MayStart, Stands, StaysSafe, known_for, reading, told_with}
 use Rattle.gx_opening.specs.Noting.{AreOfOthers}
 use Rattle.gx_opening.specs.declared.standing.Standing.{Standing}
 use Rattle.gx_opening.proofs.Others.{log_of_others}
@@ -148,6 +148,7 @@ module _ {B : Type 0} (shape : Members B) (is_key : B → Bool) (said : List ℕ
       settled = λ n. pending n ∙ laid.settled n;
       area = subst (λ (x : List ℕ). (p : ℕ) → area_of reading_there known_there.pages x p ≡ redone (area_of reading_there known_there.pages a.seen) (records_of laid.is.log.bodies) p) (sym rests.seen) laid.area;
       same = subst (λ (x : List ℕ). HasSamePages known_there reading_there a.seen (records_of laid.is.log.bodies) x) (sym rests.seen) laid.same;
+      stays = subst (λ (x : List ℕ). StaysBehind known_there reading_there a.seen x laid.is.log.bodies) (sym rests.seen) laid.stays;
     }
 
     -- its pages were tested
@@ -177,3 +178,15 @@ module _ {T : Type 0} where
   pub with_told : (P : Type 0) (sound : Result (Unit {0}) Refusal) (x : T) → Tells {T = Unit {0}} P sound → Tells {T = T} P (told_with sound x)
   with_told P (Ok done) x told = told
   with_told P (Err why) x told = told
+
+  pub with_known : (P : T → Type 0) (sound : Result (Unit {0}) Refusal) (x : T) → IfOk sound (λ _. P x) → IfOk (told_with sound x) P
+  with_known P (Ok done) x known = known
+  with_known P (Err why) x known = tt
+
+module _ {B : Type 0} where
+  pub may_start : (tested : Result (Standing B) Refusal) (x : Standing B) → IfOk tested (λ y. y ≡ x) → (1 ≤ x.log.bodies) × (x.log.bodies ≤ 32)
+      → IfOk tested (λ y. y.log.analysis.told.used ≤ y.parameters.pages) → IfOk tested MayStart
+  may_start (Ok y) x same bodies fits =
+      let there = subst (λ (z : Standing B). (1 ≤ z.log.bodies) × (z.log.bodies ≤ 32)) (sym same) bodies in
+      record { some = there.0; few = there.1; fits = fits }
+  may_start (Err why) x same bodies fits = tt

@@ -1,16 +1,24 @@
 -- The log of a device, found and laid over its pages.
-use Rattle.std.specs.Prelude.{◌≡◌, ◌⊎◌, ℕ, true, List, Result, Ok, Err}
+use Rattle.std.specs.Prelude.{◌≡◌, ◌⊎◌, ◌<◌, ℕ, true, List, Result, Ok, Err}
 use Rattle.gx_geom.specs.declared.refusal.Refusal.{Refusal}
 use Rattle.gx_geom.specs.declared.refusal.Refusal.TheVariants.{Damaged}
 use Rattle.gx_disk.specs.Device.{Device, IsSettled, MayLeave}
 use Rattle.gx_disk.specs.Moments.{Leaves}
 use Rattle.gx_durable.specs.Area.{area_of}
+use Rattle.gx_durable.specs.GoingOn.{opened}
+use Rattle.gx_durable.specs.Opening.{found_glog}
 use Rattle.gx_durable.specs.Spelled.{Reading}
 use Rattle.gx_found_log.specs.declared.found.FoundLog.{FoundLog}
 use Rattle.gx_found_log.specs.Found.{HasUndamaged, IsFound}
+use Rattle.gx_glog.specs.Layout.{body_of, selected_of, size_in}
+use Rattle.gx_glog.specs.Reading.{IsSize}
+use Rattle.gx_recovery.specs.Coming.{IsGood}
 use Rattle.gx_recovery.specs.Damage.{records_of}
 use Rattle.gx_recovery.specs.Known.{Known, IsLawful}
-use Rattle.gx_recovery.specs.Redo.{redone}
+use Rattle.gx_recovery.specs.Life.{AllWritten}
+use Rattle.gx_recovery.specs.Records.{Record}
+use Rattle.gx_recovery.specs.Redo.{redone, tree_of}
+use Rattle.gx_recovery.specs.Renewal as renewal
 use Rattle.gx_redo.specs.Redone.{HasSamePages}
 
 module _ {E P : Type 0} (k : Known E P) (r : Reading E P) where
@@ -23,12 +31,21 @@ module _ {E P : Type 0} (k : Known E P) (r : Reading E P) where
   abbrev pub IsKeptOrFound : Device → List ℕ → Type 0
   IsKeptOrFound d image = MayLeave d image ⊎ HasFoundLog d.seen image
 
+  -- The log that starts behind these bodies is on a device as it was on what was seen, with each page written. Where the pages are good for
+  -- it, what each body says its size is fits it.
+  pub record StaysBehind (seen now : List ℕ) (bodies : List (List (Record E P))) : Type 0 where
+    pub glog : found_glog now ≡ found_glog seen
+    pub written : AllWritten (renewal.found (area_of r k.pages now) (records_of bodies))
+    pub sizes : IsGood k (tree_of k (area_of r k.pages now) (records_of bodies)) (records_of bodies)
+        → (j : ℕ) → j < opened now → IsSize (size_in (body_of now (selected_of now) j))
+
   -- The log was found on what was seen, and laid: each page is as the log leaves it, after which the pages are the same, and all is settled.
   pub record IsLaid (seen : List ℕ) (e : Device) (found : FoundLog E) : Type 0 where
     pub is : IsFound k r seen found
     pub settled : IsSettled e
     pub area : (p : ℕ) → area_of r k.pages e.seen p ≡ redone (area_of r k.pages seen) (records_of is.log.bodies) p
     pub same : HasSamePages k r seen (records_of is.log.bodies) e.seen
+    pub stays : StaysBehind seen e.seen is.log.bodies
 
   -- the log is found and laid; or it is damaged
   abbrev pub LogLaid : List ℕ → Device → Result (FoundLog E) Refusal → Type 0

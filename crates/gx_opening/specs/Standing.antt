@@ -1,5 +1,5 @@
 -- What stands on a device: an index that it is formatted for, its log, and pages that are good for it.
-use Rattle.std.specs.Prelude.{◌≡◌, ◌⊎◌, ℕ, Bool, List, Result, Ok, Err}
+use Rattle.std.specs.Prelude.{◌≡◌, ◌⊎◌, ℕ, ◌≤◌, Bool, List, Result, Ok, Err}
 use Rattle.gx_geom.specs.declared.refusal.Refusal.{Refusal}
 use Rattle.gx_geom.specs.declared.refusal.Refusal.TheVariants.{Damaged}
 use Rattle.gx_disk.specs.Device.{Device}
@@ -34,6 +34,12 @@ told_with (Err why) x = Err why
 -- the limits of an index that a device is formatted for
 abbrev pub limits_of : Parameters → Limits
 limits_of p = record { most = p.most; pages = p.pages }
+
+-- An engine may start with these numbers: the log has a body and no more than an extent has, and no more pages are in use than there are.
+pub record MayStart {B : Type 0} (s : Standing B) : Type 0 where
+  pub some : 1 ≤ s.log.bodies
+  pub few : s.log.bodies ≤ 32
+  pub fits : s.log.analysis.told.used ≤ s.parameters.pages
 
 module _ {B : Type 0} (shape : Members B) (is_key : B → Bool) (said : List ℕ → B) (f : Format B) where
   abbrev pub known_for : Parameters → Known (Entry B) (Page B)

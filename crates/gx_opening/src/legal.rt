@@ -1,6 +1,6 @@
 //! The pages of a device whose log is laid are tested: that each can be read, that they are a legal tree, and that what open transactions have
 //! touched is in its place.
-ghost use Rattle.std.specs.Prelude.{◌≡◌, ◌≤◌, ◌<◌, ◌+◌, ◌*◌, ℕ, true, OnOk, IfErr, Err};
+ghost use Rattle.std.specs.Prelude.{◌≡◌, ◌≤◌, ◌<◌, ◌+◌, ◌*◌, ℕ, true, OnOk, IfErr, IfOk, Err};
 ghost use Rattle.gx_machine.specs.Keys.{keys_of, entry_cmp};
 ghost use Rattle.gx_node.specs.Reading.{format_of, is_node};
 ghost use Rattle.gx_pool.specs.Bringing.{OnlyRead};
@@ -219,6 +219,7 @@ pub(crate) fn test_pages<D: SectorDisk, K: ReadKeys>(
     most: u16,
 ) -> (D, Result<(), Refusal>)
     requires inside { (pages ≤ 65536) × (4168 + 8 * pages ≤ (D.state disk).sectors) }
+    ensures fits { IfOk result.1 (λ _. analysis.now.told.used ≤ pages) }
     ensures cause { IfErr result.1 IsCause }
     ensures read { OnlyRead (D.state disk) (D.state result.0) }
     ensures tested { (l : Limits) → l.pages ≡ pages → l.most ≡ most → (D.state disk).honest ≡ true → AreOfOthers (entry_cmp (keys_of K.Key.Shape)) analysis.now.told.touched

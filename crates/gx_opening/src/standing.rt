@@ -8,7 +8,7 @@ ghost use Rattle.gx_readings.specs.Classes.{class_of, reading_of};
 ghost use Rattle.gx_opening.specs.Formatted.{IsAllowed, IsLarge};
 ghost use Rattle.gx_opening.specs.Noting.{AreOfOthers};
 ghost use Rattle.gx_opening.specs.Sound.{AreSound, IsCause, Tells};
-ghost use Rattle.gx_opening.specs.Standing.{IsStood, IsTested, StaysSafe, limits_of, told_with};
+ghost use Rattle.gx_opening.specs.Standing.{IsStood, IsTested, MayStart, StaysSafe, limits_of, told_with};
 
 use crate::formatted::formatted_for;
 use crate::legal::test_pages;
@@ -38,6 +38,7 @@ fn stand<D: SectorDisk, K: ReadKeys>(
 ) -> Result<Standing<K::Key>, Refusal>
     ensures device { ((D.state disk.new).sectors ≡ (D.state disk.old).sectors) × ((D.state disk.new).honest ≡ (D.state disk.old).honest) }
     ensures allowed { IfOk result (λ s. IsAllowed K.CLASS s.parameters × IsLarge (D.state disk.old).sectors s.parameters) }
+    ensures bodies { IfOk result (λ s. (1 ≤ s.log.bodies) × (s.log.bodies ≤ 32)) }
     ensures small { (D.state disk.old).sectors < 4232 → (result ≡ Err Refusal.TooSmall) × (disk.new ≡ disk.old) }
     ensures safe { (D.state disk.old).honest ≡ true → StaysSafe K.Key.Shape K.is_proper K.said (format_of K.KeyClass) (D.state disk.old) (D.state disk.new) }
     ensures stood { (D.state disk.old).honest ≡ true → 4232 ≤ (D.state disk.old).sectors
@@ -75,6 +76,7 @@ fn tested<D: SectorDisk, K: ReadKeys>(
     requires inside { (standing.parameters.pages ≤ 65536) × (4168 + 8 * standing.parameters.pages ≤ (D.state disk).sectors) }
     ensures read { OnlyRead (D.state disk) (D.state result.0) }
     ensures ok { IfOk result.1 (λ s. s ≡ standing) }
+    ensures fits { IfOk result.1 (λ s. s.log.analysis.told.used ≤ s.parameters.pages) }
     ensures cause { IfErr result.1 IsCause }
     ensures tested { (D.state disk).honest ≡ true → AreOfOthers (entry_cmp (keys_of K.Key.Shape)) standing.log.analysis.told.touched
         → Tells (AreSound (known_of (class_of K.Key.Shape K.is_proper (limits_of standing.parameters))) (reading_of K.said (format_of K.KeyClass)) (is_node (format_of K.KeyClass) standing.parameters.pages)
@@ -91,13 +93,15 @@ fn tested<D: SectorDisk, K: ReadKeys>(
 /// (`NotFormatted`), with numbers out of range or of another class (`BadParameter`), with fewer sectors than that index takes
 /// (`TooSmall`), with a damaged log, or pages that can't be read, aren't a legal tree, or haven't what open transactions touched in its place
 /// (`Damaged`); and where a call fails (`Device`), or memory is refused (`Memory`). At each moment a crash may leave what it could at the
-/// start, or an image with the log that was found and after it the same pages.
+/// start, or an image with the log that was found and after it the same pages. What is found has the numbers that an engine may start with,
+/// whatever the device is.
 pub fn find<D: SectorDisk, K: ReadKeys>(
     alloc: Global,
     disk: D,
 ) -> (D, Result<Standing<K::Key>, Refusal>)
     ensures device { ((D.state result.0).sectors ≡ (D.state disk).sectors) × ((D.state result.0).honest ≡ (D.state disk).honest) }
     ensures allowed { IfOk result.1 (λ s. IsAllowed K.CLASS s.parameters × IsLarge (D.state disk).sectors s.parameters) }
+    ensures starts { IfOk result.1 MayStart }
     ensures small { (D.state disk).sectors < 4232 → (result.1 ≡ Err Refusal.TooSmall) × (result.0 ≡ disk) }
     ensures safe { (D.state disk).honest ≡ true → StaysSafe K.Key.Shape K.is_proper K.said (format_of K.KeyClass) (D.state disk) (D.state result.0) }
     ensures tested { (D.state disk).honest ≡ true → 4232 ≤ (D.state disk).sectors

@@ -36,12 +36,15 @@ use Rattle.gx_engine.specs.States.{Parts}
 use Rattle.gx_engine.proofs.Machines.{event_happens}
 use Rattle.gx_engine.proofs.Running.{ran}
 use Rattle.gx_restart.specs.Alone.{CallsAlone, HaveHappened, RunsAs, RunsFrom, RunsOn}
-use Rattle.gx_restart.specs.Called.{AreDriven, CallsBy, CallsIndex, IsCalled, IsUnderWay}
-use Rattle.gx_restart.specs.Made.{AreMade, Makes}
-use Rattle.gx_restart.specs.Settled.{IsExhausted, IsGoingOn, IsRepeated, SettlesBy, SettlesOn}
+use Rattle.gx_driven.specs.Driven.{AreDriven, IsDriven, IsUnderWay}
+use Rattle.gx_restart.specs.Called.{CallsBy, CallsIndex}
+use Rattle.gx_driven.specs.Made.{AreMade, Makes}
+use Rattle.gx_restart.specs.Settled.{IsExhausted, SettlesBy, SettlesOn}
 use Rattle.gx_restart.specs.States.{State}
 use Rattle.gx_restart.proofs.Driving.{called}
-use Rattle.gx_restart.proofs.Driven.{made_more}
+use Rattle.gx_driven.proofs.Making.{made_joined}
+use Rattle.gx_driven.proofs.Repeating.{repeated_made}
+use Rattle.gx_driven.proofs.Stepping.{steps_made}
 
 true_not : true ≡ false → ⊥
 true_not bad = cc
@@ -131,14 +134,9 @@ module _ {C B D : Type 0} (shape : Members B) (proper : B → Bool) (said : List
   abbrev Runs : Parts B D → Parts B D → Type 0
   Runs = RunsOn (class_of shape proper l) (reading_of said (format_of class)) (format_of class) (is_node (format_of class)) state
 
-  -- what was made are steps, by an index's limits
-  pub steps_made : (steps : List (Event B × Outcome B)) (old new : Parts B D) → AreMade makes old steps new
-      → AreSteps (class_of shape proper l) (reading_of said (format_of class)) (format_of class) (is_node (format_of class)) state old steps new
-  steps_made [] old new same = same
-  steps_made (step ∷ steps) old new made = (made.0, made.1.steps l, steps_made steps made.0 new made.2)
-
+  -- what was made, as steps by an index's limits
   pub runs_made : (steps : List (Event B × Outcome B)) (old new : Parts B D) → AreMade makes old steps new → Runs old new
-  runs_made steps old new made bodies i h = ran _ _ _ _ state steps old new (steps_made steps old new made) bodies i h
+  runs_made steps old new made bodies i h = ran _ _ _ _ state steps old new (steps_made shape proper said class state l steps old new made) bodies i h
 
   pub runs_same : (old new : Parts B D) → new ≡ old → Runs old new
   runs_same old new same = runs_made [] old new same
@@ -149,22 +147,11 @@ module _ {C B D : Type 0} (shape : Members B) (proper : B → Bool) (said : List
   calls_run false old s call reply new (inl calls) = runs_made calls.0.steps old.engine new.engine calls.0.made
   calls_run false old s call reply new (inr given_up) = runs_made given_up.0.1.steps old.engine new.engine given_up.0.1.made
 
-  -- what was made and then made more was made
-  pub made_joined : (first next : List (Event B × Outcome B)) (old middle new : Parts B D) → AreMade makes old first middle → AreMade makes middle next new
-      → AreMade makes old (first ++ next) new
-  made_joined [] next old middle new one other = subst (λ (x : Parts B D). AreMade makes x next new) one other
-  made_joined (step ∷ first) next old middle new one other = (one.0, one.1, made_joined first next one.0 middle new one.2 other)
-
   -- the events of a settling
-  repeated : (event : Event B) (old : Parts B D) (last : Outcome B) (new : Parts B D) → IsRepeated makes event old last new
-      → (steps : List (Event B × Outcome B)) × AreMade makes old steps new
-  repeated event old last new again =
-      (again.before.steps ++ (event, last) ∷ [], made_more makes again.before.steps old again.middle new event last again.before.made again.last_made)
-
   exhausted : (event : Event B) (old : Parts B D) (result : Result (Unit {0}) Refusal) (new : Parts B D) (ended : Bool) → IsExhausted makes event old result new ended
       → (steps : List (Event B × Outcome B)) × AreMade makes old steps new
-  exhausted event old (Ok done) new ended e = repeated event old Nothing new e.0
-  exhausted event old (Err why) new ended (inl e) = repeated event old (Refused why) new e.0
+  exhausted event old (Ok done) new ended e = repeated_made makes event old Nothing new e.0
+  exhausted event old (Err why) new ended (inl e) = repeated_made makes event old (Refused why) new e.0
   exhausted event old (Err why) new ended (inr e) = (e.0.steps, e.0.made)
 
   settled_on : (old : State B D) (result : Result (Unit {0}) Refusal) (new : State B D) → SettlesOn makes old result new
@@ -172,12 +159,12 @@ module _ {C B D : Type 0} (shape : Members B) (proper : B → Bool) (said : List
   settled_on old (Ok done) new (middle, first, second) =
       let one = exhausted CheckpointStep old.engine (Ok done) middle false first in
       let two = exhausted LogStep middle (Ok done) new.engine new.ended second in
-      (one.0 ++ two.0, made_joined one.0 two.0 old.engine middle new.engine one.1 two.1)
+      (one.0 ++ two.0, made_joined makes one.0 two.0 old.engine middle new.engine one.1 two.1)
   settled_on old (Err why) new (inl first) = exhausted CheckpointStep old.engine (Err why) new.engine new.ended first
   settled_on old (Err why) new (inr (middle, first, second)) =
       let one = exhausted CheckpointStep old.engine (Ok tt) middle false first in
       let two = exhausted LogStep middle (Err why) new.engine new.ended second in
-      (one.0 ++ two.0, made_joined one.0 two.0 old.engine middle new.engine one.1 two.1)
+      (one.0 ++ two.0, made_joined makes one.0 two.0 old.engine middle new.engine one.1 two.1)
 
   pub settled_by : (ended : Bool) (old : State B D) (result : Result (Unit {0}) Refusal) (new : State B D) → SettlesBy makes ended old result new → Runs old.engine new.engine
   settled_by true old result new s = runs_same old.engine new.engine (ap (λ x. x.engine) s.1)
@@ -186,15 +173,15 @@ module _ {C B D : Type 0} (shape : Members B) (proper : B → Bool) (said : List
   abbrev Alone : ℕ → Call B → Reply B → Parts B D → Parts B D → Type 0
   Alone = CallsAlone (class_of shape proper l) (reading_of said (format_of class)) (format_of class) (is_node (format_of class)) state
 
-  called_alone : (old : Parts B D) (s : ℕ) (call : Call B) (reply : Reply B) (new : Parts B D) → IsCalled makes s call old reply new → IsLawful (class_of shape proper l)
+  called_alone : (old : Parts B D) (s : ℕ) (call : Call B) (reply : Reply B) (new : Parts B D) → IsDriven makes s (Ask s call) old reply new → IsLawful (class_of shape proper l)
       → Alone s call reply old new
   called_alone old s call reply new calls lawful =
       alone (class_of shape proper l) lawful (reading_of said (format_of class)) (format_of class) (is_node (format_of class)) state s call reply calls.steps old new
-      (steps_made calls.steps old new calls.made) calls.driven
+      (steps_made shape proper said class state l calls.steps old new calls.made) calls.driven
 
   -- a call that was not given up
   was_called : (ended : Bool) (old : State B D) (s : ℕ) (call : Call B) (reply : Reply B) (new : State B D) → ended ≡ false → new.ended ≡ false
-      → CallsBy makes ended old s call reply new → IsCalled makes s call old.engine reply new.engine
+      → CallsBy makes ended old s call reply new → IsDriven makes s (Ask s call) old.engine reply new.engine
   was_called true old s call reply new was is calls = let no : ⊥ = cc in absurd no
   was_called false old s call reply new was is (inl calls) = calls.0
   was_called false old s call reply new was is (inr given_up) = let no : true ≡ false = sym given_up.2 ∙ is in absurd (true_not no)

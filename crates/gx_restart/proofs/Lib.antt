@@ -1,6 +1,4 @@
-pub mod Driven
-pub mod Repeated
-pub mod Resting
+pub mod Exhausting
 pub mod Settling
 pub mod Driving
 pub mod Alone

@@ -38,7 +38,7 @@ use Rattle.gx_engine.specs.Running.{Ran, StandsForOne}
 use Rattle.gx_engine.specs.States.{Parts}
 use Rattle.gx_restart.specs.Alone.{RunsAs, RunsFrom}
 use Rattle.gx_restart.specs.Called.{CallsBy, CallsIndex}
-use Rattle.gx_restart.specs.Made.{Makes}
+use Rattle.gx_driven.specs.Made.{Makes}
 use Rattle.gx_restart.specs.States.{State}
 use Rattle.gx_restart.proofs.Alone.{call_alone, happening_joined}
 

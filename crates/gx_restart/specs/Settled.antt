@@ -1,57 +1,22 @@
 -- What a settling does.
-use Rattle.std.specs.Prelude.{ℕ, ◌≡◌, ◌⊎◌, ◌<◌, Bool, true, false, length, Result, Ok, Err, List, [], ◌∷◌}
+use Rattle.std.specs.Prelude.{◌≡◌, ◌⊎◌, Bool, true, false, Result, Ok, Err}
 use Rattle.gx_geom.specs.declared.refusal.Refusal.{Refusal}
 use Rattle.gx_geom.specs.declared.refusal.Refusal.TheVariants.{Damaged, Failed}
 use Rattle.gx_events.specs.declared.event.Event.{Event}
 use Rattle.gx_events.specs.declared.event.Event.TheVariants.{CheckpointStep, LogStep}
 use Rattle.gx_events.specs.declared.outcome.Outcome.{Outcome}
 use Rattle.gx_events.specs.declared.outcome.Outcome.TheVariants as outcome
-use Rattle.gx_engine.specs.declared.checkpoint.Checkpoint.TheVariants.{Off}
-use Rattle.gx_engine.specs.Checkpoints.{IsQuiet}
 use Rattle.gx_engine.specs.States.{Parts}
-use Rattle.gx_restart.specs.Made.{AreMade}
+use Rattle.gx_driven.specs.Repeated.{IsGoingOn, IsRepeated}
 use Rattle.gx_restart.specs.States.{State}
 
--- there may be more to do: the event was neither refused, nor had it nothing to do
-abbrev pub GoesOn : {B : Type 0} → Outcome B → Type 0
-GoesOn (outcome.Replied reply) = Unit {0}
-GoesOn outcome.More = Unit {0}
-GoesOn (outcome.Help need) = Unit {0}
-GoesOn outcome.Nothing = ⊥
-GoesOn (outcome.Refused why) = ⊥
-
--- each is this event, after which there may be more to do
-abbrev pub AreAgain : {B : Type 0} → Event B → List (Event B × Outcome B) → Type 0
-AreAgain event [] = Unit {0}
-AreAgain event (step ∷ steps) = ((step.0 ≡ event) × GoesOn step.1) × AreAgain event steps
-
--- the outcome that ends a repetition with this result
-abbrev pub last_of : {B : Type 0} → Result (Unit {0}) Refusal → Outcome B
-last_of (Ok done) = outcome.Nothing
-last_of (Err why) = outcome.Refused why
-
 module _ {B D : Type 0} (makes : Parts B D → Event B → Outcome B → Parts B D → Type 0) where
-  -- An event was made so many times, after each of which there may be more to do.
-  pub record IsGoingOn (event : Event B) (old : Parts B D) (count : ℕ) (new : Parts B D) : Type 0 where
-    pub steps : List (Event B × Outcome B)
-    pub again : AreAgain event steps
-    pub made : AreMade makes old steps new
-    pub many : length steps ≡ count
-
-  -- It was made over and over, 2^56 times at most, until its outcome was this.
-  pub record IsRepeated (event : Event B) (old : Parts B D) (last : Outcome B) (new : Parts B D) : Type 0 where
-    pub count : ℕ
-    pub middle : Parts B D
-    pub before : IsGoingOn event old count middle
-    pub last_made : makes middle event last new
-    pub few : count < 72057594037927936
-
   -- until there was nothing to do, or it was refused, or the bound was passed; of which this is the result, and whether the index only
   -- refuses from then on
   abbrev pub IsExhausted : Event B → Parts B D → Result (Unit {0}) Refusal → Parts B D → Bool → Type 0
-  IsExhausted event old (Ok done) new ended = IsRepeated event old outcome.Nothing new × (ended ≡ false)
+  IsExhausted event old (Ok done) new ended = IsRepeated makes event old outcome.Nothing new × (ended ≡ false)
   IsExhausted event old (Err why) new ended =
-      (IsRepeated event old (outcome.Refused why) new × (ended ≡ false)) ⊎ (IsGoingOn event old 72057594037927936 new × (why ≡ Damaged) × (ended ≡ true))
+      (IsRepeated makes event old (outcome.Refused why) new × (ended ≡ false)) ⊎ (IsGoingOn makes event old 72057594037927936 new × (why ≡ Damaged) × (ended ≡ true))
 
   -- the checkpoint's steps, and then the log's
   abbrev pub SettlesOn : State B D → Result (Unit {0}) Refusal → State B D → Type 0
@@ -68,13 +33,3 @@ module _ {B D : Type 0} (makes : Parts B D → Event B → Outcome B → Parts B
 
   abbrev pub Settles : State B D → Result (Unit {0}) Refusal → State B D → Type 0
   Settles old result new = SettlesBy old.ended old result new
-
--- No checkpoint runs, no batch is in flight, and none fills.
-pub record IsAtRest {B D : Type 0} (e : Parts B D) : Type 0 where
-  pub works : e.sessions.failed ≡ false
-  pub off : e.checkpoint ≡ Off
-  pub quiet : IsQuiet e.volume
-
--- the sessions are as before, but for the number up to which commits are durable, and for a fault
-abbrev pub KeepsSessions : {B D : Type 0} → Parts B D → Parts B D → Type 0
-KeepsSessions old new = new.sessions ≡ record old.sessions { durable = new.sessions.durable; failed = new.sessions.failed }

@@ -1,23 +1,21 @@
 //! An index, and its calls.
-ghost use Rattle.std.specs.Prelude.{◌≡◌, false, MatchOption};
+ghost use Rattle.std.specs.Prelude.{◌≡◌, false};
 ghost use Rattle.gx_node.specs.Reading.{format_of, is_node};
 ghost use Rattle.gx_recovery.specs.Known.{Limits};
 ghost use Rattle.gx_readings.specs.Classes.{class_of, reading_of};
 ghost use Rattle.gx_restart.specs.Alone.{RunsOn};
-ghost use Rattle.gx_restart.specs.Called.{CallsBy, CallsIndex, IsCalled, IsGivenUp};
-ghost use Rattle.gx_restart.specs.Made.{Makes};
+ghost use Rattle.gx_restart.specs.Called.{CallsBy, CallsIndex};
+ghost use Rattle.gx_driven.specs.Made.{Makes};
 
 use gx_class::Probing;
 use gx_disk::SectorDisk;
+use gx_driven::drive;
 use gx_engine::Engine;
-use gx_events::{Driver, Event, Next};
+use gx_events::Event;
 use gx_geom::Refusal;
 use gx_machine::{Call, Reply};
 use gx_readings::ReadKeys;
 use std::marker::Model;
-
-/// How many events are run for one call at most, and for each part of a settling: 2^56.
-pub const EVENTS: u64 = 1 << 56;
 
 /// An index for one thread: an engine whose calls are asked one after another, each run to its end. Contracts see its engine, and
 /// whether the bound on a call's events was passed.
@@ -55,28 +53,6 @@ impl<D: SectorDisk, K: ReadKeys> Index<D, K> {
     }
 }
 
-// Asks a call of a session, and runs its events to the end. None where the bound is passed before.
-fn drive<D: SectorDisk, K: ReadKeys + Probing>(
-    engine: &mut Engine<D, K>,
-    session: u8,
-    call: Call<K::Key>,
-) -> Option<Reply<K::Key>>
-where
-    K::Probe: Drop,
-    ensures { MatchOption result (IsGivenUp (Makes K.Key.Shape K.is_proper K.said K.KeyClass D.state) session call engine.old engine.new)
-        (λ reply. IsCalled (Makes K.Key.Shape K.is_proper K.said K.KeyClass D.state) session call engine.old reply engine.new) }
-{
-    let mut driver = Driver::new(session);
-    let mut next = Event::Ask(session, call);
-    for _turn in 0..EVENTS {
-        match driver.next(engine.step(next)) {
-            Next::Run(event) => next = event,
-            Next::Done(reply) => return Some(reply),
-        }
-    }
-    None
-}
-
 impl<D: SectorDisk, K: ReadKeys + Probing> Index<D, K>
 where
     K::Probe: Drop,
@@ -86,7 +62,7 @@ where
         requires { self.old.ended ≡ false }
         ensures { CallsBy (Makes K.Key.Shape K.is_proper K.said K.KeyClass D.state) false self.old session call result self.new }
     {
-        match drive(&mut self.engine, session, call) {
+        match drive(&mut self.engine, session, Event::Ask(session, call)) {
             Some(reply) => reply,
             None => {
                 self.ended = true;

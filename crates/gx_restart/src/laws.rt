@@ -17,8 +17,8 @@ ghost use Rattle.gx_script.specs.Scripts.{IsScript};
 ghost use Rattle.gx_plain.specs.OneRun.{IsOneRun};
 ghost use Rattle.gx_restart.specs.Alone.{CallsAlone, RunsFrom};
 ghost use Rattle.gx_restart.specs.Called.{CallsIndex};
-ghost use Rattle.gx_restart.specs.Made.{Makes};
-ghost use Rattle.gx_restart.specs.Settled.{IsAtRest};
+ghost use Rattle.gx_driven.specs.Made.{Makes};
+ghost use Rattle.gx_driven.specs.Resting.{IsAtRest};
 ghost use Rattle.gx_restart.specs.States.{State};
 
 use gx_class::KeyClass;

@@ -8,7 +8,8 @@ mod settle;
 #[cfg(test)]
 mod tests;
 
+pub use gx_driven::EVENTS;
 pub use gx_format::format;
 pub use gx_script::ScriptFault;
-pub use index::{EVENTS, Index};
+pub use index::Index;
 pub use script::run_script;

@@ -1,40 +1,20 @@
 //! What is logged is gated.
-ghost use Rattle.std.specs.Prelude.{OnOk, ◌≡◌, false, MatchOption};
+ghost use Rattle.std.specs.Prelude.{OnOk, ◌≡◌, false};
 ghost use Rattle.gx_node.specs.Reading.{format_of, is_node};
 ghost use Rattle.gx_recovery.specs.Known.{Limits};
 ghost use Rattle.gx_readings.specs.Classes.{class_of, reading_of};
 ghost use Rattle.gx_restart.specs.Alone.{RunsOn};
-ghost use Rattle.gx_restart.specs.Made.{Makes};
-ghost use Rattle.gx_restart.specs.Settled.{IsAtRest, IsExhausted, IsGoingOn, IsRepeated, KeepsSessions, Settles, SettlesOn, last_of};
+ghost use Rattle.gx_driven.specs.Made.{Makes};
+ghost use Rattle.gx_driven.specs.Resting.{IsAtRest, KeepsSessions};
+ghost use Rattle.gx_restart.specs.Settled.{IsExhausted, Settles, SettlesOn};
 
 use crate::Index;
-use crate::index::EVENTS;
 use gx_class::Probing;
 use gx_disk::SectorDisk;
-use gx_engine::Engine;
-use gx_events::{Event, Outcome};
+use gx_driven::repeat;
+use gx_events::Event;
 use gx_geom::Refusal;
 use gx_readings::ReadKeys;
-
-// Makes an event over and over, until there is nothing to do or it is refused. None where the bound is passed before.
-fn repeat<D: SectorDisk, K: ReadKeys + Probing>(
-    engine: &mut Engine<D, K>,
-    event: Event<K::Key>,
-) -> Option<Result<(), Refusal>>
-where
-    K::Probe: Drop,
-    ensures { MatchOption result (IsGoingOn (Makes K.Key.Shape K.is_proper K.said K.KeyClass D.state) event engine.old EVENTS engine.new)
-        (λ ends. IsRepeated (Makes K.Key.Shape K.is_proper K.said K.KeyClass D.state) event engine.old (last_of ends) engine.new) }
-{
-    for _turn in 0..EVENTS {
-        match engine.step(event) {
-            Outcome::Nothing => return Some(Ok(())),
-            Outcome::Refused(why) => return Some(Err(why)),
-            Outcome::Replied(_) | Outcome::More | Outcome::Help(_) => {}
-        }
-    }
-    None
-}
 
 impl<D: SectorDisk, K: ReadKeys + Probing> Index<D, K>
 where

@@ -2,7 +2,7 @@ use Rattle.std.proofs.Common.{◌∙◌}
 use Rattle.gx_machine.specs.Keys.{Members}
 use Rattle.gx_node.specs.Reading.{format_of}
 use Rattle.gx_opening.specs.Standing.{known_for, limits_of, reading}
-use Rattle.gx_opening.proofs.Stood.{cut_off_others, read_safe, tested_so}
+use Rattle.gx_opening.proofs.Stood.{cut_off_others, may_start, read_safe, tested_so}
 use Rattle.gx_opening.proofs.standing.find.Goals as goal
 
 pub returns-in-Ok-clause-safe : goal.returns-in-Ok-clause-safe
@@ -32,3 +32,6 @@ returns-in-Ok-clause-tested g c = λ honest large.
     let others = cut_off_others shape proper said f 0 a b e s (c.what_stands_is_legal.ensures.lawful (limits_of s.parameters)) stood.1 in
     tested_so shape proper said f _ a b e s stood.0 stood.1 (c.tested.ensures.read.rests other) (c.tested.ensures.read.pending other) c.tested.result.1 c.tested.ensures.ok c.tested.ensures.cause
     (c.tested.ensures.tested other others))
+
+pub returns-in-Ok-clause-starts : goal.returns-in-Ok-clause-starts
+returns-in-Ok-clause-starts g c = may_start c.tested.result.1 c.in-Ok.standing c.tested.ensures.ok c.in-Ok.ensures.bodies c.tested.ensures.fits

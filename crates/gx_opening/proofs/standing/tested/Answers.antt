@@ -1,6 +1,6 @@
-use Rattle.std.proofs.Common.{refl}
+use Rattle.std.proofs.Common.{◌≤◌, refl}
 use Rattle.gx_opening.specs.Standing.{limits_of}
-use Rattle.gx_opening.proofs.Stood.{with_cause, with_same, with_told}
+use Rattle.gx_opening.proofs.Stood.{with_cause, with_known, with_same, with_told}
 use Rattle.gx_opening.proofs.standing.tested.Goals as goal
 
 pub returns-clause-ok : goal.returns-clause-ok
@@ -12,3 +12,7 @@ returns-clause-cause g c = rw c.with_standing.ensures (with_cause c.test_pages-d
 pub returns-clause-tested : goal.returns-clause-tested
 returns-clause-tested g c = λ honest others.
     rw c.with_standing.ensures (with_told _ c.test_pages-disk.result.1 c.args.standing (c.test_pages-disk.ensures.tested (limits_of c.args.standing.parameters) refl refl honest others))
+
+pub returns-clause-fits : goal.returns-clause-fits
+returns-clause-fits g c =
+    rw c.with_standing.ensures (with_known (λ s. s.log.analysis.told.used ≤ s.parameters.pages) c.test_pages-disk.result.1 c.args.standing c.test_pages-disk.ensures.fits)

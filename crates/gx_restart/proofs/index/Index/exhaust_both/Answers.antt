@@ -1,4 +1,4 @@
-use Rattle.gx_restart.proofs.Repeated.{settles_then}
+use Rattle.gx_restart.proofs.Exhausting.{settles_then}
 use Rattle.gx_restart.proofs.index.Index.exhaust_both.Goals as goal
 
 pub returns : goal.returns

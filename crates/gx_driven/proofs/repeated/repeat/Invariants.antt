@@ -1,6 +1,6 @@
-use Rattle.gx_restart.specs.Made.{Makes}
-use Rattle.gx_restart.specs.Settled.{IsGoingOn}
-use Rattle.gx_restart.proofs.settle.repeat.Given as goal
+use Rattle.gx_driven.specs.Made.{Makes}
+use Rattle.gx_driven.specs.Repeated.{IsGoingOn}
+use Rattle.gx_driven.proofs.repeated.repeat.Given as goal
 
 -- the event was made so many times
 abbrev pub invariant-loop-turn : goal.invariant-loop-turn

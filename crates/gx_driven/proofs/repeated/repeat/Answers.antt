@@ -1,8 +1,8 @@
 use Rattle.std.proofs.Common.{inl, inr, subst, sym, arith}
-use Rattle.gx_restart.specs.Made.{Makes}
-use Rattle.gx_restart.specs.Settled.{GoesOn}
-use Rattle.gx_restart.proofs.Repeated.{going_on_first, going_on_more}
-use Rattle.gx_restart.proofs.settle.repeat.Goals as goal
+use Rattle.gx_driven.specs.Made.{Makes}
+use Rattle.gx_driven.specs.Repeated.{GoesOn}
+use Rattle.gx_driven.proofs.Repeating.{going_on_first, going_on_more}
+use Rattle.gx_driven.proofs.repeated.repeat.Goals as goal
 
 pub loop-turn-init : goal.loop-turn-init
 loop-turn-init g c = going_on_first _ _ _

@@ -17,7 +17,8 @@ use Rattle.gx_engine.specs.Flushing.{IsEnded, LogComes, LogGoes, LogSteps, PageC
 use Rattle.gx_phases.specs.States.{State as Sessions}
 use Rattle.gx_engine.specs.declared.work.Work.{Work}
 use Rattle.gx_engine.specs.States.{Parts, runs}
-use Rattle.gx_restart.specs.Settled.{GoesOn, IsAtRest, KeepsSessions}
+use Rattle.gx_driven.specs.Repeated.{GoesOn}
+use Rattle.gx_driven.specs.Resting.{IsAtRest, KeepsSessions, WorksOff}
 
 -- where the log has nothing to do, nothing is in flight or waits
 nothing_made : (st : Stage) (due new : Log) → due.stage ≡ st → (st ≡ Idle → ⊥) → Made due new (Ok Idle) → ⊥
@@ -50,7 +51,7 @@ module _ {B D : Type 0} where
   log_keeps old new given (Ok GateSync) comes = is_kept old new _ comes.1 refl
   log_keeps old new given (Err why) comes = is_kept old new _ comes.1 refl
 
-  page_keeps : (old new : Parts B D) (given : Outcome B) (result : Result Bool Refusal) → PageComes old new given result → KeepsSessions old new
+  pub page_keeps : (old new : Parts B D) (given : Outcome B) (result : Result Bool Refusal) → PageComes old new given result → KeepsSessions old new
   page_keeps old new given (Ok written) comes = is_kept old new _ comes.1 refl
   page_keeps old new given (Err why) comes = is_kept old new _ comes.1 refl
 
@@ -158,11 +159,6 @@ module _ {B D : Type 0} where
   checkpoint_rests d e old new true is comes = let no : ⊥ = cc in absurd no
   checkpoint_rests d e old new false is comes =
       let from = from_rests d e old new old.checkpoint comes in record { off = from.0; works = is; same = from.1 }
-
-  -- an engine that works, and in which no checkpoint runs
-  pub record WorksOff (e : Parts B D) : Type 0 where
-    pub off : e.checkpoint ≡ Off
-    pub works : e.sessions.failed ≡ false
 
   log_works : (old new : Parts B D) (given : Outcome B) (result : Result Stage Refusal) → WorksOff old → GoesOn given → LogComes old new given result → WorksOff new
   log_works old new given (Ok Idle) was on comes =

@@ -1,15 +1,11 @@
 -- The same event over and over, once more at a time.
-use Rattle.std.proofs.Common.{◌≡◌, inr, ℕ, ◌+◌, List, [], ◌∷◌, ◌++◌, refl}
-use Rattle.std.specs.Prelude.{Result, Ok, Err}
-use Rattle.gx_geom.specs.declared.refusal.Refusal.{Refusal}
+use Rattle.std.proofs.Common.{ℕ, ◌+◌, List, [], ◌∷◌, ◌++◌, refl}
 use Rattle.gx_events.specs.declared.event.Event.{Event}
-use Rattle.gx_events.specs.declared.event.Event.TheVariants.{CheckpointStep, LogStep}
 use Rattle.gx_events.specs.declared.outcome.Outcome.{Outcome}
 use Rattle.gx_engine.specs.States.{Parts}
-use Rattle.gx_restart.specs.Made.{AreMade}
-use Rattle.gx_restart.specs.Settled.{AreAgain, GoesOn, IsExhausted, IsGoingOn, SettlesOn}
-use Rattle.gx_restart.specs.States.{State}
-use Rattle.gx_restart.proofs.Driven.{count_more, made_more}
+use Rattle.gx_driven.specs.Made.{AreMade}
+use Rattle.gx_driven.specs.Repeated.{AreAgain, GoesOn, IsGoingOn, IsRepeated}
+use Rattle.gx_driven.proofs.Making.{count_more, made_more}
 
 again_more : {B : Type 0} (event : Event B) (steps : List (Event B × Outcome B)) (given : Outcome B) → AreAgain event steps → GoesOn given
     → AreAgain event (steps ++ (event, given) ∷ [])
@@ -29,10 +25,7 @@ module _ {B D : Type 0} (makes : Parts B D → Event B → Outcome B → Parts B
     many = count_more before.steps (event, given) count before.many;
   }
 
-module _ {B D : Type 0} (makes : Parts B D → Event B → Outcome B → Parts B D → Type 0) where
-  -- the checkpoint's steps to their end, and then the log's
-  pub settles_then : (old middle : State B D) (done : Unit {0}) (result : Result (Unit {0}) Refusal) (new : State B D)
-      → IsExhausted makes CheckpointStep old.engine (Ok done) middle.engine middle.ended → IsExhausted makes LogStep middle.engine result new.engine new.ended
-      → SettlesOn makes old result new
-  settles_then old middle done (Ok last) new first second = (middle.engine, (first.0, refl), second)
-  settles_then old middle done (Err why) new first second = inr (middle.engine, (first.0, refl), second)
+  -- all that was made where it was repeated to its end
+  pub repeated_made : (last : Outcome B) (new : Parts B D) → IsRepeated makes event old last new → (steps : List (Event B × Outcome B)) × AreMade makes old steps new
+  repeated_made last new again =
+      (again.before.steps ++ (event, last) ∷ [], made_more makes again.before.steps old again.middle new event last again.before.made again.last_made)

@@ -1,0 +1,5 @@
+pub mod Making
+pub mod Driving
+pub mod Repeating
+pub mod Stepping
+pub mod Resting

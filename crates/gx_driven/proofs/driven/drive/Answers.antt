@@ -1,0 +1,23 @@
+use Rattle.std.proofs.Common.{ap, ◌∙◌, arith}
+use Rattle.gx_events.specs.Driven.{next_of}
+use Rattle.gx_driven.specs.Made.{Makes}
+use Rattle.gx_driven.proofs.Driving.{driven_last, under_way_first, under_way_more}
+use Rattle.gx_driven.proofs.driven.drive.Goals as goal
+
+pub loop-turn-init : goal.loop-turn-init
+loop-turn-init g c = record { driver = c.new-driver.ensures; way = under_way_first _ _ _ _ }
+
+pub loop-turn-preserved : goal.loop-turn-preserved
+loop-turn-preserved g c = record {
+  driver = c.in-Run.ensures.same ∙ c.loop-turn.invariant.driver;
+  way =
+      under_way_more (Makes (record { partial_cmp = g.K.Key.PartialOrd.partial_cmp; eq = g.K.Key.PartialEq.eq; cmp = g.K.Key.Ord.cmp; overlap = g.K.Key.Shape.overlap; inside = g.K.Key.Shape.inside }) g.K.ReadKeys.is_proper g.K.ReadKeys.said g.K.KeyClass g.D.SectorDisk.state) c.args.session c.args.first c.args.engine.now c.loop-turn._turn c.loop-turn.next c.in-Run.event c.step.result c.loop-turn.engine c.step.new.self
+      c.loop-turn.invariant.way (record { comes = c.step.ensures.comes; steps = c.step.ensures.steps })
+      (c.in-Run.ensures.next ∙ ap (λ s. next_of s c.step.result) c.loop-turn.invariant.driver);
+}
+
+pub returns-in-Done : goal.returns-in-Done
+returns-in-Done g c =
+    driven_last (Makes (record { partial_cmp = g.K.Key.PartialOrd.partial_cmp; eq = g.K.Key.PartialEq.eq; cmp = g.K.Key.Ord.cmp; overlap = g.K.Key.Shape.overlap; inside = g.K.Key.Shape.inside }) g.K.ReadKeys.is_proper g.K.ReadKeys.said g.K.KeyClass g.D.SectorDisk.state) c.args.session c.args.first c.args.engine.now c.loop-turn._turn c.loop-turn.next c.step.result c.loop-turn.engine c.step.new.self c.in-Done.reply
+    c.loop-turn.invariant.way (record { comes = c.step.ensures.comes; steps = c.step.ensures.steps })
+    (c.in-Done.ensures.next ∙ ap (λ s. next_of s c.step.result) c.loop-turn.invariant.driver) (omega arith)

@@ -1,0 +1,4 @@
+pub mod Made
+pub mod Driven
+pub mod Repeated
+pub mod Resting

@@ -1,0 +1,40 @@
+//! A session's call, event by event to its end.
+ghost use Rattle.std.specs.Prelude.{MatchOption};
+ghost use Rattle.gx_driven.specs.Driven.{IsDriven, IsGivenUp};
+ghost use Rattle.gx_driven.specs.Made.{Makes};
+
+use gx_class::Probing;
+use gx_disk::SectorDisk;
+use gx_engine::Engine;
+use gx_events::{Driver, Event, Next};
+use gx_machine::Reply;
+use gx_readings::ReadKeys;
+
+/// How many events are made in a row at most, for one call or of one kind: 2^56.
+pub const EVENTS: u64 = 1 << 56;
+
+/// Makes a session's first event, an ask or a move, and then the events that its driver names, to the end of its call: its moves, and the
+/// steps of the log and of a checkpoint and the writes of pages that help them.
+///
+/// The reply is the one with which the call ended, also where an event was refused. None where the call hasn't ended within `EVENTS`
+/// events: it stands open then. It takes no memory but what the events take.
+pub fn drive<D: SectorDisk, K: ReadKeys + Probing>(
+    engine: &mut Engine<D, K>,
+    session: u8,
+    first: Event<K::Key>,
+) -> Option<Reply<K::Key>>
+where
+    K::Probe: Drop,
+    ensures { MatchOption result (IsGivenUp (Makes K.Key.Shape K.is_proper K.said K.KeyClass D.state) session first engine.old engine.new)
+        (λ reply. IsDriven (Makes K.Key.Shape K.is_proper K.said K.KeyClass D.state) session first engine.old reply engine.new) }
+{
+    let mut driver = Driver::new(session);
+    let mut next = first;
+    for _turn in 0..EVENTS {
+        match driver.next(engine.step(next)) {
+            Next::Run(event) => next = event,
+            Next::Done(reply) => return Some(reply),
+        }
+    }
+    None
+}

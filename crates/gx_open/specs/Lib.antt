@@ -1,0 +1,4 @@
+pub mod Keeping
+pub mod Undoing
+pub mod Beginning
+pub mod Opened
