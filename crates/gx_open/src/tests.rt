@@ -121,17 +121,16 @@ fn new_devices(rt: HostRuntime) {
 #[test]
 fn refusals(rt: HostRuntime) {
     let alloc = rt.alloc();
-    let (Some(few), Some(many), Some(mut short)) = (
+    let (Some(few), Some(many), Ok(short)) = (
         formatted(alloc),
         formatted(alloc),
-        formatted(alloc),
+        MemDisk::new(alloc, 4231),
     ) else {
         assert!(rt; false);
         return;
     };
     assert!(rt; refusal(alloc, few, 15) == Some(Refusal::BadParameter));
     assert!(rt; refusal(alloc, many, 4097) == Some(Refusal::BadParameter));
-    short.cut(4231);
     assert!(rt; refusal(alloc, short, 16) == Some(Refusal::TooSmall));
     // the magic, the class, the pages; the first body's size, and the number of page 1
     assert!(rt; refusal_with(alloc, 0, 0, 0) == Some(Refusal::NotFormatted));
