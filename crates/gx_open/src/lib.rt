@@ -4,6 +4,8 @@
 mod begin;
 mod losers;
 mod opening;
+#[cfg(test)]
+mod tests;
 mod undo;
 
 pub use opening::open;
