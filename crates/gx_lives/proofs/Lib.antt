@@ -1,0 +1,4 @@
+pub mod Images
+pub mod Turns
+pub mod Told
+pub mod Beginning
