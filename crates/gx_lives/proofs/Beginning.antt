@@ -1,6 +1,6 @@
 -- A life may begin on a device that was formatted.
-use Rattle.std.proofs.Common.{◌≡◌, ℕ, ◌≤◌, Bool, true, List, [], ◌∷◌, refl, ap, ◌∙◌, take}
-use Rattle.std.specs.Prelude.{OnOk, Result, Ok, Err, replicate, ◌++◌, length}
+use Rattle.std.proofs.Common.{◌≡◌, ℕ, ◌≤◌, Bool, true, List, [], refl, ap, ◌∙◌, take}
+use Rattle.std.specs.Prelude.{OnOk, Result, Ok, Err, replicate, ◌++◌}
 use Rattle.std.proofs.lemmas.List.{take_at}
 use Rattle.gx_geom.specs.declared.refusal.Refusal.{Refusal}
 use Rattle.gx_class.specs.declared.class.KeyClass.{Ghosts}
@@ -9,13 +9,16 @@ use Rattle.gx_engine.specs.States.{Parts}
 use Rattle.gx_engine_events.specs.Seen.{Sees}
 use Rattle.gx_format.specs.Formatting.{Formats}
 use Rattle.gx_format.specs.Fresh.{IsFresh, fresh_root}
+use Rattle.gx_glog.specs.Parameters.{Fit, parameters_bytes}
 use Rattle.gx_glog.specs.declared.parameters.Parameters.{Parameters}
 use Rattle.gx_index_laws.specs.Classes.{IsLawful}
 use Rattle.gx_machine.specs.Keys.{Members}
 use Rattle.gx_machine.specs.Machine.{fresh_machine}
 use Rattle.gx_node.specs.Laws.{HeldPairsAreRead, HeldChildrenAreRead}
 use Rattle.gx_node.specs.Reading.{format_of}
+use Rattle.gx_opening.specs.Formatted.{Says}
 use Rattle.gx_opening.specs.Standing.{limits_of}
+use Rattle.gx_page.specs.Contents.{Contents}
 use Rattle.gx_page.specs.Format.{IsWellFormed}
 use Rattle.gx_pool.specs.State.{IsEmpty, State, kept}
 use Rattle.gx_readings.specs.Classes.{class_of}
@@ -27,7 +30,7 @@ use Rattle.gx_lives.specs.Lives.{Lies}
 use Rattle.gx_lives.proofs.Images.{given_up}
 
 -- no frames
-no_frames : State
+abbrev no_frames : State
 no_frames = record { pages = []; marks = []; places = []; held = []; gated = 0 }
 
 none_in : IsEmpty 0 no_frames
@@ -53,3 +56,11 @@ module _ {C B D : Type 0} (shape : Members B) (proper : B → Bool) (said : List
       → OnOk result (IsFresh p (fresh_root class.spelling start) (state new).seen × IsSettled (state new)) → OnOk result (Bears shape proper said class state p fresh_machine (Lies new))
   begins (Ok done) formats formed fresh = bears_nothing formats formed fresh.0 fresh.1
   begins (Err why) formats formed fresh = tt
+
+-- the first eight bytes of sector 1 say what a fresh index is formatted for
+eight : (p : Parameters) → take 8 (parameters_bytes p ++ replicate 504 0) ≡ parameters_bytes p
+eight p = take_at (parameters_bytes p) (replicate 504 0) 8 refl
+
+pub says : {T E : Type 0} (p : Parameters) (root : Contents) (seen : List ℕ) (settled : Type 0) (result : Result T E) → Fit p → OnOk result (IsFresh p root seen × settled) → OnOk result (Says seen p)
+says p root seen settled (Ok done) fit fresh = record { bytes = ap (λ bytes. take 8 bytes) fresh.0.laid.told ∙ eight p; fit = fit }
+says p root seen settled (Err why) fit fresh = tt

@@ -1,8 +1,8 @@
 -- What an image of a device has of a machine, along events, crashes and openings.
-use Rattle.std.proofs.Common.{◌≡◌, ◌⊎◌, inl, inr, ⊎_elim, ℕ, ◌+◌, ◌*◌, ◌≤◌, Bool, true, false, List, [], ◌∷◌, length, refl, ap, sym, ◌∙◌, subst, arith}
+use Rattle.std.proofs.Common.{◌≡◌, ⊎_elim, ℕ, ◌*◌, ◌≤◌, Bool, true, false, List, length, refl, ap, sym, ◌∙◌, subst, arith}
 use Rattle.std.proofs.lemmas.List.{take_all}
 use Rattle.gx_class.specs.declared.class.KeyClass.{Ghosts}
-use Rattle.gx_disk.specs.Device.{Device, IsImage, IsSettled, MayLeave}
+use Rattle.gx_disk.specs.Device.{Device, IsImage, MayLeave}
 use Rattle.gx_disk.specs.Moments.{Leaves}
 use Rattle.gx_disk.specs.Sectors.{span_of}
 use Rattle.gx_disk.proofs.Leaving.{each_has, leaves_weaker}
@@ -29,7 +29,7 @@ use Rattle.gx_machine.specs.Keys.{Members, keys_of}
 use Rattle.gx_machine.specs.Machine.{Machine, newest, set_of}
 use Rattle.gx_machine.specs.Sets.{IsSetOf}
 use Rattle.gx_machine.proofs.SetsByTests.{set_of_a_test_that_agrees}
-use Rattle.gx_node.specs.Reading.{Format, format_of}
+use Rattle.gx_node.specs.Reading.{format_of}
 use Rattle.gx_opening.specs.Standing.{limits_of}
 use Rattle.gx_readings.specs.Classes.{class_of, reading_of}
 use Rattle.gx_readings.proofs.Used.{known_lawful}
@@ -37,7 +37,7 @@ use Rattle.gx_recovery.specs.Analysis.{number_of}
 use Rattle.gx_recovery.specs.Coming.{IsGood}
 use Rattle.gx_recovery.specs.Damage.{IsLog, records_of}
 use Rattle.gx_recovery.specs.Known.{Known}
-use Rattle.gx_recovery.specs.Logged.{StandsForKept, kept}
+use Rattle.gx_recovery.specs.Logged.{StandsForKept, durable as durable_number, kept}
 use Rattle.gx_recovery.specs.Records.{Record}
 use Rattle.gx_recovery.specs.Redo.{tree_of}
 use Rattle.gx_recovery.specs.Renewal.{found}
@@ -81,7 +81,13 @@ module _ {C B D : Type 0} (shape : Members B) (proper : B → Bool) (said : List
 
   -- an image that stands for a kept set of the index that an engine holds
   image_of_index : (m : Machine B) (e : Parts B D) (s : Seen m e) (image : List ℕ) → durable.Stands k r s.index.log image → Has m image
-  image_of_index m e s image stands = record { stands = set_of_image c lawful r s.index s.holds.whole m s.seen image stands; good = stands.stands.good }
+  image_of_index m e s image stands =
+      let set = set_of_image c lawful r s.index s.holds.whole m s.seen image stands in
+      let same : stands.bodies ≡ set.bodies = bodies_one_way r (open_bodies image) stands.bodies set.bodies stands.told set.told in
+      record {
+        stands = set;
+        good = subst (λ (bodies : List (List (Record (Entry B) (Page B)))). IsGood k (tree_of k (area_of r p.pages image) (records_of bodies)) (records_of bodies)) same stands.stands.good;
+      }
 
   -- what a crash may leave of an engine's device
   pub left_of_engine : (m : Machine B) (e : Parts B D) → Seen m e → (image : List ℕ) → MayLeave (at e) image → Has m image
@@ -137,17 +143,17 @@ module _ {C B D : Type 0} (shape : Members B) (proper : B → Bool) (said : List
     -- what stands for the set that the log keeps has that set
     module _ (log : HasUndamaged k r d.seen) (area : ℕ → Page B) (records : List (Record (Entry B) (Page B)))
         (s : StandsForKept k (found (area_of r p.pages d.seen) (records_of log.bodies)) area records) where
-      start : ℕ → Page B
+      abbrev start : ℕ → Page B
       start = area_of r p.pages d.seen
 
-      told : List (Record (Entry B) (Page B))
+      abbrev told : List (Record (Entry B) (Page B))
       told = records_of log.bodies
 
       is_log : IsLog k told
       is_log = bodies_log k log.bodies log.undamaged
 
       same_number : number_of k records ≡ number_of k told
-      same_number = (let low = s.at_least in let high = s.at_most in let last = found_latest k start told in omega (arith, low, high, last))
+      same_number = (let low = s.at_least in let high = s.at_most in let last = found_latest k start told in let first : durable_number k (found start told) ≡ number_of k told = refl in omega (arith, low, high, last, first))
 
       same_set : (e : Entry B) → stands_for k start told e ≡ stands_for k area records e
       same_set e =

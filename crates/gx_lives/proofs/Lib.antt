@@ -1,4 +1,4 @@
 pub mod Images
-pub mod Turns
+pub mod Lived
 pub mod Told
 pub mod Beginning

@@ -1,5 +1,6 @@
 //! The calls whose contracts are the turns of a life: each is the call of its name, with what it is of a life.
 ghost use Rattle.std.specs.Prelude.{◌≡◌, true, OnOk, MatchResult};
+ghost use Rattle.gx_glog.specs.Parameters.{Fit};
 ghost use Rattle.gx_glog.specs.declared.parameters.Parameters.{Parameters};
 ghost use Rattle.gx_machine.specs.Machine.{fresh_machine};
 ghost use Rattle.gx_opening.specs.Formatted.{Says};
@@ -17,6 +18,11 @@ use gx_node::laws::{inners, leaves};
 use gx_readings::ReadKeys;
 use std::alloc::Global;
 
+// Each number of what a device is formatted for is one of its field.
+fn fits(_pages: u32, _most: u16, _class: u16)
+    ensures { Fit (record { pages = _pages; most = _most; class = _class }) }
+{}
+
 /// Formats a device (`gx_format::format`, with its refusals). On an honest one a life may begin then: whatever a crash may leave stands for the set
 /// of the machine with nothing committed, and the device says what it was formatted for.
 pub fn format<D: SectorDisk, K: ReadKeys>(
@@ -32,6 +38,7 @@ pub fn format<D: SectorDisk, K: ReadKeys>(
     a_class_is_lawful::<K>();
     leaves::<K>();
     inners::<K>();
+    fits(pages, most, K::CLASS);
     gx_format::format::<D, K>(alloc, disk, pages, most)
 }
 

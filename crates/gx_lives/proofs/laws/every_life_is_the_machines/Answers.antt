@@ -1,5 +1,5 @@
 use Rattle.gx_opening.specs.Standing.{limits_of}
-use Rattle.gx_lives.proofs.Turns.{lived}
+use Rattle.gx_lives.proofs.Lived.{lived}
 use Rattle.gx_lives.proofs.laws.every_life_is_the_machines.Goals as goal
 
 pub returns : goal.returns
