@@ -1,0 +1,66 @@
+-- A life may begin on a device that was formatted.
+use Rattle.std.proofs.Common.{◌≡◌, ℕ, ◌≤◌, Bool, true, List, [], refl, ap, ◌∙◌, take}
+use Rattle.std.specs.Prelude.{OnOk, Result, Ok, Err, replicate, ◌++◌}
+use Rattle.std.proofs.lemmas.List.{take_at}
+use Rattle.gx_geom.specs.declared.refusal.Refusal.{Refusal}
+use Rattle.gx_class.specs.declared.class.KeyClass.{Ghosts}
+use Rattle.gx_disk.specs.Device.{Device, IsSettled}
+use Rattle.gx_engine.specs.States.{Parts}
+use Rattle.gx_engine_events.specs.Seen.{Sees}
+use Rattle.gx_format.specs.Formatting.{Formats}
+use Rattle.gx_format.specs.Fresh.{IsFresh, fresh_root}
+use Rattle.gx_glog.specs.Parameters.{Fit, parameters_bytes}
+use Rattle.gx_glog.specs.declared.parameters.Parameters.{Parameters}
+use Rattle.gx_index_laws.specs.Classes.{IsLawful}
+use Rattle.gx_machine.specs.Keys.{Members}
+use Rattle.gx_machine.specs.Machine.{fresh_machine}
+use Rattle.gx_node.specs.Laws.{HeldPairsAreRead, HeldChildrenAreRead}
+use Rattle.gx_node.specs.Reading.{format_of}
+use Rattle.gx_opening.specs.Formatted.{Says}
+use Rattle.gx_opening.specs.Standing.{limits_of}
+use Rattle.gx_page.specs.Contents.{Contents}
+use Rattle.gx_page.specs.Format.{IsWellFormed}
+use Rattle.gx_pool.specs.State.{IsEmpty, State, kept}
+use Rattle.gx_readings.specs.Classes.{class_of}
+use Rattle.gx_recovery.specs.Known.{Limits}
+use Rattle.gx_new_index.specs.New.{IsNew, new_parts}
+use Rattle.gx_new_index.proofs.New.{if_new_sees}
+use Rattle.gx_lives.specs.Bearing.{Bears, HasSets}
+use Rattle.gx_lives.specs.Lives.{Lies}
+use Rattle.gx_lives.proofs.Images.{given_up}
+
+-- no frames
+abbrev no_frames : State
+no_frames = record { pages = []; marks = []; places = []; held = []; gated = 0 }
+
+none_in : IsEmpty 0 no_frames
+unfolding kept
+none_in = record { count = refl; none = λ page. refl; held = refl; gated = refl }
+
+module _ {C B D : Type 0} (shape : Members B) (proper : B → Bool) (said : List ℕ → B) (class : Ghosts C B) (start : B) (state : D → Device)
+    (pairs_read : HeldPairsAreRead class.is_key class.spelling (format_of class)) (children_read : HeldChildrenAreRead class.is_key class.spelling (format_of class))
+    (start_is : class.is_key start) (lawful : (l : Limits) → 4 ≤ l.most → IsLawful (class_of shape proper l)) (p : Parameters) (old new : D) (honest : (state old).honest ≡ true) where
+  -- an engine that could begin there is seen as the machine with nothing committed
+  bears_nothing : Formats state p (fresh_root class.spelling start) old new (Ok tt) → IsWellFormed (fresh_root class.spelling start) → IsFresh p (fresh_root class.spelling start) (state new).seen
+      → IsSettled (state new) → HasSets shape proper said class state p fresh_machine (state new)
+  bears_nothing formats formed fresh settled =
+      let e : Parts B D = new_parts p.pages p.most no_frames new in
+      let is_new : IsNew p.pages p.most 0 e = record { parts = refl; empty = none_in } in
+      let made : Result (Parts B D) Refusal = Ok e in
+      let sees : Sees shape proper said (format_of class) state e fresh_machine =
+      if_new_sees shape proper class.is_key class.spelling said (format_of class) start state pairs_read children_read start_is lawful p old new honest formats formed fresh settled 0 made (refl, is_new) in
+      given_up shape proper said class state p (lawful (limits_of p) formats.0.least_entries) fresh_machine e
+      (record { bodies = sees.bodies; index = sees.index; holds = sees.holds; seen = sees.seen })
+
+  pub begins : (result : Result (Unit {0}) Refusal) → Formats state p (fresh_root class.spelling start) old new result → OnOk result (IsWellFormed (fresh_root class.spelling start))
+      → OnOk result (IsFresh p (fresh_root class.spelling start) (state new).seen × IsSettled (state new)) → OnOk result (Bears shape proper said class state p fresh_machine (Lies new))
+  begins (Ok done) formats formed fresh = bears_nothing formats formed fresh.0 fresh.1
+  begins (Err why) formats formed fresh = tt
+
+-- the first eight bytes of sector 1 say what a fresh index is formatted for
+eight : (p : Parameters) → take 8 (parameters_bytes p ++ replicate 504 0) ≡ parameters_bytes p
+eight p = take_at (parameters_bytes p) (replicate 504 0) 8 refl
+
+pub says : {T E : Type 0} (p : Parameters) (root : Contents) (seen : List ℕ) (settled : Type 0) (result : Result T E) → Fit p → OnOk result (IsFresh p root seen × settled) → OnOk result (Says seen p)
+says p root seen settled (Ok done) fit fresh = record { bytes = ap (λ bytes. take 8 bytes) fresh.0.laid.told ∙ eight p; fit = fit }
+says p root seen settled (Err why) fit fresh = tt

@@ -1,0 +1,4 @@
+pub mod Images
+pub mod Lived
+pub mod Told
+pub mod Beginning

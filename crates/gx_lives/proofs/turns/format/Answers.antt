@@ -1,0 +1,16 @@
+use Rattle.std.proofs.Common.{subst}
+use Rattle.gx_glog.specs.Parameters.{Fit}
+use Rattle.gx_glog.specs.declared.parameters.Parameters.{Parameters}
+use Rattle.gx_lives.proofs.Beginning.{begins, says}
+use Rattle.gx_lives.proofs.turns.format.Goals as goal
+
+pub returns-clause-begins : goal.returns-clause-begins
+returns-clause-begins g c = λ honest.
+    begins _ _ _ _ _ g.D.SectorDisk.state c.leaves.ensures.read c.inners.ensures.read g.met.K.KeyClass.start_is_key c.a_class_is_lawful.ensures
+    (record { pages = c.args.pages; most = c.args.most; class = g.K.KeyClass.CLASS }) c.args.disk.now c.format.new.disk honest c.format.result c.format.ensures.formats c.format.ensures.root
+    (c.format.ensures.fresh honest)
+
+pub returns-clause-says : goal.returns-clause-says
+returns-clause-says g c = λ honest.
+    let p : Parameters = record { pages = c.args.pages; most = c.args.most; class = g.K.KeyClass.CLASS } in
+    says p _ _ _ c.format.result (subst (λ class. Fit (record { pages = c.args.pages; most = c.args.most; class = class })) c.CLASS.ensures c.fits.ensures) (c.format.ensures.fresh honest)

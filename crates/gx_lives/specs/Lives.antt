@@ -1,0 +1,80 @@
+-- The life of an index on a device: events of an engine, crashes at any moment, and openings, of which a crash or a fault may cut some off.
+use Rattle.std.specs.Prelude.{ℕ, ◌≡◌, ◌⊎◌, Bool, true, List, [], ◌∷◌}
+use Rattle.gx_geom.specs.declared.refusal.Refusal.{Refusal}
+use Rattle.gx_class.specs.declared.class.KeyClass.{Ghosts}
+use Rattle.gx_disk.specs.Device.{Device, IsSettled, MayLeave}
+use Rattle.gx_engine.specs.States.{Parts}
+use Rattle.gx_events.specs.declared.event.Event.{Event}
+use Rattle.gx_events.specs.declared.outcome.Outcome.{Outcome}
+use Rattle.gx_glog.specs.declared.parameters.Parameters.{Parameters}
+use Rattle.gx_machine.specs.Keys.{Members}
+use Rattle.gx_node.specs.Reading.{format_of}
+use Rattle.gx_opening.specs.Formatted.{Says}
+use Rattle.gx_driven.specs.Made.{Makes}
+use Rattle.gx_open.specs.Beginning.{IsSameDevice}
+use Rattle.gx_open.specs.Keeping.{KeepsItsSet}
+use Rattle.gx_open.specs.Opened.{IsOpened}
+
+-- What there is: an engine at work over its device, or a device alone.
+pub data Stage (B D : Type 0) : Type 0 where
+  Works : (engine : Parts B D) → Stage B D
+  Lies : (disk : D) → Stage B D
+
+-- What comes next: an event of the engine, with its outcome; a crash; the engine is given up, and its device is left as it is; the device is
+-- opened; an opening is refused.
+pub data Turn (B : Type 0) : Type 0 where
+  Happens : (event : Event B) (outcome : Outcome B) → Turn B
+  Crashes : Turn B
+  GivesUp : Turn B
+  Opens : Turn B
+  Refuses : (why : Refusal) → Turn B
+
+-- A device comes up again behind a crash: it reads as an image that could be left, and nothing of it is pending.
+pub record ComesUp (IsLeft : List ℕ → Type 0) (d : Device) : Type 0 where
+  pub honest : d.honest ≡ true
+  pub left : IsLeft d.seen
+  pub settled : IsSettled d
+
+module _ {C B : Type 0} (shape : Members B) (proper : B → Bool) (said : List ℕ → B) (class : Ghosts C B) (p : Parameters) where
+  -- What any opening does to a device that says that it is formatted for these: as `gx_open::open` promises of whatever comes of it, a crash at each
+  -- moment leaves what it could leave before, or what stands for the set that the log keeps.
+  pub record IsTried (d e : Device) : Type 0 where
+    pub says : Says d.seen p
+    pub same : IsSameDevice d e
+    pub keeps : KeepsItsSet shape proper said (format_of class) d e
+
+module _ {C B D : Type 0} (shape : Members B) (proper : B → Bool) (said : List ℕ → B) (class : Ghosts C B) (code : ℕ) (state : D → Device) (p : Parameters) where
+  abbrev pub IsTriedOn : D → D → Type 0
+  IsTriedOn old new = IsTried shape proper said class p (state old) (state new)
+
+  -- what a crash may leave now, and at each moment of an event or of an opening that begins now
+  abbrev pub MayBeLeft : Stage B D → List ℕ → Type 0
+  MayBeLeft (Works e) image =
+      MayLeave (state e.volume.shelf.disk) image
+      ⊎ ((event : Event B) × (outcome : Outcome B) × (new : Parts B D) × Makes shape proper said class state e event outcome new
+      × (state new.volume.shelf.disk).left_since (state e.volume.shelf.disk).moment image)
+  MayBeLeft (Lies d) image = MayLeave (state d) image ⊎ ((new : D) × IsTriedOn d new × (state new).left_since (state d).moment image)
+
+  -- how an engine at work goes on
+  abbrev pub WorksOn : Parts B D → Turn B → Stage B D → Type 0
+  WorksOn e (Happens event outcome) (Works new) = Makes shape proper said class state e event outcome new
+  WorksOn e Crashes (Lies d) = ComesUp (MayBeLeft (Works e)) (state d)
+  WorksOn e GivesUp (Lies d) = d ≡ e.volume.shelf.disk
+  WorksOn e other new = ⊥
+
+  -- what becomes of a device alone
+  abbrev pub LiesOn : D → Turn B → Stage B D → Type 0
+  LiesOn d Crashes (Lies new) = ComesUp (MayBeLeft (Lies d)) (state new)
+  LiesOn d Opens (Works e) =
+      IsTriedOn d e.volume.shelf.disk × IsOpened shape proper said (format_of class) code (state d) (state e.volume.shelf.disk) e
+  LiesOn d (Refuses why) (Lies new) = IsTriedOn d new
+  LiesOn d other new = ⊥
+
+  abbrev pub GoesOn : Stage B D → Turn B → Stage B D → Type 0
+  GoesOn (Works e) turn new = WorksOn e turn new
+  GoesOn (Lies d) turn new = LiesOn d turn new
+
+  -- A life, turn by turn.
+  abbrev pub Lives : Stage B D → List (Turn B) → Stage B D → Type 0
+  Lives old [] new = new ≡ old
+  Lives old (turn ∷ turns) new = (middle : Stage B D) × GoesOn old turn middle × Lives middle turns new

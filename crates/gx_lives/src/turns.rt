@@ -1,0 +1,71 @@
+//! The calls whose contracts are the turns of a life: each is the call of its name, with what it is of a life.
+ghost use Rattle.std.specs.Prelude.{◌≡◌, true, OnOk, MatchResult};
+ghost use Rattle.gx_glog.specs.Parameters.{Fit};
+ghost use Rattle.gx_glog.specs.declared.parameters.Parameters.{Parameters};
+ghost use Rattle.gx_machine.specs.Machine.{fresh_machine};
+ghost use Rattle.gx_opening.specs.Formatted.{Says};
+ghost use Rattle.gx_lives.specs.Bearing.{Bears};
+ghost use Rattle.gx_lives.specs.Lives.{GoesOn, Lies, Works};
+ghost use Rattle.gx_lives.specs.Lives as life;
+
+use gx_class::Probing;
+use gx_disk::SectorDisk;
+use gx_engine::laws::a_class_is_lawful;
+use gx_engine::{Engine, NotOpened};
+use gx_events::{Event, Outcome};
+use gx_geom::Refusal;
+use gx_node::laws::{inners, leaves};
+use gx_readings::ReadKeys;
+use std::alloc::Global;
+
+// Each number of what a device is formatted for is one of its field.
+fn fits(_pages: u32, _most: u16, _class: u16)
+    ensures { Fit (record { pages = _pages; most = _most; class = _class }) }
+{}
+
+/// Formats a device (`gx_format::format`, with its refusals). On an honest one a life may begin then: whatever a crash may leave stands for the set
+/// of the machine with nothing committed, and the device says what it was formatted for.
+pub fn format<D: SectorDisk, K: ReadKeys>(
+    alloc: Global,
+    disk: &mut D,
+    pages: u32,
+    most: u16,
+) -> Result<(), Refusal>
+    ensures begins { (D.state disk.old).honest ≡ true
+        → OnOk result (Bears K.Key.Shape K.is_proper K.said K.KeyClass D.state (record { pages = pages; most = most; class = K.CLASS }) fresh_machine (Lies disk.new)) }
+    ensures says { (D.state disk.old).honest ≡ true → OnOk result (Says (D.state disk.new).seen (record { pages = pages; most = most; class = K.CLASS })) }
+{
+    a_class_is_lawful::<K>();
+    leaves::<K>();
+    inners::<K>();
+    fits(pages, most, K::CLASS);
+    gx_format::format::<D, K>(alloc, disk, pages, most)
+}
+
+/// An event of an engine (`Engine::step`): a turn of its life.
+pub fn step<D: SectorDisk, K: ReadKeys + Probing>(
+    engine: &mut Engine<D, K>,
+    event: Event<K::Key>,
+) -> Outcome<K::Key>
+where
+    K::Probe: Drop,
+    ensures { (p : Parameters) → GoesOn K.Key.Shape K.is_proper K.said K.KeyClass K.CLASS D.state p (Works engine.old) (life.Happens event result) (Works engine.new) }
+{
+    engine.step(event)
+}
+
+/// Opens a device (`gx_open::open`, with its refusals). On an honest one, whatever it says that it is formatted for, that is a turn of its life, an
+/// opening or one that is refused.
+pub fn open<D: SectorDisk, K: ReadKeys + Probing>(
+    alloc: Global,
+    disk: D,
+    frames: usize,
+) -> Result<Engine<D, K>, NotOpened<D>>
+where
+    K::Probe: Drop,
+    ensures { (p : Parameters) → (D.state disk).honest ≡ true → Says (D.state disk).seen p → MatchResult result
+        (λ engine. GoesOn K.Key.Shape K.is_proper K.said K.KeyClass K.CLASS D.state p (Lies disk) life.Opens (Works engine))
+        (λ n. GoesOn K.Key.Shape K.is_proper K.said K.KeyClass K.CLASS D.state p (Lies disk) (life.Refuses n.why) (Lies n.disk)) }
+{
+    gx_open::open(alloc, disk, frames)
+}
