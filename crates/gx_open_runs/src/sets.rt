@@ -1,0 +1,40 @@
+//! The sets that a script commits, by the plain index.
+use crate::fault::RunFault;
+use gx_plain::PlainIndex;
+use gx_script::{Answers, run};
+use std::alloc::Global;
+
+const ABORTS: &[u8] = b"1 ABORT\n2 ABORT\n3 ABORT\n4 ABORT\n5 ABORT\n6 ABORT\n7 ABORT\n8 ABORT\n";
+
+const SEARCH: &[u8] = b"1 BEGIN\n1 OVERLAP -2147483648 -2147483648 2147483647 2147483647\n";
+
+/// The set of an index without a transaction, as a search for everything is answered.
+pub(crate) fn set_of<I: Answers>(alloc: Global, index: &mut I) -> Result<Vec<u8>, RunFault> {
+    let mut text = Vec::new(alloc);
+    run(&mut { SEARCH }, &mut text, index)?;
+    Ok(text)
+}
+
+// The set that the front of a script commits.
+fn set_after(alloc: Global, front: &[u8]) -> Result<Vec<u8>, RunFault> {
+    let mut plain = PlainIndex::new(alloc)?;
+    let mut replies = Vec::new(alloc);
+    run(&mut { front }, &mut replies, &mut plain)?;
+    run(&mut { ABORTS }, &mut replies, &mut plain)?;
+    set_of(alloc, &mut plain)
+}
+
+/// The sets by the number of commits: of nothing, and behind each commit of the script.
+pub(crate) fn sets_of(alloc: Global, script: &[u8]) -> Result<Vec<Vec<u8>>, RunFault> {
+    let mut sets = Vec::new(alloc);
+    sets.push(set_after(alloc, &[])?)?;
+    let mut end: usize = 0;
+    for line in script.split_inclusive(|byte| *byte == b'\n') {
+        end = end.saturating_add(line.len());
+        if line.ends_with(b"COMMIT\n") {
+            let front = script.get(..end).unwrap_or(script);
+            sets.push(set_after(alloc, front)?)?;
+        }
+    }
+    Ok(sets)
+}
