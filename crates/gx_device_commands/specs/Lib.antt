@@ -1,0 +1,4 @@
+pub mod Lines
+pub mod Watching
+pub mod Openings
+pub mod Endings

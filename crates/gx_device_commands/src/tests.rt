@@ -1,0 +1,1 @@
+//! Commands over devices in memory.
