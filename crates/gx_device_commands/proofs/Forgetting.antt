@@ -8,7 +8,7 @@ use Rattle.gx_script.specs.declared.fault.ScriptFault.{ScriptFault}
 use Rattle.gx_script.specs.declared.fault.ScriptFault.TheVariants.{Read, Write}
 use Rattle.gx_script.specs.declared.line.Line.{Line}
 use Rattle.gx_script.specs.declared.line.Line.TheVariants.{Blank, Bad, Reversed, Asks}
-use Rattle.gx_script.specs.Scripts.{asked, asked_as, IsDone, IsScript, IsStopped, IsStoppedByRead, IsStoppedByWrite, IsTold, IsWritten}
+use Rattle.gx_script.specs.Scripts.{asked, IsDone, IsScript, IsStopped, IsTold, IsWritten}
 use Rattle.gx_device_commands.specs.Watching.{IsFaultless, Watches, tells_fault}
 use Rattle.gx_device_commands.specs.declared.watched.Watched.{Watched}
 

@@ -1,2 +1,2 @@
 pub mod Forgetting
-pub mod Running
+pub mod Endings

@@ -92,22 +92,22 @@ module _ {C D : Type 0} (shape : Members Rectangle) (is_key : Rectangle → Bool
   watched_over engine = record { index = record { engine = engine; ended = false }; met = false }
 
   -- The script was read to its end, and then ended by whether a reply told of a fault. The writer held the script's text by then.
-  pub record HasRun (engine : Parts Rectangle D) (had left held holds : Option (List ℕ)) (status : ℕ) : Type 0 where
+  pub record HasRun (old : Watched (State Rectangle D)) (had left held holds : Option (List ℕ)) (status : ℕ) : Type 0 where
     pub new : Watched (State Rectangle D)
     pub written : Option (List ℕ)
-    pub done : IsDone AnswersWatched had left held written (watched_over engine) new
+    pub done : IsDone AnswersWatched had left held written old new
     pub ends : EndsBy new.met new.index written holds status
 
   -- The script was stopped by a fault, and nothing was settled.
-  pub record WasStopped (engine : Parts Rectangle D) (had left held holds : Option (List ℕ)) (status : ℕ) : Type 0 where
+  pub record WasStopped (old : Watched (State Rectangle D)) (had left held holds : Option (List ℕ)) (status : ℕ) : Type 0 where
     pub new : Watched (State Rectangle D)
     pub fault : ScriptFault
     pub status_is : status ≡ 1
-    pub stopped : IsStopped AnswersWatched had left held holds (watched_over engine) new fault
+    pub stopped : IsStopped AnswersWatched had left held holds old new fault
 
-  -- a script was run on an engine
-  abbrev pub RunsScript : Parts Rectangle D → Option (List ℕ) → Option (List ℕ) → Option (List ℕ) → Option (List ℕ) → ℕ → Type 0
-  RunsScript engine had left held holds status = HasRun engine had left held holds status ⊎ WasStopped engine had left held holds status
+  -- a script was run on a watched index
+  abbrev pub RunsScript : Watched (State Rectangle D) → Option (List ℕ) → Option (List ℕ) → Option (List ℕ) → Option (List ℕ) → ℕ → Type 0
+  RunsScript old had left held holds status = HasRun old had left held holds status ⊎ WasStopped old had left held holds status
 
   -- The opening was refused, which is told. Nothing was read.
   pub record WasRefused (number frames : ℕ) (disk : D) (had left held holds : Option (List ℕ)) (status : ℕ) : Type 0 where
@@ -120,7 +120,7 @@ module _ {C D : Type 0} (shape : Members Rectangle) (is_key : Rectangle → Bool
   pub record WasOpened (number frames : ℕ) (disk : D) (had left held holds : Option (List ℕ)) (status : ℕ) : Type 0 where
     pub engine : Parts Rectangle D
     pub opening : Opens shape is_key said class state number frames disk (Ok engine)
-    pub script : RunsScript engine had left held holds status
+    pub script : RunsScript (watched_over engine) had left held holds status
 
   -- a script was run over a device that was opened with so many frames, for a class of keys of this number; or the opening was refused
   abbrev pub RunsOver : ℕ → ℕ → D → Option (List ℕ) → Option (List ℕ) → Option (List ℕ) → Option (List ℕ) → ℕ → Type 0

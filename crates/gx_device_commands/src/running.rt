@@ -1,7 +1,7 @@
 //! A script over a device, from its opening to the program's status.
 ghost use Rattle.std.specs.Prelude.{◌≡◌};
 ghost use Rattle.std.specs.Io.KnownBytes.{Keeps};
-ghost use Rattle.gx_device_commands.specs.Endings.{EndsBy, EndsSettling, RunsOver, RunsScript};
+ghost use Rattle.gx_device_commands.specs.Endings.{EndsBy, EndsSettling, RunsOver, RunsScript, watched_over};
 ghost use Rattle.gx_device_commands.specs.Openings.{Opens};
 
 use crate::refusals::refuse;
@@ -68,7 +68,35 @@ where
     settle_after(&mut watched.index, writer, faults)
 }
 
-// Runs a script on an engine, and what follows it.
+// Runs a script on an index, and what follows it.
+fn run_watched<
+    D: SectorDisk,
+    K: ReadKeys + KeyClass<Key = Box2> + Probing,
+    R: Read,
+    W: Write,
+    E: Write,
+>(
+    watched: &mut Watched<Index<D, K>>,
+    reader: &mut Noted<R>,
+    writer: &mut Noted<W>,
+    faults: &mut E,
+) -> u8
+where
+    K::Probe: Drop,
+    ensures runs { RunsScript ⟦<Box2 as Shape>⟧ K.is_proper K.said K.KeyClass D.state watched.old (R.remaining reader.old.inner) (R.remaining reader.new.inner)
+        (W.contents writer.old.inner) (W.contents writer.new.inner) result }
+    ensures quiet { result ≡ 0 → Keeps (E.contents faults.old) (E.contents faults.new) }
+{
+    match gx_script::run(reader, writer, watched) {
+        Ok(()) => end(watched, writer, faults),
+        Err(fault) => {
+            tell(faults, fault, reader.last, writer.last);
+            REFUSED
+        }
+    }
+}
+
+// Runs a script on an engine, and what follows it. The engine is given up then: what isn't on the device is lost.
 fn run_on<
     D: SectorDisk + Drop,
     K: ReadKeys + KeyClass<Key = Box2> + Probing,
@@ -78,18 +106,14 @@ fn run_on<
 >(engine: Engine<D, K>, reader: &mut Noted<R>, writer: &mut Noted<W>, faults: &mut E) -> u8
 where
     K::Probe: Drop,
-    ensures runs { RunsScript ⟦<Box2 as Shape>⟧ K.is_proper K.said K.KeyClass D.state engine (R.remaining reader.old.inner) (R.remaining reader.new.inner)
-        (W.contents writer.old.inner) (W.contents writer.new.inner) result }
+    ensures runs { RunsScript ⟦<Box2 as Shape>⟧ K.is_proper K.said K.KeyClass D.state (watched_over ⟦<Box2 as Shape>⟧ K.is_proper K.said K.KeyClass D.state engine)
+        (R.remaining reader.old.inner) (R.remaining reader.new.inner) (W.contents writer.old.inner) (W.contents writer.new.inner) result }
     ensures quiet { result ≡ 0 → Keeps (E.contents faults.old) (E.contents faults.new) }
 {
     let mut watched = Watched::new(Index::new(engine));
-    match gx_script::run(reader, writer, &mut watched) {
-        Ok(()) => end(&mut watched, writer, faults),
-        Err(fault) => {
-            tell(faults, fault, reader.last, writer.last);
-            REFUSED
-        }
-    }
+    let status = run_watched(&mut watched, reader, writer, faults);
+    let _ = watched.index.into_engine().into_disk();
+    status
 }
 
 /// Opens a device with so many frames for pages, 16 to 4,096, runs a script of boxes on the index that it holds, writes the replies, gates
