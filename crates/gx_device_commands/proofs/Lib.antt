@@ -1,2 +1,3 @@
 pub mod Forgetting
 pub mod Endings
+pub mod Durably

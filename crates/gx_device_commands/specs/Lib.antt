@@ -2,3 +2,4 @@ pub mod Lines
 pub mod Watching
 pub mod Openings
 pub mod Endings
+pub mod Durably
