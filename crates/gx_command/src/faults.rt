@@ -53,7 +53,7 @@ impl<W: Write> Write for Noted<W> {
 
 /// Writes one line: whether reading or writing failed, and why, as far as it is known. Whoever reads the replies may
 /// leave before their end; that is no fault of the program, and no line is written.
-pub(crate) fn tell<E: Write>(
+pub fn tell<E: Write>(
     faults: &mut E,
     fault: ScriptFault,
     read: Option<ErrorKind>,

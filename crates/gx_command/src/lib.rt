@@ -7,5 +7,5 @@ mod script;
 #[cfg(test)]
 mod tests;
 
-pub use faults::Noted;
+pub use faults::{Noted, tell};
 pub use script::{refuse_memory, run_script};

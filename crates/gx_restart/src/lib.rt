@@ -1,4 +1,5 @@
-//! An index for one thread: calls that are run to their end over an engine, all that is logged gated, and scripts.
+//! An index for one thread: a device formatted and opened, calls that are run to their end over an engine, all that is logged gated,
+//! and scripts.
 #![tactic(auto)]
 
 mod index;
@@ -9,7 +10,9 @@ mod settle;
 mod tests;
 
 pub use gx_driven::EVENTS;
+pub use gx_engine::NotOpened;
 pub use gx_format::format;
+pub use gx_open::open;
 pub use gx_script::ScriptFault;
 pub use index::Index;
 pub use script::run_script;

@@ -1,0 +1,3 @@
+pub mod Forgetting
+pub mod Endings
+pub mod Durably

@@ -1,0 +1,5 @@
+pub mod Lines
+pub mod Watching
+pub mod Openings
+pub mod Endings
+pub mod Durably

@@ -1,0 +1,42 @@
+//! What a watched script says of the index, and a status of 0 of the device. Each function is its contract alone.
+ghost use Rattle.std.specs.Prelude.{◌≡◌, ℕ, List, Option, false, true};
+ghost use Rattle.gx_device_commands.specs.Durably.{EndsDurably};
+ghost use Rattle.gx_device_commands.specs.Endings.{RunsOver};
+ghost use Rattle.gx_device_commands.specs.Watching.{IsFaultless, Watches};
+ghost use Rattle.gx_device_commands.specs.declared.watched.Watched.{Watched};
+ghost use Rattle.gx_script.specs.declared.fault.ScriptFault.{ScriptFault};
+ghost use Rattle.gx_script.specs.declared.line.Line.{Line};
+ghost use Rattle.gx_script.specs.Scripts.{IsDone, IsScript, IsStopped};
+
+use gx_class::KeyClass;
+use gx_disk::SectorDisk;
+use gx_geom::{Box2, Shape};
+use gx_readings::ReadKeys;
+use gx_script::Answers;
+
+/// A script over a watched index is one over the index: of the same lines, with the same text, read and written the same.
+pub fn a_watched_script_is_a_script<I: Answers>()
+    ensures lines { (number : ℕ) (lines : List Line) (old new : Watched I) (text : List ℕ)
+        → IsScript (Watches I.answered) number lines old text new → IsScript I.answered number lines old.index text new.index }
+    ensures done { (had left held holds : Option (List ℕ)) (old new : Watched I)
+        → IsDone (Watches I.answered) had left held holds old new → IsDone I.answered had left held holds old.index new.index }
+    ensures stopped { (had left held holds : Option (List ℕ)) (old new : Watched I) (fault : ScriptFault)
+        → IsStopped (Watches I.answered) had left held holds old new fault → IsStopped I.answered had left held holds old.index new.index fault }
+{}
+
+/// Where nothing was met by a script's end, no reply to one of its lines told of a fault.
+pub fn a_script_that_met_nothing_is_faultless<I: Answers>()
+    ensures { (number : ℕ) (lines : List Line) (old new : Watched I) (text : List ℕ)
+        → IsScript (Watches I.answered) number lines old text new → new.met ≡ false → IsScript (IsFaultless I.answered) number lines old.index text new.index }
+{}
+
+/// Where a script over an honest device ended with status 0, what its lines asked and were answered is one run of the set machine, which
+/// begins with the set that the device's log kept, under its number. All commits are durable then, and each image that a crash may leave
+/// stands for the last set.
+pub fn a_run_that_is_done_is_durable<D: SectorDisk, K: ReadKeys + KeyClass<Key = Box2>>()
+    ensures { (number frames : ℕ) (disk : D) (had left held holds : Option (List ℕ)) → (D.state disk).honest ≡ true
+        → RunsOver ⟦<Box2 as Shape>⟧ K.is_proper K.said K.KeyClass D.state number frames disk had left held holds 0
+        → EndsDurably ⟦<Box2 as Shape>⟧ K.is_proper K.said K.KeyClass D.state number disk had left held holds }
+{
+    gx_engine::laws::a_class_is_lawful::<K>();
+}

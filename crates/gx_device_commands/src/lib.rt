@@ -1,0 +1,23 @@
+//! What a command of the program does over a device, whatever words ask for it: the device is formatted, or a script is run on the
+//! index that it holds. What was refused is told, by a line to whoever reads the replies and by one to a person, and the program's
+//! status is answered.
+#![tactic(auto)]
+
+mod formatting;
+pub mod laws;
+mod refusals;
+mod running;
+#[cfg(test)]
+mod tests;
+mod watched;
+
+pub use formatting::format_over;
+pub use refusals::{print_refusal, refuse};
+pub use running::run_over;
+pub use watched::Watched;
+
+/// Status: all was done.
+const DONE: u8 = 0;
+
+/// Status: a refusal outside of a script, a script that a fault stopped, or one of whose replies told of a fault.
+const REFUSED: u8 = 1;
