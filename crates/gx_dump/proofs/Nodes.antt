@@ -2,12 +2,12 @@
 use Rattle.std.proofs.Common.{◌≡◌, ℕ, ◌+◌, ◌==◌, ◌&&◌, Bool, true, false, not, List, [], ◌∷◌, length, refl, ap, sym, ◌∙◌, arith}
 use Rattle.std.specs.Prelude.{nat_le, if◌then◌else◌}
 use Rattle.std.specs.List.{list_all, All}
-use Rattle.std.proofs.lemmas.Bool.{and_parts, and_from, eqb-true, leb-true, le-leb, ne_eqb}
+use Rattle.std.proofs.lemmas.Bool.{and_parts, and_from, eqb-true, le-leb, ne_eqb}
 use Rattle.std.proofs.lemmas.List.Elements.{All-head, All-tail}
 use Rattle.gx_page.specs.Bytes.{AreBytes, number_32_at}
 use Rattle.gx_page.specs.Contents.{Contents}
 use Rattle.gx_page.specs.Format.{IsItem, IsWellFormed}
-use Rattle.gx_node.specs.Reading.{Format, has_key, is_child, are_pairs, are_children, is_leaf, is_inner, is_node}
+use Rattle.gx_node.specs.Reading.{Format, has_key, is_child, are_pairs, are_children, is_inner}
 use Rattle.gx_node.proofs.Parts.{page_written}
 use Rattle.gx_dump.specs.Pages.{IsNode}
 

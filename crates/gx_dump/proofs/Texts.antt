@@ -1,5 +1,5 @@
 -- The texts of a list's items, one more at a time, and of a page by its level.
-use Rattle.std.proofs.Common.{◌≡◌, ℕ, ◌+◌, ◌==◌, Bool, true, false, List, [], ◌∷◌, ◌++◌, length, map, take, get_or, eq-eqb, refl, ap, sym, subst, ◌∙◌, arith, add-zero, zero-add, Some, Option}
+use Rattle.std.proofs.Common.{◌≡◌, ℕ, ◌+◌, Bool, List, [], ◌++◌, length, map, take, eq-eqb, refl, ap, sym, subst, ◌∙◌, add-zero, zero-add, Some, Option}
 use Rattle.std.specs.Prelude.{if◌then◌else◌, slice_get, Result, Ok, Err, IfErr}
 use Rattle.std.specs.List.{flat_map}
 use Rattle.std.proofs.lemmas.Bool.{ne_eqb}
@@ -64,3 +64,7 @@ module _ (f : Format Rectangle) (number : ℕ) (page : Contents) where
 pub stop_as : {A : Type 0} (r : Result (Unit {0}) Stop) (P : Stop → Type 0) → (A → P Write) → IfErr r (λ e. (e ≡ Write) × A) → IfErr r P
 stop_as (Ok x) P f h = h
 stop_as (Err e) P f h = subst P (sym h.0) (f h.1)
+
+pub fault_as : {A B : Type 0} (r : Result (Unit {0}) Stop) → (A → B) → IfErr r (λ e. (e ≡ Write) × A) → IfErr r (λ e. B)
+fault_as (Ok x) f h = h
+fault_as (Err e) f h = f h.1

@@ -1,10 +1,11 @@
-//! The text of a tree: a line with its numbers, and for each page a line and one for each of its entries, read where they lie.
+//! The text of an index's tree: its pages are brought one after another, and told line by line, read where they lie.
 #![tactic(auto)]
 
+mod bring;
 mod lines;
 mod pages;
 mod stop;
+mod tree;
 
-pub use lines::Lines;
-pub use pages::{put_head, put_page};
 pub use stop::Stop;
+pub use tree::dump;

@@ -24,7 +24,7 @@ pub(crate) const LONGEST: usize = 160;
 
 /// Lines that wait to be written. Contracts see their bytes.
 #[derive(Drop)]
-pub struct Lines {
+pub(crate) struct Lines {
     bytes: ArrayVec<u8, WAITING>,
 }
 
@@ -38,7 +38,7 @@ impl Model for Lines {
 
 impl Lines {
     /// Nothing waits.
-    pub fn new() -> Self
+    pub(crate) fn new() -> Self
         ensures { result ≡ [] }
     {
         Lines {
@@ -47,7 +47,7 @@ impl Lines {
     }
 
     /// Writes all that waits. `Write` where the writer fails or takes nothing; a front was written then.
-    pub fn flush<W: Write>(&mut self, writer: &mut W) -> Result<(), Stop>
+    pub(crate) fn flush<W: Write>(&mut self, writer: &mut W) -> Result<(), Stop>
         ensures ok { OnOk result ((self.new ≡ []) × Appends (W.contents writer.old) (W.contents writer.new) self.old) }
         ensures cut { IfErr result (λ e. (e ≡ Stop.Write) × IsCut (W.contents writer.old) (W.contents writer.new) self.old) }
     {

@@ -7,7 +7,8 @@ ghost use Rattle.gx_script.specs.Writes.{IsPut, IsCut};
 ghost use Rattle.gx_dump.specs.Pages.{IsNode};
 ghost use Rattle.gx_dump.specs.Text.{head_line, child_line, entry_line, node_text};
 
-use crate::{Lines, Stop};
+use crate::Stop;
+use crate::lines::Lines;
 use gx_class::KeyClass;
 use gx_geom::Box2;
 use gx_node::{Inner, Leaf};
@@ -17,7 +18,7 @@ use std::io::Write;
 /// Adds the first line of a tree: the number of the last commit, the greatest page that is taken, and the counter of splits.
 ///
 /// `Write` where the writer fails or takes nothing; what was written then is a beginning of what waited with that line behind it.
-pub fn put_head<W: Write>(
+pub(crate) fn put_head<W: Write>(
     writer: &mut W,
     lines: &mut Lines,
     number: u64,
@@ -35,7 +36,7 @@ pub fn put_head<W: Write>(
 /// Adds the lines of a page, under this number: its own, and one for each of its entries, by slot.
 ///
 /// `Write` where the writer fails or takes nothing; what was written then is a beginning of what waited with those lines behind it.
-pub fn put_page<W: Write, K: KeyClass<Key = Box2>>(
+pub(crate) fn put_page<W: Write, K: KeyClass<Key = Box2>>(
     writer: &mut W,
     lines: &mut Lines,
     number: u32,

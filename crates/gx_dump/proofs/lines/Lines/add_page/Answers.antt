@@ -1,6 +1,5 @@
 use Rattle.std.proofs.Common.{◌≡◌, ℕ, List, [], ◌∷◌, ◌++◌, append_assoc, codes}
 use Rattle.std.specs.Prelude.{decimal}
-use Rattle.gx_dump.specs.Text.{page_line}
 use Rattle.gx_dump.proofs.lines.Lines.add_page.Goals as goal
 
 joined : (o a p b l c n d r e k z : List ℕ) → ((((((((((o ++ a) ++ p) ++ b) ++ l) ++ c) ++ n) ++ d) ++ r) ++ e) ++ k) ++ z
