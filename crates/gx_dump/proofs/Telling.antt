@@ -58,6 +58,11 @@ nothing_told h waiting page node = record {
   some = omega (arith, length-append waiting (node_text page node));
 }
 
+-- nothing was written at all
+pub none_told : (h : Option (List ℕ)) (number : ℕ) (t : Tree Rectangle) → IsCut h h (dump_text number t)
+unfolding dump_text
+none_told h number t = record { sent = []; lost = head_line number t.used t.counter ++ pages_text t.node t.used; wrote = Appends-nil h; all = refl; some = omega arith }
+
 module _ (number : ℕ) (t : Tree Rectangle) (h h1 : Option (List ℕ)) where
   abbrev head : List ℕ
   head = head_line number t.used t.counter

@@ -1,6 +1,10 @@
-//! An index for one thread: calls that are run to their end over an engine, all that is logged gated, and scripts.
+//! An index for one thread: calls that are run to their end over an engine, all that is logged gated, scripts, and the text of its tree.
 #![tactic(auto)]
 
+mod dump;
+#[cfg(test)]
+mod dump_tests;
+mod fault;
 mod index;
 pub mod laws;
 mod script;
@@ -8,6 +12,7 @@ mod settle;
 #[cfg(test)]
 mod tests;
 
+pub use fault::DumpFault;
 pub use gx_driven::EVENTS;
 pub use gx_format::format;
 pub use gx_script::ScriptFault;
