@@ -24,27 +24,20 @@ fn written(alloc: Global, script: &[u8]) -> Option<MemDisk> {
     Some(index.into_engine().into_disk())
 }
 
-// What is told of it once it is opened again: in so many bytes at most, and with what end.
-fn told<const ROOM: usize>(
-    alloc: Global,
-    script: &[u8],
-) -> Option<([u8; ROOM], Result<(), DumpFault>)> {
+// Writes what is told of it once it is opened again over these bytes: with what end.
+fn told(alloc: Global, script: &[u8], text: &mut [u8]) -> Option<Result<(), DumpFault>> {
     let disk = written(alloc, script)?;
     let mut index = Index::new(open::<MemDisk, Box2Class>(alloc, disk, 16).ok()?);
-    let mut text = [0u8; ROOM];
-    let end = index.dump(&mut text.as_mut_slice());
-    Some((text, end))
+    let mut writer = text;
+    Some(index.dump(&mut writer))
 }
 
 // A script leaves the tree with this text.
 fn leaves<T: Abort + AllocGlobal>(rt: &T, script: &[u8], expected: &[u8]) {
-    let Some((text, end)) = told::<1024>(rt.alloc(), script) else {
-        assert!(rt; false);
-        return;
-    };
-    assert!(rt;
-        end == Ok(()) && text.starts_with(expected) && text.get(expected.len()) == Some(&0)
-    );
+    let mut text = [0u8; 1024];
+    let end = told(rt.alloc(), script, text.as_mut_slice());
+    assert!(rt; end == Some(Ok(())));
+    assert!(rt; text.starts_with(expected) && text.get(expected.len()) == Some(&0));
 }
 
 const ABORTED: &[u8] =
@@ -83,9 +76,8 @@ fn grown(rt: HostRuntime) {
 // A writer that has no more room ends the dump, and has a beginning of it.
 #[test]
 fn cut(rt: HostRuntime) {
-    let Some((text, end)) = told::<20>(rt.alloc(), ABORTED) else {
-        assert!(rt; false);
-        return;
-    };
-    assert!(rt; end == Err(DumpFault::Write) && &text == b"commits 0 used 3 cou");
+    let mut text = [0u8; 20];
+    let end = told(rt.alloc(), ABORTED, text.as_mut_slice());
+    assert!(rt; end == Some(Err(DumpFault::Write)));
+    assert!(rt; &text == b"commits 0 used 3 cou");
 }
