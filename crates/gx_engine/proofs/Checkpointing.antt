@@ -23,12 +23,12 @@ use Rattle.gx_recovery.specs.Logged.{Logged, all_records, durable, gate_synced, 
 use Rattle.gx_recovery.specs.Renewal.{renewed}
 use Rattle.gx_recovery.proofs.Renewals.{same_number, same_touched}
 use Rattle.gx_engine_laws.specs.Events.{Event, Works, Fails}
-use Rattle.gx_index_laws.specs.Classes.{Class, IsLawful, Page, known_of}
+use Rattle.gx_index_laws.specs.Classes.{Class, IsLawful, Page, known_of, tree_in}
 use Rattle.gx_index_laws.specs.States as index
 use Rattle.gx_index_laws.specs.Happening as happening
 use Rattle.gx_index_laws.specs.Happening.{Happens}
 use Rattle.gx_index_laws.proofs.AskedCalls.{faulted}
-use Rattle.gx_index_laws.proofs.Logging.{renews}
+use Rattle.gx_index_laws.proofs.Logging.{new_tree, renews}
 use Rattle.gx_index_laws.proofs.Meanwhile.{renewed_stays}
 use Rattle.gx_index_laws.proofs.Quiet.{as_it_is}
 use Rattle.gx_index_laws.proofs.Standing.{known_lawful}
@@ -94,6 +94,7 @@ module _ {B D : Type 0} (c : Class B) (l : IsLawful c) (r : Reading (Entry B) (P
           };
           leaves = leaves;
         };
+        same = refl;
         spares = λ s. refl;
       }
 
@@ -120,6 +121,7 @@ module _ {B D : Type 0} (c : Class B) (l : IsLawful c) (r : Reading (Entry B) (P
       };
       leaves = leaves;
     };
+    same = refl;
     spares = λ s. refl;
   }
 
@@ -173,6 +175,7 @@ module _ {B D : Type 0} (c : Class B) (l : IsLawful c) (r : Reading (Entry B) (P
         };
         leaves = leaves;
       };
+      same = ap tree_in (new_tree c l i h.whole may.no_flight may.no_filling may.written may.next);
       spares = λ s. ap (λ (n : ℕ). left_by (phase_at (s - 1) old.sessions.phases) n) (renewed_stays c l i h.whole may.no_flight may.no_filling may.written may.next s);
     }
 
@@ -331,7 +334,7 @@ module _ {B D : Type 0} (c : Class B) (r : Reading (Entry B) (Page B)) (f : Form
   pub begun_leads : (new : Parts B D) (AreSo : List (Event B) → Type 0) → SparesSo c r f passes d e (record old { checkpoint = Running }) new AreSo → SparesSo c r f passes d e old new AreSo
   begun_leads new AreSo leads bodies i h =
       let led = leads bodies i (running_holds bodies i h) in
-      (led.0, led.1, record { led = led.2.led; spares = led.2.spares })
+      (led.0, led.1, record { led = led.2.led; same = led.2.same; spares = led.2.spares })
 
 -- nothing was to be done; or a fault had ended the engine
 module _ {B D : Type 0} (c : Class B) (r : Reading (Entry B) (Page B)) (f : Format B) (passes : ℕ → Contents → Bool) (d : Device) (old : Parts B D) where

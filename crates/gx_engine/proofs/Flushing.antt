@@ -16,9 +16,11 @@ use Rattle.gx_glog.specs.declared.stage.Turn.TheVariants.{Closed}
 use Rattle.gx_recovery.specs.Known.{Known}
 use Rattle.gx_recovery.specs.Records.{Record}
 use Rattle.gx_recovery.specs.Analysis.{analysis, number_of}
+use Rattle.gx_recovery.specs.Redo.{tree_of}
 use Rattle.gx_recovery.specs.Logged.{Logged, all_records, begun, durable, gate_synced, latest}
+use Rattle.gx_recovery.proofs.States.{tree_agrees}
 use Rattle.gx_engine_laws.specs.Events.{Works, Durable, Fails}
-use Rattle.gx_index_laws.specs.Classes.{Class, IsLawful, Page, known_of}
+use Rattle.gx_index_laws.specs.Classes.{Class, IsLawful, Page, known_of, tree_in}
 use Rattle.gx_index_laws.specs.States as index
 use Rattle.gx_index_laws.specs.Whole.{IsWhole}
 use Rattle.gx_index_laws.specs.Happening as happening
@@ -109,6 +111,7 @@ module _ {B D : Type 0} (c : Class B) (l : IsLawful c) (r : Reading (Entry B) (P
       holds = record { most = most; some = h.some; keeps = b.keeps; whole = h.whole; sessions = h.sessions; at = h.at; told = h.told; latest = h.latest; flying = flying; bare = λ works calm idle. none idle; turns = λ works turning. absurd (calm turning) };
       leaves = b.safely.leaves;
     };
+    same = refl;
     spares = λ s. refl;
   }
 
@@ -121,6 +124,7 @@ module _ {B D : Type 0} (c : Class B) (l : IsLawful c) (r : Reading (Entry B) (P
       holds = failed_holds bodies i h.whole h.sessions h.at h.told h.latest b.keeps;
       leaves = b.safely.leaves;
     };
+    same = refl;
     spares = λ s. refl;
   }
 
@@ -138,6 +142,9 @@ module _ {B D : Type 0} (c : Class B) (l : IsLawful c) (r : Reading (Entry B) (P
 
     its_sessions : AreOf old.sessions with_flight
     its_sessions = record { slots = h.sessions.slots; transactions = h.sessions.transactions; next = h.sessions.next; oldest = h.sessions.oldest; failed = h.sessions.failed }
+
+    begun_tree : index.tree_now c with_flight ≡ index.tree_now c i
+    begun_tree = ap (λ (rs : List (Record (Entry B) (Page B))). tree_in (tree_of k i.log.area rs)) (begun_records i.log none)
 
     told_still : AreTold old.sessions (analysis k (all_records (begun i.log))).touched
     told_still = subst (λ (rs : List (Record (Entry B) (Page B))). AreTold old.sessions (analysis k rs).touched) (sym (begun_records i.log none)) h.told
@@ -166,6 +173,7 @@ module _ {B D : Type 0} (c : Class B) (l : IsLawful c) (r : Reading (Entry B) (P
         };
         leaves = b.safely.leaves;
       };
+      same = begun_tree;
       spares = λ s. ap (λ (n : ℕ). left_by (phase_at (s - 1) old.sessions.phases) n) (begun_stays c i none s);
     }
 
@@ -178,6 +186,7 @@ module _ {B D : Type 0} (c : Class B) (l : IsLawful c) (r : Reading (Entry B) (P
         holds = failed_holds bodies with_flight begun_now.whole its_sessions h.at told_still last b.keeps;
         leaves = b.safely.leaves;
       };
+      same = begun_tree;
       spares = λ s. ap (λ (n : ℕ). left_by (phase_at (s - 1) old.sessions.phases) n) (begun_stays c i none s);
     }
 
@@ -213,6 +222,7 @@ module _ {B D : Type 0} (c : Class B) (l : IsLawful c) (r : Reading (Entry B) (P
           };
           leaves = b.safely.leaves;
         };
+        same = ap (λ (rs : List (Record (Entry B) (Page B))). tree_in (tree_of k i.log.area rs)) (synced_records i.log);
         spares = λ s. ap (λ (n : ℕ). left_by (phase_at (s - 1) old.sessions.phases) n) (synced_stays c i (drop (durable k (gate_synced i.log) - i.oldest) i.older) (durable k (gate_synced i.log)) s);
       }
 
@@ -226,6 +236,9 @@ module _ {B D : Type 0} (c : Class B) (l : IsLawful c) (r : Reading (Entry B) (P
 
     area_sessions : AreOf old.sessions with_area
     area_sessions = record { slots = h.sessions.slots; transactions = h.sessions.transactions; next = h.sessions.next; oldest = h.sessions.oldest; failed = h.sessions.failed }
+
+    area_tree : index.tree_now c with_area ≡ index.tree_now c i
+    area_tree = ap tree_in (tree_agrees k (known_lawful c l) i.log.gated (i.log.flight ++ i.log.filling) i.log.area (area_of r k.pages e.seen) b.beside)
 
     writes : Spared c r f passes d e old (record old { volume = w }) i (Works ∷ [])
     writes = record {
@@ -248,6 +261,7 @@ module _ {B D : Type 0} (c : Class B) (l : IsLawful c) (r : Reading (Entry B) (P
         };
         leaves = b.safely.leaves;
       };
+      same = area_tree;
       spares = λ s. ap (λ (n : ℕ). left_by (phase_at (s - 1) old.sessions.phases) n) (written_stays c i l (area_of r k.pages e.seen) b.beside s);
     }
 
@@ -260,6 +274,7 @@ module _ {B D : Type 0} (c : Class B) (l : IsLawful c) (r : Reading (Entry B) (P
         holds = failed_holds bodies with_area written_now.whole area_sessions h.at h.told h.latest b.keeps;
         leaves = b.safely.leaves;
       };
+      same = area_tree;
       spares = λ s. ap (λ (n : ℕ). left_by (phase_at (s - 1) old.sessions.phases) n) (written_stays c i l (area_of r k.pages e.seen) b.beside s);
     }
 
@@ -267,11 +282,11 @@ module _ {B D : Type 0} (c : Class B) (l : IsLawful c) (r : Reading (Entry B) (P
 pub nothing_led : {B D : Type 0} (c : Class B) (r : Reading (Entry B) (Page B)) (f : Format B) (passes : ℕ → Contents → Bool) (d : Device) (old : Parts B D) → Leads c r f passes d d old old []
 nothing_led c r f passes d old bodies i h = record { bodies = bodies; index = i; happening = refl; holds = h; leaves = nothing_leaves (Stands (known_of c) r i.log) d }
 
--- it leaves each session's call as much
+-- it leaves the tree, and each session's call as much
 module _ {B D : Type 0} (c : Class B) (r : Reading (Entry B) (Page B)) (f : Format B) (passes : ℕ → Contents → Bool) (d : Device) (old : Parts B D) where
   pub nothing_spared : Spares c r f passes d d old old []
   unfolding nothing_led
-  nothing_spared bodies i h = record { led = nothing_led c r f passes d old bodies i h; spares = λ s. refl }
+  nothing_spared bodies i h = record { led = nothing_led c r f passes d old bodies i h; same = refl; spares = λ s. refl }
 
   -- so does a step of the log that a fault had ended, and one that had nothing to do
   pub ended_spared : (stage : Stage) (number : ℕ) → Spares c r f passes d d old old (log_events stage number (Refused Failed))

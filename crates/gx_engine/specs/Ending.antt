@@ -1,4 +1,4 @@
--- What an event that is no session's leaves of each session's call.
+-- What an event that is no session's leaves of the tree and of each session's call.
 use Rattle.std.specs.Prelude.{ℕ, ◌≡◌, Bool, List}
 use Rattle.gx_machine.specs.declared.entry.Entry.{Entry}
 use Rattle.gx_disk.specs.Device.{Device}
@@ -18,9 +18,10 @@ module _ {B : Type 0} (c : Class B) (r : Reading (Entry B) (Page B)) (f : Format
   abbrev pub LeavesAll : {D : Type 0} → Parts B D → Parts B D → index.State B → index.State B → Type 0
   LeavesAll old new i j = (s : ℕ) → left c r f passes s new j ≡ left c r f passes s old i
 
-  -- These events happened to an index, and each session's call has as much left as it had.
+  -- These events happened to an index, whose tree is as it was, and each session's call has as much left as it had.
   pub record Spared {D : Type 0} (d e : Device) (old new : Parts B D) (i : index.State B) (events : List (Event B)) : Type 0 where
     pub led : Led c r f passes d e new i events
+    pub same : index.tree_now c led.index ≡ index.tree_now c i
     pub spares : LeavesAll old new i led.index
 
   -- whatever index an engine held

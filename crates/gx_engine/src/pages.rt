@@ -52,6 +52,8 @@ impl<D: SectorDisk, K: ReadKeys> Engine<D, K> {
     pub fn bring_page(&mut self, page: u32) -> Result<(), Outcome<K::Key>>
         requires from { 1 ≤ page }
         requires to { page ≤ self.old.volume.shelf.used }
+        ensures stays { Stays (IsSteady (D.state self.old.volume.shelf.disk) self.old.volume.shelf.frames) (store_of (format_of K.KeyClass) (D.state self.old.volume.shelf.disk).seen self.old.volume.shelf)
+            (store_of (format_of K.KeyClass) (D.state self.new.volume.shelf.disk).seen self.new.volume.shelf) }
         ensures held { OnOk result (IsHeld self.new.volume.shelf page) }
         ensures comes { BringPageComes (is_node (format_of K.KeyClass)) (D.state self.old.volume.shelf.disk) (D.state self.new.volume.shelf.disk) self.old self.new self.old.sessions.failed result }
         ensures leads { (l : Limits) → Leads (class_of K.Key.Shape K.is_proper l) (reading_of K.said (format_of K.KeyClass)) (format_of K.KeyClass) (is_node (format_of K.KeyClass))

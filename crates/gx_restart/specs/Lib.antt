@@ -2,3 +2,4 @@ pub mod States
 pub mod Called
 pub mod Settled
 pub mod Alone
+pub mod Dumped

@@ -1,7 +1,11 @@
 //! An index for one thread: a device formatted and opened, calls that are run to their end over an engine, all that is logged gated,
-//! and scripts.
+//! scripts, and the text of its tree.
 #![tactic(auto)]
 
+mod dump;
+#[cfg(test)]
+mod dump_tests;
+mod fault;
 mod index;
 pub mod laws;
 mod script;
@@ -9,6 +13,7 @@ mod settle;
 #[cfg(test)]
 mod tests;
 
+pub use fault::DumpFault;
 pub use gx_driven::EVENTS;
 pub use gx_engine::NotOpened;
 pub use gx_format::format;

@@ -1,0 +1,6 @@
+pub mod Boxes
+pub mod Nodes
+pub mod Texts
+pub mod Reading
+pub mod Bringing
+pub mod Telling

@@ -1,0 +1,4 @@
+pub mod Text
+pub mod Pages
+pub mod Bringing
+pub mod Reading

@@ -1,0 +1,29 @@
+use Rattle.gx_node.specs.Reading.{format_of, is_node}
+use Rattle.gx_readings.specs.Classes.{class_of, reading_of}
+use Rattle.gx_dump.proofs.Boxes.{boxes}
+use Rattle.gx_dump.proofs.Reading.{nothing_read}
+use Rattle.gx_dump.proofs.Telling.{none_told}
+use Rattle.gx_restart.proofs.index.Index.dump.Goals as goal
+
+pub returns-then-self-clause-cut : goal.returns-then-self-clause-cut
+returns-then-self-clause-cut g c = λ l bodies i h. none_told (g.W.Write.contents c.args.writer.now) c.args.self.now.engine.sessions.latest _
+
+pub returns-then-self-clause-runs : goal.returns-then-self-clause-runs
+returns-then-self-clause-runs g c = λ l bodies i h.
+    (nothing_read (class_of boxes g.K.ReadKeys.is_proper l) (reading_of g.K.ReadKeys.said (format_of g.K.KeyClass)) (format_of g.K.KeyClass) (is_node (format_of g.K.KeyClass)) g.D.SectorDisk.state c.args.self.now.engine
+    bodies i h).ran
+
+pub returns-in-Ok-clause-text : goal.returns-in-Ok-clause-text
+returns-in-Ok-clause-text g c = rw (← c.self.view_is) c.in-Ok.ensures.text
+
+pub returns-in-Ok-clause-reads : goal.returns-in-Ok-clause-reads
+returns-in-Ok-clause-reads g c = rw (← c.self.view_is) c.in-Ok.ensures.reads
+
+pub returns-in-Err-Write-clause-cut : goal.returns-in-Err-Write-clause-cut
+returns-in-Err-Write-clause-cut g c = rw (← c.self.view_is) c.in-Err-Write.ensures.cut
+
+pub returns-in-Err-Refused-clause-cut : goal.returns-in-Err-Refused-clause-cut
+returns-in-Err-Refused-clause-cut g c = rw (← c.self.view_is) c.in-Err-Refused.ensures.cut
+
+pub returns-in-Err-GivenUp-clause-cut : goal.returns-in-Err-GivenUp-clause-cut
+returns-in-Err-GivenUp-clause-cut g c = rw (← c.self.view_is) c.in-Err-GivenUp.ensures.cut

@@ -1,0 +1,57 @@
+//! The text of the tree.
+ghost use Rattle.std.specs.Prelude.{◌≡◌, OnOk, IfErr, true};
+ghost use Rattle.std.specs.Io.KnownBytes.{Appends};
+ghost use Rattle.gx_node.specs.Reading.{format_of, is_node};
+ghost use Rattle.gx_recovery.specs.Known.{Limits};
+ghost use Rattle.gx_readings.specs.Classes.{class_of, reading_of};
+ghost use Rattle.gx_script.specs.Writes.{IsCut};
+ghost use Rattle.gx_driven.specs.Resting.{KeepsSessions};
+ghost use Rattle.gx_dump.specs.Bringing.{Brings, Helps};
+ghost use Rattle.gx_dump.specs.Reading.{OfItsTree, Reads};
+ghost use Rattle.gx_dump.specs.Text.{dump_text};
+ghost use Rattle.gx_restart.specs.Alone.{RunsOn};
+ghost use Rattle.gx_restart.specs.Dumped.{Dumps};
+
+use crate::{DumpFault, Index};
+use gx_class::KeyClass;
+use gx_disk::SectorDisk;
+use gx_dump::Stop;
+use gx_geom::{Box2, Refusal, Shape};
+use gx_readings::ReadKeys;
+use std::io::Write;
+
+impl<D: SectorDisk, K: ReadKeys + KeyClass<Key = Box2>> Index<D, K> {
+    /// Writes the text of the tree: a line with the number of the last commit, the greatest page that is taken and the counter of splits;
+    /// and for each page from 1 on its line, and one for each of its entries, by slot. Pages are brought one after another, with the
+    /// events that give them frames. No node changes, and no set, claim, predicate or open call. It takes no memory.
+    ///
+    /// `Write` where the writer fails or takes nothing. `Refused` with `Device`, `Failed` or `Damaged` as an event was. Where a page isn't
+    /// brought within `EVENTS` turns of one or two events it is given up, with `Damaged`; from then on the index only refuses, with
+    /// `Failed`, and writes nothing. What was written before is a beginning of the text.
+    pub fn dump<W: Write>(&mut self, writer: &mut W) -> Result<(), DumpFault>
+        ensures dumps { Dumps (Brings ⟦<Box2 as Shape>⟧ K.is_proper K.said K.KeyClass D.state) (Helps ⟦<Box2 as Shape>⟧ K.is_proper K.said K.KeyClass D.state) self.old result self.new }
+        ensures text { OnOk result ((l : Limits) → OfItsTree (class_of ⟦<Box2 as Shape>⟧ K.is_proper l) (reading_of K.said (format_of K.KeyClass)) (format_of K.KeyClass) (is_node (format_of K.KeyClass))
+            D.state self.old.engine (λ t. Appends (W.contents writer.old) (W.contents writer.new) (dump_text self.old.engine.sessions.latest t))) }
+        ensures cut { IfErr result (λ _. (l : Limits) → OfItsTree (class_of ⟦<Box2 as Shape>⟧ K.is_proper l) (reading_of K.said (format_of K.KeyClass)) (format_of K.KeyClass) (is_node (format_of K.KeyClass))
+            D.state self.old.engine (λ t. IsCut (W.contents writer.old) (W.contents writer.new) (dump_text self.old.engine.sessions.latest t))) }
+        ensures ended { self.old.ended ≡ true → writer.new ≡ writer.old }
+        ensures reads { OnOk result ((l : Limits) → Reads (class_of ⟦<Box2 as Shape>⟧ K.is_proper l) (reading_of K.said (format_of K.KeyClass)) (format_of K.KeyClass) (is_node (format_of K.KeyClass))
+            D.state self.old.engine self.new.engine) }
+        ensures runs { (l : Limits) → RunsOn (class_of ⟦<Box2 as Shape>⟧ K.is_proper l) (reading_of K.said (format_of K.KeyClass)) (format_of K.KeyClass) (is_node (format_of K.KeyClass))
+            D.state self.old.engine self.new.engine }
+        ensures keeps { KeepsSessions self.old.engine self.new.engine }
+    {
+        if self.ended {
+            return Err(DumpFault::Refused(Refusal::Failed));
+        }
+        match gx_dump::dump(&mut self.engine, writer) {
+            Ok(()) => Ok(()),
+            Err(Stop::Write) => Err(DumpFault::Write),
+            Err(Stop::Refused(why)) => Err(DumpFault::Refused(why)),
+            Err(Stop::GivenUp) => {
+                self.ended = true;
+                Err(DumpFault::Refused(Refusal::Damaged))
+            }
+        }
+    }
+}
