@@ -43,3 +43,4 @@ pub mod LosingEnds
 pub mod LosingSteps
 pub mod Starting
 pub mod Ending
+pub mod Ordered

@@ -451,6 +451,14 @@ module _ {B D : Type 0} (shape : Members B) (proper : B → Bool) (limits : Limi
       right_moves c lawful r f passes d e old kept works s is early w found.logged.most n next leaf its_leaf found.logged.log (found.logged.since 0).goes_on.device (found.logged.keeps limits)
       IsKey shows keyed order found.wants found.wanted page found.sets
 
+-- the note that an undo restores next, read of its place
+pub is_next : {B : Type 0} (s : ℕ) (sessions : State B (Work B)) (m : ℕ) → next_of s sessions ≡ Some m → (notes : List (Note B)) → notes ≡ (held_by s sessions.table).notes
+    → (n : Note B) → n ≡ get_or notes m n → IsNext s sessions n
+is_next {B} s sessions m place notes its_notes n at =
+    let own : List (Note B) = (held_by s sessions.table).notes in
+    let low : m < length own = low_by (phase_at (s - 1) sessions.phases) (length own) m place in
+    record { restored = m; place = place; note = slice_get_read own (length own) m n refl low (at ∙ ap (λ (ns : List (Note B)). get_or ns m n) its_notes) }
+
 -- What a move comes to where a note is left.
 pub some_comes : {B D : Type 0} (known : Limits → Known (Entry B) (Page B)) (r : Reading (Entry B) (Page B)) (f : Format B) (passes : ℕ → Contents → Bool) (IsKey : B → Type 0) (k : Keys B)
     (spelling : B → List ℕ) (key : ℕ) (d e : Device) (s : ℕ) (old new : Parts B D) (outcome : Outcome B) → is_due old ≡ false → (m : ℕ) → next_of s old.sessions ≡ Some m

@@ -1,7 +1,15 @@
-use Rattle.std.proofs.Common.{true}
+use Rattle.std.proofs.Common.{◌≡◌, refl, true}
+use Rattle.gx_events.specs.declared.outcome.Outcome.{Outcome}
+use Rattle.gx_events.specs.declared.outcome.Outcome.TheVariants.{Refused}
+use Rattle.gx_store.specs.declared.fault.StoreFault.{StoreFault}
+use Rattle.gx_engine.specs.Refusals.{IsTurnedAway}
 use Rattle.gx_engine.specs.States.{Parts}
-use Rattle.gx_engine.proofs.Brought.{brought_leads, refused_leads}
+use Rattle.gx_engine.proofs.Brought.{brought_leads, by_refusal, refused_leads}
 use Rattle.gx_engine.proofs.engine.Engine.bring.Goals as goal
+
+-- an engine that turns pages away has the same pages
+same_pages : {B D : Type 0} (n : StoreFault) (was new : Parts B D) (outcome : Outcome B) → IsTurnedAway n was new outcome → new.volume ≡ was.volume
+same_pages n was new outcome is = by_refusal Refused was new outcome (λ x o. x.volume ≡ was.volume) n is (λ can found helps. refl) (λ device. refl) (λ lies. refl)
 
 pub returns-in-Ok-clause-leads : goal.returns-in-Ok-clause-leads
 returns-in-Ok-clause-leads g c =
@@ -10,6 +18,16 @@ returns-in-Ok-clause-leads g c =
     let state = g.D.SectorDisk.state in
     let did = c.bring.ensures.unlogged in
     rw (← c.self.view_is) (λ l. brought_leads _ (c.a_class_is_lawful.ensures l) _ _ _ (state old.volume.shelf.disk) (state w.shelf.disk) old w did.most did.log (did.since 0).goes_on.device (did.keeps l))
+
+pub returns-in-Err-clause-unlogged : goal.returns-in-Err-clause-unlogged
+returns-in-Err-clause-unlogged g c =
+    let same = same_pages c.in-Err.fault _ c.turn_away.new.self c.turn_away.result c.turn_away.ensures in
+    rw (same, ← c.self.view_is) c.bring.ensures.unlogged
+
+pub returns-in-Err-clause-stays : goal.returns-in-Err-clause-stays
+returns-in-Err-clause-stays g c =
+    let same = same_pages c.in-Err.fault _ c.turn_away.new.self c.turn_away.result c.turn_away.ensures in
+    rw (same, ← c.self.view_is) c.bring.ensures.stays
 
 pub returns-in-Err-clause-leads : goal.returns-in-Err-clause-leads
 returns-in-Err-clause-leads g c =

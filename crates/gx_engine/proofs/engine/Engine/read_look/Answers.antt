@@ -1,4 +1,4 @@
-use Rattle.std.proofs.Common.{◌≡◌, ◌∙◌, ap, sym, subst, ◌-◌, Result, Err, rules}
+use Rattle.std.proofs.Common.{◌≡◌, ◌∙◌, ap, refl, sym, subst, ◌-◌, Result, Err, rules}
 use Rattle.gx_machine.specs.Keys.{keys}
 use Rattle.gx_node.specs.Reading.{format_of, is_node}
 use Rattle.gx_tree.specs.declared.look.Look.{Look}
@@ -16,8 +16,41 @@ use Rattle.gx_engine.specs.Refusals.{IsRefused}
 use Rattle.gx_engine.specs.States.{Parts}
 use Rattle.gx_engine.proofs.Further.{none_at_hand}
 use Rattle.gx_engine.proofs.Looking.{replaced}
+use Rattle.gx_engine.proofs.Ordered.{order_read}
 use Rattle.gx_engine.proofs.Reading.{closed_comes, damaged_at_hand, memory_at_hand, of_err, on_err, pages_at_hand, refused_comes}
 use Rattle.gx_engine.proofs.engine.Engine.read_look.Goals as goal
+
+pub invariant_of-self : goal.invariant_of-self
+invariant_of-self g c =
+    let e : Parts g.row.K-Key.Denot g.row.D.Denot =
+    record { volume = c.self.inside.storage; sessions = c.self.inside.sessions; in_flight = c.self.inside.in_flight; checkpoint = c.self.inside.checkpoint } in
+    let did = c.look_step.ensures.unlogged in
+    order_read e c.self.inside.keys.items c.self.invariant c.look_step.new.self did.log did.most (λ page. (did.since page).same.stamp) e.sessions refl refl
+
+pub invariant_of-self-in-Err-Memory : goal.invariant_of-self-in-Err-Memory
+invariant_of-self-in-Err-Memory g c =
+    let e : Parts g.row.K-Key.Denot g.row.D.Denot =
+    record { volume = c.self.inside.storage; sessions = c.self.inside.sessions; in_flight = c.self.inside.in_flight; checkpoint = c.self.inside.checkpoint } in
+    let did = c.look_step.ensures.unlogged in
+    order_read e c.self.inside.keys.items c.self.invariant c.look_step.new.self did.log did.most (λ page. (did.since page).same.stamp) e.sessions refl refl
+
+pub invariant_of-self-in-Err-Pages : goal.invariant_of-self-in-Err-Pages
+invariant_of-self-in-Err-Pages g c =
+    let e : Parts g.row.K-Key.Denot g.row.D.Denot =
+    record { volume = c.self.inside.storage; sessions = c.self.inside.sessions; in_flight = c.self.inside.in_flight; checkpoint = c.self.inside.checkpoint } in
+    let did = c.look_step.ensures.unlogged in
+    let put = c.replace_work.ensures.state in
+    order_read e c.self.inside.keys.items c.self.invariant c.look_step.new.self did.log did.most (λ page. (did.since page).same.stamp) c.replace_work.new.self
+    (ap (λ (s : State g.row.K-Key.Denot (Work g.row.K-Key.Denot)). s.durable) put) (ap (λ (s : State g.row.K-Key.Denot (Work g.row.K-Key.Denot)). s.latest) put)
+
+pub invariant_of-self-in-Err-Damaged : goal.invariant_of-self-in-Err-Damaged
+invariant_of-self-in-Err-Damaged g c =
+    let e : Parts g.row.K-Key.Denot g.row.D.Denot =
+    record { volume = c.self.inside.storage; sessions = c.self.inside.sessions; in_flight = c.self.inside.in_flight; checkpoint = c.self.inside.checkpoint } in
+    let did = c.look_step.ensures.unlogged in
+    let put = c.replace_work-in-Err-Damaged.ensures.state in
+    order_read e c.self.inside.keys.items c.self.invariant c.look_step.new.self did.log did.most (λ page. (did.since page).same.stamp) c.replace_work-in-Err-Damaged.new.self
+    (ap (λ (s : State g.row.K-Key.Denot (Work g.row.K-Key.Denot)). s.durable) put) (ap (λ (s : State g.row.K-Key.Denot (Work g.row.K-Key.Denot)). s.latest) put)
 
 pub returns-in-Err-Memory-clause-stops : goal.returns-in-Err-Memory-clause-stops
 returns-in-Err-Memory-clause-stops g c call phase =

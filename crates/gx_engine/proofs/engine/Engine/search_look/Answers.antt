@@ -27,6 +27,18 @@ read_on-requires-clause-phase g c =
     let k = keys g.K.Key.Ord.cmp g.K.Key.Shape.overlap g.K.Key.Shape.inside in
     phase_now e c.args.session call was at now is k c.has_failed.ensures.kept c.requires.session
 
+pub read_on-requires-in-Ok-clause-phase : goal.read_on-requires-in-Ok-clause-phase
+read_on-requires-in-Ok-clause-phase g c =
+    let e : Parts g.row.K-Key.Denot g.row.D.Denot =
+    record { volume = c.self.inside.storage; sessions = c.self.inside.sessions; in_flight = c.self.inside.in_flight; checkpoint = c.self.inside.checkpoint } in
+    let at = ap (λ (x : Parts g.row.K-Key.Denot g.row.D.Denot). phase_at (c.args.session - 1) x.sessions.phases) c.self.view_is ∙ c.requires.searches.1 in
+    let now = c.replace_work.new.self in
+    let is = c.replace_work.ensures.state in
+    let call = Search c.args.query.now in
+    let was = c.requires.searches.0 in
+    let k = keys g.K.Key.Ord.cmp g.K.Key.Shape.overlap g.K.Key.Shape.inside in
+    phase_now e c.args.session call was at now is k c.has_failed.ensures.kept c.requires.session
+
 pub returns-then-is_done-clause-phase : goal.returns-then-is_done-clause-phase
 returns-then-is_done-clause-phase g c =
     let e : Parts g.row.K-Key.Denot g.row.D.Denot =
@@ -124,6 +136,19 @@ returns-else-is_done-clause-moves g c =
     let was = c.requires.searches.0 in
     let here = sym (taken e c.args.session call was at now is c.replace_work.result c.replace_work.ensures.given) ∙ c.in-Looks.is in
     rw (← c.self.view_is) (err_map _ _ c.read_on.result (λ outcome moves l. moves_again _ _ _ _ _ _ e c.args.session call was at now is (Looks c.in-Looks.look) here _ _ _ (moves l)) c.read_on.ensures.moves)
+
+pub returns-in-Ok-clause-phase : goal.returns-in-Ok-clause-phase
+returns-in-Ok-clause-phase g c =
+    let e : Parts g.row.K-Key.Denot g.row.D.Denot =
+    record { volume = c.self.inside.storage; sessions = c.self.inside.sessions; in_flight = c.self.inside.in_flight; checkpoint = c.self.inside.checkpoint } in
+    let at = ap (λ (x : Parts g.row.K-Key.Denot g.row.D.Denot). phase_at (c.args.session - 1) x.sessions.phases) c.self.view_is ∙ c.requires.searches.1 in
+    let now = c.replace_work.new.self in
+    let is = c.replace_work.ensures.state in
+    let call = Search c.args.query.now in
+    let was = c.requires.searches.0 in
+    let k = keys g.K.Key.Ord.cmp g.K.Key.Shape.overlap g.K.Key.Shape.inside in
+    let resting = phase_now e c.args.session call was at now is k c.has_failed.ensures.kept c.requires.session in
+    on_ok_map _ _ c.read_on-in-Ok.result (λ read. ap (λ (x : Parts g.row.K-Key.Denot g.row.D.Denot). phase_at (c.args.session - 1) x.sessions.phases) read ∙ resting) c.read_on-in-Ok.ensures.rest
 
 pub returns-in-Ok-clause-reaches : goal.returns-in-Ok-clause-reaches
 returns-in-Ok-clause-reaches g c =

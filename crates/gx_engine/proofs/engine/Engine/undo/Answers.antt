@@ -7,8 +7,21 @@ use Rattle.gx_phases.specs.States.{phase_at}
 use Rattle.gx_engine.specs.States.{Parts}
 use Rattle.gx_engine.specs.declared.work.Work.{Work}
 use Rattle.gx_engine.specs.Undoing.{leaf_of, undo_work}
-use Rattle.gx_engine.proofs.Undone.{some_comes}
+use Rattle.gx_engine.proofs.Undone.{is_next, some_comes}
 use Rattle.gx_engine.proofs.engine.Engine.undo.Goals as goal
+
+pub restore-requires-clause-next : goal.restore-requires-clause-next
+restore-requires-clause-next g c =
+    let n : Note g.row.K-Key.Denot = c.index-notes-restored.result in
+    let place = ap (λ (x : Parts g.row.K-Key.Denot g.row.D.Denot). next_of c.args.session x.sessions) (sym c.self.view_is) ∙ sym c.next_restored.ensures.next ∙ c.in-Some.is in
+    let notes = c.notes.ensures.notes ∙ ap (λ (x : Parts g.row.K-Key.Denot g.row.D.Denot). (held_by c.args.session x.sessions.table).notes) c.self.view_is in
+    is_next c.args.session c.args.self.now.sessions c.in-Some.restored place c.notes.result.now notes n c.index-notes-restored.is
+
+pub restore-requires-clause-leaf : goal.restore-requires-clause-leaf
+restore-requires-clause-leaf g c =
+    let n : Note g.row.K-Key.Denot = c.index-notes-restored.result in
+    c.leaf_of-leaf.ensures ∙ ap (λ (p : Phase g.row.K-Key.Denot (Work g.row.K-Key.Denot)). leaf_of n (undo_work p))
+    (c.phase.ensures ∙ ap (λ (x : Parts g.row.K-Key.Denot g.row.D.Denot). phase_at (c.args.session - 1) x.sessions.phases) c.self.view_is)
 
 pub returns-in-Some-clause-comes : goal.returns-in-Some-clause-comes
 returns-in-Some-clause-comes g c =
