@@ -79,5 +79,149 @@ status="$(cat "$work/left" 2> /dev/null || echo 0)"
 printf '1 ok\n' > "$work/first"
 ended "a reader that leaves" 1 "$work/first" ""
 
+
+# NAME STATUS OUTPUT FAULTS WORD..: a run with these words on the lines in $lines; OUTPUT is the text itself.
+lines=""
+on_file() {
+    local name="$1" wanted="$2" pattern="$4"
+    printf '%s' "$3" > "$work/wanted"
+    shift 4
+    status=0
+    printf '%s' "$lines" | "$program" "$@" > "$work/out" 2> "$work/err" || status=$?
+    ended "$name" "$wanted" "$work/wanted" "$pattern"
+}
+
+# NAME COMMAND..: whether this command succeeds.
+holds() {
+    local name="$1"
+    shift
+    if "$@"; then passed=$((passed + 1)); else failed=$((failed + 1)); echo "FAILED $name"; fi
+}
+
+nothing=""
+none='refused 11 device
+'
+all='1 BEGIN
+1 OVERLAP -2147483648 -2147483648 2147483647 2147483647
+'
+formatted='formatted pages 16 fanout 4
+'
+cd "$work"
+
+on_file "a new file" 0 "$formatted" "" format places 16 4
+holds "its size" [ "$(stat -c %s places)" = $((512 * 4296)) ]
+lines='1 BEGIN
+1 INSERT 7 0 0 10 10
+1 COMMIT
+1 BEGIN
+1 OVERLAP 10 10 20 20
+'
+on_file "a script on it" 0 '1 ok
+1 inserted
+1 committed 1
+1 ok
+1 found 1
+1 entry 7 0 0 10 10
+' "" run places
+lines='1 BEGIN
+1 OVERLAP 0 0 20 20
+1 DELETE 7 0 0 10 10
+1 INSERT 8 1 1 2 2
+2 BEGIN
+2 INSERT 9 50 50 60 60
+'
+on_file "a second run, which leaves two transactions open" 0 '1 ok
+1 found 1
+1 entry 7 0 0 10 10
+1 deleted
+1 inserted
+2 ok
+2 inserted
+' "" run places --frames 16
+lines="$all"
+on_file "a third run sees them undone" 0 '1 ok
+1 found 1
+1 entry 7 0 0 10 10
+' "" run places --frames=4096
+lines='1 BEGIN
+1 COMMIT
+9 BEGIN
+1 HELLO
+'
+on_file "refusals within a script" 0 '1 ok
+1 committed 2
+9 refused 15 bad session
+line 4 bad
+' "" run --frames 64 places
+lines=""
+on_file "an empty script" 0 "" "" run places
+
+cp places before
+for words in "format places 7 4" "format places 65537 4" "format places 16 3" "format places 16 101" "format places -16 4" "format places 16" \
+    "format places 16 4 4" "format places sixteen 4" "run places --frames 15" "run places --frames 4097" "run places --frames" \
+    "run places --frames 16 --frames 16" "run places places" "run" "run --frames 16" "format" "open places"; do
+    # shellcheck disable=SC2086
+    on_file "wrong words: $words" 2 "$nothing" "For more information, try '--help'" $words
+done
+on_file "help of format" 2 "$nothing" "gist format places.gist 4096 100" format --help
+on_file "help of run" 2 "$nothing" "gist run places.gist < changes" run -h
+on_file "a number out of its range is told" 2 "$nothing" "7 is not in 8..=65536" format places 7 4
+holds "wrong words leave the file" cmp -s places before
+on_file "wrong words for a new file" 2 "$nothing" "7 is not in 8..=65536" format new 7 4
+holds "wrong words make no file" [ ! -e new ]
+
+on_file "a file that isn't there" 1 "$none" "^gist: nowhere: it isn't there, or can't be opened$" run nowhere
+holds "it isn't made" [ ! -e nowhere ]
+on_file "a folder" 1 "$none" "^gist: \.: it isn't there, or can't be opened$" run .
+on_file "a folder to be formatted" 1 "$none" "^gist: \.: it can't be opened, made or extended$" format . 16 4
+on_file "a folder that isn't there" 1 "$none" "^gist: no/places: it can't be opened, made or extended$" format no/places 16 4
+truncate -s 2048000 short
+on_file "a file of 4,000 sectors" 1 'refused 17 too small
+' "^gist: " run short
+truncate -s 2199552 zeros
+on_file "a file of zeros" 1 'refused 14 not formatted
+' "^gist: " run zeros
+on_file "a name that begins with a hyphen" 0 "$formatted" "" format -- -places 16 4
+on_file "a path" 0 "$formatted" "" format "$work/another place" 16 4
+cp places damaged
+printf '\000\000\000\002' | dd of=damaged bs=1 seek=$((4176 * 512 + 16)) conv=notrunc 2> /dev/null
+on_file "a damaged page" 1 'refused 13 damaged
+' "^gist: " run damaged
+cp places cut
+truncate -s $((512 * 4290)) cut
+on_file "a file that was cut" 1 'refused 17 too small
+' "^gist: " run cut
+
+# A file is in use while another process runs a script on it.
+mkfifo lines
+"$program" run places < lines > first 2>&1 &
+first=$!
+exec 7> lines
+printf '1 BEGIN\n' >&7
+while ! grep -q '1 ok' first; do sleep 0.05; done
+on_file "a file in use" 1 "$none" "^gist: places: another process has it in use$" run places
+on_file "a file in use, to be formatted" 1 "$none" "^gist: places: another process has it in use$" format places 16 4
+printf '1 COMMIT\n' >&7
+exec 7>&-
+wait "$first"
+printf '1 ok\n1 committed 3\n' > wanted
+holds "the first process is undisturbed" cmp -s first wanted
+lines="$all"
+on_file "the file is free again" 0 '1 ok
+1 found 1
+1 entry 7 0 0 10 10
+' "" run places
+
+status=0
+"$program" run places < "$work" > "$work/out" 2> "$work/err" || status=$?
+ended "a folder as a script on a file" 1 "$work/nothing" "^gist: the script can't be read: is a directory$"
+: > "$work/out"
+status=0
+"$program" format places 16 4 > /dev/full 2> "$work/err" < /dev/null || status=$?
+ended "a format told to a full disk" 1 "$work/nothing" "^gist: a reply can't be written: no storage space$"
+on_file "what a format leaves" 0 '1 ok
+1 found 0
+' "" run places
+
 echo "$passed passed, $failed failed"
 [ "$failed" = 0 ]

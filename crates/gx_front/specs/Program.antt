@@ -1,11 +1,53 @@
--- The program: its words, and how it ends.
-use Rattle.std.specs.Prelude.{codes, true}
-use Rattle.clap.specs.Words.{App, new_app, with_subcommand}
+-- The program: the words that it takes, as its parser reads them.
+use Rattle.std.specs.Prelude.{◌≡◌, ◌∷◌, ℕ, [], Some, pos, codes, true, false}
+use Rattle.clap.specs.Words.{App, Rule, Text, app_of, new_app, new_rule, rule_of, with_rule, with_subcommand}
+use Rattle.clap.specs.declared.builder.arg.Arg.{Arg}
+use Rattle.clap.specs.declared.builder.command.Command.{Command}
+use Rattle.clap.specs.declared.builder.command.Command.TheViews.{out-Command}
+use Rattle.clap.specs.declared.builder.value_parser.ValueParser.TheVariants as value
 
 -- the same command, which now wants a subcommand
 abbrev pub with_required : App → App
 with_required a = record { top = record (a.top) { subcommand_required = true }; subs = a.subs }
 
--- `gist`, which wants a command, and the one command `plain`
-abbrev pub gist_app : App
-gist_app = with_subcommand (with_required (new_app (codes "gist"))) (new_app (codes "plain")).top
+-- an argument by its place, which has to be given
+abbrev pub wanted_rule : Text → Rule
+wanted_rule name = record (new_rule name) { required = true }
+
+-- one that is a number from the lowest to the highest
+abbrev pub number_rule : Text → ℕ → ℕ → Rule
+number_rule name lowest highest = record (wanted_rule name) { parser = Some (value.Signed (pos lowest) (pos highest)) }
+
+-- `--frames N`, from 16 to 4,096, and 64 where it isn't given
+abbrev pub frames_rule : Rule
+frames_rule = record (new_rule (codes "frames")) {
+  long = Some (codes "frames");
+  value_names = 1;
+  parser = Some (value.Signed (pos 16) (pos 4096));
+  defaults = codes "64" ∷ [];
+}
+
+-- `plain`
+abbrev pub plain_app : App
+plain_app = new_app (codes "plain")
+
+-- `format FILE PAGES M`, with 8 to 65,536 pages and an M from 4 to 100
+abbrev pub format_app : App
+format_app = with_rule (with_rule (with_rule (new_app (codes "format")) (wanted_rule (codes "FILE")))
+    (number_rule (codes "PAGES") 8 65536)) (number_rule (codes "M") 4 100)
+
+-- `run FILE [--frames N]`
+abbrev pub run_app : App
+run_app = with_rule (with_rule (new_app (codes "run")) (wanted_rule (codes "FILE"))) frames_rule
+
+-- `gist`, which wants a command, and its three commands
+unfoldable pub gist_app : App
+gist_app = with_subcommand (with_subcommand (with_subcommand (with_required (new_app (codes "gist"))) plain_app.top) format_app.top) run_app.top
+
+-- the command is this one, and none of its arguments is for the commands below it too
+abbrev pub Is : App → Command → Type 0
+Is app command = (app_of command ≡ app) × ((out-Command command).has_globals ≡ false)
+
+-- the argument is read by this rule, and is its own command's alone
+abbrev pub IsRule : Rule → Arg → Type 0
+IsRule rule argument = (rule_of argument ≡ rule) × (argument.global ≡ false)

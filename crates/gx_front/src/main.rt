@@ -1,11 +1,14 @@
 //! The program `gist`.
 #![tactic(auto)]
 
+mod asking;
+mod files;
 mod program;
 #[cfg(test)]
 mod tests;
 mod words;
 
+pub use asking::Asked;
 use gx_command::Noted;
 pub use program::gist;
 use std::process::ExitCode;
@@ -17,13 +20,15 @@ fn main(rt: HostRuntime) -> ExitCode {
     let mut faults = rt.stderr();
     let status = match words::given(&rt) {
         Ok(given) => gist(
+            &rt,
             rt.alloc(),
             Ok(given.as_slice()),
             &mut input,
             &mut output,
             &mut faults,
         ),
-        Err(fault) => gist::<String, _, _, _>(
+        Err(fault) => gist::<_, String, _, _, _>(
+            &rt,
             rt.alloc(),
             Err(fault),
             &mut input,

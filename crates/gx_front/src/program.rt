@@ -1,14 +1,20 @@
 //! The whole program, as a function of what it is given.
 ghost use Rattle.std.specs.Prelude.{◌≡◌, map, MatchResult};
 ghost use Rattle.std.specs.Io.KnownBytes.{Keeps};
-ghost use Rattle.gx_front.specs.Endings.{EndsOnWords, EndsUnread};
+ghost use Rattle.gx_front.specs.Endings.{EndsAsked, EndsOnWords, EndsUnread};
 
+use crate::asking::Asked;
+use crate::files::{format_file, run_file};
 use crate::{WordsFault, words};
 use clap::error::ErrorKind;
+use gx_class::{Box2Class, KeyClass};
 use gx_command::{Noted, refuse_memory, run_script};
+use gx_disk::{FileDisk, SectorDisk};
+use gx_geom::{Box2, Shape};
 use std::alloc::Global;
 use std::convert::AsStr;
 use std::fmt::Display;
+use std::fs::{File, Files};
 use std::io::{Read, Write};
 
 /// Status: wrong words, or a call for help.
@@ -16,12 +22,17 @@ const WRONG_WORDS: u8 = 2;
 
 /// The program. It reads its words, the program's own name first, does what they ask, and answers its status.
 ///
-/// `gist plain` reads a script from the reader and writes the replies of an index in memory to the writer. The
-/// status is 0 where the script was read to its end; 1 where a read or a write failed, about which a line is written
-/// to `faults` unless whoever reads the replies has left, and where memory is refused before the script begins, which
-/// writes `refused 10 memory`; and 2 for words that ask for something else or for help, about which a text is written
-/// to `faults` and nothing to the writer.
-pub fn gist<S: AsStr, R: Read, W: Write, E: Write>(
+/// - `gist plain` reads a script from the reader and writes the replies of an index in memory to the writer.
+/// - `gist format FILE PAGES M` lays a new index down in a file, and writes `formatted pages PAGES fanout M`.
+/// - `gist run FILE [--frames N]` reads a script from the reader and writes the replies of the index in a file.
+///
+/// The status is 0 where all was done. It is 1 where a call outside of a script was refused, which writes `refused N text`, 11
+/// for a file that can't be opened or is in use; where a reply to a script on a file was refused with 11, 12 or 13; and where a
+/// read or a write failed. A line on it is written to `faults`, unless whoever reads the replies has left, or memory was refused
+/// for words or for an index in memory. The status is 2 for words that ask for something else or for help, about which a text is
+/// written to `faults` and nothing to the writer.
+pub fn gist<T: Files<File = File>, S: AsStr, R: Read, W: Write, E: Write>(
+    rt: &T,
     alloc: Global,
     words: Result<&[S], WordsFault>,
     reader: &mut Noted<R>,
@@ -29,13 +40,14 @@ pub fn gist<S: AsStr, R: Read, W: Write, E: Write>(
     faults: &mut E,
 ) -> u8
     ensures ends { MatchResult words.entry
-        (λ given. EndsOnWords (map S.text given.now) (R.remaining reader.old.inner) (R.remaining reader.new.inner) (W.contents writer.old.inner) (W.contents writer.new.inner) result)
+        (λ given. EndsOnWords ⟦<Box2 as Shape>⟧ ⟦<Box2Class as KeyClass>⟧ ⟦<FileDisk as SectorDisk>⟧.state (map S.text given.now)
+        (R.remaining reader.old.inner) (R.remaining reader.new.inner) (W.contents writer.old.inner) (W.contents writer.new.inner) result)
         (λ fault. EndsUnread fault (R.remaining reader.old.inner) (R.remaining reader.new.inner) (W.contents writer.old.inner) (W.contents writer.new.inner) result) }
     ensures quiet { result ≡ 0 → Keeps (E.contents faults.old) (E.contents faults.new) }
 {
     match words {
         Ok(given) => match words::read(alloc, given) {
-            Ok(()) => run_script(alloc, reader, writer, faults),
+            Ok(asked) => carry_out(rt, alloc, asked, reader, writer, faults),
             Err(error) if error.kind() == ErrorKind::OutOfMemory => refuse_memory(writer),
             Err(error) => refuse_words(faults, &error),
         },
@@ -44,6 +56,28 @@ pub fn gist<S: AsStr, R: Read, W: Write, E: Write>(
             faults,
             &format_args!("error: word {place} isn't UTF-8 text\n"),
         ),
+    }
+}
+
+// Does what the words ask for, and answers the status.
+fn carry_out<T: Files<File = File>, R: Read, W: Write, E: Write>(
+    rt: &T,
+    alloc: Global,
+    asked: Asked,
+    reader: &mut Noted<R>,
+    writer: &mut Noted<W>,
+    faults: &mut E,
+) -> u8
+    ensures ends { EndsAsked ⟦<Box2 as Shape>⟧ ⟦<Box2Class as KeyClass>⟧ ⟦<FileDisk as SectorDisk>⟧.state asked.entry
+        (R.remaining reader.old.inner) (R.remaining reader.new.inner) (W.contents writer.old.inner) (W.contents writer.new.inner) result }
+    ensures quiet { result ≡ 0 → Keeps (E.contents faults.old) (E.contents faults.new) }
+{
+    match asked {
+        Asked::Plain => run_script(alloc, reader, writer, faults),
+        Asked::Format { file, pages, most } => {
+            format_file(rt, alloc, file, pages, most, writer, faults)
+        }
+        Asked::Run { file, frames } => run_file(rt, alloc, file, frames, reader, writer, faults),
     }
 }
 

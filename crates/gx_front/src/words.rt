@@ -1,10 +1,11 @@
 //! The words that the program is called with.
 ghost use Rattle.std.specs.Prelude.{◌≡◌, [], map, codes, OnOk, IfOk, IfErr};
 ghost use Rattle.clap.specs.Words.{app_of, new_app, fault_of, HasKind};
-ghost use Rattle.gx_front.specs.Program.{gist_app, with_required};
+ghost use Rattle.gx_front.specs.Asking.{WordsAsk};
+ghost use Rattle.gx_front.specs.Program.{gist_app, with_required, plain_app, format_app, run_app, wanted_rule, number_rule, frames_rule, Is, IsRule};
 
-use clap::error::ErrorKind;
-use clap::{Command, Error};
+use crate::asking::{Asked, what_is_asked};
+use clap::{Arg, Command, Error, value_parser};
 use std::alloc::{AllocError, Global};
 use std::convert::AsStr;
 use std::env::FillError;
@@ -56,6 +57,14 @@ fn word_at<R: Env + AllocGlobal>(rt: &R, place: usize) -> Result<Option<Vec<u8>>
 const SCRIPT: &str =
     "Two lines of a script, in which session 1 begins a transaction and inserts row 7 with the box from (0, 0) to (10, 10):\n\n1 BEGIN\n1 INSERT 7 0 0 10 10\n\ndocs/SCRIPT.md has all lines, replies and refusals.";
 
+/// How a file is formatted.
+const FORMAT: &str =
+    "A new index in the file places.gist, for 4,096 pages with up to 100 entries in a node:\n\ngist format places.gist 4096 100\n\nThe file gets some 19 MB then. docs/SCRIPT.md has the refusals.";
+
+/// How a script is run on a file.
+const RUN: &str =
+    "The script in the file changes, on the index that places.gist holds:\n\ngist run places.gist < changes\n\nWhat was answered as committed is in the file from then on. docs/SCRIPT.md has all lines, replies and refusals.";
+
 /// The program, which calls itself `gist` whatever its file is called, and wants a command.
 fn program<'a>(alloc: Global) -> Result<Command<'a>, AllocError>
     ensures { IfOk result (λ command. app_of command ≡ with_required (new_app (codes "gist"))) }
@@ -66,24 +75,91 @@ fn program<'a>(alloc: Global) -> Result<Command<'a>, AllocError>
         .bin_name("gist")
 }
 
+fn plain<'a>(alloc: Global) -> Command<'a>
+    ensures { Is plain_app result }
+{
+    Command::new(alloc, "plain")
+        .about("Reads a script from standard input, and prints what an index in memory replies")
+        .after_help(SCRIPT)
+}
+
+fn format<'a>(alloc: Global) -> Result<Command<'a>, AllocError>
+    ensures { IfOk result (Is format_app) }
+{
+    Command::new(alloc, "format")
+        .about("Lays a new index down in a file; what the file held is lost")
+        .after_help(FORMAT)
+        .arg(file(alloc))?
+        .arg(pages(alloc))?
+        .arg(most(alloc))
+}
+
+fn run<'a>(alloc: Global) -> Result<Command<'a>, AllocError>
+    ensures { IfOk result (Is run_app) }
+{
+    Command::new(alloc, "run")
+        .about("Reads a script from standard input, and prints what the index in a file replies")
+        .after_help(RUN)
+        .arg(file(alloc))?
+        .arg(frames(alloc))
+}
+
+fn file<'a>(alloc: Global) -> Arg<'a>
+    ensures { IsRule (wanted_rule (codes "FILE")) result }
+{
+    Arg::new(alloc, "FILE")
+        .required(true)
+        .help("The file that holds the index")
+}
+
+fn pages<'a>(alloc: Global) -> Arg<'a>
+    ensures { IsRule (number_rule (codes "PAGES") 8 65536) result }
+{
+    Arg::new(alloc, "PAGES")
+        .required(true)
+        .value_parser(value_parser!(u32).range(8..=65536))
+        .help("How many pages it may have, 8 to 65536")
+}
+
+fn most<'a>(alloc: Global) -> Arg<'a>
+    ensures { IsRule (number_rule (codes "M") 4 100) result }
+{
+    Arg::new(alloc, "M")
+        .required(true)
+        .value_parser(value_parser!(u32).range(4..=100))
+        .help("How many entries a node of its tree may have, 4 to 100")
+}
+
+fn frames<'a>(alloc: Global) -> Arg<'a>
+    ensures { IsRule frames_rule result }
+{
+    Arg::new(alloc, "frames")
+        .long("frames")
+        .value_name("N")
+        .value_parser(value_parser!(u32).range(16..=4096))
+        .default_value("64")
+        .help("How many of its pages are held in memory at once, 16 to 4096")
+}
+
 /// The command that the words are read by.
 fn command<'a>(alloc: Global) -> Result<Command<'a>, AllocError>
     ensures { IfOk result (λ command. app_of command ≡ gist_app) }
 {
-    let plain = Command::new(alloc, "plain")
-        .about("Reads a script from standard input, and prints what an index in memory replies")
-        .after_help(SCRIPT);
-    program(alloc)?.subcommand(plain)
+    program(alloc)?
+        .subcommand(plain(alloc))?
+        .subcommand(format(alloc)?)?
+        .subcommand(run(alloc)?)
 }
 
-/// Reads the words, the program's own name first. The one command is `plain`, which takes no words.
-pub fn read<'a, S: AsStr>(alloc: Global, words: &'a [S]) -> Result<(), Error>
-    ensures plain { OnOk result (fault_of gist_app (map S.text words.now) ≡ []) }
+/// Reads the words, the program's own name first: what they ask for, or what is wrong with them.
+pub fn read<'a, S: AsStr>(alloc: Global, words: &'a [S]) -> Result<Asked<'a>, Error>
+    ensures right { OnOk result (fault_of gist_app (map S.text words.now) ≡ []) }
+    ensures asked { IfOk result (WordsAsk (map S.text words.now)) }
     ensures wrong { IfErr result (HasKind (fault_of gist_app (map S.text words.now))) }
 {
     let command = command(alloc)?;
     match command.try_get_matches_from(words) {
-        Ok(_) => Ok(()),
+        Ok(found) => Ok(what_is_asked(&found)),
         Err(error) => Err(error),
     }
 }

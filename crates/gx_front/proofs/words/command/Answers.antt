@@ -1,12 +1,15 @@
-use Rattle.std.proofs.Common.{rules, ap, ap₂, codes, ◌≡◌, ◌∙◌}
+use Rattle.std.proofs.Common.{ap, ap₂, ◌∙◌}
 use Rattle.std.proofs.lemmas.Result.{IfOk-weaker}
-use Rattle.clap.specs.Words.{App, app_of, new_app, with_subcommand}
-use Rattle.clap.specs.Simple.{app_of_fields}
+use Rattle.clap.specs.Words.{App, with_subcommand}
+use Rattle.gx_front.specs.Program.{gist_app}
 use Rattle.gx_front.proofs.words.command.Goals as goal
 
 pub returns : goal.returns
+unfolding gist_app
 returns c =
-    let plain_is : app_of c.after_help-plain.result ≡ new_app (codes "plain") =
-    ap app_of_fields c.after_help-plain.ensures ∙ ap app_of_fields c.about.ensures ∙ c.new.ensures.app in
-    IfOk-weaker c.subcommand.result _ _
-    (λ r adds. adds.shape (search rules) ∙ ap₂ with_subcommand c.in_ok-program.ensures (ap (λ (a : App). a.top) plain_is)) c.subcommand.ensures
+    let with_plain = c.in_ok-subcommand.ensures.shape c.plain.ensures.1
+    ∙ ap₂ with_subcommand c.in_ok-program.ensures (ap (λ (a : App). a.top) c.plain.ensures.0) in
+    let with_format = c.in_ok-subcommand-2.ensures.shape c.in_ok-format.ensures.1
+    ∙ ap₂ with_subcommand with_plain (ap (λ (a : App). a.top) c.in_ok-format.ensures.0) in
+    IfOk-weaker c.subcommand-3.result _ _
+    (λ r adds. adds.shape c.in_ok-run.ensures.1 ∙ ap₂ with_subcommand with_format (ap (λ (a : App). a.top) c.in_ok-run.ensures.0)) c.subcommand-3.ensures

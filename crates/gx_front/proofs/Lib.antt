@@ -1,0 +1,4 @@
+mod Found
+mod Passing
+mod Whole
+mod Wrong

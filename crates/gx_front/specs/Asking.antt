@@ -1,0 +1,69 @@
+-- What the words ask for: the command that they name, and what is given to it.
+use Rattle.std.specs.Prelude.{◌≡◌, ◌<◌, ◌≤◌, ◌^◌, ◌⊎◌, ℕ, List, Option, Some, None, pos, codes}
+use Rattle.std.specs.Str.Parse.{IsNumeral, digits_value, without_leading_plus}
+use Rattle.clap.specs.Words.{IsSignedIn, Row, Text, first_of, one_of, subcommand_of, without_minus}
+use Rattle.gx_front.specs.Program.{gist_app}
+use Rattle.gx_front.specs.declared.asking.Asked.{Asked}
+use Rattle.gx_front.specs.declared.asking.Asked.TheVariants.{Plain, Format, Run}
+
+-- the word that was given under this name, or stands for it by default, is this number in decimal digits, and the number lies
+-- in this range
+pub record IsNumber (rows : List Row) (name : Text) (lowest highest number : ℕ) : Type 0 where
+  pub word : Text
+  pub given : one_of name rows ≡ Some word
+  pub digits : IsNumeral 10 (without_leading_plus word)
+  pub value : number ≡ digits_value 10 (without_leading_plus word)
+  pub least : lowest ≤ number
+  pub most : number ≤ highest
+
+-- what is given to `format`
+pub record IsFormat (rows : List Row) (file : Text) (pages most : ℕ) : Type 0 where
+  pub file_is : first_of (codes "FILE") rows ≡ Some file
+  pub pages_are : IsNumber rows (codes "PAGES") 8 65536 pages
+  pub most_is : IsNumber rows (codes "M") 4 100 most
+
+-- what is given to `run`
+pub record IsRun (rows : List Row) (file : Text) (frames : ℕ) : Type 0 where
+  pub file_is : first_of (codes "FILE") rows ≡ Some file
+  pub frames_are : IsNumber rows (codes "frames") 16 4096 frames
+
+-- the command of this name, with what is given to it, asks for this
+abbrev pub Asks : Text → List Row → Asked → Type 0
+Asks name rows Plain = name ≡ codes "plain"
+Asks name rows (Format file pages most) = (name ≡ codes "format") × IsFormat rows file.now pages most
+Asks name rows (Run file frames) = (name ≡ codes "run") × IsRun rows file.now frames
+
+-- what is asked for, by the command that was found
+abbrev pub IsAsked : Option (Text × List Row) → Asked → Type 0
+IsAsked None asked = ⊥
+IsAsked (Some command) asked = Asks command.0 command.1 asked
+
+-- the word under this name passed the test for a number in this range
+pub record IsAccepted (rows : List Row) (name : Text) (lowest highest : ℕ) : Type 0 where
+  pub word : Text
+  pub given : one_of name rows ≡ Some (without_minus word)
+  pub accepted : IsSignedIn (pos lowest) (pos highest) word
+  pub fits : highest < 2 ^ 32
+
+-- all that `format` wants was given
+pub record HasFormat (rows : List Row) : Type 0 where
+  pub file : Text
+  pub file_is : first_of (codes "FILE") rows ≡ Some file
+  pub pages : IsAccepted rows (codes "PAGES") 8 65536
+  pub most : IsAccepted rows (codes "M") 4 100
+
+-- all that `run` wants
+pub record HasRun (rows : List Row) : Type 0 where
+  pub file : Text
+  pub file_is : first_of (codes "FILE") rows ≡ Some file
+  pub frames : IsAccepted rows (codes "frames") 16 4096
+
+-- a command was found, with all that it wants
+abbrev pub IsWhole : Option (Text × List Row) → Type 0
+IsWhole None = ⊥
+IsWhole (Some command) =
+    (command.0 ≡ codes "plain") ⊎ ((command.0 ≡ codes "format") × HasFormat command.1) ⊎ ((command.0 ≡ codes "run") × HasRun command.1)
+
+-- the words ask for this
+abbrev pub WordsAsk : List Text → Asked → Type 0
+WordsAsk words asked = IsAsked (subcommand_of gist_app words) asked

@@ -1,0 +1,73 @@
+//! What the words ask for, read of what clap found in them.
+ghost use Rattle.std.specs.Prelude.{codes, ℕ};
+ghost use Rattle.clap.specs.Words.{found_of, rows_of, subcommand_rows_of};
+ghost use Rattle.gx_front.specs.Asking.{IsAccepted, IsNumber, HasFormat, HasRun, Asks, IsAsked, IsWhole};
+
+use clap::ArgMatches;
+
+/// What the words ask for.
+#[derive(Clone, Copy, Debug, PartialEq, Eq)]
+pub enum Asked<'a> {
+    /// A script on an index in memory.
+    Plain,
+    /// A new index on a file.
+    Format {
+        /// The file's path.
+        file: &'a str,
+        /// How many pages, 8 to 65,536.
+        pages: u32,
+        /// How many entries a node may have, 4 to 100.
+        most: u16,
+    },
+    /// A script on the index of a file.
+    Run {
+        /// The file's path.
+        file: &'a str,
+        /// How many pages are held in memory, 16 to 4,096.
+        frames: usize,
+    },
+}
+
+/// What the words ask for that clap found these matches in.
+pub(crate) fn what_is_asked<'a>(found: &ArgMatches<'a>) -> Asked<'a>
+    requires { IsWhole (subcommand_rows_of found.now) }
+    ensures { IsAsked (subcommand_rows_of found.now) result }
+{
+    match found.subcommand() {
+        Some(("format", given)) => format_of(given),
+        Some(("run", given)) => run_of(given),
+        _ => Asked::Plain,
+    }
+}
+
+// What is given to `format`.
+fn format_of<'a>(given: &ArgMatches<'a>) -> Asked<'a>
+    requires { HasFormat (rows_of (found_of given.now)) }
+    ensures { Asks (codes "format") (rows_of (found_of given.now)) result }
+{
+    Asked::Format {
+        file: given.get_str("FILE").unwrap(),
+        pages: number(given, "PAGES"),
+        most: number(given, "M") as u16,
+    }
+}
+
+// What is given to `run`.
+fn run_of<'a>(given: &ArgMatches<'a>) -> Asked<'a>
+    requires { HasRun (rows_of (found_of given.now)) }
+    ensures { Asks (codes "run") (rows_of (found_of given.now)) result }
+{
+    Asked::Run {
+        file: given.get_str("FILE").unwrap(),
+        frames: number(given, "frames") as usize,
+    }
+}
+
+// The number under this name, of a word that passed the test for one.
+fn number(given: &ArgMatches, name: &str) -> u32
+    requires { (lowest : ℕ) × (highest : ℕ) × IsAccepted (rows_of (found_of given.now)) name.now lowest highest }
+    ensures { (lowest highest : ℕ) → IsAccepted (rows_of (found_of given.now)) name.now lowest highest
+        → IsNumber (rows_of (found_of given.now)) name.now lowest highest result }
+{
+    given.get_one::<u32>(name).unwrap()
+}
