@@ -78,7 +78,7 @@ module _ {C D : Type 0} (shape : Members Rectangle) (is_key : Rectangle → Bool
     pub keeps : KeepsSessions old.engine new.engine
     pub told : TellsSettled result held holds status
 
-  -- what follows a script's end: by whether a reply told of a fault, nothing, or the index is settled
+  -- what follows a script's end, by whether a reply told of a fault: nothing more is written, or the index is settled
   abbrev pub EndsBy : Bool → State Rectangle D → Option (List ℕ) → Option (List ℕ) → ℕ → Type 0
   EndsBy true index held holds status = (status ≡ 1) × Keeps held holds
   EndsBy false index held holds status = EndsSettling index held holds status
@@ -98,7 +98,7 @@ module _ {C D : Type 0} (shape : Members Rectangle) (is_key : Rectangle → Bool
     pub done : IsDone AnswersWatched had left held written old new
     pub ends : EndsBy new.met new.index written holds status
 
-  -- The script was stopped by a fault, and nothing was settled.
+  -- The script was stopped by a fault.
   pub record WasStopped (old : Watched (State Rectangle D)) (had left held holds : Option (List ℕ)) (status : ℕ) : Type 0 where
     pub new : Watched (State Rectangle D)
     pub fault : ScriptFault
