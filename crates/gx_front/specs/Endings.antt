@@ -1,5 +1,5 @@
 -- How the program ends: its status, what it has read, and what it has written.
-use Rattle.std.specs.Prelude.{ℕ, ◌≡◌, ◌≢◌, ◌⊎◌, Option, List, []}
+use Rattle.std.specs.Prelude.{ℕ, ◌≡◌, ◌≢◌, ◌≤◌, ◌⊎◌, Option, List, []}
 use Rattle.std.specs.Io.KnownBytes.{Keeps}
 use Rattle.clap.specs.Words.{Text, fault_of}
 use Rattle.gx_geom.specs.Rectangles.{Rectangle}
@@ -9,6 +9,7 @@ use Rattle.gx_class.specs.Boxes.{corners_of, in_order}
 use Rattle.gx_class.specs.declared.class.KeyClass.{Ghosts}
 use Rattle.gx_disk.specs.Device.{Device}
 use Rattle.gx_disk.specs.declared.file.FileDisk.{FileDisk}
+use Rattle.gx_format.specs.Formatting.{sectors_of}
 use Rattle.gx_format.specs.Fresh.{fresh_root}
 use Rattle.gx_command.specs.Endings.{LacksMemory, EndsScript}
 use Rattle.gx_device_commands.specs.Endings.{FormatsOver, Refuses, RunsOver}
@@ -30,10 +31,11 @@ abbrev pub HasNoDevice : Option (List ℕ) → Option (List ℕ) → ℕ → Typ
 HasNoDevice held holds status = Refuses NoDevice held holds status
 
 module _ {C : Type 0} (class : Ghosts C Rectangle) (state : FileDisk → Device) where
-  -- an index of boxes, class 1, was laid down in a file
+  -- an index of boxes, class 1, was laid down in a file, which had room for it by then
   pub record FormatsFile (pages most : ℕ) (held holds : Option (List ℕ)) (status : ℕ) : Type 0 where
     pub old : FileDisk
     pub new : FileDisk
+    pub room : sectors_of pages ≤ (state old).sectors
     pub formats : FormatsOver state (record { pages = pages; most = most; class = 1 }) (fresh_root class.spelling class.start_key) old new held holds status
 
   -- how a format of a file may end
