@@ -3,6 +3,9 @@ use Rattle.gx_restart.proofs.Alone.{runs_same, settled_by}
 use Rattle.gx_restart.proofs.Settling.{settles_keeps, settles_rests_on}
 use Rattle.gx_restart.proofs.index.Index.settle.Goals as goal
 
+pub returns-then-self-clause-settles : goal.returns-then-self-clause-settles
+returns-then-self-clause-settles g c = rw (← c.self.view_is, c.if-self.true) (refl, refl)
+
 pub returns-then-self-clause-runs : goal.returns-then-self-clause-runs
 returns-then-self-clause-runs g c = λ l.
     runs_same (record { partial_cmp = g.K.Key.PartialOrd.partial_cmp; eq = g.K.Key.PartialEq.eq; cmp = g.K.Key.Ord.cmp; overlap = g.K.Key.Shape.overlap; inside = g.K.Key.Shape.inside }) g.K.ReadKeys.is_proper g.K.ReadKeys.said g.K.KeyClass g.D.SectorDisk.state l c.args.self.now.engine c.args.self.now.engine refl
