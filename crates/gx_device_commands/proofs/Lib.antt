@@ -1,3 +1,4 @@
 pub mod Forgetting
 pub mod Endings
+pub mod Dumped
 pub mod Durably

@@ -2,4 +2,5 @@ pub mod Lines
 pub mod Watching
 pub mod Openings
 pub mod Endings
+pub mod Dumping
 pub mod Durably

@@ -1,6 +1,8 @@
-//! What a watched script says of the index, and a status of 0 of the device. Each function is its contract alone.
+//! What a watched script says of the index, and a status of 0 of the device, after a script and after a dump. Each function is its
+//! contract alone.
 ghost use Rattle.std.specs.Prelude.{◌≡◌, ℕ, List, Option, false, true};
 ghost use Rattle.gx_device_commands.specs.Durably.{EndsDurably};
+ghost use Rattle.gx_device_commands.specs.Dumping.{DumpsOver, TellsKept};
 ghost use Rattle.gx_device_commands.specs.Endings.{RunsOver};
 ghost use Rattle.gx_device_commands.specs.Watching.{IsFaultless, Watches};
 ghost use Rattle.gx_device_commands.specs.declared.watched.Watched.{Watched};
@@ -40,3 +42,11 @@ pub fn a_run_that_is_done_is_durable<D: SectorDisk, K: ReadKeys + KeyClass<Key =
 {
     gx_engine::laws::a_class_is_lawful::<K>();
 }
+
+/// Where a dump over an honest device ended with status 0, what was written is the text of the tree of an index that has the set which the
+/// device's log kept, with that set's number.
+pub fn a_dump_that_is_done_tells_what_was_kept<D: SectorDisk, K: ReadKeys + KeyClass<Key = Box2>>()
+    ensures { (number frames : ℕ) (disk : D) (held holds : Option (List ℕ)) → (D.state disk).honest ≡ true
+        → DumpsOver ⟦<Box2 as Shape>⟧ K.is_proper K.said K.KeyClass D.state number frames disk held holds 0
+        → TellsKept ⟦<Box2 as Shape>⟧ K.is_proper K.said K.KeyClass D.state number disk held holds }
+{}

@@ -1,16 +1,19 @@
-//! What a command of the program does over a device, whatever words ask for it: the device is formatted, or a script is run on the
-//! index that it holds. What was refused is told, by a line to whoever reads the replies and by one to a person, and the program's
-//! status is answered.
+//! What a command of the program does over a device, whatever words ask for it: the device is formatted, a script is run on the index
+//! that it holds, or the tree of that is told. What was refused is told, by a line to whoever reads and by one to a person, and the
+//! program's status is answered.
 #![tactic(auto)]
 
+mod dumping;
 mod formatting;
 pub mod laws;
+mod opening;
 mod refusals;
 mod running;
 #[cfg(test)]
 mod tests;
 mod watched;
 
+pub use dumping::dump_over;
 pub use formatting::format_over;
 pub use refusals::{print_refusal, refuse};
 pub use running::run_over;
@@ -19,5 +22,5 @@ pub use watched::Watched;
 /// Status: all was done.
 const DONE: u8 = 0;
 
-/// Status: a refusal outside of a script, a script that a fault stopped, or one of whose replies told of a fault.
+/// Status: a refusal outside of a script, a script or a dump that a fault stopped, or a script one of whose replies told of a fault.
 const REFUSED: u8 = 1;

@@ -2,8 +2,8 @@
 ghost use Rattle.std.specs.Prelude.{◌≡◌};
 ghost use Rattle.std.specs.Io.KnownBytes.{Keeps};
 ghost use Rattle.gx_device_commands.specs.Endings.{EndsBy, EndsSettling, RunsOver, RunsScript, watched_over};
-ghost use Rattle.gx_device_commands.specs.Openings.{Opens};
 
+use crate::opening::opened;
 use crate::refusals::refuse;
 use crate::{DONE, REFUSED, Watched};
 use gx_class::{KeyClass, Probing};
@@ -12,22 +12,9 @@ use gx_disk::SectorDisk;
 use gx_engine::Engine;
 use gx_geom::{Box2, Shape};
 use gx_readings::ReadKeys;
-use gx_restart::{Index, NotOpened, open};
+use gx_restart::Index;
 use std::alloc::Global;
 use std::io::{Read, Write};
-
-// Opens a device.
-fn opened<D: SectorDisk, K: ReadKeys + KeyClass<Key = Box2> + Probing>(
-    alloc: Global,
-    disk: D,
-    frames: usize,
-) -> Result<Engine<D, K>, NotOpened<D>>
-where
-    K::Probe: Drop,
-    ensures { Opens ⟦<Box2 as Shape>⟧ K.is_proper K.said K.KeyClass D.state K.CLASS frames disk result }
-{
-    open(alloc, disk, frames)
-}
 
 // Settles an index, tells what that was refused with, and answers the status.
 fn settle_after<D: SectorDisk, K: ReadKeys + KeyClass<Key = Box2> + Probing, W: Write, E: Write>(

@@ -10,6 +10,9 @@ use std::process::Abort;
 // How many sectors an index of 16 pages takes.
 const SECTORS: usize = 4296;
 
+// More bytes than a command writes in these tests.
+const ROOM: usize = 192;
+
 // A device that is lent, so that it outlives the run of a script.
 #[derive(Drop)]
 struct Lent<'a, D>(&'a mut D);
@@ -44,7 +47,7 @@ impl<D: SectorDisk> SectorDisk for Lent<'_, D> {
 #[derive(Drop)]
 struct Ended {
     status: u8,
-    written: [u8; 128],
+    written: [u8; ROOM],
     left: usize,
     is_told: bool,
 }
@@ -61,7 +64,7 @@ impl Ended {
 
 // A script is run over a device.
 fn run<D: SectorDisk + Drop>(alloc: Global, disk: D, script: &[u8]) -> Ended {
-    let mut written = [0u8; 128];
+    let mut written = [0u8; ROOM];
     let mut told = [0u8; 1];
     let mut reader = Noted::new(script);
     let mut writer = Noted::new(written.as_mut_slice());
@@ -84,7 +87,7 @@ fn run<D: SectorDisk + Drop>(alloc: Global, disk: D, script: &[u8]) -> Ended {
 
 // A device is formatted.
 fn format(alloc: Global, disk: &mut MemDisk, pages: u32, most: u16) -> Ended {
-    let mut written = [0u8; 128];
+    let mut written = [0u8; ROOM];
     let mut told = [0u8; 1];
     let mut writer = Noted::new(written.as_mut_slice());
     let mut faults = told.as_mut_slice();
@@ -96,6 +99,21 @@ fn format(alloc: Global, disk: &mut MemDisk, pages: u32, most: u16) -> Ended {
         &mut writer,
         &mut faults,
     );
+    Ended {
+        status,
+        written,
+        left: 0,
+        is_told: told != [0],
+    }
+}
+
+// The tree of a device's index is told.
+fn dump<D: SectorDisk + Drop>(alloc: Global, disk: D) -> Ended {
+    let mut written = [0u8; ROOM];
+    let mut told = [0u8; 1];
+    let mut writer = Noted::new(written.as_mut_slice());
+    let mut faults = told.as_mut_slice();
+    let status = dump_over::<D, Box2Class, _, _>(alloc, disk, 16, &mut writer, &mut faults);
     Ended {
         status,
         written,
@@ -171,6 +189,48 @@ fn refusals(rt: HostRuntime) {
     ] {
         assert!(rt; format(alloc, &mut disk, pages, most).is(1, line));
     }
+}
+
+// The tree has what a transaction that was left open inserted, marked by the opening that undid it.
+#[test]
+fn trees_are_told(rt: HostRuntime) {
+    let Some(mut disk) = fresh(rt.alloc()) else {
+        assert!(rt; false);
+        return;
+    };
+    gives(
+        &rt,
+        &mut disk,
+        b"1 BEGIN\n1 INSERT 7 0 0 10 10\n1 COMMIT\n1 BEGIN\n1 INSERT 8 5 5 6 6\n",
+        b"1 ok\n1 inserted\n1 committed 1\n1 ok\n1 inserted\n",
+    );
+    let text =
+        b"commits 1 used 2 counter 0\npage 1 level 1 nsn 0 right 0 count 1\nchild 2 0 0 10 10\npage 2 level 0 nsn 0 right 0 count 2\nentry 7 0 0 10 10 live\nentry 8 5 5 6 6 marked\n";
+    assert!(rt; dump(rt.alloc(), Lent(&mut disk)).is(0, text));
+    assert!(rt; dump(rt.alloc(), disk).is(0, text));
+}
+
+// A writer without room ends a dump, as does a device that isn't formatted.
+#[test]
+fn dumps_that_end_early(rt: HostRuntime) {
+    let (Some(disk), Ok(unformatted)) = (fresh(rt.alloc()), MemDisk::new(rt.alloc(), SECTORS))
+    else {
+        assert!(rt; false);
+        return;
+    };
+    assert!(rt; dump(rt.alloc(), unformatted).is(1, b"refused 14 not formatted\n"));
+    let mut room = [0u8; 20];
+    let mut told = [0u8; 1];
+    let mut writer = Noted::new(room.as_mut_slice());
+    let mut faults = told.as_mut_slice();
+    let status = dump_over::<MemDisk, Box2Class, _, _>(
+        rt.alloc(),
+        disk,
+        16,
+        &mut writer,
+        &mut faults,
+    );
+    assert!(rt; status == 1 && &room == b"commits 0 used 2 cou" && told != [0]);
 }
 
 // How a script over a device that fails may end, by where it first fails: in the opening, the insert, the commit, and the settling behind it.
