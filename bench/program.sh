@@ -156,21 +156,49 @@ line 4 bad
 lines=""
 on_file "an empty script" 0 "" "" run places
 
+on_file "a new file for a tree" 0 "$formatted" "" format tree 16 4
+lines='1 BEGIN
+1 INSERT 7 0 0 10 10
+1 COMMIT
+1 BEGIN
+1 INSERT 8 5 5 6 6
+'
+on_file "a script that leaves an insert open" 0 '1 ok
+1 inserted
+1 committed 1
+1 ok
+1 inserted
+' "" run tree
+lines=""
+on_file "its tree" 0 'commits 1 used 2 counter 0
+page 1 level 1 nsn 0 right 0 count 1
+child 2 0 0 10 10
+page 2 level 0 nsn 0 right 0 count 2
+entry 7 0 0 10 10 live
+entry 8 5 5 6 6 marked
+' "" dump tree
+cp "$work/out" dumped
+on_file "its tree again" 0 "$(cat dumped)
+" "" dump tree
+holds "a picture of it" [ "$("$top/bench/picture.sh" dumped picture.svg)" = "2 entries, 1 bounds of level 0" ]
+
 cp places before
 for words in "format places 7 4" "format places 65537 4" "format places 16 3" "format places 16 101" "format places -16 4" "format places 16" \
     "format places 16 4 4" "format places sixteen 4" "run places --frames 15" "run places --frames 4097" "run places --frames" \
-    "run places --frames 16 --frames 16" "run places places" "run" "run --frames 16" "format" "open places"; do
+    "run places --frames 16 --frames 16" "run places places" "run" "run --frames 16" "format" "dump" "dump places places" "dump places --frames 64" "open places"; do
     # shellcheck disable=SC2086
     on_file "wrong words: $words" 2 "$nothing" "For more information, try '--help'" $words
 done
 on_file "help of format" 2 "$nothing" "gist format places.gist 4096 100" format --help
 on_file "help of run" 2 "$nothing" "gist run places.gist < changes" run -h
+on_file "help of dump" 2 "$nothing" "gist dump places.gist" dump --help
 on_file "a number out of its range is told" 2 "$nothing" "7 is not in 8..=65536" format places 7 4
 holds "wrong words leave the file" cmp -s places before
 on_file "wrong words for a new file" 2 "$nothing" "7 is not in 8..=65536" format new 7 4
 holds "wrong words make no file" [ ! -e new ]
 
 on_file "a file that isn't there" 1 "$none" "^gist: nowhere: it isn't there, or can't be opened$" run nowhere
+on_file "a file that isn't there, to be dumped" 1 "$none" "^gist: nowhere: it isn't there, or can't be opened$" dump nowhere
 holds "it isn't made" [ ! -e nowhere ]
 on_file "a folder" 1 "$none" "^gist: \.: it isn't there, or can't be opened$" run .
 on_file "a folder to be formatted" 1 "$none" "^gist: \.: it can't be opened, made or extended$" format . 16 4
@@ -181,6 +209,8 @@ on_file "a file of 4,000 sectors" 1 'refused 17 too small
 truncate -s 2199552 zeros
 on_file "a file of zeros" 1 'refused 14 not formatted
 ' "^gist: " run zeros
+on_file "its tree: none" 1 'refused 14 not formatted
+' "^gist: " dump zeros
 on_file "a name that begins with a hyphen" 0 "$formatted" "" format -- -places 16 4
 on_file "a path" 0 "$formatted" "" format "$work/another place" 16 4
 cp places damaged
@@ -219,6 +249,9 @@ ended "a folder as a script on a file" 1 "$work/nothing" "^gist: the script can'
 status=0
 "$program" format places 16 4 > /dev/full 2> "$work/err" < /dev/null || status=$?
 ended "a format told to a full disk" 1 "$work/nothing" "^gist: a reply can't be written: no storage space$"
+status=0
+"$program" dump places > /dev/full 2> "$work/err" < /dev/null || status=$?
+ended "a tree told to a full disk" 1 "$work/nothing" "^gist: a reply can't be written: no storage space$"
 on_file "what a format leaves" 0 '1 ok
 1 found 0
 ' "" run places

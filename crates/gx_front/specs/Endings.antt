@@ -12,11 +12,12 @@ use Rattle.gx_disk.specs.declared.file.FileDisk.{FileDisk}
 use Rattle.gx_format.specs.Formatting.{sectors_of}
 use Rattle.gx_format.specs.Fresh.{fresh_root}
 use Rattle.gx_command.specs.Endings.{LacksMemory, EndsScript}
+use Rattle.gx_device_commands.specs.Dumping.{DumpsOver}
 use Rattle.gx_device_commands.specs.Endings.{FormatsOver, Refuses, RunsOver}
 use Rattle.gx_front.specs.Asking.{WordsAsk}
 use Rattle.gx_front.specs.Program.{gist_app}
 use Rattle.gx_front.specs.declared.asking.Asked.{Asked}
-use Rattle.gx_front.specs.declared.asking.Asked.TheVariants.{Plain, Format, Run}
+use Rattle.gx_front.specs.declared.asking.Asked.TheVariants.{Plain, Format, Run, Dump}
 use Rattle.gx_front.specs.declared.words.WordsFault.{WordsFault}
 use Rattle.gx_front.specs.declared.words.WordsFault.TheVariants.{NotText, Memory}
 
@@ -52,11 +53,21 @@ module _ {C : Type 0} (shape : Members Rectangle) (class : Ghosts C Rectangle) (
   abbrev pub EndsRun : ℕ → Option (List ℕ) → Option (List ℕ) → Option (List ℕ) → Option (List ℕ) → ℕ → Type 0
   EndsRun frames had left held holds status = (Keeps had left × HasNoDevice held holds status) ⊎ RunsFile frames had left held holds status
 
+  -- the tree of the index of boxes that a file holds was told, with 64 frames
+  pub record DumpsFile (held holds : Option (List ℕ)) (status : ℕ) : Type 0 where
+    pub disk : FileDisk
+    pub dumps : DumpsOver shape in_order corners_of class state 1 64 disk held holds status
+
+  -- how a dump of a file may end
+  abbrev pub EndsDump : Option (List ℕ) → Option (List ℕ) → ℕ → Type 0
+  EndsDump held holds status = HasNoDevice held holds status ⊎ DumpsFile held holds status
+
   -- how what was asked for may end
   abbrev pub EndsAsked : Asked → Option (List ℕ) → Option (List ℕ) → Option (List ℕ) → Option (List ℕ) → ℕ → Type 0
   EndsAsked Plain had left held holds status = EndsScript had left held holds status
   EndsAsked (Format file pages most) had left held holds status = Keeps had left × EndsFormat class state pages most held holds status
   EndsAsked (Run file frames) had left held holds status = EndsRun frames had left held holds status
+  EndsAsked (Dump file) had left held holds status = Keeps had left × EndsDump held holds status
 
   -- nothing is wrong with the words, and what they ask for ended so
   pub record EndsAsWanted (words : List Text) (had left held holds : Option (List ℕ)) (status : ℕ) : Type 0 where

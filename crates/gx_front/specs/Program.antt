@@ -40,9 +40,13 @@ format_app = with_rule (with_rule (with_rule (new_app (codes "format")) (wanted_
 abbrev pub run_app : App
 run_app = with_rule (with_rule (new_app (codes "run")) (wanted_rule (codes "FILE"))) frames_rule
 
--- `gist`, which wants a command, and its three commands
+-- `dump FILE`
+abbrev pub dump_app : App
+dump_app = with_rule (new_app (codes "dump")) (wanted_rule (codes "FILE"))
+
+-- `gist`, which wants a command, and its four commands
 unfoldable pub gist_app : App
-gist_app = with_subcommand (with_subcommand (with_subcommand (with_required (new_app (codes "gist"))) plain_app.top) format_app.top) run_app.top
+gist_app = with_subcommand (with_subcommand (with_subcommand (with_subcommand (with_required (new_app (codes "gist"))) plain_app.top) format_app.top) run_app.top) dump_app.top
 
 -- the command is this one, and none of its arguments is for the commands below it too
 abbrev pub Is : App → Command → Type 0

@@ -1,7 +1,7 @@
 //! What the words ask for, read of what clap found in them.
 ghost use Rattle.std.specs.Prelude.{codes, ℕ};
 ghost use Rattle.clap.specs.Words.{found_of, rows_of, subcommand_rows_of};
-ghost use Rattle.gx_front.specs.Asking.{IsAccepted, IsNumber, HasFormat, HasRun, Asks, IsAsked, IsWhole};
+ghost use Rattle.gx_front.specs.Asking.{IsAccepted, IsNumber, HasFormat, HasRun, HasDump, Asks, IsAsked, IsWhole};
 
 use clap::ArgMatches;
 
@@ -26,6 +26,11 @@ pub enum Asked<'a> {
         /// How many pages are held in memory, 16 to 4,096.
         frames: usize,
     },
+    /// The tree of a file's index.
+    Dump {
+        /// The file's path.
+        file: &'a str,
+    },
 }
 
 /// What the words ask for that clap found these matches in.
@@ -36,6 +41,7 @@ pub(crate) fn what_is_asked<'a>(found: &ArgMatches<'a>) -> Asked<'a>
     match found.subcommand() {
         Some(("format", given)) => format_of(given),
         Some(("run", given)) => run_of(given),
+        Some(("dump", given)) => dump_of(given),
         _ => Asked::Plain,
     }
 }
@@ -60,6 +66,16 @@ fn run_of<'a>(given: &ArgMatches<'a>) -> Asked<'a>
     Asked::Run {
         file: given.get_str("FILE").unwrap(),
         frames: number(given, "frames") as usize,
+    }
+}
+
+// What is given to `dump`.
+fn dump_of<'a>(given: &ArgMatches<'a>) -> Asked<'a>
+    requires { HasDump (rows_of (found_of given.now)) }
+    ensures { Asks (codes "dump") (rows_of (found_of given.now)) result }
+{
+    Asked::Dump {
+        file: given.get_str("FILE").unwrap(),
     }
 }
 

@@ -2,17 +2,23 @@
 ghost use Rattle.std.specs.Prelude.{◌≡◌};
 ghost use Rattle.std.specs.Io.KnownBytes.{Keeps};
 ghost use Rattle.gx_device_commands.specs.Endings.{Refuses};
-ghost use Rattle.gx_front.specs.Endings.{EndsFormat, EndsRun};
+ghost use Rattle.gx_front.specs.Endings.{EndsDump, EndsFormat, EndsRun};
 
 use gx_class::{Box2Class, KeyClass};
 use gx_command::Noted;
-use gx_device_commands::{format_over, print_refusal, run_over};
+use gx_device_commands::{dump_over, format_over, print_refusal, run_over};
 use gx_disk::{DiskFault, FileDisk, SectorDisk};
 use gx_format::sectors_for;
 use gx_geom::{Box2, Refusal, Shape};
 use std::alloc::Global;
 use std::fs::{File, Files};
 use std::io::{Read, Write};
+
+/// How many pages a dump holds in memory.
+const DUMP_FRAMES: usize = 64;
+
+/// What is told of a file that isn't opened.
+const NOT_OPENED: &str = "it isn't there, or can't be opened";
 
 /// Opens or makes a file, extends a shorter one, and lays a new index down in it.
 ///
@@ -65,13 +71,33 @@ pub(crate) fn run_file<T: Files<File = File>, R: Read, W: Write, E: Write>(
         Ok(disk) => run_over::<FileDisk, Box2Class, R, W, E>(
             alloc, disk, frames, reader, writer, faults,
         ),
-        Err(fault) => refuse_file(
+        Err(fault) => refuse_file(writer, faults, file, fault, NOT_OPENED),
+    }
+}
+
+/// Opens a file that is there, and writes the text of the tree of the index that it holds.
+///
+/// The status is that of `gx_device_commands::dump_over`, with 64 frames. It is 1 too where the file isn't there or can't be opened, or
+/// another process has it, which writes `refused 11 device`, and a line to `faults`.
+pub(crate) fn dump_file<T: Files<File = File>, W: Write, E: Write>(
+    rt: &T,
+    alloc: Global,
+    file: &str,
+    writer: &mut Noted<W>,
+    faults: &mut E,
+) -> u8
+    ensures ends { EndsDump ⟦<Box2 as Shape>⟧ ⟦<Box2Class as KeyClass>⟧ ⟦<FileDisk as SectorDisk>⟧.state (W.contents writer.old.inner) (W.contents writer.new.inner) result }
+    ensures quiet { result ≡ 0 → Keeps (E.contents faults.old) (E.contents faults.new) }
+{
+    match FileDisk::open(rt, file) {
+        Ok(disk) => dump_over::<FileDisk, Box2Class, W, E>(
+            alloc,
+            disk,
+            DUMP_FRAMES,
             writer,
             faults,
-            file,
-            fault,
-            "it isn't there, or can't be opened",
         ),
+        Err(fault) => refuse_file(writer, faults, file, fault, NOT_OPENED),
     }
 }
 

@@ -4,7 +4,7 @@ ghost use Rattle.std.specs.Io.KnownBytes.{Keeps};
 ghost use Rattle.gx_front.specs.Endings.{EndsAsked, EndsOnWords, EndsUnread};
 
 use crate::asking::Asked;
-use crate::files::{format_file, run_file};
+use crate::files::{dump_file, format_file, run_file};
 use crate::{WordsFault, words};
 use clap::error::ErrorKind;
 use gx_class::{Box2Class, KeyClass};
@@ -25,6 +25,7 @@ const WRONG_WORDS: u8 = 2;
 /// - `gist plain` reads a script from the reader and writes the replies of an index in memory to the writer.
 /// - `gist format FILE PAGES M` lays a new index down in a file, and writes `formatted pages PAGES fanout M`.
 /// - `gist run FILE [--frames N]` reads a script from the reader and writes the replies of the index in a file.
+/// - `gist dump FILE` writes the text of the tree of the index in a file.
 ///
 /// The status is 0 where all was done. It is 1 where a call outside of a script was refused, which writes `refused N text`, 11
 /// for a file that can't be opened or is in use; where a reply to a script on a file was refused with 11, 12 or 13; and where a
@@ -78,6 +79,7 @@ fn carry_out<T: Files<File = File>, R: Read, W: Write, E: Write>(
             format_file(rt, alloc, file, pages, most, writer, faults)
         }
         Asked::Run { file, frames } => run_file(rt, alloc, file, frames, reader, writer, faults),
+        Asked::Dump { file } => dump_file(rt, alloc, file, writer, faults),
     }
 }
 

@@ -5,7 +5,7 @@ use std::fs::{File, Files};
 use std::process::Abort;
 
 // What asks for nothing the program knows, and calls for help.
-const WRONG: [&[&str]; 20] = [
+const WRONG: [&[&str]; 23] = [
     &["gist"],
     &["gist", "plane"],
     &["gist", "PLAIN"],
@@ -21,6 +21,9 @@ const WRONG: [&[&str]; 20] = [
     &["gist", "run", "f", "--frames", "15"],
     &["gist", "run", "f", "--frames", "4097"],
     &["gist", "run", "f", "16"],
+    &["gist", "dump"],
+    &["gist", "dump", "f", "g"],
+    &["gist", "dump", "f", "--frames", "64"],
     &["gist", "--help"],
     &["gist", "help"],
     &["gist", "plain", "-h"],
@@ -29,7 +32,7 @@ const WRONG: [&[&str]; 20] = [
 ];
 
 // What asks for something, and what it asks for.
-const RIGHT: [(&[&str], Asked); 6] = [
+const RIGHT: [(&[&str], Asked); 7] = [
     (&["gist", "plain"], Asked::Plain),
     (
         &["gist", "format", "f", "8", "100"],
@@ -68,6 +71,7 @@ const RIGHT: [(&[&str], Asked); 6] = [
             frames: 4096,
         },
     ),
+    (&["gist", "dump", "f"], Asked::Dump { file: "f" }),
 ];
 
 // With these words a script of one line ends with this status, writes this, and a text about the words or none.
@@ -124,6 +128,13 @@ fn no_file(rt: HostRuntime) {
     ends(
         &rt,
         Ok(["gist", "format", "no/file", "8", "4"].as_slice()),
+        1,
+        none,
+        true,
+    );
+    ends(
+        &rt,
+        Ok(["gist", "dump", "no/file"].as_slice()),
         1,
         none,
         true,

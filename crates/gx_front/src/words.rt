@@ -2,7 +2,7 @@
 ghost use Rattle.std.specs.Prelude.{◌≡◌, [], map, codes, OnOk, IfOk, IfErr};
 ghost use Rattle.clap.specs.Words.{app_of, new_app, fault_of, HasKind};
 ghost use Rattle.gx_front.specs.Asking.{WordsAsk};
-ghost use Rattle.gx_front.specs.Program.{gist_app, with_required, plain_app, format_app, run_app, wanted_rule, number_rule, frames_rule, Is, IsRule};
+ghost use Rattle.gx_front.specs.Program.{gist_app, with_required, plain_app, format_app, run_app, dump_app, wanted_rule, number_rule, frames_rule, Is, IsRule};
 
 use crate::asking::{Asked, what_is_asked};
 use clap::{Arg, Command, Error, value_parser};
@@ -65,6 +65,10 @@ const FORMAT: &str =
 const RUN: &str =
     "The script in the file changes, on the index that places.gist holds:\n\ngist run places.gist < changes\n\nWhat was answered as committed is in the file from then on. docs/SCRIPT.md has all lines, replies and refusals.";
 
+/// How a tree is told.
+const DUMP: &str =
+    "The tree of the index in the file places.gist, page by page:\n\ngist dump places.gist\n\ndocs/SCRIPT.md has its lines and the refusals.";
+
 /// The program, which calls itself `gist` whatever its file is called, and wants a command.
 fn program<'a>(alloc: Global) -> Result<Command<'a>, AllocError>
     ensures { IfOk result (λ command. app_of command ≡ with_required (new_app (codes "gist"))) }
@@ -102,6 +106,15 @@ fn run<'a>(alloc: Global) -> Result<Command<'a>, AllocError>
         .after_help(RUN)
         .arg(file(alloc))?
         .arg(frames(alloc))
+}
+
+fn dump<'a>(alloc: Global) -> Result<Command<'a>, AllocError>
+    ensures { IfOk result (Is dump_app) }
+{
+    Command::new(alloc, "dump")
+        .about("Prints the tree of the index in a file, a line for each page and each entry")
+        .after_help(DUMP)
+        .arg(file(alloc))
 }
 
 fn file<'a>(alloc: Global) -> Arg<'a>
@@ -148,7 +161,8 @@ fn command<'a>(alloc: Global) -> Result<Command<'a>, AllocError>
     program(alloc)?
         .subcommand(plain(alloc))?
         .subcommand(format(alloc)?)?
-        .subcommand(run(alloc)?)
+        .subcommand(run(alloc)?)?
+        .subcommand(dump(alloc)?)
 }
 
 /// Reads the words, the program's own name first: what they ask for, or what is wrong with them.
