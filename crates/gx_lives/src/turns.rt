@@ -1,8 +1,13 @@
 //! The calls whose contracts are the turns of a life: each is the call of its name, with what it is of a life.
-ghost use Rattle.std.specs.Prelude.{◌≡◌, true, OnOk, MatchResult};
+ghost use Rattle.std.specs.Prelude.{◌≡◌, ◌≤◌, ◌<◌, true, Err, OnOk, IfErr, MatchResult};
+ghost use Rattle.gx_driven.specs.Made.{Makes};
+ghost use Rattle.gx_format.specs.Formatting.{Formats};
+ghost use Rattle.gx_format.specs.Fresh.{fresh_root};
 ghost use Rattle.gx_glog.specs.Parameters.{Fit};
 ghost use Rattle.gx_glog.specs.declared.parameters.Parameters.{Parameters};
 ghost use Rattle.gx_machine.specs.Machine.{fresh_machine};
+ghost use Rattle.gx_node.specs.Reading.{format_of};
+ghost use Rattle.gx_open.specs.Opened.{IsRefused};
 ghost use Rattle.gx_opening.specs.Formatted.{Says};
 ghost use Rattle.gx_lives.specs.Bearing.{Bears};
 ghost use Rattle.gx_lives.specs.Lives.{GoesOn, Lies, Works};
@@ -31,6 +36,7 @@ pub fn format<D: SectorDisk, K: ReadKeys>(
     pages: u32,
     most: u16,
 ) -> Result<(), Refusal>
+    ensures formats { Formats D.state (record { pages = pages; most = most; class = K.CLASS }) (fresh_root K.spelling K.start_key) disk.old disk.new result }
     ensures begins { (D.state disk.old).honest ≡ true
         → OnOk result (Bears K.Key.Shape K.is_proper K.said K.KeyClass D.state (record { pages = pages; most = most; class = K.CLASS }) fresh_machine (Lies disk.new)) }
     ensures says { (D.state disk.old).honest ≡ true → OnOk result (Says (D.state disk.new).seen (record { pages = pages; most = most; class = K.CLASS })) }
@@ -63,7 +69,12 @@ pub fn open<D: SectorDisk, K: ReadKeys + Probing>(
 ) -> Result<Engine<D, K>, NotOpened<D>>
 where
     K::Probe: Drop,
-    ensures { (p : Parameters) → (D.state disk).honest ≡ true → Says (D.state disk).seen p → MatchResult result
+    ensures frames { ((16 ≤ frames) × (frames ≤ 4096) → ⊥) → result ≡ Err (record { why = Refusal.BadParameter; disk = disk }) }
+    ensures small { 16 ≤ frames → frames ≤ 4096 → (D.state disk).sectors < 4232 → result ≡ Err (record { why = Refusal.TooSmall; disk = disk }) }
+    ensures refused { (D.state disk).honest ≡ true → 16 ≤ frames → frames ≤ 4096 → 4232 ≤ (D.state disk).sectors
+        → IfErr result (λ n. IsRefused K.Key.Shape K.is_proper K.said (format_of K.KeyClass) (Makes K.Key.Shape K.is_proper K.said K.KeyClass D.state) D.state K.CLASS
+        (D.state disk) (D.state n.disk) n.why) }
+    ensures turn { (p : Parameters) → (D.state disk).honest ≡ true → Says (D.state disk).seen p → MatchResult result
         (λ engine. GoesOn K.Key.Shape K.is_proper K.said K.KeyClass K.CLASS D.state p (Lies disk) life.Opens (Works engine))
         (λ n. GoesOn K.Key.Shape K.is_proper K.said K.KeyClass K.CLASS D.state p (Lies disk) (life.Refuses n.why) (Lies n.disk)) }
 {
