@@ -79,11 +79,11 @@ lives_joined k r old middle new first between last d e f join one two bodies s l
 pub taken : {E P : Type 0} (k : Known E P) (r : Reading E P) (x : Rec) (old middle new : Log) (frames frames' : State) (d e : Device) (result : Appended) → Appends (spelling x) old middle result
     → AppendStaysUp k r x old middle result → AppendStaysStamped r x old middle result → RecordSays E P → KeepsLiving k r middle new frames frames' d e
     → TakesAndLives k r x old new frames frames' d e
-taken {E} {P} k r x old middle new frames frames' d e (At place) appends up stamped says lives changed bodies s l honest closed room key may gives runs said =
+taken {E} {P} k r x old middle new frames frames' d e (At place) appends up stamped says lives changed bodies s l honest closed room key may fit gives runs said =
     lives bodies (appended (record_read r x) s) l honest (ap (λ (g : Log). g.turn) appends.2 ∙ closed)
-    (record { up = up d.sectors d.seen d.pending bodies s l key may runs.up; stamped = stamped frames s runs.stamped })
+    (record { up = up d.sectors d.seen d.pending bodies s l key may fit runs.up; stamped = stamped frames s runs.stamped })
     (says changed frames s (record_read r x) gives said)
-taken {E} {P} k r x old middle new frames frames' d e NoRoom appends up stamped says lives changed bodies s l honest closed room key may gives runs said =
+taken {E} {P} k r x old middle new frames frames' d e NoRoom appends up stamped says lives changed bodies s l honest closed room key may fit gives runs said =
     let still : turning old.turn ≡ 0 = ap turning closed in
     elim (appends.0) [
       | inl full ↦ absurd (omega (arith, full, room))

@@ -16,9 +16,11 @@ use Rattle.gx_recovery.specs.Analysis.{analysis}
 use Rattle.gx_recovery.specs.Coming.{MayCome}
 use Rattle.gx_recovery.specs.Life.{AllWritten}
 use Rattle.gx_recovery.specs.Logged.{Logged, all_records, appended}
+use Rattle.gx_recovery.specs.Redo.{tree_of}
 use Rattle.gx_recovery.specs.Renewal.{renewed}
 use Rattle.gx_durable.specs.Spelled.{Reading, record_read, AreRecords}
 use Rattle.gx_durable.specs.Area.{is_given, IsSettledBut}
+use Rattle.gx_durable.specs.Fitting.{PagesFit}
 use Rattle.gx_durable.specs.Stamps.{Stamped, AllSaid, SaidBut}
 use Rattle.gx_durable.specs.Standing.{MayRenew}
 use Rattle.gx_durable.specs.Calls.{Runs, GoesSafely}
@@ -49,10 +51,10 @@ abbrev pub KeepsLiving : {E P : Type 0} → Known E P → Reading E P → Log �
 KeepsLiving {E} {P} k r old new frames frames' d e = (bodies : List (List (Record E P))) (s : Logged E P) → IsLawful k → d.honest ≡ true → old.turn ≡ Closed
     → Runs k r old frames d bodies s → AllSaid frames s → Lives k r new frames' d e s
 
--- A record that may come, that there is room for, and that gives what was changed, is appended, and then calls are made.
+-- A record that may come, after which pages can be read, that there is room for, and that gives what was changed, is appended, and then calls are made.
 abbrev pub TakesAndLives : {E P : Type 0} → Known E P → Reading E P → Rec → Log → Log → State → State → Device → Device → Type 0
 TakesAndLives {E} {P} k r x old new frames frames' d e = (changed : ℕ → Bool) (bodies : List (List (Record E P))) (s : Logged E P) → IsLawful k → d.honest ≡ true → old.turn ≡ Closed
-    → length old.filling + length (spelling x) ≤ 32764 → HasKey r.key x → MayCome k s.area (all_records s) (record_read r x)
+    → length old.filling + length (spelling x) ≤ 32764 → HasKey r.key x → MayCome k s.area (all_records s) (record_read r x) → PagesFit r (tree_of k s.area (all_records (appended (record_read r x) s)))
     → ((p : ℕ) → changed p ≡ true → is_given (all_records s ++ record_read r x ∷ []) p ≡ true) → Runs k r old frames d bodies s → SaidBut changed frames s
     → Lives k r new frames' d e (appended (record_read r x) s)
 

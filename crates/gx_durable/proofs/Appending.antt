@@ -15,12 +15,13 @@ use Rattle.gx_durable.specs.Spelled.{Reading, record_read}
 use Rattle.gx_durable.specs.Stamps.{Stamped}
 use Rattle.gx_durable.specs.Standing.{Up}
 use Rattle.gx_durable.specs.Calls.{AppendPlaces, AppendStaysUp, AppendStaysStamped}
+use Rattle.gx_durable.proofs.Fitting.{appended_fit}
 use Rattle.gx_durable.proofs.Spellings.{spelling_adds}
 use Rattle.gx_durable.proofs.Stamping.{longer_placed, same_placed}
 
 module _ {E P : Type 0} (k : Known E P) (r : Reading E P) (x : Rec) (old new : Log) where
   pub append_up : (result : Appended) → IsInRange x → old.used < 32 → Appends (spelling x) old new result → AppendStaysUp k r x old new result
-  append_up (At place) range room appends sectors seen pending bodies s l key may up =
+  append_up (At place) range room appends sectors seen pending bodies s l key may fit up =
       let still = appends.3 in
       let U : Log → Type 0 = λ g. Up k r g sectors seen pending bodies (appended (record_read r x) s) in
       let c = up.carries in
@@ -36,13 +37,14 @@ module _ {E P : Type 0} (k : Known E P) (r : Reading E P) (x : Rec) (old new : L
           };
           undamaged = c.undamaged;
           healthy = appended_healthy k l s c.healthy (record_read r x) may;
+          fit = appended_fit k r (record_read r x) s fit c.fit;
           has_pages = c.has_pages;
           area = c.area;
           settled = c.settled;
           turn = λ turns. absurd (omega (arith, rests, turns));
         };
       })
-  append_up NoRoom range room appends sectors seen pending bodies s l key may up =
+  append_up NoRoom range room appends sectors seen pending bodies s l key may fit up =
       let U : Log → Type 0 = λ g. Up k r g sectors seen pending bodies s in subst U (sym appends.1) up
 
 module _ {E P : Type 0} (r : Reading E P) (x : Rec) (old new : Log) where

@@ -19,9 +19,11 @@ use Rattle.gx_recovery.specs.Records.{Counters, Note, Touch}
 use Rattle.gx_recovery.specs.Analysis.{analysis}
 use Rattle.gx_recovery.specs.Damage.{is_head}
 use Rattle.gx_recovery.specs.Renewal.{notes_of}
+use Rattle.gx_durable.specs.Area.{area_of}
 use Rattle.gx_durable.specs.Spelled.{Reading, record_read, records_read, AreRecords}
 use Rattle.gx_durable.specs.Bodies.{AreBodies}
 use Rattle.gx_durable.specs.Beginning.{first_glog, first_records, FirstIsUp, HeadsFit}
+use Rattle.gx_durable.proofs.Fitting.{found_fit}
 use Rattle.gx_durable.proofs.Spellings.{none_are}
 use Rattle.gx_durable.proofs.Turning.{head_body}
 
@@ -39,7 +41,7 @@ module _ {E P : Type 0} (k : Known E P) (r : Reading E P) where
   first_are = record { spelled = rec.Counters 0 0 2 1 ∷ []; in_range = (record { in_range = (omega arith, omega arith, omega arith, omega arith); has_key = tt }, tt); bytes_are = append-nil (spelling (rec.Counters 0 0 2 1)) ∙ first_spelled; read = refl }
 
   pub first_up : FirstIsUp k r
-  first_up sectors seen pending has settled two pages all sound =
+  first_up sectors seen pending has settled two pages all sound fit =
       let B : List (List ℕ) → Type 0 = λ b. AreBodies r b (first_records E P ∷ []) in
       let head : is_head k (first_records E P) ≡ true = first_head two in
       record {
@@ -57,6 +59,7 @@ module _ {E P : Type 0} (k : Known E P) (r : Reading E P) where
             good = record { sound = sound; placed = tt };
             coming = tt;
           };
+          fit = found_fit k r (area_of r k.pages seen) (first_records E P) fit;
           has_pages = pages;
           area = λ p. refl;
           settled = λ p n is unnamed within. all p n is refl within;

@@ -14,6 +14,7 @@ use Rattle.gx_recovery.specs.Analysis.{number_of}
 use Rattle.gx_recovery.specs.Coming.{MayComeAll}
 use Rattle.gx_recovery.specs.Damage.{records_of}
 use Rattle.gx_recovery.specs.Logged.{Logged, latest, kept, all_records, AgreesBeside, StandsForKept}
+use Rattle.gx_recovery.specs.Redo.{tree_of}
 use Rattle.gx_recovery.specs.Renewal.{renewed}
 use Rattle.gx_recovery.proofs.States.{coming_first}
 use Rattle.gx_recovery.proofs.Lives.{left_stands}
@@ -24,11 +25,14 @@ use Rattle.gx_recovery.proofs.DamageItems.{records_append}
 use Rattle.gx_durable.specs.Spelled.{Reading, AreRecords}
 use Rattle.gx_durable.specs.Bodies.{AreBodies}
 use Rattle.gx_durable.specs.Area.{area_of}
+use Rattle.gx_durable.specs.Fitting.{HasSizes, PagesFit}
 use Rattle.gx_durable.specs.Standing.{batch_of, MayRenew, Carries, Stands}
 use Rattle.gx_durable.specs.Laws.{ACrashLeavesAKeptSet, StandsOfBefore}
 use Rattle.gx_durable.proofs.Areas.{image_agrees, image_page}
 use Rattle.gx_durable.proofs.BodyLists.{body_adds}
+use Rattle.gx_durable.proofs.Fitting.{gated_fit, head_fits, over_fit}
 use Rattle.gx_durable.proofs.Images.{BodiesShown, bodies_shown}
+use Rattle.gx_durable.proofs.Sizes.{image_sizes}
 
 -- what is in flight is a batch
 pub batch_flies : (stage : Stage) (flight : List ℕ) → in_flight stage ≡ 1 → batch_of stage flight ≡ flight
@@ -39,17 +43,24 @@ batch_flies Gate flight is = refl
 batch_flies GateSync flight is = refl
 
 module _ {E P : Type 0} (k : Known E P) (l : IsLawful k) (r : Reading E P) (log : Log) (sectors : ℕ) (seen : List ℕ) (pending : ℕ → Bool)
-    (bodies : List (List (Record E P))) (s : Logged E P) (c : Carries k r log sectors seen pending bodies s) (image : List ℕ) (may : IsImage seen pending image) where
+    (bodies : List (List (Record E P))) (s : Logged E P) (c : Carries k r log sectors seen pending bodies s) (image : List ℕ) (may : IsImage seen pending image) (sizes : HasSizes image) where
   agrees : AgreesBeside s.gated s.area (area_of r k.pages image)
   agrees = image_agrees r k.pages sectors c.has_pages s.gated s.area seen pending image c.area c.settled may
+
+  -- the pages of an image that has these bodies, by the records that they are
+  fit_of : (told : List (List (Record E P))) (records : List (Record E P)) → records_of told ≡ records → PagesFit r (tree_of k (area_of r k.pages image) records)
+      → PagesFit r (tree_of k (area_of r k.pages image) (records_of told))
+  fit_of told records same fit = subst (λ (x : List (Record E P)). PagesFit r (tree_of k (area_of r k.pages image) x)) (sym same) fit
 
   gated_stands : open_bodies image ≡ bodies_in seen log.extent log.gated → Stands k r s image
   gated_stands is = record {
     bodies = bodies;
     told = (let B : List (List ℕ) → Type 0 = λ b. AreBodies r b bodies in subst B (sym is) c.told.gated_bodies);
     undamaged = c.undamaged;
+    sizes = sizes;
     stands = (let S : List (Record E P) → Type 0 = λ x. StandsForKept k s (area_of r k.pages image) x in
         subst S (sym c.told.gated) (left_stands k l s c.healthy (area_of r k.pages image) s.gated (record { area_agrees = agrees; log_read = inl refl })));
+    fit = fit_of bodies s.gated c.told.gated (gated_fit k r l s.gated s.area (area_of r k.pages image) agrees c.fit.gated);
   }
 
   flown_stands : in_flight log.stage ≡ 1 → open_bodies image ≡ bodies_in seen log.extent log.gated ++ log.flight ∷ [] → Stands k r s image
@@ -63,7 +74,9 @@ module _ {E P : Type 0} (k : Known E P) (l : IsLawful k) (r : Reading E P) (log 
         bodies = bodies ++ s.flight ∷ [];
         told = subst B (sym is) (body_adds r (bodies_in seen log.extent log.gated) log.flight bodies s.flight c.told.gated_bodies flight);
         undamaged = batch_undamaged k l s.area bodies s.flight c.undamaged (subst C (sym c.told.gated) (coming_first k l s.area s.gated s.flight s.filling c.healthy.coming));
+        sizes = sizes;
         stands = subst S (sym all) (left_stands k l s c.healthy (area_of r k.pages image) (s.gated ++ s.flight) (record { area_agrees = agrees; log_read = inr refl }));
+        fit = fit_of (bodies ++ s.flight ∷ []) (s.gated ++ s.flight) all (over_fit k r l s.gated s.area (area_of r k.pages image) agrees s.flight c.fit.flight);
       }
 
   -- while a turn is under way, an image has each page
@@ -97,7 +110,11 @@ module _ {E P : Type 0} (k : Known E P) (l : IsLawful k) (r : Reading E P) (log 
         bodies = renewed k t.next s.gated ∷ [];
         told = subst B (sym is) (t.head_is, tt);
         undamaged = renewed_undamaged k l t.next s.area s.gated c.healthy.gated;
+        sizes = sizes;
         stands = subst S (sym (append-nil (renewed k t.next s.gated))) (subst A (sym (same_area t)) (head_kept t));
+        fit = fit_of (renewed k t.next s.gated ∷ []) (renewed k t.next s.gated) (append-nil (renewed k t.next s.gated))
+            (subst (λ (area : ℕ → P). PagesFit r (tree_of k area (renewed k t.next s.gated))) (sym (same_area t))
+            (head_fits k r l t.next s t.no_flight t.no_filling t.written c.healthy.gated c.fit));
       }
 
   pub shown_stands : BodiesShown log seen image → Stands k r s image
@@ -112,13 +129,15 @@ module _ {E P : Type 0} (k : Known E P) (l : IsLawful k) (r : Reading E P) (log 
 module _ {E P : Type 0} (k : Known E P) (r : Reading E P) where
   pub crash_leaves : ACrashLeavesAKeptSet k r
   crash_leaves l log sectors seen pending bodies s image up may =
-      shown_stands k l r log sectors seen pending bodies s up.carries image may (bodies_shown log seen image (image_shows_bodies log seen pending image up.on may))
+      shown_stands k l r log sectors seen pending bodies s up.carries image may (image_sizes log seen pending image up.on may)
+      (bodies_shown log seen image (image_shows_bodies log seen pending image up.on may))
 
   pub stands_before : StandsOfBefore k r
   stands_before old new image on stands = record {
     bodies = stands.bodies;
     told = stands.told;
     undamaged = stands.undamaged;
+    sizes = stands.sizes;
     stands = (let is = stands.stands in record {
       at_least = omega (arith, on.rises, is.at_least);
       at_most = omega (arith, on.same_latest, is.at_most);
@@ -126,4 +145,5 @@ module _ {E P : Type 0} (k : Known E P) (r : Reading E P) where
       is_log = is.is_log;
       good = is.good;
     });
+    fit = stands.fit;
   }

@@ -22,11 +22,10 @@ use Rattle.gx_pool.specs.Area.{bytes_of, first_of}
 use Rattle.gx_pool.specs.State.{State, Kept, kept, stamp_of}
 use Rattle.gx_recovery.specs.Known.{Known, IsLawful}
 use Rattle.gx_recovery.specs.Records.{Record}
-use Rattle.gx_recovery.specs.Redo.{tree_of, redone}
-use Rattle.gx_recovery.specs.Coming.{IsGood}
+use Rattle.gx_recovery.specs.Redo.{redone}
 use Rattle.gx_recovery.specs.Damage.{records_of}
 use Rattle.gx_recovery.specs.Life.{AllWritten}
-use Rattle.gx_recovery.specs.Logged.{Logged, StandsForKept, all_records}
+use Rattle.gx_recovery.specs.Logged.{AgreesBeside, Logged, StandsForKept, all_records}
 use Rattle.gx_recovery.specs.Renewal.{found}
 use Rattle.gx_recovery.proofs.DamageItems.{bodies_log}
 use Rattle.gx_recovery.proofs.Lives.{left_stands}
@@ -34,11 +33,13 @@ use Rattle.gx_recovery.proofs.Moves.{found_as_state}
 use Rattle.gx_durable.specs.Spelled.{Reading}
 use Rattle.gx_durable.specs.Bodies.{AreBodies}
 use Rattle.gx_durable.specs.Area.{area_of, HasPages}
+use Rattle.gx_durable.specs.Fitting.{AreGood, HasSizes}
 use Rattle.gx_durable.specs.Standing.{Stands}
 use Rattle.gx_durable.specs.Stored.{IsStored, stored, bytes_by}
 use Rattle.gx_durable.specs.Opening.{found_glog}
 use Rattle.gx_durable.specs.GoingOn.{opened, found_state, IsFoundGood, FoundIsUp, BeginsBehind, FoundRuns, SameLogStands, IsClosedFound, ClosingKeepsFound}
 use Rattle.gx_durable.proofs.Areas.{by_test}
+use Rattle.gx_durable.proofs.Fitting.{gated_fit}
 use Rattle.gx_durable.proofs.Opening.{found_up}
 use Rattle.gx_durable.proofs.Storing.{stored_as}
 
@@ -87,16 +88,19 @@ module _ {E P : Type 0} (k : Known E P) (r : Reading E P) where
       }
 
   pub same_log_stands : SameLogStands k r
-  same_log_stands l sectors seen pending bodies image is same pages =
+  same_log_stands l sectors seen pending bodies image is same sizes pages =
       let s = found_state k r seen bodies in
       let log = records_of bodies in
       let B : List (List ℕ) → Type 0 = λ b. AreBodies r b bodies in
-      let healthy = found_as_state k (area_of r k.pages seen) log (bodies_log k bodies is.undamaged) is.good in
+      let healthy = found_as_state k (area_of r k.pages seen) log (bodies_log k bodies is.undamaged) is.good.good in
+      let agrees : AgreesBeside log (area_of r k.pages seen) (area_of r k.pages image) = λ p unnamed. same_pages r k.pages image seen pages p in
       record {
         bodies = bodies;
         told = subst B (sym same) is.told;
         undamaged = is.undamaged;
-        stands = left_stands k l s healthy (area_of r k.pages image) log (record { area_agrees = λ p unnamed. same_pages r k.pages image seen pages p; log_read = inl refl });
+        sizes = sizes;
+        stands = left_stands k l s healthy (area_of r k.pages image) log (record { area_agrees = agrees; log_read = inl refl });
+        fit = gated_fit k r l log (area_of r k.pages seen) (area_of r k.pages image) agrees is.good.fit;
       }
 
   module _ (d e : Device) (bodies : List (List (Record E P))) (is : IsFoundGood k r d.sectors d.seen d.pending bodies) where
@@ -109,8 +113,17 @@ module _ {E P : Type 0} (k : Known E P) (r : Reading E P) where
     pages_kept : (image : List ℕ) → KeepsRun x n d.seen image → (s : ℕ) → 4168 ≤ s → sector_of image s ≡ sector_of d.seen s
     pages_kept image keeps s from = let at = placed x in keeps.others s (inr (omega (arith, at.bodies, at.to, from)))
 
+    -- each body is as it was
+    kept_sizes : (image : List ℕ) → KeepsRun x n d.seen image → HasSizes image
+    kept_sizes image keeps j less =
+        let at = placed x in
+        let within : j < n = (let run = keeps.run in omega (arith, less, run)) in
+        let same : body_of image x j ≡ body_of d.seen x j =
+        body_same x j image d.seen (λ s inside. keeps.others s (inr (let bodies = at.bodies in let low = inside.from in omega (arith, bodies, low)))) in
+        subst (λ (extent : Extent). IsSize (size_in (body_of image extent j))) (sym keeps.selected) (subst (λ (b : List ℕ). IsSize (size_in b)) (sym same) (is.sizes j within))
+
     kept_stands : IsLawful k → (image : List ℕ) → KeepsRun x n d.seen image → Stands k r (found_state k r d.seen bodies) image
-    kept_stands l image keeps = same_log_stands l d.sectors d.seen d.pending bodies image is keeps.bodies (pages_kept image keeps)
+    kept_stands l image keeps = same_log_stands l d.sectors d.seen d.pending bodies image is keeps.bodies (kept_sizes image keeps) (pages_kept image keeps)
 
     -- a log at this extent and place
     abbrev glog_at : Extent → ℕ → Log
@@ -126,7 +139,7 @@ module _ {E P : Type 0} (k : Known E P) (r : Reading E P) where
         let N : ℕ → Type 0 = λ m. HasBatches (selected_of e.seen) m m e.seen e.pending in
         let S : ℕ → Type 0 = λ m. HasPages k.pages m in
         let B : List (List ℕ) → Type 0 = λ b. AreBodies r b bodies in
-        let G : (ℕ → P) → Type 0 = λ area. IsGood k (tree_of k area log) log in
+        let G : (ℕ → P) → Type 0 = λ area. AreGood k r area log in
         let closed : HasBatches (selected_of e.seen) (opened e.seen) (opened e.seen) e.seen e.pending = subst N (sym keeps.run) (subst C (sym keeps.selected) behind.batches) in
         let area : (p : ℕ) → area_of r k.pages e.seen p ≡ area_of r k.pages d.seen p = same_pages r k.pages e.seen d.seen (pages_kept e.seen keeps) in
         record {

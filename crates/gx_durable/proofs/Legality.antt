@@ -23,7 +23,7 @@ use Rattle.gx_durable.specs.Legal.{IsTreeOf, AgreeOnUsed, ReadsUsed, WhatStandsI
 
 module _ {E P : Type 0} (k : Known E P) (l : IsLawful k) (r : Reading E P) where
   -- the pages in use are the device's
-  used_fits : (log : List (Record E P)) → IsLog k log → (analysis k log).used ≤ k.pages
+  pub used_fits : (log : List (Record E P)) → IsLog k log → (analysis k log).used ≤ k.pages
   used_fits log is =
       let a = analysis k log in
       let rest : Bool =
@@ -31,7 +31,7 @@ module _ {E P : Type 0} (k : Known E P) (l : IsLawful k) (r : Reading E P) where
       leb-true a.used k.pages (and_first (nat_le a.used k.pages) rest (log_fits k l log is))
 
   -- a page that the device has is what its sectors spell
-  area_page : (pages : ℕ) (image : List ℕ) (p : ℕ) → 1 ≤ p → p ≤ pages → area_of r pages image p ≡ r.content (bytes_of image p)
+  pub area_page : (pages : ℕ) (image : List ℕ) (p : ℕ) → 1 ≤ p → p ≤ pages → area_of r pages image p ≡ r.content (bytes_of image p)
   unfolding area_of
   area_page pages image p low high =
       ap (λ b. if b then r.content (bytes_of image p) else r.no_page) (and_all (nat_lt 0 p) (nat_le p pages) (lt-ltb 0 p low) (le-leb p pages high))

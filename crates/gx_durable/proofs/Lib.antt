@@ -4,6 +4,7 @@ pub mod Areas
 pub mod Beginning
 pub mod BodyLists
 pub mod Crashes
+pub mod Fitting
 pub mod GoingOn
 pub mod Images
 pub mod Joining
@@ -14,6 +15,7 @@ pub mod Paging
 pub mod Reading
 pub mod Recording
 pub mod Running
+pub mod Sizes
 pub mod Spellings
 pub mod Stamping
 pub mod Stepping

@@ -29,8 +29,10 @@ use Rattle.gx_durable.specs.Steps.{bodies_turned, GoesOn}
 use Rattle.gx_durable.specs.Steps as steps
 use Rattle.gx_durable.specs.Opening.{FoundIsUpToTurn, ACrashBeforeTheTurn, UpMayTurn, AfterCall, FirstTurnKeeps}
 use Rattle.gx_durable.proofs.Crashes.{crash_leaves, shown_stands, stands_before}
+use Rattle.gx_durable.proofs.Fitting.{found_fit}
 use Rattle.gx_durable.proofs.Images.{bodies_shown}
 use Rattle.gx_durable.proofs.Moving.{settled_elsewhere}
+use Rattle.gx_durable.proofs.Sizes.{turn_sizes}
 use Rattle.gx_durable.proofs.Spellings.{none_are}
 use Rattle.gx_durable.proofs.TurnRunning.{same_head}
 use Rattle.gx_durable.proofs.Turning.{front_of, turn_carries, turn_goes}
@@ -85,7 +87,8 @@ module _ {E P : Type 0} (k : Known E P) (r : Reading E P) where
         carries = record {
           told = record { gated_bodies = subst B (open_bodies_are seen) told; gated = refl; flight = none_are r; filling = none_are r };
           undamaged = undamaged;
-          healthy = found_as_state k (area_of r k.pages seen) (records_of bodies) (bodies_log k bodies undamaged) good;
+          healthy = found_as_state k (area_of r k.pages seen) (records_of bodies) (bodies_log k bodies undamaged) good.good;
+          fit = found_fit k r (area_of r k.pages seen) (records_of bodies) good.fit;
           has_pages = pages;
           area = λ p. refl;
           settled = λ p s is unnamed within. settled s;
@@ -98,7 +101,7 @@ module _ {E P : Type 0} (k : Known E P) (r : Reading E P) where
 
   pub crash_before : ACrashBeforeTheTurn k r
   crash_before l log sectors seen pending bodies s image up is =
-      shown_stands k l r log sectors seen pending bodies s up.carries image is
+      shown_stands k l r log sectors seen pending bodies s up.carries image is (turn_sizes log seen pending image up.may_turn is)
       (bodies_shown log seen image (turn_shows_bodies log seen pending image up.may_turn is))
 
   -- each image after a call stands for a kept set

@@ -24,6 +24,7 @@ use Rattle.gx_durable.specs.Area.{area_of, HasPages, is_given}
 use Rattle.gx_durable.specs.Stamps.{Stamped}
 use Rattle.gx_durable.specs.Standing.{Up}
 use Rattle.gx_durable.specs.Pages.{rewritten, PageKeepsRunning}
+use Rattle.gx_durable.proofs.Fitting.{written_fit}
 use Rattle.gx_durable.proofs.Areas.{page_same}
 use Rattle.gx_durable.proofs.BodyLists.{bodies_same}
 use Rattle.gx_durable.proofs.Moving.{same_goes}
@@ -68,6 +69,7 @@ module _ {E P : Type 0} (k : Known E P) (r : Reading E P) (d e : Device) (log : 
           told = record { gated_bodies = subst B (sym (body_is_kept leaves few)) c.told.gated_bodies; gated = c.told.gated; flight = c.told.flight; filling = c.told.filling };
           undamaged = c.undamaged;
           healthy = written_healthy k s c.healthy l (area_of r k.pages e.seen) (outside_beside up keeps.seen);
+          fit = written_fit k r l s (area_of r k.pages e.seen) (outside_beside up keeps.seen) c.fit;
           has_pages = subst H (sym sectors) c.has_pages;
           area = λ p. refl;
           settled = keeps.settled;

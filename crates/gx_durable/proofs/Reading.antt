@@ -108,6 +108,7 @@ rests_up {E} {P} k r d e log bodies s sectors rests up =
         told = record { gated_bodies = subst B (sym rests.seen) c.told.gated_bodies; gated = c.told.gated; flight = c.told.flight; filling = c.told.filling };
         undamaged = c.undamaged;
         healthy = c.healthy;
+        fit = c.fit;
         has_pages = c.has_pages;
         area = λ p. c.area p ∙ sym (ap (λ (seen : List ℕ). area_of r k.pages seen p) rests.seen);
         settled = λ p n is unnamed within. rests.settled n (c.settled p n is unnamed within);

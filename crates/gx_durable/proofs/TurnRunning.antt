@@ -51,6 +51,7 @@ module _ {E P : Type 0} (r : Reading E P) (x : Rec) (old new : Log) where
         told = record { gated_bodies = c.told.gated_bodies; gated = c.told.gated; flight = subst B (sym idle) (subst A idle c.told.flight); filling = c.told.filling };
         undamaged = c.undamaged;
         healthy = c.healthy;
+        fit = c.fit;
         has_pages = c.has_pages;
         area = c.area;
         settled = c.settled;

@@ -29,6 +29,7 @@ use Rattle.gx_durable.specs.Area.{area_of, is_given, IsSettledBut}
 use Rattle.gx_durable.specs.Standing.{batch_of, MayRenew, Carries}
 use Rattle.gx_durable.specs.Steps.{bodies_turned, GoesOn}
 use Rattle.gx_durable.specs.Steps as steps
+use Rattle.gx_durable.proofs.Fitting.{renewed_fit}
 use Rattle.gx_durable.proofs.BodyLists.{bodies_same}
 use Rattle.gx_durable.proofs.Moving.{area_elsewhere, settled_elsewhere, goes_nowhere, same_goes}
 
@@ -107,6 +108,7 @@ module _ {E P : Type 0} (k : Known E P) (l : IsLawful k) (r : Reading E P) (log 
     };
     undamaged = c.undamaged;
     healthy = c.healthy;
+    fit = c.fit;
     has_pages = c.has_pages;
     area = same_area;
     settled = settled_elsewhere f.first f.n before.sectors before now f.front f.touches (is_given s.gated) c.settled;
@@ -133,6 +135,7 @@ module _ {E P : Type 0} (k : Known E P) (l : IsLawful k) (r : Reading E P) (log 
     };
     undamaged = renewed_undamaged k l may.next s.area s.gated c.healthy.gated;
     healthy = checkpoint_healthy k l s c.healthy may.no_flight may.no_filling may.written may.next;
+    fit = renewed_fit k r l may.next s may.no_flight may.no_filling may.written c.healthy.gated c.fit;
     has_pages = c.has_pages;
     area = same_area;
     settled = λ p n there unnamed within. all_settled p n there refl within;

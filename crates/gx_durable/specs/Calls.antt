@@ -13,7 +13,9 @@ use Rattle.gx_pool.specs.State.{State}
 use Rattle.gx_recovery.specs.Known.{Known, IsLawful}
 use Rattle.gx_recovery.specs.Records.{Record}
 use Rattle.gx_recovery.specs.Coming.{MayCome}
-use Rattle.gx_recovery.specs.Logged.{Logged, all_records}
+use Rattle.gx_recovery.specs.Logged.{Logged, all_records, appended}
+use Rattle.gx_recovery.specs.Redo.{tree_of}
+use Rattle.gx_durable.specs.Fitting.{PagesFit}
 use Rattle.gx_durable.specs.Spelled.{Reading, record_read}
 use Rattle.gx_durable.specs.Stamps.{Stamped, AllSaid, AllPlaced, NoneLater}
 use Rattle.gx_durable.specs.Standing.{Up, Stands}
@@ -30,10 +32,10 @@ pub record GoesSafely {E P : Type 0} (k : Known E P) (r : Reading E P) (d e : De
   pub goes : GoesOn k s t
   pub leaves : Leaves (Stands k r s) d e
 
--- A record that may come was appended, on any device that the log is up on: the log is up there with it.
+-- A record that may come was appended, on any device that the log is up on, and the pages after it can be read: the log is up there with it.
 abbrev pub AppendStaysUp : {E P : Type 0} → Known E P → Reading E P → Rec → Log → Log → Appended → Type 0
 AppendStaysUp {E} {P} k r x old new result = (sectors : ℕ) (seen : List ℕ) (pending : ℕ → Bool) (bodies : List (List (Record E P))) (s : Logged E P)
-    → IsLawful k → HasKey r.key x → MayCome k s.area (all_records s) (record_read r x)
+    → IsLawful k → HasKey r.key x → MayCome k s.area (all_records s) (record_read r x) → PagesFit r (tree_of k s.area (all_records (appended (record_read r x) s)))
     → Up k r old sectors seen pending bodies s → Up k r new sectors seen pending bodies (added result (record_read r x) s)
 
 -- A page that no record gives as yet may be changed, but not when a batch begins.

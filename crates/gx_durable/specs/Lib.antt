@@ -2,6 +2,7 @@ pub mod Area
 pub mod Beginning
 pub mod Bodies
 pub mod Calls
+pub mod Fitting
 pub mod GoingOn
 pub mod Joining
 pub mod Laws

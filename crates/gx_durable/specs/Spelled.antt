@@ -7,12 +7,13 @@ use Rattle.gx_record.specs.Format.{spellings, IsRecord}
 use Rattle.gx_recovery.specs.Records.{Image, Whole, Record, Pages, Write, Commit, End, Counters, Note}
 
 -- How bytes are read: how many bytes a key has; the entry of a row and a key's bytes; the content of a page's 4,096 bytes;
--- and what stands for a page that the device doesn't have.
-pub record Reading (E P : Type 0) : Type 0 where
+-- what stands for a page that the device doesn't have; and which contents can be read as the page of a number.
+pub record Reading (E P : Type 0) : Type 1 where
   pub key : ℕ
   pub entry : ℕ → List ℕ → E
   pub content : List ℕ → P
   pub no_page : P
+  pub fits : ℕ → P → Type 0
 
 -- a page's number and its image, read
 abbrev pub image_read : {E P : Type 0} → Reading E P → ℕ × List ℕ → Image P

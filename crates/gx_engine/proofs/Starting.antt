@@ -184,7 +184,7 @@ module _ {B D : Type 0} (c : Class B) (r : Reading (Entry B) (Page B)) (f : Form
         let area = area_of r c.pages d.seen in
         let listed = log_listed c l area log in
         let cut : AreCutOff c.keys xs = subst (AreCutOff c.keys) (sym so.losers) (ends.cut_off c l log undamaged) in
-        started_holds four (found_whole c l start.next area log undamaged so.next so.found.good listed.0 listed.1) (is.sessions.held cut)
+        started_holds four (found_whole c l start.next area log undamaged so.next so.found.good.good listed.0 listed.1) (is.sessions.held cut)
 
 -- ---- frames and the parts of an engine that starts
 

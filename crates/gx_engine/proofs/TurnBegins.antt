@@ -162,6 +162,7 @@ module _ {B D : Type 0} (k : Known (Entry B) (Page B)) (r : Reading (Entry B) (P
               };
               undamaged = carries.undamaged;
               healthy = carries.healthy;
+              fit = carries.fit;
               has_pages = carries.has_pages;
               area = carries.area;
               settled = carries.settled;

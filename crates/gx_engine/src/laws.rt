@@ -15,8 +15,7 @@ ghost use Rattle.gx_index_laws.specs.Classes.{Class, IsLawful, Page, known_of};
 ghost use Rattle.gx_index_laws.specs.Happening.{AreHappening};
 ghost use Rattle.gx_index_laws.specs.States.{State, engine_of};
 ghost use Rattle.gx_index_laws.specs.Whole.{IsWhole};
-ghost use Rattle.gx_durable.specs.Spelled.{Reading};
-ghost use Rattle.gx_readings.specs.Classes.{class_of};
+ghost use Rattle.gx_readings.specs.Classes.{class_of, reading_of};
 ghost use Rattle.gx_engine.specs.Holds.{Holds};
 ghost use Rattle.gx_engine.specs.Losing.{AreCutOff};
 ghost use Rattle.gx_engine.specs.Running.{AreSteps, Ran};
@@ -39,9 +38,10 @@ pub fn an_event_is_the_machines<B>()
 /// Any events, each as the contract of a step has it, lead from an engine that holds an index to one that holds what happened to it, in
 /// the order of the events; and at each moment of them, whatever a crash may leave stands for a kept set of an index that was passed.
 pub fn any_events_lead_on<D: SectorDisk, B>()
-    ensures { (c : Class B) (r : Reading (Entry B) (Page B)) (f : Format B) (passes : ℕ → Contents → Bool) (steps : List (Event B × Outcome B)) (old new : Parts B D)
-        → AreSteps c r f passes D.state old steps new → (bodies : List (List (Record (Entry B) (Page B)))) (i : State B)
-        → Holds c r f passes (D.state old.volume.shelf.disk) old bodies i → Ran c r f passes (D.state old.volume.shelf.disk) (D.state new.volume.shelf.disk) new i }
+    ensures { (c : Class B) (said : List ℕ → B) (f : Format B) (passes : ℕ → Contents → Bool) (steps : List (Event B × Outcome B)) (old new : Parts B D)
+        → AreSteps c (reading_of said f) f passes D.state old steps new → (bodies : List (List (Record (Entry B) (Page B)))) (i : State B)
+        → Holds c (reading_of said f) f passes (D.state old.volume.shelf.disk) old bodies i
+        → Ran c (reading_of said f) f passes (D.state old.volume.shelf.disk) (D.state new.volume.shelf.disk) new i }
 {}
 
 /// What the analysis of an undamaged log tells of touches, an opening can give sessions: they come by transaction and then entry, no entry

@@ -1,5 +1,5 @@
 -- What an index knows of its keys and its device, and the tree of its pages.
-use Rattle.std.specs.Prelude.{ℕ, ◌≡◌, Bool, not, ◌&&◌, nat_lt}
+use Rattle.std.specs.Prelude.{ℕ, ◌≡◌, Bool, not, ◌&&◌, List, nat_lt}
 use Rattle.std.specs.Ordering.{is_eq}
 use Rattle.gx_machine.specs.declared.entry.Entry.{Entry}
 use Rattle.gx_machine.specs.Keys as keys
@@ -26,10 +26,11 @@ pub record IsLawful {B : Type 0} (c : Class B) : Type 0 where
   pub rules : trees.IsLawful c.rules
   pub same : (a b : B) → c.rules.same a b ≡ is_eq (c.keys.cmp a b)
 
--- a page: its node, and the number that it has as its own
+-- a page: its node, the number that it has as its own, and the bytes that it was read of
 pub record Page (B : Type 0) : Type 0 where
   pub node : Node B
   pub own : ℕ
+  pub bytes : List ℕ
 
 -- the tree of a log's pages
 abbrev pub tree_in : {B : Type 0} → known.Tree (Page B) → Tree B

@@ -45,7 +45,7 @@ engine_of c s = record { live = is_live c (tree_now c s); slots = s.slots; older
 
 -- a fresh index: the pages of a fresh tree, and a log of its numbers alone
 abbrev pub fresh_page : {B : Type 0} → B → ℕ → Page B
-fresh_page start p = record { node = fresh_node start p; own = p }
+fresh_page start p = record { node = fresh_node start p; own = p; bytes = [] }
 
 abbrev pub fresh_state : {B : Type 0} → B → State B
 fresh_state start = record {

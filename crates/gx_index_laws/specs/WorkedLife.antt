@@ -58,10 +58,10 @@ abbrev pub child : ℕ → ℕ → Child ℕ
 child key page = record { key = key; page = page }
 
 abbrev pub leaf : (own number right : ℕ) → List (Pair ℕ) → Page ℕ
-leaf own number right pairs = record { node = record { level = 0; nsn = number; right = right; pairs = pairs; children = [] }; own = own }
+leaf own number right pairs = record { node = record { level = 0; nsn = number; right = right; pairs = pairs; children = [] }; own = own; bytes = [] }
 
 abbrev pub root : List (Child ℕ) → Page ℕ
-root children = record { node = record { level = 1; nsn = 0; right = 0; pairs = []; children = children }; own = 1 }
+root children = record { node = record { level = 1; nsn = 0; right = 0; pairs = []; children = children }; own = 1; bytes = [] }
 
 abbrev pub item : ℕ → ℕ → Item
 item page seen = record { page = page; seen = seen }

@@ -1,5 +1,5 @@
 -- A life may begin on a device that was formatted.
-use Rattle.std.proofs.Common.{◌≡◌, ℕ, ◌≤◌, Bool, true, List, [], refl, ap, ◌∙◌, take}
+use Rattle.std.proofs.Common.{◌≡◌, ℕ, ◌≤◌, Bool, true, List, [], refl, sym, ap, subst, ◌∙◌, take}
 use Rattle.std.specs.Prelude.{OnOk, Result, Ok, Err, replicate, ◌++◌}
 use Rattle.std.proofs.lemmas.List.{take_at}
 use Rattle.gx_geom.specs.declared.refusal.Refusal.{Refusal}
@@ -7,7 +7,7 @@ use Rattle.gx_class.specs.declared.class.KeyClass.{Ghosts}
 use Rattle.gx_disk.specs.Device.{Device, IsSettled}
 use Rattle.gx_engine.specs.States.{Parts}
 use Rattle.gx_engine_events.specs.Seen.{Sees}
-use Rattle.gx_format.specs.Formatting.{Formats}
+use Rattle.gx_format.specs.Formatting.{Formats, formatting, sectors_of}
 use Rattle.gx_format.specs.Fresh.{IsFresh, fresh_root}
 use Rattle.gx_glog.specs.Parameters.{Fit, parameters_bytes}
 use Rattle.gx_glog.specs.declared.parameters.Parameters.{Parameters}
@@ -15,16 +15,15 @@ use Rattle.gx_index_laws.specs.Classes.{IsLawful}
 use Rattle.gx_machine.specs.Keys.{Members}
 use Rattle.gx_machine.specs.Machine.{fresh_machine}
 use Rattle.gx_node.specs.Laws.{HeldPairsAreRead, HeldChildrenAreRead}
-use Rattle.gx_node.specs.Reading.{format_of}
-use Rattle.gx_opening.specs.Formatted.{Says}
-use Rattle.gx_opening.specs.Standing.{limits_of}
+use Rattle.gx_node.specs.Reading.{Format, format_of}
+use Rattle.gx_opening.specs.Standing.{IsFormatted, limits_of}
 use Rattle.gx_page.specs.Contents.{Contents}
 use Rattle.gx_page.specs.Format.{IsWellFormed}
 use Rattle.gx_pool.specs.State.{IsEmpty, State, kept}
 use Rattle.gx_readings.specs.Classes.{class_of}
 use Rattle.gx_recovery.specs.Known.{Limits}
 use Rattle.gx_new_index.specs.New.{IsNew, new_parts}
-use Rattle.gx_new_index.proofs.New.{if_new_sees}
+use Rattle.gx_new_index.proofs.New.{if_new_sees, run_sectors}
 use Rattle.gx_lives.specs.Bearing.{Bears, HasSets}
 use Rattle.gx_lives.specs.Lives.{Lies}
 use Rattle.gx_lives.proofs.Images.{given_up}
@@ -61,6 +60,19 @@ module _ {C B D : Type 0} (shape : Members B) (proper : B → Bool) (said : List
 eight : (p : Parameters) → take 8 (parameters_bytes p ++ replicate 504 0) ≡ parameters_bytes p
 eight p = take_at (parameters_bytes p) (replicate 504 0) 8 refl
 
-pub says : {T E : Type 0} (p : Parameters) (root : Contents) (seen : List ℕ) (settled : Type 0) (result : Result T E) → Fit p → OnOk result (IsFresh p root seen × settled) → OnOk result (Says seen p)
-says p root seen settled (Ok done) fit fresh = record { bytes = ap (λ bytes. take 8 bytes) fresh.0.laid.told ∙ eight p; fit = fit }
-says p root seen settled (Err why) fit fresh = tt
+-- so a device that was formatted is formatted for them
+module _ {B D : Type 0} (shape : Members B) (proper : B → Bool) (said : List ℕ → B) (f : Format B) (root : Contents) (state : D → Device) (p : Parameters) (old new : D) where
+  is_formatted : Formats state p root old new (Ok tt) → Fit p → IsFresh p root (state new).seen → IsFormatted shape proper said f p.class (state new) p
+  is_formatted formats fit fresh =
+      let size : (state new).sectors ≡ (state old).sectors = run_sectors state (formatting p root) old new formats.1.1 in
+      record {
+        magic = fresh.magic;
+        says = record { bytes = ap (λ bytes. take 8 bytes) fresh.laid.told ∙ eight p; fit = fit };
+        allowed = record { range = formats.0; class_is = refl };
+        large = subst (λ (n : ℕ). sectors_of p.pages ≤ n) (sym size) formats.1.0;
+      }
+
+  pub formatted : (settled : Type 0) (result : Result (Unit {0}) Refusal) → Formats state p root old new result → Fit p → OnOk result (IsFresh p root (state new).seen × settled)
+      → OnOk result (IsFormatted shape proper said f p.class (state new) p)
+  formatted settled (Ok done) formats fit fresh = is_formatted formats fit fresh.0
+  formatted settled (Err why) formats fit fresh = tt

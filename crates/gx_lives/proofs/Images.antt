@@ -8,6 +8,7 @@ use Rattle.gx_disk.specs.Sectors.{span_of}
 use Rattle.gx_disk.proofs.Leaving.{each_has, leaves_weaker}
 use Rattle.gx_disk.proofs.Spans.{image_span}
 use Rattle.gx_durable.specs.Area.{area_of}
+use Rattle.gx_durable.specs.Fitting.{AreGood}
 use Rattle.gx_durable.specs.Spelled.{Reading}
 use Rattle.gx_durable.specs.Standing as durable
 use Rattle.gx_durable.proofs.BodyLists.{bodies_one_way}
@@ -34,12 +35,10 @@ use Rattle.gx_opening.specs.Standing.{limits_of}
 use Rattle.gx_readings.specs.Classes.{class_of, reading_of}
 use Rattle.gx_readings.proofs.Used.{known_lawful}
 use Rattle.gx_recovery.specs.Analysis.{number_of}
-use Rattle.gx_recovery.specs.Coming.{IsGood}
 use Rattle.gx_recovery.specs.Damage.{IsLog, records_of}
 use Rattle.gx_recovery.specs.Known.{Known}
 use Rattle.gx_recovery.specs.Logged.{StandsForKept, durable as durable_number, kept}
 use Rattle.gx_recovery.specs.Records.{Record}
-use Rattle.gx_recovery.specs.Redo.{tree_of}
 use Rattle.gx_recovery.specs.Renewal.{found}
 use Rattle.gx_recovery.specs.Standing.{stands_for}
 use Rattle.gx_recovery.proofs.DamageItems.{bodies_log}
@@ -86,7 +85,8 @@ module _ {C B D : Type 0} (shape : Members B) (proper : B → Bool) (said : List
       let same : stands.bodies ≡ set.bodies = bodies_one_way r (open_bodies image) stands.bodies set.bodies stands.told set.told in
       record {
         stands = set;
-        good = subst (λ (bodies : List (List (Record (Entry B) (Page B)))). IsGood k (tree_of k (area_of r p.pages image) (records_of bodies)) (records_of bodies)) same stands.stands.good;
+        sizes = stands.sizes;
+        good = subst (λ (bodies : List (List (Record (Entry B) (Page B)))). AreGood k r (area_of r p.pages image) (records_of bodies)) same (record { good = stands.stands.good; fit = stands.fit });
       }
 
   -- what a crash may leave of an engine's device
@@ -120,7 +120,7 @@ module _ {C B D : Type 0} (shape : Members B) (proper : B → Bool) (said : List
   given_up m e s = record { honest = s.holds.keeps.steady.honest; sets = left_of_engine m e s }
 
   module _ (m : Machine B) (d : Device) (sets : Sets m d) where
-    own : Has m d.seen
+    pub own : Has m d.seen
     own = sets.sets d.seen (record { size = refl; settled = λ s is. refl })
 
     -- the log of what is seen has the bodies of the image that it is
@@ -129,9 +129,9 @@ module _ {C B D : Type 0} (shape : Members B) (proper : B → Bool) (said : List
     same_bodies log = bodies_one_way r (bodies_in d.seen (selected_of d.seen) (open_run d.seen (selected_of d.seen) 0 32)) own.stands.bodies log.bodies own.stands.told log.told
 
     -- so the pages are good for it, and it stands for a set of the machine
-    pub good_log : (log : HasUndamaged k r d.seen) → IsGood k (tree_of k (area_of r p.pages d.seen) (records_of log.bodies)) (records_of log.bodies)
+    pub good_log : (log : HasUndamaged k r d.seen) → AreGood k r (area_of r p.pages d.seen) (records_of log.bodies)
     good_log log =
-        subst (λ (bodies : List (List (Record (Entry B) (Page B)))). IsGood k (tree_of k (area_of r p.pages d.seen) (records_of bodies)) (records_of bodies)) (same_bodies log) own.good
+        subst (λ (bodies : List (List (Record (Entry B) (Page B)))). AreGood k r (area_of r p.pages d.seen) (records_of bodies)) (same_bodies log) own.good
 
     pub pages_good : ArePagesGood shape proper said (format_of class) p d.seen
     pages_good = good_log
@@ -177,7 +177,8 @@ module _ {C B D : Type 0} (shape : Members B) (proper : B → Bool) (said : List
         undamaged = f.stands.undamaged;
         kept = kept_by f.log (area_of r p.pages image) (records_of f.stands.bodies) f.stands.stands;
       };
-      good = f.stands.stands.good;
+      sizes = f.stands.sizes;
+      good = record { good = f.stands.stands.good; fit = f.stands.fit };
     }
 
     -- at each moment of an opening each image has a set of the machine

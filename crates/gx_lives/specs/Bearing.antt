@@ -3,6 +3,7 @@ use Rattle.std.specs.Prelude.{ℕ, ◌≡◌, Bool, true, List, [], ◌∷◌}
 use Rattle.gx_class.specs.declared.class.KeyClass.{Ghosts}
 use Rattle.gx_disk.specs.Device.{Device, MayLeave}
 use Rattle.gx_durable.specs.Area.{area_of}
+use Rattle.gx_durable.specs.Fitting.{AreGood, HasSizes}
 use Rattle.gx_engine.specs.Holds.{Holds}
 use Rattle.gx_engine.specs.States.{Parts}
 use Rattle.gx_engine_events.specs.Crashes.{StandsForSet}
@@ -19,10 +20,8 @@ use Rattle.gx_machine.specs.Runs as runs
 use Rattle.gx_node.specs.Reading.{format_of, is_node}
 use Rattle.gx_opening.specs.Standing.{limits_of}
 use Rattle.gx_readings.specs.Classes.{class_of, reading_of}
-use Rattle.gx_recovery.specs.Coming.{IsGood}
 use Rattle.gx_recovery.specs.Damage.{records_of}
 use Rattle.gx_recovery.specs.Records.{Record}
-use Rattle.gx_recovery.specs.Redo.{tree_of}
 use Rattle.gx_lives.specs.Lives.{Lies, Stage, Turn, Works}
 use Rattle.gx_lives.specs.Lives as life
 
@@ -45,11 +44,11 @@ module _ {C B D : Type 0} (shape : Members B) (proper : B → Bool) (said : List
   abbrev pub class_for : Class B
   class_for = class_of shape proper (limits_of p)
 
-  -- An image stands for the set that a machine keeps under its log's number, over pages that are good for the log.
+  -- An image stands for the set that a machine keeps under its log's number, over pages that are good for the log; and bodies and pages can be read.
   pub record HasSet (m : Machine B) (image : List ℕ) : Type 0 where
     pub stands : StandsForSet class_for (reading_of said (format_of class)) m image
-    pub good : IsGood (known_of class_for) (tree_of (known_of class_for) (area_of (reading_of said (format_of class)) p.pages image) (records_of stands.bodies))
-        (records_of stands.bodies)
+    pub sizes : HasSizes image
+    pub good : AreGood (known_of class_for) (reading_of said (format_of class)) (area_of (reading_of said (format_of class)) p.pages image) (records_of stands.bodies)
 
   -- An engine holds an index that is seen as a machine.
   pub record IsSeen (m : Machine B) (e : Parts B D) : Type 0 where

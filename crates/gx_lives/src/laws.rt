@@ -1,5 +1,6 @@
 //! What holds of lives. Each function is its contract alone.
 ghost use Rattle.std.specs.Prelude.{◌≡◌, ◌≤◌, ℕ, List};
+ghost use Rattle.gx_driven.specs.Made.{Makes};
 ghost use Rattle.gx_events.specs.declared.event.Event.TheVariants.{Move};
 ghost use Rattle.gx_events.specs.declared.outcome.Outcome.TheVariants.{Replied};
 ghost use Rattle.gx_glog.specs.declared.parameters.Parameters.{Parameters};
@@ -7,12 +8,16 @@ ghost use Rattle.gx_machine.specs.declared.reply.Reply.TheVariants.{Committed};
 ghost use Rattle.gx_machine.specs.Keys.{Keys, keys_of};
 ghost use Rattle.gx_machine.specs.Machine.{Machine, newest, set_of};
 ghost use Rattle.gx_machine.specs.Runs.{Step, IsRun};
+ghost use Rattle.gx_node.specs.Reading.{format_of};
+ghost use Rattle.gx_open.specs.Opened.{IsRefused};
+ghost use Rattle.gx_opening.specs.Standing.{IsFormatted};
 ghost use Rattle.gx_lives.specs.Bearing.{AreOf, Bears, HasSet, IsOf};
-ghost use Rattle.gx_lives.specs.Lives.{Lives, MayBeLeft, Stage, Turn};
+ghost use Rattle.gx_lives.specs.Lives.{Lies, Lives, MayBeLeft, OnlyFails, Stage, Turn};
 ghost use Rattle.gx_lives.specs.Lives as life;
 ghost use Rattle.gx_lives.specs.Told.{Tells};
 
 use gx_disk::SectorDisk;
+use gx_geom::Refusal;
 use gx_readings::ReadKeys;
 
 /// Whatever list of events, crashes and openings an index on a device lives through, it is the set machine's: each event is what the machine does
@@ -34,6 +39,18 @@ pub fn every_life_is_the_machines<D: SectorDisk, K: ReadKeys>()
 pub fn a_crash_leaves_a_set_of_the_machine<D: SectorDisk, K: ReadKeys>()
     ensures { (p : Parameters) → 4 ≤ p.most → (m : Machine K.Key) (now : Stage K.Key D) → Bears K.Key.Shape K.is_proper K.said K.KeyClass D.state p m now → (image : List ℕ)
         → MayBeLeft K.Key.Shape K.is_proper K.said K.KeyClass K.CLASS D.state p now image → HasSet K.Key.Shape K.is_proper K.said K.KeyClass D.state p m image }
+{
+    gx_engine::laws::a_class_is_lawful::<K>();
+}
+
+/// An opening in a life finds no damage: over a device that says what it was formatted for, whatever came before, it is refused only where a call of the
+/// device failed, where memory was refused, or where 2^56 events took no end. Whatever a crash left is a log whose bodies are whole, over pages that are a
+/// legal tree for it and that can be read.
+pub fn an_opening_finds_no_damage<D: SectorDisk, K: ReadKeys>()
+    ensures { (p : Parameters) (m : Machine K.Key) (old new : D) (why : Refusal) → Bears K.Key.Shape K.is_proper K.said K.KeyClass D.state p m (Lies old)
+        → IsFormatted K.Key.Shape K.is_proper K.said (format_of K.KeyClass) K.CLASS (D.state old) p
+        → IsRefused K.Key.Shape K.is_proper K.said (format_of K.KeyClass) (Makes K.Key.Shape K.is_proper K.said K.KeyClass D.state) D.state K.CLASS (D.state old) (D.state new) why
+        → OnlyFails (Makes K.Key.Shape K.is_proper K.said K.KeyClass D.state) why }
 {
     gx_engine::laws::a_class_is_lawful::<K>();
 }

@@ -5,14 +5,16 @@ ghost use Rattle.gx_format.specs.Formatting.{Formats};
 ghost use Rattle.gx_format.specs.Fresh.{fresh_root};
 ghost use Rattle.gx_glog.specs.Parameters.{Fit};
 ghost use Rattle.gx_glog.specs.declared.parameters.Parameters.{Parameters};
-ghost use Rattle.gx_machine.specs.Machine.{fresh_machine};
+ghost use Rattle.gx_machine.specs.Machine.{Machine, fresh_machine};
 ghost use Rattle.gx_node.specs.Reading.{format_of};
 ghost use Rattle.gx_open.specs.Opened.{IsRefused};
 ghost use Rattle.gx_opening.specs.Formatted.{Says};
+ghost use Rattle.gx_opening.specs.Standing.{IsFormatted};
 ghost use Rattle.gx_lives.specs.Bearing.{Bears};
-ghost use Rattle.gx_lives.specs.Lives.{GoesOn, Lies, Works};
+ghost use Rattle.gx_lives.specs.Lives.{GoesOn, Lies, OnlyFails, Works};
 ghost use Rattle.gx_lives.specs.Lives as life;
 
+use crate::laws::an_opening_finds_no_damage;
 use gx_class::Probing;
 use gx_disk::SectorDisk;
 use gx_engine::laws::a_class_is_lawful;
@@ -29,7 +31,7 @@ fn fits(_pages: u32, _most: u16, _class: u16)
 {}
 
 /// Formats a device (`gx_format::format`, with its refusals). On an honest one a life may begin then: whatever a crash may leave stands for the set
-/// of the machine with nothing committed, and the device says what it was formatted for.
+/// of the machine with nothing committed, and the device is formatted for what was asked.
 pub fn format<D: SectorDisk, K: ReadKeys>(
     alloc: Global,
     disk: &mut D,
@@ -39,7 +41,8 @@ pub fn format<D: SectorDisk, K: ReadKeys>(
     ensures formats { Formats D.state (record { pages = pages; most = most; class = K.CLASS }) (fresh_root K.spelling K.start_key) disk.old disk.new result }
     ensures begins { (D.state disk.old).honest ≡ true
         → OnOk result (Bears K.Key.Shape K.is_proper K.said K.KeyClass D.state (record { pages = pages; most = most; class = K.CLASS }) fresh_machine (Lies disk.new)) }
-    ensures says { (D.state disk.old).honest ≡ true → OnOk result (Says (D.state disk.new).seen (record { pages = pages; most = most; class = K.CLASS })) }
+    ensures formatted { (D.state disk.old).honest ≡ true
+        → OnOk result (IsFormatted K.Key.Shape K.is_proper K.said (format_of K.KeyClass) K.CLASS (D.state disk.new) (record { pages = pages; most = most; class = K.CLASS })) }
 {
     a_class_is_lawful::<K>();
     leaves::<K>();
@@ -61,7 +64,8 @@ where
 }
 
 /// Opens a device (`gx_open::open`, with its refusals). On an honest one, whatever it says that it is formatted for, that is a turn of its life, an
-/// opening or one that is refused.
+/// opening or one that is refused. In a life it is refused, with frames in range, only where a call of the device failed, where memory was refused, or where
+/// 2^56 events took no end: never because of what a crash left.
 pub fn open<D: SectorDisk, K: ReadKeys + Probing>(
     alloc: Global,
     disk: D,
@@ -74,9 +78,13 @@ where
     ensures refused { (D.state disk).honest ≡ true → 16 ≤ frames → frames ≤ 4096 → 4232 ≤ (D.state disk).sectors
         → IfErr result (λ n. IsRefused K.Key.Shape K.is_proper K.said (format_of K.KeyClass) (Makes K.Key.Shape K.is_proper K.said K.KeyClass D.state) D.state K.CLASS
         (D.state disk) (D.state n.disk) n.why) }
+    ensures undamaged { (p : Parameters) (m : Machine K.Key) → Bears K.Key.Shape K.is_proper K.said K.KeyClass D.state p m (Lies disk)
+        → IsFormatted K.Key.Shape K.is_proper K.said (format_of K.KeyClass) K.CLASS (D.state disk) p → 16 ≤ frames → frames ≤ 4096
+        → IfErr result (λ n. OnlyFails (Makes K.Key.Shape K.is_proper K.said K.KeyClass D.state) n.why) }
     ensures turn { (p : Parameters) → (D.state disk).honest ≡ true → Says (D.state disk).seen p → MatchResult result
         (λ engine. GoesOn K.Key.Shape K.is_proper K.said K.KeyClass K.CLASS D.state p (Lies disk) life.Opens (Works engine))
         (λ n. GoesOn K.Key.Shape K.is_proper K.said K.KeyClass K.CLASS D.state p (Lies disk) (life.Refuses n.why) (Lies n.disk)) }
 {
+    an_opening_finds_no_damage::<D, K>();
     gx_open::open(alloc, disk, frames)
 }

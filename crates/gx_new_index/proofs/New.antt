@@ -23,7 +23,7 @@ use Rattle.gx_recovery.specs.Redo.{tree_of}
 use Rattle.gx_index_laws.specs.Classes.{Class, IsLawful, Page, is_live, known_of}
 use Rattle.gx_index_laws.specs.Openings.{found_state}
 use Rattle.gx_index_laws.specs.States as index
-use Rattle.gx_index_laws.specs.States.{engine_of, fresh_page}
+use Rattle.gx_index_laws.specs.States.{engine_of}
 use Rattle.gx_index_laws.specs.Whole.{IsWhole}
 use Rattle.gx_index_laws.proofs.Found.{found_whole}
 use Rattle.gx_index_laws.proofs.Listed.{log_listed}
@@ -58,7 +58,7 @@ use Rattle.gx_engine.specs.States.{Parts}
 use Rattle.gx_engine_events.specs.Seen.{Sees}
 use Rattle.gx_engine_events.proofs.Stepping.{sees_within}
 use Rattle.gx_new_index.specs.New.{IsNew, new_parts}
-use Rattle.gx_new_index.proofs.Pages.{areas_agree, both_readable}
+use Rattle.gx_new_index.proofs.Pages.{areas_agree, both_fit, both_readable, laid_page}
 
 -- each place of a list of one item has it, and so has each place behind it
 all_one : {X : Type 0} (x : X) (n i : ℕ) → slice_index_or (replicate n x) i x ≡ x
@@ -95,15 +95,19 @@ module _ {B D : Type 0} (shape : Members B) (proper : B → Bool) (IsKey : B →
   abbrev i : index.State B
   i = found_state c 1 area log
 
+  -- a fresh tree's pages, in the bytes that the device has
+  abbrev laid : ℕ → Page B
+  laid = laid_page IsKey spelling said f start pairs_read children_read start_is p range.least_pages range.most_pages d.seen formed fresh.laid
+
   -- the tree of its log is a fresh one on the pages in use
-  agree : AgreeOnUsed (tree_of k (fresh_page start) log) (tree_of k area log)
+  agree : AgreeOnUsed (tree_of k laid log) (tree_of k area log)
   agree = record {
     counter = refl;
     used = refl;
     pages = λ q low high. areas_agree IsKey spelling said f start pairs_read children_read start_is p range.least_pages range.most_pages d.seen formed fresh.laid q low high;
   }
 
-  sound : k.sound (tree_of k (fresh_page start) log)
+  sound : k.sound (tree_of k laid log)
   sound = fresh_legal c.rules l.rules start
 
   nothing_fresh : (x : Entry B) → is_live c (fresh_tree start) x ≡ false
@@ -111,12 +115,13 @@ module _ {B D : Type 0} (shape : Members B) (proper : B → Bool) (IsKey : B →
   nothing_fresh x = refl
 
   nothing_live : (x : Entry B) → k.live (tree_of k area log) x ≡ false
-  nothing_live x = (reads_used c).live (tree_of k (fresh_page start) log) (tree_of k area log) agree sound x ∙ nothing_fresh x
+  nothing_live x = (reads_used c).live (tree_of k laid log) (tree_of k area log) agree sound x ∙ nothing_fresh x
 
   up : Up k r first_glog d.sectors d.seen d.pending (log ∷ []) i.log
   up =
       first_up k r d.sectors d.seen d.pending fresh.laid.log (λ s is. settled s) (omega (arith, range.least_pages)) (record { few = range.most_pages; inside = large }) (λ page s is unnamed within. settled s)
-      ((reads_used c).sound (tree_of k (fresh_page start) log) (tree_of k area log) agree sound)
+      ((reads_used c).sound (tree_of k laid log) (tree_of k area log) agree sound)
+      (λ page low high. both_fit IsKey spelling said f start pairs_read children_read start_is p range.least_pages range.most_pages d.seen formed fresh.laid page low high)
 
   none_kept : (page : ℕ) (x : Kept) → kept frames page ≡ Some x → ⊥
   none_kept page x is = none_there (kept frames page) x (empty.none page) is
@@ -199,7 +204,7 @@ run_honest : {D : Type 0} (state : D → Device) (calls : List Call) (a b : D) �
 run_honest state [] a b same = ap (λ x. (state x).honest) same
 run_honest state (call ∷ calls) a b run = run_honest state calls run.0 b run.1.1 ∙ (call_honest call (state a) (state run.0) (Ok tt) run.1.0).0
 
-run_sectors : {D : Type 0} (state : D → Device) (calls : List Call) (a b : D) → HasRun state calls a b → (state b).sectors ≡ (state a).sectors
+pub run_sectors : {D : Type 0} (state : D → Device) (calls : List Call) (a b : D) → HasRun state calls a b → (state b).sectors ≡ (state a).sectors
 run_sectors state [] a b same = ap (λ x. (state x).sectors) same
 run_sectors state (call ∷ calls) a b run = run_sectors state calls run.0 b run.1.1 ∙ (call_honest call (state a) (state run.0) (Ok tt) run.1.0).1
 

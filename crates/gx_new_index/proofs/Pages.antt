@@ -6,7 +6,6 @@ use Rattle.std.proofs.lemmas.List.Elements.{All-nil, All-cons}
 use Rattle.gx_page.specs.Contents.{Contents}
 use Rattle.gx_page.specs.Edits.{blank}
 use Rattle.gx_page.specs.Format.{IsItem, IsWellFormed}
-use Rattle.gx_page.specs.Reading.{read_of}
 use Rattle.gx_page.proofs.Images.{made}
 use Rattle.gx_tree_laws.specs.Trees.{Child, fresh_node}
 use Rattle.gx_node.specs.Entries.{HoldsNode, IsChild, IsPair}
@@ -16,10 +15,11 @@ use Rattle.gx_pool.specs.Area.{bytes_of, IsPassing}
 use Rattle.gx_pool.specs.Readable.{IsReadable}
 use Rattle.gx_pool.specs.State.{State}
 use Rattle.gx_store.specs.Faults.{is_taken}
+use Rattle.gx_index_laws.specs.Classes.{Page}
 use Rattle.gx_index_laws.specs.States.{fresh_page}
 use Rattle.gx_durable.specs.Area.{area_of}
 use Rattle.gx_readings.specs.Classes.{page_of, reading_of}
-use Rattle.gx_readings.proofs.Nodes.{node_read}
+use Rattle.gx_readings.proofs.Nodes.{node_is}
 use Rattle.gx_format.specs.Fresh.{fresh_root, IsLaid}
 use Rattle.gx_glog.specs.declared.parameters.Parameters.{Parameters}
 
@@ -61,25 +61,29 @@ module _ {B : Type 0} (IsKey : B → Type 0) (spelling : B → List ℕ) (said :
   small : parameters.pages < 4294967296
   small = omega (arith, few)
 
-  read_1 : page_of f (read_of (bytes_of seen 1)) ≡ fresh_page start 1
-  read_1 = ap (λ (bytes : List ℕ). page_of f (read_of bytes)) laid.page_1 ∙ node_read IsKey spelling f pairs_read children_read root parameters.pages (fresh_node start 1) formed small holds_root
+  -- a fresh tree's page, in the bytes that the device has
+  abbrev pub laid_page : ℕ → Page B
+  laid_page page = record (fresh_page start page) { bytes = bytes_of seen page }
 
-  read_2 : page_of f (read_of (bytes_of seen 2)) ≡ fresh_page start 2
-  read_2 = ap (λ (bytes : List ℕ). page_of f (read_of bytes)) laid.page_2 ∙ node_read IsKey spelling f pairs_read children_read (blank 0 2) parameters.pages (fresh_node start 2) blank_formed small holds_leaf
+  read_1 : page_of f (bytes_of seen 1) ≡ laid_page 1
+  read_1 = node_is IsKey spelling f pairs_read children_read root parameters.pages (fresh_node start 1) (bytes_of seen 1) formed small holds_root laid.page_1
+
+  read_2 : page_of f (bytes_of seen 2) ≡ laid_page 2
+  read_2 = node_is IsKey spelling f pairs_read children_read (blank 0 2) parameters.pages (fresh_node start 2) (bytes_of seen 2) blank_formed small holds_leaf laid.page_2
 
   -- pages 1 and 2 are a fresh tree's
-  area_1 : area_of (reading_of said f) parameters.pages seen 1 ≡ fresh_page start 1
+  area_1 : area_of (reading_of said f) parameters.pages seen 1 ≡ laid_page 1
   unfolding area_of
   area_1 = let there : nat_le 1 parameters.pages ≡ true = le-leb 1 parameters.pages (omega (arith, some)) in rw there read_1
 
-  area_2 : area_of (reading_of said f) parameters.pages seen 2 ≡ fresh_page start 2
+  area_2 : area_of (reading_of said f) parameters.pages seen 2 ≡ laid_page 2
   unfolding area_of
   area_2 = let there : nat_le 2 parameters.pages ≡ true = le-leb 2 parameters.pages (omega (arith, some)) in rw there read_2
 
-  pub areas_agree : (p : ℕ) → 1 ≤ p → p ≤ 2 → area_of (reading_of said f) parameters.pages seen p ≡ fresh_page start p
+  pub areas_agree : (p : ℕ) → 1 ≤ p → p ≤ 2 → area_of (reading_of said f) parameters.pages seen p ≡ laid_page p
   areas_agree p low high = elim (cases_eq p 1) [
-    | inl is ↦ subst (λ (q : ℕ). area_of (reading_of said f) parameters.pages seen q ≡ fresh_page start q) (sym is) area_1
-    | inr not_one ↦ (let is : p ≡ 2 = omega (arith, low, high, not_one) in subst (λ (q : ℕ). area_of (reading_of said f) parameters.pages seen q ≡ fresh_page start q) (sym is) area_2)
+    | inl is ↦ subst (λ (q : ℕ). area_of (reading_of said f) parameters.pages seen q ≡ laid_page q) (sym is) area_1
+    | inr not_one ↦ (let is : p ≡ 2 = omega (arith, low, high, not_one) in subst (λ (q : ℕ). area_of (reading_of said f) parameters.pages seen q ≡ laid_page q) (sym is) area_2)
   ]
 
   -- both can be read
@@ -99,9 +103,15 @@ module _ {B : Type 0} (IsKey : B → Type 0) (spelling : B → List ℕ) (said :
       let leaf : is_node f parameters.pages (blank 0 2) ≡ true = (pairs_read (blank 0 2) [] (record { leaf = refl; each = All-nil (IsPair IsKey); items = refl })).0 in
       record { image = is.0; number = ap (λ (x : Contents). x.number) is.1; passing = ap (is_node f parameters.pages) is.1 ∙ leaf }
 
-  pub both_readable : (frames : State) → IsReadable (is_node f parameters.pages) (is_taken 2) frames seen
-  both_readable frames p low taken none = elim (cases_eq p 1) [
+  both_pass : (p : ℕ) → 1 ≤ p → p ≤ 2 → IsPassing (is_node f parameters.pages) p (bytes_of seen p)
+  both_pass p low high = elim (cases_eq p 1) [
     | inl is ↦ subst (λ (q : ℕ). IsPassing (is_node f parameters.pages) q (bytes_of seen q)) (sym is) passes_1
-    | inr not_one ↦ (let high : p ≤ 2 = leb-true p 2 taken in
-        let is : p ≡ 2 = omega (arith, low, high, not_one) in subst (λ (q : ℕ). IsPassing (is_node f parameters.pages) q (bytes_of seen q)) (sym is) passes_2)
+    | inr not_one ↦ (let is : p ≡ 2 = omega (arith, low, high, not_one) in subst (λ (q : ℕ). IsPassing (is_node f parameters.pages) q (bytes_of seen q)) (sym is) passes_2)
   ]
+
+  -- so each fits
+  pub both_fit : (p : ℕ) → 1 ≤ p → p ≤ 2 → (reading_of said f).fits p (area_of (reading_of said f) parameters.pages seen p)
+  both_fit p low high = subst (λ (page : Page B). (reading_of said f).fits p page) (sym (areas_agree p low high)) (parameters.pages, both_pass p low high)
+
+  pub both_readable : (frames : State) → IsReadable (is_node f parameters.pages) (is_taken 2) frames seen
+  both_readable frames p low taken none = both_pass p low (leb-true p 2 taken)

@@ -12,6 +12,7 @@ use Rattle.gx_disk.proofs.Leaving.{leaves_weaker, nothing_leaves}
 use Rattle.gx_disk.proofs.Spans.{spans_same}
 use Rattle.gx_durable.specs.Area.{area_of}
 use Rattle.gx_durable.specs.Bodies.{AreBodies}
+use Rattle.gx_durable.specs.Fitting.{AreGood, PagesFit}
 use Rattle.gx_glog.specs.Cuts.{bodies_in, open_bodies}
 use Rattle.gx_durable.specs.GoingOn.{AfterClosing, IsClosedFound, IsFoundGood, found_state, opened}
 use Rattle.gx_durable.specs.Opening.{found_glog}
@@ -105,7 +106,7 @@ module _ {E P : Type 0} (k : Known E P) (l : known.IsLawful k) (r : Reading E P)
       }
 
   pub moved_stands : (image : List ℕ) → durable.Stands k r (found area log) image → durable.Stands k r (found other log) image
-  moved_stands image s = record { bodies = s.bodies; told = s.told; undamaged = s.undamaged; stands = moved_kept (area_of r k.pages image) (records_of s.bodies) s.stands }
+  moved_stands image s = record { bodies = s.bodies; told = s.told; undamaged = s.undamaged; sizes = s.sizes; stands = moved_kept (area_of r k.pages image) (records_of s.bodies) s.stands; fit = s.fit }
 
 gates_before : (x : Extent) (s : ℕ) → 4168 ≤ s → gates_of x + 32 ≤ s
 gates_before A s from = omega (arith, from)
@@ -113,8 +114,8 @@ gates_before BExtent s from = omega (arith, from)
 
 module _ {B : Type 0} (shape : Members B) (is_key : B → Bool) (said : List ℕ → B) (f : Format B) (class : ℕ) (a m : Device) (s : Standing B)
     (st : Stands shape is_key said f class a m s) (lc : IsLawful (class_of shape is_key (limits_of s.parameters)))
-    (good : IsGood (known_for shape is_key said f s.parameters) (tree_of (known_for shape is_key said f s.parameters) (area_of (reading shape is_key said f) s.parameters.pages a.seen)
-    (records_of st.laid.is.log.bodies)) (records_of st.laid.is.log.bodies)) where
+    (good : AreGood (known_for shape is_key said f s.parameters) (reading shape is_key said f) (area_of (reading shape is_key said f) s.parameters.pages a.seen)
+    (records_of st.laid.is.log.bodies)) where
   abbrev c : Class B
   c = class_of shape is_key (limits_of s.parameters)
 
@@ -142,8 +143,11 @@ module _ {B : Type 0} (shape : Members B) (is_key : B → Bool) (said : List ℕ
   tree_there : tree_of k (area m.seen) log ≡ tree_of k (area a.seen) log
   tree_there = same_tree k log (area m.seen) (area a.seen) st.laid.same.pages
 
-  good_there : IsGood k (tree_of k (area m.seen) log) log
-  good_there = subst (λ (t : Tree (Page B)). IsGood k t log) (sym tree_there) good
+  good_there : AreGood k r (area m.seen) log
+  good_there = record {
+    good = subst (λ (t : Tree (Page B)). IsGood k t log) (sym tree_there) good.good;
+    fit = subst (λ (t : Tree (Page B)). PagesFit r t) (sym tree_there) good.fit;
+  }
 
   extent_there : s.log.extent ≡ selected_of m.seen
   extent_there = st.laid.is.extent ∙ sym (ap (λ (g : Log). g.extent) st.laid.stays.glog)
@@ -247,7 +251,7 @@ module _ {B : Type 0} (shape : Members B) (is_key : B → Bool) (said : List ℕ
         }
 
         keeps_one : KeepsOne c (number_of k log) (stands_for k (area e.seen) log) (openings.found_state c start.next (area e.seen) log)
-        keeps_one = found_keeps c lc start.next (area e.seen) log is_log closed.found.good next_covers
+        keeps_one = found_keeps c lc start.next (area e.seen) log is_log closed.found.good.good next_covers
 
         -- so an engine that starts there holds the set that was found
         pub begins : {D : Type 0} → (engine : Parts B D) → HoldsFrom c r f (is_node f) e start engine → HoldsFound shape is_key said f s.parameters a.seen e engine

@@ -5,6 +5,7 @@ use Rattle.gx_geom.specs.declared.refusal.Refusal.TheVariants.{Damaged, Device a
 use Rattle.gx_disk.specs.Device.{Device}
 use Rattle.gx_disk.specs.Moments.{Leaves}
 use Rattle.gx_durable.specs.Area.{area_of}
+use Rattle.gx_durable.specs.Fitting.{AreGood}
 use Rattle.gx_engine_laws.specs.Engines.{stood}
 use Rattle.gx_engine.specs.declared.start.Start.{Start}
 use Rattle.gx_engine.specs.Holds.{Holds}
@@ -24,10 +25,8 @@ use Rattle.gx_opening.specs.declared.standing.Standing.{Standing}
 use Rattle.gx_opening.specs.Standing.{known_for, limits_of, reading}
 use Rattle.gx_readings.specs.Classes.{class_of}
 use Rattle.gx_recovery.specs.Analysis.{number_of}
-use Rattle.gx_recovery.specs.Coming.{IsGood}
 use Rattle.gx_recovery.specs.Damage.{records_of}
 use Rattle.gx_recovery.specs.Records.{Record}
-use Rattle.gx_recovery.specs.Redo.{tree_of}
 use Rattle.gx_recovery.specs.Standing.{stands_for}
 use Rattle.gx_open.specs.Keeping.{StandsForFound}
 use Rattle.gx_open.specs.Undoing.{IsEndless}
@@ -54,11 +53,10 @@ abbrev pub HasFailed : Refusal → Type 0
 HasFailed why = (why ≡ DeviceRefusal) ⊎ (why ≡ Memory)
 
 module _ {B : Type 0} (shape : Members B) (is_key : B → Bool) (said : List ℕ → B) (f : Format B) where
-  -- The log of what is seen is undamaged, and the pages after it are good for it.
+  -- The log of what is seen is undamaged, and the pages after it are good for it and can be read.
   pub record IsGoodLog (p : Parameters) (seen : List ℕ) : Type 0 where
     pub log : HasUndamaged (known_for shape is_key said f p) (reading shape is_key said f) seen
-    pub good : IsGood (known_for shape is_key said f p) (tree_of (known_for shape is_key said f p) (area_of (reading shape is_key said f) p.pages seen) (records_of log.bodies))
-        (records_of log.bodies)
+    pub good : AreGood (known_for shape is_key said f p) (reading shape is_key said f) (area_of (reading shape is_key said f) p.pages seen) (records_of log.bodies)
 
   -- an index has one set, and this number: those that a log keeps
   pub record HasFoundSet (p : Parameters) (seen : List ℕ) (log : HasUndamaged (known_for shape is_key said f p) (reading shape is_key said f) seen) (i : index.State B) : Type 0 where

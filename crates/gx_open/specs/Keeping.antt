@@ -3,6 +3,7 @@ use Rattle.std.specs.Prelude.{◌⊎◌, ℕ, Bool, List}
 use Rattle.gx_disk.specs.Device.{Device, MayLeave}
 use Rattle.gx_disk.specs.Moments.{Leaves}
 use Rattle.gx_durable.specs.Area.{area_of}
+use Rattle.gx_durable.specs.Fitting.{AreGood}
 use Rattle.gx_durable.specs.Standing.{Stands}
 use Rattle.gx_found_log.specs.Found.{HasUndamaged}
 use Rattle.gx_glog.specs.declared.parameters.Parameters.{Parameters}
@@ -11,9 +12,7 @@ use Rattle.gx_node.specs.Reading.{Format}
 use Rattle.gx_opening.specs.Formatted.{Says}
 use Rattle.gx_opening.specs.Laid.{IsKeptOrFound}
 use Rattle.gx_opening.specs.Standing.{known_for, reading}
-use Rattle.gx_recovery.specs.Coming.{IsGood}
 use Rattle.gx_recovery.specs.Damage.{records_of}
-use Rattle.gx_recovery.specs.Redo.{tree_of}
 use Rattle.gx_recovery.specs.Renewal.{found}
 
 module _ {B : Type 0} (shape : Members B) (is_key : B → Bool) (said : List ℕ → B) (f : Format B) where
@@ -31,10 +30,10 @@ module _ {B : Type 0} (shape : Members B) (is_key : B → Bool) (said : List ℕ
   abbrev pub OpensSafely : Device → Device → Type 0
   OpensSafely d e = (p : Parameters) → Says d.seen p → Leaves (IsKept p d) d e
 
-  -- the pages after the log of what is seen are good for it
+  -- the pages after the log of what is seen are good for it, and can be read
   abbrev pub ArePagesGood : Parameters → List ℕ → Type 0
   ArePagesGood p seen = (log : HasUndamaged (known_for shape is_key said f p) (reading shape is_key said f) seen)
-      → IsGood (known_for shape is_key said f p) (tree_of (known_for shape is_key said f p) (area_of (reading shape is_key said f) p.pages seen) (records_of log.bodies)) (records_of log.bodies)
+      → AreGood (known_for shape is_key said f p) (reading shape is_key said f) (area_of (reading shape is_key said f) p.pages seen) (records_of log.bodies)
 
   -- Where they are, at each moment an image could be left at the start, or stands for the set that the log keeps.
   abbrev pub KeepsItsSet : Device → Device → Type 0

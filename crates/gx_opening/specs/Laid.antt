@@ -5,6 +5,7 @@ use Rattle.gx_geom.specs.declared.refusal.Refusal.TheVariants.{Damaged}
 use Rattle.gx_disk.specs.Device.{Device, IsSettled, MayLeave}
 use Rattle.gx_disk.specs.Moments.{Leaves}
 use Rattle.gx_durable.specs.Area.{area_of}
+use Rattle.gx_durable.specs.Fitting.{AreGood}
 use Rattle.gx_durable.specs.GoingOn.{opened}
 use Rattle.gx_durable.specs.Opening.{found_glog}
 use Rattle.gx_durable.specs.Spelled.{Reading}
@@ -12,12 +13,11 @@ use Rattle.gx_found_log.specs.declared.found.FoundLog.{FoundLog}
 use Rattle.gx_found_log.specs.Found.{HasUndamaged, IsFound}
 use Rattle.gx_glog.specs.Layout.{body_of, selected_of, size_in}
 use Rattle.gx_glog.specs.Reading.{IsSize}
-use Rattle.gx_recovery.specs.Coming.{IsGood}
 use Rattle.gx_recovery.specs.Damage.{records_of}
 use Rattle.gx_recovery.specs.Known.{Known, IsLawful}
 use Rattle.gx_recovery.specs.Life.{AllWritten}
 use Rattle.gx_recovery.specs.Records.{Record}
-use Rattle.gx_recovery.specs.Redo.{redone, tree_of}
+use Rattle.gx_recovery.specs.Redo.{redone}
 use Rattle.gx_recovery.specs.Renewal as renewal
 use Rattle.gx_redo.specs.Redone.{HasSamePages}
 
@@ -36,7 +36,7 @@ module _ {E P : Type 0} (k : Known E P) (r : Reading E P) where
   pub record StaysBehind (seen now : List ℕ) (bodies : List (List (Record E P))) : Type 0 where
     pub glog : found_glog now ≡ found_glog seen
     pub written : AllWritten (renewal.found (area_of r k.pages now) (records_of bodies))
-    pub sizes : IsGood k (tree_of k (area_of r k.pages now) (records_of bodies)) (records_of bodies)
+    pub sizes : AreGood k r (area_of r k.pages now) (records_of bodies)
         → (j : ℕ) → j < opened now → IsSize (size_in (body_of now (selected_of now) j))
 
   -- The log was found on what was seen, and laid: each page is as the log leaves it, after which the pages are the same, and all is settled.

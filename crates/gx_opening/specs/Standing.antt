@@ -9,12 +9,11 @@ use Rattle.gx_glog.specs.declared.parameters.Parameters.{Parameters}
 use Rattle.gx_machine.specs.declared.entry.Entry.{Entry}
 use Rattle.gx_machine.specs.Keys.{Members}
 use Rattle.gx_node.specs.Reading.{Format, is_node}
-use Rattle.gx_recovery.specs.Coming.{IsGood}
 use Rattle.gx_recovery.specs.Damage.{records_of}
-use Rattle.gx_recovery.specs.Redo.{tree_of}
 use Rattle.gx_recovery.specs.Renewal.{found}
 use Rattle.gx_recovery.specs.Known.{Known, Limits}
 use Rattle.gx_durable.specs.Area.{area_of}
+use Rattle.gx_durable.specs.Fitting.{AreGood}
 use Rattle.gx_durable.specs.Standing as durable
 use Rattle.gx_durable.specs.Spelled.{Reading}
 use Rattle.gx_found_log.specs.declared.found.FoundLog.{FoundLog}
@@ -57,14 +56,14 @@ module _ {B : Type 0} (shape : Members B) (is_key : B → Bool) (said : List ℕ
   -- keeps, as it was found.
   abbrev pub FoundStands : Parameters → Type 0
   FoundStands p = (seen image : List ℕ) → (has : HasFoundLog (known_for p) reading seen image)
-      → IsGood (known_for p) (tree_of (known_for p) (area_of reading p.pages seen) (records_of has.log.bodies)) (records_of has.log.bodies)
+      → AreGood (known_for p) reading (area_of reading p.pages seen) (records_of has.log.bodies)
       → durable.Stands (known_for p) reading (found (area_of reading p.pages seen) (records_of has.log.bodies)) image
 
-  -- the pages of a device whose log is laid are good for it where they are sound
+  -- the pages of a device whose log is laid are good for it, and can be read, where they are sound
   abbrev pub SoundIsGood : {D : Type 0} → (D → Device) → Parameters → Type 0
   SoundIsGood {D} state p = (seen : List ℕ) (e : D) (log : FoundLog (Entry B)) → (laid : IsLaid (known_for p) reading seen (state e) log)
       → AreSound (known_for p) reading (is_node f p.pages) log.analysis.told (state e).seen
-      → IsGood (known_for p) (tree_of (known_for p) (area_of reading p.pages seen) (records_of laid.is.log.bodies)) (records_of laid.is.log.bodies)
+      → AreGood (known_for p) reading (area_of reading p.pages seen) (records_of laid.is.log.bodies)
 
   -- The device is formatted for an index of the class, and has its sectors.
   pub record IsFormatted (class : ℕ) (d : Device) (p : Parameters) : Type 0 where

@@ -19,8 +19,9 @@ module _ {B : Type 0} where
       → ◌≡◌ {A = Node B} (record { level = l; nsn = n; right = r; pairs = p; children = c }) (record { level = l'; nsn = n'; right = r'; pairs = p'; children = c' })
   same_node l l' n n' r r' p p' c c' a b d e f = rw (a, b, d, e, f) refl
 
-  with_own : {m : Node B} (n : Node B) (own : ℕ) → m ≡ n → ◌≡◌ {A = Page B} (record { node = m; own = own }) (record { node = n; own = own })
-  with_own n own same = ap (λ (x : Node B). (let page : Page B = record { node = x; own = own } in page)) same
+  pub same_page : {m : Node B} (n : Node B) {a : ℕ} (own : ℕ) (bytes : List ℕ) → m ≡ n → a ≡ own
+      → ◌≡◌ {A = Page B} (record { node = m; own = a; bytes = bytes }) (record { node = n; own = own; bytes = bytes })
+  same_page n own bytes node number = rw (node, number) refl
 
   chosen_leaf : (b : Bool) (x y : Node B) → b ≡ true → (if b then x else y) ≡ x
   chosen_leaf true x y is = refl
@@ -49,7 +50,13 @@ module _ {B : Type 0} (IsKey : B → Type 0) (spelling : B → List ℕ) (f : Fo
         (sym has.level) (sym has.nsn) (sym has.right) (sym inner.1) (children_read page used node.children few inner.0).1
   ]
 
+  -- so where the bytes are that page's image
+  pub node_is : (page : Contents) (used : ℕ) (node : Node B) (bytes : List ℕ) → IsWellFormed page → used < 2 ^ 32 → HoldsNode IsKey spelling used page node → bytes ≡ image_of page
+      → page_of f bytes ≡ record { node = node; own = page.number; bytes = bytes }
+  node_is page used node bytes formed few has is =
+      let contents : read_of bytes ≡ page = ap read_of is ∙ read-image page formed in
+      same_page node page.number bytes (ap (node_of f) contents ∙ holds page used node few has) (ap (λ (x : Contents). x.number) contents)
+
   pub node_read : (page : Contents) (used : ℕ) (node : Node B) → IsWellFormed page → used < 2 ^ 32 → HoldsNode IsKey spelling used page node
-      → page_of f (read_of (image_of page)) ≡ record { node = node; own = page.number }
-  node_read page used node formed few has =
-      ap (λ (contents : Contents). page_of f contents) (read-image page formed) ∙ with_own node page.number (holds page used node few has)
+      → page_of f (image_of page) ≡ record { node = node; own = page.number; bytes = image_of page }
+  node_read page used node formed few has = node_is page used node (image_of page) formed few has refl

@@ -1,13 +1,14 @@
 -- What a log is told of a class of keys, and how its bytes are read.
-use Rattle.std.specs.Prelude.{ℕ, ◌==◌, if◌then◌else◌, Bool, List}
+use Rattle.std.specs.Prelude.{ℕ, ◌==◌, if◌then◌else◌, Bool, List, []}
 use Rattle.std.specs.Ordering.{is_eq}
 use Rattle.gx_machine.specs.declared.entry.Entry.{Entry}
 use Rattle.gx_machine.specs.Keys.{Members, keys_of}
 use Rattle.gx_page.specs.Contents.{Contents}
 use Rattle.gx_page.specs.Edits.{blank}
 use Rattle.gx_page.specs.Reading.{read_of}
+use Rattle.gx_pool.specs.Area.{IsPassing}
 use Rattle.gx_tree_laws.specs.Trees.{Node, Rules}
-use Rattle.gx_node.specs.Reading.{Format, leaf_of, inner_of}
+use Rattle.gx_node.specs.Reading.{Format, leaf_of, inner_of, is_node}
 use Rattle.gx_recovery.specs.Known.{Limits}
 use Rattle.gx_index_laws.specs.Classes.{Class, Page}
 use Rattle.gx_durable.specs.Spelled.{Reading}
@@ -24,16 +25,17 @@ class_of shape is_key limits = record { keys = keys_of shape; rules = rules_of s
 abbrev pub node_of : {B : Type 0} → Format B → Contents → Node B
 node_of f page = if page.level == 0 then leaf_of f page else inner_of f page
 
--- a page as a node, with the number that it has as its own
-abbrev pub page_of : {B : Type 0} → Format B → Contents → Page B
-page_of f contents = record { node = node_of f contents; own = contents.number }
+-- what a page's bytes are read as: a node, with the number that it has as its own
+abbrev pub page_of : {B : Type 0} → Format B → List ℕ → Page B
+page_of f bytes = record { node = node_of f (read_of bytes); own = (read_of bytes).number; bytes = bytes }
 
--- a row and a key's bytes as an entry, by what the bytes say; a page's bytes as a node; no page as one that is blank and has the
--- number 0
+-- a row and a key's bytes as an entry, by what the bytes say; a page's bytes as a node; no page as one that is blank, has the number 0
+-- and no bytes; and a page can be read where its bytes are the image of a node with that number, on a device of so many pages
 abbrev pub reading_of : {B : Type 0} → (List ℕ → B) → Format B → Reading (Entry B) (Page B)
 reading_of said f = record {
   key = f.key;
   entry = λ row bytes. record { row = row; key = said bytes };
-  content = λ bytes. page_of f (read_of bytes);
-  no_page = page_of f (blank 0 0);
+  content = page_of f;
+  no_page = record { node = node_of f (blank 0 0); own = 0; bytes = [] };
+  fits = λ page content. (pages : ℕ) × IsPassing (is_node f pages) page content.bytes;
 }

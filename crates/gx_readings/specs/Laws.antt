@@ -28,10 +28,10 @@ module _ {B : Type 0} (IsKey : B → Type 0) (spelling : B → List ℕ) (k : Kn
   OnlyKeysAreEntries = (row : ℕ) (bytes : List ℕ) → length bytes ≡ r.key → ((i : ℕ) → slice_index bytes i < 256) → k.is_entry (r.entry row bytes) ≡ true
       → IsKey (r.entry row bytes).key × (bytes ≡ spelling (r.entry row bytes).key)
 
-  -- a node's page is read as that node, with the page's own number
+  -- a node's page is read as that node, with the page's own number and its image
   abbrev pub NodesAreRead : Type 0
   NodesAreRead = (page : Contents) (used : ℕ) (node : Node B) → IsWellFormed page → used < 2 ^ 32 → HoldsNode IsKey spelling used page node
-      → r.content (image_of page) ≡ record { node = node; own = page.number }
+      → r.content (image_of page) ≡ record { node = node; own = page.number; bytes = image_of page }
 
 -- An image that stands for a kept set is legal for the log that it has, and its set is that one.
 abbrev pub WhatStandsIsLegalThere : {B : Type 0} → Known (Entry B) (Page B) → Reading (Entry B) (Page B) → Type 0

@@ -11,7 +11,7 @@ use gx_page::Page;
 use gx_recovery::Meaning;
 use std::marker::{Model, PhantomData};
 
-/// A page that is seen as a node of a class, with the number that it has as its own.
+/// A page that is seen as a node of a class, with the number that it has as its own and its image.
 #[derive(Drop)]
 pub struct NodePage<K: KeyClass> {
     page: Page,
@@ -19,13 +19,14 @@ pub struct NodePage<K: KeyClass> {
 }
 
 impl<K: KeyClass> Model for NodePage<K> {
+    ghost use Rattle.gx_page.specs.Format.{image_of};
     ghost use Rattle.gx_node.specs.Reading.{format_of};
     ghost use Rattle.gx_index_laws.specs.Classes.{Page};
     ghost use Rattle.gx_readings.specs.Classes.{page_of};
 
     ghost Value = { Page K.Key };
 
-    ghost view = { λ p. page_of (format_of K.KeyClass) p.page };
+    ghost view = { λ p. page_of (format_of K.KeyClass) (image_of p.page) };
 }
 
 /// Entries and pages of a class.

@@ -11,14 +11,13 @@ use Rattle.gx_glog.specs.Layout.{selected_of}
 use Rattle.gx_glog.specs.State.{Log}
 use Rattle.gx_recovery.specs.Known.{Known}
 use Rattle.gx_recovery.specs.Records.{Record}
-use Rattle.gx_recovery.specs.Redo.{tree_of}
-use Rattle.gx_recovery.specs.Coming.{IsGood}
 use Rattle.gx_recovery.specs.Damage.{records_of}
 use Rattle.gx_recovery.specs.Life.{AllWritten}
 use Rattle.gx_recovery.specs.Renewal.{found}
 use Rattle.gx_durable.specs.Spelled.{Reading}
 use Rattle.gx_durable.specs.Bodies.{AreBodies}
 use Rattle.gx_durable.specs.Area.{area_of, HasPages}
+use Rattle.gx_durable.specs.Fitting.{AreGood}
 use Rattle.gx_durable.specs.GoingOn.{opened, found_state, IsFoundGood, IsClosedFound}
 use Rattle.gx_durable.proofs.GoingOn.{closing_keeps}
 use Rattle.gx_found_log.specs.declared.found.FoundLog.{FoundLog}
@@ -36,12 +35,12 @@ module _ {E P : Type 0} (k : Known E P) (r : Reading E P) (d e b f : Device) (lo
   bodies = is.log.bodies
 
   -- the log that was read stands on the device that its pages were laid on, and was only read since
-  stands_there : IsRedone k r d e bodies → Looks e b → HasPages k.pages b.sectors → IsGood k (tree_of k (area_of r k.pages b.seen) (records_of bodies)) (records_of bodies)
+  stands_there : IsRedone k r d e bodies → Looks e b → HasPages k.pages b.sectors → AreGood k r (area_of r k.pages b.seen) (records_of bodies)
       → IsFoundGood k r b.sectors b.seen b.pending bodies
   stands_there redone looks pages good =
       let B : List (List ℕ) → Type 0 = λ x. AreBodies r x bodies in
       let F : List ℕ → Type 0 = λ seen. IsFoundGood k r b.sectors seen b.pending bodies in
-      let G : List ℕ → Type 0 = λ seen. IsGood k (tree_of k (area_of r k.pages seen) (records_of bodies)) (records_of bodies) in
+      let G : List ℕ → Type 0 = λ seen. AreGood k r (area_of r k.pages seen) (records_of bodies) in
       let good_there : G e.seen = subst G looks.rests.seen good in
       let up = redone.turn good_there in
       subst F (sym looks.rests.seen) (record {

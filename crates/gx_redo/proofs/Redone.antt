@@ -18,9 +18,8 @@ use Rattle.gx_glog.proofs.Gates.{placed, gate_same, selector_same, body_same, bo
 use Rattle.gx_pool.specs.Area.{IsPage, bytes_of, first_of}
 use Rattle.gx_recovery.specs.Known.{Known, IsLawful}
 use Rattle.gx_recovery.specs.Records.{Record}
-use Rattle.gx_recovery.specs.Redo.{redone, tree_of}
+use Rattle.gx_recovery.specs.Redo.{redone}
 use Rattle.gx_recovery.specs.Given.{given}
-use Rattle.gx_recovery.specs.Coming.{IsGood}
 use Rattle.gx_recovery.specs.Damage.{IsLog, is_page, records_of}
 use Rattle.gx_recovery.specs.Logged.{Logged, AgreesBeside}
 use Rattle.gx_recovery.specs.Renewal.{found}
@@ -29,6 +28,8 @@ use Rattle.gx_recovery.proofs.Given.{none_given, redone_by_given, redone_twice}
 use Rattle.gx_recovery.proofs.Lives.{left_stands}
 use Rattle.gx_recovery.proofs.Moves.{found_as_state}
 use Rattle.gx_recovery.proofs.States.{redone_again}
+use Rattle.gx_durable.specs.Fitting.{AreGood, HasSizes}
+use Rattle.gx_durable.proofs.Fitting.{gated_fit}
 use Rattle.gx_durable.specs.Spelled.{Reading}
 use Rattle.gx_durable.specs.Bodies.{AreBodies}
 use Rattle.gx_durable.specs.Area.{area_of, HasPages}
@@ -83,6 +84,15 @@ module _ (xs ys : List ℕ) (same : SameAhead xs ys) where
       ap (λ (e : Extent). bodies_in xs e (open_run xs e 0 32)) selects_same ∙ ap (λ n. bodies_in xs x n) (opened_same x)
       ∙ bodies_same x (open_run ys x 0 32) xs ys (λ j less. place_same x j (omega (arith, few, less)))
 
+  sizes_same : HasSizes ys → HasSizes xs
+  sizes_same sizes j less =
+      let x = selected_of ys in
+      let few : open_run ys x 0 32 ≤ 32 = run_few ys x 32 0 (is_open ys x 0) refl in
+      let run : open_run xs (selected_of xs) 0 32 ≡ open_run ys x 0 32 = ap (λ (e : Extent). open_run xs e 0 32) selects_same ∙ opened_same x in
+      let below : j < open_run ys x 0 32 = omega (arith, less, run) in
+      subst (λ (e : Extent). IsSize (size_in (body_of xs e j))) (sym selects_same)
+      (subst (λ (b : List ℕ). IsSize (size_in b)) (sym (place_same x j (omega (arith, few, below)))) (sizes j below))
+
 neither : (b : Bool) (image : List ℕ) (o : Option (List ℕ)) → (if b then Some image else o) ≡ None → (b ≡ false) × (o ≡ None)
 neither true image o none = cc
 neither false image o none = (refl, none)
@@ -124,13 +134,14 @@ module _ {E P : Type 0} (k : Known E P) (r : Reading E P) (kept : List Imaged) (
   same_pages : (image : List ℕ) → ((s : ℕ) → IsBeside kept s → sector_of image s ≡ sector_of d.seen s) → HasSamePages k r d.seen log image
   same_pages image same = record {
     bodies = log_same image d.seen (λ s less. same s (ahead kept s less));
+    sizes = sizes_same image d.seen (λ s less. same s (ahead kept s less));
     pages = λ p. ap (λ (area : ℕ → P). area p) (redone_again log (area_of r k.pages d.seen) (area_of r k.pages image) (beside_agrees image same));
   }
 
   image_same : (image : List ℕ) → IsImageBeside kept d image → (s : ℕ) → IsBeside kept s → sector_of image s ≡ sector_of d.seen s
   image_same image beside s out = beside.settled s out (is.settled s)
 
-  image_stands : IsGood k (tree_of k (area_of r k.pages d.seen) log) log → (image : List ℕ) → IsImageBeside kept d image → Stands k r (found (area_of r k.pages d.seen) log) image
+  image_stands : AreGood k r (area_of r k.pages d.seen) log → (image : List ℕ) → IsImageBeside kept d image → Stands k r (found (area_of r k.pages d.seen) log) image
   image_stands good image beside =
       let B : List (List ℕ) → Type 0 = λ b. AreBodies r b bodies in
       let s : Logged E P = found (area_of r k.pages d.seen) log in
@@ -139,8 +150,10 @@ module _ {E P : Type 0} (k : Known E P) (r : Reading E P) (kept : List Imaged) (
         bodies = bodies;
         told = subst B (sym (same_pages image same).bodies) is.told;
         undamaged = is.undamaged;
-        stands = left_stands k l s (found_as_state k (area_of r k.pages d.seen) log is_log good) (area_of r k.pages image) log
+        sizes = (same_pages image same).sizes is.sizes;
+        stands = left_stands k l s (found_as_state k (area_of r k.pages d.seen) log is_log good.good) (area_of r k.pages image) log
             (record { area_agrees = beside_agrees image same; log_read = inl refl });
+        fit = gated_fit k r l log (area_of r k.pages d.seen) (area_of r k.pages image) (beside_agrees image same) good.fit;
       }
 
   -- a page that is laid

@@ -7,13 +7,12 @@ use Rattle.gx_glog.specs.Later.{ClosesLaterOfRun}
 use Rattle.gx_glog.specs.Layout.{selected_of}
 use Rattle.gx_recovery.specs.Known.{Known, IsLawful}
 use Rattle.gx_recovery.specs.Records.{Record}
-use Rattle.gx_recovery.specs.Redo.{tree_of}
-use Rattle.gx_recovery.specs.Coming.{IsGood}
 use Rattle.gx_recovery.specs.Damage.{records_of}
 use Rattle.gx_recovery.specs.Life.{AllWritten}
 use Rattle.gx_analysis.specs.Telling.{IsKept}
 use Rattle.gx_durable.specs.Spelled.{Reading}
 use Rattle.gx_durable.specs.Area.{area_of, HasPages}
+use Rattle.gx_durable.specs.Fitting.{AreGood}
 use Rattle.gx_durable.specs.GoingOn.{opened, found_state, IsFoundGood, HasNoLater}
 use Rattle.gx_found_log.specs.declared.found.FoundLog.{FoundLog}
 use Rattle.gx_found_log.specs.Found.{IsFound}
@@ -39,5 +38,5 @@ pub record MayGoOn {E P : Type 0} (k : Known E P) (r : Reading E P) (d : Device)
 abbrev pub RedoneGoesOn : {E P : Type 0} → Known E P → Reading E P → Device → Device → Device → Device → Type 0
 RedoneGoesOn {E} {P} k r d e b f =
     IsLawful k → d.honest ≡ true → IsSettled d → HasPages k.pages d.sectors → IsSameDevice d e → IsSameDevice e b → IsSameDevice b f → (log : FoundLog E) (is : IsFound k r d.seen log)
-    → RedoesFound {T = Unit {0}} k r log d e (Ok tt) → Looks e b → IsGood k (tree_of k (area_of r k.pages b.seen) (records_of is.log.bodies)) (records_of is.log.bodies)
+    → RedoesFound {T = Unit {0}} k r log d e (Ok tt) → Looks e b → AreGood k r (area_of r k.pages b.seen) (records_of is.log.bodies)
     → ClosesLaterOfRun {T = Unit {0}} {E = Refusal} log.extent log.bodies b f (Ok tt) → MayGoOn k r f is.log.bodies log

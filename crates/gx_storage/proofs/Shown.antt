@@ -26,7 +26,7 @@ use Rattle.gx_recovery.proofs.Renewals.{log_fits}
 use Rattle.gx_recovery.proofs.Tests.{and_first}
 use Rattle.gx_index_laws.specs.Classes.{Page}
 use Rattle.gx_durable.specs.Stored.{bytes_by, stored, IsStored}
-use Rattle.gx_readings.specs.Classes.{page_of, reading_of}
+use Rattle.gx_readings.specs.Classes.{node_of, page_of, reading_of}
 use Rattle.gx_store.specs.Standing.{standing, standing_node}
 use Rattle.gx_store.proofs.Listed.{node_there, nodes_long}
 use Rattle.gx_store.proofs.Shown.{stands_shown}
@@ -44,19 +44,18 @@ used_fits k l log is =
 
 module _ {B : Type 0} (said : List ℕ → B) (f : Format B) where
   -- what is read of the bytes that a page is, is what is shown of it
-  bytes_shown : (o : Option Kept) (on_device : List ℕ) → ((k : Kept) → o ≡ Some k → IsWellFormed k.page) → page_of f (read_of (bytes_by o on_device)) ≡ page_of f (shown_of o (read_of on_device))
+  bytes_shown : (o : Option Kept) (on_device : List ℕ) → ((k : Kept) → o ≡ Some k → IsWellFormed k.page) → read_of (bytes_by o on_device) ≡ shown_of o (read_of on_device)
   bytes_shown None on_device formed = refl
-  bytes_shown (Some k) on_device formed = ap (λ (c : Contents). page_of f c) (read-image k.page (formed k refl))
+  bytes_shown (Some k) on_device formed = read-image k.page (formed k refl)
 
-  -- a page of the device is stored as it stands
+  -- a page of the device is stored as the node that stands there
   pub stored_stands : (pages : ℕ) (frames : State) (seen : List ℕ) (p : ℕ) → 1 ≤ p → p ≤ pages → IsBacked frames seen → AreFormed frames
-      → stored (reading_of said f) pages frames seen p ≡ page_of f (standing frames seen p)
+      → (stored (reading_of said f) pages frames seen p).node ≡ node_of f (standing frames seen p)
   unfolding stored
   stored_stands pages frames seen p low high backed formed =
       let there : (nat_lt 0 p && nat_le p pages) ≡ true = and_all (nat_lt 0 p) (nat_le p pages) (lt-ltb 0 p low) (le-leb p pages high) in
-      ap (λ b. if b then page_of f (read_of (bytes_by (kept frames p) (bytes_of seen p))) else (reading_of said f).no_page) there
-      ∙ bytes_shown (kept frames p) (bytes_of seen p) (formed p)
-      ∙ ap (λ (c : Contents). page_of f c) (sym (stands_shown frames seen p backed))
+      ap (λ b. (if b then page_of f (bytes_by (kept frames p) (bytes_of seen p)) else (reading_of said f).no_page).node) there
+      ∙ ap (node_of f) (bytes_shown (kept frames p) (bytes_of seen p) (formed p) ∙ sym (stands_shown frames seen p backed))
 
   module _ (k : Known (Entry B) (Page B)) where
     -- the tree that is shown is the one after all records, where each page is stored as they leave it
@@ -69,7 +68,7 @@ module _ {B : Type 0} (said : List ℕ → B) (f : Format B) where
       nodes = λ q u.
           (let in_use : q ≤ v.shelf.used = omega (arith, used, u.1) in
           node_there (standing_node f v.shelf.frames d.seen) v.shelf.used q u.0 in_use
-          ∙ ap (λ (p : Page B). p.node) (sym (stored_stands k.pages v.shelf.frames d.seen q u.0 (omega (arith, in_use, fits)) backed formed) ∙ is q));
+          ∙ sym (stored_stands k.pages v.shelf.frames d.seen q u.0 (omega (arith, in_use, fits)) backed formed) ∙ ap (λ (p : Page B). p.node) (is q));
     }
 
     pub keeps_shows : {D : Type 0} (passes : ℕ → Contents → Bool) (d : Device) (v : Volume D) → IsLawful k → ShowsTheLogs k (reading_of said f) f passes d v

@@ -18,6 +18,7 @@ use Rattle.gx_recovery.proofs.Folds.{analysis-snoc, redone-snoc}
 use Rattle.gx_tree_laws.specs.Alike.{AgreeOnUsed}
 use Rattle.gx_tree_laws.specs.Trees as trees
 use Rattle.gx_index_laws.specs.Classes.{Page, tree_in}
+use Rattle.gx_durable.specs.Fitting.{PagesFit}
 use Rattle.gx_durable.specs.Spelled.{Reading, record_read}
 use Rattle.gx_durable.specs.Standing.{Stands}
 use Rattle.gx_durable.specs.Stored.{stored}
@@ -74,7 +75,10 @@ module _ {B : Type 0} (k : Known (Entry B) (Page B)) (r : Reading (Entry B) (Pag
       let S : Shelf D → Type 0 = λ z. Keeps k r f passes d (record { log = w.log; shelf = z; most = w.most }) bodies (appended y s) in
       let tree = same_after k y s leaves in
       subst S (sym shelf) (record {
-        runs = record { up = up d.sectors d.seen d.pending bodies s l (has_key r.key x is) may old.runs.up; stamped = stamped v.shelf.frames s old.runs.stamped };
+        runs = record {
+          up = up d.sectors d.seen d.pending bodies s l (has_key r.key x is) may (subst (PagesFit r) (sym tree) old.runs.up.carries.fit.all) old.runs.up;
+          stamped = stamped v.shelf.frames s old.runs.stamped;
+        };
         said = record_says (Entry B) (Page B) (λ p. false) v.shelf.frames s y (λ p never. absurd (let no : false ≡ true = never in cc)) (λ p stamp dirty no. old.said p stamp dirty);
         placed = placed v.shelf.frames (none_later v.log v.shelf.frames old.placed);
         steady = old.steady;

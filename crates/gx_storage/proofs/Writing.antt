@@ -40,7 +40,7 @@ use Rattle.gx_storage.specs.Numbers.{HasOwnNumber}
 use Rattle.gx_storage.specs.State.{Volume}
 use Rattle.gx_storage.proofs.Moving.{stays_same}
 use Rattle.gx_storage.proofs.OnlyReads.{since_begun}
-use Rattle.gx_storage.proofs.Recording.{write_stays_with}
+use Rattle.gx_storage.proofs.Recording.{AreNodes, write_stays_with}
 
 pub on_err : {A E : Type 0} (result : Result A E) (P : Type 0) → P → OnErr result P
 on_err (Ok done) P is = tt
@@ -166,7 +166,7 @@ module _ {B D : Type 0} (known : Limits → Known (Entry B) (Page B)) (said : Li
     most = refl;
   }
 
-  module _ (tx row : ℕ) (key : List ℕ) (before after : Bool) (page : ℕ) (log : Log) (did : Stepped passes state v size t page) (held : IsHeld t page) (fits : t.used ≤ t.pages)
+  module _ (tx row : ℕ) (key : List ℕ) (before after : Bool) (page : ℕ) (log : Log) (did : Stepped passes state v size t page) (held : IsHeld t page) (right : AreNodes f passes t)
       (numbers : IsSteady (state v.shelf.disk) v.shelf.frames → (t.used ≡ v.shelf.used) × (t.counter ≡ v.shelf.counter)) where
     keeps_write : (c : Contents) → c ≡ standing t.frames (state t.disk).seen page → IsLast known (reading_of said f) (Write tx row key before after page (image_of c)) v.log log → IsWellFormed c → (l : Limits)
         → KeepsWith (known l) (reading_of said f) f passes (state v.shelf.disk) (state t.disk) v (record { log = log; shelf = t; most = v.most }) (Write tx row key before after page (image_of c))
@@ -178,7 +178,7 @@ module _ {B D : Type 0} (known : Limits → Known (Entry B) (Page B)) (said : Li
         let last_now = subst P (sym same) last in
         subst {A = Contents} (λ x. StaysWith (known l) (reading_of said f) f passes (state v.shelf.disk) (state t.disk) (record { log = log; shelf = t; most = v.most }) bodies s
         (record_read (reading_of said f) (Write tx row key before after page (image_of x)))) same
-        (write_stays_with (known l) said f passes (state v.shelf.disk) (state t.disk) v v.log.used (has_room v.log size) t bodies s lawful keeps did.goes_on (omega arith) fits
+        (write_stays_with (known l) said f passes (state v.shelf.disk) (state t.disk) v v.log.used (has_room v.log size) t bodies s lawful keeps did.goes_on (omega arith) right
         tx row key before after page one.0 log v.most one.1 (subst {A = Contents} IsWellFormed (sym same) well) held.from held.to (last_now.up l) last_now.stamped last_now.placed last_now.key did.others now.0 now.1)
 
     pub logged_write : IsLast known (reading_of said f) (Write tx row key before after page (image_of (standing t.frames (state t.disk).seen page))) v.log log

@@ -1,7 +1,7 @@
 use Rattle.std.proofs.Common.{subst}
 use Rattle.gx_glog.specs.Parameters.{Fit}
 use Rattle.gx_glog.specs.declared.parameters.Parameters.{Parameters}
-use Rattle.gx_lives.proofs.Beginning.{begins, says}
+use Rattle.gx_lives.proofs.Beginning.{begins, formatted}
 use Rattle.gx_lives.proofs.turns.format.Goals as goal
 
 pub returns-clause-begins : goal.returns-clause-begins
@@ -10,7 +10,7 @@ returns-clause-begins g c = λ honest.
     (record { pages = c.args.pages; most = c.args.most; class = g.K.KeyClass.CLASS }) c.args.disk.now c.format.new.disk honest c.format.result c.format.ensures.formats c.format.ensures.root
     (c.format.ensures.fresh honest)
 
-pub returns-clause-says : goal.returns-clause-says
-returns-clause-says g c = λ honest.
+pub returns-clause-formatted : goal.returns-clause-formatted
+returns-clause-formatted g c = λ honest.
     let p : Parameters = record { pages = c.args.pages; most = c.args.most; class = g.K.KeyClass.CLASS } in
-    says p _ _ _ c.format.result (subst (λ class. Fit (record { pages = c.args.pages; most = c.args.most; class = class })) c.CLASS.ensures c.fits.ensures) (c.format.ensures.fresh honest)
+    formatted _ _ _ _ _ g.D.SectorDisk.state p c.args.disk.now c.format.new.disk _ c.format.result c.format.ensures.formats (subst (λ class. Fit (record { pages = c.args.pages; most = c.args.most; class = class })) c.CLASS.ensures c.fits.ensures) (c.format.ensures.fresh honest)

@@ -3,6 +3,7 @@ use Rattle.gx_node.specs.Reading.{format_of, is_node}
 use Rattle.gx_store.specs.Standing.{store_of}
 use Rattle.gx_store.specs.State.{Shelf}
 use Rattle.gx_storage.specs.State.{Volume}
+use Rattle.gx_storage.proofs.Recording.{nodes_of}
 use Rattle.gx_storage.proofs.Writing.{added_since, added_stamped, begun_is, has_room_then, logged_write, on_err, stepped, steady_begun, tree_used, unlogged, unstepped}
 use Rattle.gx_storage.proofs.storage.Storage.add.Goals as goal
 
@@ -58,7 +59,7 @@ returns-clause-logged g c =
     let is = begun_is v u size _ c.begin.ensures c.write_size.ensures in
     let did = stepped (is_node f) state v size t u c.args.page is c.in_ok-add_step.ensures.since in
     rw (← c.self.view_is) (logged_write _ _ f (is_node f) state v size t c.args.transaction c.args.entry.now.row (g.K.KeyClass.spelling c.args.entry.now.key) true false c.args.page c.write_record.new.log did
-    c.in_ok-add_step.ensures.held.0 c.in_order.ensures.taken
+    c.in_ok-add_step.ensures.held.0 (nodes_of f _ _ c.in_order.ensures)
     (λ steady.
     (let made = c.in_ok-add_step.ensures.added (steady_begun (is_node f) state v size t u is steady) in
     (tree_used f (state t.disk).seen (state u.disk).seen u t made.changes.used ∙ ap (λ (x : Shelf g.row.D.Denot). x.used) is, made.changes.counter ∙ ap (λ (x : Shelf g.row.D.Denot). x.counter) is)))

@@ -5,6 +5,7 @@ use Rattle.gx_store.specs.State.{Shelf}
 use Rattle.gx_store.proofs.Listed.{nodes_long}
 use Rattle.gx_tree.specs.Descending.{is_widened}
 use Rattle.gx_storage.specs.State.{Volume}
+use Rattle.gx_storage.proofs.Recording.{nodes_of}
 use Rattle.gx_storage.proofs.Giving.{descended_since, has_to_widen, logged_if, logged_page, unlogged_if, unwidened_narrow, unwidened_stays}
 use Rattle.gx_storage.proofs.Writing.{begun_is, has_room_then, on_err, stepped, steady_begun, unlogged, unstepped}
 use Rattle.gx_storage.proofs.storage.Storage.descend.Goals as goal
@@ -112,7 +113,7 @@ returns-clause-logged g c =
     let is = begun_is v u 4114 _ c.begin.ensures refl in
     let step = stepped (is_node f) state v 4114 t u c.args.item.now.page is c.in_ok-did.ensures.since in
     let wide : is_widened c.in_ok-did.did ≡ true = sym c.was_widened.ensures ∙ c.if-not-was_widened.false in
-    rw (← c.self.view_is) (logged_if _ _ f (is_node f) 4114 _ _ v _ _ _ wide (logged_page _ _ f (is_node f) state v 4114 t c.args.item.now.page c.give_page.new.log step c.in_ok-did.ensures.held c.in_order.ensures.taken
+    rw (← c.self.view_is) (logged_if _ _ f (is_node f) 4114 _ _ v _ _ _ wide (logged_page _ _ f (is_node f) state v 4114 t c.args.item.now.page c.give_page.new.log step c.in_ok-did.ensures.held (nodes_of f _ _ c.in_order.ensures)
     (rw c.page.ensures at c.give_page.ensures.last) (rw c.page.ensures at c.give_page.ensures.formed)))
 
 pub returns-clause-descended : goal.returns-clause-descended

@@ -6,6 +6,7 @@ use Rattle.gx_store.specs.State.{Shelf}
 use Rattle.gx_tree.specs.Seeking.{is_here}
 use Rattle.gx_storage.specs.Changes.{begun}
 use Rattle.gx_storage.specs.State.{Volume}
+use Rattle.gx_storage.proofs.Recording.{nodes_of}
 use Rattle.gx_storage.proofs.Marking.{marked_numbers, marked_since, unmarked_stays}
 use Rattle.gx_storage.proofs.Writing.{begun_is, has_room_then, logged_write, on_err, stepped, steady_begun, tree_used, unlogged, unstepped}
 use Rattle.gx_storage.proofs.storage.Storage.set_mark.Goals as goal
@@ -92,7 +93,7 @@ returns-in-Here-2-clause-logged g c =
     let is = begun_is v u size _ c.begin.ensures c.write_size-size.ensures in
     let did = stepped (is_node f) state v size t u c.args.page is c.in_ok-slot.ensures.since in
     rw (← c.self.view_is) (logged_write _ _ f (is_node f) state v size t c.args.transaction c.args.entry.now.row (g.K.KeyClass.spelling c.args.entry.now.key) c.in-Here-2.before c.args.marked c.args.page c.write_record.new.log did
-    c.in_ok-slot.ensures.held c.in_order.ensures.taken
+    c.in_ok-slot.ensures.held (nodes_of f _ _ c.in_order.ensures)
     (λ steady.
     (let made = marked_numbers _ _ _ c.args.page c.args.marked _ c.in-Here-2.slot c.in-Here-2.before c.in-Here-2.is (c.in_ok-slot.ensures.marked (steady_begun (is_node f) state v size t u is steady)) in
     (tree_used f (state t.disk).seen (state u.disk).seen u t made.0 ∙ ap (λ (x : Shelf g.row.D.Denot). x.used) is, made.1 ∙ ap (λ (x : Shelf g.row.D.Denot). x.counter) is)))

@@ -4,6 +4,7 @@ use Rattle.gx_node.specs.Reading.{format_of, is_node}
 use Rattle.gx_store.specs.State.{IsHeld}
 use Rattle.gx_storage.specs.Giving.{rising}
 use Rattle.gx_storage.specs.State.{Volume}
+use Rattle.gx_storage.proofs.Recording.{nodes_of}
 use Rattle.gx_storage.proofs.Splitting.{all_own, begun_long, begun_pages, damaged_since, logged_these, rising_each, split_stamped, split_stepped, store_begun}
 use Rattle.gx_storage.proofs.Writing.{begun_is, has_room_then, on_err, steady_begun, unlogged, unstepped}
 use Rattle.gx_storage.proofs.storage.Storage.split.Goals as goal
@@ -65,7 +66,7 @@ returns-clause-logged g c =
     let sibling = rw c.in-Some.is at c.in_ok-split.ensures.sibling in
     let next : c.in-Some.split.sibling ≡ suc i.store.used = sibling ∙ ap suc (begun_long f state v 12314 u is) in
     let these = c.in_rising_order-first.ensures.these ∙ ap (λ p. rising c.args.page c.args.parent p) next in
-    rw (← c.self.view_is) (logged_these _ _ f (is_node f) state v 12314 t _ (rising c.args.page c.args.parent (suc i.store.used)) c.give_three.new.log these did c.give_three.ensures.given c.in_order.ensures.taken
+    rw (← c.self.view_is) (logged_these _ _ f (is_node f) state v 12314 t _ (rising c.args.page c.args.parent (suc i.store.used)) c.give_three.new.log these did c.give_three.ensures.given (nodes_of f _ _ c.in_order.ensures)
     c.give_three.ensures.last)
 
 pub returns-clause-own : goal.returns-clause-own

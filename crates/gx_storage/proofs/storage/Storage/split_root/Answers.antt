@@ -2,6 +2,7 @@ use Rattle.std.proofs.Common.{◌≡◌, suc, ℕ, List, [], ◌∷◌, sym, ap,
 use Rattle.std.proofs.lemmas.Result.{err_from_is_err_and}
 use Rattle.gx_node.specs.Reading.{format_of, is_node}
 use Rattle.gx_storage.specs.State.{Volume}
+use Rattle.gx_storage.proofs.Recording.{nodes_of}
 use Rattle.gx_storage.proofs.Splitting.{all_own, begun_long, begun_pages, logged_these, no_root, root_damaged_since, root_stamped, root_stepped, store_begun}
 use Rattle.gx_storage.proofs.Writing.{begun_is, has_room_then, on_err, steady_begun, unlogged, unstepped}
 use Rattle.gx_storage.proofs.storage.Storage.split_root.Goals as goal
@@ -82,7 +83,7 @@ returns-clause-logged g c =
     let split = c.in_ok-split.split in
     let these = ap (λ x. (let xs : List ℕ = 1 ∷ x ∷ split.second ∷ [] in xs)) (places.0 ∙ ap suc (begun_long f state v 12314 u is)) ∙ ap (λ x. (let xs : List ℕ = 1 ∷ suc i.store.used ∷ x ∷ [] in xs)) (places.1 ∙ ap (λ n. suc (suc n)) (begun_long f state v 12314 u is)) in
     rw (← c.self.view_is) (logged_these _ _ f (is_node f) state v 12314 t (1 ∷ split.first ∷ split.second ∷ []) (1 ∷ suc i.store.used ∷ suc (suc i.store.used) ∷ []) c.give_three.new.log these did c.give_three.ensures.given
-    c.in_order.ensures.taken c.give_three.ensures.last)
+    (nodes_of f _ _ c.in_order.ensures) c.give_three.ensures.last)
 
 pub returns-clause-stamped : goal.returns-clause-stamped
 returns-clause-stamped g c =

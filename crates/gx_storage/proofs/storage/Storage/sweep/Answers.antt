@@ -16,6 +16,7 @@ use Rattle.gx_tree.specs.Sweeping.{FitsLeaf, takes_none}
 use Rattle.gx_storage.specs.Bringing.{has_removable}
 use Rattle.gx_storage.specs.Changes.{begun}
 use Rattle.gx_storage.specs.State.{Volume}
+use Rattle.gx_storage.proofs.Recording.{nodes_of}
 use Rattle.gx_storage.proofs.Giving.{logged_page}
 use Rattle.gx_storage.proofs.Sweeping.{swept_since, swept_stamped, swept_step, takes_some, unswept_since, whys}
 use Rattle.gx_storage.proofs.Writing.{has_room_then, on_err, unlogged}
@@ -133,7 +134,7 @@ returns-clause-logged g c =
     let here = c.in_ok-plan.ensures.page in
     let step = swept_step (is_node f) state v 4114 read t plan.page c.args.page here c.in_ok-plan.ensures.since c.in_ok-make_sweep.ensures.since in
     let held = subst {A = ℕ} (λ a. IsHeld t a) here c.in_ok-make_sweep.ensures.held in
-    rw (← c.self.view_is) (logged_page _ _ f (is_node f) state v 4114 t c.args.page c.give_page.new.log step held c.in_order.ensures.taken c.give_page.ensures.last c.give_page.ensures.formed)
+    rw (← c.self.view_is) (logged_page _ _ f (is_node f) state v 4114 t c.args.page c.give_page.new.log step held (nodes_of f _ _ c.in_order.ensures) c.give_page.ensures.last c.give_page.ensures.formed)
 
 pub returns-clause-swept : goal.returns-clause-swept
 returns-clause-swept g c =
