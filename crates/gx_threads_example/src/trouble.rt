@@ -7,6 +7,10 @@ use std::io;
 pub(crate) enum Trouble {
     /// A line hasn't two numbers, or asks for more threads than there are sessions.
     BadLine,
+    /// The file can't be opened, or another program has it.
+    File,
+    /// No index can be made on the device.
+    NoIndex,
     /// Memory lacks.
     Memory,
     /// A line can't be read or written.
@@ -18,6 +22,8 @@ impl Trouble {
     pub(crate) fn text(self) -> &'static str {
         match self {
             Trouble::BadLine => "a line wants two numbers: 1 to 8 threads, and transactions",
+            Trouble::File => "the file can't be opened, or another program has it",
+            Trouble::NoIndex => "no index can be made on the device",
             Trouble::Memory => "memory lacks",
             Trouble::Stream => "a line can't be read or written",
         }

@@ -1,5 +1,5 @@
 use Rattle.gx_machine.specs.Machine.{fresh_machine}
-use Rattle.gx_threads_example.proofs.run_line.Given as goal
+use Rattle.gx_threads_example.proofs.run_over.Given as goal
 
 abbrev pub ghosts-run-R-Ledger : goal.ghosts-run-R-Ledger
 ghosts-run-R-Ledger g a = record { name = a.blank.name; parts = a.blank.parts }
