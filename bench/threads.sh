@@ -1,34 +1,99 @@
 #!/usr/bin/env bash
-# Times sessions in threads over one index, on a device in memory: for 1, 2, 4 and 8 threads as many transactions in all, of six calls each
-# (begin, three inserts, a search, a commit), and prints the calls a second, from the best of three runs less the time of a run with no
-# transaction. The argument, if there is one, is how many transactions there are in all, up to 5,000: a record has room for
-# no more.
+# Times sessions in threads over one index: for 1, 2, 4 and 8 threads as many transactions in all, of six calls each (begin,
+# three inserts, a search, a commit). First on a device in memory, then, a tenth as many, on one with a file as its mirror:
+# each write and each sync goes to that file too. Prints the calls a second, from the best of nine runs less that of nine with
+# no transaction, all in turn; and, where perf is there, what share of the time the lock is held.
+# The first argument, if there is one, is how many transactions there are in memory, up to 5,000: a record has room for no
+# more. The second is a folder on the file system to be measured.
 set -euo pipefail
 top="$(cd "$(dirname "${BASH_SOURCE[0]}")/.." && pwd)"
-total="${1:-4000}"
-program="$top/crates/gx_threads_example/out/gx_threads_example"
-[ -x "$program" ] || (cd "$top/crates/gx_threads_example" && rt run > /dev/null)
+work="$(mktemp -d ${2:+-p "$2"})"
+trap 'rm -rf "$work"' EXIT
+cd "$top/crates/gx_threads_example"
+rt run < stdin > "$work/log" 2>&1 || { cat "$work/log"; exit 1; }
+cd "$work"
+echo "load $(cut -d' ' -f1 /proc/loadavg), the file is on $(df -T . | tail -1 | awk '{ print $2 }')"
+python3 - "$top/crates/gx_threads_example/out/gx_threads_example" "${1:-4000}" <<'P'
+import os, re, statistics, subprocess, sys, time
 
-# THREADS EACH: the nanoseconds of the best of three runs
-best() {
-    local least=0 from to took
-    for _ in 1 2 3; do
-        from="$(date +%s%N)"
-        printf '%s %s\n' "$1" "$2" | "$program" > "$work"
-        to="$(date +%s%N)"
-        took=$((to - from))
-        if [ "$least" -eq 0 ] || [ "$took" -lt "$least" ]; then least="$took"; fi
-    done
-    echo "$least"
-}
+program, total = sys.argv[1], int(sys.argv[2])
+file, samples, summary = "mirror.gist", "samples", "summary"
+rate = 5000
 
-work="$(mktemp)"
-trap 'rm -f "$work"' EXIT
-base="$(best 1 0)"
-for threads in 1 2 4 8; do
-    each=$((total / threads))
-    took=$(($(best "$threads" "$each") - base))
-    calls=$((6 * each * threads))
-    tail -1 "$work"
-    echo "threads $threads: $calls calls in $((took / 1000000)) ms, $((calls * 1000000000 / took)) calls a second"
-done
+def run(threads, transactions, file, before=[]):
+    """The seconds that so many transactions take, which the record has to have."""
+    each = transactions // threads
+    line = f"{threads} {each} {file}".strip()
+    began = time.perf_counter()
+    done = subprocess.run(before + [program], input=line + "\n", text=True, check=True, stdout=subprocess.PIPE, stderr=subprocess.DEVNULL)
+    took = time.perf_counter() - began
+    said = done.stdout.splitlines()
+    agree = all(words.endswith(f": {6 * each} calls finished, the record agrees: true") for words in said[:-1])
+    if not agree or said[-1] != f"{6 * each * threads} calls finished in all, {each * threads} commits":
+        sys.exit("\n".join(said))
+    return took
+
+def sampled(threads, transactions):
+    """What share of the calls' time in memory the lock is held, by samples of processor time. Held is what an engine's events take, and
+    the recording of replies; not so Worker::call, which takes the lock and lets it go, and waiting for it."""
+    run(threads, transactions, "", ["perf", "record", "-q", "-e", "cpu-clock", "-F", str(rate), "-g", "-o", samples])
+    script = ["perf", "script", "-i", samples, "-F", "time,ip,sym"]
+    told = subprocess.run(script, text=True, check=True, stdout=subprocess.PIPE, stderr=subprocess.DEVNULL).stdout
+    taken = []
+    for sample in told.split("\n\n"):
+        head, *chain = [line.strip() for line in sample.splitlines() if line.strip()] or [""]
+        frames = [line.partition(" ") for line in chain]
+        waits = any("futex" in symbol for _, _, symbol in frames)
+        user = next((symbol for place, _, symbol in frames if int(place, 16) < 1 << 63), None)
+        if user:
+            taken.append((float(head.rstrip(":")), user, waits or user == "syscall" or "::Worker::call" in user))
+    calls = [at for at, user, _ in taken if "::Worker::call" in user or "EngineEvents" in user]
+    held = sum(not outside for at, _, outside in taken if calls[0] <= at <= calls[-1])
+    return held / rate / (calls[-1] - calls[0])
+
+def traced(threads, transactions):
+    """Seconds of a run over the file, those in its writes and syncs, and how many syncs there were."""
+    took = run(threads, transactions, file, ["perf", "trace", "-s", "-o", summary])
+    calls = re.findall(r"^ *(pwrite64|fdatasync|fsync) +(\d+) +\d+ +([\d.]+)", open(summary).read(), re.M)
+    syncs = sum(int(count) for name, count, _ in calls if name != "pwrite64")
+    return took, sum(float(spent) for *_, spent in calls) / 1000, syncs
+
+def bare():
+    """What 300 writes of 4,096 bytes take in this folder, each with its sync, in microseconds: the least and the median."""
+    times = []
+    with open(file, "r+b", buffering=0) as opened:
+        for place in range(300):
+            began = time.perf_counter()
+            os.pwrite(opened.fileno(), b"x" * 4096, 4096 * place)
+            os.fdatasync(opened.fileno())
+            times.append(time.perf_counter() - began)
+    return 1e6 * min(times), 1e6 * statistics.median(times)
+
+def table(name, transactions, file):
+    counts = [1, 2, 4, 8]
+    best = {work: 1e9 for work in [(1, 0)] + [(threads, transactions) for threads in counts]}
+    for _ in range(9):
+        for work in best:
+            best[work] = min(best[work], run(*work, file))
+    for threads in counts:
+        calls = 6 * (transactions // threads) * threads
+        took = best[threads, transactions] - best[1, 0]
+        print(f"{name}, threads {threads}: {calls} calls in {1000 * took:.0f} ms, {calls / took:.0f} calls a second", flush=True)
+
+def shares(transactions):
+    began = traced(1, 0)
+    for threads in [1, 2, 4, 8]:
+        print(f"memory, threads {threads}: held for {sampled(threads, 4 * transactions):.0%} of the time", flush=True)
+    for threads in [1, 2, 4, 8]:
+        took, inside, syncs = traced(threads, transactions)
+        print(f"file, threads {threads}: in writes and syncs for {(inside - began[1]) / (took - began[0]):.0%} of the time, "
+              f"{(syncs - began[2]) / (transactions // threads * threads):.1f} syncs a transaction", flush=True)
+
+table("memory", total, "")
+table("file", total // 10, file)
+print("a write of 4,096 bytes there with its sync: at least {:.0f} microseconds, in the middle {:.0f}".format(*bare()), flush=True)
+try:
+    shares(total // 4)
+except (FileNotFoundError, subprocess.CalledProcessError):
+    print("perf isn't there, or may not be used: the share of time for which the lock is held isn't measured")
+P
