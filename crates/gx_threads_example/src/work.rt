@@ -7,7 +7,7 @@ use std::alloc::{AllocError, Global};
 use std::sync::Wait;
 use std::sync::ledger::Ledger;
 
-/// A session with the replies that it was handed, in their order.
+/// A session with the replies that it was handed, in their order. A call that is given up, for a fault, has none in the record, and none here.
 #[derive(Drop)]
 pub(crate) struct Worker<R: Ledger> {
     pub(crate) session: Session<R>,
@@ -23,7 +23,7 @@ impl<R: Ledger> Worker<R> {
         }
     }
 
-    /// One call, to its end.
+    /// One call, to its end; its reply is kept where the session's share rose.
     fn call<E: Events<Box2>, W: Wait>(
         &mut self,
         rt: &W,
@@ -33,8 +33,11 @@ impl<R: Ledger> Worker<R> {
     where
         R: Run<Box2>,
     {
+        let finished = self.session.share();
         let reply = self.session.call(rt, shared, call, &NoBetween);
-        self.replies.push(reply)?;
+        if self.session.share() > finished {
+            self.replies.push(reply)?;
+        }
         Ok(())
     }
 }
