@@ -207,11 +207,11 @@ fn inserts_meanwhile<E: Events<Box2>, R: Run<Box2>, W: Wait>(
     Ok(caller)
 }
 
-/// Whether a reply has found row 2 and nothing else.
+/// Whether a reply has found row 2 with its key and nothing else.
 fn finds_row_2(reply: Option<&Reply<Box2>>) -> bool {
     match reply {
         Some(Reply::Found(found)) => match found.as_slice().first() {
-            Some(entry) => entry.row == 2 && found.as_slice().len() == 1,
+            Some(first) => *first == entry(2, 0, 0) && found.as_slice().len() == 1,
             None => false,
         },
         _ => false,
