@@ -1,12 +1,11 @@
 -- An opening in a life finds no damage.
-use Rattle.std.proofs.Common.{◌≡◌, inl, inr, refl, subst, ℕ, ◌<◌, ◌≤◌, Bool, List, Result, Ok, Err, arith}
+use Rattle.std.proofs.Common.{◌≡◌, inl, inr, refl, subst, ℕ, ◌≤◌, Bool, List, Result, Ok, Err, arith}
 use Rattle.std.specs.Prelude.{IfErr}
 use Rattle.gx_geom.specs.declared.refusal.Refusal.{Refusal}
 use Rattle.gx_geom.specs.declared.refusal.Refusal.TheVariants as refusal
 use Rattle.gx_class.specs.declared.class.KeyClass.{Ghosts}
 use Rattle.gx_disk.specs.Device.{Device}
 use Rattle.gx_durable.specs.Area.{area_of}
-use Rattle.gx_durable.specs.Bodies.{AreBodies}
 use Rattle.gx_durable.specs.Fitting.{AreGood}
 use Rattle.gx_durable.specs.Spelled.{Reading}
 use Rattle.gx_durable.proofs.Legality.{used_fits}
@@ -14,10 +13,9 @@ use Rattle.gx_engine.specs.States.{Parts}
 use Rattle.gx_events.specs.declared.event.Event.{Event}
 use Rattle.gx_events.specs.declared.outcome.Outcome.{Outcome}
 use Rattle.gx_found_log.specs.declared.found.FoundLog.{FoundLog}
-use Rattle.gx_found_log.specs.Found.{HasUndamaged, opened}
+use Rattle.gx_found_log.specs.Found.{HasUndamaged}
 use Rattle.gx_format.specs.Formatting.{sectors_of}
-use Rattle.gx_glog.specs.Cuts.{bodies_in, open_bodies}
-use Rattle.gx_glog.specs.Layout.{selected_of}
+use Rattle.gx_glog.specs.Cuts.{open_bodies}
 use Rattle.gx_glog.specs.declared.parameters.Parameters.{Parameters}
 use Rattle.gx_index_laws.specs.Classes.{Class, IsLawful, Page, known_of, tree_in}
 use Rattle.gx_machine.specs.declared.entry.Entry.{Entry}
@@ -34,7 +32,7 @@ use Rattle.gx_opening.proofs.Found.{good_sound}
 use Rattle.gx_opening.proofs.Stood.{one_saying}
 use Rattle.gx_page.specs.Reading.{read_of}
 use Rattle.gx_pool.specs.Area.{IsPassing}
-use Rattle.gx_readings.specs.Classes.{class_of, page_of, reading_of}
+use Rattle.gx_readings.specs.Classes.{class_of, reading_of}
 use Rattle.gx_readings.proofs.Used.{known_lawful, reads_used}
 use Rattle.gx_recovery.specs.Damage.{records_of}
 use Rattle.gx_recovery.specs.Known as known
@@ -44,7 +42,7 @@ use Rattle.gx_recovery.specs.Redo.{tree_of}
 use Rattle.gx_recovery.proofs.DamageItems.{bodies_log}
 use Rattle.gx_tree_laws.specs.Legal.{ChildFits}
 use Rattle.gx_tree_laws.specs.Lists.{Each}
-use Rattle.gx_tree_laws.specs.Trees.{Child, Node}
+use Rattle.gx_tree_laws.specs.Trees.{Child}
 use Rattle.gx_lives.specs.Bearing.{HasSets}
 use Rattle.gx_lives.specs.Lives.{OnlyFails}
 use Rattle.gx_lives.proofs.Images.{good_log, own}
@@ -160,7 +158,7 @@ module _ {C B D : Type 0} (shape : Members B) (proper : B → Bool) (said : List
     not_settled refusal.NoCall none = absurd none
     not_settled refusal.HistoryFull none = absurd none
 
-    -- So an opening is refused only where a call failed or memory was refused, or where 2^56 events took no end.
+    -- So an opening is refused only as a failed call or as refused memory, or where 2^56 events took no end.
     pub only_fails : (makes : Parts B D → Event B → Outcome B → Parts B D → Type 0) (e : Device) (why : Refusal) → IsRefused shape proper said f makes state code d e why
         → OnlyFails makes why
     only_fails makes e why refused = elim refused [

@@ -37,7 +37,7 @@ pub record ComesUp (IsLeft : List ℕ → Type 0) (d : Device) : Type 0 where
   pub left : IsLeft d.seen
   pub settled : IsSettled d
 
--- A call of the device failed, or memory was refused; or 2^56 events took no end.
+-- A failed call of the device, or refused memory, is told; or 2^56 events took no end.
 abbrev pub OnlyFails : {B D : Type 0} → (Parts B D → Event B → Outcome B → Parts B D → Type 0) → Refusal → Type 0
 OnlyFails {B} {D} makes why = HasFailed why ⊎ ((why ≡ Damaged) × ((new : Parts B D) × IsEndless makes new))
 

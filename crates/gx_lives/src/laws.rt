@@ -43,9 +43,9 @@ pub fn a_crash_leaves_a_set_of_the_machine<D: SectorDisk, K: ReadKeys>()
     gx_engine::laws::a_class_is_lawful::<K>();
 }
 
-/// An opening in a life finds no damage: over a device that says what it was formatted for, whatever came before, it is refused only where a call of the
-/// device failed, where memory was refused, or where 2^56 events took no end. Whatever a crash left is a log whose bodies are whole, over pages that are a
-/// legal tree for it and that can be read.
+/// An opening in a life finds no damage: over a device that says what it was formatted for, whatever came before, it is refused only with `Device` or
+/// `Memory`, or with `Damaged` where 2^56 events took no end. Whatever a crash left is a log whose bodies are whole, over pages that are a legal tree for
+/// it and that can be read.
 pub fn an_opening_finds_no_damage<D: SectorDisk, K: ReadKeys>()
     ensures { (p : Parameters) (m : Machine K.Key) (old new : D) (why : Refusal) → Bears K.Key.Shape K.is_proper K.said K.KeyClass D.state p m (Lies old)
         → IsFormatted K.Key.Shape K.is_proper K.said (format_of K.KeyClass) K.CLASS (D.state old) p

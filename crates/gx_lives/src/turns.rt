@@ -64,8 +64,8 @@ where
 }
 
 /// Opens a device (`gx_open::open`, with its refusals). On an honest one, whatever it says that it is formatted for, that is a turn of its life, an
-/// opening or one that is refused. In a life it is refused, with frames in range, only where a call of the device failed, where memory was refused, or where
-/// 2^56 events took no end: never because of what a crash left.
+/// opening or one that is refused. In a life it is refused, with frames in range, only with `Device` or `Memory`, or with `Damaged` where 2^56 events took
+/// no end: never because of what a crash left.
 pub fn open<D: SectorDisk, K: ReadKeys + Probing>(
     alloc: Global,
     disk: D,
