@@ -29,15 +29,9 @@ impl<D: SectorDisk, F: SectorDisk> Mirrored<D, F> {
 }
 
 impl<D: SectorDisk, F: SectorDisk> SectorDisk for Mirrored<D, F> {
-    ghost state = { λ m. record {
-      sectors = (D.state m.front).sectors;
-      seen = (D.state m.front).seen;
-      pending = (D.state m.front).pending;
-      moment = (D.state m.front).moment;
-      left_since = (D.state m.front).left_since;
+    ghost state = { λ m. record (D.state m.front) {
       faults = (D.state m.front).faults + (F.state m.mirror).faults;
       calls = (F.state m.mirror).calls;
-      honest = (D.state m.front).honest;
     } };
 
     ghost whole = { λ m. D.whole m.front };

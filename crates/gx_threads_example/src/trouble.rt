@@ -21,7 +21,8 @@ impl Trouble {
     /// A text for it.
     pub(crate) fn text(self) -> &'static str {
         match self {
-            Trouble::BadLine => "a line wants two numbers: 1 to 8 threads, and transactions",
+            Trouble::BadLine =>
+                "a line wants two numbers, 1 to 8 threads and transactions, and may name a file behind them",
             Trouble::File => "the file can't be opened, or another program has it",
             Trouble::NoIndex => "no index can be made on the device",
             Trouble::Memory => "memory lacks",
