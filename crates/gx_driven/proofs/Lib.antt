@@ -3,3 +3,4 @@ pub mod Driving
 pub mod Repeating
 pub mod Stepping
 pub mod Resting
+pub mod Lessening

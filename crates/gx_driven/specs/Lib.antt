@@ -2,3 +2,4 @@ pub mod Made
 pub mod Driven
 pub mod Repeated
 pub mod Resting
+pub mod Backlog

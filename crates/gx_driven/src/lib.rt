@@ -2,6 +2,7 @@
 #![tactic(auto)]
 
 mod driven;
+pub mod laws;
 mod repeated;
 
 pub use driven::{EVENTS, drive};

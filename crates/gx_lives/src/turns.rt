@@ -64,8 +64,8 @@ where
 }
 
 /// Opens a device (`gx_open::open`, with its refusals). On an honest one, whatever it says that it is formatted for, that is a turn of its life, an
-/// opening or one that is refused. In a life it is refused, with frames in range, only with `Device` or `Memory`, or with `Damaged` where 2^56 events took
-/// no end: never because of what a crash left.
+/// opening or one that is refused. In a life it is refused, with frames in range, only where a call of the device failed (`Device`) or memory was refused
+/// (`Memory`), or with `Damaged` where 2^56 events of one transaction's undo took no end: never because of what a crash left.
 pub fn open<D: SectorDisk, K: ReadKeys + Probing>(
     alloc: Global,
     disk: D,
@@ -75,6 +75,7 @@ where
     K::Probe: Drop,
     ensures frames { ((16 ≤ frames) × (frames ≤ 4096) → ⊥) → result ≡ Err (record { why = Refusal.BadParameter; disk = disk }) }
     ensures small { 16 ≤ frames → frames ≤ 4096 → (D.state disk).sectors < 4232 → result ≡ Err (record { why = Refusal.TooSmall; disk = disk }) }
+    ensures faults { IfErr result (λ n. n.why ≡ Refusal.Device → (D.state disk).faults < (D.state n.disk).faults) }
     ensures refused { (D.state disk).honest ≡ true → 16 ≤ frames → frames ≤ 4096 → 4232 ≤ (D.state disk).sectors
         → IfErr result (λ n. IsRefused K.Key.Shape K.is_proper K.said (format_of K.KeyClass) (Makes K.Key.Shape K.is_proper K.said K.KeyClass D.state) D.state K.CLASS
         (D.state disk) (D.state n.disk) n.why) }

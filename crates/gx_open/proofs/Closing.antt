@@ -1,11 +1,14 @@
 -- The gates behind a log that was found and laid are closed, and an engine starts there.
 use Rattle.std.proofs.Common.{◌≡◌, ◌⊎◌, inl, inr, ℕ, ◌+◌, ◌-◌, ◌*◌, ◌<◌, ◌≤◌, Bool, true, false, None, List, [], ◌∷◌, length, refl, ap, sym, ◌∙◌, subst, arith}
 use Rattle.std.specs.Prelude.{IfErr, IfOk, MatchResult, Result, Ok, Err}
+use Rattle.std.proofs.lemmas.List.Sums.{count_by-le-length}
 use Rattle.std.proofs.lemmas.Bool.{leb-true}
 use Rattle.std.proofs.Math.Path.{fun_ext}
 use Rattle.gx_geom.specs.declared.refusal.Refusal.{Refusal}
 use Rattle.gx_geom.specs.declared.refusal.Refusal.TheVariants as refusal
 use Rattle.gx_disk.specs.Device.{Device}
+use Rattle.gx_driven.specs.Backlog.{backlog}
+use Rattle.gx_driven.proofs.Lessening.{few_left}
 use Rattle.gx_disk.specs.Moments.{Leaves}
 use Rattle.gx_disk.specs.Sectors.{sector_of}
 use Rattle.gx_disk.proofs.Leaving.{leaves_weaker, nothing_leaves}
@@ -40,12 +43,13 @@ use Rattle.gx_index_laws.specs.States.{engine_of}
 use Rattle.gx_index_laws.proofs.Keeping.{KeepsOne, found_keeps}
 use Rattle.gx_index_laws.proofs.Standing.{known_lawful}
 use Rattle.gx_machine.specs.declared.entry.Entry.{Entry}
-use Rattle.gx_machine.specs.Keys.{Members}
+use Rattle.gx_machine.specs.Keys.{Keys, Members}
 use Rattle.gx_node.specs.Reading.{Format, is_node}
 use Rattle.gx_opening.specs.declared.standing.Standing.{Standing}
 use Rattle.gx_opening.specs.Laid.{IsLaid}
 use Rattle.gx_opening.specs.Standing.{Stands, known_for, limits_of, reading}
 use Rattle.gx_pool.specs.Area.{IsPassing, bytes_of, first_of}
+use Rattle.gx_pool.specs.Marks.{is_dirty}
 use Rattle.gx_pool.specs.Readable.{IsReadable}
 use Rattle.gx_pool.specs.State.{State as Frames, kept}
 use Rattle.gx_readings.specs.Classes.{class_of}
@@ -67,6 +71,32 @@ use Rattle.gx_storage.specs.State.{Volume}
 use Rattle.gx_store.specs.Faults.{is_taken}
 use Rattle.gx_open.specs.Beginning.{HasBegun, HasFailed, HasFoundSet, HasNotBegun, HoldsFound, IsGoodLog, StartsFrom}
 use Rattle.gx_open.specs.Keeping.{StandsForFound}
+
+-- ---- an engine that starts
+
+-- it has less to flush than 2^13
+pub few_begun : {B D : Type 0} (k : Keys B) (start : Start B) (disk : D) (frames : ℕ) → start.frames ≡ frames → frames ≤ 4096 → (result : Result (Parts B D) (NotOpened D))
+    → IfOk result (Started k start disk) → IfOk result (λ engine. backlog engine < 8192)
+few_begun k start disk frames is few (Ok engine) started =
+    let all = count_by-le-length is_dirty engine.volume.shelf.frames.marks in
+    let count = started.frames.count in
+    few_left engine (omega (arith, all, count, is, few))
+few_begun k start disk frames is few (Err n) started = tt
+
+no_device : {B : Type 0} (k : Keys B) (start : Start B) (why : Refusal) → WhyNot k start why → why ≡ refusal.Device → ⊥
+no_device k start why (inl memory) is = let no : refusal.Memory ≡ refusal.Device = sym memory ∙ is in cc
+no_device k start why (inr damaged) is = let no : refusal.Damaged ≡ refusal.Device = sym damaged.0 ∙ is in cc
+
+-- and it makes no call of the device
+pub starts_quietly : {B D : Type 0} (state : D → Device) (k : Keys B) (start : Start B) (before : ℕ) (disk : D) → (state disk).faults ≡ before → (result : Result (Parts B D) (NotOpened D))
+    → IfOk result (Started k start disk) → IfErr result (λ n. (n.disk ≡ disk) × WhyNot k start n.why)
+    → MatchResult result (λ engine. before ≤ (state engine.volume.shelf.disk).faults) (λ n. n.why ≡ refusal.Device → before < (state n.disk).faults)
+starts_quietly {B} {D} state k start before disk same (Ok engine) started refused =
+    let there : (state engine.volume.shelf.disk).faults ≡ (state disk).faults = ap (λ (v : Volume D). (state v.shelf.disk).faults) started.volume in
+    omega (arith, there, same)
+starts_quietly state k start before disk same (Err n) started refused = λ is. absurd (no_device k start n.why refused.1 is)
+
+-- ---- the gates behind the log
 
 bodies_are : (seen : List ℕ) → open_bodies seen ≡ bodies_in seen (selected_of seen) (opened seen)
 unfolding open_bodies

@@ -3,6 +3,7 @@ use Rattle.std.proofs.Common.{◌≡◌, ◌⊎◌, inl, inr, ℕ, zero, suc, �
 use Rattle.std.specs.Prelude.{IfErr, IfOk, MatchResult, Result, Ok, Err}
 use Rattle.std.specs.List.{slice_index_or}
 use Rattle.gx_geom.specs.declared.refusal.Refusal.{Refusal}
+use Rattle.gx_geom.specs.declared.refusal.Refusal.TheVariants.{Device as DeviceRefusal}
 use Rattle.gx_class.specs.declared.class.KeyClass.{Ghosts}
 use Rattle.gx_disk.specs.Device.{Device, MayLeave}
 use Rattle.gx_disk.specs.Moments.{Leaves}
@@ -34,11 +35,23 @@ use Rattle.gx_phases.specs.States.{phase_at, slot_of, slots_of}
 use Rattle.gx_readings.specs.Classes.{class_of}
 use Rattle.gx_txn.specs.Tables.{Held}
 use Rattle.gx_driven.specs.Made.{Makes}
-use Rattle.gx_open.specs.Beginning.{HasBegun, HasNotBegun, HasStopped, HoldsFound}
+use Rattle.gx_open.specs.Beginning.{HasBegun, HasNotBegun, HasStopped, HoldsFound, IsSameDevice}
 use Rattle.gx_open.specs.Keeping.{ArePagesGood, IsKept, KeepsItsSet, OpensSafely, StandsForFound}
 use Rattle.gx_open.specs.Opened.{IsOpened, IsRefused, IsStopped}
 use Rattle.gx_open.specs.Undoing.{IsIdle}
 use Rattle.gx_open.proofs.Opened.{keeps_of, stands_so}
+
+-- where none failed before, a call that failed since then failed since before
+pub fails_later : {P D : Type 0} (state : D → Device) (before middle : ℕ) → before ≤ middle → (result : Result P (NotOpened D))
+    → IfErr result (λ n. n.why ≡ DeviceRefusal → middle < (state n.disk).faults) → IfErr result (λ n. n.why ≡ DeviceRefusal → before < (state n.disk).faults)
+fails_later state before middle low (Ok x) told = tt
+fails_later state before middle low (Err n) told = λ is. (let more = told is in omega (arith, low, more))
+
+-- a device that is the same since is the same since before
+pub device_later : {P D : Type 0} (state : D → Device) (of : P → Device) (before middle : Device) → IsSameDevice before middle → (result : Result P (NotOpened D))
+    → MatchResult result (λ x. IsSameDevice middle (of x)) (λ n. IsSameDevice middle (state n.disk)) → MatchResult result (λ x. IsSameDevice before (of x)) (λ n. IsSameDevice before (state n.disk))
+device_later state of before middle first (Ok x) same = (same.0 ∙ first.0, same.1 ∙ first.1)
+device_later state of before middle first (Err n) same = (same.0 ∙ first.0, same.1 ∙ first.1)
 
 -- a list of free slots
 free_place : {B W : Type 0} (phases : List (Phase B W)) (table : List (Held B)) (n : ℕ) → phase_at n phases ≡ phase.Free → slice_index_or (slots_of phases table) n slots.Free ≡ slots.Free

@@ -33,7 +33,7 @@ use Rattle.gx_driven.specs.Resting.{WorksOff}
 use Rattle.gx_driven.proofs.Making.{made_joined, made_more}
 use Rattle.gx_driven.proofs.Resting.{checkpoint_rests}
 use Rattle.gx_open.specs.Undoing.{AreFreeBelow, AreOfOpening, GoesBy, IsEndless, IsFreeAt, IsOfOpening, IsRefusal, IsRefusedAt, MayUndo, OnlyUndoes, WhyStopped, undone_by}
-use Rattle.gx_open.proofs.Phases.{FlushEnds, IsBusyAt, IsFault, IsFlush, MoveEnds, Stays, flush_busy, flush_ends, move_comes, stays_joined, stays_same, step_stays, unmoved}
+use Rattle.gx_open.proofs.Phases.{FlushEnds, IsBusyAt, IsFault, IsFlush, MoveEnds, Stays, fails_so, flush_busy, flush_ends, move_comes, stays_joined, stays_same, step_stays, unmoved}
 
 true_not : true ≡ false → ⊥
 true_not bad = cc
@@ -155,6 +155,43 @@ module _ {C B D : Type 0} (shape : Members B) (proper : B → Bool) (said : List
   pub goes_stays : (old new : Parts B D) → OnlyUndoes old → GoesBy makes old new → Stays state old new
   goes_stays old new undoes goes = all_stay goes.steps old new goes.of_opening undoes goes.made
 
+  abbrev fault_count : Parts B D → ℕ
+  fault_count e = (state e.volume.shelf.disk).faults
+
+  -- ---- an event that was refused as the device's fault
+
+  refused_flush : (event : Event B) (old new : Parts B D) (x : Refusal) → IsFlush event → makes old event (outcome.Refused x) new → x ≡ refusal.Device → fault_count old < fault_count new
+  refused_flush event old new x flush one is =
+      let now = subst (λ (y : Refusal). makes old event (outcome.Refused y) new) is one in
+      flush_ends state (keys_of shape) (known_at shape proper) (reading_of said (format_of class)) (format_of class) (is_node (format_of class)) class.is_key class.spelling class.KEY
+      event old new (outcome.Refused refusal.Device) flush now.comes
+
+  refused_rose : (event : Event B) (old new : Parts B D) (given : Outcome B) → IsOfOpening event → OnlyUndoes old → makes old event given new → IsRefusal event given refusal.Device
+      → fault_count old < fault_count new
+  refused_rose (Move s) old new (outcome.Replied r) is undoes one refused =
+      let now = subst (λ (q : Reply B). makes old (Move s) (outcome.Replied q) new) refused one in
+      (move_comes state (keys_of shape) (known_at shape proper) (reading_of said (format_of class)) (format_of class) (is_node (format_of class)) class.is_key class.spelling class.KEY
+      s old new (outcome.Replied (reply.Refused refusal.Device)) undoes now.comes).1
+  refused_rose (Move s) old new other is undoes one refused = absurd refused
+  refused_rose LogStep old new (outcome.Refused x) is undoes one refused = refused_flush LogStep old new x tt one refused
+  refused_rose LogStep old new other is undoes one refused = absurd refused
+  refused_rose (WritePage page) old new (outcome.Refused x) is undoes one refused = refused_flush (WritePage page) old new x tt one refused
+  refused_rose (WritePage page) old new other is undoes one refused = absurd refused
+  refused_rose CheckpointStep old new (outcome.Refused x) is undoes one refused = refused_flush CheckpointStep old new x tt one refused
+  refused_rose CheckpointStep old new other is undoes one refused = absurd refused
+  refused_rose (Ask s call) old new given is undoes one refused = absurd is
+  refused_rose (Sweep page) old new given is undoes one refused = absurd is
+
+  -- where an opening was stopped by the device's fault, a call failed since
+  pub stopped_rose : (old new : Parts B D) (why : Refusal) → OnlyUndoes old → WhyStopped makes old why new → why ≡ refusal.Device → fault_count old < fault_count new
+  stopped_rose old new why undoes (inl refused) is =
+      let before = goes_stays old refused.middle undoes refused.before in
+      let low = before.device.faults in
+      let more = refused_rose refused.event refused.middle new refused.outcome refused.is before.undoes refused.last_made
+      (subst (λ (x : Refusal). IsRefusal refused.event refused.outcome x) is refused.refused) in
+      omega (arith, low, more)
+  stopped_rose old new why undoes (inr endless) is = let no : refusal.Damaged ≡ refusal.Device = sym endless.0 ∙ is in let bad : ⊥ = cc in absurd bad
+
   -- ---- a checkpoint that is ended
 
   flush_end : (event : Event B) (old new : Parts B D) (given : Outcome B) → IsFlush event → makes old event given new → FlushEnds state old new given
@@ -203,12 +240,6 @@ module _ {C B D : Type 0} (shape : Members B) (proper : B → Bool) (said : List
     refused = refl;
   })
 
-  pub endless_goes : (old new : Parts B D) → IsGoingOn makes CheckpointStep old 72057594037927936 new → GoesBy makes old new
-  endless_goes old new on = going_on_goes makes old new 72057594037927936 on
-
-  pub endless_why : (old new : Parts B D) → IsGoingOn makes CheckpointStep old 72057594037927936 new → WhyStopped makes old refusal.Damaged new
-  endless_why old new on = inr (refl, (old, inl on))
-
   -- ---- a session's moves to their end
 
   -- what the reply that ended them says
@@ -250,7 +281,7 @@ module _ {C B D : Type 0} (shape : Members B) (proper : B → Bool) (said : List
   flush_to s event old new outcome.Nothing at flush is refusal one ends =
       record { undoes = (one_stays old new event outcome.Nothing is at.undoes one).undoes; works = ends ∙ at.works; busy = busy_on event old new outcome.Nothing (s - 1) flush one at.busy }
   flush_to s event old new (outcome.Refused why) at flush is refusal one ends =
-      (ends, refused_now s old new event (outcome.Refused why) why at is one (refusal why))
+      (fails_so state old new why ends, refused_now s old new event (outcome.Refused why) why at is one (refusal why))
   flush_to s event old new (outcome.Replied r) at flush is refusal one ends = absurd ends
   flush_to s event old new (outcome.Help help) at flush is refusal one ends = absurd ends
 
@@ -261,7 +292,7 @@ module _ {C B D : Type 0} (shape : Members B) (proper : B → Bool) (said : List
 
   replied_to : (s : ℕ) (old new : Parts B D) (r : Reply B) → IsAt s old → makes old (Move s) (outcome.Replied r) new → MoveEnds state s old new (outcome.Replied r) → EndsBy s old new r
   replied_to s old new reply.Aborted at one ends = ends
-  replied_to s old new (reply.Refused why) at one ends = (ends, refused_now s old new (Move s) (outcome.Replied (reply.Refused why)) why at tt one refl)
+  replied_to s old new (reply.Refused why) at one ends = (fails_so state old new why ends, refused_now s old new (Move s) (outcome.Replied (reply.Refused why)) why at tt one refl)
   replied_to s old new other at one ends = absurd ends
 
   refused_to : (s : ℕ) (old new : Parts B D) (why : Refusal) → is_session s ≡ true → IsAt s old → MoveEnds state s old new (outcome.Refused why) → EndsBy s old new (reply.Refused why)
@@ -391,7 +422,7 @@ module _ {C B D : Type 0} (shape : Members B) (proper : B → Bool) (said : List
 
   pub undo_so : (s : ℕ) (old new : Parts B D) (reply : Option (Reply B)) → is_session s ≡ true → OnlyUndoes old → WorksOff old → Drives s old new reply
       → UndoneSo s old new (undone_by reply)
-  undo_so s old new None there undoes works up = inr (refl, (old, inr (s, up)))
+  undo_so s old new None there undoes works up = inr (refl, (old, s, up))
   undo_so s old new (Some r) there undoes works driven =
       driven_undone s old new r there undoes works driven (free_or_busy (phase_at (s - 1) old.sessions.phases) (undoes (s - 1)))
 

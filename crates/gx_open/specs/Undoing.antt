@@ -14,7 +14,6 @@ use Rattle.gx_phases.specs.States.{phase_at}
 use Rattle.gx_engine.specs.States.{Parts}
 use Rattle.gx_driven.specs.Driven.{IsGivenUp}
 use Rattle.gx_driven.specs.Made.{AreMade}
-use Rattle.gx_driven.specs.Repeated.{IsGoingOn}
 use Rattle.gx_driven.specs.Resting.{WorksOff}
 
 -- a session is free, or undoes
@@ -87,9 +86,9 @@ module _ {B D : Type 0} (makes : Parts B D → Event B → Outcome B → Parts B
     pub last_made : makes middle event outcome new
     pub refused : IsRefusal event outcome why
 
-  -- 2^56 steps of a checkpoint didn't end it; or 2^56 events didn't end a session's undo
+  -- 2^56 events didn't end a session's undo
   abbrev pub IsEndless : Parts B D → Type 0
-  IsEndless new = (old : Parts B D) × (IsGoingOn makes CheckpointStep old 72057594037927936 new ⊎ ((s : ℕ) × IsGivenUp makes s (Move s) old new))
+  IsEndless new = (old : Parts B D) × (s : ℕ) × IsGivenUp makes s (Move s) old new
 
   -- why an opening was stopped: an event was refused, or they took no end
   abbrev pub WhyStopped : Parts B D → Refusal → Parts B D → Type 0

@@ -2,6 +2,7 @@
 ghost use Rattle.std.specs.Prelude.{◌≡◌, ◌≤◌, ◌<◌, ◌+◌, ◌*◌, ℕ, List, false, true, Err, IfErr, IfOk, MatchResult};
 ghost use Rattle.gx_node.specs.Reading.{format_of};
 ghost use Rattle.gx_glog.specs.declared.parameters.Parameters.{Parameters};
+ghost use Rattle.gx_driven.specs.Backlog.{backlog};
 ghost use Rattle.gx_driven.specs.Made.{Makes};
 ghost use Rattle.gx_opening.specs.Formatted.{IsAllowed};
 ghost use Rattle.gx_opening.specs.Standing.{MayStart, Stands};
@@ -35,8 +36,10 @@ where
     K::Probe: Drop,
     requires undoes { OnlyUndoes engine }
     requires works { engine.sessions.failed ≡ false }
+    requires few { backlog engine < 8192 }
     ensures device { MatchResult result (λ new. IsSameDevice (D.state engine.volume.shelf.disk) (D.state new.volume.shelf.disk))
         (λ n. IsSameDevice (D.state engine.volume.shelf.disk) (D.state n.disk)) }
+    ensures faults { IfErr result (λ n. n.why ≡ Refusal.Device → (D.state engine.volume.shelf.disk).faults < (D.state n.disk).faults) }
     ensures idle { IfOk result IsIdle }
     ensures keeps { (p : Parameters) (seen : List ℕ) → 4 ≤ p.most → HoldsFound K.Key.Shape K.is_proper K.said (format_of K.KeyClass) p seen (D.state engine.volume.shelf.disk) engine
         → MatchResult result
@@ -69,6 +72,7 @@ where
     requires inside { 4168 + 8 * standing.now.parameters.pages ≤ (D.state disk).sectors }
     requires frames { frames ≤ 4096 }
     ensures device { MatchResult result (λ engine. IsSameDevice (D.state disk) (D.state engine.volume.shelf.disk)) (λ n. IsSameDevice (D.state disk) (D.state n.disk)) }
+    ensures faults { IfErr result (λ n. n.why ≡ Refusal.Device → (D.state disk).faults < (D.state n.disk).faults) }
     ensures idle { IfOk result IsIdle }
     ensures keeps { (a : D) → (D.state disk).honest ≡ true → Stands K.Key.Shape K.is_proper K.said (format_of K.KeyClass) K.CLASS (D.state a) (D.state disk) standing.now
         → MatchResult result
@@ -93,6 +97,7 @@ where
     requires frames { frames ≤ 4096 }
     ensures small { (D.state disk).sectors < 4232 → result ≡ Err (record { why = Refusal.TooSmall; disk = disk }) }
     ensures device { MatchResult result (λ engine. IsSameDevice (D.state disk) (D.state engine.volume.shelf.disk)) (λ n. IsSameDevice (D.state disk) (D.state n.disk)) }
+    ensures faults { IfErr result (λ n. n.why ≡ Refusal.Device → (D.state disk).faults < (D.state n.disk).faults) }
     ensures idle { IfOk result IsIdle }
     ensures safe { (D.state disk).honest ≡ true → MatchResult result
         (λ engine. OpensSafely K.Key.Shape K.is_proper K.said (format_of K.KeyClass) (D.state disk) (D.state engine.volume.shelf.disk))
@@ -120,8 +125,8 @@ where
 /// device with fewer sectors than the smallest index takes (`TooSmall`; no call is made before these two), without the magic
 /// (`NotFormatted`), with numbers out of range or of another class (`BadParameter`), with fewer sectors than that index takes
 /// (`TooSmall`), with a damaged log, or pages that can't be read, aren't a legal tree, or haven't what open transactions touched in its place
-/// (`Damaged`); and where a call fails (`Device`), or memory is refused (`Memory`). Where 2^56 events of the checkpoint or of one
-/// transaction's undo take no end it is given up, with `Damaged`.
+/// (`Damaged`); and where a call fails (`Device`, and only then), or memory is refused (`Memory`). Where 2^56 events of one transaction's undo
+/// take no end it is given up, with `Damaged`.
 ///
 /// On an honest device, at each moment, also where it is refused, a crash may leave what it could at the start, or an image with the log that
 /// was found and after it the same pages; where these are good for the log, that stands for the set that the log keeps, under its
@@ -136,6 +141,7 @@ where
     ensures frames { ((16 ≤ frames) × (frames ≤ 4096) → ⊥) → result ≡ Err (record { why = Refusal.BadParameter; disk = disk }) }
     ensures small { 16 ≤ frames → frames ≤ 4096 → (D.state disk).sectors < 4232 → result ≡ Err (record { why = Refusal.TooSmall; disk = disk }) }
     ensures device { MatchResult result (λ engine. IsSameDevice (D.state disk) (D.state engine.volume.shelf.disk)) (λ n. IsSameDevice (D.state disk) (D.state n.disk)) }
+    ensures faults { IfErr result (λ n. n.why ≡ Refusal.Device → (D.state disk).faults < (D.state n.disk).faults) }
     ensures idle { IfOk result IsIdle }
     ensures safe { (D.state disk).honest ≡ true → MatchResult result
         (λ engine. OpensSafely K.Key.Shape K.is_proper K.said (format_of K.KeyClass) (D.state disk) (D.state engine.volume.shelf.disk))

@@ -6,3 +6,4 @@ pub mod Sounding
 pub mod Bridging
 pub mod Found
 pub mod Stood
+pub mod Faults

@@ -47,6 +47,11 @@ abbrev pub FaultsAre : {T : Type 0} → (before now : ℕ) → Result T Refusal 
 FaultsAre before now (Ok x) = now ≡ before
 FaultsAre before now (Err why) = now ≡ before + faults_of why
 
+-- No fewer calls have failed than before, and more where that is told.
+pub record TellsFaults {T : Type 0} (before now : ℕ) (result : Result T Refusal) : Type 0 where
+  pub no_fewer : before ≤ now
+  pub more : result ≡ Err Device → before < now
+
 -- The device has as many sectors and is as honest, and no write is made: so many syncs at most. A call that failed is told.
 pub record Counted {T : Type 0} (syncs : ℕ) (old new : disk.Device) (result : Result T Refusal) : Type 0 where
   pub sectors : new.sectors ≡ old.sectors

@@ -12,6 +12,7 @@ ghost use Rattle.gx_tree_laws.specs.Legal.{Legal};
 ghost use Rattle.gx_tree_laws.specs.Lists.{Each};
 ghost use Rattle.gx_legality.specs.Gathered.{Ascends};
 ghost use Rattle.gx_legality.specs.Placing.{IsPlaced, noted};
+ghost use Rattle.gx_opening.specs.Formatted.{TellsFaults};
 ghost use Rattle.gx_opening.specs.Noting.{AreOfOthers};
 ghost use Rattle.gx_opening.specs.Sound.{AllInPlace, AreClean, AreSound, CanAllBeRead, CanReadStore, IsCause, IsDamage, IsShownSound, IsSoundStore, IsSteadyStore, OnlyReadsStore, Tells, shown_tree};
 
@@ -60,6 +61,7 @@ fn store_refusal(fault: StoreFault) -> Refusal
 // What a refusal of a test is.
 fn test_refusal(fault: LegalityFault<StoreFault>) -> Refusal
     ensures damaged { result ≡ Refusal.Damaged → IsDamage fault }
+    ensures device { result ≡ Refusal.Device → fault ≡ LegalityFault.Pages StoreFault.Device }
     ensures cause { IsCause result }
 {
     match fault {
@@ -73,6 +75,7 @@ fn test_refusal(fault: LegalityFault<StoreFault>) -> Refusal
 fn test_readable<D: SectorDisk, K: ReadKeys>(store: &mut PageStore<D, K>) -> Result<(), Refusal>
     ensures cause { IfErr result IsCause }
     ensures reads { OnlyReadsStore (format_of K.KeyClass) (is_node (format_of K.KeyClass)) D.state store.old store.new }
+    ensures faults { result ≡ Err Refusal.Device → (D.state store.old.disk).faults < (D.state store.new.disk).faults }
     ensures read { IsSteadyStore (format_of K.KeyClass) (is_node (format_of K.KeyClass)) D.state store.old → AreClean store.old.frames
         → OnOk result (CanAllBeRead (is_node (format_of K.KeyClass) store.old.pages) store.old.used (D.state store.old.disk).seen) }
     ensures refused { IsSteadyStore (format_of K.KeyClass) (is_node (format_of K.KeyClass)) D.state store.old
@@ -97,6 +100,7 @@ fn test_legal<D: SectorDisk, K: ReadKeys>(
 ) -> Result<(), Refusal>
     ensures cause { IfErr result IsCause }
     ensures reads { OnlyReadsStore (format_of K.KeyClass) (is_node (format_of K.KeyClass)) D.state store.old store.new }
+    ensures faults { result ≡ Err Refusal.Device → (D.state store.old.disk).faults < (D.state store.new.disk).faults }
     ensures legal { IsSteadyStore (format_of K.KeyClass) (is_node (format_of K.KeyClass)) D.state store.old → CanReadStore (format_of K.KeyClass) (is_node (format_of K.KeyClass)) D.state store.old
         → Tells (Legal (rules_of K.Key.Shape most) (shown_tree (format_of K.KeyClass) (is_node (format_of K.KeyClass)) D.state store.old)) result }
 {
@@ -116,6 +120,7 @@ fn test_notes<D: SectorDisk, K: ReadKeys>(
 ) -> Result<(), Refusal>
     ensures cause { IfErr result IsCause }
     ensures reads { OnlyReadsStore (format_of K.KeyClass) (is_node (format_of K.KeyClass)) D.state store.old store.new }
+    ensures faults { result ≡ Err Refusal.Device → (D.state store.old.disk).faults < (D.state store.new.disk).faults }
     ensures placed { (most : ℕ) → IsSteadyStore (format_of K.KeyClass) (is_node (format_of K.KeyClass)) D.state store.old → CanReadStore (format_of K.KeyClass) (is_node (format_of K.KeyClass)) D.state store.old
         → Legal (rules_of K.Key.Shape most) (shown_tree (format_of K.KeyClass) (is_node (format_of K.KeyClass)) D.state store.old)
         → Ascends (entry_cmp (keys_of K.Key.Shape)) (noted notes.now)
@@ -138,6 +143,7 @@ fn test_touched<D: SectorDisk, K: ReadKeys>(
 ) -> Result<(), Refusal>
     ensures cause { IfErr result IsCause }
     ensures reads { OnlyReadsStore (format_of K.KeyClass) (is_node (format_of K.KeyClass)) D.state store.old store.new }
+    ensures faults { result ≡ Err Refusal.Device → (D.state store.old.disk).faults < (D.state store.new.disk).faults }
     ensures placed { (most : ℕ) → IsSteadyStore (format_of K.KeyClass) (is_node (format_of K.KeyClass)) D.state store.old → CanReadStore (format_of K.KeyClass) (is_node (format_of K.KeyClass)) D.state store.old
         → Legal (rules_of K.Key.Shape most) (shown_tree (format_of K.KeyClass) (is_node (format_of K.KeyClass)) D.state store.old)
         → AreOfOthers (entry_cmp (keys_of K.Key.Shape)) touched.now
@@ -158,6 +164,7 @@ fn test_shown<D: SectorDisk, K: ReadKeys>(
 ) -> Result<(), Refusal>
     ensures cause { IfErr result IsCause }
     ensures reads { OnlyReadsStore (format_of K.KeyClass) (is_node (format_of K.KeyClass)) D.state store.old store.new }
+    ensures faults { result ≡ Err Refusal.Device → (D.state store.old.disk).faults < (D.state store.new.disk).faults }
     ensures shown { IsSteadyStore (format_of K.KeyClass) (is_node (format_of K.KeyClass)) D.state store.old → CanReadStore (format_of K.KeyClass) (is_node (format_of K.KeyClass)) D.state store.old
         → AreOfOthers (entry_cmp (keys_of K.Key.Shape)) touched.now
         → Tells (IsShownSound (rules_of K.Key.Shape most) touched.now (shown_tree (format_of K.KeyClass) (is_node (format_of K.KeyClass)) D.state store.old)) result }
@@ -178,6 +185,7 @@ fn test_store<D: SectorDisk, K: ReadKeys>(
 ) -> Result<(), Refusal>
     ensures cause { IfErr result IsCause }
     ensures reads { OnlyReadsStore (format_of K.KeyClass) (is_node (format_of K.KeyClass)) D.state store.old store.new }
+    ensures faults { result ≡ Err Refusal.Device → (D.state store.old.disk).faults < (D.state store.new.disk).faults }
     ensures tested { IsSteadyStore (format_of K.KeyClass) (is_node (format_of K.KeyClass)) D.state store.old → AreClean store.old.frames → AreOfOthers (entry_cmp (keys_of K.Key.Shape)) touched.now
         → Tells (IsSoundStore (format_of K.KeyClass) (is_node (format_of K.KeyClass)) D.state (rules_of K.Key.Shape most) touched.now store.old) result }
 {
@@ -197,6 +205,7 @@ fn test_over<D: SectorDisk, K: ReadKeys>(
 ) -> (D, Result<(), Refusal>)
     ensures cause { IfErr result.1 IsCause }
     ensures read { OnlyRead (D.state store.disk) (D.state result.0) }
+    ensures faults { TellsFaults (D.state store.disk).faults (D.state result.0).faults result.1 }
     ensures tested { IsSteadyStore (format_of K.KeyClass) (is_node (format_of K.KeyClass)) D.state store → AreClean store.frames → AreOfOthers (entry_cmp (keys_of K.Key.Shape)) touched.now
         → Tells (IsSoundStore (format_of K.KeyClass) (is_node (format_of K.KeyClass)) D.state (rules_of K.Key.Shape most) touched.now store) result.1 }
 {
@@ -222,6 +231,7 @@ pub(crate) fn test_pages<D: SectorDisk, K: ReadKeys>(
     ensures fits { IfOk result.1 (λ _. analysis.now.told.used ≤ pages) }
     ensures cause { IfErr result.1 IsCause }
     ensures read { OnlyRead (D.state disk) (D.state result.0) }
+    ensures faults { TellsFaults (D.state disk).faults (D.state result.0).faults result.1 }
     ensures tested { (l : Limits) → l.pages ≡ pages → l.most ≡ most → (D.state disk).honest ≡ true → AreOfOthers (entry_cmp (keys_of K.Key.Shape)) analysis.now.told.touched
         → Tells (AreSound (known_of (class_of K.Key.Shape K.is_proper l)) (reading_of K.said (format_of K.KeyClass)) (is_node (format_of K.KeyClass) pages) analysis.now.told (D.state disk).seen) result.1 }
 {

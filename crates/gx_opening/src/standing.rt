@@ -5,7 +5,7 @@ ghost use Rattle.gx_node.specs.Reading.{format_of, is_node};
 ghost use Rattle.gx_pool.specs.Bringing.{OnlyRead};
 ghost use Rattle.gx_index_laws.specs.Classes.{known_of};
 ghost use Rattle.gx_readings.specs.Classes.{class_of, reading_of};
-ghost use Rattle.gx_opening.specs.Formatted.{IsAllowed, IsLarge};
+ghost use Rattle.gx_opening.specs.Formatted.{IsAllowed, IsLarge, TellsFaults};
 ghost use Rattle.gx_opening.specs.Noting.{AreOfOthers};
 ghost use Rattle.gx_opening.specs.Sound.{AreSound, IsCause, Tells};
 ghost use Rattle.gx_opening.specs.Standing.{IsStood, IsTested, MayStart, StaysSafe, limits_of, told_with};
@@ -37,6 +37,7 @@ fn stand<D: SectorDisk, K: ReadKeys>(
     disk: &mut D,
 ) -> Result<Standing<K::Key>, Refusal>
     ensures device { ((D.state disk.new).sectors ≡ (D.state disk.old).sectors) × ((D.state disk.new).honest ≡ (D.state disk.old).honest) }
+    ensures faults { TellsFaults (D.state disk.old).faults (D.state disk.new).faults result }
     ensures allowed { IfOk result (λ s. IsAllowed K.CLASS s.parameters × IsLarge (D.state disk.old).sectors s.parameters) }
     ensures bodies { IfOk result (λ s. (1 ≤ s.log.bodies) × (s.log.bodies ≤ 32)) }
     ensures small { (D.state disk.old).sectors < 4232 → (result ≡ Err Refusal.TooSmall) × (disk.new ≡ disk.old) }
@@ -75,6 +76,7 @@ fn tested<D: SectorDisk, K: ReadKeys>(
 ) -> (D, Result<Standing<K::Key>, Refusal>)
     requires inside { (standing.parameters.pages ≤ 65536) × (4168 + 8 * standing.parameters.pages ≤ (D.state disk).sectors) }
     ensures read { OnlyRead (D.state disk) (D.state result.0) }
+    ensures faults { TellsFaults (D.state disk).faults (D.state result.0).faults result.1 }
     ensures ok { IfOk result.1 (λ s. s ≡ standing) }
     ensures fits { IfOk result.1 (λ s. s.log.analysis.told.used ≤ s.parameters.pages) }
     ensures cause { IfErr result.1 IsCause }
@@ -100,6 +102,7 @@ pub fn find<D: SectorDisk, K: ReadKeys>(
     disk: D,
 ) -> (D, Result<Standing<K::Key>, Refusal>)
     ensures device { ((D.state result.0).sectors ≡ (D.state disk).sectors) × ((D.state result.0).honest ≡ (D.state disk).honest) }
+    ensures faults { TellsFaults (D.state disk).faults (D.state result.0).faults result.1 }
     ensures allowed { IfOk result.1 (λ s. IsAllowed K.CLASS s.parameters × IsLarge (D.state disk).sectors s.parameters) }
     ensures starts { IfOk result.1 MayStart }
     ensures small { (D.state disk).sectors < 4232 → (result.1 ≡ Err Refusal.TooSmall) × (result.0 ≡ disk) }

@@ -1,6 +1,6 @@
 use Rattle.gx_node.specs.Reading.{format_of}
 use Rattle.gx_driven.specs.Made.{Makes}
-use Rattle.gx_open.proofs.Ends.{later, not_begun_stopped}
+use Rattle.gx_open.proofs.Ends.{device_later, fails_later, later, not_begun_stopped}
 use Rattle.gx_open.proofs.opening.open_over.Goals as goal
 
 pub returns-in-Ok-clause-keeps : goal.returns-in-Ok-clause-keeps
@@ -13,3 +13,10 @@ returns-in-Ok-clause-keeps g c = λ a honest st.
 pub returns-in-Err-clause-keeps : goal.returns-in-Err-clause-keeps
 returns-in-Err-clause-keeps g c = λ a honest st.
     not_begun_stopped (record { partial_cmp = g.K.Key.PartialOrd.partial_cmp; eq = g.K.Key.PartialEq.eq; cmp = g.K.Key.Ord.cmp; overlap = g.K.Key.Shape.overlap; inside = g.K.Key.Shape.inside }) g.K.ReadKeys.is_proper g.K.ReadKeys.said (format_of g.K.KeyClass) (Makes (record { partial_cmp = g.K.Key.PartialOrd.partial_cmp; eq = g.K.Key.PartialEq.eq; cmp = g.K.Key.Ord.cmp; overlap = g.K.Key.Shape.overlap; inside = g.K.Key.Shape.inside }) g.K.ReadKeys.is_proper g.K.ReadKeys.said g.K.KeyClass g.D.SectorDisk.state) g.D.SectorDisk.state c.args.standing.now.parameters _ _ _ _ (c.in-Err.ensures.begun a honest st)
+
+pub returns-in-Ok-clause-faults : goal.returns-in-Ok-clause-faults
+returns-in-Ok-clause-faults g c = fails_later g.D.SectorDisk.state _ _ c.in-Ok.ensures.faults c.finished.result c.finished.ensures.faults
+
+pub returns-in-Ok-clause-device : goal.returns-in-Ok-clause-device
+returns-in-Ok-clause-device g c =
+    device_later g.D.SectorDisk.state (λ engine. g.D.SectorDisk.state engine.volume.shelf.disk) (g.D.SectorDisk.state c.args.disk) (g.D.SectorDisk.state c.in-Ok.engine.volume.shelf.disk) c.in-Ok.ensures.device c.finished.result c.finished.ensures.device

@@ -2,7 +2,7 @@ use Rattle.std.proofs.Common.{◌∙◌}
 use Rattle.gx_machine.specs.Keys.{Members}
 use Rattle.gx_node.specs.Reading.{format_of}
 use Rattle.gx_opening.specs.Standing.{limits_of}
-use Rattle.gx_open.proofs.Ends.{came_opened, came_refused, came_safe, enough_of, stands_of}
+use Rattle.gx_open.proofs.Ends.{came_opened, came_refused, came_safe, enough_of, fails_later, stands_of}
 use Rattle.gx_open.proofs.opening.open_with.Goals as goal
 
 pub returns-in-Ok-clause-safe : goal.returns-in-Ok-clause-safe
@@ -48,3 +48,6 @@ returns-in-Ok-clause-refused g c = λ honest enough.
     let st = stands_of shape proper said (format_of class) _ (state a) (state m) c.find-disk.result.1 s c.in-Ok.is (c.find-disk.ensures.tested honest enough) in
     let came = c.open_over.ensures.keeps a (c.find-disk.ensures.device.1 ∙ honest) st in
     came_refused shape proper said class state _ a m s st c.open_over.result came)
+
+pub returns-in-Ok-clause-faults : goal.returns-in-Ok-clause-faults
+returns-in-Ok-clause-faults g c = fails_later g.D.SectorDisk.state _ _ c.find-disk.ensures.faults.no_fewer c.open_over.result c.open_over.ensures.faults

@@ -1,5 +1,6 @@
 use Rattle.std.proofs.Common.{◌∙◌, refl, subst, arith}
 use Rattle.gx_machine.specs.Keys.{Members, entry_cmp, keys_of}
+use Rattle.gx_opening.specs.Formatted.{TellsFaults}
 use Rattle.gx_opening.specs.Noting.{AreOfOthers}
 use Rattle.gx_node.specs.Reading.{format_of, is_node}
 use Rattle.gx_pool.specs.Bringing.{OnlyRead}
@@ -19,3 +20,8 @@ returns-clause-tested g c = λ l same most_is honest others.
     c.args.pages same c.args.most most_is (omega (arith, c.used-used.ensures, c.if-pages-used.false)) c.new-store.result c.test_over.result.1 (c.new-store.ensures ∙ rw (c.used-used.ensures, c.counter.ensures) refl)
     (c.a_store_starts.ensures.steady c.args.disk c.in-Ok.pool.frames 16 c.in-Ok.ensures.0 honest)
     (AreOfOthers (entry_cmp (keys_of shape))) c.touched.result.now c.touched.ensures others c.test_over.ensures.tested)
+
+pub returns-clause-faults : goal.returns-clause-faults
+returns-clause-faults g c =
+    subst (λ (s : Shelf g.row.D.Denot). TellsFaults (g.D.SectorDisk.state s.disk).faults (g.D.SectorDisk.state c.test_over.result.0).faults c.test_over.result.1) c.new-store.ensures
+    c.test_over.ensures.faults

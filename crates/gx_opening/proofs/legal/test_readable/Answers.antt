@@ -1,5 +1,5 @@
-use Rattle.std.proofs.Common.{◌≡◌, ◌+◌, arith, subst}
-use Rattle.gx_geom.specs.declared.refusal.Refusal.TheVariants.{Damaged}
+use Rattle.std.proofs.Common.{◌≡◌, ◌+◌, ◌<◌, arith, subst}
+use Rattle.gx_geom.specs.declared.refusal.Refusal.TheVariants.{Damaged, Device}
 use Rattle.gx_node.specs.Reading.{format_of, is_node}
 use Rattle.gx_legality.proofs.Children.{reads_more}
 use Rattle.gx_store.specs.Faults.{IsWhy}
@@ -46,3 +46,17 @@ returns-clause-read g c = λ steady clean page low high.
     let f = format_of g.K.KeyClass in
     let long = nodes_long (standing_node f start.frames (g.D.SectorDisk.state start.disk).seen) start.used in
     c.loop-before.invariant.read steady clean page low (omega (arith, high, long, c.used-used.ensures, c.loop-before-test.false)))
+
+pub returns-in-Err-clause-faults : goal.returns-in-Err-clause-faults
+returns-in-Err-clause-faults g c = λ is.
+    (let f = format_of g.K.KeyClass in
+    let passes = is_node f in
+    let state = g.D.SectorDisk.state in
+    let start = c.args.store.now in
+    let mid = c.loop-before.store in
+    let new = c.bring.new.self in
+    let so : c.store_refusal.result ≡ Device = cc in
+    let low = (since_all f passes state start mid c.loop-before.invariant.reads (λ page. c.going_on.ensures.begins start page) 1).goes_on.faults in
+    let more : (state mid.disk).faults < (state new.disk).faults =
+    subst (λ (x : StoreFault). IsWhy passes (state mid.disk) (state new.disk) mid new x) (c.store_refusal.ensures.device so) c.in-Err.ensures.why in
+    omega (arith, low, more))

@@ -1,8 +1,8 @@
-use Rattle.std.proofs.Common.{Err, ap}
+use Rattle.std.proofs.Common.{Err, ap, arith}
 use Rattle.gx_machine.specs.Keys.{Members}
 use Rattle.gx_node.specs.Reading.{format_of, is_node}
 use Rattle.gx_tree.specs.Keyed.{rules_of}
-use Rattle.gx_opening.proofs.Sounding.{can_be_read, can_still, sound_before}
+use Rattle.gx_opening.proofs.Sounding.{can_be_read, can_still, since_all, sound_before}
 use Rattle.gx_opening.proofs.legal.test_store.Goals as goal
 
 pub returns-in-Ok-clause-tested : goal.returns-in-Ok-clause-tested
@@ -22,3 +22,13 @@ returns-in-Ok-clause-tested g c = λ steady clean others.
 pub returns-in-Err-clause-tested : goal.returns-in-Err-clause-tested
 returns-in-Err-clause-tested g c = λ steady clean others is sound.
     c.in-Err.ensures.refused steady (ap (λ w. Err w) is) (can_be_read (is_node (format_of g.K.KeyClass)) (g.D.SectorDisk.state c.args.store.now.disk) c.args.store.now sound.read)
+
+pub returns-in-Ok-clause-faults : goal.returns-in-Ok-clause-faults
+returns-in-Ok-clause-faults g c = λ is.
+    (let f = format_of g.K.KeyClass in
+    let passes = is_node f in
+    let state = g.D.SectorDisk.state in
+    let start = c.args.store.now in
+    let low = (since_all f passes state start c.test_readable.new.store c.in-Ok.ensures.reads (λ page. c.going_on.ensures.begins start page) 1).goes_on.faults in
+    let more = c.test_shown.ensures.faults is in
+    omega (arith, low, more))

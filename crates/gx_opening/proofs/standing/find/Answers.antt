@@ -2,6 +2,7 @@ use Rattle.std.proofs.Common.{◌∙◌}
 use Rattle.gx_machine.specs.Keys.{Members}
 use Rattle.gx_node.specs.Reading.{format_of}
 use Rattle.gx_opening.specs.Standing.{known_for, limits_of, reading}
+use Rattle.gx_opening.proofs.Faults.{told_later}
 use Rattle.gx_opening.proofs.Stood.{cut_off_others, may_start, read_safe, tested_so}
 use Rattle.gx_opening.proofs.standing.find.Goals as goal
 
@@ -35,3 +36,6 @@ returns-in-Ok-clause-tested g c = λ honest large.
 
 pub returns-in-Ok-clause-starts : goal.returns-in-Ok-clause-starts
 returns-in-Ok-clause-starts g c = may_start c.tested.result.1 c.in-Ok.standing c.tested.ensures.ok c.in-Ok.ensures.bodies c.tested.ensures.fits
+
+pub returns-in-Ok-clause-faults : goal.returns-in-Ok-clause-faults
+returns-in-Ok-clause-faults g c = told_later _ _ _ _ c.in-Ok.ensures.faults.no_fewer c.tested.ensures.faults

@@ -1,7 +1,11 @@
 use Rattle.std.proofs.Common.{◌≤◌, ◌∙◌, inr, refl, arith}
+use Rattle.gx_found_log.specs.declared.found.FoundLog.{FoundLog}
+use Rattle.gx_glog.specs.declared.parameters.Parameters.{Parameters}
+use Rattle.gx_machine.specs.declared.entry.Entry.{Entry}
 use Rattle.gx_machine.specs.Keys.{Members}
 use Rattle.gx_node.specs.Reading.{format_of}
 use Rattle.gx_opening.specs.Standing.{limits_of}
+use Rattle.gx_opening.proofs.Faults.{are_told, found_told, told_later, told_same}
 use Rattle.gx_opening.proofs.Stood.{formatted_so, laid_so, stood_safe, unlaid_so}
 use Rattle.gx_opening.proofs.standing.stand.Goals as goal
 
@@ -76,3 +80,16 @@ returns-in-Err-lay_log-clause-stood g c = λ honest large.
     let formatted = formatted_so shape proper said f _ a b p enough settles in
     let lays = c.in-Err-lay_log.ensures.lays (limits_of p) refl (c.what_stands_is_legal.ensures.lawful (limits_of p)) (c.in-Ok.ensures.counted.honest ∙ honest) settles.settled in
     inr (unlaid_so shape proper said f _ a b e p formatted.says settles.only c.in-Err-lay_log.why formatted c.in-Err-lay_log.ensures.faults lays))
+
+pub returns-in-Ok-lay_log-clause-faults : goal.returns-in-Ok-lay_log-clause-faults
+returns-in-Ok-lay_log-clause-faults g c =
+    let same = c.in-Ok.ensures.counted.faults in
+    told_later _ _ _ _ (omega (arith, same)) (found_told _ _ _ c.in-Ok-lay_log.ensures.faults)
+
+pub returns-in-Err-lay_log-clause-faults : goal.returns-in-Err-lay_log-clause-faults
+returns-in-Err-lay_log-clause-faults g c =
+    let same = c.in-Ok.ensures.counted.faults in
+    told_later _ _ _ _ (omega (arith, same)) (told_same {U = FoundLog (Entry g.row.K-Key.Denot)} _ _ _ (found_told _ _ _ c.in-Err-lay_log.ensures.faults))
+
+pub returns-in-Err-clause-faults : goal.returns-in-Err-clause-faults
+returns-in-Err-clause-faults g c = told_same {U = Parameters} _ _ _ (are_told _ _ _ c.in-Err.ensures.counted.faults)

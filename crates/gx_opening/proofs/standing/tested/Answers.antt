@@ -1,5 +1,6 @@
 use Rattle.std.proofs.Common.{◌≤◌, refl}
 use Rattle.gx_opening.specs.Standing.{limits_of}
+use Rattle.gx_opening.proofs.Faults.{with_faults}
 use Rattle.gx_opening.proofs.Stood.{with_cause, with_known, with_same, with_told}
 use Rattle.gx_opening.proofs.standing.tested.Goals as goal
 
@@ -16,3 +17,6 @@ returns-clause-tested g c = λ honest others.
 pub returns-clause-fits : goal.returns-clause-fits
 returns-clause-fits g c =
     rw c.with_standing.ensures (with_known (λ s. s.log.analysis.told.used ≤ s.parameters.pages) c.test_pages-disk.result.1 c.args.standing c.test_pages-disk.ensures.fits)
+
+pub returns-clause-faults : goal.returns-clause-faults
+returns-clause-faults g c = rw c.with_standing.ensures (with_faults _ _ c.test_pages-disk.result.1 c.args.standing c.test_pages-disk.ensures.faults)
