@@ -3,7 +3,7 @@ ghost use Rattle.std.specs.Prelude.{◌≡◌};
 ghost use Rattle.std.specs.Io.KnownBytes.{Keeps};
 ghost use Rattle.gx_device_commands.specs.Dumping.{DumpsIndex, DumpsOver, TellsDump, index_over};
 
-use crate::opening::opened;
+use crate::opening::{opened, refuse_opening};
 use crate::refusals::refuse;
 use crate::{DONE, REFUSED};
 use gx_class::{KeyClass, Probing};
@@ -84,6 +84,6 @@ where
 {
     match opened::<D, K>(alloc, disk, frames) {
         Ok(engine) => dump_engine(engine, writer, faults),
-        Err(refused) => refuse(writer, faults, refused.why),
+        Err(refused) => refuse_opening::<D, K, W, E>(alloc, refused, writer, faults),
     }
 }

@@ -1,8 +1,7 @@
 -- Each step of the log and of a checkpoint that did work, and each page's write, leaves less to flush.
-use Rattle.std.proofs.Common.{◌≡◌, ◌⊎◌, inl, inr, ℕ, zero, suc, ◌+◌, ◌*◌, ◌<◌, ◌≤◌, Bool, true, false, Option, None, Some, List, [], ◌∷◌, length, refl, ap, sym, ◌∙◌, subst, arith}
+use Rattle.std.proofs.Common.{◌≡◌, inl, inr, ℕ, ◌+◌, ◌<◌, ◌≤◌, Bool, true, false, Option, None, Some, List, [], ◌∷◌, length, refl, ap, sym, ◌∙◌, subst, arith}
 use Rattle.std.specs.Prelude.{nat_le, Result, Ok, Err}
 use Rattle.std.proofs.lemmas.Bool.{leb-true, le-leb}
-use Rattle.std.proofs.lemmas.List.Sums.{count_by-le-length}
 use Rattle.gx_geom.specs.declared.refusal.Refusal.{Refusal}
 use Rattle.gx_class.specs.declared.class.KeyClass.{Ghosts}
 use Rattle.gx_machine.specs.Keys.{Members}
@@ -11,8 +10,8 @@ use Rattle.gx_glog.specs.declared.stage.Stage.{Stage}
 use Rattle.gx_glog.specs.declared.stage.Stage.TheVariants.{Body, BodySync, Gate, GateSync, Idle}
 use Rattle.gx_glog.specs.declared.stage.Turn.{Turn}
 use Rattle.gx_glog.specs.declared.stage.Turn.TheVariants as turn
-use Rattle.gx_glog.specs.State.{Log, GoesFrom, Made, after, after_turn, begun, Turns, turned}
-use Rattle.gx_pool.specs.Marks.{is_dirty, is_gated}
+use Rattle.gx_glog.specs.State.{Log, GoesFrom, Made, after, after_turn, begun, Turns}
+use Rattle.gx_pool.specs.Marks.{is_gated}
 use Rattle.gx_pool.specs.State.{Kept, State as Frames, dirty_count, kept, stamp_of}
 use Rattle.gx_durable.specs.Steps.{told_frames}
 use Rattle.gx_durable.specs.Turns.{told_result}
@@ -23,7 +22,7 @@ use Rattle.gx_events.specs.declared.event.Event.TheVariants.{CheckpointStep}
 use Rattle.gx_events.specs.declared.outcome.Outcome.{Outcome}
 use Rattle.gx_engine.specs.declared.checkpoint.Checkpoint.{Checkpoint}
 use Rattle.gx_engine.specs.declared.checkpoint.Checkpoint.TheVariants.{Off, Running, Turning}
-use Rattle.gx_engine.specs.Checkpoints.{BeginsTurn, after_call, CheckpointSteps, HeadComes, RunsOn, StepsFrom, StepsOff, SyncComes, TurnsNext, TurnComes}
+use Rattle.gx_engine.specs.Checkpoints.{after_call, CheckpointSteps, HeadComes, RunsOn, StepsFrom, StepsOff, SyncComes, TurnsNext, TurnComes}
 use Rattle.gx_engine.specs.Flushing.{LogComes, LogGoes, LogSteps, PageComes, PageGoes, PageIsWritten}
 use Rattle.gx_engine.specs.States.{Parts, runs}
 use Rattle.gx_driven.specs.Backlog.{backlog, checkpoint_left, coming, fillings, flight_left, log_left, places, turn_left}

@@ -1,5 +1,5 @@
 -- Events one after another, one more at a time, and joined.
-use Rattle.std.proofs.Common.{◌≡◌, ℕ, ◌+◌, List, [], ◌∷◌, ◌++◌, length, length-append, refl, ap, sym, ◌∙◌, subst}
+use Rattle.std.proofs.Common.{◌≡◌, ℕ, ◌+◌, List, [], ◌∷◌, ◌++◌, length, length-append, refl, ap, ◌∙◌, subst}
 use Rattle.gx_events.specs.declared.event.Event.{Event}
 use Rattle.gx_events.specs.declared.outcome.Outcome.{Outcome}
 use Rattle.gx_driven.specs.Made.{AreMade}

@@ -1,19 +1,17 @@
 -- What checkpoint steps and log steps keep of the sessions, and what is left to do where there is nothing to do.
-use Rattle.std.proofs.Common.{◌≡◌, ◌⊎◌, inl, inr, ℕ, Bool, true, false, List, [], ◌∷◌, refl, ap, sym, ◌∙◌, subst}
-use Rattle.std.specs.Prelude.{nat_le, length, Ok, Err, Result, IfOk, Some, None, ◌≤◌}
+use Rattle.std.proofs.Common.{◌≡◌, inl, inr, Bool, true, false, [], refl, ap, sym, ◌∙◌, subst}
+use Rattle.std.specs.Prelude.{nat_le, Ok, Err, Result, IfOk}
 use Rattle.gx_geom.specs.declared.refusal.Refusal.{Refusal}
 use Rattle.gx_disk.specs.Device.{Device}
 use Rattle.gx_glog.specs.declared.stage.Stage.{Stage}
 use Rattle.gx_glog.specs.declared.stage.Stage.TheVariants.{Idle, Body, BodySync, Gate, GateSync}
-use Rattle.gx_glog.specs.State.{Log, Goes, GoesFrom, Made, begun}
-use Rattle.gx_events.specs.declared.event.Event.{Event}
-use Rattle.gx_events.specs.declared.event.Event.TheVariants.{CheckpointStep, LogStep}
+use Rattle.gx_glog.specs.State.{Log, GoesFrom, Made, begun}
 use Rattle.gx_events.specs.declared.outcome.Outcome.{Outcome}
 use Rattle.gx_events.specs.declared.outcome.Outcome.TheVariants as outcome
 use Rattle.gx_engine.specs.declared.checkpoint.Checkpoint.{Checkpoint}
 use Rattle.gx_engine.specs.declared.checkpoint.Checkpoint.TheVariants.{Off, Running, Turning}
-use Rattle.gx_engine.specs.Checkpoints.{CheckpointSteps, FindsNoPage, GatesNext, HeadComes, IsQuiet, RunsOn, StepsFrom, StepsOff, SyncComes, TurnComes, TurnsNext, WritesDirty, WritesNext, BeginsTurn}
-use Rattle.gx_engine.specs.Flushing.{IsEnded, LogComes, LogGoes, LogSteps, PageComes, PageIsWritten, log_outcome}
+use Rattle.gx_engine.specs.Checkpoints.{CheckpointSteps, HeadComes, IsQuiet, RunsOn, StepsFrom, StepsOff, SyncComes, TurnComes}
+use Rattle.gx_engine.specs.Flushing.{LogComes, LogGoes, LogSteps, PageComes}
 use Rattle.gx_phases.specs.States.{State as Sessions}
 use Rattle.gx_engine.specs.declared.work.Work.{Work}
 use Rattle.gx_engine.specs.States.{Parts, runs}

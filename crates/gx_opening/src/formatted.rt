@@ -92,7 +92,7 @@ fn test_parameters(parameters: &Parameters, class: u16, sectors: u64) -> Result<
 /// Refused, by the first that holds, where it has fewer sectors than the smallest index takes (`TooSmall`), where a call fails (`Device`), where its
 /// first eight bytes aren't the magic (`NotFormatted`), where the numbers are out of range or of another class (`BadParameter`), and
 /// where it has fewer sectors than that index takes (`TooSmall`). At Ok all is settled. Nothing reads otherwise than before.
-pub(crate) fn formatted_for<D: SectorDisk, K: KeyClass>(disk: &mut D) -> Result<Parameters, Refusal>
+pub fn formatted_for<D: SectorDisk, K: KeyClass>(disk: &mut D) -> Result<Parameters, Refusal>
     ensures counted { Counted 1 (D.state disk.old) (D.state disk.new) result }
     ensures allowed { IfOk result (λ parameters. IsAllowed K.CLASS parameters × IsLarge (D.state disk.old).sectors parameters) }
     ensures small { (D.state disk.old).sectors < 4232 → (result ≡ Err Refusal.TooSmall) × (disk.new ≡ disk.old) }

@@ -8,4 +8,6 @@ mod log;
 mod notes;
 mod standing;
 
+pub use formatted::formatted_for;
+pub use notes::notes_of;
 pub use standing::{Standing, find};

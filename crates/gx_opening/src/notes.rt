@@ -31,7 +31,7 @@ fn put<E: Copy + Ord>(notes: &mut Vec<Note<E>>, note: Note<E>) -> Result<(), All
 }
 
 /// A note of each touch, in the order of entries where no two are of one entry.
-pub(crate) fn notes_of<E: Copy + Ord>(
+pub fn notes_of<E: Copy + Ord>(
     alloc: Global,
     touched: &[Touch<E>],
 ) -> Result<Vec<Note<E>>, AllocError>

@@ -7,4 +7,4 @@ returns-in-Ok-clause-runs g c = inr (record { engine = c.in-Ok.engine; opening =
 
 pub returns-in-Err-clause-runs : goal.returns-in-Err-clause-runs
 returns-in-Err-clause-runs g c =
-    inl (record { refused = c.in-Err.refused; opening = c.in-Err.ensures; unread = Keeps-refl (g.R.Read.remaining c.args.reader.now.inner); told = c.refuse.ensures })
+    inl (record { refused = c.in-Err.refused; opening = c.in-Err.ensures; unread = Keeps-refl (g.R.Read.remaining c.args.reader.now.inner); told = c.refuse_opening.ensures })
