@@ -216,7 +216,7 @@ on_file "a path" 0 "$formatted" "" format "$work/another place" 16 4
 cp places damaged
 printf '\000\000\000\002' | dd of=damaged bs=1 seek=$((4176 * 512 + 16)) conv=notrunc 2> /dev/null
 on_file "a damaged page" 1 'refused 13 damaged
-' "^gist: " run damaged
+' "^gist: what the device holds is damaged: page 2" run damaged
 cp places cut
 truncate -s $((512 * 4290)) cut
 on_file "a file that was cut" 1 'refused 17 too small

@@ -1,0 +1,79 @@
+// Boost's R-tree (quadratic split, at most 100 entries a node and at least 40) over the boxes and windows of tree.c.
+// The words are what is asked and how often: `inserts`, so many boxes in a new tree; `queries`, so many windows looked for in
+// a tree of a hundred thousand boxes, each with a vector of its own for what is found; `kept`, the same with one vector for
+// all. It prints how many boxes there are, or the sum of what was found, which is the one that tree.c prints.
+#include <boost/geometry.hpp>
+#include <boost/geometry/index/rtree.hpp>
+#include <cstdint>
+#include <cstdio>
+#include <cstdlib>
+#include <cstring>
+#include <iterator>
+#include <utility>
+#include <vector>
+
+namespace rtrees = boost::geometry::index;
+using Point = boost::geometry::model::point<std::int32_t, 2, boost::geometry::cs::cartesian>;
+using Box = boost::geometry::model::box<Point>;
+using Pair = std::pair<Box, std::uint64_t>;
+using Tree = rtrees::rtree<Pair, rtrees::quadratic<100, 40>>;
+
+constexpr std::int32_t PLANE = 1048576, SIDE = 1024, WINDOW = 10000;
+constexpr std::uint64_t BOXES = 100000;
+
+static std::int32_t draw(std::uint64_t &state, std::int32_t below) {
+    state = state * UINT64_C(6364136223846793005) + UINT64_C(1442695040888963407);
+    return static_cast<std::int32_t>((state >> 32) % static_cast<std::uint64_t>(below));
+}
+
+static Box draw_box(std::uint64_t &state) {
+    std::int32_t x = draw(state, PLANE), y = draw(state, PLANE), wide = draw(state, SIDE), high = draw(state, SIDE);
+    return Box(Point(x, y), Point(x + wide, y + high));
+}
+
+static Box draw_window(std::uint64_t &state) {
+    std::int32_t x = draw(state, PLANE), y = draw(state, PLANE);
+    return Box(Point(x, y), Point(x + WINDOW, y + WINDOW));
+}
+
+static Tree build(std::uint64_t boxes) {
+    Tree tree;
+    std::uint64_t state = 7;
+    for (std::uint64_t row = 0; row < boxes; row++)
+        tree.insert(Pair(draw_box(state), row));
+    return tree;
+}
+
+static std::uint64_t look(const Tree &tree, const Box &window, std::vector<Pair> &found) {
+    std::uint64_t sum = 0;
+    tree.query(rtrees::intersects(window), std::back_inserter(found));
+    for (const Pair &pair : found)
+        sum += pair.second + 1;
+    return sum;
+}
+
+static std::uint64_t query_many(const Tree &tree, std::uint64_t queries, bool is_kept) {
+    std::uint64_t state = 11, sum = 0;
+    std::vector<Pair> kept;
+    for (std::uint64_t k = 0; k < queries; k++) {
+        if (is_kept) {
+            kept.clear();
+            sum += look(tree, draw_window(state), kept);
+        } else {
+            std::vector<Pair> found;
+            sum += look(tree, draw_window(state), found);
+        }
+    }
+    return sum;
+}
+
+int main(int words_count, char **words) {
+    if (words_count != 3)
+        return 2;
+    bool inserts = std::strcmp(words[1], "inserts") == 0;
+    std::uint64_t count = std::strtoull(words[2], nullptr, 10);
+    Tree tree = build(inserts ? count : BOXES);
+    std::uint64_t sum = inserts ? tree.size() : query_many(tree, count, std::strcmp(words[1], "kept") == 0);
+    std::printf("%llu\n", static_cast<unsigned long long>(sum));
+    return 0;
+}
