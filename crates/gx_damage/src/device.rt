@@ -43,7 +43,10 @@ fn in_index<D: SectorDisk, K: ReadKeys>(
 
 /// Says what is damaged on a device whose opening was refused as damaged, so that a person can be told where: in its log, by the body, the place in it
 /// and the rule; or in its pages, as that opening has laid them: too many in use, one that can't be read, or one that doesn't keep a rule of a
-/// legal tree. What is said of an honest device is true of its bytes. The device is settled and read, and handed back.
+/// legal tree. The device is settled and read, and handed back.
+///
+/// Of an honest device what is said of its log is true of its bytes, and so is that a page can't be read. A page breaks its rule in the tree of
+/// the device's pages with some numbers of pages in use and of splits; that these are the log's isn't claimed.
 ///
 /// None where nothing damaged was found: where a call of the device fails, memory is refused, or the device isn't formatted for such an index.
 pub fn examine<D: SectorDisk, K: ReadKeys>(alloc: Global, disk: D) -> (D, Option<Damage>)
