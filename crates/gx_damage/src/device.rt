@@ -45,8 +45,9 @@ fn in_index<D: SectorDisk, K: ReadKeys>(
 /// and the rule; or in its pages, as that opening has laid them: too many in use, one that can't be read, or one that doesn't keep a rule of a
 /// legal tree. The device is settled and read, and handed back.
 ///
-/// Of an honest device what is said of its log is true of its bytes, and so is that a page can't be read. A page breaks its rule in the tree of
-/// the device's pages with some numbers of pages in use and of splits; that these are the log's isn't claimed.
+/// Of an honest device what is said is true of its bytes. Its log is damaged there; or it is found, and pages are told by its numbers: that
+/// so many are in use, more than there are, that one in use can't be read, that one breaks its rule in the tree of the pages in use, or that
+/// an entry which an open transaction touched is neither in its leaf nor to the right of it.
 ///
 /// None where nothing damaged was found: where a call of the device fails, memory is refused, or the device isn't formatted for such an index.
 pub fn examine<D: SectorDisk, K: ReadKeys>(alloc: Global, disk: D) -> (D, Option<Damage>)

@@ -11,7 +11,7 @@ ghost use Rattle.gx_damage.specs.Shown.{IsUnreadable, PagesShow, TreeShows};
 use crate::Damage;
 use gx_analysis::{Analysis, Touch};
 use gx_disk::SectorDisk;
-use gx_legality::{LegalityFault, Note, are_in_order, test_placed, test_tree};
+use gx_legality::{LegalityFault, are_in_order, test_placed, test_tree};
 use gx_machine::Entry;
 use gx_opening::notes_of;
 use gx_pool::{Pool, PoolFault};
@@ -55,26 +55,6 @@ fn broken(fault: LegalityFault<StoreFault>) -> Option<Damage>
     }
 }
 
-// An entry of a note that isn't in its place, in a legal tree.
-fn out_of_place<D: SectorDisk, K: ReadKeys>(
-    alloc: Global,
-    store: &mut PageStore<D, K>,
-    notes: &[Note<Entry<K::Key>>],
-) -> Option<Damage>
-    ensures reads { OnlyReadsStore (format_of K.KeyClass) (is_node (format_of K.KeyClass)) D.state store.old store.new }
-    ensures shows { (most : ℕ) → IsSteadyStore (format_of K.KeyClass) (is_node (format_of K.KeyClass)) D.state store.old
-        → Legal (rules_of K.Key.Shape most) (shown_tree (format_of K.KeyClass) (is_node (format_of K.KeyClass)) D.state store.old)
-        → IfSome result (TreeShows (format_of K.KeyClass) (rules_of K.Key.Shape most) (D.state store.old.disk).seen store.old) }
-{
-    if !are_in_order(notes) {
-        return None;
-    }
-    match test_placed(alloc, store, notes) {
-        Ok(()) => None,
-        Err(fault) => broken(fault),
-    }
-}
-
 // An entry that an open transaction touched and that isn't in its place, in a legal tree.
 fn misplaced<D: SectorDisk, K: ReadKeys>(
     alloc: Global,
@@ -84,11 +64,17 @@ fn misplaced<D: SectorDisk, K: ReadKeys>(
     ensures reads { OnlyReadsStore (format_of K.KeyClass) (is_node (format_of K.KeyClass)) D.state store.old store.new }
     ensures shows { (most : ℕ) → IsSteadyStore (format_of K.KeyClass) (is_node (format_of K.KeyClass)) D.state store.old
         → Legal (rules_of K.Key.Shape most) (shown_tree (format_of K.KeyClass) (is_node (format_of K.KeyClass)) D.state store.old)
-        → IfSome result (TreeShows (format_of K.KeyClass) (rules_of K.Key.Shape most) (D.state store.old.disk).seen store.old) }
+        → IfSome result (TreeShows (format_of K.KeyClass) (rules_of K.Key.Shape most) touched.now (D.state store.old.disk).seen store.old) }
 {
-    match notes_of(alloc, touched) {
-        Ok(notes) => out_of_place(alloc, store, &notes),
-        Err(_) => None,
+    let Ok(notes) = notes_of(alloc, touched) else {
+        return None;
+    };
+    if !are_in_order(&notes) {
+        return None;
+    }
+    match test_placed(alloc, store, &notes) {
+        Ok(()) => None,
+        Err(fault) => broken(fault),
     }
 }
 
@@ -101,7 +87,7 @@ fn in_tree<D: SectorDisk, K: ReadKeys>(
 ) -> Option<Damage>
     ensures reads { OnlyReadsStore (format_of K.KeyClass) (is_node (format_of K.KeyClass)) D.state store.old store.new }
     ensures shows { IsSteadyStore (format_of K.KeyClass) (is_node (format_of K.KeyClass)) D.state store.old
-        → IfSome result (TreeShows (format_of K.KeyClass) (rules_of K.Key.Shape most) (D.state store.old.disk).seen store.old) }
+        → IfSome result (TreeShows (format_of K.KeyClass) (rules_of K.Key.Shape most) touched.now (D.state store.old.disk).seen store.old) }
 {
     going_on::<D, K>();
     match test_tree(alloc, store, most, HALF) {
@@ -121,7 +107,7 @@ fn over_frames<D: SectorDisk, K: ReadKeys>(
     requires inside { (pages ≤ 65536) × (4168 + 8 * pages ≤ (D.state disk).sectors) }
     requires fits { analysis.now.told.used ≤ pages }
     ensures shows { (D.state disk).honest ≡ true
-        → IfSome result.1 (PagesShow D (format_of K.KeyClass) (is_node (format_of K.KeyClass) pages) (rules_of K.Key.Shape most) pages (D.state disk).seen) }
+        → IfSome result.1 (PagesShow D (format_of K.KeyClass) (is_node (format_of K.KeyClass) pages) (rules_of K.Key.Shape most) pages analysis.now.told (D.state disk).seen) }
 {
     a_store_starts::<D, K>();
     let Ok(pool) = Pool::with_capacity(alloc, FRAMES, NodeTest::<K>::new(pages)) else {
@@ -143,7 +129,7 @@ pub(crate) fn in_pages<D: SectorDisk, K: ReadKeys>(
 ) -> (D, Option<Damage>)
     requires inside { (pages ≤ 65536) × (4168 + 8 * pages ≤ (D.state disk).sectors) }
     ensures shows { (D.state disk).honest ≡ true
-        → IfSome result.1 (PagesShow D (format_of K.KeyClass) (is_node (format_of K.KeyClass) pages) (rules_of K.Key.Shape most) pages (D.state disk).seen) }
+        → IfSome result.1 (PagesShow D (format_of K.KeyClass) (is_node (format_of K.KeyClass) pages) (rules_of K.Key.Shape most) pages analysis.now.told (D.state disk).seen) }
 {
     let used = analysis.used();
     if pages < used {

@@ -28,7 +28,7 @@ returns-in-Ok-clause-shows g c = λ steady.
     let mid = c.test_tree.new.pages in
     let reads = c.in-Ok.ensures.reads in
     let same = shows_same f passes state start mid reads steady in
-    shows_before f r c.misplaced.result (state mid.disk).seen (state start.disk).seen mid start same
+    shows_before f r c.args.touched.now c.misplaced.result (state mid.disk).seen (state start.disk).seen mid start same
     (c.misplaced.ensures.shows c.args.most (reads.still steady) (subst (λ (t : Tree g.row.K-Key.Denot). Legal r t) (sym same) (c.in-Ok.ensures.legal steady))))
 
 pub returns-in-Err-clause-shows : goal.returns-in-Err-clause-shows
@@ -38,5 +38,5 @@ returns-in-Err-clause-shows g c = λ steady.
     let r = rules_of shape c.args.most in
     let t = shown_tree f (is_node f) g.D.SectorDisk.state c.args.store.now in
     let found = c.in-Err.ensures.found steady in
-    found_shows f r (g.D.SectorDisk.state c.args.store.now.disk).seen c.args.store.now c.in-Err.fault c.broken.result c.broken.ensures
+    found_shows f r c.args.touched.now (g.D.SectorDisk.state c.args.store.now.disk).seen c.args.store.now c.in-Err.fault c.broken.result c.broken.ensures
     (λ page rule is. inl (subst (λ (x : LegalityFault StoreFault). IsFound (Breaks r t) x) is found)))

@@ -5,7 +5,7 @@ use Rattle.gx_opening.specs.Sound.{IsSteadyStore}
 use Rattle.gx_pool.specs.State.{kept}
 use Rattle.gx_store.specs.State.{Shelf}
 use Rattle.gx_tree.specs.Keyed.{rules_of}
-use Rattle.gx_damage.proofs.Telling.{pages_told}
+use Rattle.gx_damage.proofs.Telling.{pages_told, touched_told}
 use Rattle.gx_damage.proofs.pages.over_frames.Goals as goal
 
 pub returns : goal.returns
@@ -17,7 +17,9 @@ returns g c = record {
       let state = g.D.SectorDisk.state in
       let is = c.new-store.ensures in
       let steady = subst (λ (x : Shelf g.row.D.Denot). IsSteadyStore f passes state x) (sym is) (c.a_store_starts.ensures.steady c.args.disk c.in-Ok.pool.frames 16 c.in-Ok.ensures.0 honest) in
-      pages_told f (rules_of shape c.args.most) (passes c.args.pages) c.in_tree-damage.result (state c.new-store.result.disk).seen (state c.args.disk).seen c.args.pages c.new-store.result
-      (record { pages_are = ap (λ (x : Shelf g.row.D.Denot). x.pages) is; none = λ page. ap (λ (x : Shelf g.row.D.Denot). kept x.frames page) is ∙ c.in-Ok.ensures.0.none page })
-      (ap (λ (x : Shelf g.row.D.Denot). (state x.disk).seen) is) (c.in_tree-damage.ensures.shows steady));
+      pages_told f (rules_of shape c.args.most) (passes c.args.pages) c.args.analysis.now.told c.in_tree-damage.result (state c.new-store.result.disk).seen (state c.args.disk).seen c.args.pages c.new-store.result
+      (record { pages_are = ap (λ (x : Shelf g.row.D.Denot). x.pages) is; used = ap (λ (x : Shelf g.row.D.Denot). x.used) is ∙ c.used.ensures; counter = ap (λ (x : Shelf g.row.D.Denot). x.counter) is ∙ c.counter.ensures; none = λ page. ap (λ (x : Shelf g.row.D.Denot). kept x.frames page) is ∙ c.in-Ok.ensures.0.none page })
+      (ap (λ (x : Shelf g.row.D.Denot). (state x.disk).seen) is)
+      (touched_told f (rules_of shape c.args.most) c.in_tree-damage.result (state c.new-store.result.disk).seen c.new-store.result c.touched.result.now c.args.analysis.now.told.touched c.touched.ensures
+      (c.in_tree-damage.ensures.shows steady)));
 }
