@@ -31,7 +31,7 @@ use Rattle.gx_driven.specs.Repeated.{AreAgain, GoesOn, IsGoingOn}
 
 -- ---- the log
 
-one_fills : (bytes : List ℕ) → 1 ≤ length bytes → fillings bytes ≡ 1
+pub one_fills : (bytes : List ℕ) → 1 ≤ length bytes → fillings bytes ≡ 1
 one_fills [] some = let no : ⊥ = omega (arith, some) in absurd no
 one_fills (byte ∷ bytes) some = refl
 

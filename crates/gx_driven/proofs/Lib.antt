@@ -4,3 +4,8 @@ pub mod Repeating
 pub mod Stepping
 pub mod Resting
 pub mod Lessening
+pub mod Waiting
+pub mod Helping
+pub mod Measured
+pub mod Sealed
+pub mod Ending

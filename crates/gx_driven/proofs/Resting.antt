@@ -22,7 +22,7 @@ use Rattle.gx_driven.specs.Resting.{IsAtRest, KeepsSessions, WorksOff}
 nothing_made : (st : Stage) (due new : Log) → due.stage ≡ st → (st ≡ Idle → ⊥) → Made due new (Ok Idle) → ⊥
 nothing_made st due new at busy made = busy (sym at ∙ sym made.0)
 
-quiet_from : (st : Stage) (old new : Log) → old.stage ≡ st → GoesFrom st old new (Ok Idle) → (old.stage ≡ Idle) × (old.filling ≡ []) × (new ≡ old)
+pub quiet_from : (st : Stage) (old new : Log) → old.stage ≡ st → GoesFrom st old new (Ok Idle) → (old.stage ≡ Idle) × (old.filling ≡ []) × (new ≡ old)
 quiet_from Idle old new at (inl none) = (at, none.0, none.2)
 quiet_from Idle old new at (inr begins) = absurd (nothing_made Body (begun old) new refl (λ no. cc) begins.1)
 quiet_from Body old new at made = absurd (nothing_made Body old new at (λ no. cc) made)

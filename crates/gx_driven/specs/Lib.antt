@@ -3,3 +3,4 @@ pub mod Driven
 pub mod Repeated
 pub mod Resting
 pub mod Backlog
+pub mod Helping
