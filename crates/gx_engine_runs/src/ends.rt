@@ -1,0 +1,235 @@
+//! How a run ends: all is settled, or a crash comes; and what stands on the device is read by its format alone.
+ghost use Rattle.std.specs.Prelude.{◌≡◌, length, IfOk};
+
+use crate::beside::{Beside, Ended, Went};
+use crate::counts::Counts;
+use crate::drawn::draw_run;
+use crate::fault::RunFault;
+use crate::keys::Drawn;
+use gx_disk::{Fuse, FuseDisk, MemDisk, SectorDisk, Torn};
+use gx_engine::NotOpened;
+use gx_events::{Event, Outcome};
+use gx_format::sectors_for;
+use gx_geom::Refusal;
+use gx_new_index::new_index;
+use gx_plain_reader::{Reading, read};
+use rand_pcg::Pcg32;
+use std::alloc::{AllocError, Global};
+
+/// How many pages a device has.
+const PAGES: u32 = 512;
+
+/// How many steps of a checkpoint, or of the log, come one after another at most.
+const STEPS: usize = 8192;
+
+/// How a run is made.
+#[derive(Clone, Copy)]
+pub(crate) struct Setting {
+    pub(crate) most: u16,
+    pub(crate) frames: usize,
+    pub(crate) seed: u64,
+    pub(crate) steps: u64,
+}
+
+/// What a crash leaves of the sectors that weren't synced.
+#[derive(Clone, Copy)]
+pub(crate) enum Left {
+    Old,
+    New,
+    Mixed,
+    Torn,
+}
+
+/// The call of the device that fails, how often, and whether it is made none the less.
+#[derive(Clone, Copy)]
+pub(crate) struct Failing {
+    pub(crate) call: u64,
+    pub(crate) fuse: Fuse,
+    pub(crate) is_done: bool,
+    pub(crate) left: Left,
+}
+
+impl Failing {
+    /// No call fails, and nothing is lost.
+    pub(crate) fn never() -> Failing {
+        Failing {
+            call: u64::MAX,
+            fuse: Fuse::Once,
+            is_done: false,
+            left: Left::New,
+        }
+    }
+}
+
+/// How a run ended.
+#[derive(Clone, Copy)]
+pub(crate) struct End {
+    /// Whether all calls of the device were made.
+    pub(crate) is_whole: bool,
+    /// Whether what stands is the last commit that was acknowledged, or a later one.
+    pub(crate) is_last: bool,
+    pub(crate) counts: Counts,
+}
+
+impl Left {
+    fn crash(self, disk: &mut MemDisk) {
+        match self {
+            Left::Old => disk.crash(&[]),
+            Left::New => disk.crash(&[Torn::New]),
+            Left::Mixed => disk.crash(&[Torn::Old, Torn::New]),
+            Left::Torn => disk.crash(&[Torn::Bytes([0xA7; 512])]),
+        }
+    }
+}
+
+/// So many bytes.
+fn zeros(alloc: Global, size: usize) -> Result<Vec<u8>, AllocError>
+    ensures { IfOk result (λ bytes. length bytes.items ≡ size) }
+{
+    vec![in alloc; 0; size]
+}
+
+/// The bytes of a device.
+fn image(alloc: Global, disk: &mut MemDisk) -> Result<Vec<u8>, RunFault> {
+    let sectors = disk.sectors();
+    let mut bytes = zeros(
+        alloc,
+        usize::try_from(sectors).unwrap_or(0).saturating_mul(512),
+    )?;
+    if bytes.is_empty() || bytes.len() % 512 != 0 || (bytes.len() / 512) as u64 > sectors {
+        return Err(RunFault::Memory);
+    }
+    match disk.read(0, &mut bytes) {
+        Ok(()) => Ok(bytes),
+        Err(_) => Err(RunFault::Memory),
+    }
+}
+
+/// What the plain reader finds on a device.
+fn read_back(alloc: Global, disk: &mut MemDisk, class: u16) -> Result<Reading, RunFault> {
+    let bytes = image(alloc, disk)?;
+    match read(alloc, &bytes, class) {
+        Ok(reading) => Ok(reading),
+        Err(damage) => Err(RunFault::Damaged(damage)),
+    }
+}
+
+/// Makes an event over and over, until there is nothing to do. Answers whether no call of the device failed.
+fn repeat<K: Drawn>(beside: &mut Beside<K>, event: Event<K::Key>) -> Result<bool, RunFault>
+where
+    K::Probe: Drop,
+{
+    for _step in 0..STEPS {
+        match beside.step(event)? {
+            Went::Failed => return Ok(false),
+            Went::Nothing => return Ok(true),
+            Went::On | Went::Waits(_) => {}
+        }
+    }
+    Err(RunFault::Event)
+}
+
+/// Settles what was logged. Answers whether no call of the device failed.
+fn settle<K: Drawn>(beside: &mut Beside<K>) -> Result<bool, RunFault>
+where
+    K::Probe: Drop,
+{
+    Ok(repeat(beside, Event::CheckpointStep)? && repeat(beside, Event::LogStep)?)
+}
+
+/// Whether an event of no session is refused with `Failed`.
+fn is_refused<K: Drawn>(beside: &mut Beside<K>, event: Event<K::Key>) -> bool
+where
+    K::Probe: Drop,
+{
+    matches!(beside.engine.step(event), Outcome::Refused(Refusal::Failed))
+}
+
+/// Behind a failed call each event of no session is refused with `Failed`.
+fn refuses_all<K: Drawn>(beside: &mut Beside<K>) -> Result<(), RunFault>
+where
+    K::Probe: Drop,
+{
+    let refuses = is_refused(beside, Event::LogStep)
+        && is_refused(beside, Event::WritePage(1))
+        && is_refused(beside, Event::CheckpointStep)
+        && is_refused(beside, Event::Sweep(1));
+    if refuses {
+        Ok(())
+    } else {
+        Err(RunFault::Event)
+    }
+}
+
+/// What stands on the device is the set of a commit, from the last that was acknowledged to the last that was sealed.
+fn judge<K: Drawn>(
+    alloc: Global,
+    beside: Beside<K>,
+    is_whole: bool,
+    left: Left,
+) -> Result<End, RunFault>
+where
+    K::Probe: Drop,
+{
+    let Ended {
+        mut disk,
+        sets,
+        sealed,
+        acknowledged,
+        counts,
+    } = beside.end();
+    left.crash(&mut disk);
+    let found = read_back(alloc, &mut disk, K::CLASS)?;
+    if found.number < acknowledged || sealed < found.number {
+        return Err(RunFault::Number(found.number));
+    }
+    sets.stands(found.number, &found.set)?;
+    Ok(End {
+        is_whole,
+        is_last: found.number == acknowledged,
+        counts,
+    })
+}
+
+/// A new index on a new device, of which a call fails. `None` where it fails while the index is laid down.
+pub(crate) fn begin_run<K: Drawn>(
+    alloc: Global,
+    setting: Setting,
+    failing: Failing,
+) -> Result<Option<Beside<K>>, RunFault>
+where
+    K::Probe: Drop,
+{
+    let sectors = usize::try_from(sectors_for(PAGES)).unwrap_or(0);
+    let disk = MemDisk::new(alloc, sectors)?;
+    let fused = FuseDisk::new(disk, failing.call, failing.fuse, failing.is_done);
+    let Setting { most, frames, .. } = setting;
+    match new_index::<FuseDisk<MemDisk>, K>(alloc, fused, PAGES, most, frames) {
+        Ok(events) => Ok(Some(Beside::new(alloc, events.into_inner())?)),
+        Err(
+            NotOpened {
+                why: Refusal::Device,
+                disk: _,
+            },
+        ) => Ok(None),
+        Err(refused) => Err(RunFault::NotBegun(refused.why)),
+    }
+}
+
+/// Makes a run that is drawn, on a new index, up to its end or to a call that fails, and reads what then stands.
+pub(crate) fn make_run<K: Drawn>(
+    alloc: Global,
+    mut beside: Beside<K>,
+    setting: Setting,
+    left: Left,
+) -> Result<End, RunFault>
+where
+    K::Probe: Drop,
+{
+    let mut draw = Pcg32::new(setting.seed, 11);
+    let is_whole = draw_run(&mut beside, &mut draw, setting.steps)? && settle(&mut beside)?;
+    if !is_whole {
+        refuses_all(&mut beside)?;
+    }
+    judge(alloc, beside, is_whole, left)
+}
