@@ -26,23 +26,30 @@ def kind_of(words, room):
         return "runs", crate, words[words.index("--backend") + 1]
     return ("tests" if any(word.endswith("_tests.o") for word in words) else "proof"), crate, ""
 
-def look(pid):
+def fields_of(pid):
+    with open(f"/proc/{pid}/stat", encoding="utf-8") as it:
+        return it.read().rpartition(")")[2].split()
+
+# whether a process is this gate's, and not that of another one beside it
+def is_of(gate, pid):
+    while pid not in (0, gate):
+        pid = int(fields_of(pid)[1])
+    return pid == gate
+
+def look(gate, pid):
     with open(f"/proc/{pid}/cmdline", encoding="utf-8") as it:
         words = it.read().split("\0")
-    if not words[0].endswith("/bin/rattle") or "--crate-name" not in words:
+    if not words[0].endswith("/bin/rattle") or "--crate-name" not in words or not is_of(gate, pid):
         return
     room = os.readlink(f"/proc/{pid}/cwd")
-    if not room.startswith((folder, "/tmp/rt-edit-")):
-        return
-    with open(f"/proc/{pid}/stat", encoding="utf-8") as it:
-        fields = it.read().rpartition(")")[2].split()
+    fields = fields_of(pid)
     began = int(fields[19])
     seen[pid, began] = kind_of(words, room), began, (int(fields[11]) + int(fields[12])) / tick
 
-def sample():
-    for pid in filter(str.isdigit, os.listdir("/proc")):
+def sample(gate):
+    for pid in map(int, filter(str.isdigit, os.listdir("/proc"))):
         try:
-            look(pid)
+            look(gate, pid)
         except (OSError, ValueError, IndexError):
             pass
 
@@ -52,7 +59,7 @@ with open(output, "w+", encoding="utf-8") as told:
     os.set_blocking(gate.stdout.fileno(), False)
     text = b""
     while gate.poll() is None:
-        sample()
+        sample(gate.pid)
         text += gate.stdout.read() or b""
         time.sleep(0.2)
     text += gate.stdout.read() or b""

@@ -106,10 +106,12 @@ fn over_frames<D: SectorDisk, K: ReadKeys>(
 ) -> (D, Option<Damage>)
     requires inside { (pages ≤ 65536) × (4168 + 8 * pages ≤ (D.state disk).sectors) }
     requires fits { analysis.now.told.used ≤ pages }
+    ensures read { OnlyRead (D.state disk) (D.state result.0) }
     ensures shows { (D.state disk).honest ≡ true
         → IfSome result.1 (PagesShow D (format_of K.KeyClass) (is_node (format_of K.KeyClass) pages) (rules_of K.Key.Shape most) pages analysis.now.told (D.state disk).seen) }
 {
     a_store_starts::<D, K>();
+    going_on::<D, K>();
     let Ok(pool) = Pool::with_capacity(alloc, FRAMES, NodeTest::<K>::new(pages)) else {
         return (disk, None);
     };
@@ -128,6 +130,7 @@ pub(crate) fn in_pages<D: SectorDisk, K: ReadKeys>(
     most: u16,
 ) -> (D, Option<Damage>)
     requires inside { (pages ≤ 65536) × (4168 + 8 * pages ≤ (D.state disk).sectors) }
+    ensures read { OnlyRead (D.state disk) (D.state result.0) }
     ensures shows { (D.state disk).honest ≡ true
         → IfSome result.1 (PagesShow D (format_of K.KeyClass) (is_node (format_of K.KeyClass) pages) (rules_of K.Key.Shape most) pages analysis.now.told (D.state disk).seen) }
 {

@@ -41,8 +41,9 @@ pub fn a_move_that_waits_names_work<D: SectorDisk, K: ReadKeys>()
 {}
 
 /// A session's call that is moved alone, with the events that help it, comes to its end: fewer than 2^55 events are made of it. So it is of an
-/// engine over a device that doesn't lie, with frames for 4,096 pages at most, where a move that waits leaves no more pages with changes
-/// than before, and where it names the log and none has any, the log has a call to make.
+/// engine over a device that doesn't lie, whose session waits for no commit that isn't sealed, with frames for 4,096 pages at most: where the
+/// log's turn stands as the checkpoint has it, a move that waits leaves no more pages with changes than before, and where it names the
+/// log and none has any, the log has a call to make.
 pub fn a_call_alone_ends<D: SectorDisk, K: ReadKeys>()
     ensures { (l : Limits) → l.pages ≤ 65536 → l.most ≤ 100 → CallEnds K.Key.Shape K.is_proper K.said K.KeyClass D.state l }
 {

@@ -47,7 +47,7 @@ fn draw_call<K: Drawn>(draw: &mut Pcg32, at: At<K::Key>) -> Call<K::Key> {
 }
 
 /// The number of the session at a place.
-fn session_of(place: usize) -> u8 {
+pub(crate) fn session_of(place: usize) -> u8 {
     u8::try_from(place.saturating_add(1)).unwrap_or(1)
 }
 

@@ -1,9 +1,9 @@
 //! How a run ends: all is settled, or a crash comes; and what stands on the device is read by its format alone.
 ghost use Rattle.std.specs.Prelude.{◌≡◌, length, IfOk};
 
-use crate::beside::{Beside, Ended, Went};
+use crate::beside::{At, Beside, Ended, Went};
 use crate::counts::Counts;
-use crate::drawn::draw_run;
+use crate::drawn::{draw_run, session_of};
 use crate::fault::RunFault;
 use crate::keys::Drawn;
 use gx_disk::{Fuse, FuseDisk, MemDisk, SectorDisk, Torn};
@@ -11,6 +11,7 @@ use gx_engine::NotOpened;
 use gx_events::{Event, Outcome};
 use gx_format::sectors_for;
 use gx_geom::Refusal;
+use gx_machine::{Call, Reply, SESSIONS};
 use gx_new_index::new_index;
 use gx_plain_reader::{Reading, read};
 use rand_pcg::Pcg32;
@@ -145,20 +146,43 @@ where
     matches!(beside.engine.step(event), Outcome::Refused(Refusal::Failed))
 }
 
-/// Behind a failed call each event of no session is refused with `Failed`.
+/// Whether a session's ask is answered with `Failed`, and so is its move where a call is open, which is else refused with `NoCall`.
+fn is_refused_to<K: Drawn>(beside: &mut Beside<K>, session: u8) -> bool
+where
+    K::Probe: Drop,
+{
+    let is_asked_in_vain = matches!(
+        beside.engine.step(Event::Ask(session, Call::Begin)),
+        Outcome::Replied(Reply::Refused(Refusal::Failed))
+    );
+    let has_call = matches!(beside.at(session), At::Open(_) | At::Waiting(_));
+    is_asked_in_vain
+        && match beside.engine.step(Event::Move(session)) {
+            Outcome::Replied(Reply::Refused(Refusal::Failed)) => has_call,
+            Outcome::Refused(Refusal::NoCall) => !has_call,
+            _ => false,
+        }
+}
+
+/// Behind a failed call each event is refused.
 fn refuses_all<K: Drawn>(beside: &mut Beside<K>) -> Result<(), RunFault>
 where
     K::Probe: Drop,
 {
-    let refuses = is_refused(beside, Event::LogStep)
+    let refuses_flusher = is_refused(beside, Event::LogStep)
         && is_refused(beside, Event::WritePage(1))
         && is_refused(beside, Event::CheckpointStep)
         && is_refused(beside, Event::Sweep(1));
-    if refuses {
-        Ok(())
-    } else {
-        Err(RunFault::Event)
+    if !refuses_flusher {
+        return Err(RunFault::Event);
     }
+    for place in 0..SESSIONS {
+        let session = session_of(place);
+        if !is_refused_to(beside, session) {
+            return Err(RunFault::Reply(session));
+        }
+    }
+    Ok(())
 }
 
 /// What stands on the device is the set of a commit, from the last that was acknowledged to the last that was sealed.

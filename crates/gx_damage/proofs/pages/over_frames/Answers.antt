@@ -2,6 +2,8 @@ use Rattle.std.proofs.Common.{ap, sym, ◌∙◌, subst}
 use Rattle.gx_machine.specs.Keys.{Members}
 use Rattle.gx_node.specs.Reading.{format_of, is_node}
 use Rattle.gx_opening.specs.Sound.{IsSteadyStore}
+use Rattle.gx_opening.proofs.Sounding.{since_all}
+use Rattle.gx_pool.specs.Bringing.{OnlyRead}
 use Rattle.gx_pool.specs.State.{kept}
 use Rattle.gx_store.specs.State.{Shelf}
 use Rattle.gx_tree.specs.Keyed.{rules_of}
@@ -10,6 +12,14 @@ use Rattle.gx_damage.proofs.pages.over_frames.Goals as goal
 
 pub returns : goal.returns
 returns g c = record {
+  read =
+      (let state = g.D.SectorDisk.state in
+      let start = c.new-store.result in
+      let new = c.in_tree-damage.new.store in
+      let f = format_of g.K.KeyClass in
+      subst (λ (s : Shelf g.row.D.Denot). OnlyRead (state s.disk) (state c.into_disk.result)) c.new-store.ensures
+      (subst (λ (d : g.row.D.Denot). OnlyRead (state start.disk) (state d)) (sym c.into_disk.ensures)
+      (since_all f (is_node f) state start new c.in_tree-damage.ensures.reads (λ page. c.going_on.ensures.begins start page) 1).goes_on.device));
   shows = λ honest.
       (let shape : Members g.row.K-Key.Denot = record { partial_cmp = g.K.Key.PartialOrd.partial_cmp; eq = g.K.Key.PartialEq.eq; cmp = g.K.Key.Ord.cmp; overlap = g.K.Key.Shape.overlap; inside = g.K.Key.Shape.inside } in
       let f = format_of g.K.KeyClass in
