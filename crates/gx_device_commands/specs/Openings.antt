@@ -29,4 +29,4 @@ pub record Opens {C B D : Type 0} (shape : Members B) (is_key : B → Bool) (sai
   pub opened : (state disk).honest ≡ true
       → IfOk result (λ engine. IsOpened shape is_key said (format_of class) number (state disk) (state engine.volume.shelf.disk) engine)
   pub refused : (state disk).honest ≡ true → 16 ≤ frames → frames ≤ 4096 → 4232 ≤ (state disk).sectors
-      → IfErr result (λ n. IsRefused shape is_key said (format_of class) (Makes shape is_key said class state) state number (state disk) (state n.disk) n.why)
+      → IfErr result (λ n. IsRefused shape is_key said (format_of class) state number (state disk) (state n.disk) n.why)

@@ -1,9 +1,10 @@
--- A session's call that is made calmly comes to its end.
-use Rattle.std.proofs.Common.{◌≡◌, ◌⊎◌, inl, inr, ℕ, ◌+◌, ◌<◌, ◌≤◌, Bool, true, false, None, List, refl, ap, ◌∙◌, subst, arith}
+-- A session's call comes to its end.
+use Rattle.std.proofs.Common.{◌≡◌, ◌⊎◌, inl, inr, ℕ, ◌+◌, ◌<◌, ◌≤◌, Bool, true, false, None, List, [], ◌∷◌, length, refl, sym, ◌∙◌, subst, arith}
 use Rattle.std.specs.Prelude.{◌-◌, ◌^◌}
 use Rattle.gx_class.specs.declared.class.KeyClass.{Ghosts}
 use Rattle.gx_geom.specs.declared.refusal.Refusal.{Refusal}
 use Rattle.gx_disk.specs.Device.{Device}
+use Rattle.gx_machine.specs.declared.call.Call.{Call}
 use Rattle.gx_machine.specs.declared.entry.Entry.{Entry}
 use Rattle.gx_machine.specs.Keys.{Members, keys_of}
 use Rattle.gx_node.specs.Reading.{format_of, is_node}
@@ -16,11 +17,13 @@ use Rattle.gx_index_laws.specs.Whole.{IsWhole}
 use Rattle.gx_readings.specs.Classes.{class_of, reading_of}
 use Rattle.gx_storage.specs.Changes.{known_at}
 use Rattle.gx_events.specs.declared.event.Event.{Event}
-use Rattle.gx_events.specs.declared.event.Event.TheVariants.{Move}
+use Rattle.gx_events.specs.declared.driver.Next.TheVariants.{Run}
+use Rattle.gx_events.specs.declared.event.Event.TheVariants.{Ask, Move}
+use Rattle.gx_events.specs.Driven.{next_of}
 use Rattle.gx_events.specs.declared.outcome.Need.{Need}
 use Rattle.gx_events.specs.declared.outcome.Need.TheVariants as need
 use Rattle.gx_events.specs.declared.outcome.Outcome.{Outcome}
-use Rattle.gx_events.specs.declared.outcome.Outcome.TheVariants.{Help, More, Nothing, Refused}
+use Rattle.gx_events.specs.declared.outcome.Outcome.TheVariants.{Help, More, Nothing, Refused, Replied}
 use Rattle.gx_phases.specs.declared.phase.Phase.{Phase}
 use Rattle.gx_phases.specs.declared.phase.Phase.TheVariants as phase
 use Rattle.gx_phases.specs.States.{phase_at}
@@ -30,18 +33,19 @@ use Rattle.gx_engine.specs.Ending.{LeavesAll}
 use Rattle.gx_engine.specs.Flushing.{PageIsWritten}
 use Rattle.gx_engine.specs.Moves as moves
 use Rattle.gx_engine.specs.Moves.{left_by}
-use Rattle.gx_engine.specs.States.{Parts, runs}
+use Rattle.gx_engine.specs.States.{IsOrderly, Parts, runs}
 use Rattle.gx_engine.specs.Stepping.{Stepped}
-use Rattle.gx_driven.specs.Backlog.{backlog, checkpoint_left, log_left}
-use Rattle.gx_driven.specs.Helping.{CallEnds, HasWork, HoldsIndex, MakesCalmly, WaitsForSealed, event_of}
-use Rattle.gx_driven.specs.Made.{Makes}
+use Rattle.gx_driven.specs.Backlog.{backlog}
+use Rattle.gx_driven.specs.Driven.{AreDriven, IsUnderWay}
+use Rattle.gx_driven.specs.Helping.{CallEnds, HasWork, HoldsIndex, StartsCall, WaitsForSealed, event_of}
+use Rattle.gx_driven.specs.Made.{AreMade, Makes}
 use Rattle.gx_driven.specs.Resting.{KeepsSessions}
 use Rattle.gx_driven.proofs.Helping.{helps}
-use Rattle.gx_driven.proofs.Lessening.{few_left}
-use Rattle.gx_driven.proofs.Measured.{few_driven}
+use Rattle.gx_driven.proofs.Lessening.{few_left, few_orderly}
+use Rattle.gx_driven.proofs.Measured.{done_rests, few_driven}
 use Rattle.gx_driven.proofs.Resting.{checkpoint_keeps, keeps_all, log_steps_keep, page_keeps}
-use Rattle.gx_driven.proofs.Sealed.{kept_sealed, more_sealed, same_sealed}
-use Rattle.gx_driven.proofs.Waiting.{names_work, waiting_leaves, waits_made}
+use Rattle.gx_driven.proofs.Sealed.{asked_sealed, kept_sealed, more_sealed, same_sealed}
+use Rattle.gx_driven.proofs.Waiting.{names_work, waiting_flushes, waiting_leaves, waits_made}
 
 left_by_few : {B : Type 0} (p : Phase B (Work B)) (n : ℕ) → n < 2 ^ 39 → left_by p n ≤ 2 ^ 39
 left_by_few phase.Free n few = omega (arith, few)
@@ -66,7 +70,7 @@ module _ {C B D : Type 0} (shape : Members B) (proper : B → Bool) (said : List
   left e i = moves.left c (reading_of said (format_of class)) (format_of class) (is_node (format_of class)) s e i
 
   abbrev makes : Parts B D → Event B → Outcome B → Parts B D → Type 0
-  makes = MakesCalmly shape proper said class state
+  makes = Makes shape proper said class state
 
   -- An engine holds an index, of which the session's call has so much left; there is so much to flush; and the session waits for no commit that
   -- isn't sealed.
@@ -80,7 +84,7 @@ module _ {C B D : Type 0} (shape : Members B) (proper : B → Bool) (said : List
 
   goes_on : (w h : ℕ) (old new : Parts B D) → At w h old → makes old (Move s) More new → (v : ℕ) × (f : ℕ) × At v f new × (v < w) × (f < 8192)
   goes_on w h old new at one =
-      let stepped = one.0.steps l at.bodies at.is at.holds in
+      let stepped = one.steps l at.bodies at.is at.holds in
       let led = stepped.led in
       let less : left new led.index < w = subst (λ n. left new led.index < n) at.work stepped.lowers in (
         left new led.index,
@@ -91,39 +95,35 @@ module _ {C B D : Type 0} (shape : Members B) (proper : B → Bool) (said : List
           holds = led.holds;
           sealed =
               more_sealed (keys_of shape) (known_at shape proper) (reading_of said (format_of class)) (format_of class) (is_node (format_of class)) class.is_key class.spelling class.KEY
-              (state old.volume.shelf.disk) (state new.volume.shelf.disk) s old new one.0.comes;
+              (state old.volume.shelf.disk) (state new.volume.shelf.disk) s old new one.comes;
           work = refl;
           flush = refl;
         },
         less,
-        few_left new one.1.few,
+        few_left new (few_orderly new one.order.1),
       )
 
   waits : (w h : ℕ) (old new : Parts B D) (n : Need) → At w h old → makes old (Move s) (Help n) new → (f : ℕ) × At w f new × (f ≤ h) × HasWork n new
   waits w h old new n at one =
-      let led = (one.0.steps l at.bodies at.is at.holds).led in
-      let stands = one.1.stands in
-      let so = waits_made shape proper said class state short l old new s n stands one.0 in
-      let same : log_left new.volume.log ≡ log_left old.volume.log = ap log_left so.log in
-      let rest : checkpoint_left new.checkpoint new.volume.log ≡ checkpoint_left old.checkpoint old.volume.log =
-      ap (λ x. checkpoint_left x new.volume.log) so.checkpoint ∙ ap (λ x. checkpoint_left old.checkpoint x) so.log in
-      let fewer = one.1.no_more n refl in
-      let was = at.flush in (
+      let led = (one.steps l at.bodies at.is at.holds).led in
+      let so = waits_made shape proper said class state short l old new s n one.order.0.stands one in
+      let was = at.flush in
+      let no_more = waiting_flushes shape proper said class state short l old new s n one in (
         backlog new,
         record {
           bodies = led.bodies;
           is = led.index;
           holds = led.holds;
           sealed = same_sealed s old new so.sessions at.sealed;
-          work = waiting_leaves shape proper said class state short l old new s n stands at.bodies at.is at.holds one.0 s ∙ at.work;
+          work = waiting_leaves shape proper said class state short l old new s n at.bodies at.is at.holds one s ∙ at.work;
           flush = refl;
         },
-        omega (arith, same, rest, fewer, was),
-        names_work shape proper said class state short l old new s n at.bodies at.is at.holds stands at.sealed one.0 (λ log. one.1.some (ap (λ m. Help m) log)),
+        omega (arith, no_more, was),
+        names_work shape proper said class state short l old new s n at.bodies at.is at.holds at.sealed one,
       )
 
   never_idle : (w h : ℕ) (old new : Parts B D) → At w h old → makes old (Move s) Nothing new → ⊥
-  never_idle w h old new at one = (one.0.steps l at.bodies at.is at.holds).are
+  never_idle w h old new at one = (one.steps l at.bodies at.is at.holds).are
 
   leaves_all : (n : Need) (given : Outcome B) (old new : Parts B D) (i : index.State B)
       → (stepped : Stepped c (reading_of said (format_of class)) (format_of class) (is_node (format_of class)) (state old.volume.shelf.disk) (state new.volume.shelf.disk) (event_of n) old new given i)
@@ -139,9 +139,9 @@ module _ {C B D : Type 0} (shape : Members B) (proper : B → Bool) (said : List
 
   helped : (w h : ℕ) (old new : Parts B D) (n : Need) (given : Outcome B) → At w h old → HasWork n old → makes old (event_of n) given new
       → ((given ≡ More) × ((f : ℕ) × At w f new × (f < h))) ⊎ ((why : Refusal) × (given ≡ Refused why))
-  helped w h old new n given at has one = elim (helps shape proper said class state old new n given has one.0) [
+  helped w h old new n given at has one = elim (helps shape proper said class state old new n given has one) [
     | inl did ↦
-        (let stepped = one.0.steps l at.bodies at.is at.holds in
+        (let stepped = one.steps l at.bodies at.is at.holds in
         let less = did.1 in
         let was = at.flush in
         inl (
@@ -152,7 +152,7 @@ module _ {C B D : Type 0} (shape : Members B) (proper : B → Bool) (said : List
               bodies = stepped.led.bodies;
               is = stepped.led.index;
               holds = stepped.led.holds;
-              sealed = kept_sealed s old new (sessions_kept n given old new one.0) at.sealed;
+              sealed = kept_sealed s old new (sessions_kept n given old new one) at.sealed;
               work = leaves_all n given old new at.is stepped s ∙ at.work;
               flush = refl;
             },
@@ -164,15 +164,65 @@ module _ {C B D : Type 0} (shape : Members B) (proper : B → Bool) (said : List
 
 -- a session's call alone
 module _ {C B D : Type 0} (shape : Members B) (proper : B → Bool) (said : List ℕ → B) (class : Ghosts C B) (state : D → Device) (short : class.KEY + 4119 ≤ 32764) (l : Limits)
-    (small : l.pages ≤ 65536) (most : l.most ≤ 100) (lawful : 4 ≤ l.most → IsLawful (class_of shape proper l))
+    (lawful : 4 ≤ l.most → IsLawful (class_of shape proper l))
     (bounded : (c : Class B) → IsLawful c → (old : index.State B) → IsWhole c old → c.pages ≤ 65536 → c.rules.most ≤ 100 → (s : ℕ) → work_left c old s < 2 ^ 39) where
-  pub call_ends : CallEnds shape proper said class state l
-  call_ends old new s count due bodies i holds sealed few way =
+  few_from : (old new : Parts B D) (s : ℕ) (due : Event B) (steps : List (Event B × Outcome B)) (bodies : List (List (Record (Entry B) (Page B)))) (i : index.State B)
+      → HoldsIndex shape proper said class state l old bodies i → WaitsForSealed s old → AreDriven s (Run (Move s)) steps (Run due)
+      → AreMade (Makes shape proper said class state) old steps new → IsOrderly old → length steps < 2 ^ 55
+  few_from old new s due steps bodies i holds sealed driven made order =
+      let small : l.pages ≤ 65536 = subst (λ n. n ≤ 65536) (sym holds.keeps.pages) order.pages in
+      let most : l.most ≤ 100 = subst (λ n. n ≤ 100) holds.most order.most in
       let work = bounded (class_of shape proper l) (lawful holds.some) i holds.whole small most s in
       let left_few = left_by_few (phase_at (s - 1) old.sessions.phases) (work_left (class_of shape proper l) i s) work in
-      let flush_few = few_left old few in
-      let all = few_driven (MakesCalmly shape proper said class state) s (At shape proper said class state short l s) HasWork (goes_on shape proper said class state short l s)
-      (waits shape proper said class state short l s) (never_idle shape proper said class state short l s) (helped shape proper said class state short l s) way.steps old new due way.made None
-      (left shape proper said class state short l s old i) (backlog old) (record { bodies = bodies; is = i; holds = holds; sealed = sealed; work = refl; flush = refl }) tt way.driven in
+      let flush_few = few_left old (few_orderly old order) in
+      let all = few_driven (Makes shape proper said class state) s (At shape proper said class state short l s) HasWork (goes_on shape proper said class state short l s)
+      (waits shape proper said class state short l s) (never_idle shape proper said class state short l s) (helped shape proper said class state short l s) steps old new due made None
+      (left shape proper said class state short l s old i) (backlog old) (record { bodies = bodies; is = i; holds = holds; sealed = sealed; work = refl; flush = refl }) tt driven in
+      omega (arith, all, left_few, flush_few)
+
+  few_steps : (old new : Parts B D) (s : ℕ) (due : Event B) (steps : List (Event B × Outcome B)) (bodies : List (List (Record (Entry B) (Page B)))) (i : index.State B)
+      → HoldsIndex shape proper said class state l old bodies i → WaitsForSealed s old → AreDriven s (Run (Move s)) steps (Run due)
+      → AreMade (Makes shape proper said class state) old steps new → length steps < 2 ^ 55
+  few_steps old new s due [] bodies i holds sealed driven made = omega arith
+  few_steps old new s due (step ∷ steps) bodies i holds sealed driven made =
+      few_from old new s due (step ∷ steps) bodies i holds sealed driven made made.1.order.0
+
+  pub call_ends : CallEnds shape proper said class state l
+  call_ends old new s count due bodies i holds sealed way =
+      let few = few_steps old new s due way.steps bodies i holds sealed way.driven way.made in
       let many = way.many in
-      omega (arith, all, many, left_few, flush_few)
+      omega (arith, few, many)
+
+  -- from an ask on
+  few_asked : (old new : Parts B D) (s : ℕ) (call : Call B) (due : Event B) (steps : List (Event B × Outcome B)) (bodies : List (List (Record (Entry B) (Page B)))) (i : index.State B)
+      → HoldsIndex shape proper said class state l old bodies i → AreDriven s (Run (Ask s call)) steps (Run due)
+      → AreMade (Makes shape proper said class state) old steps new → length steps < 2 ^ 56
+  few_asked old new s call due [] bodies i holds driven made = omega arith
+  few_asked old new s call due (step ∷ steps) bodies i holds driven made =
+      let event : step.0 ≡ Ask s call = (let same = driven.0 in cc) in
+      let few = few_after step.1 steps made.0 (subst (λ (x : Event B). Makes shape proper said class state old x step.1 made.0) event made.1) driven.1 made.2 in
+      omega (arith, few)
+    where
+      few_after : (given : Outcome B) (rest : List (Event B × Outcome B)) (middle : Parts B D) → Makes shape proper said class state old (Ask s call) given middle
+          → AreDriven s (next_of s given) rest (Run due) → AreMade (Makes shape proper said class state) middle rest new → 1 + length rest < 2 ^ 56
+      few_after (Replied reply) rest middle one driven made = absurd (done_rests s reply rest due driven)
+      few_after More rest middle one driven made =
+          let led = (one.steps l bodies i holds).led in
+          let few = few_steps middle new s due rest led.bodies led.index led.holds (asked_sealed (keys_of shape) s call old middle one.comes) driven made in
+          omega (arith, few)
+      few_after given rest middle one driven made = absurd one.comes
+
+  -- so a call from its first event on
+  pub starts_end : (old new : Parts B D) (s count : ℕ) (first due : Event B) (bodies : List (List (Record (Entry B) (Page B)))) (i : index.State B)
+      → HoldsIndex shape proper said class state l old bodies i → StartsCall s first old → IsUnderWay (Makes shape proper said class state) s first old count due new → count < 2 ^ 56
+  starts_end old new s count (Ask t call) due bodies i holds starts way =
+      let driven = subst (λ n. AreDriven s (Run (Ask n call)) way.steps (Run due)) starts way.driven in
+      let few = few_asked old new s call due way.steps bodies i holds driven way.made in
+      let many = way.many in
+      omega (arith, few, many)
+  starts_end old new s count (Move t) due bodies i holds starts way =
+      let driven = subst (λ n. AreDriven s (Run (Move n)) way.steps (Run due)) starts.0 way.driven in
+      let few = few_steps old new s due way.steps bodies i holds starts.1 driven way.made in
+      let many = way.many in
+      omega (arith, few, many)
+  starts_end old new s count event due bodies i holds starts way = absurd starts

@@ -13,21 +13,22 @@ use Rattle.gx_glog.specs.declared.stage.Turn.TheVariants as turn
 use Rattle.gx_glog.specs.State.{Log, GoesFrom, Made, after, after_turn, begun, Turns}
 use Rattle.gx_pool.specs.Marks.{is_gated}
 use Rattle.gx_pool.specs.State.{Kept, State as Frames, dirty_count, kept, stamp_of}
+use Rattle.gx_pool.proofs.Numbers.{clean_dirty_apart}
 use Rattle.gx_durable.specs.Steps.{told_frames}
 use Rattle.gx_durable.specs.Turns.{told_result}
 use Rattle.gx_store.specs.declared.fault.StoreFault.{StoreFault}
 use Rattle.gx_storage.specs.State.{Volume}
 use Rattle.gx_events.specs.declared.event.Event.{Event}
-use Rattle.gx_events.specs.declared.event.Event.TheVariants.{CheckpointStep}
+use Rattle.gx_events.specs.declared.event.Event.TheVariants.{CheckpointStep, LogStep}
 use Rattle.gx_events.specs.declared.outcome.Outcome.{Outcome}
 use Rattle.gx_engine.specs.declared.checkpoint.Checkpoint.{Checkpoint}
 use Rattle.gx_engine.specs.declared.checkpoint.Checkpoint.TheVariants.{Off, Running, Turning}
 use Rattle.gx_engine.specs.Checkpoints.{after_call, CheckpointSteps, HeadComes, RunsOn, StepsFrom, StepsOff, SyncComes, TurnsNext, TurnComes}
 use Rattle.gx_engine.specs.Flushing.{LogComes, LogGoes, LogSteps, PageComes, PageGoes, PageIsWritten}
-use Rattle.gx_engine.specs.States.{Parts, runs}
+use Rattle.gx_engine.specs.States.{IsOrderly, Parts, runs}
 use Rattle.gx_driven.specs.Backlog.{backlog, checkpoint_left, coming, fillings, flight_left, log_left, places, turn_left}
 use Rattle.gx_driven.specs.Made.{AreMade, Makes}
-use Rattle.gx_driven.specs.Repeated.{AreAgain, GoesOn, IsGoingOn}
+use Rattle.gx_driven.specs.Repeated.{AreAgain, GoesOn, IsFlushing, IsGoingOn}
 
 -- ---- the log
 
@@ -283,26 +284,44 @@ module _ {B D : Type 0} where
   written_less d e old new page true given on comes = absurd (subst GoesOn comes.0 on)
   written_less d e old new page false given on comes = page_less d e old new page given comes.0 on comes.1 comes.2
 
--- ---- a checkpoint's steps come to an end
+-- ---- steps of the log, and of a checkpoint, come to an end
+
+-- no more pages have changes than there are frames
+pub few_orderly : {B D : Type 0} (e : Parts B D) → IsOrderly e → dirty_count e.volume.shelf.frames ≤ 4096
+few_orderly e order =
+    let all = clean_dirty_apart e.volume.shelf.frames in
+    let few = order.frames.sound.few in
+    omega (arith, all, few)
 
 module _ {C B D : Type 0} (shape : Members B) (proper : B → Bool) (said : List ℕ → B) (class : Ghosts C B) (state : D → Device) where
   abbrev makes : Parts B D → Event B → Outcome B → Parts B D → Type 0
   makes = Makes shape proper said class state
 
-  one_less : (old new : Parts B D) (given : Outcome B) → GoesOn given → makes old CheckpointStep given new → backlog new < backlog old
-  one_less old new given on one =
+  one_less : (event : Event B) (old new : Parts B D) (given : Outcome B) → IsFlushing event → GoesOn given → makes old event given new → backlog new < backlog old
+  one_less LogStep old new given flushes on one =
+      log_step_less (state old.volume.shelf.disk) (state new.volume.shelf.disk) old new old.sessions.failed (runs old.checkpoint) given refl on one.comes
+  one_less CheckpointStep old new given flushes on one =
       checkpoint_less (state old.volume.shelf.disk) (state new.volume.shelf.disk) old new old.sessions.failed given on one.comes
+  one_less event old new given flushes on one = absurd flushes
 
-  again_less : (steps : List (Event B × Outcome B)) (old new : Parts B D) → AreAgain CheckpointStep steps → AreMade makes old steps new → backlog new + length steps ≤ backlog old
-  again_less [] old new again made = let same : backlog new ≡ backlog old = ap backlog made in omega (arith, same)
-  again_less (step ∷ steps) old new again made =
+  again_less : (event : Event B) (steps : List (Event B × Outcome B)) (old new : Parts B D) → IsFlushing event → AreAgain event steps → AreMade makes old steps new
+      → backlog new + length steps ≤ backlog old
+  again_less event [] old new flushes again made = let same : backlog new ≡ backlog old = ap backlog made in omega (arith, same)
+  again_less event (step ∷ steps) old new flushes again made =
       let one = subst (λ (e : Event B). makes old e step.1 made.0) again.0.0 made.1 in
-      let first = one_less old made.0 step.1 again.0.1 one in
-      let rest = again_less steps made.0 new again.1 made.2 in
+      let first = one_less event old made.0 step.1 flushes again.0.1 one in
+      let rest = again_less event steps made.0 new flushes again.1 made.2 in
       omega (arith, first, rest)
 
-  pub going_on_few : (count : ℕ) (old new : Parts B D) → IsGoingOn makes CheckpointStep old count new → count ≤ backlog old
-  going_on_few count old new on =
-      let few = again_less on.steps old new on.again on.made in
+  few_again : (event : Event B) (steps : List (Event B × Outcome B)) (old new : Parts B D) → IsFlushing event → AreAgain event steps → AreMade makes old steps new → length steps < 8192
+  few_again event [] old new flushes again made = omega arith
+  few_again event (step ∷ steps) old new flushes again made =
+      let less = again_less event (step ∷ steps) old new flushes again made in
+      let few = few_left old (few_orderly old made.1.order.0) in
+      omega (arith, less, few)
+
+  pub going_on_few : (event : Event B) (count : ℕ) (old new : Parts B D) → IsFlushing event → IsGoingOn makes event old count new → count < 8192
+  going_on_few event count old new flushes on =
+      let few = few_again event on.steps old new flushes on.again on.made in
       let many = on.many in
       omega (arith, few, many)

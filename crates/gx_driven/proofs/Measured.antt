@@ -21,7 +21,7 @@ next_is s (need.Write page) = refl
 next_is s need.Checkpoint = refl
 
 -- a call that has ended goes on with no event
-done_rests : {B : Type 0} (s : ℕ) (r : Reply B) (steps : List (Event B × Outcome B)) (due : Event B) → AreDriven s (Done r) steps (Run due) → ⊥
+pub done_rests : {B : Type 0} (s : ℕ) (r : Reply B) (steps : List (Event B × Outcome B)) (due : Event B) → AreDriven s (Done r) steps (Run due) → ⊥
 done_rests s r [] due driven = cc
 done_rests s r (step ∷ steps) due driven = let no = driven.0 in cc
 

@@ -1,10 +1,13 @@
 -- A session's move, and each event that helps, leave it waiting for no commit that isn't sealed.
-use Rattle.std.proofs.Common.{◌≡◌, ◌⊎◌, inl, inr, ℕ, zero, suc, ◌+◌, ◌≤◌, Bool, true, false, Option, None, Some, List, [], ◌∷◌, refl, ap, sym, ◌∙◌, subst, arith}
+use Rattle.std.proofs.Common.{◌≡◌, ◌⊎◌, inl, inr, ℕ, zero, suc, ◌+◌, ◌≤◌, Bool, true, false, Option, None, Some, Result, Ok, Err, List, [], ◌∷◌, refl, ap, sym, ◌∙◌, subst, arith}
 use Rattle.std.specs.Prelude.{◌-◌, nat_le, slice_set, slice_index_or}
+use Rattle.gx_geom.specs.declared.refusal.Refusal.{Refusal}
 use Rattle.gx_disk.specs.Device.{Device}
 use Rattle.gx_machine.specs.declared.call.Call.{Call}
 use Rattle.gx_machine.specs.declared.call.Call.TheVariants.{Abort, Begin, Commit, Delete, Insert, Search}
 use Rattle.gx_machine.specs.declared.entry.Entry.{Entry}
+use Rattle.gx_machine.specs.declared.reply.Asked.TheVariants as asked
+use Rattle.gx_machine.specs.Sessions.{Locks}
 use Rattle.gx_machine.specs.Keys.{Keys}
 use Rattle.gx_machine.specs.Machine.{is_session}
 use Rattle.gx_node.specs.Reading.{Format}
@@ -18,10 +21,13 @@ use Rattle.gx_events.specs.declared.outcome.Outcome.TheVariants.{More}
 use Rattle.gx_txn.specs.declared.note.Note.{Note}
 use Rattle.gx_phases.specs.declared.phase.Phase.{Phase}
 use Rattle.gx_phases.specs.declared.phase.Phase.TheVariants as phase
+use Rattle.gx_txn.specs.Tables.{locks_for}
+use Rattle.gx_phases.specs.Asked.{AskedAt, AskedBy, AskedFree, AskedWorking, Begun, LockTaken, is_full}
 use Rattle.gx_phases.specs.Moves.{next_of, sealed_state}
-use Rattle.gx_phases.specs.States.{phase_at}
+use Rattle.gx_phases.specs.States.{State, phase_at}
 use Rattle.gx_engine.specs.declared.work.Work.{Work}
 use Rattle.gx_engine.specs.declared.work.Work.TheVariants.{Looks, Rests, Seeks}
+use Rattle.gx_engine.specs.Asked.{AskComes}
 use Rattle.gx_engine.specs.Comes.{CallMoves, MovesAt, MovesBy, MoveComes}
 use Rattle.gx_engine.specs.Moves.{calling}
 use Rattle.gx_engine.specs.Sealing.{AcknowledgeBy, SealComes}
@@ -138,3 +144,58 @@ module _ {B : Type 0} (k : Keys B) (known : Limits → Known (Entry B) (Page B))
 
   pub more_sealed : (s : ℕ) (old new : Parts B D) → MoveComes k known r f passes IsKey spells key d e s old new More → WaitsForSealed s new
   more_sealed s old new comes = by_sealed s old new (is_session s) (has_call (phase_at (s - 1) old.sessions.phases)) old.sessions.failed comes
+
+-- ---- asks
+
+module _ {B : Type 0} (k : Keys B) (s : ℕ) where
+  working_below : (p : Phase B (Work B)) (latest : ℕ) → p ≡ phase.Working → IsBelow p latest
+  working_below p latest at number is = let clash : phase.Working ≡ phase.Waiting number = sym at ∙ is in let none : ⊥ = cc in absurd none
+
+  lock_below : (old new : State B (Work B)) (locks : Result (Locks B) Refusal) (call : Call B) → phase_at (s - 1) old.phases ≡ phase.Working → LockTaken locks s call Rests old asked.Open new
+      → IsBelow (phase_at (s - 1) new.phases) new.latest
+  lock_below old new (Ok locks) call at is =
+      subst (λ (x : State B (Work B)). IsBelow (phase_at (s - 1) x.phases) x.latest) (sym is.1)
+      (set_below old.phases (s - 1) old.latest (phase.Open call Rests) (open_below (phase.Open call Rests) call Rests old.latest refl) (working_below (phase_at (s - 1) old.phases) old.latest at))
+  lock_below old new (Err why) call at is = let clash = is.0 in let none : ⊥ = cc in absurd none
+
+  working_asked : (old new : State B (Work B)) (call : Call B) → phase_at (s - 1) old.phases ≡ phase.Working → AskedWorking k s call Rests old asked.Open new
+      → IsBelow (phase_at (s - 1) new.phases) new.latest
+  working_asked old new Begin at is = let clash = is.0 in let none : ⊥ = cc in absurd none
+  working_asked old new (Insert entry) at is = lock_below old new (locks_for k (Insert entry) s old.table) (Insert entry) at is
+  working_asked old new (Delete entry) at is = lock_below old new (locks_for k (Delete entry) s old.table) (Delete entry) at is
+  working_asked old new (Search query) at is = lock_below old new (locks_for k (Search query) s old.table) (Search query) at is
+  working_asked old new Commit at is =
+      subst (λ (x : State B (Work B)). IsBelow (phase_at (s - 1) x.phases) x.latest) (sym is.1)
+      (set_below old.phases (s - 1) old.latest (phase.Open Commit Rests) (open_below (phase.Open Commit Rests) Commit Rests old.latest refl) (working_below (phase_at (s - 1) old.phases) old.latest at))
+  working_asked old new Abort at is =
+      subst (λ (x : State B (Work B)). IsBelow (phase_at (s - 1) x.phases) x.latest) (sym is.1)
+      (set_below old.phases (s - 1) old.latest (phase.Undoing 0 Rests) (undoing_below (phase.Undoing 0 Rests) 0 Rests old.latest refl) (working_below (phase_at (s - 1) old.phases) old.latest at))
+
+  begun_never : (full : Bool) (old new : State B (Work B)) → Begun full s old asked.Open new → ⊥
+  begun_never true old new is = let clash = is.0 in cc
+  begun_never false old new is = let clash = is.0 in cc
+
+  free_never : (old new : State B (Work B)) (call : Call B) → AskedFree s call old asked.Open new → ⊥
+  free_never old new Begin is = begun_never (is_full old) old new is
+  free_never old new (Insert entry) is = let clash = is.0 in cc
+  free_never old new (Delete entry) is = let clash = is.0 in cc
+  free_never old new (Search query) is = let clash = is.0 in cc
+  free_never old new Commit is = let clash = is.0 in cc
+  free_never old new Abort is = let clash = is.0 in cc
+
+  at_asked : (old new : State B (Work B)) (call : Call B) (p : Phase B (Work B)) → phase_at (s - 1) old.phases ≡ p → AskedAt k s call Rests p old asked.Open new
+      → IsBelow (phase_at (s - 1) new.phases) new.latest
+  at_asked old new call phase.Free at is = absurd (free_never old new call is)
+  at_asked old new call phase.Working at is = working_asked old new call at is
+  at_asked old new call (phase.Open pending on) at is = let clash = is.0 in let none : ⊥ = cc in absurd none
+  at_asked old new call (phase.Undoing restored on) at is = let clash = is.0 in let none : ⊥ = cc in absurd none
+  at_asked old new call (phase.Waiting number) at is = let clash = is.0 in let none : ⊥ = cc in absurd none
+
+  by_asked : (old new : State B (Work B)) (call : Call B) (failed there : Bool) → AskedBy k s call Rests failed there old asked.Open new → IsBelow (phase_at (s - 1) new.phases) new.latest
+  by_asked old new call true there is = let clash = is.0 in let none : ⊥ = cc in absurd none
+  by_asked old new call false false is = let clash = is.0 in let none : ⊥ = cc in absurd none
+  by_asked old new call false true is = at_asked old new call (phase_at (s - 1) old.phases) refl is
+
+  -- a session whose call was asked waits for no commit
+  pub asked_sealed : {D : Type 0} (call : Call B) (old new : Parts B D) → AskComes k s call old More new → WaitsForSealed s new
+  asked_sealed call old new comes = by_asked old.sessions new.sessions call old.sessions.failed (is_session s) comes.0

@@ -16,7 +16,8 @@ use Rattle.gx_machine.specs.Machine.{is_session}
 use Rattle.gx_node.specs.Reading.{Format, format_of, is_node}
 use Rattle.gx_page.specs.Contents.{Contents}
 use Rattle.gx_pool.specs.Marks.{is_gated}
-use Rattle.gx_pool.specs.State.{IsWritable, NoneDirty, kept, stamp_of}
+use Rattle.gx_pool.specs.State.{State as Frames, IsWritable, NoneDirty, clean_count, kept, stamp_of}
+use Rattle.gx_pool.proofs.Numbers.{all_but_held, no_more_dirty, none_dirty_zero}
 use Rattle.gx_record.specs.Bytes.{u64_bytes}
 use Rattle.gx_record.specs.Format.{spelling}
 use Rattle.gx_record.specs.Rec.{Rec}
@@ -59,13 +60,13 @@ use Rattle.gx_engine.specs.declared.work.Work.{Work}
 use Rattle.gx_engine.specs.Comes.{CallMoves, MovesAt, MovesBy, MoveComes}
 use Rattle.gx_engine.specs.Holds.{Holds}
 use Rattle.gx_engine.specs.Moves.{left_by}
-use Rattle.gx_engine.specs.Refusals.{CanBeHelped, IsEarly, IsHelp, log_need, need_of}
+use Rattle.gx_engine.specs.Refusals.{CanBeHelped, IsEarly, IsHelp, StampsStay, log_need, need_of}
 use Rattle.gx_engine.specs.Sealing.{AcknowledgeBy, SealComes, commit_of}
-use Rattle.gx_engine.specs.States.{Parts, StandsIn, is_due, runs}
+use Rattle.gx_engine.specs.States.{AreFrames, Parts, StandsIn, is_due, runs}
 use Rattle.gx_engine.specs.Stepping.{has_call}
 use Rattle.gx_engine.specs.Undoing.{EndComes, UndoBy, end_of}
 use Rattle.gx_engine.specs.Writing.{IsDelayed, brought}
-use Rattle.gx_driven.specs.Backlog.{fillings, flight_left, log_left}
+use Rattle.gx_driven.specs.Backlog.{backlog, checkpoint_left, fillings, flight_left, log_left}
 use Rattle.gx_driven.specs.Helping.{HasWork, NamesWork, WaitingLeavesAll, WaitsForSealed}
 use Rattle.gx_driven.specs.Made.{Makes}
 use Rattle.gx_driven.proofs.Lessening.{one_fills}
@@ -105,9 +106,10 @@ module _ {B D : Type 0} where
   abbrev WaitsForRoom : Parts B D → Need → Type 0
   WaitsForRoom old n = (n ≡ log_need (runs old.checkpoint)) × (runs old.checkpoint ≡ false → 1 ≤ length old.volume.log.filling)
 
-  -- too few frames are clean
+  -- fewer than two frames are clean
   abbrev WaitsForFrames : Parts B D → Parts B D → Need → Type 0
-  WaitsForFrames old new n = (least : Option ℕ) × IsLeastWritable new.volume.shelf.frames least × (n ≡ need_of (runs old.checkpoint) (Some (frame_by least)))
+  WaitsForFrames old new n =
+      (least : Option ℕ) × IsLeastWritable new.volume.shelf.frames least × (n ≡ need_of (runs old.checkpoint) (Some (frame_by least))) × (clean_count new.volume.shelf.frames < 2)
 
   -- a commit isn't durable
   abbrev WaitsForCommit : ℕ → Parts B D → Need → Type 0
@@ -117,18 +119,31 @@ module _ {B D : Type 0} where
   abbrev Why : ℕ → Parts B D → Parts B D → Need → Type 0
   Why s old new n = WaitsForCheckpoint old n ⊎ (WaitsForRoom old n ⊎ (WaitsForFrames old new n ⊎ WaitsForCommit s old n))
 
-  -- A move waits: pages may have been brought, and nothing else has changed.
+  -- A move waits: pages may have been brought, none got a change, and nothing else has changed.
   pub record Waits (s : ℕ) (old new : Parts B D) (n : Need) : Type 0 where
     pub sessions : new.sessions ≡ old.sessions
     pub checkpoint : new.checkpoint ≡ old.checkpoint
     pub log : new.volume.log ≡ old.volume.log
+    pub stamps : StampsStay old.volume.shelf new.volume.shelf
     pub why : Why s old new n
 
   stays : (s : ℕ) (old new : Parts B D) (n : Need) → new ≡ old → Why s old new n → Waits s old new n
-  stays s old new n same why = record { sessions = ap (λ (x : Parts B D). x.sessions) same; checkpoint = ap (λ (x : Parts B D). x.checkpoint) same; log = ap (λ (x : Parts B D). x.volume.log) same; why = why }
+  stays s old new n same why = record {
+    sessions = ap (λ (x : Parts B D). x.sessions) same;
+    checkpoint = ap (λ (x : Parts B D). x.checkpoint) same;
+    log = ap (λ (x : Parts B D). x.volume.log) same;
+    stamps = λ page. ap (λ (x : Parts B D). stamp_of (kept x.volume.shelf.frames page)) same;
+    why = why;
+  }
 
-  brings : (s : ℕ) (old new : Parts B D) (n : Need) → new ≡ brought old new → Why s old new n → Waits s old new n
-  brings s old new n same why = record { sessions = ap (λ (x : Parts B D). x.sessions) same; checkpoint = ap (λ (x : Parts B D). x.checkpoint) same; log = ap (λ (x : Parts B D). x.volume.log) same; why = why }
+  brings : (s : ℕ) (old new : Parts B D) (n : Need) → new ≡ brought old new → StampsStay old.volume.shelf new.volume.shelf → Why s old new n → Waits s old new n
+  brings s old new n same stamps why = record {
+    sessions = ap (λ (x : Parts B D). x.sessions) same;
+    checkpoint = ap (λ (x : Parts B D). x.checkpoint) same;
+    log = ap (λ (x : Parts B D). x.volume.log) same;
+    stamps = stamps;
+    why = why;
+  }
 
   -- what fills where a record finds no room, and no checkpoint is due
   fills : (e : Parts B D) (size : ℕ) → size ≤ 32764 → is_due e ≡ false → has_room e.volume.log size ≡ false → 1 ≤ length e.volume.log.filling
@@ -142,7 +157,10 @@ module _ {B D : Type 0} where
   helped passes d e old new n shelf early fault.NoRoom named room can why is helps names =
       inl (names ∙ ap (need_of (runs old.checkpoint)) helps, λ off. room is why)
   helped passes d e old new n shelf early (fault.TooFewFrames wanted) named room can why is helps names =
-      let few = helps.few why.more in inr (few.0, few.1, names ∙ ap (need_of (runs old.checkpoint)) few.2)
+      let few = helps.few why.more in
+      let more = why.more in
+      let two = why.two in
+      inr (few.0, few.1, names ∙ ap (need_of (runs old.checkpoint)) few.2, omega (arith, more, two))
   helped passes d e old new n shelf early fault.Device named room can why is helps names = absurd can
   helped passes d e old new n shelf early fault.Damaged named room can why is helps names = absurd can
 
@@ -165,8 +183,12 @@ module _ {B D : Type 0} where
       (helped passes d e old new n (begun old.volume size) (λ f. IsEarly f (is_due old)) h.fault h.help (λ is none. fills old size small is none) h.can h.why early h.helps h.is)
 
   why_delayed : (passes : ℕ → Contents → Bool) (d e : Device) (s : ℕ) (old new : Parts B D) (n : Need) → IsDelayed passes d e old new n → Why s old new n
-  why_delayed passes d e s old new n (inl due) = inl due
+  why_delayed passes d e s old new n (inl due) = inl (due.0, due.1)
   why_delayed passes d e s old new n (inr (size, small, h)) = why_begun passes d e s old new n size (omega (arith, small)) h.0 h.1
+
+  delayed_stamps : (passes : ℕ → Contents → Bool) (d e : Device) (old new : Parts B D) (n : Need) → IsDelayed passes d e old new n → StampsStay old.volume.shelf new.volume.shelf
+  delayed_stamps passes d e old new n (inl due) = due.2
+  delayed_stamps passes d e old new n (inr (size, small, h)) = h.0.stamps
 
   no_turn : (c : Checkpoint) (e : Parts B D) → runs c ≡ false → StandsIn c e.volume → 1 ≤ turning e.volume.log.turn → ⊥
   no_turn Off e off stands turns = let none = ap turning stands in omega (arith, none, turns)
@@ -220,6 +242,7 @@ module _ {B : Type 0} (k : Keys B) (known : Limits → Known (Entry B) (Page B))
         sessions = ap (λ (x : Parts B D). x.sessions) comes.2.2;
         checkpoint = ap (λ (x : Parts B D). x.checkpoint) comes.2.2;
         log = comes.2.0.log;
+        stamps = h.stamps;
         why =
             why_helped s old new n
             (helped passes d e old new n (begun old.volume (key + 4119)) (λ any. Unit {0}) h.fault h.help (λ any none. fills old (key + 4119) short is none) h.can h.why tt h.helps h.is);
@@ -228,9 +251,9 @@ module _ {B : Type 0} (k : Keys B) (known : Limits → Known (Entry B) (Page B))
   call_waits : (s : ℕ) (old new : Parts B D) (n : Need) (call : Call B) → StandsIn old.checkpoint old.volume
       → CallMoves k known r f passes IsKey spells key d e s old new call (Help n) → Waits s old new n
   call_waits s old new n Begin stands comes = let names = comes.0 in let no : ⊥ = cc in absurd no
-  call_waits s old new n (Insert entry) stands comes = brings s old new n comes.1 (why_delayed passes d e s old new n comes.0)
-  call_waits s old new n (Delete entry) stands comes = brings s old new n comes.1 (why_delayed passes d e s old new n comes.0)
-  call_waits s old new n (Search query) stands comes = brings s old new n comes.1 (why_brought passes d e s old new n comes.0)
+  call_waits s old new n (Insert entry) stands comes = brings s old new n comes.1 (delayed_stamps passes d e old new n comes.0) (why_delayed passes d e s old new n comes.0)
+  call_waits s old new n (Delete entry) stands comes = brings s old new n comes.1 (delayed_stamps passes d e old new n comes.0) (why_delayed passes d e s old new n comes.0)
+  call_waits s old new n (Search query) stands comes = brings s old new n comes.1 comes.0.stamps (why_brought passes d e s old new n comes.0)
   call_waits s old new n Commit stands comes = seal_waits s old new n stands comes
   call_waits s old new n Abort stands comes = let names = comes.0 in let no : ⊥ = cc in absurd no
 
@@ -275,6 +298,15 @@ idle_of GateSync none = let no : ⊥ = omega (arith, none) in absurd no
 pub empty_of : (bytes : List ℕ) → fillings bytes ≡ 0 → bytes ≡ []
 empty_of [] none = refl
 empty_of (byte ∷ bytes) none = let no : ⊥ = omega (arith, none) in absurd no
+
+-- where fewer than two frames are clean, some page has changes
+some_dirty : (x : Frames) → AreFrames x → clean_count x < 2 → NoneDirty x → ⊥
+some_dirty x are few clean =
+    let zero_is = none_dirty_zero x are.sound clean in
+    let all = all_but_held x are.sound in
+    let held = are.held in
+    let enough = are.enough in
+    let no : ⊥ = omega (arith, zero_is, all, held, enough, few) in no
 
 module _ {B : Type 0} (c : Class B) (r : Reading (Entry B) (Page B)) (f : Format B) (passes : ℕ → Contents → Bool) {D : Type 0} (d : Device) where
   -- where the log has nothing to do, each page that may not be written has no changes
@@ -328,15 +360,15 @@ module _ {B : Type 0} (c : Class B) (r : Reading (Entry B) (Page B)) (f : Format
   log_works false e is some = (is, some refl)
 
   frames_work : (least : Option ℕ) (running : Bool) (e : Parts B D) (bodies : List (List (Record (Entry B) (Page B)))) (i : index.State B) → runs e.checkpoint ≡ running
-      → Holds c r f passes d e bodies i → IsLeastWritable e.volume.shelf.frames least
-      → (need_of running (Some (frame_by least)) ≡ need.Log → NoneDirty e.volume.shelf.frames → 1 ≤ log_left e.volume.log) → HasWork (need_of running (Some (frame_by least))) e
-  frames_work (Some page) running e bodies i is holds least some = least.0
-  frames_work None running e bodies i is holds least some =
-      log_works running e is (λ off. some_left (log_left e.volume.log) (λ rests. (let more = some (ap log_need off) (none_dirty e.volume bodies i.log holds.keeps least rests) in omega (arith, more, rests))))
+      → Holds c r f passes d e bodies i → AreFrames e.volume.shelf.frames → clean_count e.volume.shelf.frames < 2 → IsLeastWritable e.volume.shelf.frames least
+      → HasWork (need_of running (Some (frame_by least))) e
+  frames_work (Some page) running e bodies i is holds are few least = least.0
+  frames_work None running e bodies i is holds are few least =
+      log_works running e is (λ off. some_left (log_left e.volume.log) (λ rests. some_dirty e.volume.shelf.frames are few (none_dirty e.volume bodies i.log holds.keeps least rests)))
 
-  work_by : (s : ℕ) (old new : Parts B D) (n : Need) → Waits s old new n → WaitsForSealed s old → (n ≡ need.Log → NoneDirty new.volume.shelf.frames → 1 ≤ log_left new.volume.log)
+  work_by : (s : ℕ) (old new : Parts B D) (n : Need) → Waits s old new n → WaitsForSealed s old → AreFrames new.volume.shelf.frames
       → (bodies : List (List (Record (Entry B) (Page B)))) (j : index.State B) → Holds c r f passes d new bodies j → HasWork n new
-  work_by s old new n waits sealed some bodies j holds =
+  work_by s old new n waits sealed are bodies j holds =
       let running : runs new.checkpoint ≡ runs old.checkpoint = ap runs waits.checkpoint in
       let left_same : log_left new.volume.log ≡ log_left old.volume.log = ap log_left waits.log in
       let named : (m : Need) → n ≡ m → HasWork m new → HasWork n new = λ m is has. subst (λ (x : Need). HasWork x new) (sym is) has in
@@ -347,7 +379,7 @@ module _ {B : Type 0} (c : Class B) (r : Reading (Entry B) (Page B)) (f : Format
           | inl room ↦ named (log_need (runs old.checkpoint)) room.0
               (log_works (runs old.checkpoint) new running (λ off. (let few = filled_left old.volume.log (room.1 off) in omega (arith, few, left_same))))
           | inr other ↦ elim other [
-            | inl frames ↦ named (need_of (runs old.checkpoint) (Some (frame_by frames.0))) frames.2 (frames_work frames.0 (runs old.checkpoint) new bodies j running holds frames.1 (λ is. some (frames.2 ∙ is)))
+            | inl frames ↦ named (need_of (runs old.checkpoint) (Some (frame_by frames.0))) frames.2 (frames_work frames.0 (runs old.checkpoint) new bodies j running holds are frames.3 frames.1)
             | inr commit ↦ named (log_need (runs old.checkpoint)) commit.0
                 (log_works (runs old.checkpoint) new running (λ off. commit_left new bodies j commit.1.0 holds
                 (subst (λ n. commit.1.0 ≤ n) (sym (ap (λ x. x.latest) waits.sessions)) (sealed commit.1.0 commit.1.1))
@@ -365,17 +397,27 @@ module _ {C B D : Type 0} (shape : Members B) (proper : B → Bool) (said : List
       (state old.volume.shelf.disk) (state new.volume.shelf.disk) s old new n stands made.comes
 
   pub names_work : NamesWork shape proper said class state l
-  names_work old new s n bodies i holds stands sealed made some =
+  names_work old new s n bodies i holds sealed made =
       let stepped = made.steps l bodies i holds in
       work_by (class_of shape proper l) (reading_of said (format_of class)) (format_of class) (is_node (format_of class)) (state new.volume.shelf.disk) s old new n
-      (waits_made old new s n stands made) sealed some stepped.led.bodies stepped.led.index stepped.led.holds
+      (waits_made old new s n made.order.0.stands made) sealed made.order.1.frames stepped.led.bodies stepped.led.index stepped.led.holds
 
   pub waiting_leaves : WaitingLeavesAll shape proper said class state l
-  waiting_leaves old new s n stands bodies i holds made =
+  waiting_leaves old new s n bodies i holds made =
       let stepped = made.steps l bodies i holds in
       let none : stepped.events ≡ [] = stepped.are.1 in
       let same : stepped.led.index ≡ i =
       subst (λ (events : List (Event B)). AreHappening (class_of shape proper l) i events stepped.led.index) none stepped.led.happening in
-      let waits = waits_made old new s n stands made in
+      let waits = waits_made old new s n made.order.0.stands made in
       λ a. ap (λ (x : Sessions B (Work B)). left_by (phase_at (a - 1) x.phases) (work_left (class_of shape proper l) stepped.led.index a)) waits.sessions
       ∙ ap (λ (j : index.State B). left_by (phase_at (a - 1) old.sessions.phases) (work_left (class_of shape proper l) j a)) same
+
+  -- nor is there more to flush
+  pub waiting_flushes : (old new : Parts B D) (s : ℕ) (n : Need) → Makes shape proper said class state old (Move s) (Help n) new → backlog new ≤ backlog old
+  waiting_flushes old new s n made =
+      let waits = waits_made old new s n made.order.0.stands made in
+      let same : log_left new.volume.log ≡ log_left old.volume.log = ap log_left waits.log in
+      let rest : checkpoint_left new.checkpoint new.volume.log ≡ checkpoint_left old.checkpoint old.volume.log =
+      ap (λ x. checkpoint_left x new.volume.log) waits.checkpoint ∙ ap (λ x. checkpoint_left old.checkpoint x) waits.log in
+      let fewer = no_more_dirty new.volume.shelf.frames old.volume.shelf.frames made.order.1.frames.sound made.order.0.frames.sound (λ page. sym (waits.stamps page)) in
+      omega (arith, same, rest, fewer)

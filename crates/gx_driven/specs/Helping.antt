@@ -6,14 +6,14 @@ use Rattle.gx_disk.specs.Device.{Device}
 use Rattle.gx_machine.specs.declared.entry.Entry.{Entry}
 use Rattle.gx_machine.specs.Keys.{Members}
 use Rattle.gx_node.specs.Reading.{format_of, is_node}
-use Rattle.gx_pool.specs.State.{IsWritable, NoneDirty, dirty_count}
+use Rattle.gx_pool.specs.State.{IsWritable}
 use Rattle.gx_recovery.specs.Known.{Limits}
 use Rattle.gx_recovery.specs.Records.{Record}
 use Rattle.gx_index_laws.specs.Classes.{Page}
 use Rattle.gx_index_laws.specs.States as index
 use Rattle.gx_readings.specs.Classes.{class_of, reading_of}
 use Rattle.gx_events.specs.declared.event.Event.{Event}
-use Rattle.gx_events.specs.declared.event.Event.TheVariants.{CheckpointStep, LogStep, Move, WritePage}
+use Rattle.gx_events.specs.declared.event.Event.TheVariants.{Ask, CheckpointStep, LogStep, Move, WritePage}
 use Rattle.gx_events.specs.declared.outcome.Need.{Need}
 use Rattle.gx_events.specs.declared.outcome.Need.TheVariants as need
 use Rattle.gx_events.specs.declared.outcome.Outcome.{Outcome}
@@ -22,7 +22,7 @@ use Rattle.gx_phases.specs.declared.phase.Phase.TheVariants as phase
 use Rattle.gx_phases.specs.States.{phase_at}
 use Rattle.gx_engine.specs.Ending.{LeavesAll}
 use Rattle.gx_engine.specs.Holds.{Holds}
-use Rattle.gx_engine.specs.States.{Parts, StandsIn, is_due, runs}
+use Rattle.gx_engine.specs.States.{Parts, is_due, runs}
 use Rattle.gx_driven.specs.Backlog.{backlog, log_left}
 use Rattle.gx_driven.specs.Driven.{IsUnderWay}
 use Rattle.gx_driven.specs.Made.{Makes}
@@ -44,40 +44,37 @@ HasWork need.Checkpoint e = is_due e ≡ true
 abbrev pub DoesWork : {B D : Type 0} → Outcome B → Parts B D → Parts B D → Type 0
 DoesWork given old new = ((given ≡ More) × (backlog new < backlog old)) ⊎ ((why : Refusal) × (given ≡ Refused why))
 
--- At an event: the log's turn stands as the checkpoint has it, and the frames are those of 4,096 pages at most. And a move that waits leaves no
--- more pages with changes than before; and where it names the log and none has any, the log has a call to make.
-pub record IsCalm {B D : Type 0} (old : Parts B D) (given : Outcome B) (new : Parts B D) : Type 0 where
-  pub stands : StandsIn old.checkpoint old.volume
-  pub few : dirty_count new.volume.shelf.frames ≤ 4096
-  pub some : given ≡ Help need.Log → NoneDirty new.volume.shelf.frames → 1 ≤ log_left new.volume.log
-  pub no_more : (n : Need) → given ≡ Help n → dirty_count new.volume.shelf.frames ≤ dirty_count old.volume.shelf.frames
-
 -- where a session waits for a commit, that is sealed
 abbrev pub WaitsForSealed : {B D : Type 0} → ℕ → Parts B D → Type 0
 WaitsForSealed s e = (number : ℕ) → phase_at (s - 1) e.sessions.phases ≡ phase.Waiting number → number ≤ e.sessions.latest
 
--- an event with its outcome, made calmly
-abbrev pub MakesCalmly : {C B D : Type 0} → Members B → (B → Bool) → (List ℕ → B) → Ghosts C B → (D → Device) → Parts B D → Event B → Outcome B → Parts B D → Type 0
-MakesCalmly shape proper said class state old event given new = Makes shape proper said class state old event given new × IsCalm old given new
+-- a session's event that starts its call, or goes on with it
+abbrev pub StartsCall : {B D : Type 0} → ℕ → Event B → Parts B D → Type 0
+StartsCall s (Ask t call) e = t ≡ s
+StartsCall s (Move t) e = (t ≡ s) × WaitsForSealed s e
+StartsCall s event e = ⊥
 
 module _ {C B D : Type 0} (shape : Members B) (proper : B → Bool) (said : List ℕ → B) (class : Ghosts C B) (state : D → Device) (l : Limits) where
   -- an engine holds an index of the class over its device
   abbrev pub HoldsIndex : Parts B D → List (List (Record (Entry B) (Page B))) → index.State B → Type 0
   HoldsIndex e bodies i = Holds (class_of shape proper l) (reading_of said (format_of class)) (format_of class) (is_node (format_of class)) (state e.volume.shelf.disk) e bodies i
 
-  -- What a move waits for has work to do. That the log has where no page has changes, and it is named, is asked for.
+  -- where an engine holds an index of the class, and this event starts or goes on with a session's call, that is so
+  abbrev pub WhereHeld : Parts B D → ℕ → Event B → Type 0 → Type 0
+  WhereHeld e s first P = (bodies : List (List (Record (Entry B) (Page B)))) (i : index.State B) → HoldsIndex e bodies i → StartsCall s first e → P
+
+  -- What a move waits for has work to do.
   abbrev pub NamesWork : Type 0
   NamesWork = (old new : Parts B D) (s : ℕ) (n : Need) (bodies : List (List (Record (Entry B) (Page B)))) (i : index.State B) → HoldsIndex old bodies i
-      → StandsIn old.checkpoint old.volume → WaitsForSealed s old → Makes shape proper said class state old (Move s) (Help n) new
-      → (n ≡ need.Log → NoneDirty new.volume.shelf.frames → 1 ≤ log_left new.volume.log) → HasWork n new
+      → WaitsForSealed s old → Makes shape proper said class state old (Move s) (Help n) new → HasWork n new
 
   -- A move that waits leaves each session's call as much to do as it had.
   abbrev pub WaitingLeavesAll : Type 0
-  WaitingLeavesAll = (old new : Parts B D) (s : ℕ) (n : Need) → StandsIn old.checkpoint old.volume → (bodies : List (List (Record (Entry B) (Page B)))) (i : index.State B) (holds : HoldsIndex old bodies i)
+  WaitingLeavesAll = (old new : Parts B D) (s : ℕ) (n : Need) (bodies : List (List (Record (Entry B) (Page B)))) (i : index.State B) (holds : HoldsIndex old bodies i)
       → (made : Makes shape proper said class state old (Move s) (Help n) new)
       → LeavesAll (class_of shape proper l) (reading_of said (format_of class)) (format_of class) (is_node (format_of class)) old new i (made.steps l bodies i holds).led.index
 
-  -- A session's move and the events that its driver names after it, made calmly, are fewer than 2^55 before the call ends.
+  -- A session's move and the events that its driver names after it are fewer than 2^55 before the call ends.
   abbrev pub CallEnds : Type 0
   CallEnds = (old new : Parts B D) (s count : ℕ) (due : Event B) (bodies : List (List (Record (Entry B) (Page B)))) (i : index.State B) → HoldsIndex old bodies i
-      → WaitsForSealed s old → dirty_count old.volume.shelf.frames ≤ 4096 → IsUnderWay (MakesCalmly shape proper said class state) s (Move s) old count due new → count < 2 ^ 55
+      → WaitsForSealed s old → IsUnderWay (Makes shape proper said class state) s (Move s) old count due new → count < 2 ^ 55

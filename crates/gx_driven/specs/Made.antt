@@ -10,16 +10,18 @@ use Rattle.gx_storage.specs.Changes.{known_at}
 use Rattle.gx_events.specs.declared.event.Event.{Event}
 use Rattle.gx_events.specs.declared.outcome.Outcome.{Outcome}
 use Rattle.gx_engine.specs.Comes.{StepComes}
-use Rattle.gx_engine.specs.States.{Parts}
+use Rattle.gx_engine.specs.States.{IsOrderly, Parts}
 use Rattle.gx_engine.specs.Stepping.{Steps}
 
--- An event with its outcome, as the contract of an engine's step has them, over a class of keys and devices that are seen so.
+-- An event with its outcome, as the contract of an engine's step has them, over a class of keys and devices that are seen so. The engine
+-- stands in order before and after it.
 pub record Makes {C B D : Type 0} (shape : Members B) (proper : B → Bool) (said : List ℕ → B) (class : Ghosts C B) (state : D → Device)
     (old : Parts B D) (event : Event B) (outcome : Outcome B) (new : Parts B D) : Type 0 where
   pub comes : StepComes (keys_of shape) (known_at shape proper) (reading_of said (format_of class)) (format_of class) (is_node (format_of class)) class.is_key
       class.spelling class.KEY (state old.volume.shelf.disk) (state new.volume.shelf.disk) event old new outcome
   pub steps : (l : Limits) → Steps (class_of shape proper l) (reading_of said (format_of class)) (format_of class) (is_node (format_of class))
       (state old.volume.shelf.disk) (state new.volume.shelf.disk) event old new outcome
+  pub order : IsOrderly old × IsOrderly new
 
 -- from old, these events with their outcomes lead to new
 abbrev pub AreMade : {B S : Type 0} → (S → Event B → Outcome B → S → Type 0) → S → List (Event B × Outcome B) → S → Type 0

@@ -2,6 +2,7 @@
 use Rattle.std.specs.Prelude.{ℕ, ◌≡◌, ◌<◌, length, Result, Ok, Err, List, [], ◌∷◌}
 use Rattle.gx_geom.specs.declared.refusal.Refusal.{Refusal}
 use Rattle.gx_events.specs.declared.event.Event.{Event}
+use Rattle.gx_events.specs.declared.event.Event.TheVariants.{CheckpointStep, LogStep}
 use Rattle.gx_events.specs.declared.outcome.Outcome.{Outcome}
 use Rattle.gx_events.specs.declared.outcome.Outcome.TheVariants as outcome
 use Rattle.gx_engine.specs.States.{Parts}
@@ -19,6 +20,12 @@ GoesOn (outcome.Refused why) = ⊥
 abbrev pub AreAgain : {B : Type 0} → Event B → List (Event B × Outcome B) → Type 0
 AreAgain event [] = Unit {0}
 AreAgain event (step ∷ steps) = ((step.0 ≡ event) × GoesOn step.1) × AreAgain event steps
+
+-- a step of the log, or of a checkpoint
+abbrev pub IsFlushing : {B : Type 0} → Event B → Type 0
+IsFlushing LogStep = Unit {0}
+IsFlushing CheckpointStep = Unit {0}
+IsFlushing event = ⊥
 
 -- the outcome that ends a repetition with this result
 abbrev pub last_of : {B : Type 0} → Result (Unit {0}) Refusal → Outcome B

@@ -1,12 +1,16 @@
 //! A session's call, event by event to its end.
-ghost use Rattle.std.specs.Prelude.{MatchOption};
+ghost use Rattle.std.specs.Prelude.{IsSome, MatchOption};
+ghost use Rattle.gx_recovery.specs.Known.{Limits};
 ghost use Rattle.gx_driven.specs.Driven.{IsDriven, IsGivenUp};
+ghost use Rattle.gx_driven.specs.Helping.{WhereHeld};
 ghost use Rattle.gx_driven.specs.Made.{Makes};
 
 use gx_class::Probing;
 use gx_disk::SectorDisk;
 use gx_engine::Engine;
+use gx_engine::laws::a_class_is_lawful;
 use gx_events::{Driver, Event, Next};
+use gx_index_laws::measures::what_a_call_has_left_is_bounded;
 use gx_machine::Reply;
 use gx_readings::ReadKeys;
 
@@ -17,7 +21,8 @@ pub const EVENTS: u64 = 1 << 56;
 /// steps of the log and of a checkpoint and the writes of pages that help them.
 ///
 /// The reply is the one with which the call ended, also where an event was refused. None where the call hasn't ended within `EVENTS`
-/// events: it stands open then. It takes no memory but what the events take.
+/// events: it stands open then. That never comes over a device that doesn't lie, of a session that waits for no commit that isn't
+/// sealed. It takes no memory but what the events take.
 pub fn drive<D: SectorDisk, K: ReadKeys + Probing>(
     engine: &mut Engine<D, K>,
     session: u8,
@@ -25,9 +30,12 @@ pub fn drive<D: SectorDisk, K: ReadKeys + Probing>(
 ) -> Option<Reply<K::Key>>
 where
     K::Probe: Drop,
-    ensures { MatchOption result (IsGivenUp (Makes K.Key.Shape K.is_proper K.said K.KeyClass D.state) session first engine.old engine.new)
+    ensures made { MatchOption result (IsGivenUp (Makes K.Key.Shape K.is_proper K.said K.KeyClass D.state) session first engine.old engine.new)
         (λ reply. IsDriven (Makes K.Key.Shape K.is_proper K.said K.KeyClass D.state) session first engine.old reply engine.new) }
+    ensures ends { (l : Limits) → WhereHeld K.Key.Shape K.is_proper K.said K.KeyClass D.state l engine.old session first (IsSome result) }
 {
+    a_class_is_lawful::<K>();
+    what_a_call_has_left_is_bounded::<K::Key>();
     let mut driver = Driver::new(session);
     let mut next = first;
     for _turn in 0..EVENTS {

@@ -1,7 +1,7 @@
 //! What holds of an engine's events one after another. Each function is its contract alone.
 ghost use Rattle.std.specs.Prelude.{◌≤◌, ◌<◌, ℕ};
-ghost use Rattle.gx_events.specs.declared.event.Event.TheVariants.{CheckpointStep, LogStep, WritePage};
-ghost use Rattle.gx_events.specs.declared.outcome.Outcome.TheVariants.{More};
+ghost use Rattle.gx_events.specs.declared.event.Event.TheVariants.{CheckpointStep, LogStep, Move, WritePage};
+ghost use Rattle.gx_events.specs.declared.outcome.Outcome.TheVariants.{Help, More};
 ghost use Rattle.gx_pool.specs.State.{dirty_count};
 ghost use Rattle.gx_engine.specs.States.{Parts};
 ghost use Rattle.gx_recovery.specs.Known.{Limits};
@@ -29,23 +29,23 @@ pub fn each_step_leaves_less_to_flush<D: SectorDisk, K: ReadKeys>()
 
 /// What a session's move waits for has work to do: the page that it names may be written, the checkpoint that it names runs or is due, and while
 /// the log is named no checkpoint runs, and the log has a call to make. So it is of an engine over a device that doesn't lie, whose session
-/// waits for no commit that isn't sealed; of the log, where it is named and no page has changes, the last is a premise. And a move that waits
-/// leaves each session's call as much to do as it had, as does each event that helps.
+/// waits for no commit that isn't sealed. And a move that waits leaves each session's call as much to do as it had, as does each event that
+/// helps.
 ///
-/// An event that has work to do does it, and leaves less to flush, or it is refused: so of the engine over any device.
+/// Over any device a move that waits leaves no more to flush, and an event that has work to do does it, and leaves less to flush, or is
+/// refused.
 pub fn a_move_that_waits_names_work<D: SectorDisk, K: ReadKeys>()
     ensures work { (l : Limits) → NamesWork K.Key.Shape K.is_proper K.said K.KeyClass D.state l }
     ensures helps { (old new : Parts K.Key D) (n : Need) (given : Outcome K.Key) → HasWork n old → Makes K.Key.Shape K.is_proper K.said K.KeyClass D.state old (event_of n) given new
         → DoesWork given old new }
     ensures left { (l : Limits) → WaitingLeavesAll K.Key.Shape K.is_proper K.said K.KeyClass D.state l }
+    ensures flush { (old new : Parts K.Key D) (s : ℕ) (n : Need) → Makes K.Key.Shape K.is_proper K.said K.KeyClass D.state old (Move s) (Help n) new → backlog new ≤ backlog old }
 {}
 
 /// A session's call that is moved alone, with the events that help it, comes to its end: fewer than 2^55 events are made of it. So it is of an
-/// engine over a device that doesn't lie, whose session waits for no commit that isn't sealed, with frames for 4,096 pages at most: where the
-/// log's turn stands as the checkpoint has it, a move that waits leaves no more pages with changes than before, and where it names the
-/// log and none has any, the log has a call to make.
+/// engine over a device that doesn't lie, whose session waits for no commit that isn't sealed.
 pub fn a_call_alone_ends<D: SectorDisk, K: ReadKeys>()
-    ensures { (l : Limits) → l.pages ≤ 65536 → l.most ≤ 100 → CallEnds K.Key.Shape K.is_proper K.said K.KeyClass D.state l }
+    ensures { (l : Limits) → CallEnds K.Key.Shape K.is_proper K.said K.KeyClass D.state l }
 {
     a_class_is_lawful::<K>();
     what_a_call_has_left_is_bounded::<K::Key>();

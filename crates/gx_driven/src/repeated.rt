@@ -1,7 +1,7 @@
 //! An event over and over, until nothing is left to do.
-ghost use Rattle.std.specs.Prelude.{MatchOption};
+ghost use Rattle.std.specs.Prelude.{IsSome, MatchOption};
 ghost use Rattle.gx_driven.specs.Made.{Makes};
-ghost use Rattle.gx_driven.specs.Repeated.{IsGoingOn, IsRepeated, last_of};
+ghost use Rattle.gx_driven.specs.Repeated.{IsFlushing, IsGoingOn, IsRepeated, last_of};
 
 use crate::driven::EVENTS;
 use gx_class::Probing;
@@ -12,15 +12,16 @@ use gx_geom::Refusal;
 use gx_readings::ReadKeys;
 
 /// Makes an event over and over, until there is nothing to do (`Ok`) or it is refused (`Err`, with why). None where there was still more to
-/// do after `EVENTS` events. It takes no memory but what the events take.
+/// do after `EVENTS` events, which of steps of the log or of a checkpoint never comes. It takes no memory but what the events take.
 pub fn repeat<D: SectorDisk, K: ReadKeys + Probing>(
     engine: &mut Engine<D, K>,
     event: Event<K::Key>,
 ) -> Option<Result<(), Refusal>>
 where
     K::Probe: Drop,
-    ensures { MatchOption result (IsGoingOn (Makes K.Key.Shape K.is_proper K.said K.KeyClass D.state) event engine.old 72057594037927936 engine.new)
+    ensures made { MatchOption result (IsGoingOn (Makes K.Key.Shape K.is_proper K.said K.KeyClass D.state) event engine.old 72057594037927936 engine.new)
         (λ ends. IsRepeated (Makes K.Key.Shape K.is_proper K.said K.KeyClass D.state) event engine.old (last_of ends) engine.new) }
+    ensures ends { IsFlushing event → IsSome result }
 {
     for _turn in 0..EVENTS {
         match engine.step(event) {

@@ -47,7 +47,7 @@ use Rattle.gx_storage.specs.State.{Volume}
 use Rattle.gx_engine.specs.declared.checkpoint.Checkpoint.TheVariants.{Turning}
 use Rattle.gx_engine.specs.declared.work.Work.{Work}
 use Rattle.gx_engine.specs.Holds.{Holds, KnowsFlight, Led, Leads, Sits}
-use Rattle.gx_engine.specs.Refusals.{CanBeHelped, IsEarly, IsHelp, IsRefusedAs, IsTurnedAway, need_of}
+use Rattle.gx_engine.specs.Refusals.{CanBeHelped, IsEarly, IsHelp, IsRefusedAs, IsTurnedAway, StampsStay, need_of}
 use Rattle.gx_engine.specs.States.{Parts, runs}
 use Rattle.gx_engine.specs.Sweeping.{sweep_events}
 use Rattle.gx_engine.proofs.Growing.{stayed_led}
@@ -158,21 +158,22 @@ begun_on passes d m s t room on = record {
 }
 
 -- what helps after a page was brought
-pub help_later : {D : Type 0} (passes : ℕ → Contents → Bool) (d m e : Device) (running : Bool) (s t u : Shelf D) (n : Need) → GoesOn passes d m s t → IsHelp passes m e running t u n → IsHelp passes d e running s u n
-help_later passes d m e running s t u n on is = record {
+pub help_later : {D : Type 0} (passes : ℕ → Contents → Bool) (d m e : Device) (running : Bool) (s t u : Shelf D) (n : Need) → GoesOn passes d m s t → StampsStay s t → IsHelp passes m e running t u n → IsHelp passes d e running s u n
+help_later passes d m e running s t u n on stay is = record {
   fault = is.fault;
   can = is.can;
   why = why_later passes d m e s t u is.fault on is.why;
   help = is.help;
   helps = is.helps;
   is = is.is;
+  stamps = λ page. is.stamps page ∙ stay page;
 }
 
 -- the same with what is said of want of room
-pub help_early : {D : Type 0} (passes : ℕ → Contents → Bool) (d m e : Device) (running : Bool) (s t u : Shelf D) (n : Need) → GoesOn passes d m s t → (due : Bool) → (is : IsHelp passes m e running t u n)
+pub help_early : {D : Type 0} (passes : ℕ → Contents → Bool) (d m e : Device) (running : Bool) (s t u : Shelf D) (n : Need) → GoesOn passes d m s t → StampsStay s t → (due : Bool) → (is : IsHelp passes m e running t u n)
     → IsEarly is.fault due → (now : IsHelp passes d e running s u n) × IsEarly now.fault due
 unfolding help_later
-help_early passes d m e running s t u n on due is early = (help_later passes d m e running s t u n on is, early)
+help_early passes d m e running s t u n on stay due is early = (help_later passes d m e running s t u n on stay is, early)
 
 -- what is logged after a page was brought
 pub logged_later : {B D : Type 0} (known : Limits → Known (Entry B) (Page B)) (r : Reading (Entry B) (Page B)) (f : Format B) (passes : ℕ → Contents → Bool) (size : ℕ) (d m e : Device) (v : Volume D) (t : Shelf D) (w : Volume D) (x : Rec)

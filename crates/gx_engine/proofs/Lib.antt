@@ -44,3 +44,4 @@ pub mod LosingSteps
 pub mod Starting
 pub mod Ending
 pub mod Ordered
+pub mod Framed

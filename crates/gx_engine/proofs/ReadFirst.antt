@@ -71,12 +71,12 @@ module _ {B D : Type 0} (k : Keys B) (known : Limits → Known (Entry B) (Page B
     then_comes new (Replied (reply.Refused why)) is = refused_then new why is
     then_comes new (Help n) is = (
       ⊎_elim
-          (λ due. inl due)
+          (λ due. inl (due.0, due.1, λ q. due.2 q ∙ (first.since q).same.stamp))
           (λ room. inr (
             room.0,
             room.1,
             help_early passes d m e (runs old.checkpoint) (begun old.volume room.0) (begun mid.volume room.0) new.volume.shelf n
-                (begun_on passes d m (begun old.volume size) t (has_room old.volume.log room.0) on) (is_due old) room.2.0 room.2.1,
+                (begun_on passes d m (begun old.volume size) t (has_room old.volume.log room.0) on) (λ q. (first.since q).same.stamp) (is_due old) room.2.0 room.2.1,
           ))
           is.0,
       is.1,

@@ -60,7 +60,7 @@ use Rattle.gx_engine.specs.States.{Parts, runs}
 use Rattle.gx_engine.specs.Holds.{Holds, MayHaveFound}
 use Rattle.gx_engine.specs.Looking.{StopComes, look_events}
 use Rattle.gx_engine.specs.Moves.{Moves, MovesOn, calling}
-use Rattle.gx_engine.specs.Refusals.{IsRefused, need_of}
+use Rattle.gx_engine.specs.Refusals.{IsRefused, need_of, StampsStay}
 use Rattle.gx_engine.proofs.Looking.{answered_again, at_work, closes, fails, its_slot, looks_at, moves_on, phase_again, put_kept, slot_now, waits}
 use Rattle.gx_engine.proofs.Serving.{StaysSettled, of_reads}
 
@@ -234,14 +234,14 @@ module _ {B D : Type 0} (passes : ℕ → Contents → Bool) (state : D → Devi
   pub with_sessions : (sessions : State B (Work B)) → record was { volume = w; sessions = sessions } ≡ record was { volume = record was.volume { shelf = w.shelf }; sessions = sessions }
   with_sessions sessions = ap (λ (v : Volume D). record was { volume = v; sessions = sessions }) (only_shelf was.volume w log most)
 
-  pub refused_comes : (n : StoreFault) → faults.IsWhy passes d (state w.shelf.disk) (bringing was.volume) w.shelf n → (new : Parts B D) (outcome : Outcome B)
+  pub refused_comes : StampsStay was.volume.shelf w.shelf → (n : StoreFault) → faults.IsWhy passes d (state w.shelf.disk) (bringing was.volume) w.shelf n → (new : Parts B D) (outcome : Outcome B)
       → IsRefused n (record was { volume = w }) new outcome → Comes new outcome
-  refused_comes fault.NoRoom why new outcome is =
-      at new _ outcome _ is.2 is.3 (record { fault = fault.NoRoom; can = tt; why = why; help = is.0; helps = is.1; is = refl }, with_sessions was.sessions)
-  refused_comes (fault.TooFewFrames frames) why new outcome is =
-      at new _ outcome _ is.2 is.3 (record { fault = fault.TooFewFrames frames; can = tt; why = why; help = is.0; helps = is.1; is = refl }, with_sessions was.sessions)
-  refused_comes fault.Device why new outcome is = at new _ outcome _ is.0 is.1 (why, with_sessions (failed_state was.sessions))
-  refused_comes fault.Damaged why new outcome is = at new _ outcome _ is.0 is.1 (with_sessions (failed_state was.sessions))
+  refused_comes stay fault.NoRoom why new outcome is =
+      at new _ outcome _ is.2 is.3 (record { fault = fault.NoRoom; can = tt; why = why; help = is.0; helps = is.1; is = refl; stamps = stay }, with_sessions was.sessions)
+  refused_comes stay (fault.TooFewFrames frames) why new outcome is =
+      at new _ outcome _ is.2 is.3 (record { fault = fault.TooFewFrames frames; can = tt; why = why; help = is.0; helps = is.1; is = refl; stamps = stay }, with_sessions was.sessions)
+  refused_comes stay fault.Device why new outcome is = at new _ outcome _ is.0 is.1 (why, with_sessions (failed_state was.sessions))
+  refused_comes stay fault.Damaged why new outcome is = at new _ outcome _ is.0 is.1 (with_sessions (failed_state was.sessions))
 
 -- a call that is closed while its work is at hand
 pub closed_comes : {B D : Type 0} (k : Keys B) (passes : ℕ → Contents → Bool) (state : D → Device) (e : Parts B D) (kept : IsKept k e.sessions) (s : ℕ) (is : is_session s ≡ true) (call : Call B) (rest : Work B)

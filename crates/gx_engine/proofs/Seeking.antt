@@ -42,7 +42,7 @@ use Rattle.gx_storage.specs.State.{Volume}
 use Rattle.gx_engine.specs.declared.work.Work.{Work}
 use Rattle.gx_engine.specs.declared.work.Work.TheVariants.{Seeks}
 use Rattle.gx_engine.specs.Moves.{calling}
-use Rattle.gx_engine.specs.Refusals.{CanBeHelped, IsEarly, IsHelp, IsRefused}
+use Rattle.gx_engine.specs.Refusals.{CanBeHelped, IsEarly, IsHelp, IsRefused, StampsStay}
 use Rattle.gx_engine.specs.Seeking.{IsNoted, IsPutOff, IsSought, IsUnsought, SeekComes, set_outcome, set_state, write_call, written_reply}
 use Rattle.gx_engine.specs.States.{Parts, is_due, runs}
 use Rattle.gx_engine.specs.Undoing.{PairIsSought}
@@ -105,21 +105,21 @@ module _ {B D : Type 0} (old : Parts B D) (w : Volume D) (log : w.log ≡ old.vo
     at new there o given one other comes = subst (λ (y : Outcome B). Comes new y) (sym one) (subst (λ (x : Parts B D). Comes x given) (sym other) comes)
 
     -- what a move comes to that was refused pages
-    pub refused_comes : (size : ℕ) → size ≤ 12314 → (refused : StoreFault) → (refused ≡ fault.NoRoom → is_due old ≡ false) → faults.IsWhy passes d (state w.shelf.disk) (begun old.volume size) w.shelf refused
+    pub refused_comes : StampsStay old.volume.shelf w.shelf → (size : ℕ) → size ≤ 12314 → (refused : StoreFault) → (refused ≡ fault.NoRoom → is_due old ≡ false) → faults.IsWhy passes d (state w.shelf.disk) (begun old.volume size) w.shelf refused
         → (new : Parts B D) (o : Outcome B) → IsRefused refused mid new o → Comes new o
-    refused_comes size small fault.NoRoom early why new o is =
-        at new mid o _ is.2 is.3 (inr (size, small, (record { fault = fault.NoRoom; can = tt; why = why; help = is.0; helps = is.1; is = refl }, early refl)), brought_with old.sessions)
-    refused_comes size small (fault.TooFewFrames frames) early why new o is =
-        at new mid o _ is.2 is.3 (inr (size, small, (record { fault = fault.TooFewFrames frames; can = tt; why = why; help = is.0; helps = is.1; is = refl }, tt)), brought_with old.sessions)
-    refused_comes size small fault.Device early why new o is = at new _ o _ is.0 is.1 (why, brought_with (failed_state old.sessions))
-    refused_comes size small fault.Damaged early why new o is = at new _ o _ is.0 is.1 (brought_with (failed_state old.sessions))
+    refused_comes stay size small fault.NoRoom early why new o is =
+        at new mid o _ is.2 is.3 (inr (size, small, (record { fault = fault.NoRoom; can = tt; why = why; help = is.0; helps = is.1; is = refl; stamps = stay }, early refl)), brought_with old.sessions)
+    refused_comes stay size small (fault.TooFewFrames frames) early why new o is =
+        at new mid o _ is.2 is.3 (inr (size, small, (record { fault = fault.TooFewFrames frames; can = tt; why = why; help = is.0; helps = is.1; is = refl; stamps = stay }, tt)), brought_with old.sessions)
+    refused_comes stay size small fault.Device early why new o is = at new _ o _ is.0 is.1 (why, brought_with (failed_state old.sessions))
+    refused_comes stay size small fault.Damaged early why new o is = at new _ o _ is.0 is.1 (brought_with (failed_state old.sessions))
 
     -- and one whose page is no leaf
     pub damaged_comes : (new : Parts B D) (o : Outcome B) → o ≡ Replied (reply.Refused refusal.Damaged) → new ≡ record mid { sessions = failed_state old.sessions } → Comes new o
     damaged_comes new o one other = at new _ o _ one other (brought_with (failed_state old.sessions))
 
   -- What comes of a part that begins with them is what comes of the whole.
-  module _ (f : Format B) (IsKey : B → Type 0) (k : Keys B) (passes : ℕ → Contents → Bool) (d e later : Device) (sooner : d.faults ≤ e.faults) (s : ℕ) (entry : Entry B) (leaf : ℕ) (marked : Bool)
+  module _ (f : Format B) (IsKey : B → Type 0) (k : Keys B) (passes : ℕ → Contents → Bool) (stay : StampsStay old.volume.shelf w.shelf) (d e later : Device) (sooner : d.faults ≤ e.faults) (s : ℕ) (entry : Entry B) (leaf : ℕ) (marked : Bool)
       (new : Parts B D) where
     due_same : is_due mid ≡ is_due old
     due_same = ap (λ (g : Log). runs old.checkpoint || nat_le 24 g.used) log
@@ -143,6 +143,7 @@ module _ {B D : Type 0} (old : Parts B D) (w : Volume D) (log : w.log ≡ old.vo
             help = help.help;
             helps = helps_is fault.NoRoom is;
             is = help.is;
+            stamps = λ page. help.stamps page ∙ stay page;
           },
           sym due_same ∙ subst (λ (x : StoreFault). IsEarly x (is_due mid)) is early,
         )
@@ -154,6 +155,7 @@ module _ {B D : Type 0} (old : Parts B D) (w : Volume D) (log : w.log ≡ old.vo
             help = help.help;
             helps = helps_is (fault.TooFewFrames frames) is;
             is = help.is;
+            stamps = λ page. help.stamps page ∙ stay page;
           },
           tt,
         )
@@ -161,7 +163,7 @@ module _ {B D : Type 0} (old : Parts B D) (w : Volume D) (log : w.log ≡ old.vo
         by fault.Damaged is = absurd (subst (λ (x : StoreFault). CanBeHelped x) is help.can)
 
     delayed_on : (n : Need) → IsPutOff f IsKey k passes e later entry leaf marked mid new n → IsPutOff f IsKey k passes d later entry leaf marked old new n
-    delayed_on n (inl due) = inl (due.0, sym due_same ∙ due.1, due.2)
+    delayed_on n (inl due) = inl (due.0, sym due_same ∙ due.1, (λ page. due.2 page ∙ stay page), due.3)
     delayed_on n (inr room) = inr (room.0, room.1, help_on room.0 n room.2.0 room.2.1)
 
     noted_on : IsNoted k s entry leaf mid new → IsNoted k s entry leaf old new
@@ -207,7 +209,7 @@ module _ {B D : Type 0} (f : Format B) (IsKey : B → Type 0) (k : Keys B) (pass
   replied_write r comes = absurd comes
 
   delayed : (n : Need) → IsPutOff f IsKey k passes d e entry leaf marked old new n → IsDelayed passes d e old new n
-  delayed n (inl due) = inl (due.0, due.1)
+  delayed n (inl due) = inl (due.0, due.1, due.2)
   delayed n (inr room) = inr room
 
   pub seek_write : (o : Outcome B) → SeekComes f IsKey k passes d e s entry leaf marked old new o → WriteComes k passes d e s (write_call marked entry) old new o

@@ -51,7 +51,7 @@ use Rattle.gx_storage_callers.proofs.Sweeping.{sweep_works}
 use Rattle.gx_engine.specs.declared.checkpoint.Checkpoint.TheVariants.{Turning}
 use Rattle.gx_engine.specs.Holds.{Holds, Led, Leads, Sits}
 use Rattle.gx_engine.specs.Noted.{AreTold}
-use Rattle.gx_engine.specs.Refusals.{IsTurnedAway}
+use Rattle.gx_engine.specs.Refusals.{IsTurnedAway, StampsStay}
 use Rattle.gx_engine.specs.States.{Parts, is_due, runs}
 use Rattle.gx_engine.specs.Sweeping.{SweepComes, is_held, node_shown, takes_any}
 use Rattle.gx_engine.specs.Writing.{brought}
@@ -76,6 +76,9 @@ module _ {B D : Type 0} (k : Keys B) (known : Limits → Known (Entry B) (Page B
   on : GoesOn passes d m (bringing old.volume) t
   on = (first.since 0).goes_on
 
+  stay : StampsStay old.volume.shelf t
+  stay = λ q. (first.since q).same.stamp
+
   same_store : IsSteady d old.volume.shelf.frames → store_of f m.seen t ≡ store_of f d.seen old.volume.shelf
   same_store steady = same_parts (store_of f m.seen t) (store_of f d.seen old.volume.shelf) (stays.nodes steady) stays.counter stays.room
 
@@ -97,14 +100,14 @@ module _ {B D : Type 0} (k : Keys B) (known : Limits → Known (Entry B) (Page B
   then_comes new Nothing is = ((λ steady. sym (takes_same steady) ∙ is.0 (on.steady steady)), is.1)
   then_comes new (Help n) is = (
     ⊎_elim
-        (λ brings. inl (help_later passes d m e (runs old.checkpoint) (bringing old.volume) (bringing mid.volume) new.volume.shelf n (begun_on passes d m (bringing old.volume) t true on) brings))
+        (λ brings. inl (help_later passes d m e (runs old.checkpoint) (bringing old.volume) (bringing mid.volume) new.volume.shelf n (begun_on passes d m (bringing old.volume) t true on) stay brings))
         (λ some. inr (
           (λ steady. sym (takes_same steady) ∙ some.0 (on.steady steady)),
           ⊎_elim
               (λ due. inl due)
               (λ room. inr (
                 room.0,
-                help_later passes d m e (runs old.checkpoint) _ _ new.volume.shelf n (begun_on passes d m (bringing old.volume) t (has_room old.volume.log 4114) on) room.1,
+                help_later passes d m e (runs old.checkpoint) _ _ new.volume.shelf n (begun_on passes d m (bringing old.volume) t (has_room old.volume.log 4114) on) stay room.1,
               ))
               some.1,
         ))
@@ -223,9 +226,10 @@ module _ {B D : Type 0} (c : Class B) (lawful : 4 ≤ c.rules.most → IsLawful 
 pub turned_comes : {B D : Type 0} (k : Keys B) (known : Limits → Known (Entry B) (Page B)) (r : Reading (Entry B) (Page B)) (f : Format B) (passes : ℕ → Contents → Bool) (page : ℕ) (state : D → Device)
     (old : Parts B D) (w : Volume D) → w.most ≡ old.volume.most → w.log ≡ old.volume.log → 1 ≤ page → page ≤ old.volume.shelf.used
     → has_removable (is_held k old) (node_shown f (state old.volume.shelf.disk) page old) ≡ true → is_due old ≡ false
+    → StampsStay old.volume.shelf w.shelf
     → (n : StoreFault) → faults.IsWhy passes (state old.volume.shelf.disk) (state w.shelf.disk) (begun old.volume 4114) w.shelf n → (new : Parts B D) (o : Outcome B)
     → IsTurnedAway n (record old { volume = w }) new o → SweepComes k known r f passes page (state old.volume.shelf.disk) (state new.volume.shelf.disk) old new false o
-turned_comes {B} {D} k known r f passes page state old w most log low high some early n why new o is =
+turned_comes {B} {D} k known r f passes page state old w most log low high some early stay n why new o is =
     let d = state old.volume.shelf.disk in
     let taken : (nat_lt 0 page && nat_le page old.volume.shelf.used) ≡ true =
     and_all (nat_lt 0 page) (nat_le page old.volume.shelf.used) (lt-ltb 0 page low) (le-leb page old.volume.shelf.used high) in
@@ -233,7 +237,7 @@ turned_comes {B} {D} k known r f passes page state old w most log low high some 
     and_all (nat_lt 0 page && nat_le page old.volume.shelf.used) (has_removable (is_held k old) (node_shown f d page old)) taken some in
     by_refusal Refused (record old { volume = w }) new o (λ x y. SweepComes k known r f passes page d (state x.volume.shelf.disk) old x false y) n is
     (λ can found helps. (
-      inr ((λ steady. takes), inr (early, record { fault = n; can = can; why = why; help = found; helps = helps; is = refl })),
+      inr ((λ steady. takes), inr (early, record { fault = n; can = can; why = why; help = found; helps = helps; is = refl; stamps = stay })),
       as_brought old w old.sessions log most,
     ))
     (λ device. (

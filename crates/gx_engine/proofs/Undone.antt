@@ -382,9 +382,9 @@ module _ {B D : Type 0} (known : Limits → Known (Entry B) (Page B)) (r : Readi
     pub refused_comes : (refused : StoreFault) → faults.IsWhy passes d (state w.shelf.disk) (begun old.volume (key + 4119)) w.shelf refused → (new : Parts B D) (o : Outcome B)
         → IsRefused refused (record old { volume = w }) new o → Comes new o
     refused_comes fault.NoRoom why new o is =
-        coming new _ o _ is.2 is.3 (unlogged, record { fault = fault.NoRoom; can = tt; why = why; help = is.0; helps = is.1; is = refl }, refl)
+        coming new _ o _ is.2 is.3 (unlogged, record { fault = fault.NoRoom; can = tt; why = why; help = is.0; helps = is.1; is = refl; stamps = λ page. (unlogged.since page).same.stamp }, refl)
     refused_comes (fault.TooFewFrames frames) why new o is =
-        coming new _ o _ is.2 is.3 (unlogged, record { fault = fault.TooFewFrames frames; can = tt; why = why; help = is.0; helps = is.1; is = refl }, refl)
+        coming new _ o _ is.2 is.3 (unlogged, record { fault = fault.TooFewFrames frames; can = tt; why = why; help = is.0; helps = is.1; is = refl; stamps = λ page. (unlogged.since page).same.stamp }, refl)
     refused_comes fault.Device why new o is = coming new _ o _ is.0 is.1 (unlogged, why, refl)
     refused_comes fault.Damaged why new o is = coming new _ o _ is.0 is.1 (unlogged, (λ steady readable. absurd (why steady readable)), refl)
 

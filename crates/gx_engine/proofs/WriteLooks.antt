@@ -127,6 +127,7 @@ module _ {B D : Type 0} (k : Keys B) (passes : ℕ → Contents → Bool) (d e :
           help = help.help;
           helps = subst (λ (x : StoreFault). Helps new.volume.shelf x help.help) is help.helps;
           is = help.is;
+          stamps = help.stamps;
         },
         tt,
       )

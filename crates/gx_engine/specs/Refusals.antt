@@ -5,6 +5,7 @@ use Rattle.gx_geom.specs.declared.refusal.Refusal.TheVariants.{Device as DeviceR
 use Rattle.gx_machine.specs.declared.reply.Reply.TheVariants.{Refused as RefusedCall}
 use Rattle.gx_disk.specs.Device.{Device}
 use Rattle.gx_page.specs.Contents.{Contents}
+use Rattle.gx_pool.specs.State.{kept, stamp_of}
 use Rattle.gx_events.specs.declared.outcome.Need.{Need}
 use Rattle.gx_events.specs.declared.outcome.Need.TheVariants as need
 use Rattle.gx_events.specs.declared.outcome.Outcome.{Outcome}
@@ -37,7 +38,11 @@ CanBeHelped (fault.TooFewFrames wanted) = Unit {0}
 CanBeHelped fault.Device = ⊥
 CanBeHelped fault.Damaged = ⊥
 
--- pages were refused for want of room or of frames, and this is what helps
+-- no page got a change
+abbrev pub StampsStay : {D : Type 0} → Shelf D → Shelf D → Type 0
+StampsStay old new = (page : ℕ) → stamp_of (kept new.frames page) ≡ stamp_of (kept old.frames page)
+
+-- pages were refused for want of room or of frames, and this is what helps; no page got a change
 pub record IsHelp {D : Type 0} (passes : ℕ → Contents → Bool) (d e : Device) (running : Bool) (old new : Shelf D) (n : Need) : Type 0 where
   pub fault : StoreFault
   pub can : CanBeHelped fault
@@ -45,6 +50,7 @@ pub record IsHelp {D : Type 0} (passes : ℕ → Contents → Bool) (d e : Devic
   pub help : Option storage.Help
   pub helps : Helps new fault help
   pub is : n ≡ need_of running help
+  pub stamps : StampsStay old new
 
 -- want of room in the log is told only where no checkpoint is due
 abbrev pub IsEarly : StoreFault → Bool → Type 0

@@ -36,7 +36,7 @@ use Rattle.gx_storage.specs.State.{Volume}
 use Rattle.gx_engine.specs.declared.work.Work.{Work}
 use Rattle.gx_engine.specs.declared.work.Work.TheVariants.{Seeks}
 use Rattle.gx_engine.specs.Moves.{calling}
-use Rattle.gx_engine.specs.Refusals.{IsEarly, IsHelp}
+use Rattle.gx_engine.specs.Refusals.{IsEarly, IsHelp, StampsStay}
 use Rattle.gx_engine.specs.States.{Parts, is_due, runs}
 use Rattle.gx_engine.specs.Writing.{brought}
 
@@ -85,10 +85,10 @@ module _ {B : Type 0} (f : Format B) (IsKey : B → Type 0) (k : Keys B) where
     pub full : fault ≢ step.PagesFull
 
   -- Another event has to come first: a checkpoint, since one is due, and the pair stands in the leaf with the other mark; or what makes
-  -- room in the log, for a record of at most three images, where none is due, or among the frames.
+  -- room in the log, for a record of at most three images, where none is due, or among the frames. No page got a change.
   abbrev pub IsPutOff : {D : Type 0} → (ℕ → Contents → Bool) → Device → Device → Entry B → ℕ → Bool → Parts B D → Parts B D → Need → Type 0
   IsPutOff passes d e entry leaf marked old new n =
-      ((n ≡ need.Checkpoint) × (is_due old ≡ true) × ((slot : ℕ) × IsSought e new.volume entry leaf (Here slot (not marked))))
+      ((n ≡ need.Checkpoint) × (is_due old ≡ true) × StampsStay old.volume.shelf new.volume.shelf × ((slot : ℕ) × IsSought e new.volume entry leaf (Here slot (not marked))))
       ⊎ ((size : ℕ) × (size ≤ 12314) × ((help : IsHelp passes d e (runs old.checkpoint) (begun old.volume size) new.volume.shelf n) × IsEarly help.fault (is_due old)))
 
   -- The pair is sought further to the right, and nothing is logged; or its mark was set, and the write is noted; or it has the mark

@@ -3,6 +3,7 @@ use Rattle.std.specs.Prelude.{ℕ, ◌≡◌, ◌≤◌, nat_le, Bool, true, fal
 use Rattle.gx_glog.specs.declared.stage.Turn.TheVariants.{Closed}
 use Rattle.gx_node.specs.declared.items.TheConstants.{MAX_ENTRIES}
 use Rattle.gx_phases.specs.States.{State}
+use Rattle.gx_pool.specs.State.{State as Frames, IsSound}
 use Rattle.gx_storage.specs.Flushing.{ReadyToTurn}
 use Rattle.gx_storage.specs.State.{Volume}
 use Rattle.gx_engine.specs.declared.checkpoint.Checkpoint.{Checkpoint}
@@ -34,10 +35,25 @@ StandsIn Running v = v.log.turn ≡ Closed
 StandsIn Turning v = ReadyToTurn v
 
 -- What an engine keeps on any device: its log stands as the checkpoint has it; the last commit in flight is sealed, and none before one
--- that is durable; a node may have four entries; and there is room for the keys of one that is split.
+-- that is durable; a node may have four entries; there is room for the keys of one that is split; and there are 16 frames.
 pub record IsInOrder {B D : Type 0} (e : Parts B D) (keys : List B) : Type 0 where
   pub stands : StandsIn e.checkpoint e.volume
   pub durable : e.sessions.durable ≤ e.in_flight
   pub sealed : e.in_flight ≤ e.sessions.latest
   pub some : 4 ≤ e.volume.most
   pub space : MAX_ENTRIES ≤ length keys
+  pub frames : 16 ≤ length e.volume.shelf.frames.marks
+
+-- What an engine's frames are on any device: 16 or more, of which an event holds the pages of four at most; and they and the table of pages
+-- name each other.
+pub record AreFrames (s : Frames) : Type 0 where
+  pub enough : 16 ≤ length s.marks
+  pub held : length s.held ≤ 4
+  pub sound : IsSound s
+
+-- so an engine stands, on any device
+pub record IsOrderly {B D : Type 0} (e : Parts B D) : Type 0 where
+  pub stands : StandsIn e.checkpoint e.volume
+  pub frames : AreFrames e.volume.shelf.frames
+  pub pages : e.volume.shelf.pages ≤ 65536
+  pub most : e.volume.most ≤ 100

@@ -20,7 +20,7 @@ use Rattle.gx_store.specs.State.{IsSteady}
 use Rattle.gx_storage.specs.Changes.{begun}
 use Rattle.gx_engine.specs.declared.work.Work.{Work}
 use Rattle.gx_engine.specs.Moves.{calling}
-use Rattle.gx_engine.specs.Refusals.{IsEarly, IsHelp}
+use Rattle.gx_engine.specs.Refusals.{IsEarly, IsHelp, StampsStay}
 use Rattle.gx_engine.specs.States.{Parts, is_due, runs}
 
 -- pages may have been brought: the log and all else is as it was
@@ -35,10 +35,10 @@ abbrev pub OnlyReads : {B D : Type 0} → Parts B D → Parts B D → Type 0
 OnlyReads old new = new ≡ only_read old new
 
 -- Another event has to come first: a checkpoint, since one is due; or what makes room in the log, for a record of at most three
--- images, where none is due, or among the frames.
+-- images, where none is due, or among the frames. No page got a change.
 abbrev pub IsDelayed : {B D : Type 0} → (ℕ → Contents → Bool) → Device → Device → Parts B D → Parts B D → Need → Type 0
 IsDelayed passes d e old new n =
-    ((n ≡ need.Checkpoint) × (is_due old ≡ true))
+    ((n ≡ need.Checkpoint) × (is_due old ≡ true) × StampsStay old.volume.shelf new.volume.shelf)
     ⊎ ((size : ℕ) × (size ≤ 12314) × ((help : IsHelp passes d e (runs old.checkpoint) (begun old.volume size) new.volume.shelf n) × IsEarly help.fault (is_due old)))
 
 -- The call goes on with other work; or its pair is written and noted; or an insert's stands live, or a delete's nowhere live, and the

@@ -46,9 +46,10 @@ impl<D: SectorDisk, K: ReadKeys> Engine<D, K> {
     ghost use Rattle.gx_phases.specs.Moves.{failed_state};
     ghost use Rattle.gx_phases.specs.States.{IsKept};
     ghost use Rattle.gx_storage.specs.Flushing.{IsLeastWritable};
+    ghost use Rattle.gx_engine.specs.States.{IsOrderly};
 
-    /// An engine over pages with their log, of which no batch is in flight and no turn is under way, and over sessions. No checkpoint
-    /// runs. A node that is split has its keys written over `keys`; looks and answers take memory of `alloc`.
+    /// An engine over pages in 16 frames or more with their log, of which no batch is in flight and no turn is under way, and over sessions. No
+    /// checkpoint runs. A node that is split has its keys written over `keys`; looks and answers take memory of `alloc`.
     pub fn new(
         storage: Storage<D, K>,
         sessions: Sessions<K::Key, Work<K::Key>>,
@@ -57,6 +58,7 @@ impl<D: SectorDisk, K: ReadKeys> Engine<D, K> {
     ) -> Self
         requires still { storage.log.turn ≡ Closed }
         requires most { 4 ≤ storage.most }
+        requires frames { 16 ≤ length storage.shelf.frames.marks }
         requires space { MAX_ENTRIES ≤ length keys.items }
         ensures { result ≡ record { volume = storage; sessions = sessions; in_flight = sessions.durable; checkpoint = Checkpoint.Off } }
     {
@@ -70,6 +72,16 @@ impl<D: SectorDisk, K: ReadKeys> Engine<D, K> {
             keys,
             alloc,
         }
+    }
+
+    /// How an engine stands on any device: its log turns only as its checkpoint has it; its frames are 16 or more, of which an event holds four
+    /// at most; it has 65,536 pages at most, and a node 100 entries.
+    pub fn in_order(&self)
+        ensures { IsOrderly self.now }
+    {
+        self.storage.in_order();
+        self.storage.most();
+        self.storage.dirty_frames();
     }
 
     /// The number of the last commit that is sealed.

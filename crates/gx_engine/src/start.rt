@@ -37,7 +37,7 @@ pub struct Start<B> {
     pub pages: u32,
     /// How many entries a node has at most, 4 to 100.
     pub fanout: u16,
-    /// How many frames pages are kept in, up to 4,096.
+    /// How many frames pages are kept in, 16 to 4,096.
     pub frames: usize,
     /// The number of the last commit.
     pub commits: u64,
@@ -142,6 +142,7 @@ impl<D: SectorDisk, K: ReadKeys> Engine<D, K> {
     ) -> Self
         requires inside { (start.now.pages ≤ 65536) × (4168 + 8 * start.now.pages ≤ (D.state disk).sectors) × (start.now.used ≤ start.now.pages) }
         requires fanout { (4 ≤ start.now.fanout) × (start.now.fanout ≤ MAX_ENTRIES) }
+        requires frames { 16 ≤ start.now.frames }
         requires log { log ≡ rested start.now }
         requires pool { AreFresh start.now.frames (start.now.bodies - 1) room.pool.frames × (room.pool.test.pages ≡ start.now.pages) }
         requires key { length room.key.items ≡ K.KEY }
@@ -174,7 +175,7 @@ impl<D: SectorDisk, K: ReadKeys> Engine<D, K> {
         requires bodies { (1 ≤ start.bodies) × (start.bodies ≤ 32) }
         requires inside { (start.pages ≤ 65536) × (4168 + 8 * start.pages ≤ (D.state disk).sectors) × (start.used ≤ start.pages) }
         requires fanout { (4 ≤ start.fanout) × (start.fanout ≤ MAX_ENTRIES) }
-        requires frames { start.frames ≤ FRAMES }
+        requires frames { (16 ≤ start.frames) × (start.frames ≤ FRAMES) }
         ensures started { IfOk result (Started (keys_of K.Key.Shape) start disk) }
         ensures refused { IfErr result (λ n. (n.disk ≡ disk) × WhyNot (keys_of K.Key.Shape) start n.why) }
         ensures holds { (l : Limits) → IfOk result (HoldsFrom (class_of K.Key.Shape K.is_proper l) (reading_of K.said (format_of K.KeyClass)) (format_of K.KeyClass)

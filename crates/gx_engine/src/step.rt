@@ -12,6 +12,7 @@ ghost use Rattle.gx_engine.specs.declared.work.Work as work;
 ghost use Rattle.gx_machine.specs.Keys.{keys_of};
 ghost use Rattle.gx_storage.specs.Changes.{known_at};
 ghost use Rattle.gx_engine.specs.Comes.{CallMoves, MoveComes, StepComes};
+ghost use Rattle.gx_engine.specs.States.{IsOrderly};
 ghost use Rattle.gx_engine.specs.Stepping.{Steps, has_call};
 
 use crate::Engine;
@@ -99,16 +100,8 @@ where
         }
     }
 
-    /// Makes one event, and says what came of it. Each makes at most one write or sync of the device.
-    ///
-    /// `Ask` opens a session's call, or answers it at once. `Move` takes an open call further by a page or a record, or answers it; it
-    /// is refused with `BadSession` where there is no such session, and with `NoCall` where that has no call open. `LogStep` makes
-    /// the log's next call, `WritePage` writes a page whose changes are gated, `CheckpointStep` begins a checkpoint or makes its next
-    /// call, and `Sweep` takes out of a leaf what is marked and no session claims. After a fault every ask and move is answered with
-    /// `Failed`, and every other event refused with it.
-    ///
-    /// `More` did its work; `Help` changed nothing that anyone sees and names the event to run first; `Nothing` had nothing to do.
-    pub fn step(&mut self, event: Event<K::Key>) -> Outcome<K::Key>
+    // An event of a session, of the flusher, or a sweep.
+    fn make(&mut self, event: Event<K::Key>) -> Outcome<K::Key>
         ensures comes { StepComes (keys_of K.Key.Shape) (known_at K.Key.Shape K.is_proper) (reading_of K.said (format_of K.KeyClass)) (format_of K.KeyClass) (is_node (format_of K.KeyClass)) K.is_key
             K.spelling K.KEY (D.state self.old.volume.shelf.disk) (D.state self.new.volume.shelf.disk) event self.old self.new result }
         ensures steps { (l : Limits) → Steps (class_of K.Key.Shape K.is_proper l) (reading_of K.said (format_of K.KeyClass)) (format_of K.KeyClass) (is_node (format_of K.KeyClass))
@@ -123,5 +116,27 @@ where
             Event::CheckpointStep => self.checkpoint_step(),
             Event::Sweep(page) => self.sweep(page),
         }
+    }
+
+    /// Makes one event, and says what came of it. Each makes at most one write or sync of the device.
+    ///
+    /// `Ask` opens a session's call, or answers it at once. `Move` takes an open call further by a page or a record, or answers it; it
+    /// is refused with `BadSession` where there is no such session, and with `NoCall` where that has no call open. `LogStep` makes
+    /// the log's next call, `WritePage` writes a page whose changes are gated, `CheckpointStep` begins a checkpoint or makes its next
+    /// call, and `Sweep` takes out of a leaf what is marked and no session claims. After a fault every ask and move is answered with
+    /// `Failed`, and every other event refused with it.
+    ///
+    /// `More` did its work; `Help` changed nothing that anyone sees and names the event to run first; `Nothing` had nothing to do.
+    pub fn step(&mut self, event: Event<K::Key>) -> Outcome<K::Key>
+        ensures comes { StepComes (keys_of K.Key.Shape) (known_at K.Key.Shape K.is_proper) (reading_of K.said (format_of K.KeyClass)) (format_of K.KeyClass) (is_node (format_of K.KeyClass)) K.is_key
+            K.spelling K.KEY (D.state self.old.volume.shelf.disk) (D.state self.new.volume.shelf.disk) event self.old self.new result }
+        ensures steps { (l : Limits) → Steps (class_of K.Key.Shape K.is_proper l) (reading_of K.said (format_of K.KeyClass)) (format_of K.KeyClass) (is_node (format_of K.KeyClass))
+            (D.state self.old.volume.shelf.disk) (D.state self.new.volume.shelf.disk) event self.old self.new result }
+        ensures order { IsOrderly self.old × IsOrderly self.new }
+    {
+        self.in_order();
+        let outcome = self.make(event);
+        self.in_order();
+        outcome
     }
 }

@@ -44,7 +44,6 @@ use Rattle.gx_tree_laws.specs.Legal.{ChildFits}
 use Rattle.gx_tree_laws.specs.Lists.{Each}
 use Rattle.gx_tree_laws.specs.Trees.{Child}
 use Rattle.gx_lives.specs.Bearing.{HasSets}
-use Rattle.gx_lives.specs.Lives.{OnlyFails}
 use Rattle.gx_lives.proofs.Images.{good_log, own}
 use Rattle.gx_lives.proofs.Narrow.{each_weaker, narrow}
 
@@ -158,15 +157,14 @@ module _ {C B D : Type 0} (shape : Members B) (proper : B → Bool) (said : List
     not_settled refusal.NoCall none = absurd none
     not_settled refusal.HistoryFull none = absurd none
 
-    -- So an opening is refused only as a failed call or as refused memory, or where 2^56 events took no end.
-    pub only_fails : (makes : Parts B D → Event B → Outcome B → Parts B D → Type 0) (e : Device) (why : Refusal) → IsRefused shape proper said f makes state code d e why
-        → OnlyFails makes why
-    only_fails makes e why refused = elim refused [
-      | inl settled ↦ inl (not_settled why settled)
+    -- So an opening is refused only as a failed call or as refused memory.
+    pub only_fails : (e : Device) (why : Refusal) → IsRefused shape proper said f state code d e why → HasFailed why
+    only_fails e why refused = elim refused [
+      | inl settled ↦ not_settled why settled
       | inr others ↦ elim others [
-        | inl unlaid ↦ inl (not_unlaid code formatted why unlaid)
+        | inl unlaid ↦ not_unlaid code formatted why unlaid
         | inr more ↦ elim more [
-          | inl unsound ↦ inl (not_unsound code formatted why e unsound)
+          | inl unsound ↦ not_unsound code formatted why e unsound
           | inr stopped ↦ stopped.cause
         ]
       ]

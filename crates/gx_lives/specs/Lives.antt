@@ -15,7 +15,6 @@ use Rattle.gx_driven.specs.Made.{Makes}
 use Rattle.gx_open.specs.Beginning.{HasFailed, IsSameDevice}
 use Rattle.gx_open.specs.Keeping.{KeepsItsSet}
 use Rattle.gx_open.specs.Opened.{IsOpened}
-use Rattle.gx_open.specs.Undoing.{IsEndless}
 
 -- What there is: an engine at work over its device, or a device alone.
 pub data Stage (B D : Type 0) : Type 0 where
@@ -36,10 +35,6 @@ pub record ComesUp (IsLeft : List ℕ → Type 0) (d : Device) : Type 0 where
   pub honest : d.honest ≡ true
   pub left : IsLeft d.seen
   pub settled : IsSettled d
-
--- A failed call of the device, or refused memory, is told; or 2^56 events took no end.
-abbrev pub OnlyFails : {B D : Type 0} → (Parts B D → Event B → Outcome B → Parts B D → Type 0) → Refusal → Type 0
-OnlyFails {B} {D} makes why = HasFailed why ⊎ ((why ≡ Damaged) × ((new : Parts B D) × IsEndless makes new))
 
 module _ {C B : Type 0} (shape : Members B) (proper : B → Bool) (said : List ℕ → B) (class : Ghosts C B) (p : Parameters) where
   -- What any opening does to a device that says that it is formatted for these: as `gx_open::open` promises of whatever comes of it, a crash at each

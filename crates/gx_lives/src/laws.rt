@@ -9,10 +9,11 @@ ghost use Rattle.gx_machine.specs.Keys.{Keys, keys_of};
 ghost use Rattle.gx_machine.specs.Machine.{Machine, newest, set_of};
 ghost use Rattle.gx_machine.specs.Runs.{Step, IsRun};
 ghost use Rattle.gx_node.specs.Reading.{format_of};
+ghost use Rattle.gx_open.specs.Beginning.{HasFailed};
 ghost use Rattle.gx_open.specs.Opened.{IsRefused};
 ghost use Rattle.gx_opening.specs.Standing.{IsFormatted};
 ghost use Rattle.gx_lives.specs.Bearing.{AreOf, Bears, HasSet, IsOf};
-ghost use Rattle.gx_lives.specs.Lives.{Lies, Lives, MayBeLeft, OnlyFails, Stage, Turn};
+ghost use Rattle.gx_lives.specs.Lives.{Lies, Lives, MayBeLeft, Stage, Turn};
 ghost use Rattle.gx_lives.specs.Lives as life;
 ghost use Rattle.gx_lives.specs.Told.{Tells};
 
@@ -44,13 +45,13 @@ pub fn a_crash_leaves_a_set_of_the_machine<D: SectorDisk, K: ReadKeys>()
 }
 
 /// An opening in a life finds no damage: over a device that says what it was formatted for, whatever came before, it is refused only with `Device` or
-/// `Memory`, or with `Damaged` where 2^56 events of one transaction's undo took no end. Whatever a crash left is a log whose bodies are whole, over pages
-/// that are a legal tree for it and that can be read.
+/// `Memory`. Whatever a crash left is a log whose bodies are whole, over pages that are a legal tree for it and that can be read; and what it cut off is
+/// undone.
 pub fn an_opening_finds_no_damage<D: SectorDisk, K: ReadKeys>()
     ensures { (p : Parameters) (m : Machine K.Key) (old new : D) (why : Refusal) → Bears K.Key.Shape K.is_proper K.said K.KeyClass D.state p m (Lies old)
         → IsFormatted K.Key.Shape K.is_proper K.said (format_of K.KeyClass) K.CLASS (D.state old) p
-        → IsRefused K.Key.Shape K.is_proper K.said (format_of K.KeyClass) (Makes K.Key.Shape K.is_proper K.said K.KeyClass D.state) D.state K.CLASS (D.state old) (D.state new) why
-        → OnlyFails (Makes K.Key.Shape K.is_proper K.said K.KeyClass D.state) why }
+        → IsRefused K.Key.Shape K.is_proper K.said (format_of K.KeyClass) D.state K.CLASS (D.state old) (D.state new) why
+        → HasFailed why }
 {
     gx_engine::laws::a_class_is_lawful::<K>();
 }

@@ -7,11 +7,12 @@ ghost use Rattle.gx_glog.specs.Parameters.{Fit};
 ghost use Rattle.gx_glog.specs.declared.parameters.Parameters.{Parameters};
 ghost use Rattle.gx_machine.specs.Machine.{Machine, fresh_machine};
 ghost use Rattle.gx_node.specs.Reading.{format_of};
+ghost use Rattle.gx_open.specs.Beginning.{HasFailed};
 ghost use Rattle.gx_open.specs.Opened.{IsRefused};
 ghost use Rattle.gx_opening.specs.Formatted.{Says};
 ghost use Rattle.gx_opening.specs.Standing.{IsFormatted};
 ghost use Rattle.gx_lives.specs.Bearing.{Bears};
-ghost use Rattle.gx_lives.specs.Lives.{GoesOn, Lies, OnlyFails, Works};
+ghost use Rattle.gx_lives.specs.Lives.{GoesOn, Lies, Works};
 ghost use Rattle.gx_lives.specs.Lives as life;
 
 use crate::laws::an_opening_finds_no_damage;
@@ -65,7 +66,7 @@ where
 
 /// Opens a device (`gx_open::open`, with its refusals). On an honest one, whatever it says that it is formatted for, that is a turn of its life, an
 /// opening or one that is refused. In a life it is refused, with frames in range, only where a call of the device failed (`Device`) or memory was refused
-/// (`Memory`), or with `Damaged` where 2^56 events of one transaction's undo took no end: never because of what a crash left.
+/// (`Memory`): never because of what a crash left.
 pub fn open<D: SectorDisk, K: ReadKeys + Probing>(
     alloc: Global,
     disk: D,
@@ -77,11 +78,11 @@ where
     ensures small { 16 ≤ frames → frames ≤ 4096 → (D.state disk).sectors < 4232 → result ≡ Err (record { why = Refusal.TooSmall; disk = disk }) }
     ensures faults { IfErr result (λ n. n.why ≡ Refusal.Device → (D.state disk).faults < (D.state n.disk).faults) }
     ensures refused { (D.state disk).honest ≡ true → 16 ≤ frames → frames ≤ 4096 → 4232 ≤ (D.state disk).sectors
-        → IfErr result (λ n. IsRefused K.Key.Shape K.is_proper K.said (format_of K.KeyClass) (Makes K.Key.Shape K.is_proper K.said K.KeyClass D.state) D.state K.CLASS
+        → IfErr result (λ n. IsRefused K.Key.Shape K.is_proper K.said (format_of K.KeyClass) D.state K.CLASS
         (D.state disk) (D.state n.disk) n.why) }
     ensures undamaged { (p : Parameters) (m : Machine K.Key) → Bears K.Key.Shape K.is_proper K.said K.KeyClass D.state p m (Lies disk)
         → IsFormatted K.Key.Shape K.is_proper K.said (format_of K.KeyClass) K.CLASS (D.state disk) p → 16 ≤ frames → frames ≤ 4096
-        → IfErr result (λ n. OnlyFails (Makes K.Key.Shape K.is_proper K.said K.KeyClass D.state) n.why) }
+        → IfErr result (λ n. HasFailed n.why) }
     ensures turn { (p : Parameters) → (D.state disk).honest ≡ true → Says (D.state disk).seen p → MatchResult result
         (λ engine. GoesOn K.Key.Shape K.is_proper K.said K.KeyClass K.CLASS D.state p (Lies disk) life.Opens (Works engine))
         (λ n. GoesOn K.Key.Shape K.is_proper K.said K.KeyClass K.CLASS D.state p (Lies disk) (life.Refuses n.why) (Lies n.disk)) }

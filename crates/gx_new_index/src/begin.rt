@@ -85,6 +85,7 @@ fn over<D: SectorDisk, K: ReadKeys>(
     alloc: Global,
 ) -> Engine<D, K>
     requires range { AreInRange size.0 size.1 }
+    requires frames { IsFrames size.2 }
     requires inside { sectors_of size.0 ≤ (D.state disk).sectors }
     requires log { log ≡ first_glog }
     requires pool { IsEmpty size.2 room.pool.frames × (room.pool.test.pages ≡ size.0) }

@@ -1,55 +1,43 @@
 -- The gates behind a log that was found and laid are closed, and an engine starts there.
-use Rattle.std.proofs.Common.{◌≡◌, ◌⊎◌, inl, inr, ℕ, ◌+◌, ◌-◌, ◌*◌, ◌<◌, ◌≤◌, Bool, true, false, None, List, [], ◌∷◌, length, refl, ap, sym, ◌∙◌, subst, arith}
+use Rattle.std.proofs.Common.{◌≡◌, inl, inr, ℕ, ◌+◌, ◌*◌, ◌<◌, ◌≤◌, Bool, true, None, List, length, refl, ap, sym, ◌∙◌, subst, arith}
 use Rattle.std.specs.Prelude.{IfErr, IfOk, MatchResult, Result, Ok, Err}
-use Rattle.std.proofs.lemmas.List.Sums.{count_by-le-length}
 use Rattle.std.proofs.lemmas.Bool.{leb-true}
 use Rattle.std.proofs.Math.Path.{fun_ext}
 use Rattle.gx_geom.specs.declared.refusal.Refusal.{Refusal}
 use Rattle.gx_geom.specs.declared.refusal.Refusal.TheVariants as refusal
 use Rattle.gx_disk.specs.Device.{Device}
-use Rattle.gx_driven.specs.Backlog.{backlog}
-use Rattle.gx_driven.proofs.Lessening.{few_left}
 use Rattle.gx_disk.specs.Moments.{Leaves}
-use Rattle.gx_disk.specs.Sectors.{sector_of}
-use Rattle.gx_disk.proofs.Leaving.{leaves_weaker, nothing_leaves}
+use Rattle.gx_disk.proofs.Leaving.{leaves_weaker}
 use Rattle.gx_disk.proofs.Spans.{spans_same}
 use Rattle.gx_durable.specs.Area.{area_of}
 use Rattle.gx_durable.specs.Bodies.{AreBodies}
 use Rattle.gx_durable.specs.Fitting.{AreGood, PagesFit}
 use Rattle.gx_glog.specs.Cuts.{bodies_in, open_bodies}
 use Rattle.gx_durable.specs.GoingOn.{AfterClosing, IsClosedFound, IsFoundGood, found_state, opened}
-use Rattle.gx_durable.specs.Opening.{found_glog}
 use Rattle.gx_durable.specs.Spelled.{Reading}
 use Rattle.gx_durable.specs.Standing as durable
 use Rattle.gx_durable.proofs.GoingOn.{closing_keeps}
 use Rattle.gx_durable.proofs.Opening.{found_up}
-use Rattle.gx_engine_laws.specs.Engines.{stood}
 use Rattle.gx_engine.specs.declared.start.Start.{Start}
 use Rattle.gx_engine.specs.declared.start.NotOpened.{NotOpened}
 use Rattle.gx_engine.specs.Losing.{AreCutOff}
-use Rattle.gx_engine.specs.Starting.{HoldsFrom, StandsOn, Started, WhyNot, cut_off}
+use Rattle.gx_engine.specs.Starting.{HoldsFrom, StandsOn, Started, WhyNot}
 use Rattle.gx_engine.specs.States.{Parts}
-use Rattle.gx_found_log.specs.Found.{HasUndamaged}
 use Rattle.gx_glog.specs.declared.extent.Extent.{Extent}
 use Rattle.gx_glog.specs.declared.extent.Extent.TheVariants.{A, B as BExtent}
-use Rattle.gx_glog.specs.declared.parameters.Parameters.{Parameters}
-use Rattle.gx_glog.specs.Later.{ClosesLater, ClosesLaterOfRun, IsBesideLater, KeepsRun}
+use Rattle.gx_glog.specs.Later.{ClosesLaterOfRun, KeepsRun}
 use Rattle.gx_glog.specs.Layout.{gates_of, selected_of}
 use Rattle.gx_glog.specs.State.{Log}
-use Rattle.gx_index_laws.specs.Classes.{Class, IsLawful, Page, known_of}
+use Rattle.gx_index_laws.specs.Classes.{Class, IsLawful, Page}
 use Rattle.gx_index_laws.specs.Openings as openings
-use Rattle.gx_index_laws.specs.States as index
-use Rattle.gx_index_laws.specs.States.{engine_of}
 use Rattle.gx_index_laws.proofs.Keeping.{KeepsOne, found_keeps}
 use Rattle.gx_index_laws.proofs.Standing.{known_lawful}
 use Rattle.gx_machine.specs.declared.entry.Entry.{Entry}
 use Rattle.gx_machine.specs.Keys.{Keys, Members}
 use Rattle.gx_node.specs.Reading.{Format, is_node}
 use Rattle.gx_opening.specs.declared.standing.Standing.{Standing}
-use Rattle.gx_opening.specs.Laid.{IsLaid}
 use Rattle.gx_opening.specs.Standing.{Stands, known_for, limits_of, reading}
 use Rattle.gx_pool.specs.Area.{IsPassing, bytes_of, first_of}
-use Rattle.gx_pool.specs.Marks.{is_dirty}
 use Rattle.gx_pool.specs.Readable.{IsReadable}
 use Rattle.gx_pool.specs.State.{State as Frames, kept}
 use Rattle.gx_readings.specs.Classes.{class_of}
@@ -69,19 +57,10 @@ use Rattle.gx_recovery.proofs.DamageItems.{bodies_log}
 use Rattle.gx_recovery.proofs.Moves.{found_latest, found_set}
 use Rattle.gx_storage.specs.State.{Volume}
 use Rattle.gx_store.specs.Faults.{is_taken}
-use Rattle.gx_open.specs.Beginning.{HasBegun, HasFailed, HasFoundSet, HasNotBegun, HoldsFound, IsGoodLog, StartsFrom}
+use Rattle.gx_open.specs.Beginning.{HasBegun, HasFailed, HasNotBegun, HoldsFound, StartsFrom}
 use Rattle.gx_open.specs.Keeping.{StandsForFound}
 
 -- ---- an engine that starts
-
--- it has less to flush than 2^13
-pub few_begun : {B D : Type 0} (k : Keys B) (start : Start B) (disk : D) (frames : ℕ) → start.frames ≡ frames → frames ≤ 4096 → (result : Result (Parts B D) (NotOpened D))
-    → IfOk result (Started k start disk) → IfOk result (λ engine. backlog engine < 8192)
-few_begun k start disk frames is few (Ok engine) started =
-    let all = count_by-le-length is_dirty engine.volume.shelf.frames.marks in
-    let count = started.frames.count in
-    few_left engine (omega (arith, all, count, is, few))
-few_begun k start disk frames is few (Err n) started = tt
 
 no_device : {B : Type 0} (k : Keys B) (start : Start B) (why : Refusal) → WhyNot k start why → why ≡ refusal.Device → ⊥
 no_device k start why (inl memory) is = let no : refusal.Memory ≡ refusal.Device = sym memory ∙ is in cc

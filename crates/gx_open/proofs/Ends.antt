@@ -1,5 +1,5 @@
 -- What an opening comes to, from its parts.
-use Rattle.std.proofs.Common.{◌≡◌, ◌⊎◌, inl, inr, ℕ, zero, suc, ◌<◌, ◌≤◌, Bool, true, false, List, [], ◌∷◌, length, map, replicate, refl, ap, sym, ◌∙◌, subst, arith}
+use Rattle.std.proofs.Common.{◌≡◌, ◌⊎◌, inl, inr, ℕ, zero, suc, ◌<◌, ◌≤◌, Bool, List, [], ◌∷◌, length, map, replicate, refl, ap, sym, ◌∙◌, subst, arith}
 use Rattle.std.specs.Prelude.{IfErr, IfOk, MatchResult, Result, Ok, Err}
 use Rattle.std.specs.List.{slice_index_or}
 use Rattle.gx_geom.specs.declared.refusal.Refusal.{Refusal}
@@ -11,17 +11,13 @@ use Rattle.gx_disk.proofs.Leaving.{leaves_joined, leaves_weaker, nothing_leaves}
 use Rattle.gx_durable.proofs.Crashes.{crash_leaves}
 use Rattle.gx_engine_laws.specs.Slots as slots
 use Rattle.gx_engine_laws.specs.Slots.{Slot}
-use Rattle.gx_engine_laws.specs.Engines.{SeenAs, opened_machine, session_of}
+use Rattle.gx_engine_laws.specs.Engines.{session_of}
 use Rattle.gx_engine.specs.declared.start.NotOpened.{NotOpened}
 use Rattle.gx_engine.specs.States.{Parts}
-use Rattle.gx_events.specs.declared.event.Event.{Event}
-use Rattle.gx_events.specs.declared.outcome.Outcome.{Outcome}
 use Rattle.gx_glog.specs.declared.parameters.Parameters.{Parameters}
 use Rattle.gx_index_laws.specs.Classes.{Class, IsLawful}
-use Rattle.gx_index_laws.specs.States as index
 use Rattle.gx_index_laws.specs.States.{engine_of}
 use Rattle.gx_index_laws.proofs.Standing.{known_lawful}
-use Rattle.gx_machine.specs.declared.entry.Entry.{Entry}
 use Rattle.gx_machine.specs.Keys.{Members}
 use Rattle.gx_node.specs.Reading.{Format, format_of}
 use Rattle.gx_opening.specs.declared.standing.Standing.{Standing}
@@ -34,10 +30,9 @@ use Rattle.gx_phases.specs.declared.phase.Phase.TheVariants as phase
 use Rattle.gx_phases.specs.States.{phase_at, slot_of, slots_of}
 use Rattle.gx_readings.specs.Classes.{class_of}
 use Rattle.gx_txn.specs.Tables.{Held}
-use Rattle.gx_driven.specs.Made.{Makes}
-use Rattle.gx_open.specs.Beginning.{HasBegun, HasNotBegun, HasStopped, HoldsFound, IsSameDevice}
+use Rattle.gx_open.specs.Beginning.{HasBegun, HasNotBegun, HoldsFound, IsSameDevice}
 use Rattle.gx_open.specs.Keeping.{ArePagesGood, IsKept, KeepsItsSet, OpensSafely, StandsForFound}
-use Rattle.gx_open.specs.Opened.{IsOpened, IsRefused, IsStopped}
+use Rattle.gx_open.specs.Opened.{IsOpened, IsRefused}
 use Rattle.gx_open.specs.Undoing.{IsIdle}
 use Rattle.gx_open.proofs.Opened.{keeps_of, stands_so}
 
@@ -104,19 +99,16 @@ module _ {B : Type 0} (shape : Members B) (proper : B → Bool) (said : List ℕ
     keeps_either (Ok engine) law safe = keeps_set d (state engine.volume.shelf.disk) law safe
     keeps_either (Err n) law safe = keeps_set d (state n.disk) law safe
 
-  module _ {D : Type 0} (makes : Parts B D → Event B → Outcome B → Parts B D → Type 0) (state : D → Device) (p : Parameters) (seen : List ℕ) where
+  module _ {D : Type 0} (state : D → Device) (p : Parameters) (seen : List ℕ) where
     abbrev Came : Device → Result (Parts B D) (NotOpened D) → Type 0
     Came m result = MatchResult result (λ engine. HasBegun shape proper said f p seen m (state engine.volume.shelf.disk) engine)
-        (λ n. HasStopped shape proper said f makes p seen m (state n.disk) n.why)
+        (λ n. HasNotBegun shape proper said f p seen m (state n.disk) n.why)
 
     -- what is done later
     pub later : (m e : Device) (begun : Leaves (StandsForFound shape proper said f p seen) m e) (result : Result (Parts B D) (NotOpened D)) → Came e result → Came m result
     later m e begun (Ok engine) came =
         record { holds = came.holds; leaves = leaves_joined (StandsForFound shape proper said f p seen) m e (state engine.volume.shelf.disk) begun came.leaves }
     later m e begun (Err n) came = record { cause = came.cause; leaves = leaves_joined (StandsForFound shape proper said f p seen) m e (state n.disk) begun came.leaves }
-
-    pub not_begun_stopped : (m e : Device) (why : Refusal) → HasNotBegun shape proper said f p seen m e why → HasStopped shape proper said f makes p seen m e why
-    not_begun_stopped m e why not_begun = record { cause = inl not_begun.cause; leaves = not_begun.leaves }
 
 module _ {C B D : Type 0} (shape : Members B) (proper : B → Bool) (said : List ℕ → B) (class : Ghosts C B) (state : D → Device) (number : ℕ) (a m : D) (s : Standing B)
     (st : Stands shape proper said (format_of class) number (state a) (state m) s) where
@@ -128,7 +120,7 @@ module _ {C B D : Type 0} (shape : Members B) (proper : B → Bool) (said : List
 
   abbrev CameTo : Result (Parts B D) (NotOpened D) → Type 0
   CameTo result = MatchResult result (λ engine. HasBegun shape proper said f s.parameters (state a).seen (state m) (state engine.volume.shelf.disk) engine)
-      (λ n. HasStopped shape proper said f (Makes shape proper said class state) s.parameters (state a).seen (state m) (state n.disk) n.why)
+      (λ n. HasNotBegun shape proper said f s.parameters (state a).seen (state m) (state n.disk) n.why)
 
   pub came_safe : StaysSafe shape proper said f (state a) (state m) → (result : Result (Parts B D) (NotOpened D)) → CameTo result
       → MatchResult result (λ engine. OpensSafely shape proper said f (state a) (state engine.volume.shelf.disk)) (λ n. OpensSafely shape proper said f (state a) (state n.disk))
@@ -136,7 +128,7 @@ module _ {C B D : Type 0} (shape : Members B) (proper : B → Bool) (said : List
   came_safe safe (Err n) came = safe_then shape proper said f (state a) (state m) (state n.disk) s.parameters st.formatted.says safe came.leaves
 
   pub came_refused : (result : Result (Parts B D) (NotOpened D)) → CameTo result
-      → IfErr result (λ n. IsRefused shape proper said f (Makes shape proper said class state) state number (state a) (state n.disk) n.why)
+      → IfErr result (λ n. IsRefused shape proper said f state number (state a) (state n.disk) n.why)
   came_refused (Ok engine) came = tt
   came_refused (Err n) came = inr (inr (inr (record { middle = m; standing = s; stands = st; cause = came.cause })))
 
@@ -175,7 +167,7 @@ module _ {C B D : Type 0} (shape : Members B) (proper : B → Bool) (said : List
 
 -- a test that wasn't passed refuses
 pub tested_refused : {C B D : Type 0} (shape : Members B) (proper : B → Bool) (said : List ℕ → B) (class : Ghosts C B) (state : D → Device) (number : ℕ) (d e : Device) (why : Refusal)
-    → IsTested shape proper said (format_of class) number d e (Err why) → IsRefused shape proper said (format_of class) (Makes shape proper said class state) state number d e why
+    → IsTested shape proper said (format_of class) number d e (Err why) → IsRefused shape proper said (format_of class) state number d e why
 tested_refused shape proper said class state number d e why (inl settles) = inl settles
 tested_refused shape proper said class state number d e why (inr (inl unlaid)) = inr (inl unlaid)
 tested_refused shape proper said class state number d e why (inr (inr unsound)) = inr (inr (inl unsound))

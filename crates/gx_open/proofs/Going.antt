@@ -32,7 +32,7 @@ use Rattle.gx_driven.specs.Repeated.{AreAgain, GoesOn, IsGoingOn, IsRepeated, la
 use Rattle.gx_driven.specs.Resting.{WorksOff}
 use Rattle.gx_driven.proofs.Making.{made_joined, made_more}
 use Rattle.gx_driven.proofs.Resting.{checkpoint_rests}
-use Rattle.gx_open.specs.Undoing.{AreFreeBelow, AreOfOpening, GoesBy, IsEndless, IsFreeAt, IsOfOpening, IsRefusal, IsRefusedAt, MayUndo, OnlyUndoes, WhyStopped, undone_by}
+use Rattle.gx_open.specs.Undoing.{AreFreeBelow, AreOfOpening, GoesBy, IsFreeAt, IsOfOpening, IsRefusal, IsRefusedAt, MayUndo, OnlyUndoes, WhyStopped, undone_by}
 use Rattle.gx_open.proofs.Phases.{FlushEnds, IsBusyAt, IsFault, IsFlush, MoveEnds, Stays, fails_so, flush_busy, flush_ends, move_comes, stays_joined, stays_same, step_stays, unmoved}
 
 true_not : true ≡ false → ⊥
@@ -124,7 +124,16 @@ module _ {B D : Type 0} (makes : Parts B D → Event B → Outcome B → Parts B
     last_made = refused.last_made;
     refused = refused.refused;
   })
-  stopped_later old middle new why goes (inr endless) = inr endless
+  stopped_later old middle new why goes (inr endless) = inr (
+    endless.0,
+    record {
+      middle = endless.1.middle;
+      before = goes_joined old middle endless.1.middle goes endless.1.before;
+      undoes = endless.1.undoes;
+      session = endless.1.session;
+      given_up = endless.1.given_up;
+    },
+  )
 
   pub stopped_later_if : (old middle new : Parts B D) (result : Result (Unit {0}) Refusal) → GoesBy makes old middle → IfErr result (λ why. WhyStopped makes middle why new)
       → IfErr result (λ why. WhyStopped makes old why new)
@@ -422,7 +431,7 @@ module _ {C B D : Type 0} (shape : Members B) (proper : B → Bool) (said : List
 
   pub undo_so : (s : ℕ) (old new : Parts B D) (reply : Option (Reply B)) → is_session s ≡ true → OnlyUndoes old → WorksOff old → Drives s old new reply
       → UndoneSo s old new (undone_by reply)
-  undo_so s old new None there undoes works up = inr (refl, (old, s, up))
+  undo_so s old new None there undoes works up = inr (refl, record { middle = old; before = goes_nowhere makes old; undoes = undoes; session = s; given_up = up })
   undo_so s old new (Some r) there undoes works driven =
       driven_undone s old new r there undoes works driven (free_or_busy (phase_at (s - 1) old.sessions.phases) (undoes (s - 1)))
 

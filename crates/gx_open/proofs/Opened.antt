@@ -1,6 +1,6 @@
 -- What an opening's events leave of the set that was found.
-use Rattle.std.proofs.Common.{◌≡◌, ◌⊎◌, inl, inr, ℕ, ◌+◌, ◌<◌, ◌≤◌, Bool, true, false, List, [], ◌∷◌, length, refl, ap, sym, ◌∙◌, subst, arith}
-use Rattle.std.specs.Prelude.{IfErr, IfOk, MatchResult, Result, Ok, Err}
+use Rattle.std.proofs.Common.{◌≡◌, inl, inr, ℕ, ◌+◌, ◌<◌, ◌≤◌, Bool, List, [], ◌∷◌, length, refl, ap, sym, ◌∙◌, subst, arith}
+use Rattle.std.specs.Prelude.{◌-◌, ◌^◌}
 use Rattle.gx_geom.specs.declared.refusal.Refusal.{Refusal}
 use Rattle.gx_geom.specs.declared.refusal.Refusal.TheVariants as refusal
 use Rattle.gx_class.specs.declared.class.KeyClass.{Ghosts}
@@ -26,19 +26,33 @@ use Rattle.gx_readings.specs.Classes.{class_of}
 use Rattle.gx_recovery.specs.Analysis.{number_of}
 use Rattle.gx_recovery.specs.Damage.{IsLog, records_of}
 use Rattle.gx_recovery.specs.Known.{Known}
-use Rattle.gx_recovery.specs.Logged.{StandsForKept, durable as durable_number, kept as kept_set, latest}
+use Rattle.gx_recovery.specs.Logged.{StandsForKept, kept as kept_set, latest}
 use Rattle.gx_recovery.specs.Records.{Record}
 use Rattle.gx_recovery.specs.Renewal.{found}
 use Rattle.gx_recovery.specs.Standing.{stands_for}
 use Rattle.gx_recovery.proofs.DamageItems.{bodies_log}
 use Rattle.gx_recovery.proofs.Moves.{found_latest, found_set}
 use Rattle.gx_driven.specs.Made.{AreMade, Makes}
-use Rattle.gx_open.specs.Beginning.{HasBegun, HasStopped, HoldsFound, IsGoodLog}
+use Rattle.gx_open.specs.Beginning.{HasBegun, HasNotBegun, HoldsFound, IsGoodLog}
 use Rattle.gx_open.specs.Keeping.{StandsForFound}
-use Rattle.gx_open.specs.Undoing.{AreOfOpening, GoesBy, IsOfOpening, IsRefusedAt, OnlyUndoes, WhyStopped}
+use Rattle.gx_open.specs.Undoing.{AreOfOpening, GoesBy, IsEndless, IsOfOpening, IsRefusedAt, MayUndo, OnlyUndoes, WhyStopped}
+use Rattle.gx_driven.proofs.Ending.{starts_end}
+use Rattle.gx_phases.specs.declared.phase.Phase.{Phase}
+use Rattle.gx_phases.specs.declared.phase.Phase.TheVariants as phase
+use Rattle.gx_phases.specs.States.{phase_at}
+use Rattle.gx_index_laws.specs.Measures.{work_left}
+use Rattle.gx_index_laws.specs.Whole.{IsWhole}
+use Rattle.gx_events.specs.declared.event.Event.TheVariants.{Move}
 use Rattle.gx_open.proofs.Going.{goes_stays}
-use Rattle.gx_open.proofs.Phases.{Stays}
 use Rattle.gx_open.proofs.Runs.{all_undo, step_keeps, step_why}
+
+-- a session that undoes, or is free, waits for no commit
+waits_never : {B W : Type 0} (p : Phase B W) (number : ℕ) → MayUndo p → p ≡ phase.Waiting number → ⊥
+waits_never phase.Free number may is = let no : ⊥ = cc in no
+waits_never phase.Working number may is = may
+waits_never (phase.Open call work) number may is = may
+waits_never (phase.Undoing restored work) number may is = let no : ⊥ = cc in no
+waits_never (phase.Waiting other) number may is = may
 
 module _ {C B D : Type 0} (shape : Members B) (proper : B → Bool) (said : List ℕ → B) (class : Ghosts C B) (state : D → Device) (p : Parameters) (seen : List ℕ)
     (lc : IsLawful (class_of shape proper (limits_of p))) where
@@ -156,7 +170,18 @@ module _ {C B D : Type 0} (shape : Members B) (proper : B → Bool) (said : List
       (all_undo i middle.sessions.phases middle.sessions.table there.holds.holds.sessions.slots on) (there.holds.holds.sessions.failed ∙ at_last.works) stepped.are stepped.led.happening
       at_last.refused
 
-  pub goes_stop : (old new : Parts B D) (why : Refusal) → OnlyUndoes old → GoesBy makes old new → WhyStopped makes old why new → Holds old
-      → HasStopped shape proper said f makes p seen (at old) (at new) why
-  goes_stop old new why undoes goes (inl refused) h = record { cause = inl (inl (refused_why old new why undoes h refused)); leaves = (goes_hold old new undoes goes h).leaves }
-  goes_stop old new why undoes goes (inr endless) h = record { cause = inr (endless.0, (new, endless.1)); leaves = (goes_hold old new undoes goes h).leaves }
+  module _ (short : class.KEY + 4119 ≤ 32764)
+      (bounded : (c : Class B) → IsLawful c → (old : index.State B) → IsWhole c old → c.pages ≤ 65536 → c.rules.most ≤ 100 → (s : ℕ) → work_left c old s < 2 ^ 39) where
+    -- a session's undo comes to its end
+    never_endless : (old new : Parts B D) → OnlyUndoes old → Holds old → IsEndless makes old new → ⊥
+    never_endless old new undoes h endless =
+        let held = (goes_hold old endless.middle undoes endless.before h).holds in
+        let few = starts_end shape proper said class state short (limits_of p) (λ some. lc) bounded endless.middle new endless.session 72057594037927936 (Move endless.session) endless.given_up.0
+        held.bodies held.index held.holds (refl, λ number waits. absurd (waits_never (phase_at (endless.session - 1) endless.middle.sessions.phases) number (endless.undoes (endless.session - 1)) waits))
+        endless.given_up.1 in
+        let no : ⊥ = omega (arith, few) in no
+
+    pub goes_stop : (old new : Parts B D) (why : Refusal) → OnlyUndoes old → GoesBy makes old new → WhyStopped makes old why new → Holds old
+        → HasNotBegun shape proper said f p seen (at old) (at new) why
+    goes_stop old new why undoes goes (inl refused) h = record { cause = inl (refused_why old new why undoes h refused); leaves = (goes_hold old new undoes goes h).leaves }
+    goes_stop old new why undoes goes (inr endless) h = absurd (never_endless old new undoes h endless.1)

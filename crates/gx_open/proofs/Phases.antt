@@ -1,10 +1,9 @@
 -- What an event of an opening leaves of the sessions and of the device.
-use Rattle.std.proofs.Common.{◌≡◌, ◌⊎◌, inl, inr, ℕ, zero, suc, ◌+◌, ◌-◌, ◌<◌, ◌≤◌, Bool, true, false, ◌||◌, Option, None, Some, List, [], ◌∷◌, refl, ap, sym, ◌∙◌, subst, arith}
+use Rattle.std.proofs.Common.{◌≡◌, inl, inr, ℕ, zero, suc, ◌+◌, ◌-◌, ◌<◌, ◌≤◌, Bool, true, false, ◌||◌, Option, None, Some, List, [], ◌∷◌, refl, ap, sym, ◌∙◌, subst, arith}
 use Rattle.std.specs.Prelude.{nat_le, Result, Ok, Err, slice_set}
 use Rattle.gx_geom.specs.declared.refusal.Refusal.{Refusal}
 use Rattle.gx_geom.specs.declared.refusal.Refusal.TheVariants as refusal
 use Rattle.gx_machine.specs.declared.entry.Entry.{Entry}
-use Rattle.gx_machine.specs.declared.reply.Reply.{Reply}
 use Rattle.gx_machine.specs.declared.reply.Reply.TheVariants as reply
 use Rattle.gx_machine.specs.Keys.{Keys}
 use Rattle.gx_machine.specs.Machine.{is_session}
@@ -43,7 +42,7 @@ use Rattle.gx_engine.specs.Comes.{MoveComes, MovesAt, MovesBy, StepComes}
 use Rattle.gx_engine.specs.Flushing.{IsEnded, LogComes, LogGoes, LogSteps, PageComes, PageGoes, PageIsWritten}
 use Rattle.gx_engine.specs.States.{Parts, is_due, runs}
 use Rattle.gx_engine.specs.Stepping.{has_call}
-use Rattle.gx_engine.specs.Undoing.{EndComes, RestoreComes, UndoBy, UndoComes, next_leaf, sought_state}
+use Rattle.gx_engine.specs.Undoing.{EndComes, RestoreComes, UndoBy, next_leaf, sought_state}
 use Rattle.gx_driven.specs.Resting.{KeepsSessions, WorksOff}
 use Rattle.gx_driven.proofs.Resting.{checkpoint_keeps, keeps_all, log_steps_keep, page_keeps}
 use Rattle.gx_open.specs.Undoing.{IsFreeAt, IsOfOpening, MayUndo, OnlyUndoes}

@@ -1,5 +1,5 @@
 -- What the events of an opening make of the index that an engine holds: its one set stays.
-use Rattle.std.proofs.Common.{◌≡◌, ◌⊎◌, inl, inr, ℕ, zero, suc, ◌+◌, ◌-◌, ◌<◌, ◌≤◌, Bool, true, false, ◌||◌, None, Some, Option, List, [], ◌∷◌, length, All, refl, ap, sym, ◌∙◌, subst, arith}
+use Rattle.std.proofs.Common.{◌≡◌, ◌⊎◌, inl, inr, ℕ, zero, suc, ◌-◌, Bool, true, false, ◌||◌, Option, List, [], ◌∷◌, refl, ap, sym, ◌∙◌, subst}
 use Rattle.std.specs.Prelude.{if◌then◌else◌}
 use Rattle.std.specs.List.{slice_index_or}
 use Rattle.std.proofs.lemmas.List.Elements.{All-nil, All-cons}
@@ -13,7 +13,7 @@ use Rattle.gx_machine.specs.Machine.{is_session}
 use Rattle.gx_machine.specs.Sessions.{Locks}
 use Rattle.gx_engine_laws.specs.Slots as slots
 use Rattle.gx_engine_laws.specs.Slots.{Note, Slot, slot_at}
-use Rattle.gx_engine_laws.specs.Engines.{Engine, IsSame, stood}
+use Rattle.gx_engine_laws.specs.Engines.{Engine, IsSame}
 use Rattle.gx_engine_laws.specs.Events as laws
 use Rattle.gx_engine_laws.specs.Events.{MeetsFault}
 use Rattle.gx_engine_laws.proofs.WhatStood.{event_stood}

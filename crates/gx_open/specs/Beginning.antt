@@ -1,7 +1,7 @@
 -- An engine that begins over what stands on a device.
 use Rattle.std.specs.Prelude.{◌≡◌, ◌⊎◌, ℕ, Bool, List, []}
 use Rattle.gx_geom.specs.declared.refusal.Refusal.{Refusal}
-use Rattle.gx_geom.specs.declared.refusal.Refusal.TheVariants.{Damaged, Device as DeviceRefusal, Memory}
+use Rattle.gx_geom.specs.declared.refusal.Refusal.TheVariants.{Device as DeviceRefusal, Memory}
 use Rattle.gx_disk.specs.Device.{Device}
 use Rattle.gx_disk.specs.Moments.{Leaves}
 use Rattle.gx_durable.specs.Area.{area_of}
@@ -11,11 +11,9 @@ use Rattle.gx_engine.specs.declared.start.Start.{Start}
 use Rattle.gx_engine.specs.Holds.{Holds}
 use Rattle.gx_engine.specs.Starting.{cut_off}
 use Rattle.gx_engine.specs.States.{Parts}
-use Rattle.gx_events.specs.declared.event.Event.{Event}
-use Rattle.gx_events.specs.declared.outcome.Outcome.{Outcome}
 use Rattle.gx_found_log.specs.Found.{HasUndamaged}
 use Rattle.gx_glog.specs.declared.parameters.Parameters.{Parameters}
-use Rattle.gx_index_laws.specs.Classes.{Class, Page}
+use Rattle.gx_index_laws.specs.Classes.{Page}
 use Rattle.gx_index_laws.specs.States as index
 use Rattle.gx_index_laws.specs.States.{engine_of}
 use Rattle.gx_machine.specs.declared.entry.Entry.{Entry}
@@ -29,7 +27,6 @@ use Rattle.gx_recovery.specs.Damage.{records_of}
 use Rattle.gx_recovery.specs.Records.{Record}
 use Rattle.gx_recovery.specs.Standing.{stands_for}
 use Rattle.gx_open.specs.Keeping.{StandsForFound}
-use Rattle.gx_open.specs.Undoing.{IsEndless}
 
 -- a device has as many sectors, and is as honest
 abbrev pub IsSameDevice : Device → Device → Type 0
@@ -81,9 +78,4 @@ module _ {B : Type 0} (shape : Members B) (is_key : B → Bool) (said : List ℕ
   -- It didn't begin, and what a crash may leave still stands for that set.
   pub record HasNotBegun (p : Parameters) (seen : List ℕ) (d e : Device) (why : Refusal) : Type 0 where
     pub cause : HasFailed why
-    pub leaves : Leaves (StandsForFound shape is_key said f p seen) d e
-
-  -- It was stopped: a call failed, or memory was refused, or 2^56 events took no end. What a crash may leave still stands for that set.
-  pub record HasStopped {D : Type 0} (makes : Parts B D → Event B → Outcome B → Parts B D → Type 0) (p : Parameters) (seen : List ℕ) (d e : Device) (why : Refusal) : Type 0 where
-    pub cause : HasFailed why ⊎ ((why ≡ Damaged) × ((new : Parts B D) × IsEndless makes new))
     pub leaves : Leaves (StandsForFound shape is_key said f p seen) d e

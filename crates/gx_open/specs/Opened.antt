@@ -1,13 +1,10 @@
 -- What an opening comes to.
-use Rattle.std.specs.Prelude.{◌≡◌, ◌⊎◌, ℕ, Bool, List, Err}
+use Rattle.std.specs.Prelude.{◌⊎◌, ℕ, Bool, List, Err}
 use Rattle.gx_geom.specs.declared.refusal.Refusal.{Refusal}
-use Rattle.gx_geom.specs.declared.refusal.Refusal.TheVariants.{Damaged}
 use Rattle.gx_disk.specs.Device.{Device, MayLeave}
 use Rattle.gx_durable.specs.Area.{area_of}
 use Rattle.gx_engine_laws.specs.Engines.{SeenAs, opened_machine}
 use Rattle.gx_engine.specs.States.{Parts}
-use Rattle.gx_events.specs.declared.event.Event.{Event}
-use Rattle.gx_events.specs.declared.outcome.Outcome.{Outcome}
 use Rattle.gx_glog.specs.declared.parameters.Parameters.{Parameters}
 use Rattle.gx_index_laws.specs.States.{engine_of}
 use Rattle.gx_machine.specs.declared.entry.Entry.{Entry}
@@ -23,7 +20,6 @@ use Rattle.gx_recovery.specs.Damage.{records_of}
 use Rattle.gx_recovery.specs.Standing.{stands_for}
 use Rattle.gx_open.specs.Beginning.{HasFailed, HoldsFound}
 use Rattle.gx_open.specs.Keeping.{StandsForFound}
-use Rattle.gx_open.specs.Undoing.{IsEndless}
 
 module _ {B : Type 0} (shape : Members B) (is_key : B → Bool) (said : List ℕ → B) (f : Format B) where
   -- An engine was opened over a device that is formatted for it: it holds an index that has the one set of the log that is seen, under its
@@ -39,15 +35,15 @@ module _ {B : Type 0} (shape : Members B) (is_key : B → Bool) (said : List ℕ
         (opened_machine (number_of (known_for shape is_key said f parameters) (records_of holds.found.log.bodies)) set)
     pub stands : (image : List ℕ) → MayLeave e image → StandsForFound shape is_key said f parameters d.seen image
 
-  -- What was found sound on a device wasn't opened: a call failed, or memory was refused; or 2^56 events took no end.
-  pub record IsStopped {D : Type 0} (makes : Parts B D → Event B → Outcome B → Parts B D → Type 0) (state : D → Device) (class : ℕ) (d : Device) (why : Refusal) : Type 0 where
+  -- What was found sound on a device wasn't opened: a call failed, or memory was refused.
+  pub record IsStopped {D : Type 0} (state : D → Device) (class : ℕ) (d : Device) (why : Refusal) : Type 0 where
     pub middle : D
     pub standing : Standing B
     pub stands : Stands shape is_key said f class d (state middle) standing
-    pub cause : HasFailed why ⊎ ((why ≡ Damaged) × ((new : Parts B D) × IsEndless makes new))
+    pub cause : HasFailed why
 
   -- why it was refused: the first test that wasn't passed, in their order; or it was stopped behind them
-  abbrev pub IsRefused : {D : Type 0} → (Parts B D → Event B → Outcome B → Parts B D → Type 0) → (D → Device) → ℕ → Device → Device → Refusal → Type 0
-  IsRefused makes state class d e why =
+  abbrev pub IsRefused : {D : Type 0} → (D → Device) → ℕ → Device → Device → Refusal → Type 0
+  IsRefused state class d e why =
       MaySettle class d.sectors d.seen (Err why)
-      ⊎ (IsUnlaid shape is_key said f class d why ⊎ (IsUnsound shape is_key said f class d e why ⊎ IsStopped makes state class d why))
+      ⊎ (IsUnlaid shape is_key said f class d why ⊎ (IsUnsound shape is_key said f class d e why ⊎ IsStopped state class d why))

@@ -86,10 +86,14 @@ module _ {B D : Type 0} (makes : Parts B D → Event B → Outcome B → Parts B
     pub last_made : makes middle event outcome new
     pub refused : IsRefusal event outcome why
 
-  -- 2^56 events didn't end a session's undo
-  abbrev pub IsEndless : Parts B D → Type 0
-  IsEndless new = (old : Parts B D) × (s : ℕ) × IsGivenUp makes s (Move s) old new
+  -- Behind some of them, 2^56 events didn't end a session's undo.
+  pub record IsEndless (old new : Parts B D) : Type 0 where
+    pub middle : Parts B D
+    pub before : GoesBy old middle
+    pub undoes : OnlyUndoes middle
+    pub session : ℕ
+    pub given_up : IsGivenUp makes session (Move session) middle new
 
   -- why an opening was stopped: an event was refused, or they took no end
   abbrev pub WhyStopped : Parts B D → Refusal → Parts B D → Type 0
-  WhyStopped old why new = IsRefusedAt old why new ⊎ ((why ≡ Damaged) × IsEndless new)
+  WhyStopped old why new = IsRefusedAt old why new ⊎ ((why ≡ Damaged) × IsEndless old new)

@@ -1,7 +1,6 @@
 //! An engine over what stands on a device: the gates behind its log are closed, and it starts there.
 ghost use Rattle.std.specs.Prelude.{◌≡◌, ◌≤◌, ◌<◌, ◌+◌, ◌*◌, ℕ, false, true, IfOk, MatchResult};
 ghost use Rattle.gx_node.specs.Reading.{format_of};
-ghost use Rattle.gx_driven.specs.Backlog.{backlog};
 ghost use Rattle.gx_opening.specs.Formatted.{IsAllowed};
 ghost use Rattle.gx_opening.specs.Standing.{MayStart, Stands};
 ghost use Rattle.gx_open.specs.Beginning.{HasBegun, HasNotBegun, IsSameDevice, StartsFrom};
@@ -55,12 +54,11 @@ pub(crate) fn begin<D: SectorDisk, K: ReadKeys>(
     requires start { MayStart standing.now }
     requires allowed { IsAllowed K.CLASS standing.now.parameters }
     requires inside { 4168 + 8 * standing.now.parameters.pages ≤ (D.state disk).sectors }
-    requires frames { frames ≤ 4096 }
+    requires frames { (16 ≤ frames) × (frames ≤ 4096) }
     ensures device { MatchResult result (λ engine. IsSameDevice (D.state disk) (D.state engine.volume.shelf.disk)) (λ n. IsSameDevice (D.state disk) (D.state n.disk)) }
     ensures faults { MatchResult result (λ engine. (D.state disk).faults ≤ (D.state engine.volume.shelf.disk).faults) (λ n. n.why ≡ Refusal.Device → (D.state disk).faults < (D.state n.disk).faults) }
     ensures undoes { IfOk result OnlyUndoes }
     ensures works { IfOk result (λ engine. engine.sessions.failed ≡ false) }
-    ensures few { IfOk result (λ engine. backlog engine < 8192) }
     ensures begun { (a : D) → (D.state disk).honest ≡ true → Stands K.Key.Shape K.is_proper K.said (format_of K.KeyClass) K.CLASS (D.state a) (D.state disk) standing.now
         → MatchResult result
         (λ engine. HasBegun K.Key.Shape K.is_proper K.said (format_of K.KeyClass) standing.now.parameters (D.state a).seen (D.state disk) (D.state engine.volume.shelf.disk) engine)

@@ -2,11 +2,9 @@
 ghost use Rattle.std.specs.Prelude.{◌≡◌, ◌≤◌, ◌<◌, ◌+◌, ◌*◌, ℕ, List, false, true, Err, IfErr, IfOk, MatchResult};
 ghost use Rattle.gx_node.specs.Reading.{format_of};
 ghost use Rattle.gx_glog.specs.declared.parameters.Parameters.{Parameters};
-ghost use Rattle.gx_driven.specs.Backlog.{backlog};
-ghost use Rattle.gx_driven.specs.Made.{Makes};
 ghost use Rattle.gx_opening.specs.Formatted.{IsAllowed};
 ghost use Rattle.gx_opening.specs.Standing.{MayStart, Stands};
-ghost use Rattle.gx_open.specs.Beginning.{HasBegun, HasStopped, HoldsFound, IsSameDevice};
+ghost use Rattle.gx_open.specs.Beginning.{HasBegun, HasNotBegun, HoldsFound, IsSameDevice};
 ghost use Rattle.gx_open.specs.Keeping.{KeepsItsSet, OpensSafely};
 ghost use Rattle.gx_open.specs.Opened.{IsOpened, IsRefused};
 ghost use Rattle.gx_open.specs.Undoing.{IsIdle, OnlyUndoes};
@@ -18,6 +16,7 @@ use gx_disk::SectorDisk;
 use gx_engine::laws::a_class_is_lawful;
 use gx_engine::{Engine, NotOpened};
 use gx_geom::Refusal;
+use gx_index_laws::measures::what_a_call_has_left_is_bounded;
 use gx_opening::laws::what_is_found_stands;
 use gx_opening::{Standing, find};
 use gx_readings::ReadKeys;
@@ -36,7 +35,6 @@ where
     K::Probe: Drop,
     requires undoes { OnlyUndoes engine }
     requires works { engine.sessions.failed ≡ false }
-    requires few { backlog engine < 8192 }
     ensures device { MatchResult result (λ new. IsSameDevice (D.state engine.volume.shelf.disk) (D.state new.volume.shelf.disk))
         (λ n. IsSameDevice (D.state engine.volume.shelf.disk) (D.state n.disk)) }
     ensures faults { IfErr result (λ n. n.why ≡ Refusal.Device → (D.state engine.volume.shelf.disk).faults < (D.state n.disk).faults) }
@@ -44,10 +42,11 @@ where
     ensures keeps { (p : Parameters) (seen : List ℕ) → 4 ≤ p.most → HoldsFound K.Key.Shape K.is_proper K.said (format_of K.KeyClass) p seen (D.state engine.volume.shelf.disk) engine
         → MatchResult result
         (λ new. HasBegun K.Key.Shape K.is_proper K.said (format_of K.KeyClass) p seen (D.state engine.volume.shelf.disk) (D.state new.volume.shelf.disk) new)
-        (λ n. HasStopped K.Key.Shape K.is_proper K.said (format_of K.KeyClass) (Makes K.Key.Shape K.is_proper K.said K.KeyClass D.state) p seen
+        (λ n. HasNotBegun K.Key.Shape K.is_proper K.said (format_of K.KeyClass) p seen
         (D.state engine.volume.shelf.disk) (D.state n.disk) n.why) }
 {
     a_class_is_lawful::<K>();
+    what_a_call_has_left_is_bounded::<K::Key>();
     let mut engine = engine;
     match finish(&mut engine) {
         Ok(()) => Ok(engine),
@@ -70,14 +69,14 @@ where
     requires start { MayStart standing.now }
     requires allowed { IsAllowed K.CLASS standing.now.parameters }
     requires inside { 4168 + 8 * standing.now.parameters.pages ≤ (D.state disk).sectors }
-    requires frames { frames ≤ 4096 }
+    requires frames { (16 ≤ frames) × (frames ≤ 4096) }
     ensures device { MatchResult result (λ engine. IsSameDevice (D.state disk) (D.state engine.volume.shelf.disk)) (λ n. IsSameDevice (D.state disk) (D.state n.disk)) }
     ensures faults { IfErr result (λ n. n.why ≡ Refusal.Device → (D.state disk).faults < (D.state n.disk).faults) }
     ensures idle { IfOk result IsIdle }
     ensures keeps { (a : D) → (D.state disk).honest ≡ true → Stands K.Key.Shape K.is_proper K.said (format_of K.KeyClass) K.CLASS (D.state a) (D.state disk) standing.now
         → MatchResult result
         (λ engine. HasBegun K.Key.Shape K.is_proper K.said (format_of K.KeyClass) standing.now.parameters (D.state a).seen (D.state disk) (D.state engine.volume.shelf.disk) engine)
-        (λ n. HasStopped K.Key.Shape K.is_proper K.said (format_of K.KeyClass) (Makes K.Key.Shape K.is_proper K.said K.KeyClass D.state) standing.now.parameters (D.state a).seen
+        (λ n. HasNotBegun K.Key.Shape K.is_proper K.said (format_of K.KeyClass) standing.now.parameters (D.state a).seen
         (D.state disk) (D.state n.disk) n.why) }
 {
     match begin(alloc, disk, standing, frames) {
@@ -94,7 +93,7 @@ fn open_with<D: SectorDisk, K: ReadKeys + Probing>(
 ) -> Result<Engine<D, K>, NotOpened<D>>
 where
     K::Probe: Drop,
-    requires frames { frames ≤ 4096 }
+    requires frames { (16 ≤ frames) × (frames ≤ 4096) }
     ensures small { (D.state disk).sectors < 4232 → result ≡ Err (record { why = Refusal.TooSmall; disk = disk }) }
     ensures device { MatchResult result (λ engine. IsSameDevice (D.state disk) (D.state engine.volume.shelf.disk)) (λ n. IsSameDevice (D.state disk) (D.state n.disk)) }
     ensures faults { IfErr result (λ n. n.why ≡ Refusal.Device → (D.state disk).faults < (D.state n.disk).faults) }
@@ -105,7 +104,7 @@ where
     ensures opened { (D.state disk).honest ≡ true → 4232 ≤ (D.state disk).sectors
         → IfOk result (λ engine. IsOpened K.Key.Shape K.is_proper K.said (format_of K.KeyClass) K.CLASS (D.state disk) (D.state engine.volume.shelf.disk) engine) }
     ensures refused { (D.state disk).honest ≡ true → 4232 ≤ (D.state disk).sectors
-        → IfErr result (λ n. IsRefused K.Key.Shape K.is_proper K.said (format_of K.KeyClass) (Makes K.Key.Shape K.is_proper K.said K.KeyClass D.state) D.state K.CLASS
+        → IfErr result (λ n. IsRefused K.Key.Shape K.is_proper K.said (format_of K.KeyClass) D.state K.CLASS
         (D.state disk) (D.state n.disk) n.why) }
 {
     a_class_is_lawful::<K>();
@@ -125,8 +124,8 @@ where
 /// device with fewer sectors than the smallest index takes (`TooSmall`; no call is made before these two), without the magic
 /// (`NotFormatted`), with numbers out of range or of another class (`BadParameter`), with fewer sectors than that index takes
 /// (`TooSmall`), with a damaged log, or pages that can't be read, aren't a legal tree, or haven't what open transactions touched in its place
-/// (`Damaged`); and where a call fails (`Device`, and only then), or memory is refused (`Memory`). Where 2^56 events of one transaction's undo
-/// take no end it is given up, with `Damaged`.
+/// (`Damaged`); and where a call fails (`Device`, and only then), or memory is refused (`Memory`). On a device that lies, where 2^56 events of
+/// one transaction's undo take no end, it is given up with `Damaged`.
 ///
 /// On an honest device, at each moment, also where it is refused, a crash may leave what it could at the start, or an image with the log that
 /// was found and after it the same pages; where these are good for the log, that stands for the set that the log keeps, under its
@@ -152,7 +151,7 @@ where
     ensures opened { (D.state disk).honest ≡ true
         → IfOk result (λ engine. IsOpened K.Key.Shape K.is_proper K.said (format_of K.KeyClass) K.CLASS (D.state disk) (D.state engine.volume.shelf.disk) engine) }
     ensures refused { (D.state disk).honest ≡ true → 16 ≤ frames → frames ≤ 4096 → 4232 ≤ (D.state disk).sectors
-        → IfErr result (λ n. IsRefused K.Key.Shape K.is_proper K.said (format_of K.KeyClass) (Makes K.Key.Shape K.is_proper K.said K.KeyClass D.state) D.state K.CLASS
+        → IfErr result (λ n. IsRefused K.Key.Shape K.is_proper K.said (format_of K.KeyClass) D.state K.CLASS
         (D.state disk) (D.state n.disk) n.why) }
 {
     what_is_found_stands::<D, K>();

@@ -1,7 +1,6 @@
 //! What an engine does before it is handed out: its checkpoint is ended, and what a crash cut off is undone.
-ghost use Rattle.std.specs.Prelude.{◌≡◌, ◌<◌, ◌-◌, false, true, IfErr, IfOk};
+ghost use Rattle.std.specs.Prelude.{◌≡◌, ◌-◌, false, true, IfErr, IfOk};
 ghost use Rattle.gx_machine.specs.Machine.{is_session};
-ghost use Rattle.gx_driven.specs.Backlog.{backlog};
 ghost use Rattle.gx_driven.specs.Made.{Makes};
 ghost use Rattle.gx_driven.specs.Resting.{WorksOff};
 ghost use Rattle.gx_open.specs.Undoing.{AreFreeBelow, GoesBy, IsFreeAt, OnlyUndoes, WhyStopped, undone_by};
@@ -15,14 +14,13 @@ use gx_geom::Refusal;
 use gx_machine::Reply;
 use gx_readings::ReadKeys;
 
-// Ends the checkpoint that runs, which fewer steps do than what there is left to flush.
+// Ends the checkpoint that runs.
 fn end_checkpoint<D: SectorDisk, K: ReadKeys + Probing>(
     engine: &mut Engine<D, K>,
 ) -> Result<(), Refusal>
 where
     K::Probe: Drop,
     requires works { engine.old.sessions.failed ≡ false }
-    requires few { backlog engine.old < 8192 }
     ensures goes { GoesBy (Makes K.Key.Shape K.is_proper K.said K.KeyClass D.state) engine.old engine.new }
     ensures ended { IfOk result (λ _. WorksOff engine.new) }
     ensures why { IfErr result (λ why. WhyStopped (Makes K.Key.Shape K.is_proper K.said K.KeyClass D.state) engine.old why engine.new) }
@@ -84,7 +82,8 @@ where
 
 /// Ends the checkpoint that an engine began with, and undoes what a crash cut off: no session has a transaction then, and no checkpoint runs.
 ///
-/// Refused as the event was that was refused, and with `Damaged` where 2^56 events of a session take no end. It takes no memory.
+/// Refused as the event was that was refused, and with `Damaged` where 2^56 events of a session take no end, as they may on a device that lies.
+/// It takes no memory.
 pub(crate) fn finish<D: SectorDisk, K: ReadKeys + Probing>(
     engine: &mut Engine<D, K>,
 ) -> Result<(), Refusal>
@@ -92,7 +91,6 @@ where
     K::Probe: Drop,
     requires undoes { OnlyUndoes engine.old }
     requires works { engine.old.sessions.failed ≡ false }
-    requires few { backlog engine.old < 8192 }
     ensures goes { GoesBy (Makes K.Key.Shape K.is_proper K.said K.KeyClass D.state) engine.old engine.new }
     ensures free { IfOk result (λ _. AreFreeBelow 8 engine.new) }
     ensures works { IfOk result (λ _. WorksOff engine.new) }

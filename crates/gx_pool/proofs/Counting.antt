@@ -1,5 +1,5 @@
 -- How many items of a list pass a test.
-use Rattle.std.proofs.Common.{◌≡◌, ◌∙◌, ap, refl, ℕ, zero, suc, ◌+◌, ◌<◌, ◌≤◌, List, [], ◌∷◌, length, get_or, set, count_by, Bool, true, false, cond, arith}
+use Rattle.std.proofs.Common.{◌≡◌, ◌∙◌, ap, refl, ℕ, zero, suc, ◌+◌, ◌<◌, ◌≤◌, List, [], ◌∷◌, length, get_or, get_or-set_other, length-set, set, count_by, Bool, true, false, cond, subst, sym, arith}
 use Rattle.std.proofs.lemmas.List.Sums.{sum_by-cons, sum_by-set}
 
 -- one more item
@@ -102,3 +102,47 @@ one_counted p (x ∷ xs) (suc i) d inside only =
     let next = count_next p x xs false (false_of (p x) (λ is. let one = only 0 (omega arith) is in omega (arith, one))) in
     let rest = one_counted p xs i d (omega arith) (λ k below is. let one = only (suc k) (omega arith) is in omega (arith, one)) in
     omega (arith, next, rest)
+
+module _ {A : Type 0} (p : A → Bool) (d : A) where
+  -- each item that passes has one that passes in another list, and no two have the same
+  pub record Matched (xs ys : List A) (to : ℕ → ℕ) : Type 0 where
+    pub there : (k : ℕ) → k < length xs → p (get_or xs k d) ≡ true → (to k < length ys) × (p (get_or ys (to k) d) ≡ true)
+    pub apart : (j k : ℕ) → j < length xs → k < length xs → p (get_or xs j d) ≡ true → p (get_or xs k d) ≡ true → to j ≡ to k → j ≡ k
+
+  -- all but the first
+  matched_rest : (x : A) (xs ys : List A) (to : ℕ → ℕ) → Matched (x ∷ xs) ys to → Matched xs ys (λ k. to (suc k))
+  matched_rest x xs ys to matched = record {
+    there = λ k below is. matched.there (suc k) (omega (arith, below)) is;
+    apart = λ j k one other is so same. let e = matched.apart (suc j) (suc k) (omega (arith, one)) (omega (arith, other)) is so same in omega (arith, e);
+  }
+
+  -- once the first's is taken away
+  matched_fewer : (x : A) (xs ys : List A) (to : ℕ → ℕ) → p x ≡ true → Matched (x ∷ xs) ys to → Matched xs (set ys (to 0) d) (λ k. to (suc k))
+  matched_fewer x xs ys to first matched =
+      let rest = matched_rest x xs ys to matched in
+      record {
+        there = λ k below is.
+            (let there = rest.there k below is in (
+              subst (λ n. to (suc k) < n) (sym (length-set ys (to 0) d)) there.0,
+              ap p (get_or-set_other ys (to 0) (to (suc k)) d d (λ e. let one = matched.apart (suc k) 0 (omega (arith, below)) (omega arith) is first e in omega (arith, one))) ∙ there.1,
+            ));
+        apart = rest.apart;
+      }
+
+  matched_next : p d ≡ false → (x : A) (xs ys : List A) (to : ℕ → ℕ) (passes : Bool) → p x ≡ passes
+      → ((zs : List A) → Matched xs zs (λ k. to (suc k)) → count_by p xs ≤ count_by p zs) → Matched (x ∷ xs) ys to → count_by p (x ∷ xs) ≤ count_by p ys
+  matched_next none x xs ys to true is rest matched =
+      let first = matched.there 0 (omega arith) is in
+      let next = count_next p x xs true is in
+      let fewer = one_fewer p ys (to 0) d d first.0 first.1 none in
+      let few = rest (set ys (to 0) d) (matched_fewer x xs ys to is matched) in
+      omega (arith, next, fewer, few)
+  matched_next none x xs ys to false is rest matched =
+      let next = count_next p x xs false is in
+      let few = rest ys (matched_rest x xs ys to matched) in
+      omega (arith, next, few)
+
+  -- so no more pass
+  pub no_more_counted : p d ≡ false → (xs ys : List A) (to : ℕ → ℕ) → Matched xs ys to → count_by p xs ≤ count_by p ys
+  no_more_counted none [] ys to matched = omega arith
+  no_more_counted none (x ∷ xs) ys to matched = matched_next none x xs ys to (p x) refl (λ zs. no_more_counted none xs zs (λ k. to (suc k))) matched

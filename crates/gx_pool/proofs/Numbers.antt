@@ -13,7 +13,7 @@ use Rattle.gx_pool.specs.Marks.{clean, empty, is_dirty, is_held}
 use Rattle.gx_pool.specs.State.{State, Kept, IsSound, IsSpare, NoneDirty, mark_at, place_of, kept, stamp_of, clean_count, dirty_count, is_clean_at, is_clean_page, is_counted, held_clean}
 use Rattle.gx_pool.specs.Edits.{changed, changed_at, later, stamped}
 use Rattle.gx_pool.proofs.Places.{kept_none, kept_some, some-injective}
-use Rattle.gx_pool.proofs.Counting.{counted_set, none_counted, one_fewer, one_more, as_many, counted_at, counts_joined, all_counted, one_counted, false_of}
+use Rattle.gx_pool.proofs.Counting.{counted_set, none_counted, one_fewer, one_more, as_many, counted_at, counts_joined, all_counted, one_counted, false_of, Matched, no_more_counted}
 
 -- ---- the frames of pages that are held
 
@@ -191,6 +191,61 @@ kept_clean s page (Some i) sound zero_is at =
 
 pub zero_none_dirty : (s : State) → IsSound s → dirty_count s ≡ 0 → NoneDirty s
 zero_none_dirty s sound zero_is = λ page. kept_clean s page (place_of s page) sound zero_is refl
+
+-- ---- two pools whose pages have the same stamps
+
+page_in : Option ℕ → ℕ
+page_in None = 0
+page_in (Some page) = page
+
+module _ (s t : State) (sound : IsSound s) (other : IsSound t) (same : (page : ℕ) → stamp_of (kept t page) ≡ stamp_of (kept s page)) where
+  -- where the page of a frame is in the other pool
+  place_there : ℕ → ℕ
+  place_there i = page_in (place_of t (page_in (mark_at s i).page))
+
+  -- the page of a dirty frame, and its frame in the other pool
+  record IsThere (i : ℕ) : Type 0 where
+    page : ℕ
+    here : (mark_at s i).page ≡ Some page
+    inside : place_there i < length t.marks
+    there : (mark_at t (place_there i)).page ≡ Some page
+    dirty : is_dirty (mark_at t (place_there i)) ≡ true
+
+  stamped_there : (i j page : ℕ) → (mark_at s i).page ≡ Some page → place_of t page ≡ Some j → (mark_at t j).stamp ≡ (mark_at s i).stamp
+  stamped_there i j page here at = sym (ap stamp_of (kept_some t page j at)) ∙ same page ∙ ap stamp_of (kept_some s page i (sound.back i page here))
+
+  there_at : (i page : ℕ) (o : Option ℕ) → (mark_at s i).page ≡ Some page → is_dirty (mark_at s i) ≡ true → place_of t page ≡ o → IsThere i
+  unfolding place_there page_in
+  there_at i page None here dirty at =
+      let none : (mark_at s i).stamp ≡ None = sym (ap stamp_of (kept_some s page i (sound.back i page here))) ∙ sym (same page) ∙ ap stamp_of (kept_none t page at) in
+      let clash : false ≡ true = sym (ap is_some none) ∙ dirty in
+      let no : ⊥ = cc in absurd no
+  there_at i page (Some j) here dirty at =
+      let is : place_there i ≡ j = ap (λ o. page_in (place_of t (page_in o))) here ∙ ap page_in at in
+      let found = other.there page j at in
+      record {
+        page = page;
+        here = here;
+        inside = rw is found.0;
+        there = rw is found.1;
+        dirty = rw is (ap is_some (stamped_there i j page here at) ∙ dirty);
+      }
+
+  dirty_there : (i : ℕ) (o : Option ℕ) → (mark_at s i).page ≡ o → is_dirty (mark_at s i) ≡ true → IsThere i
+  dirty_there i None here dirty = let clash : false ≡ true = sym (ap is_some (sound.blank i here)) ∙ dirty in let no : ⊥ = cc in absurd no
+  dirty_there i (Some page) here dirty = there_at i page (place_of t page) here dirty refl
+
+  one_there : (j k : ℕ) → IsThere j → IsThere k → place_there j ≡ place_there k → j ≡ k
+  one_there j k one two e =
+      let pages : one.page ≡ two.page = some-injective one.page two.page (sym one.there ∙ ap (λ n. (mark_at t n).page) e ∙ two.there) in
+      some-injective j k (sym (sound.back j one.page one.here) ∙ ap (place_of s) pages ∙ sound.back k two.page two.here)
+
+  -- no more frames are dirty
+  pub no_more_dirty : dirty_count s ≤ dirty_count t
+  no_more_dirty = no_more_counted is_dirty empty refl s.marks t.marks place_there (record {
+    there = λ k below dirty. let is = dirty_there k (mark_at s k).page refl dirty in (is.inside, is.dirty);
+    apart = λ j k one two is so e. one_there j k (dirty_there j (mark_at s j).page refl is) (dirty_there k (mark_at s k).page refl so) e;
+  })
 
 -- ---- a change
 

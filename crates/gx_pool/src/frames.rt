@@ -244,7 +244,10 @@ impl Frames {
         ensures few { result ≤ length self.now.marks }
         ensures zero { (result ≡ 0) ↔ NoneDirty self.now }
         ensures sound { IsSound self.now }
+        ensures held { length self.now.held ≤ 4 }
     {
+        // for what that says of how many are held
+        let _ = self.held.len();
         self.dirty
     }
 

@@ -163,12 +163,14 @@ impl<T: PageTest> Pool<T> {
         self.frames.clean_frames()
     }
 
-    /// How many frames have a page with changes that aren't on the device: at most all, and 0 exactly where no page has any.
+    /// How many frames have a page with changes that aren't on the device: at most all, and 0 exactly where no page has any. Frames and the
+    /// table of pages name each other, and the event holds at most four pages.
     pub fn dirty_frames(&self) -> usize
         ensures count { result ≡ dirty_count self.now.frames }
         ensures few { result ≤ length self.now.frames.marks }
         ensures zero { (result ≡ 0) ↔ NoneDirty self.now.frames }
         ensures sound { IsSound self.now.frames }
+        ensures held { length self.now.frames.held ≤ 4 }
     {
         self.frames.dirty_frames()
     }

@@ -39,7 +39,7 @@ use Rattle.gx_restart.specs.Alone.{CallsAlone, HaveHappened, RunsAs, RunsFrom, R
 use Rattle.gx_driven.specs.Driven.{AreDriven, IsDriven, IsUnderWay}
 use Rattle.gx_restart.specs.Called.{CallsBy, CallsIndex}
 use Rattle.gx_driven.specs.Made.{AreMade, Makes}
-use Rattle.gx_restart.specs.Settled.{IsExhausted, SettlesBy, SettlesOn}
+use Rattle.gx_restart.specs.Settled.{SettlesBy, SettlesOn}
 use Rattle.gx_restart.specs.States.{State}
 use Rattle.gx_restart.proofs.Driving.{called}
 use Rattle.gx_driven.proofs.Making.{made_joined}
@@ -148,27 +148,20 @@ module _ {C B D : Type 0} (shape : Members B) (proper : B → Bool) (said : List
   calls_run false old s call reply new (inr given_up) = runs_made given_up.0.1.steps old.engine new.engine given_up.0.1.made
 
   -- the events of a settling
-  exhausted : (event : Event B) (old : Parts B D) (result : Result (Unit {0}) Refusal) (new : Parts B D) (ended : Bool) → IsExhausted makes event old result new ended
-      → (steps : List (Event B × Outcome B)) × AreMade makes old steps new
-  exhausted event old (Ok done) new ended e = repeated_made makes event old Nothing new e.0
-  exhausted event old (Err why) new ended (inl e) = repeated_made makes event old (Refused why) new e.0
-  exhausted event old (Err why) new ended (inr e) = (e.0.steps, e.0.made)
-
-  settled_on : (old : State B D) (result : Result (Unit {0}) Refusal) (new : State B D) → SettlesOn makes old result new
-      → (steps : List (Event B × Outcome B)) × AreMade makes old.engine steps new.engine
+  settled_on : (old : Parts B D) (result : Result (Unit {0}) Refusal) (new : Parts B D) → SettlesOn makes old result new → (steps : List (Event B × Outcome B)) × AreMade makes old steps new
   settled_on old (Ok done) new (middle, first, second) =
-      let one = exhausted CheckpointStep old.engine (Ok done) middle false first in
-      let two = exhausted LogStep middle (Ok done) new.engine new.ended second in
-      (one.0 ++ two.0, made_joined makes one.0 two.0 old.engine middle new.engine one.1 two.1)
-  settled_on old (Err why) new (inl first) = exhausted CheckpointStep old.engine (Err why) new.engine new.ended first
+      let one = repeated_made makes CheckpointStep old Nothing middle first in
+      let two = repeated_made makes LogStep middle Nothing new second in
+      (one.0 ++ two.0, made_joined makes one.0 two.0 old middle new one.1 two.1)
+  settled_on old (Err why) new (inl first) = repeated_made makes CheckpointStep old (Refused why) new first
   settled_on old (Err why) new (inr (middle, first, second)) =
-      let one = exhausted CheckpointStep old.engine (Ok tt) middle false first in
-      let two = exhausted LogStep middle (Err why) new.engine new.ended second in
-      (one.0 ++ two.0, made_joined makes one.0 two.0 old.engine middle new.engine one.1 two.1)
+      let one = repeated_made makes CheckpointStep old Nothing middle first in
+      let two = repeated_made makes LogStep middle (Refused why) new second in
+      (one.0 ++ two.0, made_joined makes one.0 two.0 old middle new one.1 two.1)
 
   pub settled_by : (ended : Bool) (old : State B D) (result : Result (Unit {0}) Refusal) (new : State B D) → SettlesBy makes ended old result new → Runs old.engine new.engine
   settled_by true old result new s = runs_same old.engine new.engine (ap (λ x. x.engine) s.1)
-  settled_by false old result new s = let all = settled_on old result new s in runs_made all.0 old.engine new.engine all.1
+  settled_by false old result new s = let all = settled_on old.engine result new.engine s.0 in runs_made all.0 old.engine new.engine all.1
 
   abbrev Alone : ℕ → Call B → Reply B → Parts B D → Parts B D → Type 0
   Alone = CallsAlone (class_of shape proper l) (reading_of said (format_of class)) (format_of class) (is_node (format_of class)) state

@@ -1,5 +1,5 @@
 -- Two events, each to its end.
-use Rattle.std.proofs.Common.{inr, refl}
+use Rattle.std.proofs.Common.{inr}
 use Rattle.std.specs.Prelude.{Result, Ok, Err}
 use Rattle.gx_geom.specs.declared.refusal.Refusal.{Refusal}
 use Rattle.gx_events.specs.declared.event.Event.{Event}
@@ -7,12 +7,10 @@ use Rattle.gx_events.specs.declared.event.Event.TheVariants.{CheckpointStep, Log
 use Rattle.gx_events.specs.declared.outcome.Outcome.{Outcome}
 use Rattle.gx_engine.specs.States.{Parts}
 use Rattle.gx_restart.specs.Settled.{IsExhausted, SettlesOn}
-use Rattle.gx_restart.specs.States.{State}
 
 module _ {B D : Type 0} (makes : Parts B D → Event B → Outcome B → Parts B D → Type 0) where
   -- the checkpoint's steps to their end, and then the log's
-  pub settles_then : (old middle : State B D) (done : Unit {0}) (result : Result (Unit {0}) Refusal) (new : State B D)
-      → IsExhausted makes CheckpointStep old.engine (Ok done) middle.engine middle.ended → IsExhausted makes LogStep middle.engine result new.engine new.ended
-      → SettlesOn makes old result new
-  settles_then old middle done (Ok last) new first second = (middle.engine, (first.0, refl), second)
-  settles_then old middle done (Err why) new first second = inr (middle.engine, (first.0, refl), second)
+  pub settles_then : (old middle : Parts B D) (done : Unit {0}) (result : Result (Unit {0}) Refusal) (new : Parts B D)
+      → IsExhausted makes CheckpointStep old (Ok done) middle → IsExhausted makes LogStep middle result new → SettlesOn makes old result new
+  settles_then old middle done (Ok last) new first second = (middle, first, second)
+  settles_then old middle done (Err why) new first second = inr (middle, first, second)

@@ -14,7 +14,7 @@ use Rattle.gx_engine.specs.States.{Parts, runs}
 use Rattle.gx_driven.specs.Made.{AreMade, Makes}
 use Rattle.gx_driven.specs.Repeated.{AreAgain, IsGoingOn, IsRepeated}
 use Rattle.gx_driven.specs.Resting.{IsAtRest, KeepsSessions, WorksOff}
-use Rattle.gx_restart.specs.Settled.{IsExhausted, SettlesBy, SettlesOn}
+use Rattle.gx_restart.specs.Settled.{SettlesBy, SettlesOn}
 use Rattle.gx_restart.specs.States.{State}
 use Rattle.gx_driven.proofs.Resting.{checkpoint_keeps, checkpoint_rests, keeps_all, keeps_joined, log_steps_keep, log_steps_rest, log_steps_work}
 
@@ -45,24 +45,16 @@ module _ {C B D : Type 0} (shape : Members B) (proper : B → Bool) (said : List
   repeated_keeps event old last new part r =
       keeps_joined old r.middle new (going_keeps event old r.count r.middle part r.before) (one_keeps event r.middle last new part r.last_made)
 
-  exhausted_keeps : (event : Event B) (old : Parts B D) (result : Result (Unit {0}) Refusal) (new : Parts B D) (ended : Bool) → IsPart event
-      → IsExhausted made event old result new ended → KeepsSessions old new
-  exhausted_keeps event old (Ok done) new ended part e = repeated_keeps event old outcome.Nothing new part e.0
-  exhausted_keeps event old (Err why) new ended part (inl e) = repeated_keeps event old (outcome.Refused why) new part e.0
-  exhausted_keeps event old (Err why) new ended part (inr e) = going_keeps event old _ new part e.0
-
-  settles_on_keeps : (old : State B D) (result : Result (Unit {0}) Refusal) (new : State B D) → SettlesOn made old result new → KeepsSessions old.engine new.engine
+  settles_on_keeps : (old : Parts B D) (result : Result (Unit {0}) Refusal) (new : Parts B D) → SettlesOn made old result new → KeepsSessions old new
   settles_on_keeps old (Ok done) new (middle, first, second) =
-      keeps_joined old.engine middle new.engine (exhausted_keeps CheckpointStep old.engine (Ok done) middle false (inl refl) first)
-      (exhausted_keeps LogStep middle (Ok done) new.engine new.ended (inr refl) second)
-  settles_on_keeps old (Err why) new (inl first) = exhausted_keeps CheckpointStep old.engine (Err why) new.engine new.ended (inl refl) first
+      keeps_joined old middle new (repeated_keeps CheckpointStep old outcome.Nothing middle (inl refl) first) (repeated_keeps LogStep middle outcome.Nothing new (inr refl) second)
+  settles_on_keeps old (Err why) new (inl first) = repeated_keeps CheckpointStep old (outcome.Refused why) new (inl refl) first
   settles_on_keeps old (Err why) new (inr (middle, first, second)) =
-      keeps_joined old.engine middle new.engine (exhausted_keeps CheckpointStep old.engine (Ok tt) middle false (inl refl) first)
-      (exhausted_keeps LogStep middle (Err why) new.engine new.ended (inr refl) second)
+      keeps_joined old middle new (repeated_keeps CheckpointStep old outcome.Nothing middle (inl refl) first) (repeated_keeps LogStep middle (outcome.Refused why) new (inr refl) second)
 
   pub settles_keeps : (ended : Bool) (old : State B D) (result : Result (Unit {0}) Refusal) (new : State B D) → SettlesBy made ended old result new → KeepsSessions old.engine new.engine
   settles_keeps true old result new s = subst (λ (x : State B D). KeepsSessions old.engine x.engine) (sym s.1) refl
-  settles_keeps false old result new s = settles_on_keeps old result new s
+  settles_keeps false old result new s = settles_on_keeps old.engine result new.engine s.0
 
   -- at the end nothing is left to do
 
@@ -83,6 +75,6 @@ module _ {C B D : Type 0} (shape : Members B) (proper : B → Bool) (said : List
       log_steps_rest _ _ second.middle new second.middle.sessions.failed (runs second.middle.checkpoint) refl refl
       (all_work second.before.steps middle second.middle (checkpoint_off old middle first) second.before.again second.before.made) second.last_made.comes
 
-  pub settles_rests_on : (old : State B D) (result : Result (Unit {0}) Refusal) (new : State B D) → SettlesOn made old result new → OnOk result (IsAtRest new.engine)
-  settles_rests_on old (Ok done) new (middle, first, second) = settled old.engine middle new.engine first.0 second.0
+  pub settles_rests_on : (old : Parts B D) (result : Result (Unit {0}) Refusal) (new : Parts B D) → SettlesOn made old result new → OnOk result (IsAtRest new)
+  settles_rests_on old (Ok done) new (middle, first, second) = settled old middle new first second
   settles_rests_on old (Err why) new s = tt

@@ -1,14 +1,23 @@
 -- A call that is run to its end.
-use Rattle.std.specs.Prelude.{ℕ, ◌≡◌, ◌⊎◌, Bool, true, false}
+use Rattle.std.specs.Prelude.{ℕ, ◌≡◌, ◌⊎◌, Bool, true, false, List}
+use Rattle.gx_class.specs.declared.class.KeyClass.{Ghosts}
+use Rattle.gx_disk.specs.Device.{Device}
 use Rattle.gx_geom.specs.declared.refusal.Refusal.TheVariants.{Damaged, Failed}
 use Rattle.gx_machine.specs.declared.call.Call.{Call}
+use Rattle.gx_machine.specs.declared.entry.Entry.{Entry}
+use Rattle.gx_machine.specs.Keys.{Members}
 use Rattle.gx_machine.specs.declared.reply.Reply.{Reply}
 use Rattle.gx_machine.specs.declared.reply.Reply.TheVariants.{Refused}
 use Rattle.gx_events.specs.declared.event.Event.{Event}
 use Rattle.gx_events.specs.declared.event.Event.TheVariants.{Ask}
 use Rattle.gx_events.specs.declared.outcome.Outcome.{Outcome}
+use Rattle.gx_recovery.specs.Known.{Limits}
+use Rattle.gx_recovery.specs.Records.{Record}
+use Rattle.gx_index_laws.specs.Classes.{Page}
+use Rattle.gx_index_laws.specs.States as index
 use Rattle.gx_engine.specs.States.{Parts}
 use Rattle.gx_driven.specs.Driven.{IsDriven, IsGivenUp}
+use Rattle.gx_driven.specs.Helping.{HoldsIndex}
 use Rattle.gx_restart.specs.States.{State}
 
 module _ {B D : Type 0} (makes : Parts B D → Event B → Outcome B → Parts B D → Type 0) where
@@ -23,3 +32,8 @@ module _ {B D : Type 0} (makes : Parts B D → Event B → Outcome B → Parts B
   -- on Failed, and nothing changes.
   abbrev pub CallsIndex : State B D → ℕ → Call B → Reply B → State B D → Type 0
   CallsIndex old s call reply new = CallsBy old.ended old s call reply new
+
+-- where the engine holds an index of the class, no call is given up
+module _ {C B D : Type 0} (shape : Members B) (proper : B → Bool) (said : List ℕ → B) (class : Ghosts C B) (state : D → Device) (l : Limits) where
+  abbrev pub EndsWhereHeld : State B D → State B D → Type 0
+  EndsWhereHeld old new = (bodies : List (List (Record (Entry B) (Page B)))) (i : index.State B) → HoldsIndex shape proper said class state l old.engine bodies i → new.ended ≡ old.ended

@@ -4,7 +4,7 @@ ghost use Rattle.gx_node.specs.Reading.{format_of, is_node};
 ghost use Rattle.gx_recovery.specs.Known.{Limits};
 ghost use Rattle.gx_readings.specs.Classes.{class_of, reading_of};
 ghost use Rattle.gx_restart.specs.Alone.{RunsOn};
-ghost use Rattle.gx_restart.specs.Called.{CallsBy, CallsIndex};
+ghost use Rattle.gx_restart.specs.Called.{CallsBy, CallsIndex, EndsWhereHeld};
 ghost use Rattle.gx_driven.specs.Made.{Makes};
 
 use gx_class::Probing;
@@ -60,7 +60,8 @@ where
     // A call of an index that goes on.
     fn run(&mut self, session: u8, call: Call<K::Key>) -> Reply<K::Key>
         requires { self.old.ended ≡ false }
-        ensures { CallsBy (Makes K.Key.Shape K.is_proper K.said K.KeyClass D.state) false self.old session call result self.new }
+        ensures calls { CallsBy (Makes K.Key.Shape K.is_proper K.said K.KeyClass D.state) false self.old session call result self.new }
+        ensures ends { (l : Limits) → EndsWhereHeld K.Key.Shape K.is_proper K.said K.KeyClass D.state l self.old self.new }
     {
         match drive(&mut self.engine, session, Event::Ask(session, call)) {
             Some(reply) => reply,
@@ -76,11 +77,12 @@ where
     ///
     /// The reply is the one with which the call ended. After `Device`, `Failed` and `Damaged` the call stands open, and each further one is
     /// answered with `Failed`. A call that has not ended within `EVENTS` events is given up, and answered with `Damaged`; from then on the
-    /// index only refuses, with `Failed`.
+    /// index only refuses, with `Failed`. Over a device that doesn't lie no call is given up.
     pub fn call(&mut self, session: u8, call: Call<K::Key>) -> Reply<K::Key>
         ensures calls { CallsIndex (Makes K.Key.Shape K.is_proper K.said K.KeyClass D.state) self.old session call result self.new }
         ensures runs { (l : Limits) → RunsOn (class_of K.Key.Shape K.is_proper l) (reading_of K.said (format_of K.KeyClass)) (format_of K.KeyClass) (is_node (format_of K.KeyClass))
             D.state self.old.engine self.new.engine }
+        ensures ends { (l : Limits) → EndsWhereHeld K.Key.Shape K.is_proper K.said K.KeyClass D.state l self.old self.new }
     {
         if self.ended {
             return Reply::Refused(Refusal::Failed);

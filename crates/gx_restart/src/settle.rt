@@ -1,10 +1,11 @@
 //! What is logged is gated.
-ghost use Rattle.std.specs.Prelude.{OnOk, ◌≡◌, false};
+ghost use Rattle.std.specs.Prelude.{OnOk, ◌≡◌};
 ghost use Rattle.gx_node.specs.Reading.{format_of, is_node};
 ghost use Rattle.gx_recovery.specs.Known.{Limits};
 ghost use Rattle.gx_readings.specs.Classes.{class_of, reading_of};
 ghost use Rattle.gx_restart.specs.Alone.{RunsOn};
 ghost use Rattle.gx_driven.specs.Made.{Makes};
+ghost use Rattle.gx_driven.specs.Repeated.{IsFlushing};
 ghost use Rattle.gx_driven.specs.Resting.{IsAtRest, KeepsSessions};
 ghost use Rattle.gx_restart.specs.Settled.{IsExhausted, Settles, SettlesOn};
 
@@ -20,24 +21,22 @@ impl<D: SectorDisk, K: ReadKeys + Probing> Index<D, K>
 where
     K::Probe: Drop,
 {
-    // Makes an event over and over, until it has nothing to do.
+    // Makes a step of the checkpoint or of the log over and over, until it has nothing to do.
     fn exhaust(&mut self, event: Event<K::Key>) -> Result<(), Refusal>
-        requires { self.old.ended ≡ false }
-        ensures { IsExhausted (Makes K.Key.Shape K.is_proper K.said K.KeyClass D.state) event self.old.engine result self.new.engine self.new.ended }
+        requires { IsFlushing event }
+        ensures made { IsExhausted (Makes K.Key.Shape K.is_proper K.said K.KeyClass D.state) event self.old.engine result self.new.engine }
+        ensures same { self.new.ended ≡ self.old.ended }
     {
         match repeat(&mut self.engine, event) {
             Some(ends) => ends,
-            None => {
-                self.ended = true;
-                Err(Refusal::Damaged)
-            }
+            None => unreachable!(),
         }
     }
 
     // Steps of the checkpoint, and then of the log, until there is nothing to do.
     fn exhaust_both(&mut self) -> Result<(), Refusal>
-        requires { self.old.ended ≡ false }
-        ensures { SettlesOn (Makes K.Key.Shape K.is_proper K.said K.KeyClass D.state) self.old result self.new }
+        ensures made { SettlesOn (Makes K.Key.Shape K.is_proper K.said K.KeyClass D.state) self.old.engine result self.new.engine }
+        ensures same { self.new.ended ≡ self.old.ended }
     {
         self.exhaust(Event::CheckpointStep)?;
         self.exhaust(Event::LogStep)
@@ -46,8 +45,7 @@ where
     /// Ends a checkpoint that runs or is due, and gates all that is logged: checkpoint steps until there is nothing to do, and then
     /// log steps. It takes no memory, and changes no set, claim or predicate, and no call that is open.
     ///
-    /// Refused with `Device`, `Failed` or `Damaged` as an event was. Where one of both takes more than `EVENTS` events it is given up,
-    /// with `Damaged`; from then on the index only refuses, with `Failed`.
+    /// Refused with `Device`, `Failed` or `Damaged` as an event was. Over any device it ends: each step leaves less to flush.
     pub fn settle(&mut self) -> Result<(), Refusal>
         ensures settles { Settles (Makes K.Key.Shape K.is_proper K.said K.KeyClass D.state) self.old result self.new }
         ensures runs { (l : Limits) → RunsOn (class_of K.Key.Shape K.is_proper l) (reading_of K.said (format_of K.KeyClass)) (format_of K.KeyClass) (is_node (format_of K.KeyClass))

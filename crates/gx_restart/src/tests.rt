@@ -41,7 +41,9 @@ fn fresh(alloc: Global) -> Option<Index<MemDisk, Box2Class>> {
     if disk.sectors() < sectors_for(PAGES) {
         return None;
     }
-    let pool = Pool::with_capacity(alloc, 16, NodeTest::new(PAGES)).ok()?;
+    let Ok(pool) = Pool::with_capacity(alloc, 16, NodeTest::new(PAGES)) else {
+        return None;
+    };
     let store = PageStore::new(disk, pool, 2, 0, PAGES);
     let Ok(log) = Glog::start(alloc, Extent::A, 1) else {
         return None;

@@ -122,7 +122,7 @@ pub why_anew : {D : Type 0} (passes : ℕ → Contents → Bool) (d e : Device) 
     → faults.IsWhy passes d e (record s { batch = batch; has_room = true }) read why
     → faults.IsWhy passes d e (record s { batch = batch; has_room = room }) (record read { batch = batch; has_room = room }) why
 why_anew passes d e s read batch room fault.NoRoom is = absurd (let no : true ≡ false = is in cc)
-why_anew passes d e s read batch room (fault.TooFewFrames wanted) is = record { more = is.more; few = is.few }
+why_anew passes d e s read batch room (fault.TooFewFrames wanted) is = record { more = is.more; few = is.few; two = is.two }
 why_anew passes d e s read batch room fault.Device is = is
 why_anew passes d e s read batch room fault.Damaged is = is
 

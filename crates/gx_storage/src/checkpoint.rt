@@ -4,7 +4,7 @@ ghost use Rattle.std.specs.Bool.{OnTrue, OnFalse};
 ghost use Rattle.gx_disk.specs.Device.{Counts, IsSettled};
 ghost use Rattle.gx_glog.specs.State.{in_flight, Turns};
 ghost use Rattle.gx_node.specs.Reading.{format_of, is_node};
-ghost use Rattle.gx_pool.specs.State.{NoneDirty, dirty_count};
+ghost use Rattle.gx_pool.specs.State.{IsSound, NoneDirty, dirty_count};
 ghost use Rattle.gx_record.specs.Format.{IsInRange};
 ghost use Rattle.gx_record.specs.Rec.{Note};
 ghost use Rattle.gx_record.specs.Seen.{rec_of};
@@ -26,10 +26,14 @@ use gx_record::Record;
 use gx_store::StoreFault;
 
 impl<D: SectorDisk, K: ReadKeys> Storage<D, K> {
-    /// How many frames have a page with changes that aren't on the device.
+    /// How many frames have a page with changes that aren't on the device: at most 4,096. Frames and the table of pages name each other, and
+    /// the event holds at most four pages.
     pub fn dirty_frames(&self) -> usize
         ensures count { result ≡ dirty_count self.now.shelf.frames }
+        ensures few { result ≤ 4096 }
         ensures zero { (result ≡ 0) ↔ NoneDirty self.now.shelf.frames }
+        ensures sound { IsSound self.now.shelf.frames }
+        ensures held { length self.now.shelf.frames.held ≤ 4 }
     {
         self.store.dirty_frames()
     }

@@ -110,7 +110,7 @@ module _ {D : Type 0} (passes : ℕ → Contents → Bool) (d e : disk.Device) (
   pub bringing_why : (result : Result (Unit {0}) PoolFault) → Each (λ p. (1 ≤ p) × (p ≤ s.used)) pages → BringsAll (passes s.pages) d e (holding s.frames pages) t pages result
       → IfErr (told_of result) (IsWhy passes d e s (record s { disk = disk'; frames = t }))
   bringing_why (Ok done) taken brought = tt
-  bringing_why (Err pool.NoCleanFrame) taken brought = let none = none_clean_counted t brought.answer.2 in record { more = omega (arith, none); few = omega arith }
+  bringing_why (Err pool.NoCleanFrame) taken brought = let none = none_clean_counted t brought.answer.2 in record { more = omega (arith, none); few = omega arith; two = omega arith }
   bringing_why (Err pool.Device) taken brought = omega (arith, brought.faults)
   bringing_why (Err pool.Damaged) taken brought = brought_damaged taken brought
 

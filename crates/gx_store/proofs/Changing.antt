@@ -216,8 +216,8 @@ is_ready s zero room clean pages = omega arith
 is_ready s (suc n) room clean pages = let fits = pages (omega arith) in rw room (omega (arith, clean, fits))
 
 -- one that has too few is told of no more than it may take
-pub are_wanted : {D : Type 0} (s : Shelf D) (taken : ℕ) → clean_count s.frames < taken → (0 < taken → s.used + taken ≤ s.pages) → AreWanted s taken
-are_wanted s taken more pages = let fits = pages (omega (arith, more)) in record { more = more; few = omega (arith, fits) }
+pub are_wanted : {D : Type 0} (s : Shelf D) (taken : ℕ) → taken ≤ 2 → clean_count s.frames < taken → (0 < taken → s.used + taken ≤ s.pages) → AreWanted s taken
+are_wanted s taken two more pages = let fits = pages (omega (arith, more)) in record { more = more; few = omega (arith, fits); two = two }
 
 pub record CanTake {D : Type 0} (s : Shelf D) : Type 0 where
   pub room : s.has_room ≡ true

@@ -9,7 +9,7 @@ ghost use Rattle.gx_pool.specs.Elsewhere.{LeavesPages};
 ghost use Rattle.gx_pool.specs.Laws.{IsBacked, IsPassed};
 ghost use Rattle.gx_pool.specs.Marks.{is_gated};
 ghost use Rattle.gx_pool.specs.Readable.{IsReadable};
-ghost use Rattle.gx_pool.specs.State.{Kept, IsWritable, NoneDirty, clean_count, dirty_count, kept, stamp_of};
+ghost use Rattle.gx_pool.specs.State.{Kept, IsSound, IsWritable, NoneDirty, clean_count, dirty_count, kept, stamp_of};
 ghost use Rattle.gx_pool.specs.Writing.{WritesPage, WritesAtMost, KeepsShown};
 ghost use Rattle.gx_recovery.specs.Known.{Limits};
 ghost use Rattle.gx_durable.specs.Calls.{StepKeepsRunning};
@@ -67,10 +67,14 @@ impl<D: SectorDisk, K: KeyClass> PageStore<D, K> {
         self.pool.clean_frames()
     }
 
-    /// How many frames have a page with changes that aren't on the device.
+    /// How many frames have a page with changes that aren't on the device: at most 4,096. Frames and the table of pages name each other, and
+    /// the event holds at most four pages.
     pub fn dirty_frames(&self) -> usize
         ensures count { result ≡ dirty_count self.now.frames }
+        ensures few { result ≤ 4096 }
         ensures zero { (result ≡ 0) ↔ NoneDirty self.now.frames }
+        ensures sound { IsSound self.now.frames }
+        ensures held { length self.now.frames.held ≤ 4 }
     {
         self.pool.dirty_frames()
     }

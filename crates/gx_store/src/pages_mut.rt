@@ -20,6 +20,7 @@ impl<D: SectorDisk, K: KeyClass> PagesMut<K> for PageStore<D, K> {
     ghost changing = { λ s page. s.has_room ≡ true };
 
     fn prepare(&mut self, _changes: &[u32], taken: u32) -> Result<(), StoreFault>
+        requires few { taken ≤ 2 }
         requires room { 0 < taken → length (store_of (format_of K.KeyClass) (D.state self.old.disk).seen self.old).nodes + taken ≤ self.old.pages }
         ensures answer { result ≡ prepared self.old taken }
         ensures same { self.new ≡ self.old }

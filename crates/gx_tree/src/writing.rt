@@ -36,10 +36,11 @@ pub trait PagesMut<K: KeyClass>: Pages<K> {
     ghost changing: { Self → ℕ → Type 0 };
 
     /// Makes ready to change these pages, which are held, and to take so many: whatever that needs is had from here on, or
-    /// the step is refused here, before it has changed anything. On a device that lies too no node is shown otherwise: a page
-    /// that is let go for this has the node that was last shown of it.
+    /// the step is refused here, before it has changed anything. A step takes two pages at most. On a device that lies too no node is
+    /// shown otherwise: a page that is let go for this has the node that was last shown of it.
     fn prepare(&mut self, changes: &[u32], taken: u32) -> Result<(), Self::Fault>
         requires held { Each (Self.held self.old) changes.now }
+        requires few { taken ≤ 2 }
         requires room { 0 < taken → length (Self.store self.old).nodes + taken ≤ (Self.store self.old).room }
         ensures ready { OnOk result (taken ≤ ready self.new) }
         ensures changing { OnOk result (Each (changing self.new) changes.now) }

@@ -11,3 +11,9 @@ pub returns : goal.returns
 returns g c =
     over_new c.args.size.0 c.args.size.1 c.args.size.2 c.from.result c.args.room.pool.frames c.args.disk c.args.log c.args.sessions c.new-store.result c.new-storage.result c.new.result
     c.requires.pool.0 c.requires.log c.requires.sessions c.new-store.ensures c.from.ensures c.new-storage.ensures c.new.ensures
+
+pub new-requires-clause-frames : goal.new-requires-clause-frames
+new-requires-clause-frames g c =
+    let count = c.requires.pool.0.count in
+    let least = c.requires.frames.least in
+    rw (c.new-storage.ensures, c.new-store.ensures) (omega (arith, count, least))

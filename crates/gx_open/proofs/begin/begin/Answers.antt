@@ -1,10 +1,10 @@
-use Rattle.std.proofs.Common.{◌≡◌, ◌≤◌, ◌+◌, ◌*◌, length, arith, refl}
+use Rattle.std.proofs.Common.{◌≤◌, length, arith}
 use Rattle.gx_machine.specs.Keys.{Members}
 use Rattle.gx_node.specs.Reading.{format_of}
 use Rattle.gx_recovery.specs.Damage.{records_of}
 use Rattle.gx_recovery.proofs.DamageItems.{bodies_log}
 use Rattle.gx_opening.specs.Standing.{known_for, limits_of}
-use Rattle.gx_open.proofs.Closing.{begun_so, few_begun, not_begun, starts_quietly}
+use Rattle.gx_open.proofs.Closing.{begun_so, not_begun, starts_quietly}
 use Rattle.gx_open.proofs.begin.begin.Goals as goal
 
 pub returns-in-Err-clause-begun : goal.returns-in-Err-clause-begun
@@ -42,10 +42,6 @@ returns-in-Ok-close_later-clause-begun g c = λ a honest st.
     let cut = c.a_log_tells_who_was_cut_off.ensures _ lc (records_of bodies) (bodies_log (known_for shape proper said f s.parameters) bodies st.laid.is.log.undamaged) in
     begun_so shape proper said f _ (state a) m s st lc good state c.close_later.new.disk honest size inside c.in-Ok-close_later.ensures.device.0 c.in-Ok-close_later.ensures.device.1
     c.args.frames c.in-Ok.start c.in-Ok.ensures c.in-Ok-close_later.ensures.closes cut c.start.result c.start.ensures.started c.start.ensures.refused (c.start.ensures.holds (limits_of s.parameters)))
-
-pub returns-in-Ok-close_later-clause-few : goal.returns-in-Ok-close_later-clause-few
-returns-in-Ok-close_later-clause-few g c =
-    few_begun _ c.in-Ok.start _ c.args.frames c.in-Ok.ensures.frames_are c.requires.frames c.start.result c.start.ensures.started
 
 pub returns-in-Err-clause-faults : goal.returns-in-Err-clause-faults
 returns-in-Err-clause-faults g c = λ is. (let more = c.in-Err.ensures.faults in omega (arith, more))

@@ -1,4 +1,3 @@
-use Rattle.std.specs.Prelude.{IfErr}
 use Rattle.gx_driven.specs.Made.{Makes}
 use Rattle.gx_open.proofs.Going.{goes_joined, goes_stays, stopped_later_if}
 use Rattle.gx_open.proofs.undo.finish.Goals as goal

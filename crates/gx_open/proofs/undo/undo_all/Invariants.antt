@@ -1,4 +1,3 @@
-use Rattle.std.proofs.Common.{◌≡◌}
 use Rattle.gx_driven.specs.Made.{Makes}
 use Rattle.gx_driven.specs.Resting.{WorksOff}
 use Rattle.gx_open.specs.Undoing.{AreFreeBelow, GoesBy, OnlyUndoes}

@@ -47,7 +47,7 @@ returns-in-Err-Pages-clause-comes g c =
     let did = c.in-Err-Pages.ensures.adds in
     let short = g.met.K.KeyClass.key_is_short in
     stopped_comes (keys g.K.Key.Ord.cmp g.K.Key.Shape.overlap g.K.Key.Shape.inside) (is_node (format_of g.K.KeyClass)) g.D.SectorDisk.state c.args.self.now c.args.session c.args.entry c.add_pair.new.self.volume did.stops.unlogged.most did.stops.unlogged.log
-    c.requires.early (g.K.KeyClass.KEY + 4119) (omega (arith, short)) c.in-Err-Pages.fault (why_pages _ c.in-Err-Pages.field-0 c.in-Err-Pages.fault c.in-Err-Pages.field-0-is did.stops.why)
+    c.requires.early (λ page. (did.stops.unlogged.since page).same.stamp) (g.K.KeyClass.KEY + 4119) (omega (arith, short)) c.in-Err-Pages.fault (why_pages _ c.in-Err-Pages.field-0 c.in-Err-Pages.fault c.in-Err-Pages.field-0-is did.stops.why)
     c.refuse.new.self c.refuse.result
     (subst (λ (x : Parts g.row.K-Key.Denot g.row.D.Denot). IsRefused c.in-Err-Pages.fault x c.refuse.new.self c.refuse.result) c.add_pair.ensures.only
     (subst (λ (n : StoreFault). IsRefused n c.add_pair.new.self c.refuse.new.self c.refuse.result) c.in-Err-Pages.fault-is c.refuse.ensures))

@@ -7,7 +7,7 @@ pub invariant_of-self : goal.invariant_of-self
 invariant_of-self g c =
     let numbers = numbers_stay _ c.args.session c.args.call c.self.inside.sessions c.ask.result c.ask.new.self c.ask.ensures.asked in
     let was = c.self.invariant in
-    record { stands = was.stands; durable = omega (arith, numbers.1, was.durable); sealed = omega (arith, numbers.0, was.sealed); some = was.some; space = was.space }
+    record { stands = was.stands; durable = omega (arith, numbers.1, was.durable); sealed = omega (arith, numbers.0, was.sealed); some = was.some; space = was.space; frames = was.frames }
 
 pub returns-clause-comes : goal.returns-clause-comes
 returns-clause-comes g c =

@@ -1,4 +1,4 @@
-use Rattle.std.proofs.Common.{◌≡◌, ◌≤◌, ◌∙◌, ap, subst, sym, ℕ}
+use Rattle.std.proofs.Common.{◌≡◌, ◌≤◌, ◌∙◌, ap, subst, sym, ℕ, length}
 use Rattle.gx_geom.specs.declared.refusal.Refusal.TheVariants.{Damaged}
 use Rattle.gx_glog.specs.declared.stage.Turn.TheVariants.{Closed}
 use Rattle.gx_pool.specs.State.{NoneDirty}
@@ -36,6 +36,9 @@ invariant_of-self g c =
       sealed = c.self.invariant.sealed;
       some = subst (λ (n : ℕ). 4 ≤ n) (sym (ap (λ (v : Volume g.row.D.Denot). v.most) put ∙ ap (λ (v : Volume g.row.D.Denot). v.most) only)) c.self.invariant.some;
       space = c.self.invariant.space;
+      frames =
+          subst (λ (n : ℕ). 16 ≤ n) (sym (ap (λ (v : Volume g.row.D.Denot). length v.shelf.frames.marks) put ∙ ap (λ (v : Volume g.row.D.Denot). length v.shelf.frames.marks) only))
+          c.self.invariant.frames;
     }
 
 pub returns-in-Ok-put_head-clause-leads : goal.returns-in-Ok-put_head-clause-leads

@@ -4,12 +4,19 @@ use Rattle.gx_events.specs.declared.outcome.Outcome.TheVariants.{Refused}
 use Rattle.gx_store.specs.declared.fault.StoreFault.{StoreFault}
 use Rattle.gx_engine.specs.Refusals.{IsTurnedAway}
 use Rattle.gx_engine.specs.States.{Parts}
+use Rattle.gx_engine.proofs.Ordered.{order_read}
 use Rattle.gx_engine.proofs.Brought.{brought_leads, by_refusal, refused_leads}
 use Rattle.gx_engine.proofs.engine.Engine.bring.Goals as goal
 
 -- an engine that turns pages away has the same pages
 same_pages : {B D : Type 0} (n : StoreFault) (was new : Parts B D) (outcome : Outcome B) → IsTurnedAway n was new outcome → new.volume ≡ was.volume
 same_pages n was new outcome is = by_refusal Refused was new outcome (λ x o. x.volume ≡ was.volume) n is (λ can found helps. refl) (λ device. refl) (λ lies. refl)
+
+pub invariant_of-self-in-Err : goal.invariant_of-self-in-Err
+invariant_of-self-in-Err g c =
+    let e : Parts g.row.K-Key.Denot g.row.D.Denot = record { volume = c.self.inside.storage; sessions = c.self.inside.sessions; in_flight = c.self.inside.in_flight; checkpoint = c.self.inside.checkpoint } in
+    let did = c.bring.ensures.unlogged in
+    order_read e c.self.inside.keys.items c.self.invariant c.bring.new.self did.log did.most (λ page. (did.since page).same.stamp) (did.since 0).goes_on.frames e.sessions refl refl
 
 pub returns-in-Ok-clause-leads : goal.returns-in-Ok-clause-leads
 returns-in-Ok-clause-leads g c =

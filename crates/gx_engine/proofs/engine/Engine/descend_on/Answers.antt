@@ -232,7 +232,7 @@ returns-in-Err-Pages-clause-comes g c =
     let state = g.D.SectorDisk.state in
     let did = c.in-Err-Pages.ensures.step in
     stopped_comes k (is_node (format_of g.K.KeyClass)) state old c.args.session c.args.entry c.step_down.new.self.volume did.stops.unlogged.most did.stops.unlogged.log
-    c.requires.early 4114 (omega arith) c.in-Err-Pages.fault (why_pages _ c.in-Err-Pages.field-0 c.in-Err-Pages.fault c.in-Err-Pages.field-0-is did.stops.why)
+    c.requires.early (λ page. (did.stops.unlogged.since page).same.stamp) 4114 (omega arith) c.in-Err-Pages.fault (why_pages _ c.in-Err-Pages.field-0 c.in-Err-Pages.fault c.in-Err-Pages.field-0-is did.stops.why)
     c.refuse.new.self c.refuse.result
     (subst (λ (x : Parts g.row.K-Key.Denot g.row.D.Denot). IsRefused c.in-Err-Pages.fault x c.refuse.new.self c.refuse.result) c.step_down.ensures.only
     (subst (λ (n : StoreFault). IsRefused n c.step_down.new.self c.refuse.new.self c.refuse.result) c.in-Err-Pages.fault-is c.refuse.ensures))

@@ -25,14 +25,14 @@ invariant_of-self g c =
     let e : Parts g.row.K-Key.Denot g.row.D.Denot =
     record { volume = c.self.inside.storage; sessions = c.self.inside.sessions; in_flight = c.self.inside.in_flight; checkpoint = c.self.inside.checkpoint } in
     let did = c.look_step.ensures.unlogged in
-    order_read e c.self.inside.keys.items c.self.invariant c.look_step.new.self did.log did.most (λ page. (did.since page).same.stamp) e.sessions refl refl
+    order_read e c.self.inside.keys.items c.self.invariant c.look_step.new.self did.log did.most (λ page. (did.since page).same.stamp) (did.since 0).goes_on.frames e.sessions refl refl
 
 pub invariant_of-self-in-Err-Memory : goal.invariant_of-self-in-Err-Memory
 invariant_of-self-in-Err-Memory g c =
     let e : Parts g.row.K-Key.Denot g.row.D.Denot =
     record { volume = c.self.inside.storage; sessions = c.self.inside.sessions; in_flight = c.self.inside.in_flight; checkpoint = c.self.inside.checkpoint } in
     let did = c.look_step.ensures.unlogged in
-    order_read e c.self.inside.keys.items c.self.invariant c.look_step.new.self did.log did.most (λ page. (did.since page).same.stamp) e.sessions refl refl
+    order_read e c.self.inside.keys.items c.self.invariant c.look_step.new.self did.log did.most (λ page. (did.since page).same.stamp) (did.since 0).goes_on.frames e.sessions refl refl
 
 pub invariant_of-self-in-Err-Pages : goal.invariant_of-self-in-Err-Pages
 invariant_of-self-in-Err-Pages g c =
@@ -40,7 +40,7 @@ invariant_of-self-in-Err-Pages g c =
     record { volume = c.self.inside.storage; sessions = c.self.inside.sessions; in_flight = c.self.inside.in_flight; checkpoint = c.self.inside.checkpoint } in
     let did = c.look_step.ensures.unlogged in
     let put = c.replace_work.ensures.state in
-    order_read e c.self.inside.keys.items c.self.invariant c.look_step.new.self did.log did.most (λ page. (did.since page).same.stamp) c.replace_work.new.self
+    order_read e c.self.inside.keys.items c.self.invariant c.look_step.new.self did.log did.most (λ page. (did.since page).same.stamp) (did.since 0).goes_on.frames c.replace_work.new.self
     (ap (λ (s : State g.row.K-Key.Denot (Work g.row.K-Key.Denot)). s.durable) put) (ap (λ (s : State g.row.K-Key.Denot (Work g.row.K-Key.Denot)). s.latest) put)
 
 pub invariant_of-self-in-Err-Damaged : goal.invariant_of-self-in-Err-Damaged
@@ -49,7 +49,7 @@ invariant_of-self-in-Err-Damaged g c =
     record { volume = c.self.inside.storage; sessions = c.self.inside.sessions; in_flight = c.self.inside.in_flight; checkpoint = c.self.inside.checkpoint } in
     let did = c.look_step.ensures.unlogged in
     let put = c.replace_work-in-Err-Damaged.ensures.state in
-    order_read e c.self.inside.keys.items c.self.invariant c.look_step.new.self did.log did.most (λ page. (did.since page).same.stamp) c.replace_work-in-Err-Damaged.new.self
+    order_read e c.self.inside.keys.items c.self.invariant c.look_step.new.self did.log did.most (λ page. (did.since page).same.stamp) (did.since 0).goes_on.frames c.replace_work-in-Err-Damaged.new.self
     (ap (λ (s : State g.row.K-Key.Denot (Work g.row.K-Key.Denot)). s.durable) put) (ap (λ (s : State g.row.K-Key.Denot (Work g.row.K-Key.Denot)). s.latest) put)
 
 pub returns-in-Err-Memory-clause-stops : goal.returns-in-Err-Memory-clause-stops
@@ -89,7 +89,7 @@ returns-in-Err-Pages-clause-stops g c call phase =
     ∙ ap (λ (x : Work g.row.K-Key.Denot). with_phase_of c.args.session (Open call x) e.sessions) (c.held_work.ensures ∙ ap (λ (x : Look g.row.K-Key.Denot). work_before c.args.begun x) same) in
     rw (← c.self.view_is)
     (refused_comes (is_node (format_of g.K.KeyClass)) g.D.SectorDisk.state _
-    c.args.session (calling c.args.session call (work_before c.args.begun c.args.look) e) w did.log did.most c.in-Err-Pages.fault why c.refuse.new.self c.refuse.result
+    c.args.session (calling c.args.session call (work_before c.args.begun c.args.look) e) w did.log did.most (λ page. (did.since page).same.stamp) c.in-Err-Pages.fault why c.refuse.new.self c.refuse.result
     (subst (λ (x : State g.row.K-Key.Denot (Work g.row.K-Key.Denot)). IsRefused c.in-Err-Pages.fault (record e { volume = w; sessions = x }) c.refuse.new.self c.refuse.result) put c.refuse.ensures))
 
 pub returns-in-Err-Pages-clause-moves : goal.returns-in-Err-Pages-clause-moves

@@ -70,7 +70,7 @@ returns-in-Err-Pages-clause-comes g c =
     let k = keys g.K.Key.Ord.cmp g.K.Key.Shape.overlap g.K.Key.Shape.inside in
     refused_comes c.args.self.now c.give_mark.new.self.volume did.unlogged.log did.unlogged.most (format_of g.K.KeyClass) g.K.KeyClass.is_key k (is_node (format_of
     g.K.KeyClass)) g.D.SectorDisk.state _
-    c.args.session c.args.entry c.args.leaf c.args.marked (g.K.KeyClass.KEY + 4119) (omega (arith, short)) c.in-Err-Pages.fault
+    c.args.session c.args.entry c.args.leaf c.args.marked (λ page. (did.unlogged.since page).same.stamp) (g.K.KeyClass.KEY + 4119) (omega (arith, short)) c.in-Err-Pages.fault
     (λ room. c.requires.early)
     (why_pages _ c.in-Err-Pages.field-0 c.in-Err-Pages.fault c.in-Err-Pages.field-0-is did.why) c.refuse.new.self c.refuse.result
     (subst (λ (x : Parts g.row.K-Key.Denot g.row.D.Denot). IsRefused c.in-Err-Pages.fault x c.refuse.new.self c.refuse.result) c.give_mark.ensures.only refused)

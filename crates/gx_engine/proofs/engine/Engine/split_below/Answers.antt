@@ -55,7 +55,7 @@ returns-in-Err-Pages-clause-comes g c entry at =
     let state = g.D.SectorDisk.state in
     let did = c.in-Err-Pages.ensures.splits in
     stopped_comes k (is_node (format_of g.K.KeyClass)) state old c.args.session entry c.split_node.new.self.volume did.stops.unlogged.most did.stops.unlogged.log
-    c.requires.early 12314 (omega arith) c.in-Err-Pages.fault (why_pages _ c.in-Err-Pages.field-0 c.in-Err-Pages.fault c.in-Err-Pages.field-0-is did.stops.why)
+    c.requires.early (λ page. (did.stops.unlogged.since page).same.stamp) 12314 (omega arith) c.in-Err-Pages.fault (why_pages _ c.in-Err-Pages.field-0 c.in-Err-Pages.fault c.in-Err-Pages.field-0-is did.stops.why)
     c.refuse.new.self c.refuse.result
     (subst (λ (x : Parts g.row.K-Key.Denot g.row.D.Denot). IsRefused c.in-Err-Pages.fault x c.refuse.new.self c.refuse.result) c.split_node.ensures.only
     (subst (λ (n : StoreFault). IsRefused n c.split_node.new.self c.refuse.new.self c.refuse.result) c.in-Err-Pages.fault-is c.refuse.ensures))

@@ -14,8 +14,21 @@ use Rattle.gx_engine.specs.Sweeping.{is_held, node_shown}
 use Rattle.gx_engine.proofs.Brought.{as_brought, brought_leads, refused_leads}
 use Rattle.gx_engine.proofs.Reading.{of_err}
 use Rattle.gx_engine.proofs.Serving.{flies_on, is_calm, not_due}
+use Rattle.gx_engine.proofs.Ordered.{order_read}
 use Rattle.gx_engine.proofs.Sweeping.{logged_so, more_than_fit, never_full, never_none, none_taken, sweep_leads, swept_so, turned_comes, unlogged_so}
 use Rattle.gx_engine.proofs.engine.Engine.take_out.Goals as goal
+
+pub invariant_of-self-in-Err-Pages : goal.invariant_of-self-in-Err-Pages
+invariant_of-self-in-Err-Pages g c =
+    let e : Parts g.row.K-Key.Denot g.row.D.Denot = record { volume = c.self.inside.storage; sessions = c.self.inside.sessions; in_flight = c.self.inside.in_flight; checkpoint = c.self.inside.checkpoint } in
+    let did = c.in-Err-Pages.ensures.unlogged in
+    order_read e c.self.inside.keys.items c.self.invariant c.sweep.new.self did.log did.most (λ page. (did.since page).same.stamp) (did.since 0).goes_on.frames e.sessions refl refl
+
+pub invariant_of-self-in-Err-Damaged : goal.invariant_of-self-in-Err-Damaged
+invariant_of-self-in-Err-Damaged g c =
+    let e : Parts g.row.K-Key.Denot g.row.D.Denot = record { volume = c.self.inside.storage; sessions = c.self.inside.sessions; in_flight = c.self.inside.in_flight; checkpoint = c.self.inside.checkpoint } in
+    let did = c.in-Err-Damaged.ensures.unlogged in
+    order_read e c.self.inside.keys.items c.self.invariant c.sweep.new.self did.log did.most (λ page. (did.since page).same.stamp) (did.since 0).goes_on.frames e.sessions refl refl
 
 pub returns-in-Ok-true-clause-sweeps : goal.returns-in-Ok-true-clause-sweeps
 returns-in-Ok-true-clause-sweeps g c =
@@ -106,5 +119,5 @@ returns-in-Err-Pages-clause-sweeps g c =
     let did = c.in-Err-Pages.ensures.unlogged in
     let failed : c.sweep.result ≡ Err (Pages c.in-Err-Pages.fault) = search rules in
     let why = of_err _ c.sweep.result (Pages c.in-Err-Pages.fault) failed c.sweep.ensures.why in
-    rw (← c.self.view_is) (turned_comes k _ _ f (is_node f) c.args.page g.D.SectorDisk.state old c.sweep.new.self did.most did.log c.requires.from high some early
+    rw (← c.self.view_is) (turned_comes k _ _ f (is_node f) c.args.page g.D.SectorDisk.state old c.sweep.new.self did.most did.log c.requires.from high some early (λ page. (did.since page).same.stamp)
     c.in-Err-Pages.fault why c.turn_away.new.self c.turn_away.result c.turn_away.ensures)

@@ -12,4 +12,5 @@ returns c =
       few = omega (arith, c.self.invariant.2, apart);
       zero = (λ is. zero_none_dirty s c.self.invariant.0 (sym c.self.invariant.2 ∙ is), λ none. c.self.invariant.2 ∙ none_dirty_zero s c.self.invariant.0 none);
       sound = c.self.invariant.0;
+      held = omega (arith, c.len.ensures.value, c.len.ensures.fits);
     })

@@ -8,4 +8,4 @@ returns-then-self-clause-runs g c = λ l.
 
 pub returns-clause-runs : goal.returns-clause-runs
 returns-clause-runs g c = λ l.
-    calls_run (record { partial_cmp = g.K.Key.PartialOrd.partial_cmp; eq = g.K.Key.PartialEq.eq; cmp = g.K.Key.Ord.cmp; overlap = g.K.Key.Shape.overlap; inside = g.K.Key.Shape.inside }) g.K.ReadKeys.is_proper g.K.ReadKeys.said g.K.KeyClass g.D.SectorDisk.state l false c.args.self.now c.args.session c.args.call c.run.result c.run.new.self c.run.ensures
+    calls_run (record { partial_cmp = g.K.Key.PartialOrd.partial_cmp; eq = g.K.Key.PartialEq.eq; cmp = g.K.Key.Ord.cmp; overlap = g.K.Key.Shape.overlap; inside = g.K.Key.Shape.inside }) g.K.ReadKeys.is_proper g.K.ReadKeys.said g.K.KeyClass g.D.SectorDisk.state l false c.args.self.now c.args.session c.args.call c.run.result c.run.new.self c.run.ensures.calls

@@ -1,5 +1,9 @@
+use Rattle.std.proofs.Common.{◌∙◌}
 use Rattle.gx_restart.proofs.Exhausting.{settles_then}
 use Rattle.gx_restart.proofs.index.Index.exhaust_both.Goals as goal
 
 pub returns : goal.returns
-returns g c = settles_then _ c.args.self.now c.exhaust.new.self c.in_ok-exhaust.field-0 c.exhaust-2.result c.exhaust-2.new.self c.in_ok-exhaust.ensures c.exhaust-2.ensures
+returns g c = record {
+  made = settles_then _ c.args.self.now.engine c.exhaust.new.self.engine c.in_ok-exhaust.field-0 c.exhaust-2.result c.exhaust-2.new.self.engine c.in_ok-exhaust.ensures.made c.exhaust-2.ensures.made;
+  same = c.exhaust-2.ensures.same ∙ c.in_ok-exhaust.ensures.same;
+}

@@ -2,10 +2,18 @@ use Rattle.std.proofs.Common.{◌∙◌, ap, inl, inr, refl}
 use Rattle.gx_restart.specs.States.{State}
 use Rattle.gx_restart.proofs.index.Index.run.Goals as goal
 
-pub returns-in-Some : goal.returns-in-Some
-returns-in-Some g c =
+pub returns-in-Some-clause-calls : goal.returns-in-Some-clause-calls
+returns-in-Some-clause-calls g c =
     let goes_on = ap (λ (x : State g.row.K-Key.Denot g.row.D.Denot). x.ended) c.self.view_is ∙ c.requires in
-    rw (← c.self.view_is) (inl (c.in-Some.ensures, goes_on))
+    rw (← c.self.view_is) (inl (c.in-Some.ensures.made, goes_on))
 
-pub returns-in-None : goal.returns-in-None
-returns-in-None g c = rw (← c.self.view_is) (inr (c.in-None.ensures, refl, refl))
+pub returns-in-Some-clause-ends : goal.returns-in-Some-clause-ends
+returns-in-Some-clause-ends g c = λ l bodies i holds. rw (← c.self.view_is) refl
+
+pub returns-in-None-clause-calls : goal.returns-in-None-clause-calls
+returns-in-None-clause-calls g c = rw (← c.self.view_is) (inr (c.in-None.ensures.made, refl, refl))
+
+pub returns-in-None-clause-ends : goal.returns-in-None-clause-ends
+returns-in-None-clause-ends g c = λ l bodies i holds.
+    (let clash = c.in-None.ensures.ends l bodies i (rw (← c.self.view_is) at holds) refl in
+    let no : ⊥ = cc in absurd no)

@@ -13,7 +13,7 @@ returns-then-clean_frames-taken-clause-why g c =
     let s : Shelf g.row.D.Denot = record { disk = i.disk; frames = i.pool.frames; used = i.used; counter = i.counter; pages = i.pages; batch = i.batch; has_room = i.has_room } in
     let room = rw (← c.self.view_is) at c.requires.room in
     let long = nodes_long (standing_node (format_of g.K.KeyClass) i.pool.frames d.seen) i.used in
-    rw (← c.self.view_is) (are_wanted s c.args.taken (omega (arith, c.clean_frames.ensures, c.if-clean_frames-taken.true)) (λ some. let fits = room some in omega (arith, fits, long)))
+    rw (← c.self.view_is) (are_wanted s c.args.taken c.requires.few (omega (arith, c.clean_frames.ensures, c.if-clean_frames-taken.true)) (λ some. let fits = room some in omega (arith, fits, long)))
 
 pub returns-clause-ready : goal.returns-clause-ready
 returns-clause-ready g c =

@@ -1,7 +1,7 @@
 use Rattle.std.proofs.Common.{◌≡◌, ◌-◌}
 use Rattle.gx_machine.specs.Keys.{keys}
 use Rattle.gx_engine.proofs.Steps.{ask_steps, checkpoint_steps, log_steps, page_steps, sweep_steps}
-use Rattle.gx_engine.proofs.engine.Engine.step.Goals as goal
+use Rattle.gx_engine.proofs.engine.Engine.make.Goals as goal
 
 pub returns-in-Ask-clause-steps : goal.returns-in-Ask-clause-steps
 returns-in-Ask-clause-steps g c l =
