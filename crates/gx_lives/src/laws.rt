@@ -45,8 +45,8 @@ pub fn a_crash_leaves_a_set_of_the_machine<D: SectorDisk, K: ReadKeys>()
 }
 
 /// An opening in a life finds no damage: over a device that says what it was formatted for, whatever came before, it is refused only with `Device` or
-/// `Memory`. Whatever a crash left is a log whose bodies are whole, over pages that are a legal tree for it and that can be read; and what it cut off is
-/// undone.
+/// `Memory`. Whatever a crash left is a log whose bodies are whole, over pages that are a legal tree for it and that can be read; and the undo of what
+/// it cut off comes to its end.
 pub fn an_opening_finds_no_damage<D: SectorDisk, K: ReadKeys>()
     ensures { (p : Parameters) (m : Machine K.Key) (old new : D) (why : Refusal) → Bears K.Key.Shape K.is_proper K.said K.KeyClass D.state p m (Lies old)
         → IsFormatted K.Key.Shape K.is_proper K.said (format_of K.KeyClass) K.CLASS (D.state old) p
