@@ -4,7 +4,8 @@
 # must-fail edit (the first of a crate proves the crate again, and `(none)` is the check behind the last). The last line has
 # the whole gate's processor seconds, its time by the clock, and its own last line. `gate_table.sh` makes a table of it. The
 # argument, if there is one, is the revision; RT_JOBS says how many crates are proved side by side (as many as there are
-# processors). Run it alone on the machine. The gate's own output goes to the file GATE_OUTPUT, if one is named.
+# processors). Run it alone on the machine. The gate's own output goes to the file GATE_OUTPUT, if one is named. Where GATE_CRATES names
+# crates, these and those below them are gated alone.
 set -euo pipefail
 top="$(cd "$(dirname "${BASH_SOURCE[0]}")/.." && pwd)"
 made="$(mktemp -d)"
@@ -55,7 +56,7 @@ def sample(gate):
 
 began = time.time()
 with open(output, "w+", encoding="utf-8") as told:
-    gate = subprocess.Popen(["rt", "ci", "--anew"], cwd=folder, stdin=subprocess.DEVNULL, stdout=subprocess.PIPE, stderr=subprocess.STDOUT)
+    gate = subprocess.Popen(["rt", "ci", "--anew", *os.environ.get("GATE_CRATES", "").split()], cwd=folder, stdin=subprocess.DEVNULL, stdout=subprocess.PIPE, stderr=subprocess.STDOUT)
     os.set_blocking(gate.stdout.fileno(), False)
     text = b""
     while gate.poll() is None:

@@ -1,11 +1,14 @@
 //! Benchmarks of the index's parts, each beside the same in plain C.
 //!
-//! The words are a benchmark (`claims`, `engine`, `pool`, `log` or `tree`), what is asked of it and how often, as its module says. A sum
-//! of what was done is printed. With the word `all` alone a little of each is asked, and each sum is printed with its words.
+//! The words are a benchmark (`claims`, `engine`, `pool`, `log`, `tree` or `index`), what is asked of it and how often, as its module
+//! says. A sum of what was done is printed, or in place of `index` a count of it is named. With the word `all` alone a little of each is
+//! asked, and each sum is printed with its words.
 #![tactic(auto)]
 
 mod claims;
+mod drawn;
 mod engine;
+mod index;
 mod leaves;
 mod log;
 mod numbers;
@@ -17,7 +20,7 @@ use std::process::ExitCode;
 use std::rt::Env;
 
 /// A little of each: two words, and how often.
-const ALL: [(&str, &str, u64); 11] = [
+const ALL: [(&str, &str, u64); 18] = [
     ("claims", "claims", 1000),
     ("claims", "searches", 1000),
     ("engine", "undo", 30),
@@ -26,9 +29,16 @@ const ALL: [(&str, &str, u64); 11] = [
     ("log", "commit", 1),
     ("log", "notes", 1),
     ("log", "leaves", 1),
+    ("tree", "inserts", 3000),
     ("tree", "pages", 3000),
     ("tree", "queries", 100),
     ("tree", "marks", 100),
+    ("index", "inserts", 3000),
+    ("index", "queries", 100),
+    ("index", "marks", 100),
+    ("index", "commits", 100),
+    ("moves", "inserts", 3000),
+    ("bytes", "commits", 100),
 ];
 
 /// A benchmark, and what is asked of it.
@@ -39,6 +49,7 @@ enum Benchmark {
     Pool(pool::Kind),
     Log(log::Kind),
     Tree(tree::Kind),
+    Index(index::Told, index::Kind),
 }
 
 /// What the words ask for.
@@ -57,7 +68,7 @@ impl Benchmark {
             "pool" => Some(Benchmark::Pool(pool::Kind::named(kind)?)),
             "log" => Some(Benchmark::Log(log::Kind::named(kind)?)),
             "tree" => Some(Benchmark::Tree(tree::Kind::named(kind)?)),
-            _ => None,
+            _ => Some(Benchmark::Index(index::Told::named(benchmark)?, index::Kind::named(kind)?)),
         }
     }
 
@@ -69,6 +80,7 @@ impl Benchmark {
             Benchmark::Pool(kind) => pool::run(rt, kind, count),
             Benchmark::Log(kind) => log::run(rt, kind, count),
             Benchmark::Tree(kind) => tree::run(rt.alloc(), kind, count),
+            Benchmark::Index(told, kind) => index::run(rt.alloc(), told, kind, count),
         }
     }
 }

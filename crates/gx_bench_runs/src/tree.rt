@@ -2,11 +2,10 @@
 //! a sum of all pages' bytes; `queries`, so many windows looked for in a tree of a hundred thousand boxes; `marks`, so many of
 //! its pairs looked for and marked. The sum is of what was done.
 
-mod drawn;
 mod looks;
 mod writes;
 
-use drawn::draw_box;
+use crate::drawn::draw_box;
 use gx_geom::Box2;
 use gx_machine::Entry;
 use gx_tree::Pages;

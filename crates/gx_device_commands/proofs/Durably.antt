@@ -5,13 +5,9 @@ use Rattle.std.specs.Io.KnownBytes.{Keeps}
 use Rattle.std.proofs.KnownBytes.{Appends-kept}
 use Rattle.gx_geom.specs.Rectangles.{Rectangle}
 use Rattle.gx_geom.specs.declared.refusal.Refusal.{Refusal}
-use Rattle.gx_machine.specs.declared.call.Call.{Call}
 use Rattle.gx_machine.specs.declared.entry.Entry.{Entry}
-use Rattle.gx_machine.specs.declared.reply.Reply.{Reply}
 use Rattle.gx_machine.specs.Keys.{Members}
-use Rattle.gx_script.specs.declared.line.Line.{Line}
-use Rattle.gx_script.specs.declared.line.Line.TheVariants.{Blank, Bad, Reversed, Asks}
-use Rattle.gx_script.specs.Scripts.{asked, asked_as, IsScript}
+use Rattle.gx_script.specs.Scripts.{asked}
 use Rattle.gx_plain.specs.Boxes.{box_keys}
 use Rattle.gx_class.specs.declared.class.KeyClass.{Ghosts}
 use Rattle.gx_disk.specs.Device.{Device, MayLeave}
@@ -29,40 +25,20 @@ use Rattle.gx_events.specs.declared.outcome.Outcome.{Outcome}
 use Rattle.gx_engine.specs.Holds.{Holds}
 use Rattle.gx_engine.specs.States.{Parts}
 use Rattle.gx_opening.specs.Standing.{known_for, limits_of, reading}
+use Rattle.gx_driven.specs.Helping.{AskedEnds}
 use Rattle.gx_driven.specs.Made.{Makes}
 use Rattle.gx_driven.specs.Resting.{IsAtRest}
-use Rattle.gx_restart.specs.Called.{CallsBy, CallsIndex}
+use Rattle.gx_restart.specs.Called.{CallsIndex}
 use Rattle.gx_restart.specs.States.{State}
 use Rattle.gx_restart.proofs.Durable.{all_durable}
 use Rattle.gx_restart.proofs.Scripts.{script_alone}
 use Rattle.gx_device_commands.specs.Durably.{EndsDurably, StandsForLast}
 use Rattle.gx_device_commands.specs.Endings.{EndsBy, EndsSettling, HasRun, RunsOver, TellsSettled, WasOpened, watched_over}
-use Rattle.gx_device_commands.specs.Watching.{IsFaultless, tells_fault}
-use Rattle.gx_device_commands.proofs.Forgetting.{script_faultless, script_forgets}
+use Rattle.gx_device_commands.proofs.Forgetting.{script_forgets}
 
 module _ {C D : Type 0} (shape : Members Rectangle) (is_key : Rectangle → Bool) (said : List ℕ → Rectangle) (class : Ghosts C Rectangle) (state : D → Device) where
   abbrev makes : Parts Rectangle D → Event Rectangle → Outcome Rectangle → Parts Rectangle D → Type 0
   makes = Makes shape is_key said class state
-
-  -- a call whose reply tells of no fault wasn't given up, nor was the index before
-  call_goes_on : (ended : Bool) (old : State Rectangle D) (s : ℕ) (call : Call Rectangle) (reply : Reply Rectangle) (new : State Rectangle D)
-      → CallsBy makes ended old s call reply new → tells_fault reply ≡ false → new.ended ≡ false
-  call_goes_on true old s call reply new calls none = let no : true ≡ false = sym (ap tells_fault calls.0) ∙ none in absurd (let bad : ⊥ = cc in bad)
-  call_goes_on false old s call reply new (inl calls) none = calls.1
-  call_goes_on false old s call reply new (inr given_up) none = let no : true ≡ false = sym (ap tells_fault given_up.1) ∙ none in absurd (let bad : ⊥ = cc in bad)
-
-  -- so of a script
-  script_goes_on : (n : ℕ) (lines : List Line) (old new : State Rectangle D) (text : List ℕ) → old.ended ≡ false
-      → IsScript (IsFaultless (CallsIndex makes)) n lines old text new → new.ended ≡ false
-  script_goes_on n [] old new text was ran = ap (λ (x : State Rectangle D). x.ended) ran.1 ∙ was
-  script_goes_on n (Blank ∷ more) old new text was ran =
-      script_goes_on (n + 1) more ran.2 new ran.1 (ap (λ (x : State Rectangle D). x.ended) ran.3.1 ∙ was) ran.4
-  script_goes_on n (Bad ∷ more) old new text was ran =
-      script_goes_on (n + 1) more ran.2 new ran.1 (ap (λ (x : State Rectangle D). x.ended) ran.3.1 ∙ was) ran.4
-  script_goes_on n (Reversed session ∷ more) old new text was ran =
-      script_goes_on (n + 1) more ran.2 new ran.1 (ap (λ (x : State Rectangle D). x.ended) ran.3.1 ∙ was) ran.4
-  script_goes_on n (Asks session call ∷ more) old new text was ran =
-      script_goes_on (n + 1) more ran.2 new ran.1 (call_goes_on old.ended old (asked_as session) call ran.3.0 ran.2 ran.3.1.0 ran.3.1.1) ran.4
 
   zero_not : {A : Type 0} → ◌≡◌ {A = ℕ} 0 1 → A
   zero_not is = absurd (let bad : ⊥ = omega arith in bad)
@@ -78,7 +54,7 @@ module _ {C D : Type 0} (shape : Members Rectangle) (is_key : Rectangle → Bool
   settled_well (Ok done) written holds well told = (well, told.1)
   settled_well (Err why) written holds well told = zero_not told.status_is
 
-  module _ (lawful : (l : Limits) → 4 ≤ l.most → IsLawful (class_of shape is_key l)) (boxes : (l : Limits) → (class_of shape is_key l).keys ≡ box_keys) where
+  module _ (never : (l : Limits) → AskedEnds shape is_key said class state l) (lawful : (l : Limits) → 4 ≤ l.most → IsLawful (class_of shape is_key l)) (boxes : (l : Limits) → (class_of shape is_key l).keys ≡ box_keys) where
     -- what a crash may leave of an index at rest stands for its last set
     stands_last : (p : Parameters) (e : Parts Rectangle D) (bodies : List (List (Record (Entry Rectangle) (Page Rectangle)))) (i : index.State Rectangle)
         → IsLawful (class_of shape is_key (limits_of p))
@@ -102,8 +78,6 @@ module _ {C D : Type 0} (shape : Members Rectangle) (is_key : Rectangle → Bool
         let lc = lawful (limits_of p) is.holds.holds.some in
         let old : State Rectangle D = record { engine = opened.engine; ended = false } in
         let script = script_forgets (CallsIndex makes) 1 (asked ran.done.input) (watched_over shape is_key said class state opened.engine) ran.new ran.done.text ran.done.ran in
-        let faultless = script_faultless (CallsIndex makes) 1 (asked ran.done.input) (watched_over shape is_key said class state opened.engine) ran.new ran.done.text ran.done.ran ended.0 in
-        let goes_on = script_goes_on 1 (asked ran.done.input) old ran.new.index ran.done.text refl faultless in
         record {
           parameters = p;
           formatted = is.formatted;
@@ -116,7 +90,7 @@ module _ {C D : Type 0} (shape : Members Rectangle) (is_key : Rectangle → Bool
           ended = ran.new.index.engine;
           settled = settled.new.engine;
           runs = λ set kept.
-              let run = script_alone shape is_key said class state (limits_of p) 1 (asked ran.done.input) old ran.new.index ran.done.text (boxes (limits_of p)) goes_on lc script
+              let run = script_alone shape is_key said class state (limits_of p) 1 (asked ran.done.input) old ran.new.index ran.done.text (boxes (limits_of p)) refl (never (limits_of p)) lc script
               is.holds.bodies is.holds.index is.holds.holds _ (is.seen set kept) in
               let settling = settled.runs (limits_of p) run.ran.bodies run.ran.index run.ran.holds in
               record {

@@ -20,7 +20,7 @@ use Rattle.gx_engine.specs.Checkpoints.{CheckpointSteps, HeadComes, IsQuiet, Run
 use Rattle.gx_engine.specs.Flushing.{LogComes, LogGoes, LogSteps, PageComes, PageIsWritten}
 use Rattle.gx_engine.specs.States.{Parts, is_due, runs}
 use Rattle.gx_driven.specs.Backlog.{backlog, fillings, flight_left, log_left}
-use Rattle.gx_driven.specs.Helping.{DoesWork, HasWork, event_of}
+use Rattle.gx_driven.specs.Helping.{DoesWork, HasWork, HelpComes, event_of}
 use Rattle.gx_driven.specs.Made.{Makes}
 use Rattle.gx_driven.specs.Repeated.{GoesOn}
 use Rattle.gx_driven.proofs.Lessening.{checkpoint_less, log_step_less, written_less}
@@ -106,12 +106,17 @@ module _ {B D : Type 0} where
   work_by old new given less (inl more) = inl (more, less (subst GoesOn (sym more) tt))
   work_by old new given less (inr refused) = inr refused
 
+  pub helps_by : (d e : Device) (old new : Parts B D) (n : Need) (given : Outcome B) → HasWork n old → HelpComes d e n old new given → DoesWork given old new
+  helps_by d e old new need.Log given work comes =
+      work_by old new given (λ on. log_step_less d e old new old.sessions.failed (runs old.checkpoint) given refl on comes)
+      (log_step_did d e old new old.sessions.failed (runs old.checkpoint) given work.0 work.1 comes)
+  helps_by d e old new (need.Write page) given work comes =
+      work_by old new given (λ on. written_less d e old new page old.sessions.failed given on comes) (write_did d e old new page old.sessions.failed given work comes)
+  helps_by d e old new need.Checkpoint given work comes =
+      work_by old new given (λ on. checkpoint_less d e old new old.sessions.failed given on comes) (checkpoint_did d e old new old.sessions.failed given work comes)
+
 module _ {C B D : Type 0} (shape : Members B) (proper : B → Bool) (said : List ℕ → B) (class : Ghosts C B) (state : D → Device) where
   pub helps : (old new : Parts B D) (n : Need) (given : Outcome B) → HasWork n old → Makes shape proper said class state old (event_of n) given new → DoesWork given old new
-  helps old new need.Log given work made =
-      work_by old new given (λ on. log_step_less _ _ old new old.sessions.failed (runs old.checkpoint) given refl on made.comes)
-      (log_step_did _ _ old new old.sessions.failed (runs old.checkpoint) given work.0 work.1 made.comes)
-  helps old new (need.Write page) given work made =
-      work_by old new given (λ on. written_less _ _ old new page old.sessions.failed given on made.comes) (write_did _ _ old new page old.sessions.failed given work made.comes)
-  helps old new need.Checkpoint given work made =
-      work_by old new given (λ on. checkpoint_less _ _ old new old.sessions.failed given on made.comes) (checkpoint_did _ _ old new old.sessions.failed given work made.comes)
+  helps old new need.Log given work made = helps_by _ _ old new need.Log given work made.comes
+  helps old new (need.Write page) given work made = helps_by _ _ old new (need.Write page) given work made.comes
+  helps old new need.Checkpoint given work made = helps_by _ _ old new need.Checkpoint given work made.comes

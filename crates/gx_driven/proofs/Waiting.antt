@@ -62,12 +62,12 @@ use Rattle.gx_engine.specs.Holds.{Holds}
 use Rattle.gx_engine.specs.Moves.{left_by}
 use Rattle.gx_engine.specs.Refusals.{CanBeHelped, IsEarly, IsHelp, StampsStay, log_need, need_of}
 use Rattle.gx_engine.specs.Sealing.{AcknowledgeBy, SealComes, commit_of}
-use Rattle.gx_engine.specs.States.{AreFrames, Parts, StandsIn, is_due, runs}
+use Rattle.gx_engine.specs.States.{AreFrames, IsOrderly, Parts, StandsIn, is_due, runs}
 use Rattle.gx_engine.specs.Stepping.{has_call}
 use Rattle.gx_engine.specs.Undoing.{EndComes, UndoBy, end_of}
 use Rattle.gx_engine.specs.Writing.{IsDelayed, brought}
 use Rattle.gx_driven.specs.Backlog.{backlog, checkpoint_left, fillings, flight_left, log_left}
-use Rattle.gx_driven.specs.Helping.{HasWork, NamesWork, WaitingLeavesAll, WaitsForSealed}
+use Rattle.gx_driven.specs.Helping.{HasWork, NamesWork, PageNamesWork, WaitingLeavesAll, WaitsForSealed}
 use Rattle.gx_driven.specs.Made.{Makes}
 use Rattle.gx_driven.proofs.Lessening.{one_fills}
 
@@ -168,12 +168,15 @@ module _ {B D : Type 0} where
   why_helped s old new n (inl room) = inr (inl room)
   why_helped s old new n (inr frames) = inr (inr (inl frames))
 
-  -- a move that only brought pages wants no room
+  -- what only brings pages wants no room
+  brought_waits : (passes : ℕ → Contents → Bool) (d e : Device) (old new : Parts B D) (n : Need) → IsHelp passes d e (runs old.checkpoint) (bringing old.volume) new.volume.shelf n
+      → WaitsForRoom old n ⊎ WaitsForFrames old new n
+  brought_waits passes d e old new n h =
+      helped passes d e old new n (bringing old.volume) (λ f. Unit {0}) h.fault h.help (λ any none. let no : ⊥ = cc in absurd no) h.can h.why tt h.helps h.is
+
   why_brought : (passes : ℕ → Contents → Bool) (d e : Device) (s : ℕ) (old new : Parts B D) (n : Need) → IsHelp passes d e (runs old.checkpoint) (bringing old.volume) new.volume.shelf n
       → Why s old new n
-  why_brought passes d e s old new n h =
-      why_helped s old new n
-      (helped passes d e old new n (bringing old.volume) (λ f. Unit {0}) h.fault h.help (λ any none. let no : ⊥ = cc in absurd no) h.can h.why tt h.helps h.is)
+  why_brought passes d e s old new n h = why_helped s old new n (brought_waits passes d e old new n h)
 
   -- one that would log a change does, of so many bytes
   why_begun : (passes : ℕ → Contents → Bool) (d e : Device) (s : ℕ) (old new : Parts B D) (n : Need) (size : ℕ) → size ≤ 32764
@@ -366,20 +369,27 @@ module _ {B : Type 0} (c : Class B) (r : Reading (Entry B) (Page B)) (f : Format
   frames_work None running e bodies i is holds are few least =
       log_works running e is (λ off. some_left (log_left e.volume.log) (λ rests. some_dirty e.volume.shelf.frames are few (none_dirty e.volume bodies i.log holds.keeps least rests)))
 
+  helped_work : (old new : Parts B D) (n : Need) → new.checkpoint ≡ old.checkpoint → new.volume.log ≡ old.volume.log → WaitsForRoom old n ⊎ WaitsForFrames old new n
+      → AreFrames new.volume.shelf.frames → (bodies : List (List (Record (Entry B) (Page B)))) (j : index.State B) → Holds c r f passes d new bodies j → HasWork n new
+  helped_work old new n checkpoint log (inl room) are bodies j holds =
+      let left_same : log_left new.volume.log ≡ log_left old.volume.log = ap log_left log in
+      subst (λ (x : Need). HasWork x new) (sym room.0)
+      (log_works (runs old.checkpoint) new (ap runs checkpoint) (λ off. (let few = filled_left old.volume.log (room.1 off) in omega (arith, few, left_same))))
+  helped_work old new n checkpoint log (inr frames) are bodies j holds =
+      subst (λ (x : Need). HasWork x new) (sym frames.2) (frames_work frames.0 (runs old.checkpoint) new bodies j (ap runs checkpoint) holds are frames.3 frames.1)
+
   work_by : (s : ℕ) (old new : Parts B D) (n : Need) → Waits s old new n → WaitsForSealed s old → AreFrames new.volume.shelf.frames
       → (bodies : List (List (Record (Entry B) (Page B)))) (j : index.State B) → Holds c r f passes d new bodies j → HasWork n new
   work_by s old new n waits sealed are bodies j holds =
       let running : runs new.checkpoint ≡ runs old.checkpoint = ap runs waits.checkpoint in
-      let left_same : log_left new.volume.log ≡ log_left old.volume.log = ap log_left waits.log in
       let named : (m : Need) → n ≡ m → HasWork m new → HasWork n new = λ m is has. subst (λ (x : Need). HasWork x new) (sym is) has in
       elim waits.why [
         | inl due ↦ named need.Checkpoint due.0
             (ap (λ b. b || nat_le 24 new.volume.log.used) running ∙ ap (λ (l : Log). runs old.checkpoint || nat_le 24 l.used) waits.log ∙ due.1)
         | inr rest ↦ elim rest [
-          | inl room ↦ named (log_need (runs old.checkpoint)) room.0
-              (log_works (runs old.checkpoint) new running (λ off. (let few = filled_left old.volume.log (room.1 off) in omega (arith, few, left_same))))
+          | inl room ↦ helped_work old new n waits.checkpoint waits.log (inl room) are bodies j holds
           | inr other ↦ elim other [
-            | inl frames ↦ named (need_of (runs old.checkpoint) (Some (frame_by frames.0))) frames.2 (frames_work frames.0 (runs old.checkpoint) new bodies j running holds are frames.3 frames.1)
+            | inl frames ↦ helped_work old new n waits.checkpoint waits.log (inr frames) are bodies j holds
             | inr commit ↦ named (log_need (runs old.checkpoint)) commit.0
                 (log_works (runs old.checkpoint) new running (λ off. commit_left new bodies j commit.1.0 holds
                 (subst (λ n. commit.1.0 ≤ n) (sym (ap (λ x. x.latest) waits.sessions)) (sealed commit.1.0 commit.1.1))
@@ -387,6 +397,16 @@ module _ {B : Type 0} (c : Class B) (r : Reading (Entry B) (Page B)) (f : Format
           ]
         ]
       ]
+
+-- where nothing was logged, no checkpoint moved and no page got a change, there is no more to flush
+no_more : {B D : Type 0} (old new : Parts B D) → new.checkpoint ≡ old.checkpoint → new.volume.log ≡ old.volume.log → StampsStay old.volume.shelf new.volume.shelf → IsOrderly old → IsOrderly new
+    → backlog new ≤ backlog old
+no_more old new checkpoint log stamps was are =
+    let same : log_left new.volume.log ≡ log_left old.volume.log = ap log_left log in
+    let rest : checkpoint_left new.checkpoint new.volume.log ≡ checkpoint_left old.checkpoint old.volume.log =
+    ap (λ x. checkpoint_left x new.volume.log) checkpoint ∙ ap (λ x. checkpoint_left old.checkpoint x) log in
+    let fewer = no_more_dirty new.volume.shelf.frames old.volume.shelf.frames are.frames.sound was.frames.sound (λ page. sym (stamps page)) in
+    omega (arith, same, rest, fewer)
 
 -- ---- the laws
 
@@ -416,8 +436,13 @@ module _ {C B D : Type 0} (shape : Members B) (proper : B → Bool) (said : List
   pub waiting_flushes : (old new : Parts B D) (s : ℕ) (n : Need) → Makes shape proper said class state old (Move s) (Help n) new → backlog new ≤ backlog old
   waiting_flushes old new s n made =
       let waits = waits_made old new s n made.order.0.stands made in
-      let same : log_left new.volume.log ≡ log_left old.volume.log = ap log_left waits.log in
-      let rest : checkpoint_left new.checkpoint new.volume.log ≡ checkpoint_left old.checkpoint old.volume.log =
-      ap (λ x. checkpoint_left x new.volume.log) waits.checkpoint ∙ ap (λ x. checkpoint_left old.checkpoint x) waits.log in
-      let fewer = no_more_dirty new.volume.shelf.frames old.volume.shelf.frames made.order.1.frames.sound made.order.0.frames.sound (λ page. sym (waits.stamps page)) in
-      omega (arith, same, rest, fewer)
+      no_more old new waits.checkpoint waits.log waits.stamps made.order.0 made.order.1
+
+  -- so of a page that is to be brought
+  pub page_names_work : PageNamesWork shape proper said class state l
+  page_names_work old new n bodies i holds was are comes =
+      let waits = brings 0 old new n comes.1 comes.0.stamps (why_brought (is_node (format_of class)) (state old.volume.shelf.disk) (state new.volume.shelf.disk) 0 old new n comes.0) in (
+        helped_work (class_of shape proper l) (reading_of said (format_of class)) (format_of class) (is_node (format_of class)) (state new.volume.shelf.disk) old new n waits.checkpoint waits.log
+            (brought_waits (is_node (format_of class)) (state old.volume.shelf.disk) (state new.volume.shelf.disk) old new n comes.0) are.frames bodies i holds,
+        no_more old new waits.checkpoint waits.log waits.stamps was are,
+      )

@@ -1,8 +1,9 @@
 -- The event that a move waits for.
-use Rattle.std.specs.Prelude.{ℕ, ◌≡◌, ◌⊎◌, ◌<◌, ◌≤◌, ◌-◌, ◌^◌, Bool, true, false, List}
+use Rattle.std.specs.Prelude.{ℕ, ◌≡◌, ◌⊎◌, ◌<◌, ◌≤◌, ◌-◌, ◌^◌, Bool, true, false, List, Err}
 use Rattle.gx_geom.specs.declared.refusal.Refusal.{Refusal}
 use Rattle.gx_class.specs.declared.class.KeyClass.{Ghosts}
 use Rattle.gx_disk.specs.Device.{Device}
+use Rattle.gx_machine.specs.declared.call.Call.{Call}
 use Rattle.gx_machine.specs.declared.entry.Entry.{Entry}
 use Rattle.gx_machine.specs.Keys.{Members}
 use Rattle.gx_node.specs.Reading.{format_of, is_node}
@@ -20,11 +21,14 @@ use Rattle.gx_events.specs.declared.outcome.Outcome.{Outcome}
 use Rattle.gx_events.specs.declared.outcome.Outcome.TheVariants.{Help, More, Refused}
 use Rattle.gx_phases.specs.declared.phase.Phase.TheVariants as phase
 use Rattle.gx_phases.specs.States.{phase_at}
+use Rattle.gx_engine.specs.Checkpoints.{CheckpointSteps}
 use Rattle.gx_engine.specs.Ending.{LeavesAll}
+use Rattle.gx_engine.specs.Flushing.{LogSteps, PageIsWritten}
 use Rattle.gx_engine.specs.Holds.{Holds}
-use Rattle.gx_engine.specs.States.{Parts, is_due, runs}
+use Rattle.gx_engine.specs.States.{IsOrderly, Parts, is_due, runs}
+use Rattle.gx_engine.specs.Sweeping.{BringComes}
 use Rattle.gx_driven.specs.Backlog.{backlog, log_left}
-use Rattle.gx_driven.specs.Driven.{IsUnderWay}
+use Rattle.gx_driven.specs.Driven.{IsGivenUp, IsUnderWay}
 use Rattle.gx_driven.specs.Made.{Makes}
 
 -- the event that is named
@@ -43,6 +47,12 @@ HasWork need.Checkpoint e = is_due e ≡ true
 -- An event did work, and leaves less to flush; or it was refused.
 abbrev pub DoesWork : {B D : Type 0} → Outcome B → Parts B D → Parts B D → Type 0
 DoesWork given old new = ((given ≡ More) × (backlog new < backlog old)) ⊎ ((why : Refusal) × (given ≡ Refused why))
+
+-- what comes of the event that is named, by its own call
+abbrev pub HelpComes : {B D : Type 0} → Device → Device → Need → Parts B D → Parts B D → Outcome B → Type 0
+HelpComes d e need.Log old new outcome = LogSteps d e old new old.sessions.failed (runs old.checkpoint) outcome
+HelpComes d e (need.Write page) old new outcome = PageIsWritten page d e old new old.sessions.failed outcome
+HelpComes d e need.Checkpoint old new outcome = CheckpointSteps d e old new old.sessions.failed outcome
 
 -- where a session waits for a commit, that is sealed
 abbrev pub WaitsForSealed : {B D : Type 0} → ℕ → Parts B D → Type 0
@@ -68,6 +78,11 @@ module _ {C B D : Type 0} (shape : Members B) (proper : B → Bool) (said : List
   NamesWork = (old new : Parts B D) (s : ℕ) (n : Need) (bodies : List (List (Record (Entry B) (Page B)))) (i : index.State B) → HoldsIndex old bodies i
       → WaitsForSealed s old → Makes shape proper said class state old (Move s) (Help n) new → HasWork n new
 
+  -- What a page that is to be brought waits for has work to do, and there is no more to flush than there was.
+  abbrev pub PageNamesWork : Type 0
+  PageNamesWork = (old new : Parts B D) (n : Need) (bodies : List (List (Record (Entry B) (Page B)))) (i : index.State B) → HoldsIndex new bodies i → IsOrderly old → IsOrderly new
+      → BringComes {A = Unit {0}} (is_node (format_of class)) (state old.volume.shelf.disk) (state new.volume.shelf.disk) old new (Err (Help n)) → HasWork n new × (backlog new ≤ backlog old)
+
   -- A move that waits leaves each session's call as much to do as it had.
   abbrev pub WaitingLeavesAll : Type 0
   WaitingLeavesAll = (old new : Parts B D) (s : ℕ) (n : Need) (bodies : List (List (Record (Entry B) (Page B)))) (i : index.State B) (holds : HoldsIndex old bodies i)
@@ -78,3 +93,8 @@ module _ {C B D : Type 0} (shape : Members B) (proper : B → Bool) (said : List
   abbrev pub CallEnds : Type 0
   CallEnds = (old new : Parts B D) (s count : ℕ) (due : Event B) (bodies : List (List (Record (Entry B) (Page B)))) (i : index.State B) → HoldsIndex old bodies i
       → WaitsForSealed s old → IsUnderWay (Makes shape proper said class state) s (Move s) old count due new → count < 2 ^ 55
+
+  -- A call that is asked is not given up.
+  abbrev pub AskedEnds : Type 0
+  AskedEnds = (old new : Parts B D) (s : ℕ) (call : Call B) (bodies : List (List (Record (Entry B) (Page B)))) (i : index.State B) → HoldsIndex old bodies i
+      → IsGivenUp (Makes shape proper said class state) s (Ask s call) old new → ⊥

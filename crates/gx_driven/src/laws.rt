@@ -3,12 +3,12 @@ ghost use Rattle.std.specs.Prelude.{◌≤◌, ◌<◌, ℕ};
 ghost use Rattle.gx_events.specs.declared.event.Event.TheVariants.{CheckpointStep, LogStep, Move, WritePage};
 ghost use Rattle.gx_events.specs.declared.outcome.Outcome.TheVariants.{Help, More};
 ghost use Rattle.gx_pool.specs.State.{dirty_count};
-ghost use Rattle.gx_engine.specs.States.{Parts};
+ghost use Rattle.gx_engine.specs.States.{IsOrderly, Parts};
 ghost use Rattle.gx_recovery.specs.Known.{Limits};
 ghost use Rattle.gx_driven.specs.Backlog.{backlog};
 ghost use Rattle.gx_events.specs.declared.outcome.Need.{Need};
 ghost use Rattle.gx_events.specs.declared.outcome.Outcome.{Outcome};
-ghost use Rattle.gx_driven.specs.Helping.{CallEnds, DoesWork, HasWork, NamesWork, WaitingLeavesAll, event_of};
+ghost use Rattle.gx_driven.specs.Helping.{AskedEnds, CallEnds, DoesWork, HasWork, HelpComes, NamesWork, PageNamesWork, WaitingLeavesAll, event_of};
 ghost use Rattle.gx_driven.specs.Made.{Makes};
 
 use gx_disk::SectorDisk;
@@ -42,10 +42,30 @@ pub fn a_move_that_waits_names_work<D: SectorDisk, K: ReadKeys>()
     ensures flush { (old new : Parts K.Key D) (s : ℕ) (n : Need) → Makes K.Key.Shape K.is_proper K.said K.KeyClass D.state old (Move s) (Help n) new → backlog new ≤ backlog old }
 {}
 
+/// What a page that is to be brought waits for has work to do, in the same sense, and leaves no more to flush. So it is of an engine over a
+/// device that doesn't lie.
+///
+/// Over any device what has work to do does it by its own call too, and leaves less to flush, or is refused; and what there is to flush
+/// is below 2^13 in any engine.
+pub fn a_page_that_waits_names_work<D: SectorDisk, K: ReadKeys>()
+    ensures work { (l : Limits) → PageNamesWork K.Key.Shape K.is_proper K.said K.KeyClass D.state l }
+    ensures helps { (old new : Parts K.Key D) (n : Need) (given : Outcome K.Key) → HasWork n old → HelpComes (D.state old.volume.shelf.disk) (D.state new.volume.shelf.disk) n old new given
+        → DoesWork given old new }
+    ensures few { (e : Parts K.Key D) → IsOrderly e → backlog e < 8192 }
+{}
+
 /// A session's call that is moved alone, with the events that help it, comes to its end: fewer than 2^55 events are made of it. So it is of an
 /// engine over a device that doesn't lie, whose session waits for no commit that isn't sealed.
 pub fn a_call_alone_ends<D: SectorDisk, K: ReadKeys>()
     ensures { (l : Limits) → CallEnds K.Key.Shape K.is_proper K.said K.KeyClass D.state l }
+{
+    a_class_is_lawful::<K>();
+    what_a_call_has_left_is_bounded::<K::Key>();
+}
+
+/// No call that is asked of an engine over a device that doesn't lie is given up.
+pub fn no_call_is_given_up<D: SectorDisk, K: ReadKeys>()
+    ensures { (l : Limits) → AskedEnds K.Key.Shape K.is_proper K.said K.KeyClass D.state l }
 {
     a_class_is_lawful::<K>();
     what_a_call_has_left_is_bounded::<K::Key>();

@@ -4,3 +4,4 @@ pub mod Texts
 pub mod Reading
 pub mod Bringing
 pub mod Telling
+pub mod Ending

@@ -11,24 +11,16 @@ use Rattle.gx_tree.specs.Store.{Stays}
 use Rattle.gx_store.specs.Standing.{store_of}
 use Rattle.gx_store.specs.State.{IsSteady}
 use Rattle.gx_events.specs.declared.outcome.Need.{Need}
-use Rattle.gx_events.specs.declared.outcome.Need.TheVariants as need
 use Rattle.gx_events.specs.declared.outcome.Outcome.{Outcome}
 use Rattle.gx_events.specs.declared.outcome.Outcome.TheVariants.{Replied, More, Help, Nothing, Refused}
-use Rattle.gx_engine.specs.Checkpoints.{CheckpointSteps}
 use Rattle.gx_engine.specs.Ending.{SparesSo}
-use Rattle.gx_engine.specs.Flushing.{LogSteps, PageIsWritten}
 use Rattle.gx_engine.specs.Holds.{Leads}
 use Rattle.gx_engine.specs.Lending.{BringPageComes}
-use Rattle.gx_engine.specs.States.{Parts, runs}
+use Rattle.gx_engine.specs.States.{IsOrderly, Parts}
 use Rattle.gx_engine.specs.Sweeping.{bring_events}
+use Rattle.gx_driven.specs.Helping.{HelpComes}
 use Rattle.gx_dump.specs.declared.stop.Stop.{Stop}
 use Rattle.gx_dump.specs.declared.stop.Stop.TheVariants as stop
-
--- what comes of the event that was named
-abbrev pub HelpComes : {B D : Type 0} → Device → Device → Need → Parts B D → Parts B D → Outcome B → Type 0
-HelpComes d e need.Log old new outcome = LogSteps d e old new old.sessions.failed (runs old.checkpoint) outcome
-HelpComes d e (need.Write page) old new outcome = PageIsWritten page d e old new old.sessions.failed outcome
-HelpComes d e need.Checkpoint old new outcome = CheckpointSteps d e old new old.sessions.failed outcome
 
 module _ {C B D : Type 0} (shape : Members B) (proper : B → Bool) (said : List ℕ → B) (class : Ghosts C B) (state : D → Device) where
   -- A page was to be brought, with this result, as the contract of an engine has it.
@@ -38,6 +30,7 @@ module _ {C B D : Type 0} (shape : Members B) (proper : B → Bool) (said : List
         (store_of (format_of class) (state new.volume.shelf.disk).seen new.volume.shelf)
     pub leads : (l : Limits) → Leads (class_of shape proper l) (reading_of said (format_of class)) (format_of class) (is_node (format_of class))
         (state old.volume.shelf.disk) (state new.volume.shelf.disk) old new (bring_events result)
+    pub order : IsOrderly old × IsOrderly new
 
   -- The event that was named was made, with this outcome; so too.
   pub record Helps (named : Need) (old : Parts B D) (outcome : Outcome B) (new : Parts B D) : Type 0 where

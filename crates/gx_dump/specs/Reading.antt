@@ -1,5 +1,5 @@
 -- What reading pages leaves of an index and its tree, and what is told of that.
-use Rattle.std.specs.Prelude.{ℕ, ◌≡◌, Bool, List}
+use Rattle.std.specs.Prelude.{ℕ, ◌≡◌, Bool, List, Result, Err}
 use Rattle.gx_machine.specs.declared.entry.Entry.{Entry}
 use Rattle.gx_disk.specs.Device.{Device}
 use Rattle.gx_page.specs.Contents.{Contents}
@@ -12,6 +12,13 @@ use Rattle.gx_durable.specs.Spelled.{Reading}
 use Rattle.gx_engine.specs.Holds.{Holds}
 use Rattle.gx_engine.specs.Running.{Ran}
 use Rattle.gx_engine.specs.States.{Parts}
+use Rattle.gx_dump.specs.declared.stop.Stop.{Stop}
+use Rattle.gx_dump.specs.declared.stop.Stop.TheVariants as stop
+
+-- it wasn't given up
+abbrev pub IsNotGivenUp : Result (Unit {0}) Stop → Type 0
+IsNotGivenUp (Err stop.GivenUp) = ⊥
+IsNotGivenUp result = Unit {0}
 
 module _ {B : Type 0} (c : Class B) (r : Reading (Entry B) (Page B)) (f : Format B) (passes : ℕ → Contents → Bool) where
   -- What was done is events of an index; the engine holds what they led to, and the tree is as it was.
@@ -33,3 +40,7 @@ module _ {B : Type 0} (c : Class B) (r : Reading (Entry B) (Page B)) (f : Format
   abbrev pub OfItsTree : {D : Type 0} → (D → Device) → Parts B D → (Tree B → Type 0) → Type 0
   OfItsTree state e P = (bodies : List (List (Record (Entry B) (Page B)))) (i : index.State B) → Holds c r f passes (state e.volume.shelf.disk) e bodies i
       → P (index.tree_now c i)
+
+  -- where an engine holds an index, this is so
+  abbrev pub WhereHeld : {D : Type 0} → (D → Device) → Parts B D → Type 0 → Type 0
+  WhereHeld state e P = (bodies : List (List (Record (Entry B) (Page B)))) (i : index.State B) → Holds c r f passes (state e.volume.shelf.disk) e bodies i → P

@@ -7,7 +7,7 @@ ghost use Rattle.gx_readings.specs.Classes.{class_of, reading_of};
 ghost use Rattle.gx_script.specs.Writes.{IsPut, IsCut};
 ghost use Rattle.gx_driven.specs.Resting.{KeepsSessions};
 ghost use Rattle.gx_dump.specs.Bringing.{Brings, Helps, IsRead, IsTold};
-ghost use Rattle.gx_dump.specs.Reading.{OfItsTree, Reads, Runs};
+ghost use Rattle.gx_dump.specs.Reading.{IsNotGivenUp, OfItsTree, Reads, Runs, WhereHeld};
 ghost use Rattle.gx_dump.specs.Text.{dump_text, node_text};
 
 use crate::Stop;
@@ -16,6 +16,7 @@ use crate::lines::Lines;
 use crate::pages::{put_head, put_page};
 use gx_class::KeyClass;
 use gx_disk::SectorDisk;
+use gx_driven::laws::a_page_that_waits_names_work;
 use gx_engine::Engine;
 use gx_geom::{Box2, Shape};
 use gx_readings::ReadKeys;
@@ -39,7 +40,7 @@ fn tell<W: Write, D: SectorDisk, K: ReadKeys + KeyClass<Key = Box2>>(
 {
     a_volume_shows_the_logs_tree::<D, K>();
     bring(engine, page)?;
-    put_page::<W, K>(writer, lines, page, engine.page(page))
+    put_page::<W, K>(writer, lines, page, engine.held_page(page))
 }
 
 /// Writes the text of the tree of an index: a line with the number of the last commit, the greatest page that is taken and the counter of
@@ -47,8 +48,8 @@ fn tell<W: Write, D: SectorDisk, K: ReadKeys + KeyClass<Key = Box2>>(
 /// events that give them frames. No node changes, and no set, claim, predicate or open call.
 ///
 /// `Write` where the writer fails or takes nothing, `Refused` as an event was, with `Device`, `Failed` or `Damaged`, and `GivenUp` where a page
-/// isn't brought within `gx_driven::EVENTS` turns of one or two events. What was written then is a beginning of the text. It takes
-/// no memory.
+/// isn't brought within `gx_driven::EVENTS` turns of one or two events, which never is where the engine holds an index over a device
+/// that doesn't lie. What was written then is a beginning of the text. It takes no memory.
 pub fn dump<W: Write, D: SectorDisk, K: ReadKeys + KeyClass<Key = Box2>>(
     engine: &mut Engine<D, K>,
     writer: &mut W,
@@ -63,7 +64,10 @@ pub fn dump<W: Write, D: SectorDisk, K: ReadKeys + KeyClass<Key = Box2>>(
     ensures runs { (l : Limits) → Runs (class_of ⟦<Box2 as Shape>⟧ K.is_proper l) (reading_of K.said (format_of K.KeyClass)) (format_of K.KeyClass) (is_node (format_of K.KeyClass))
         D.state engine.old engine.new }
     ensures keeps { KeepsSessions engine.old engine.new }
+    ensures ends { (l : Limits) → WhereHeld (class_of ⟦<Box2 as Shape>⟧ K.is_proper l) (reading_of K.said (format_of K.KeyClass)) (format_of K.KeyClass) (is_node (format_of K.KeyClass))
+        D.state engine.old (IsNotGivenUp result) }
 {
+    a_page_that_waits_names_work::<D, K>();
     let mut lines = Lines::new();
     let used = engine.used();
     put_head(writer, &mut lines, engine.commits(), used, engine.counter())?;

@@ -45,3 +45,4 @@ pub mod Starting
 pub mod Ending
 pub mod Ordered
 pub mod Framed
+pub mod Viewing

@@ -30,3 +30,15 @@ order_read e keys h w log most stamps frames sessions durable latest = record {
   space = h.space;
   frames = subst (λ (n : ℕ). 16 ≤ n) (sym frames) h.frames;
 }
+
+-- the same where the volume alone has changed
+pub order_changed : {B D : Type 0} (e : Parts B D) (keys : List B) → IsInOrder e keys → (w : Volume D) → StandsIn e.checkpoint w → 4 ≤ w.most
+    → length w.shelf.frames.marks ≡ length e.volume.shelf.frames.marks → IsInOrder (record e { volume = w }) keys
+order_changed e keys h w stands some frames = record {
+  stands = stands;
+  durable = h.durable;
+  sealed = h.sealed;
+  some = some;
+  space = h.space;
+  frames = subst (λ (n : ℕ). 16 ≤ n) (sym frames) h.frames;
+}

@@ -9,6 +9,7 @@ pub mod Ending
 pub mod Writing
 pub mod Sweeping
 pub mod Lending
+pub mod Viewing
 pub mod Looking
 pub mod Searching
 pub mod Noted

@@ -24,5 +24,6 @@ mod writes;
 pub use checkpoint::Checkpoint;
 pub use engine::Engine;
 pub use losers::Loser;
+pub use pages::NotLent;
 pub use start::{NotOpened, Start};
 pub use work::Work;

@@ -1,4 +1,5 @@
 //! A page that is brought in an event of no session, and lent as it stands.
+ghost use Rattle.std.specs.Borrow.{sem};
 ghost use Rattle.std.specs.Prelude.{◌≡◌, ◌≤◌, true, false, OnOk};
 ghost use Rattle.gx_node.specs.Reading.{format_of, is_node};
 ghost use Rattle.gx_recovery.specs.Known.{Limits};
@@ -10,15 +11,26 @@ ghost use Rattle.gx_storage.specs.Changes.{IsUnlogged, known_at};
 ghost use Rattle.gx_tree.specs.Store.{Stays};
 ghost use Rattle.gx_engine.specs.Holds.{Leads};
 ghost use Rattle.gx_engine.specs.Lending.{BringPageComes, StandsAs};
+ghost use Rattle.gx_engine.specs.States.{IsOrderly};
 ghost use Rattle.gx_engine.specs.Sweeping.{BringComes, bring_events};
+ghost use Rattle.gx_engine.specs.Viewing.{lends_page};
 
 use crate::Engine;
 use crate::laws::a_class_is_lawful;
 use gx_disk::SectorDisk;
-use gx_events::Outcome;
+use gx_events::{Need, Outcome};
 use gx_geom::Refusal;
 use gx_page::Page;
 use gx_readings::ReadKeys;
+
+/// Why a page isn't lent, as an event says it.
+#[derive(Clone, Copy, Debug, PartialEq, Eq)]
+pub enum NotLent {
+    /// No frame is clean: this has to happen first.
+    Help(Need),
+    /// Refused.
+    Refused(Refusal),
+}
 
 impl<D: SectorDisk, K: ReadKeys> Engine<D, K> {
     // Brings a page that is taken into a frame, where it is held until pages are brought again; or what comes of it that it was
@@ -43,7 +55,7 @@ impl<D: SectorDisk, K: ReadKeys> Engine<D, K> {
         }
     }
 
-    /// Brings a page that is taken into a frame, where it is held until pages are brought again, so that `page` lends it. No node has
+    /// Brings a page that is taken into a frame, where it is held until pages are brought again, so that `held_page` lends it. No node has
     /// changed, and nothing is logged.
     ///
     /// `Help` where no frame is clean, with what gives one. Refused with `Failed` by an engine that has failed, with `Device` where the
@@ -58,18 +70,37 @@ impl<D: SectorDisk, K: ReadKeys> Engine<D, K> {
         ensures comes { BringPageComes (is_node (format_of K.KeyClass)) (D.state self.old.volume.shelf.disk) (D.state self.new.volume.shelf.disk) self.old self.new self.old.sessions.failed result }
         ensures leads { (l : Limits) → Leads (class_of K.Key.Shape K.is_proper l) (reading_of K.said (format_of K.KeyClass)) (format_of K.KeyClass) (is_node (format_of K.KeyClass))
             (D.state self.old.volume.shelf.disk) (D.state self.new.volume.shelf.disk) self.old self.new (bring_events result) }
+        ensures order { IsOrderly self.old × IsOrderly self.new }
     {
+        self.in_order();
         if self.sessions.has_failed() {
             return Err(Outcome::Refused(Refusal::Failed));
         }
-        self.bring(page)
+        let brought = self.bring(page);
+        self.in_order();
+        brought
     }
 
     /// A page that is held, as it stands.
-    pub fn page(&self, page: u32) -> &Page
+    pub fn held_page(&self, page: u32) -> &Page
         requires held { IsHeld self.now.volume.shelf page }
         ensures { StandsAs (format_of K.KeyClass) (is_node (format_of K.KeyClass)) (D.state self.now.volume.shelf.disk) page self.now result.now }
     {
         self.storage.held_page(page)
+    }
+
+    /// Lends a page that is taken, as it stands. Brings it first, as `bring_page` does, and answers in its place what that says of a page
+    /// that isn't brought.
+    pub fn page(&mut self, page: u32) -> Result<&Page, NotLent>
+        requires from { 1 ≤ page }
+        requires to { page ≤ self.old.volume.shelf.used }
+        ensures* lends { sem 𝓛 (lends_page D.row K.row K.Key.row D.SectorDisk K.KeyClass K.said K.is_proper K.Key.Shape self.entry page result) }
+    {
+        match self.bring_page(page) {
+            Ok(()) => Ok(self.held_page(page)),
+            Err(Outcome::Help(need)) => Err(NotLent::Help(need)),
+            Err(Outcome::Refused(why)) => Err(NotLent::Refused(why)),
+            Err(Outcome::Replied(_) | Outcome::More | Outcome::Nothing) => unreachable!(),
+        }
     }
 }

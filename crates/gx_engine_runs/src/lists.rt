@@ -4,7 +4,7 @@ use crate::fault::RunFault;
 use crate::replies::word;
 use gx_class::Box2Class;
 use gx_disk::MemDisk;
-use gx_engine::Engine;
+use gx_engine::{Engine, NotLent};
 use gx_events::{Driver, Event, Need, Next, Outcome};
 use gx_format::sectors_for;
 use gx_geom::Box2;
@@ -144,9 +144,8 @@ fn print_page<R: Print>(rt: &R, engine: &mut Listed, page: u32) -> Result<(), Ru
     if page == 0 || engine.used() < page {
         return Err(RunFault::BadLine);
     }
-    match engine.bring_page(page) {
-        Ok(()) => {
-            let page = engine.page(page);
+    match engine.page(page) {
+        Ok(page) => {
             print!(rt;
                 "level {} nsn {} right {} count {}",
                 page.level(),
@@ -155,7 +154,8 @@ fn print_page<R: Print>(rt: &R, engine: &mut Listed, page: u32) -> Result<(), Ru
                 page.count()
             )?;
         }
-        Err(outcome) => print_outcome(rt, &outcome)?,
+        Err(NotLent::Help(need)) => print_outcome(rt, &Outcome::Help(need))?,
+        Err(NotLent::Refused(why)) => print_outcome(rt, &Outcome::Refused(why))?,
     }
     Ok(())
 }

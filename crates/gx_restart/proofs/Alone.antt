@@ -36,7 +36,8 @@ use Rattle.gx_engine.specs.States.{Parts}
 use Rattle.gx_engine.proofs.Machines.{event_happens}
 use Rattle.gx_engine.proofs.Running.{ran}
 use Rattle.gx_restart.specs.Alone.{CallsAlone, HaveHappened, RunsAs, RunsFrom, RunsOn}
-use Rattle.gx_driven.specs.Driven.{AreDriven, IsDriven, IsUnderWay}
+use Rattle.gx_driven.specs.Driven.{AreDriven, IsDriven, IsGivenUp, IsUnderWay}
+use Rattle.gx_driven.specs.Helping.{AskedEnds, HoldsIndex}
 use Rattle.gx_restart.specs.Called.{CallsBy, CallsIndex}
 use Rattle.gx_driven.specs.Made.{AreMade, Makes}
 use Rattle.gx_restart.specs.Settled.{SettlesBy, SettlesOn}
@@ -45,9 +46,6 @@ use Rattle.gx_restart.proofs.Driving.{called}
 use Rattle.gx_driven.proofs.Making.{made_joined}
 use Rattle.gx_driven.proofs.Repeating.{repeated_made}
 use Rattle.gx_driven.proofs.Stepping.{steps_made}
-
-true_not : true ≡ false → ⊥
-true_not bad = cc
 
 -- no event of an index finds damage
 unharmed_by : {B : Type 0} (e : Engine B) (event : Event B) (events : List (laws.Event B)) → AreOf e event (Refused Damaged) events → ⊥
@@ -172,14 +170,22 @@ module _ {C B D : Type 0} (shape : Members B) (proper : B → Bool) (said : List
       alone (class_of shape proper l) lawful (reading_of said (format_of class)) (format_of class) (is_node (format_of class)) state s call reply calls.steps old new
       (steps_made shape proper said class state l calls.steps old new calls.made) calls.driven
 
-  -- a call that was not given up
-  was_called : (ended : Bool) (old : State B D) (s : ℕ) (call : Call B) (reply : Reply B) (new : State B D) → ended ≡ false → new.ended ≡ false
-      → CallsBy makes ended old s call reply new → IsDriven makes s (Ask s call) old.engine reply new.engine
-  was_called true old s call reply new was is calls = let no : ⊥ = cc in absurd no
-  was_called false old s call reply new was is (inl calls) = calls.0
-  was_called false old s call reply new was is (inr given_up) = let no : true ≡ false = sym given_up.2 ∙ is in absurd (true_not no)
+  -- a call that is not given up
+  was_called : (ended : Bool) (old : State B D) (s : ℕ) (call : Call B) (reply : Reply B) (new : State B D) → ended ≡ false
+      → (IsGivenUp makes s (Ask s call) old.engine new.engine → ⊥) → CallsBy makes ended old s call reply new
+      → IsDriven makes s (Ask s call) old.engine reply new.engine × (new.ended ≡ false)
+  was_called true old s call reply new was never calls = let no : ⊥ = cc in absurd no
+  was_called false old s call reply new was never (inl calls) = calls
+  was_called false old s call reply new was never (inr given_up) = absurd (never given_up.0)
 
-  pub call_alone : (old : State B D) (s : ℕ) (call : Call B) (reply : Reply B) (new : State B D) → CallsIndex makes old s call reply new → old.ended ≡ false → new.ended ≡ false
-      → IsLawful (class_of shape proper l) → Alone s call reply old.engine new.engine
-  call_alone old s call reply new calls was is lawful =
-      called_alone old.engine s call reply new.engine (was_called old.ended old s call reply new was is calls) lawful
+  pub call_alone : (old : State B D) (s : ℕ) (call : Call B) (reply : Reply B) (new : State B D) → CallsIndex makes old s call reply new → old.ended ≡ false
+      → AskedEnds shape proper said class state l → IsLawful (class_of shape proper l) → Alone s call reply old.engine new.engine
+  call_alone old s call reply new calls was never lawful bodies i h =
+      called_alone old.engine s call reply new.engine (was_called old.ended old s call reply new was (never old.engine new.engine s call bodies i h) calls).0 lawful bodies i h
+
+  -- and the index goes on
+  pub call_goes_on : (old : State B D) (s : ℕ) (call : Call B) (reply : Reply B) (new : State B D) → CallsIndex makes old s call reply new → old.ended ≡ false
+      → AskedEnds shape proper said class state l → (bodies : List (List (Record (Entry B) (Page B)))) (i : index.State B) → HoldsIndex shape proper said class state l old.engine bodies i
+      → new.ended ≡ false
+  call_goes_on old s call reply new calls was never bodies i h =
+      (was_called old.ended old s call reply new was (never old.engine new.engine s call bodies i h) calls).1

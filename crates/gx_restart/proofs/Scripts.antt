@@ -40,7 +40,8 @@ use Rattle.gx_restart.specs.Alone.{RunsAs, RunsFrom}
 use Rattle.gx_restart.specs.Called.{CallsBy, CallsIndex}
 use Rattle.gx_driven.specs.Made.{Makes}
 use Rattle.gx_restart.specs.States.{State}
-use Rattle.gx_restart.proofs.Alone.{call_alone, happening_joined}
+use Rattle.gx_driven.specs.Helping.{AskedEnds}
+use Rattle.gx_restart.proofs.Alone.{call_alone, call_goes_on, happening_joined}
 
 module _ {B : Type 0} (c : Class B) (r : Reading (Entry B) (Page B)) (f : Format B) (passes : ℕ → Contents → Bool) where
   among_first : (xs ys : List (index.State B)) (image : List ℕ) → StandsForOne c r f passes xs image → StandsForOne c r f passes (xs ++ ys) image
@@ -89,33 +90,6 @@ module _ {C D : Type 0} (shape : Members Rectangle) (proper : Rectangle → Bool
   abbrev From : State Rectangle D → State Rectangle D → (Machine Rectangle → Machine Rectangle → Type 0) → Type 0
   From old new Run = RunsFrom c (reading_of said (format_of class)) (format_of class) (is_node (format_of class)) state old.engine new.engine Run
 
-  -- an index that was given up stays so
-  call_ended : (ended : Bool) (old : State Rectangle D) (s : ℕ) (call : Call Rectangle) (reply : Reply Rectangle) (new : State Rectangle D) → ended ≡ true → old.ended ≡ true
-      → CallsBy makes ended old s call reply new → new.ended ≡ true
-  call_ended true old s call reply new is was calls = ap (λ x. x.ended) calls.1 ∙ was
-  call_ended false old s call reply new is was calls = let no : ⊥ = cc in absurd no
-
-  script_ended : (number : ℕ) (lines : List Line) (old new : State Rectangle D) (text : List ℕ) → old.ended ≡ true → IsScript (CallsIndex makes) number lines old text new → new.ended ≡ true
-  script_ended number [] old new text was script = ap (λ x. x.ended) script.1 ∙ was
-  script_ended number (Blank ∷ more) old new text was script =
-      script_ended (number + 1) more script.2 new script.1 (ap (λ x. x.ended) script.3.1 ∙ was) script.4
-  script_ended number (Bad ∷ more) old new text was script =
-      script_ended (number + 1) more script.2 new script.1 (ap (λ x. x.ended) script.3.1 ∙ was) script.4
-  script_ended number (Reversed session ∷ more) old new text was script =
-      script_ended (number + 1) more script.2 new script.1 (ap (λ x. x.ended) script.3.1 ∙ was) script.4
-  script_ended number (Asks session call ∷ more) old new text was script =
-      script_ended (number + 1) more script.2 new script.1 (call_ended old.ended old (asked_as session) call script.3.0 script.2 was was script.3.1) script.4
-
-  open_before : (ended : Bool) (number : ℕ) (lines : List Line) (old new : State Rectangle D) (text : List ℕ) → old.ended ≡ ended → new.ended ≡ false
-      → IsScript (CallsIndex makes) number lines old text new → old.ended ≡ false
-  open_before true number lines old new text was is script = let no : true ≡ false = sym (script_ended number lines old new text was script) ∙ is in cc
-  open_before false number lines old new text was is script = was
-
-  open_call : (ended : Bool) (old : State Rectangle D) (s : ℕ) (call : Call Rectangle) (reply : Reply Rectangle) (new : State Rectangle D) → old.ended ≡ ended → new.ended ≡ false
-      → CallsIndex makes old s call reply new → old.ended ≡ false
-  open_call true old s call reply new was is calls = let no : true ≡ false = sym (call_ended old.ended old s call reply new was was calls) ∙ is in cc
-  open_call false old s call reply new was is calls = was
-
   -- a line that asks nothing changes nothing
   quiet : (number : ℕ) (line : Line) (more : List Line) (old middle new : State Rectangle D) (first rest text : List ℕ) → middle ≡ old → text ≡ first ++ rest
       → ((m n : Machine Rectangle) → IsOneRun (number + 1) more m n rest → IsOneRun number (line ∷ more) m n text)
@@ -125,10 +99,10 @@ module _ {C D : Type 0} (shape : Members Rectangle) (proper : Rectangle → Bool
       let after = there bodies i h m seen in
       record { ran = after.ran; machine = after.machine; seen = after.seen; runs = tells m after.machine after.runs }
 
-  pub script_alone : (number : ℕ) (lines : List Line) (old new : State Rectangle D) (text : List ℕ) → c.keys ≡ box_keys → new.ended ≡ false
-      → IsLawful c → IsScript (CallsIndex makes) number lines old text new → From old new (λ m n. IsOneRun number lines m n text)
+  pub script_alone : (number : ℕ) (lines : List Line) (old new : State Rectangle D) (text : List ℕ) → c.keys ≡ box_keys → old.ended ≡ false
+      → AskedEnds shape proper said class state l → IsLawful c → IsScript (CallsIndex makes) number lines old text new → From old new (λ m n. IsOneRun number lines m n text)
   unfolding ran_nothing ran_joined
-  script_alone number [] old new text keys is lawful script bodies i h m seen =
+  script_alone number [] old new text keys was never lawful script bodies i h m seen =
       subst (λ (x : State Rectangle D). RunsAs c (reading_of said (format_of class)) (format_of class) (is_node (format_of class)) (state old.engine.volume.shelf.disk) (state x.engine.volume.shelf.disk)
       x.engine i (λ n. IsOneRun number [] m n text)) (sym script.1)
       (record {
@@ -137,29 +111,28 @@ module _ {C D : Type 0} (shape : Members Rectangle) (proper : Rectangle → Bool
         seen = seen;
         runs = record { steps = []; runs = refl; tells = (refl, script.0) };
       })
-  script_alone number (Blank ∷ more) old new text keys is lawful script bodies i h m seen =
+  script_alone number (Blank ∷ more) old new text keys was never lawful script bodies i h m seen =
       quiet number Blank more old script.2 new script.0 script.1 text script.3.1 script.5
       (λ m n run. record {
         steps = run.steps;
         runs = run.runs;
         tells = subst (λ (t : List ℕ). Tells (number + 1) more (calls_and_replies (record_of run.steps)) t) (sym (script.5 ∙ ap (λ (t : List ℕ). t ++ script.1) script.3.0)) run.tells;
       })
-      (script_alone (number + 1) more script.2 new script.1 keys is lawful script.4) bodies i h m seen
-  script_alone number (Bad ∷ more) old new text keys is lawful script bodies i h m seen =
+      (script_alone (number + 1) more script.2 new script.1 keys (ap (λ x. x.ended) script.3.1 ∙ was) never lawful script.4) bodies i h m seen
+  script_alone number (Bad ∷ more) old new text keys was never lawful script bodies i h m seen =
       quiet number Bad more old script.2 new script.0 script.1 text script.3.1 script.5
       (λ m n run. record { steps = run.steps; runs = run.runs; tells = (script.1, script.5 ∙ ap (λ (t : List ℕ). t ++ script.1) script.3.0, run.tells) })
-      (script_alone (number + 1) more script.2 new script.1 keys is lawful script.4) bodies i h m seen
-  script_alone number (Reversed session ∷ more) old new text keys is lawful script bodies i h m seen =
+      (script_alone (number + 1) more script.2 new script.1 keys (ap (λ x. x.ended) script.3.1 ∙ was) never lawful script.4) bodies i h m seen
+  script_alone number (Reversed session ∷ more) old new text keys was never lawful script bodies i h m seen =
       quiet number (Reversed session) more old script.2 new script.0 script.1 text script.3.1 script.5
       (λ m n run. record { steps = run.steps; runs = run.runs; tells = (script.1, script.5 ∙ ap (λ (t : List ℕ). t ++ script.1) script.3.0, run.tells) })
-      (script_alone (number + 1) more script.2 new script.1 keys is lawful script.4) bodies i h m seen
-  script_alone number (Asks session call ∷ more) old new text keys is lawful script bodies i h m seen =
+      (script_alone (number + 1) more script.2 new script.1 keys (ap (λ x. x.ended) script.3.1 ∙ was) never lawful script.4) bodies i h m seen
+  script_alone number (Asks session call ∷ more) old new text keys was never lawful script bodies i h m seen =
       let told = script.3 in
       let middle = script.2 in
-      let open_then = open_before middle.ended (number + 1) more middle new script.1 refl is script.4 in
-      let open_first = open_call old.ended old (asked_as session) call told.0 middle refl open_then told.1 in
-      let first = call_alone shape proper said class state l old (asked_as session) call told.0 middle told.1 open_first open_then lawful bodies i h m seen in
-      let rest = script_alone (number + 1) more middle new script.1 keys is lawful script.4 first.ran.bodies first.ran.index first.ran.holds first.machine first.seen in
+      let goes_on = call_goes_on shape proper said class state l old (asked_as session) call told.0 middle told.1 was never bodies i h in
+      let first = call_alone shape proper said class state l old (asked_as session) call told.0 middle told.1 was never lawful bodies i h m seen in
+      let rest = script_alone (number + 1) more middle new script.1 keys goes_on never lawful script.4 first.ran.bodies first.ran.index first.ran.holds first.machine first.seen in
       record {
         ran = ran_joined c _ _ _ (state old.engine.volume.shelf.disk) (state middle.engine.volume.shelf.disk) (state new.engine.volume.shelf.disk) middle.engine new.engine i first.ran rest.ran;
         machine = rest.machine;

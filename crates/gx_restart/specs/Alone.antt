@@ -1,6 +1,5 @@
 -- A call that is asked alone, as a run of the index and of the set machine.
 use Rattle.std.specs.Prelude.{ℕ, ◌≡◌, ◌≢◌, Bool, List, [], ◌∷◌}
-use Rattle.gx_geom.specs.Rectangles.{Rectangle}
 use Rattle.gx_geom.specs.declared.refusal.Refusal.TheVariants.{Damaged}
 use Rattle.gx_machine.specs.declared.entry.Entry.{Entry}
 use Rattle.gx_machine.specs.declared.call.Call.{Call}
@@ -16,8 +15,7 @@ use Rattle.gx_index_laws.specs.Classes.{Class, Page}
 use Rattle.gx_index_laws.specs.States as index
 use Rattle.gx_index_laws.specs.States.{engine_of}
 use Rattle.gx_durable.specs.Spelled.{Reading}
-use Rattle.gx_script.specs.declared.line.Line.{Line}
-use Rattle.gx_plain.specs.OneRun.{IsCallRun, IsOneRun}
+use Rattle.gx_plain.specs.OneRun.{IsCallRun}
 use Rattle.gx_events.specs.declared.event.Event.{Event}
 use Rattle.gx_events.specs.declared.outcome.Outcome.{Outcome}
 use Rattle.gx_events.specs.declared.outcome.Outcome.TheVariants.{Refused}

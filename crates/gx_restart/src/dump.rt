@@ -10,6 +10,7 @@ ghost use Rattle.gx_dump.specs.Bringing.{Brings, Helps};
 ghost use Rattle.gx_dump.specs.Reading.{OfItsTree, Reads};
 ghost use Rattle.gx_dump.specs.Text.{dump_text};
 ghost use Rattle.gx_restart.specs.Alone.{RunsOn};
+ghost use Rattle.gx_restart.specs.Called.{EndsWhereHeld};
 ghost use Rattle.gx_restart.specs.Dumped.{Dumps};
 
 use crate::{DumpFault, Index};
@@ -27,7 +28,7 @@ impl<D: SectorDisk, K: ReadKeys + KeyClass<Key = Box2>> Index<D, K> {
     ///
     /// `Write` where the writer fails or takes nothing. `Refused` with `Device`, `Failed` or `Damaged` as an event was. Where a page isn't
     /// brought within `EVENTS` turns of one or two events it is given up, with `Damaged`; from then on the index only refuses, with
-    /// `Failed`, and writes nothing. What was written before is a beginning of the text.
+    /// `Failed`, and writes nothing. Over a device that doesn't lie none is given up. What was written before is a beginning of the text.
     pub fn dump<W: Write>(&mut self, writer: &mut W) -> Result<(), DumpFault>
         ensures dumps { Dumps (Brings ⟦<Box2 as Shape>⟧ K.is_proper K.said K.KeyClass D.state) (Helps ⟦<Box2 as Shape>⟧ K.is_proper K.said K.KeyClass D.state) self.old result self.new }
         ensures text { OnOk result ((l : Limits) → OfItsTree (class_of ⟦<Box2 as Shape>⟧ K.is_proper l) (reading_of K.said (format_of K.KeyClass)) (format_of K.KeyClass) (is_node (format_of K.KeyClass))
@@ -40,6 +41,7 @@ impl<D: SectorDisk, K: ReadKeys + KeyClass<Key = Box2>> Index<D, K> {
         ensures runs { (l : Limits) → RunsOn (class_of ⟦<Box2 as Shape>⟧ K.is_proper l) (reading_of K.said (format_of K.KeyClass)) (format_of K.KeyClass) (is_node (format_of K.KeyClass))
             D.state self.old.engine self.new.engine }
         ensures keeps { KeepsSessions self.old.engine self.new.engine }
+        ensures ends { (l : Limits) → EndsWhereHeld ⟦<Box2 as Shape>⟧ K.is_proper K.said K.KeyClass D.state l self.old self.new }
     {
         if self.ended {
             return Err(DumpFault::Refused(Refusal::Failed));

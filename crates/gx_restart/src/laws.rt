@@ -26,26 +26,28 @@ use gx_disk::SectorDisk;
 use gx_geom::{Box2, Shape};
 use gx_readings::ReadKeys;
 
-/// A call of an index over an engine that holds an index's state, which was not given up, is a run of the machine as which that state is
+/// A call of an index over an engine that holds an index's state is a run of the machine as which that state is
 /// seen: the call is asked and given its reply, and nothing else is asked or replied. So the reply is the machine's for that call asked
 /// alone, or tells of a fault that was met.
 pub fn each_call_is_asked_alone<D: SectorDisk, K: ReadKeys>()
     ensures { (l : Limits) (s : ℕ) (call : Call K.Key) (reply : Reply K.Key) (old new : State K.Key D)
-        → CallsIndex (Makes K.Key.Shape K.is_proper K.said K.KeyClass D.state) old s call reply new → old.ended ≡ false → new.ended ≡ false
+        → CallsIndex (Makes K.Key.Shape K.is_proper K.said K.KeyClass D.state) old s call reply new → old.ended ≡ false
         → CallsAlone (class_of K.Key.Shape K.is_proper l) (reading_of K.said (format_of K.KeyClass)) (format_of K.KeyClass) (is_node (format_of K.KeyClass)) D.state s call reply old.engine new.engine }
 {
     gx_engine::laws::a_class_is_lawful::<K>();
+    gx_driven::laws::no_call_is_given_up::<D, K>();
 }
 
 /// What the lines of a script ask of an index over an engine that holds an index's state, and are answered, is one run of the machine as
-/// which that state is seen, joined over all lines, where no call was given up; its replies are those of the text.
+/// which that state is seen, joined over all lines; its replies are those of the text.
 pub fn each_script_is_one_run<D: SectorDisk, K: ReadKeys + KeyClass<Key = Box2>>()
     ensures { (l : Limits) (number : ℕ) (lines : List Line) (old new : State Rectangle D) (text : List ℕ)
-        → IsScript (CallsIndex (Makes ⟦<Box2 as Shape>⟧ K.is_proper K.said K.KeyClass D.state)) number lines old text new → new.ended ≡ false
+        → IsScript (CallsIndex (Makes ⟦<Box2 as Shape>⟧ K.is_proper K.said K.KeyClass D.state)) number lines old text new → old.ended ≡ false
         → RunsFrom (class_of ⟦<Box2 as Shape>⟧ K.is_proper l) (reading_of K.said (format_of K.KeyClass)) (format_of K.KeyClass) (is_node (format_of K.KeyClass)) D.state old.engine new.engine
         (λ m n. IsOneRun number lines m n text) }
 {
     gx_engine::laws::a_class_is_lawful::<K>();
+    gx_driven::laws::no_call_is_given_up::<D, K>();
 }
 
 /// Where a settling has ended well over an engine that holds an index's state, each commit that was sealed is durable.

@@ -1,7 +1,7 @@
 //! Looks for boxes, and for pairs that are to be marked.
 ghost use Rattle.std.specs.Prelude.{◌≤◌, length};
 
-use crate::tree::drawn::{draw_place, draw_window};
+use crate::drawn::{draw_place, draw_window};
 use crate::tree::writes::{Tree, root};
 use gx_class::Box2Class;
 use gx_geom::Box2;

@@ -6,6 +6,7 @@ use Rattle.gx_script.specs.Writes.{IsCut, IsPut}
 use Rattle.gx_dump.specs.declared.stop.Stop.TheVariants as stop
 use Rattle.gx_dump.specs.Text.{node_text}
 use Rattle.gx_dump.proofs.Boxes.{boxes}
+use Rattle.gx_dump.proofs.Ending.{only_write, read_ends}
 use Rattle.gx_dump.proofs.Bringing.{all_read, all_used, brings, helps, read_keeps, read_run}
 use Rattle.gx_dump.proofs.Reading.{nothing_read}
 use Rattle.gx_dump.proofs.Telling.{all_told, head_cut, head_told, last_cut, later, one_more, page_cut, page_told, stopped}
@@ -98,3 +99,19 @@ pub returns-clause-keeps : goal.returns-clause-keeps
 returns-clause-keeps g c =
     read_keeps boxes g.K.ReadKeys.is_proper g.K.ReadKeys.said g.K.KeyClass g.D.SectorDisk.state (Err stop.Write) c.args.engine.now c.loop-last.engine
     (c.loop-last.last, omega (arith, c.used-used.ensures, c.loop-last.auto.last-end), c.loop-last.invariant.all)
+
+pub returns-in_err-put_head-clause-ends : goal.returns-in_err-put_head-clause-ends
+returns-in_err-put_head-clause-ends g c =
+    let p = err_from_is_err_and c.from_residual.result c.from_residual.ensures.1 in
+    rw (p.1, p.2) (λ l bodies i h. only_write _ (Err c.in_err-put_head.field-0.0) c.in_err-put_head.ensures.cut)
+
+pub returns-in_err-tell-clause-ends : goal.returns-in_err-tell-clause-ends
+returns-in_err-tell-clause-ends g c =
+    let p = err_from_is_err_and c.from_residual-in_err-tell.result c.from_residual-in_err-tell.ensures.1 in
+    let law = c.a_page_that_waits_names_work.ensures in
+    rw (p.1, p.2) (λ l.
+    read_ends boxes g.K.ReadKeys.is_proper g.K.ReadKeys.said g.K.KeyClass g.D.SectorDisk.state l (law.work l) law.helps law.few (Err c.in_err-tell.field-0.0) c.args.engine.now c.tell.new.engine
+    (stopped (brings boxes g.K.ReadKeys.is_proper g.K.ReadKeys.said g.K.KeyClass g.D.SectorDisk.state) (helps boxes g.K.ReadKeys.is_proper g.K.ReadKeys.said g.K.KeyClass g.D.SectorDisk.state) c.loop-last.last c.args.engine.now c.loop-last.engine c.tell.new.engine c.loop-last.invariant.all c.in_err-tell.field-0.0 (omega (arith, c.used-used.ensures, c.loop-last-test.true)) c.in_err-tell.ensures.told))
+
+pub returns-clause-ends : goal.returns-clause-ends
+returns-clause-ends g c = λ l bodies i h. only_write _ c.flush.result c.flush.ensures.cut

@@ -16,14 +16,14 @@ pub returns-clause-text : goal.returns-clause-text
 returns-clause-text g c = on_ok_weaker c.put_page.result
     (λ put l bodies i h.
     subst (λ (n : Node _). IsPut (g.W.Write.contents c.args.writer.now) (g.W.Write.contents c.put_page.new.writer) c.args.lines.now (node_text c.args.page n) c.put_page.new.lines)
-    (node_told _ _ _ _ _ l c.args.page c.args.engine.now c.bring.new.engine c.page.result.now c.requires.from c.requires.to c.in_ok-bring.ensures.brought
-    (c.a_volume_shows_the_logs_tree.ensures l c.bring.new.engine.volume) c.page.ensures bodies i h) put)
+    (node_told _ _ _ _ _ l c.args.page c.args.engine.now c.bring.new.engine c.held_page.result.now c.requires.from c.requires.to c.in_ok-bring.ensures.brought
+    (c.a_volume_shows_the_logs_tree.ensures l c.bring.new.engine.volume) c.held_page.ensures bodies i h) put)
     c.put_page.ensures.ok
 
 pub returns-clause-cut : goal.returns-clause-cut
 returns-clause-cut g c = fault_as c.put_page.result
     (λ cut l bodies i h.
     subst (λ (n : Node _). IsCut (g.W.Write.contents c.args.writer.now) (g.W.Write.contents c.put_page.new.writer) (c.args.lines.now ++ node_text c.args.page n))
-    (node_told _ _ _ _ _ l c.args.page c.args.engine.now c.bring.new.engine c.page.result.now c.requires.from c.requires.to c.in_ok-bring.ensures.brought
-    (c.a_volume_shows_the_logs_tree.ensures l c.bring.new.engine.volume) c.page.ensures bodies i h) cut)
+    (node_told _ _ _ _ _ l c.args.page c.args.engine.now c.bring.new.engine c.held_page.result.now c.requires.from c.requires.to c.in_ok-bring.ensures.brought
+    (c.a_volume_shows_the_logs_tree.ensures l c.bring.new.engine.volume) c.held_page.ensures bodies i h) cut)
     c.put_page.ensures.cut

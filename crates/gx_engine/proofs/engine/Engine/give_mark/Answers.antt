@@ -1,21 +1,15 @@
-use Rattle.std.proofs.Common.{ℕ, ◌≤◌, subst, sym, rules}
+use Rattle.std.proofs.Common.{rules}
 use Rattle.gx_txn.specs.declared.note.Note.{Note}
 use Rattle.gx_engine.proofs.Framed.{marked_frames}
 use Rattle.gx_engine.proofs.Undone.{seeking}
+use Rattle.gx_engine.proofs.Ordered.{order_changed}
 use Rattle.gx_engine.proofs.engine.Engine.give_mark.Goals as goal
 
 pub invariant_of-self : goal.invariant_of-self
 invariant_of-self g c =
-    let was = c.self.invariant in
     let did = c.set_mark.ensures in
-    record {
-      stands = search rules;
-      durable = was.durable;
-      sealed = was.sealed;
-      some = search rules;
-      space = was.space;
-      frames = subst (λ (n : ℕ). 16 ≤ n) (sym (marked_frames _ _ _ _ _ _ _ _ g.K.KeyClass.spelling g.K.KeyClass.KEY c.transaction-transaction.result c.args.entry.now c.args.leaf c.args.marked c.set_mark.result did.logged did.unlogged)) was.frames;
-    }
+    order_changed _ _ c.self.invariant _ (search rules) (search rules)
+    (marked_frames _ _ _ _ _ _ _ _ g.K.KeyClass.spelling g.K.KeyClass.KEY c.transaction-transaction.result c.args.entry.now c.args.leaf c.args.marked c.set_mark.result did.logged did.unlogged)
 
 pub returns-clause-sought : goal.returns-clause-sought
 returns-clause-sought g c =

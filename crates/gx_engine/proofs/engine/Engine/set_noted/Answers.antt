@@ -1,22 +1,16 @@
-use Rattle.std.proofs.Common.{ap, sym, subst, ◌∙◌, ℕ, ◌≤◌, rules}
+use Rattle.std.proofs.Common.{rules}
 use Rattle.gx_tree.specs.Wants.{wants}
 use Rattle.gx_engine.specs.States.{Parts}
 use Rattle.gx_engine.proofs.Framed.{marked_frames}
 use Rattle.gx_engine.proofs.Undone.{seeking}
+use Rattle.gx_engine.proofs.Ordered.{order_changed}
 use Rattle.gx_engine.proofs.engine.Engine.set_noted.Goals as goal
 
 pub invariant_of-self : goal.invariant_of-self
 invariant_of-self g c =
-    let was = c.self.invariant in
     let did = c.set_mark.ensures in
-    record {
-      stands = search rules;
-      durable = was.durable;
-      sealed = was.sealed;
-      some = search rules;
-      space = was.space;
-      frames = subst (λ (n : ℕ). 16 ≤ n) (sym (marked_frames _ _ _ _ _ _ _ _ g.K.KeyClass.spelling g.K.KeyClass.KEY c.transaction-transaction.result c.args.note.now.entry c.args.leaf c.args.note.now.before c.set_mark.result did.logged did.unlogged)) was.frames;
-    }
+    order_changed _ _ c.self.invariant _ (search rules) (search rules)
+    (marked_frames _ _ _ _ _ _ _ _ g.K.KeyClass.spelling g.K.KeyClass.KEY c.transaction-transaction.result c.args.note.now.entry c.args.leaf c.args.note.now.before c.set_mark.result did.logged did.unlogged)
 
 pub returns-clause-sought : goal.returns-clause-sought
 returns-clause-sought g c =

@@ -1,21 +1,15 @@
-use Rattle.std.proofs.Common.{ℕ, ◌≤◌, subst, sym, rules}
+use Rattle.std.proofs.Common.{rules}
 use Rattle.gx_tree.specs.Descending.{is_widened}
 use Rattle.gx_engine.proofs.Descents.{stepping}
 use Rattle.gx_engine.proofs.Framed.{changed_frames}
+use Rattle.gx_engine.proofs.Ordered.{order_changed}
 use Rattle.gx_engine.proofs.engine.Engine.step_down.Goals as goal
 
 pub invariant_of-self : goal.invariant_of-self
 invariant_of-self g c =
-    let was = c.self.invariant in
     let did = c.descend.ensures in
-    record {
-      stands = search rules;
-      durable = was.durable;
-      sealed = was.sealed;
-      some = search rules;
-      space = was.space;
-      frames = subst (λ (n : ℕ). 16 ≤ n) (sym (changed_frames _ _ _ _ _ _ _ _ 4114 _ is_widened c.descend.result did.logged did.unlogged)) was.frames;
-    }
+    order_changed _ _ c.self.invariant _ (search rules) (search rules)
+    (changed_frames _ _ _ _ _ _ _ _ 4114 _ is_widened c.descend.result did.logged did.unlogged)
 
 pub returns-clause-step : goal.returns-clause-step
 returns-clause-step g c =

@@ -1,23 +1,17 @@
-use Rattle.std.proofs.Common.{ℕ, ◌≤◌, subst, sym, rules}
+use Rattle.std.proofs.Common.{rules}
 use Rattle.gx_machine.specs.Keys.{keys}
 use Rattle.gx_engine.specs.States.{Parts}
 use Rattle.gx_engine.specs.Sweeping.{is_held}
 use Rattle.gx_engine.proofs.Framed.{changed_frames}
 use Rattle.gx_engine.proofs.Descents.{leaf_sweeping}
+use Rattle.gx_engine.proofs.Ordered.{order_changed}
 use Rattle.gx_engine.proofs.engine.Engine.sweep_leaf.Goals as goal
 
 pub invariant_of-self : goal.invariant_of-self
 invariant_of-self g c =
-    let was = c.self.invariant in
     let did = c.sweep.ensures in
-    record {
-      stands = search rules;
-      durable = was.durable;
-      sealed = was.sealed;
-      some = search rules;
-      space = was.space;
-      frames = subst (λ (n : ℕ). 16 ≤ n) (sym (changed_frames _ _ _ _ _ _ _ _ 4114 _ (λ any. any) c.sweep.result did.logged did.unlogged)) was.frames;
-    }
+    order_changed _ _ c.self.invariant _ (search rules) (search rules)
+    (changed_frames _ _ _ _ _ _ _ _ 4114 _ (λ any. any) c.sweep.result did.logged did.unlogged)
 
 pub returns-clause-sweeps : goal.returns-clause-sweeps
 returns-clause-sweeps g c =

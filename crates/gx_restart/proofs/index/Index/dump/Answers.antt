@@ -1,5 +1,8 @@
+use Rattle.std.proofs.Common.{subst, Err}
 use Rattle.gx_node.specs.Reading.{format_of, is_node}
 use Rattle.gx_readings.specs.Classes.{class_of, reading_of}
+use Rattle.gx_dump.specs.declared.stop.Stop.{Stop}
+use Rattle.gx_dump.specs.Reading.{IsNotGivenUp}
 use Rattle.gx_dump.proofs.Boxes.{boxes}
 use Rattle.gx_dump.proofs.Reading.{nothing_read}
 use Rattle.gx_dump.proofs.Telling.{none_told}
@@ -27,3 +30,7 @@ returns-in-Err-Refused-clause-cut g c = rw (← c.self.view_is) c.in-Err-Refused
 
 pub returns-in-Err-GivenUp-clause-cut : goal.returns-in-Err-GivenUp-clause-cut
 returns-in-Err-GivenUp-clause-cut g c = rw (← c.self.view_is) c.in-Err-GivenUp.ensures.cut
+
+pub returns-in-Err-GivenUp-clause-ends : goal.returns-in-Err-GivenUp-clause-ends
+returns-in-Err-GivenUp-clause-ends g c = rw (← c.self.view_is) (λ l bodies i h.
+    (let no : ⊥ = subst (λ (e : Stop). IsNotGivenUp (Err e)) c.in-Err-GivenUp.field-0-is (c.in-Err-GivenUp.ensures.ends l bodies i h) in absurd no))

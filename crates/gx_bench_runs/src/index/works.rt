@@ -1,0 +1,130 @@
+//! What a session does.
+ghost use Rattle.std.specs.Prelude.{◌≤◌, length};
+
+use crate::drawn::{draw_box, draw_window};
+use crate::index::driven::Index;
+use gx_geom::Box2;
+use gx_machine::{Call, Entry, MAX_PREDICATES, Query, Reply};
+use std::alloc::Global;
+
+/// How many places lie between a pair that is deleted and the next one: a number that has no divisor in common with how many there are.
+const STRIDE: u64 = 61_813;
+
+/// Opens the session's transaction.
+fn begin(index: &mut Index) -> Option<()> {
+    match index.call(Call::Begin)? {
+        Reply::Ok => Some(()),
+        _ => None,
+    }
+}
+
+/// Ends the session's transaction, whose changes are kept.
+fn commit(index: &mut Index) -> Option<()> {
+    match index.call(Call::Commit)? {
+        Reply::Committed(_) => Some(()),
+        _ => None,
+    }
+}
+
+/// Ends the session's transaction, which has no changes.
+fn abort(index: &mut Index) -> Option<()> {
+    match index.call(Call::Abort)? {
+        Reply::Aborted => Some(()),
+        _ => None,
+    }
+}
+
+/// Adds a pair.
+fn insert(index: &mut Index, entry: &Entry<Box2>) -> Option<()> {
+    match index.call(Call::Insert(*entry))? {
+        Reply::Inserted => Some(()),
+        _ => None,
+    }
+}
+
+/// Takes a pair away.
+fn delete(index: &mut Index, entry: &Entry<Box2>) -> Option<()> {
+    match index.call(Call::Delete(*entry))? {
+        Reply::Deleted => Some(()),
+        _ => None,
+    }
+}
+
+/// Inserts so many drawn boxes, `each` in a transaction, and answers the pairs.
+pub(crate) fn insert_many(
+    alloc: Global,
+    index: &mut Index,
+    boxes: u64,
+    each: u64,
+) -> Option<Vec<Entry<Box2>>>
+    requires { 1 ≤ each }
+{
+    let mut entries = Vec::new(alloc);
+    let mut state = 7;
+    for row in 0..boxes {
+        if row % each == 0 {
+            begin(index)?;
+        }
+        let key = draw_box(&mut state)?;
+        let entry = Entry { row, key };
+        insert(index, &entry)?;
+        entries.push(entry).ok()?;
+        if row % each == each - 1 || row == boxes - 1 {
+            commit(index)?;
+        }
+    }
+    Some(entries)
+}
+
+/// Looks for boxes that overlap a window: how many there are, and their rows, all added up.
+fn query(index: &mut Index, window: Box2) -> Option<u64> {
+    let Reply::Found(found) = index.call(Call::Search(Query::Overlap(window)))? else {
+        return None;
+    };
+    let mut sum: u64 = 0;
+    for entry in found.as_slice() {
+        sum = sum.wrapping_add(entry.row).wrapping_add(1);
+    }
+    Some(sum)
+}
+
+/// Makes so many queries of drawn windows, as many in a transaction as it may make, and answers the sum.
+pub(crate) fn query_many(index: &mut Index, queries: u64) -> Option<u64> {
+    let each = MAX_PREDICATES as u64;
+    let mut state = 11;
+    let mut sum: u64 = 0;
+    for number in 0..queries {
+        if number % each == 0 {
+            begin(index)?;
+        }
+        let window = draw_window(&mut state)?;
+        sum = sum.wrapping_add(query(index, window)?);
+        if number % each == each - 1 || number == queries - 1 {
+            abort(index)?;
+        }
+    }
+    Some(sum)
+}
+
+/// Deletes so many of these pairs, `each` in a transaction, and answers how many that were.
+pub(crate) fn delete_many(
+    index: &mut Index,
+    entries: &[Entry<Box2>],
+    marks: u64,
+    each: u64,
+) -> Option<u64>
+    requires pairs { 1 ≤ length entries.now }
+    requires each { 1 ≤ each }
+{
+    for number in 0..marks {
+        if number % each == 0 {
+            begin(index)?;
+        }
+        let place = number.wrapping_mul(STRIDE) % entries.len() as u64;
+        delete(index, &entries[place as usize])?;
+        if number % each == each - 1 || number == marks - 1 {
+            commit(index)?;
+        }
+    }
+    Some(marks)
+}
