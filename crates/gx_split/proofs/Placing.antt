@@ -8,7 +8,7 @@ use Rattle.std.proofs.lemmas.Simd.{map-map}
 use Rattle.gx_split.specs.declared.waiting.Waiting.{Waiting}
 use Rattle.gx_split.specs.declared.waiting.Covers.{Covers}
 use Rattle.gx_split.specs.Split.{Measure, Groups, growth, growth_at, difference, first_greatest, goes_second, next_place, put, place_one, placed}
-use Rattle.gx_split.specs.Waiting.{slot_of, gap_of, covers_with, with_growth, sides_with, groups_of, IsFresh, IsKept}
+use Rattle.gx_split.specs.Waiting.{slot_of, gap_of, cover_of, covers_with, with_first, with_second, with_growth, sides_with, groups_of, HasGrowths, IsFresh, IsKept}
 
 pub remove-map : {X Y : Type 0} (f : X → Y) (xs : List X) (i : ℕ) → remove (map f xs) i ≡ map f (remove xs i)
 remove-map f xs i =
@@ -23,10 +23,10 @@ unfolding growth_at
 growth_is m keys cover key slot is = ap (growth m cover) is
 
 first_is : {K : Type 0} (m : Measure K) (keys : List K) (c : Covers K) (w : Waiting K) → IsFresh m keys c w → w.first ≡ growth_at m keys c.first w.slot
-first_is m keys c w is = is.first ∙ sym (growth_is m keys c.first w.key.now w.slot is.key)
+first_is m keys c w is = is.grown.first ∙ sym (growth_is m keys c.first w.key.now w.slot is.key)
 
 second_is : {K : Type 0} (m : Measure K) (keys : List K) (c : Covers K) (w : Waiting K) → IsFresh m keys c w → w.second ≡ growth_at m keys c.second w.slot
-second_is m keys c w is = is.second ∙ sym (growth_is m keys c.second w.key.now w.slot is.key)
+second_is m keys c w is = is.grown.second ∙ sym (growth_is m keys c.second w.key.now w.slot is.key)
 
 gaps_are : {K : Type 0} (m : Measure K) (keys : List K) (c : Covers K) (ws : List (Waiting K)) → All (IsFresh m keys c) ws
     → map gap_of ws ≡ map (difference m keys c.first c.second) (map slot_of ws)
@@ -35,7 +35,8 @@ gaps_are m keys c (w ∷ ws) all =
     let is = All-head (IsFresh m keys c) w ws all in
     let rest = gaps_are m keys c ws (All-tail (IsFresh m keys c) w ws all) in
     let gap : gap_of w ≡ difference m keys c.first c.second w.slot =
-    ap (λ a. abs_diff a w.second) (first_is m keys c w is) ∙ ap (abs_diff (growth_at m keys c.first w.slot)) (second_is m keys c w is)
+    is.grown.apart ∙ ap (λ a. abs_diff a w.second) (first_is m keys c w is)
+    ∙ ap (abs_diff (growth_at m keys c.first w.slot)) (second_is m keys c w is)
     in
     ap (λ a. a ∷ map gap_of ws) gap ∙ ap (λ l. difference m keys c.first c.second w.slot ∷ l) rest
 
@@ -62,65 +63,108 @@ pub next_is_fresh : {K : Type 0} (m : Measure K) (keys : List K) (c : Covers K) 
     → place < length ws → next ≡ get_or ws place next → IsFresh m keys c next
 next_is_fresh m keys c ws place next kept within is_next = subst (IsFresh m keys c) (sym is_next) (kept.fresh place next within)
 
-pub grown_second : {K : Type 0} (m : Measure K) (c : Covers K) (w : Waiting K) (n : ℕ) (t : Bool) → t ≡ true → n ≡ growth m c.second (Some w.key.now)
-    → record w { second = n } ≡ with_growth m t c w
-grown_second m c w n true is e = ap (λ k. record w { second = k }) e
-grown_second m c w n false is e = cc
+pub grown_second : {K : Type 0} (m : Measure K) (c : Covers K) (w : Waiting K) (grows apart : ℕ) (side : Bool) → side ≡ true
+    → grows ≡ growth m c.second (Some w.key.now) → apart ≡ abs_diff w.first grows
+    → record w { second = grows; apart = apart } ≡ with_growth m side c w
+grown_second m c w grows apart true is e far = ap (λ a. record w { second = grows; apart = a }) far ∙ ap (with_second w) e
+grown_second m c w grows apart false is e far = cc
 
-pub grown_first : {K : Type 0} (m : Measure K) (c : Covers K) (w : Waiting K) (n : ℕ) (t : Bool) → t ≡ false → n ≡ growth m c.first (Some w.key.now)
-    → record w { first = n } ≡ with_growth m t c w
-grown_first m c w n true is e = cc
-grown_first m c w n false is e = ap (λ k. record w { first = k }) e
+pub grown_first : {K : Type 0} (m : Measure K) (c : Covers K) (w : Waiting K) (grows apart : ℕ) (side : Bool) → side ≡ false
+    → grows ≡ growth m c.first (Some w.key.now) → apart ≡ abs_diff grows w.second
+    → record w { first = grows; apart = apart } ≡ with_growth m side c w
+grown_first m c w grows apart true is e far = cc
+grown_first m c w grows apart false is e far = ap (λ a. record w { first = grows; apart = a }) far ∙ ap (with_first w) e
+
+-- beside a cover that covered the key that went to it, growths are as they were
+stays_second : {K : Type 0} (m : Measure K) (c : Covers K) (cover : K) (w : Waiting K) → cover ≡ c.second → HasGrowths m c w
+    → with_second w (growth m cover (Some w.key.now)) ≡ w
+stays_second m c cover w same is =
+    ap (with_second w) (ap (λ k. growth m k (Some w.key.now)) same ∙ sym is.second) ∙ ap (λ a. record w { apart = a }) (sym is.apart)
+
+stays_first : {K : Type 0} (m : Measure K) (c : Covers K) (cover : K) (w : Waiting K) → cover ≡ c.first → HasGrowths m c w
+    → with_first w (growth m cover (Some w.key.now)) ≡ w
+stays_first m c cover w same is =
+    ap (with_first w) (ap (λ k. growth m k (Some w.key.now)) same ∙ sym is.first) ∙ ap (λ a. record w { apart = a }) (sym is.apart)
+
+stays : {K : Type 0} (m : Measure K) (c : Covers K) (key : K) (side : Bool) (w : Waiting K) → m.join (cover_of side c) key ≡ cover_of side c
+    → HasGrowths m c w → with_growth m side (covers_with m side c key) w ≡ w
+stays m c key true w covered is = stays_second m c (m.join c.second key) w covered is
+stays m c key false w covered is = stays_first m c (m.join c.first key) w covered is
+
+pub all_stay : {K : Type 0} (m : Measure K) (c : Covers K) (key : K) (side : Bool) (ws : List (Waiting K)) → m.join (cover_of side c) key ≡ cover_of side c
+    → All (HasGrowths m c) ws → ws ≡ map (with_growth m side (covers_with m side c key)) ws
+all_stay m c key side [] covered all = refl
+all_stay m c key side (w ∷ ws) covered all =
+    let head = stays m c key side w covered (All-head (HasGrowths m c) w ws all) in
+    let rest = all_stay m c key side ws covered (All-tail (HasGrowths m c) w ws all) in
+    ap (λ v. v ∷ ws) (sym head) ∙ ap (λ l. with_growth m side (covers_with m side c key) w ∷ l) rest
 
 -- the slots that wait stay what they are, and the one at the place goes
-rest_is : {K : Type 0} (m : Measure K) (t : Bool) (c : Covers K) (ws : List (Waiting K)) (place : ℕ)
-    → map slot_of (map (with_growth m t c) (remove ws place)) ≡ remove (map slot_of ws) place
+rest_is : {K : Type 0} (m : Measure K) (side : Bool) (c : Covers K) (ws : List (Waiting K)) (place : ℕ)
+    → map slot_of (map (with_growth m side c) (remove ws place)) ≡ remove (map slot_of ws) place
 rest_is m true c ws place = map-map slot_of (with_growth m true c) (remove ws place) ∙ sym (remove-map slot_of ws place)
 rest_is m false c ws place = map-map slot_of (with_growth m false c) (remove ws place) ∙ sym (remove-map slot_of ws place)
 
-put_is : {K : Type 0} (m : Measure K) (keys : List K) (c : Covers K) (ws ws' : List (Waiting K)) (sides : List Bool) (place slot : ℕ) (key : K) (t : Bool)
+put_is : {K : Type 0} (m : Measure K) (keys : List K) (c : Covers K) (ws ws' : List (Waiting K)) (sides : List Bool) (place slot : ℕ) (key : K) (side : Bool)
     → slice_get keys slot ≡ Some key → map slot_of ws' ≡ remove (map slot_of ws) place
-    → groups_of (covers_with m t c key) ws' (sides_with t sides slot) ≡ put m keys (groups_of c ws sides) place slot t
+    → groups_of (covers_with m side c key) ws' (sides_with side sides slot) ≡ put m keys (groups_of c ws sides) place slot side
 put_is m keys c ws ws' sides place slot key true is rest = rw (is, rest)
 put_is m keys c ws ws' sides place slot key false is rest = rw (is, rest)
 
 -- what is kept after a placement stands for the groups after it
-pub placed_by : {K : Type 0} (m : Measure K) (keys : List K) (c c' : Covers K) (ws ws' : List (Waiting K)) (sides sides' : List Bool) (least place : ℕ) (next : Waiting K) (t : Bool)
+pub placed_by : {K : Type 0} (m : Measure K) (keys : List K) (c c' : Covers K) (ws ws' : List (Waiting K)) (sides sides' : List Bool) (least place : ℕ) (next : Waiting K) (side : Bool)
     → IsKept m keys c ws → place < length ws → place ≡ first_greatest (map gap_of ws) → next ≡ get_or ws place next
-    → t ≡ goes_second m (groups_of c ws []) least next.first next.second
-    → c' ≡ covers_with m t c next.key.now → ws' ≡ map (with_growth m t c') (remove ws place) → sides' ≡ sides_with t sides next.slot
+    → side ≡ goes_second m (groups_of c ws []) least next.first next.second
+    → c' ≡ covers_with m side c next.key.now → ws' ≡ map (with_growth m side c') (remove ws place) → sides' ≡ sides_with side sides next.slot
     → groups_of c' ws' sides' ≡ place_one m keys least (groups_of c ws sides)
-placed_by m keys c c' ws ws' sides sides' least place next t kept within is_place is_next is_side covers waiting marks =
+placed_by m keys c c' ws ws' sides sides' least place next side kept within is_place is_next is_side covers waiting marks =
     let is = next_is_fresh m keys c ws place next kept within is_next in
-    let rest = ap (map slot_of) waiting ∙ rest_is m t c' ws place in
-    ap (λ k. groups_of k ws' sides') covers ∙ ap (λ s. groups_of (covers_with m t c next.key.now) ws' s) marks
-    ∙ put_is m keys c ws ws' sides place next.slot next.key.now t is.key rest
-    ∙ sym (chosen m keys c ws sides least place next t kept.fresh is within is_place is_next is_side)
+    let rest = ap (map slot_of) waiting ∙ rest_is m side c' ws place in
+    ap (λ k. groups_of k ws' sides') covers ∙ ap (λ s. groups_of (covers_with m side c next.key.now) ws' s) marks
+    ∙ put_is m keys c ws ws' sides place next.slot next.key.now side is.key rest
+    ∙ sym (chosen m keys c ws sides least place next side kept.fresh is within is_place is_next is_side)
 
 -- a key is fresh beside the new cover of one group
-fresh_by : {K : Type 0} (m : Measure K) (keys : List K) (c : Covers K) (key : K) (t : Bool) (w : Waiting K) → IsFresh m keys c w
-    → IsFresh m keys (covers_with m t c key) (with_growth m t (covers_with m t c key) w)
-fresh_by m keys c key true w is = record { key = is.key; within = is.within; first = is.first; second = refl }
-fresh_by m keys c key false w is = record { key = is.key; within = is.within; first = refl; second = is.second }
+fresh_by : {K : Type 0} (m : Measure K) (keys : List K) (c : Covers K) (key : K) (side : Bool) (w : Waiting K) → IsFresh m keys c w
+    → IsFresh m keys (covers_with m side c key) (with_growth m side (covers_with m side c key) w)
+fresh_by m keys c key true w is = record {
+  key = is.key;
+  within = is.within;
+  grown = record { first = is.grown.first; second = refl; apart = refl };
+}
+fresh_by m keys c key false w is = record {
+  key = is.key;
+  within = is.within;
+  grown = record { first = refl; second = is.grown.second; apart = refl };
+}
 
-one_more : {K : Type 0} (m : Measure K) (c : Covers K) (key : K) (t : Bool) → (covers_with m t c key).in_first + (covers_with m t c key).in_second ≡ c.in_first + c.in_second + 1
+one_more : {K : Type 0} (m : Measure K) (c : Covers K) (key : K) (side : Bool) → (covers_with m side c key).in_first + (covers_with m side c key).in_second ≡ c.in_first + c.in_second + 1
 one_more m c key true = omega arith
 one_more m c key false = omega arith
 
 -- what is kept stays so
-pub kept_by : {K : Type 0} (m : Measure K) (keys : List K) (c c' : Covers K) (ws ws' : List (Waiting K)) (place : ℕ) (key : K) (t : Bool) → IsKept m keys c ws → place < length ws
-    → c' ≡ covers_with m t c key → ws' ≡ map (with_growth m t c') (remove ws place) → IsKept m keys c' ws'
-kept_by m keys c c' ws ws' place key t kept h covers waiting =
-    let after = covers_with m t c key in
-    let grown = with_growth m t after in
+pub kept_by : {K : Type 0} (m : Measure K) (keys : List K) (c c' : Covers K) (ws ws' : List (Waiting K)) (place : ℕ) (key : K) (side : Bool)
+    → IsKept m keys c ws → place < length ws → c' ≡ covers_with m side c key → ws' ≡ map (with_growth m side c') (remove ws place) → IsKept m keys c' ws'
+kept_by m keys c c' ws ws' place key side kept h covers waiting =
+    let after = covers_with m side c key in
+    let grown = with_growth m side after in
     let left = remove ws place in
-    let all : ws' ≡ map grown left = waiting ∙ ap (λ k. map (with_growth m t k) left) covers in
+    let all : ws' ≡ map grown left = waiting ∙ ap (λ k. map (with_growth m side k) left) covers in
     let less = length-remove ws place h in
-    let more = one_more m c key t in
+    let more = one_more m c key side in
     let before = kept.counted in
-    let again = All-weaker (IsFresh m keys c) (λ w. IsFresh m keys after (grown w)) (fresh_by m keys c key t) left (All-remove (IsFresh m keys c) ws place kept.fresh) in
+    let again = All-weaker (IsFresh m keys c) (λ w. IsFresh m keys after (grown w)) (fresh_by m keys c key side) left
+    (All-remove (IsFresh m keys c) ws place kept.fresh)
+    in
     subst (λ k. IsKept m keys k ws') (sym covers)
-    (subst (IsKept m keys after) (sym all) (record { fresh = All-map (IsFresh m keys after) grown left again; counted = omega (arith, less, length-map left grown, more, before) }))
+    (subst (IsKept m keys after) (sym all) (record {
+      fresh = All-map (IsFresh m keys after) grown left again;
+      counted = omega (arith, less, length-map left grown, more, before);
+    }))
+
+-- each key that waits has its growths
+pub all_grown : {K : Type 0} (m : Measure K) (keys : List K) (c : Covers K) (ws : List (Waiting K)) → IsKept m keys c ws → All (HasGrowths m c) ws
+all_grown m keys c ws kept = All-weaker (IsFresh m keys c) (HasGrowths m c) (λ w is. is.grown) ws kept.fresh
 
 pub placed-none : {K : Type 0} (m : Measure K) (keys : List K) (least : ℕ) (g : Groups K) → placed m keys least g 0 ≡ g
 unfolding placed

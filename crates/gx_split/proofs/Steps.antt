@@ -1,13 +1,14 @@
 -- One step more of each fold of the split.
-use Rattle.std.proofs.Common.{◌≡◌, ℕ, ◌+◌, ◌-◌, ◌<◌, ℤ, slice_index, Bool, true, false, cond, refl, ap, sym, ◌∙◌, subst, add-one, arith, ◌^◌, List, length, [], ◌∷◌, ◌++◌, All, Some, map, slice_get, take, get_or}
+use Rattle.std.proofs.Common.{◌≡◌, ℕ, zero, suc, ◌+◌, ◌-◌, ◌<◌, ℤ, ◌≤ℤ◌, slice_index, Bool, true, false, cond, refl, ap, sym, ◌∙◌, subst, add-one, arith, ◌^◌, List, length, [], ◌∷◌, ◌++◌, All, Some, map, slice_get, take, get_or}
 use Rattle.std.specs.Prelude.{int_lt, nat_lt}
+use Rattle.std.proofs.lemmas.Int.{ints}
 use Rattle.std.proofs.lemmas.List.{get_or-map, length-map, map-append, take_more}
 use Rattle.std.proofs.lemmas.List.Elements.{All-push}
 use Rattle.std.proofs.lemmas.Option.{slice_get-get_or}
 use Rattle.gx_split.specs.declared.choice.Spread.{Spread}
 use Rattle.gx_split.specs.declared.seeds.Candidate.{Candidate}
 use Rattle.gx_split.specs.Sizes.{IsSizes}
-use Rattle.gx_split.specs.Split.{Pair, pair, worse, worst_in_row, worst_in_rows, worst_pair, greatest_upto, first_greatest}
+use Rattle.gx_split.specs.Split.{Measure, Pair, pair, waste, waste_at, worse, worst_in_row, worst_in_rows, worst_pair, greatest_upto, first_greatest}
 
 worse_second : (w : ℕ → ℕ → ℤ) (p q : Pair) (a b : ℤ) → a ≡ w p.lower p.higher → b ≡ w q.lower q.higher → int_lt a b ≡ true → worse w p q ≡ q
 worse_second w p q a b pw qw h = ap (λ t. cond t q p) (ap (λ x. int_lt x (w q.lower q.higher)) (sym pw) ∙ ap (int_lt a) (sym qw) ∙ h)
@@ -71,6 +72,32 @@ pub row_goes_on : (w : ℕ → ℕ → ℤ) (n : ℕ) (best : Pair) (i k : ℕ) 
     → IsWorstInRow w n best i (k + 1) after
 row_goes_on w n best i k worst other after is before lower higher wastes inside =
     subst (IsWorstInRow w n best i (k + 1)) (sym is) (row_by w n best i k worst other (int_lt worst.waste other.waste) refl before lower higher wastes inside)
+
+no_less : (a b : ℤ) → b ≤ℤ a → int_lt a b ≡ false
+no_less a b h = grind (arith, ints)
+
+-- a row of which no pair wastes more than the best so far leaves it
+pub row_keeps : (w : ℕ → ℕ → ℤ) (best : Pair) (i k : ℕ) → ((d : ℕ) → d < k → w i (i + 1 + d) ≤ℤ w best.lower best.higher) → worst_in_row w best i k ≡ best
+row_keeps w best i zero each = worst_in_row-none w best i
+row_keeps w best i (suc k) each =
+    let before = row_keeps w best i k (λ d h. each d (omega arith)) in
+    rw (← add-one k)
+    (worst_in_row-more w best i k ∙ ap (λ p. worse w p (pair i (i + 1 + k))) before
+    ∙ ap (λ t. cond t (pair i (i + 1 + k)) best) (no_less (w best.lower best.higher) (w i (i + 1 + k)) (each k (omega arith))))
+
+-- where no key wastes more beside one, no pair of its slot does
+pub row_wastes : {K : Type 0} (m : Measure K) (keys : List K) (i j : ℕ) (key : K) (worst best : ℤ) → slice_get keys i ≡ Some key → j < length keys
+    → All (λ other. waste m key other ≤ℤ worst) keys → worst ≡ best → waste_at m keys i j ≤ℤ best
+unfolding waste_at
+row_wastes m keys i j key worst best at within all same =
+    let other = get_or keys j key in
+    subst (λ b. waste_at m keys i j ≤ℤ b) same
+    (rw (at, slice_get-get_or keys j key within) (all j key within))
+
+-- either of two by a test has what both have
+pub either : {X : Type 0} (P : X → Type 0) (t : Bool) (a b : X) → P a → P b → P (cond t a b)
+either P true a b p q = p
+either P false a b p q = q
 
 greatest_upto-more : (xs : List ℕ) (k : ℕ) → greatest_upto xs (k + 1) ≡ cond (nat_lt (slice_index xs (greatest_upto xs k)) (slice_index xs k)) k (greatest_upto xs k)
 unfolding greatest_upto

@@ -1,4 +1,5 @@
 pub mod Fair
+pub mod Frames
 pub mod Placement
 pub mod Sizes
 pub mod Split

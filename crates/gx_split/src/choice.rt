@@ -1,23 +1,18 @@
 //! Which key is placed next, and on which side (Guttman 1984, PickNext).
-ghost use Rattle.std.specs.Prelude.{◌≡◌, ◌≤◌, ◌<◌, ◌+◌, ◌-◌, ◌^◌, ℕ, [], length, map, nat_lt, nat_le, true, false, if◌then◌else◌, Some};
+ghost use Rattle.std.specs.Prelude.{◌≡◌, ◌≤◌, ◌<◌, ◌+◌, ◌-◌, ◌^◌, ℕ, [], All, length, map, nat_lt, nat_le, true, false, if◌then◌else◌, Some};
 ghost use Rattle.gx_split.specs.Split.{measure, growth, second_less, first_greatest, goes_second};
-ghost use Rattle.gx_split.specs.Waiting.{gap_of, groups_of};
+ghost use Rattle.gx_split.specs.Waiting.{gap_of, groups_of, IsShort};
 
 use crate::Measure;
+use crate::narrow::{difference, is_less};
 use crate::waiting::{Covers, Waiting};
 
 /// How much a cover grows by a key.
 pub fn growth<M: Measure>(cover: &M, key: &M) -> u128
-    ensures { result ≡ growth (measure M.joined M.extent) cover.now (Some key.now) }
+    ensures value { result ≡ growth (measure M.joined M.extent) cover.now (Some key.now) }
+    ensures short { M.SHORT ≡ true → result < 2 ^ 64 }
 {
-    cover.join(key).size() - cover.size()
-}
-
-/// How far apart the growths of the two groups are.
-fn gap<M>(waiting: &Waiting<'_, M>) -> u128
-    ensures { result ≡ gap_of waiting.now }
-{
-    waiting.first.abs_diff(waiting.second)
+    difference::<M>(cover.join(key).size(), cover.size())
 }
 
 /// A place among the keys that wait, and how far apart the growths are there.
@@ -28,10 +23,12 @@ struct Spread {
 }
 
 /// The wider of two spreads, of two alike the first.
-fn wider(first: Spread, other: Spread) -> Spread
+fn wider<M: Measure>(first: Spread, other: Spread) -> Spread
+    requires first { M.SHORT ≡ true → first.apart < 2 ^ 64 }
+    requires other { M.SHORT ≡ true → other.apart < 2 ^ 64 }
     ensures { result ≡ if nat_lt first.apart other.apart then other else first }
 {
-    if other.apart > first.apart {
+    if is_less::<M>(first.apart, other.apart) {
         other
     } else {
         first
@@ -39,18 +36,19 @@ fn wider(first: Spread, other: Spread) -> Spread
 }
 
 /// The place of the first key at which the growths are farthest apart.
-pub fn farthest<M>(waiting: &[Waiting<'_, M>]) -> usize
-    requires { 0 < length waiting.now }
+pub fn farthest<M: Measure>(waiting: &[Waiting<'_, M>]) -> usize
+    requires some { 0 < length waiting.now }
+    requires short { All (IsShort M.SHORT) waiting.now }
     ensures place { result ≡ first_greatest (map gap_of waiting.now) }
     ensures within { result < length waiting.now }
 {
     let mut widest = Spread {
         place: 0,
-        apart: gap(&waiting[0]),
+        apart: waiting[0].apart,
     };
     for (place, other) in waiting.iter().enumerate() {
-        let apart = gap(other);
-        widest = wider(widest, Spread { place, apart });
+        let apart = other.apart;
+        widest = wider::<M>(widest, Spread { place, apart });
     }
     widest.place
 }

@@ -5,10 +5,12 @@ mod boxes;
 mod choice;
 pub mod laws;
 mod measure;
+mod narrow;
 mod place;
 mod seeds;
 mod sides;
 mod waiting;
 
+pub use boxes::BoxFrame;
 pub use measure::Measure;
 pub use sides::split;

@@ -1,5 +1,5 @@
 //! The pair of keys with which the two groups begin (Guttman 1984, PickSeeds).
-ghost use Rattle.std.specs.Prelude.{◌≡◌, ◌≤◌, ◌<◌, ◌+◌, ◌-◌, ◌-ℤ◌, ◌^◌, pos, length, slice_get, int_lt, if◌then◌else◌};
+ghost use Rattle.std.specs.Prelude.{◌≡◌, ◌≤◌, ◌<◌, ◌≤ℤ◌, ◌+◌, ◌-◌, ◌-ℤ◌, ◌^◌, pos, true, All, List, length, slice_get, int_lt, if◌then◌else◌};
 ghost use Rattle.gx_split.specs.Split.{measure, waste, waste_at, pair, worst_in_row, worst_in_rows, worst_pair};
 ghost use Rattle.gx_split.specs.Sizes.{IsSizes};
 
@@ -108,6 +108,43 @@ fn worst_in_row<M: Measure>(keys: &[M], sizes: &[u128], lower: usize, best: Cand
     worst
 }
 
+/// Whether the unions of a key with those of a frame are too small for any to waste more than the worst so far.
+fn is_spent<M: Measure>(key: &M, size: u128, frame: &M::Frame, worst: i128) -> bool
+    requires size { size ≡ M.extent key.now }
+    requires small { size < 2 ^ 126 }
+    ensures { result ≡ true → (keys : List M) → M.frames frame.now keys
+        → All (λ other. waste (measure M.joined M.extent) key.now other ≤ℤ worst) keys }
+{
+    excess(key.reach(frame), size, 0) <= worst
+}
+
+/// As `worst_in_row`, which it leaves out where no pair of the slot can waste more than the best.
+fn worst_with_row<M: Measure>(
+    keys: &[M],
+    sizes: &[u128],
+    frame: &M::Frame,
+    lower: usize,
+    best: Candidate,
+) -> Candidate
+    requires within { lower < length keys.now }
+    requires sizes { IsSizes M.extent keys.now sizes.now }
+    requires frame { M.frames frame.now keys.now }
+    requires best { best.higher < length keys.now }
+    requires best_order { best.lower < best.higher }
+    requires wasted { best.waste ≡ waste_at (measure M.joined M.extent) keys.now best.lower best.higher }
+    ensures slots { pair result.lower result.higher
+        ≡ worst_in_row (waste_at (measure M.joined M.extent) keys.now) (pair best.lower best.higher) lower (length keys.now - 1 - lower) }
+    ensures wastes { result.waste ≡ waste_at (measure M.joined M.extent) keys.now result.lower result.higher }
+    ensures in_order { result.lower < result.higher }
+    ensures within { result.higher < length keys.now }
+{
+    if is_spent(&key_at(keys, lower), sizes[lower], frame, best.waste) {
+        best
+    } else {
+        worst_in_row(keys, sizes, lower, best)
+    }
+}
+
 /// The first of the pairs that waste most.
 pub fn worst_pair<M: Measure>(keys: &[M]) -> Candidate
     requires some { 2 ≤ length keys.now }
@@ -117,9 +154,10 @@ pub fn worst_pair<M: Measure>(keys: &[M]) -> Candidate
     ensures within { result.higher < length keys.now }
 {
     let sizes = sizes_of(keys);
+    let frame = M::frame(keys);
     let mut worst = pair_of(keys, &sizes, 0, 1);
     for lower in 0..keys.len() - 1 {
-        worst = worst_in_row(keys, &sizes, lower, worst);
+        worst = worst_with_row(keys, &sizes, &frame, lower, worst);
     }
     worst
 }

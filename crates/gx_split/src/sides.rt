@@ -2,10 +2,11 @@
 ghost use Rattle.std.specs.Prelude.{◌≡◌, ◌≤◌, ◌<◌, ◌+◌, ◌-◌, ◌*◌, ◌||◌, nat_eq, All, length, map, replicate, slice_set, false, true};
 ghost use Rattle.gx_split.specs.Split.{measure, pair, others, placed, seeds, split_sides, waste_at};
 ghost use Rattle.gx_split.specs.Fair.{IsFairSplit, IsFirstWorst};
-ghost use Rattle.gx_split.specs.Waiting.{slot_of, groups_of, IsFresh, IsKept};
+ghost use Rattle.gx_split.specs.Waiting.{slot_of, groups_of, HasGrowths, IsFresh, IsShort, IsKept};
 
 use crate::Measure;
 use crate::choice::growth;
+use crate::narrow::distance;
 use crate::place::place_next;
 use crate::seeds::{Candidate, key_at, worst_pair};
 use crate::waiting::{Covers, Waiting, WaitingList};
@@ -15,6 +16,24 @@ fn is_seed(seeds: &Candidate, slot: usize) -> bool
     ensures { result ≡ (nat_eq slot seeds.now.lower || nat_eq slot seeds.now.higher) }
 {
     slot == seeds.lower || slot == seeds.higher
+}
+
+/// A key that waits, with its growths.
+fn waiting_key<'a, M: Measure>(slot: usize, key: &'a M, covers: &Covers<M>) -> Waiting<'a, M>
+    ensures slot { result.slot ≡ slot }
+    ensures key { result.key.now ≡ key.now }
+    ensures grown { HasGrowths (measure M.joined M.extent) covers.now result }
+    ensures short { IsShort M.SHORT result }
+{
+    let first = growth(&covers.first, key);
+    let second = growth(&covers.second, key);
+    Waiting {
+        slot,
+        key,
+        first,
+        second,
+        apart: distance::<M>(first, second),
+    }
 }
 
 /// The keys beside the seeds, in order, with their growths.
@@ -27,16 +46,12 @@ fn waiting_beside<'a, M: Measure>(
     requires few { length keys.now ≤ 101 }
     ensures slots { map slot_of result.items ≡ others (pair seeds.now.lower seeds.now.higher) (length keys.now) }
     ensures fresh { All (IsFresh (measure M.joined M.extent) keys.now covers.now) result.items }
+    ensures short { All (IsShort M.SHORT) result.items }
 {
     let mut waiting = WaitingList::new_in(&keys[0]);
     for (slot, key) in keys.iter().enumerate() {
         if !is_seed(seeds, slot) {
-            waiting.push(Waiting {
-                slot,
-                key,
-                first: growth(&covers.first, key),
-                second: growth(&covers.second, key),
-            });
+            waiting.push(waiting_key(slot, key, covers));
         }
     }
     waiting
@@ -62,6 +77,7 @@ fn place_all<M: Measure>(
     requires few { length keys.now ≤ 101 }
     requires as_many { length sides.old ≡ length keys.now }
     requires kept { IsKept (measure M.joined M.extent) keys.now covers.old waiting.old.items }
+    requires short { All (IsShort M.SHORT) waiting.old.items }
     requires left { length waiting.old.items + 2 ≡ length keys.now }
     ensures { groups_of covers.new waiting.new.items sides.new
         ≡ placed (measure M.joined M.extent) keys.now least (groups_of covers.old waiting.old.items sides.old) (length keys.now - 2) }

@@ -2,13 +2,14 @@
 use arrayvec::ArrayVec;
 use std::default::MadeWith;
 
-/// A key that waits, its slot, and how much the cover of each group grows by it.
+/// A key that waits, its slot, how much the cover of each group grows by it, and how far these growths are apart.
 #[derive(Clone, Copy)]
 pub struct Waiting<'a, M> {
     pub slot: usize,
     pub key: &'a M,
     pub first: u128,
     pub second: u128,
+    pub apart: u128,
 }
 
 /// The keys that wait, in slot order.
@@ -22,6 +23,7 @@ impl<'a, M> MadeWith<&'a M> for Waiting<'a, M> {
             key,
             first: 0,
             second: 0,
+            apart: 0,
         }
     }
 }

@@ -1,7 +1,7 @@
-use Rattle.std.proofs.Common.{map, ap, ◌∙◌}
+use Rattle.std.proofs.Common.{arith, All, map, ap, sym, subst, ◌∙◌}
 use Rattle.gx_split.specs.Split.{measure}
-use Rattle.gx_split.specs.Waiting.{with_growth}
-use Rattle.gx_split.proofs.Placing.{placed_by, kept_by}
+use Rattle.gx_split.specs.Waiting.{with_growth, HasGrowths, IsShort}
+use Rattle.gx_split.proofs.Placing.{All-remove, placed_by, kept_by}
 use Rattle.gx_split.proofs.place.place_next.Goals as goal
 
 pub returns-clause-placed : goal.returns-clause-placed
@@ -23,3 +23,21 @@ returns-clause-kept g c keys kept =
     let waiting = c.put.ensures.waiting ∙ ap (map (with_growth m c.goes_second-second.result c.put.new.covers)) c.remove.ensures.items in
     kept_by m keys c.args.covers.now c.put.new.covers c.args.waiting.now.items c.put.new.waiting.items c.farthest-place.result _ c.goes_second-second.result
     kept within c.put.ensures.covers waiting
+
+pub put-requires : goal.put-requires
+put-requires g c =
+    let grown = HasGrowths (measure g.M.Measure.joined g.M.Measure.extent) c.args.covers.now in
+    let short = IsShort g.M.Measure.SHORT in
+    let few = c.requires.few in (
+      omega arith,
+      (
+        omega arith,
+        (
+          omega arith,
+          (
+            subst (All grown) (sym c.remove.ensures.items) (All-remove grown c.args.waiting.now.items c.farthest-place.result c.requires.grown),
+            subst (All short) (sym c.remove.ensures.items) (All-remove short c.args.waiting.now.items c.farthest-place.result c.requires.short),
+          ),
+        ),
+      ),
+    )

@@ -9,12 +9,12 @@ loop-lower-init g c = record { slots = rw worst_in_rows-none (cc); wastes = c.pa
 pub loop-lower-preserved : goal.loop-lower-preserved
 loop-lower-preserved g c = record {
   slots =
-      c.worst_in_row-worst.ensures.slots
+      c.worst_with_row-worst.ensures.slots
       ∙ ap (λ p. worst_in_row (waste_at (measure g.M.Measure.joined g.M.Measure.extent) c.args.keys.now) p c.loop-lower.lower (length c.args.keys.now - 1 - c.loop-lower.lower)) c.loop-lower.invariant.slots
       ∙ sym (worst_in_rows-more _ _ _);
-  wastes = c.worst_in_row-worst.ensures.wastes;
-  in_order = c.worst_in_row-worst.ensures.in_order;
-  within = c.worst_in_row-worst.ensures.within;
+  wastes = c.worst_with_row-worst.ensures.wastes;
+  in_order = c.worst_with_row-worst.ensures.in_order;
+  within = c.worst_with_row-worst.ensures.within;
 }
 
 pub returns-clause-slots : goal.returns-clause-slots

@@ -15,7 +15,7 @@ place_all-requires g c =
     let long = ap length c.begin_sides.ensures ∙ length-set (replicate (length c.args.sides.now) false) c.worst_pair-seeds.result.higher true
     ∙ length-replicate (length c.args.sides.now) false ∙ c.requires.as_many in
     let count = begun.counted in
-    (omega arith, (c.requires.few, (long, (begun, omega arith))))
+    (omega arith, (c.requires.few, (long, (begun, (c.waiting_beside-waiting.ensures.short, omega arith)))))
 
 pub returns-clause-sides : goal.returns-clause-sides
 returns-clause-sides g c =
