@@ -1,40 +1,51 @@
 -- What a scan has counted.
-use Rattle.std.proofs.Common.{◌≡◌, ◌∙◌, ℕ, zero, suc, ◌+◌, ◌-◌, ◌<◌, ◌≤◌, List, [], ◌∷◌, length, map, take, get_or, refl, sym, ap, arith, Bool, true, false, Some, None}
-use Rattle.std.specs.List.{count_by, All}
+use Rattle.std.proofs.Common.{◌≡◌, ◌∙◌, ℕ, zero, suc, ◌+◌, ◌<◌, ◌≤◌, List, [], ◌∷◌, ◌++◌, length, filter, take, get_or, refl, sym, ap, arith, Bool, true, false, not, cond, Some}
+use Rattle.std.specs.Prelude.{◌&&◌, slice_get}
+use Rattle.std.specs.List.{count_by, filter_map, All}
 use Rattle.std.proofs.Math.Numerals.{suc-eq-add-one}
-use Rattle.std.proofs.lemmas.List.{get_or-map, take_all, length-map}
-use Rattle.std.proofs.lemmas.List.Sums.{count_by_more_yes, count_by_more_no}
-use Rattle.gx_node.specs.Hits.{IsNextHit}
+use Rattle.std.proofs.lemmas.List.{length-append, take_all}
+use Rattle.std.proofs.lemmas.List.Elements.{filter-append}
+use Rattle.std.proofs.lemmas.List.Sums.{count_by_more_yes, count_by_more_no, length-filter}
+use mir.Val.{bool_byte}
+use Rattle.gx_tree_laws.specs.Trees.{Pair}
+use Rattle.gx_node.specs.Hits.{passing_of}
+use Rattle.gx_node.proofs.Blocks.{block_more, filter_both, slot_more}
 
 none_taken : {X : Type 0} (xs : List X) → take 0 xs ≡ []
 none_taken [] = refl
 none_taken (x ∷ xs) = refl
 
--- ---- from one hit to the next
+-- ---- block by block
 
-none_between : {X : Type 0} (p : X → Bool) (xs : List X) (d : X) (from n to : ℕ) → from + n ≡ to → to ≤ length xs
-    → ((k : ℕ) → from ≤ k → k < to → get_or (map p xs) k false ≡ false) → count_by p (take to xs) ≡ count_by p (take from xs)
-none_between p xs d from zero to e within misses = let same : to ≡ from = omega (arith, e) in ap (λ m. count_by p (take m xs)) same
-none_between p xs d from (suc n) to e within misses =
-    let here : from + n < length xs = omega (arith, e) in
-    let last : p (get_or xs (from + n) d) ≡ false = sym (get_or-map p xs (from + n) d false here) ∙ misses (from + n) (omega arith) (omega (arith, e)) in
-    let next : to ≡ (from + n) + 1 = omega (arith, e) in
-    ap (λ m. count_by p (take m xs)) next ∙ count_by_more_no p xs (from + n) d here last
-    ∙ none_between p xs d from n (from + n) refl (omega arith) (λ k a b. misses k a (omega (arith, e)))
+counted_both : {X : Type 0} (q : X → Bool) (xs ys : List X) → count_by q (xs ++ ys) ≡ count_by q xs + count_by q ys
+counted_both q xs ys =
+    sym (length-filter q (xs ++ ys)) ∙ ap length (filter-append q xs ys) ∙ length-append (filter q xs) (filter q ys)
+    ∙ ap (λ n. n + length (filter q ys)) (length-filter q xs) ∙ ap (λ n. count_by q xs + n) (length-filter q ys)
 
-pub one_more_hit : {X : Type 0} (p : X → Bool) (xs : List X) (d : X) (from slot : ℕ) → IsNextHit (map p xs) from (Some slot)
-    → count_by p (take (slot + 1) xs) ≡ count_by p (take from xs) + 1
-one_more_hit p xs d from slot next =
-    let begun : from ≤ slot = next.0 in
-    let here : slot < length xs = omega (arith, next.1, length-map xs p) in
-    let passes : p (get_or xs slot d) ≡ true = sym (get_or-map p xs slot d false here) ∙ next.2 in
-    count_by_more_yes p xs slot d here passes ∙ ap (λ n. n + 1) (none_between p xs d from (slot - from) slot (omega arith) (omega arith) next.3)
+passed_both : {X : Type 0} (q p : X → Bool) (xs : List X) → count_by (λ x. q x && p x) xs ≡ count_by q (filter p xs)
+passed_both q p xs = sym (length-filter (λ x. q x && p x) xs) ∙ ap length (filter_both q p xs) ∙ length-filter q (filter p xs)
 
-pub no_more_hits : {X : Type 0} (p : X → Bool) (xs : List X) (d : X) (from : ℕ) → from ≤ length xs → IsNextHit (map p xs) from None
-    → count_by p (take from xs) ≡ count_by p xs
-no_more_hits p xs d from within none =
-    sym (ap (count_by p) (sym (take_all (length xs) xs (omega arith)))
-    ∙ none_between p xs d from (length xs - from) (length xs) (omega arith) (omega arith) (λ k a b. none k a (omega (arith, length-map xs p))))
+pub one_more_block : {X : Type 0} (q p : X → Bool) (xs : List X) (from : ℕ) → from ≤ length xs
+    → count_by (λ x. q x && p x) (take (from + 64) xs) ≡ count_by (λ x. q x && p x) (take from xs) + count_by q (passing_of p xs from)
+one_more_block q p xs from h =
+    passed_both q p (take (from + 64) xs) ∙ ap (count_by q) (block_more p xs from h) ∙ counted_both q (filter p (take from xs)) (passing_of p xs from)
+    ∙ ap (λ n. n + count_by q (passing_of p xs from)) (sym (passed_both q p (take from xs)))
+
+-- a pair is counted where it isn't marked
+pub one_counted : {B : Type 0} (n : ℕ) (x : Pair B) (marked : Bool) → n ≡ bool_byte (not marked) → marked ≡ x.marked
+    → (n ≡ count_by (λ pair. not pair.marked) (x ∷ [])) × (n ≤ 1)
+one_counted n x true is same =
+    let one : count_by (λ pair. not pair.marked) (x ∷ []) ≡ 0 = ap (λ b. 0 + cond (not b) 1 0) (sym same) in
+    (is ∙ sym one, omega arith)
+one_counted n x false is same =
+    let one : count_by (λ pair. not pair.marked) (x ∷ []) ≡ 1 = ap (λ b. 0 + cond (not b) 1 0) (sym same) in
+    (is ∙ sym one, omega arith)
+
+pub one_more_slot : {X : Type 0} (q : X → Bool) (xs : List X) (slots : List ℕ) (k slot n : ℕ) (x : X) → k < length slots → slot ≡ get_or slots k 0 → slice_get xs slot ≡ Some x
+    → n ≡ count_by q (x ∷ []) → count_by q (filter_map (slice_get xs) (take (k + 1) slots)) ≡ count_by q (filter_map (slice_get xs) (take k slots)) + n
+one_more_slot q xs slots k slot n x inside is at one =
+    ap (count_by q) (slot_more xs slots k slot x inside is at) ∙ counted_both q (filter_map (slice_get xs) (take k slots)) (x ∷ [])
+    ∙ ap (λ m. count_by q (filter_map (slice_get xs) (take k slots)) + m) (sym one)
 
 -- ---- two tests that agree
 

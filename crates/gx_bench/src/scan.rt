@@ -1,8 +1,9 @@
 //! Overlap searches over leaves.
-ghost use Rattle.std.specs.Prelude.{◌≡◌, ◌≤◌, true, map, length, All, count_by};
+ghost use Rattle.std.specs.Prelude.{◌≡◌, ◌≤◌, true, not, map, length, All, count_by};
 ghost use Rattle.std.specs.Bool.{OnTrue};
 ghost use Rattle.gx_class.specs.Probes.{corners, are_between};
 ghost use Rattle.gx_page.specs.Format.{IsWellFormed};
+ghost use Rattle.gx_node.specs.Hits.{passing_of};
 ghost use Rattle.gx_node.specs.Reading.{is_leaf, leaf_of};
 ghost use Rattle.gx_bench.specs.Sent.{key_of, page_of, InOrder};
 ghost use Rattle.gx_bench.specs.Scans.{boxes, is_live_hit, hits_in_all, AreLeaves};
@@ -10,7 +11,7 @@ ghost use Rattle.gx_bench.specs.Scans.{boxes, is_live_hit, hits_in_all, AreLeave
 use crate::sent::{SentBox, SentPage, key_of, pages_of};
 use gx_class::{Box2Class, BoxProbe, Probing};
 use gx_machine::Query;
-use gx_node::{Leaf, laws};
+use gx_node::{BLOCK, Leaf, laws};
 use gx_page::Page;
 use std::alloc::Global;
 
@@ -26,23 +27,34 @@ fn are_leaves(pages: &[Page]) -> bool
     true
 }
 
+/// How many pairs of a block of a leaf's slots are live and pass.
+fn live_in_block(leaf: &Leaf<'_, Box2Class>, from: usize, probe: &BoxProbe) -> usize
+    requires { from ≤ length leaf.now.pairs }
+    ensures hits { result ≡ count_by (λ pair. not pair.marked)
+        (passing_of (λ pair. are_between probe.now.low probe.now.high (corners pair.key)) leaf.now.pairs from) }
+    ensures few { result ≤ 64 }
+{
+    let passing = leaf.passing(probe, from);
+    let slots = passing.as_slice();
+    let mut hits = 0;
+    for slot in slots {
+        hits += usize::from(!leaf.is_marked(usize::from(*slot)));
+    }
+    hits
+}
+
 /// How many of a leaf's pairs are live and pass.
 fn live_hits(page: &Page, probe: &BoxProbe) -> usize
     requires { is_leaf boxes page.now ≡ true }
     ensures hits { result ≡ count_by (is_live_hit (λ key. are_between probe.now.low probe.now.high (corners key))) (leaf_of boxes page.now).pairs }
-    ensures few { result ≤ 812 }
+    ensures few { result ≤ 832 }
     ensures well_formed { IsWellFormed page.now }
 {
     let count = page.count();
     let leaf = Leaf::<Box2Class>::of(page);
     let mut hits = 0;
-    let mut from = 0;
-    'hits: while from < count {
-        let Some(slot) = leaf.next_live_hit(probe, from) else {
-            return hits;
-        };
-        hits += 1;
-        from = slot + 1;
+    for block in 0..count.div_ceil(BLOCK) {
+        hits += live_in_block(&leaf, block * BLOCK, probe);
     }
     hits
 }

@@ -1,3 +1,4 @@
 pub mod Lanes
 pub mod Order
+pub mod Raised
 pub mod Placed

@@ -10,4 +10,5 @@ pub mod IntervalReadings
 pub mod Intervals
 pub mod Numbers
 pub mod Probes
+pub mod Raised
 pub mod Sides

@@ -3,7 +3,7 @@ ghost use Rattle.std.specs.Prelude.{◌≡◌, ◌≤◌, ◌+◌, ◌++◌, len
 ghost use Rattle.gx_geom.specs.Rectangles.{IsBox, rectangle_of, area, union};
 ghost use Rattle.gx_class.specs.Boxes.{number_bytes, spelling, reading, may_match, cost};
 
-use crate::KeyClass;
+use crate::{KeyClass, box_penalty};
 use gx_geom::{Box2, Shape};
 use gx_machine::Query;
 use gx_split::Measure;
@@ -102,6 +102,10 @@ impl KeyClass for Box2Class {
     fn penalty(bound: &Box2, key: &Box2) -> (u128, u128) {
         let size = bound.size();
         (bound.join(key).size() - size, size)
+    }
+
+    fn penalty_in(bytes: &[u8], key: &Box2) -> (u128, u128) {
+        box_penalty::penalty(bytes, key)
     }
 
     fn pick_split(keys: &[Box2], least: usize, sides: &mut [bool]) {

@@ -77,6 +77,17 @@ pub trait KeyClass {
     fn penalty(bound: &Self::Key, key: &Self::Key) -> (u128, u128)
         ensures { result ≡ cost bound.now key.now };
 
+    /// The penalty of the bound of which these are the bytes. A class may replace it by one that reads no key.
+    fn penalty_in(bytes: &[u8], key: &Self::Key) -> (u128, u128)
+        requires { length bytes.now ≡ KEY }
+        ensures { (bound : Self.Key) → is_key bound → bytes.now ≡ spelling bound → result ≡ cost bound key.now }
+    {
+        match Self::decode(bytes) {
+            Some(bound) => Self::penalty(&bound, key),
+            None => (0, 0),
+        }
+    }
+
     /// PickSplit: splits 2 to 101 keys, with at least `least` on each side. In `sides`, which has a place for each key, `true`
     /// stands for the second group.
     fn pick_split(keys: &[Self::Key], least: usize, sides: &mut [bool])

@@ -2,6 +2,7 @@
 #![tactic(auto)]
 
 mod box2_class;
+mod box_penalty;
 mod box_probe;
 mod class;
 mod interval_class;

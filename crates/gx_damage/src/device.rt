@@ -44,7 +44,8 @@ fn in_index<D: SectorDisk, K: ReadKeys>(
 
 /// Says what is damaged on a device whose opening was refused as damaged, so that a person can be told where: in its log, by the body, the place in it
 /// and the rule; or in its pages, as that opening has laid them: too many in use, one that can't be read, or one that doesn't keep a rule of a
-/// legal tree. The device is settled and read, and handed back: nothing is written, and a crash leaves nothing that it couldn't have left before.
+/// legal tree. The device is settled and read, and handed back: to an honest one nothing is written, and a crash leaves nothing that it couldn't
+/// have left before.
 ///
 /// Of an honest device what is said is true of its bytes. Its log is damaged there; or it is found, and pages are told by its numbers: that
 /// so many are in use, more than there are, that one in use can't be read, that one breaks its rule in the tree of the pages in use, or that

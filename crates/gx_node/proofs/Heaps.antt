@@ -42,3 +42,10 @@ cut_item items size slot rest all h is =
       before = ap (take (length rest - size)) parts ∙ take_at front item (length rest - size) seam;
       behind = ap (drop (length rest - size)) parts ∙ drop_at front item (length rest - size) seam;
     }
+
+-- one item, by its place: what stands behind it is cut off first
+pub cut_at : (items : List (List ℕ)) (size slot : ℕ) (whole rest : List ℕ) → AllOfLength size items → slot < length items → whole ≡ heap items
+    → rest ≡ take (length whole - slot * size) whole → (slot * size ≤ length whole) × IsCut rest (heap (drop (slot + 1) items)) (get_or items slot []) size
+cut_at items size slot whole rest all h is front =
+    let behind = heap_front items size slot all (omega (arith, h)) in
+    (omega (arith, behind.0, ap length is), cut_item items size slot rest all h (front ∙ ap (λ l. take (length l - slot * size) l) is ∙ behind.1))

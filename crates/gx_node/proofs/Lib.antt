@@ -1,9 +1,11 @@
+pub mod Blocks
 pub mod Children
 pub mod Choice
 pub mod Edited
 pub mod EditedInners
 pub mod EditedLeaves
 pub mod Gathered
+pub mod Gathering
 pub mod Heaps
 pub mod Keys
 pub mod Live

@@ -1,15 +1,16 @@
 //! Inner nodes in place.
-ghost use Rattle.std.specs.Prelude.{◌≡◌, ◌↔◌, ℕ, ◌<◌, ◌≤◌, true, map, length, slice_index_or, IsOk, IfOk, IfErr, Some, slice_get};
+ghost use Rattle.std.specs.Prelude.{◌≡◌, ◌↔◌, ℕ, ◌<◌, ◌≤◌, ◌-◌, true, map, min, length, IsOk, IfOk, IfErr, Some, slice_get};
 ghost use Rattle.std.specs.List.{IsFirstBest};
 ghost use Rattle.gx_tree_laws.specs.Trees.{Child};
 ghost use Rattle.gx_node.specs.Entries.{HoldsChildren};
-ghost use Rattle.gx_node.specs.Hits.{IsNextHit, costs_less};
+ghost use Rattle.gx_node.specs.Hits.{IsNextHit, costs_less, hits_among};
 ghost use Rattle.gx_node.specs.Reading.{format_of, is_inner, inner_of};
 ghost use Rattle.gx_node.specs.Seen.{child_seen};
 
 use crate::check::are_children;
 use crate::entry::{CHILD_TAIL, child_of, page_of};
-use crate::scan::{costs_less, next_passing};
+use crate::passing::Passing;
+use crate::scan::{item_in, least_penalty, next_passing, passing};
 use gx_class::{KeyClass, Probing};
 use gx_geom::Refusal;
 use gx_page::Page;
@@ -96,7 +97,7 @@ impl<'a, K: KeyClass> Inner<'a, K> {
         requires { slot < length self.now.children }
         ensures { slice_get self.now.children slot ≡ Some (child_seen result) }
     {
-        child_of::<K>(self.page.get(slot))
+        child_of::<K>(item_in::<K>(self.page, K::KEY + CHILD_TAIL, slot))
     }
 
     /// The page of a slot's child, whose bound isn't decoded.
@@ -105,16 +106,7 @@ impl<'a, K: KeyClass> Inner<'a, K> {
         requires { slot < length self.now.children }
         ensures { (child : Child K.Key) → slice_get self.now.children slot ≡ Some child → result ≡ child.page }
     {
-        page_of::<K>(self.page.get(slot))
-    }
-
-    /// The penalty of a key for a slot's bound.
-    #[tactic(auto, using(crate::proofs::Slots::made_at))]
-    fn penalty(&self, slot: usize, key: &K::Key) -> (u128, u128)
-        requires { slot < length self.now.children }
-        ensures { (d : ℕ × ℕ) → slice_index_or (map (λ child. K.cost child.key key.now) self.now.children) slot d ≡ result }
-    {
-        K::penalty(&self.child(slot).0, key)
+        page_of::<K>(item_in::<K>(self.page, K::KEY + CHILD_TAIL, slot))
     }
 
     /// The slot of the bound for which the penalty of a key is least, and of such bounds the first.
@@ -122,21 +114,19 @@ impl<'a, K: KeyClass> Inner<'a, K> {
         requires { 1 ≤ length self.now.children }
         ensures { IsFirstBest costs_less (map (λ child. K.cost child.key key.now) self.now.children) (length self.now.children) result }
     {
-        let mut best = 0;
-        let mut least = self.penalty(0, key);
-        for slot in 1..self.len() {
-            let penalty = self.penalty(slot, key);
-            if !costs_less(penalty, least) {
-                continue;
-            }
-            best = slot;
-            least = penalty;
-        }
-        best
+        least_penalty::<K>(self.page, K::KEY + CHILD_TAIL, key)
     }
 }
 
 impl<'a, K: Probing> Inner<'a, K> {
+    /// The slots of a block from a slot on whose bounds pass: of 64 slots, or of as many as there are.
+    pub fn passing(&self, probe: &K::Probe, from: usize) -> Passing
+        requires { from ≤ length self.now.children }
+        ensures { result ≡ hits_among (map (λ child. K.passes probe.now child.key) self.now.children) from (min 64 (length self.now.children - from)) }
+    {
+        passing::<K>(self.page, K::KEY + CHILD_TAIL, probe, from)
+    }
+
     /// The first slot from a slot on whose bound passes.
     pub fn next_hit(&self, probe: &K::Probe, from: usize) -> Option<usize>
         requires { from ≤ length self.now.children }

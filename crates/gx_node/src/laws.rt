@@ -1,6 +1,6 @@
 //! Laws of the nodes on pages. Each function is its contract alone.
 ghost use Rattle.gx_tree_laws.specs.Trees.{Pair, Child};
-ghost use Rattle.gx_node.specs.Hits.{HitsAreAFilter};
+ghost use Rattle.gx_node.specs.Hits.{BlocksAreAFilter, HitsAreAFilter};
 ghost use Rattle.gx_node.specs.Reading.{format_of};
 ghost use Rattle.gx_node.specs.Laws.{LeavesHold, HeldPairsAreRead, InnersHold, HeldChildrenAreRead, BlanksAreNodes, NodesFollowLinks, MoreAreTaken, OneMark, OneBound};
 
@@ -44,4 +44,10 @@ pub fn one_changed<K: KeyClass>()
 pub fn hits<K: KeyClass>()
     ensures pairs { HitsAreAFilter (Pair K.Key) }
     ensures children { HitsAreAFilter (Child K.Key) }
+{}
+
+/// The entries at the slots that pass, block by block, are those that pass, in order.
+pub fn blocks<K: KeyClass>()
+    ensures pairs { BlocksAreAFilter (Pair K.Key) }
+    ensures children { BlocksAreAFilter (Child K.Key) }
 {}

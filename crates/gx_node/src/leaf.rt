@@ -1,14 +1,15 @@
 //! Leaves in place.
-ghost use Rattle.std.specs.Prelude.{◌≡◌, ◌↔◌, ◌<◌, ◌≤◌, true, not, ◌&&◌, map, length, IsOk, IfOk, IfErr, Some, slice_get};
+ghost use Rattle.std.specs.Prelude.{◌≡◌, ◌↔◌, ◌<◌, ◌≤◌, ◌-◌, true, map, min, length, IsOk, IfOk, IfErr, Some, slice_get};
 ghost use Rattle.gx_tree_laws.specs.Trees.{Pair};
 ghost use Rattle.gx_node.specs.Entries.{HoldsPairs};
-ghost use Rattle.gx_node.specs.Hits.{IsNextHit};
+ghost use Rattle.gx_node.specs.Hits.{IsNextHit, hits_among};
 ghost use Rattle.gx_node.specs.Reading.{format_of, is_leaf, leaf_of};
 ghost use Rattle.gx_node.specs.Seen.{pair_seen};
 
 use crate::check::are_pairs;
 use crate::entry::{PAIR_TAIL, mark_of, pair_of};
-use crate::scan::next_passing;
+use crate::passing::Passing;
+use crate::scan::{item_in, next_passing, passing};
 use gx_class::{KeyClass, Probing};
 use gx_geom::Refusal;
 use gx_machine::Entry;
@@ -87,7 +88,7 @@ impl<'a, K: KeyClass> Leaf<'a, K> {
         requires { slot < length self.now.pairs }
         ensures { slice_get self.now.pairs slot ≡ Some (pair_seen result) }
     {
-        pair_of::<K>(self.page.get(slot))
+        pair_of::<K>(item_in::<K>(self.page, K::KEY + PAIR_TAIL, slot))
     }
 
     /// Whether a slot's pair is marked as deleted.
@@ -96,33 +97,24 @@ impl<'a, K: KeyClass> Leaf<'a, K> {
         requires { slot < length self.now.pairs }
         ensures { (pair : Pair K.Key) → slice_get self.now.pairs slot ≡ Some pair → result ≡ pair.marked }
     {
-        mark_of::<K>(self.page.get(slot))
+        mark_of::<K>(item_in::<K>(self.page, K::KEY + PAIR_TAIL, slot))
     }
 }
 
 impl<'a, K: Probing> Leaf<'a, K> {
+    /// The slots of a block from a slot on whose keys pass, be the pair live or marked: of 64 slots, or of as many as there are.
+    pub fn passing(&self, probe: &K::Probe, from: usize) -> Passing
+        requires { from ≤ length self.now.pairs }
+        ensures { result ≡ hits_among (map (λ pair. K.passes probe.now pair.key) self.now.pairs) from (min 64 (length self.now.pairs - from)) }
+    {
+        passing::<K>(self.page, K::KEY + PAIR_TAIL, probe, from)
+    }
+
     /// The first slot from a slot on whose key passes, be the pair live or marked.
     pub fn next_hit(&self, probe: &K::Probe, from: usize) -> Option<usize>
         requires { from ≤ length self.now.pairs }
         ensures { IsNextHit (map (λ pair. K.passes probe.now pair.key) self.now.pairs) from result }
     {
         next_passing::<K>(self.page, K::KEY + PAIR_TAIL, probe, from)
-    }
-
-    /// The first slot from a slot on whose pair is live and whose key passes.
-    pub fn next_live_hit(&self, probe: &K::Probe, from: usize) -> Option<usize>
-        requires { from ≤ length self.now.pairs }
-        ensures { IsNextHit (map (λ pair. not pair.marked && K.passes probe.now pair.key) self.now.pairs) from result }
-    {
-        let count = self.len();
-        let mut slot = from;
-        'live: while slot < count {
-            let hit = self.next_hit(probe, slot)?;
-            if !self.is_marked(hit) {
-                return Some(hit);
-            }
-            slot = hit + 1;
-        }
-        None
     }
 }

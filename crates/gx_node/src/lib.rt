@@ -9,6 +9,7 @@ mod items;
 pub mod laws;
 mod leaf;
 pub mod leaf_edits;
+mod passing;
 mod scan;
 
 pub use check::is_node;
@@ -16,3 +17,4 @@ pub use entry::read_key;
 pub use inner::Inner;
 pub use items::MAX_ENTRIES;
 pub use leaf::Leaf;
+pub use passing::{BLOCK, Passing};

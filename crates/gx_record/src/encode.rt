@@ -3,6 +3,7 @@ ghost use Rattle.std.specs.Prelude.{◌≡◌, ◌+◌, ◌≤◌, ◌++◌, ◌
 ghost use Rattle.std.specs.List.{AllByRecursion};
 ghost use Rattle.gx_record.specs.Bytes.{u64_bytes, u32_bytes, mark_byte};
 ghost use Rattle.gx_record.specs.Format.{entry_bytes, pages_bytes, spelling};
+ghost use Rattle.gx_record.specs.Rec.{Pages, Write, Commit, Counters, Note};
 ghost use Rattle.gx_record.specs.Seen.{is_marked, images, rec_of};
 ghost use Rattle.gx_record.specs.Writing.{Wrote, size_of, IsWhole, HasWholeImages};
 
@@ -115,6 +116,75 @@ fn put_pages(out: &mut [u8], at: usize, pages: &PageImages<'_>) -> usize
     }
 }
 
+/// Writes a record of pages at the front. This function, and the other that writes an image, stand apart from the short
+/// records, which would else save the registers that a copy takes.
+#[inline(never)]
+fn write_pages(out: &mut [u8], counter: u64, used: u32, pages: &PageImages<'_>) -> usize
+    requires whole { AllByRecursion IsWhole (images pages.now) }
+    requires room { 14 + 4100 * length (images pages.now) ≤ length out.old }
+    ensures { Wrote out.old out.new 0 (spelling (Pages counter used (images pages.now))) result }
+{
+    let at = put(out, 0, &[PAGES]);
+    let at = put_u64(out, at, counter);
+    let at = put_u32(out, at, used);
+    put_pages(out, at, pages)
+}
+
+/// Writes a write's record at the front: the mark before it, and the mark after it.
+#[inline(never)]
+fn write_write(
+    out: &mut [u8],
+    tx: u64,
+    row: u64,
+    key: &[u8],
+    marks: (Mark, Mark),
+    leaf: u32,
+    image: &[u8],
+) -> usize
+    requires whole { length image.now ≡ PAGE_SIZE }
+    requires room { 4119 + length key.now ≤ length out.old }
+    ensures { Wrote out.old out.new 0 (spelling (Write tx row key.now (is_marked marks.0) (is_marked marks.1) leaf image.now)) result }
+{
+    let at = put(out, 0, &[WRITE]);
+    let at = put_entry(out, at, tx, row, key);
+    let at = put_mark(out, at, marks.0);
+    let at = put_mark(out, at, marks.1);
+    put_page(out, at, leaf, image)
+}
+
+/// Writes a note's record at the front.
+fn write_note(out: &mut [u8], tx: u64, row: u64, key: &[u8], before: Mark, leaf: u32) -> usize
+    requires { 22 + length key.now ≤ length out.old }
+    ensures { Wrote out.old out.new 0 (spelling (Note tx row key.now (is_marked before) leaf)) result }
+{
+    let at = put(out, 0, &[NOTE]);
+    let at = put_entry(out, at, tx, row, key);
+    let at = put_mark(out, at, before);
+    put_u32(out, at, leaf)
+}
+
+/// Writes a commit's record at the front.
+fn write_commit(out: &mut [u8], tx: u64, n: u64) -> usize
+    requires { 17 ≤ length out.old }
+    ensures { Wrote out.old out.new 0 (spelling (Commit tx n)) result }
+{
+    let at = put(out, 0, &[COMMIT]);
+    let at = put_u64(out, at, tx);
+    put_u64(out, at, n)
+}
+
+/// Writes a record of counters at the front.
+fn write_counters(out: &mut [u8], n: u64, counter: u64, used: u32, next: u64) -> usize
+    requires { 29 ≤ length out.old }
+    ensures { Wrote out.old out.new 0 (spelling (Counters n counter used next)) result }
+{
+    let at = put(out, 0, &[COUNTERS]);
+    let at = put_u64(out, at, n);
+    let at = put_u64(out, at, counter);
+    let at = put_u32(out, at, used);
+    put_u64(out, at, next)
+}
+
 /// Writes the spelling at the front.
 pub(crate) fn write(logged: &Record<'_>, out: &mut [u8]) -> usize
     requires whole { HasWholeImages (rec_of logged.now) }
@@ -126,12 +196,7 @@ pub(crate) fn write(logged: &Record<'_>, out: &mut [u8]) -> usize
             counter,
             used,
             pages,
-        } => {
-            let at = put(out, 0, &[PAGES]);
-            let at = put_u64(out, at, counter);
-            let at = put_u32(out, at, used);
-            put_pages(out, at, &pages)
-        }
+        } => write_pages(out, counter, used, &pages),
         Record::Write {
             tx,
             row,
@@ -140,18 +205,8 @@ pub(crate) fn write(logged: &Record<'_>, out: &mut [u8]) -> usize
             after,
             leaf,
             image,
-        } => {
-            let at = put(out, 0, &[WRITE]);
-            let at = put_entry(out, at, tx, row, key);
-            let at = put_mark(out, at, before);
-            let at = put_mark(out, at, after);
-            put_page(out, at, leaf, image)
-        }
-        Record::Commit { tx, n } => {
-            let at = put(out, 0, &[COMMIT]);
-            let at = put_u64(out, at, tx);
-            put_u64(out, at, n)
-        }
+        } => write_write(out, tx, row, key, (before, after), leaf, image),
+        Record::Commit { tx, n } => write_commit(out, tx, n),
         Record::End { tx } => {
             let at = put(out, 0, &[END]);
             put_u64(out, at, tx)
@@ -161,24 +216,13 @@ pub(crate) fn write(logged: &Record<'_>, out: &mut [u8]) -> usize
             counter,
             used,
             next,
-        } => {
-            let at = put(out, 0, &[COUNTERS]);
-            let at = put_u64(out, at, n);
-            let at = put_u64(out, at, counter);
-            let at = put_u32(out, at, used);
-            put_u64(out, at, next)
-        }
+        } => write_counters(out, n, counter, used, next),
         Record::Note {
             tx,
             row,
             key,
             before,
             leaf,
-        } => {
-            let at = put(out, 0, &[NOTE]);
-            let at = put_entry(out, at, tx, row, key);
-            let at = put_mark(out, at, before);
-            put_u32(out, at, leaf)
-        }
+        } => write_note(out, tx, row, key, before, leaf),
     }
 }

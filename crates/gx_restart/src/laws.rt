@@ -26,7 +26,7 @@ use gx_disk::SectorDisk;
 use gx_geom::{Box2, Shape};
 use gx_readings::ReadKeys;
 
-/// A call of an index over an engine that holds an index's state is a run of the machine as which that state is
+/// A call of an index that goes on, over an engine that holds an index's state, is a run of the machine as which that state is
 /// seen: the call is asked and given its reply, and nothing else is asked or replied. So the reply is the machine's for that call asked
 /// alone, or tells of a fault that was met.
 pub fn each_call_is_asked_alone<D: SectorDisk, K: ReadKeys>()
@@ -38,8 +38,8 @@ pub fn each_call_is_asked_alone<D: SectorDisk, K: ReadKeys>()
     gx_driven::laws::no_call_is_given_up::<D, K>();
 }
 
-/// What the lines of a script ask of an index over an engine that holds an index's state, and are answered, is one run of the machine as
-/// which that state is seen, joined over all lines; its replies are those of the text.
+/// What the lines of a script ask of an index that goes on, over an engine that holds an index's state, and are answered, is one run of the
+/// machine as which that state is seen, joined over all lines; its replies are those of the text.
 pub fn each_script_is_one_run<D: SectorDisk, K: ReadKeys + KeyClass<Key = Box2>>()
     ensures { (l : Limits) (number : ℕ) (lines : List Line) (old new : State Rectangle D) (text : List ℕ)
         → IsScript (CallsIndex (Makes ⟦<Box2 as Shape>⟧ K.is_proper K.said K.KeyClass D.state)) number lines old text new → old.ended ≡ false

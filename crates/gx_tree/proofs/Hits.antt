@@ -1,9 +1,9 @@
 -- Hits gathered one after another are those that pass.
-use Rattle.std.proofs.Common.{◌≡◌, ℕ, zero, suc, ◌+◌, ◌<◌, ◌≤◌, ◌&&◌, Bool, true, false, cond, List, [], ◌∷◌, ◌++◌, length, map, filter, drop, get_or, refl, sym, ap, ◌∙◌, arith, Some, None}
+use Rattle.std.proofs.Common.{◌≡◌, ℕ, zero, suc, ◌+◌, ◌<◌, ◌≤◌, Bool, true, false, cond, List, [], ◌∷◌, ◌++◌, length, map, filter, drop, get_or, refl, sym, ap, ◌∙◌, arith, Some, None}
 use Rattle.std.specs.Prelude.{slice_get}
 use Rattle.gx_tree_laws.specs.Lists.{how_many, one_if}
 use Rattle.gx_node.specs.Hits.{IsNextHit}
-use Rattle.std.proofs.lemmas.List.{length-map, append-nil, append_assoc}
+use Rattle.std.proofs.lemmas.List.{length-map}
 use Rattle.gx_node.proofs.Slots.{made_at}
 
 -- p is the test of hits, and w takes some of them
@@ -59,29 +59,12 @@ none_behind w [] (suc from) h = refl
 none_behind w (x ∷ xs) zero h = absurd (omega arith)
 none_behind w (x ∷ xs) (suc from) h = none_behind w xs from (omega arith)
 
--- a hit is taken where it passes the other test
-pub hit_with : {X : Type 0} (p q : X → Bool) (x : X) → p x ≡ true → filter (λ x. q x && p x) (x ∷ []) ≡ filter q (x ∷ [])
-hit_with p q x e = with_true (q x) (p x) e
-  where
-    with_true : (a b : Bool) → b ≡ true → cond (a && b) (x ∷ []) [] ≡ cond a (x ∷ []) []
-    with_true true b e = ap (λ c. cond c (x ∷ []) []) e
-    with_true false b e = refl
-
 pub hit_alone : {X : Type 0} (p : X → Bool) (x : X) → p x ≡ true → filter p (x ∷ []) ≡ x ∷ []
 hit_alone p x e = ap (λ b. cond b (x ∷ []) []) e
 
 -- a slot with a hit passes
 pub hit_passes : {X : Type 0} (p : X → Bool) (xs : List X) (from hit : ℕ) → IsNextHit (map p xs) from (Some hit) → (x : X) → slice_get xs hit ≡ Some x → p x ≡ true
 hit_passes p xs from hit next x at = sym (made_at p xs hit x false at) ∙ next.2
-
--- ---- gathered so far, and what is left
-
-pub ended : {X : Type 0} (done rest all : List X) → done ++ rest ≡ all → rest ≡ [] → done ≡ all
-ended done rest all h e = sym (append-nil done) ∙ ap (λ xs. done ++ xs) (sym e) ∙ h
-
-pub went_on : {X : Type 0} (done more one rest left all : List X) → done ++ rest ≡ all → rest ≡ one ++ left → more ≡ done ++ one → more ++ left ≡ all
-went_on done more one rest left all h e i =
-    ap (λ xs. xs ++ left) i ∙ append_assoc done one left ∙ ap (λ xs. done ++ xs) (sym e) ∙ h
 
 pub map-append : {X Y : Type 0} (f : X → Y) (xs ys : List X) → map f (xs ++ ys) ≡ map f xs ++ map f ys
 map-append f [] ys = refl

@@ -13,6 +13,10 @@ beyond node item = if nat_lt item.seen node.nsn then record { page = node.right;
 abbrev pub below : {B : Type 0} → ℕ → (B → Bool) → List (Child B) → List Item
 below counter leads children = map (λ c. record { page = c.page; seen = counter }) (filter (λ c. leads c.key) children)
 
+-- a child, remembered with this counter
+abbrev pub item_of : {B : Type 0} → ℕ → Child B → Item
+item_of counter c = record { page = c.page; seen = counter }
+
 -- a look has read the node of its stack's last item: in its place stand the rightlink, if the node was split since, and
 -- the entries that may lead to something wanted; and what is wanted of the node's pairs is found, in that page
 pub record Reads {B : Type 0} (counter : ℕ) (wants : Pair B → Bool) (leads : B → Bool) (node : Node B) (rest : List Item) (item : Item)

@@ -1,11 +1,12 @@
 //! A look, a page a step.
-ghost use Rattle.std.specs.Prelude.{◌≡◌, ◌<◌, ◌++◌, ◌∷◌, [], true, length, filter, map, ◌≢◌, List, ◌==◌, slice_get, Some, Err, IfOk, IfErr, OnOk, OnErr};
+ghost use Rattle.std.specs.Prelude.{◌≡◌, ◌<◌, ◌≤◌, ◌++◌, ◌∷◌, [], true, length, filter, map, ◌≢◌, List, ◌==◌, slice_get, Some, Err, IfOk, IfErr, OnOk, OnErr};
 ghost use Rattle.smallvec.specs.SmallVec.{small_vec_len};
+ghost use Rattle.gx_node.specs.Hits.{passing_of};
 ghost use Rattle.gx_node.specs.Reading.{format_of, is_node};
 ghost use Rattle.gx_tree_laws.specs.Trees.{Pair, Used};
 ghost use Rattle.gx_tree_laws.specs.Reach as reach;
 ghost use Rattle.gx_tree.specs.Found.{found_at};
-ghost use Rattle.gx_tree.specs.Looking.{below, beyond, LookStep, Reads};
+ghost use Rattle.gx_tree.specs.Looking.{below, beyond, item_of, LookStep, Reads};
 ghost use Rattle.gx_tree.specs.Owner.{AsksAtMost, KeepsSince, IsWhy, IsWhyLater, Brings, Asks};
 ghost use Rattle.gx_tree.specs.Store.{node_of, tree_of, Stays};
 ghost use Rattle.gx_tree.specs.Wants.{has_row, wants};
@@ -17,7 +18,7 @@ use crate::pages::{Pages, bring_page};
 use crate::wanted::Wanted;
 use gx_class::{KeyClass, Probing};
 use gx_geom::Shape;
-use gx_node::{Inner, Leaf};
+use gx_node::{BLOCK, Inner, Leaf};
 use gx_page::Page;
 use smallvec::SmallVec;
 use std::alloc::{AllocError, Global};
@@ -55,6 +56,27 @@ fn keep<K: Probing>(
     Ok(())
 }
 
+/// Finds what is wanted of a block of a leaf's slots.
+fn gather_block<K: Probing>(
+    leaf: &Leaf<K>,
+    from: usize,
+    page: u32,
+    wanted: &Wanted<K>,
+    found: &mut Vec<Found<K::Key>>,
+) -> Result<(), AllocError>
+    requires { from ≤ length leaf.now.pairs }
+    ensures { OnOk result (found.new.items ≡ found.old.items ++ map (found_at page) (filter (has_row wanted.now.row)
+        (passing_of (λ pair. K.passes wanted.now.keys pair.key) leaf.now.pairs from))) }
+{
+    let passing = leaf.passing(&wanted.keys, from);
+    let slots = passing.as_slice();
+    found.reserve(slots.len())?;
+    for slot in slots {
+        keep(leaf, usize::from(*slot), page, wanted, found)?;
+    }
+    Ok(())
+}
+
 /// Finds what is wanted of a leaf.
 fn gather<K: Probing>(
     leaf: &Leaf<K>,
@@ -65,14 +87,29 @@ fn gather<K: Probing>(
     ensures { OnOk result (found.new.items
         ≡ found.old.items ++ map (found_at page) (filter (wants K.passes wanted.now.keys wanted.now.row) leaf.now.pairs)) }
 {
-    let count = leaf.len();
-    let mut slot = 0;
-    'scan: while slot < count {
-        let Some(hit) = leaf.next_hit(&wanted.keys, slot) else {
-            return Ok(());
-        };
-        keep(leaf, hit, page, wanted, found)?;
-        slot = hit + 1;
+    for block in 0..leaf.len().div_ceil(BLOCK) {
+        gather_block(leaf, block * BLOCK, page, wanted, found)?;
+    }
+    Ok(())
+}
+
+/// Stacks those children of a block of an inner node's slots below which something wanted may stand, with the counter as it
+/// is.
+fn descend_block<K: Probing>(
+    inner: &Inner<K>,
+    from: usize,
+    counter: u64,
+    wanted: &Wanted<K>,
+    stack: &mut SmallVec<Item, INLINE_ITEMS>,
+) -> Result<(), AllocError>
+    requires { from ≤ length inner.now.children }
+    ensures { OnOk result (stack.new.items ≡ stack.old.items ++ map (item_of counter)
+        (passing_of (λ child. K.passes wanted.now.bounds child.key) inner.now.children from)) }
+{
+    let passing = inner.passing(&wanted.bounds, from);
+    let slots = passing.as_slice();
+    for slot in slots {
+        stack.push(Item::new(inner.page_of(usize::from(*slot)), counter))?;
     }
     Ok(())
 }
@@ -86,14 +123,8 @@ fn descend<K: Probing>(
 ) -> Result<(), AllocError>
     ensures { OnOk result (stack.new.items ≡ stack.old.items ++ below counter (K.passes wanted.now.bounds) inner.now.children) }
 {
-    let count = inner.len();
-    let mut slot = 0;
-    'scan: while slot < count {
-        let Some(hit) = inner.next_hit(&wanted.bounds, slot) else {
-            return Ok(());
-        };
-        stack.push(Item::new(inner.page_of(hit), counter))?;
-        slot = hit + 1;
+    for block in 0..inner.len().div_ceil(BLOCK) {
+        descend_block(inner, block * BLOCK, counter, wanted, stack)?;
     }
     Ok(())
 }

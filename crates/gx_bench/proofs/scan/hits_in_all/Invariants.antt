@@ -7,5 +7,5 @@ use Rattle.gx_bench.proofs.scan.hits_in_all.Given as goal
 abbrev pub invariant-loop-page : goal.invariant-loop-page
 invariant-loop-page l = record {
   counted : l.hits ≡ sum_by (hits_in (key_of l.sent)) (take l.page-index l.pages);
-  few : l.hits ≤ 812 * l.page-index;
+  few : l.hits ≤ 832 * l.page-index;
 }

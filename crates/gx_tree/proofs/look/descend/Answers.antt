@@ -1,34 +1,37 @@
-use Rattle.std.proofs.Common.{◌+◌, ◌∙◌, ◌++◌, ◌∷◌, [], ap, filter, drop, map}
+use Rattle.std.proofs.Common.{◌∙◌, ◌≡◌, ◌≤◌, ◌*◌, ◌+◌, ◌++◌, append-nil, append_assoc, ap, sym, filter, map, take, length, arith}
+use Rattle.std.proofs.lemmas.List.{map-append, take_all}
 use Rattle.gx_tree_laws.specs.Trees.{Child}
-use Rattle.gx_tree_laws.specs.Reach.{Item}
-use Rattle.gx_node.proofs.Slots.{some_hit}
-use Rattle.gx_tree.proofs.Hits.{next_taken, none_left, hit_alone, hit_passes, ended, went_on, map-append}
+use Rattle.gx_node.specs.Hits.{passing_of}
+use Rattle.gx_tree.specs.Looking.{below, item_of}
+use Rattle.gx_node.proofs.Blocks.{block_more}
 use Rattle.gx_tree.proofs.look.descend.Goals as goal
 
-pub returns-in_default : goal.returns-in_default
-returns-in_default g c =
-    let p = λ (x : Child g.row.K-Key.Denot). g.K.Probing.passes c.args.wanted.now.bounds x.key in
-    let f : Child g.row.K-Key.Denot → Item = λ x. record { page = x.page; seen = c.args.counter } in
-    let children = c.args.inner.now.children in
-    ended c.scan.stack.items (map f (filter p (drop c.scan.slot children))) (c.args.stack.now.items ++ map f (filter p children))
-    c.scan.invariant (ap (map f) (none_left p p (λ x e. e) children c.scan.slot c.in_default.ensures))
+pub loop-block-init : goal.loop-block-init
+loop-block-init g c = sym (append-nil c.args.stack.now.items)
 
-pub scan-preserved : goal.scan-preserved
-scan-preserved g c =
-    let p = λ (x : Child g.row.K-Key.Denot). g.K.Probing.passes c.args.wanted.now.bounds x.key in
-    let f : Child g.row.K-Key.Denot → Item = λ x. record { page = x.page; seen = c.args.counter } in
+pub descend_block-requires : goal.descend_block-requires
+descend_block-requires g c = let many = c.div_ceil-block-end.ensures in let all = c.len.ensures in omega arith
+
+pub loop-block-preserved : goal.loop-block-preserved
+loop-block-preserved g c =
     let children = c.args.inner.now.children in
-    let slot = c.scan.slot in
-    let hit = c.in-Some.hit in
-    let next = c.in-Some.ensures in
-    let found = some_hit p children slot hit next in
-    let x = found.0 in
-    let left = filter p (drop (hit + 1) children) in
-    went_on c.scan.stack.items c.push.new.self.items (f x ∷ []) (map f (filter p (drop slot children))) (map f left)
-    (c.args.stack.now.items ++ map f (filter p children))
-    c.scan.invariant
-    (ap (map f) (next_taken p p (λ y e. e) children slot hit next x found.1)
-    ∙ map-append f (filter p (x ∷ [])) left
-    ∙ ap (λ xs. map f xs ++ map f left) (hit_alone p x (hit_passes p children slot hit next x found.1)))
-    (c.in_ok-push.ensures.ok ∙ ap (λ i. c.scan.stack.items ++ i ∷ []) c.new.ensures
-    ∙ ap (λ n. c.scan.stack.items ++ record { page = n; seen = c.args.counter } ∷ []) (c.page_of.ensures x found.1))
+    let p = λ (x : Child g.row.K-Key.Denot). g.K.Probing.passes c.args.wanted.now.bounds x.key in
+    let f = item_of c.args.counter in
+    let from = c.loop-block.block * 64 in
+    let next : (c.loop-block.block + 1) * 64 ≡ from + 64 = omega arith in
+    let many = c.div_ceil-block-end.ensures in
+    let all = c.len.ensures in
+    let within : from ≤ length children = omega arith in
+    let before = filter p (take from children) in
+    let block = passing_of p children from in
+    c.in_ok-descend_block.ensures ∙ ap (λ l. l ++ map f block) c.loop-block.invariant
+    ∙ append_assoc c.args.stack.now.items (map f before) (map f block)
+    ∙ ap (λ l. c.args.stack.now.items ++ l)
+    (sym (map-append f before block) ∙ ap (map f) (sym (block_more p children from within)) ∙ ap (λ k. map f (filter p (take k children))) (sym next))
+
+pub returns : goal.returns
+returns g c =
+    let many = c.div_ceil-block-end.ensures in
+    let all = c.len.ensures in
+    c.loop-block.invariant
+    ∙ ap (λ l. c.args.stack.now.items ++ below c.args.counter (g.K.Probing.passes c.args.wanted.now.bounds) l) (take_all (c.loop-block.block * 64) c.args.inner.now.children (omega arith))

@@ -13,4 +13,4 @@ returns g c =
     let items = c.self.inside.page.now.items in
     let here : c.args.slot < length items = omega (arith, ap (λ n. length n.pairs) view, length-map items (pair_of f)) in
     ap (λ n. slice_get n.pairs c.args.slot) (sym view) ∙ slot_made (pair_of f) items c.args.slot [] (pair_seen c.pair_of.result) here
-    (c.pair_of.ensures ∙ ap (pair_of f) c.get.ensures.item)
+    (c.pair_of.ensures ∙ ap (pair_of f) c.item_in.ensures.item)

@@ -1,0 +1,52 @@
+//! The slots of a block that pass.
+ghost use Rattle.std.specs.Prelude.{◌≡◌, ◌<◌, ◌≤◌, ◌+◌, [], ◌∷◌, ◌++◌, take, if◌then◌else◌};
+
+use std::marker::Model;
+
+/// How many slots are scanned before their hits are looked at.
+pub const BLOCK: usize = 64;
+
+/// Slots of a block, in order. They are gathered without a jump on what passes: where many do, none can be foretold.
+#[derive(Drop)]
+pub struct Passing {
+    slots: [u16; BLOCK],
+    count: usize,
+}
+
+impl Model for Passing {
+    ghost use Rattle.std.specs.Prelude.{List, ℕ, take, ◌≤◌};
+
+    ghost Value = { List ℕ };
+
+    ghost view = { λ p. take p.count p.slots };
+
+    ghost invariant = { λ p. p.count ≤ 64 };
+}
+
+/// Writes a slot at a place, and answers the next place where it passes, or else this one again. The place is a value of the
+/// caller's, so that it stays in a register.
+pub(crate) fn offer(slots: &mut [u16; BLOCK], place: usize, slot: u16, passes: bool) -> usize
+    requires { place < 64 }
+    ensures kept { take result slots.new ≡ if passes then take place slots.old ++ slot ∷ [] else take place slots.old }
+    ensures next { result ≤ place + 1 }
+{
+    slots[place] = slot;
+    place + usize::from(passes)
+}
+
+impl Passing {
+    /// The first so many of some slots.
+    pub(crate) fn of(slots: [u16; BLOCK], count: usize) -> Self
+        requires { count ≤ 64 }
+        ensures { result ≡ take count slots }
+    {
+        Passing { slots, count }
+    }
+
+    /// The slots.
+    pub fn as_slice(&self) -> &[u16]
+        ensures { result.now ≡ self.now }
+    {
+        &self.slots[..self.count]
+    }
+}
