@@ -4,8 +4,6 @@
 
 mod faults;
 mod script;
-#[cfg(test)]
-mod tests;
 
 pub use faults::{Noted, tell};
 pub use script::{refuse_memory, run_script};

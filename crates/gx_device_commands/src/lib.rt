@@ -9,8 +9,6 @@ pub mod laws;
 mod opening;
 mod refusals;
 mod running;
-#[cfg(test)]
-mod tests;
 mod watched;
 
 pub use dumping::dump_over;

@@ -4,8 +4,6 @@
 mod begin;
 mod losers;
 mod opening;
-#[cfg(test)]
-mod tests;
 mod undo;
 
 pub use opening::open;

@@ -9,8 +9,6 @@ pub mod laws;
 mod phase;
 mod sessions;
 mod steps;
-#[cfg(test)]
-mod tests;
 
 pub use phase::Phase;
 pub use sessions::Sessions;

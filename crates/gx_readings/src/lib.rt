@@ -5,8 +5,6 @@
 mod keys;
 pub mod laws;
 mod pages;
-#[cfg(test)]
-mod tests;
 
 pub use keys::ReadKeys;
 pub use pages::{NodePage, OfClass};

@@ -3,15 +3,11 @@
 #![tactic(auto)]
 
 mod dump;
-#[cfg(test)]
-mod dump_tests;
 mod fault;
 mod index;
 pub mod laws;
 mod script;
 mod settle;
-#[cfg(test)]
-mod tests;
 
 pub use fault::DumpFault;
 pub use gx_driven::EVENTS;

@@ -2,6 +2,7 @@
 ghost use Rattle.std.specs.Prelude.{◌≡◌, true};
 ghost use Rattle.gx_machine.specs.Machine.{is_session};
 
+use crate::asserts::same;
 use gx_geom::{Box2, Refusal};
 use gx_machine::{Asked, Call, Entry, Query, Reply};
 use gx_plain::PlainIndex;
@@ -44,6 +45,15 @@ pub(crate) fn session(drawn: u32) -> u8
     1 + (drawn % 8) as u8
 }
 
+// A query of one kind or another.
+pub(crate) fn query(drawn: u32, key: Box2) -> Query<Box2> {
+    match drawn % 3 {
+        0 => Query::Overlap(key),
+        1 => Query::Within(key),
+        _ => Query::Equal(key),
+    }
+}
+
 impl Beside {
     fn commit<R: Abort>(&mut self, rt: &R, s: u8)
         requires { is_session s ≡ true }
@@ -65,8 +75,8 @@ fn row(row: u64) -> Entry<Box2> {
 fn claim<R: Abort>(rt: &R, both: &mut Beside, s: u8, n: u64, answer: Result<(), Refusal>)
     requires { is_session s ≡ true }
 {
-    assert_eq!(rt; both.table.claim(s, row(n)), answer);
-    assert_eq!(rt; given(both.plain.ask(s, Call::Insert(row(n)))), answer);
+    same(rt, &both.table.claim(s, row(n)), &answer);
+    same(rt, &given(both.plain.ask(s, Call::Insert(row(n)))), &answer);
     if answer.is_ok() {
         let _ = both.plain.answer(s);
     }
@@ -91,7 +101,7 @@ fn claims_are_full_at_512(rt: HostRuntime) -> Result<(), Fail> {
 fn write<R: Abort>(rt: &R, table: &mut Transactions<Box2>, drawn: u64, leaf: u32) {
     let e = row(drawn);
     let given = table.claim(3, e);
-    assert_eq!(rt; given, Ok(()));
+    same(rt, &given, &Ok(()));
     if given.is_ok() {
         table.note(3, e, leaf % 2 == 0, leaf);
         assert!(rt; table.is_claimed(&e));
@@ -104,9 +114,9 @@ fn one_session_may_have_all_claims_and_notes(rt: HostRuntime) -> Result<(), Fail
     for place in 0..512 {
         write(&rt, &mut table, u64::from(place * 5 % 512), place);
     }
-    assert_eq!(rt; table.notes(3).len(), 512);
-    assert_eq!(rt; table.claim(3, row(512)), Err(Refusal::ClaimsFull));
-    assert_eq!(rt; table.claim(4, row(512)), Err(Refusal::ClaimsFull));
+    same(&rt, &table.notes(3).len(), &512);
+    same(&rt, &table.claim(3, row(512)), &Err(Refusal::ClaimsFull));
+    same(&rt, &table.claim(4, row(512)), &Err(Refusal::ClaimsFull));
     Ok(())
 }
 
@@ -117,8 +127,8 @@ fn at(x: i32) -> Query<Box2> {
 fn search<R: Abort>(rt: &R, both: &mut Beside, s: u8, x: i32, answer: Result<(), Refusal>)
     requires { is_session s ≡ true }
 {
-    assert_eq!(rt; both.table.predicate(s, at(x)), answer);
-    assert_eq!(rt; given(both.plain.ask(s, Call::Search(at(x)))), answer);
+    same(rt, &both.table.predicate(s, at(x)), &answer);
+    same(rt, &given(both.plain.ask(s, Call::Search(at(x)))), &answer);
     if answer.is_ok() {
         let _ = both.plain.answer(s);
     }

@@ -2,7 +2,9 @@
 ghost use Rattle.std.specs.Prelude.{◌≡◌, true};
 ghost use Rattle.gx_machine.specs.Machine.{is_session};
 
-use crate::claims::{given, session};
+use crate::asserts::same;
+use crate::claims::{given, query, session};
+use crate::tree_drawn::draw;
 use gx_geom::{Box2, Refusal};
 use gx_machine::{Call, Entry, Query, Reply};
 use gx_plain::PlainIndex;
@@ -62,12 +64,6 @@ fn mark_before(reply: Reply<Box2>) -> u8 {
     }
 }
 
-// The next of a sequence of numbers below 65,536.
-fn draw(state: &mut u32) -> u32 {
-    *state = state.wrapping_mul(1_664_525).wrapping_add(1_013_904_223);
-    *state >> 16
-}
-
 // A point or a square of a small grid.
 fn key(drawn: u32) -> Box2 {
     let (x, y) = ((drawn % 8) as i32, (drawn / 8 % 8) as i32);
@@ -83,14 +79,6 @@ fn entry(drawn: u32) -> Entry<Box2> {
     }
 }
 
-fn query(drawn: u32) -> Query<Box2> {
-    match drawn % 3 {
-        0 => Query::Overlap(key(drawn / 4)),
-        1 => Query::Within(key(drawn / 4)),
-        _ => Query::Equal(key(drawn / 4)),
-    }
-}
-
 // What the plain index gives where a session asks to write an entry.
 fn ask_write(
     plain: &mut PlainIndex<Box2>,
@@ -98,10 +86,11 @@ fn ask_write(
     drawn: u32,
     deletes: bool,
 ) -> Result<(), Refusal> {
+    let entry = entry(drawn);
     if deletes {
-        given(plain.ask(s, Call::Delete(entry(drawn))))
+        given(plain.ask(s, Call::Delete(entry)))
     } else {
-        given(plain.ask(s, Call::Insert(entry(drawn))))
+        given(plain.ask(s, Call::Insert(entry)))
     }
 }
 
@@ -118,7 +107,7 @@ fn claim_and_note<R: Abort>(
 {
     let e = entry(drawn);
     let given = table.claim(s, e);
-    assert_eq!(rt; given, Ok(()));
+    same(rt, &given, &Ok(()));
     if given.is_ok() {
         table.note(s, e, before, leaf);
         assert!(rt; table.is_claimed(&e));
@@ -139,7 +128,7 @@ fn write<R: Abort>(
 {
     let asked = ask_write(plain, s, drawn, leaf % 3 == 0);
     if asked.is_err() {
-        assert_eq!(rt; table.claim(s, entry(drawn)), asked);
+        same(rt, &table.claim(s, entry(drawn)), &asked);
         return Ok(());
     }
     let mark = mark_before(plain.answer(s));
@@ -147,7 +136,7 @@ fn write<R: Abort>(
         claim_and_note(rt, table, s, drawn, mark == 1, leaf);
         lists.write(s, drawn, mark == 1, leaf)?;
     } else {
-        assert_eq!(rt; table.claim(s, entry(drawn)), Ok(()));
+        same(rt, &table.claim(s, entry(drawn)), &Ok(()));
     }
     lists.claims.push((s, entry(drawn)))?;
     Ok(())
@@ -162,8 +151,9 @@ fn search<R: Abort>(
 )
     requires { is_session s ≡ true }
 {
-    let answer = table.predicate(s, query(drawn));
-    assert_eq!(rt; answer, given(plain.ask(s, Call::Search(query(drawn)))));
+    let query = query(drawn, key(drawn / 4));
+    let answer = table.predicate(s, query);
+    same(rt, &answer, &given(plain.ask(s, Call::Search(query))));
     if answer.is_ok() {
         let _ = plain.answer(s);
     }
@@ -217,18 +207,22 @@ fn end<R: Abort>(
 }
 
 // The tables hold these notes of a session, and the claims that were given.
-fn same<R: Abort>(rt: &R, s: u8, table: &Transactions<Box2>, lists: &Lists)
+fn agree<R: Abort>(rt: &R, s: u8, table: &Transactions<Box2>, lists: &Lists)
     requires { is_session s ≡ true }
 {
     for note in table.notes(s) {
-        assert_eq!(rt; lists.noted(s, &note.entry), Some((note.before, note.leaf)));
+        same(
+            rt,
+            &lists.noted(s, &note.entry),
+            &Some((note.before, note.leaf)),
+        );
     }
     for drawn in 0..1024 {
         let e = entry(drawn);
         let noted = table.notes(s).iter().any(|n| n.entry == e);
-        assert_eq!(rt; noted, lists.noted(s, &e).is_some());
+        same(rt, &noted, &lists.noted(s, &e).is_some());
         let claimed = lists.claims.iter().any(|c| c.1 == e);
-        assert_eq!(rt; table.is_claimed(&e), claimed);
+        same(rt, &table.is_claimed(&e), &claimed);
     }
 }
 
@@ -253,7 +247,7 @@ fn a_seeded_run_is_that_of_the_plain_index(rt: HostRuntime) -> Result<(), Fail> 
             end(&rt, &mut table, &mut plain, &mut lists, s);
         }
         if round % 500 == 0 {
-            same(&rt, s, &table, &lists);
+            agree(&rt, s, &table, &lists);
         }
     }
     Ok(())

@@ -1,5 +1,6 @@
 //! Readers and writers that fail with each common kind of error, once or for ever: what a script makes of it, and that
 //! nobody is asked again after an error or after the end.
+use crate::asserts::same;
 use gx_geom::Box2;
 use gx_plain::{PlainIndex, run_plain};
 use gx_script::ScriptFault;
@@ -141,8 +142,8 @@ fn run<R: Abort + AllocGlobal>(
         errors: writing,
     };
     let result = run_plain(&mut reader, &mut writer, &mut index);
-    assert_eq!(rt; reader.errors.calls_after, 0);
-    assert_eq!(rt; writer.errors.calls_after, 0);
+    same(rt, &reader.errors.calls_after, &0);
+    same(rt, &writer.errors.calls_after, &0);
     Ok((result, writer.bytes))
 }
 

@@ -1,4 +1,5 @@
 //! Scripts and indexes of thousands.
+use crate::asserts::same;
 use gx_geom::Box2;
 use gx_plain::{Call, Entry, PlainIndex, Query, Reply, run_plain};
 use std::io::{self, Read};
@@ -9,8 +10,8 @@ const ROWS: u64 = 3000;
 
 // The box of a row: rows stand in a line, each touching none.
 fn place(row: u64) -> Option<Box2> {
-    let x = i32::try_from(row).ok()?.checked_mul(10)?;
-    Box2::new(x, 0, x.checked_add(1)?, 1).ok()
+    let x = 10 * i32::from(u16::try_from(row).ok()?);
+    Box2::new(x, 0, x + 1, 1).ok()
 }
 
 // Inserts the rows in transactions of 500, and answers whether each was.
@@ -61,9 +62,9 @@ fn an_index_of_thousands(rt: HostRuntime) -> Result<(), Fail> {
     assert!(rt; fill(&mut index));
     assert!(rt; matches!(index.call(2, Call::Begin), Reply::Ok));
     let all = Box2::new(0, 0, 100_000, 1)?;
-    assert_eq!(rt; found(&mut index, 2, all, 0), Some((3000, true)));
+    same(&rt, &found(&mut index, 2, all, 0), &Some((3000, true)));
     let some = Box2::new(10_000, 0, 20_000, 1)?;
-    assert_eq!(rt; found(&mut index, 2, some, 1000), Some((1001, true)));
+    same(&rt, &found(&mut index, 2, some, 1000), &Some((1001, true)));
     Ok(())
 }
 
@@ -82,10 +83,10 @@ fn a_transaction_that_deletes_hundreds(rt: HostRuntime) -> Result<(), Fail> {
     }
     assert!(rt; deleted);
     let all = Box2::new(0, 0, 100_000, 1)?;
-    assert_eq!(rt; found(&mut index, 1, all, 500), Some((2500, true)));
+    same(&rt, &found(&mut index, 1, all, 500), &Some((2500, true)));
     assert!(rt; matches!(index.call(1, Call::Commit), Reply::Committed(7)));
     assert!(rt; matches!(index.call(1, Call::Begin), Reply::Ok));
-    assert_eq!(rt; found(&mut index, 1, all, 500), Some((2500, true)));
+    same(&rt, &found(&mut index, 1, all, 500), &Some((2500, true)));
     Ok(())
 }
 

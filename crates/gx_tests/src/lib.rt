@@ -1,27 +1,29 @@
-//! Callers of the crates below as the layers above will be, and the tests of what no contract says. Nothing here looks
-//! into a crate: it is all by public calls.
+//! Tests by public calls of what no contract says. What no contract says of devices, records, frames and the log is run by
+//! `gx_device_runs`.
 #![tactic(auto)]
 
+#[cfg(test)]
+mod analyses;
 #[cfg(test)]
 mod asserts;
 #[cfg(test)]
 mod boxes;
-pub mod callers;
 #[cfg(test)]
 mod claims;
 #[cfg(test)]
 mod claims_run;
 #[cfg(test)]
 mod classes;
-pub mod descents;
 #[cfg(test)]
 mod faults;
-pub mod help;
+#[cfg(test)]
+mod formats;
+#[cfg(test)]
+mod images;
 #[cfg(test)]
 mod intervals;
 #[cfg(test)]
 mod large;
-pub mod logged;
 #[cfg(test)]
 mod memory;
 #[cfg(test)]

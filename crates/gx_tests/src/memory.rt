@@ -1,4 +1,5 @@
 //! What is made is given back.
+use crate::asserts::same;
 use gx_page::{Page, PageFault};
 use std::alloc::Global;
 use std::fs;
@@ -29,7 +30,7 @@ fn pages_are_given_back(rt: HostRuntime) -> Result<(), Fail> {
     for number in 1..10_000 {
         let page = page_of(rt.alloc(), number, number % 172)?;
         let copy = Page::from_image(rt.alloc(), page.image())?;
-        assert_eq!(rt; copy.number(), number);
+        same(&rt, &copy.number(), &number);
     }
     let after = resident(&rt)?;
     assert!(rt;

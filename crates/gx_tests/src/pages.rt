@@ -2,8 +2,8 @@
 
 use crate::asserts::same;
 use crate::boxes::make_box;
-use crate::callers::{key_at, move_item, put_entry, redo, redo_from};
 use crate::reaches::{Reach, ReachClass};
+use gx_callers::pages::{key_at, move_item, put_entry, redo, redo_from};
 use gx_class::{Box2Class, KeyClass};
 use gx_page::{PAGE_SIZE, Page, PageFault};
 use std::process::Abort;

@@ -1,4 +1,5 @@
 //! Scripts on the plain index, its bounds, and refused memory.
+use crate::asserts::same;
 use gx_geom::{Box2, Refusal};
 use gx_plain::{Asked, Call, Entry, PlainIndex, Query, Reply, run_plain};
 use std::process::Abort;
@@ -75,7 +76,7 @@ fn scripts_and_their_texts(rt: HostRuntime) -> Result<(), Fail> {
         let mut writer = Vec::new(rt.alloc());
         let result = run_plain(&mut reader, &mut writer, &mut index);
         assert!(rt; result == Ok(()));
-        assert!(rt; writer.as_slice() == text, "{writer:?}");
+        same(&rt, &writer.as_slice(), &text);
     }
     Ok(())
 }
@@ -160,7 +161,7 @@ fn each_step_of_a_session_is_told(rt: HostRuntime) -> Result<(), Fail> {
             Step::Ask(call) => ask_told(index.ask(session, call)),
             Step::Answer => reply_told(index.answer(session)),
         };
-        assert_eq!(rt; told, expected);
+        same(&rt, &told, &expected);
     }
     Ok(())
 }
@@ -173,7 +174,7 @@ fn gives(
     call: Call<Box2>,
     expected: Told,
 ) {
-    assert_eq!(rt; reply_told(index.call(session, call)), expected);
+    same(rt, &reply_told(index.call(session, call)), &expected);
 }
 
 // 512 claims are all sessions' most; an entry that is claimed takes no second place.
@@ -242,7 +243,7 @@ fn refused_memory_changes_nothing(rt: HostRuntime) -> Result<(), Fail> {
     gives(&rt, &mut index, 1, Call::Begin, Told::Ok);
     for row in 0..40u64 {
         let reply = twice(&rt, &mut index, Call::Insert(Entry { row, key }));
-        assert_eq!(rt; reply_told(reply), Told::Inserted);
+        same(&rt, &reply_told(reply), &Told::Inserted);
     }
     gives(&rt, &mut index, 1, Call::Commit, Told::Committed(1));
     gives(&rt, &mut index, 1, Call::Begin, Told::Ok);
@@ -256,7 +257,7 @@ fn refused_memory_changes_nothing(rt: HostRuntime) -> Result<(), Fail> {
         );
     }
     let reply = twice(&rt, &mut index, Call::Search(Query::Equal(key)));
-    assert_eq!(rt; reply_told(reply), Told::Found(20));
+    same(&rt, &reply_told(reply), &Told::Found(20));
     gives(&rt, &mut index, 1, Call::Abort, Told::Aborted);
     Ok(())
 }

@@ -1,4 +1,5 @@
 //! Scripts against an index that answers from a list, in pieces of any size.
+use crate::asserts::same;
 use gx_geom::{Box2, Refusal};
 use gx_machine::{Call, Entries, Entry, Query, Reply};
 use gx_script::{Answers, Line, ScriptFault, parse, run};
@@ -117,29 +118,34 @@ impl Write for Sip {
     }
 }
 
+// A script that comes in pieces of so many bytes gives this text in such pieces.
+fn gives_in_pieces<R: Abort + AllocGlobal>(rt: &R, script: &[u8], text: &[u8], size: usize) {
+    let mut reader = Drip {
+        rest: script,
+        size,
+        interrupts: false,
+        fails: false,
+    };
+    let mut writer = Sip {
+        taken: Vec::new(rt.alloc()),
+        size,
+        interrupts: false,
+        most: usize::MAX,
+    };
+    let result = run(&mut reader, &mut writer, &mut List::new(rt.alloc()));
+    assert!(rt; result == Ok(()));
+    same(rt, &writer.taken.as_slice(), &text);
+}
+
 // A script gives this text, whatever pieces it comes in and goes out in.
 fn gives<R: Abort + AllocGlobal>(rt: &R, script: &[u8], text: &[u8]) -> Result<(), Fail> {
     let mut reader = script;
     let mut writer = Vec::new(rt.alloc());
     let result = run(&mut reader, &mut writer, &mut List::new(rt.alloc()));
     assert!(rt; result == Ok(()));
-    assert!(rt; writer.as_slice() == text, "{writer:?}");
+    same(rt, &writer.as_slice(), &text);
     for size in [1, 2, 3, 7, 1000] {
-        let mut reader = Drip {
-            rest: script,
-            size,
-            interrupts: false,
-            fails: false,
-        };
-        let mut writer = Sip {
-            taken: Vec::new(rt.alloc()),
-            size,
-            interrupts: false,
-            most: usize::MAX,
-        };
-        let result = run(&mut reader, &mut writer, &mut List::new(rt.alloc()));
-        assert!(rt; result == Ok(()));
-        assert!(rt; writer.taken.as_slice() == text);
+        gives_in_pieces(rt, script, text, size);
     }
     Ok(())
 }
@@ -333,7 +339,7 @@ fn a_reader_that_fails_ends_the_script(rt: HostRuntime) -> Result<(), Fail> {
     let result = run(&mut reader, &mut writer, &mut index);
     assert!(rt; result == Err(ScriptFault::Read));
     assert!(rt; writer.as_slice() == b"1 ok\nline 2 bad\n1 aborted\n".as_slice());
-    assert_eq!(rt; index.calls, 2);
+    same(&rt, &index.calls, &2);
     Ok(())
 }
 
@@ -362,7 +368,7 @@ fn a_writer_that_fails_ends_the_script(rt: HostRuntime) -> Result<(), Fail> {
         } else {
             4
         };
-        assert_eq!(rt; index.calls, asked);
+        same(&rt, &index.calls, &asked);
     }
     Ok(())
 }

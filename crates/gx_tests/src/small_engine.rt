@@ -1,5 +1,7 @@
 //! A seeded run of the small engine beside the plain index, whose answers it has to give, and what it refuses.
-use crate::claims::session;
+use crate::asserts::same;
+use crate::claims::{query, session};
+use crate::tree_drawn::draw;
 use gx_geom::{Box2, Refusal};
 use gx_machine::{Asked, Call, Entry, Query, Reply};
 use gx_plain::PlainIndex;
@@ -31,12 +33,6 @@ struct Beside {
     replies: [u32; 7],
 }
 
-// The next of a sequence of numbers below 65,536.
-fn draw(state: &mut u32) -> u32 {
-    *state = state.wrapping_mul(1_664_525).wrapping_add(1_013_904_223);
-    *state >> 16
-}
-
 // A point or a square of a small grid.
 fn key(drawn: u32) -> Box2 {
     let (x, y) = ((drawn % 4) as i32, (drawn / 4 % 4) as i32);
@@ -51,21 +47,13 @@ fn entry(drawn: u32) -> Entry<Box2> {
     }
 }
 
-fn query(drawn: u32) -> Query<Box2> {
-    match drawn % 3 {
-        0 => Query::Overlap(key(drawn / 3)),
-        1 => Query::Within(key(drawn / 3)),
-        _ => Query::Equal(key(drawn / 3)),
-    }
-}
-
 fn call(state: &mut u32) -> Call<Box2> {
     let drawn = draw(state);
     match draw(state) % 32 {
         0..=3 => Call::Begin,
         4..=15 => Call::Insert(entry(drawn)),
         16..=22 => Call::Delete(entry(drawn)),
-        23..=28 => Call::Search(query(drawn)),
+        23..=28 => Call::Search(query(drawn, key(drawn / 3))),
         29 => Call::Abort,
         _ => Call::Commit,
     }
@@ -175,7 +163,7 @@ fn end<R: Abort>(rt: &R, both: &mut Beside) {
         }
     }
     for s in 1..9 {
-        assert_eq!(rt; both.stage(s), Stage::Ready);
+        same(rt, &both.stage(s), &Stage::Ready);
     }
 }
 
@@ -241,7 +229,7 @@ fn asking_is_refused(rt: HostRuntime) -> Result<(), Fail> {
         (1, Call::Commit, None),
         (1, Call::Begin, Some(Refusal::CallOpen)),
     ] {
-        assert_eq!(rt; refusal(engine.ask(session, call)), expected);
+        same(&rt, &refusal(engine.ask(session, call)), &expected);
     }
     assert!(rt; engine.go_on(0).is_none() && engine.go_on(9).is_none());
     Ok(())
@@ -277,13 +265,13 @@ fn calls_are_played_and_answered(rt: HostRuntime) -> Result<(), Fail> {
     assert!(rt; engine.go_on(1).is_none());
     engine.sync();
     assert!(rt; answers(&mut engine, 1, Reply::Committed(1)));
-    assert_eq!(rt; refusal(engine.ask(2, Call::Delete(entry(7)))), None);
+    same(&rt, &refusal(engine.ask(2, Call::Delete(entry(7)))), &None);
     assert!(rt; answers(&mut engine, 2, Reply::Refused(Refusal::Absent)));
-    assert_eq!(rt; refusal(engine.ask(2, Call::Abort)), None);
+    same(&rt, &refusal(engine.ask(2, Call::Abort)), &None);
     assert!(rt; engine.go_on(2).is_none());
     assert!(rt; answers(&mut engine, 2, Reply::Aborted));
     let _ = engine.ask(2, Call::Begin);
-    assert_eq!(rt; refusal(engine.ask(2, Call::Insert(entry(7)))), None);
+    same(&rt, &refusal(engine.ask(2, Call::Insert(entry(7)))), &None);
     assert!(rt; answers(&mut engine, 2, Reply::Refused(Refusal::Present)));
     Ok(())
 }

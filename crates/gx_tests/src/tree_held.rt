@@ -1,5 +1,6 @@
 //! Inserts that are held open between their steps while others split the pages on their way.
 
+use crate::asserts::same;
 use crate::tree_drawn::{Drawn, draw};
 use crate::tree_legal::PAGES;
 use crate::tree_rows::are_same;
@@ -52,7 +53,7 @@ where
     K::Probe: Drop,
 {
     let look = look_for(rt, run, &Wanted::<K>::entry(entry))?;
-    assert_eq!(rt; look.found().len(), 1);
+    same(rt, &look.found().len(), &1);
     let found = look.found().first().expect(rt, "a pair");
     assert!(rt; found.entry == *entry && found.marked == marked);
     Ok(found.leaf)
@@ -278,11 +279,11 @@ fn begins_again<K: Probing, R: Abort + AllocGlobal>(
 where
     K::Probe: Drop,
 {
-    assert_eq!(rt; goes_to(rt, run, open)?, (1, 2));
-    assert_eq!(rt; goes_to(rt, run, open)?, (3, 2));
+    same(rt, &goes_to(rt, run, open)?, &(1, 2));
+    same(rt, &goes_to(rt, run, open)?, &(3, 2));
     assert!(rt; step(rt, run, *open)?.is_none());
-    assert_eq!(rt; leaf_of(rt, run, &open.entry, false)?, 3);
-    assert_eq!(rt; leaf_of(rt, run, marked, true)?, 3);
+    same(rt, &leaf_of(rt, run, &open.entry, false)?, &3);
+    same(rt, &leaf_of(rt, run, marked, true)?, &3);
     Ok(())
 }
 
@@ -300,7 +301,7 @@ where
     let first = *run.pairs.first().expect(rt, "a pair");
     let place = Place::top(&run.tree);
     let mut open = Open { entry, place };
-    assert_eq!(rt; goes_to(rt, run, &mut open)?, (2, 0));
+    same(rt, &goes_to(rt, run, &mut open)?, &(2, 0));
     change(rt, run, later, tree, &first)?;
     begins_again(rt, run, &mut open, &first)
 }

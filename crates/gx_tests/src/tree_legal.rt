@@ -1,5 +1,6 @@
 //! The rules of a legal tree, tested by plain functions on a tree's pages.
 
+use crate::asserts::same;
 use gx_class::KeyClass;
 use gx_geom::Shape;
 use gx_node::{Inner, Leaf};
@@ -124,5 +125,5 @@ pub(crate) fn is_legal<K: KeyClass>(
     for (number, is_named) in named.iter().enumerate() {
         assert!(rt; *is_named == (number > 1 && number <= tree.used() as usize));
     }
-    assert_eq!(rt; chain(rt, tree), (leaf_count(rt, tree), live));
+    same(rt, &chain(rt, tree), &(leaf_count(rt, tree), live));
 }

@@ -1,5 +1,6 @@
 //! Trees that the steps make of known rows, page by page.
 
+use crate::asserts::same;
 use crate::tree_legal::page;
 use crate::tree_runs::{Run, begin, insert};
 use crate::trees::{a_box, line, nine_rows, split_twice};
@@ -12,13 +13,14 @@ use std::test::Fail;
 
 /// Two trees have the same counter and the same pages, byte for byte: level, sequence number, rightlink and items.
 pub(crate) fn are_same<K: KeyClass>(rt: &impl Abort, one: &MemoryPages<K>, other: &MemoryPages<K>) {
-    assert_eq!(rt;
-        (one.used(), one.counter()),
-        (other.used(), other.counter())
+    same(
+        rt,
+        &(one.used(), one.counter()),
+        &(other.used(), other.counter()),
     );
     for number in 1..=one.used() {
         let is_same = page(rt, one, number).image() == page(rt, other, number).image();
-        assert_eq!(rt; (number, is_same), (number, true));
+        same(rt, &(number, is_same), &(number, true));
     }
 }
 
@@ -80,6 +82,6 @@ fn a_thirteenth_row_finds_eight_pages_full(rt: HostRuntime) -> Result<(), Fail> 
     }
     let mut run = begin::<Box2Class, _>(&rt, 4, 6)?;
     insert_all(&rt, &mut run, &boxes, 1)?;
-    assert_eq!(rt; (run.tree.used(), run.pairs.len()), (8, 12));
+    same(&rt, &(run.tree.used(), run.pairs.len()), &(8, 12));
     Ok(())
 }

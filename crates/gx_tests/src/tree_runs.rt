@@ -2,6 +2,7 @@
 ghost use Rattle.std.specs.Prelude.{◌≤◌};
 ghost use Rattle.gx_node.specs.declared.items.TheConstants.{MAX_ENTRIES};
 
+use crate::asserts::same;
 use crate::tree_drawn::{Drawn, draw};
 use crate::tree_legal::{PAGES, is_legal, page};
 use crate::trees::fresh_tree;
@@ -127,7 +128,7 @@ pub(crate) fn insert<K: KeyClass, R: Abort>(
                 return Ok(true);
             }
             Err(fault) => {
-                assert_eq!(rt; fault, StepFault::PagesFull);
+                same(rt, &fault, &StepFault::PagesFull);
                 stands(rt, run);
                 return Ok(false);
             }
@@ -195,7 +196,7 @@ pub(crate) fn finds_all<K: KeyClass>(
             wanted = wanted.saturating_add(1);
         }
     }
-    assert_eq!(rt; look.found().len(), wanted);
+    same(rt, &look.found().len(), &wanted);
     for found in look.found() {
         let stands = run.pairs.as_slice().contains(&found.entry);
         assert!(rt; stands && !found.marked && found.entry.key.overlaps(square));

@@ -1,5 +1,6 @@
 //! Looks, seeks and descents, a page a step, at trees that were built by hand.
 
+use crate::asserts::same;
 use crate::tree_legal::page;
 use gx_class::{Box2Class, KeyClass, Probing};
 use gx_geom::{Box2, Refusal};
@@ -225,7 +226,7 @@ fn a_page_of_another_number_is_no_tree(rt: HostRuntime) -> Result<(), Fail> {
     let mut pages = Vec::new(rt.alloc());
     add(&mut pages, fresh(&rt, 2, (0, 0, 0))?)?;
     let tree = MemoryPages::<Box2Class>::new(pages, Vec::new(rt.alloc()), 0);
-    assert_eq!(rt; tree.err(), Some(Refusal::Damaged));
+    same(&rt, &tree.err(), &Some(Refusal::Damaged));
     Ok(())
 }
 
@@ -248,10 +249,10 @@ fn are_filtered<K: KeyClass>(
     query: &Query<K::Key>,
     count: usize,
 ) {
-    assert_eq!(rt; rows.len(), count);
+    same(rt, &rows.len(), &count);
     for (k, key) in keys.iter().enumerate() {
         let times = times(rows, k as u64 + 1);
-        assert_eq!(rt; times, usize::from(K::matches(query, key)));
+        same(rt, &times, &usize::from(K::matches(query, key)));
     }
 }
 
@@ -315,7 +316,7 @@ where
     K::Probe: Drop,
 {
     let (rows, reads) = rows_found(rt, pages, &Wanted::matching(query))?;
-    assert_eq!(rt; (rows.len(), reads), counts);
+    same(rt, &(rows.len(), reads), &counts);
     Ok(())
 }
 
@@ -332,7 +333,7 @@ where
     for (row, wanted) in found {
         let row = *row;
         let (rows, reads) = rows_found(rt, pages, &Wanted::entry(&Entry { row, key }))?;
-        assert_eq!(rt; (rows.as_slice(), reads), (*wanted, 3));
+        same(rt, &(rows.as_slice(), reads), &(*wanted, 3));
     }
     Ok(())
 }
@@ -404,11 +405,15 @@ fn the_third_step_finds<K: Probing>(
 ) {
     step(rt, pages, wanted, look);
     step(rt, pages, wanted, look);
-    assert_eq!(rt; look.found().len(), 0);
+    same(rt, &look.found().len(), &0);
     step(rt, pages, wanted, look);
     assert!(rt; look.is_done() && look.found().len() == 1);
     for found in look.found() {
-        assert_eq!(rt; (found.entry.row, found.marked, found.leaf), (2, false, 3));
+        same(
+            rt,
+            &(found.entry.row, found.marked, found.leaf),
+            &(2, false, 3),
+        );
     }
 }
 
@@ -435,7 +440,7 @@ const SEEKS: [(u32, Result<Sought, StepFault<Infallible>>); 5] = [
 
 fn seeks_go_right<K: Probing>(rt: &impl Abort, pages: &mut MemoryPages<K>, wanted: &Wanted<K>) {
     for (page, said) in SEEKS {
-        assert_eq!(rt; (page, seek_step(pages, wanted, page)), (page, said));
+        same(rt, &(page, seek_step(pages, wanted, page)), &(page, said));
     }
 }
 
@@ -499,7 +504,7 @@ fn says(rt: &impl Abort, pages: &mut MemoryPages<Box2Class>, said: &Said) {
         None => None,
     };
     let wanted = (word, slot, child, bound);
-    assert_eq!(rt; way(pages, &item, &a_box(rt, coming), most), wanted);
+    same(rt, &way(pages, &item, &a_box(rt, coming), most), &wanted);
 }
 
 // A descent goes to the child of least enlargement, begins again where a page was split since, and says what is full.
@@ -553,14 +558,14 @@ fn goes<K: KeyClass>(
     (item, most, wanted): Step,
 ) {
     let item = Item::new(item.0, item.1);
-    assert_eq!(rt; goes_down(pages, &item, coming, most), wanted);
+    same(rt, &goes_down(pages, &item, coming, most), &wanted);
 }
 
 /// Fails unless the root's third child is this one.
 fn has_third<K: KeyClass>(rt: &impl Abort, pages: &MemoryPages<K>, child: &[u8]) {
     let root = page(rt, pages, 1);
     assert!(rt; root.count() > 2);
-    assert_eq!(rt; root.get(2), child);
+    same(rt, &root.get(2), &child);
 }
 
 /// Fails unless the bound is widened once, and the other steps stop.
@@ -573,7 +578,7 @@ fn widens_and_stops<K: KeyClass>(
     goes(rt, pages, coming, WIDENS);
     has_third(rt, pages, widened);
     goes(rt, pages, coming, WIDENS);
-    assert_eq!(rt; pages.counter(), 2);
+    same(rt, &pages.counter(), &2);
     for step in STOPS {
         goes(rt, pages, coming, step);
     }

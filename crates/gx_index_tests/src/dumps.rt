@@ -1,0 +1,72 @@
+//! Dumps of trees on devices in memory, which are opened again before.
+use crate::devices::{fresh, index_over};
+use gx_disk::MemDisk;
+use gx_restart::{DumpFault, run_script};
+use std::alloc::Global;
+use std::process::Abort;
+
+// A device on which a script ran to its end over a new index, and all was gated.
+fn written(alloc: Global, script: &[u8]) -> Option<MemDisk> {
+    let mut index = fresh(alloc)?;
+    let mut replies = [0u8; 1024];
+    run_script(&mut { script }, &mut replies.as_mut_slice(), &mut index).ok()?;
+    index.settle().ok()?;
+    Some(index.into_engine().into_disk())
+}
+
+// Writes what is told of it once it is opened again over these bytes: with what end.
+fn told(alloc: Global, script: &[u8], text: &mut [u8]) -> Option<Result<(), DumpFault>> {
+    let mut index = index_over(alloc, written(alloc, script)?)?;
+    let mut writer = text;
+    Some(index.dump(&mut writer))
+}
+
+// A script leaves the tree with this text.
+fn leaves<T: Abort + AllocGlobal>(rt: &T, script: &[u8], expected: &[u8]) {
+    let mut text = [0u8; 1024];
+    let end = told(rt.alloc(), script, text.as_mut_slice());
+    assert!(rt; end == Some(Ok(())));
+    assert!(rt; text.starts_with(expected) && text.get(expected.len()) == Some(&0));
+}
+
+const ABORTED: &[u8] =
+    b"1 BEGIN\n1 INSERT 1 0 0 1 1\n1 INSERT 2 0 2 1 3\n1 INSERT 3 10 0 11 1\n1 INSERT 4 10 2 11 3\n1 INSERT 5 0 4 1 5\n1 ABORT\n";
+
+// A split outlives its transaction, and what that inserted is marked.
+#[test]
+fn aborted(rt: HostRuntime) {
+    leaves(
+        &rt,
+        ABORTED,
+        b"commits 0 used 3 counter 1\npage 1 level 1 nsn 0 right 0 count 2\nchild 2 0 0 1 5\nchild 3 10 0 11 3\npage 2 level 0 nsn 1 right 3 count 3\nentry 1 0 0 1 1 marked\nentry 2 0 2 1 3 marked\nentry 5 0 4 1 5 marked\npage 3 level 0 nsn 0 right 0 count 2\nentry 3 10 0 11 1 marked\nentry 4 10 2 11 3 marked\n",
+    );
+}
+
+// A full leaf of pairs that nobody claims is swept for one more.
+#[test]
+fn swept(rt: HostRuntime) {
+    leaves(
+        &rt,
+        b"1 BEGIN\n1 INSERT 1 0 0 1 1\n1 INSERT 2 0 2 1 3\n1 INSERT 3 10 0 11 1\n1 INSERT 4 10 2 11 3\n1 COMMIT\n1 BEGIN\n1 DELETE 1 0 0 1 1\n1 DELETE 2 0 2 1 3\n1 DELETE 3 10 0 11 1\n1 DELETE 4 10 2 11 3\n1 COMMIT\n1 BEGIN\n1 INSERT 5 0 4 1 5\n1 COMMIT\n",
+        b"commits 3 used 2 counter 0\npage 1 level 1 nsn 0 right 0 count 1\nchild 2 0 0 11 5\npage 2 level 0 nsn 0 right 0 count 1\nentry 5 0 4 1 5 live\n",
+    );
+}
+
+// Nine inserts split leaves and the root.
+#[test]
+fn grown(rt: HostRuntime) {
+    leaves(
+        &rt,
+        b"1 BEGIN\n1 INSERT 1 10 0 11 1\n1 INSERT 2 20 0 21 1\n1 INSERT 3 30 0 31 1\n1 INSERT 4 40 0 41 1\n1 INSERT 5 50 0 51 1\n1 INSERT 6 60 0 61 1\n1 INSERT 7 70 0 71 1\n1 INSERT 8 80 0 81 1\n1 INSERT 9 90 0 91 1\n1 COMMIT\n",
+        b"commits 1 used 7 counter 3\npage 1 level 2 nsn 0 right 0 count 2\nchild 6 10 0 41 1\nchild 7 50 0 91 1\npage 2 level 0 nsn 1 right 3 count 2\nentry 1 10 0 11 1 live\nentry 2 20 0 21 1 live\npage 3 level 0 nsn 2 right 4 count 2\nentry 3 30 0 31 1 live\nentry 4 40 0 41 1 live\npage 4 level 0 nsn 3 right 5 count 2\nentry 5 50 0 51 1 live\nentry 6 60 0 61 1 live\npage 5 level 0 nsn 0 right 0 count 3\nentry 7 70 0 71 1 live\nentry 8 80 0 81 1 live\nentry 9 90 0 91 1 live\npage 6 level 1 nsn 0 right 7 count 2\nchild 2 10 0 21 1\nchild 3 30 0 41 1\npage 7 level 1 nsn 0 right 0 count 2\nchild 4 50 0 61 1\nchild 5 70 0 91 1\n",
+    );
+}
+
+// A writer that has no more room ends the dump, and has a beginning of it.
+#[test]
+fn cut(rt: HostRuntime) {
+    let mut text = [0u8; 20];
+    let end = told(rt.alloc(), ABORTED, text.as_mut_slice());
+    assert!(rt; end == Some(Err(DumpFault::Write)));
+    assert!(rt; &text == b"commits 0 used 3 cou");
+}

@@ -1,0 +1,20 @@
+//! Tests by public calls of what an index in a file stands on: an engine's sessions, openings, scripts and dumps over a device, and the
+//! program's commands.
+#![tactic(auto)]
+
+#[cfg(test)]
+mod device_commands;
+#[cfg(test)]
+mod devices;
+#[cfg(test)]
+mod dumps;
+#[cfg(test)]
+mod openings;
+#[cfg(test)]
+mod plain_commands;
+#[cfg(test)]
+mod readings;
+#[cfg(test)]
+mod scripts;
+#[cfg(test)]
+mod sessions;
