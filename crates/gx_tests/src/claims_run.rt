@@ -151,9 +151,10 @@ fn search<R: Abort>(
 )
     requires { is_session s ≡ true }
 {
-    let query = query(drawn, key(drawn / 4));
-    let answer = table.predicate(s, query);
-    same(rt, &answer, &given(plain.ask(s, Call::Search(query))));
+    let key = key(drawn / 4);
+    let answer = table.predicate(s, query(drawn, key));
+    let asked = given(plain.ask(s, Call::Search(query(drawn, key))));
+    same(rt, &answer, &asked);
     if answer.is_ok() {
         let _ = plain.answer(s);
     }
