@@ -53,7 +53,8 @@ impl<T: PageTest> Pool<T> {
         ensures no { OnFalse result ((slice_index_or self.now.frames.pages i (blank 0 0)).number ≡ page → T.passes self.now.test (slice_index_or self.now.frames.pages i (blank 0 0)) ≡ true → ⊥) }
     {
         let read = self.frames.page_in(i);
-        read.number() == page && self.test.passes(read)
+        let is_its_own = read.number() == page;
+        is_its_own && self.test.passes(read)
     }
 
     /// Reads a page's sectors into the buffer.

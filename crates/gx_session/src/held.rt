@@ -75,5 +75,6 @@ pub fn hold<B: Shape>(query: Query<B>, predicates: &mut Vec<Query<B>>) -> bool
     if has_query(&query, predicates) {
         return true;
     }
-    predicates.len() < MAX_PREDICATES && predicates.push(query).is_ok()
+    let has_room = predicates.len() < MAX_PREDICATES;
+    has_room && predicates.push(query).is_ok()
 }

@@ -1,6 +1,7 @@
 -- What a step has done once it changed one leaf.
-use Rattle.std.proofs.Common.{◌≡◌, ℕ, ◌==◌, Bool, true, false, List, refl, sym, ap, ◌∙◌, subst, Some}
+use Rattle.std.proofs.Common.{◌≡◌, ◌<◌, ℕ, ◌==◌, Bool, true, false, List, length, refl, sym, ap, ◌∙◌, subst, Some}
 use Rattle.std.specs.Prelude.{if◌then◌else◌, slice_get, slice_set}
+use Rattle.std.proofs.lemmas.Option.{slice_get_within}
 use Rattle.gx_page.specs.Contents.{Contents}
 use Rattle.gx_node.specs.Edits.{with_pairs, marked_as}
 use Rattle.gx_node.specs.Reading.{Format, leaf_of, inner_of}
@@ -34,6 +35,14 @@ module _ {B : Type 0} where
   edited_only old new a pairs children used others edited =
       subst (λ (s : Store B). ChangesOnly (tree_of old) (tree_of s) a pairs children) (sym others)
       (changed_only old a (node_at new.nodes a) pairs children used edited)
+
+  -- a pair that was found can have its mark set once its leaf is made ready
+  pub mark_fits : (wants : Pair B → Bool) (read ready : Store B) (a slot : ℕ) (before : Bool) → ready ≡ read
+      → Seeks wants (node_at read.nodes a) (Here slot before)
+      → ((node_at ready.nodes a).level ≡ 0) × (slot < length (node_at ready.nodes a).pairs)
+  mark_fits wants read ready a slot before same seeks =
+      subst (λ (s : Store B). ((node_at s.nodes a).level ≡ 0) × (slot < length (node_at s.nodes a).pairs)) (sym same)
+      (seeks.0, slice_get_within (node_at read.nodes a).pairs slot seeks.1.0 seeks.1.1)
 
   -- the store was read, made ready and changed
   pub mark_is_set : (wants : Pair B → Bool) (old read ready new : Store B) (a slot : ℕ) (before marked : Bool) → read ≡ old → ready ≡ read

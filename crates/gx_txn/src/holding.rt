@@ -8,7 +8,7 @@ use crate::predicates::Predicates;
 use crate::{Note, search};
 use gx_geom::{Refusal, Shape};
 use gx_locks::Conflicts;
-use gx_machine::{Call, Entry, MAX_CLAIMS, MAX_PREDICATES, Query};
+use gx_machine::{Call, Entry, MAX_CLAIMS, Query};
 use std::alloc::{AllocError, Global};
 use std::marker::Model;
 
@@ -94,7 +94,7 @@ impl<B: Shape> Holding<B> {
         if self.predicates.has(&query) {
             return Ok(());
         }
-        if self.predicates.len() >= MAX_PREDICATES {
+        if !self.predicates.has_room() {
             return Err(Refusal::PredicatesFull);
         }
         self.predicates.push(query);
@@ -141,7 +141,8 @@ impl<B: Shape> Conflicts<B> for Holding<B> {
     fn conflicts(&self, call: &Call<B>) -> bool {
         match call {
             Call::Insert(e) | Call::Delete(e) => {
-                self.claims.has(e) || self.predicates.any_matches(e)
+                let is_claimed = self.claims.has(e);
+                is_claimed || self.predicates.any_matches(e)
             }
             Call::Search(query) => self.claims.any_matching(query),
             Call::Begin | Call::Commit | Call::Abort => false,

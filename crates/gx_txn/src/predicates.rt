@@ -1,5 +1,5 @@
 //! The predicates of one session.
-ghost use Rattle.std.specs.Prelude.{◌≡◌, ◌<◌, ◌++◌, ◌∷◌, [], IfOk, length};
+ghost use Rattle.std.specs.Prelude.{◌≡◌, ◌<◌, ◌++◌, ◌∷◌, [], IfOk, length, nat_lt};
 ghost use Rattle.std.specs.List.{list_any};
 ghost use Rattle.gx_machine.specs.declared.limits.TheConstants.{MAX_PREDICATES};
 ghost use Rattle.gx_machine.specs.Keys.{keys_of, matches};
@@ -51,11 +51,11 @@ impl<B: Shape> Predicates<B> {
         })
     }
 
-    /// How many there are.
-    pub fn len(&self) -> usize
-        ensures { result ≡ length self.now }
+    /// Whether there is a place for one more.
+    pub fn has_room(&self) -> bool
+        ensures { result ≡ nat_lt (length self.now) MAX_PREDICATES }
     {
-        self.asked.len()
+        self.asked.len() < MAX_PREDICATES
     }
 
     /// Whether the query is one of them.

@@ -1,4 +1,5 @@
-use Rattle.std.proofs.Common.{ℕ, ◌+◌, ap, sym, ◌∙◌}
+use Rattle.std.proofs.lemmas.Grind.{common_steps}
+use Rattle.std.proofs.Common.{ℕ, ◌+◌, ap, sym, ◌∙◌, arith}
 use Rattle.std.specs.Prelude.{count_by}
 use Rattle.gx_geom.specs.Spans.{span_cmp}
 use Rattle.gx_class.specs.Halving.{comes_before}
@@ -22,3 +23,6 @@ pub returns : goal.returns
 returns c =
     c.loop-other_slot.invariant
     ∙ ap (count_by (λ y. comes_before span_cmp y (c.args.slot, c.args.key.now))) (all_counted c.args.keys.now c.loop-other_slot.other_slot c.loop-other_slot-test.false)
+
+pub overflow_add-before : goal.overflow_add-before
+overflow_add-before c = grind (arith, common_steps)

@@ -1,3 +1,4 @@
+use Rattle.std.proofs.lemmas.Grind.{common_steps}
 use Rattle.std.proofs.Common.{◌≡◌, ◌+◌, ◌≤◌, length, get_or, subst, ap, sym, ◌∙◌, arith}
 use Rattle.std.proofs.lemmas.List.{take_at}
 use Rattle.gx_node.specs.Reading.{format_of}
@@ -29,3 +30,15 @@ returns g c =
     (record { key = c.known.ensures; some = c.requires.taken.0; taken = c.requires.taken.1 })
     (take_at c.write_child.new.out _ (c.KEY-size.result + 4) long ∙ c.write_child.ensures) c.append_item.ensures in
     record { inner = is.inner; node = is.node; number = is.number }
+
+pub slice_bounds-bytes-end-2 : goal.slice_bounds-bytes-end-2
+slice_bounds-bytes-end-2 g c = grind (arith, common_steps)
+
+pub slice_bounds-append_item-end : goal.slice_bounds-append_item-end
+slice_bounds-append_item-end g c = grind (arith, common_steps)
+
+pub append_item-requires-clause-few : goal.append_item-requires-clause-few
+append_item-requires-clause-few g c = grind (arith, common_steps)
+
+pub append_item-requires-clause-item : goal.append_item-requires-clause-item
+append_item-requires-clause-item g c = grind (arith, common_steps)

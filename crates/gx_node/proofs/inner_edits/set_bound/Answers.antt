@@ -1,3 +1,4 @@
+use Rattle.std.proofs.lemmas.Grind.{common_steps}
 use Rattle.std.proofs.Common.{◌≡◌, ◌+◌, ◌<◌, [], length, set, get_or, ap, sym, ◌∙◌, arith}
 use Rattle.std.proofs.lemmas.List.{take_at, length-map}
 use Rattle.gx_node.specs.Edits.{with_children, bounded_by}
@@ -49,3 +50,15 @@ returns g c =
       node = λ child at. is.node ∙ ap (λ x. with_children (inner_of f c.args.page.now) (set (inner_of f c.args.page.now).children slot (bounded_by c.args.bound x))) (slot_is (child_of f) items slot [] child here at);
       number = is.number;
     }
+
+pub get-requires : goal.get-requires
+get-requires g c = grind (arith, common_steps)
+
+pub slice_bounds-bytes-end-2 : goal.slice_bounds-bytes-end-2
+slice_bounds-bytes-end-2 g c = grind (arith, common_steps)
+
+pub slice_bounds-replace-end : goal.slice_bounds-replace-end
+slice_bounds-replace-end g c = grind (arith, common_steps)
+
+pub replace-requires-clause-slot : goal.replace-requires-clause-slot
+replace-requires-clause-slot g c = grind (arith, common_steps)

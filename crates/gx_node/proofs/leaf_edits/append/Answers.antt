@@ -1,3 +1,4 @@
+use Rattle.std.proofs.lemmas.Grind.{common_steps}
 use Rattle.std.proofs.Common.{◌≡◌, ◌+◌, ◌≤◌, length, get_or, subst, ap, sym, ◌∙◌, arith}
 use Rattle.std.proofs.lemmas.List.{take_at}
 use Rattle.gx_node.specs.Reading.{format_of}
@@ -29,3 +30,15 @@ returns g c =
     let is = leaf_appended f k.is_key k.spelling laws c.args.page.now c.append_item.new.page _ p c.requires.leaf c.write_pair.ensures.pair
     (take_at c.write_pair.new.out _ (c.KEY-size.result + 9) long ∙ c.write_pair.ensures.bytes) c.append_item.ensures in
     record { leaf = is.leaf; node = is.node; number = is.number }
+
+pub slice_bounds-bytes-end-2 : goal.slice_bounds-bytes-end-2
+slice_bounds-bytes-end-2 g c = grind (arith, common_steps)
+
+pub slice_bounds-append_item-end : goal.slice_bounds-append_item-end
+slice_bounds-append_item-end g c = grind (arith, common_steps)
+
+pub append_item-requires-clause-few : goal.append_item-requires-clause-few
+append_item-requires-clause-few g c = grind (arith, common_steps)
+
+pub append_item-requires-clause-item : goal.append_item-requires-clause-item
+append_item-requires-clause-item g c = grind (arith, common_steps)

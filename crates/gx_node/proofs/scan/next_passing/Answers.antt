@@ -1,3 +1,4 @@
+use Rattle.std.proofs.lemmas.Grind.{common_steps}
 use Rattle.std.proofs.Common.{◌∙◌, ◌<◌, ◌-◌, ◌*◌, ap, sym, arith, [], length, take, List, ℕ}
 use Rattle.gx_page.proofs.Images.{length-heap}
 use Rattle.gx_node.specs.Reading.{format_of, has_key, key_of}
@@ -74,3 +75,6 @@ loop-slot-preserved g c =
     scan_goes_on passes items c.args.size c.args.from slot c.loop-slot.rest.now _ all here c.loop-slot.invariant
     (ap passes (sym (c.split_at-in-loop-slot.ensures.back ∙ cut.behind)) ∙ sym c.item_passes.ensures ∙ c.if-item_passes.false)
     c.split_at-in-loop-slot.ensures.front
+
+pub returns : goal.returns
+returns g c = grind (arith, common_steps)

@@ -1,4 +1,5 @@
-use Rattle.std.proofs.Common.{◌≡◌, ℕ, List, [], ◌++◌, ◌∙◌, refl, sym, ap, length, decimal, codes}
+use Rattle.std.proofs.lemmas.Grind.{common_steps}
+use Rattle.std.proofs.Common.{◌≡◌, ℕ, List, [], ◌++◌, ◌∙◌, refl, sym, ap, length, decimal, codes, arith}
 use Rattle.std.specs.List.{flat_map}
 use Rattle.std.proofs.lemmas.Result.{on_ok_weaker, err_from_is_err_and}
 use Rattle.gx_geom.specs.Rectangles.{Rectangle}
@@ -59,3 +60,18 @@ returns-in-Committed-clause-ok g c =
     c.args.output.now c.make_room.new.self (told_line c.args.session (codes "committed " ++ decimal c.in-Committed.number)) _ c.put_counted-in-Committed.new.self
     (put_nothing (g.W.Write.contents c.args.writer.now) c.args.output.now) c.in_ok-make_room.ensures.ok.1 c.put_counted-in-Committed.ensures
     (ap (λ r. reply_text c.args.session r) c.in-Committed.is)
+
+pub returns-in-Ok-clause-ok : goal.returns-in-Ok-clause-ok
+returns-in-Ok-clause-ok g c = grind (arith, common_steps)
+
+pub returns-in-Inserted-clause-ok : goal.returns-in-Inserted-clause-ok
+returns-in-Inserted-clause-ok g c = grind (arith, common_steps)
+
+pub returns-in-Deleted-clause-ok : goal.returns-in-Deleted-clause-ok
+returns-in-Deleted-clause-ok g c = grind (arith, common_steps)
+
+pub returns-in-Aborted-clause-ok : goal.returns-in-Aborted-clause-ok
+returns-in-Aborted-clause-ok g c = grind (arith, common_steps)
+
+pub returns-in-Refused-clause-ok : goal.returns-in-Refused-clause-ok
+returns-in-Refused-clause-ok g c = grind (arith, common_steps)

@@ -1,4 +1,4 @@
-use Rattle.std.proofs.Common.{ℕ, refl, subst}
+use Rattle.std.proofs.Common.{ℕ, refl, subst, rules}
 use Rattle.std.proofs.lemmas.Result.{on_ok_weaker}
 use Rattle.gx_script.specs.declared.line.Line.TheVariants.{Asks}
 use Rattle.gx_script.specs.Replies.{reply_text}
@@ -30,3 +30,6 @@ returns-clause-cut g c =
     (g.W.Write.contents c.flush.new.writer) (g.W.Write.contents c.put_reply.new.writer) c.args.output.now c.flush.new.self
     (reply_text c.args.session c.call-reply.result) flushed.1 flushed.0 cut (c.call-reply.result, answered, refl))
     c.put_reply.ensures.cut
+
+pub returns-in_err-flush-clause-cut : goal.returns-in_err-flush-clause-cut
+returns-in_err-flush-clause-cut g c = search rules

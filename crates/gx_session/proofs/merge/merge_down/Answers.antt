@@ -1,3 +1,4 @@
+use Rattle.std.proofs.lemmas.Grind.{common_steps}
 use Rattle.std.proofs.Common.{◌≡◌, ℕ, ◌+◌, ◌-◌, ◌++◌, take, drop, length, subst, arith, refl}
 use Rattle.std.specs.Prelude.{Some, slice_get}
 use Rattle.std.proofs.lemmas.Option.{slice_get_read}
@@ -33,3 +34,9 @@ loop-left-preserved g c =
     (including_all k c.args.more.now (take c.args.count c.args.set.now)) (c.loop-left.left - 1) c.loop-left.end c.put_last-at.result
     c.put_last-at.ensures.bound c.loop-left.invariant.2 c.put_last-at.ensures.front c.put_last-at.ensures.put (subst P one_more c.loop-left.invariant.3) in
     (omega (arith, c.put_last-at.ensures.bound, c.loop-left.invariant.0), omega (arith, c.loop-left.invariant.1), turn.0, turn.1)
+
+pub loop-left-init : goal.loop-left-init
+loop-left-init g c = grind (arith, common_steps)
+
+pub returns : goal.returns
+returns g c = grind (arith, common_steps)

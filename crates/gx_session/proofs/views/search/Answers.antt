@@ -1,4 +1,5 @@
-use Rattle.std.proofs.Common.{◌≡◌, List, [], not, ap, sym, ◌∙◌, drop}
+use Rattle.std.proofs.lemmas.Grind.{common_steps}
+use Rattle.std.proofs.Common.{◌≡◌, List, [], not, ap, sym, ◌∙◌, drop, arith}
 use Rattle.std.specs.List.{filter}
 use Rattle.std.proofs.lemmas.List.{drop_all}
 use Rattle.gx_machine.specs.declared.entry.Entry.{Entry}
@@ -25,3 +26,9 @@ returns g c =
     ended k (record { total = g.met.B.Ord.total; exact = g.met.B.Shape.same }) c.args.query.now c.args.latest.now c.args.added.now c.args.taken.now
     c.in_ok-out.out.items c.loop-e.out.items c.requires.in_order c.in_ok-out.ensures
     (ap (λ s. including_all k (filter (matches k c.args.query.now) s) c.loop-e.out.items) (sym none) ∙ c.loop-e.invariant)
+
+pub returns-in_err-include : goal.returns-in_err-include
+returns-in_err-include g c = grind (arith, common_steps)
+
+pub loop-e-preserved : goal.loop-e-preserved
+loop-e-preserved g c = grind (arith, common_steps)

@@ -1,3 +1,4 @@
+use Rattle.std.proofs.lemmas.Grind.{common_steps}
 use Rattle.std.proofs.Common.{◌≡◌, ap, ◌∙◌, arith}
 use Rattle.std.specs.Prelude.{replicate}
 use Rattle.gx_small_engine.specs.declared.phase.Phase.{Phase}
@@ -9,3 +10,6 @@ returns g c =
     let all : c.loop.counter ≡ 8 = omega (arith, c.loop-test.false, c.loop.auto.counter-end) in
     let free : Phase g.row.B.Denot = phase.Free in
     c.loop.invariant ∙ ap (λ n. replicate n free) all
+
+pub loop-preserved : goal.loop-preserved
+loop-preserved g c = grind (arith, common_steps)

@@ -1,3 +1,4 @@
+use Rattle.std.proofs.lemmas.Grind.{common_steps}
 use Rattle.std.proofs.Common.{◌<◌, length, arith, ◌∙◌, ap, sym}
 use Rattle.std.proofs.lemmas.List.{length-set}
 use Rattle.gx_machine.specs.Keys.{keys}
@@ -20,3 +21,9 @@ loop-pair-preserved g c =
       back = set_back f old items i x low inv.all inv.back c.pair-item.is c.with_mark.result;
       all = length-set items i c.with_mark.result ∙ inv.all;
     }
+
+pub offset_bounds-pair-items-pair-index : goal.offset_bounds-pair-items-pair-index
+offset_bounds-pair-items-pair-index g c = grind (arith, common_steps)
+
+pub returns : goal.returns
+returns g c = grind (arith, common_steps)

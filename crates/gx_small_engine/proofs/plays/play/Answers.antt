@@ -1,3 +1,4 @@
+use Rattle.std.proofs.lemmas.Grind.{common_steps}
 use Rattle.std.proofs.Common.{List, subst, arith}
 use Rattle.std.proofs.lemmas.List.{take_all}
 use Rattle.gx_small_engine.specs.declared.plays.Act.{Act}
@@ -20,3 +21,6 @@ returns-clause-runs g c =
     play_runs k lawful c.args.acts.now c.loop-next.engine
     (subst (λ (done : List (Act g.row.B.Denot)). IsPlayed k fresh_state done c.loop-next.engine)
     (take_all c.loop-next.next-index c.args.acts.now (omega (arith, c.loop-next-test.false))) c.loop-next.invariant)
+
+pub returns-clause-played : goal.returns-clause-played
+returns-clause-played g c = grind (arith, common_steps)

@@ -1,4 +1,5 @@
-use Rattle.std.proofs.Common.{◌≡◌, ◌<◌, ◌+◌, ℕ, List, ◌∷◌, ap, sym, ◌∙◌, drop, length, get_or}
+use Rattle.std.proofs.lemmas.Grind.{common_steps}
+use Rattle.std.proofs.Common.{◌≡◌, ◌<◌, ◌+◌, ℕ, List, ◌∷◌, ap, sym, ◌∙◌, drop, length, get_or, arith}
 use Rattle.std.proofs.lemmas.List.{drop_more}
 use Rattle.gx_machine.specs.declared.entry.Entry.{Entry}
 use Rattle.gx_machine.specs.Keys.{Keys, keys}
@@ -17,3 +18,9 @@ loop-e-preserved g c =
     next (keys g.B.Ord.cmp g.B.Shape.overlap g.B.Shape.inside) c.args.entries.now c.loop-e.set.items c.include.new.set.items c.loop-e.e-index
     c.e-item.result c.loop-e-test.true c.e-item.is c.in_ok-include.ensures.ok
     ∙ c.loop-e.invariant
+
+pub returns-in_err-include : goal.returns-in_err-include
+returns-in_err-include g c = grind (arith, common_steps)
+
+pub returns : goal.returns
+returns g c = grind (arith, common_steps)

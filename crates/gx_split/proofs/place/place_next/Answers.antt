@@ -1,3 +1,4 @@
+use Rattle.std.proofs.lemmas.Grind.{common_steps}
 use Rattle.std.proofs.Common.{arith, All, map, ap, sym, subst, ◌∙◌}
 use Rattle.gx_split.specs.Split.{measure}
 use Rattle.gx_split.specs.Waiting.{with_growth, HasGrowths, IsShort}
@@ -41,3 +42,6 @@ put-requires g c =
         ),
       ),
     )
+
+pub returns-clause-one_less : goal.returns-clause-one_less
+returns-clause-one_less g c = grind (arith, common_steps)

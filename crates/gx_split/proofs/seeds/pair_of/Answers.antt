@@ -1,3 +1,4 @@
+use Rattle.std.proofs.lemmas.Grind.{common_steps}
 use Rattle.std.proofs.Common.{rules, arith, FitsSigned}
 use Rattle.std.proofs.lemmas.Int.{to_z-of_z}
 use Rattle.std.specs.Int.{w128}
@@ -22,3 +23,9 @@ bounds-sizes-lower g c = let long = sizes_long g.M.Measure.extent c.args.keys.no
 
 pub bounds-sizes-higher : goal.bounds-sizes-higher
 bounds-sizes-higher g c = let long = sizes_long g.M.Measure.extent c.args.keys.now c.args.sizes.now c.requires.sizes in omega arith
+
+pub offset_bounds-sizes-lower : goal.offset_bounds-sizes-lower
+offset_bounds-sizes-lower g c = grind (arith, common_steps)
+
+pub offset_bounds-sizes-higher : goal.offset_bounds-sizes-higher
+offset_bounds-sizes-higher g c = grind (arith, common_steps)

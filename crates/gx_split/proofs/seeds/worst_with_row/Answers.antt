@@ -1,3 +1,4 @@
+use Rattle.std.proofs.lemmas.Grind.{common_steps}
 use Rattle.std.proofs.Common.{◌+◌, ◌-◌, ◌≤ℤ◌, All, length, sym, arith, rules, FitsSigned}
 use Rattle.std.specs.Int.{w128}
 use Rattle.std.proofs.lemmas.Int.{to_z-of_z}
@@ -23,3 +24,6 @@ is_spent-requires g c =
 
 pub bounds-sizes-lower : goal.bounds-sizes-lower
 bounds-sizes-lower g c = let long = sizes_long g.M.Measure.extent c.args.keys.now c.args.sizes.now c.requires.sizes in omega arith
+
+pub offset_bounds-sizes-lower : goal.offset_bounds-sizes-lower
+offset_bounds-sizes-lower g c = grind (arith, common_steps)

@@ -1,3 +1,4 @@
+use Rattle.std.proofs.lemmas.Grind.{common_steps}
 use Rattle.std.proofs.Common.{◌≡◌, subst, sym, arith}
 use Rattle.std.proofs.lemmas.Result.{err_from_is_err_and}
 use Rattle.std.specs.Ordering.{is_eq}
@@ -99,3 +100,12 @@ returns-in-None-clause-once g c =
     let last = subst (λ (n : Option Place). IfNone n (HasAdded r IsKey before after entry)) c.in-None.is (c.in_ok-next.ensures.added inv.steady inv.insert) in
     let added = added_after r law IsKey entry t before after inv.way last in
     once_after r law IsKey entry t after c.requires.legal added
+
+pub returns-in_err-next-clause-full : goal.returns-in_err-next-clause-full
+returns-in_err-next-clause-full g c = grind (arith, common_steps)
+
+pub returns-in-None-clause-legal : goal.returns-in-None-clause-legal
+returns-in-None-clause-legal g c = grind (arith, common_steps)
+
+pub returns-in-None-clause-full : goal.returns-in-None-clause-full
+returns-in-None-clause-full g c = grind (arith, common_steps)

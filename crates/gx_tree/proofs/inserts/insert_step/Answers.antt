@@ -1,3 +1,4 @@
+use Rattle.std.proofs.lemmas.Grind.{common_steps}
 use Rattle.std.proofs.Common.{◌≡◌, ◌∙◌, subst, sym, ap, arith, rules, Err}
 use Rattle.std.specs.Ordering.{is_eq}
 use Rattle.gx_tree_laws.specs.Trees.{Rules, IsLawful}
@@ -146,3 +147,21 @@ returns-in_err-split_place-in-FullInner-clause-damaged g c = λ steady ins e.
     let failed = same_err c.from_residual-in_err-split_place-in-FullInner.result c.split_place.result c.in_err-split_place-in-FullInner.field-0.0 Damaged out c.in_err-split_place-in-FullInner.was e in
     c.split_place.ensures.damaged (c.in_ok-descend_step.ensures.steady steady)
     (subst (λ (s : Store g.row.K-Key.Denot). IsFullAt r (tree_of s) place) (sym step.1) at) failed
+
+pub returns-in_err-add_step-in-Leaf-clause-full : goal.returns-in_err-add_step-in-Leaf-clause-full
+returns-in_err-add_step-in-Leaf-clause-full g c = grind (arith, common_steps)
+
+pub returns-in_ok-add_step-in-Leaf-clause-full : goal.returns-in_ok-add_step-in-Leaf-clause-full
+returns-in_ok-add_step-in-Leaf-clause-full g c = grind (arith, common_steps)
+
+pub returns-in_ok-make_room-in-FullLeaf-clause-full : goal.returns-in_ok-make_room-in-FullLeaf-clause-full
+returns-in_ok-make_room-in-FullLeaf-clause-full g c = grind (arith, common_steps)
+
+pub returns-in_ok-make_room-in-FullLeaf-clause-damaged : goal.returns-in_ok-make_room-in-FullLeaf-clause-damaged
+returns-in_ok-make_room-in-FullLeaf-clause-damaged g c = grind (arith, common_steps)
+
+pub returns-in_ok-split_place-in-FullInner-clause-full : goal.returns-in_ok-split_place-in-FullInner-clause-full
+returns-in_ok-split_place-in-FullInner-clause-full g c = grind (arith, common_steps)
+
+pub returns-in_ok-split_place-in-FullInner-clause-damaged : goal.returns-in_ok-split_place-in-FullInner-clause-damaged
+returns-in_ok-split_place-in-FullInner-clause-damaged g c = grind (arith, common_steps)

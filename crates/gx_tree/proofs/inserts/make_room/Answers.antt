@@ -1,4 +1,5 @@
-use Rattle.std.proofs.Common.{◌≡◌, ◌∙◌, inl, inr, refl, subst, sym, true, false, rules, Err}
+use Rattle.std.proofs.lemmas.Grind.{common_steps}
+use Rattle.std.proofs.Common.{◌≡◌, ◌∙◌, inl, inr, refl, subst, sym, true, false, rules, Err, arith}
 use Rattle.std.proofs.lemmas.Result.{err_from_is_err_and}
 use Rattle.std.specs.Ordering.{is_eq}
 use Rattle.gx_tree_laws.specs.Trees.{Rules}
@@ -45,3 +46,12 @@ returns-clause-room g c = λ steady at leaf.
     let did = c.in_ok-split_place.ensures.split (c.sweep_step.ensures.steady steady)
     (subst (λ (s : Store g.row.K-Key.Denot). IsFullAt r (tree_of s) c.args.place) (sym same) at) in
     inr (subst (λ (s : Store g.row.K-Key.Denot). SplitsOrNot r g.K.KeyClass.is_key (tree_of s) new c.args.place) same did, c.top.ensures.top, c.top.ensures.few)
+
+pub returns-then-branch-clause-full : goal.returns-then-branch-clause-full
+returns-then-branch-clause-full g c = grind (arith, common_steps)
+
+pub returns-in_err-split_place-clause-full : goal.returns-in_err-split_place-clause-full
+returns-in_err-split_place-clause-full g c = grind (arith, common_steps)
+
+pub returns-clause-full : goal.returns-clause-full
+returns-clause-full g c = grind (arith, common_steps)

@@ -1,4 +1,5 @@
-use Rattle.std.proofs.Common.{◌≡◌, ◌≢◌, sym, rules, Err}
+use Rattle.std.proofs.lemmas.Grind.{common_steps}
+use Rattle.std.proofs.Common.{◌≡◌, ◌≢◌, sym, rules, Err, arith}
 use Rattle.std.specs.Ordering.{is_eq}
 use Rattle.gx_tree_laws.specs.Trees.{Rules}
 use Rattle.gx_tree.specs.declared.fault.StepFault.TheVariants.{Damaged}
@@ -22,3 +23,9 @@ returns-clause-split g c = λ steady at.
     let below : c.args.place.item.page ≢ 1 = search rules in
     splits_below r old c.args.place at below g.K.KeyClass.is_key g.K.KeyClass.sides_of (g.P.Pages.store c.split_step.new.pages) c.in_ok-split_step.field-0
     (rw (sym c.page-page.ensures) (c.in_ok-split_step.ensures.split steady)) c.in_ok-split_step.ensures.keys
+
+pub returns-in_err-split_root_step-clause-full : goal.returns-in_err-split_root_step-clause-full
+returns-in_err-split_root_step-clause-full g c = grind (arith, common_steps)
+
+pub returns-then-page-eq1-clause-full : goal.returns-then-page-eq1-clause-full
+returns-then-page-eq1-clause-full g c = grind (arith, common_steps)

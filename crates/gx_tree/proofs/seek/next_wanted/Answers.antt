@@ -1,4 +1,5 @@
-use Rattle.std.proofs.Common.{◌≡◌, ◌∙◌, sym, subst, map, refl, rules, None}
+use Rattle.std.proofs.lemmas.Grind.{common_steps}
+use Rattle.std.proofs.Common.{◌≡◌, ◌∙◌, sym, subst, map, refl, rules, None, arith}
 use Rattle.gx_tree_laws.specs.Trees.{Pair}
 use Rattle.gx_node.specs.Hits.{IsNextHit}
 use Rattle.gx_node.specs.Seen.{pair_seen}
@@ -33,3 +34,12 @@ scan-preserved g c =
     let next = subst (λ r. IsNextHit (map p pairs) c.scan.slot r) c.in_ok-hit.was c.next_hit.ensures in
     let x = pair_seen c.entry-entry.result in
     past_goes_on q p pairs c.args.from c.scan.slot c.in_ok-hit.hit x c.scan.invariant next c.entry-entry.ensures (c.takes.ensures x refl refl ∙ c.if-takes.false)
+
+pub entry-entry-requires : goal.entry-entry-requires
+entry-entry-requires g c = grind (arith, common_steps)
+
+pub overflow_add-slot : goal.overflow_add-slot
+overflow_add-slot g c = grind (arith, common_steps)
+
+pub returns : goal.returns
+returns g c = grind (arith, common_steps)

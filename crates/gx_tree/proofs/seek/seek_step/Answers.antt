@@ -1,4 +1,5 @@
-use Rattle.std.proofs.Common.{◌≡◌, ◌∙◌, sym, ap, subst, refl, rules, Some}
+use Rattle.std.proofs.lemmas.Grind.{common_steps}
+use Rattle.std.proofs.Common.{◌≡◌, ◌∙◌, sym, ap, subst, refl, rules, Some, arith}
 use Rattle.std.specs.Prelude.{true, slice_get}
 use Rattle.gx_tree_laws.specs.Lists.{how_many}
 use Rattle.gx_tree_laws.specs.Trees.{Pair, Node}
@@ -37,3 +38,9 @@ returns-in-None-clause-sought g c =
       none_at_all w c.of-leaf.result.pairs c.in-None.ensures,
       c.right.ensures,
     )
+
+pub page-page-requires : goal.page-page-requires
+page-page-requires g c = grind (arith, common_steps)
+
+pub entry-requires : goal.entry-requires
+entry-requires g c = grind (arith, common_steps)

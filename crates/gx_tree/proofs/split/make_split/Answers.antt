@@ -1,3 +1,4 @@
+use Rattle.std.proofs.lemmas.Grind.{common_steps}
 use Rattle.std.proofs.Common.{◌≡◌, ◌+◌, ◌∙◌, suc, sym, ap, subst, length, arith, List, Bool}
 use Rattle.std.specs.Ordering.{is_eq}
 use Rattle.gx_tree_laws.specs.Trees.{Node, Rules}
@@ -48,3 +49,12 @@ returns-clause-split g c =
     subst (λ (did : Split g.row.K-Key.Denot). DidSplit r g.K.KeyClass.sides_of s (g.P.Pages.store c.count_split.new.self) page parent did) (sym result)
     (did_split r g.K.KeyClass.sides_of s (g.P.Pages.store c.count_split.new.self) page parent c.args.slot c.args.halves.now.sides c.args.halves.now.left c.args.halves.now.right
     here above apart c.requires.can all)
+
+pub keep_side-requires-clause-sides : goal.keep_side-requires-clause-sides
+keep_side-requires-clause-sides g c = grind (arith, common_steps)
+
+pub name_halves-requires-clause-inner : goal.name_halves-requires-clause-inner
+name_halves-requires-clause-inner g c = grind (arith, common_steps)
+
+pub name_halves-requires-clause-few : goal.name_halves-requires-clause-few
+name_halves-requires-clause-few g c = grind (arith, common_steps)

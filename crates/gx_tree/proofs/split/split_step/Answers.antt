@@ -1,6 +1,8 @@
-use Rattle.std.proofs.Common.{◌∙◌, subst}
+use Rattle.std.proofs.lemmas.Grind.{common_steps}
+use Rattle.std.proofs.Common.{◌∙◌, ◌∷◌, [], inr, subst, arith}
 use Rattle.std.specs.Ordering.{is_eq}
 use Rattle.gx_tree_laws.specs.Trees.{Rules}
+use Rattle.gx_tree.specs.Owner.{Brings}
 use Rattle.gx_tree.specs.Splitting.{DidSplit}
 use Rattle.gx_tree.specs.Store.{Store}
 use Rattle.gx_tree.proofs.Listed.{same_store}
@@ -14,3 +16,16 @@ returns-clause-split g c = λ steady.
     subst (λ (s : Store g.row.K-Key.Denot). DidSplit r g.K.KeyClass.sides_of s (g.P.Pages.store c.make_split.new.pages) c.args.page c.args.parent c.make_split.result)
     (c.prepare.ensures.same ∙ same_store (g.P.Pages.steady c.args.pages.now) old brought c.bring_both.ensures.stays steady)
     c.make_split.ensures.split
+
+pub returns-in-Err-clause-tried : goal.returns-in-Err-clause-tried
+returns-in-Err-clause-tried g c =
+    inr (λ was past h. c.prepare.ensures.asked was (Brings (c.args.page ∷ c.args.parent ∷ []) ∷ past) (c.in_ok-bring_both.ensures.asked was past h))
+
+pub prepare-requires-clause-room : goal.prepare-requires-clause-room
+prepare-requires-clause-room g c = grind (arith, common_steps)
+
+pub make_split-requires-clause-can : goal.make_split-requires-clause-can
+make_split-requires-clause-can g c = grind (arith, common_steps)
+
+pub returns-clause-damaged : goal.returns-clause-damaged
+returns-clause-damaged g c = grind (arith, common_steps)

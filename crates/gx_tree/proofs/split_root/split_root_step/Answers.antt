@@ -1,4 +1,5 @@
-use Rattle.std.proofs.Common.{◌≡◌, ◌∙◌, subst, rules, Err}
+use Rattle.std.proofs.lemmas.Grind.{common_steps}
+use Rattle.std.proofs.Common.{◌≡◌, ◌∙◌, subst, rules, Err, arith}
 use Rattle.std.specs.Ordering.{is_eq}
 use Rattle.gx_tree_laws.specs.Trees.{Rules}
 use Rattle.gx_tree.specs.declared.fault.StepFault.TheVariants.{Damaged}
@@ -27,3 +28,6 @@ returns-in_err-halves-clause-damaged g c = λ steady is legal full level.
     let failed = same_err c.from_residual-in_err-halves.result c.plan_root.result c.in_err-halves.field-0.0 Damaged out c.in_err-halves.was is in
     root_is_whole r old brought (same_store (g.P.Pages.steady c.args.pages.now) old brought c.bring_page.ensures.stays steady)
     c.requires.most.1 legal full level (c.plan_root.ensures.damaged failed)
+
+pub returns-in-Err-clause-tried : goal.returns-in-Err-clause-tried
+returns-in-Err-clause-tried g c = grind (arith, common_steps)

@@ -1,4 +1,5 @@
-use Rattle.std.proofs.Common.{◌≡◌, ◌∙◌, sym, ap, map, length}
+use Rattle.std.proofs.lemmas.Grind.{common_steps}
+use Rattle.std.proofs.Common.{◌≡◌, ◌∙◌, sym, ap, map, length, arith}
 use Rattle.std.proofs.lemmas.List.{length-map}
 use Rattle.gx_node.specs.Edits.{entry_of}
 use Rattle.gx_node.specs.Reading.{format_of}
@@ -23,3 +24,9 @@ returns-clause-plans g c = λ test agrees.
       leaf = c.in_ok-count.ensures.leaf;
       sides = ap (λ (s : Planned). s.sides) c.new.ensures ∙ written c.in_ok-count.count c.choose_sides.new.sides _ long ∙ chosen;
     }
+
+pub page-requires : goal.page-requires
+page-requires g c = grind (arith, common_steps)
+
+pub returns-clause-fits : goal.returns-clause-fits
+returns-clause-fits g c = grind (arith, common_steps)

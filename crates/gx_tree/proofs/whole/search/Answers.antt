@@ -1,4 +1,5 @@
-use Rattle.std.proofs.Common.{◌≡◌, ◌==◌, ◌∙◌, ◌∷◌, [], ◌<◌, ◌&&◌, not, length, sym, ap, subst, refl, rules, Err}
+use Rattle.std.proofs.lemmas.Grind.{common_steps}
+use Rattle.std.proofs.Common.{◌≡◌, ◌==◌, ◌∙◌, ◌∷◌, [], ◌<◌, ◌&&◌, not, length, sym, ap, subst, refl, rules, Err, arith}
 use Rattle.std.specs.Ordering.{is_eq}
 use Rattle.gx_machine.specs.Keys.{keys, key_matches}
 use Rattle.gx_tree_laws.specs.Lists.{one_if}
@@ -111,3 +112,12 @@ returns-in_err-look_step-clause-asked g c =
     reads_fail g.P.Pages.asked t c.args.pages.now c.pages.pages c.look_step.new.pages c.pages.look.stack.items last.1.page inv.reads
     (c.in_err-look_step.ensures.tried last.0 last.1 last.2)
     (λ q. lies_ahead r t c.requires.most.2 w leads (λ p. one_if (p == q)) c.pages.look.stack.items (pairs_found c.pages.look.found.items) inv.look last.0 last.1 last.2)
+
+pub returns-in_err-look_step-clause-since : goal.returns-in_err-look_step-clause-since
+returns-in_err-look_step-clause-since g c = grind (arith, common_steps)
+
+pub returns-in_err-look_step-clause-why : goal.returns-in_err-look_step-clause-why
+returns-in_err-look_step-clause-why g c = grind (arith, common_steps)
+
+pub returns-clause-asked : goal.returns-clause-asked
+returns-clause-asked g c = grind (arith, common_steps)

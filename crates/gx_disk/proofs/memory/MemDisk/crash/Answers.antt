@@ -1,4 +1,4 @@
-use Rattle.std.proofs.Common.{ap, length, arith}
+use Rattle.std.proofs.Common.{ap, length, arith, rules}
 use Rattle.gx_disk.proofs.Crashes.{since_sync, since_room, crash_of_device, crash_image}
 use Rattle.gx_disk.proofs.memory.MemDisk.crash.Goals as goal
 
@@ -25,3 +25,6 @@ returns-clause-crash c = let d = c.args.self.now in
 pub returns-clause-image : goal.returns-clause-image
 returns-clause-image c = let d = c.args.self.now in
     crash_image d.sectors _ c.args.torn.now _ d.bytes.items c.tear.new.bytes.items (returns-clause-crash c) d.whole
+
+pub returns-clause-counts : goal.returns-clause-counts
+returns-clause-counts c = search rules

@@ -1,3 +1,4 @@
+use Rattle.std.proofs.lemmas.Grind.{common_steps}
 use Rattle.std.proofs.Common.{◌∙◌, ◌*◌, ◌/◌, ap, length, drop, arith}
 use Rattle.std.proofs.lemmas.List.{length-take}
 use Rattle.gx_disk.proofs.Calls.{write_size, write_kept, write_writes}
@@ -28,3 +29,12 @@ pub returns-in-Ok-clause-left : goal.returns-in-Ok-clause-left
 returns-in-Ok-clause-left c calls bytes room =
     let few = ap length c.part-overwritten.ensures ∙ length-take (512 * c.changed-kept.result) (drop (512 * c.args.first) c.deref-2.result.now) in
     c.in-Ok.ensures.room calls bytes (record { calls_fit = room.calls_fit; bytes_fit = omega (arith, room.bytes_fit, few, c.changed-kept.ensures.within) })
+
+pub changed-kept-requires-clause-sizes : goal.changed-kept-requires-clause-sizes
+changed-kept-requires-clause-sizes c = grind (arith, common_steps)
+
+pub returns-in-Err-clause-room : goal.returns-in-Err-clause-room
+returns-in-Err-clause-room c = grind (arith, common_steps)
+
+pub returns-in-Err-clause-left : goal.returns-in-Err-clause-left
+returns-in-Err-clause-left c = grind (arith, common_steps)

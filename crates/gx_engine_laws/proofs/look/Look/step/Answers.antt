@@ -18,3 +18,6 @@ returns-clause-looks g c =
     (sym c.in_ok-keep.ensures.kept)
     (reads_one k lawful live old.query old.entries.items old.read old.found.items c.index.result.now c.is_wanted-wanted.result low at c.is_wanted-wanted.ensures
     (subst (IsLooking k live) (sym c.self.view_is) look))
+
+pub returns-then-self-len-clause-goes_on : goal.returns-then-self-len-clause-goes_on
+returns-then-self-len-clause-goes_on g c = search rules

@@ -1,3 +1,4 @@
+use Rattle.std.proofs.lemmas.Grind.{common_steps}
 use Rattle.std.proofs.Common.{subst, vec_capacity, arith, ◌<◌, length}
 use Rattle.std.specs.List.{slice_index_or}
 use Rattle.gx_machine.specs.Keys.{keys}
@@ -29,3 +30,18 @@ returns g c =
     c.self.inside.committed.items c.self.inside.commits c.self.inside.next c.self.inside.slots.items inside
     c.answer_at.result c.answer_at.new.latest.items c.answer_at.new.commits c.answer_at.new.slots.items
     (slice_index_or c.answer_at.new.slots.items c.in-Some.place Idle) c.answer_at.ensures.others (c.self.invariant.answerable c.in-Some.place) c.answer_at.ensures.answers)
+
+pub added-added-requires : goal.added-added-requires
+added-added-requires g c = grind (arith, common_steps)
+
+pub answer_at-requires-clause-within : goal.answer_at-requires-clause-within
+answer_at-requires-clause-within g c = grind (arith, common_steps)
+
+pub answer_at-requires-clause-room : goal.answer_at-requires-clause-room
+answer_at-requires-clause-room g c = grind (arith, common_steps)
+
+pub answer_at-requires-clause-counted : goal.answer_at-requires-clause-counted
+answer_at-requires-clause-counted g c = grind (arith, common_steps)
+
+pub answer_at-requires-clause-few : goal.answer_at-requires-clause-few
+answer_at-requires-clause-few g c = grind (arith, common_steps)

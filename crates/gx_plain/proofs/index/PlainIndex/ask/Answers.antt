@@ -1,3 +1,4 @@
+use Rattle.std.proofs.lemmas.Grind.{common_steps}
 use Rattle.std.proofs.Common.{◌≡◌, ◌+◌, ◌<◌, ◌^◌, ℕ, List, cond, sym, ◌∙◌, ap, subst, vec_capacity, arith}
 use Rattle.std.specs.List.{slice_index_or}
 use Rattle.std.specs.Int.{from_bool}
@@ -65,3 +66,15 @@ returns-clause-index g c =
     c.in-Some.place c.in-Some.ensures.place.0 c.in-Some.ensures.place.1 c.begins_at-begins.result c.deref.result.now c.deref.ensures.value c.begins_at-begins.ensures
     c.least_conflicting-least.result c.claims_held-spent.result c.deref-2.result.now c.deref-3.result.now c.deref-2.ensures.value c.deref-3.ensures.value
     c.least_conflicting-least.ensures c.claims_held-spent.ensures (sym c.lacks_numbers.ensures ∙ c.if-lacks_numbers.false)))
+
+pub begins_at-begins-requires : goal.begins_at-begins-requires
+begins_at-begins-requires g c = grind (arith, common_steps)
+
+pub claims_held-spent-requires : goal.claims_held-spent-requires
+claims_held-spent-requires g c = grind (arith, common_steps)
+
+pub ask_at-requires-clause-within : goal.ask_at-requires-clause-within
+ask_at-requires-clause-within g c = grind (arith, common_steps)
+
+pub ask_at-requires-clause-spent : goal.ask_at-requires-clause-spent
+ask_at-requires-clause-spent g c = grind (arith, common_steps)

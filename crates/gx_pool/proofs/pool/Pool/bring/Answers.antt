@@ -1,4 +1,5 @@
-use Rattle.std.proofs.Common.{◌∙◌, refl}
+use Rattle.std.proofs.lemmas.Grind.{common_steps}
+use Rattle.std.proofs.Common.{◌∙◌, refl, arith}
 use Rattle.gx_pool.specs.State.{holding}
 use Rattle.gx_pool.proofs.Bringing.{idle_next, none_brought, one_more, one_refused, refused_as}
 use Rattle.gx_pool.proofs.pool.Pool.bring.Goals as goal
@@ -32,3 +33,6 @@ returns-in_err-bring_one-clause-idle g c = λ idle.
     let was = c.loop-page.invariant.1 idle in
     let now = c.bring_one.ensures.idle (idle_next c.args.self.now.frames c.loop-page.self.frames c.args.pages.now c.loop-page.page-index _ c.loop-page-test.true refl was.0 idle) in
     (now.0 ∙ was.0, now.1 ∙ was.1)
+
+pub returns-clause-brought : goal.returns-clause-brought
+returns-clause-brought g c = grind (arith, common_steps)

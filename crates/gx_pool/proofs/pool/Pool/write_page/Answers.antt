@@ -1,4 +1,5 @@
-use Rattle.std.proofs.Common.{◌∙◌, sym, ap}
+use Rattle.std.proofs.lemmas.Grind.{common_steps}
+use Rattle.std.proofs.Common.{◌∙◌, sym, ap, arith}
 use Rattle.gx_pool.specs.Marks.{is_gated}
 use Rattle.gx_pool.specs.State.{frame_at, stamp_of}
 use Rattle.gx_pool.proofs.Gated.{rest_keeps_area, write_keeps_area}
@@ -61,3 +62,6 @@ pub returns-in-Some-clause-readable : goal.returns-in-Some-clause-readable
 returns-in-Some-clause-readable g c = λ used honest readable.
     let there = kept_some c.args.self.now.frames c.args.page c.in-Some.i c.in-Some.ensures.some.1 in
     write_keeps_readable _ used (g.D.SectorDisk.state c.args.disk.now) _ c.args.self.now.frames _ c.args.page (frame_at c.args.self.now.frames c.in-Some.i) _ honest c.requires there (c.write_frame.ensures.written _ there) readable
+
+pub returns-in-None-clause-written : goal.returns-in-None-clause-written
+returns-in-None-clause-written g c = grind (arith, common_steps)

@@ -1,3 +1,4 @@
+use Rattle.std.proofs.lemmas.Grind.{common_steps}
 use Rattle.std.proofs.Common.{ℕ, List, ◌∷◌, ◌++◌, refl, sym, ap, subst, length, arith, length-append}
 use Rattle.std.proofs.lemmas.Result.{on_ok_weaker, err_from_is_err_and}
 use Rattle.gx_script.specs.Requests.{line_of}
@@ -88,3 +89,9 @@ returns-clause-cut g c =
     (c.loop-line.self.line ++ c.loop-line.rest.now) (g.W.Write.contents c.args.writer.now) (g.W.Write.contents c.loop-line.writer)
     (g.W.Write.contents c.flush.new.writer) c.loop-line.self.output so_far.0 cut)
     c.flush.ensures.cut
+
+pub end_line-requires : goal.end_line-requires
+end_line-requires g c = grind (arith, common_steps)
+
+pub loop-line-smaller : goal.loop-line-smaller
+loop-line-smaller g c = grind (arith, common_steps)

@@ -1,3 +1,4 @@
+use Rattle.std.proofs.lemmas.Grind.{common_steps}
 use Rattle.std.proofs.Common.{not, ◌≡◌, ◌≤◌, true, length, sym, ◌∙◌, subst, arith, List}
 use Rattle.std.specs.Prelude.{None}
 use Rattle.gx_machine.specs.declared.entry.Entry.{Entry}
@@ -43,3 +44,6 @@ returns-clause-session g c =
     let k = keys g.B.Ord.cmp g.B.Shape.overlap g.B.Shape.inside in
     let there = rw (c.deref.ensures.value, c.deref-2.ensures.value) at (sym c.has.ensures ∙ c.if-not-has.false) in
     delete_seen c.self.inside.phase _ _ c.args.self.now c.self.view_is k c.args.e c.args.latest.now _ _ c.requires.open there c.exclude.ensures.items c.put.ensures.items
+
+pub returns-then-not-has-clause-added : goal.returns-then-not-has-clause-added
+returns-then-not-has-clause-added g c = grind (arith, common_steps)

@@ -1,4 +1,5 @@
-use Rattle.std.proofs.Common.{◌≡◌, ◌-◌, ◌∙◌, List, length, sym, ap, subst}
+use Rattle.std.proofs.lemmas.Grind.{common_steps}
+use Rattle.std.proofs.Common.{◌≡◌, ◌-◌, ◌∙◌, List, length, sym, ap, subst, arith}
 use Rattle.std.proofs.lemmas.List.{length-set}
 use Rattle.gx_machine.specs.Keys.{keys, IsLawful}
 use Rattle.gx_machine.specs.declared.entry.Entry.{Entry}
@@ -169,3 +170,9 @@ set_phase-requires-in-Err-clause-eight g c =
 
 pub place_of-requires : goal.place_of-requires
 place_of-requires g c = c.requires.session
+
+pub index-requires : goal.index-requires
+index-requires g c = grind (arith, common_steps)
+
+pub set_phase-requires-in-Err-found-clause-eight : goal.set_phase-requires-in-Err-found-clause-eight
+set_phase-requires-in-Err-found-clause-eight g c = grind (arith, common_steps)

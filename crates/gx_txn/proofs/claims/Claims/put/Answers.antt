@@ -1,3 +1,4 @@
+use Rattle.std.proofs.lemmas.Grind.{common_steps}
 use Rattle.std.proofs.Common.{List, ap, sym, subst, length, arith}
 use Rattle.gx_machine.specs.declared.entry.Entry.{Entry}
 use Rattle.gx_txn.specs.Claimed.{IsTabled}
@@ -14,3 +15,9 @@ invariant_of-self g c =
           (tabled_with c.args.e self.rows c.set.new.self self.keys.items c.put.new.list.items self.entries.items c.args.place _
           (omega (arith, long, c.requires.within)) c.set.ensures.only c.set.ensures.marked c.put.ensures.items c.self.invariant.2),
     )
+
+pub put-requires-clause-within : goal.put-requires-clause-within
+put-requires-clause-within g c = grind (arith, common_steps)
+
+pub put-requires-clause-room : goal.put-requires-clause-room
+put-requires-clause-room g c = grind (arith, common_steps)

@@ -1,4 +1,4 @@
-use Rattle.std.proofs.Common.{arith}
+use Rattle.std.proofs.Common.{arith, rules}
 use Rattle.gx_machine.specs.Keys.{IsLawful, keys}
 use Rattle.gx_txn.proofs.Keeping.{claim_put}
 use Rattle.gx_txn.proofs.holding.Holding.claim.Goals as goal
@@ -13,3 +13,6 @@ invariant_of-self g c =
           c.args.e c.put.new.self c.in-Err.field-0 c.args.spent c.requires (omega arith)
           c.in-Err.ensures.goes c.put.ensures,
     )
+
+pub returns-in-Err-clause-takes : goal.returns-in-Err-clause-takes
+returns-in-Err-clause-takes g c = search rules

@@ -1,3 +1,4 @@
+use Rattle.std.proofs.lemmas.Grind.{common_steps}
 use Rattle.std.proofs.Common.{arith}
 use Rattle.gx_machine.specs.Keys.{IsLawful, keys}
 use Rattle.gx_txn.proofs.Keeping.{note_put, room_for_note, found_in, changed_in}
@@ -37,3 +38,12 @@ invariant_of-self-in-Err g c =
           c.args.note c.put.new.list.items c.requires
           (found_in k c.args.note c.deref.result.now self.notes.items c.put.new.list.items c.in-Err.place c.deref.ensures.value c.in-Err.ensures.1 c.put.ensures.items),
     )
+
+pub index_mut-requires : goal.index_mut-requires
+index_mut-requires g c = grind (arith, common_steps)
+
+pub put-requires-clause-within : goal.put-requires-clause-within
+put-requires-clause-within g c = grind (arith, common_steps)
+
+pub returns-in-Ok : goal.returns-in-Ok
+returns-in-Ok g c = grind (arith, common_steps)
