@@ -1,4 +1,5 @@
-use Rattle.std.proofs.Common.{◌+◌, true, false, sym, ap, ◌∙◌}
+use Rattle.std.proofs.lemmas.Grind.{common_steps}
+use Rattle.std.proofs.Common.{◌+◌, true, false, sym, ap, ◌∙◌, arith}
 use Rattle.gx_node.specs.Reading.{format_of, is_node}
 use Rattle.gx_store.specs.Standing.{store_of}
 use Rattle.gx_store.specs.State.{Shelf}
@@ -78,3 +79,6 @@ returns-clause-stamped g c =
     let did = stepped (is_node f) state v size t u c.args.page is c.in_ok-add_step.ensures.since in
     rw (← c.self.view_is) (λ steady. added_stamped f (is_node f) state v size t c.args.page i.most c.args.entry.now did c.in_ok-add_step.ensures.held.0 steady
     (added_since f state v size u i.most _ c.args.page c.args.entry.now is (c.in_ok-add_step.ensures.added (steady_begun (is_node f) state v size t u is steady))))
+
+pub invariant_of-self-2 : goal.invariant_of-self-2
+invariant_of-self-2 g c = grind (arith, common_steps)

@@ -1,4 +1,5 @@
-use Rattle.std.proofs.Common.{◌≡◌, true, false, sym, ap, refl, ◌∙◌}
+use Rattle.std.proofs.lemmas.Grind.{common_steps}
+use Rattle.std.proofs.Common.{◌≡◌, true, false, sym, ap, refl, ◌∙◌, arith}
 use Rattle.gx_node.specs.Reading.{format_of, is_node}
 use Rattle.gx_store.specs.Standing.{standing_node, store_of}
 use Rattle.gx_store.specs.State.{Shelf}
@@ -126,3 +127,6 @@ returns-clause-descended g c =
     let t = c.descend_step.new.pages in
     let is = begun_is v u 4114 _ c.begin.ensures refl in
     rw (← c.self.view_is) (λ steady. descended_since f state v 4114 u g.K.KeyClass.cost g.K.KeyClass.joined i.most _ c.args.item.now c.args.coming.now c.in_ok-did.did is (c.in_ok-did.ensures.descended (steady_begun (is_node f) state v 4114 t u is steady)))
+
+pub returns-then-not-was_widened-clause-descended : goal.returns-then-not-was_widened-clause-descended
+returns-then-not-was_widened-clause-descended g c = grind (arith, common_steps)

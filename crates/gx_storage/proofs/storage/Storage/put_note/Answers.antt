@@ -1,4 +1,5 @@
-use Rattle.std.proofs.Common.{refl}
+use Rattle.std.proofs.lemmas.Grind.{common_steps}
+use Rattle.std.proofs.Common.{refl, arith}
 use Rattle.gx_record.specs.Rec.{Rec, Note}
 use Rattle.gx_record.specs.Seen.{is_marked}
 use Rattle.gx_storage.specs.State.{Volume}
@@ -13,3 +14,9 @@ returns-clause-keeps g c =
     let x : Rec = Note c.args.transaction c.args.row c.deref.result.now (is_marked c.mark_of.result) c.args.leaf in
     let d = g.D.SectorDisk.state i.store.disk in
     rw (← c.self.view_is) (λ l. head_keeps _ _ _ _ d d v w x c.put_first.result refl c.put_first.ensures.puts (c.put_first.ensures.up l))
+
+pub returns-clause-puts : goal.returns-clause-puts
+returns-clause-puts g c = grind (arith, common_steps)
+
+pub returns-clause-head : goal.returns-clause-head
+returns-clause-head g c = grind (arith, common_steps)

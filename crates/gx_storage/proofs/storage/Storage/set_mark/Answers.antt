@@ -1,4 +1,5 @@
-use Rattle.std.proofs.Common.{ℕ, ◌+◌, sym, ap, subst, ◌∙◌}
+use Rattle.std.proofs.lemmas.Grind.{common_steps}
+use Rattle.std.proofs.Common.{ℕ, ◌+◌, sym, ap, subst, ◌∙◌, arith}
 use Rattle.gx_node.specs.Reading.{format_of, is_node}
 use Rattle.gx_store.specs.Since.{IsSince}
 use Rattle.gx_store.specs.Standing.{store_of}
@@ -124,3 +125,6 @@ returns-in-Right-2-clause-logged g c =
     let since = unstepped (is_node f) state v size t u is (c.in_ok-slot.ensures.passed (ap is_here c.in-Right-2.is)) in
     rw (← c.self.view_is) (unlogged _ _ f (is_node f) state v size t since
     (λ steady. unmarked_stays _ _ _ c.args.page c.args.marked _ c.in-Right-2.next c.in-Right-2.is (c.in_ok-slot.ensures.marked (steady_begun (is_node f) state v size t u is steady)) ∙ ap (λ (x : Shelf g.row.D.Denot). store_of f (state x.disk).seen x) is))
+
+pub invariant_of-self-in-Here-2 : goal.invariant_of-self-in-Here-2
+invariant_of-self-in-Here-2 g c = grind (arith, common_steps)
