@@ -1,4 +1,1 @@
-mod Found
-mod Passing
-mod Whole
 mod Wrong

@@ -14,12 +14,12 @@ use Rattle.gx_format.specs.Fresh.{fresh_root}
 use Rattle.gx_command.specs.Endings.{LacksMemory, EndsScript}
 use Rattle.gx_device_commands.specs.Dumping.{DumpsOver}
 use Rattle.gx_device_commands.specs.Endings.{FormatsOver, Refuses, RunsOver}
-use Rattle.gx_front.specs.Asking.{WordsAsk}
-use Rattle.gx_front.specs.Program.{gist_app}
-use Rattle.gx_front.specs.declared.asking.Asked.{Asked}
-use Rattle.gx_front.specs.declared.asking.Asked.TheVariants.{Plain, Format, Run, Dump}
-use Rattle.gx_front.specs.declared.words.WordsFault.{WordsFault}
-use Rattle.gx_front.specs.declared.words.WordsFault.TheVariants.{NotText, Memory}
+use Rattle.gx_words.specs.Asking.{WordsAsk}
+use Rattle.gx_words.specs.Program.{gist_app}
+use Rattle.gx_words.specs.declared.asking.Asked.{Asked}
+use Rattle.gx_words.specs.declared.asking.Asked.TheVariants.{Plain, Format, Run, Dump}
+use Rattle.gx_words.specs.declared.words.WordsFault.{WordsFault}
+use Rattle.gx_words.specs.declared.words.WordsFault.TheVariants.{NotText, Memory}
 
 -- wrong words or a call for help: nothing was read, and nothing written
 pub record HasWrongWords (had left held holds : Option (List ℕ)) (status : ℕ) : Type 0 where

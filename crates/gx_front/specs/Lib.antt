@@ -1,3 +1,1 @@
-pub mod Program
-pub mod Asking
 pub mod Endings

@@ -3,14 +3,13 @@ ghost use Rattle.std.specs.Prelude.{◌≡◌, map, MatchResult};
 ghost use Rattle.std.specs.Io.KnownBytes.{Keeps};
 ghost use Rattle.gx_front.specs.Endings.{EndsAsked, EndsOnWords, EndsUnread};
 
-use crate::asking::Asked;
 use crate::files::{dump_file, format_file, run_file};
-use crate::{WordsFault, words};
 use clap::error::ErrorKind;
 use gx_class::{Box2Class, KeyClass};
 use gx_command::{Noted, refuse_memory, run_script};
 use gx_disk::{FileDisk, SectorDisk};
 use gx_geom::{Box2, Shape};
+use gx_words::{Asked, WordsFault};
 use std::alloc::Global;
 use std::convert::AsStr;
 use std::fmt::Display;
@@ -47,7 +46,7 @@ pub fn gist<T: Files<File = File>, S: AsStr, R: Read, W: Write, E: Write>(
     ensures quiet { result ≡ 0 → Keeps (E.contents faults.old) (E.contents faults.new) }
 {
     match words {
-        Ok(given) => match words::read(alloc, given) {
+        Ok(given) => match gx_words::read(alloc, given) {
             Ok(asked) => carry_out(rt, alloc, asked, reader, writer, faults),
             Err(error) if error.kind() == ErrorKind::OutOfMemory => refuse_memory(writer),
             Err(error) => refuse_words(faults, &error),

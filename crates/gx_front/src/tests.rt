@@ -1,6 +1,7 @@
 //! The program's words and statuses.
 
 use super::*;
+use gx_words::{Asked, WordsFault, read};
 use std::fs::{File, Files};
 use std::process::Abort;
 
@@ -110,7 +111,7 @@ fn words_and_statuses(rt: HostRuntime) {
 #[test]
 fn what_words_ask_for(rt: HostRuntime) {
     for (words, wanted) in RIGHT {
-        assert!(rt; matches!(words::read(rt.alloc(), words), Ok(asked) if asked == wanted));
+        assert!(rt; matches!(read(rt.alloc(), words), Ok(asked) if asked == wanted));
     }
 }
 

@@ -1,8 +1,8 @@
 use Rattle.std.proofs.Common.{ap, ap₂, ◌∙◌}
 use Rattle.std.proofs.lemmas.Result.{IfOk-weaker}
 use Rattle.clap.specs.Words.{App, with_subcommand}
-use Rattle.gx_front.specs.Program.{gist_app}
-use Rattle.gx_front.proofs.words.command.Goals as goal
+use Rattle.gx_words.specs.Program.{gist_app}
+use Rattle.gx_words.proofs.words.command.Goals as goal
 
 pub returns : goal.returns
 unfolding gist_app

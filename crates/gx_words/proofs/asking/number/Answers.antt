@@ -1,8 +1,8 @@
 use Rattle.std.proofs.Common.{ap, is_some}
 use Rattle.std.specs.Str.Parse.{ExplainsUnsignedError, HasUnsignedDigitsIfOk, ParsesUnsigned}
 use Rattle.clap.specs.Words.{found_of}
-use Rattle.gx_front.proofs.Found.{number_in, number_read}
-use Rattle.gx_front.proofs.asking.number.Goals as goal
+use Rattle.gx_words.proofs.Found.{number_in, number_read}
+use Rattle.gx_words.proofs.asking.number.Goals as goal
 
 pub unwrap-requires : goal.unwrap-requires
 unwrap-requires c =

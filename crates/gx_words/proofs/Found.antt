@@ -5,7 +5,7 @@ use Rattle.clap.specs.Words.{ReadsOne, Text, first_of, first_value, one_text, ro
 use Rattle.clap.specs.declared.parser.matches.Found.{Found}
 use Rattle.clap.proofs.CallerReads.{signed_reads}
 use Rattle.clap.proofs.WalkLemmas.{first_value-rows, one_text-rows}
-use Rattle.gx_front.specs.Asking.{IsAccepted, IsNumber}
+use Rattle.gx_words.specs.Asking.{IsAccepted, IsNumber}
 
 module _ {E : Type 0} (G : Text → Result ℕ E → Type 0) (only : (u : Text) (x : Result ℕ E) → G u x → ParsesUnsigned 32 10 u x) (f : Found) (name : Text) (lowest highest : ℕ)
     (accepted : IsAccepted (rows_of f) name lowest highest) where

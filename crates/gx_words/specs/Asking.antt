@@ -2,9 +2,9 @@
 use Rattle.std.specs.Prelude.{◌≡◌, ◌<◌, ◌≤◌, ◌^◌, ◌⊎◌, ℕ, List, Option, Some, None, pos, codes}
 use Rattle.std.specs.Str.Parse.{IsNumeral, digits_value, without_leading_plus}
 use Rattle.clap.specs.Words.{IsSignedIn, Row, Text, first_of, one_of, subcommand_of, without_minus}
-use Rattle.gx_front.specs.Program.{gist_app}
-use Rattle.gx_front.specs.declared.asking.Asked.{Asked}
-use Rattle.gx_front.specs.declared.asking.Asked.TheVariants.{Plain, Format, Run, Dump}
+use Rattle.gx_words.specs.Program.{gist_app}
+use Rattle.gx_words.specs.declared.asking.Asked.{Asked}
+use Rattle.gx_words.specs.declared.asking.Asked.TheVariants.{Plain, Format, Run, Dump}
 
 -- the word that was given under this name, or stands for it by default, is this number in decimal digits, and the number lies
 -- in this range

@@ -1,8 +1,8 @@
 //! The words that the program is called with.
 ghost use Rattle.std.specs.Prelude.{◌≡◌, [], map, codes, OnOk, IfOk, IfErr};
 ghost use Rattle.clap.specs.Words.{app_of, new_app, fault_of, HasKind};
-ghost use Rattle.gx_front.specs.Asking.{WordsAsk};
-ghost use Rattle.gx_front.specs.Program.{gist_app, with_required, plain_app, format_app, run_app, dump_app, wanted_rule, number_rule, frames_rule, Is, IsRule};
+ghost use Rattle.gx_words.specs.Asking.{WordsAsk};
+ghost use Rattle.gx_words.specs.Program.{gist_app, with_required, plain_app, format_app, run_app, dump_app, wanted_rule, number_rule, frames_rule, Is, IsRule};
 
 use crate::asking::{Asked, what_is_asked};
 use clap::{Arg, Command, Error, value_parser};
@@ -22,7 +22,7 @@ pub enum WordsFault {
 
 /// The words that the program was called with, its own name first. `NotText` with the place of the first that isn't
 /// text, and `Memory` where memory for them is refused.
-pub(crate) fn given<R: Env + AllocGlobal>(rt: &R) -> Result<Vec<String>, WordsFault> {
+pub fn given<R: Env + AllocGlobal>(rt: &R) -> Result<Vec<String>, WordsFault> {
     let mut words = Vec::new(rt.alloc());
     for place in 0..usize::MAX {
         match word_at(rt, place)? {

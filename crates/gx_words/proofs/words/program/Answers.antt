@@ -2,8 +2,8 @@ use Rattle.std.proofs.Common.{ap, codes, ◌≡◌, ◌∙◌}
 use Rattle.std.proofs.lemmas.Result.{IfOk-weaker}
 use Rattle.clap.specs.Words.{app_of, new_app}
 use Rattle.clap.specs.Simple.{app_of_fields}
-use Rattle.gx_front.specs.Program.{with_required}
-use Rattle.gx_front.proofs.words.program.Goals as goal
+use Rattle.gx_words.specs.Program.{with_required}
+use Rattle.gx_words.proofs.words.program.Goals as goal
 
 pub returns : goal.returns
 returns c =

@@ -1,10 +1,10 @@
 use Rattle.std.proofs.Common.{refl, true, ap, subst, sym, map, List, Option, [], ◌≡◌, ◌∙◌}
 use Rattle.clap.specs.Words.{App, HasKind, Row, Text, fault_of, is_simple, is_simple_and_free, subcommand_of, subcommand_rows_of}
 use Rattle.clap.proofs.OnLiterals.{clap_on_literals}
-use Rattle.gx_front.specs.Asking.{IsAsked, IsWhole}
-use Rattle.gx_front.specs.Program.{gist_app}
-use Rattle.gx_front.proofs.Whole.{whole}
-use Rattle.gx_front.proofs.words.read.Goals as goal
+use Rattle.gx_words.specs.Asking.{IsAsked, IsWhole}
+use Rattle.gx_words.specs.Program.{gist_app}
+use Rattle.gx_words.proofs.Whole.{whole}
+use Rattle.gx_words.proofs.words.read.Goals as goal
 
 -- what is wrong with words is known of this command
 free : is_simple_and_free gist_app ≡ true

@@ -1,7 +1,7 @@
 //! What the words ask for, read of what clap found in them.
 ghost use Rattle.std.specs.Prelude.{codes, ℕ};
 ghost use Rattle.clap.specs.Words.{found_of, rows_of, subcommand_rows_of};
-ghost use Rattle.gx_front.specs.Asking.{IsAccepted, IsNumber, HasFormat, HasRun, HasDump, Asks, IsAsked, IsWhole};
+ghost use Rattle.gx_words.specs.Asking.{IsAccepted, IsNumber, HasFormat, HasRun, HasDump, Asks, IsAsked, IsWhole};
 
 use clap::ArgMatches;
 

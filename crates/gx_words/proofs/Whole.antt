@@ -17,9 +17,9 @@ use Rattle.clap.specs.Walk.{Row, Rule, Text, has_row, nothing_held, rows_after, 
 use Rattle.clap.specs.declared.error.kind.ErrorKind.{ErrorKind}
 use Rattle.clap.specs.declared.builder.value_parser.ValueParser.TheVariants as vp
 use Rattle.clap.proofs.ValueTestLemmas.{accepts-Accepts}
-use Rattle.gx_front.specs.Asking.{HasDump, HasFormat, HasRun, IsAccepted, IsWhole}
-use Rattle.gx_front.specs.Program.{dump_app, format_app, gist_app, plain_app, run_app, with_required}
-use Rattle.gx_front.proofs.Passing.{AllOwn, IsGood, IsOther, some_kind, default_gives, default_keeps, given_row, good_word, level_good, row_by_id, walk_other}
+use Rattle.gx_words.specs.Asking.{HasDump, HasFormat, HasRun, IsAccepted, IsWhole}
+use Rattle.gx_words.specs.Program.{dump_app, format_app, gist_app, plain_app, run_app, with_required}
+use Rattle.gx_words.proofs.Passing.{AllOwn, IsGood, IsOther, some_kind, default_gives, default_keeps, given_row, good_word, level_good, row_by_id, walk_other}
 
 -- the program's words, and the same as its parser has them at work
 abbrev app : App
