@@ -23,12 +23,16 @@ def libraries():
 def words(crate):
     """The words of a check: its root, and its libraries, which `rt check` has built."""
     named = libraries()
+    below = [crate]
+    for it in below:
+        below += [library for library in named[it] if library in named and library not in below]
     root = "src/main.rt" if os.path.isfile(f"{TOP}/crates/{crate}/src/main.rt") else "src/lib.rt"
     found = ["--crate-name", crate, root, "--extern", f"std={KIT}/rlibs/std.rlib", "-L", f"dependency={KIT}/rlibs"]
     for library in named[crate]:
         folder = f"{TOP}/crates/{library}/out/rlib" if library in named else f"{KIT}/rlibs"
         found += ["--extern", f"{library}={folder}/{library}.rlib"]
-        found += ["-L", f"dependency={folder}"] if library in named else []
+    for library in below[1:]:
+        found += ["-L", f"dependency={TOP}/crates/{library}/out/rlib"]
     project = f"{KIT}/rattle/logic/antt-project.json"
     return found + ["--antt-project", project, "--logic-built", f"{KIT}/logic_built", "--links", f"{crate}="]
 

@@ -11,7 +11,7 @@ use gx_phases::Sessions;
 use gx_txn::Note;
 
 /// A note of a transaction that a crash cut off.
-#[derive(Clone, Copy, Debug, PartialEq, Eq)]
+#[derive(Clone, Copy)]
 pub struct Loser<B> {
     /// The transaction's number.
     pub transaction: u64,

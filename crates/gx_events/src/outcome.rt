@@ -14,7 +14,7 @@ pub enum Need {
 }
 
 /// What comes of an event.
-#[derive(Debug, Drop)]
+#[derive(Drop)]
 pub enum Outcome<B> {
     /// The session's call ends with this reply.
     Replied(Reply<B>),

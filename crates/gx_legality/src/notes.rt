@@ -8,7 +8,7 @@ ghost use Rattle.gx_legality.specs.declared.notes.Stage.TheVariants.{Found};
 use std::cmp::Ordering;
 
 /// A pair that an open transaction touched, by its row and key, and the leaf that is remembered for it.
-#[derive(Clone, Copy, Debug, PartialEq, Eq)]
+#[derive(Clone, Copy)]
 pub struct Note<E> {
     /// The pair's row and key.
     pub entry: E,

@@ -51,7 +51,7 @@ fn least_conflicting<B: Shape>(slots: &[Slot<B>], call: &Call<B>, session: u8) -
 
 /// The claims held in all.
 fn claims_held<B: Shape>(slots: &[Slot<B>]) -> usize
-    requires { claims_held slots.now ≤ MAX_CLAIMS }
+    requires { sum_by claims_of slots.now < 2 ^ 64 }
     ensures { result ≡ claims_held slots.now }
 {
     slots.iter().map(|slot| slot.claims()).sum()

@@ -8,7 +8,7 @@ ghost use Rattle.gx_record.specs.Seen.{numbered, images};
 use gx_page::Page;
 
 /// A page's number, and its image of 4,096 bytes, lent by whoever has the page.
-#[derive(Clone, Copy, Debug, PartialEq, Eq)]
+#[derive(Clone, Copy, PartialEq, Eq)]
 pub struct PageImage<'a> {
     pub page: u32,
     pub image: &'a [u8],
@@ -28,7 +28,7 @@ impl<'a> PageImage<'a> {
 }
 
 /// One to three pages. In a record in range each has a greater number than the one before.
-#[derive(Clone, Copy, Debug, PartialEq, Eq)]
+#[derive(Clone, Copy, PartialEq, Eq)]
 pub enum PageImages<'a> {
     One(PageImage<'a>),
     Two(PageImage<'a>, PageImage<'a>),

@@ -12,7 +12,7 @@ use crate::{decode, encode};
 ///
 /// In range are images that a page has, each with its page's own number, and pages by rising number. Any number of a field's
 /// width is in range, also a page's number 0.
-#[derive(Clone, Copy, Debug, PartialEq, Eq)]
+#[derive(Clone, Copy, PartialEq, Eq)]
 pub enum Record<'a> {
     /// Pages as a change leaves them, and the change counter and the number of pages in use after it.
     Pages {

@@ -10,7 +10,7 @@ use gx_machine::Call;
 use std::alloc::{AllocError, Global};
 
 /// A call of the engine.
-#[derive(Clone, Copy, Debug, PartialEq, Eq)]
+#[derive(Clone, Copy)]
 pub enum Act<B> {
     /// A session asks.
     Ask(u8, Call<B>),

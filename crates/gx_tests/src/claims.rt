@@ -38,6 +38,15 @@ pub(crate) fn given(asked: Asked<Box2>) -> Result<(), Refusal> {
     }
 }
 
+// What the plain index gives for a call, which is answered then.
+fn plainly(plain: &mut PlainIndex<Box2>, s: u8, call: Call<Box2>) -> Result<(), Refusal> {
+    let given = given(plain.ask(s, call));
+    if given.is_ok() {
+        let _ = plain.answer(s);
+    }
+    given
+}
+
 // A session's number.
 pub(crate) fn session(drawn: u32) -> u8
     ensures { is_session result ≡ true }
@@ -76,10 +85,11 @@ fn claim<R: Abort>(rt: &R, both: &mut Beside, s: u8, n: u64, answer: Result<(), 
     requires { is_session s ≡ true }
 {
     same(rt, &both.table.claim(s, row(n)), &answer);
-    same(rt, &given(both.plain.ask(s, Call::Insert(row(n)))), &answer);
-    if answer.is_ok() {
-        let _ = both.plain.answer(s);
-    }
+    same(
+        rt,
+        &plainly(&mut both.plain, s, Call::Insert(row(n))),
+        &answer,
+    );
 }
 
 #[test]
@@ -128,10 +138,11 @@ fn search<R: Abort>(rt: &R, both: &mut Beside, s: u8, x: i32, answer: Result<(),
     requires { is_session s ≡ true }
 {
     same(rt, &both.table.predicate(s, at(x)), &answer);
-    same(rt, &given(both.plain.ask(s, Call::Search(at(x)))), &answer);
-    if answer.is_ok() {
-        let _ = both.plain.answer(s);
-    }
+    same(
+        rt,
+        &plainly(&mut both.plain, s, Call::Search(at(x))),
+        &answer,
+    );
 }
 
 #[test]

@@ -48,6 +48,11 @@ fn agree<D: SectorDisk>(one: &mut D, other: &mut D) -> bool {
     true
 }
 
+/// Lays a new index of boxes down on a device.
+fn lay<D: SectorDisk>(alloc: Global, disk: &mut D, pages: u32, most: u16) -> Result<(), Refusal> {
+    format::<_, Box2Class>(alloc, disk, pages, most)
+}
+
 /// A device of so many sectors with a fresh index for so many pages and entries.
 pub(crate) fn formatted(
     rt: &HostRuntime,
@@ -56,7 +61,7 @@ pub(crate) fn formatted(
     most: u16,
 ) -> Result<MemDisk, Fail> {
     let mut disk = MemDisk::new(rt.alloc(), sectors)?;
-    format::<_, Box2Class>(rt.alloc(), &mut disk, pages, most)?;
+    lay(rt.alloc(), &mut disk, pages, most)?;
     Ok(disk)
 }
 
@@ -69,7 +74,7 @@ fn stopped(
     choices: &[Torn],
 ) -> Result<(Result<(), Refusal>, MemDisk), Fail> {
     let mut disk = FuseDisk::new(formatted(rt, SECTORS, 8, 5)?, k, Fuse::ForEver, done);
-    let answer = format::<_, Box2Class>(rt.alloc(), &mut disk, 9, 4);
+    let answer = lay(rt.alloc(), &mut disk, 9, 4);
     let mut left = disk.into_inner();
     left.crash(choices);
     Ok((answer, left))
@@ -118,7 +123,7 @@ fn what_a_format_refuses(rt: HostRuntime) -> Result<(), Fail> {
     let asked = [(7, 4), (65_537, 4), (8, 3), (8, 101), (10, 4), (9, 100)];
     let mut answers = [Ok(()); 6];
     for (answer, (pages, most)) in answers.iter_mut().zip(asked) {
-        *answer = format::<_, Box2Class>(rt.alloc(), &mut disk, pages, most);
+        *answer = lay(rt.alloc(), &mut disk, pages, most);
     }
     let range = Err(Refusal::BadParameter);
     same(

@@ -35,6 +35,11 @@ pub(crate) fn image<D: SectorDisk>(alloc: Global, disk: &mut D) -> Result<Vec<u8
     }
 }
 
+/// What is wrong with bytes, if anything is.
+fn fault(alloc: Global, bytes: &[u8]) -> Option<Damage> {
+    read(alloc, bytes, 1).err()
+}
+
 /// What is wrong with bytes of which one is changed, of this number in this sector; it is then changed back.
 fn damage(
     alloc: Global,
@@ -45,7 +50,7 @@ fn damage(
 ) -> Option<Damage> {
     let at = sector.saturating_mul(512).saturating_add(number);
     let old = set(bytes, at, value);
-    let found = read(alloc, bytes, 1).err();
+    let found = fault(alloc, bytes);
     set(bytes, at, old);
     found
 }
@@ -94,7 +99,7 @@ fn a_byte_changed_of_a_fresh_index(rt: HostRuntime) -> Result<(), Fail> {
         assert!(rt; damage(rt.alloc(), &mut bytes, sector, number, value) == wrong);
     }
     bytes.truncate(4000 * 512);
-    assert!(rt; read(rt.alloc(), &bytes, 1).err() == Some(Damage::Short));
+    assert!(rt; fault(rt.alloc(), &bytes) == Some(Damage::Short));
     Ok(())
 }
 

@@ -166,6 +166,11 @@ fn each_step_of_a_session_is_told(rt: HostRuntime) -> Result<(), Fail> {
     Ok(())
 }
 
+// What a call, asked and answered, gives.
+fn called(index: &mut PlainIndex<Box2>, session: u8, call: Call<Box2>) -> Told {
+    reply_told(index.call(session, call))
+}
+
 // Fails unless the call is answered so.
 fn gives(
     rt: &impl Abort,
@@ -174,7 +179,7 @@ fn gives(
     call: Call<Box2>,
     expected: Told,
 ) {
-    same(rt, &reply_told(index.call(session, call)), &expected);
+    same(rt, &called(index, session, call), &expected);
 }
 
 // 512 claims are all sessions' most; an entry that is claimed takes no second place.
@@ -220,15 +225,14 @@ fn two_sessions_take_all_claims(rt: HostRuntime) -> Result<(), Fail> {
 }
 
 // Session 1's reply, asked again where memory was refused.
-fn twice<R: Abort>(rt: &R, index: &mut PlainIndex<Box2>, call: Call<Box2>) -> Reply<Box2> {
-    match index.call(1, call) {
-        Reply::Refused(Refusal::Memory) => {
-            let again = index.call(1, call);
-            assert!(rt; !matches!(again, Reply::Refused(Refusal::Memory)));
-            again
-        }
-        reply => reply,
+fn twice<R: Abort>(rt: &R, index: &mut PlainIndex<Box2>, call: Call<Box2>) -> Told {
+    let told = called(index, 1, call);
+    if told != Told::Refused(Refusal::Memory) {
+        return told;
     }
+    let again = called(index, 1, call);
+    assert!(rt; again != told);
+    again
 }
 
 // Each call that takes memory answers as ever, at once or where it is asked again; a delete takes none. (With one
@@ -242,8 +246,8 @@ fn refused_memory_changes_nothing(rt: HostRuntime) -> Result<(), Fail> {
     let key = Box2::point(3, 3);
     gives(&rt, &mut index, 1, Call::Begin, Told::Ok);
     for row in 0..40u64 {
-        let reply = twice(&rt, &mut index, Call::Insert(Entry { row, key }));
-        same(&rt, &reply_told(reply), &Told::Inserted);
+        let told = twice(&rt, &mut index, Call::Insert(Entry { row, key }));
+        same(&rt, &told, &Told::Inserted);
     }
     gives(&rt, &mut index, 1, Call::Commit, Told::Committed(1));
     gives(&rt, &mut index, 1, Call::Begin, Told::Ok);
@@ -256,8 +260,8 @@ fn refused_memory_changes_nothing(rt: HostRuntime) -> Result<(), Fail> {
             Told::Deleted,
         );
     }
-    let reply = twice(&rt, &mut index, Call::Search(Query::Equal(key)));
-    same(&rt, &reply_told(reply), &Told::Found(20));
+    let told = twice(&rt, &mut index, Call::Search(Query::Equal(key)));
+    same(&rt, &told, &Told::Found(20));
     gives(&rt, &mut index, 1, Call::Abort, Told::Aborted);
     Ok(())
 }

@@ -7,8 +7,8 @@ use gx_geom::{Box2, Refusal};
 use gx_machine::{Entry, Query};
 use gx_page::Page;
 use gx_tree::{
-    Descended, Item, Look, MemoryPages, Pages, Sought, StepFault, Wanted, Way, descend_step,
-    look_step, seek_step, way_step,
+    Item, Look, MemoryPages, Pages, Sought, StepFault, Wanted, Way, descend_step, look_step,
+    seek_step, way_step,
 };
 use std::alloc::AllocError;
 use std::convert::Infallible;
@@ -524,11 +524,9 @@ fn goes_down<K: KeyClass>(
     coming: &K::Key,
     most: usize,
 ) -> Result<Option<(u32, u64)>, StepFault<Infallible>> {
-    match descend_step(pages, item, coming, most)? {
-        Descended::Down(next) | Descended::Widened(next, _, _) => {
-            Ok(Some((next.page(), next.seen())))
-        }
-        _ => Ok(None),
+    match descend_step(pages, item, coming, most)?.next() {
+        Some(next) => Ok(Some((next.page(), next.seen()))),
+        None => Ok(None),
     }
 }
 

@@ -3,7 +3,7 @@
 use gx_machine::Entry;
 
 /// A pair that a look found, and the leaf in which it stood then.
-#[derive(Clone, Copy, Debug, PartialEq, Eq)]
+#[derive(Clone, Copy)]
 pub struct Found<B> {
     /// The row and its key.
     pub entry: Entry<B>,

@@ -29,7 +29,7 @@ pub fn some_passes<B: Copy, T: Test<B>>(test: &T, keys: &[B]) -> bool
 }
 
 /// Of keys: those that overlap this one.
-#[derive(Clone, Copy)]
+#[derive(Drop)]
 pub struct Overlaps<B>(pub B);
 
 impl<B: Shape> Test<B> for Overlaps<B> {
@@ -41,7 +41,7 @@ impl<B: Shape> Test<B> for Overlaps<B> {
 }
 
 /// Of keys: those that lie in this one.
-#[derive(Clone, Copy)]
+#[derive(Drop)]
 pub struct LiesIn<B>(pub B);
 
 impl<B: Shape> Test<B> for LiesIn<B> {
@@ -53,7 +53,7 @@ impl<B: Shape> Test<B> for LiesIn<B> {
 }
 
 /// Of keys: this one.
-#[derive(Clone, Copy)]
+#[derive(Drop)]
 pub struct Is<B>(pub B);
 
 impl<B: Shape> Test<B> for Is<B> {
@@ -65,7 +65,7 @@ impl<B: Shape> Test<B> for Is<B> {
 }
 
 /// Of the keys of queries: those that this key overlaps.
-#[derive(Clone, Copy)]
+#[derive(Drop)]
 pub struct OverlappedBy<B>(pub B);
 
 impl<B: Shape> Test<B> for OverlappedBy<B> {
@@ -77,7 +77,7 @@ impl<B: Shape> Test<B> for OverlappedBy<B> {
 }
 
 /// Of the keys of queries: those in which this key lies.
-#[derive(Clone, Copy)]
+#[derive(Drop)]
 pub struct Around<B>(pub B);
 
 impl<B: Shape> Test<B> for Around<B> {
@@ -89,7 +89,7 @@ impl<B: Shape> Test<B> for Around<B> {
 }
 
 /// Of the keys of queries: those that are this key.
-#[derive(Clone, Copy)]
+#[derive(Drop)]
 pub struct SameAs<B>(pub B);
 
 impl<B: Shape> Test<B> for SameAs<B> {

@@ -2,7 +2,7 @@
 use gx_machine::Entry;
 
 /// What undoing a written entry needs, and where a checkpoint finds it.
-#[derive(Clone, Copy, Debug, PartialEq, Eq)]
+#[derive(Clone, Copy)]
 pub struct Note<B> {
     /// The entry.
     pub entry: Entry<B>,

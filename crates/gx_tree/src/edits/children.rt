@@ -6,7 +6,7 @@ use gx_node::inner_edits;
 use gx_page::Page;
 
 /// A bound for the child in a slot of an inner node, in place of its own.
-#[derive(Clone, Copy, Debug)]
+#[derive(Drop)]
 pub struct SetBound<B> {
     /// The slot.
     pub slot: usize,
@@ -29,7 +29,7 @@ impl<K: KeyClass> Edit<K> for SetBound<K::Key> {
 }
 
 /// A child for an inner node that isn't full: it is put behind the last.
-#[derive(Clone, Copy, Debug)]
+#[derive(Drop)]
 pub struct AppendChild<B> {
     /// The child's bound.
     pub bound: B,
@@ -52,7 +52,7 @@ impl<K: KeyClass> Edit<K> for AppendChild<K::Key> {
 }
 
 /// The root, a level higher, over two nodes that have its entries.
-#[derive(Clone, Copy, Debug)]
+#[derive(Drop)]
 pub struct RaiseRoot<B> {
     /// The first node.
     pub first: AppendChild<B>,

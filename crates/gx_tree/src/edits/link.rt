@@ -5,7 +5,7 @@ use gx_class::KeyClass;
 use gx_page::Page;
 
 /// A sequence number and a rightlink for a node.
-#[derive(Clone, Copy, Debug, PartialEq, Eq)]
+#[derive(Drop)]
 pub struct Link {
     /// The sequence number.
     pub nsn: u64,

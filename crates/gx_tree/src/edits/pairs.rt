@@ -7,7 +7,7 @@ use gx_node::leaf_edits;
 use gx_page::Page;
 
 /// A live pair for a leaf that isn't full: it is put behind the last.
-#[derive(Clone, Copy, Debug)]
+#[derive(Drop)]
 pub struct AppendPair<B> {
     /// The row and its key.
     pub entry: Entry<B>,
@@ -29,7 +29,7 @@ impl<K: KeyClass> Edit<K> for AppendPair<K::Key> {
 }
 
 /// A mark for the pair in a slot of a leaf, set or cleared.
-#[derive(Clone, Copy, Debug, PartialEq, Eq)]
+#[derive(Drop)]
 pub struct SetMark {
     /// The slot.
     pub slot: usize,

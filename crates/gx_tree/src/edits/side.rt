@@ -6,7 +6,7 @@ use gx_node::{inner_edits, leaf_edits};
 use gx_page::Page;
 
 /// Takes the entries of a node out whose side is `true`.
-#[derive(Clone, Copy, Debug)]
+#[derive(Drop)]
 pub struct KeepSide<'a> {
     /// A side for each entry.
     pub sides: &'a [bool],

@@ -1,3 +1,4 @@
+use Rattle.std.proofs.lemmas.Grind.{common_steps}
 use Rattle.std.proofs.Common.{◌≡◌, ◌<◌, ◌+◌, ℕ, List, ◌∷◌, ap, sym, ◌∙◌, drop, length, get_or, arith}
 use Rattle.std.proofs.lemmas.List.{drop_more}
 use Rattle.gx_machine.specs.declared.entry.Entry.{Entry}
@@ -25,3 +26,6 @@ loop-e-preserved g c = record {
   grown = omega arith;
   room = omega arith;
 }
+
+pub returns-clause-items : goal.returns-clause-items
+returns-clause-items g c = grind (arith, common_steps)
