@@ -13,7 +13,7 @@ import shutil
 import sys
 import tempfile
 
-from prover import TOP, check, copied, edit
+from prover import TOP, check, copied, edit, kept_by_rt
 
 
 def stages(file):
@@ -31,7 +31,7 @@ def why(said):
 
 def main(crate, *names):
     with tempfile.TemporaryDirectory() as room:
-        folder, seed, over, times = f"{room}/crate", f"{room}/seed", f"{room}/over", f"{room}/times"
+        folder, seed, over, times = f"{room}/crate", kept_by_rt(crate, f"{room}/seed"), f"{room}/over", f"{room}/times"
         said, status, seconds = check(crate, copied(crate, folder), seed, "--stage-times", times)
         print(f"{crate}: status {status}, {seconds:.1f} s; {stages(times)}", flush=True)
         if status:

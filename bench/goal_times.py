@@ -15,7 +15,7 @@ import sys
 import tempfile
 import time
 
-from prover import check, copied
+from prover import check, copied, kept_by_rt
 
 TACTICS = {"search": "search rules", "grind": "grind (arith, common_steps)"}
 LEMMAS = {"search": "use Rattle.std.proofs.Common.{rules}", "grind": "use Rattle.std.proofs.Common.{arith}\nuse Rattle.std.proofs.lemmas.Grind.{common_steps}"}
@@ -64,15 +64,19 @@ def kept_since(start, kept, crate):
 
 def main(crate, *functions):
     with tempfile.TemporaryDirectory() as room:
-        folder, kept, made = copied(crate, f"{room}/crate"), f"{room}/kept", f"{room}/made"
-        check(crate, folder, kept)
+        folder, kept, made = copied(crate, f"{room}/crate"), kept_by_rt(crate, f"{room}/kept"), f"{room}/made"
+        said, status, _ = check(crate, folder, kept)
+        if status:
+            sys.exit(said[-2000:])
         starts = [word for it in functions for word in ("--start", it)]
-        check(crate, folder, kept, "--generated", made, *starts)
+        said, _, _ = check(crate, folder, kept, "--generated", made, *starts)
         top, goals = f"{made}/Rattle-{crate}-proofs", {}
         for file in sorted(glob.glob(f"{top}/**/AnswersOffered.antt", recursive=True)):
             place = os.path.relpath(os.path.dirname(file), top)
             with open(file, encoding="utf-8") as it:
                 goals[place] = split_goals(crate, folder, it.read(), place)
+        if not goals:
+            sys.exit(said[-2000:])
         start = time.time()
         said, _, _ = check(crate, folder, kept, "--jobs", "1", *(word for it in functions for word in ("--only", it)))
         took = kept_since(start, kept, crate)

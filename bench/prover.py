@@ -56,6 +56,14 @@ def copied(crate, to):
     return to
 
 
+def kept_by_rt(crate, to):
+    """Copies what `rt check` in the crate's folder keeps, so that a check begins with it; nothing where it keeps nothing."""
+    kept = f"{TOP}/crates/{crate}/out/incremental"
+    if os.path.isdir(kept):
+        shutil.copytree(kept, to, symlinks=True)
+    return to
+
+
 def edit(text, folder):
     """Makes an edit in the crate that lies in this folder."""
     path = old = None

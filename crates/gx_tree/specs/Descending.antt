@@ -55,15 +55,6 @@ is_widened did.Leaf = false
 is_widened did.FullLeaf = false
 is_widened did.FullInner = false
 
--- what a step of a descent did that took this way, and what is remembered then
-abbrev pub taken : {B : Type 0} → Way B → ℕ → Descended B
-taken Again seen = did.Again
-taken Add seen = did.Leaf
-taken FullLeaf seen = did.FullLeaf
-taken FullInner seen = did.FullInner
-taken (Down slot child) seen = did.Down (record { page = child; seen = seen })
-taken (Widen slot child key) seen = did.Widened (record { page = child; seen = seen }) slot key
-
 -- the item to which it went down, if it did
 abbrev pub next_of : {B : Type 0} → Descended B → Option Item
 next_of (did.Down next) = Some next

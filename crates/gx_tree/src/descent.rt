@@ -3,7 +3,7 @@ ghost use Rattle.std.specs.Prelude.{◌≡◌, ◌≢◌, ◌≤◌, ◌<◌, le
 ghost use Rattle.std.specs.Bool.{OnTrue, OnFalse};
 ghost use Rattle.gx_node.specs.Reading.{format_of, is_node};
 ghost use Rattle.gx_tree_laws.specs.Trees.{Used};
-ghost use Rattle.gx_tree.specs.Descending.{Descends, StepsDown, is_widened, next_of, taken};
+ghost use Rattle.gx_tree.specs.Descending.{Descends, StepsDown, is_widened, next_of};
 ghost use Rattle.gx_tree.specs.Owner.{KeepsSince, KeepsSinceBut, IsWhy, IsWhyLater, Brings, AsksAtMost, AsksToWrite, Asks, to_write};
 ghost use Rattle.gx_tree.specs.Store.{node_of, tree_of, Stays};
 
@@ -53,22 +53,6 @@ pub enum Descended<B> {
 }
 
 impl<B: Shape> Descended<B> {
-    /// What a step did that took this way, where the counter of splits is `seen`.
-    fn of(way: Way<B>, seen: u64) -> Descended<B>
-        ensures { result ≡ taken way seen }
-    {
-        match way {
-            Way::Again => Descended::Again,
-            Way::Add => Descended::Leaf,
-            Way::FullLeaf => Descended::FullLeaf,
-            Way::FullInner => Descended::FullInner,
-            Way::Down(_, child) => Descended::Down(Item::new(child, seen)),
-            Way::Widen(slot, child, bound) => {
-                Descended::Widened(Item::new(child, seen), slot, bound)
-            }
-        }
-    }
-
     /// The item to which it went down, if it did.
     pub fn next(&self) -> Option<Item>
         ensures { result ≡ next_of self.now }
@@ -199,14 +183,18 @@ pub fn descend_step<K: KeyClass, P: PagesMut<K>>(
     ensures memory { result ≢ Err StepFault.Memory }
     ensures full { result ≢ Err StepFault.PagesFull }
 {
-    let way = way_step(pages, item, coming, most)?;
-    let Way::Widen(slot, _, bound) = &way else {
-        return Ok(Descended::of(way, pages.counter()));
-    };
-    if let Err(fault) = pages.prepare(&[item.page()], 0) {
-        return Err(StepFault::Pages(fault));
+    match way_step(pages, item, coming, most)? {
+        Way::Again => Ok(Descended::Again),
+        Way::Add => Ok(Descended::Leaf),
+        Way::FullLeaf => Ok(Descended::FullLeaf),
+        Way::FullInner => Ok(Descended::FullInner),
+        Way::Down(_, child) => Ok(Descended::Down(Item::new(child, pages.counter()))),
+        Way::Widen(slot, child, bound) => {
+            if let Err(fault) = pages.prepare(&[item.page()], 0) {
+                return Err(StepFault::Pages(fault));
+            }
+            pages.change(item.page(), SetBound { slot, bound });
+            Ok(Descended::Widened(Item::new(child, pages.counter()), slot, bound))
+        }
     }
-    let (slot, bound) = (*slot, *bound);
-    pages.change(item.page(), SetBound { slot, bound });
-    Ok(Descended::of(way, pages.counter()))
 }
