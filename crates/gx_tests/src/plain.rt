@@ -226,13 +226,14 @@ fn two_sessions_take_all_claims(rt: HostRuntime) -> Result<(), Fail> {
 
 // Session 1's reply, asked again where memory was refused.
 fn twice<R: Abort>(rt: &R, index: &mut PlainIndex<Box2>, call: Call<Box2>) -> Told {
-    let told = called(index, 1, call);
-    if told != Told::Refused(Refusal::Memory) {
-        return told;
+    match called(index, 1, call) {
+        Told::Refused(Refusal::Memory) => {
+            let again = called(index, 1, call);
+            assert!(rt; !matches!(again, Told::Refused(Refusal::Memory)));
+            again
+        }
+        told => told,
     }
-    let again = called(index, 1, call);
-    assert!(rt; again != told);
-    again
 }
 
 // Each call that takes memory answers as ever, at once or where it is asked again; a delete takes none. (With one
