@@ -1,3 +1,5 @@
+use Rattle.std.proofs.lemmas.Grind.{common_steps}
+use Rattle.std.proofs.Common.{arith}
 use Rattle.gx_analysis.specs.Kept.{by_order}
 use Rattle.gx_analysis.proofs.Placing.{stands_at}
 use Rattle.gx_analysis.proofs.touched.place.Goals as goal
@@ -8,3 +10,12 @@ returns-in-Equal g c =
       c.loop-i-test.true,
       λ d. stands_at k c.args.t.now c.index-touched-i.result d c.args.touched.now c.loop-i.i c.loop-i-test.true c.index-touched-i.is c.in-Equal.ensures c.loop-i.invariant,
     )
+
+pub returns-in-Less : goal.returns-in-Less
+returns-in-Less g c = grind (arith, common_steps)
+
+pub loop-i-preserved : goal.loop-i-preserved
+loop-i-preserved g c = grind (arith, common_steps)
+
+pub returns : goal.returns
+returns g c = grind (arith, common_steps)
