@@ -1,4 +1,5 @@
-use Rattle.std.proofs.Common.{ℕ, ◌≡◌, ◌∙◌, ◌⊎◌, ◌<◌, Bool, false, true, inl, inr, sym, subst}
+use Rattle.std.proofs.lemmas.Grind.{common_steps}
+use Rattle.std.proofs.Common.{ℕ, ◌≡◌, ◌∙◌, ◌⊎◌, ◌<◌, Bool, false, true, inl, inr, sym, subst, arith}
 use Rattle.std.proofs.lemmas.Option.{none-some}
 use Rattle.gx_node.specs.Reading.{format_of, is_node}
 use Rattle.gx_pool.specs.Laws.{IsPassed}
@@ -65,3 +66,6 @@ returns-clause-readable g c =
 
 pub returns-clause-runs : goal.returns-clause-runs
 returns-clause-runs g c = rw (← c.self.view_is) (λ gated. c.write.ensures.runs)
+
+pub returns-clause-at_most : goal.returns-clause-at_most
+returns-clause-at_most g c = grind (arith, common_steps)
