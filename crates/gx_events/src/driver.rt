@@ -7,7 +7,7 @@ use gx_machine::Reply;
 use std::marker::Model;
 
 /// What follows an outcome.
-#[derive(Drop)]
+#[derive(Debug, Drop)]
 pub enum Next<B> {
     /// This event is run.
     Run(Event<B>),
@@ -16,7 +16,7 @@ pub enum Next<B> {
 }
 
 /// Leads one session's call, from its ask to its reply. Contracts see it as the session's number.
-#[derive(Drop)]
+#[derive(Debug, Drop)]
 pub struct Driver {
     session: u8,
 }

@@ -14,7 +14,7 @@ pub enum Need {
 }
 
 /// What comes of an event.
-#[derive(Drop)]
+#[derive(Debug, Drop)]
 pub enum Outcome<B> {
     /// The session's call ends with this reply.
     Replied(Reply<B>),

@@ -3,7 +3,7 @@ ghost use Rattle.std.specs.Prelude.{◌≡◌};
 ghost use Rattle.std.specs.Bool.{OnTrue, OnFalse};
 
 /// A device call of a batch, in their order, or none.
-#[derive(Clone, Copy, PartialEq, Eq)]
+#[derive(Clone, Copy, Debug, PartialEq, Eq)]
 pub enum Stage {
     /// The 32,768 bytes of the body are written.
     Body,
@@ -18,7 +18,7 @@ pub enum Stage {
 }
 
 /// A device call of a turn to the other extent, in their order.
-#[derive(Clone, Copy, PartialEq, Eq)]
+#[derive(Clone, Copy, Debug, PartialEq, Eq)]
 pub enum Turn {
     /// The 32 gates of the other extent are written closed, in one write.
     Closed,

@@ -2,7 +2,7 @@
 use crate::{Call, Reply};
 
 /// What a record of calls and replies has, one after another.
-#[derive(Drop)]
+#[derive(Debug, Drop)]
 pub enum Item<B> {
     /// A session asked a call.
     Asked(u8, Call<B>),

@@ -38,8 +38,12 @@ pub(crate) fn given(asked: Asked<Box2>) -> Result<(), Refusal> {
     }
 }
 
-// What the plain index gives for a call, which is answered then.
-fn plainly(plain: &mut PlainIndex<Box2>, s: u8, call: Call<Box2>) -> Result<(), Refusal> {
+// What the tables are to answer for a call by the plain index, which answers it then.
+pub(crate) fn plainly(
+    plain: &mut PlainIndex<Box2>,
+    s: u8,
+    call: Call<Box2>,
+) -> Result<(), Refusal> {
     let given = given(plain.ask(s, call));
     if given.is_ok() {
         let _ = plain.answer(s);

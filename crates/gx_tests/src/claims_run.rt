@@ -3,7 +3,7 @@ ghost use Rattle.std.specs.Prelude.{◌≡◌, true};
 ghost use Rattle.gx_machine.specs.Machine.{is_session};
 
 use crate::asserts::same;
-use crate::claims::{given, query, session};
+use crate::claims::{given, plainly, query, session};
 use crate::tree_drawn::draw;
 use gx_geom::{Box2, Refusal};
 use gx_machine::{Call, Entry, Query, Reply};
@@ -153,11 +153,8 @@ fn search<R: Abort>(
 {
     let key = key(drawn / 4);
     let answer = table.predicate(s, query(drawn, key));
-    let asked = given(plain.ask(s, Call::Search(query(drawn, key))));
+    let asked = plainly(plain, s, Call::Search(query(drawn, key)));
     same(rt, &answer, &asked);
-    if answer.is_ok() {
-        let _ = plain.answer(s);
-    }
 }
 
 // One drawn call of a session that isn't undoing its writes.
