@@ -26,8 +26,8 @@ use Rattle.gx_recovery.specs.Records.{Touch}
 use Rattle.gx_store.specs.Standing.{store_of}
 use Rattle.gx_store.specs.State.{Shelf}
 use Rattle.gx_store.specs.declared.fault.StoreFault.{StoreFault}
-use Rattle.gx_tree.specs.Keyed.{rules_of}
-use Rattle.gx_tree.specs.Store.{tree_of}
+use Rattle.gx_tree_pages.specs.Keyed.{rules_of}
+use Rattle.gx_tree_pages.specs.Store.{tree_of}
 use Rattle.gx_tree_laws.specs.Lists.{Each, SomeOf}
 use Rattle.gx_tree_laws.specs.Trees.{Rules, Tree}
 use Rattle.gx_tree_laws.specs.Writes.{IsSeek}

@@ -4,7 +4,7 @@ ghost use Rattle.gx_legality.specs.declared.fault.Rule.{Rule as RuleOf};
 ghost use Rattle.gx_node.specs.Reading.{format_of, is_node};
 ghost use Rattle.gx_opening.specs.Sound.{IsSteadyStore, OnlyReadsStore, shown_tree};
 ghost use Rattle.gx_pool.specs.Bringing.{OnlyRead};
-ghost use Rattle.gx_tree.specs.Keyed.{rules_of};
+ghost use Rattle.gx_tree_pages.specs.Keyed.{rules_of};
 ghost use Rattle.gx_tree_laws.specs.Legal.{Legal};
 ghost use Rattle.gx_damage.specs.Shown.{IsUnreadable, PagesShow, TreeShows};
 

@@ -2,7 +2,7 @@
 ghost use Rattle.std.specs.Prelude.{◌≡◌, ◌++◌, OnOk, IfErr};
 ghost use Rattle.std.specs.List.{flat_map};
 ghost use Rattle.gx_node.specs.Reading.{format_of};
-ghost use Rattle.gx_tree.specs.Store.{node_of};
+ghost use Rattle.gx_tree_pages.specs.Store.{node_of};
 ghost use Rattle.gx_script.specs.Writes.{IsPut, IsCut};
 ghost use Rattle.gx_dump.specs.Pages.{IsNode};
 ghost use Rattle.gx_dump.specs.Text.{head_line, child_line, entry_line, node_text};

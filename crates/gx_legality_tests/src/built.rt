@@ -2,11 +2,11 @@
 use gx_class::{Box2Class, KeyClass};
 use gx_disk::{MemDisk, SectorDisk};
 use gx_geom::Box2;
+use gx_memory_tree::MemoryPages;
 use gx_page::Page;
 use gx_pool::Pool;
 use gx_store::laws::a_store_starts;
 use gx_store::{NodeTest, PageStore};
-use gx_tree::MemoryPages;
 use std::process::Abort;
 use std::test::Fail;
 

@@ -7,7 +7,7 @@ ghost use Rattle.gx_pool.specs.Bringing.{OnlyRead};
 ghost use Rattle.gx_recovery.specs.Known.{Limits};
 ghost use Rattle.gx_index_laws.specs.Classes.{known_of};
 ghost use Rattle.gx_readings.specs.Classes.{class_of, reading_of};
-ghost use Rattle.gx_tree.specs.Keyed.{rules_of};
+ghost use Rattle.gx_tree_pages.specs.Keyed.{rules_of};
 ghost use Rattle.gx_tree_laws.specs.Legal.{Legal};
 ghost use Rattle.gx_tree_laws.specs.Lists.{Each};
 ghost use Rattle.gx_legality.specs.Gathered.{Ascends};
@@ -27,7 +27,7 @@ use gx_pool::Pool;
 use gx_readings::ReadKeys;
 use gx_store::laws::{a_store_starts, going_on};
 use gx_store::{NodeTest, PageStore, StoreFault};
-use gx_tree::Pages;
+use gx_tree_pages::Pages;
 use std::alloc::Global;
 
 /// How many frames the tests take: two pages are held at a time.

@@ -16,7 +16,7 @@ use Rattle.gx_tree_laws.specs.Trees.{Node, Tree, Used, child_pages, size, times}
 use Rattle.gx_tree_laws.proofs.Splits.{split_used}
 use Rattle.gx_node.specs.Reading.{Format}
 use Rattle.gx_tree.specs.Splitting.{HasNoPlace}
-use Rattle.gx_tree.proofs.InsertSteps.{restarts}
+use Rattle.gx_tree.proofs.Restarts.{restarts}
 use Rattle.gx_engine_laws.specs.Slots.{Note, Working, slot_at}
 use Rattle.gx_recovery.specs.Records.{Record}
 use Rattle.gx_recovery.proofs.Tests.{true_or_false}
@@ -101,7 +101,7 @@ module _ {B D : Type 0} (c : Class B) (law : IsLawful c) (said : List ℕ → B)
       let from = from_inner below in
       let same : shown.node parent ≡ t.node parent = (shows c law said f passes d e v w bodies old whole keeps).nodes parent from.0 in
       begins_again c law said f passes d e v w bodies old whole s entry parent item at locks notes call slot keeps
-      (restarts c.rules t (record { item = item; parent = parent }) legal its.descent.there below from.0
+      (restarts c.rules t parent item legal its.descent.there below from.0
       (subst (λ (n : Node B). ((nat_lt 0 (times item.page (child_pages n)) && nat_lt (size n) c.rules.most) ≡ false) ⊎ (1 < times item.page (child_pages n))) same none))
 
   -- a split is never refused as damage

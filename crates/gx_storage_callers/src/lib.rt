@@ -1,8 +1,2 @@
-//! Callers of pages with their log as an engine will be, proved from contracts and laws alone for both classes.
+//! What callers of pages with their log cite: a step by what is shown is a step of the index, on pages that keep a state.
 #![tactic(auto)]
-
-pub mod adds;
-pub mod descents;
-pub mod marks;
-pub mod splits;
-pub mod sweeps;

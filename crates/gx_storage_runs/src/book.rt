@@ -4,8 +4,8 @@ use crate::fault::{RunFault, What};
 use crate::snapshot::corners;
 use gx_geom::Box2;
 use gx_machine::Entry;
+use gx_memory_tree::Place;
 use gx_plain_reader::Entry as PlainEntry;
-use gx_tree::Place;
 use rand_pcg::Pcg32;
 use std::alloc::Global;
 

@@ -8,12 +8,13 @@ use crate::snapshot::node_of;
 use gx_class::Box2Class;
 use gx_geom::Box2;
 use gx_machine::Entry;
+use gx_memory_tree::{MemoryPages, Place, insert_step};
 use gx_node::MAX_ENTRIES;
 use gx_page::Page;
 use gx_plain_reader::Node;
 use gx_tree::{
-    Descended, Item, MemoryPages, Pages, Place, RootSplit, Sought, Split, StepFault, Wanted,
-    add_step, descend_step, insert_step, set_mark_step, split_root_step, split_step, sweep_step,
+    Descended, Item, Pages, RootSplit, Sought, Split, StepFault, Wanted, add_step, descend_step,
+    set_mark_step, split_root_step, split_step, sweep_step,
 };
 use std::alloc::Global;
 use std::convert::Infallible;

@@ -4,7 +4,8 @@ use crate::draw::below;
 use crate::fault::{RunFault, What};
 use crate::mirror::PAGES;
 use crate::run::Run;
-use gx_tree::{Descended, Item, Place};
+use gx_memory_tree::Place;
+use gx_tree::{Descended, Item};
 
 /// How many places of the log are taken when a checkpoint is due.
 const DUE: u8 = 24;

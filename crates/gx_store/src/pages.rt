@@ -6,7 +6,7 @@ use crate::store::PageStore;
 use gx_class::KeyClass;
 use gx_disk::SectorDisk;
 use gx_page::Page;
-use gx_tree::Pages;
+use gx_tree_pages::Pages;
 
 impl<D: SectorDisk, K: KeyClass> Pages<K> for PageStore<D, K> {
     type Fault = StoreFault;

@@ -11,7 +11,8 @@ use crate::trees::{Corners, a_box, held, split_twice};
 use gx_class::{Box2Class, IntervalClass, Probing};
 use gx_geom::Box2;
 use gx_machine::{Entry, Query};
-use gx_tree::{Look, MemoryPages, Pages, Place, Sought, Wanted, set_mark_step};
+use gx_memory_tree::{MemoryPages, Place};
+use gx_tree::{Look, Pages, Sought, Wanted, set_mark_step};
 use std::process::Abort;
 use std::test::Fail;
 

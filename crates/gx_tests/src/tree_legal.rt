@@ -3,9 +3,10 @@
 use crate::asserts::same;
 use gx_class::KeyClass;
 use gx_geom::Shape;
+use gx_memory_tree::MemoryPages;
 use gx_node::{Inner, Leaf};
 use gx_page::Page;
-use gx_tree::{MemoryPages, Pages};
+use gx_tree::Pages;
 use std::process::Abort;
 
 /// The most pages that a tree has, with a page 0 that isn't there.

@@ -7,7 +7,8 @@ use crate::trees::{a_box, line, nine_rows, split_twice};
 use gx_class::{Box2Class, KeyClass};
 use gx_geom::Box2;
 use gx_machine::Entry;
-use gx_tree::{MemoryPages, Pages};
+use gx_memory_tree::MemoryPages;
+use gx_tree::Pages;
 use std::process::Abort;
 use std::test::Fail;
 

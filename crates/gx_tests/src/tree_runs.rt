@@ -9,11 +9,9 @@ use crate::trees::fresh_tree;
 use gx_class::{Box2Class, IntervalClass, KeyClass, Probing};
 use gx_geom::Shape;
 use gx_machine::{Entry, Query};
+use gx_memory_tree::{MemoryPages, Place, insert_step};
 use gx_node::MAX_ENTRIES;
-use gx_tree::{
-    Item, Look, MemoryPages, Pages, Place, Sought, StepFault, Wanted, insert_step, look_step,
-    set_mark_step,
-};
+use gx_tree::{Item, Look, Pages, Sought, StepFault, Wanted, look_step, set_mark_step};
 use std::convert::Infallible;
 use std::process::Abort;
 use std::test::Fail;

@@ -5,10 +5,10 @@ use crate::tree_legal::page;
 use gx_class::{Box2Class, KeyClass, Probing};
 use gx_geom::{Box2, Refusal};
 use gx_machine::{Entry, Query};
+use gx_memory_tree::MemoryPages;
 use gx_page::Page;
 use gx_tree::{
-    Item, Look, MemoryPages, Pages, Sought, StepFault, Wanted, Way, descend_step, look_step,
-    seek_step, way_step,
+    Item, Look, Pages, Sought, StepFault, Wanted, Way, descend_step, look_step, seek_step, way_step,
 };
 use std::alloc::AllocError;
 use std::convert::Infallible;

@@ -1,13 +1,9 @@
 pub mod Descending
 pub mod Found
 pub mod Halved
-pub mod Inserting
-pub mod Keyed
 pub mod Looking
-pub mod Owner
 pub mod Seeking
 pub mod Splitting
-pub mod Store
 pub mod Sweeping
 pub mod Wants
 pub mod Writing

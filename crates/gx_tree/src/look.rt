@@ -7,19 +7,19 @@ ghost use Rattle.gx_tree_laws.specs.Trees.{Pair, Used};
 ghost use Rattle.gx_tree_laws.specs.Reach as reach;
 ghost use Rattle.gx_tree.specs.Found.{found_at};
 ghost use Rattle.gx_tree.specs.Looking.{below, beyond, item_of, LookStep, Reads};
-ghost use Rattle.gx_tree.specs.Owner.{AsksAtMost, KeepsSince, IsWhy, IsWhyLater, Brings, Asks};
-ghost use Rattle.gx_tree.specs.Store.{node_of, tree_of, Stays};
+ghost use Rattle.gx_tree_pages.specs.Owner.{AsksAtMost, KeepsSince, IsWhy, IsWhyLater, Brings, Asks};
+ghost use Rattle.gx_tree_pages.specs.Store.{node_of, tree_of, Stays};
 ghost use Rattle.gx_tree.specs.Wants.{has_row, wants};
 
-use crate::fault::StepFault;
+use crate::bring::bring_page;
 use crate::found::Found;
 use crate::item::Item;
-use crate::pages::{Pages, bring_page};
 use crate::wanted::Wanted;
 use gx_class::{KeyClass, Probing};
 use gx_geom::Shape;
 use gx_node::{BLOCK, Inner, Leaf};
 use gx_page::Page;
+use gx_tree_pages::{Pages, StepFault};
 use smallvec::SmallVec;
 use std::alloc::{AllocError, Global};
 
@@ -154,6 +154,13 @@ impl<B: Shape> Look<B> {
         ensures { result.now ≡ self.now.found.items }
     {
         self.found.as_slice()
+    }
+
+    /// What it found, given away.
+    pub fn into_found(self) -> Vec<Found<B>>
+        ensures { result ≡ self.found }
+    {
+        self.found
     }
 
     /// The item that is read next.

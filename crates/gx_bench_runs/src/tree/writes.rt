@@ -3,8 +3,9 @@
 use gx_class::Box2Class;
 use gx_geom::Box2;
 use gx_machine::Entry;
+use gx_memory_tree::{MemoryPages, Place, insert_step};
 use gx_page::Page;
-use gx_tree::{Item, MemoryPages, Pages, Place, insert_step};
+use gx_tree::{Item, Pages};
 use std::alloc::Global;
 
 /// A tree of boxes.

@@ -1,9 +1,9 @@
 //! Changes of an inner node.
 
-use crate::writing::Edit;
 use gx_class::KeyClass;
 use gx_node::inner_edits;
 use gx_page::Page;
+use gx_tree_pages::Edit;
 
 /// A bound for the child in a slot of an inner node, in place of its own.
 #[derive(Drop)]

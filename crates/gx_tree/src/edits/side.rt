@@ -1,9 +1,9 @@
 //! One side of a node.
 
-use crate::writing::Edit;
 use gx_class::KeyClass;
 use gx_node::{inner_edits, leaf_edits};
 use gx_page::Page;
+use gx_tree_pages::Edit;
 
 /// Takes the entries of a node out whose side is `true`.
 #[derive(Drop)]

@@ -8,7 +8,7 @@ use Rattle.gx_node.specs.Reading.{format_of, is_node}
 use Rattle.gx_opening.specs.Sound.{shown_tree}
 use Rattle.gx_opening.proofs.Sounding.{shows_same}
 use Rattle.gx_store.specs.declared.fault.StoreFault.{StoreFault}
-use Rattle.gx_tree.specs.Keyed.{rules_of}
+use Rattle.gx_tree_pages.specs.Keyed.{rules_of}
 use Rattle.gx_tree_laws.specs.Legal.{Legal}
 use Rattle.gx_tree_laws.specs.Trees.{Tree}
 use Rattle.gx_damage.proofs.Telling.{found_shows, shows_before}

@@ -9,7 +9,7 @@ use Rattle.gx_machine.specs.declared.entry.Entry.{Entry}
 use Rattle.gx_node.specs.Reading.{format_of, is_node}
 use Rattle.gx_opening.specs.Sound.{shown_tree}
 use Rattle.gx_store.specs.declared.fault.StoreFault.{StoreFault}
-use Rattle.gx_tree.specs.Keyed.{rules_of}
+use Rattle.gx_tree_pages.specs.Keyed.{rules_of}
 use Rattle.gx_damage.proofs.Telling.{found_shows, out_of_place}
 use Rattle.gx_damage.proofs.pages.misplaced.Goals as goal
 

@@ -6,7 +6,7 @@ use Rattle.gx_opening.proofs.Sounding.{since_all}
 use Rattle.gx_pool.specs.Bringing.{OnlyRead}
 use Rattle.gx_pool.specs.State.{kept}
 use Rattle.gx_store.specs.State.{Shelf}
-use Rattle.gx_tree.specs.Keyed.{rules_of}
+use Rattle.gx_tree_pages.specs.Keyed.{rules_of}
 use Rattle.gx_damage.proofs.Telling.{pages_told, touched_told}
 use Rattle.gx_damage.proofs.pages.over_frames.Goals as goal
 

@@ -1,0 +1,4 @@
+mod Asked
+mod Down
+mod Splits
+mod Steps

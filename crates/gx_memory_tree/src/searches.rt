@@ -1,0 +1,51 @@
+//! A whole search by the steps of a look.
+ghost use Rattle.std.specs.Prelude.{◌≡◌, ◌≢◌, ◌≤◌, ℕ, Bool, not, ◌&&◌, true, Err, IfOk, IfErr};
+ghost use Rattle.gx_machine.specs.Keys.{keys_of, key_matches};
+ghost use Rattle.gx_tree_laws.specs.Lists.{how_many};
+ghost use Rattle.gx_tree_laws.specs.Trees.{Pair, standing};
+ghost use Rattle.gx_tree_laws.specs.Legal.{Legal};
+ghost use Rattle.gx_tree.specs.Found.{pairs_found};
+ghost use Rattle.gx_tree_pages.specs.Keyed.{rules_of, AreKeys};
+ghost use Rattle.gx_tree_pages.specs.Owner.{AsksEachOnce, KeepsSince, IsWhy};
+ghost use Rattle.gx_tree_pages.specs.Store.{tree_of, Stays};
+
+use gx_class::Probing;
+use gx_machine::Query;
+use gx_tree::{Found, Item, Look, Pages, StepFault, Wanted, laws, look_step};
+use std::alloc::Global;
+
+/// The live pairs that match a query, each once, in no order: a look from the root to its end, with no steps of others
+/// in between. No page is read twice.
+///
+/// Refused with `Pages` where a page could not be brought, and with `Memory`.
+pub fn search<K: Probing, P: Pages<K>>(
+    alloc: Global,
+    pages: &mut P,
+    query: &Query<K::Key>,
+) -> Result<Vec<Found<K::Key>>, StepFault<P::Fault>>
+where
+    K::Probe: Drop,
+    requires steady { P.steady pages.old }
+    requires most { (most : ℕ) × (2 ≤ most) × Legal (rules_of K.Key.Shape most) (tree_of (P.store pages.old)) }
+    requires keys { AreKeys K.is_key (tree_of (P.store pages.old)) }
+    ensures all { IfOk result (λ found. (test : Pair K.Key → Bool) → how_many test (pairs_found found.items)
+        ≡ standing (λ x. (not x.marked && key_matches (keys_of K.Key.Shape) query.now x.key) && test x) (tree_of (P.store pages.old))) }
+    ensures same { P.store pages.new ≡ P.store pages.old }
+    ensures steady { P.steady pages.new }
+    ensures since { KeepsSince P.since pages.old pages.new }
+    ensures asked { AsksEachOnce P.asked pages.old pages.new }
+    ensures why { IfErr result (IsWhy (P.why pages.old pages.new)) }
+    ensures damaged { result ≢ Err StepFault.Damaged }
+    ensures full { result ≢ Err StepFault.PagesFull }
+{
+    laws::keys_are_lawful::<K::Key>();
+    let wanted = Wanted::<K>::matching(query);
+    let root = Item::new(1, pages.counter());
+    let Ok(mut look) = Look::new(alloc, root) else {
+        return Err(StepFault::Memory);
+    };
+    'pages: while !look.is_done() {
+        look_step(pages, &wanted, &mut look)?;
+    }
+    Ok(look.into_found())
+}

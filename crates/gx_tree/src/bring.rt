@@ -1,0 +1,36 @@
+//! A page is brought for a step.
+ghost use Rattle.std.specs.Prelude.{◌≡◌, ◌≢◌, [], ◌∷◌, Err, IfErr, OnOk, OnErr};
+ghost use Rattle.gx_tree_laws.specs.Trees.{Used};
+ghost use Rattle.gx_tree_pages.specs.Owner.{Brings, AsksAtMost, KeepsSince, IsWhy, IsWhyLater, Asks};
+ghost use Rattle.gx_tree_pages.specs.Store.{Stays, tree_of};
+
+use gx_class::KeyClass;
+use gx_tree_pages::{Pages, StepFault};
+
+/// Brings one page, which a step names.
+///
+/// Refused with `Pages` where it could not be brought, and with `Damaged` only where it isn't taken.
+pub(crate) fn bring_page<K: KeyClass, P: Pages<K>>(
+    pages: &mut P,
+    page: u32,
+) -> Result<(), StepFault<P::Fault>>
+    ensures held { OnOk result (P.held pages.new page × Used (tree_of (P.store pages.new)) page) }
+    ensures stays { Stays (P.steady pages.old) (P.store pages.old) (P.store pages.new) }
+    ensures steady { P.steady pages.old → P.steady pages.new }
+    ensures since { KeepsSince P.since pages.old pages.new }
+    ensures asked { OnOk result (Asks P.asked (Brings (page ∷ []) ∷ []) pages.old pages.new) }
+    ensures tried { OnErr result (AsksAtMost P.asked (page ∷ []) pages.old pages.new) }
+    ensures why { IfErr result (IsWhy (P.why pages.old pages.new)) }
+    ensures later { OnOk result (IsWhyLater P.why pages.old pages.new) }
+    ensures damaged { result ≡ Err StepFault.Damaged → ¬ Used (tree_of (P.store pages.new)) page }
+    ensures memory { result ≢ Err StepFault.Memory }
+    ensures full { result ≢ Err StepFault.PagesFull }
+{
+    if page == 0 || pages.used() < page {
+        return Err(StepFault::Damaged);
+    }
+    match pages.bring(&[page]) {
+        Ok(()) => Ok(()),
+        Err(fault) => Err(StepFault::Pages(fault)),
+    }
+}
