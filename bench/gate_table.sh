@@ -4,8 +4,8 @@
 set -euo pipefail
 log="${1:?the log}"
 before="${2:-/dev/null}"
-echo '| Crate | Proof | Tests | Runs | Edits | How many | All | Before |'
-echo '|---|---|---|---|---|---|---|---|'
+echo "| Crate | Proof | Tests | Runs | Edits | How many | All |${2:+ Before |}"
+echo "|---|---|---|---|---|---|---|${2:+---|}"
 awk '
     $1 == "gate" { next }
     FILENAME == ARGV[1] { before[$2] += $3; was += $3 }
@@ -14,7 +14,8 @@ awk '
     !($2 in seen) { seen[$2] = 1; order[++crates] = $2 }
     function cell(x) { return x ? sprintf("%.0f", x) : "" }
     function row(name, proof, tests, runs, edit, many, all, was) {
-        printf "| %s | %s | %s | %s | %s | %s | %s | %s |\n", name, cell(proof), cell(tests), cell(runs), cell(edit), many, cell(all), cell(was)
+        printf "| %s | %s | %s | %s | %s | %s | %s |", name, cell(proof), cell(tests), cell(runs), cell(edit), many, cell(all)
+        print ARGV[1] == "/dev/null" ? "" : " " cell(was) " |"
     }
     END {
         for (i = 1; i <= crates; i++) {
