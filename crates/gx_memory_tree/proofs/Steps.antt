@@ -3,7 +3,7 @@ use Rattle.std.proofs.Common.{◌≡◌, ◌≢◌, ◌∙◌, ◌<◌, ◌≤�
 use Rattle.std.proofs.lemmas.Bool.{eq-eqb, lt-ltb}
 use Rattle.gx_machine.specs.declared.entry.Entry.{Entry}
 use Rattle.gx_tree_laws.specs.Lists.{one_if, how_many}
-use Rattle.gx_tree_laws.specs.Trees.{Pair, Tree, Rules, IsLawful, Used, size, standing, is_entry}
+use Rattle.gx_tree_laws.specs.Trees.{Pair, Tree, Rules, IsLawful, size, standing, is_entry}
 use Rattle.gx_tree_laws.specs.Legal.{Legal}
 use Rattle.gx_tree_laws.specs.Steps.{Step, Splits, SplitsRoot, Sweeps, Adds, AreSteps, IsStep}
 use Rattle.gx_tree_laws.specs.Writes.{has_place, must_restart}

@@ -1,5 +1,5 @@
 //! A whole search by the steps of a look.
-ghost use Rattle.std.specs.Prelude.{◌≡◌, ◌≢◌, ◌≤◌, ℕ, Bool, not, ◌&&◌, true, Err, IfOk, IfErr};
+ghost use Rattle.std.specs.Prelude.{◌≡◌, ◌≢◌, ◌≤◌, ℕ, Bool, not, ◌&&◌, Err, IfOk, IfErr};
 ghost use Rattle.gx_machine.specs.Keys.{keys_of, key_matches};
 ghost use Rattle.gx_tree_laws.specs.Lists.{how_many};
 ghost use Rattle.gx_tree_laws.specs.Trees.{Pair, standing};
@@ -7,7 +7,7 @@ ghost use Rattle.gx_tree_laws.specs.Legal.{Legal};
 ghost use Rattle.gx_tree.specs.Found.{pairs_found};
 ghost use Rattle.gx_tree_pages.specs.Keyed.{rules_of, AreKeys};
 ghost use Rattle.gx_tree_pages.specs.Owner.{AsksEachOnce, KeepsSince, IsWhy};
-ghost use Rattle.gx_tree_pages.specs.Store.{tree_of, Stays};
+ghost use Rattle.gx_tree_pages.specs.Store.{tree_of};
 
 use gx_class::Probing;
 use gx_machine::Query;

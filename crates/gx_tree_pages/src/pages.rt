@@ -1,9 +1,9 @@
 //! What the steps ask of whoever keeps the pages.
-ghost use Rattle.std.specs.Prelude.{◌≡◌, ◌≢◌, ◌≤◌, ℕ, true, List, [], ◌∷◌, length, Err, IfErr, OnOk, OnErr};
+ghost use Rattle.std.specs.Prelude.{◌≡◌, ◌≤◌, ℕ, true, List, [], ◌∷◌, length, IfErr, OnOk};
 ghost use Rattle.gx_node.specs.Reading.{format_of, is_node};
 ghost use Rattle.gx_tree_laws.specs.Lists.{Each};
 ghost use Rattle.gx_tree_laws.specs.Trees.{Used};
-ghost use Rattle.gx_tree_pages.specs.Owner.{Asking, Brings, AsksAtMost, KeepsSince, IsWhy, IsWhyLater, Asks};
+ghost use Rattle.gx_tree_pages.specs.Owner.{Asking, Brings, KeepsSince, IsWhyLater, Asks};
 ghost use Rattle.gx_tree_pages.specs.Store.{Store, Stays, node_of, node_at, tree_of};
 
 use gx_class::KeyClass;
