@@ -1,4 +1,5 @@
 use Rattle.std.proofs.Common.{◌≤◌, length, arith}
+use Rattle.std.proofs.lemmas.Grind.{common_steps}
 use Rattle.gx_machine.specs.Keys.{Members}
 use Rattle.gx_node.specs.Reading.{format_of}
 use Rattle.gx_recovery.specs.Damage.{records_of}
@@ -49,3 +50,18 @@ returns-in-Err-clause-faults g c = λ is. (let more = c.in-Err.ensures.faults in
 pub returns-in-Ok-close_later-clause-faults : goal.returns-in-Ok-close_later-clause-faults
 returns-in-Ok-close_later-clause-faults g c =
     starts_quietly g.D.SectorDisk.state _ c.in-Ok.start _ c.close_later.new.disk c.in-Ok-close_later.ensures.faults c.start.result c.start.ensures.started c.start.ensures.refused
+
+pub close_later-requires-clause-bodies : goal.close_later-requires-clause-bodies
+close_later-requires-clause-bodies g c = grind (arith, common_steps)
+
+pub start-requires-clause-bodies : goal.start-requires-clause-bodies
+start-requires-clause-bodies g c = grind (arith, common_steps)
+
+pub start-requires-clause-inside : goal.start-requires-clause-inside
+start-requires-clause-inside g c = grind (arith, common_steps)
+
+pub start-requires-clause-fanout : goal.start-requires-clause-fanout
+start-requires-clause-fanout g c = grind (arith, common_steps)
+
+pub start-requires-clause-frames : goal.start-requires-clause-frames
+start-requires-clause-frames g c = grind (arith, common_steps)
