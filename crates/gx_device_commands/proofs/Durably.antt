@@ -25,9 +25,9 @@ use Rattle.gx_events.specs.declared.outcome.Outcome.{Outcome}
 use Rattle.gx_engine.specs.Holds.{Holds}
 use Rattle.gx_engine.specs.States.{Parts}
 use Rattle.gx_opening.specs.Standing.{known_for, limits_of, reading}
-use Rattle.gx_driven.specs.Helping.{AskedEnds}
-use Rattle.gx_driven.specs.Made.{Makes}
-use Rattle.gx_driven.specs.Resting.{IsAtRest}
+use Rattle.gx_engine.specs.Helping.{AskedEnds}
+use Rattle.gx_engine.specs.Made.{Makes}
+use Rattle.gx_engine.specs.Resting.{IsAtRest}
 use Rattle.gx_restart.specs.Called.{CallsIndex}
 use Rattle.gx_restart.specs.States.{State}
 use Rattle.gx_restart.proofs.Durable.{all_durable}

@@ -20,7 +20,7 @@ use Rattle.gx_engine.specs.declared.start.NotOpened.{NotOpened}
 use Rattle.gx_engine.specs.States.{Parts}
 use Rattle.gx_opening.specs.Standing.{IsFormatted, known_for, limits_of}
 use Rattle.gx_open.specs.Beginning.{HasFoundSet, IsGoodLog}
-use Rattle.gx_driven.specs.Resting.{KeepsSessions}
+use Rattle.gx_engine.specs.Resting.{KeepsSessions}
 use Rattle.gx_dump.specs.Bringing.{Brings, Helps}
 use Rattle.gx_dump.specs.Reading.{OfItsTree, Reads}
 use Rattle.gx_dump.specs.Text.{dump_text}

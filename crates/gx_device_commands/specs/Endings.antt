@@ -22,8 +22,8 @@ use Rattle.gx_recovery.specs.Known.{Limits}
 use Rattle.gx_readings.specs.Classes.{class_of, reading_of}
 use Rattle.gx_engine.specs.declared.start.NotOpened.{NotOpened}
 use Rattle.gx_engine.specs.States.{Parts}
-use Rattle.gx_driven.specs.Made.{Makes}
-use Rattle.gx_driven.specs.Resting.{IsAtRest, KeepsSessions}
+use Rattle.gx_engine.specs.Made.{Makes}
+use Rattle.gx_engine.specs.Resting.{IsAtRest, KeepsSessions}
 use Rattle.gx_restart.specs.Alone.{RunsOn}
 use Rattle.gx_restart.specs.Called.{CallsIndex}
 use Rattle.gx_restart.specs.Settled.{Settles}

@@ -41,7 +41,7 @@ pub fn a_run_that_is_done_is_durable<D: SectorDisk, K: ReadKeys + KeyClass<Key =
         → EndsDurably ⟦<Box2 as Shape>⟧ K.is_proper K.said K.KeyClass D.state number disk had left held holds }
 {
     gx_engine::laws::a_class_is_lawful::<K>();
-    gx_driven::laws::no_call_is_given_up::<D, K>();
+    gx_engine::laws::progress::no_call_is_given_up::<D, K>();
 }
 
 /// Where a dump over an honest device ended with status 0, what was written is the text of the tree of an index that has the set which the

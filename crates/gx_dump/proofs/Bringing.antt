@@ -23,11 +23,11 @@ use Rattle.gx_engine.specs.Holds.{Leads}
 use Rattle.gx_engine.specs.Lending.{BringPageComes}
 use Rattle.gx_engine.specs.States.{Parts, runs}
 use Rattle.gx_engine.specs.Sweeping.{BringComes}
-use Rattle.gx_driven.specs.Resting.{KeepsSessions}
-use Rattle.gx_driven.proofs.Resting.{checkpoint_keeps, keeps_all, keeps_joined, log_steps_keep, page_keeps}
+use Rattle.gx_engine.specs.Resting.{KeepsSessions}
+use Rattle.gx_engine.proofs.Resting.{checkpoint_keeps, keeps_all, keeps_joined, log_steps_keep, page_keeps}
 use Rattle.gx_dump.specs.declared.stop.Stop.{Stop}
 use Rattle.gx_dump.specs.declared.stop.Stop.TheVariants as stop
-use Rattle.gx_driven.specs.Helping.{HelpComes}
+use Rattle.gx_engine.specs.Helping.{HelpComes}
 use Rattle.gx_dump.specs.Bringing.{AreBrought, AreTurns, Brings, HasTurned, Helps, IsBrought, IsMade, IsRead, IsRefused, IsTurn}
 use Rattle.gx_dump.specs.Reading.{Reads, Runs}
 use Rattle.gx_dump.proofs.Reading.{leads_read, leads_run, nothing_read, read_joined, read_runs, run_joined, spares_read}

@@ -17,8 +17,8 @@ use Rattle.gx_events.specs.declared.outcome.Outcome.TheVariants.{Help, Refused}
 use Rattle.gx_engine.specs.Lending.{BringPageComes}
 use Rattle.gx_engine.specs.States.{IsOrderly, Parts}
 use Rattle.gx_engine.specs.Sweeping.{BringComes}
-use Rattle.gx_driven.specs.Backlog.{backlog}
-use Rattle.gx_driven.specs.Helping.{DoesWork, HasWork, HelpComes, HoldsIndex, PageNamesWork}
+use Rattle.gx_engine.specs.Backlog.{backlog}
+use Rattle.gx_engine.specs.Helping.{DoesWork, HasWork, HelpComes, HoldsIndex, PageNamesWork}
 use Rattle.gx_dump.specs.declared.stop.Stop.{Stop}
 use Rattle.gx_dump.specs.declared.stop.Stop.TheVariants as stop
 use Rattle.gx_dump.specs.Bringing.{AreTurns, HasTurned, IsMade, IsRead, IsTurn}

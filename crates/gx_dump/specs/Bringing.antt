@@ -18,7 +18,7 @@ use Rattle.gx_engine.specs.Holds.{Leads}
 use Rattle.gx_engine.specs.Lending.{BringPageComes}
 use Rattle.gx_engine.specs.States.{IsOrderly, Parts}
 use Rattle.gx_engine.specs.Sweeping.{bring_events}
-use Rattle.gx_driven.specs.Helping.{HelpComes}
+use Rattle.gx_engine.specs.Helping.{HelpComes}
 use Rattle.gx_dump.specs.declared.stop.Stop.{Stop}
 use Rattle.gx_dump.specs.declared.stop.Stop.TheVariants as stop
 

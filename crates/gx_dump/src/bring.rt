@@ -5,7 +5,7 @@ ghost use Rattle.gx_dump.specs.Bringing.{Brings, Helps, IsBrought, IsHelped, IsT
 
 use crate::Stop;
 use gx_disk::SectorDisk;
-use gx_driven::EVENTS;
+use gx_engine::EVENTS;
 use gx_engine::Engine;
 use gx_events::{Need, Outcome};
 use gx_geom::Refusal;

@@ -5,7 +5,7 @@ ghost use Rattle.gx_node.specs.Reading.{format_of, is_node};
 ghost use Rattle.gx_recovery.specs.Known.{Limits};
 ghost use Rattle.gx_readings.specs.Classes.{class_of, reading_of};
 ghost use Rattle.gx_script.specs.Writes.{IsPut, IsCut};
-ghost use Rattle.gx_driven.specs.Resting.{KeepsSessions};
+ghost use Rattle.gx_engine.specs.Resting.{KeepsSessions};
 ghost use Rattle.gx_dump.specs.Bringing.{Brings, Helps, IsRead, IsTold};
 ghost use Rattle.gx_dump.specs.Reading.{IsNotGivenUp, OfItsTree, Reads, Runs, WhereHeld};
 ghost use Rattle.gx_dump.specs.Text.{dump_text, node_text};
@@ -16,7 +16,7 @@ use crate::lines::Lines;
 use crate::pages::{put_head, put_page};
 use gx_class::KeyClass;
 use gx_disk::SectorDisk;
-use gx_driven::laws::a_page_that_waits_names_work;
+use gx_engine::laws::progress::a_page_that_waits_names_work;
 use gx_engine::Engine;
 use gx_geom::{Box2, Shape};
 use gx_readings::ReadKeys;
@@ -48,7 +48,7 @@ fn tell<W: Write, D: SectorDisk, K: ReadKeys + KeyClass<Key = Box2>>(
 /// events that give them frames. No node changes, and no set, claim, predicate or open call.
 ///
 /// `Write` where the writer fails or takes nothing, `Refused` as an event was, with `Device`, `Failed` or `Damaged`, and `GivenUp` where a page
-/// isn't brought within `gx_driven::EVENTS` turns of one or two events, which never is where the engine holds an index over a device
+/// isn't brought within `gx_engine::EVENTS` turns of one or two events, which never is where the engine holds an index over a device
 /// that doesn't lie. What was written then is a beginning of the text. It takes no memory.
 pub fn dump<W: Write, D: SectorDisk, K: ReadKeys + KeyClass<Key = Box2>>(
     engine: &mut Engine<D, K>,

@@ -28,8 +28,8 @@ use Rattle.gx_store.specs.Standing.{store_of}
 use Rattle.gx_store.specs.State.{IsSteady}
 use Rattle.gx_storage.specs.Bringing.{has_removable}
 use Rattle.gx_storage.specs.State.{Volume}
-use Rattle.gx_storage_callers.proofs.Descending.{shown_descent}
-use Rattle.gx_storage_callers.proofs.Stepping.{shown_legal}
+use Rattle.gx_storage.proofs.Descending.{shown_descent}
+use Rattle.gx_storage.proofs.Stepping.{shown_legal}
 use Rattle.gx_engine.specs.declared.work.Work.TheVariants.{Descends}
 use Rattle.gx_engine.specs.Descending.{HasNone, HasStepped, HasSwept, LeafSweeping}
 use Rattle.gx_engine.specs.Moves.{Moves}

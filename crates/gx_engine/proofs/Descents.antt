@@ -58,8 +58,8 @@ use Rattle.gx_storage.specs.Giving.{pages_given, rising}
 use Rattle.gx_storage.specs.Keeps.{KeepsTheSame, KeepsWith, ShowsKeys}
 use Rattle.gx_storage.specs.Numbers.{HasOwnNumber}
 use Rattle.gx_storage.specs.State.{Volume}
-use Rattle.gx_storage_callers.specs.Sweeps.{WorksWith}
-use Rattle.gx_storage_callers.proofs.Descending.{GoesTo, IsJoin, was_split, went_down_to, widened_to, widened_works}
+use Rattle.gx_storage.specs.Sweeps.{WorksWith}
+use Rattle.gx_storage.proofs.Descending.{GoesTo, IsJoin, was_split, went_down_to, widened_to, widened_works}
 use Rattle.gx_engine.specs.declared.checkpoint.Checkpoint.TheVariants.{Turning}
 use Rattle.gx_engine.specs.declared.work.Work.{Work}
 use Rattle.gx_engine.specs.declared.work.Work.TheVariants.{Descends}

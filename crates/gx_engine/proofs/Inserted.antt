@@ -45,8 +45,8 @@ use Rattle.gx_storage.specs.Changes.{image_at, write_of}
 use Rattle.gx_storage.specs.Keeps.{KeepsWith}
 use Rattle.gx_storage.specs.Numbers.{HasOwnNumber}
 use Rattle.gx_storage.specs.State.{Volume}
-use Rattle.gx_storage_callers.proofs.Adding.{inserted}
-use Rattle.gx_storage_callers.proofs.Descending.{shown_descent}
+use Rattle.gx_storage.proofs.Adding.{inserted}
+use Rattle.gx_storage.proofs.Descending.{shown_descent}
 use Rattle.gx_engine.specs.declared.work.Work.{Work}
 use Rattle.gx_engine.specs.declared.work.Work.TheVariants.{Descends}
 use Rattle.gx_engine.specs.Holds.{Sits}

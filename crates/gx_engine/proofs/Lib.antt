@@ -46,3 +46,14 @@ pub mod Ending
 pub mod Ordered
 pub mod Framed
 pub mod Viewing
+pub mod Making
+pub mod Driving
+pub mod Repeating
+pub mod Stepping
+pub mod Resting
+pub mod Lessening
+pub mod Waits
+pub mod Helping
+pub mod Measured
+pub mod Sealed
+pub mod CallsEnd

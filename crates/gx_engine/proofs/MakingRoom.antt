@@ -51,10 +51,10 @@ use Rattle.gx_storage.specs.Giving.{pages_given, rising}
 use Rattle.gx_storage.specs.Keeps.{KeepsTheSame, KeepsWith}
 use Rattle.gx_storage.specs.Numbers.{HasOwnNumber}
 use Rattle.gx_storage.specs.State.{Volume}
-use Rattle.gx_storage_callers.proofs.Descending.{GoesTo, shown_descent}
-use Rattle.gx_storage_callers.proofs.LeafSweeps.{sweep_lowers, sweep_works}
-use Rattle.gx_storage_callers.proofs.Splitting.{no_place, root_split_to, root_split_works, split_is_sound, split_to, split_works}
-use Rattle.gx_storage_callers.proofs.Stepping.{shown_legal, stood, used_few}
+use Rattle.gx_storage.proofs.Descending.{GoesTo, shown_descent}
+use Rattle.gx_storage.proofs.LeafSweeps.{sweep_lowers, sweep_works}
+use Rattle.gx_storage.proofs.SoundSplits.{no_place, root_split_to, root_split_works, split_is_sound, split_to, split_works}
+use Rattle.gx_storage.proofs.Stepping.{shown_legal, stood, used_few}
 use Rattle.gx_engine.specs.declared.work.Work.{Work}
 use Rattle.gx_engine.specs.declared.work.Work.TheVariants.{Descends}
 use Rattle.gx_engine.specs.Descending.{HasSplitRoot, Splitting}

@@ -45,9 +45,9 @@ use Rattle.gx_storage.specs.Changes.{IsLogged, IsLoggedIf, IsUnlogged, begun, ha
 use Rattle.gx_storage.specs.Keeps.{KeepsWith, StaysWith}
 use Rattle.gx_storage.specs.Numbers.{HasOwnNumber}
 use Rattle.gx_storage.specs.State.{Volume}
-use Rattle.gx_storage_callers.specs.Sweeps.{WorksWith}
-use Rattle.gx_storage_callers.proofs.Stepping.{shown_legal, stood}
-use Rattle.gx_storage_callers.proofs.Sweeping.{sweep_works}
+use Rattle.gx_storage.specs.Sweeps.{WorksWith}
+use Rattle.gx_storage.proofs.Stepping.{shown_legal, stood}
+use Rattle.gx_storage.proofs.SoundSweeps.{sweep_works}
 use Rattle.gx_engine.specs.declared.checkpoint.Checkpoint.TheVariants.{Turning}
 use Rattle.gx_engine.specs.Holds.{Holds, Led, Leads, Sits}
 use Rattle.gx_engine.specs.Noted.{AreTold}

@@ -23,3 +23,9 @@ pub mod Descending
 pub mod Comes
 pub mod Losing
 pub mod Starting
+pub mod Made
+pub mod Driven
+pub mod Repeated
+pub mod Resting
+pub mod Backlog
+pub mod Helping

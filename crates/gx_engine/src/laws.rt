@@ -21,6 +21,8 @@ ghost use Rattle.gx_engine.specs.Losing.{AreCutOff};
 ghost use Rattle.gx_engine.specs.Running.{AreSteps, Ran};
 ghost use Rattle.gx_engine.specs.States.{Parts};
 
+pub mod progress;
+
 use gx_disk::SectorDisk;
 use gx_readings::ReadKeys;
 

@@ -1,10 +1,12 @@
-//! An index at work: the calls of up to eight sessions over pages with their log, an event at a time.
+//! An index at work: the calls of up to eight sessions over pages with their log, an event at a time; and events one after another, a
+//! session's call to its end, or an event until nothing is left to do.
 #![tactic(auto)]
 
 mod asks;
 mod checkpoint;
 mod checkpoints;
 mod commits;
+mod driven;
 mod engine;
 mod flusher;
 mod heads;
@@ -13,6 +15,7 @@ mod looks;
 mod losers;
 mod pages;
 mod refusals;
+mod repeated;
 mod searches;
 mod start;
 mod step;
@@ -22,8 +25,10 @@ mod work;
 mod writes;
 
 pub use checkpoint::Checkpoint;
+pub use driven::{EVENTS, drive};
 pub use engine::Engine;
 pub use losers::Loser;
 pub use pages::NotLent;
+pub use repeated::repeat;
 pub use start::{NotOpened, Start};
 pub use work::Work;

@@ -11,7 +11,7 @@ use Rattle.gx_glog.specs.declared.parameters.Parameters.{Parameters}
 use Rattle.gx_machine.specs.Keys.{Members}
 use Rattle.gx_node.specs.Reading.{format_of}
 use Rattle.gx_opening.specs.Formatted.{Says}
-use Rattle.gx_driven.specs.Made.{Makes}
+use Rattle.gx_engine.specs.Made.{Makes}
 use Rattle.gx_open.specs.Beginning.{HasFailed, IsSameDevice}
 use Rattle.gx_open.specs.Keeping.{KeepsItsSet}
 use Rattle.gx_open.specs.Opened.{IsOpened}

@@ -1,6 +1,6 @@
 //! What holds of lives. Each function is its contract alone.
 ghost use Rattle.std.specs.Prelude.{◌≡◌, ◌≤◌, ℕ, List};
-ghost use Rattle.gx_driven.specs.Made.{Makes};
+ghost use Rattle.gx_engine.specs.Made.{Makes};
 ghost use Rattle.gx_events.specs.declared.event.Event.TheVariants.{Move};
 ghost use Rattle.gx_events.specs.declared.outcome.Outcome.TheVariants.{Replied};
 ghost use Rattle.gx_glog.specs.declared.parameters.Parameters.{Parameters};

@@ -1,6 +1,6 @@
 //! The calls whose contracts are the turns of a life: each is the call of its name, with what it is of a life.
 ghost use Rattle.std.specs.Prelude.{◌≡◌, ◌≤◌, ◌<◌, true, Err, OnOk, IfErr, MatchResult};
-ghost use Rattle.gx_driven.specs.Made.{Makes};
+ghost use Rattle.gx_engine.specs.Made.{Makes};
 ghost use Rattle.gx_format.specs.Formatting.{Formats};
 ghost use Rattle.gx_format.specs.Fresh.{fresh_root};
 ghost use Rattle.gx_glog.specs.Parameters.{Fit};

@@ -26,12 +26,12 @@ use Rattle.gx_phases.specs.declared.phase.Phase.TheVariants as phase
 use Rattle.gx_phases.specs.States.{phase_at}
 use Rattle.gx_engine.specs.declared.work.Work.{Work}
 use Rattle.gx_engine.specs.States.{Parts}
-use Rattle.gx_driven.specs.Driven.{AreDriven, IsDriven, IsGivenUp}
-use Rattle.gx_driven.specs.Made.{AreMade, Makes}
-use Rattle.gx_driven.specs.Repeated.{AreAgain, GoesOn, IsGoingOn, IsRepeated, last_of}
-use Rattle.gx_driven.specs.Resting.{WorksOff}
-use Rattle.gx_driven.proofs.Making.{made_joined, made_more}
-use Rattle.gx_driven.proofs.Resting.{checkpoint_rests}
+use Rattle.gx_engine.specs.Driven.{AreDriven, IsDriven, IsGivenUp}
+use Rattle.gx_engine.specs.Made.{AreMade, Makes}
+use Rattle.gx_engine.specs.Repeated.{AreAgain, GoesOn, IsGoingOn, IsRepeated, last_of}
+use Rattle.gx_engine.specs.Resting.{WorksOff}
+use Rattle.gx_engine.proofs.Making.{made_joined, made_more}
+use Rattle.gx_engine.proofs.Resting.{checkpoint_rests}
 use Rattle.gx_open.specs.Undoing.{AreFreeBelow, AreOfOpening, GoesBy, IsFreeAt, IsOfOpening, IsRefusal, IsRefusedAt, MayUndo, OnlyUndoes, WhyStopped, undone_by}
 use Rattle.gx_open.proofs.Phases.{FlushEnds, IsBusyAt, IsFault, IsFlush, MoveEnds, Stays, fails_so, flush_busy, flush_ends, move_comes, stays_joined, stays_same, step_stays, unmoved}
 

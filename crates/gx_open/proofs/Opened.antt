@@ -32,11 +32,11 @@ use Rattle.gx_recovery.specs.Renewal.{found}
 use Rattle.gx_recovery.specs.Standing.{stands_for}
 use Rattle.gx_recovery.proofs.DamageItems.{bodies_log}
 use Rattle.gx_recovery.proofs.Moves.{found_latest, found_set}
-use Rattle.gx_driven.specs.Made.{AreMade, Makes}
+use Rattle.gx_engine.specs.Made.{AreMade, Makes}
 use Rattle.gx_open.specs.Beginning.{HasBegun, HasNotBegun, HoldsFound, IsGoodLog}
 use Rattle.gx_open.specs.Keeping.{StandsForFound}
 use Rattle.gx_open.specs.Undoing.{AreOfOpening, GoesBy, IsEndless, IsOfOpening, IsRefusedAt, MayUndo, OnlyUndoes, WhyStopped}
-use Rattle.gx_driven.proofs.Ending.{starts_end}
+use Rattle.gx_engine.proofs.CallsEnd.{starts_end}
 use Rattle.gx_phases.specs.declared.phase.Phase.{Phase}
 use Rattle.gx_phases.specs.declared.phase.Phase.TheVariants as phase
 use Rattle.gx_phases.specs.States.{phase_at}

@@ -43,8 +43,8 @@ use Rattle.gx_engine.specs.Flushing.{IsEnded, LogComes, LogGoes, LogSteps, PageC
 use Rattle.gx_engine.specs.States.{Parts, is_due, runs}
 use Rattle.gx_engine.specs.Stepping.{has_call}
 use Rattle.gx_engine.specs.Undoing.{EndComes, RestoreComes, UndoBy, next_leaf, sought_state}
-use Rattle.gx_driven.specs.Resting.{KeepsSessions, WorksOff}
-use Rattle.gx_driven.proofs.Resting.{checkpoint_keeps, keeps_all, log_steps_keep, page_keeps}
+use Rattle.gx_engine.specs.Resting.{KeepsSessions, WorksOff}
+use Rattle.gx_engine.proofs.Resting.{checkpoint_keeps, keeps_all, log_steps_keep, page_keeps}
 use Rattle.gx_open.specs.Undoing.{IsFreeAt, IsOfOpening, MayUndo, OnlyUndoes}
 
 true_not : true ≡ false → ⊥

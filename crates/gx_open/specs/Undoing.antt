@@ -12,9 +12,9 @@ use Rattle.gx_phases.specs.declared.phase.Phase.{Phase}
 use Rattle.gx_phases.specs.declared.phase.Phase.TheVariants as phase
 use Rattle.gx_phases.specs.States.{phase_at}
 use Rattle.gx_engine.specs.States.{Parts}
-use Rattle.gx_driven.specs.Driven.{IsGivenUp}
-use Rattle.gx_driven.specs.Made.{AreMade}
-use Rattle.gx_driven.specs.Resting.{WorksOff}
+use Rattle.gx_engine.specs.Driven.{IsGivenUp}
+use Rattle.gx_engine.specs.Made.{AreMade}
+use Rattle.gx_engine.specs.Resting.{WorksOff}
 
 -- a session is free, or undoes
 abbrev pub MayUndo : {B W : Type 0} → Phase B W → Type 0

@@ -1,13 +1,13 @@
 //! What an engine does before it is handed out: its checkpoint is ended, and what a crash cut off is undone.
 ghost use Rattle.std.specs.Prelude.{◌≡◌, ◌-◌, false, true, IfErr, IfOk};
 ghost use Rattle.gx_machine.specs.Machine.{is_session};
-ghost use Rattle.gx_driven.specs.Made.{Makes};
-ghost use Rattle.gx_driven.specs.Resting.{WorksOff};
+ghost use Rattle.gx_engine.specs.Made.{Makes};
+ghost use Rattle.gx_engine.specs.Resting.{WorksOff};
 ghost use Rattle.gx_open.specs.Undoing.{AreFreeBelow, GoesBy, IsFreeAt, OnlyUndoes, WhyStopped, undone_by};
 
 use gx_class::Probing;
 use gx_disk::SectorDisk;
-use gx_driven::{drive, repeat};
+use gx_engine::{drive, repeat};
 use gx_engine::Engine;
 use gx_events::Event;
 use gx_geom::Refusal;

@@ -36,16 +36,16 @@ use Rattle.gx_engine.specs.States.{Parts}
 use Rattle.gx_engine.proofs.Machines.{event_happens}
 use Rattle.gx_engine.proofs.Running.{ran}
 use Rattle.gx_restart.specs.Alone.{CallsAlone, HaveHappened, RunsAs, RunsFrom, RunsOn}
-use Rattle.gx_driven.specs.Driven.{AreDriven, IsDriven, IsGivenUp, IsUnderWay}
-use Rattle.gx_driven.specs.Helping.{AskedEnds, HoldsIndex}
+use Rattle.gx_engine.specs.Driven.{AreDriven, IsDriven, IsGivenUp, IsUnderWay}
+use Rattle.gx_engine.specs.Helping.{AskedEnds, HoldsIndex}
 use Rattle.gx_restart.specs.Called.{CallsBy, CallsIndex}
-use Rattle.gx_driven.specs.Made.{AreMade, Makes}
+use Rattle.gx_engine.specs.Made.{AreMade, Makes}
 use Rattle.gx_restart.specs.Settled.{SettlesBy, SettlesOn}
 use Rattle.gx_restart.specs.States.{State}
 use Rattle.gx_restart.proofs.Driving.{called}
-use Rattle.gx_driven.proofs.Making.{made_joined}
-use Rattle.gx_driven.proofs.Repeating.{repeated_made}
-use Rattle.gx_driven.proofs.Stepping.{steps_made}
+use Rattle.gx_engine.proofs.Making.{made_joined}
+use Rattle.gx_engine.proofs.Repeating.{repeated_made}
+use Rattle.gx_engine.proofs.Stepping.{steps_made}
 
 -- no event of an index finds damage
 unharmed_by : {B : Type 0} (e : Engine B) (event : Event B) (events : List (laws.Event B)) → AreOf e event (Refused Damaged) events → ⊥

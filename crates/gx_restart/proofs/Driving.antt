@@ -31,7 +31,7 @@ use Rattle.gx_events.specs.declared.driver.Next.{Next}
 use Rattle.gx_events.specs.declared.driver.Next.TheVariants.{Run, Done}
 use Rattle.gx_events.specs.Driven.{next_of}
 use Rattle.gx_events.specs.Happens.{Happens, Stays, MeetsFault, Ends, MoveHappens, WorkHappens, SyncHappens, AskHappens, AskRefused}
-use Rattle.gx_driven.specs.Driven.{AreDriven}
+use Rattle.gx_engine.specs.Driven.{AreDriven}
 use Rattle.gx_restart.specs.Alone.{HaveHappened}
 
 -- a machine of eight sessions, in which this one waits for its answer

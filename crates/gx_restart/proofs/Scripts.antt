@@ -38,9 +38,9 @@ use Rattle.gx_engine.specs.Running.{Ran, StandsForOne}
 use Rattle.gx_engine.specs.States.{Parts}
 use Rattle.gx_restart.specs.Alone.{RunsAs, RunsFrom}
 use Rattle.gx_restart.specs.Called.{CallsBy, CallsIndex}
-use Rattle.gx_driven.specs.Made.{Makes}
+use Rattle.gx_engine.specs.Made.{Makes}
 use Rattle.gx_restart.specs.States.{State}
-use Rattle.gx_driven.specs.Helping.{AskedEnds}
+use Rattle.gx_engine.specs.Helping.{AskedEnds}
 use Rattle.gx_restart.proofs.Alone.{call_alone, call_goes_on, happening_joined}
 
 module _ {B : Type 0} (c : Class B) (r : Reading (Entry B) (Page B)) (f : Format B) (passes : ℕ → Contents → Bool) where

@@ -11,12 +11,12 @@ use Rattle.gx_events.specs.declared.outcome.Outcome.{Outcome}
 use Rattle.gx_events.specs.declared.outcome.Outcome.TheVariants as outcome
 use Rattle.gx_engine.specs.Comes.{StepComes}
 use Rattle.gx_engine.specs.States.{Parts, runs}
-use Rattle.gx_driven.specs.Made.{AreMade, Makes}
-use Rattle.gx_driven.specs.Repeated.{AreAgain, IsGoingOn, IsRepeated}
-use Rattle.gx_driven.specs.Resting.{IsAtRest, KeepsSessions, WorksOff}
+use Rattle.gx_engine.specs.Made.{AreMade, Makes}
+use Rattle.gx_engine.specs.Repeated.{AreAgain, IsGoingOn, IsRepeated}
+use Rattle.gx_engine.specs.Resting.{IsAtRest, KeepsSessions, WorksOff}
 use Rattle.gx_restart.specs.Settled.{SettlesBy, SettlesOn}
 use Rattle.gx_restart.specs.States.{State}
-use Rattle.gx_driven.proofs.Resting.{checkpoint_keeps, checkpoint_rests, keeps_all, keeps_joined, log_steps_keep, log_steps_rest, log_steps_work}
+use Rattle.gx_engine.proofs.Resting.{checkpoint_keeps, checkpoint_rests, keeps_all, keeps_joined, log_steps_keep, log_steps_rest, log_steps_work}
 
 -- a step of a checkpoint or of the log
 abbrev IsPart : {B : Type 0} → Event B → Type 0

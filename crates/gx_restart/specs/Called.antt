@@ -16,8 +16,8 @@ use Rattle.gx_recovery.specs.Records.{Record}
 use Rattle.gx_index_laws.specs.Classes.{Page}
 use Rattle.gx_index_laws.specs.States as index
 use Rattle.gx_engine.specs.States.{Parts}
-use Rattle.gx_driven.specs.Driven.{IsDriven, IsGivenUp}
-use Rattle.gx_driven.specs.Helping.{HoldsIndex}
+use Rattle.gx_engine.specs.Driven.{IsDriven, IsGivenUp}
+use Rattle.gx_engine.specs.Helping.{HoldsIndex}
 use Rattle.gx_restart.specs.States.{State}
 
 module _ {B D : Type 0} (makes : Parts B D → Event B → Outcome B → Parts B D → Type 0) where

@@ -6,7 +6,7 @@ use Rattle.gx_events.specs.declared.event.Event.{Event}
 use Rattle.gx_events.specs.declared.event.Event.TheVariants.{CheckpointStep, LogStep}
 use Rattle.gx_events.specs.declared.outcome.Outcome.{Outcome}
 use Rattle.gx_engine.specs.States.{Parts}
-use Rattle.gx_driven.specs.Repeated.{IsRepeated, last_of}
+use Rattle.gx_engine.specs.Repeated.{IsRepeated, last_of}
 use Rattle.gx_restart.specs.States.{State}
 
 module _ {B D : Type 0} (makes : Parts B D → Event B → Outcome B → Parts B D → Type 0) where

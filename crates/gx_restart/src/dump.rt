@@ -5,7 +5,7 @@ ghost use Rattle.gx_node.specs.Reading.{format_of, is_node};
 ghost use Rattle.gx_recovery.specs.Known.{Limits};
 ghost use Rattle.gx_readings.specs.Classes.{class_of, reading_of};
 ghost use Rattle.gx_script.specs.Writes.{IsCut};
-ghost use Rattle.gx_driven.specs.Resting.{KeepsSessions};
+ghost use Rattle.gx_engine.specs.Resting.{KeepsSessions};
 ghost use Rattle.gx_dump.specs.Bringing.{Brings, Helps};
 ghost use Rattle.gx_dump.specs.Reading.{OfItsTree, Reads};
 ghost use Rattle.gx_dump.specs.Text.{dump_text};

@@ -5,11 +5,11 @@ ghost use Rattle.gx_recovery.specs.Known.{Limits};
 ghost use Rattle.gx_readings.specs.Classes.{class_of, reading_of};
 ghost use Rattle.gx_restart.specs.Alone.{RunsOn};
 ghost use Rattle.gx_restart.specs.Called.{CallsBy, CallsIndex, EndsWhereHeld};
-ghost use Rattle.gx_driven.specs.Made.{Makes};
+ghost use Rattle.gx_engine.specs.Made.{Makes};
 
 use gx_class::Probing;
 use gx_disk::SectorDisk;
-use gx_driven::drive;
+use gx_engine::drive;
 use gx_engine::Engine;
 use gx_events::Event;
 use gx_geom::Refusal;

@@ -17,8 +17,8 @@ ghost use Rattle.gx_script.specs.Scripts.{IsScript};
 ghost use Rattle.gx_plain.specs.OneRun.{IsOneRun};
 ghost use Rattle.gx_restart.specs.Alone.{CallsAlone, RunsFrom};
 ghost use Rattle.gx_restart.specs.Called.{CallsIndex};
-ghost use Rattle.gx_driven.specs.Made.{Makes};
-ghost use Rattle.gx_driven.specs.Resting.{IsAtRest};
+ghost use Rattle.gx_engine.specs.Made.{Makes};
+ghost use Rattle.gx_engine.specs.Resting.{IsAtRest};
 ghost use Rattle.gx_restart.specs.States.{State};
 
 use gx_class::KeyClass;
@@ -35,7 +35,7 @@ pub fn each_call_is_asked_alone<D: SectorDisk, K: ReadKeys>()
         → CallsAlone (class_of K.Key.Shape K.is_proper l) (reading_of K.said (format_of K.KeyClass)) (format_of K.KeyClass) (is_node (format_of K.KeyClass)) D.state s call reply old.engine new.engine }
 {
     gx_engine::laws::a_class_is_lawful::<K>();
-    gx_driven::laws::no_call_is_given_up::<D, K>();
+    gx_engine::laws::progress::no_call_is_given_up::<D, K>();
 }
 
 /// What the lines of a script ask of an index that goes on, over an engine that holds an index's state, and are answered, is one run of the
@@ -47,7 +47,7 @@ pub fn each_script_is_one_run<D: SectorDisk, K: ReadKeys + KeyClass<Key = Box2>>
         (λ m n. IsOneRun number lines m n text) }
 {
     gx_engine::laws::a_class_is_lawful::<K>();
-    gx_driven::laws::no_call_is_given_up::<D, K>();
+    gx_engine::laws::progress::no_call_is_given_up::<D, K>();
 }
 
 /// Where a settling has ended well over an engine that holds an index's state, each commit that was sealed is durable.

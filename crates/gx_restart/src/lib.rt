@@ -10,7 +10,7 @@ mod script;
 mod settle;
 
 pub use fault::DumpFault;
-pub use gx_driven::EVENTS;
+pub use gx_engine::EVENTS;
 pub use gx_engine::NotOpened;
 pub use gx_format::format;
 pub use gx_open::open;

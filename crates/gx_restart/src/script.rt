@@ -2,7 +2,7 @@
 ghost use Rattle.std.specs.Prelude.{OnOk, IfErr};
 ghost use Rattle.gx_script.specs.Scripts.{IsDone, IsStopped};
 ghost use Rattle.gx_restart.specs.Called.{CallsIndex};
-ghost use Rattle.gx_driven.specs.Made.{Makes};
+ghost use Rattle.gx_engine.specs.Made.{Makes};
 
 use crate::Index;
 use gx_class::{KeyClass, Probing};

@@ -13,3 +13,10 @@ pub mod Sweeping
 pub mod Turning
 pub mod Unpaged
 pub mod Writing
+pub mod Adding
+pub mod Learning
+pub mod Descending
+pub mod Stepping
+pub mod SoundSweeps
+pub mod SoundSplits
+pub mod LeafSweeps

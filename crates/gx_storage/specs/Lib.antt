@@ -7,3 +7,5 @@ pub mod Giving
 pub mod Keeps
 pub mod Numbers
 pub mod State
+pub mod Adds
+pub mod Sweeps

@@ -10,7 +10,7 @@ ghost use Rattle.gx_recovery.specs.Logged.{Logged};
 ghost use Rattle.gx_recovery.specs.Records.{Record};
 ghost use Rattle.gx_storage.specs.Changes.{known_at, write_of};
 ghost use Rattle.gx_storage.specs.Keeps.{Keeps};
-ghost use Rattle.gx_storage_callers.specs.Adds.{KeepsOnceItMayCome};
+ghost use Rattle.gx_storage.specs.Adds.{KeepsOnceItMayCome};
 
 use gx_class::{Box2Class, IntervalClass};
 use gx_disk::SectorDisk;

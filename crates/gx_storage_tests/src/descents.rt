@@ -11,7 +11,7 @@ ghost use Rattle.gx_recovery.specs.Logged.{Logged};
 ghost use Rattle.gx_recovery.specs.Records.{Record};
 ghost use Rattle.gx_storage.specs.Changes.{known_at, page_given};
 ghost use Rattle.gx_storage.specs.Keeps.{Keeps};
-ghost use Rattle.gx_storage_callers.specs.Adds.{KeepsOnceIf};
+ghost use Rattle.gx_storage.specs.Adds.{KeepsOnceIf};
 ghost use Rattle.gx_tree.specs.Descending.{is_widened};
 
 use gx_class::{Box2Class, IntervalClass};

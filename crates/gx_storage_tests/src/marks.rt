@@ -10,7 +10,7 @@ ghost use Rattle.gx_recovery.specs.Logged.{Logged};
 ghost use Rattle.gx_recovery.specs.Records.{Record};
 ghost use Rattle.gx_storage.specs.Changes.{known_at};
 ghost use Rattle.gx_storage.specs.Keeps.{Keeps};
-ghost use Rattle.gx_storage_callers.specs.Adds.{KeepsOnceMarked};
+ghost use Rattle.gx_storage.specs.Adds.{KeepsOnceMarked};
 
 use gx_class::{Box2Class, IntervalClass, Probing};
 use gx_disk::SectorDisk;

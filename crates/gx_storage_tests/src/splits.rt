@@ -13,7 +13,7 @@ ghost use Rattle.gx_recovery.specs.Records.{Record};
 ghost use Rattle.gx_storage.specs.Changes.{known_at};
 ghost use Rattle.gx_storage.specs.Giving.{pages_given, rising};
 ghost use Rattle.gx_storage.specs.Keeps.{Keeps};
-ghost use Rattle.gx_storage_callers.specs.Adds.{KeepsOnceIf, KeepsOnceItMayCome};
+ghost use Rattle.gx_storage.specs.Adds.{KeepsOnceIf, KeepsOnceItMayCome};
 ghost use Rattle.gx_tree.specs.Splitting.{has_split};
 
 use gx_class::{Box2Class, IntervalClass};

@@ -14,7 +14,7 @@ ghost use Rattle.gx_recovery.specs.Known.{Limits};
 ghost use Rattle.gx_recovery.specs.Records.{Record};
 ghost use Rattle.gx_storage.specs.Changes.{known_at};
 ghost use Rattle.gx_storage.specs.Keeps.{Keeps};
-ghost use Rattle.gx_storage_callers.specs.Sweeps.{SweepsLeaf};
+ghost use Rattle.gx_storage.specs.Sweeps.{SweepsLeaf};
 
 use gx_class::{Box2Class, IntervalClass};
 use gx_disk::SectorDisk;

@@ -1,6 +1,5 @@
 //! A look, a page a step.
 ghost use Rattle.std.specs.Prelude.{◌≡◌, ◌<◌, ◌≤◌, ◌++◌, ◌∷◌, [], true, length, filter, map, ◌≢◌, List, ◌==◌, slice_get, Some, Err, IfOk, IfErr, OnOk, OnErr};
-ghost use Rattle.smallvec.specs.SmallVec.{small_vec_len};
 ghost use Rattle.gx_node.specs.Hits.{passing_of};
 ghost use Rattle.gx_node.specs.Reading.{format_of, is_node};
 ghost use Rattle.gx_tree_laws.specs.Trees.{Pair, Used};
@@ -20,16 +19,15 @@ use gx_geom::Shape;
 use gx_node::{BLOCK, Inner, Leaf};
 use gx_page::Page;
 use gx_tree_pages::{Pages, StepFault};
-use smallvec::SmallVec;
 use std::alloc::{AllocError, Global};
 
-/// How many items a stack keeps before it takes memory.
-pub const INLINE_ITEMS: usize = 16;
+/// How many items a stack has room for at first.
+const FIRST_ITEMS: usize = 16;
 
 /// A look at work: the items that are to be read, the next one last, and what is found.
 #[derive(Drop)]
 pub struct Look<B: Shape> {
-    pub(crate) stack: SmallVec<Item, INLINE_ITEMS>,
+    pub(crate) stack: Vec<Item>,
     pub(crate) found: Vec<Found<B>>,
 }
 
@@ -100,7 +98,7 @@ fn descend_block<K: Probing>(
     from: usize,
     counter: u64,
     wanted: &Wanted<K>,
-    stack: &mut SmallVec<Item, INLINE_ITEMS>,
+    stack: &mut Vec<Item>,
 ) -> Result<(), AllocError>
     requires { from ≤ length inner.now.children }
     ensures { OnOk result (stack.new.items ≡ stack.old.items ++ map (item_of counter)
@@ -119,7 +117,7 @@ fn descend<K: Probing>(
     inner: &Inner<K>,
     counter: u64,
     wanted: &Wanted<K>,
-    stack: &mut SmallVec<Item, INLINE_ITEMS>,
+    stack: &mut Vec<Item>,
 ) -> Result<(), AllocError>
     ensures { OnOk result (stack.new.items ≡ stack.old.items ++ below counter (K.passes wanted.now.bounds) inner.now.children) }
 {
@@ -134,7 +132,7 @@ impl<B: Shape> Look<B> {
     pub fn new(alloc: Global, item: Item) -> Result<Self, AllocError>
         ensures { IfOk result (λ look. (look.stack.items ≡ item ∷ []) × (look.found.items ≡ [])) }
     {
-        let mut stack = SmallVec::new(alloc);
+        let mut stack = Vec::with_capacity(alloc, FIRST_ITEMS)?;
         stack.push(item)?;
         Ok(Look {
             stack,

@@ -1,4 +1,4 @@
-use Rattle.gx_driven.specs.Made.{Makes}
+use Rattle.gx_engine.specs.Made.{Makes}
 use Rattle.gx_open.proofs.Going.{goes_joined, goes_stays, stopped_later_if}
 use Rattle.gx_open.proofs.undo.finish.Goals as goal
 

@@ -1,4 +1,4 @@
-use Rattle.gx_driven.specs.Made.{Makes}
+use Rattle.gx_engine.specs.Made.{Makes}
 use Rattle.gx_open.proofs.Going.{free_more, goes_joined, goes_stays, stopped_later}
 use Rattle.gx_open.proofs.undo.undo_all.Goals as goal
 

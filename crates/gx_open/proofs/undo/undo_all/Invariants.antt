@@ -1,5 +1,5 @@
-use Rattle.gx_driven.specs.Made.{Makes}
-use Rattle.gx_driven.specs.Resting.{WorksOff}
+use Rattle.gx_engine.specs.Made.{Makes}
+use Rattle.gx_engine.specs.Resting.{WorksOff}
 use Rattle.gx_open.specs.Undoing.{AreFreeBelow, GoesBy, OnlyUndoes}
 use Rattle.gx_open.proofs.undo.undo_all.Given as goal
 

@@ -1,4 +1,4 @@
-use Rattle.gx_storage_callers.proofs.Learning.{kept_on_err, kept_on_ok}
+use Rattle.gx_storage.proofs.Learning.{kept_on_err, kept_on_ok}
 use Rattle.gx_storage_tests.proofs.adds.add_to.Goals as goal
 
 pub returns-clause-added : goal.returns-clause-added

@@ -1,4 +1,4 @@
-use Rattle.gx_storage_callers.proofs.Learning.{kept_on_err, kept_if_ok}
+use Rattle.gx_storage.proofs.Learning.{kept_on_err, kept_if_ok}
 use Rattle.gx_tree.specs.Descending.{is_widened}
 use Rattle.gx_storage_tests.proofs.descents.descend_from.Goals as goal
 

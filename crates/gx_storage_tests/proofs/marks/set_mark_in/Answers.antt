@@ -1,4 +1,4 @@
-use Rattle.gx_storage_callers.proofs.Learning.{kept_on_err, kept_marked_ok}
+use Rattle.gx_storage.proofs.Learning.{kept_on_err, kept_marked_ok}
 use Rattle.gx_storage_tests.proofs.marks.set_mark_in.Goals as goal
 
 pub returns-clause-marked : goal.returns-clause-marked

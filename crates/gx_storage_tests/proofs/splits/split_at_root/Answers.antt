@@ -1,4 +1,4 @@
-use Rattle.gx_storage_callers.proofs.Learning.{kept_on_err, kept_on_ok}
+use Rattle.gx_storage.proofs.Learning.{kept_on_err, kept_on_ok}
 use Rattle.gx_storage_tests.proofs.splits.split_at_root.Goals as goal
 
 pub returns-clause-split : goal.returns-clause-split

@@ -1,4 +1,4 @@
-use Rattle.gx_storage_callers.proofs.Learning.{kept_on_err, kept_if_ok}
+use Rattle.gx_storage.proofs.Learning.{kept_on_err, kept_if_ok}
 use Rattle.gx_tree.specs.Splitting.{has_split}
 use Rattle.gx_storage_tests.proofs.splits.split_below.Goals as goal
 

@@ -2,8 +2,8 @@ use Rattle.std.proofs.Common.{refl}
 use Rattle.gx_machine.specs.Keys.{Members}
 use Rattle.gx_index_laws.specs.Classes.{IsLawful}
 use Rattle.gx_readings.specs.Classes.{class_of}
-use Rattle.gx_storage_callers.proofs.Learning.{kept_on_err}
-use Rattle.gx_storage_callers.proofs.Sweeping.{sweeps_leaf}
+use Rattle.gx_storage.proofs.Learning.{kept_on_err}
+use Rattle.gx_storage.proofs.SoundSweeps.{sweeps_leaf}
 use Rattle.gx_storage_tests.proofs.sweeps.sweep_leaf.Goals as goal
 
 pub returns-clause-swept : goal.returns-clause-swept

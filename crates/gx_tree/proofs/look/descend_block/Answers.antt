@@ -28,7 +28,7 @@ loop-slot-preserved g c =
     rw c.from.ensures (block_within p children c.args.from slots c.loop-slot.slot-index c.requires (c.as_slice-slots.ensures ∙ c.passing-passing.ensures) c.loop-slot-test.true)
     in
     let some = some_at children c.from.result within in
-    c.in_ok-push.ensures.ok ∙ ap (λ i. c.loop-slot.stack.items ++ i ∷ []) c.new.ensures
+    c.in_ok-push.ensures.items ∙ ap (λ i. c.loop-slot.stack.items ++ i ∷ []) c.new.ensures
     ∙ ap (λ n. c.loop-slot.stack.items ++ record { page = n; seen = c.args.counter } ∷ []) (c.page_of.ensures some.0 some.1)
     ∙ ap (λ l. l ++ f some.0 ∷ []) c.loop-slot.invariant
     ∙ append_assoc c.args.stack.now.items (map f before) (f some.0 ∷ [])

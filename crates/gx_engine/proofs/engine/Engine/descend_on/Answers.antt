@@ -21,7 +21,7 @@ use Rattle.gx_tree_pages.specs.Store.{tree_of}
 use Rattle.gx_tree_laws.specs.Trees.{size}
 use Rattle.gx_store.specs.State.{IsInOrder}
 use Rattle.gx_storage.specs.Changes.{known_at}
-use Rattle.gx_storage_callers.proofs.Descending.{IsJoin}
+use Rattle.gx_storage.proofs.Descending.{IsJoin}
 use Rattle.gx_engine.specs.Sweeping.{is_held, node_shown}
 use Rattle.gx_engine.proofs.Serving.{flies_on}
 use Rattle.gx_engine.proofs.DescentMoves.{full_inner, inner_removable, never_stepped, removable_again, said_again, stepped_as}

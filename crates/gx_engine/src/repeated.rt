@@ -1,0 +1,34 @@
+//! An event over and over, until nothing is left to do.
+ghost use Rattle.std.specs.Prelude.{IsSome, MatchOption};
+ghost use Rattle.gx_engine.specs.Made.{Makes};
+ghost use Rattle.gx_engine.specs.Repeated.{IsFlushing, IsGoingOn, IsRepeated, last_of};
+
+use crate::driven::EVENTS;
+use crate::engine::Engine;
+use gx_class::Probing;
+use gx_disk::SectorDisk;
+use gx_events::{Event, Outcome};
+use gx_geom::Refusal;
+use gx_readings::ReadKeys;
+
+/// Makes an event over and over, until there is nothing to do (`Ok`) or it is refused (`Err`, with why). None where there was still more to
+/// do after `EVENTS` events, which of steps of the log or of a checkpoint never comes. It takes no memory but what the events take.
+pub fn repeat<D: SectorDisk, K: ReadKeys + Probing>(
+    engine: &mut Engine<D, K>,
+    event: Event<K::Key>,
+) -> Option<Result<(), Refusal>>
+where
+    K::Probe: Drop,
+    ensures made { MatchOption result (IsGoingOn (Makes K.Key.Shape K.is_proper K.said K.KeyClass D.state) event engine.old 72057594037927936 engine.new)
+        (λ ends. IsRepeated (Makes K.Key.Shape K.is_proper K.said K.KeyClass D.state) event engine.old (last_of ends) engine.new) }
+    ensures ends { IsFlushing event → IsSome result }
+{
+    for _turn in 0..EVENTS {
+        match engine.step(event) {
+            Outcome::Nothing => return Some(Ok(())),
+            Outcome::Refused(why) => return Some(Err(why)),
+            Outcome::Replied(_) | Outcome::More | Outcome::Help(_) => {}
+        }
+    }
+    None
+}
