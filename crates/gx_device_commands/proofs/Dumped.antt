@@ -16,8 +16,8 @@ use Rattle.gx_index_laws.specs.States.{tree_now}
 use Rattle.gx_readings.specs.Classes.{class_of}
 use Rattle.gx_engine.specs.States.{Parts}
 use Rattle.gx_opening.specs.Standing.{known_for, limits_of}
-use Rattle.gx_open.specs.Beginning.{HoldsFound}
-use Rattle.gx_dump.specs.Text.{dump_text}
+use Rattle.gx_restart.specs.Beginning.{HoldsFound}
+use Rattle.gx_restart.specs.Text.{dump_text}
 use Rattle.gx_restart.specs.States.{State}
 use Rattle.gx_restart.specs.declared.fault.DumpFault.{DumpFault}
 use Rattle.gx_restart.specs.declared.fault.DumpFault.TheVariants as fault

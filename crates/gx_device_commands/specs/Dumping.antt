@@ -19,11 +19,11 @@ use Rattle.gx_readings.specs.Classes.{class_of, reading_of}
 use Rattle.gx_engine.specs.declared.start.NotOpened.{NotOpened}
 use Rattle.gx_engine.specs.States.{Parts}
 use Rattle.gx_opening.specs.Standing.{IsFormatted, known_for, limits_of}
-use Rattle.gx_open.specs.Beginning.{HasFoundSet, IsGoodLog}
+use Rattle.gx_restart.specs.Beginning.{HasFoundSet, IsGoodLog}
 use Rattle.gx_engine.specs.Resting.{KeepsSessions}
-use Rattle.gx_dump.specs.Bringing.{Brings, Helps}
-use Rattle.gx_dump.specs.Reading.{OfItsTree, Reads}
-use Rattle.gx_dump.specs.Text.{dump_text}
+use Rattle.gx_restart.specs.Bringing.{Brings, Helps}
+use Rattle.gx_restart.specs.Reading.{OfItsTree, Reads}
+use Rattle.gx_restart.specs.Text.{dump_text}
 use Rattle.gx_restart.specs.Alone.{RunsOn}
 use Rattle.gx_restart.specs.Dumped.{Dumps}
 use Rattle.gx_restart.specs.States.{State}

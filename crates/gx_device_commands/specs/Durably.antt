@@ -25,7 +25,7 @@ use Rattle.gx_readings.specs.Classes.{class_of}
 use Rattle.gx_engine.specs.Running.{Ran}
 use Rattle.gx_engine.specs.States.{Parts}
 use Rattle.gx_opening.specs.Standing.{IsFormatted, known_for, limits_of, reading}
-use Rattle.gx_open.specs.Beginning.{IsGoodLog}
+use Rattle.gx_restart.specs.Beginning.{IsGoodLog}
 
 module _ {C D : Type 0} (shape : Members Rectangle) (is_key : Rectangle → Bool) (said : List ℕ → Rectangle) (class : Ghosts C Rectangle) (state : D → Device) where
   -- An image stands for the last set that an index keeps, under its number.

@@ -8,10 +8,10 @@ use Rattle.gx_engine.specs.States.{Parts}
 use Rattle.gx_geom.specs.declared.refusal.Refusal.TheVariants.{BadParameter, TooSmall}
 use Rattle.gx_machine.specs.Keys.{Members}
 use Rattle.gx_node.specs.Reading.{format_of}
-use Rattle.gx_open.specs.Beginning.{IsSameDevice}
-use Rattle.gx_open.specs.Keeping.{KeepsItsSet, OpensSafely}
-use Rattle.gx_open.specs.Opened.{IsOpened, IsRefused}
-use Rattle.gx_open.specs.Undoing.{IsIdle}
+use Rattle.gx_restart.specs.Beginning.{IsSameDevice}
+use Rattle.gx_restart.specs.Keeping.{KeepsItsSet, OpensSafely}
+use Rattle.gx_restart.specs.Opened.{IsOpened, IsRefused}
+use Rattle.gx_restart.specs.Undoing.{IsIdle}
 
 -- A device was opened with so many frames, for a class of keys of this number; of which this is the result.
 pub record Opens {C B D : Type 0} (shape : Members B) (is_key : B → Bool) (said : List ℕ → B) (class : Ghosts C B) (state : D → Device)

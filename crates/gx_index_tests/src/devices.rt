@@ -2,7 +2,7 @@
 use gx_class::Box2Class;
 use gx_disk::MemDisk;
 use gx_format::{format, sectors_for};
-use gx_open::open;
+use gx_restart::open;
 use gx_restart::Index;
 use std::alloc::Global;
 

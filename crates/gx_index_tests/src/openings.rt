@@ -7,7 +7,7 @@ use gx_engine::Engine;
 use gx_events::Event;
 use gx_geom::{Box2, Refusal};
 use gx_machine::{Call, Entry, Query, Reply};
-use gx_open::open;
+use gx_restart::open;
 use std::alloc::Global;
 use std::process::Abort;
 

@@ -44,7 +44,7 @@ use Rattle.gx_recovery.specs.Standing.{stands_for}
 use Rattle.gx_recovery.proofs.DamageItems.{bodies_log}
 use Rattle.gx_recovery.proofs.Moves.{found_latest, found_set}
 use Rattle.gx_engine.specs.Made.{Makes}
-use Rattle.gx_open.specs.Keeping.{ArePagesGood, StandsForFound}
+use Rattle.gx_restart.specs.Keeping.{ArePagesGood, StandsForFound}
 use Rattle.gx_lives.specs.Bearing.{HasSet, HasSets, IsSeen}
 use Rattle.gx_lives.specs.Lives.{ComesUp, IsTried}
 

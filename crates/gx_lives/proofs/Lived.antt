@@ -19,8 +19,8 @@ use Rattle.gx_readings.specs.Classes.{class_of}
 use Rattle.gx_recovery.specs.Analysis.{number_of}
 use Rattle.gx_recovery.specs.Damage.{records_of}
 use Rattle.gx_recovery.specs.Standing.{stands_for}
-use Rattle.gx_open.specs.Beginning.{HoldsFound}
-use Rattle.gx_open.specs.Opened.{IsOpened}
+use Rattle.gx_restart.specs.Beginning.{HoldsFound}
+use Rattle.gx_restart.specs.Opened.{IsOpened}
 use Rattle.gx_lives.specs.Bearing.{AreOf, Bears, HasSet, HasSets, IsOf, IsSeen}
 use Rattle.gx_lives.specs.Lives.{ComesUp, GoesOn, IsTried, Lies, LiesOn, Lives, MayBeLeft, Stage, Turn, Works, WorksOn}
 use Rattle.gx_lives.specs.Lives as life

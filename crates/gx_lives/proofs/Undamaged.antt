@@ -22,8 +22,8 @@ use Rattle.gx_machine.specs.declared.entry.Entry.{Entry}
 use Rattle.gx_machine.specs.Keys.{Members}
 use Rattle.gx_machine.specs.Machine.{Machine}
 use Rattle.gx_node.specs.Reading.{Format, format_of, is_node}
-use Rattle.gx_open.specs.Beginning.{HasFailed}
-use Rattle.gx_open.specs.Opened.{IsRefused}
+use Rattle.gx_restart.specs.Beginning.{HasFailed}
+use Rattle.gx_restart.specs.Opened.{IsRefused}
 use Rattle.gx_opening.specs.Formatted.{IsAllowed, MaySettle}
 use Rattle.gx_opening.specs.Laid.{IsLaid}
 use Rattle.gx_opening.specs.Sound.{AreSound}

@@ -12,9 +12,9 @@ use Rattle.gx_machine.specs.Keys.{Members}
 use Rattle.gx_node.specs.Reading.{format_of}
 use Rattle.gx_opening.specs.Formatted.{Says}
 use Rattle.gx_engine.specs.Made.{Makes}
-use Rattle.gx_open.specs.Beginning.{HasFailed, IsSameDevice}
-use Rattle.gx_open.specs.Keeping.{KeepsItsSet}
-use Rattle.gx_open.specs.Opened.{IsOpened}
+use Rattle.gx_restart.specs.Beginning.{HasFailed, IsSameDevice}
+use Rattle.gx_restart.specs.Keeping.{KeepsItsSet}
+use Rattle.gx_restart.specs.Opened.{IsOpened}
 
 -- What there is: an engine at work over its device, or a device alone.
 pub data Stage (B D : Type 0) : Type 0 where
@@ -37,7 +37,7 @@ pub record ComesUp (IsLeft : List ℕ → Type 0) (d : Device) : Type 0 where
   pub settled : IsSettled d
 
 module _ {C B : Type 0} (shape : Members B) (proper : B → Bool) (said : List ℕ → B) (class : Ghosts C B) (p : Parameters) where
-  -- What any opening does to a device that says that it is formatted for these: as `gx_open::open` promises of whatever comes of it, a crash at each
+  -- What any opening does to a device that says that it is formatted for these: as `gx_restart::open` promises of whatever comes of it, a crash at each
   -- moment leaves what it could leave before, or what stands for the set that the log keeps.
   pub record IsTried (d e : Device) : Type 0 where
     pub says : Says d.seen p

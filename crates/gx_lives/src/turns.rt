@@ -7,8 +7,8 @@ ghost use Rattle.gx_glog.specs.Parameters.{Fit};
 ghost use Rattle.gx_glog.specs.declared.parameters.Parameters.{Parameters};
 ghost use Rattle.gx_machine.specs.Machine.{Machine, fresh_machine};
 ghost use Rattle.gx_node.specs.Reading.{format_of};
-ghost use Rattle.gx_open.specs.Beginning.{HasFailed};
-ghost use Rattle.gx_open.specs.Opened.{IsRefused};
+ghost use Rattle.gx_restart.specs.Beginning.{HasFailed};
+ghost use Rattle.gx_restart.specs.Opened.{IsRefused};
 ghost use Rattle.gx_opening.specs.Formatted.{Says};
 ghost use Rattle.gx_opening.specs.Standing.{IsFormatted};
 ghost use Rattle.gx_lives.specs.Bearing.{Bears};
@@ -64,7 +64,7 @@ where
     engine.step(event)
 }
 
-/// Opens a device (`gx_open::open`, with its refusals). On an honest one, whatever it says that it is formatted for, that is a turn of its life, an
+/// Opens a device (`gx_restart::open`, with its refusals). On an honest one, whatever it says that it is formatted for, that is a turn of its life, an
 /// opening or one that is refused. In a life it is refused, with frames in range, only where a call of the device failed (`Device`) or memory was refused
 /// (`Memory`): never because of what a crash left.
 pub fn open<D: SectorDisk, K: ReadKeys + Probing>(
@@ -88,5 +88,5 @@ where
         (λ n. GoesOn K.Key.Shape K.is_proper K.said K.KeyClass K.CLASS D.state p (Lies disk) (life.Refuses n.why) (Lies n.disk)) }
 {
     an_opening_finds_no_damage::<D, K>();
-    gx_open::open(alloc, disk, frames)
+    gx_restart::open(alloc, disk, frames)
 }

@@ -5,7 +5,7 @@ use crate::fault::RunFault;
 use crate::sets::set_of;
 use gx_class::Box2Class;
 use gx_disk::{MemDisk, SectorDisk};
-use gx_open::open;
+use gx_restart::open;
 use gx_restart::Index;
 use std::alloc::Global;
 

@@ -4,3 +4,16 @@ pub mod Driving
 pub mod Alone
 pub mod Durable
 pub mod Scripts
+pub mod Phases
+pub mod Going
+pub mod Closing
+pub mod Runs
+pub mod Opened
+pub mod Ends
+pub mod Boxes
+pub mod Nodes
+pub mod Texts
+pub mod Reading
+pub mod Bringing
+pub mod Telling
+pub mod Ending

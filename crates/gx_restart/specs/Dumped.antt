@@ -4,8 +4,8 @@ use Rattle.gx_geom.specs.declared.refusal.Refusal.TheVariants.{Damaged, Failed}
 use Rattle.gx_events.specs.declared.outcome.Need.{Need}
 use Rattle.gx_events.specs.declared.outcome.Outcome.{Outcome}
 use Rattle.gx_engine.specs.States.{Parts}
-use Rattle.gx_dump.specs.declared.stop.Stop.TheVariants as stop
-use Rattle.gx_dump.specs.Bringing.{IsRead}
+use Rattle.gx_restart.specs.declared.text.stop.Stop.TheVariants as stop
+use Rattle.gx_restart.specs.Bringing.{IsRead}
 use Rattle.gx_restart.specs.declared.fault.DumpFault.{DumpFault}
 use Rattle.gx_restart.specs.declared.fault.DumpFault.TheVariants as fault
 use Rattle.gx_restart.specs.States.{State}

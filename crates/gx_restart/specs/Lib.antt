@@ -3,3 +3,11 @@ pub mod Called
 pub mod Settled
 pub mod Alone
 pub mod Dumped
+pub mod Keeping
+pub mod Undoing
+pub mod Beginning
+pub mod Opened
+pub mod Text
+pub mod Pages
+pub mod Bringing
+pub mod Reading

@@ -6,17 +6,17 @@ ghost use Rattle.gx_recovery.specs.Known.{Limits};
 ghost use Rattle.gx_readings.specs.Classes.{class_of, reading_of};
 ghost use Rattle.gx_script.specs.Writes.{IsCut};
 ghost use Rattle.gx_engine.specs.Resting.{KeepsSessions};
-ghost use Rattle.gx_dump.specs.Bringing.{Brings, Helps};
-ghost use Rattle.gx_dump.specs.Reading.{OfItsTree, Reads};
-ghost use Rattle.gx_dump.specs.Text.{dump_text};
+ghost use Rattle.gx_restart.specs.Bringing.{Brings, Helps};
+ghost use Rattle.gx_restart.specs.Reading.{OfItsTree, Reads};
+ghost use Rattle.gx_restart.specs.Text.{dump_text};
 ghost use Rattle.gx_restart.specs.Alone.{RunsOn};
 ghost use Rattle.gx_restart.specs.Called.{EndsWhereHeld};
 ghost use Rattle.gx_restart.specs.Dumped.{Dumps};
 
+use crate::text::{self, Stop};
 use crate::{DumpFault, Index};
 use gx_class::KeyClass;
 use gx_disk::SectorDisk;
-use gx_dump::Stop;
 use gx_geom::{Box2, Refusal, Shape};
 use gx_readings::ReadKeys;
 use std::io::Write;
@@ -46,7 +46,7 @@ impl<D: SectorDisk, K: ReadKeys + KeyClass<Key = Box2>> Index<D, K> {
         if self.ended {
             return Err(DumpFault::Refused(Refusal::Failed));
         }
-        match gx_dump::dump(&mut self.engine, writer) {
+        match text::dump(&mut self.engine, writer) {
             Ok(()) => Ok(()),
             Err(Stop::Write) => Err(DumpFault::Write),
             Err(Stop::Refused(why)) => Err(DumpFault::Refused(why)),

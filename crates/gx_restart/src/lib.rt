@@ -6,14 +6,16 @@ mod dump;
 mod fault;
 mod index;
 pub mod laws;
+mod opening;
 mod script;
 mod settle;
+mod text;
 
 pub use fault::DumpFault;
 pub use gx_engine::EVENTS;
 pub use gx_engine::NotOpened;
 pub use gx_format::format;
-pub use gx_open::open;
 pub use gx_script::ScriptFault;
 pub use index::Index;
+pub use opening::open;
 pub use script::run_script;

@@ -1,11 +1,11 @@
 use Rattle.std.proofs.Common.{subst, Err}
 use Rattle.gx_node.specs.Reading.{format_of, is_node}
 use Rattle.gx_readings.specs.Classes.{class_of, reading_of}
-use Rattle.gx_dump.specs.declared.stop.Stop.{Stop}
-use Rattle.gx_dump.specs.Reading.{IsNotGivenUp}
-use Rattle.gx_dump.proofs.Boxes.{boxes}
-use Rattle.gx_dump.proofs.Reading.{nothing_read}
-use Rattle.gx_dump.proofs.Telling.{none_told}
+use Rattle.gx_restart.specs.declared.text.stop.Stop.{Stop}
+use Rattle.gx_restart.specs.Reading.{IsNotGivenUp}
+use Rattle.gx_restart.proofs.Boxes.{boxes}
+use Rattle.gx_restart.proofs.Reading.{nothing_read}
+use Rattle.gx_restart.proofs.Telling.{none_told}
 use Rattle.gx_restart.proofs.index.Index.dump.Goals as goal
 
 pub returns-then-self-clause-cut : goal.returns-then-self-clause-cut

@@ -1,4 +1,0 @@
-pub mod Text
-pub mod Pages
-pub mod Bringing
-pub mod Reading

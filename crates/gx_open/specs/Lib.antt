@@ -1,4 +1,0 @@
-pub mod Keeping
-pub mod Undoing
-pub mod Beginning
-pub mod Opened

@@ -1,0 +1,53 @@
+use Rattle.std.proofs.Common.{◌∙◌}
+use Rattle.gx_machine.specs.Keys.{Members}
+use Rattle.gx_node.specs.Reading.{format_of}
+use Rattle.gx_opening.specs.Standing.{limits_of}
+use Rattle.gx_restart.proofs.Ends.{came_opened, came_refused, came_safe, enough_of, fails_later, stands_of}
+use Rattle.gx_restart.proofs.opening.open_with.Goals as goal
+
+pub returns-in-Ok-clause-safe : goal.returns-in-Ok-clause-safe
+returns-in-Ok-clause-safe g c = λ honest.
+    (let shape : Members g.row.K-Key.Denot = (record { partial_cmp = g.K.Key.PartialOrd.partial_cmp; eq = g.K.Key.PartialEq.eq; cmp = g.K.Key.Ord.cmp; overlap = g.K.Key.Shape.overlap; inside = g.K.Key.Shape.inside }) in
+    let proper = g.K.ReadKeys.is_proper in
+    let said = g.K.ReadKeys.said in
+    let class = g.K.KeyClass in
+    let state = g.D.SectorDisk.state in
+    let a = c.args.disk in
+    let m = c.find-disk.result.0 in
+    let s = c.in-Ok.standing in
+    let enough = enough_of shape proper said (format_of class) _ (state a) (state m) c.find-disk.result.1 s c.in-Ok.is c.find-disk.ensures.allowed in
+    let st = stands_of shape proper said (format_of class) _ (state a) (state m) c.find-disk.result.1 s c.in-Ok.is (c.find-disk.ensures.tested honest enough) in
+    let came = c.open_over.ensures.keeps a (c.find-disk.ensures.device.1 ∙ honest) st in
+    came_safe shape proper said class state _ a m s st (c.find-disk.ensures.safe honest) c.open_over.result came)
+
+pub returns-in-Ok-clause-opened : goal.returns-in-Ok-clause-opened
+returns-in-Ok-clause-opened g c = λ honest enough.
+    (let shape : Members g.row.K-Key.Denot = (record { partial_cmp = g.K.Key.PartialOrd.partial_cmp; eq = g.K.Key.PartialEq.eq; cmp = g.K.Key.Ord.cmp; overlap = g.K.Key.Shape.overlap; inside = g.K.Key.Shape.inside }) in
+    let proper = g.K.ReadKeys.is_proper in
+    let said = g.K.ReadKeys.said in
+    let class = g.K.KeyClass in
+    let state = g.D.SectorDisk.state in
+    let a = c.args.disk in
+    let m = c.find-disk.result.0 in
+    let s = c.in-Ok.standing in
+    let st = stands_of shape proper said (format_of class) _ (state a) (state m) c.find-disk.result.1 s c.in-Ok.is (c.find-disk.ensures.tested honest enough) in
+    let came = c.open_over.ensures.keeps a (c.find-disk.ensures.device.1 ∙ honest) st in
+    came_opened shape proper said class state _ a m s st (c.a_class_is_lawful.ensures (limits_of s.parameters) st.formatted.allowed.range.least_entries) c.open_over.result
+    c.open_over.ensures.idle came)
+
+pub returns-in-Ok-clause-refused : goal.returns-in-Ok-clause-refused
+returns-in-Ok-clause-refused g c = λ honest enough.
+    (let shape : Members g.row.K-Key.Denot = (record { partial_cmp = g.K.Key.PartialOrd.partial_cmp; eq = g.K.Key.PartialEq.eq; cmp = g.K.Key.Ord.cmp; overlap = g.K.Key.Shape.overlap; inside = g.K.Key.Shape.inside }) in
+    let proper = g.K.ReadKeys.is_proper in
+    let said = g.K.ReadKeys.said in
+    let class = g.K.KeyClass in
+    let state = g.D.SectorDisk.state in
+    let a = c.args.disk in
+    let m = c.find-disk.result.0 in
+    let s = c.in-Ok.standing in
+    let st = stands_of shape proper said (format_of class) _ (state a) (state m) c.find-disk.result.1 s c.in-Ok.is (c.find-disk.ensures.tested honest enough) in
+    let came = c.open_over.ensures.keeps a (c.find-disk.ensures.device.1 ∙ honest) st in
+    came_refused shape proper said class state _ a m s st c.open_over.result came)
+
+pub returns-in-Ok-clause-faults : goal.returns-in-Ok-clause-faults
+returns-in-Ok-clause-faults g c = fails_later g.D.SectorDisk.state _ _ c.find-disk.ensures.faults.no_fewer c.open_over.result c.open_over.ensures.faults
