@@ -1,7 +1,7 @@
 -- What a step leaves of what is beside the pages.
 use Rattle.std.proofs.Common.{◌≡◌, ◌≢◌, ℕ, suc, ◌+◌, arith, Ok, Err}
 use Rattle.std.specs.Prelude.{Result, OnErr}
-use Rattle.gx_tree_pages.specs.Owner.{KeepsSince, KeepsSinceBut}
+use Rattle.gx_node.specs.Owner.{KeepsSince, KeepsSinceBut}
 
 module _ {P X : Type 0} (since : P → P → ℕ → Type 0) (beside : P → X)
     (begins : (a : P) (q : ℕ) → since a a q) (same : (was now : P) (q : ℕ) → since was now q → beside now ≡ beside was)

@@ -3,8 +3,8 @@ ghost use Rattle.std.specs.Prelude.{◌≡◌, ◌≢◌, ◌≤◌, Bool, Err, 
 ghost use Rattle.gx_tree_laws.specs.Trees.{Pair, standing};
 ghost use Rattle.gx_tree_laws.specs.Legal.{Legal};
 ghost use Rattle.gx_tree_laws.specs.Writes.{IsDescent};
-ghost use Rattle.gx_tree_pages.specs.Keyed.{rules_of, AreKeys};
-ghost use Rattle.gx_tree_pages.specs.Store.{tree_of};
+ghost use Rattle.gx_node.specs.Keyed.{rules_of, AreKeys};
+ghost use Rattle.gx_node.specs.Store.{tree_of};
 
 use gx_class::KeyClass;
 use gx_tree::{Item, Pages, PagesMut, StepFault, descend_step, laws};

@@ -5,7 +5,7 @@ ghost use Rattle.gx_node.specs.Reading.{format_of};
 ghost use Rattle.gx_node.specs.declared.items.TheConstants.{MAX_ENTRIES};
 ghost use Rattle.gx_page.specs.Reading.{read_of};
 ghost use Rattle.gx_tree_laws.specs.Trees.{Node};
-ghost use Rattle.gx_tree_pages.specs.Store.{node_of, node_at};
+ghost use Rattle.gx_node.specs.Store.{node_of, node_at};
 ghost use Rattle.gx_callers.specs.declared.help.Help.{Help};
 
 use crate::help::Help;

@@ -15,7 +15,7 @@ use Rattle.gx_tree_laws.specs.Reach.{Item}
 use Rattle.gx_tree_laws.specs.Trees.{Node, Used, size}
 use Rattle.gx_tree_laws.specs.Writes.{is_sweepable}
 use Rattle.gx_tree.specs.declared.descent.Descended.{Descended}
-use Rattle.gx_tree_pages.specs.Store.{Store, tree_of}
+use Rattle.gx_node.specs.Store.{Store, tree_of}
 use Rattle.gx_recovery.specs.Known.{Known, Limits}
 use Rattle.gx_engine_laws.specs.Events.{Event}
 use Rattle.gx_index_laws.specs.Classes.{Class, IsLawful, Page}

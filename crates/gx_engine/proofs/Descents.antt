@@ -16,15 +16,15 @@ use Rattle.gx_tree_laws.specs.Reach.{Item}
 use Rattle.gx_tree_laws.specs.Trees.{Rules, Used, size}
 use Rattle.gx_tree.specs.declared.descent.Descended.{Descended}
 use Rattle.gx_tree.specs.declared.descent.Descended.TheVariants.{Down, Widened}
-use Rattle.gx_tree_pages.specs.declared.fault.StepFault.{StepFault}
-use Rattle.gx_tree_pages.specs.declared.fault.StepFault.TheVariants as step
+use Rattle.gx_node.specs.declared.fault.StepFault.{StepFault}
+use Rattle.gx_node.specs.declared.fault.StepFault.TheVariants as step
 use Rattle.gx_tree.specs.Descending.{StepsDown, is_widened}
 use Rattle.gx_tree.specs.declared.split.Split.{Split}
 use Rattle.gx_tree.specs.declared.split_root.RootSplit.{RootSplit}
-use Rattle.gx_tree_pages.specs.Owner.{IsWhy}
+use Rattle.gx_node.specs.Owner.{IsWhy}
 use Rattle.gx_tree.specs.Splitting.{DidSplitRoot, Splits, has_split}
 use Rattle.gx_tree.specs.Writing.{Swept}
-use Rattle.gx_tree_pages.specs.Store.{tree_of}
+use Rattle.gx_node.specs.Store.{tree_of}
 use Rattle.gx_recovery.specs.Analysis.{Analysis, analysis, read}
 use Rattle.gx_recovery.specs.Known.{Known, Limits}
 use Rattle.gx_recovery.specs.Logged.{Logged, all_records, appended}

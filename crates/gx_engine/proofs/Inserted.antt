@@ -10,7 +10,7 @@ use Rattle.gx_page.specs.Contents.{Contents}
 use Rattle.gx_node.specs.Reading.{Format}
 use Rattle.gx_tree_laws.specs.Reach.{Item}
 use Rattle.gx_tree_laws.specs.Trees.{Used}
-use Rattle.gx_tree_pages.specs.Store.{tree_of}
+use Rattle.gx_node.specs.Store.{tree_of}
 use Rattle.gx_tree.specs.Writing.{Appends}
 use Rattle.gx_recovery.specs.Known.{Known}
 use Rattle.gx_recovery.specs.Analysis.{Analysis, analysis, touching}

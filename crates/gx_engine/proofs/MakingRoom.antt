@@ -21,10 +21,10 @@ use Rattle.gx_tree_laws.proofs.Levels.{root_below_used}
 use Rattle.gx_tree.specs.declared.split.Split.{Split}
 use Rattle.gx_tree.specs.declared.split_root.RootSplit.{RootSplit}
 use Rattle.gx_tree.specs.Splitting.{DidSplit, DidSplitRoot, HasNoPlace}
-use Rattle.gx_tree_pages.specs.Store.{tree_of}
+use Rattle.gx_node.specs.Store.{tree_of}
 use Rattle.gx_tree.specs.Writing.{Swept}
 use Rattle.gx_glog.specs.State.{Log}
-use Rattle.gx_tree_pages.specs.Keyed.{rules_of}
+use Rattle.gx_node.specs.Keyed.{rules_of}
 use Rattle.gx_recovery.specs.Known.{Limits}
 use Rattle.gx_recovery.specs.Records.{Record}
 use Rattle.gx_engine_laws.specs.Events.{Closes, Event, Works}

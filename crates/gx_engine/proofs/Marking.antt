@@ -14,7 +14,7 @@ use Rattle.gx_tree_laws.specs.Steps.{IsMarking, Marks}
 use Rattle.gx_tree_laws.specs.Trees.{Node, Pair, Tree, Used}
 use Rattle.gx_tree_laws.proofs.AlikeSteps.{step_too}
 use Rattle.gx_tree_laws.proofs.AlikeTrees.{agree_back, legal_too, used_back}
-use Rattle.gx_tree_pages.specs.Keyed.{AreKeys}
+use Rattle.gx_node.specs.Keyed.{AreKeys}
 use Rattle.gx_tree.specs.Seeking.{Seeks}
 use Rattle.gx_tree.specs.Writing.{SetsMark}
 use Rattle.gx_tree.specs.declared.seek.Sought.TheVariants.{Here, Right}

@@ -12,7 +12,7 @@ use Rattle.gx_disk.proofs.Leaving.{leaves_joined}
 use Rattle.gx_page.specs.Contents.{Contents}
 use Rattle.gx_pool.specs.Bringing.{OnlyRead}
 use Rattle.gx_node.specs.Reading.{Format}
-use Rattle.gx_tree_pages.specs.Store.{Store}
+use Rattle.gx_node.specs.Store.{Store}
 use Rattle.gx_recovery.specs.Known.{Known, Limits}
 use Rattle.gx_engine_laws.specs.Events.{Event}
 use Rattle.gx_index_laws.specs.Classes.{Class, IsLawful, Page, known_of}

@@ -24,7 +24,7 @@ use Rattle.gx_tree_laws.proofs.Sums.{each_parts}
 use Rattle.gx_tree.specs.declared.found.Found.{Found}
 use Rattle.gx_tree.specs.declared.look.Look.{Look}
 use Rattle.gx_tree.specs.Found.{found_at, pairs_found}
-use Rattle.gx_tree_pages.specs.Keyed.{AreKeys}
+use Rattle.gx_node.specs.Keyed.{AreKeys}
 use Rattle.gx_tree.specs.Looking.{LookStep, below, beyond}
 use Rattle.gx_tree.proofs.Searched.{leads_to}
 use Rattle.gx_tree.proofs.Turned.{falls, goes_on, next_is_used}

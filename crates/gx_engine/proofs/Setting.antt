@@ -18,7 +18,7 @@ use Rattle.gx_tree_laws.specs.Lists.{how_many}
 use Rattle.gx_tree_laws.specs.Steps.{IsMarking}
 use Rattle.gx_tree_laws.specs.Trees.{Node, Pair, Tree, Used}
 use Rattle.gx_tree_laws.proofs.SeekSteps.{seek_at_leaf}
-use Rattle.gx_tree_pages.specs.Keyed.{AreKeys}
+use Rattle.gx_node.specs.Keyed.{AreKeys}
 use Rattle.gx_tree.specs.Writing.{SetsMark}
 use Rattle.gx_tree.specs.declared.seek.Sought.{Sought}
 use Rattle.gx_tree.specs.declared.seek.Sought.TheVariants.{Here, Right}

@@ -13,7 +13,7 @@ use Rattle.gx_node.specs.declared.items.TheConstants.{MAX_ENTRIES}
 use Rattle.gx_tree_laws.specs.Lists.{how_many}
 use Rattle.gx_tree_laws.specs.Trees.{Node, Used}
 use Rattle.gx_tree_laws.specs.Writes.{is_sweepable}
-use Rattle.gx_tree_pages.specs.Store.{Stays, Store, tree_of}
+use Rattle.gx_node.specs.Store.{Stays, Store, tree_of}
 use Rattle.gx_tree.specs.Writing.{Swept}
 use Rattle.gx_engine_laws.specs.Events.{Event, Works}
 use Rattle.gx_recovery.specs.Analysis.{Analysis, analysis}

@@ -22,11 +22,11 @@ use Rattle.gx_tree_laws.specs.Alike.{AgreeOnUsed}
 use Rattle.gx_tree_laws.specs.Lists.{how_many}
 use Rattle.gx_tree_laws.specs.Trees.{Node, Pair, Tree, Used}
 use Rattle.gx_tree_laws.proofs.SeekSteps.{seek_at_leaf}
-use Rattle.gx_tree_pages.specs.Keyed.{AreKeys}
-use Rattle.gx_tree_pages.specs.Owner.{IsWhy}
+use Rattle.gx_node.specs.Keyed.{AreKeys}
+use Rattle.gx_node.specs.Owner.{IsWhy}
 use Rattle.gx_tree.specs.Writing.{SetsMark}
-use Rattle.gx_tree_pages.specs.declared.fault.StepFault.{StepFault}
-use Rattle.gx_tree_pages.specs.declared.fault.StepFault.TheVariants as step
+use Rattle.gx_node.specs.declared.fault.StepFault.{StepFault}
+use Rattle.gx_node.specs.declared.fault.StepFault.TheVariants as step
 use Rattle.gx_tree.specs.declared.seek.Sought.{Sought}
 use Rattle.gx_tree.specs.declared.seek.Sought.TheVariants.{Here, Right}
 use Rattle.gx_recovery.specs.Known as known

@@ -7,7 +7,7 @@ use Rattle.gx_disk.specs.Device.{Device}
 use Rattle.gx_node.specs.Reading.{format_of, is_node}
 use Rattle.gx_recovery.specs.Known.{Limits}
 use Rattle.gx_readings.specs.Classes.{class_of, reading_of}
-use Rattle.gx_tree_pages.specs.Store.{Stays}
+use Rattle.gx_node.specs.Store.{Stays}
 use Rattle.gx_store.specs.Standing.{store_of}
 use Rattle.gx_store.specs.State.{IsSteady}
 use Rattle.gx_events.specs.declared.outcome.Outcome.{Outcome}

@@ -12,14 +12,14 @@ use Rattle.gx_tree_laws.specs.Reach.{Item}
 use Rattle.gx_tree_laws.specs.Trees.{Rules, Used, size}
 use Rattle.gx_tree_laws.specs.Writes.{is_sweepable}
 use Rattle.gx_tree.specs.declared.descent.Descended.{Descended}
-use Rattle.gx_tree_pages.specs.declared.fault.StepFault.{StepFault}
-use Rattle.gx_tree_pages.specs.declared.fault.StepFault.TheVariants as step
+use Rattle.gx_node.specs.declared.fault.StepFault.{StepFault}
+use Rattle.gx_node.specs.declared.fault.StepFault.TheVariants as step
 use Rattle.gx_tree.specs.Descending.{StepsDown, is_widened}
-use Rattle.gx_tree_pages.specs.Owner.{IsWhy}
+use Rattle.gx_node.specs.Owner.{IsWhy}
 use Rattle.gx_tree.specs.declared.split.Split.{Split}
 use Rattle.gx_tree.specs.declared.split_root.RootSplit.{RootSplit}
 use Rattle.gx_tree.specs.Splitting.{DidSplit, DidSplitRoot, HasNoPlace}
-use Rattle.gx_tree_pages.specs.Store.{tree_of}
+use Rattle.gx_node.specs.Store.{tree_of}
 use Rattle.gx_tree.specs.Writing.{Appends, Swept}
 use Rattle.gx_recovery.specs.Known.{Known, Limits}
 use Rattle.gx_index_laws.specs.Classes.{Page}

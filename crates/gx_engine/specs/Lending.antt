@@ -4,7 +4,7 @@ use Rattle.gx_geom.specs.declared.refusal.Refusal.TheVariants.{Failed}
 use Rattle.gx_disk.specs.Device.{Device}
 use Rattle.gx_page.specs.Contents.{Contents}
 use Rattle.gx_node.specs.Reading.{Format}
-use Rattle.gx_tree_pages.specs.Store.{node_of}
+use Rattle.gx_node.specs.Store.{node_of}
 use Rattle.gx_events.specs.declared.outcome.Outcome.{Outcome}
 use Rattle.gx_events.specs.declared.outcome.Outcome.TheVariants.{Refused}
 use Rattle.gx_store.specs.Standing.{standing}

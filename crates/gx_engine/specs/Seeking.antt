@@ -13,13 +13,13 @@ use Rattle.gx_disk.specs.Device.{Device}
 use Rattle.gx_page.specs.Contents.{Contents}
 use Rattle.gx_node.specs.Reading.{Format}
 use Rattle.gx_tree_laws.specs.Trees.{Pair, Used}
-use Rattle.gx_tree_pages.specs.declared.fault.StepFault.{StepFault}
-use Rattle.gx_tree_pages.specs.declared.fault.StepFault.TheVariants as step
+use Rattle.gx_node.specs.declared.fault.StepFault.{StepFault}
+use Rattle.gx_node.specs.declared.fault.StepFault.TheVariants as step
 use Rattle.gx_tree.specs.declared.seek.Sought.{Sought}
 use Rattle.gx_tree.specs.declared.seek.Sought.TheVariants.{Here, Right}
-use Rattle.gx_tree_pages.specs.Owner.{IsWhy}
+use Rattle.gx_node.specs.Owner.{IsWhy}
 use Rattle.gx_tree.specs.Seeking as tree
-use Rattle.gx_tree_pages.specs.Store.{tree_of}
+use Rattle.gx_node.specs.Store.{tree_of}
 use Rattle.gx_events.specs.declared.outcome.Need.{Need}
 use Rattle.gx_events.specs.declared.outcome.Need.TheVariants as need
 use Rattle.gx_events.specs.declared.outcome.Outcome.{Outcome}

@@ -9,7 +9,7 @@ use Rattle.gx_page.specs.Contents.{Contents}
 use Rattle.gx_node.specs.Reading.{Format}
 use Rattle.gx_node.specs.declared.items.TheConstants.{MAX_ENTRIES}
 use Rattle.gx_tree_laws.specs.Trees.{Node}
-use Rattle.gx_tree_pages.specs.Store.{tree_of}
+use Rattle.gx_node.specs.Store.{tree_of}
 use Rattle.gx_tree.specs.Writing.{Swept}
 use Rattle.gx_engine_laws.specs.Events.{Event, Works, Fails}
 use Rattle.gx_recovery.specs.Known.{Known, Limits}

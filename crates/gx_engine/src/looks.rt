@@ -9,7 +9,7 @@ ghost use Rattle.gx_store.specs.Standing.{store_of};
 ghost use Rattle.gx_storage.specs.Bringing.{bringing};
 ghost use Rattle.gx_storage.specs.Changes.{IsUnlogged, known_at};
 ghost use Rattle.gx_tree.specs.Looking.{LookStep};
-ghost use Rattle.gx_tree_pages.specs.Store.{tree_of};
+ghost use Rattle.gx_node.specs.Store.{tree_of};
 ghost use Rattle.gx_tree.specs.Wants.{wants};
 ghost use Rattle.gx_phases.specs.declared.phase.Phase.TheVariants.{Open};
 ghost use Rattle.gx_phases.specs.Moves.{is_open};

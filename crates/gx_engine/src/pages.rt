@@ -8,7 +8,7 @@ ghost use Rattle.gx_store.specs.Standing.{store_of};
 ghost use Rattle.gx_store.specs.State.{IsHeld, IsSteady};
 ghost use Rattle.gx_storage.specs.Bringing.{bringing};
 ghost use Rattle.gx_storage.specs.Changes.{IsUnlogged, known_at};
-ghost use Rattle.gx_tree_pages.specs.Store.{Stays};
+ghost use Rattle.gx_node.specs.Store.{Stays};
 ghost use Rattle.gx_engine.specs.Holds.{Leads};
 ghost use Rattle.gx_engine.specs.Lending.{BringPageComes, StandsAs};
 ghost use Rattle.gx_engine.specs.States.{IsOrderly};

@@ -2,8 +2,7 @@
 use gx_class::Box2Class;
 use gx_disk::MemDisk;
 use gx_format::{format, sectors_for};
-use gx_restart::open;
-use gx_restart::Index;
+use gx_restart::{Index, open};
 use std::alloc::Global;
 
 // How many pages the tests' devices have, and how many entries a node.

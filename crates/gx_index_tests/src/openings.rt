@@ -2,8 +2,7 @@
 use crate::devices::formatted;
 use gx_class::Box2Class;
 use gx_disk::{MemDisk, SectorDisk};
-use gx_engine::{drive, repeat};
-use gx_engine::Engine;
+use gx_engine::{Engine, drive, repeat};
 use gx_events::Event;
 use gx_geom::{Box2, Refusal};
 use gx_machine::{Call, Entry, Query, Reply};

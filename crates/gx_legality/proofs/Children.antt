@@ -6,9 +6,9 @@ use Rattle.gx_page.specs.Contents.{Contents}
 use Rattle.gx_node.specs.Reading.{Format, leaf_of, inner_of}
 use Rattle.gx_tree_laws.specs.Trees.{Child, Node, Tree, Rules, Used, size}
 use Rattle.gx_tree_laws.specs.Legal.{ChildFits, NodeFits, Bounds}
-use Rattle.gx_tree_pages.specs.Owner.{IsWhyLater}
-use Rattle.gx_tree_pages.specs.Store.{Store, node_of, node_at, tree_of}
-use Rattle.gx_tree_pages.proofs.Listed.{same_store}
+use Rattle.gx_node.specs.Owner.{IsWhyLater}
+use Rattle.gx_node.specs.Store.{Store, node_of, node_at, tree_of}
+use Rattle.gx_node.proofs.Listed.{same_store}
 use Rattle.gx_legality.specs.declared.fault.LegalityFault.{LegalityFault}
 use Rattle.gx_legality.specs.declared.fault.LegalityFault.TheVariants.{Memory, Pages, Broken, Unsteady}
 use Rattle.gx_legality.specs.declared.fault.Rule.{Rule}

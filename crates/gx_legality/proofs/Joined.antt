@@ -2,7 +2,7 @@
 use Rattle.std.proofs.Common.{◌≡◌, ◌∙◌, ℕ, suc, ◌+◌, ◌<◌, ◌≤◌, Bool, List, length, Option, Result, Ok, Err, OnOk, IfErr, arith, subst, sym}
 use Rattle.gx_tree_laws.specs.Legal.{Legal, Linked, NodeFits}
 use Rattle.gx_tree_laws.specs.Trees.{Tree, Rules, Used, leaves, parents, times, size, standing, is_entry}
-use Rattle.gx_tree_pages.specs.Store.{Store, node_at, tree_of}
+use Rattle.gx_node.specs.Store.{Store, node_at, tree_of}
 use Rattle.gx_legality.specs.declared.fault.LegalityFault.{LegalityFault}
 use Rattle.gx_legality.specs.Breaks.{Breaks}
 use Rattle.gx_legality.specs.Marks.{AreLinks, HasShape, marked}

@@ -6,7 +6,7 @@ use Rattle.gx_tree_laws.specs.Lists.{Each, total}
 use Rattle.gx_tree_laws.specs.Trees.{Child, Node, Tree, Rules, times, child_pages, parents}
 use Rattle.gx_tree_laws.proofs.Chains.{some_times}
 use Rattle.gx_tree_laws.proofs.Sums.{each_map, each-map}
-use Rattle.gx_tree_pages.specs.Store.{Store, node_at, tree_of}
+use Rattle.gx_node.specs.Store.{Store, node_at, tree_of}
 use Rattle.gx_legality.specs.declared.fault.LegalityFault.{LegalityFault}
 use Rattle.gx_legality.specs.declared.fault.LegalityFault.TheVariants.{Memory, Pages, Broken, Unsteady}
 use Rattle.gx_legality.specs.declared.fault.Rule.TheVariants.{NamedTwice}

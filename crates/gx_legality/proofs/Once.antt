@@ -16,7 +16,7 @@ use Rattle.gx_tree_laws.specs.Legal.{Linked}
 use Rattle.gx_tree_laws.specs.Lists.{how_many, one_if}
 use Rattle.gx_tree_laws.specs.Trees.{Pair, Tree, Rules, Used, leaves, walk, passing, standing, size, is_entry}
 use Rattle.gx_tree_laws.proofs.Sums.{sum_over-append, sum_over_le, sum_over_add, each_always}
-use Rattle.gx_tree_pages.specs.Store.{Store, tree_of}
+use Rattle.gx_node.specs.Store.{Store, tree_of}
 use Rattle.gx_legality.specs.declared.fault.LegalityFault.{LegalityFault}
 use Rattle.gx_legality.specs.declared.fault.LegalityFault.TheVariants.{Memory, Pages, Broken, Unsteady}
 use Rattle.gx_legality.specs.declared.fault.Rule.TheVariants.{PairTwice}

@@ -1,7 +1,7 @@
 -- What a test leaves of its pages' owner, and why it was refused.
 use Rattle.std.specs.Prelude.{ℕ}
-use Rattle.gx_tree_pages.specs.Owner.{KeepsSince}
-use Rattle.gx_tree_pages.specs.Store.{Store, Stays}
+use Rattle.gx_node.specs.Owner.{KeepsSince}
+use Rattle.gx_node.specs.Store.{Store, Stays}
 use Rattle.gx_legality.specs.declared.fault.LegalityFault.{LegalityFault}
 use Rattle.gx_legality.specs.declared.fault.LegalityFault.TheVariants.{Memory, Pages, Broken, Unsteady}
 use Rattle.gx_legality.specs.declared.fault.Rule.{Rule}

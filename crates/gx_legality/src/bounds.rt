@@ -4,8 +4,8 @@ ghost use Rattle.gx_node.specs.Reading.{format_of, is_node};
 ghost use Rattle.gx_node.specs.Seen.{child_seen};
 ghost use Rattle.gx_tree_laws.specs.Legal.{Bounds};
 ghost use Rattle.gx_tree_laws.specs.Lists.{Each};
-ghost use Rattle.gx_tree_pages.specs.Keyed.{rules_of};
-ghost use Rattle.gx_tree_pages.specs.Store.{node_of};
+ghost use Rattle.gx_node.specs.Keyed.{rules_of};
+ghost use Rattle.gx_node.specs.Store.{node_of};
 ghost use Rattle.gx_legality.specs.Nodes.{FitsAlone, FailsAlone, FitsBelow, FailsBelow};
 
 use crate::fault::Rule;

@@ -2,9 +2,9 @@
 ghost use Rattle.std.specs.Prelude.{◌≡◌, ◌↔◌, ℕ, suc, ◌+◌, ◌^◌, ◌<◌, ◌≤◌, None, length, slice_index_or, OnOk, IfOk, IfErr, IsTrue};
 ghost use Rattle.gx_tree_laws.specs.Legal.{Legal, NodeFits};
 ghost use Rattle.gx_tree_laws.specs.Trees.{Tree, Rules, Used, parents};
-ghost use Rattle.gx_tree_pages.specs.Keyed.{rules_of};
-ghost use Rattle.gx_tree_pages.specs.Owner.{IsWhyLater};
-ghost use Rattle.gx_tree_pages.specs.Store.{node_at, tree_of};
+ghost use Rattle.gx_node.specs.Keyed.{rules_of};
+ghost use Rattle.gx_node.specs.Owner.{IsWhyLater};
+ghost use Rattle.gx_node.specs.Store.{node_at, tree_of};
 ghost use Rattle.gx_legality.specs.Breaks.{Breaks};
 ghost use Rattle.gx_legality.specs.Marks.{AreLinks, HasShape, marked};
 ghost use Rattle.gx_legality.specs.Owner.{OnlyReads, IsWhy, IsFound};
@@ -17,7 +17,7 @@ use crate::node::bring_pages;
 use crate::nodes::test_nodes;
 use crate::pairs::test_pairs_in;
 use gx_class::KeyClass;
-use gx_tree_pages::Pages;
+use gx_node::Pages;
 use std::alloc::{AllocError, Global};
 
 /// Marks for each page and for page 0, none of them set.

@@ -3,7 +3,7 @@ ghost use Rattle.std.specs.Prelude.{◌≡◌, ℕ, ◌+◌, ◌<◌, ◌≤◌,
 ghost use Rattle.gx_node.specs.Reading.{format_of, is_node};
 ghost use Rattle.gx_tree_laws.specs.Lists.{one_if};
 ghost use Rattle.gx_tree_laws.specs.Trees.{times, child_pages};
-ghost use Rattle.gx_tree_pages.specs.Store.{node_of};
+ghost use Rattle.gx_node.specs.Store.{node_of};
 ghost use Rattle.gx_legality.specs.Marks.{marked};
 
 use crate::bounds::child_at;

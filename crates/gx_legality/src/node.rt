@@ -3,9 +3,9 @@ ghost use Rattle.std.specs.Prelude.{◌≡◌, ◌<◌, ◌≤◌, [], length, s
 ghost use Rattle.gx_tree_laws.specs.Legal.{ChildFits, NodeFits};
 ghost use Rattle.gx_tree_laws.specs.Lists.{Each};
 ghost use Rattle.gx_tree_laws.specs.Trees.{Child, Used, size};
-ghost use Rattle.gx_tree_pages.specs.Keyed.{rules_of};
-ghost use Rattle.gx_tree_pages.specs.Owner.{IsWhyLater};
-ghost use Rattle.gx_tree_pages.specs.Store.{node_at, tree_of};
+ghost use Rattle.gx_node.specs.Keyed.{rules_of};
+ghost use Rattle.gx_node.specs.Owner.{IsWhyLater};
+ghost use Rattle.gx_node.specs.Store.{node_at, tree_of};
 ghost use Rattle.gx_legality.specs.Breaks.{Breaks};
 ghost use Rattle.gx_legality.specs.Nodes.{FitsAlone};
 ghost use Rattle.gx_legality.specs.Owner.{OnlyReads, IsWhy, IsFound};
@@ -13,7 +13,7 @@ ghost use Rattle.gx_legality.specs.Owner.{OnlyReads, IsWhy, IsFound};
 use crate::bounds::{child_at, test_alone, test_below};
 use crate::fault::{LegalityFault, Rule};
 use gx_class::KeyClass;
-use gx_tree_pages::Pages;
+use gx_node::Pages;
 
 /// Brings pages that are taken, four at most. Refused with `Pages`.
 pub(crate) fn bring_pages<K: KeyClass, P: Pages<K>>(

@@ -2,9 +2,9 @@
 ghost use Rattle.std.specs.Prelude.{◌≡◌, ℕ, suc, ◌+◌, ◌<◌, ◌≤◌, ◌⊎◌, None, length, slice_index_or, slice_set, OnOk, IfErr};
 ghost use Rattle.gx_tree_laws.specs.Legal.{NodeFits};
 ghost use Rattle.gx_tree_laws.specs.Trees.{Used, times, child_pages, parents};
-ghost use Rattle.gx_tree_pages.specs.Keyed.{rules_of};
-ghost use Rattle.gx_tree_pages.specs.Owner.{IsWhyLater};
-ghost use Rattle.gx_tree_pages.specs.Store.{node_at, node_of, tree_of};
+ghost use Rattle.gx_node.specs.Keyed.{rules_of};
+ghost use Rattle.gx_node.specs.Owner.{IsWhyLater};
+ghost use Rattle.gx_node.specs.Store.{node_at, node_of, tree_of};
 ghost use Rattle.gx_node.specs.Reading.{format_of};
 ghost use Rattle.gx_legality.specs.Breaks.{Breaks};
 ghost use Rattle.gx_legality.specs.Marks.{AreLinks, IsTwice, link_of, marked};
@@ -14,8 +14,8 @@ use crate::fault::{LegalityFault, Rule};
 use crate::named::mark_children;
 use crate::node::test_node;
 use gx_class::KeyClass;
+use gx_node::Pages;
 use gx_page::Page;
-use gx_tree_pages::Pages;
 
 /// A leaf's rightlink. `None` for a page that isn't a leaf.
 fn link_of<K: KeyClass>(page: &Page) -> Option<u32>

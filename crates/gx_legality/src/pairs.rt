@@ -6,9 +6,9 @@ ghost use Rattle.gx_node.specs.Edits.{entry_of};
 ghost use Rattle.gx_node.specs.Reading.{format_of, is_node};
 ghost use Rattle.gx_tree_laws.specs.Legal.{Linked};
 ghost use Rattle.gx_tree_laws.specs.Trees.{Pair, Used, leaves, size, standing, is_entry};
-ghost use Rattle.gx_tree_pages.specs.Keyed.{rules_of};
-ghost use Rattle.gx_tree_pages.specs.Owner.{IsWhyLater};
-ghost use Rattle.gx_tree_pages.specs.Store.{node_at, node_of, tree_of};
+ghost use Rattle.gx_node.specs.Keyed.{rules_of};
+ghost use Rattle.gx_node.specs.Owner.{IsWhyLater};
+ghost use Rattle.gx_node.specs.Store.{node_at, node_of, tree_of};
 ghost use Rattle.gx_legality.specs.Breaks.{Breaks};
 ghost use Rattle.gx_legality.specs.Entries.{IsPairTwice, entries_on};
 ghost use Rattle.gx_legality.specs.Gathered.{Gathers, StandsTwice, gathered_above};
@@ -19,9 +19,8 @@ use crate::gather::{Gather, Pass};
 use crate::node::bring_pages;
 use gx_class::KeyClass;
 use gx_machine::Entry;
-use gx_node::Leaf;
+use gx_node::{Leaf, Pages};
 use gx_page::Page;
-use gx_tree_pages::Pages;
 use std::alloc::Global;
 
 /// A slot's row and key. `None` for a slot behind the last, and on a page that isn't a leaf.

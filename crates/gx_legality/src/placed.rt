@@ -7,9 +7,9 @@ ghost use Rattle.gx_node.specs.Reading.{format_of, is_node};
 ghost use Rattle.gx_tree_laws.specs.Legal.{Legal, Linked};
 ghost use Rattle.gx_tree_laws.specs.Lists.{Each};
 ghost use Rattle.gx_tree_laws.specs.Trees.{Used, leaves};
-ghost use Rattle.gx_tree_pages.specs.Keyed.{rules_of};
-ghost use Rattle.gx_tree_pages.specs.Owner.{IsWhyLater};
-ghost use Rattle.gx_tree_pages.specs.Store.{node_at, node_of, tree_of};
+ghost use Rattle.gx_node.specs.Keyed.{rules_of};
+ghost use Rattle.gx_node.specs.Owner.{IsWhyLater};
+ghost use Rattle.gx_node.specs.Store.{node_at, node_of, tree_of};
 ghost use Rattle.gx_legality.specs.Gathered.{Ascends};
 ghost use Rattle.gx_legality.specs.Owner.{OnlyReads, IsWhy, IsFound};
 ghost use Rattle.gx_legality.specs.Placing.{IsPlaced, IsOutOfPlace, Moves, come_to, is_noted, met, noted, passed, stage_at};
@@ -21,8 +21,8 @@ use crate::notes::{Note, Stage, come_to_page, meet_entry, test_found};
 use crate::pairs::entry_at;
 use gx_class::KeyClass;
 use gx_machine::Entry;
+use gx_node::Pages;
 use gx_page::Page;
-use gx_tree_pages::Pages;
 use std::alloc::{AllocError, Global};
 
 /// Stages of so many notes, none of them come to.

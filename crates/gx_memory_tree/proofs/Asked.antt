@@ -4,7 +4,7 @@ use Rattle.gx_tree_laws.specs.Lists.{one_if}
 use Rattle.gx_tree_laws.specs.Trees.{Pair, Tree, times}
 use Rattle.gx_tree_laws.specs.Reach.{Item, times_ahead}
 use Rattle.gx_tree_laws.specs.Looks.{IsLook}
-use Rattle.gx_tree_pages.specs.Owner.{Asking, Brings, Asks, AsksAtMost, AsksEachOnce, brings}
+use Rattle.gx_node.specs.Owner.{Asking, Brings, Asks, AsksAtMost, AsksEachOnce, brings}
 
 module _ {P K : Type 0} (asked : P → P → List Asking → Type 0) (t : Tree K) where
   -- what was read and what lies ahead of these items is no page twice

@@ -13,7 +13,7 @@ use Rattle.gx_tree.specs.declared.descent.Descended.TheVariants.{Down, Widened}
 use Rattle.gx_memory_tree.specs.declared.inserts.Place.{Place}
 use Rattle.gx_tree.specs.Descending.{IsChoice, StepsDown}
 use Rattle.gx_memory_tree.specs.Inserting.{GoesOn, IsInsert}
-use Rattle.gx_tree_pages.specs.Store.{Store, tree_of}
+use Rattle.gx_node.specs.Store.{Store, tree_of}
 use Rattle.gx_memory_tree.proofs.Steps.{no_way, still_absent, way_by}
 use Rattle.gx_tree.proofs.Ways.{each_slot, named}
 use Rattle.gx_tree.proofs.Widens.{keys_widened, went_down, went_widened, went_widening}

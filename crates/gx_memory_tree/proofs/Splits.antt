@@ -7,7 +7,7 @@ use Rattle.gx_memory_tree.specs.declared.inserts.Place.{Place}
 use Rattle.gx_tree.specs.declared.split.Split.{Split}
 use Rattle.gx_memory_tree.specs.Inserting.{IsFullAt, SplitsOrNot}
 use Rattle.gx_tree.specs.Splitting.{Splits, keys_in, least_of}
-use Rattle.gx_tree_pages.specs.Store.{Store, node_at, tree_of}
+use Rattle.gx_node.specs.Store.{Store, node_at, tree_of}
 use Rattle.gx_tree.proofs.Restarts.{restarts}
 
 module _ {B : Type 0} (r : Rules B) (old : Store B) (place : Place) (at : IsFullAt r (tree_of old) place) (below : place.item.page ≢ 1) where

@@ -15,7 +15,7 @@ use Rattle.gx_tree_laws.proofs.Roots.{legal_root, standing_root}
 use Rattle.gx_tree_laws.proofs.Splits.{legal_split, standing_split}
 use Rattle.gx_memory_tree.specs.declared.inserts.Place.{Place}
 use Rattle.gx_memory_tree.specs.Inserting.{CameFrom, GoesOn, HasAdded, HasSplit, HasSwept, IsFullAt, IsInsert, MakesRoom, MakesWay, SplitsOrNot, from_top, live_and}
-use Rattle.gx_tree_pages.specs.Keyed.{AreKeys}
+use Rattle.gx_node.specs.Keyed.{AreKeys}
 use Rattle.gx_tree.specs.Writing.{Appends, live}
 use Rattle.gx_tree.proofs.KeysKept.{keys_step}
 use Rattle.gx_tree.proofs.Marking.{adding}

@@ -7,7 +7,7 @@ use Rattle.gx_tree_laws.specs.Legal.{Legal}
 use Rattle.gx_tree_laws.specs.Looks.{from_root}
 use Rattle.gx_tree_laws.specs.Steps.{Step, AreSteps, IsAdding, IsRootSplit, IsSplit, IsSweep}
 use Rattle.gx_tree_laws.specs.Writes.{IsDescent, descent_left, is_sweepable, must_restart}
-use Rattle.gx_tree_pages.specs.Keyed.{AreKeys}
+use Rattle.gx_node.specs.Keyed.{AreKeys}
 use Rattle.gx_tree.specs.Writing.{live}
 use Rattle.gx_memory_tree.specs.declared.inserts.Place.{Place}
 

@@ -5,9 +5,9 @@ ghost use Rattle.gx_tree_laws.specs.Legal.{Legal};
 ghost use Rattle.gx_tree_laws.specs.Lists.{one_if};
 ghost use Rattle.gx_tree_laws.specs.Trees.{Pair, standing, is_entry};
 ghost use Rattle.gx_memory_tree.specs.Inserting.{GoesOn, HasAdded, IsFullAt, IsInsert, MakesRoom, MakesWay, SplitsOrNot, from_top, live_and};
-ghost use Rattle.gx_tree_pages.specs.Keyed.{rules_of, AreKeys};
-ghost use Rattle.gx_tree_pages.specs.Owner.{IsWhy};
-ghost use Rattle.gx_tree_pages.specs.Store.{node_at, tree_of};
+ghost use Rattle.gx_node.specs.Keyed.{rules_of, AreKeys};
+ghost use Rattle.gx_node.specs.Owner.{IsWhy};
+ghost use Rattle.gx_node.specs.Store.{node_at, tree_of};
 ghost use Rattle.gx_tree.specs.Writing.{live};
 
 use gx_class::KeyClass;

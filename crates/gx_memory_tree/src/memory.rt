@@ -3,7 +3,7 @@ ghost use Rattle.std.specs.Prelude.{◌≡◌, ◌<◌, ◌+◌, ◌-◌, ◌^�
 ghost use Rattle.std.specs.List.{list_all};
 ghost use Rattle.gx_node.specs.Reading.{format_of, is_node};
 ghost use Rattle.gx_tree_laws.specs.Trees.{Used};
-ghost use Rattle.gx_tree_pages.specs.Store.{node_at, node_of, numbered, tree_of};
+ghost use Rattle.gx_node.specs.Store.{node_at, node_of, numbered, tree_of};
 
 use gx_class::KeyClass;
 use gx_geom::Refusal;
@@ -28,7 +28,7 @@ impl<K: KeyClass> Model for MemoryPages<K> {
     ghost use Rattle.std.specs.Prelude.{map, length, ◌+◌, ◌≤◌, ◌<◌, ◌^◌, ◌≡◌, true, vec_capacity};
     ghost use Rattle.std.specs.List.{list_all};
     ghost use Rattle.gx_node.specs.Reading.{format_of, is_node};
-    ghost use Rattle.gx_tree_pages.specs.Store.{Store, node_of, numbered};
+    ghost use Rattle.gx_node.specs.Store.{Store, node_of, numbered};
 
     ghost Value = { Store K.Key };
 

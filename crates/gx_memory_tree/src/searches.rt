@@ -5,9 +5,9 @@ ghost use Rattle.gx_tree_laws.specs.Lists.{how_many};
 ghost use Rattle.gx_tree_laws.specs.Trees.{Pair, standing};
 ghost use Rattle.gx_tree_laws.specs.Legal.{Legal};
 ghost use Rattle.gx_tree.specs.Found.{pairs_found};
-ghost use Rattle.gx_tree_pages.specs.Keyed.{rules_of, AreKeys};
-ghost use Rattle.gx_tree_pages.specs.Owner.{AsksEachOnce, KeepsSince, IsWhy};
-ghost use Rattle.gx_tree_pages.specs.Store.{tree_of};
+ghost use Rattle.gx_node.specs.Keyed.{rules_of, AreKeys};
+ghost use Rattle.gx_node.specs.Owner.{AsksEachOnce, KeepsSince, IsWhy};
+ghost use Rattle.gx_node.specs.Store.{tree_of};
 
 use gx_class::Probing;
 use gx_machine::Query;

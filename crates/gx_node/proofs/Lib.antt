@@ -10,8 +10,9 @@ pub mod Heaps
 pub mod Keys
 pub mod Live
 pub mod OneChanged
-pub mod Pages
+pub mod OnPages
 pub mod Pairs
 pub mod Parts
 pub mod Scanning
 pub mod Slots
+pub mod Listed

@@ -4,3 +4,6 @@ pub mod Hits
 pub mod Laws
 pub mod Reading
 pub mod Seen
+pub mod Keyed
+pub mod Owner
+pub mod Store

@@ -5,8 +5,7 @@ use crate::fault::RunFault;
 use crate::sets::set_of;
 use gx_class::Box2Class;
 use gx_disk::{MemDisk, SectorDisk};
-use gx_restart::open;
-use gx_restart::Index;
+use gx_restart::{Index, open};
 use std::alloc::Global;
 
 // So many whole sectors of zeros.

@@ -4,8 +4,7 @@ use gx_class::Box2Class;
 use gx_disk::{Fuse, FuseDisk, MemDisk, Torn};
 use gx_engine::{Engine, NotOpened};
 use gx_format::{format, sectors_for};
-use gx_restart::open;
-use gx_restart::{Index, run_script};
+use gx_restart::{Index, open, run_script};
 use std::alloc::Global;
 
 /// How many pages a device has, and how many entries a node.

@@ -7,3 +7,5 @@ pub mod Bridging
 pub mod Found
 pub mod Stood
 pub mod Faults
+pub mod Telling
+pub mod Resting

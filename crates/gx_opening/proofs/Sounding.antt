@@ -30,7 +30,7 @@ use Rattle.gx_store.specs.State.{IsInOrder, IsSteady, Shelf}
 use Rattle.gx_store.specs.declared.fault.StoreFault.{StoreFault}
 use Rattle.gx_store.specs.declared.fault.StoreFault.TheVariants as store_fault
 use Rattle.gx_store.proofs.Listed.{nodes_long}
-use Rattle.gx_tree_pages.specs.Store as store
+use Rattle.gx_node.specs.Store as store
 use Rattle.gx_tree_laws.specs.Legal.{Legal}
 use Rattle.gx_tree_laws.specs.Lists.{Each, SomeOf}
 use Rattle.gx_tree_laws.specs.Trees.{Rules, Tree}

@@ -3,3 +3,5 @@ pub mod Laid
 pub mod Noting
 pub mod Sound
 pub mod Standing
+pub mod Texts
+pub mod Shown

@@ -7,7 +7,7 @@ ghost use Rattle.gx_pool.specs.Bringing.{OnlyRead};
 ghost use Rattle.gx_recovery.specs.Known.{Limits};
 ghost use Rattle.gx_index_laws.specs.Classes.{known_of};
 ghost use Rattle.gx_readings.specs.Classes.{class_of, reading_of};
-ghost use Rattle.gx_tree_pages.specs.Keyed.{rules_of};
+ghost use Rattle.gx_node.specs.Keyed.{rules_of};
 ghost use Rattle.gx_tree_laws.specs.Legal.{Legal};
 ghost use Rattle.gx_tree_laws.specs.Lists.{Each};
 ghost use Rattle.gx_legality.specs.Gathered.{Ascends};
@@ -23,11 +23,11 @@ use gx_geom::Refusal;
 use gx_legality::laws::what_breaks_a_rule_is_not_legal;
 use gx_legality::{LegalityFault, Note, are_in_order, test_placed, test_tree};
 use gx_machine::Entry;
+use gx_node::Pages;
 use gx_pool::Pool;
 use gx_readings::ReadKeys;
 use gx_store::laws::{a_store_starts, going_on};
 use gx_store::{NodeTest, PageStore, StoreFault};
-use gx_tree_pages::Pages;
 use std::alloc::Global;
 
 /// How many frames the tests take: two pages are held at a time.

@@ -1,6 +1,8 @@
-//! What an opening finds on a device: it is settled and read for what it is formatted for, its log is read and laid, and its pages are tested.
+//! What an opening finds on a device: it is settled and read for what it is formatted for, its log is read and laid, and its pages are
+//! tested; and where it is refused, what is damaged there.
 #![tactic(auto)]
 
+mod damage;
 mod formatted;
 pub mod laws;
 mod legal;
@@ -8,6 +10,7 @@ mod log;
 mod notes;
 mod standing;
 
+pub use damage::{Damage, examine};
 pub use formatted::formatted_for;
 pub use notes::notes_of;
 pub use standing::{Standing, find};

@@ -12,7 +12,7 @@ use Rattle.gx_machine.specs.Keys.{Members}
 use Rattle.gx_page.specs.Contents.{Contents}
 use Rattle.gx_node.specs.Reading.{format_of, is_node}
 use Rattle.gx_tree_laws.specs.Trees.{Node, Tree}
-use Rattle.gx_tree_pages.specs.Store.{node_of}
+use Rattle.gx_node.specs.Store.{node_of}
 use Rattle.gx_recovery.specs.Known.{Limits}
 use Rattle.gx_index_laws.specs.Classes.{known_of}
 use Rattle.gx_readings.specs.Classes.{class_of, reading_of}

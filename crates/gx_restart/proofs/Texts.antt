@@ -8,7 +8,7 @@ use Rattle.std.proofs.lemmas.Option.{get_or_from_slice_get, slice_get_within}
 use Rattle.gx_geom.specs.Rectangles.{Rectangle}
 use Rattle.gx_page.specs.Contents.{Contents}
 use Rattle.gx_node.specs.Reading.{Format, leaf_of, inner_of, pair_of, child_of}
-use Rattle.gx_tree_pages.specs.Store.{node_of}
+use Rattle.gx_node.specs.Store.{node_of}
 use Rattle.gx_tree_laws.specs.Trees.{Node}
 use Rattle.gx_script.specs.Writes.{IsPut}
 use Rattle.gx_script.proofs.WriteLemmas.{put_more, put_nothing, texts_more}

@@ -9,8 +9,7 @@ ghost use Rattle.gx_engine.specs.Made.{Makes};
 
 use gx_class::Probing;
 use gx_disk::SectorDisk;
-use gx_engine::drive;
-use gx_engine::Engine;
+use gx_engine::{Engine, drive};
 use gx_events::Event;
 use gx_geom::Refusal;
 use gx_machine::{Call, Reply};

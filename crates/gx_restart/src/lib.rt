@@ -12,8 +12,7 @@ mod settle;
 mod text;
 
 pub use fault::DumpFault;
-pub use gx_engine::EVENTS;
-pub use gx_engine::NotOpened;
+pub use gx_engine::{EVENTS, NotOpened};
 pub use gx_format::format;
 pub use gx_script::ScriptFault;
 pub use index::Index;

@@ -20,8 +20,8 @@ use Rattle.gx_tree_laws.proofs.Chains.{some_child}
 use Rattle.gx_node.specs.Reading.{Format}
 use Rattle.gx_tree.specs.Descending.{IsChoice, StepsDown}
 use Rattle.gx_tree.specs.declared.descent.Descended.TheVariants.{Down, Widened}
-use Rattle.gx_tree_pages.specs.Keyed.{AreKeys}
-use Rattle.gx_tree_pages.specs.Store.{Store, tree_of}
+use Rattle.gx_node.specs.Keyed.{AreKeys}
+use Rattle.gx_node.specs.Store.{Store, tree_of}
 use Rattle.gx_tree.proofs.Ways.{named}
 use Rattle.gx_tree.proofs.Widens.{went_down, went_widened, went_widening}
 use Rattle.gx_engine_laws.specs.Slots.{Note, Working, slot_at}

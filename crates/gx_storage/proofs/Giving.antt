@@ -26,7 +26,7 @@ use Rattle.gx_durable.specs.Stored.{images_of, stored}
 use Rattle.gx_readings.specs.Classes.{reading_of}
 use Rattle.gx_store.specs.Since.{GoesOn, IsAsItWas}
 use Rattle.gx_store.specs.State.{Shelf, IsHeld}
-use Rattle.gx_tree_pages.specs.Store.{Store}
+use Rattle.gx_node.specs.Store.{Store}
 use Rattle.gx_tree.specs.Descending.{StepsDown, WayAt, is_widened}
 use Rattle.gx_tree.specs.declared.descent.Way.{Way}
 use Rattle.gx_tree.specs.declared.descent.Way.TheVariants.{Again, Add, FullLeaf, FullInner, Down, Widen}

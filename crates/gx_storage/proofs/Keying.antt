@@ -16,8 +16,8 @@ use Rattle.gx_tree_laws.specs.Trees.{Node, Used}
 use Rattle.gx_node.specs.Entries.{IsChild, IsPair}
 use Rattle.gx_node.specs.Laws.{InnersHold, LeavesHold}
 use Rattle.gx_node.specs.Reading.{Format, are_children, are_pairs, inner_of, is_node, leaf_of}
-use Rattle.gx_tree_pages.specs.Keyed.{AreKeys}
-use Rattle.gx_tree_pages.specs.Store.{node_of, tree_of}
+use Rattle.gx_node.specs.Keyed.{AreKeys}
+use Rattle.gx_node.specs.Store.{node_of, tree_of}
 use Rattle.gx_store.specs.Faults.{CanBeRead}
 use Rattle.gx_store.specs.Standing.{standing_node, store_of}
 use Rattle.gx_store.specs.State.{IsSteady}

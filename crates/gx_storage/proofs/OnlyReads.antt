@@ -4,7 +4,7 @@ use Rattle.gx_machine.specs.declared.entry.Entry.{Entry}
 use Rattle.gx_disk.specs.Device.{Device}
 use Rattle.gx_page.specs.Contents.{Contents}
 use Rattle.gx_node.specs.Reading.{Format}
-use Rattle.gx_tree_pages.specs.Store.{Stays}
+use Rattle.gx_node.specs.Store.{Stays}
 use Rattle.gx_recovery.specs.Known.{Known, Limits}
 use Rattle.gx_index_laws.specs.Classes.{Page}
 use Rattle.gx_durable.specs.Spelled.{Reading}

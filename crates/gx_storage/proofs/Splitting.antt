@@ -17,7 +17,7 @@ use Rattle.gx_tree_laws.specs.Steps.{IsSplit, IsRootSplit, with_key}
 use Rattle.gx_tree_laws.proofs.Sums.{length_parted}
 use Rattle.gx_node.specs.Reading.{Format}
 use Rattle.gx_tree.specs.Splitting.{DidSplit, DidSplitRoot}
-use Rattle.gx_tree_pages.specs.Store.{Store, node_at, tree_of}
+use Rattle.gx_node.specs.Store.{Store, node_at, tree_of}
 use Rattle.gx_tree.specs.declared.split.Split.{Split}
 use Rattle.gx_tree.specs.declared.split_root.RootSplit.{RootSplit}
 use Rattle.gx_recovery.specs.Known.{Known, Limits}

@@ -11,13 +11,13 @@ use Rattle.gx_tree_laws.specs.Trees.{Node}
 use Rattle.gx_tree_laws.specs.Writes.{is_sweepable}
 use Rattle.gx_tree_laws.proofs.Sums.{length_parted}
 use Rattle.gx_node.specs.Reading.{Format}
-use Rattle.gx_tree_pages.specs.Store.{Store, node_at, tree_of}
+use Rattle.gx_node.specs.Store.{Store, node_at, tree_of}
 use Rattle.gx_tree.specs.Sweeping.{FitsLeaf, Planned, PlansSweep, TakesOut, slots_from, slots_of, takes_none}
 use Rattle.gx_tree.specs.Writing.{Swept}
 use Rattle.gx_tree.proofs.Swept.{is_swept, is_unswept, sweep_size}
-use Rattle.gx_tree_pages.specs.Owner.{IsWhy}
-use Rattle.gx_tree_pages.specs.declared.fault.StepFault.{StepFault}
-use Rattle.gx_tree_pages.specs.declared.fault.StepFault.TheVariants.{Damaged, Memory, Pages, PagesFull}
+use Rattle.gx_node.specs.Owner.{IsWhy}
+use Rattle.gx_node.specs.declared.fault.StepFault.{StepFault}
+use Rattle.gx_node.specs.declared.fault.StepFault.TheVariants.{Damaged, Memory, Pages, PagesFull}
 use Rattle.gx_node.specs.Edits.{entry_of}
 use Rattle.gx_store.specs.Faults as faults
 use Rattle.gx_store.specs.declared.fault.StoreFault.{StoreFault}

@@ -14,7 +14,7 @@ use Rattle.gx_record.specs.Rec.{Rec, Write}
 use Rattle.gx_record.specs.Format.{HasKey, IsInRange, spelling}
 use Rattle.gx_tree_laws.specs.Trees.{Node, Tree}
 use Rattle.gx_node.specs.Reading.{Format}
-use Rattle.gx_tree_pages.specs.Store.{Store, node_of, tree_of}
+use Rattle.gx_node.specs.Store.{Store, node_of, tree_of}
 use Rattle.gx_tree.specs.Writing.{live, Appends as AppendsPair}
 use Rattle.gx_recovery.specs.Known.{Known, Limits}
 use Rattle.gx_recovery.proofs.Tests.{clash}

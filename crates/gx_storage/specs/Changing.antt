@@ -4,7 +4,7 @@ use Rattle.gx_tree_laws.specs.Reach.{Item}
 use Rattle.gx_tree_laws.specs.Trees.{Node, Pair}
 use Rattle.gx_tree.specs.Descending.{WayAt}
 use Rattle.gx_tree.specs.Seeking.{Seeks}
-use Rattle.gx_tree_pages.specs.Store.{Store}
+use Rattle.gx_node.specs.Store.{Store}
 use Rattle.gx_tree.specs.declared.descent.Way.{Way}
 use Rattle.gx_tree.specs.declared.descent.Way.TheVariants.{Again, Add, FullLeaf, FullInner, Down, Widen}
 use Rattle.gx_tree.specs.declared.descent.Descended.{Descended}

@@ -9,8 +9,8 @@ use Rattle.gx_record.specs.Format.{spelling}
 use Rattle.gx_tree_laws.specs.Trees.{Tree}
 use Rattle.gx_tree_laws.specs.Alike.{AgreeOnUsed}
 use Rattle.gx_node.specs.Reading.{Format}
-use Rattle.gx_tree_pages.specs.Keyed.{AreKeys}
-use Rattle.gx_tree_pages.specs.Store as store
+use Rattle.gx_node.specs.Keyed.{AreKeys}
+use Rattle.gx_node.specs.Store as store
 use Rattle.gx_recovery.specs.Known.{Known, IsLawful}
 use Rattle.gx_recovery.specs.Records.{Record}
 use Rattle.gx_recovery.specs.Analysis.{analysis}

@@ -10,7 +10,7 @@ ghost use Rattle.gx_store.specs.State.{IsHeld, IsSteady};
 ghost use Rattle.gx_tree_laws.specs.Lists.{how_many};
 ghost use Rattle.gx_tree_laws.specs.Trees.{Pair};
 ghost use Rattle.gx_tree_laws.specs.Writes.{is_sweepable};
-ghost use Rattle.gx_tree_pages.specs.Store.{Stays, node_of, tree_of};
+ghost use Rattle.gx_node.specs.Store.{Stays, node_of, tree_of};
 ghost use Rattle.gx_storage.specs.Bringing.{bringing, has_removable};
 ghost use Rattle.gx_storage.specs.Changes.{IsUnlogged, known_at};
 

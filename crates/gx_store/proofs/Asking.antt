@@ -4,7 +4,7 @@ use Rattle.std.proofs.Math.Decide.{ℕ_discrete}
 use Rattle.std.proofs.lemmas.List.Folds.{list_any-append}
 use Rattle.std.proofs.lemmas.List.Sums.{count_by-le-length, sum_by-append, sum_by-cons}
 use Rattle.std.proofs.lemmas.Option.{none-some}
-use Rattle.gx_tree_pages.specs.Owner.{Asking, Brings}
+use Rattle.gx_node.specs.Owner.{Asking, Brings}
 use Rattle.gx_page.specs.Contents.{Contents}
 use Rattle.gx_disk.specs.Device as disk
 use Rattle.gx_pool.specs.declared.fault.PoolFault.{PoolFault}

@@ -8,7 +8,7 @@ use Rattle.gx_disk.specs.Device as disk
 use Rattle.gx_page.specs.Contents.{Contents}
 use Rattle.gx_page.specs.Reading.{read_of}
 use Rattle.gx_node.specs.Reading.{Format}
-use Rattle.gx_tree_pages.specs.Store.{node_at, node_of, with_node, with_page}
+use Rattle.gx_node.specs.Store.{node_at, node_of, with_node, with_page}
 use Rattle.gx_pool.specs.Area.{bytes_of}
 use Rattle.gx_pool.specs.Bringing.{Left}
 use Rattle.gx_pool.specs.Creating.{Makes}

@@ -8,7 +8,7 @@ use Rattle.std.proofs.lemmas.List.Folds.{list_any_at}
 use Rattle.gx_tree_laws.specs.Lists.{Each}
 use Rattle.gx_tree_laws.specs.Trees.{Node, Used}
 use Rattle.gx_node.specs.Reading.{Format}
-use Rattle.gx_tree_pages.specs.Store.{node_at, blank, tree_of}
+use Rattle.gx_node.specs.Store.{node_at, blank, tree_of}
 use Rattle.gx_pool.specs.Marks.{is_held}
 use Rattle.gx_store.specs.Standing.{nodes_to, standing_node, store_of}
 use Rattle.gx_store.specs.State.{Shelf}

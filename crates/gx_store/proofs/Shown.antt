@@ -10,7 +10,7 @@ use Rattle.gx_pool.specs.Laws.{shown, shown_of, IsBacked}
 use Rattle.gx_pool.specs.Marks.{is_held}
 use Rattle.gx_pool.specs.State.{State, Kept, IsSpare, kept, stamp_of}
 use Rattle.gx_node.specs.Reading.{Format}
-use Rattle.gx_tree_pages.specs.Store.{node_at, node_of}
+use Rattle.gx_node.specs.Store.{node_at, node_of}
 use Rattle.gx_store.specs.Standing.{standing, standing_by, standing_node, store_of}
 use Rattle.gx_store.specs.State.{Shelf, IsHeld, may_go}
 use Rattle.gx_store.proofs.Listed.{node_there}

@@ -4,7 +4,7 @@ use Rattle.std.specs.List.{list_any, sum_by}
 use Rattle.gx_pool.specs.Bringing.{AtMostGo}
 use Rattle.gx_pool.specs.Marks.{is_held}
 use Rattle.gx_pool.specs.State.{kept}
-use Rattle.gx_tree_pages.specs.Owner.{Asking, Brings, Prepares}
+use Rattle.gx_node.specs.Owner.{Asking, Brings, Prepares}
 use Rattle.gx_store.specs.State.{Shelf}
 
 -- the pages that it was asked to bring

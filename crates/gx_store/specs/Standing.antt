@@ -5,7 +5,7 @@ use Rattle.gx_page.specs.Contents.{Contents}
 use Rattle.gx_page.specs.Reading.{read_of}
 use Rattle.gx_node.specs.Reading.{Format}
 use Rattle.gx_tree_laws.specs.Trees.{Node}
-use Rattle.gx_tree_pages.specs.Store.{Store, node_of}
+use Rattle.gx_node.specs.Store.{Store, node_of}
 use Rattle.gx_pool.specs.Area.{bytes_of}
 use Rattle.gx_pool.specs.Laws.{shown}
 use Rattle.gx_pool.specs.State.{State, Kept, kept}

@@ -5,8 +5,8 @@ use crate::fault::{StoreFault, told};
 use crate::store::PageStore;
 use gx_class::KeyClass;
 use gx_disk::SectorDisk;
+use gx_node::Pages;
 use gx_page::Page;
-use gx_tree_pages::Pages;
 
 impl<D: SectorDisk, K: KeyClass> Pages<K> for PageStore<D, K> {
     type Fault = StoreFault;

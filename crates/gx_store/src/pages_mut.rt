@@ -9,7 +9,7 @@ use crate::fault::StoreFault;
 use crate::store::PageStore;
 use gx_class::KeyClass;
 use gx_disk::SectorDisk;
-use gx_tree_pages::{Edit, PagesMut};
+use gx_node::{Edit, PagesMut};
 
 impl<D: SectorDisk, K: KeyClass> PagesMut<K> for PageStore<D, K> {
     ghost use Rattle.std.specs.Prelude.{◌≡◌, true};

@@ -7,7 +7,7 @@ ghost use Rattle.gx_store.specs.Faults.{CanBeRead};
 ghost use Rattle.gx_store.specs.Standing.{store_of};
 ghost use Rattle.gx_store.specs.State.{IsSteady};
 ghost use Rattle.gx_tree.specs.Looking.{LookStep};
-ghost use Rattle.gx_tree_pages.specs.Store.{tree_of};
+ghost use Rattle.gx_node.specs.Store.{tree_of};
 ghost use Rattle.gx_tree.specs.Wants.{wants};
 
 use gx_class::{Box2Class, IntervalClass, Probing};

@@ -10,7 +10,7 @@ use Rattle.gx_tree_laws.proofs.Chains.{some_times, each_with_key}
 use Rattle.gx_tree_laws.proofs.PageSteps.{each_filter}
 use Rattle.gx_tree_laws.proofs.Runs.{each_child_used}
 use Rattle.gx_tree_laws.proofs.Sums.{each-append, each_staying, each_going, each_map}
-use Rattle.gx_tree_pages.specs.Keyed.{AreKeys, BringsKeys}
+use Rattle.gx_node.specs.Keyed.{AreKeys, BringsKeys}
 
 module _ {K : Type 0} (IsKey : K → Type 0) where
   -- a node's keys

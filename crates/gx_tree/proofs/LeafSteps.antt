@@ -8,11 +8,11 @@ use Rattle.gx_node.specs.Reading.{Format, leaf_of, inner_of}
 use Rattle.gx_tree_laws.specs.Steps.{ChangesOnly, node_with}
 use Rattle.gx_tree_laws.specs.Trees.{Pair, Child, Node, Used}
 use Rattle.gx_tree.specs.Seeking.{Seeks}
-use Rattle.gx_tree_pages.specs.Store.{Store, node_of, node_at, tree_of, with_node}
+use Rattle.gx_node.specs.Store.{Store, node_of, node_at, tree_of, with_node}
 use Rattle.gx_tree.specs.Writing.{SetsMark}
 use Rattle.gx_tree.specs.declared.seek.Sought.TheVariants.{Here}
 use Rattle.gx_tree.proofs.Changed.{changed_only}
-use Rattle.gx_tree_pages.proofs.Listed.{leaf_node}
+use Rattle.gx_node.proofs.Listed.{leaf_node}
 
 module _ {B : Type 0} where
   level_read : (f : Format B) (page : Contents) → (node_of f page).level ≡ page.level

@@ -9,7 +9,7 @@ use Rattle.gx_tree_laws.specs.Lists.{Each, sum_over, how_many}
 use Rattle.gx_tree_laws.specs.Steps.{ChangesOnly, EntriesCover, IsAdding, IsMarking}
 use Rattle.gx_tree_laws.specs.Trees.{Pair, Tree, Rules, Used, times, leaves, standing, is_entry}
 use Rattle.gx_tree_laws.proofs.Chains.{one_off}
-use Rattle.gx_tree_pages.specs.Store.{Store, tree_of, node_at}
+use Rattle.gx_node.specs.Store.{Store, tree_of, node_at}
 use Rattle.gx_tree.specs.Writing.{Appends, SetsMark, live}
 use Rattle.gx_tree.specs.declared.seek.Sought.TheVariants.{Here}
 

@@ -1,7 +1,7 @@
 -- Why pages were refused.
-use Rattle.gx_tree_pages.specs.declared.fault.StepFault.{StepFault}
-use Rattle.gx_tree_pages.specs.declared.fault.StepFault.TheVariants.{Memory, Damaged, PagesFull, Pages}
-use Rattle.gx_tree_pages.specs.Owner.{IsWhy}
+use Rattle.gx_node.specs.declared.fault.StepFault.{StepFault}
+use Rattle.gx_node.specs.declared.fault.StepFault.TheVariants.{Memory, Damaged, PagesFull, Pages}
+use Rattle.gx_node.specs.Owner.{IsWhy}
 
 -- a fault that isn't of pages needs no reason
 pub why_any : {F : Type 0} (why : F → Type 0) (fault : StepFault F) → IsWhy (λ _. ⊥) fault → IsWhy why fault

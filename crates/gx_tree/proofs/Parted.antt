@@ -13,7 +13,7 @@ use Rattle.gx_tree_laws.specs.Steps.{IsUnion}
 use Rattle.gx_tree_laws.proofs.Sums.{each-map, each_unmap, map_parted_staying, map_parted_going}
 use Rattle.gx_tree.specs.Halved.{Halved}
 use Rattle.gx_tree.specs.Splitting.{AreHalves, HalvesKeys, Unites, UnitesAny, keys_in, least_of, left_of, right_of, on_side}
-use Rattle.gx_tree_pages.specs.Store.{node_of}
+use Rattle.gx_node.specs.Store.{node_of}
 
 one_added : (y : Bool) (n : ℕ) → cond y 1 0 + n ≡ cond y (suc n) n
 one_added true n = omega arith

@@ -6,7 +6,7 @@ use Rattle.gx_tree_laws.specs.Trees.{Node, Rules, Used, size}
 use Rattle.gx_tree_laws.specs.Legal.{Legal}
 use Rattle.gx_tree_laws.specs.Steps.{IsUnion, IsRootSplit, node_with}
 use Rattle.gx_node.specs.declared.items.TheConstants.{MAX_ENTRIES}
-use Rattle.gx_tree_pages.specs.Store.{Store, node_at, tree_of, with_node, with_page}
+use Rattle.gx_node.specs.Store.{Store, node_at, tree_of, with_node, with_page}
 use Rattle.gx_tree.specs.Splitting.{left_of, right_of, least_of, keys_in, CanSplitRoot, DidSplitRoot}
 use Rattle.gx_tree.proofs.Splits.{other_half, at_changed, at_other, at_taken, at_untaken, union_alike}
 

@@ -10,7 +10,7 @@ use Rattle.gx_tree_laws.specs.Looks.{IsLook, LeadsTo}
 use Rattle.gx_tree_laws.proofs.Chains.{each_linked}
 use Rattle.gx_tree_laws.proofs.KeysLead.{keys_lead}
 use Rattle.gx_tree_laws.proofs.Sums.{sum_over_same, each_map}
-use Rattle.gx_tree_pages.specs.Keyed.{AreKeys}
+use Rattle.gx_node.specs.Keyed.{AreKeys}
 
 -- the same error in results of two types
 pub same_err : {A B F : Type 0} (r : Result A F) (s : Result B F) (x y : F) → r ≡ Err x → s ≡ Err x → r ≡ Err y → s ≡ Err y

@@ -5,7 +5,7 @@ use Rattle.std.proofs.lemmas.List.{length-set, length-append, set-set, get_or-se
 use Rattle.gx_tree_laws.specs.Lists.{staying, going}
 use Rattle.gx_tree_laws.specs.Trees.{Node, Rules, Used, size}
 use Rattle.gx_tree_laws.specs.Steps.{IsUnion, IsSplit, node_with}
-use Rattle.gx_tree_pages.specs.Store.{Store, node_at, tree_of, blank, with_node, with_page, with_split}
+use Rattle.gx_node.specs.Store.{Store, node_at, tree_of, blank, with_node, with_page, with_split}
 use Rattle.gx_tree.specs.Splitting.{left_of, right_of, least_of, keys_in, parent_of, split_store, CanSplit, DidSplit}
 use Rattle.gx_tree.proofs.Hits.{map-append}
 

@@ -9,7 +9,7 @@ use Rattle.gx_tree_laws.specs.Lists.{how_many, one_if, staying}
 use Rattle.gx_tree_laws.specs.Trees.{Pair, Node}
 use Rattle.gx_tree_laws.specs.Steps.{ChangesOnly, IsSweep, spares}
 use Rattle.gx_tree_laws.specs.Writes.{is_sweepable}
-use Rattle.gx_tree_pages.specs.Store.{Store, node_at, tree_of}
+use Rattle.gx_node.specs.Store.{Store, node_at, tree_of}
 use Rattle.gx_tree.specs.Sweeping.{Planned, PlansSweep, TakesOut, slots_from, slots_of, takes_none}
 use Rattle.gx_tree.specs.Writing.{Swept}
 use Rattle.gx_tree.proofs.Sides.{unpassing_stay, spares_others}

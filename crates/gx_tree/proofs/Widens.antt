@@ -14,8 +14,8 @@ use Rattle.gx_tree_laws.proofs.PageSteps.{legal_widened, standing_widened}
 use Rattle.gx_tree.specs.declared.descent.Descended.{Descended}
 use Rattle.gx_tree.specs.declared.descent.Descended.TheVariants.{Again, Leaf, FullLeaf, FullInner, Down, Widened}
 use Rattle.gx_tree.specs.Descending.{StepsDown, next_of}
-use Rattle.gx_tree_pages.specs.Keyed.{AreKeys}
-use Rattle.gx_tree_pages.specs.Store.{Store, tree_of}
+use Rattle.gx_node.specs.Keyed.{AreKeys}
+use Rattle.gx_node.specs.Store.{Store, tree_of}
 use Rattle.gx_tree.proofs.Ways.{each_slot, alone, named_once, way_down}
 
 module _ {K : Type 0} where

@@ -6,7 +6,7 @@ use Rattle.gx_node.specs.Edits.{bounded_by}
 use Rattle.gx_tree_laws.specs.Trees.{Child, Node}
 use Rattle.gx_tree_laws.specs.Steps.{ChangesOnly}
 use Rattle.gx_tree_laws.specs.Reach.{Item}
-use Rattle.gx_tree_pages.specs.Store.{Store, tree_of}
+use Rattle.gx_node.specs.Store.{Store, tree_of}
 use Rattle.gx_tree.specs.declared.descent.Way.{Way}
 use Rattle.gx_tree.specs.declared.descent.Way.TheVariants.{Again, Add, FullLeaf, FullInner, Down, Widen}
 use Rattle.gx_tree.specs.declared.descent.Descended.{Descended}

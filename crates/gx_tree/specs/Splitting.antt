@@ -7,7 +7,7 @@ use Rattle.gx_tree_laws.specs.Trees.{Child, Node, Tree, Rules, size, times, chil
 use Rattle.gx_tree_laws.specs.Steps.{IsUnion, IsSplit, IsRootSplit, node_with, with_key}
 use Rattle.gx_tree_laws.specs.Writes.{has_place}
 use Rattle.gx_tree.specs.Halved.{Halved}
-use Rattle.gx_tree_pages.specs.Store.{Store, node_at, tree_of, with_node, with_page, with_split}
+use Rattle.gx_node.specs.Store.{Store, node_at, tree_of, with_node, with_page, with_split}
 use Rattle.gx_tree.specs.declared.split.Split.{Split}
 use Rattle.gx_tree.specs.declared.split_root.RootSplit.{RootSplit}
 

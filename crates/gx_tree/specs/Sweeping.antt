@@ -6,8 +6,8 @@ use Rattle.gx_tree_laws.specs.Lists.{staying}
 use Rattle.gx_tree_laws.specs.Trees.{Node}
 use Rattle.gx_tree_laws.specs.Steps.{ChangesOnly}
 use Rattle.gx_tree_laws.specs.Writes.{is_sweepable}
-use Rattle.gx_tree_pages.specs.Owner.{Asking, Prepares}
-use Rattle.gx_tree_pages.specs.Store.{Store, tree_of}
+use Rattle.gx_node.specs.Owner.{Asking, Prepares}
+use Rattle.gx_node.specs.Store.{Store, tree_of}
 
 -- a leaf's page, and of each of its pairs whether it goes
 pub record Planned : Type 0 where

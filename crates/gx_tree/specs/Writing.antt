@@ -7,7 +7,7 @@ use Rattle.gx_tree_laws.specs.Steps.{ChangesOnly, IsSweep}
 use Rattle.gx_tree_laws.specs.Writes.{is_sweepable}
 use Rattle.gx_node.specs.Edits.{marked_as, entry_of}
 use Rattle.gx_tree.specs.Seeking.{Seeks}
-use Rattle.gx_tree_pages.specs.Store.{Store, tree_of}
+use Rattle.gx_node.specs.Store.{Store, tree_of}
 use Rattle.gx_tree.specs.declared.seek.Sought.{Sought}
 use Rattle.gx_tree.specs.declared.seek.Sought.TheVariants.{Here, Right}
 

@@ -1,11 +1,11 @@
 //! A page is brought for a step.
 ghost use Rattle.std.specs.Prelude.{◌≡◌, ◌≢◌, [], ◌∷◌, Err, IfErr, OnOk, OnErr};
 ghost use Rattle.gx_tree_laws.specs.Trees.{Used};
-ghost use Rattle.gx_tree_pages.specs.Owner.{Brings, AsksAtMost, KeepsSince, IsWhy, IsWhyLater, Asks};
-ghost use Rattle.gx_tree_pages.specs.Store.{Stays, tree_of};
+ghost use Rattle.gx_node.specs.Owner.{Brings, AsksAtMost, KeepsSince, IsWhy, IsWhyLater, Asks};
+ghost use Rattle.gx_node.specs.Store.{Stays, tree_of};
 
 use gx_class::KeyClass;
-use gx_tree_pages::{Pages, StepFault};
+use gx_node::{Pages, StepFault};
 
 /// Brings one page, which a step names.
 ///

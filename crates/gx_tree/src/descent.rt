@@ -4,17 +4,16 @@ ghost use Rattle.std.specs.Bool.{OnTrue, OnFalse};
 ghost use Rattle.gx_node.specs.Reading.{format_of, is_node};
 ghost use Rattle.gx_tree_laws.specs.Trees.{Used};
 ghost use Rattle.gx_tree.specs.Descending.{Descends, StepsDown, is_widened, next_of};
-ghost use Rattle.gx_tree_pages.specs.Owner.{KeepsSince, KeepsSinceBut, IsWhy, IsWhyLater, Brings, AsksAtMost, AsksToWrite, Asks, to_write};
-ghost use Rattle.gx_tree_pages.specs.Store.{node_of, tree_of, Stays};
+ghost use Rattle.gx_node.specs.Owner.{KeepsSince, KeepsSinceBut, IsWhy, IsWhyLater, Brings, AsksAtMost, AsksToWrite, Asks, to_write};
+ghost use Rattle.gx_node.specs.Store.{node_of, tree_of, Stays};
 
 use crate::bring::bring_page;
 use crate::edits::SetBound;
 use crate::item::Item;
 use gx_class::KeyClass;
 use gx_geom::Shape;
-use gx_node::Inner;
+use gx_node::{Inner, Pages, PagesMut, StepFault};
 use gx_page::Page;
-use gx_tree_pages::{Pages, PagesMut, StepFault};
 use std::cmp::Ordering;
 
 /// What a descent does at a page.

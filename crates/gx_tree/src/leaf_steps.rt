@@ -6,9 +6,9 @@ ghost use Rattle.gx_node.specs.Edits.{entry_of};
 ghost use Rattle.gx_node.specs.declared.items.TheConstants.{MAX_ENTRIES};
 ghost use Rattle.gx_tree_laws.specs.Trees.{Pair, Used};
 ghost use Rattle.gx_tree_laws.specs.Writes.{is_sweepable};
-ghost use Rattle.gx_tree_pages.specs.Owner.{KeepsSince, KeepsSinceBut, IsWhy, IsWhyLater, Brings, Prepares, AsksAtMost, AsksToWrite, Asks, to_write};
+ghost use Rattle.gx_node.specs.Owner.{KeepsSince, KeepsSinceBut, IsWhy, IsWhyLater, Brings, Prepares, AsksAtMost, AsksToWrite, Asks, to_write};
 ghost use Rattle.gx_tree.specs.Seeking.{is_here};
-ghost use Rattle.gx_tree_pages.specs.Store.{tree_of};
+ghost use Rattle.gx_node.specs.Store.{tree_of};
 ghost use Rattle.gx_tree.specs.Wants.{wants};
 ghost use Rattle.gx_tree.specs.Writing.{Appends, SetsMark, Swept};
 
@@ -18,14 +18,13 @@ use crate::seek::{Sought, seek_step};
 use crate::wanted::Wanted;
 use gx_class::{KeyClass, Probing};
 use gx_machine::Entry;
-use gx_node::{Leaf, MAX_ENTRIES};
-use gx_tree_pages::{PagesMut, StepFault};
+use gx_node::{Leaf, MAX_ENTRIES, PagesMut, StepFault};
 
 /// Brings the leaf on a page, and says how many pairs it has.
 ///
 /// Refused with `Pages` where the page could not be brought, and with `Damaged` only where it isn't a leaf that is
 /// taken.
-#[tactic(auto, using(gx_tree_pages::proofs::Listed::same_store))]
+#[tactic(auto, using(gx_node::proofs::Listed::same_store))]
 pub(crate) fn bring_leaf<K: KeyClass, P: PagesMut<K>>(
     pages: &mut P,
     page: u32,

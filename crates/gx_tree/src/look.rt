@@ -6,8 +6,8 @@ ghost use Rattle.gx_tree_laws.specs.Trees.{Pair, Used};
 ghost use Rattle.gx_tree_laws.specs.Reach as reach;
 ghost use Rattle.gx_tree.specs.Found.{found_at};
 ghost use Rattle.gx_tree.specs.Looking.{below, beyond, item_of, LookStep, Reads};
-ghost use Rattle.gx_tree_pages.specs.Owner.{AsksAtMost, KeepsSince, IsWhy, IsWhyLater, Brings, Asks};
-ghost use Rattle.gx_tree_pages.specs.Store.{node_of, tree_of, Stays};
+ghost use Rattle.gx_node.specs.Owner.{AsksAtMost, KeepsSince, IsWhy, IsWhyLater, Brings, Asks};
+ghost use Rattle.gx_node.specs.Store.{node_of, tree_of, Stays};
 ghost use Rattle.gx_tree.specs.Wants.{has_row, wants};
 
 use crate::bring::bring_page;
@@ -16,9 +16,8 @@ use crate::item::Item;
 use crate::wanted::Wanted;
 use gx_class::{KeyClass, Probing};
 use gx_geom::Shape;
-use gx_node::{BLOCK, Inner, Leaf};
+use gx_node::{BLOCK, Inner, Leaf, Pages, StepFault};
 use gx_page::Page;
-use gx_tree_pages::{Pages, StepFault};
 use std::alloc::{AllocError, Global};
 
 /// How many items a stack has room for at first.

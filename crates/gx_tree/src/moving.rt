@@ -3,13 +3,13 @@ ghost use Rattle.std.specs.Prelude.{◌≡◌, ◌<◌, ◌≤◌, ℕ, suc, map
 ghost use Rattle.gx_tree_laws.specs.Lists.{staying};
 ghost use Rattle.gx_tree_laws.specs.Trees.{size};
 ghost use Rattle.gx_tree_laws.specs.Steps.{node_with};
-ghost use Rattle.gx_tree_pages.specs.Owner.{KeepsSinceBut, Asks};
+ghost use Rattle.gx_node.specs.Owner.{KeepsSinceBut, Asks};
 ghost use Rattle.gx_tree.specs.Splitting.{left_of};
-ghost use Rattle.gx_tree_pages.specs.Store.{node_at, with_node, with_page};
+ghost use Rattle.gx_node.specs.Store.{node_at, with_node, with_page};
 
 use crate::edits::{KeepSide, Link};
 use gx_class::KeyClass;
-use gx_tree_pages::PagesMut;
+use gx_node::PagesMut;
 
 /// Writes the other side of each entry.
 #[tactic(auto, using(crate::proofs::Splits::turned_more))]

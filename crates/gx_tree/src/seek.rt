@@ -2,16 +2,15 @@
 ghost use Rattle.std.specs.Prelude.{◌≡◌, ◌≢◌, ◌≤◌, length, map, Err, IfOk, IfErr, OnOk, [], ◌∷◌, OnErr};
 ghost use Rattle.gx_node.specs.Hits.{IsNextHit};
 ghost use Rattle.gx_tree_laws.specs.Trees.{Used};
-ghost use Rattle.gx_tree_pages.specs.Owner.{KeepsSince, IsWhy, IsWhyLater, Brings, AsksAtMost, Asks};
+ghost use Rattle.gx_node.specs.Owner.{KeepsSince, IsWhy, IsWhyLater, Brings, AsksAtMost, Asks};
 ghost use Rattle.gx_tree.specs.Seeking.{Seeks};
-ghost use Rattle.gx_tree_pages.specs.Store.{tree_of, Stays};
+ghost use Rattle.gx_node.specs.Store.{tree_of, Stays};
 ghost use Rattle.gx_tree.specs.Wants.{wants};
 
 use crate::bring::bring_page;
 use crate::wanted::Wanted;
 use gx_class::Probing;
-use gx_node::Leaf;
-use gx_tree_pages::{Pages, StepFault};
+use gx_node::{Leaf, Pages, StepFault};
 
 /// What a seek comes to at a leaf.
 #[derive(Clone, Copy, Debug, PartialEq, Eq)]

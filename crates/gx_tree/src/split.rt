@@ -5,18 +5,17 @@ ghost use Rattle.gx_node.specs.Reading.{format_of, is_node};
 ghost use Rattle.gx_node.specs.declared.items.TheConstants.{MAX_ENTRIES};
 ghost use Rattle.gx_tree_laws.specs.Legal.{Legal};
 ghost use Rattle.gx_tree_laws.specs.Trees.{Used, size, times, child_pages};
-ghost use Rattle.gx_tree_pages.specs.Keyed.{rules_of};
-ghost use Rattle.gx_tree_pages.specs.Owner.{KeepsSince, KeepsSinceBut, IsWhy, IsWhyLater, Brings, AsksAtMost, AsksToWrite, Asks, to_write};
+ghost use Rattle.gx_node.specs.Keyed.{rules_of};
+ghost use Rattle.gx_node.specs.Owner.{KeepsSince, KeepsSinceBut, IsWhy, IsWhyLater, Brings, AsksAtMost, AsksToWrite, Asks, to_write};
 ghost use Rattle.gx_tree.specs.Splitting.{NamesOnce, CanSplit, DidSplit, HasNoPlace, Splits, parent_of, has_split};
-ghost use Rattle.gx_tree_pages.specs.Store.{node_of, node_at, tree_of, Stays, with_node};
+ghost use Rattle.gx_node.specs.Store.{node_of, node_at, tree_of, Stays, with_node};
 
 use crate::edits::{AppendChild, Link, SetBound};
 use crate::halves::{Halves, halve};
 use crate::moving::{keep_side, take_side, turn};
 use gx_class::KeyClass;
-use gx_node::{Inner, MAX_ENTRIES};
+use gx_node::{Inner, MAX_ENTRIES, Pages, PagesMut, StepFault};
 use gx_page::Page;
-use gx_tree_pages::{Pages, PagesMut, StepFault};
 
 /// What a split did.
 #[derive(Clone, Copy, Debug)]

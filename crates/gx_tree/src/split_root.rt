@@ -3,18 +3,17 @@ ghost use Rattle.std.specs.Prelude.{true, ◌≡◌, ◌≢◌, ◌<◌, ◌≤�
 ghost use Rattle.gx_node.specs.declared.items.TheConstants.{MAX_ENTRIES};
 ghost use Rattle.gx_tree_laws.specs.Legal.{Legal};
 ghost use Rattle.gx_tree_laws.specs.Trees.{Used, size};
-ghost use Rattle.gx_tree_pages.specs.Keyed.{rules_of};
-ghost use Rattle.gx_tree_pages.specs.Owner.{KeepsSince, IsWhy, AsksToWrite, Asks, to_write};
+ghost use Rattle.gx_node.specs.Keyed.{rules_of};
+ghost use Rattle.gx_node.specs.Owner.{KeepsSince, IsWhy, AsksToWrite, Asks, to_write};
 ghost use Rattle.gx_tree.specs.Splitting.{CanSplitRoot, DidSplitRoot};
-ghost use Rattle.gx_tree_pages.specs.Store.{node_at, tree_of};
+ghost use Rattle.gx_node.specs.Store.{node_at, tree_of};
 
 use crate::bring::bring_page;
 use crate::edits::{AppendChild, Link, RaiseRoot};
 use crate::halves::{Halves, halve};
 use crate::moving::{take_side, turn};
 use gx_class::KeyClass;
-use gx_node::MAX_ENTRIES;
-use gx_tree_pages::{PagesMut, StepFault};
+use gx_node::{MAX_ENTRIES, PagesMut, StepFault};
 
 /// What a split of the root did.
 #[derive(Clone, Copy, Debug)]

@@ -5,8 +5,8 @@ ghost use Rattle.gx_node.specs.Edits.{entry_of};
 ghost use Rattle.gx_node.specs.declared.items.TheConstants.{MAX_ENTRIES};
 ghost use Rattle.gx_tree_laws.specs.Trees.{Pair, Used};
 ghost use Rattle.gx_tree_laws.specs.Writes.{is_sweepable};
-ghost use Rattle.gx_tree_pages.specs.Owner.{KeepsSince, KeepsSinceBut, IsWhy, IsWhyLater, Brings, AsksAtMost, AsksToWrite, Asks, to_write};
-ghost use Rattle.gx_tree_pages.specs.Store.{node_at, tree_of, Stays};
+ghost use Rattle.gx_node.specs.Owner.{KeepsSince, KeepsSinceBut, IsWhy, IsWhyLater, Brings, AsksAtMost, AsksToWrite, Asks, to_write};
+ghost use Rattle.gx_node.specs.Store.{node_at, tree_of, Stays};
 ghost use Rattle.gx_tree.specs.Sweeping.{FitsLeaf, PlansSweep, TakesOut, slots_from, slots_of, takes_none, to_take_out};
 ghost use Rattle.gx_tree.specs.Writing.{Swept};
 
@@ -14,8 +14,7 @@ use crate::edits::KeepSide;
 use crate::leaf_steps::{bring_leaf, prepare_page};
 use gx_class::KeyClass;
 use gx_machine::Entry;
-use gx_node::{Leaf, MAX_ENTRIES};
-use gx_tree_pages::{PagesMut, StepFault};
+use gx_node::{Leaf, MAX_ENTRIES, PagesMut, StepFault};
 use std::marker::Model;
 
 /// What a sweep takes out of a leaf: a page, and the slots of the pairs that go. So whoever makes ready for a sweep knows

@@ -7,8 +7,7 @@ ghost use Rattle.gx_restart.specs.Undoing.{AreFreeBelow, GoesBy, IsFreeAt, OnlyU
 
 use gx_class::Probing;
 use gx_disk::SectorDisk;
-use gx_engine::{drive, repeat};
-use gx_engine::Engine;
+use gx_engine::{Engine, drive, repeat};
 use gx_events::Event;
 use gx_geom::Refusal;
 use gx_machine::Reply;

@@ -5,8 +5,7 @@ ghost use Rattle.gx_restart.specs.Bringing.{Brings, Helps, IsBrought, IsHelped, 
 
 use super::stop::Stop;
 use gx_disk::SectorDisk;
-use gx_engine::EVENTS;
-use gx_engine::Engine;
+use gx_engine::{EVENTS, Engine};
 use gx_events::{Need, Outcome};
 use gx_geom::Refusal;
 use gx_readings::ReadKeys;

@@ -2,13 +2,13 @@
 ghost use Rattle.std.specs.Prelude.{◌≡◌, ◌++◌, OnOk, IfErr};
 ghost use Rattle.std.specs.List.{flat_map};
 ghost use Rattle.gx_node.specs.Reading.{format_of};
-ghost use Rattle.gx_tree_pages.specs.Store.{node_of};
+ghost use Rattle.gx_node.specs.Store.{node_of};
 ghost use Rattle.gx_script.specs.Writes.{IsPut, IsCut};
 ghost use Rattle.gx_restart.specs.Pages.{IsNode};
 ghost use Rattle.gx_restart.specs.Text.{head_line, child_line, entry_line, node_text};
 
-use super::stop::Stop;
 use super::lines::Lines;
+use super::stop::Stop;
 use gx_class::KeyClass;
 use gx_geom::Box2;
 use gx_node::{Inner, Leaf};

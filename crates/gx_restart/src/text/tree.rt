@@ -10,14 +10,14 @@ ghost use Rattle.gx_restart.specs.Bringing.{Brings, Helps, IsRead, IsTold};
 ghost use Rattle.gx_restart.specs.Reading.{IsNotGivenUp, OfItsTree, Reads, Runs, WhereHeld};
 ghost use Rattle.gx_restart.specs.Text.{dump_text, node_text};
 
-use super::stop::Stop;
 use super::bring::bring;
 use super::lines::Lines;
 use super::pages::{put_head, put_page};
+use super::stop::Stop;
 use gx_class::KeyClass;
 use gx_disk::SectorDisk;
-use gx_engine::laws::progress::a_page_that_waits_names_work;
 use gx_engine::Engine;
+use gx_engine::laws::progress::a_page_that_waits_names_work;
 use gx_geom::{Box2, Shape};
 use gx_readings::ReadKeys;
 use gx_storage::laws::a_volume_shows_the_logs_tree;

@@ -1,9 +1,8 @@
 //! Changes of an inner node.
 
 use gx_class::KeyClass;
-use gx_node::inner_edits;
+use gx_node::{Edit, inner_edits};
 use gx_page::Page;
-use gx_tree_pages::Edit;
 
 /// A bound for the child in a slot of an inner node, in place of its own.
 #[derive(Drop)]

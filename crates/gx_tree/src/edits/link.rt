@@ -1,8 +1,8 @@
 //! A node's place among its neighbours.
 
 use gx_class::KeyClass;
+use gx_node::Edit;
 use gx_page::Page;
-use gx_tree_pages::Edit;
 
 /// A sequence number and a rightlink for a node.
 #[derive(Drop)]

@@ -2,9 +2,8 @@
 
 use gx_class::KeyClass;
 use gx_machine::Entry;
-use gx_node::leaf_edits;
+use gx_node::{Edit, leaf_edits};
 use gx_page::Page;
-use gx_tree_pages::Edit;
 
 /// A live pair for a leaf that isn't full: it is put behind the last.
 #[derive(Drop)]

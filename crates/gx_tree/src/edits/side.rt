@@ -1,9 +1,8 @@
 //! One side of a node.
 
 use gx_class::KeyClass;
-use gx_node::{inner_edits, leaf_edits};
+use gx_node::{Edit, inner_edits, leaf_edits};
 use gx_page::Page;
-use gx_tree_pages::Edit;
 
 /// Takes the entries of a node out whose side is `true`.
 #[derive(Drop)]

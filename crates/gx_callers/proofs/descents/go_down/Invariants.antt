@@ -3,8 +3,8 @@ use Rattle.std.specs.Ordering.{is_eq}
 use Rattle.gx_tree_laws.specs.Trees.{Pair, standing}
 use Rattle.gx_tree_laws.specs.Legal.{Legal}
 use Rattle.gx_tree_laws.specs.Writes.{IsDescent}
-use Rattle.gx_tree_pages.specs.Keyed.{AreKeys}
-use Rattle.gx_tree_pages.specs.Store.{tree_of}
+use Rattle.gx_node.specs.Keyed.{AreKeys}
+use Rattle.gx_node.specs.Store.{tree_of}
 use Rattle.gx_callers.proofs.descents.go_down.Given as goal
 
 abbrev pub invariant-steps : goal.invariant-steps

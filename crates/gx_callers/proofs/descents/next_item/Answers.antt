@@ -2,7 +2,7 @@ use Rattle.std.proofs.Common.{sym, subst}
 use Rattle.std.specs.Ordering.{is_eq}
 use Rattle.gx_tree_laws.specs.Trees.{Rules}
 use Rattle.gx_tree_laws.specs.Legal.{Legal}
-use Rattle.gx_tree_pages.specs.Store.{tree_of}
+use Rattle.gx_node.specs.Store.{tree_of}
 use Rattle.gx_callers.proofs.descents.next_item.Goals as goal
 
 pub returns-in_err-did-clause-legal : goal.returns-in_err-did-clause-legal

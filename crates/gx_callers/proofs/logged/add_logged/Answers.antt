@@ -1,5 +1,5 @@
 use Rattle.std.proofs.Common.{◌≡◌, ◌∙◌, ◌∷◌, ℕ, List, ap, sym}
-use Rattle.gx_tree_pages.specs.Store.{Store, node_at}
+use Rattle.gx_node.specs.Store.{Store, node_at}
 use Rattle.gx_callers.proofs.Beside.{at_err, kept, kept_but, stamps_kept}
 use Rattle.gx_callers.proofs.logged.add_logged.Goals as goal
 

@@ -1,7 +1,7 @@
 use Rattle.std.proofs.Common.{◌≡◌, ◌∙◌, ◌∷◌, List, length, suc, ap, sym, subst}
 use Rattle.std.specs.Prelude.{IfNone}
-use Rattle.gx_tree_pages.specs.Owner.{KeepsSince}
-use Rattle.gx_tree_pages.specs.Store.{Store, node_at}
+use Rattle.gx_node.specs.Owner.{KeepsSince}
+use Rattle.gx_node.specs.Store.{Store, node_at}
 use Rattle.gx_callers.proofs.Beside.{at_err, kept, kept_but_three}
 use Rattle.gx_callers.proofs.logged.split_logged.Goals as goal
 

@@ -2,7 +2,7 @@ use Rattle.std.proofs.Common.{◌≡◌, ◌<◌, ℕ, length, arith, rules}
 use Rattle.gx_tree_laws.specs.Trees.{parents}
 use Rattle.gx_legality.specs.Marks.{marked}
 use Rattle.std.proofs.lemmas.Result.{err_from_is_err_and}
-use Rattle.gx_tree_pages.specs.Store.{tree_of}
+use Rattle.gx_node.specs.Store.{tree_of}
 use Rattle.gx_legality.specs.declared.fault.LegalityFault.TheVariants.{Broken}
 use Rattle.gx_legality.proofs.Children.{reads_same, found_before}
 use Rattle.gx_legality.proofs.Joined.{fits_before, shape_before}

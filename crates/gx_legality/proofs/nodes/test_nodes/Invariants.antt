@@ -1,8 +1,8 @@
 use Rattle.std.proofs.Common.{◌≡◌, ◌<◌, ◌≤◌, ℕ, None, get_or, length}
 use Rattle.std.specs.Ordering.{is_eq}
 use Rattle.gx_tree_laws.specs.Legal.{NodeFits}
-use Rattle.gx_tree_pages.specs.Owner.{IsWhyLater}
-use Rattle.gx_tree_pages.specs.Store.{node_at, tree_of}
+use Rattle.gx_node.specs.Owner.{IsWhyLater}
+use Rattle.gx_node.specs.Store.{node_at, tree_of}
 use Rattle.gx_legality.specs.Marks.{marked, named_by, link_of}
 use Rattle.gx_legality.specs.Owner.{OnlyReads}
 use Rattle.gx_legality.proofs.nodes.test_nodes.Given as goal

@@ -4,8 +4,8 @@ use Rattle.std.proofs.lemmas.Option.{slice_get_past}
 use Rattle.gx_node.specs.Reading.{format_of}
 use Rattle.gx_node.specs.Seen.{pair_seen}
 use Rattle.gx_tree_laws.specs.Trees.{Node}
-use Rattle.gx_tree_pages.specs.Store.{node_of}
-use Rattle.gx_tree_pages.proofs.Listed.{leaf_node}
+use Rattle.gx_node.specs.Store.{node_of}
+use Rattle.gx_node.proofs.Listed.{leaf_node}
 use Rattle.gx_legality.proofs.pairs.entry_at.Goals as goal
 
 pub returns-then-slot-len : goal.returns-then-slot-len

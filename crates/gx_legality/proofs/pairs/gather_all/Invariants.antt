@@ -3,8 +3,8 @@ use Rattle.gx_machine.specs.Keys.{entry_cmp}
 use Rattle.gx_machine.specs.declared.entry.Entry.{Entry}
 use Rattle.gx_tree_laws.specs.Legal.{Linked}
 use Rattle.gx_tree_laws.specs.Trees.{leaves, walk}
-use Rattle.gx_tree_pages.specs.Owner.{IsWhyLater}
-use Rattle.gx_tree_pages.specs.Store.{tree_of}
+use Rattle.gx_node.specs.Owner.{IsWhyLater}
+use Rattle.gx_node.specs.Store.{tree_of}
 use Rattle.gx_legality.specs.Entries.{entries_on}
 use Rattle.gx_legality.specs.Gathered.{Gathers}
 use Rattle.gx_legality.specs.Owner.{OnlyReads}

@@ -2,7 +2,7 @@ use Rattle.std.proofs.Common.{◌++◌, ◌∙◌, ◌+◌, map, drop}
 use Rattle.gx_machine.specs.Keys.{entry_cmp}
 use Rattle.gx_node.specs.Edits.{entry_of}
 use Rattle.gx_node.specs.Reading.{format_of}
-use Rattle.gx_tree_pages.specs.Store.{node_of}
+use Rattle.gx_node.specs.Store.{node_of}
 use Rattle.gx_legality.proofs.Taken.{page_goes, page_ends, none_past}
 use Rattle.gx_legality.proofs.pairs.gather_page.Goals as goal
 

@@ -2,8 +2,8 @@ use Rattle.std.proofs.Common.{ℕ, ◌≤◌}
 use Rattle.gx_machine.specs.Keys.{entry_cmp}
 use Rattle.gx_tree_laws.specs.Legal.{Linked}
 use Rattle.gx_tree_laws.specs.Trees.{Used, leaves, size}
-use Rattle.gx_tree_pages.specs.Owner.{IsWhyLater}
-use Rattle.gx_tree_pages.specs.Store.{node_at, tree_of}
+use Rattle.gx_node.specs.Owner.{IsWhyLater}
+use Rattle.gx_node.specs.Store.{node_at, tree_of}
 use Rattle.gx_legality.specs.Entries.{entries_on}
 use Rattle.gx_legality.specs.Gathered.{Tested}
 use Rattle.gx_legality.specs.Owner.{OnlyReads}

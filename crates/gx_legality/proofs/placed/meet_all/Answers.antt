@@ -4,7 +4,7 @@ use Rattle.gx_machine.specs.Keys.{entry_cmp}
 use Rattle.gx_node.specs.Edits.{entry_of}
 use Rattle.gx_tree_laws.specs.Legal.{Linked}
 use Rattle.gx_tree_laws.specs.Trees.{Used, walk}
-use Rattle.gx_tree_pages.specs.Store.{Store, node_at, tree_of}
+use Rattle.gx_node.specs.Store.{Store, node_at, tree_of}
 use Rattle.gx_legality.specs.Placing.{come_to, is_noted, met, passed, stage_at}
 use Rattle.gx_legality.proofs.Children.{reads_same, reads_more}
 use Rattle.gx_legality.proofs.Sought.{passed_page, passed_end, passed_done, chain_on}

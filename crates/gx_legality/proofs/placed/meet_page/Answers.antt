@@ -2,7 +2,7 @@ use Rattle.std.proofs.Common.{◌∙◌, ◌+◌, ap, drop, map, sym, rules}
 use Rattle.gx_machine.specs.Keys.{entry_cmp}
 use Rattle.gx_node.specs.Edits.{entry_of}
 use Rattle.gx_node.specs.Reading.{format_of}
-use Rattle.gx_tree_pages.specs.Store.{node_of}
+use Rattle.gx_node.specs.Store.{node_of}
 use Rattle.gx_legality.specs.Placing.{is_noted, met, stage_at}
 use Rattle.gx_legality.proofs.Sought.{met_more, met_all}
 use Rattle.gx_legality.proofs.Taken.{none_past}

@@ -4,7 +4,7 @@ use Rattle.gx_machine.specs.Keys.{entry_cmp}
 use Rattle.gx_machine.specs.declared.entry.Entry.{Entry}
 use Rattle.gx_node.specs.Edits.{entry_of}
 use Rattle.gx_node.specs.Reading.{format_of}
-use Rattle.gx_tree_pages.specs.Store.{node_of}
+use Rattle.gx_node.specs.Store.{node_of}
 use Rattle.gx_legality.specs.Placing.{is_noted, met, stage_at}
 use Rattle.gx_legality.specs.declared.notes.Note.{Note}
 use Rattle.gx_legality.proofs.placed.meet_page.Given as goal

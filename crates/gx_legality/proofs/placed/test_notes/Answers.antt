@@ -1,5 +1,5 @@
 use Rattle.std.proofs.Common.{refl}
-use Rattle.gx_tree_pages.specs.Store.{tree_of}
+use Rattle.gx_node.specs.Store.{tree_of}
 use Rattle.gx_legality.proofs.Sought.{all_placed, one_missed}
 use Rattle.gx_legality.proofs.placed.test_notes.Goals as goal
 

@@ -3,10 +3,10 @@ use Rattle.std.proofs.Common.{◌≡◌, ◌∙◌, subst, sym, ap, arith, rules
 use Rattle.std.specs.Ordering.{is_eq}
 use Rattle.gx_tree_laws.specs.Trees.{Rules, IsLawful}
 use Rattle.gx_tree.specs.declared.descent.Descended.{Descended}
-use Rattle.gx_tree_pages.specs.declared.fault.StepFault.TheVariants.{Damaged}
+use Rattle.gx_node.specs.declared.fault.StepFault.TheVariants.{Damaged}
 use Rattle.gx_tree.specs.Descending.{StepsDown}
 use Rattle.gx_memory_tree.specs.Inserting.{GoesOn, IsFullAt, MakesRoom, SplitsOrNot, from_top}
-use Rattle.gx_tree_pages.specs.Store.{Store, node_at, tree_of}
+use Rattle.gx_node.specs.Store.{Store, node_at, tree_of}
 use Rattle.gx_tree.specs.Writing.{Appends}
 use Rattle.gx_memory_tree.proofs.Down.{down_on, widened_on}
 use Rattle.gx_memory_tree.proofs.Steps.{begins_again, full_at, has_added, room_on, split_or_not, split_since}

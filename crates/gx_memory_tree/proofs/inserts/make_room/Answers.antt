@@ -3,9 +3,9 @@ use Rattle.std.proofs.Common.{◌≡◌, ◌∙◌, inl, inr, refl, subst, sym, 
 use Rattle.std.proofs.lemmas.Result.{err_from_is_err_and}
 use Rattle.std.specs.Ordering.{is_eq}
 use Rattle.gx_tree_laws.specs.Trees.{Rules}
-use Rattle.gx_tree_pages.specs.declared.fault.StepFault.TheVariants.{Damaged}
+use Rattle.gx_node.specs.declared.fault.StepFault.TheVariants.{Damaged}
 use Rattle.gx_memory_tree.specs.Inserting.{IsFullAt, SplitsOrNot}
-use Rattle.gx_tree_pages.specs.Store.{Store, tree_of}
+use Rattle.gx_node.specs.Store.{Store, tree_of}
 use Rattle.gx_tree.specs.Writing.{Swept}
 use Rattle.gx_tree.proofs.Searched.{same_err}
 use Rattle.gx_memory_tree.proofs.inserts.make_room.Goals as goal

@@ -2,8 +2,8 @@ use Rattle.std.proofs.Common.{◌≡◌, ◌+◌, suc, Bool, true, false, ◌==�
 use Rattle.std.proofs.lemmas.Bool.{and_left, ne_eqb, eq-eqb}
 use Rattle.std.proofs.Math.ListN.{drop_of_length-le}
 use Rattle.gx_page.specs.Contents.{Contents}
-use Rattle.gx_tree_pages.specs.Store.{numbered}
-use Rattle.gx_tree_pages.proofs.Listed.{numbered_next}
+use Rattle.gx_node.specs.Store.{numbered}
+use Rattle.gx_node.proofs.Listed.{numbered_next}
 use Rattle.gx_memory_tree.proofs.memory.are_numbered.Goals as goal
 
 pub returns-then-number-at : goal.returns-then-number-at

@@ -1,5 +1,5 @@
 use Rattle.std.proofs.Common.{◌≡◌, suc, drop}
-use Rattle.gx_tree_pages.specs.Store.{numbered}
+use Rattle.gx_node.specs.Store.{numbered}
 use Rattle.gx_memory_tree.proofs.memory.are_numbered.Given as goal
 
 -- what is left decides

@@ -7,13 +7,13 @@ use Rattle.gx_tree_laws.specs.Trees.{Rules, IsLawful, Used}
 use Rattle.gx_tree_laws.specs.Reach.{Item}
 use Rattle.gx_tree_laws.specs.Looks.{IsLook, LeadsTo, from_root}
 use Rattle.gx_tree_laws.proofs.OwnLook.{look_begins}
-use Rattle.gx_tree_pages.specs.declared.fault.StepFault.TheVariants.{Damaged}
+use Rattle.gx_node.specs.declared.fault.StepFault.TheVariants.{Damaged}
 use Rattle.gx_tree.specs.Found.{pairs_found}
 use Rattle.gx_tree.specs.Looking.{LookStep}
-use Rattle.gx_tree_pages.specs.Store.{tree_of}
+use Rattle.gx_node.specs.Store.{tree_of}
 use Rattle.gx_tree.specs.Wants.{wants}
 use Rattle.gx_memory_tree.proofs.Asked.{reads_begin, reads_more, reads_fail}
-use Rattle.gx_tree_pages.proofs.Listed.{same_store}
+use Rattle.gx_node.proofs.Listed.{same_store}
 use Rattle.gx_tree.proofs.Searched.{all_found, leads_to, same_err}
 use Rattle.gx_tree.proofs.Turned.{goes_on, falls, next_is_used, last_of, reads_less, lies_ahead}
 use Rattle.gx_memory_tree.proofs.searches.search.Goals as goal

@@ -2,8 +2,8 @@ use Rattle.std.proofs.Common.{◌≡◌}
 use Rattle.gx_tree_laws.specs.Looks.{IsLook}
 use Rattle.gx_tree_laws.specs.Reach.{pages_ahead}
 use Rattle.gx_tree.specs.Found.{pairs_found}
-use Rattle.gx_tree_pages.specs.Owner.{KeepsSince, IsWhyLater}
-use Rattle.gx_tree_pages.specs.Store.{tree_of}
+use Rattle.gx_node.specs.Owner.{KeepsSince, IsWhyLater}
+use Rattle.gx_node.specs.Store.{tree_of}
 use Rattle.gx_tree.specs.Wants.{wants}
 use Rattle.gx_memory_tree.proofs.Asked.{ReadsOn}
 use Rattle.gx_memory_tree.proofs.searches.search.Given as goal

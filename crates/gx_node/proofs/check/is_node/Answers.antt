@@ -1,7 +1,7 @@
 use Rattle.std.proofs.Common.{◌∙◌, sym}
 use Rattle.gx_node.specs.Reading.{format_of}
 use Rattle.gx_node.proofs.Parts.{IsLawful}
-use Rattle.gx_node.proofs.Pages.{node_exact, node_of_leaf, node_of_inner}
+use Rattle.gx_node.proofs.OnPages.{node_exact, node_of_leaf, node_of_inner}
 use Rattle.gx_node.proofs.check.is_node.Goals as goal
 
 pub returns-then-level-eq0-clause-exact : goal.returns-then-level-eq0-clause-exact

@@ -1,6 +1,6 @@
 use Rattle.gx_node.specs.Reading.{format_of}
 use Rattle.gx_node.proofs.Parts.{IsLawful}
-use Rattle.gx_node.proofs.Pages.{inner_told, inner_back}
+use Rattle.gx_node.proofs.OnPages.{inner_told, inner_back}
 use Rattle.gx_node.proofs.laws.inners.Goals as goal
 
 pub returns : goal.returns

@@ -1,6 +1,6 @@
 use Rattle.gx_node.specs.Reading.{format_of}
 use Rattle.gx_node.proofs.Parts.{IsLawful}
-use Rattle.gx_node.proofs.Pages.{leaf_told, leaf_back}
+use Rattle.gx_node.proofs.OnPages.{leaf_told, leaf_back}
 use Rattle.gx_node.proofs.laws.leaves.Goals as goal
 
 pub returns : goal.returns

@@ -1,7 +1,7 @@
 use Rattle.std.proofs.Common.{sym, subst, arith}
 use Rattle.gx_machine.specs.Keys.{Members}
 use Rattle.gx_node.specs.Reading.{format_of, is_node}
-use Rattle.gx_tree_pages.specs.Keyed.{rules_of}
+use Rattle.gx_node.specs.Keyed.{rules_of}
 use Rattle.gx_tree_laws.specs.Legal.{Legal}
 use Rattle.gx_tree_laws.specs.Trees.{Tree}
 use Rattle.gx_opening.proofs.Sounding.{can_still, shown_before, shows_same, since_all}

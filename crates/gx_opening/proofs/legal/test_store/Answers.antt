@@ -1,7 +1,7 @@
 use Rattle.std.proofs.Common.{Err, ap, arith}
 use Rattle.gx_machine.specs.Keys.{Members}
 use Rattle.gx_node.specs.Reading.{format_of, is_node}
-use Rattle.gx_tree_pages.specs.Keyed.{rules_of}
+use Rattle.gx_node.specs.Keyed.{rules_of}
 use Rattle.gx_opening.proofs.Sounding.{can_be_read, can_still, since_all, sound_before}
 use Rattle.gx_opening.proofs.legal.test_store.Goals as goal
 

@@ -1,11 +1,11 @@
 use Rattle.std.proofs.lemmas.Grind.{common_steps}
 use Rattle.std.proofs.Common.{subst, rules, arith}
 use Rattle.gx_tree.specs.Seeking.{Seeks}
-use Rattle.gx_tree_pages.specs.Store.{node_at}
+use Rattle.gx_node.specs.Store.{node_at}
 use Rattle.gx_tree.specs.Wants.{wants}
 use Rattle.gx_tree.specs.declared.seek.Sought.{Sought}
 use Rattle.gx_tree.proofs.LeafSteps.{mark_fits, mark_is_set}
-use Rattle.gx_tree_pages.proofs.Listed.{same_store}
+use Rattle.gx_node.proofs.Listed.{same_store}
 use Rattle.gx_tree.proofs.leaf_steps.set_mark_step.Goals as goal
 
 pub change-requires-clause-fits : goal.change-requires-clause-fits

@@ -1,7 +1,7 @@
 use Rattle.gx_tree_laws.specs.Steps.{node_with}
 use Rattle.gx_tree_laws.specs.Trees.{Node}
 use Rattle.gx_tree.specs.Splitting.{left_of}
-use Rattle.gx_tree_pages.specs.Store.{node_at}
+use Rattle.gx_node.specs.Store.{node_at}
 use Rattle.gx_tree.proofs.Splits.{two_changes}
 use Rattle.gx_tree.proofs.moving.keep_side.Goals as goal
 

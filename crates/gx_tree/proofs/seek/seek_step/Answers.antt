@@ -5,10 +5,10 @@ use Rattle.gx_tree_laws.specs.Lists.{how_many}
 use Rattle.gx_tree_laws.specs.Trees.{Pair, Node}
 use Rattle.gx_node.specs.Reading.{format_of}
 use Rattle.gx_node.specs.Seen.{pair_seen}
-use Rattle.gx_tree_pages.specs.Store.{node_at}
+use Rattle.gx_node.specs.Store.{node_at}
 use Rattle.gx_tree.specs.Wants.{wants}
 use Rattle.gx_tree.proofs.Hits.{none_at_all, hit_passes}
-use Rattle.gx_tree_pages.proofs.Listed.{leaf_node}
+use Rattle.gx_node.proofs.Listed.{leaf_node}
 use Rattle.gx_tree.proofs.seek.seek_step.Goals as goal
 
 pub returns-in-Some-clause-sought : goal.returns-in-Some-clause-sought

@@ -3,7 +3,7 @@ use Rattle.std.proofs.Common.{◌≡◌, ◌+◌, ◌∙◌, suc, sym, ap, subst
 use Rattle.std.specs.Ordering.{is_eq}
 use Rattle.gx_tree_laws.specs.Trees.{Node, Rules}
 use Rattle.gx_tree.specs.Splitting.{NamesOnce, DidSplit, split_store}
-use Rattle.gx_tree_pages.specs.Store.{Store}
+use Rattle.gx_node.specs.Store.{Store}
 use Rattle.gx_tree.specs.declared.split.Split.{Split}
 use Rattle.gx_tree.proofs.Splits.{made, parent_before, did_split}
 use Rattle.gx_tree.proofs.split.make_split.Goals as goal

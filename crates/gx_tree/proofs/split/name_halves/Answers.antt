@@ -3,7 +3,7 @@ use Rattle.std.proofs.lemmas.List.{length-set}
 use Rattle.gx_tree_laws.specs.Trees.{Node}
 use Rattle.gx_node.specs.Edits.{with_children, bounded_by}
 use Rattle.gx_node.proofs.OneChanged.{bound_once}
-use Rattle.gx_tree_pages.specs.Store.{Store, node_at, with_node}
+use Rattle.gx_node.specs.Store.{Store, node_at, with_node}
 use Rattle.gx_tree.proofs.Splits.{two_changes}
 use Rattle.gx_tree.proofs.split.name_halves.Goals as goal
 

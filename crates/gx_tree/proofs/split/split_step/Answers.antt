@@ -2,10 +2,10 @@ use Rattle.std.proofs.lemmas.Grind.{common_steps}
 use Rattle.std.proofs.Common.{◌∙◌, ◌∷◌, [], inr, subst, arith}
 use Rattle.std.specs.Ordering.{is_eq}
 use Rattle.gx_tree_laws.specs.Trees.{Rules}
-use Rattle.gx_tree_pages.specs.Owner.{Brings}
+use Rattle.gx_node.specs.Owner.{Brings}
 use Rattle.gx_tree.specs.Splitting.{DidSplit}
-use Rattle.gx_tree_pages.specs.Store.{Store}
-use Rattle.gx_tree_pages.proofs.Listed.{same_store}
+use Rattle.gx_node.specs.Store.{Store}
+use Rattle.gx_node.proofs.Listed.{same_store}
 use Rattle.gx_tree.proofs.split.split_step.Goals as goal
 
 pub returns-clause-split : goal.returns-clause-split

@@ -3,7 +3,7 @@ use Rattle.std.proofs.lemmas.List.{length-map}
 use Rattle.std.specs.Ordering.{is_eq}
 use Rattle.gx_tree_laws.specs.Trees.{Node, Rules, size}
 use Rattle.gx_tree.specs.Splitting.{DidSplitRoot}
-use Rattle.gx_tree_pages.specs.Store.{Store, node_at, with_page}
+use Rattle.gx_node.specs.Store.{Store, node_at, with_page}
 use Rattle.gx_tree.specs.declared.split_root.RootSplit.{RootSplit}
 use Rattle.gx_tree.proofs.RootSplits.{made_root, root_store, did_split_root}
 use Rattle.gx_tree.proofs.Splits.{at_untaken}

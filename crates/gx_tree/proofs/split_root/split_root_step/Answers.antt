@@ -2,10 +2,10 @@ use Rattle.std.proofs.lemmas.Grind.{common_steps}
 use Rattle.std.proofs.Common.{◌≡◌, ◌∙◌, subst, rules, Err, arith}
 use Rattle.std.specs.Ordering.{is_eq}
 use Rattle.gx_tree_laws.specs.Trees.{Rules}
-use Rattle.gx_tree_pages.specs.declared.fault.StepFault.TheVariants.{Damaged}
+use Rattle.gx_node.specs.declared.fault.StepFault.TheVariants.{Damaged}
 use Rattle.gx_tree.specs.Splitting.{DidSplitRoot}
-use Rattle.gx_tree_pages.specs.Store.{Store}
-use Rattle.gx_tree_pages.proofs.Listed.{same_store}
+use Rattle.gx_node.specs.Store.{Store}
+use Rattle.gx_node.proofs.Listed.{same_store}
 use Rattle.gx_tree.proofs.RootSplits.{root_is_whole}
 use Rattle.gx_tree.proofs.Searched.{same_err}
 use Rattle.gx_tree.proofs.split_root.split_root_step.Goals as goal

@@ -5,7 +5,7 @@ use Rattle.gx_node.specs.Edits.{entry_of}
 use Rattle.gx_node.specs.Reading.{format_of}
 use Rattle.gx_tree_laws.specs.Trees.{Pair, Node}
 use Rattle.gx_tree_laws.specs.Writes.{is_sweepable}
-use Rattle.gx_tree_pages.specs.Store.{node_at}
+use Rattle.gx_node.specs.Store.{node_at}
 use Rattle.gx_tree.specs.Sweeping.{Planned}
 use Rattle.gx_tree.proofs.LeafSteps.{leaf_at}
 use Rattle.gx_tree.proofs.Parted.{written}

@@ -1,5 +1,5 @@
 use Rattle.std.proofs.Common.{◌≡◌, subst, sym, true, false, rules}
-use Rattle.gx_tree_pages.specs.Store.{node_at}
+use Rattle.gx_node.specs.Store.{node_at}
 use Rattle.gx_tree.specs.Sweeping.{PlansSweep, takes_none}
 use Rattle.gx_tree.specs.Writing.{Swept}
 use Rattle.gx_tree.proofs.Swept.{is_unswept, is_swept}

@@ -4,7 +4,7 @@ use Rattle.gx_machine.specs.Keys.{Members, keys}
 use Rattle.gx_glog.specs.State.{Log}
 use Rattle.gx_readings.specs.Classes.{class_of, reading_of}
 use Rattle.gx_node.specs.Reading.{format_of, is_node}
-use Rattle.gx_tree_pages.specs.declared.fault.StepFault.TheVariants.{Damaged}
+use Rattle.gx_node.specs.declared.fault.StepFault.TheVariants.{Damaged}
 use Rattle.gx_phases.specs.Moves.{failed_state}
 use Rattle.gx_phases.specs.States.{IsKept}
 use Rattle.gx_store.specs.declared.fault.StoreFault.{StoreFault}

@@ -4,7 +4,7 @@ use Rattle.gx_machine.specs.Keys.{Members, keys}
 use Rattle.gx_glog.specs.State.{Log}
 use Rattle.gx_node.specs.Reading.{format_of, is_node}
 use Rattle.gx_readings.specs.Classes.{class_of, reading_of}
-use Rattle.gx_tree_pages.specs.declared.fault.StepFault.TheVariants.{Damaged}
+use Rattle.gx_node.specs.declared.fault.StepFault.TheVariants.{Damaged}
 use Rattle.gx_phases.specs.Moves.{failed_state}
 use Rattle.gx_phases.specs.States.{IsKept, phase_at}
 use Rattle.gx_store.specs.declared.fault.StoreFault.{StoreFault}
@@ -15,7 +15,7 @@ use Rattle.gx_engine.specs.Moves.{Moves}
 use Rattle.gx_engine.specs.Refusals.{IsRefused}
 use Rattle.gx_engine.specs.States.{Parts}
 use Rattle.gx_engine.specs.Writing.{write_events}
-use Rattle.gx_tree_pages.specs.Store.{tree_of}
+use Rattle.gx_node.specs.Store.{tree_of}
 use Rattle.gx_tree_laws.specs.Trees.{size}
 use Rattle.gx_storage.specs.Changes.{known_at}
 use Rattle.gx_engine.specs.Sweeping.{is_held, node_shown}

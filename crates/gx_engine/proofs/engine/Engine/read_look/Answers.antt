@@ -3,8 +3,8 @@ use Rattle.gx_machine.specs.Keys.{keys}
 use Rattle.gx_node.specs.Reading.{format_of, is_node}
 use Rattle.gx_tree.specs.declared.look.Look.{Look}
 use Rattle.gx_store.specs.declared.fault.StoreFault.{StoreFault}
-use Rattle.gx_tree_pages.specs.declared.fault.StepFault.{StepFault}
-use Rattle.gx_tree_pages.specs.declared.fault.StepFault.TheVariants.{Damaged, Memory, Pages}
+use Rattle.gx_node.specs.declared.fault.StepFault.{StepFault}
+use Rattle.gx_node.specs.declared.fault.StepFault.TheVariants.{Damaged, Memory, Pages}
 use Rattle.gx_phases.specs.declared.phase.Phase.TheVariants.{Open}
 use Rattle.gx_phases.specs.States.{State, phase_at, with_phase_of}
 use Rattle.gx_storage.specs.State.{Volume}

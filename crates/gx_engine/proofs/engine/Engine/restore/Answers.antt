@@ -2,7 +2,7 @@ use Rattle.std.proofs.Common.{◌≡◌, ◌∙◌, ap, subst, ◌+◌, rules}
 use Rattle.gx_machine.specs.Keys.{Members, keys}
 use Rattle.gx_phases.specs.States.{IsKept}
 use Rattle.gx_store.specs.State.{IsInOrder}
-use Rattle.gx_tree_pages.specs.declared.fault.StepFault.TheVariants.{Damaged}
+use Rattle.gx_node.specs.declared.fault.StepFault.TheVariants.{Damaged}
 use Rattle.gx_phases.specs.Moves.{failed_state}
 use Rattle.gx_engine.specs.Refusals.{IsRefused}
 use Rattle.gx_node.specs.Reading.{format_of, is_node}

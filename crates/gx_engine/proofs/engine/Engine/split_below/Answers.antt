@@ -3,8 +3,8 @@ use Rattle.gx_machine.specs.declared.call.Call.TheVariants.{Insert}
 use Rattle.gx_machine.specs.Keys.{Members, keys}
 use Rattle.gx_node.specs.Reading.{format_of, is_node}
 use Rattle.gx_readings.specs.Classes.{class_of, reading_of}
-use Rattle.gx_tree_pages.specs.declared.fault.StepFault.TheVariants.{Damaged, PagesFull}
-use Rattle.gx_tree_pages.specs.Keyed.{rules_of}
+use Rattle.gx_node.specs.declared.fault.StepFault.TheVariants.{Damaged, PagesFull}
+use Rattle.gx_node.specs.Keyed.{rules_of}
 use Rattle.gx_phases.specs.Moves.{failed_state}
 use Rattle.gx_phases.specs.States.{IsKept, phase_at}
 use Rattle.gx_store.specs.declared.fault.StoreFault.{StoreFault}

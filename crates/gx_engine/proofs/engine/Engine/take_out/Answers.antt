@@ -4,7 +4,7 @@ use Rattle.gx_node.specs.Reading.{format_of, is_node}
 use Rattle.gx_node.specs.declared.items.TheConstants.{MAX_ENTRIES}
 use Rattle.gx_store.specs.Faults.{CanBeRead}
 use Rattle.gx_store.specs.State.{IsSteady}
-use Rattle.gx_tree_pages.specs.declared.fault.StepFault.TheVariants.{Damaged, Pages}
+use Rattle.gx_node.specs.declared.fault.StepFault.TheVariants.{Damaged, Pages}
 use Rattle.gx_phases.specs.Moves.{failed_state}
 use Rattle.gx_storage.specs.Bringing.{has_removable}
 use Rattle.gx_storage.specs.Changes.{has_room}

@@ -4,7 +4,7 @@ use Rattle.gx_node.specs.Reading.{format_of, is_node}
 use Rattle.gx_readings.specs.Classes.{class_of, reading_of}
 use Rattle.gx_phases.specs.Moves.{failed_state}
 use Rattle.gx_phases.specs.States.{IsKept, phase_at}
-use Rattle.gx_tree_pages.specs.declared.fault.StepFault.TheVariants.{Damaged}
+use Rattle.gx_node.specs.declared.fault.StepFault.TheVariants.{Damaged}
 use Rattle.gx_engine.specs.Moves.{Moves}
 use Rattle.gx_engine.specs.Refusals.{IsRefused}
 use Rattle.gx_engine.specs.Seeking.{SeekComes, write_call}

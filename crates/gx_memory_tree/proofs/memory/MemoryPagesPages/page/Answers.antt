@@ -1,8 +1,8 @@
 use Rattle.std.proofs.Common.{◌≡◌, ◌-◌, ◌<◌, ◌≤◌, ◌∙◌, ap, sym, length, get_or, rules, arith}
 use Rattle.gx_page.specs.Contents.{Contents}
 use Rattle.gx_node.specs.Reading.{format_of, is_node}
-use Rattle.gx_tree_pages.specs.Store.{Store, node_of, node_at}
-use Rattle.gx_tree_pages.proofs.Listed.{in_items, node_in, each_at, number_at}
+use Rattle.gx_node.specs.Store.{Store, node_of, node_at}
+use Rattle.gx_node.proofs.Listed.{in_items, node_in, each_at, number_at}
 use Rattle.gx_memory_tree.proofs.memory.MemoryPagesPages.page.Goals as goal
 
 pub returns-clause-node : goal.returns-clause-node

@@ -3,9 +3,9 @@ use Rattle.std.proofs.lemmas.List.{length-set, get_or-set_same, map-set}
 use Rattle.gx_page.specs.Contents.{Contents}
 use Rattle.gx_tree_laws.specs.Trees.{Node}
 use Rattle.gx_node.specs.Reading.{format_of, is_node}
-use Rattle.gx_tree_pages.specs.Store.{Store, node_of, node_at, with_node}
+use Rattle.gx_node.specs.Store.{Store, node_of, node_at, with_node}
 use Rattle.gx_tree.proofs.Changed.{set_elsewhere}
-use Rattle.gx_tree_pages.proofs.Listed.{in_items, node_in, all_set, number_at, numbered_set}
+use Rattle.gx_node.proofs.Listed.{in_items, node_in, all_set, number_at, numbered_set}
 use Rattle.gx_memory_tree.proofs.memory.MemoryPagesPagesMut.change.Goals as goal
 
 pub apply-requires-clause-fits : goal.apply-requires-clause-fits

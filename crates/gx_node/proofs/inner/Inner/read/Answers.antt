@@ -2,7 +2,7 @@ use Rattle.std.proofs.Common.{◌∙◌, sym, subst}
 use Rattle.gx_node.specs.Entries.{HoldsChildren}
 use Rattle.gx_node.specs.Reading.{format_of}
 use Rattle.gx_node.proofs.Parts.{IsLawful}
-use Rattle.gx_node.proofs.Pages.{inner_found}
+use Rattle.gx_node.proofs.OnPages.{inner_found}
 use Rattle.gx_node.proofs.inner.Inner.read.Goals as goal
 
 pub returns-then-are_children-clause-held : goal.returns-then-are_children-clause-held

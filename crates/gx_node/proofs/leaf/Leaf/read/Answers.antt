@@ -2,7 +2,7 @@ use Rattle.std.proofs.Common.{◌∙◌, sym, subst}
 use Rattle.gx_node.specs.Entries.{HoldsPairs}
 use Rattle.gx_node.specs.Reading.{format_of}
 use Rattle.gx_node.proofs.Parts.{IsLawful}
-use Rattle.gx_node.proofs.Pages.{leaf_found}
+use Rattle.gx_node.proofs.OnPages.{leaf_found}
 use Rattle.gx_node.proofs.leaf.Leaf.read.Goals as goal
 
 pub returns-then-are_pairs-clause-held : goal.returns-then-are_pairs-clause-held

@@ -1,7 +1,7 @@
 use Rattle.std.proofs.Common.{refl, sym, ◌∙◌}
 use Rattle.std.proofs.lemmas.Result.{on_ok_weaker, err_from_is_err_and}
 use Rattle.gx_node.specs.Reading.{format_of}
-use Rattle.gx_tree_pages.specs.Store.{node_of}
+use Rattle.gx_node.specs.Store.{node_of}
 use Rattle.gx_script.proofs.WriteLemmas.{cut_more, put_cut, put_then}
 use Rattle.gx_restart.specs.Text.{node_text}
 use Rattle.gx_restart.proofs.Nodes.{told_inner}

@@ -3,7 +3,7 @@ use Rattle.gx_node.specs.Reading.{format_of, is_node}
 use Rattle.gx_store.specs.Standing.{standing_node, store_of}
 use Rattle.gx_store.specs.State.{Shelf, IsSteady}
 use Rattle.gx_store.proofs.Listed.{nodes_long}
-use Rattle.gx_tree_pages.specs.Store.{Stays}
+use Rattle.gx_node.specs.Store.{Stays}
 use Rattle.gx_storage.specs.Bringing.{bringing}
 use Rattle.gx_storage.specs.State.{Volume}
 use Rattle.gx_storage.proofs.OnlyReads.{begun_reads, since_begun}

@@ -6,7 +6,7 @@ use Rattle.gx_node.specs.Edits.{entry_of}
 use Rattle.gx_tree_laws.specs.Lists.{how_many}
 use Rattle.gx_tree_laws.specs.Trees.{Node}
 use Rattle.gx_tree_laws.specs.Writes.{is_sweepable}
-use Rattle.gx_tree_pages.specs.Store.{node_of}
+use Rattle.gx_node.specs.Store.{node_of}
 use Rattle.gx_storage.specs.Bringing.{has_removable}
 use Rattle.gx_storage.proofs.storage.Storage.has_removable.Goals as goal
 use Rattle.gx_storage.proofs.storage.Storage.has_removable.Goals.{then-level-eq0, else-level-eq0}

@@ -2,7 +2,7 @@ use Rattle.std.proofs.Common.{◌≡◌, subst, true}
 use Rattle.gx_node.specs.Reading.{format_of, is_node}
 use Rattle.gx_store.specs.Standing.{store_of}
 use Rattle.gx_store.specs.State.{Shelf, IsSteady}
-use Rattle.gx_tree_pages.specs.Store.{Stays}
+use Rattle.gx_node.specs.Store.{Stays}
 use Rattle.gx_storage.specs.Bringing.{bringing}
 use Rattle.gx_storage.specs.State.{Volume}
 use Rattle.gx_storage.proofs.OnlyReads.{begun_reads, since_begun}

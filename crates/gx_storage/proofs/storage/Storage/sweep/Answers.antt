@@ -9,9 +9,9 @@ use Rattle.gx_store.specs.declared.fault.StoreFault.{StoreFault}
 use Rattle.gx_store.proofs.Going.{why_later}
 use Rattle.gx_store.proofs.Listed.{nodes_long}
 use Rattle.gx_tree_laws.specs.Trees.{Used}
-use Rattle.gx_tree_pages.specs.Store.{Store, tree_of}
-use Rattle.gx_tree_pages.specs.Owner.{IsWhy}
-use Rattle.gx_tree_pages.specs.declared.fault.StepFault.{StepFault}
+use Rattle.gx_node.specs.Store.{Store, tree_of}
+use Rattle.gx_node.specs.Owner.{IsWhy}
+use Rattle.gx_node.specs.declared.fault.StepFault.{StepFault}
 use Rattle.gx_tree.specs.Sweeping.{FitsLeaf, takes_none}
 use Rattle.gx_storage.specs.Bringing.{has_removable}
 use Rattle.gx_storage.specs.Changes.{begun}

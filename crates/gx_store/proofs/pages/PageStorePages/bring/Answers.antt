@@ -4,7 +4,7 @@ use Rattle.gx_pool.specs.Bringing.{BringsAll}
 use Rattle.gx_pool.specs.State.{holding}
 use Rattle.gx_store.specs.State.{Shelf}
 use Rattle.gx_store.specs.Faults.{told_of}
-use Rattle.gx_tree_pages.specs.Owner.{Brings}
+use Rattle.gx_node.specs.Owner.{Brings}
 use Rattle.gx_store.proofs.Asking.{bringing_moves, moves_joined}
 use Rattle.gx_store.proofs.Bringing.{brought_in_order, brought_nodes, fetched, fits_device, on_ok}
 use Rattle.gx_store.proofs.Going.{since_joined, why_later}
