@@ -6,14 +6,16 @@ import sys
 
 # Words that a page may have, at most. A page that isn't here fails.
 WORDS = {
-    "README": 700, "MAP": 1400, "SCRIPT": 1800, "OPERATING": 1200, "CLIENTS": 500, "FILE": 1800, "TREE": 2500,
+    "README": 700, "MAP": 1400, "SCRIPT": 1800, "OPERATING": 1200, "CLIENTS": 800, "FILE": 1800, "TREE": 2500,
     "CLASSES": 1300, "LOG": 1800, "RECOVERY": 2800, "ENGINE": 2800, "SESSIONS": 1800, "THEOREM": 3500, "PROMISES": 2500,
     "PROOFS": 1500, "SPEED": 1200, "GATE": 400, "DECISIONS": 2500,
 }
-# Names of other programs and of the toolchain.
+# Words that all pages may have together.
+ALL = 32000
+# Names of other programs, of the toolchain and of its library.
 ELSEWHERE = {
     "gist_redo", "integrity_check", "rtree_i32", "common_steps", "may_wait", "StartupXLOG", "XLogInsert", "XLogFlush",
-    "ReadBuffer", "CreateCheckPoint",
+    "ReadBuffer", "CreateCheckPoint", "copy_nonoverlapping", "ptr",
 }
 TOP = pathlib.Path(__file__).resolve().parent.parent
 WORD = re.compile(r"[A-Za-z_][A-Za-z0-9_]*")
@@ -129,10 +131,12 @@ def links(page, text):
 def main():
     known = everywhere()
     bad = []
+    words = 0
     for page in [TOP / "README.md"] + sorted((TOP / "docs").glob("*.md")):
         text = page.read_text()
         # GATE's table is made by a script, and is as long as there are crates.
         counted = re.sub(r"^\|.*$", "", text, flags=re.M) if page.stem == "GATE" else text
+        words += len(counted.split())
         most = WORDS.get(page.stem)
         if most is None or len(counted.split()) > most:
             bad.append(f"{page.stem}: {len(counted.split())} words, {most or 'and no place in .ci/pages.py'}")
@@ -144,6 +148,8 @@ def main():
             if crate in CRATES and not all(part in of_crate(crate) for part in last):
                 bad.append(f"{page.stem}: no `{name}` in {crate}")
         bad += [f"{page.stem}: no {target}" for target in links(page, text)]
+    if words > ALL:
+        bad.append(f"all pages: {words} words, {ALL}")
     print("\n".join(dict.fromkeys(bad)), end="\n" if bad else "")
 
 
