@@ -111,6 +111,18 @@ def behind_crates(text):
             yield run[1], name
 
 
+def clauses(text):
+    """Clauses that stand behind a call: `gx_x::f` (`a`, `b`)."""
+    for run in re.finditer(r"`(gx_\w+)::[^`]+`(?:,? `(?!gx_)[^`]+`)* \(((?:`[a-z_]+`,? ?(?:and )?)+)", text):
+        for name in re.findall(r"`([^`]+)`", run[2]):
+            yield run[1], name
+
+
+def has_clause(crate, name):
+    sources = files(CRATES[crate] / "src", {".rt"})
+    return any(re.search(rf"ensures\*? {name} \{{", path.read_text()) for path in sources)
+
+
 def anchor(title):
     return re.sub(r"[^a-z0-9 _-]", "", title.lower().replace("`", "")).replace(" ", "-")
 
@@ -147,6 +159,7 @@ def main():
             last = name.split("/")
             if crate in CRATES and not all(part in of_crate(crate) for part in last):
                 bad.append(f"{page.stem}: no `{name}` in {crate}")
+        bad += [f"{page.stem}: no clause `{name}` in {crate}" for crate, name in clauses(prose) if not has_clause(crate, name)]
         bad += [f"{page.stem}: no {target}" for target in links(page, text)]
     if words > ALL:
         bad.append(f"all pages: {words} words, {ALL}")
