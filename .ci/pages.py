@@ -1,5 +1,5 @@
 #!/usr/bin/env python3
-"""Looks at README and docs/: each page's words, each name in backquotes, each link. Prints nothing where all is well."""
+"""Looks at README and docs/: each page's words, names in backquotes, links, dates. Prints nothing where all is well."""
 import pathlib
 import re
 import sys
@@ -123,6 +123,14 @@ def has_clause(crate, name):
     return any(re.search(rf"ensures\*? {name} \{{", path.read_text()) for path in sources)
 
 
+def dates(text):
+    """Dates that stand elsewhere than in the line of when something was measured."""
+    for line in text.splitlines():
+        found = re.search(r"\b20\d\d-\d\d-\d\d\b|\b[A-Z][a-z]+ 20\d\d\b", line)
+        if found and "easured on" not in line:
+            yield found[0]
+
+
 def anchor(title):
     return re.sub(r"[^a-z0-9 _-]", "", title.lower().replace("`", "")).replace(" ", "-")
 
@@ -161,6 +169,7 @@ def main():
                 bad.append(f"{page.stem}: no `{name}` in {crate}")
         bad += [f"{page.stem}: no clause `{name}` in {crate}" for crate, name in clauses(prose) if not has_clause(crate, name)]
         bad += [f"{page.stem}: no {target}" for target in links(page, text)]
+        bad += [f"{page.stem}: a date, {date}" for date in dates(text)]
     if words > ALL:
         bad.append(f"all pages: {words} words, {ALL}")
     print("\n".join(dict.fromkeys(bad)), end="\n" if bad else "")
