@@ -2,7 +2,6 @@
 """Looks at README and docs/: each page's words, names in backquotes, links, dates. Prints nothing where all is well."""
 import pathlib
 import re
-import sys
 
 # Words that a page may have, at most. A page that isn't here fails.
 WORDS = {
@@ -83,19 +82,15 @@ def is_name(word):
 def wrong(span, known):
     """What in one span of backquotes names nothing."""
     for text in expanded(span):
-        if is_path(text) and not text.startswith("gist/"):
+        if is_path(text):
             if not has_path(text):
                 yield text
             continue
         parts = text.split("::")
         crate = parts[0] if parts[0].startswith("gx_") else None
-        if crate and re.fullmatch(r"gx_\w+", crate) and len(parts) > 1:
-            if crate not in CRATES:
+        if crate and len(parts) > 1:
+            if crate not in CRATES or not all(word in of_crate(crate) for word in WORD.findall("::".join(parts[1:]))):
                 yield text
-                continue
-            for word in WORD.findall("::".join(parts[1:])):
-                if word not in of_crate(crate):
-                    yield text
             continue
         for word in WORD.findall(text):
             if (is_name(word) or len(parts) > 1) and word not in known:
