@@ -7,6 +7,7 @@
 mod asks;
 pub mod laws;
 mod phase;
+mod phases;
 mod sessions;
 mod steps;
 
