@@ -1,10 +1,10 @@
 -- What a redo leaves: the log, and after it the same pages.
-use Rattle.std.proofs.Common.{◌≡◌, ◌∙◌, sym, ap, refl, subst, inl, ℕ, zero, suc, ◌+◌, ◌*◌, ◌<◌, ◌≤◌, ◌==◌, Bool, true, false, List, [], ◌∷◌, length, arith}
+use Rattle.std.proofs.Common.{◌≡◌, ◌≢◌, ◌∙◌, sym, ap, refl, subst, inl, ℕ, zero, suc, ◌+◌, ◌*◌, ◌<◌, ◌≤◌, ◌==◌, Bool, true, false, List, [], ◌∷◌, length, arith, eq-eqb}
 use Rattle.std.specs.Prelude.{Option, None, Some, unwrap_or, if◌then◌else◌, Result, Ok, Err, OnOk}
 use Rattle.std.specs.Option.{option_map}
 use Rattle.std.proofs.Math.Path.{fun_ext}
 use Rattle.gx_disk.specs.Device.{Device, IsSettled}
-use Rattle.gx_disk.specs.Sectors.{sector_of, IsWithin}
+use Rattle.gx_disk.specs.Sectors.{sector_of, IsOutside, IsWithin}
 use Rattle.gx_disk.proofs.Leaving.{leaves_weaker}
 use Rattle.gx_disk.proofs.Spans.{apart_outside, spans_same}
 use Rattle.gx_glog.specs.declared.extent.Extent.{Extent}
@@ -37,10 +37,23 @@ use Rattle.gx_durable.specs.Standing.{Stands}
 use Rattle.gx_durable.proofs.Areas.{device_page, page_same}
 use Rattle.gx_durable.proofs.Opening.{found_up}
 use Rattle.gx_redo.specs.Kept.{Imaged, image_in}
-use Rattle.gx_redo.specs.Laid.{ArePages, IsBeside, IsImageBeside, AreLaid, Lays}
-use Rattle.gx_redo.specs.Redone.{IsGiven, IsFoundOn, HasSamePages, IsRedone, Redone}
+use Rattle.gx_redo.specs.Laid.{ArePages, HasAsRead, IsBeside, IsImageBeside, AreLaid, Lays, Spares}
+use Rattle.gx_redo.specs.Redone.{IsGiven, IsFoundOn, HasSamePages, IsRedone, IsUngiven, Redone}
 use Rattle.gx_redo.proofs.Laid.{apart_pages}
 use Rattle.gx_redo.proofs.Reaching.{beyond_ungiven}
+
+-- a page that is kept first, or later
+first_kept : (x : Imaged) (xs : List Imaged) → image_in x.0 (x ∷ xs) ≢ None
+first_kept x xs none = let no : Some x.1 ≡ None = rw (eq-eqb x.0 x.0 refl) at none in cc
+
+later_kept : (p : ℕ) (x : Imaged) (xs : List Imaged) (b : Bool) → (x.0 == p) ≡ b → image_in p xs ≢ None → image_in p (x ∷ xs) ≢ None
+later_kept p x xs true is there none = let no : Some x.1 ≡ None = rw is at none in cc
+later_kept p x xs false is there none = there (rw is at none)
+
+-- a sector outside each page that is kept
+beside_each : (xs : List Imaged) (s : ℕ) → ((p : ℕ) → image_in p xs ≢ None → IsOutside (first_of p) 8 s) → IsBeside xs s
+beside_each [] s out = tt
+beside_each (x ∷ xs) s out = (out x.0 (first_kept x xs), beside_each xs s (λ p there. out p (later_kept p x xs (x.0 == p) refl there)))
 
 -- sectors ahead of page 1 are no page's
 ahead : (xs : List Imaged) (s : ℕ) → s < 4168 → IsBeside xs s
@@ -200,6 +213,18 @@ module _ {E P : Type 0} (k : Known E P) (r : Reading E P) (kept : List Imaged) (
   done_so e (Ok x) whole sectors size others laid settled = is_redone e whole sectors size others laid settled
   done_so e (Err x) whole sectors size others laid settled = tt
 
+  -- what is written of the device
+  ungiven_beside : (s : ℕ) → IsUngiven log s → IsBeside kept s
+  ungiven_beside s out = beside_each kept s (λ p there. out p (λ none. there (none_mapped r.content (image_in p kept) (gives_so p ∙ none))))
+
+  spares_so : {T R : Type 0} (e : Device) (result : Result T R) → Lays kept d e result → Spares (IsUngiven log) d e
+  spares_so e result lays = record {
+    now = record { size = lays.size; same = λ s out. lays.others s (ungiven_beside s out) };
+    settled = λ s out. lays.settled s (ungiven_beside s out) (is.settled s);
+    leaves = leaves_weaker (IsImageBeside kept d) (HasAsRead (IsUngiven log) d.seen) d e
+        (λ image beside. record { size = beside.size; same = λ s out. beside.settled s (ungiven_beside s out) (is.settled s) }) lays.leaves;
+  }
+
   -- what a redo leaves, from what its calls lay
   pub redone_so : {T R : Type 0} (e : Device) (result : Result T R) → length d.seen ≡ 512 * d.sectors → e.sectors ≡ d.sectors → Lays kept d e result → OnOk result (IsSettled e)
       → Redone k r d e bodies result
@@ -208,4 +233,5 @@ module _ {E P : Type 0} (k : Known E P) (r : Reading E P) (kept : List Imaged) (
     stands = λ good.
         leaves_weaker (IsImageBeside kept d) (Stands k r (found (area_of r k.pages d.seen) log)) d e (λ image beside. image_stands good image beside) lays.leaves;
     done = done_so e result whole sectors lays.size lays.others lays.laid settled;
+    spares = spares_so e result lays;
   }

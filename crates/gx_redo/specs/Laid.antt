@@ -33,3 +33,15 @@ pub record Lays {T E : Type 0} (pages : List Imaged) (old new : Device) (result 
   pub settled : (s : ℕ) → IsBeside pages s → old.pending s ≡ false → new.pending s ≡ false
   pub laid : OnOk result (AreLaid pages old.sectors old.seen new.seen)
   pub leaves : Leaves (IsImageBeside pages old) old new
+
+-- An image has each of these sectors as it was read.
+pub record HasAsRead (Spared : ℕ → Type 0) (seen image : List ℕ) : Type 0 where
+  pub size : length image ≡ length seen
+  pub same : (s : ℕ) → Spared s → sector_of image s ≡ sector_of seen s
+
+-- Calls on a settled device that write none of these sectors: each reads as before and is settled, and at each moment of them what a crash may
+-- leave has it so.
+pub record Spares (Spared : ℕ → Type 0) (old new : Device) : Type 0 where
+  pub now : HasAsRead Spared old.seen new.seen
+  pub settled : (s : ℕ) → Spared s → new.pending s ≡ false
+  pub leaves : Leaves (HasAsRead Spared old.seen) old new

@@ -1,12 +1,14 @@
 -- What a log's redo leaves of its device, said of the theory of logs.
-use Rattle.std.specs.Prelude.{◌≡◌, ℕ, ◌<◌, true, List, [], Result, OnOk}
+use Rattle.std.specs.Prelude.{◌≡◌, ◌≢◌, ℕ, ◌<◌, true, None, List, [], Result, OnOk}
 use Rattle.std.specs.Option.{option_map}
 use Rattle.gx_disk.specs.Device.{Device, IsSettled}
 use Rattle.gx_disk.specs.Moments.{Leaves}
+use Rattle.gx_disk.specs.Sectors.{IsOutside}
 use Rattle.gx_glog.specs.declared.extent.Extent.{Extent}
 use Rattle.gx_glog.specs.Layout.{selected_of, body_of, size_in, open_run}
 use Rattle.gx_glog.specs.Reading.{IsSize}
 use Rattle.gx_glog.specs.Cuts.{bodies_in, open_bodies}
+use Rattle.gx_pool.specs.Area.{first_of}
 use Rattle.gx_record.specs.Rec.{Rec}
 use Rattle.gx_recovery.specs.Known.{Known, IsLawful}
 use Rattle.gx_recovery.specs.Records.{Record}
@@ -22,6 +24,7 @@ use Rattle.gx_durable.specs.Fitting.{AreGood, HasSizes}
 use Rattle.gx_durable.specs.Standing.{Stands}
 use Rattle.gx_durable.specs.Opening.{UpToTurn, found_glog}
 use Rattle.gx_redo.specs.Kept.{Imaged, image_in, with_all, all_images, are_on_device}
+use Rattle.gx_redo.specs.Laid.{Spares}
 use Rattle.gx_redo.specs.Told.{HasRecords}
 
 -- What is kept of each page is what the log gives of it; of a page that it doesn't give nothing is kept.
@@ -65,13 +68,19 @@ pub record IsRedone {E P : Type 0} (k : Known E P) (r : Reading E P) (d e : Devi
   pub turn : AreGood k r (area_of r k.pages e.seen) (records_of bodies)
       → UpToTurn k r (found_glog e.seen) e.sectors e.seen e.pending bodies (found (area_of r k.pages e.seen) (records_of bodies))
 
+-- a sector is no part of a page of which a log gives the content
+abbrev pub IsUngiven : {E P : Type 0} → List (Record E P) → ℕ → Type 0
+IsUngiven log s = (p : ℕ) → given p log ≢ None → IsOutside (first_of p) 8 s
+
 -- At each moment of a redo, also where a call fails, what a crash may leave has the log that was found, and after it the same pages.
--- Where these are good for it and can be read, it stands for the set that the log as it was found keeps.
+-- Where these are good for it and can be read, it stands for the set that the log as it was found keeps. Of all sectors only those of pages
+-- that the log gives are written.
 pub record Redone {T R E P : Type 0} (k : Known E P) (r : Reading E P) (d e : Device) (bodies : List (List (Record E P))) (result : Result T R) : Type 0 where
   pub leaves : Leaves (HasSamePages k r d.seen (records_of bodies)) d e
   pub stands : AreGood k r (area_of r k.pages d.seen) (records_of bodies)
       → Leaves (Stands k r (found (area_of r k.pages d.seen) (records_of bodies))) d e
   pub done : OnOk result (IsRedone k r d e bodies)
+  pub spares : Spares (IsUngiven (records_of bodies)) d e
 
 -- so of each log that is found there, of which what was kept is given
 abbrev pub Redoes : {T R E P : Type 0} → Known E P → Reading E P → List Imaged → Device → Device → Result T R → Type 0
