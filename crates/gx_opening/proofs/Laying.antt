@@ -16,9 +16,11 @@ use Rattle.gx_durable.specs.Spelled.{Reading}
 use Rattle.gx_durable.specs.Bodies.{AreBodies}
 use Rattle.gx_found_log.specs.declared.found.FoundLog.{FoundLog}
 use Rattle.gx_found_log.specs.Found.{AreUndamaged, IsFound, LogRead, opened}
-use Rattle.gx_redo.specs.Redone.{HasSamePages}
+use Rattle.gx_redo.specs.Laid.{Spares}
+use Rattle.gx_redo.specs.Redone.{HasSamePages, IsUngiven}
 use Rattle.gx_redo.specs.Restart.{RedoesFound}
-use Rattle.gx_opening.specs.Laid.{HasFoundLog, IsKeptOrFound, LogLaid, LaysFound, LaysLog}
+use Rattle.gx_opening.specs.Laid.{HasFoundLog, IsKeptOrFound, IsSpared, LogLaid, LaysFound, LaysLog}
+use Rattle.gx_opening.proofs.Sparing.{look_spares, look_spared, spares_fewer}
 
 -- ---- how many bodies
 
@@ -69,13 +71,15 @@ module _ {E P : Type 0} (k : Known E P) (r : Reading E P) where
       record {
         leaves = leaves_joined (IsKeptOrFound k r a) a b c (looks_keep a b looks)
             (leaves_weaker (IsKeptOrFound k r b) (IsKeptOrFound k r a) b c (λ image. since_look a b image looks) laid.leaves);
+        spares = look_spared (IsSpared k r a.seen) a b c looks settled (subst (λ (s : List ℕ). Spares (IsSpared k r s) b c) looks.rests.seen laid.spares);
         log = subst (λ (s : List ℕ). LogLaid k r s c result) looks.rests.seen laid.log;
       }
 
   -- reading alone, where it is refused
-  pub read_refused : (a b : Device) (why : Refusal) → Looks a b → LogRead {E = E} {P = P} k r a.seen (Err why) → LaysLog k r a b (Err why)
-  read_refused a b why looks read = record {
+  pub read_refused : (a b : Device) (why : Refusal) → IsSettled a → Looks a b → LogRead {E = E} {P = P} k r a.seen (Err why) → LaysLog k r a b (Err why)
+  read_refused a b why settled looks read = record {
     leaves = looks_keep a b looks;
+    spares = look_spares (IsSpared k r a.seen) a b looks settled;
     log = λ is. subst (λ (w : Refusal). LogRead {E = E} {P = P} k r a.seen (Err w)) is read;
   }
 
@@ -88,12 +92,16 @@ module _ {E P : Type 0} (k : Known E P) (r : Reading E P) where
     kept_so : (image : List ℕ) → HasSamePages k r a.seen (records_of is.log.bodies) image → IsKeptOrFound k r a image
     kept_so image pages = inr (record { log = is.log; same = pages })
 
+    spared_so : Spares (IsUngiven (records_of is.log.bodies)) a b → Spares (IsSpared k r a.seen) a b
+    spared_so spares = spares_fewer (IsUngiven (records_of is.log.bodies)) (IsSpared k r a.seen) a b (λ s spared. spared is.log) spares
+
     -- it is redone
     pub redone_lays : (done : Unit {0}) → RedoesFound {T = Unit {0}} k r found a b (Ok done) → LaysLog k r a b (Ok found)
     redone_lays done redoes =
         let whole = redoes lawful honest settled is in
         record {
           leaves = leaves_weaker (HasSamePages k r a.seen (records_of is.log.bodies)) (IsKeptOrFound k r a) a b kept_so whole.redone.leaves;
+          spares = spared_so whole.redone.spares;
           log = record {
             is = is;
             settled = whole.redone.done.settled;
@@ -109,5 +117,6 @@ module _ {E P : Type 0} (k : Known E P) (r : Reading E P) where
         let whole = redoes lawful honest settled is in
         record {
           leaves = leaves_weaker (HasSamePages k r a.seen (records_of is.log.bodies)) (IsKeptOrFound k r a) a b kept_so whole.redone.leaves;
+          spares = spared_so whole.redone.spares;
           log = λ damaged log. absurd (whole.whole (ap (λ w. Err w) damaged));
         }

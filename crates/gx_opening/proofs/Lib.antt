@@ -9,3 +9,5 @@ pub mod Stood
 pub mod Faults
 pub mod Telling
 pub mod Resting
+pub mod Sparing
+pub mod Ordering

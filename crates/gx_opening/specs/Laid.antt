@@ -19,7 +19,8 @@ use Rattle.gx_recovery.specs.Life.{AllWritten}
 use Rattle.gx_recovery.specs.Records.{Record}
 use Rattle.gx_recovery.specs.Redo.{redone}
 use Rattle.gx_recovery.specs.Renewal as renewal
-use Rattle.gx_redo.specs.Redone.{HasSamePages}
+use Rattle.gx_redo.specs.Laid.{Spares}
+use Rattle.gx_redo.specs.Redone.{HasSamePages, IsUngiven}
 
 module _ {E P : Type 0} (k : Known E P) (r : Reading E P) where
   -- The log of what is seen is undamaged; an image has the same log, and after it the same pages.
@@ -52,9 +53,14 @@ module _ {E P : Type 0} (k : Known E P) (r : Reading E P) where
   LogLaid seen e (Ok found) = IsLaid seen e found
   LogLaid seen e (Err why) = why ≡ Damaged → HasUndamaged k r seen → ⊥
 
+  -- a sector is no part of a page that the log of what is seen gives; where that log is damaged, none is
+  abbrev pub IsSpared : List ℕ → ℕ → Type 0
+  IsSpared seen s = (log : HasUndamaged k r seen) → IsUngiven (records_of log.bodies) s
+
   -- What finding and laying the log leaves of a settled device, also where it is refused.
   pub record LaysLog (d e : Device) (result : Result (FoundLog E) Refusal) : Type 0 where
     pub leaves : Leaves (IsKeptOrFound d) d e
+    pub spares : Spares (IsSpared d.seen) d e
     pub log : LogLaid d.seen e result
 
   -- so of a log that is found there

@@ -5,3 +5,4 @@ pub mod Sound
 pub mod Standing
 pub mod Texts
 pub mod Shown
+pub mod Writing

@@ -21,8 +21,10 @@ use Rattle.gx_found_log.specs.Found.{HasUndamaged}
 use Rattle.gx_index_laws.specs.Classes.{Page, known_of}
 use Rattle.gx_readings.specs.Classes.{class_of, reading_of}
 use Rattle.gx_opening.specs.Formatted.{IsAllowed, IsLarge, MaySettle, Says}
-use Rattle.gx_opening.specs.Laid.{HasFoundLog, IsKeptOrFound, IsLaid}
+use Rattle.gx_redo.specs.Laid.{Spares}
+use Rattle.gx_opening.specs.Laid.{HasFoundLog, IsKeptOrFound, IsLaid, IsSpared}
 use Rattle.gx_opening.specs.Sound.{AreSound, IsCause}
+use Rattle.gx_opening.specs.Writing.{IsInOrder, IsUnfit, IsUnwritten, SyncsFirst}
 use Rattle.gx_opening.specs.declared.standing.Standing.{Standing}
 
 -- what was found, where its test passed
@@ -51,6 +53,16 @@ module _ {B : Type 0} (shape : Members B) (is_key : B → Bool) (said : List ℕ
   -- after it the same pages.
   abbrev pub StaysSafe : Device → Device → Type 0
   StaysSafe d e = (p : Parameters) → Says d.seen p → Leaves (IsKeptOrFound (known_for p) reading d) d e
+
+  -- So it is; and of the sectors of the device, which was settled, only those of pages that its log gives are written.
+  pub record LaysSafely (d e : Device) : Type 0 where
+    pub safe : StaysSafe d e
+    pub spares : (p : Parameters) → Says d.seen p → Spares (IsSpared (known_for p) reading d.seen) d e
+
+  -- a sync comes before anything is written, and a device that isn't one of the class isn't written
+  abbrev pub FindsInOrder : {D : Type 0} → (D → Device) → Device → Device → Result (Standing B) Refusal → Type 0
+  FindsInOrder state d e (Ok s) = SyncsFirst state LaysSafely d e
+  FindsInOrder state d e (Err why) = IsInOrder state LaysSafely d e × (IsUnfit why → IsUnwritten d e)
 
   -- Where the pages after the log that is found are good for it, an image that has that log and the same pages after it stands for what the log
   -- keeps, as it was found.

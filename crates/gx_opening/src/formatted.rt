@@ -1,5 +1,5 @@
 //! A device is settled, and read for what it is formatted for.
-ghost use Rattle.std.specs.Prelude.{◌≡◌, ◌⊎◌, ◌↔◌, ◌<◌, ◌≤◌, true, take, IfOk, IfErr, IsTrue, Err};
+ghost use Rattle.std.specs.Prelude.{◌≡◌, ◌⊎◌, ◌↔◌, ◌+◌, ◌<◌, ◌≤◌, true, take, IfOk, IfErr, IsTrue, OnOk, Err};
 ghost use Rattle.gx_disk.specs.Device.{Counts, Syncs};
 ghost use Rattle.gx_disk.specs.Looks.{Looks};
 ghost use Rattle.gx_disk.specs.Sectors.{sector_of};
@@ -91,9 +91,10 @@ fn test_parameters(parameters: &Parameters, class: u16, sectors: u64) -> Result<
 ///
 /// Refused, by the first that holds, where it has fewer sectors than the smallest index takes (`TooSmall`), where a call fails (`Device`), where its
 /// first eight bytes aren't the magic (`NotFormatted`), where the numbers are out of range or of another class (`BadParameter`), and
-/// where it has fewer sectors than that index takes (`TooSmall`). At Ok all is settled. Nothing reads otherwise than before.
+/// where it has fewer sectors than that index takes (`TooSmall`). At Ok one sync was made, and all is settled. Nothing reads otherwise than before.
 pub fn formatted_for<D: SectorDisk, K: KeyClass>(disk: &mut D) -> Result<Parameters, Refusal>
     ensures counted { Counted 1 (D.state disk.old) (D.state disk.new) result }
+    ensures synced { OnOk result ((D.state disk.new).calls ≡ (D.state disk.old).calls + 1) }
     ensures allowed { IfOk result (λ parameters. IsAllowed K.CLASS parameters × IsLarge (D.state disk.old).sectors parameters) }
     ensures small { (D.state disk.old).sectors < 4232 → (result ≡ Err Refusal.TooSmall) × (disk.new ≡ disk.old) }
     ensures settles { (D.state disk.old).honest ≡ true → Settles K.CLASS (D.state disk.old) (D.state disk.new) result }

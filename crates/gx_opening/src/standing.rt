@@ -8,7 +8,7 @@ ghost use Rattle.gx_readings.specs.Classes.{class_of, reading_of};
 ghost use Rattle.gx_opening.specs.Formatted.{IsAllowed, IsLarge, TellsFaults};
 ghost use Rattle.gx_opening.specs.Noting.{AreOfOthers};
 ghost use Rattle.gx_opening.specs.Sound.{AreSound, IsCause, Tells};
-ghost use Rattle.gx_opening.specs.Standing.{IsStood, IsTested, MayStart, StaysSafe, limits_of, told_with};
+ghost use Rattle.gx_opening.specs.Standing.{FindsInOrder, IsStood, IsTested, MayStart, StaysSafe, limits_of, told_with};
 
 use crate::formatted::formatted_for;
 use crate::legal::test_pages;
@@ -42,6 +42,8 @@ fn stand<D: SectorDisk, K: ReadKeys>(
     ensures bodies { IfOk result (λ s. (1 ≤ s.log.bodies) × (s.log.bodies ≤ 32)) }
     ensures small { (D.state disk.old).sectors < 4232 → (result ≡ Err Refusal.TooSmall) × (disk.new ≡ disk.old) }
     ensures safe { (D.state disk.old).honest ≡ true → StaysSafe K.Key.Shape K.is_proper K.said (format_of K.KeyClass) (D.state disk.old) (D.state disk.new) }
+    ensures order { (D.state disk.old).honest ≡ true → FindsInOrder K.Key.Shape K.is_proper K.said (format_of K.KeyClass)
+        D.state (D.state disk.old) (D.state disk.new) result }
     ensures stood { (D.state disk.old).honest ≡ true → 4232 ≤ (D.state disk.old).sectors
         → IsStood K.Key.Shape K.is_proper K.said (format_of K.KeyClass) K.CLASS (D.state disk.old) (D.state disk.new) result }
 {
@@ -95,8 +97,8 @@ fn tested<D: SectorDisk, K: ReadKeys>(
 /// (`NotFormatted`), with numbers out of range or of another class (`BadParameter`), with fewer sectors than that index takes
 /// (`TooSmall`), with a damaged log, or pages that can't be read, aren't a legal tree, or haven't what open transactions touched in its place
 /// (`Damaged`); and where a call fails (`Device`), or memory is refused (`Memory`). At each moment a crash may leave what it could at the
-/// start, or an image with the log that was found and after it the same pages. What is found has the numbers that an engine may start with,
-/// whatever the device is.
+/// start, or an image with the log that was found and after it the same pages. A sync comes before the first write, and of the sectors only
+/// those of pages that the log gives are written. What is found has the numbers that an engine may start with, whatever the device is.
 pub fn find<D: SectorDisk, K: ReadKeys>(
     alloc: Global,
     disk: D,
@@ -107,6 +109,8 @@ pub fn find<D: SectorDisk, K: ReadKeys>(
     ensures starts { IfOk result.1 MayStart }
     ensures small { (D.state disk).sectors < 4232 → (result.1 ≡ Err Refusal.TooSmall) × (result.0 ≡ disk) }
     ensures safe { (D.state disk).honest ≡ true → StaysSafe K.Key.Shape K.is_proper K.said (format_of K.KeyClass) (D.state disk) (D.state result.0) }
+    ensures order { (D.state disk).honest ≡ true → FindsInOrder K.Key.Shape K.is_proper K.said (format_of K.KeyClass)
+        D.state (D.state disk) (D.state result.0) result.1 }
     ensures tested { (D.state disk).honest ≡ true → 4232 ≤ (D.state disk).sectors
         → IsTested K.Key.Shape K.is_proper K.said (format_of K.KeyClass) K.CLASS (D.state disk) (D.state result.0) result.1 }
 {

@@ -8,4 +8,4 @@ returns-in-Ok-clause-lays g c = λ l same lawful honest settled.
 
 pub returns-in-Err-clause-lays : goal.returns-in-Err-clause-lays
 returns-in-Err-clause-lays g c = λ l same lawful honest settled.
-    read_refused _ _ (g.D.SectorDisk.state c.args.disk.now) (g.D.SectorDisk.state c.read_class_log.new.disk) c.in-Err.why (c.in-Err.ensures.looks honest) (c.in-Err.ensures.log honest l same)
+    read_refused _ _ (g.D.SectorDisk.state c.args.disk.now) (g.D.SectorDisk.state c.read_class_log.new.disk) c.in-Err.why settled (c.in-Err.ensures.looks honest) (c.in-Err.ensures.log honest l same)

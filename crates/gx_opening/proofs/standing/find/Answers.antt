@@ -3,6 +3,7 @@ use Rattle.gx_machine.specs.Keys.{Members}
 use Rattle.gx_node.specs.Reading.{format_of}
 use Rattle.gx_opening.specs.Standing.{known_for, limits_of, reading}
 use Rattle.gx_opening.proofs.Faults.{told_later}
+use Rattle.gx_opening.proofs.Ordering.{tested_in_order}
 use Rattle.gx_opening.proofs.Stood.{cut_off_others, may_start, read_safe, tested_so}
 use Rattle.gx_opening.proofs.standing.find.Goals as goal
 
@@ -39,3 +40,10 @@ returns-in-Ok-clause-starts g c = may_start c.tested.result.1 c.in-Ok.standing c
 
 pub returns-in-Ok-clause-faults : goal.returns-in-Ok-clause-faults
 returns-in-Ok-clause-faults g c = told_later _ _ _ _ c.in-Ok.ensures.faults.no_fewer c.tested.ensures.faults
+
+pub returns-in-Ok-clause-order : goal.returns-in-Ok-clause-order
+returns-in-Ok-clause-order g c = λ honest.
+    (let shape : Members g.row.K-Key.Denot = record { partial_cmp = g.K.Key.PartialOrd.partial_cmp; eq = g.K.Key.PartialEq.eq; cmp = g.K.Key.Ord.cmp; overlap = g.K.Key.Shape.overlap; inside = g.K.Key.Shape.inside } in
+    tested_in_order shape g.K.ReadKeys.is_proper g.K.ReadKeys.said (format_of g.K.KeyClass) g.D.SectorDisk.state g.met.D.SectorDisk.counts_now g.met.D.SectorDisk.only_now
+    (g.D.SectorDisk.state c.args.disk) c.stand.new.disk c.tested.result.0 honest (c.stand.ensures.device.1 ∙ honest) c.tested.ensures.read (c.in-Ok.ensures.order honest) c.tested.result.1
+    c.tested.ensures.cause)

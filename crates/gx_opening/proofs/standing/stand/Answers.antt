@@ -1,4 +1,4 @@
-use Rattle.std.proofs.Common.{◌≤◌, ◌∙◌, inr, refl, arith}
+use Rattle.std.proofs.Common.{◌≤◌, ◌∙◌, inl, inr, refl, arith}
 use Rattle.gx_found_log.specs.declared.found.FoundLog.{FoundLog}
 use Rattle.gx_glog.specs.declared.parameters.Parameters.{Parameters}
 use Rattle.gx_machine.specs.declared.entry.Entry.{Entry}
@@ -6,7 +6,8 @@ use Rattle.gx_machine.specs.Keys.{Members}
 use Rattle.gx_node.specs.Reading.{format_of}
 use Rattle.gx_opening.specs.Standing.{limits_of}
 use Rattle.gx_opening.proofs.Faults.{are_told, found_told, told_later, told_same}
-use Rattle.gx_opening.proofs.Stood.{formatted_so, laid_so, stood_safe, unlaid_so}
+use Rattle.gx_opening.proofs.Ordering.{laid_in_order, synced_so, unlaid_in_order, unwritten_so}
+use Rattle.gx_opening.proofs.Stood.{formatted_so, laid_so, stood_safe, told_cause, unlaid_so}
 use Rattle.gx_opening.proofs.standing.stand.Goals as goal
 
 pub returns-in-Ok-lay_log-clause-safe : goal.returns-in-Ok-lay_log-clause-safe
@@ -93,3 +94,46 @@ returns-in-Err-lay_log-clause-faults g c =
 
 pub returns-in-Err-clause-faults : goal.returns-in-Err-clause-faults
 returns-in-Err-clause-faults g c = told_same {U = Parameters} _ _ _ (are_told _ _ _ c.in-Err.ensures.counted.faults)
+
+pub returns-in-Ok-lay_log-clause-order : goal.returns-in-Ok-lay_log-clause-order
+returns-in-Ok-lay_log-clause-order g c = λ honest.
+    (let shape : Members g.row.K-Key.Denot = record { partial_cmp = g.K.Key.PartialOrd.partial_cmp; eq = g.K.Key.PartialEq.eq; cmp = g.K.Key.Ord.cmp; overlap = g.K.Key.Shape.overlap; inside = g.K.Key.Shape.inside } in
+    let proper = g.K.ReadKeys.is_proper in
+    let said = g.K.ReadKeys.said in
+    let f = format_of g.K.KeyClass in
+    let state = g.D.SectorDisk.state in
+    let a = state c.args.disk.now in
+    let b = state c.formatted_for.new.disk in
+    let p = c.in-Ok.parameters in
+    let settles = c.in-Ok.ensures.settles honest in
+    let allowed = c.in-Ok.ensures.allowed in
+    let enough : 4232 ≤ a.sectors = (let least = allowed.0.range.least_pages in let large = allowed.1 in omega (arith, least, large)) in
+    let lays = c.in-Ok-lay_log.ensures.lays (limits_of p) refl (c.what_stands_is_legal.ensures.lawful (limits_of p)) (c.in-Ok.ensures.counted.honest ∙ honest) settles.settled in
+    laid_in_order shape proper said f state a (state c.lay_log.new.disk) c.formatted_for.new.disk p (formatted_so shape proper said f _ a b p enough settles).says
+    (synced_so _ a b p c.in-Ok.ensures.counted c.in-Ok.ensures.synced settles) c.in-Ok-lay_log.log lays)
+
+pub returns-in-Err-lay_log-clause-order : goal.returns-in-Err-lay_log-clause-order
+returns-in-Err-lay_log-clause-order g c = λ honest.
+    (let shape : Members g.row.K-Key.Denot = record { partial_cmp = g.K.Key.PartialOrd.partial_cmp; eq = g.K.Key.PartialEq.eq; cmp = g.K.Key.Ord.cmp; overlap = g.K.Key.Shape.overlap; inside = g.K.Key.Shape.inside } in
+    let proper = g.K.ReadKeys.is_proper in
+    let said = g.K.ReadKeys.said in
+    let f = format_of g.K.KeyClass in
+    let state = g.D.SectorDisk.state in
+    let a = state c.args.disk.now in
+    let b = state c.formatted_for.new.disk in
+    let e = state c.lay_log.new.disk in
+    let p = c.in-Ok.parameters in
+    let settles = c.in-Ok.ensures.settles honest in
+    let allowed = c.in-Ok.ensures.allowed in
+    let enough : 4232 ≤ a.sectors = (let least = allowed.0.range.least_pages in let large = allowed.1 in omega (arith, least, large)) in
+    let lays = c.in-Err-lay_log.ensures.lays (limits_of p) refl (c.what_stands_is_legal.ensures.lawful (limits_of p)) (c.in-Ok.ensures.counted.honest ∙ honest) settles.settled in
+    let why = c.in-Err-lay_log.why in
+    unlaid_in_order shape proper said f state a e c.formatted_for.new.disk p (formatted_so shape proper said f _ a b p enough settles).says
+    (synced_so _ a b p c.in-Ok.ensures.counted c.in-Ok.ensures.synced settles) why (told_cause (FoundLog (Entry g.row.K-Key.Denot)) b.faults e.faults why c.in-Err-lay_log.ensures.faults) lays)
+
+pub returns-in-Err-clause-order : goal.returns-in-Err-clause-order
+returns-in-Err-clause-order g c = λ honest.
+    (let a = g.D.SectorDisk.state c.args.disk.now in
+    let b = g.D.SectorDisk.state c.formatted_for.new.disk in
+    let unwritten = unwritten_so _ a b c.in-Err.why c.in-Err.ensures.counted (c.in-Err.ensures.settles honest) in
+    (inl unwritten, λ unfit. unwritten))
