@@ -104,6 +104,7 @@ module _ {B : Type 0} (k : Keys B) where
     steps = Asks s call (Now reply) ∷ [];
     runs = (new, subst (λ (g : Given B). IsStep k old (Asks s call g) new) is step, refl);
     record_is = refl;
+    in_call = refl;
   }
 
   answered : (s : ℕ) (call : Call B) (reply : Reply B) (old : Machine B) (middle new : Index B) → length old.sessions ≡ 8
@@ -112,16 +113,19 @@ module _ {B : Type 0} (k : Keys B) where
     steps = Asks s call Opened ∷ Answers s reply ∷ [];
     runs = (middle.machine, step, (new.machine, answer, refl));
     record_is = refl;
+    in_call = refl;
   }
   answered s call reply old middle new eight step (inr (inl commit)) = record {
     steps = Asks s call Opened ∷ Seals s (newest middle.machine + 1) ∷ Durable (newest middle.machine + 1) ∷ Answers s reply ∷ [];
     runs = (middle.machine, step, commit);
     record_is = refl;
+    in_call = refl;
   }
   answered s call reply old middle new eight step (inr (inr (inl closes))) = record {
     steps = Asks s call Opened ∷ Closes s Memory ∷ [];
     runs = (middle.machine, step, (new.machine, closes.1, refl));
     record_is = ap (λ (r : Reply B). Asked s call ∷ Replied s r ∷ []) (sym closes.0);
+    in_call = refl;
   }
   answered s call reply old middle new eight step (inr (inr (inr none))) =
       absurd (nothing_by s call old middle.machine (is_session s) eight refl step.1 none.0 none.1)
@@ -138,6 +142,7 @@ module _ {B : Type 0} (k : Keys B) where
         steps = RefusesAsk s call HistoryFull ∷ [];
         runs = (middle.machine, refused.1, refl);
         record_is = ap (λ (r : Reply B). Asked s call ∷ Replied s r ∷ []) (sym (calls.0 ∙ same));
+        in_call = refl;
       })
   by_asked s call reply old new middle Opened plain then_plain (inl step) calls =
       answered s call reply old.machine middle new plain.eight step (answering s middle new reply then_plain calls)

@@ -2,3 +2,4 @@ pub mod SlotLaws
 pub mod IndexLaws
 pub mod AnswerLaws
 pub mod CallRuns
+pub mod Deciding

@@ -3,3 +3,4 @@ pub mod Kept
 pub mod Runs
 pub mod Boxes
 pub mod OneRun
+pub mod Decided

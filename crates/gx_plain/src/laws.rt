@@ -1,10 +1,12 @@
 //! Laws: what the plain index has to do with runs of the set machine, and what holds of every such run.
-ghost use Rattle.std.specs.Prelude.{◌≡◌, ℕ, List};
+ghost use Rattle.std.specs.Prelude.{◌≡◌, ℕ, List, true};
 ghost use Rattle.gx_machine.specs.declared.call.Call.{Call};
 ghost use Rattle.gx_machine.specs.declared.reply.Reply.{Reply};
 ghost use Rattle.gx_machine.specs.Keys.{Keys};
+ghost use Rattle.gx_machine.specs.Machine.{Machine};
 ghost use Rattle.gx_plain.specs.Index.{Index, AnswersIndex, ask_index, fresh_index};
 ghost use Rattle.gx_plain.specs.Boxes.{box_keys};
+ghost use Rattle.gx_plain.specs.Decided.{AnswersDecided, IsDecidedCall, Rests, decided_text, is_decided};
 ghost use Rattle.gx_plain.specs.Index.{CallsIndex};
 ghost use Rattle.gx_plain.specs.OneRun.{IsCallRun, IsOneRun};
 ghost use Rattle.gx_plain.specs.Runs.{IsPlain, AskIsRun, AnswerIsRun};
@@ -51,4 +53,18 @@ pub fn each_call_is_a_run<B>()
 pub fn each_script_is_one_run()
     ensures { (number : ℕ) (lines : List Line) (old new : Index Rectangle) (text : List ℕ) → IsPlain old
         → IsScript (CallsIndex box_keys) number lines old text new → IsOneRun number lines old.machine new.machine text }
+{}
+
+/// A run of the machine in which one call is asked and answered, from where no call is open and no fault has come, is decided by that call:
+/// its reply is the one that asking and answering it alone gives, whatever else becomes durable meanwhile, and so is what calls see of the machine
+/// then. But for a refusal for want of pages, memory or numbers, or for a fault.
+pub fn a_call_alone_decides_its_reply<B>()
+    ensures { (k : Keys B) (s : ℕ) (call : Call B) (reply : Reply B) (old new : Machine B) → is_decided reply ≡ true → Rests old
+        → IsCallRun k s call reply old new → IsDecidedCall k s call reply old new }
+{}
+
+/// What the lines of a script are answered, where each reply is decided by the calls, has the text that the calls alone decide.
+pub fn texts_are_decided_by_calls()
+    ensures { (number : ℕ) (lines : List Line) (old new : Index Rectangle) (text : List ℕ) → IsPlain old → Rests old.machine
+        → IsScript (AnswersDecided (CallsIndex box_keys)) number lines old text new → text ≡ decided_text number lines old.machine }
 {}

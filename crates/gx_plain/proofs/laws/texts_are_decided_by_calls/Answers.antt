@@ -1,0 +1,5 @@
+use Rattle.gx_plain.proofs.Deciding.{plain_text}
+use Rattle.gx_plain.proofs.laws.texts_are_decided_by_calls.Goals as goal
+
+pub returns : goal.returns
+returns c = λ number lines old new text plain rests script. plain_text number lines old new text plain rests script
