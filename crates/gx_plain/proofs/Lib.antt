@@ -2,4 +2,4 @@ pub mod SlotLaws
 pub mod IndexLaws
 pub mod AnswerLaws
 pub mod CallRuns
-pub mod Deciding
+pub mod Decided

@@ -1,4 +1,4 @@
-use Rattle.gx_plain.proofs.Deciding.{call_decides}
+use Rattle.gx_plain.proofs.Decided.{call_decides}
 use Rattle.gx_plain.proofs.laws.a_call_alone_decides_its_reply.Goals as goal
 
 pub returns : goal.returns

@@ -1,4 +1,4 @@
-use Rattle.gx_plain.proofs.Deciding.{plain_text}
+use Rattle.gx_plain.proofs.Decided.{plain_text}
 use Rattle.gx_plain.proofs.laws.texts_are_decided_by_calls.Goals as goal
 
 pub returns : goal.returns

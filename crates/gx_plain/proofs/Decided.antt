@@ -1,4 +1,4 @@
--- A run of the machine that asks one call and answers it is decided by that call.
+-- What calls alone decide: a run that asks one and answers it, and the text of a script.
 use Rattle.std.proofs.Common.{◌≡◌, ◌≢◌, ◌∙◌, ℕ, ◌+◌, ◌-◌, ◌≤◌, Bool, true, false, ⊎_elim, List, [], ◌∷◌, ◌++◌, length, drop, refl, ap, sym, subst, arith, length-set, length-drop, length-append}
 use Rattle.std.specs.Prelude.{Option, None, Some, option_map, unwrap_or, Result, Ok, Err, ◌&&◌, if◌then◌else◌, nat_le, slice_set}
 use Rattle.std.specs.Option.{option_or}
