@@ -122,7 +122,7 @@ module _ {B D : Type 0} (c : Class B) (lawful : IsLawful c) (r : Reading (Entry 
         ran = all.ran;
         machine = all.machine;
         seen = all.seen;
-        runs = record { steps = shows.steps; runs = shows.runs; record_is = shows.items_are };
+        runs = record { steps = shows.steps; runs = shows.runs; record_is = shows.items_are; in_call = shows.in_call };
       }
 
 module _ {C B D : Type 0} (shape : Members B) (proper : B → Bool) (said : List ℕ → B) (class : Ghosts C B) (state : D → Device) (l : Limits) where

@@ -1,7 +1,7 @@
 -- A call that is driven to its end is a run of the machine, in which that call is asked and given its reply, and nothing else is.
 use Rattle.std.proofs.Common.{◌≡◌, ◌≢◌, ℕ, ◌+◌, ◌-◌, Bool, true, false, inl, inr, List, [], ◌∷◌, ◌++◌, Option, Some, None, length, refl, ap, sym, ◌∙◌, subst, append_assoc}
-use Rattle.std.specs.Prelude.{slice_set, if◌then◌else◌, Ok, Err, Result}
-use Rattle.std.specs.List.{slice_index_or}
+use Rattle.std.specs.Prelude.{slice_set, ◌&&◌, if◌then◌else◌, Ok, Err, Result}
+use Rattle.std.specs.List.{list_all, slice_index_or}
 use Rattle.std.proofs.lemmas.List.{length-set}
 use Rattle.gx_geom.specs.declared.refusal.Refusal.{Refusal}
 use Rattle.gx_geom.specs.declared.refusal.Refusal.TheVariants as refusal
@@ -31,6 +31,7 @@ use Rattle.gx_events.specs.declared.driver.Next.{Next}
 use Rattle.gx_events.specs.declared.driver.Next.TheVariants.{Run, Done}
 use Rattle.gx_events.specs.Driven.{next_of}
 use Rattle.gx_events.specs.Happens.{Happens, Stays, MeetsFault, Ends, MoveHappens, WorkHappens, SyncHappens, AskHappens, AskRefused}
+use Rattle.gx_plain.specs.OneRun.{is_in_call}
 use Rattle.gx_engine.specs.Driven.{AreDriven}
 use Rattle.gx_restart.specs.Alone.{HaveHappened}
 
@@ -57,18 +58,23 @@ IsDue s (WritePage page) = Unit {0}
 IsDue s CheckpointStep = Unit {0}
 IsDue s (Sweep page) = Unit {0}
 
+both_true : (a b : Bool) → (a && b) ≡ true → (a ≡ true) × (b ≡ true)
+both_true true b is = (refl, is)
+both_true false b is = let no : ⊥ = cc in absurd no
+
 module _ {B : Type 0} (k : Keys B) where
   -- a run that shows these calls and replies
   pub record Shows (old : Machine B) (items : List (Item B)) (new : Machine B) : Type 0 where
     pub steps : List (Step B)
     pub runs : IsRun k old steps new
     pub items_are : calls_and_replies (record_of steps) ≡ items
+    pub in_call : list_all is_in_call steps ≡ true
 
-  one : (step : Step B) (old new : Machine B) → IsStep k old step new → Shows old (calls_and_replies (record_of (step ∷ []))) new
-  one step old new is = record { steps = step ∷ []; runs = (new, is, refl); items_are = refl }
+  one : (step : Step B) → is_in_call step ≡ true → (old new : Machine B) → IsStep k old step new → Shows old (calls_and_replies (record_of (step ∷ []))) new
+  one step own old new is = record { steps = step ∷ []; runs = (new, is, refl); items_are = refl; in_call = rw own refl }
 
   still : (old new : Machine B) → new ≡ old → Shows old [] new
-  still old new same = record { steps = []; runs = same; items_are = refl }
+  still old new same = record { steps = []; runs = same; items_are = refl; in_call = refl }
 
   -- what follows an outcome: the call goes on, and is still open; or it ends with this reply
   abbrev Follows : ℕ → Machine B → Machine B → Next B → Type 0
@@ -81,18 +87,18 @@ module _ {B : Type 0} (k : Keys B) where
 
   by_fault : (s : ℕ) (why : Refusal) (m n : Machine B) → is_unanswered (session_at s m.sessions) ≡ true → MeetsFault why m n
       → Shows m (Replied s (reply.Refused why) ∷ []) n
-  by_fault s refusal.Device m n waits met = one (RefusesCall s refusal.Device) m n (waits, met)
-  by_fault s refusal.Failed m n waits met = one (RefusesCall s refusal.Failed) m n (waits, fails_again m n met.0 met.1)
+  by_fault s refusal.Device m n waits met = one (RefusesCall s refusal.Device) refl m n (waits, met)
+  by_fault s refusal.Failed m n waits met = one (RefusesCall s refusal.Failed) refl m n (waits, fails_again m n met.0 met.1)
   by_fault s other m n waits met = absurd met
 
   answered : (s : ℕ) (r : Reply B) (m n : Machine B) → IsStep k m (Answers s r) n → Shows m (Replied s r ∷ []) n
-  answered s r m n is = one (Answers s r) m n is
+  answered s r m n is = one (Answers s r) refl m n is
 
   ended_by : (s : ℕ) (why : Refusal) (m n : Machine B) → Ends k s (reply.Refused why) m n → Shows m (Replied s (reply.Refused why) ∷ []) n
   ended_by s refusal.Present m n ends = answered s (reply.Refused refusal.Present) m n ends
   ended_by s refusal.Absent m n ends = answered s (reply.Refused refusal.Absent) m n ends
-  ended_by s refusal.PagesFull m n ends = one (Closes s refusal.PagesFull) m n ends
-  ended_by s refusal.Memory m n ends = one (Closes s refusal.Memory) m n ends
+  ended_by s refusal.PagesFull m n ends = one (Closes s refusal.PagesFull) refl m n ends
+  ended_by s refusal.Memory m n ends = one (Closes s refusal.Memory) refl m n ends
   ended_by s refusal.Device m n ends = by_fault s refusal.Device m n ends.0 ends.1
   ended_by s refusal.Failed m n ends = by_fault s refusal.Failed m n ends.0 ends.1
   ended_by s other m n ends = absurd ends.1
@@ -122,7 +128,7 @@ module _ {B : Type 0} (k : Keys B) where
   stays_open s m n w stays = (still m n stays.1, waits_still s m n (ap (λ x. x.sessions) stays.1) w)
 
   settles : (s : ℕ) (m n : Machine B) → Waits s m → IsStep k m (Durable n.oldest) n → Shows m [] n × Waits s n
-  settles s m n w is = (one (Durable n.oldest) m n is, waits_still s m n (ap (λ x. x.sessions) is.3) w)
+  settles s m n w is = (one (Durable n.oldest) refl m n is, waits_still s m n (ap (λ x. x.sessions) is.3) w)
 
   -- an event that is no session's
 
@@ -157,7 +163,7 @@ module _ {B : Type 0} (k : Keys B) where
   moved : (s : ℕ) (m n : Machine B) (given : Outcome B) → Waits s m → MoveHappens k s m given n → Follows s m n (next_of s given)
   moved s m n (outcome.Replied r) w h = ended s r m n h
   moved s m n outcome.More w (inl stays) = let on = stays_open s m n w stays in (on.0, (on.1, refl))
-  moved s m n outcome.More w (inr seals) = (one (Seals s (newest n)) m n seals, (waits_sealed s (newest n) m n w seals, refl))
+  moved s m n outcome.More w (inr seals) = (one (Seals s (newest n)) refl m n seals, (waits_sealed s (newest n) m n w seals, refl))
   moved s m n (outcome.Help need.Log) w h = let on = stays_open s m n w h in (on.0, (on.1, tt))
   moved s m n (outcome.Help (need.Write page)) w h = let on = stays_open s m n w h in (on.0, (on.1, tt))
   moved s m n (outcome.Help need.Checkpoint) w h = let on = stays_open s m n w h in (on.0, (on.1, tt))
@@ -186,6 +192,10 @@ module _ {B : Type 0} (k : Keys B) where
   records_join (step ∷ before) after =
       ap (λ (items : List (Item B)). items_of step ++ items) (records_join before after) ∙ sym (append_assoc (items_of step) (record_of before) (record_of after))
 
+  all_joined : (xs ys : List (Step B)) → list_all is_in_call xs ≡ true → list_all is_in_call ys ≡ true → list_all is_in_call (xs ++ ys) ≡ true
+  all_joined [] ys first second = second
+  all_joined (x ∷ xs) ys first second = let both = both_true (is_in_call x) (list_all is_in_call xs) first in rw (both.0, all_joined xs ys both.1 second) refl
+
   pub shows_join : (old middle new : Machine B) (xs ys : List (Item B)) → Shows old xs middle → Shows middle ys new → Shows old (xs ++ ys) new
   shows_join old middle new xs ys first second = record {
     steps = first.steps ++ second.steps;
@@ -193,6 +203,7 @@ module _ {B : Type 0} (k : Keys B) where
     items_are =
         ap calls_and_replies (records_join first.steps second.steps) ∙ calls_join (record_of first.steps) (record_of second.steps)
         ∙ ap (λ items. items ++ calls_and_replies (record_of second.steps)) first.items_are ∙ ap (λ items. xs ++ items) second.items_are;
+    in_call = all_joined first.steps second.steps first.in_call second.in_call;
   }
 
   -- what follows an outcome, and what shows how it goes on from there, show the call's end
@@ -254,8 +265,8 @@ module _ {B : Type 0} (k : Keys B) where
       let no : asked.Now (reply.Refused refusal.BadSession) ≡ asked.Open = ap (λ (p : Given B × Machine B). p.0) h in cc
 
   refused_ask : (s : ℕ) (call : Call B) (r : Reply B) (m n : Machine B) → AskRefused k s call r m n → Shows m (Asked s call ∷ Replied s r ∷ []) n
-  refused_ask s call (reply.Refused refusal.Failed) m n h = one (RefusesAsk s call refusal.Failed) m n (fails_again m n h.0 h.1)
-  refused_ask s call (reply.Refused refusal.HistoryFull) m n h = one (RefusesAsk s call refusal.HistoryFull) m n h.1
+  refused_ask s call (reply.Refused refusal.Failed) m n h = one (RefusesAsk s call refusal.Failed) refl m n (fails_again m n h.0 h.1)
+  refused_ask s call (reply.Refused refusal.HistoryFull) m n h = one (RefusesAsk s call refusal.HistoryFull) refl m n h.1
   refused_ask s call other m n h = absurd h
 
   -- what follows the ask
@@ -265,9 +276,9 @@ module _ {B : Type 0} (k : Keys B) where
 
   asks : (s : ℕ) (call : Call B) (m n : Machine B) (given : Outcome B) → length m.sessions ≡ 8 → AskHappens k s call m given n → AsksOn s call m n (next_of s given)
   unfolding AsksOn
-  asks s call m n (outcome.Replied r) eight (inl is) = one (Asks s call (asked.Now r)) m n is
+  asks s call m n (outcome.Replied r) eight (inl is) = one (Asks s call (asked.Now r)) refl m n is
   asks s call m n (outcome.Replied r) eight (inr refused) = refused_ask s call r m n refused
-  asks s call m n outcome.More eight h = (one (Asks s call asked.Open) m n h, (asked_by s call m n (is_session s) eight refl h.1, refl))
+  asks s call m n outcome.More eight h = (one (Asks s call asked.Open) refl m n h, (asked_by s call m n (is_session s) eight refl h.1, refl))
   asks s call m n (outcome.Help need) eight h = absurd h
   asks s call m n outcome.Nothing eight h = absurd h
   asks s call m n (outcome.Refused why) eight h = absurd h

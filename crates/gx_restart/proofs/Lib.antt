@@ -17,3 +17,5 @@ pub mod Reading
 pub mod Bringing
 pub mod Telling
 pub mod Ending
+pub mod Ordered
+pub mod Decided

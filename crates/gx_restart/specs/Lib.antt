@@ -11,3 +11,5 @@ pub mod Text
 pub mod Pages
 pub mod Bringing
 pub mod Reading
+pub mod Order
+pub mod Decided

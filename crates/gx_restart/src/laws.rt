@@ -14,9 +14,14 @@ ghost use Rattle.gx_engine.specs.Holds.{Holds};
 ghost use Rattle.gx_engine.specs.States.{Parts};
 ghost use Rattle.gx_script.specs.declared.line.Line.{Line};
 ghost use Rattle.gx_script.specs.Scripts.{IsScript};
+ghost use Rattle.gx_plain.specs.Boxes.{box_keys};
+ghost use Rattle.gx_plain.specs.Decided.{AnswersDecided, decided_text, seen_by_calls};
+ghost use Rattle.gx_plain.specs.Index as plain;
 ghost use Rattle.gx_plain.specs.OneRun.{IsOneRun};
+ghost use Rattle.gx_plain.specs.Runs.{IsPlain};
 ghost use Rattle.gx_restart.specs.Alone.{CallsAlone, RunsFrom};
 ghost use Rattle.gx_restart.specs.Called.{CallsIndex};
+ghost use Rattle.gx_restart.specs.Decided.{IsDecidedScript, OfItsMachine};
 ghost use Rattle.gx_engine.specs.Made.{Makes};
 ghost use Rattle.gx_engine.specs.Resting.{IsAtRest};
 ghost use Rattle.gx_restart.specs.States.{State};
@@ -45,6 +50,23 @@ pub fn each_script_is_one_run<D: SectorDisk, K: ReadKeys + KeyClass<Key = Box2>>
         → IsScript (CallsIndex (Makes ⟦<Box2 as Shape>⟧ K.is_proper K.said K.KeyClass D.state)) number lines old text new → old.ended ≡ false
         → RunsFrom (class_of ⟦<Box2 as Shape>⟧ K.is_proper l) (reading_of K.said (format_of K.KeyClass)) (format_of K.KeyClass) (is_node (format_of K.KeyClass)) D.state old.engine new.engine
         (λ m n. IsOneRun number lines m n text) }
+{
+    gx_engine::laws::a_class_is_lawful::<K>();
+    gx_engine::laws::progress::no_call_is_given_up::<D, K>();
+}
+
+/// Where no reply to a script is a refusal for want of pages, memory or numbers, or for a fault, its text is the one that the calls alone
+/// decide: `decided_text` of what they see of the machine at the start, the last set, its number and the sessions. So it is the text that the plain
+/// index gives from the same start.
+pub fn texts_are_decided_by_calls<D: SectorDisk, K: ReadKeys + KeyClass<Key = Box2>>()
+    ensures decided { (l : Limits) (number : ℕ) (lines : List Line) (old new : State Rectangle D) (text : List ℕ)
+        → IsDecidedScript ⟦<Box2 as Shape>⟧ K.is_proper K.said K.KeyClass D.state number lines old text new
+        → OfItsMachine ⟦<Box2 as Shape>⟧ K.is_proper K.said K.KeyClass D.state l old (λ m. text ≡ decided_text number lines (seen_by_calls m)) }
+    ensures same { (l : Limits) (number : ℕ) (lines : List Line) (old new : State Rectangle D) (text : List ℕ)
+        → IsDecidedScript ⟦<Box2 as Shape>⟧ K.is_proper K.said K.KeyClass D.state number lines old text new
+        → (first last : plain.Index Rectangle) (other : List ℕ) → IsPlain first
+        → IsScript (AnswersDecided (plain.CallsIndex box_keys)) number lines first other last
+        → OfItsMachine ⟦<Box2 as Shape>⟧ K.is_proper K.said K.KeyClass D.state l old (λ m. seen_by_calls m ≡ first.machine → text ≡ other) }
 {
     gx_engine::laws::a_class_is_lawful::<K>();
     gx_engine::laws::progress::no_call_is_given_up::<D, K>();

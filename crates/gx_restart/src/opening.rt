@@ -7,6 +7,7 @@ ghost use Rattle.gx_opening.specs.Standing.{MayStart, Stands};
 ghost use Rattle.gx_restart.specs.Beginning.{HasBegun, HasNotBegun, HoldsFound, IsSameDevice};
 ghost use Rattle.gx_restart.specs.Keeping.{KeepsItsSet, OpensSafely};
 ghost use Rattle.gx_restart.specs.Opened.{IsOpened, IsRefused};
+ghost use Rattle.gx_restart.specs.Order.{OpensInOrder};
 ghost use Rattle.gx_restart.specs.Undoing.{IsIdle, OnlyUndoes};
 
 mod begin;
@@ -105,6 +106,7 @@ where
     ensures safe { (D.state disk).honest ≡ true → MatchResult result
         (λ engine. OpensSafely K.Key.Shape K.is_proper K.said (format_of K.KeyClass) (D.state disk) (D.state engine.volume.shelf.disk))
         (λ n. OpensSafely K.Key.Shape K.is_proper K.said (format_of K.KeyClass) (D.state disk) (D.state n.disk)) }
+    ensures order { OpensInOrder K.Key.Shape K.is_proper K.said K.KeyClass D.state disk result }
     ensures opened { (D.state disk).honest ≡ true → 4232 ≤ (D.state disk).sectors
         → IfOk result (λ engine. IsOpened K.Key.Shape K.is_proper K.said (format_of K.KeyClass) K.CLASS (D.state disk) (D.state engine.volume.shelf.disk) engine) }
     ensures refused { (D.state disk).honest ≡ true → 4232 ≤ (D.state disk).sectors
@@ -133,7 +135,8 @@ where
 ///
 /// On an honest device, at each moment, also where it is refused, a crash may leave what it could at the start, or an image with the log that
 /// was found and after it the same pages; where these are good for the log, that stands for the set that the log keeps, under its
-/// number. The engine then holds an index with that one set.
+/// number. The engine then holds an index with that one set. A sync comes before the first write. Where it is refused with `NotFormatted`,
+/// `BadParameter` or `TooSmall` nothing is written, and where it is refused with `Damaged` only pages that the log gives, and no other sector.
 pub fn open<D: SectorDisk, K: ReadKeys + Probing>(
     alloc: Global,
     disk: D,
@@ -152,6 +155,7 @@ where
     ensures keeps { (D.state disk).honest ≡ true → MatchResult result
         (λ engine. KeepsItsSet K.Key.Shape K.is_proper K.said (format_of K.KeyClass) (D.state disk) (D.state engine.volume.shelf.disk))
         (λ n. KeepsItsSet K.Key.Shape K.is_proper K.said (format_of K.KeyClass) (D.state disk) (D.state n.disk)) }
+    ensures order { OpensInOrder K.Key.Shape K.is_proper K.said K.KeyClass D.state disk result }
     ensures opened { (D.state disk).honest ≡ true
         → IfOk result (λ engine. IsOpened K.Key.Shape K.is_proper K.said (format_of K.KeyClass) K.CLASS (D.state disk) (D.state engine.volume.shelf.disk) engine) }
     ensures refused { (D.state disk).honest ≡ true → 16 ≤ frames → frames ≤ 4096 → 4232 ≤ (D.state disk).sectors

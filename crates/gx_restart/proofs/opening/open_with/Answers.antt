@@ -1,8 +1,11 @@
-use Rattle.std.proofs.Common.{◌∙◌}
+use Rattle.std.proofs.Common.{◌∙◌, Result, subst}
+use Rattle.gx_geom.specs.declared.refusal.Refusal.{Refusal}
 use Rattle.gx_machine.specs.Keys.{Members}
 use Rattle.gx_node.specs.Reading.{format_of}
-use Rattle.gx_opening.specs.Standing.{limits_of}
+use Rattle.gx_opening.specs.Standing.{FindsInOrder, limits_of}
+use Rattle.gx_opening.specs.declared.standing.Standing.{Standing}
 use Rattle.gx_restart.proofs.Ends.{came_opened, came_refused, came_safe, enough_of, fails_later, stands_of}
+use Rattle.gx_restart.proofs.Ordered.{found_in_order, not_found}
 use Rattle.gx_restart.proofs.opening.open_with.Goals as goal
 
 pub returns-in-Ok-clause-safe : goal.returns-in-Ok-clause-safe
@@ -51,3 +54,31 @@ returns-in-Ok-clause-refused g c = λ honest enough.
 
 pub returns-in-Ok-clause-faults : goal.returns-in-Ok-clause-faults
 returns-in-Ok-clause-faults g c = fails_later g.D.SectorDisk.state _ _ c.find-disk.ensures.faults.no_fewer c.open_over.result c.open_over.ensures.faults
+
+pub returns-in-Ok-clause-order : goal.returns-in-Ok-clause-order
+returns-in-Ok-clause-order g c = λ honest.
+    (let shape : Members g.row.K-Key.Denot = (record { partial_cmp = g.K.Key.PartialOrd.partial_cmp; eq = g.K.Key.PartialEq.eq; cmp = g.K.Key.Ord.cmp; overlap = g.K.Key.Shape.overlap; inside = g.K.Key.Shape.inside }) in
+    let proper = g.K.ReadKeys.is_proper in
+    let said = g.K.ReadKeys.said in
+    let class = g.K.KeyClass in
+    let state = g.D.SectorDisk.state in
+    let a = c.args.disk in
+    let m = c.find-disk.result.0 in
+    let s = c.in-Ok.standing in
+    let enough = enough_of shape proper said (format_of class) _ (state a) (state m) c.find-disk.result.1 s c.in-Ok.is c.find-disk.ensures.allowed in
+    let st = stands_of shape proper said (format_of class) _ (state a) (state m) c.find-disk.result.1 s c.in-Ok.is (c.find-disk.ensures.tested honest enough) in
+    let came = c.open_over.ensures.keeps a (c.find-disk.ensures.device.1 ∙ honest) st in
+    let first = subst (λ (x : Result (Standing g.row.K-Key.Denot) Refusal). FindsInOrder shape proper said (format_of class) state (state a) (state m) x) c.in-Ok.is (c.find-disk.ensures.order honest) in
+    found_in_order shape proper said class state _ a m s st first c.open_over.result came)
+
+pub returns-in-Err-clause-order : goal.returns-in-Err-clause-order
+returns-in-Err-clause-order g c = λ honest.
+    (let shape : Members g.row.K-Key.Denot = (record { partial_cmp = g.K.Key.PartialOrd.partial_cmp; eq = g.K.Key.PartialEq.eq; cmp = g.K.Key.Ord.cmp; overlap = g.K.Key.Shape.overlap; inside = g.K.Key.Shape.inside }) in
+    let proper = g.K.ReadKeys.is_proper in
+    let said = g.K.ReadKeys.said in
+    let class = g.K.KeyClass in
+    let state = g.D.SectorDisk.state in
+    let a = state c.args.disk in
+    let m = state c.find-disk.result.0 in
+    let finds = subst (λ (x : Result (Standing g.row.K-Key.Denot) Refusal). FindsInOrder shape proper said (format_of class) state a m x) c.in-Err.is (c.find-disk.ensures.order honest) in
+    not_found shape proper said class state a m c.in-Err.why finds)

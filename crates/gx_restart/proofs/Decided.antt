@@ -1,0 +1,81 @@
+-- The text of a script for an index is the one that its calls alone decide.
+use Rattle.std.proofs.Common.{◌≡◌, ◌∙◌, ℕ, Bool, true, false, List, length, ap, sym, subst}
+use Rattle.gx_class.specs.declared.class.KeyClass.{Ghosts}
+use Rattle.gx_disk.specs.Device.{Device}
+use Rattle.gx_geom.specs.Rectangles.{Rectangle}
+use Rattle.gx_machine.specs.declared.call.Call.{Call}
+use Rattle.gx_machine.specs.declared.entry.Entry.{Entry}
+use Rattle.gx_machine.specs.declared.reply.Reply.{Reply}
+use Rattle.gx_machine.specs.Keys.{Keys, Members}
+use Rattle.gx_machine.specs.Machine.{Machine, session_at}
+use Rattle.gx_machine.specs.Sessions.{Session, is_unanswered}
+use Rattle.gx_engine_laws.specs.Engines.{SeenAs}
+use Rattle.gx_recovery.specs.Known.{Limits}
+use Rattle.gx_recovery.specs.Records.{Record}
+use Rattle.gx_index_laws.specs.Classes.{Class, IsLawful, Page}
+use Rattle.gx_index_laws.specs.States as index
+use Rattle.gx_index_laws.specs.States.{engine_of}
+use Rattle.gx_readings.specs.Classes.{class_of}
+use Rattle.gx_script.specs.declared.line.Line.{Line}
+use Rattle.gx_script.specs.Scripts.{IsScript}
+use Rattle.gx_plain.specs.Boxes.{box_keys}
+use Rattle.gx_plain.specs.Decided.{AnswersDecided, IsDecidedCall, Rests, decided_text, is_decided, seen_by_calls}
+use Rattle.gx_plain.specs.Index.{CallsIndex as CallsPlain, Index}
+use Rattle.gx_plain.specs.OneRun.{IsCallRun}
+use Rattle.gx_plain.specs.Runs.{IsPlain}
+use Rattle.gx_plain.proofs.Decided.{call_decides, plain_text, script_text}
+use Rattle.gx_engine.specs.Helping.{AskedEnds, HoldsIndex}
+use Rattle.gx_engine.specs.Made.{Makes}
+use Rattle.gx_restart.specs.Called.{CallsIndex}
+use Rattle.gx_restart.specs.Decided.{IsDecidedScript, OfItsMachine}
+use Rattle.gx_restart.specs.States.{State}
+use Rattle.gx_restart.proofs.Alone.{call_alone, call_goes_on}
+
+-- a machine rests where another rests that its calls see alike
+rests_alike : (m n : Machine Rectangle) → m.failed ≡ false → m.sessions ≡ n.sessions → Rests n → Rests m
+rests_alike m n works same rests = record {
+  eight = ap length same ∙ rests.eight;
+  works = works;
+  answered = λ s. ap (λ (xs : List (Session Rectangle)). is_unanswered (session_at s xs)) same ∙ rests.answered s;
+}
+
+module _ {C D : Type 0} (shape : Members Rectangle) (proper : Rectangle → Bool) (said : List ℕ → Rectangle) (class : Ghosts C Rectangle) (state : D → Device) (l : Limits) where
+  abbrev c : Class Rectangle
+  c = class_of shape proper l
+
+  record IsSeen (old : State Rectangle D) (m : Machine Rectangle) : Type 0 where
+    goes : old.ended ≡ false
+    bodies : List (List (Record (Entry Rectangle) (Page Rectangle)))
+    index : index.State Rectangle
+    holds : HoldsIndex shape proper said class state l old.engine bodies index
+    seen : SeenAs c.keys (engine_of c index) m
+
+  module _ (keys : c.keys ≡ box_keys) (never : AskedEnds shape proper said class state l) (lawful : IsLawful c) where
+    each_index : (old : State Rectangle D) (s : ℕ) (call : Call Rectangle) (r : Reply Rectangle) (new : State Rectangle D) (m : Machine Rectangle) → IsSeen old m → Rests m
+        → CallsIndex (Makes shape proper said class state) old s call r new → is_decided r ≡ true → (n : Machine Rectangle) × IsSeen new n × IsDecidedCall box_keys s call r m n
+    each_index old s call r new m is rests calls decided =
+        let one = call_alone shape proper said class state l old s call r new calls is.goes never lawful is.bodies is.index is.holds m is.seen in (
+          one.machine,
+          record {
+            goes = call_goes_on shape proper said class state l old s call r new calls is.goes never is.bodies is.index is.holds;
+            bodies = one.ran.bodies;
+            index = one.ran.index;
+            holds = one.ran.holds;
+            seen = one.seen;
+          },
+          call_decides box_keys s call r m one.machine decided rests (subst (λ (k : Keys Rectangle). IsCallRun k s call r m one.machine) keys one.runs),
+        )
+
+    pub index_text : (number : ℕ) (lines : List Line) (old new : State Rectangle D) (text : List ℕ) → IsDecidedScript shape proper said class state number lines old text new
+        → OfItsMachine shape proper said class state l old (λ m. text ≡ decided_text number lines (seen_by_calls m))
+    index_text number lines old new text script goes bodies i holds m seen rests =
+        script_text (CallsIndex (Makes shape proper said class state)) IsSeen each_index number lines old new text m
+        (record { goes = goes; bodies = bodies; index = i; holds = holds; seen = seen }) rests script
+
+    -- and the plain index's
+    pub same_text : (number : ℕ) (lines : List Line) (old new : State Rectangle D) (text : List ℕ) → IsDecidedScript shape proper said class state number lines old text new
+        → (plain after : Index Rectangle) (other : List ℕ) → IsPlain plain → IsScript (AnswersDecided (CallsPlain box_keys)) number lines plain other after
+        → OfItsMachine shape proper said class state l old (λ m. seen_by_calls m ≡ plain.machine → text ≡ other)
+    same_text number lines old new text script plain after other is so goes bodies i holds m seen rests same =
+        index_text number lines old new text script goes bodies i holds m seen rests ∙ ap (λ (x : Machine Rectangle). decided_text number lines x) same
+        ∙ sym (plain_text number lines plain after other is (rests_alike plain.machine m is.runs (sym (ap (λ (x : Machine Rectangle). x.sessions) same)) rests) so)
