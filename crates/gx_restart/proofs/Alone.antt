@@ -1,5 +1,5 @@
 -- What events one after another are of an index, and of the machine that it is seen as.
-use Rattle.std.proofs.Common.{◌≡◌, ◌≢◌, ◌⊎◌, ◌+◌, inl, inr, ℕ, Bool, true, false, List, [], ◌∷◌, ◌++◌, length, refl, ap, sym, ◌∙◌, subst}
+use Rattle.std.proofs.Common.{◌≡◌, ◌≢◌, inl, inr, ℕ, Bool, true, false, List, [], ◌∷◌, ◌++◌, length, refl, ap, sym, ◌∙◌, subst}
 use Rattle.std.specs.Prelude.{Result, Ok, Err}
 use Rattle.std.proofs.lemmas.List.{length-map}
 use Rattle.gx_geom.specs.declared.refusal.Refusal.{Refusal}
@@ -31,12 +31,12 @@ use Rattle.gx_events.specs.declared.outcome.Outcome.TheVariants.{Nothing, Refuse
 use Rattle.gx_events.specs.declared.driver.Next.TheVariants.{Run, Done}
 use Rattle.gx_events.specs.Engines.{AreOf}
 use Rattle.gx_engine.specs.Holds.{Holds}
-use Rattle.gx_engine.specs.Running.{AreSteps, Ran, StandsForOne}
+use Rattle.gx_engine.specs.Running.{AreSteps, StandsForOne}
 use Rattle.gx_engine.specs.States.{Parts}
 use Rattle.gx_engine.proofs.Machines.{event_happens}
 use Rattle.gx_engine.proofs.Running.{ran}
-use Rattle.gx_restart.specs.Alone.{CallsAlone, HaveHappened, RunsAs, RunsFrom, RunsOn}
-use Rattle.gx_engine.specs.Driven.{AreDriven, IsDriven, IsGivenUp, IsUnderWay}
+use Rattle.gx_restart.specs.Alone.{CallsAlone, HaveHappened, RunsAs, RunsOn}
+use Rattle.gx_engine.specs.Driven.{AreDriven, IsDriven, IsGivenUp}
 use Rattle.gx_engine.specs.Helping.{AskedEnds, HoldsIndex}
 use Rattle.gx_restart.specs.Called.{CallsBy, CallsIndex}
 use Rattle.gx_engine.specs.Made.{AreMade, Makes}

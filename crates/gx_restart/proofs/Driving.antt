@@ -15,11 +15,11 @@ use Rattle.gx_machine.specs.declared.reply.Asked.{Asked as Given}
 use Rattle.gx_machine.specs.declared.reply.Asked.TheVariants as asked
 use Rattle.gx_machine.specs.Keys.{Keys}
 use Rattle.gx_machine.specs.Sessions.{Session, Idle, Open, Aborting, Committing, Locks, Changes, ask_session, asked_with, lock_for, is_unanswered}
-use Rattle.gx_machine.specs.Machine.{Machine, newest, is_session, session_at, ask, seal, durable, failed_machine, least_conflicting, claims_held}
-use Rattle.gx_machine.specs.Runs.{Step, Asks, Answers, Seals, Durable, Closes, RefusesAsk, RefusesCall, Nothing, IsStep, IsRun}
+use Rattle.gx_machine.specs.Machine.{Machine, newest, is_session, session_at, failed_machine, least_conflicting, claims_held}
+use Rattle.gx_machine.specs.Runs.{Step, Asks, Answers, Seals, Durable, Closes, RefusesAsk, RefusesCall, IsStep, IsRun}
 use Rattle.gx_machine.specs.Records.{items_of, record_of, calls_and_replies}
 use Rattle.gx_machine.proofs.RunLemmas.{join}
-use Rattle.gx_machine.proofs.Places.{at_same, session_there}
+use Rattle.gx_machine.proofs.Places.{at_same}
 use Rattle.gx_machine.proofs.StepEffects.{asked_session, asked_there, mapped, with_set}
 use Rattle.gx_machine.proofs.Transactions.{sealed_is}
 use Rattle.gx_events.specs.declared.event.Event.{Event}

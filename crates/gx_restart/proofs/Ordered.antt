@@ -1,15 +1,13 @@
 -- In which order an opening's calls were made, from its parts.
-use Rattle.std.proofs.Common.{◌≡◌, inl, inr, ⊎_elim, ℕ, ◌+◌, ◌≤◌, Bool, true, List, Result, Ok, Err, refl, sym, subst, arith}
+use Rattle.std.proofs.Common.{inl, inr, ℕ, Bool, List, Result, Ok, Err, refl, sym, subst, arith}
 use Rattle.std.specs.Prelude.{MatchResult}
 use Rattle.gx_class.specs.declared.class.KeyClass.{Ghosts}
 use Rattle.gx_geom.specs.declared.refusal.Refusal.{Refusal}
-use Rattle.gx_geom.specs.declared.refusal.Refusal.TheVariants.{BadParameter}
 use Rattle.gx_disk.specs.Device.{Device, MayLeave}
 use Rattle.gx_disk.specs.Moments.{Leaves}
 use Rattle.gx_disk.proofs.Leaving.{nothing_leaves}
 use Rattle.gx_engine.specs.declared.start.NotOpened.{NotOpened}
 use Rattle.gx_engine.specs.States.{Parts}
-use Rattle.gx_glog.specs.declared.parameters.Parameters.{Parameters}
 use Rattle.gx_machine.specs.Keys.{Members}
 use Rattle.gx_node.specs.Reading.{Format, format_of}
 use Rattle.gx_opening.specs.Formatted.{Says}
@@ -18,7 +16,7 @@ use Rattle.gx_opening.specs.Writing.{IsInOrder, IsUnfit, IsUnwritten, SyncsFirst
 use Rattle.gx_opening.specs.declared.standing.Standing.{Standing}
 use Rattle.gx_restart.specs.Beginning.{HasBegun, HasFailed, HasNotBegun}
 use Rattle.gx_restart.specs.Keeping.{OpensSafely, StandsForFound}
-use Rattle.gx_restart.specs.Order.{OpensInOrder, RefusedInOrder}
+use Rattle.gx_restart.specs.Order.{RefusedInOrder}
 use Rattle.gx_restart.proofs.Ends.{safe_only, safe_then}
 
 -- where no call was made

@@ -1,13 +1,9 @@
 -- A script for an index is one run of the machine that it is seen as.
-use Rattle.std.proofs.Common.{◌≡◌, ◌⊎◌, inl, inr, ℕ, ◌+◌, Bool, true, false, List, [], ◌∷◌, ◌++◌, refl, ap, sym, ◌∙◌, subst}
+use Rattle.std.proofs.Common.{◌≡◌, inl, inr, ℕ, ◌+◌, Bool, false, List, [], ◌∷◌, ◌++◌, refl, ap, sym, ◌∙◌, subst}
 use Rattle.gx_geom.specs.Rectangles.{Rectangle}
-use Rattle.gx_geom.specs.declared.refusal.Refusal.TheVariants.{Damaged}
 use Rattle.gx_class.specs.declared.class.KeyClass.{Ghosts}
 use Rattle.gx_machine.specs.declared.entry.Entry.{Entry}
-use Rattle.gx_machine.specs.declared.call.Call.{Call}
 use Rattle.gx_machine.specs.declared.item.Item.{Item}
-use Rattle.gx_machine.specs.declared.item.Item.TheVariants.{Asked, Replied}
-use Rattle.gx_machine.specs.declared.reply.Reply.{Reply}
 use Rattle.gx_machine.specs.Keys.{Members}
 use Rattle.gx_machine.specs.Machine.{Machine}
 use Rattle.gx_machine.specs.Records.{calls_and_replies, record_of}
@@ -17,7 +13,6 @@ use Rattle.gx_disk.specs.Device.{Device}
 use Rattle.gx_disk.proofs.Leaving.{leaves_joined, leaves_weaker, nothing_leaves}
 use Rattle.gx_page.specs.Contents.{Contents}
 use Rattle.gx_node.specs.Reading.{Format, format_of, is_node}
-use Rattle.gx_engine_laws.specs.Engines.{SeenAs}
 use Rattle.gx_recovery.specs.Known.{Limits}
 use Rattle.gx_recovery.specs.Records.{Record}
 use Rattle.gx_index_laws.specs.Classes.{Class, IsLawful, Page}
@@ -37,7 +32,7 @@ use Rattle.gx_engine.specs.Holds.{Holds}
 use Rattle.gx_engine.specs.Running.{Ran, StandsForOne}
 use Rattle.gx_engine.specs.States.{Parts}
 use Rattle.gx_restart.specs.Alone.{RunsAs, RunsFrom}
-use Rattle.gx_restart.specs.Called.{CallsBy, CallsIndex}
+use Rattle.gx_restart.specs.Called.{CallsIndex}
 use Rattle.gx_engine.specs.Made.{Makes}
 use Rattle.gx_restart.specs.States.{State}
 use Rattle.gx_engine.specs.Helping.{AskedEnds}

@@ -6,10 +6,9 @@ use Rattle.gx_class.specs.declared.class.KeyClass.{Ghosts}
 use Rattle.gx_disk.specs.Device.{Device}
 use Rattle.gx_machine.specs.Keys.{Members}
 use Rattle.gx_events.specs.declared.event.Event.{Event}
-use Rattle.gx_events.specs.declared.event.Event.TheVariants.{Ask, Move, LogStep, WritePage, CheckpointStep, Sweep}
+use Rattle.gx_events.specs.declared.event.Event.TheVariants.{LogStep, CheckpointStep}
 use Rattle.gx_events.specs.declared.outcome.Outcome.{Outcome}
 use Rattle.gx_events.specs.declared.outcome.Outcome.TheVariants as outcome
-use Rattle.gx_engine.specs.Comes.{StepComes}
 use Rattle.gx_engine.specs.States.{Parts, runs}
 use Rattle.gx_engine.specs.Made.{AreMade, Makes}
 use Rattle.gx_engine.specs.Repeated.{AreAgain, IsGoingOn, IsRepeated}

@@ -1,4 +1,3 @@
-use Rattle.std.proofs.Common.{arith}
 use Rattle.gx_restart.proofs.Alone.{call_alone}
 use Rattle.gx_restart.proofs.laws.each_call_is_asked_alone.Goals as goal
 

@@ -1,6 +1,5 @@
 use Rattle.gx_node.specs.Reading.{format_of}
 use Rattle.gx_restart.proofs.Ends.{keeps_either}
-use Rattle.gx_restart.proofs.Ordered.{refused_here}
 use Rattle.gx_restart.proofs.opening.open.Goals as goal
 
 pub returns-clause-keeps : goal.returns-clause-keeps
