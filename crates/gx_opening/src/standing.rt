@@ -42,7 +42,8 @@ fn stand<D: SectorDisk, K: ReadKeys>(
     ensures bodies { IfOk result (λ s. (1 ≤ s.log.bodies) × (s.log.bodies ≤ 32)) }
     ensures small { (D.state disk.old).sectors < 4232 → (result ≡ Err Refusal.TooSmall) × (disk.new ≡ disk.old) }
     ensures safe { (D.state disk.old).honest ≡ true → StaysSafe K.Key.Shape K.is_proper K.said (format_of K.KeyClass) (D.state disk.old) (D.state disk.new) }
-    ensures order { (D.state disk.old).honest ≡ true → FindsInOrder K.Key.Shape K.is_proper K.said (format_of K.KeyClass)
+    ensures order { (D.state disk.old).honest ≡ true
+        → FindsInOrder K.Key.Shape K.is_proper K.said (format_of K.KeyClass)
         D.state (D.state disk.old) (D.state disk.new) result }
     ensures stood { (D.state disk.old).honest ≡ true → 4232 ≤ (D.state disk.old).sectors
         → IsStood K.Key.Shape K.is_proper K.said (format_of K.KeyClass) K.CLASS (D.state disk.old) (D.state disk.new) result }

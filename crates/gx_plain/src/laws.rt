@@ -59,12 +59,13 @@ pub fn each_script_is_one_run()
 /// its reply is the one that asking and answering it alone gives, whatever else becomes durable meanwhile, and so is what calls see of the machine
 /// then. But for a refusal for want of pages, memory or numbers, or for a fault.
 pub fn a_call_alone_decides_its_reply<B>()
-    ensures { (k : Keys B) (s : ℕ) (call : Call B) (reply : Reply B) (old new : Machine B) → is_decided reply ≡ true → Rests old
-        → IsCallRun k s call reply old new → IsDecidedCall k s call reply old new }
+    ensures { (k : Keys B) (s : ℕ) (call : Call B) (reply : Reply B) (old new : Machine B)
+        → is_decided reply ≡ true → Rests old → IsCallRun k s call reply old new → IsDecidedCall k s call reply old new }
 {}
 
 /// What the lines of a script are answered, where each reply is decided by the calls, has the text that the calls alone decide.
 pub fn texts_are_decided_by_calls()
-    ensures { (number : ℕ) (lines : List Line) (old new : Index Rectangle) (text : List ℕ) → IsPlain old → Rests old.machine
-        → IsScript (AnswersDecided (CallsIndex box_keys)) number lines old text new → text ≡ decided_text number lines old.machine }
+    ensures { (number : ℕ) (lines : List Line) (old new : Index Rectangle) (text : List ℕ)
+        → IsPlain old → Rests old.machine → IsScript (AnswersDecided (CallsIndex box_keys)) number lines old text new
+        → text ≡ decided_text number lines old.machine }
 {}

@@ -1,15 +1,16 @@
 -- The text of a script for an index is the one that its calls alone decide.
-use Rattle.std.proofs.Common.{◌≡◌, ◌∙◌, ℕ, Bool, true, false, List, length, ap, sym, subst}
+use Rattle.std.proofs.Common.{◌≡◌, ◌∙◌, ℕ, ◌+◌, Bool, true, false, List, [], length, refl, ap, sym, subst, arith}
 use Rattle.gx_class.specs.declared.class.KeyClass.{Ghosts}
 use Rattle.gx_disk.specs.Device.{Device}
 use Rattle.gx_geom.specs.Rectangles.{Rectangle}
 use Rattle.gx_machine.specs.declared.call.Call.{Call}
 use Rattle.gx_machine.specs.declared.entry.Entry.{Entry}
 use Rattle.gx_machine.specs.declared.reply.Reply.{Reply}
+use Rattle.gx_machine.proofs.Places.{at_idle}
 use Rattle.gx_machine.specs.Keys.{Keys, Members}
 use Rattle.gx_machine.specs.Machine.{Machine, session_at}
 use Rattle.gx_machine.specs.Sessions.{Session, is_unanswered}
-use Rattle.gx_engine_laws.specs.Engines.{SeenAs}
+use Rattle.gx_engine_laws.specs.Engines.{SeenAs, opened_machine}
 use Rattle.gx_recovery.specs.Known.{Limits}
 use Rattle.gx_recovery.specs.Records.{Record}
 use Rattle.gx_index_laws.specs.Classes.{Class, IsLawful, Page}
@@ -38,6 +39,15 @@ rests_alike m n works same rests = record {
   works = works;
   answered = λ s. ap (λ (xs : List (Session Rectangle)). is_unanswered (session_at s xs)) same ∙ rests.answered s;
 }
+
+-- an index that was opened
+pub opened_rests : (number : ℕ) (set : List (Entry Rectangle)) → Rests (opened_machine number set)
+opened_rests number set = record { eight = refl; works = refl; answered = λ s. ap is_unanswered (at_idle s) }
+
+pub opened_seen : (number : ℕ) (set : List (Entry Rectangle)) → seen_by_calls (opened_machine number set) ≡ opened_machine number set
+opened_seen number set =
+    let same : number + 0 ≡ number = omega arith in
+    ap (λ n. record { older = []; latest = set; oldest = n; sessions = (opened_machine number set).sessions; failed = false }) same
 
 module _ {C D : Type 0} (shape : Members Rectangle) (proper : Rectangle → Bool) (said : List ℕ → Rectangle) (class : Ghosts C Rectangle) (state : D → Device) (l : Limits) where
   abbrev c : Class Rectangle

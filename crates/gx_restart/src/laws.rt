@@ -15,7 +15,8 @@ ghost use Rattle.gx_engine.specs.States.{Parts};
 ghost use Rattle.gx_script.specs.declared.line.Line.{Line};
 ghost use Rattle.gx_script.specs.Scripts.{IsScript};
 ghost use Rattle.gx_plain.specs.Boxes.{box_keys};
-ghost use Rattle.gx_plain.specs.Decided.{AnswersDecided, decided_text, seen_by_calls};
+ghost use Rattle.gx_engine_laws.specs.Engines.{opened_machine};
+ghost use Rattle.gx_plain.specs.Decided.{AnswersDecided, Rests, decided_text, seen_by_calls};
 ghost use Rattle.gx_plain.specs.Index as plain;
 ghost use Rattle.gx_plain.specs.OneRun.{IsOneRun};
 ghost use Rattle.gx_plain.specs.Runs.{IsPlain};
@@ -57,16 +58,20 @@ pub fn each_script_is_one_run<D: SectorDisk, K: ReadKeys + KeyClass<Key = Box2>>
 
 /// Where no reply to a script is a refusal for want of pages, memory or numbers, or for a fault, its text is the one that the calls alone
 /// decide: `decided_text` of what they see of the machine at the start, the last set, its number and the sessions. So it is the text that the plain
-/// index gives from the same start.
+/// index gives from the same start. An index that was opened is such a start: no call of it is open, and its calls see the set that was found.
 pub fn texts_are_decided_by_calls<D: SectorDisk, K: ReadKeys + KeyClass<Key = Box2>>()
     ensures decided { (l : Limits) (number : ℕ) (lines : List Line) (old new : State Rectangle D) (text : List ℕ)
         → IsDecidedScript ⟦<Box2 as Shape>⟧ K.is_proper K.said K.KeyClass D.state number lines old text new
-        → OfItsMachine ⟦<Box2 as Shape>⟧ K.is_proper K.said K.KeyClass D.state l old (λ m. text ≡ decided_text number lines (seen_by_calls m)) }
+        → OfItsMachine ⟦<Box2 as Shape>⟧ K.is_proper K.said K.KeyClass D.state l old
+        (λ m. text ≡ decided_text number lines (seen_by_calls m)) }
     ensures same { (l : Limits) (number : ℕ) (lines : List Line) (old new : State Rectangle D) (text : List ℕ)
         → IsDecidedScript ⟦<Box2 as Shape>⟧ K.is_proper K.said K.KeyClass D.state number lines old text new
         → (first last : plain.Index Rectangle) (other : List ℕ) → IsPlain first
         → IsScript (AnswersDecided (plain.CallsIndex box_keys)) number lines first other last
-        → OfItsMachine ⟦<Box2 as Shape>⟧ K.is_proper K.said K.KeyClass D.state l old (λ m. seen_by_calls m ≡ first.machine → text ≡ other) }
+        → OfItsMachine ⟦<Box2 as Shape>⟧ K.is_proper K.said K.KeyClass D.state l old
+        (λ m. seen_by_calls m ≡ first.machine → text ≡ other) }
+    ensures opened { (number : ℕ) (set : List (Entry Rectangle))
+        → Rests (opened_machine number set) × (seen_by_calls (opened_machine number set) ≡ opened_machine number set) }
 {
     gx_engine::laws::a_class_is_lawful::<K>();
     gx_engine::laws::progress::no_call_is_given_up::<D, K>();

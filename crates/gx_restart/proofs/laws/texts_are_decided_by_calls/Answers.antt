@@ -1,5 +1,5 @@
 use Rattle.std.proofs.Common.{refl}
-use Rattle.gx_restart.proofs.Decided.{index_text, same_text}
+use Rattle.gx_restart.proofs.Decided.{index_text, opened_rests, opened_seen, same_text}
 use Rattle.gx_restart.proofs.laws.texts_are_decided_by_calls.Goals as goal
 
 pub returns-clause-decided : goal.returns-clause-decided
@@ -9,3 +9,6 @@ returns-clause-decided g c = λ l number lines old new text script goes bodies i
 pub returns-clause-same : goal.returns-clause-same
 returns-clause-same g c = λ l number lines old new text script first last other plain so goes bodies i h m seen rests same.
     same_text _ _ _ _ _ l refl (c.no_call_is_given_up.ensures l) (c.a_class_is_lawful.ensures l h.some) number lines old new text script first last other plain so goes bodies i h m seen rests same
+
+pub returns-clause-opened : goal.returns-clause-opened
+returns-clause-opened g c = λ number set. (opened_rests number set, opened_seen number set)
