@@ -1,2 +1,3 @@
 pub mod Searched
 pub mod SetLemmas
+pub mod Sorting

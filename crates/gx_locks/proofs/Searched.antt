@@ -10,7 +10,7 @@ use Rattle.std.proofs.lemmas.List.{map-id}
 use Rattle.gx_machine.specs.declared.entry.Entry.{Entry}
 use Rattle.gx_machine.specs.Keys.{Keys, IsLawful, entry_cmp, same_entry}
 use Rattle.gx_machine.specs.Sets.{has, including, Before, InOrder}
-use Rattle.gx_locks.specs.Orders.{Below, IsFound, IsPlace, IsSearched}
+use Rattle.gx_locks.specs.Orders.{Below, IsSearched}
 use Rattle.gx_machine.proofs.SetLaws.{entry_total, entry_exact, including_by}
 use Rattle.gx_machine.proofs.SessionMoves.{or_first, or_second, same_itself}
 

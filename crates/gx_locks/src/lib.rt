@@ -7,4 +7,6 @@ mod sets;
 
 pub use least::{Conflicts, least_conflicting};
 pub use queries::{is_same_query, matches};
-pub use sets::{exclude, exclude_all, find, has, has_in_order, include, include_all, is_same, put};
+pub use sets::{
+    exclude, exclude_all, find, has, has_in_order, include, include_all, is_same, put, put_in_order,
+};

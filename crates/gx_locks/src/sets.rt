@@ -1,5 +1,5 @@
 //! Sets of entries as sorted vectors.
-ghost use Rattle.std.specs.Prelude.{insert, ◌≡◌, ◌+◌, ◌<◌, ◌≤◌, true, false, MatchOption, OnOk, OnErr, IsOk, vec_len, vec_capacity, length, ⊤};
+ghost use Rattle.std.specs.Prelude.{insert, ◌≡◌, ◌+◌, ◌<◌, ◌≤◌, true, false, MatchOption, OnOk, OnErr, IsOk, vec_len, vec_capacity, length, ⊤, []};
 ghost use Rattle.gx_machine.specs.Keys.{keys_of, entry_cmp, same_entry, matches};
 ghost use Rattle.gx_machine.specs.Sets.{has, including, excluding, including_all, excluding_all, InOrder};
 ghost use Rattle.gx_locks.specs.Orders.{IsSearched};
@@ -92,6 +92,15 @@ pub fn put<B: Shape>(e: Entry<B>, set: &mut Vec<Entry<B>>)
     ensures one_more { vec_len set.new ≤ vec_len set.old + 1 }
 {
     let _ = include(e, set);
+}
+
+/// Puts the entries in order, each once. Takes no memory.
+pub fn put_in_order<B: Shape>(entries: &mut Vec<Entry<B>>)
+    ensures items { entries.new.items ≡ including_all (keys_of B.Shape) entries.old.items [] }
+    ensures capacity { vec_capacity entries.new ≡ vec_capacity entries.old }
+{
+    entries.sort_unstable();
+    entries.dedup();
 }
 
 /// Takes the entry out of the set.
