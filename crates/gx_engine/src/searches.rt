@@ -31,14 +31,19 @@ use gx_storage::laws::{a_volume_shows_keys, a_volume_shows_the_logs_tree};
 use gx_tree::{Found, Look, Wanted};
 use std::alloc::{AllocError, Global};
 
+/// The entries of what was found, as they come.
+fn entries_found<B: Shape>(alloc: Global, found: &[Found<B>]) -> Result<Vec<Entry<B>>, AllocError>
+    ensures { IfOk result (λ entries. entries.items ≡ map (λ one. one.entry) found.now) }
+{
+    found.iter().map(|one| one.entry).collect(alloc)
+}
+
 /// What was found, as entries in order, each once.
 fn gathered<B: Shape>(alloc: Global, found: &[Found<B>]) -> Result<Vec<Entry<B>>, AllocError>
     ensures { IfOk result (λ set. set.items ≡ laws.gathered (keys_of B.Shape) (map entry_of (pairs_found found.now))) }
 {
-    let mut set = Vec::new(alloc);
-    for one in found {
-        gx_locks::include(one.entry, &mut set)?;
-    }
+    let mut set = entries_found(alloc, found)?;
+    gx_locks::put_in_order(&mut set);
     Ok(set)
 }
 
