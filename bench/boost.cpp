@@ -2,21 +2,10 @@
 // The words are what is asked and how often: `inserts`, so many boxes in a new tree; `queries`, so many windows looked for in
 // a tree of a hundred thousand boxes, each with a vector of its own for what is found; `kept`, the same with one vector for
 // all. It prints how many boxes there are, or the sum of what was found, which is the one that tree.c prints.
-#include <boost/geometry.hpp>
-#include <boost/geometry/index/rtree.hpp>
-#include <cstdint>
+#include "boost_tree.hpp"
 #include <cstdio>
 #include <cstdlib>
 #include <cstring>
-#include <iterator>
-#include <utility>
-#include <vector>
-
-namespace rtrees = boost::geometry::index;
-using Point = boost::geometry::model::point<std::int32_t, 2, boost::geometry::cs::cartesian>;
-using Box = boost::geometry::model::box<Point>;
-using Pair = std::pair<Box, std::uint64_t>;
-using Tree = rtrees::rtree<Pair, rtrees::quadratic<100, 40>>;
 
 constexpr std::int32_t PLANE = 1048576, SIDE = 1024, WINDOW = 10000;
 constexpr std::uint64_t BOXES = 100000;

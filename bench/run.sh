@@ -21,7 +21,7 @@ else
 fi
 work="$(mktemp -d -p "${FOLDER:-/tmp}")"
 trap 'rm -rf "$work"' EXIT
-cc -O2 -o "$work/run_sqlite" "$top/bench/run_sqlite.c" -lsqlite3
+cc -O2 -o "$work/run_sqlite" "$top/bench/peers/run_script.c" "$top/bench/peers/sqlite.c" -lsqlite3
 cc -O2 -o "$work/run_limit" "$top/bench/run_limit.c"
 
 # Boxes of up to 64 by 64 in a square in which some ten lie in a window of the queries.

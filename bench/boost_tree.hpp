@@ -1,0 +1,13 @@
+// Boost's R-tree as it is compared: quadratic split, at most 100 entries a node and at least 40.
+#include <boost/geometry.hpp>
+#include <boost/geometry/index/rtree.hpp>
+#include <cstdint>
+#include <iterator>
+#include <utility>
+#include <vector>
+
+namespace rtrees = boost::geometry::index;
+using Point = boost::geometry::model::point<std::int32_t, 2, boost::geometry::cs::cartesian>;
+using Box = boost::geometry::model::box<Point>;
+using Pair = std::pair<Box, std::uint64_t>;
+using Tree = rtrees::rtree<Pair, rtrees::quadratic<100, 40>>;

@@ -1,0 +1,84 @@
+/* gist, by its client for C. GIST names the program, FRAMES how many pages it holds in memory. */
+#include "peers.h"
+
+#include "gist_client.h"
+
+#include <pthread.h>
+#include <stdio.h>
+#include <stdlib.h>
+
+static gist_index *index_of;
+/* the client is used by one thread at a time */
+static pthread_mutex_t turn = PTHREAD_MUTEX_INITIALIZER;
+
+static void expect(const char *what, int status) {
+    if (status != GIST_OK) stop(what, gist_text(status));
+}
+
+unsigned peer_writers(void) {
+    return 4;
+}
+
+void peer_open(const char *path, size_t entries, bool is_new) {
+    gist_end end;
+    size_t pages = entries / 40 + 64;
+    if (is_new && gist_format(NULL, path, (unsigned)(pages > 65536 ? 65536 : pages), 100, &end) != GIST_OK)
+        stop("format", end.sentence);
+    if (gist_open(&index_of, NULL, path, MEMORY / 4, &end) != GIST_OK) stop("open", end.sentence);
+}
+
+void peer_close(void) {
+    expect("close", gist_close(index_of, NULL));
+}
+
+void peer_begin(void) {
+    expect("begin", gist_begin(index_of, 1));
+}
+
+void peer_commit(void) {
+    expect("commit", gist_commit(index_of, 1, NULL));
+}
+
+void peer_abort(void) {
+    expect("abort", gist_abort(index_of, 1));
+}
+
+static void copy(gist_entry *to, const pair *from, size_t count) {
+    for (size_t i = 0; i < count; i++)
+        to[i] = (gist_entry){from[i].row, {from[i].x1, from[i].y1, from[i].x2, from[i].y2}};
+}
+
+void peer_insert(const pair *pairs, size_t count) {
+    gist_entry entries[BATCH];
+    copy(entries, pairs, count);
+    expect("insert", gist_insert_many(index_of, 1, entries, count, NULL));
+}
+
+void peer_delete(const pair *pairs, size_t count) {
+    gist_entry entries[BATCH];
+    copy(entries, pairs, count);
+    expect("delete", gist_delete_many(index_of, 1, entries, count, NULL));
+}
+
+void peer_search(const pair *window, void (*found)(const pair *)) {
+    const gist_entry *hits;
+    size_t count;
+    expect("search", gist_search(index_of, 1, GIST_OVERLAP, (gist_box){window->x1, window->y1, window->x2, window->y2},
+                                 &hits, &count));
+    for (size_t i = 0; i < count; i++)
+        found(&(pair){hits[i].row, hits[i].box.x1, hits[i].box.y1, hits[i].box.x2, hits[i].box.y2});
+}
+
+/* A call, in its turn. */
+#define IN_TURN(call) (pthread_mutex_lock(&turn), status = (call), pthread_mutex_unlock(&turn), expect("write", status))
+
+void peer_write(unsigned writer, const pair *it) {
+    int status;
+    IN_TURN(gist_begin(index_of, writer + 1));
+    IN_TURN(gist_insert(index_of, writer + 1, it->row, (gist_box){it->x1, it->y1, it->x2, it->y2}));
+    IN_TURN(gist_commit(index_of, writer + 1, NULL));
+}
+
+uint64_t peer_bytes(const char *path) {
+    return bytes_of(path, "");
+}

@@ -1,0 +1,182 @@
+/* The workload that all peers do: a seeded one, so that they find the same. Prints a line for each kind of work, its
+   name and so many a second, or so many bytes; and for each search that is compared a line with how many entries were
+   found and the sum of their rows.
+
+   The words are the index's path, one for a second index, how many entries are loaded, how many searches of some ten
+   hits are made, and how many entries are added with a commit each. */
+#define _GNU_SOURCE
+#include "peers.h"
+
+#include <dirent.h>
+#include <pthread.h>
+#include <stdio.h>
+#include <stdlib.h>
+#include <string.h>
+#include <time.h>
+#include <unistd.h>
+
+/* Boxes have sides below SIDE in a plane in which some ten overlap a window of NEAR by NEAR. A transaction makes 16
+ * searches at most. */
+enum { SIDE = 64, NEAR = 170, SEARCHES = 16 };
+
+static uint64_t state, hits, rows;
+static int32_t plane;
+
+static int32_t draw(int32_t below) {
+    state = state * UINT64_C(6364136223846793005) + UINT64_C(1442695040888963407);
+    return (int32_t)((state >> 32) % (uint64_t)below);
+}
+
+static pair draw_pair(uint64_t row) {
+    int32_t x = draw(plane), y = draw(plane), wide = draw(SIDE), high = draw(SIDE);
+    return (pair){row, x, y, x + wide, y + high};
+}
+
+/* The place of a pair along a curve that goes through near ones one after another: the bits of its corner in turn. */
+static uint64_t along(const pair *it) {
+    uint64_t place = 0;
+    for (int bit = 0; bit < 31; bit++)
+        place |= (uint64_t)(it->x1 >> bit & 1) << 2 * bit | (uint64_t)(it->y1 >> bit & 1) << (2 * bit + 1);
+    return place;
+}
+
+static int compare_places(const void *one, const void *other) {
+    uint64_t a = along(one), b = along(other);
+    return (a > b) - (a < b);
+}
+
+static void add(const pair *it) {
+    hits++;
+    rows += it->row;
+}
+
+static double now(void) {
+    struct timespec at;
+    clock_gettime(CLOCK_MONOTONIC, &at);
+    return (double)at.tv_sec + (double)at.tv_nsec / 1e9;
+}
+
+static void tell(const char *work, size_t count, double from) {
+    printf("%s\t%.1f\n", work, (double)count / (now() - from));
+}
+
+/* The memory that a process and those below it have of their own, and their share of what they have with others, in
+ * bytes. */
+static uint64_t memory_of(long pid) {
+    char path[64], line[256];
+    unsigned long long bytes = 0, all = 0;
+    long parent;
+    snprintf(path, sizeof path, "/proc/%ld/smaps_rollup", pid);
+    FILE *it = fopen(path, "r");
+    while (it && fgets(line, sizeof line, it))
+        if (sscanf(line, "Pss: %llu kB", &bytes) == 1) all = bytes * 1024;
+    if (it) fclose(it);
+    DIR *processes = opendir("/proc");
+    for (struct dirent *one; processes && (one = readdir(processes));) {
+        snprintf(path, sizeof path, "/proc/%.20s/stat", one->d_name);
+        if (one->d_name[0] < '1' || one->d_name[0] > '9' || !(it = fopen(path, "r"))) continue;
+        if (fgets(line, sizeof line, it) && strrchr(line, ')') &&
+            sscanf(strrchr(line, ')'), ") %*c %ld", &parent) == 1 && parent == pid)
+            all += memory_of(atol(one->d_name));
+        fclose(it);
+    }
+    if (processes) closedir(processes);
+    return all;
+}
+
+static void change(const char *work, void (*by)(const pair *, size_t), const pair *pairs, size_t count) {
+    double from = now();
+    for (size_t at = 0; at < count; at += BATCH) {
+        peer_begin();
+        by(pairs + at, count - at < BATCH ? count - at : BATCH);
+        peer_commit();
+    }
+    tell(work, count, from);
+}
+
+/* Searches windows of this side, and says what was found. */
+static void search(const char *work, size_t count, int32_t side, uint64_t seed) {
+    double from = now();
+    state = seed;
+    hits = rows = 0;
+    for (size_t i = 0; i < count; i++) {
+        if (i % SEARCHES == 0) peer_begin();
+        int32_t x = draw(plane - side), y = draw(plane - side);
+        peer_search(&(pair){0, x, y, x + side, y + side}, add);
+        if (i % SEARCHES == SEARCHES - 1 || i == count - 1) peer_abort();
+    }
+    tell(work, count, from);
+    printf("= %s\t%llu %llu\n", work, (unsigned long long)hits, (unsigned long long)rows);
+}
+
+typedef struct writer {
+    pthread_t thread;
+    unsigned number;
+    const pair *pairs;
+    size_t count;
+} writer;
+
+static void *write_all(void *given) {
+    const writer *it = (const writer *)given;
+    for (size_t i = 0; i < it->count; i++) peer_write(it->number, &it->pairs[i]);
+    return NULL;
+}
+
+/* Adds entries with a commit each, first by one writer and then by several at once. */
+static void write_singly(const pair *pairs, size_t count) {
+    unsigned many = peer_writers();
+    writer all[16];
+    double from = now();
+    if (many == 0) {
+        /* (so that the others' results stay comparable) */
+        write_all(&(writer){.pairs = pairs, .count = 2 * count});
+        return;
+    }
+    write_all(&(writer){.pairs = pairs, .count = count});
+    tell("single commits", count, from);
+    from = now();
+    for (unsigned i = 0; i < many; i++) {
+        all[i] = (writer){.number = i, .pairs = pairs + count + i * (count / many), .count = count / many};
+        if (pthread_create(&all[i].thread, NULL, write_all, &all[i]) != 0) stop("thread", "none can be made");
+    }
+    for (unsigned i = 0; i < many; i++) pthread_join(all[i].thread, NULL);
+    tell("single commits of four writers", count, from);
+}
+
+int main(int words_count, char **words) {
+    if (words_count != 6) stop("usage", "PATH SECOND-PATH ENTRIES SEARCHES SINGLES");
+    size_t count = strtoull(words[3], NULL, 10), searches = strtoull(words[4], NULL, 10),
+           singles = strtoull(words[5], NULL, 10) / 4 * 4;
+    const char *server = getenv("PEER_PID");
+    pair *pairs = malloc((count + 2 * singles) * sizeof *pairs);
+    if (!pairs) stop("memory", "there is none");
+    /* the plane is of SIDE times the root of the count: a box for SIDE by SIDE */
+    for (plane = 1; (uint64_t)plane * (uint64_t)plane < (uint64_t)SIDE * SIDE * count; plane++) continue;
+    state = 1;
+    for (size_t i = 0; i < count + 2 * singles; i++) pairs[i] = draw_pair(i + 1);
+    /* a window with a tenth of all has some ten thousand of a hundred thousand */
+    int32_t far = (int32_t)(0.316 * plane);
+    uint64_t before = memory_of(getpid());
+    peer_open(words[1], count, true);
+    change("load, drawn order", peer_insert, pairs, count);
+    printf("bytes on disk\t%llu\n", (unsigned long long)peer_bytes(words[1]));
+    search("searches, ten hits", searches, NEAR, 2);
+    search("searches, a tenth of all", searches / 500 + 1, far, 3);
+    uint64_t memory = memory_of(getpid()) - before + (server ? memory_of(atol(server)) : 0);
+    printf("bytes of memory\t%llu\n", (unsigned long long)memory);
+    change("deletes", peer_delete, pairs, count / 5);
+    search("searches, after deletes", searches / 10, NEAR, 4);
+    write_singly(pairs + count, singles);
+    search("searches, after single commits", searches / 10, NEAR, 5);
+    peer_close();
+    peer_open(words[1], count, false);
+    search("searches, opened again", searches / 10, NEAR, 6);
+    peer_close();
+    qsort(pairs, count, sizeof *pairs, compare_places);
+    peer_open(words[2], count, true);
+    change("load, local order", peer_insert, pairs, count);
+    search("searches, after local order", searches / 10, NEAR, 7);
+    peer_close();
+    free(pairs);
+    return 0;
+}

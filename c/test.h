@@ -1,0 +1,38 @@
+/* What the tests of the client share. */
+#ifndef TEST_H
+#define TEST_H
+
+#include "gist_client.h"
+
+#include <stdbool.h>
+
+extern const gist_box PLANE;
+
+/* Counts a fault where something doesn't hold. */
+void check(bool holds, const char *what, const char *file, int line);
+#define HOLDS(what) check(what, #what, __FILE__, __LINE__)
+
+/* The entry of a row, whose box is its own; whether that is it; and those of rows one after another. */
+gist_entry entry_of(uint64_t row);
+bool is_entry(const gist_entry *it, uint64_t row);
+void fill(gist_entry *entries, uint64_t from, size_t count);
+
+/* The index in a file, opened; a new one; and how many entries a file holds, which have to be those of the rows 0, 1, 2
+ * .. */
+gist_index *opened(const char *path);
+gist_index *fresh(const char *path, unsigned pages, unsigned fanout);
+size_t found_in(const char *path);
+
+/* The tests. */
+void calls(void);
+void refusals(void);
+void many(void);
+void sessions(void);
+void killed(void);
+void openings(void);
+void full_disk(void);
+void surroundings(void);
+void odd_answers(void);
+void threads(void);
+
+#endif

@@ -1,0 +1,94 @@
+"""The lines of the documents, run as they stand, and the wheel."""
+
+import importlib.util
+import os
+import re
+import subprocess
+import sys
+import tempfile
+from pathlib import Path
+from typing import List, Tuple
+
+import gist
+import wheel_of_gist
+from tests import PROGRAM, REPOSITORY, Case
+
+PAGES = ("docs/CLIENTS.md", "README.md")
+COMPILE = ["cc", "-std=c11", "-Wall", "-Wextra", "-Werror",
+           f"-I{REPOSITORY / 'c'}"]
+
+
+def blocks(page: str, language: str) -> List[Tuple[str, str]]:
+    """The fenced blocks of a page in a language, and what each prints.
+
+    That is the next fenced block, where it has no language.
+    """
+    text = (REPOSITORY / page).read_text()
+    found = re.findall(r"^```(\w*)\n(.*?)^```$", text, re.M | re.S)
+    return [(lines, "" if next_name else after)
+            for (name, lines), (next_name, after)
+            in zip(found, [*found[1:], ("none", "")]) if name == language]
+
+
+class Documents(Case):
+    """What a reader copies works."""
+
+    def run_in_folder(self, *words: str) -> str:
+        """What a command prints in a folder of its own."""
+        with tempfile.TemporaryDirectory(dir=self.folder) as folder:
+            run = subprocess.run(
+                words, cwd=folder, stdout=subprocess.PIPE, timeout=60,
+                env={**os.environ, "GIST": PROGRAM,
+                     "PYTHONPATH": str(REPOSITORY / "python")})
+        self.assertEqual(run.returncode, 0)
+        return run.stdout.decode()
+
+    def test_lines_of_python(self) -> None:
+        self.assertNotEqual(blocks(PAGES[0], "python"), [])
+        for page in PAGES:
+            for lines, printed in blocks(page, "python"):
+                self.assertEqual(
+                    self.run_in_folder(sys.executable, "-c", lines), printed)
+
+    def test_lines_of_c(self) -> None:
+        self.assertNotEqual(blocks(PAGES[0], "c"), [])
+        program = str(self.folder / "program")
+        source = self.folder / "program.c"
+        for page in PAGES:
+            for lines, printed in blocks(page, "c"):
+                source.write_text(lines)
+                subprocess.run([*COMPILE, "-o", program, str(source),
+                                str(REPOSITORY / "c/gist_client.c")],
+                               check=True)
+                self.assertEqual(self.run_in_folder(program), printed)
+
+    def test_example_in_c(self) -> None:
+        program = str(self.folder / "example")
+        subprocess.run([*COMPILE, "-o", program,
+                        str(REPOSITORY / "c/example.c"),
+                        str(REPOSITORY / "c/gist_client.c")], check=True)
+        self.assertEqual(self.run_in_folder(program), (
+            "committed 1\npark 1 from (100, 100) to (180, 160)\n"
+            "park 3 from (150, 140) to (420, 300)\n"))
+
+    def test_page_is_short(self) -> None:
+        words = (REPOSITORY / PAGES[0]).read_text().split()
+        self.assertLessEqual(len(words), 800)
+
+    def test_wheel(self) -> None:
+        name = wheel_of_gist.build_wheel(str(self.folder))
+        lines = ("import sys; sys.path.insert(0, sys.argv[1]); import gist; "
+                 "print(gist.__file__, gist.__version__)")
+        wheel = str(self.folder / name)
+        self.assertEqual(self.run_in_folder(sys.executable, "-I", "-c", lines,
+                                            wheel),
+                         f"{Path(wheel) / 'gist.py'} {gist.__version__}\n")
+
+    def test_pip(self) -> None:
+        if importlib.util.find_spec("pip") is None:
+            # (Debian's Python has none by itself; the wheel is tested above)
+            return
+        self.run_in_folder(sys.executable, "-m", "pip", "install", "--quiet",
+                           "--no-index", "--target", str(self.folder / "it"),
+                           str(REPOSITORY / "python"))
+        self.assertTrue((self.folder / "it/gist.py").is_file())
