@@ -39,7 +39,8 @@ class Documents(Case):
             run = subprocess.run(
                 words, cwd=folder, stdout=subprocess.PIPE, timeout=60,
                 env={**os.environ, "GIST": PROGRAM,
-                     "PYTHONPATH": str(REPOSITORY / "python")})
+                     "PYTHONPATH": str(REPOSITORY / "python"),
+                     "PIP_ROOT_USER_ACTION": "ignore"})
         self.assertEqual(run.returncode, 0)
         return run.stdout.decode()
 
