@@ -10,16 +10,15 @@
             for row, box in t.overlap((5, 5, 20, 20)):
                 print(row, box)
 
-Each open index is a process of its own, `gist run`, which is asked over two
-pipes. A fault of this process leaves the index alone, and a commit that was
-answered is in the file. docs/CLIENTS.md has the whole picture, and
-docs/SCRIPT.md what each call means and each refusal.
+Each open index is a process of its own, which is asked over two pipes: a
+fault of this process leaves the index alone. docs/CLIENTS.md has the whole
+picture, docs/SCRIPT.md what each call means and each refusal.
 """
 
 import random
 import threading
 import time
-from itertools import islice
+from itertools import chain, islice
 from os import fspath
 from typing import (Callable, Iterable, Iterator, NamedTuple, Optional,
                     Sequence, Tuple, Type, TypeVar)
@@ -81,7 +80,7 @@ class Hits(Iterator[Tuple[int, Box]]):
     def __init__(self, count: int, lines: bytes) -> None:
         #: How many there are in all.
         self.count = count
-        self._entries = _entries(lines)
+        self._entries = chain.from_iterable(map(_entries, _blocks(lines)))
 
     def __iter__(self) -> Iterator[Tuple[int, Box]]:
         return self._entries
@@ -180,11 +179,9 @@ class Transaction(Reader):
     """A transaction: its changes are kept as a whole, or not at all.
 
     `Index.transaction` begins one. At the end of a with block it is
-    committed, or given up where an exception leaves the block. Commit and
-    abort end it before that. A call that is refused raises the refusal and
-    changes nothing; where that is caught, the transaction goes on.
-
-    It is used by one thread at a time.
+    committed, or given up where an exception leaves the block. A call that
+    is refused raises the refusal and changes nothing; where that is caught,
+    the transaction goes on. It is used by one thread at a time.
     """
 
     #: The commit's number, once it is committed.
@@ -296,8 +293,8 @@ class Index:
               tries: int = 20, wait: Optional[float] = 0.0) -> _Result:
         """Does work(transaction), commits, and returns what it returned.
 
-        Where another transaction is in the way (Busy), all of it is given up
-        and done anew after a short pause, so many times in all.
+        Where another transaction is in the way (Busy), it is all given up and
+        done anew after a short pause, so many times in all.
         """
         for tried in range(1, tries + 1):
             try:
@@ -313,8 +310,7 @@ class Index:
     def close(self) -> None:
         """Gives up what is open, and waits until the program has ended.
 
-        Raises what it says where it doesn't end well. To close once more
-        does nothing.
+        Raises why it didn't end well. To close once more does nothing.
         """
         end = self._program.close()
         if end:
@@ -371,23 +367,27 @@ def dump(path: AnyPath, program: Optional[AnyPath] = None) -> Iterator[str]:
     return lines_of(words_of(program, "dump", "--", fspath(path)))
 
 
-def _entries(lines: bytes) -> Iterator[Tuple[int, Box]]:
-    """The entries of lines `S entry R X1 Y1 X2 Y2`, a block at a time."""
+def _blocks(lines: bytes) -> Iterator[bytes]:
+    """The lines in pieces."""
     start = 0
     while start < len(lines):
         end = lines.find(b"\n", start + _BLOCK) + 1 or len(lines)
-        words = lines[start:end].split()
-        corners = zip(*(map(int, words[at::7]) for at in range(3, 7)))
-        yield from zip(map(int, words[2::7]), map(Box._make, corners))
+        yield lines[start:end]
         start = end
+
+
+def _entries(lines: bytes) -> Iterator[Tuple[int, Box]]:
+    """The entries of lines `S entry R X1 Y1 X2 Y2`."""
+    words = lines.split()
+    corners = zip(*(map(int, words[at::7]) for at in range(3, 7)))
+    return zip(map(int, words[2::7]), map(Box._make, corners))
 
 
 def _corners(box: Sequence[int]) -> str:
     """The words of a box; whether it is reversed is left to the index."""
     x1, y1, x2, y2 = box
-    if not (MIN_CORNER <= x1 <= MAX_CORNER and MIN_CORNER <= y1 <= MAX_CORNER
-            and MIN_CORNER <= x2 <= MAX_CORNER
-            and MIN_CORNER <= y2 <= MAX_CORNER):
+    if not (MIN_CORNER <= min(x1, y1, x2, y2)
+            and max(x1, y1, x2, y2) <= MAX_CORNER):
         raise ValueError(f"{box!r} has a corner outside 32 bits")
     return f"{x1:d} {y1:d} {x2:d} {y2:d}"
 
