@@ -43,16 +43,13 @@ enum gist_status {
     GIST_BAD_PARAMETER = 18,  /* the index is of another kind of keys, or its numbers are wrong */
     GIST_NO_CALL = 19,        /* never so here */
     GIST_HISTORY_FULL = 20,   /* the numbers of commits or transactions are used up */
-    /* The client's own. Behind GIST_ENDED and GIST_PROTOCOL all calls of the index but gist_close answer GIST_ENDED. */
-    GIST_ENDED =
-        32, /* the program has ended, and with it whatever was open; what was answered as committed is in the file */
+    /* The client's own. After GIST_ENDED and GIST_PROTOCOL all calls of the index but gist_close answer GIST_ENDED. */
+    GIST_ENDED = 32,    /* the program has ended, and with it all that was open; what was answered as committed stays */
     GIST_PROTOCOL = 33, /* the program answered what no gist of this kind answers; it was ended */
-    GIST_SYSTEM =
-        34, /* a call of the system failed, as errno says, before the program was asked; nothing has changed */
+    GIST_SYSTEM = 34,   /* a call of the system failed, as errno says; the index is as it was */
 };
 
-/* How the program ended: its status, or minus the signal that killed it; and what it wrote to standard error, or
- * nothing. */
+/* How the program ended: its status, or minus the signal that killed it; and what it wrote to standard error. */
 typedef struct gist_end {
     int status;
     char sentence[1024];
@@ -81,54 +78,59 @@ typedef struct gist_index gist_index;
 /* What a status means, in words that stay; never NULL. */
 const char *gist_text(int status);
 
-/* In the next four calls `program` is the path of gist; where it is NULL, the environment variable GIST has it. PATH
-   isn't searched, since other programs have that name. Where it can't be started the status is GIST_SYSTEM. `end` may
-   be NULL; else it says how the program ended, where it did. Another status of the program than 0 (2: wrong words) that
-   it gives no refusal for is GIST_ENDED. */
+/* In the next three calls `program` is the path of gist; where it is NULL, the environment variable GIST has it. PATH
+   isn't searched, since other programs have that name. They answer GIST_SYSTEM where it can't be started, the refusal
+   with which it ends, or GIST_ENDED where it ends badly without one: `end`, where it isn't NULL, says how (status 2:
+   a number out of its range). */
 
 /* Lays a new index down in the file `path`, which is made where it isn't there, for `pages` pages of 4,096 bytes (8 to
-   65536) of `fanout` entries at most (4 to 100). What the file held is lost. Ends with GIST_DEVICE where the file can't
-   be made or is in use. */
+   65536) of `fanout` entries at most (4 to 100). What the file held is lost. GIST_DEVICE: the file can't be made or
+   written, or is in use. */
 int gist_format(const char *program, const char *path, unsigned pages, unsigned fanout, gist_end *end);
 
 /* Opens the index in the file `path`, with `frames` pages of 4,096 bytes in memory (16 to 4096); what a crash cut off
    is undone first. With GIST_OK *index is the open index, which gist_close has to close; with any other status it is
-   NULL, and nothing is left open. */
+   NULL, and nothing is left open. GIST_DEVICE: the file isn't there, is in use or can't be read or written;
+   GIST_NOT_FORMATTED, GIST_TOO_SMALL, GIST_BAD_PARAMETER, GIST_DAMAGED: what it holds; GIST_MEMORY. */
 int gist_open(gist_index **index, const char *program, const char *path, unsigned frames, gist_end *end);
 
 /* Prints the tree of the index in the file `path` to a stream, as docs/SCRIPT.md has it. The index must not be open.
-   With GIST_SYSTEM after some of it, the stream took no more. */
+   The refusals of gist_open, after part of the tree maybe; GIST_SYSTEM also where the stream takes no more. */
 int gist_dump(const char *program, const char *path, FILE *to, gist_end *end);
 
 /* Gives up what is open, waits until the program has ended, and frees the index, whatever the status: GIST_OK where the
-   program ended well, else why it ended, be it now or before. NULL is closed already. */
+   program ended well, else why it ended, be it now or before; `end` is as above. NULL is closed already. */
 int gist_close(gist_index *index, gist_end *end);
 
-/* Begins a transaction in one of the sessions 1 to 8. */
+/* Each call from here on is made in a session, 1 to 8, and where it isn't answered with GIST_OK nothing has changed in
+   its transaction. Beside what is said with it, it may answer GIST_BAD_SESSION, GIST_MEMORY, GIST_DEVICE, GIST_FAILED,
+   GIST_ENDED or GIST_PROTOCOL; and but for gist_begin GIST_NO_TRANSACTION. */
+
+/* Begins a transaction. GIST_IN_TRANSACTION: the session has one. GIST_HISTORY_FULL. */
 int gist_begin(gist_index *index, unsigned session);
 
-/* Ends the session's transaction and keeps its changes: with GIST_OK they are in the file and outlive a crash.
-   `number`, where it isn't NULL, gets the commit's number. With GIST_ENDED the commit is there whole or not at all. */
+/* Ends the transaction and keeps its changes: with GIST_OK they are in the file and outlive a crash. `number`, where it
+   isn't NULL, gets the commit's number. After GIST_DEVICE, GIST_ENDED or GIST_PROTOCOL they are there whole or not at
+   all, which the index shows once it is opened again. */
 int gist_commit(gist_index *index, unsigned session, uint64_t *number);
 
-/* Ends the session's transaction and drops its changes. It costs no sync: so end a transaction that has only searched.
- */
+/* Ends the transaction and drops its changes. It costs no sync: so end one that has only searched. */
 int gist_abort(gist_index *index, unsigned session);
 
-/* Adds an entry, which must not be there. */
+/* Adds an entry. GIST_PRESENT: it is there. GIST_BUSY; GIST_BAD_BOX; GIST_PAGES_FULL; GIST_CLAIMS_FULL. */
 int gist_insert(gist_index *index, unsigned session, uint64_t row, gist_box box);
 
-/* Takes an entry away, which must be there with just this box. */
+/* Takes an entry away. GIST_ABSENT: it isn't there, with just this box. GIST_BUSY; GIST_BAD_BOX; GIST_CLAIMS_FULL. */
 int gist_delete(gist_index *index, unsigned session, uint64_t row, gist_box box);
 
 /* Adds or takes away `count` entries, of which up to 100 are written before their answers are read; that takes a
    fraction of the time of a call each. The first refusal is the status, and `done`, where it isn't NULL, gets its
-   entry's place: so many before it were done. Entries behind it may have been done as well: abort, or look. */
+   entry's place: so many before it were done. Some behind it may have been done as well: abort, or look. */
 int gist_insert_many(gist_index *index, unsigned session, const gist_entry *entries, size_t count, size_t *done);
 int gist_delete_many(gist_index *index, unsigned session, const gist_entry *entries, size_t count, size_t *done);
 
 /* Finds entries. With GIST_OK *found has `*count` of them in order by row and then box; it is the index's, and stays
-   until its next search or its close. With GIST_SYSTEM, memory lacked here; the index goes on. */
+   until its next search or its close. GIST_BUSY; GIST_BAD_BOX; GIST_PREDICATES_FULL; GIST_SYSTEM: memory lacks here. */
 int gist_search(gist_index *index, unsigned session, enum gist_query query, gist_box box, const gist_entry **found,
                 size_t *count);
 

@@ -213,7 +213,8 @@ class Transaction(Reader):
     def commit(self) -> int:
         """Ends the transaction, keeps its changes and returns its number.
 
-        When this returns, they are in the file and outlive a crash.
+        When this returns, they are in the file and outlive a crash; when it
+        raises Device or Ended, they are there whole or not at all.
         """
         self.number = int(self._call("COMMIT", b"committed "))
         self._leave()
@@ -308,10 +309,8 @@ class Index:
         raise ValueError("tries is at least 1")
 
     def close(self) -> None:
-        """Gives up what is open, and waits until the program has ended.
-
-        Raises why it didn't end well. To close once more does nothing.
-        """
+        """Gives up what is open, waits for the program's end, and raises
+        why it didn't end well. To close once more does nothing."""
         end = self._program.close()
         if end:
             raise end

@@ -1,5 +1,6 @@
 """The program as a process: its end, its pipes, and who shares it."""
 
+import contextlib
 import multiprocessing
 import os
 import signal
@@ -58,7 +59,7 @@ class Ends(Case):
             [sys.executable, "-c", KILLED.format(path=str(self.path))],
             env={**os.environ, "PYTHONPATH": str(REPOSITORY / "python")})
         self.assertEqual(run.returncode, -signal.SIGKILL)
-        for _ in range(100):
+        for _ in range(600):
             try:
                 self.assertEqual(self.found(), [(1, (0, 0, 1, 1))])
                 return
@@ -154,10 +155,13 @@ class Pipes(Case):
             t = index.transaction()
             os.kill(index.pid, signal.SIGSTOP)
             before = signal.signal(signal.SIGALRM, self.interrupt)
-            signal.setitimer(signal.ITIMER_REAL, 0.2)
+            signal.setitimer(signal.ITIMER_REAL, 0.5)
             with self.assertRaises(KeyboardInterrupt):
                 t.insert(2, (0, 0, 1, 1))
             signal.signal(signal.SIGALRM, before)
+            with contextlib.suppress(ProcessLookupError):
+                # (or else what fails here would hang)
+                os.kill(index.pid, signal.SIGCONT)
             with self.assertRaises(gist.Ended):
                 t.insert(3, (0, 0, 1, 1))
         self.assertEqual(self.found(), [(1, (0, 0, 1, 1))])
