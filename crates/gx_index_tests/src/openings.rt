@@ -5,7 +5,9 @@ use gx_disk::{MemDisk, SectorDisk};
 use gx_engine::{Engine, drive, repeat};
 use gx_events::Event;
 use gx_geom::{Box2, Refusal};
+use gx_legality::Rule;
 use gx_machine::{Call, Entry, Query, Reply};
+use gx_opening::{Damage, examine};
 use gx_restart::open;
 use std::alloc::Global;
 use std::process::Abort;
@@ -18,8 +20,8 @@ fn refusal(alloc: Global, disk: Option<MemDisk>, frames: usize) -> Option<Refusa
     }
 }
 
-// Why a new device isn't opened in which one byte was changed.
-fn refusal_with(alloc: Global, sector: u64, at: usize, value: u8) -> Option<Refusal> {
+// A new device in which one byte was changed.
+fn formatted_with(alloc: Global, sector: u64, at: usize, value: u8) -> Option<MemDisk> {
     let mut disk = formatted(alloc)?;
     if disk.sectors() <= sector {
         return None;
@@ -28,7 +30,18 @@ fn refusal_with(alloc: Global, sector: u64, at: usize, value: u8) -> Option<Refu
     disk.read(sector, &mut bytes).ok()?;
     *bytes.get_mut(at)? = value;
     disk.write(sector, &bytes).ok()?;
-    refusal(alloc, Some(disk), 16)
+    Some(disk)
+}
+
+// Why a new device isn't opened in which one byte was changed.
+fn refusal_with(alloc: Global, sector: u64, at: usize, value: u8) -> Option<Refusal> {
+    refusal(alloc, Some(formatted_with(alloc, sector, at, value)?), 16)
+}
+
+// What is damaged on a new device in which one byte was changed.
+fn damage_with(alloc: Global, sector: u64, at: usize, value: u8) -> Option<Damage> {
+    let disk = formatted_with(alloc, sector, at, value)?;
+    examine::<MemDisk, Box2Class>(alloc, disk).1
 }
 
 // A session's call, to its end.
@@ -138,4 +151,25 @@ fn refusals(rt: HostRuntime) {
     assert!(rt; refusal_with(alloc, 1, 3, 17) == Some(Refusal::TooSmall));
     assert!(rt; refusal_with(alloc, 40, 0, 255) == Some(Refusal::Damaged));
     assert!(rt; refusal_with(alloc, 4168, 0, 255) == Some(Refusal::Damaged));
+}
+
+// No contract can say that memory is there. Where it is, no damage is told as want of it, and each is told where it lies.
+#[test]
+fn damage_is_no_want_of_memory(rt: HostRuntime) {
+    let alloc = rt.alloc();
+    assert!(rt;
+        formatted(alloc).is_some_and(|disk| open::<MemDisk, Box2Class>(alloc, disk, 16).is_ok())
+    );
+    // the first body's size; the head of page 1; and its sequence number, which no split gave
+    assert!(rt; refusal_with(alloc, 40, 0, 255) == Some(Refusal::Damaged));
+    assert!(rt; refusal_with(alloc, 4168, 0, 255) == Some(Refusal::Damaged));
+    assert!(rt; refusal_with(alloc, 4168, 15, 9) == Some(Refusal::Damaged));
+    assert!(rt; matches!(damage_with(alloc, 40, 0, 255), Some(Damage::Log(_))));
+    assert!(rt; matches!(damage_with(alloc, 4168, 6, 1), Some(Damage::Unreadable(1))));
+    assert!(rt;
+        matches!(
+            damage_with(alloc, 4168, 15, 9),
+            Some(Damage::Broken(1, Rule::SequenceNumber))
+        )
+    );
 }

@@ -33,6 +33,11 @@ module _ {X : Type 0} where
   some_here P [] ys x here = inl here
   some_here P (z ∷ xs) ys x here = inr (some_here P xs ys x here)
 
+  some_each : (P Q : X → Type 0) (R : Type 0) (xs : List X) → ((x : X) → P x → Q x → R) → SomeOf P xs → Each Q xs → R
+  some_each P Q R [] both some all = absurd some
+  some_each P Q R (x ∷ xs) both (inl here) all = both x here all.0
+  some_each P Q R (x ∷ xs) both (inr some) all = some_each P Q R xs both some all.1
+
   take_drop : (n : ℕ) (xs : List X) → take n xs ++ drop n xs ≡ xs
   take_drop zero xs = refl
   take_drop (suc n) [] = refl
@@ -61,7 +66,35 @@ module _ {E : Type 0} (cmp : E → E → Ordering) where
   each_noted_put P [] ys x all here = (here, all)
   each_noted_put P (z ∷ xs) ys x all here = (all.0, each_noted_put P xs ys x all.1 here)
 
+  -- ---- one note less
+  each_noted_out : (P : E → Type 0) (xs ys : List (Note E)) (x : Note E) → Each P (noted (xs ++ x ∷ ys)) → Each P (noted (xs ++ ys)) × P x.entry
+  each_noted_out P [] ys x all = (all.1, all.0)
+  each_noted_out P (z ∷ xs) ys x all = (let rest = each_noted_out P xs ys x all.1 in ((all.0, rest.0), rest.1))
+
+  ascends_out : (xs ys : List (Note E)) (x : Note E) → Ascends cmp (noted (xs ++ x ∷ ys)) → Ascends cmp (noted (xs ++ ys))
+  ascends_out [] ys x up = up.1
+  ascends_out (z ∷ xs) ys x up = ((each_noted_out (λ y. cmp z.entry y ≡ Less) xs ys x up.0).0, ascends_out xs ys x up.1)
+
+  not_less_tied : (r : Ordering) → r ≡ Less → r ≡ Equal → ⊥
+  not_less_tied r less tied = absurd (cc)
+
   module _ (o : IsTotalOrder cmp) where
+    -- what comes behind a note is of another entry
+    behind_differs : (x : Note E) (ys : List (Note E)) → Each (λ y. cmp x.entry y ≡ Less) (noted ys) → Each (λ n. cmp n.entry x.entry ≡ Equal → ⊥) ys
+    behind_differs x [] all = tt
+    behind_differs x (y ∷ ys) all = (
+      λ tied. not_less_tied (cmp x.entry y.entry) all.0 (o.antisymm x.entry y.entry ∙ ap ordering_reverse tied),
+      behind_differs x ys all.1,
+    )
+
+    -- each note but one is of another entry than that one
+    others_differ : (xs ys : List (Note E)) (x : Note E) → Ascends cmp (noted (xs ++ x ∷ ys)) → Each (λ n. cmp n.entry x.entry ≡ Equal → ⊥) (xs ++ ys)
+    others_differ [] ys x up = behind_differs x ys up.0
+    others_differ (z ∷ xs) ys x up = (
+      λ tied. not_less_tied (cmp z.entry x.entry) (each_noted_out (λ y. cmp z.entry y ≡ Less) xs ys x up.0).1 tied,
+      others_differ xs ys x up.1,
+    )
+
     comes_first : (x n : Note E) (ns : List (Note E)) (r : Ordering) → cmp n.entry x.entry ≡ r → (r ≡ Less → ⊥) → (r ≡ Equal → ⊥) → Ascends cmp (noted (n ∷ ns))
         → Each (λ y. cmp x.entry y ≡ Less) (noted (n ∷ ns))
     comes_first x n ns Less is unless other up = absurd (unless refl)
@@ -107,10 +140,25 @@ module _ {E : Type 0} (cmp : E → E → Ordering) where
               (subst (λ (ns : List (Note E)). Each (λ x. cmp x.entry t.entry ≡ Equal → ⊥) ns) (sym whole)
               (each_weaker (IsOfOne cmp touched n) (λ x. cmp x.entry t.entry ≡ Equal → ⊥) old
               (λ x one. λ tied. others one.at n one.touch t one.below one.there there (subst (λ (y : Note E). cmp y.entry t.entry ≡ Equal) one.same tied)) so.only))));
+          others = λ up i j a b before below first second tied.
+              (let apart : Ascends cmp (noted (take put.place old ++ note_of t ∷ drop put.place old)) = subst (λ (ns : List (Note E)). Ascends cmp (noted ns)) put.items up in
+              elim (cases_lt j n) [
+                | inl less ↦
+                    so.others (subst (λ (ns : List (Note E)). Ascends cmp (noted ns)) whole (ascends_out (take put.place old) (drop put.place old) (note_of t) apart))
+                    i j a b before less first second tied
+                | inr last ↦
+                    let here : j ≡ n = omega (arith, last, below) in
+                    let same : t ≡ b = one_touch touched n t b there (subst (λ k. slice_get touched k ≡ Some b) here second) in
+                    some_each (λ x. x ≡ note_of a) (λ x. cmp x.entry t.entry ≡ Equal → ⊥) ⊥ old
+                    (λ x is other. other (subst (λ (y : Note E). cmp y.entry t.entry ≡ Equal) (sym is) (subst (λ (y : Touch E). cmp a.entry y.entry ≡ Equal) (sym same) tied)))
+                    (so.all i a (omega (arith, before, here)) first)
+                    (subst (λ (ns : List (Note E)). Each (λ x. cmp x.entry t.entry ≡ Equal → ⊥) ns) whole
+                    (others_differ (take put.place old) (drop put.place old) (note_of t) apart))
+              ]);
         }
       where
         one_touch : (xs : List (Touch E)) (k : ℕ) (a b : Touch E) → slice_get xs k ≡ Some a → slice_get xs k ≡ Some b → a ≡ b
         one_touch xs k a b at here = cc
 
   pub none_noted : (touched : List (Touch E)) → AreNoted cmp touched 0 []
-  none_noted touched = record { all = λ i t below at. absurd (omega (arith, below)); only = tt; in_order = λ others. tt }
+  none_noted touched = record { all = λ i t below at. absurd (omega (arith, below)); only = tt; in_order = λ others. tt; others = λ up i j x y before below first second tied. absurd (omega (arith, below)) }

@@ -1,6 +1,6 @@
 -- The pages of a store that is only read: what tests of them say of the pages of a device.
 use Rattle.std.proofs.Common.{◌≡◌, inl, inr, ℕ, ◌+◌, Bool, List, [], ◌∷◌, length, Option, Some, None, IsSome, Result, Ok, Err, refl, sym, ap, subst, ◌∙◌, arith}
-use Rattle.std.specs.Prelude.{slice_get}
+use Rattle.std.specs.Prelude.{slice_get, OnOk}
 use Rattle.std.specs.declared.cmp.Ordering.{Ordering}
 use Rattle.std.proofs.lemmas.Bool.{leb-true, le-leb, cases_eq}
 use Rattle.std.proofs.lemmas.Option.{slice_get_within}
@@ -177,3 +177,14 @@ module _ {B : Type 0} (r : Rules B) (t : Tree B) where
       tells_so (Each (IsPlaced r t) notes) (AllInPlace r t touched) result (touches_have cmp (IsPlaced r t) touched notes so) (notes_have cmp (IsPlaced r t) touched notes so)
       (subst (λ (ns : List (Note (Entry B))). Tells {T = Unit {0}} (Each (IsPlaced r t) ns) result) same
       (told (subst (λ (ns : List (Note (Entry B))). Ascends cmp (noted ns)) (sym same) (so.in_order others))))
+
+-- notes in order are of touches of which no two are of one entry
+pub noted_others : {E : Type 0} (cmp : E → E → Ordering) (touched : List (Touch E)) (notes slice : List (Note E)) → slice ≡ notes
+    → AreNoted cmp touched (length touched) notes → Ascends cmp (noted slice) → AreOfOthers cmp touched
+noted_others {E = E} cmp touched notes slice same so up i j x y before first second tied =
+    so.others (subst (λ (ns : List (Note E)). Ascends cmp (noted ns)) same up) i j x y before (slice_get_within touched j y second) first second tied
+
+pub told_others : {E : Type 0} (cmp : E → E → Ordering) (touched : List (Touch E)) (notes slice : List (Note E)) (result : Result (Unit {0}) Refusal) → slice ≡ notes
+    → AreNoted cmp touched (length touched) notes → OnOk result (Ascends cmp (noted slice)) → OnOk result (AreOfOthers cmp touched)
+told_others cmp touched notes slice (Ok done) same so up = noted_others cmp touched notes slice same so up
+told_others cmp touched notes slice (Err why) same so up = tt

@@ -29,6 +29,12 @@ module _ {E : Type 0} (cmp : E → E → Ordering) where
     pub behind : IsNoLess x.entry (drop place old)
     pub items : new ≡ take place old ++ x ∷ drop place old
 
+  -- no two of the first n touches are of one entry
+  abbrev pub AreOfOthersIn : ℕ → List (Touch E) → Type 0
+  AreOfOthersIn n touched =
+      (i j : ℕ) (x y : Touch E) → i < j → j < n → slice_get touched i ≡ Some x → slice_get touched j ≡ Some y
+      → cmp x.entry y.entry ≡ Equal → ⊥
+
   -- no two touches are of one entry
   abbrev pub AreOfOthers : List (Touch E) → Type 0
   AreOfOthers touched = (i j : ℕ) (x y : Touch E) → i < j → slice_get touched i ≡ Some x → slice_get touched j ≡ Some y → cmp x.entry y.entry ≡ Equal → ⊥
@@ -41,8 +47,9 @@ module _ {E : Type 0} (cmp : E → E → Ordering) where
     pub there : slice_get touched at ≡ Some touch
     pub same : x ≡ note_of touch
 
-  -- The first n touches are noted, each of them and nothing else; and in order, where no two are of one entry.
+  -- The first n touches are noted, each of them and nothing else; and in order, exactly where no two are of one entry.
   pub record AreNoted (touched : List (Touch E)) (n : ℕ) (notes : List (Note E)) : Type 0 where
     pub all : (i : ℕ) (t : Touch E) → i < n → slice_get touched i ≡ Some t → SomeOf (λ x. x ≡ note_of t) notes
     pub only : Each (IsOfOne touched n) notes
     pub in_order : AreOfOthers touched → Ascends cmp (noted notes)
+    pub others : Ascends cmp (noted notes) → AreOfOthersIn n touched

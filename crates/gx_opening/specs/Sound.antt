@@ -47,6 +47,20 @@ Tells holds (Err why) = why ≡ Damaged → holds → ⊥
 abbrev pub IsCause : Refusal → Type 0
 IsCause why = (why ≡ DeviceFailed) ⊎ ((why ≡ Memory) ⊎ (why ≡ Damaged))
 
+-- what a store's refusal is told as
+abbrev pub store_refusal_of : StoreFault → Refusal
+store_refusal_of store_fault.Device = DeviceFailed
+store_refusal_of store_fault.Damaged = Damaged
+store_refusal_of store_fault.NoRoom = Memory
+store_refusal_of (store_fault.TooFewFrames n) = Memory
+
+-- what a refused test of pages is told as: want of memory as nothing else, and a broken tree as damage
+abbrev pub refusal_of : LegalityFault StoreFault → Refusal
+refusal_of fault.Memory = Memory
+refusal_of (fault.Pages refusal) = store_refusal_of refusal
+refusal_of (fault.Broken page rule) = Damaged
+refusal_of fault.Unsteady = Damaged
+
 -- a test of pages was refused because of what they are
 abbrev pub IsDamage : LegalityFault StoreFault → Type 0
 IsDamage (fault.Pages store_fault.Damaged) = Unit {0}

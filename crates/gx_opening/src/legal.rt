@@ -14,7 +14,7 @@ ghost use Rattle.gx_legality.specs.Gathered.{Ascends};
 ghost use Rattle.gx_legality.specs.Placing.{IsPlaced, noted};
 ghost use Rattle.gx_opening.specs.Formatted.{TellsFaults};
 ghost use Rattle.gx_opening.specs.Noting.{AreOfOthers};
-ghost use Rattle.gx_opening.specs.Sound.{AllInPlace, AreClean, AreSound, CanAllBeRead, CanReadStore, IsCause, IsDamage, IsShownSound, IsSoundStore, IsSteadyStore, OnlyReadsStore, Tells, shown_tree};
+ghost use Rattle.gx_opening.specs.Sound.{AllInPlace, AreClean, AreSound, CanAllBeRead, CanReadStore, IsCause, IsDamage, IsShownSound, IsSoundStore, IsSteadyStore, OnlyReadsStore, Tells, refusal_of, shown_tree, store_refusal_of};
 
 use crate::notes::notes_of;
 use gx_analysis::{Analysis, Touch};
@@ -46,6 +46,7 @@ fn half_of(used: u32, most: u16) -> usize
 
 // What a store's refusal is, of a test that only reads.
 fn store_refusal(fault: StoreFault) -> Refusal
+    ensures told { result ≡ store_refusal_of fault }
     ensures damaged { result ≡ Refusal.Damaged → fault ≡ StoreFault.Damaged }
     ensures device { result ≡ Refusal.Device → fault ≡ StoreFault.Device }
     ensures cause { IsCause result }
@@ -60,6 +61,7 @@ fn store_refusal(fault: StoreFault) -> Refusal
 
 // What a refusal of a test is.
 fn test_refusal(fault: LegalityFault<StoreFault>) -> Refusal
+    ensures told { result ≡ refusal_of fault }
     ensures damaged { result ≡ Refusal.Damaged → IsDamage fault }
     ensures device { result ≡ Refusal.Device → fault ≡ LegalityFault.Pages StoreFault.Device }
     ensures cause { IsCause result }
@@ -119,6 +121,7 @@ fn test_notes<D: SectorDisk, K: ReadKeys>(
     notes: &[Note<Entry<K::Key>>],
 ) -> Result<(), Refusal>
     ensures cause { IfErr result IsCause }
+    ensures up { OnOk result (Ascends (entry_cmp (keys_of K.Key.Shape)) (noted notes.now)) }
     ensures reads { OnlyReadsStore (format_of K.KeyClass) (is_node (format_of K.KeyClass)) D.state store.old store.new }
     ensures faults { result ≡ Err Refusal.Device → (D.state store.old.disk).faults < (D.state store.new.disk).faults }
     ensures placed { (most : ℕ) → IsSteadyStore (format_of K.KeyClass) (is_node (format_of K.KeyClass)) D.state store.old → CanReadStore (format_of K.KeyClass) (is_node (format_of K.KeyClass)) D.state store.old
@@ -142,6 +145,7 @@ fn test_touched<D: SectorDisk, K: ReadKeys>(
     touched: &[Touch<Entry<K::Key>>],
 ) -> Result<(), Refusal>
     ensures cause { IfErr result IsCause }
+    ensures others { OnOk result (AreOfOthers (entry_cmp (keys_of K.Key.Shape)) touched.now) }
     ensures reads { OnlyReadsStore (format_of K.KeyClass) (is_node (format_of K.KeyClass)) D.state store.old store.new }
     ensures faults { result ≡ Err Refusal.Device → (D.state store.old.disk).faults < (D.state store.new.disk).faults }
     ensures placed { (most : ℕ) → IsSteadyStore (format_of K.KeyClass) (is_node (format_of K.KeyClass)) D.state store.old → CanReadStore (format_of K.KeyClass) (is_node (format_of K.KeyClass)) D.state store.old
@@ -163,6 +167,7 @@ fn test_shown<D: SectorDisk, K: ReadKeys>(
     touched: &[Touch<Entry<K::Key>>],
 ) -> Result<(), Refusal>
     ensures cause { IfErr result IsCause }
+    ensures others { OnOk result (AreOfOthers (entry_cmp (keys_of K.Key.Shape)) touched.now) }
     ensures reads { OnlyReadsStore (format_of K.KeyClass) (is_node (format_of K.KeyClass)) D.state store.old store.new }
     ensures faults { result ≡ Err Refusal.Device → (D.state store.old.disk).faults < (D.state store.new.disk).faults }
     ensures shown { IsSteadyStore (format_of K.KeyClass) (is_node (format_of K.KeyClass)) D.state store.old → CanReadStore (format_of K.KeyClass) (is_node (format_of K.KeyClass)) D.state store.old
@@ -184,6 +189,7 @@ fn test_store<D: SectorDisk, K: ReadKeys>(
     touched: &[Touch<Entry<K::Key>>],
 ) -> Result<(), Refusal>
     ensures cause { IfErr result IsCause }
+    ensures others { OnOk result (AreOfOthers (entry_cmp (keys_of K.Key.Shape)) touched.now) }
     ensures reads { OnlyReadsStore (format_of K.KeyClass) (is_node (format_of K.KeyClass)) D.state store.old store.new }
     ensures faults { result ≡ Err Refusal.Device → (D.state store.old.disk).faults < (D.state store.new.disk).faults }
     ensures tested { IsSteadyStore (format_of K.KeyClass) (is_node (format_of K.KeyClass)) D.state store.old → AreClean store.old.frames → AreOfOthers (entry_cmp (keys_of K.Key.Shape)) touched.now
@@ -204,6 +210,7 @@ fn test_over<D: SectorDisk, K: ReadKeys>(
     touched: &[Touch<Entry<K::Key>>],
 ) -> (D, Result<(), Refusal>)
     ensures cause { IfErr result.1 IsCause }
+    ensures others { OnOk result.1 (AreOfOthers (entry_cmp (keys_of K.Key.Shape)) touched.now) }
     ensures read { OnlyRead (D.state store.disk) (D.state result.0) }
     ensures faults { TellsFaults (D.state store.disk).faults (D.state result.0).faults result.1 }
     ensures tested { IsSteadyStore (format_of K.KeyClass) (is_node (format_of K.KeyClass)) D.state store → AreClean store.frames → AreOfOthers (entry_cmp (keys_of K.Key.Shape)) touched.now
@@ -230,6 +237,7 @@ pub(crate) fn test_pages<D: SectorDisk, K: ReadKeys>(
     requires inside { (pages ≤ 65536) × (4168 + 8 * pages ≤ (D.state disk).sectors) }
     ensures fits { IfOk result.1 (λ _. analysis.now.told.used ≤ pages) }
     ensures cause { IfErr result.1 IsCause }
+    ensures others { OnOk result.1 (AreOfOthers (entry_cmp (keys_of K.Key.Shape)) analysis.now.told.touched) }
     ensures read { OnlyRead (D.state disk) (D.state result.0) }
     ensures faults { TellsFaults (D.state disk).faults (D.state result.0).faults result.1 }
     ensures tested { (l : Limits) → l.pages ≡ pages → l.most ≡ most → (D.state disk).honest ≡ true → AreOfOthers (entry_cmp (keys_of K.Key.Shape)) analysis.now.told.touched

@@ -82,6 +82,7 @@ fn tested<D: SectorDisk, K: ReadKeys>(
     ensures faults { TellsFaults (D.state disk).faults (D.state result.0).faults result.1 }
     ensures ok { IfOk result.1 (λ s. s ≡ standing) }
     ensures fits { IfOk result.1 (λ s. s.log.analysis.told.used ≤ s.parameters.pages) }
+    ensures others { IfOk result.1 (λ s. AreOfOthers (entry_cmp (keys_of K.Key.Shape)) s.log.analysis.told.touched) }
     ensures cause { IfErr result.1 IsCause }
     ensures tested { (D.state disk).honest ≡ true → AreOfOthers (entry_cmp (keys_of K.Key.Shape)) standing.log.analysis.told.touched
         → Tells (AreSound (known_of (class_of K.Key.Shape K.is_proper (limits_of standing.parameters))) (reading_of K.said (format_of K.KeyClass)) (is_node (format_of K.KeyClass) standing.parameters.pages)
@@ -99,7 +100,8 @@ fn tested<D: SectorDisk, K: ReadKeys>(
 /// (`TooSmall`), with a damaged log, or pages that can't be read, aren't a legal tree, or haven't what open transactions touched in its place
 /// (`Damaged`); and where a call fails (`Device`), or memory is refused (`Memory`). At each moment a crash may leave what it could at the
 /// start, or an image with the log that was found and after it the same pages. A sync comes before the first write, and of the sectors only
-/// those of pages that the log gives are written. What is found has the numbers that an engine may start with, whatever the device is.
+/// those of pages that the log gives are written. What is found has the numbers that an engine may start with, and its open transactions
+/// have touched no entry twice, whatever the device is.
 pub fn find<D: SectorDisk, K: ReadKeys>(
     alloc: Global,
     disk: D,
@@ -108,6 +110,7 @@ pub fn find<D: SectorDisk, K: ReadKeys>(
     ensures faults { TellsFaults (D.state disk).faults (D.state result.0).faults result.1 }
     ensures allowed { IfOk result.1 (λ s. IsAllowed K.CLASS s.parameters × IsLarge (D.state disk).sectors s.parameters) }
     ensures starts { IfOk result.1 MayStart }
+    ensures others { IfOk result.1 (λ s. AreOfOthers (entry_cmp (keys_of K.Key.Shape)) s.log.analysis.told.touched) }
     ensures small { (D.state disk).sectors < 4232 → (result.1 ≡ Err Refusal.TooSmall) × (result.0 ≡ disk) }
     ensures safe { (D.state disk).honest ≡ true → StaysSafe K.Key.Shape K.is_proper K.said (format_of K.KeyClass) (D.state disk) (D.state result.0) }
     ensures order { (D.state disk).honest ≡ true → FindsInOrder K.Key.Shape K.is_proper K.said (format_of K.KeyClass)
