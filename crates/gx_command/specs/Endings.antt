@@ -33,14 +33,15 @@ pub record RanScript (had left held holds : Option (List ℕ)) (status : ℕ) : 
   -- what its lines asked and were answered is one run of the machine, and this is its text
   pub one_run : IsOneRun 1 (asked done.input) fresh_machine index.machine done.text
 
--- the script was stopped by a fault
-pub record StoppedScript (had left held holds : Option (List ℕ)) (status : ℕ) : Type 0 where
+-- the script was stopped by a fault, which is this
+pub record StoppedScript (is_fault : ScriptFault → Type 0) (had left held holds : Option (List ℕ)) (status : ℕ) : Type 0 where
   pub index : Index Rectangle
   pub fault : ScriptFault
   pub status_is : status ≡ 1
   pub stopped : IsStopped (CallsIndex box_keys) had left held holds fresh_index index fault
+  pub is : is_fault fault
 
 -- how a script on a fresh index may end
-abbrev pub EndsScript : Option (List ℕ) → Option (List ℕ) → Option (List ℕ) → Option (List ℕ) → ℕ → Type 0
-EndsScript had left held holds status =
-    LacksMemory had left held holds status ⊎ RanScript had left held holds status ⊎ StoppedScript had left held holds status
+abbrev pub EndsScript : (ScriptFault → Type 0) → Option (List ℕ) → Option (List ℕ) → Option (List ℕ) → Option (List ℕ) → ℕ → Type 0
+EndsScript is_fault had left held holds status =
+    LacksMemory had left held holds status ⊎ RanScript had left held holds status ⊎ StoppedScript is_fault had left held holds status

@@ -5,5 +5,6 @@
 mod faults;
 mod script;
 
-pub use faults::{Noted, tell};
+pub use faults::tell;
+pub use gx_script::Noted;
 pub use script::{refuse_memory, run_script};

@@ -1,11 +1,12 @@
 //! A script on a fresh index, from its first byte to the program's status.
 ghost use Rattle.std.specs.Prelude.{◌≡◌};
 ghost use Rattle.std.specs.Io.KnownBytes.{Keeps};
+ghost use Rattle.gx_script.specs.Noting.{IsFaultOf};
 ghost use Rattle.gx_command.specs.Endings.{TellsMemory, EndsScript};
 
-use crate::faults::{self, Noted};
+use crate::faults;
 use gx_plain::{PlainIndex, run_plain};
-use gx_script::write_whole;
+use gx_script::{Noted, write_whole};
 use std::alloc::Global;
 use std::io::{Read, Write};
 
@@ -25,16 +26,17 @@ pub fn refuse_memory<W: Write>(writer: &mut Noted<W>) -> u8
 
 /// Runs a script on a fresh index in memory, writes the index's replies, and answers the status.
 ///
-/// The status is 0 where the script was read to its end; and 1 where a read or a write failed, about which a line is
-/// written to `faults` unless whoever reads the replies has left, and where memory is refused before the script begins,
-/// which writes `refused 10 memory`.
+/// The status is 0 where the script was read to its end; and 1 where the last read failed, or the last write failed or took
+/// nothing, or 2^32 calls were made of one of both, about which a line is written to `faults` unless whoever reads the
+/// replies has left; and where memory is refused before the script begins, which writes `refused 10 memory`.
 pub fn run_script<R: Read, W: Write, E: Write>(
     alloc: Global,
     reader: &mut Noted<R>,
     writer: &mut Noted<W>,
     faults: &mut E,
 ) -> u8
-    ensures ends { EndsScript (R.remaining reader.old.inner) (R.remaining reader.new.inner) (W.contents writer.old.inner) (W.contents writer.new.inner) result }
+    ensures ends { EndsScript (IsFaultOf reader.new writer.new) (R.remaining reader.old.inner) (R.remaining reader.new.inner)
+        (W.contents writer.old.inner) (W.contents writer.new.inner) result }
     ensures quiet { result ≡ 0 → Keeps (E.contents faults.old) (E.contents faults.new) }
 {
     let Ok(mut index) = PlainIndex::new(alloc) else {
@@ -43,7 +45,7 @@ pub fn run_script<R: Read, W: Write, E: Write>(
     match run_plain(reader, writer, &mut index) {
         Ok(()) => DONE,
         Err(fault) => {
-            faults::tell(faults, fault, reader.last, writer.last);
+            faults::tell(faults, fault, reader.kind, writer.kind);
             REFUSED
         }
     }

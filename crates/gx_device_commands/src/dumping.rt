@@ -28,7 +28,7 @@ fn tell_dump<W: Write, E: Write>(
     match ends {
         Ok(()) => DONE,
         Err(DumpFault::Write) => {
-            tell(faults, ScriptFault::Write, None, writer.last);
+            tell(faults, ScriptFault::Write, None, writer.kind);
             REFUSED
         }
         Err(DumpFault::Refused(why)) => refuse(writer, faults, why),

@@ -47,7 +47,7 @@ fn tell_formatted<W: Write, E: Write>(
     match write_whole(writer, line_of(pages, most).as_str().as_bytes()) {
         Ok(()) => DONE,
         Err(fault) => {
-            tell(faults, fault, None, writer.last);
+            tell(faults, fault, None, writer.kind);
             REFUSED
         }
     }

@@ -77,7 +77,7 @@ where
     match gx_script::run(reader, writer, watched) {
         Ok(()) => end(watched, writer, faults),
         Err(fault) => {
-            tell(faults, fault, reader.last, writer.last);
+            tell(faults, fault, reader.kind, writer.kind);
             REFUSED
         }
     }

@@ -11,6 +11,7 @@ use Rattle.gx_disk.specs.Device.{Device}
 use Rattle.gx_disk.specs.declared.file.FileDisk.{FileDisk}
 use Rattle.gx_format.specs.Formatting.{sectors_of}
 use Rattle.gx_format.specs.Fresh.{fresh_root}
+use Rattle.gx_script.specs.declared.fault.ScriptFault.{ScriptFault}
 use Rattle.gx_command.specs.Endings.{LacksMemory, EndsScript}
 use Rattle.gx_device_commands.specs.Dumping.{DumpsOver}
 use Rattle.gx_device_commands.specs.Endings.{FormatsOver, Refuses, RunsOver}
@@ -62,26 +63,26 @@ module _ {C : Type 0} (shape : Members Rectangle) (class : Ghosts C Rectangle) (
   abbrev pub EndsDump : Option (List ℕ) → Option (List ℕ) → ℕ → Type 0
   EndsDump held holds status = HasNoDevice held holds status ⊎ DumpsFile held holds status
 
-  -- how what was asked for may end
-  abbrev pub EndsAsked : Asked → Option (List ℕ) → Option (List ℕ) → Option (List ℕ) → Option (List ℕ) → ℕ → Type 0
-  EndsAsked Plain had left held holds status = EndsScript had left held holds status
-  EndsAsked (Format file pages most) had left held holds status = Keeps had left × EndsFormat class state pages most held holds status
-  EndsAsked (Run file frames) had left held holds status = EndsRun frames had left held holds status
-  EndsAsked (Dump file) had left held holds status = Keeps had left × EndsDump held holds status
+  -- how what was asked for may end; what stops a script in memory is such a fault
+  abbrev pub EndsAsked : (ScriptFault → Type 0) → Asked → Option (List ℕ) → Option (List ℕ) → Option (List ℕ) → Option (List ℕ) → ℕ → Type 0
+  EndsAsked is_fault Plain had left held holds status = EndsScript is_fault had left held holds status
+  EndsAsked is_fault (Format file pages most) had left held holds status = Keeps had left × EndsFormat class state pages most held holds status
+  EndsAsked is_fault (Run file frames) had left held holds status = EndsRun frames had left held holds status
+  EndsAsked is_fault (Dump file) had left held holds status = Keeps had left × EndsDump held holds status
 
   -- nothing is wrong with the words, and what they ask for ended so
-  pub record EndsAsWanted (words : List Text) (had left held holds : Option (List ℕ)) (status : ℕ) : Type 0 where
+  pub record EndsAsWanted (is_fault : ScriptFault → Type 0) (words : List Text) (had left held holds : Option (List ℕ)) (status : ℕ) : Type 0 where
     pub right : fault_of gist_app words ≡ []
     pub asked : Asked
     pub asks : WordsAsk words asked
-    pub ends : EndsAsked asked had left held holds status
+    pub ends : EndsAsked is_fault asked had left held holds status
 
   -- how the program may end on words that were read: they are wrong, or memory was refused, or what they ask for was done or refused
-  abbrev pub EndsOnWords : List Text → Option (List ℕ) → Option (List ℕ) → Option (List ℕ) → Option (List ℕ) → ℕ → Type 0
-  EndsOnWords words had left held holds status =
+  abbrev pub EndsOnWords : (ScriptFault → Type 0) → List Text → Option (List ℕ) → Option (List ℕ) → Option (List ℕ) → Option (List ℕ) → ℕ → Type 0
+  EndsOnWords is_fault words had left held holds status =
       ((fault_of gist_app words ≢ []) × HasWrongWords had left held holds status)
       ⊎ LacksMemory had left held holds status
-      ⊎ EndsAsWanted words had left held holds status
+      ⊎ EndsAsWanted is_fault words had left held holds status
 
 -- how it ends where they couldn't be read
 abbrev pub EndsUnread : WordsFault → Option (List ℕ) → Option (List ℕ) → Option (List ℕ) → Option (List ℕ) → ℕ → Type 0

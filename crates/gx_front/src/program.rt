@@ -1,6 +1,7 @@
 //! The whole program, as a function of what it is given.
 ghost use Rattle.std.specs.Prelude.{◌≡◌, map, MatchResult};
 ghost use Rattle.std.specs.Io.KnownBytes.{Keeps};
+ghost use Rattle.gx_script.specs.Noting.{IsFaultOf};
 ghost use Rattle.gx_front.specs.Endings.{EndsAsked, EndsOnWords, EndsUnread};
 
 use crate::files::{dump_file, format_file, run_file};
@@ -40,7 +41,8 @@ pub fn gist<T: Files<File = File>, S: AsStr, R: Read, W: Write, E: Write>(
     faults: &mut E,
 ) -> u8
     ensures ends { MatchResult words.entry
-        (λ given. EndsOnWords ⟦<Box2 as Shape>⟧ ⟦<Box2Class as KeyClass>⟧ ⟦<FileDisk as SectorDisk>⟧.state (map S.text given.now)
+        (λ given. EndsOnWords ⟦<Box2 as Shape>⟧ ⟦<Box2Class as KeyClass>⟧ ⟦<FileDisk as SectorDisk>⟧.state
+        (IsFaultOf reader.new writer.new) (map S.text given.now)
         (R.remaining reader.old.inner) (R.remaining reader.new.inner) (W.contents writer.old.inner) (W.contents writer.new.inner) result)
         (λ fault. EndsUnread fault (R.remaining reader.old.inner) (R.remaining reader.new.inner) (W.contents writer.old.inner) (W.contents writer.new.inner) result) }
     ensures quiet { result ≡ 0 → Keeps (E.contents faults.old) (E.contents faults.new) }
@@ -68,7 +70,8 @@ fn carry_out<T: Files<File = File>, R: Read, W: Write, E: Write>(
     writer: &mut Noted<W>,
     faults: &mut E,
 ) -> u8
-    ensures ends { EndsAsked ⟦<Box2 as Shape>⟧ ⟦<Box2Class as KeyClass>⟧ ⟦<FileDisk as SectorDisk>⟧.state asked.entry
+    ensures ends { EndsAsked ⟦<Box2 as Shape>⟧ ⟦<Box2Class as KeyClass>⟧ ⟦<FileDisk as SectorDisk>⟧.state
+        (IsFaultOf reader.new writer.new) asked.entry
         (R.remaining reader.old.inner) (R.remaining reader.new.inner) (W.contents writer.old.inner) (W.contents writer.new.inner) result }
     ensures quiet { result ≡ 0 → Keeps (E.contents faults.old) (E.contents faults.new) }
 {

@@ -1,7 +1,7 @@
 //! Dumps of trees on devices in memory, which are opened again before.
 use crate::devices::{fresh, index_over};
 use gx_disk::MemDisk;
-use gx_restart::{DumpFault, run_script};
+use gx_restart::{DumpFault, Noted, run_script};
 use std::alloc::Global;
 use std::process::Abort;
 
@@ -9,7 +9,12 @@ use std::process::Abort;
 fn written(alloc: Global, script: &[u8]) -> Option<MemDisk> {
     let mut index = fresh(alloc)?;
     let mut replies = [0u8; 1024];
-    run_script(&mut { script }, &mut replies.as_mut_slice(), &mut index).ok()?;
+    run_script(
+        &mut Noted::new(script),
+        &mut Noted::new(replies.as_mut_slice()),
+        &mut index,
+    )
+    .ok()?;
     index.settle().ok()?;
     Some(index.into_engine().into_disk())
 }
@@ -18,7 +23,7 @@ fn written(alloc: Global, script: &[u8]) -> Option<MemDisk> {
 fn told(alloc: Global, script: &[u8], text: &mut [u8]) -> Option<Result<(), DumpFault>> {
     let mut index = index_over(alloc, written(alloc, script)?)?;
     let mut writer = text;
-    Some(index.dump(&mut writer))
+    Some(index.dump(&mut Noted::new(&mut writer)))
 }
 
 // A script leaves the tree with this text.

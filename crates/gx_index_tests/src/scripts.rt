@@ -2,20 +2,32 @@
 use crate::devices::fresh;
 use gx_events::Outcome;
 use gx_plain::{PlainIndex, run_plain};
-use gx_restart::run_script;
+use gx_restart::{Noted, run_script};
 use std::alloc::Global;
 use std::process::Abort;
 
 // Whether a script over a new device ends well; writes the replies.
 fn answers(alloc: Global, script: &[u8], mut replies: &mut [u8]) -> Option<bool> {
     let mut index = fresh(alloc)?;
-    Some(run_script(&mut { script }, &mut replies, &mut index) == Ok(()))
+    Some(
+        run_script(
+            &mut Noted::new(script),
+            &mut Noted::new(&mut replies),
+            &mut index,
+        ) == Ok(()),
+    )
 }
 
 // Whether a script on a plain index ends well; writes the replies.
 fn answers_plainly(alloc: Global, script: &[u8], mut replies: &mut [u8]) -> Option<bool> {
     let mut plain = PlainIndex::new(alloc).ok()?;
-    Some(run_plain(&mut { script }, &mut replies, &mut plain) == Ok(()))
+    Some(
+        run_plain(
+            &mut Noted::new(script),
+            &mut Noted::new(&mut replies),
+            &mut plain,
+        ) == Ok(()),
+    )
 }
 
 // A script is answered so, by an index over a device as by the plain one.
@@ -104,7 +116,11 @@ fn is_settled(alloc: Global) -> Option<bool> {
     let mut index = fresh(alloc)?;
     let script = b"1 BEGIN\n1 INSERT 7 0 0 1 1\n1 COMMIT\n1 BEGIN\n1 INSERT 8 0 0 1 1\n".as_slice();
     let mut replies = [0u8; 64];
-    let ran = run_script(&mut { script }, &mut replies.as_mut_slice(), &mut index) == Ok(());
+    let ran = run_script(
+        &mut Noted::new(script),
+        &mut Noted::new(replies.as_mut_slice()),
+        &mut index,
+    ) == Ok(());
     let settled = index.settle() == Ok(()) && index.settle() == Ok(());
     let mut engine = index.into_engine();
     let nothing = matches!(engine.log_step(), Outcome::Nothing);

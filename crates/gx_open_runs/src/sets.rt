@@ -1,7 +1,7 @@
 //! The sets that a script commits, by the plain index.
 use crate::fault::RunFault;
 use gx_plain::PlainIndex;
-use gx_script::{Answers, run};
+use gx_script::{Answers, Noted, run};
 use std::alloc::Global;
 
 const ABORTS: &[u8] = b"1 ABORT\n2 ABORT\n3 ABORT\n4 ABORT\n5 ABORT\n6 ABORT\n7 ABORT\n8 ABORT\n";
@@ -11,7 +11,7 @@ const SEARCH: &[u8] = b"1 BEGIN\n1 OVERLAP -2147483648 -2147483648 2147483647 21
 /// The set of an index without a transaction, as a search for everything is answered.
 pub(crate) fn set_of<I: Answers>(alloc: Global, index: &mut I) -> Result<Vec<u8>, RunFault> {
     let mut text = Vec::new(alloc);
-    run(&mut { SEARCH }, &mut text, index)?;
+    run(&mut Noted::new(SEARCH), &mut Noted::new(&mut text), index)?;
     Ok(text)
 }
 
@@ -19,8 +19,8 @@ pub(crate) fn set_of<I: Answers>(alloc: Global, index: &mut I) -> Result<Vec<u8>
 fn set_after(alloc: Global, front: &[u8]) -> Result<Vec<u8>, RunFault> {
     let mut plain = PlainIndex::new(alloc)?;
     let mut replies = Vec::new(alloc);
-    run(&mut { front }, &mut replies, &mut plain)?;
-    run(&mut { ABORTS }, &mut replies, &mut plain)?;
+    run(&mut Noted::new(front), &mut Noted::new(&mut replies), &mut plain)?;
+    run(&mut Noted::new(ABORTS), &mut Noted::new(&mut replies), &mut plain)?;
     set_of(alloc, &mut plain)
 }
 

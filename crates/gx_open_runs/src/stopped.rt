@@ -4,7 +4,7 @@ use gx_class::Box2Class;
 use gx_disk::{Fuse, FuseDisk, MemDisk, Torn};
 use gx_engine::{Engine, NotOpened};
 use gx_format::{format, sectors_for};
-use gx_restart::{Index, open, run_script};
+use gx_restart::{Index, Noted, open, run_script};
 use std::alloc::Global;
 
 /// How many pages a device has, and how many entries a node.
@@ -86,7 +86,7 @@ fn run_on(
 ) -> Result<Stopped, RunFault> {
     let mut index = Index::new(engine);
     let mut replies = Vec::new(alloc);
-    run_script(&mut { script }, &mut replies, &mut index)?;
+    run_script(&mut Noted::new(script), &mut Noted::new(&mut replies), &mut index)?;
     let is_whole = index.settle().is_ok();
     let engine = index.into_engine();
     let sealed = engine.commits();

@@ -8,6 +8,6 @@ pub mod laws;
 mod script;
 
 pub use gx_machine::{Asked, Call, Entries, Entry, Query, Reply};
-pub use gx_script::ScriptFault;
+pub use gx_script::{Noted, ScriptFault};
 pub use index::PlainIndex;
 pub use script::run_plain;

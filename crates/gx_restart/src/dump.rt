@@ -4,6 +4,7 @@ ghost use Rattle.std.specs.Io.KnownBytes.{Appends};
 ghost use Rattle.gx_node.specs.Reading.{format_of, is_node};
 ghost use Rattle.gx_recovery.specs.Known.{Limits};
 ghost use Rattle.gx_readings.specs.Classes.{class_of, reading_of};
+ghost use Rattle.gx_script.specs.Noting.{TakesNoMore};
 ghost use Rattle.gx_script.specs.Writes.{IsCut};
 ghost use Rattle.gx_engine.specs.Resting.{KeepsSessions};
 ghost use Rattle.gx_restart.specs.Bringing.{Brings, Helps};
@@ -19,6 +20,7 @@ use gx_class::KeyClass;
 use gx_disk::SectorDisk;
 use gx_geom::{Box2, Refusal, Shape};
 use gx_readings::ReadKeys;
+use gx_script::Noted;
 use std::io::Write;
 
 impl<D: SectorDisk, K: ReadKeys + KeyClass<Key = Box2>> Index<D, K> {
@@ -26,15 +28,16 @@ impl<D: SectorDisk, K: ReadKeys + KeyClass<Key = Box2>> Index<D, K> {
     /// and for each page from 1 on its line, and one for each of its entries, by slot. Pages are brought one after another, with the
     /// events that give them frames. No node changes, and no set, claim, predicate or open call. It takes no memory.
     ///
-    /// `Write` where the writer fails or takes nothing. `Refused` with `Device`, `Failed` or `Damaged` as an event was. Where a page isn't
+    /// `Write` where the writer's last call failed or took nothing, or 2^32 calls of it were made. `Refused` with `Device`, `Failed` or `Damaged` as an event was. Where a page isn't
     /// brought within `EVENTS` turns of one or two events it is given up, with `Damaged`; from then on the index only refuses, with
     /// `Failed`, and writes nothing. Over a device that doesn't lie none is given up. What was written before is a beginning of the text.
-    pub fn dump<W: Write>(&mut self, writer: &mut W) -> Result<(), DumpFault>
+    pub fn dump<W: Write>(&mut self, writer: &mut Noted<W>) -> Result<(), DumpFault>
         ensures dumps { Dumps (Brings ⟦<Box2 as Shape>⟧ K.is_proper K.said K.KeyClass D.state) (Helps ⟦<Box2 as Shape>⟧ K.is_proper K.said K.KeyClass D.state) self.old result self.new }
         ensures text { OnOk result ((l : Limits) → OfItsTree (class_of ⟦<Box2 as Shape>⟧ K.is_proper l) (reading_of K.said (format_of K.KeyClass)) (format_of K.KeyClass) (is_node (format_of K.KeyClass))
-            D.state self.old.engine (λ t. Appends (W.contents writer.old) (W.contents writer.new) (dump_text self.old.engine.sessions.latest t))) }
+            D.state self.old.engine (λ t. Appends (W.contents writer.old.inner) (W.contents writer.new.inner) (dump_text self.old.engine.sessions.latest t))) }
         ensures cut { IfErr result (λ _. (l : Limits) → OfItsTree (class_of ⟦<Box2 as Shape>⟧ K.is_proper l) (reading_of K.said (format_of K.KeyClass)) (format_of K.KeyClass) (is_node (format_of K.KeyClass))
-            D.state self.old.engine (λ t. IsCut (W.contents writer.old) (W.contents writer.new) (dump_text self.old.engine.sessions.latest t))) }
+            D.state self.old.engine (λ t. IsCut (W.contents writer.old.inner) (W.contents writer.new.inner) (dump_text self.old.engine.sessions.latest t))) }
+        ensures stuck { IfErr result (λ e. e ≡ DumpFault.Write → TakesNoMore writer.new) }
         ensures ended { self.old.ended ≡ true → writer.new ≡ writer.old }
         ensures reads { OnOk result ((l : Limits) → Reads (class_of ⟦<Box2 as Shape>⟧ K.is_proper l) (reading_of K.said (format_of K.KeyClass)) (format_of K.KeyClass) (is_node (format_of K.KeyClass))
             D.state self.old.engine self.new.engine) }

@@ -14,7 +14,7 @@ mod text;
 pub use fault::DumpFault;
 pub use gx_engine::{EVENTS, NotOpened};
 pub use gx_format::format;
-pub use gx_script::ScriptFault;
+pub use gx_script::{Noted, ScriptFault};
 pub use index::Index;
 pub use opening::open;
 pub use script::run_script;

@@ -1,6 +1,7 @@
 //! Scripts for an index over a device.
-ghost use Rattle.std.specs.Prelude.{OnOk, IfErr};
+ghost use Rattle.std.specs.Prelude.{◌≡◌, Some, OnOk, IfErr};
 ghost use Rattle.gx_script.specs.Scripts.{IsDone, IsStopped};
+ghost use Rattle.gx_script.specs.Noting.{IsFaultOf};
 ghost use Rattle.gx_restart.specs.Called.{CallsIndex};
 ghost use Rattle.gx_engine.specs.Made.{Makes};
 
@@ -10,7 +11,7 @@ use gx_disk::SectorDisk;
 use gx_geom::{Box2, Shape};
 use gx_machine::{Call, Reply};
 use gx_readings::ReadKeys;
-use gx_script::{Answers, ScriptFault};
+use gx_script::{Answers, Noted, ScriptFault, Transfer};
 use std::io::{Read, Write};
 
 impl<D: SectorDisk, K: ReadKeys + KeyClass<Key = Box2> + Probing> Answers for Index<D, K>
@@ -26,20 +27,23 @@ where
 
 /// Reads a script of boxes to its end, asks the index for the calls of its lines, and writes the replies, as `gx_plain::run_plain` does.
 ///
-/// All lines of a reply are written before the next line's call is asked. A line that isn't one of a script's is answered by its number,
-/// and the script goes on. Faults: `Read` where the reader fails, or was read 2^32 times; `Write` where the writer fails, or takes
-/// nothing. What was written then is a beginning of the text, and replies given before stand.
+/// All lines of a reply are written before the next line's call is asked. A line that isn't one of a script's is answered by
+/// its number, and the script goes on. It ends well where the reader's last call gave nothing. Faults: `Read` where that
+/// failed, or 2^32 calls were made of the reader; `Write` where the writer's last call failed or took nothing, or 2^32 calls
+/// were made of the writer. What was written then is a beginning of the text, and replies given before stand.
 pub fn run_script<R: Read, W: Write, D: SectorDisk, K: ReadKeys + KeyClass<Key = Box2> + Probing>(
-    reader: &mut R,
-    writer: &mut W,
+    reader: &mut Noted<R>,
+    writer: &mut Noted<W>,
     index: &mut Index<D, K>,
 ) -> Result<(), ScriptFault>
 where
     K::Probe: Drop,
-    ensures done { OnOk result (IsDone (CallsIndex (Makes ⟦<Box2 as Shape>⟧ K.is_proper K.said K.KeyClass D.state)) (R.remaining reader.old) (R.remaining reader.new)
-        (W.contents writer.old) (W.contents writer.new) index.old index.new) }
-    ensures stopped { IfErr result (IsStopped (CallsIndex (Makes ⟦<Box2 as Shape>⟧ K.is_proper K.said K.KeyClass D.state)) (R.remaining reader.old) (R.remaining reader.new)
-        (W.contents writer.old) (W.contents writer.new) index.old index.new) }
+    ensures done { OnOk result (IsDone (CallsIndex (Makes ⟦<Box2 as Shape>⟧ K.is_proper K.said K.KeyClass D.state)) (R.remaining reader.old.inner) (R.remaining reader.new.inner)
+        (W.contents writer.old.inner) (W.contents writer.new.inner) index.old index.new) }
+    ensures stopped { IfErr result (IsStopped (CallsIndex (Makes ⟦<Box2 as Shape>⟧ K.is_proper K.said K.KeyClass D.state)) (R.remaining reader.old.inner) (R.remaining reader.new.inner)
+        (W.contents writer.old.inner) (W.contents writer.new.inner) index.old index.new) }
+    ensures ended { OnOk result (reader.new.last ≡ Some Transfer.Nothing) }
+    ensures fault { IfErr result (IsFaultOf reader.new writer.new) }
 {
     gx_script::run(reader, writer, index)
 }

@@ -6,4 +6,5 @@ pub mod Replies
 pub mod Table
 pub mod Writes
 pub mod Scripts
+pub mod Noting
 pub mod Steps

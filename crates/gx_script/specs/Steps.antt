@@ -1,24 +1,16 @@
 -- What each step of the runner does: to one line, and to a piece of the script.
 use Rattle.std.specs.Prelude.{ℕ, ◌≡◌, ◌+◌, ◌<◌, ◌≤◌, ◌⊎◌, true, length, take, Option, List, [], ◌++◌}
-use Rattle.std.specs.Io.KnownBytes.{Appends, Consumes, Keeps, IsAtEnd}
+use Rattle.std.specs.Io.KnownBytes.{Appends}
 use Rattle.gx_geom.specs.Rectangles.{Rectangle}
 use Rattle.gx_machine.specs.declared.call.Call.{Call}
 use Rattle.gx_machine.specs.declared.reply.Reply.{Reply}
 use Rattle.gx_script.specs.declared.line.Line.{Line}
-use Rattle.gx_script.specs.declared.runner.Piece.{Piece}
-use Rattle.gx_script.specs.declared.runner.Piece.TheVariants.{Interrupted, End, Bytes}
 use Rattle.gx_script.specs.Writes.{IsCut}
 use Rattle.gx_script.specs.Scripts.{asked, is_asking, IsTold, IsWritten, IsScript, FirstLines}
 
 -- what is kept of a line: more bytes than a line may have, its carriage return and one more
 unfoldable pub kept : List ℕ → List ℕ
 kept bytes = take 1026 bytes
-
--- what a read gave: nothing, and it is made again; the end; or the bytes at the front of the buffer
-abbrev pub IsGiven : Option (List ℕ) → Option (List ℕ) → List ℕ → Piece → Type 0
-IsGiven had left buffer Interrupted = Keeps had left
-IsGiven had left buffer End = Consumes had left [] × IsAtEnd left
-IsGiven had left buffer (Bytes count) = (count ≤ length buffer) × Consumes had left (take count buffer)
 
 module _ {I : Type 0} (answered : I → ℕ → Call Rectangle → Reply Rectangle → I → Type 0) where
   -- A line was told behind what waited: this is left of both, and the front was written.

@@ -1,18 +1,19 @@
 //! The text that waits to be written.
-ghost use Rattle.std.specs.Prelude.{◌≡◌, ◌+◌, ◌<◌, ◌≤◌, ◌↔◌, [], ◌∷◌, ◌++◌, length, decimal, codes, IsTrue, OnOk, IfErr};
+ghost use Rattle.std.specs.Prelude.{◌≡◌, ◌+◌, ◌<◌, ◌≤◌, ◌↔◌, [], ◌∷◌, ◌++◌, length, decimal, codes, IsTrue, OnOk, IfErr, OnErr};
 ghost use Rattle.std.specs.Fmt.{signed_decimal};
 ghost use Rattle.std.specs.Io.KnownBytes.{Appends};
 ghost use Rattle.gx_geom.specs.Rectangles.{corners_text};
 ghost use Rattle.gx_geom.specs.Refusals.{refusal_number, refusal_text};
 ghost use Rattle.gx_script.specs.Replies.{told_line, entry_line, bad_line};
 ghost use Rattle.gx_script.specs.Writes.{IsPut, IsCut};
+ghost use Rattle.gx_script.specs.Noting.{TakesNoMore};
 
-use crate::ScriptFault;
+use crate::{Noted, ScriptFault, Transfer};
 use arrayvec::ArrayVec;
 use gx_geom::{Box2, Refusal};
 use gx_machine::Entry;
 use itoa::Buffer;
-use std::io::{ErrorKind, Write};
+use std::io::Write;
 use std::marker::Model;
 
 /// How many bytes may wait.
@@ -49,9 +50,10 @@ impl Output {
     }
 
     /// Writes all that waits.
-    pub(crate) fn flush<W: Write>(&mut self, writer: &mut W) -> Result<(), ScriptFault>
-        ensures ok { OnOk result ((self.new ≡ []) × Appends (W.contents writer.old) (W.contents writer.new) self.old) }
-        ensures cut { IfErr result (λ e. (e ≡ ScriptFault.Write) × IsCut (W.contents writer.old) (W.contents writer.new) self.old) }
+    pub(crate) fn flush<W: Write>(&mut self, writer: &mut Noted<W>) -> Result<(), ScriptFault>
+        ensures ok { OnOk result ((self.new ≡ []) × Appends (W.contents writer.old.inner) (W.contents writer.new.inner) self.old) }
+        ensures cut { IfErr result (λ e. (e ≡ ScriptFault.Write) × IsCut (W.contents writer.old.inner) (W.contents writer.new.inner) self.old) }
+        ensures stuck { OnErr result (TakesNoMore writer.new) }
     {
         write_whole(writer, self.bytes.as_slice())?;
         self.bytes.clear();
@@ -59,10 +61,11 @@ impl Output {
     }
 
     /// Makes room for a line, by a write where there is none.
-    pub(crate) fn make_room<W: Write>(&mut self, writer: &mut W) -> Result<(), ScriptFault>
+    pub(crate) fn make_room<W: Write>(&mut self, writer: &mut Noted<W>) -> Result<(), ScriptFault>
         ensures ok { OnOk result ((length self.new + LONGEST ≤ WAITING)
-            × IsPut (W.contents writer.old) (W.contents writer.new) self.old [] self.new) }
-        ensures cut { IfErr result (λ e. (e ≡ ScriptFault.Write) × IsCut (W.contents writer.old) (W.contents writer.new) self.old) }
+            × IsPut (W.contents writer.old.inner) (W.contents writer.new.inner) self.old [] self.new) }
+        ensures cut { IfErr result (λ e. (e ≡ ScriptFault.Write) × IsCut (W.contents writer.old.inner) (W.contents writer.new.inner) self.old) }
+        ensures stuck { OnErr result (TakesNoMore writer.new) }
     {
         if self.bytes.len() + LONGEST > WAITING {
             self.flush(writer)?;
@@ -175,21 +178,22 @@ impl Output {
 
 /// Writes all of the bytes, in as many writes as it takes. One that was interrupted is made again.
 ///
-/// `Write` where the writer fails or takes nothing, or after 2^32 writes; a front of the bytes is written then.
-pub fn write_whole<W: Write>(writer: &mut W, bytes: &[u8]) -> Result<(), ScriptFault>
-    ensures ok { OnOk result (Appends (W.contents writer.old) (W.contents writer.new) bytes.now) }
-    ensures cut { IfErr result (λ e. (e ≡ ScriptFault.Write) × IsCut (W.contents writer.old) (W.contents writer.new) bytes.now) }
+/// `Write` where the writer's last call failed or took nothing, or where 2^32 calls of it were made; a front of the bytes
+/// is written then.
+pub fn write_whole<W: Write>(writer: &mut Noted<W>, bytes: &[u8]) -> Result<(), ScriptFault>
+    ensures ok { OnOk result (Appends (W.contents writer.old.inner) (W.contents writer.new.inner) bytes.now) }
+    ensures cut { IfErr result (λ e. (e ≡ ScriptFault.Write) × IsCut (W.contents writer.old.inner) (W.contents writer.new.inner) bytes.now) }
+    ensures stuck { OnErr result (TakesNoMore writer.new) }
 {
     let mut rest = bytes;
-    for _ in 0..WRITES {
+    for _turn in 0..WRITES {
         if rest.is_empty() {
             return Ok(());
         }
         match writer.write(rest) {
-            Ok(0) => return Err(ScriptFault::Write),
-            Ok(count) => rest = rest.split_at(count).1,
-            Err(e) if e.kind() == ErrorKind::Interrupted => {}
-            Err(_) => return Err(ScriptFault::Write),
+            Transfer::Interrupted => {}
+            Transfer::Moved(count) => rest = rest.split_at(count).1,
+            Transfer::Nothing | Transfer::Failed => return Err(ScriptFault::Write),
         }
     }
     if rest.is_empty() {

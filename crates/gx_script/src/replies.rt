@@ -1,25 +1,27 @@
 //! The text of a reply.
-ghost use Rattle.std.specs.Prelude.{◌≡◌, ◌+◌, ◌≤◌, ◌++◌, length, decimal, codes, OnOk, IfErr};
+ghost use Rattle.std.specs.Prelude.{◌≡◌, ◌+◌, ◌≤◌, ◌++◌, length, decimal, codes, OnOk, IfErr, OnErr};
 ghost use Rattle.std.specs.List.{flat_map};
 ghost use Rattle.gx_script.specs.Replies.{reply_text, told_line, entry_line};
 ghost use Rattle.gx_script.specs.Writes.{IsPut, IsCut};
+ghost use Rattle.gx_script.specs.Noting.{TakesNoMore};
 
-use crate::ScriptFault;
 use crate::output::{LONGEST, Output, WAITING};
+use crate::{Noted, ScriptFault};
 use gx_geom::Box2;
 use gx_machine::{Entry, Reply};
 use std::io::Write;
 
 /// Adds the lines of a reply, and writes what there is no room for.
 pub(crate) fn put_reply<W: Write>(
-    writer: &mut W,
+    writer: &mut Noted<W>,
     output: &mut Output,
     session: u64,
     reply: &Reply<Box2>,
 ) -> Result<(), ScriptFault>
-    ensures ok { OnOk result (IsPut (W.contents writer.old) (W.contents writer.new) output.old (reply_text session reply.now) output.new) }
+    ensures ok { OnOk result (IsPut (W.contents writer.old.inner) (W.contents writer.new.inner) output.old (reply_text session reply.now) output.new) }
     ensures cut { IfErr result (λ e. (e ≡ ScriptFault.Write)
-        × IsCut (W.contents writer.old) (W.contents writer.new) (output.old ++ reply_text session reply.now)) }
+        × IsCut (W.contents writer.old.inner) (W.contents writer.new.inner) (output.old ++ reply_text session reply.now)) }
+    ensures stuck { OnErr result (TakesNoMore writer.new) }
 {
     output.make_room(writer)?;
     match reply {
@@ -39,15 +41,16 @@ pub(crate) fn put_reply<W: Write>(
 }
 
 fn put_entries<W: Write>(
-    writer: &mut W,
+    writer: &mut Noted<W>,
     output: &mut Output,
     session: u64,
     entries: &[Entry<Box2>],
 ) -> Result<(), ScriptFault>
-    ensures ok { OnOk result (IsPut (W.contents writer.old) (W.contents writer.new) output.old
+    ensures ok { OnOk result (IsPut (W.contents writer.old.inner) (W.contents writer.new.inner) output.old
         (flat_map (entry_line session) entries.now) output.new) }
     ensures cut { IfErr result (λ e. (e ≡ ScriptFault.Write)
-        × IsCut (W.contents writer.old) (W.contents writer.new) (output.old ++ flat_map (entry_line session) entries.now)) }
+        × IsCut (W.contents writer.old.inner) (W.contents writer.new.inner) (output.old ++ flat_map (entry_line session) entries.now)) }
+    ensures stuck { OnErr result (TakesNoMore writer.new) }
 {
     for entry in entries {
         output.make_room(writer)?;

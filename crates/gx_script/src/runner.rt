@@ -1,18 +1,18 @@
 //! Scripts from a reader to a writer.
-ghost use Rattle.std.specs.Prelude.{◌≡◌, ◌≢◌, ◌+◌, ◌^◌, ◌<◌, ◌≤◌, ◌==◌, position, ℕ, List, [], ◌∷◌, ◌++◌, length, take, MatchOption, OnOk, IfOk, IfErr, OnErr};
+ghost use Rattle.std.specs.Prelude.{◌≡◌, ◌≢◌, ◌+◌, ◌^◌, ◌<◌, ◌≤◌, ◌==◌, position, ℕ, List, [], ◌∷◌, ◌++◌, length, take, MatchOption, OnOk, IfOk, IfErr, OnErr, Some};
 ghost use Rattle.std.specs.List.{position_or_len};
-ghost use Rattle.std.specs.Io.KnownBytes.{Keeps, Consumes, IsAtEnd};
 ghost use Rattle.gx_script.specs.Requests.{line_of};
 ghost use Rattle.gx_script.specs.Scripts.{asked_as, IsDone, IsStopped, IsUnended, IsTold};
-ghost use Rattle.gx_script.specs.Steps.{IsGiven, IsToldWhole, IsToldPart, IsFed, IsFedPart, IsEnded, IsEndedPart, Feeds};
+ghost use Rattle.gx_script.specs.Noting.{TakesNoMore, IsFaultOf};
+ghost use Rattle.gx_script.specs.Steps.{IsToldWhole, IsToldPart, IsFed, IsFedPart, IsEnded, IsEndedPart, Feeds};
 
 use crate::line_buffer::LineBuffer;
 use crate::output::Output;
 use crate::replies::put_reply;
-use crate::{Answers, Line, ScriptFault, parse};
+use crate::{Answers, Line, Noted, ScriptFault, Transfer, parse};
 use gx_geom::{Box2, Refusal};
 use gx_machine::{Call, Reply};
-use std::io::{ErrorKind, Read, Write};
+use std::io::{Read, Write};
 
 /// How often a reader is read.
 const READS: u64 = 1 << 32;
@@ -22,59 +22,38 @@ const PIECE: usize = 16384;
 
 /// Reads a script to its end, asks the index for the calls of its lines, and writes the replies.
 ///
-/// Each reply is written before the next call is asked. An interrupted read or write is made again. The script
-/// ends with `Read` where the reader fails or was read 2^32 times, and with `Write` where the writer fails or
-/// takes nothing.
+/// Each reply is written before the next call is asked. An interrupted read or write is made again. The script ends
+/// well where the reader's last call gave nothing; with `Read` where that failed, or 2^32 calls were made of the reader;
+/// and with `Write` where the writer's last call failed or took nothing, or 2^32 calls were made of the writer.
 pub fn run<R: Read, W: Write, I: Answers>(
-    reader: &mut R,
-    writer: &mut W,
+    reader: &mut Noted<R>,
+    writer: &mut Noted<W>,
     index: &mut I,
 ) -> Result<(), ScriptFault>
-    ensures done { OnOk result (IsDone I.answered (R.remaining reader.old) (R.remaining reader.new)
-        (W.contents writer.old) (W.contents writer.new) index.old index.new) }
-    ensures stopped { IfErr result (IsStopped I.answered (R.remaining reader.old) (R.remaining reader.new)
-        (W.contents writer.old) (W.contents writer.new) index.old index.new) }
+    ensures done { OnOk result (IsDone I.answered (R.remaining reader.old.inner) (R.remaining reader.new.inner)
+        (W.contents writer.old.inner) (W.contents writer.new.inner) index.old index.new) }
+    ensures stopped { IfErr result (IsStopped I.answered (R.remaining reader.old.inner) (R.remaining reader.new.inner)
+        (W.contents writer.old.inner) (W.contents writer.new.inner) index.old index.new) }
+    ensures ended { OnOk result (reader.new.last ≡ Some Transfer.Nothing) }
+    ensures fault { IfErr result (IsFaultOf reader.new writer.new) }
 {
     let mut buffer = blank::<PIECE>();
     let mut script = Script::new();
     for _turn in 0..READS {
-        match read_piece(reader, &mut buffer)? {
-            Piece::Interrupted => {}
-            Piece::End => return script.finish(writer, index),
-            Piece::Bytes(count) => script.feed(writer, index, buffer.split_at(count).0)?,
+        match reader.read(&mut buffer) {
+            Transfer::Interrupted => {}
+            Transfer::Nothing => return script.finish(writer, index),
+            Transfer::Moved(count) => script.feed(writer, index, buffer.split_at(count).0)?,
+            Transfer::Failed => return Err(ScriptFault::Read),
         }
     }
     Err(ScriptFault::Read)
-}
-
-/// What a read gave.
-#[derive(Clone, Copy)]
-enum Piece {
-    /// Nothing, and it is to be made again.
-    Interrupted,
-    /// The end.
-    End,
-    /// So many bytes, at the front of the buffer.
-    Bytes(usize),
 }
 
 fn blank<const N: usize>() -> [u8; N]
     ensures { length result ≡ N }
 {
     [0; N]
-}
-
-fn read_piece<R: Read>(reader: &mut R, buffer: &mut [u8]) -> Result<Piece, ScriptFault>
-    requires { 0 < length buffer.old }
-    ensures given { IfOk result (IsGiven (R.remaining reader.old) (R.remaining reader.new) buffer.new) }
-    ensures failed { IfErr result (λ e. (e ≡ ScriptFault.Read) × Keeps (R.remaining reader.old) (R.remaining reader.new)) }
-{
-    match reader.read(buffer) {
-        Ok(0) => Ok(Piece::End),
-        Ok(count) => Ok(Piece::Bytes(count)),
-        Err(e) if e.kind() == ErrorKind::Interrupted => Ok(Piece::Interrupted),
-        Err(_) => Err(ScriptFault::Read),
-    }
 }
 
 /// A script as far as it was read.
@@ -104,21 +83,22 @@ impl Script {
     // Does all lines that end in these bytes, and keeps what stands after them. Then nothing waits.
     fn feed<W: Write, I: Answers>(
         &mut self,
-        writer: &mut W,
+        writer: &mut Noted<W>,
         index: &mut I,
         bytes: &[u8],
     ) -> Result<(), ScriptFault>
         requires { self.old.number + length bytes.now < 2 ^ 64 }
         ensures ok { OnOk result (IsUnended self.old.line → Feeds I.answered self.old.number index.old self.old.output (λ number done start written.
             (fed : IsFed I.answered number done start written (self.old.line ++ bytes.now) self.new.line
-            (W.contents writer.old) (W.contents writer.new) self.new.output index.new)
+            (W.contents writer.old.inner) (W.contents writer.new.inner) self.new.output index.new)
             × (self.new.number ≡ number + length (done ++ fed.more)))) }
         ensures unended { OnOk result (IsUnended self.old.line → IsUnended self.new.line) }
         ensures waits { OnOk result (self.new.output ≡ []) }
         ensures bound { OnOk result (self.new.number ≤ self.old.number + length bytes.now) }
         ensures cut { IfErr result (λ e. (e ≡ ScriptFault.Write) × (IsUnended self.old.line → Feeds I.answered self.old.number index.old self.old.output (λ number done start written.
             IsFedPart I.answered number done start written (self.old.line ++ bytes.now)
-            (W.contents writer.old) (W.contents writer.new) index.new))) }
+            (W.contents writer.old.inner) (W.contents writer.new.inner) index.new))) }
+        ensures stuck { OnErr result (TakesNoMore writer.new) }
     {
         let mut rest = bytes;
         while let Some((line, more)) = next_line(rest) {
@@ -133,14 +113,15 @@ impl Script {
     // Does the line that was begun, if it has a byte, and writes all that waits.
     fn finish<W: Write, I: Answers>(
         &mut self,
-        writer: &mut W,
+        writer: &mut Noted<W>,
         index: &mut I,
     ) -> Result<(), ScriptFault>
         requires { self.old.number + 1 < 2 ^ 64 }
         ensures ok { OnOk result (IsUnended self.old.line → Feeds I.answered self.old.number index.old self.old.output (λ number done start written.
-            IsEnded I.answered number done start written self.old.line (W.contents writer.old) (W.contents writer.new) index.new)) }
+            IsEnded I.answered number done start written self.old.line (W.contents writer.old.inner) (W.contents writer.new.inner) index.new)) }
         ensures cut { IfErr result (λ e. (e ≡ ScriptFault.Write) × (IsUnended self.old.line → Feeds I.answered self.old.number index.old self.old.output (λ number done start written.
-            IsEndedPart I.answered number done start written self.old.line (W.contents writer.old) (W.contents writer.new) index.new))) }
+            IsEndedPart I.answered number done start written self.old.line (W.contents writer.old.inner) (W.contents writer.new.inner) index.new))) }
+        ensures stuck { OnErr result (TakesNoMore writer.new) }
     {
         if self.line.is_empty() {
             return self.output.flush(writer);
@@ -152,16 +133,17 @@ impl Script {
     // Does the line that was begun, and begins the next.
     fn end_line<W: Write, I: Answers>(
         &mut self,
-        writer: &mut W,
+        writer: &mut Noted<W>,
         index: &mut I,
     ) -> Result<(), ScriptFault>
         requires { self.old.number + 1 < 2 ^ 64 }
         ensures ok { OnOk result (IsToldWhole I.answered self.old.number (line_of self.old.line) index.old index.new
-            (W.contents writer.old) (W.contents writer.new) self.old.output self.new.output) }
+            (W.contents writer.old.inner) (W.contents writer.new.inner) self.old.output self.new.output) }
         ensures line { OnOk result (self.new.line ≡ []) }
         ensures number { OnOk result (self.new.number ≡ self.old.number + 1) }
         ensures cut { IfErr result (λ e. (e ≡ ScriptFault.Write) × IsToldPart I.answered self.old.number (line_of self.old.line) index.old index.new
-            (W.contents writer.old) (W.contents writer.new) self.old.output) }
+            (W.contents writer.old.inner) (W.contents writer.new.inner) self.old.output) }
+        ensures stuck { OnErr result (TakesNoMore writer.new) }
     {
         let line = parse(self.line.as_slice());
         tell(writer, index, &mut self.output, self.number, line)?;
@@ -201,16 +183,17 @@ fn first_feed(bytes: &[u8]) -> Option<usize>
 
 // Does one line.
 fn tell<W: Write, I: Answers>(
-    writer: &mut W,
+    writer: &mut Noted<W>,
     index: &mut I,
     output: &mut Output,
     number: u64,
     line: Line,
 ) -> Result<(), ScriptFault>
     ensures ok { OnOk result (IsToldWhole I.answered number line index.old index.new
-        (W.contents writer.old) (W.contents writer.new) output.old output.new) }
+        (W.contents writer.old.inner) (W.contents writer.new.inner) output.old output.new) }
     ensures cut { IfErr result (λ e. (e ≡ ScriptFault.Write) × IsToldPart I.answered number line index.old index.new
-        (W.contents writer.old) (W.contents writer.new) output.old) }
+        (W.contents writer.old.inner) (W.contents writer.new.inner) output.old) }
+    ensures stuck { OnErr result (TakesNoMore writer.new) }
 {
     match line {
         Line::Blank => Ok(()),
@@ -228,16 +211,17 @@ fn tell<W: Write, I: Answers>(
 
 // Writes what waits, then asks the index.
 fn answer<W: Write, I: Answers>(
-    writer: &mut W,
+    writer: &mut Noted<W>,
     index: &mut I,
     output: &mut Output,
     session: u64,
     call: Call<Box2>,
 ) -> Result<(), ScriptFault>
     ensures ok { (number : ℕ) → OnOk result (IsToldWhole I.answered number (Line.Asks session call) index.old index.new
-        (W.contents writer.old) (W.contents writer.new) output.old output.new) }
+        (W.contents writer.old.inner) (W.contents writer.new.inner) output.old output.new) }
     ensures cut { IfErr result (λ e. (e ≡ ScriptFault.Write) × ((number : ℕ) → IsToldPart I.answered number (Line.Asks session call) index.old index.new
-        (W.contents writer.old) (W.contents writer.new) output.old)) }
+        (W.contents writer.old.inner) (W.contents writer.new.inner) output.old)) }
+    ensures stuck { OnErr result (TakesNoMore writer.new) }
 {
     output.flush(writer)?;
     let reply = index.call(index_session(session), call);

@@ -3,7 +3,7 @@
 use crate::asserts::same;
 use gx_geom::Box2;
 use gx_plain::{PlainIndex, run_plain};
-use gx_script::ScriptFault;
+use gx_script::{Noted, ScriptFault, Transfer};
 use std::io::{self, ErrorKind, Read, Write};
 use std::process::Abort;
 use std::test::Fail;
@@ -33,12 +33,15 @@ enum Failing {
     ForEver(ErrorKind),
 }
 
-// The errors of a reader or a writer, and how often it was called after one of them, but for interrupted calls.
+// The errors of a reader or a writer with the last that it gave, how often it was called, and how often after one of them,
+// but for interrupted calls.
 #[derive(Drop)]
 struct Errors {
     failing: Failing,
     passes: u32,
     failed: bool,
+    given: Option<ErrorKind>,
+    calls: u64,
     calls_after: u32,
 }
 
@@ -48,12 +51,15 @@ impl Errors {
             failing,
             passes,
             failed: false,
+            given: None,
+            calls: 0,
             calls_after: 0,
         }
     }
 
     // The error of the next call, if it fails.
     fn next(&mut self) -> Option<ErrorKind> {
+        self.calls = self.calls.saturating_add(1);
         if self.failed {
             self.calls_after = self.calls_after.saturating_add(1);
         }
@@ -70,6 +76,7 @@ impl Errors {
             Failing::ForEver(kind) => kind,
         };
         self.failed = kind != ErrorKind::Interrupted;
+        self.given = Some(kind);
         Some(kind)
     }
 }
@@ -126,6 +133,13 @@ const SCRIPT: &[u8] = b"1 BEGIN\n1 INSERT 3 0 0 1 1\n1 COMMIT\n";
 
 const TEXT: &[u8] = b"1 ok\n1 inserted\n1 committed 1\n";
 
+// A reader or a writer is noted to have failed, with the last error that it gave, only where it was given one of these.
+fn is_noted<R: Abort, T>(rt: &R, noted: &Noted<T>, errors: &Errors, is_fault: bool) {
+    assert!(rt; is_fault == (noted.last == Some(Transfer::Failed)));
+    assert!(rt; noted.kind == errors.given);
+    assert!(rt; noted.calls == errors.calls);
+}
+
 // What a script comes to, with its text, where reader and writer fail so.
 fn run<R: Abort + AllocGlobal>(
     rt: &R,
@@ -133,18 +147,30 @@ fn run<R: Abort + AllocGlobal>(
     writing: Errors,
 ) -> Result<(Result<(), ScriptFault>, Vec<u8>), Fail> {
     let mut index: PlainIndex<Box2> = PlainIndex::new(rt.alloc())?;
-    let mut reader = Bytes {
+    let mut reader = Noted::new(Bytes {
         rest: SCRIPT,
         errors: reading,
-    };
-    let mut writer = Taken {
+    });
+    let mut writer = Noted::new(Taken {
         bytes: Vec::new(rt.alloc()),
         errors: writing,
-    };
+    });
     let result = run_plain(&mut reader, &mut writer, &mut index);
-    same(rt, &reader.errors.calls_after, &0);
-    same(rt, &writer.errors.calls_after, &0);
-    Ok((result, writer.bytes))
+    same(rt, &reader.inner.errors.calls_after, &0);
+    same(rt, &writer.inner.errors.calls_after, &0);
+    is_noted(
+        rt,
+        &reader,
+        &reader.inner.errors,
+        result == Err(ScriptFault::Read),
+    );
+    is_noted(
+        rt,
+        &writer,
+        &writer.inner.errors,
+        result == Err(ScriptFault::Write),
+    );
+    Ok((result, writer.inner.bytes))
 }
 
 #[test]

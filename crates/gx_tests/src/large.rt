@@ -1,7 +1,7 @@
 //! Scripts and indexes of thousands.
 use crate::asserts::same;
 use gx_geom::Box2;
-use gx_plain::{Call, Entry, PlainIndex, Query, Reply, run_plain};
+use gx_plain::{Call, Entry, Noted, PlainIndex, Query, Reply, run_plain};
 use std::io::{self, Read};
 use std::process::Abort;
 use std::test::Fail;
@@ -111,7 +111,11 @@ impl Read for Feeds {
 fn a_script_of_two_million_reads(rt: HostRuntime) -> Result<(), Fail> {
     let mut index = PlainIndex::new(rt.alloc())?;
     let mut writer = Vec::new(rt.alloc());
-    let result = run_plain(&mut Feeds(2_200_000), &mut writer, &mut index);
+    let result = run_plain(
+        &mut Noted::new(Feeds(2_200_000)),
+        &mut Noted::new(&mut writer),
+        &mut index,
+    );
     assert!(rt; result == Ok(()));
     assert!(rt; writer.is_empty());
     Ok(())

@@ -1,7 +1,7 @@
 //! Scripts on the plain index, its bounds, and refused memory.
 use crate::asserts::same;
 use gx_geom::{Box2, Refusal};
-use gx_plain::{Asked, Call, Entry, PlainIndex, Query, Reply, run_plain};
+use gx_plain::{Asked, Call, Entry, Noted, PlainIndex, Query, Reply, run_plain};
 use std::process::Abort;
 use std::test::Fail;
 
@@ -74,7 +74,11 @@ fn scripts_and_their_texts(rt: HostRuntime) -> Result<(), Fail> {
         let mut index: PlainIndex<Box2> = PlainIndex::new(rt.alloc())?;
         let mut reader = script;
         let mut writer = Vec::new(rt.alloc());
-        let result = run_plain(&mut reader, &mut writer, &mut index);
+        let result = run_plain(
+            &mut Noted::new(&mut reader),
+            &mut Noted::new(&mut writer),
+            &mut index,
+        );
         assert!(rt; result == Ok(()));
         same(&rt, &writer.as_slice(), &text);
     }

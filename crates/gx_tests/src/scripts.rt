@@ -2,7 +2,7 @@
 use crate::asserts::same;
 use gx_geom::{Box2, Refusal};
 use gx_machine::{Call, Entries, Entry, Query, Reply};
-use gx_script::{Answers, Line, ScriptFault, parse, run};
+use gx_script::{Answers, Line, Noted, ScriptFault, parse, run};
 use std::alloc::{AllocError, Global};
 use std::io::{self, ErrorKind, Read, Write};
 use std::process::Abort;
@@ -132,7 +132,11 @@ fn gives_in_pieces<R: Abort + AllocGlobal>(rt: &R, script: &[u8], text: &[u8], s
         interrupts: false,
         most: usize::MAX,
     };
-    let result = run(&mut reader, &mut writer, &mut List::new(rt.alloc()));
+    let result = run(
+        &mut Noted::new(&mut reader),
+        &mut Noted::new(&mut writer),
+        &mut List::new(rt.alloc()),
+    );
     assert!(rt; result == Ok(()));
     same(rt, &writer.taken.as_slice(), &text);
 }
@@ -141,7 +145,11 @@ fn gives_in_pieces<R: Abort + AllocGlobal>(rt: &R, script: &[u8], text: &[u8], s
 fn gives<R: Abort + AllocGlobal>(rt: &R, script: &[u8], text: &[u8]) -> Result<(), Fail> {
     let mut reader = script;
     let mut writer = Vec::new(rt.alloc());
-    let result = run(&mut reader, &mut writer, &mut List::new(rt.alloc()));
+    let result = run(
+        &mut Noted::new(&mut reader),
+        &mut Noted::new(&mut writer),
+        &mut List::new(rt.alloc()),
+    );
     assert!(rt; result == Ok(()));
     same(rt, &writer.as_slice(), &text);
     for size in [1, 2, 3, 7, 1000] {
@@ -336,7 +344,11 @@ fn a_reader_that_fails_ends_the_script(rt: HostRuntime) -> Result<(), Fail> {
     };
     let mut writer = Vec::new(rt.alloc());
     let mut index = List::new(rt.alloc());
-    let result = run(&mut reader, &mut writer, &mut index);
+    let result = run(
+        &mut Noted::new(&mut reader),
+        &mut Noted::new(&mut writer),
+        &mut index,
+    );
     assert!(rt; result == Err(ScriptFault::Read));
     assert!(rt; writer.as_slice() == b"1 ok\nline 2 bad\n1 aborted\n".as_slice());
     same(&rt, &index.calls, &2);
@@ -356,7 +368,11 @@ fn a_writer_that_fails_ends_the_script(rt: HostRuntime) -> Result<(), Fail> {
             most,
         };
         let mut index = List::new(rt.alloc());
-        let result = run(&mut reader, &mut writer, &mut index);
+        let result = run(
+            &mut Noted::new(&mut reader),
+            &mut Noted::new(&mut writer),
+            &mut index,
+        );
         assert!(rt; result == Err(ScriptFault::Write));
         assert!(rt; writer.taken.as_slice() == text.split_at(most).0);
         let asked = if most < 5 {

@@ -1,9 +1,10 @@
 //! Lines that wait to be written.
-ghost use Rattle.std.specs.Prelude.{◌≡◌, ◌+◌, ◌≤◌, [], ◌∷◌, ◌++◌, length, decimal, codes, OnOk, IfErr};
+ghost use Rattle.std.specs.Prelude.{◌≡◌, ◌+◌, ◌≤◌, [], ◌∷◌, ◌++◌, length, decimal, codes, OnOk, IfErr, OnErr};
 ghost use Rattle.std.specs.Fmt.{signed_decimal};
 ghost use Rattle.std.specs.Io.KnownBytes.{Appends};
 ghost use Rattle.gx_geom.specs.Rectangles.{corners_text};
 ghost use Rattle.gx_node.specs.Seen.{child_seen, pair_seen};
+ghost use Rattle.gx_script.specs.Noting.{TakesNoMore};
 ghost use Rattle.gx_script.specs.Writes.{IsPut, IsCut};
 ghost use Rattle.gx_restart.specs.Text.{head_line, page_line, child_line, entry_line, mark_text};
 
@@ -11,7 +12,7 @@ use super::stop::Stop;
 use arrayvec::ArrayVec;
 use gx_geom::Box2;
 use gx_machine::Entry;
-use gx_script::write_whole;
+use gx_script::{Noted, write_whole};
 use itoa::Buffer;
 use std::io::Write;
 use std::marker::Model;
@@ -46,10 +47,11 @@ impl Lines {
         }
     }
 
-    /// Writes all that waits. `Write` where the writer fails or takes nothing; a front was written then.
-    pub(crate) fn flush<W: Write>(&mut self, writer: &mut W) -> Result<(), Stop>
-        ensures ok { OnOk result ((self.new ≡ []) × Appends (W.contents writer.old) (W.contents writer.new) self.old) }
-        ensures cut { IfErr result (λ e. (e ≡ Stop.Write) × IsCut (W.contents writer.old) (W.contents writer.new) self.old) }
+    /// Writes all that waits. `Write` as `write_whole` says; a front was written then.
+    pub(crate) fn flush<W: Write>(&mut self, writer: &mut Noted<W>) -> Result<(), Stop>
+        ensures ok { OnOk result ((self.new ≡ []) × Appends (W.contents writer.old.inner) (W.contents writer.new.inner) self.old) }
+        ensures cut { IfErr result (λ e. (e ≡ Stop.Write) × IsCut (W.contents writer.old.inner) (W.contents writer.new.inner) self.old) }
+        ensures stuck { OnErr result (TakesNoMore writer.new) }
     {
         match write_whole(writer, self.bytes.as_slice()) {
             Ok(()) => {
@@ -61,10 +63,11 @@ impl Lines {
     }
 
     /// Makes room for a line, by a write where there is none.
-    pub(crate) fn make_room<W: Write>(&mut self, writer: &mut W) -> Result<(), Stop>
+    pub(crate) fn make_room<W: Write>(&mut self, writer: &mut Noted<W>) -> Result<(), Stop>
         ensures ok { OnOk result ((length self.new + LONGEST ≤ WAITING)
-            × IsPut (W.contents writer.old) (W.contents writer.new) self.old [] self.new) }
-        ensures cut { IfErr result (λ e. (e ≡ Stop.Write) × IsCut (W.contents writer.old) (W.contents writer.new) self.old) }
+            × IsPut (W.contents writer.old.inner) (W.contents writer.new.inner) self.old [] self.new) }
+        ensures cut { IfErr result (λ e. (e ≡ Stop.Write) × IsCut (W.contents writer.old.inner) (W.contents writer.new.inner) self.old) }
+        ensures stuck { OnErr result (TakesNoMore writer.new) }
     {
         if self.bytes.len() + LONGEST > WAITING {
             self.flush(writer)?;

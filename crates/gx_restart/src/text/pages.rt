@@ -1,8 +1,9 @@
 //! The lines of a tree's pages, read where they lie.
-ghost use Rattle.std.specs.Prelude.{◌≡◌, ◌++◌, OnOk, IfErr};
+ghost use Rattle.std.specs.Prelude.{◌≡◌, ◌++◌, OnOk, IfErr, OnErr};
 ghost use Rattle.std.specs.List.{flat_map};
 ghost use Rattle.gx_node.specs.Reading.{format_of};
 ghost use Rattle.gx_node.specs.Store.{node_of};
+ghost use Rattle.gx_script.specs.Noting.{TakesNoMore};
 ghost use Rattle.gx_script.specs.Writes.{IsPut, IsCut};
 ghost use Rattle.gx_restart.specs.Pages.{IsNode};
 ghost use Rattle.gx_restart.specs.Text.{head_line, child_line, entry_line, node_text};
@@ -13,20 +14,22 @@ use gx_class::KeyClass;
 use gx_geom::Box2;
 use gx_node::{Inner, Leaf};
 use gx_page::Page;
+use gx_script::Noted;
 use std::io::Write;
 
 /// Adds the first line of a tree: the number of the last commit, the greatest page that is taken, and the counter of splits.
 ///
 /// `Write` where the writer fails or takes nothing; what was written then is a beginning of what waited with that line behind it.
 pub(crate) fn put_head<W: Write>(
-    writer: &mut W,
+    writer: &mut Noted<W>,
     lines: &mut Lines,
     number: u64,
     used: u32,
     counter: u64,
 ) -> Result<(), Stop>
-    ensures ok { OnOk result (IsPut (W.contents writer.old) (W.contents writer.new) lines.old (head_line number used counter) lines.new) }
-    ensures cut { IfErr result (λ e. (e ≡ Stop.Write) × IsCut (W.contents writer.old) (W.contents writer.new) (lines.old ++ head_line number used counter)) }
+    ensures ok { OnOk result (IsPut (W.contents writer.old.inner) (W.contents writer.new.inner) lines.old (head_line number used counter) lines.new) }
+    ensures cut { IfErr result (λ e. (e ≡ Stop.Write) × IsCut (W.contents writer.old.inner) (W.contents writer.new.inner) (lines.old ++ head_line number used counter)) }
+    ensures stuck { OnErr result (TakesNoMore writer.new) }
 {
     lines.make_room(writer)?;
     lines.add_head(number, used, counter);
@@ -37,15 +40,16 @@ pub(crate) fn put_head<W: Write>(
 ///
 /// `Write` where the writer fails or takes nothing; what was written then is a beginning of what waited with those lines behind it.
 pub(crate) fn put_page<W: Write, K: KeyClass<Key = Box2>>(
-    writer: &mut W,
+    writer: &mut Noted<W>,
     lines: &mut Lines,
     number: u32,
     page: &Page,
 ) -> Result<(), Stop>
     requires { IsNode (format_of K.KeyClass) page.now }
-    ensures ok { OnOk result (IsPut (W.contents writer.old) (W.contents writer.new) lines.old (node_text number (node_of (format_of K.KeyClass) page.now)) lines.new) }
+    ensures ok { OnOk result (IsPut (W.contents writer.old.inner) (W.contents writer.new.inner) lines.old (node_text number (node_of (format_of K.KeyClass) page.now)) lines.new) }
     ensures cut { IfErr result (λ e. (e ≡ Stop.Write)
-        × IsCut (W.contents writer.old) (W.contents writer.new) (lines.old ++ node_text number (node_of (format_of K.KeyClass) page.now))) }
+        × IsCut (W.contents writer.old.inner) (W.contents writer.new.inner) (lines.old ++ node_text number (node_of (format_of K.KeyClass) page.now))) }
+    ensures stuck { OnErr result (TakesNoMore writer.new) }
 {
     lines.make_room(writer)?;
     let count = page.count();
@@ -60,12 +64,13 @@ pub(crate) fn put_page<W: Write, K: KeyClass<Key = Box2>>(
 
 // Adds the lines of a leaf's entries.
 fn put_pairs<W: Write, K: KeyClass<Key = Box2>>(
-    writer: &mut W,
+    writer: &mut Noted<W>,
     lines: &mut Lines,
     leaf: &Leaf<K>,
 ) -> Result<(), Stop>
-    ensures ok { OnOk result (IsPut (W.contents writer.old) (W.contents writer.new) lines.old (flat_map entry_line leaf.now.pairs) lines.new) }
-    ensures cut { IfErr result (λ e. (e ≡ Stop.Write) × IsCut (W.contents writer.old) (W.contents writer.new) (lines.old ++ flat_map entry_line leaf.now.pairs)) }
+    ensures ok { OnOk result (IsPut (W.contents writer.old.inner) (W.contents writer.new.inner) lines.old (flat_map entry_line leaf.now.pairs) lines.new) }
+    ensures cut { IfErr result (λ e. (e ≡ Stop.Write) × IsCut (W.contents writer.old.inner) (W.contents writer.new.inner) (lines.old ++ flat_map entry_line leaf.now.pairs)) }
+    ensures stuck { OnErr result (TakesNoMore writer.new) }
 {
     for slot in 0..leaf.len() {
         lines.make_room(writer)?;
@@ -77,12 +82,13 @@ fn put_pairs<W: Write, K: KeyClass<Key = Box2>>(
 
 // Adds the lines of an inner node's entries.
 fn put_children<W: Write, K: KeyClass<Key = Box2>>(
-    writer: &mut W,
+    writer: &mut Noted<W>,
     lines: &mut Lines,
     inner: &Inner<K>,
 ) -> Result<(), Stop>
-    ensures ok { OnOk result (IsPut (W.contents writer.old) (W.contents writer.new) lines.old (flat_map child_line inner.now.children) lines.new) }
-    ensures cut { IfErr result (λ e. (e ≡ Stop.Write) × IsCut (W.contents writer.old) (W.contents writer.new) (lines.old ++ flat_map child_line inner.now.children)) }
+    ensures ok { OnOk result (IsPut (W.contents writer.old.inner) (W.contents writer.new.inner) lines.old (flat_map child_line inner.now.children) lines.new) }
+    ensures cut { IfErr result (λ e. (e ≡ Stop.Write) × IsCut (W.contents writer.old.inner) (W.contents writer.new.inner) (lines.old ++ flat_map child_line inner.now.children)) }
+    ensures stuck { OnErr result (TakesNoMore writer.new) }
 {
     for slot in 0..inner.len() {
         lines.make_room(writer)?;

@@ -4,6 +4,7 @@ ghost use Rattle.std.specs.Io.KnownBytes.{Appends};
 ghost use Rattle.gx_node.specs.Reading.{format_of, is_node};
 ghost use Rattle.gx_recovery.specs.Known.{Limits};
 ghost use Rattle.gx_readings.specs.Classes.{class_of, reading_of};
+ghost use Rattle.gx_script.specs.Noting.{TakesNoMore};
 ghost use Rattle.gx_script.specs.Writes.{IsPut, IsCut};
 ghost use Rattle.gx_engine.specs.Resting.{KeepsSessions};
 ghost use Rattle.gx_restart.specs.Bringing.{Brings, Helps, IsRead, IsTold};
@@ -20,13 +21,14 @@ use gx_engine::Engine;
 use gx_engine::laws::progress::a_page_that_waits_names_work;
 use gx_geom::{Box2, Shape};
 use gx_readings::ReadKeys;
+use gx_script::Noted;
 use gx_storage::laws::a_volume_shows_the_logs_tree;
 use std::io::Write;
 
 // Brings a page, and adds its lines.
 fn tell<W: Write, D: SectorDisk, K: ReadKeys + KeyClass<Key = Box2>>(
     engine: &mut Engine<D, K>,
-    writer: &mut W,
+    writer: &mut Noted<W>,
     lines: &mut Lines,
     page: u32,
 ) -> Result<(), Stop>
@@ -34,9 +36,10 @@ fn tell<W: Write, D: SectorDisk, K: ReadKeys + KeyClass<Key = Box2>>(
     requires to { page ≤ engine.old.volume.shelf.used }
     ensures told { IsTold (Brings ⟦<Box2 as Shape>⟧ K.is_proper K.said K.KeyClass D.state) (Helps ⟦<Box2 as Shape>⟧ K.is_proper K.said K.KeyClass D.state) page engine.old result engine.new }
     ensures text { OnOk result ((l : Limits) → OfItsTree (class_of ⟦<Box2 as Shape>⟧ K.is_proper l) (reading_of K.said (format_of K.KeyClass)) (format_of K.KeyClass) (is_node (format_of K.KeyClass))
-        D.state engine.old (λ t. IsPut (W.contents writer.old) (W.contents writer.new) lines.old (node_text page (t.node page)) lines.new)) }
+        D.state engine.old (λ t. IsPut (W.contents writer.old.inner) (W.contents writer.new.inner) lines.old (node_text page (t.node page)) lines.new)) }
     ensures cut { IfErr result (λ _. (l : Limits) → OfItsTree (class_of ⟦<Box2 as Shape>⟧ K.is_proper l) (reading_of K.said (format_of K.KeyClass)) (format_of K.KeyClass) (is_node (format_of K.KeyClass))
-        D.state engine.old (λ t. IsCut (W.contents writer.old) (W.contents writer.new) (lines.old ++ node_text page (t.node page)))) }
+        D.state engine.old (λ t. IsCut (W.contents writer.old.inner) (W.contents writer.new.inner) (lines.old ++ node_text page (t.node page)))) }
+    ensures stuck { IfErr result (λ e. e ≡ Stop.Write → TakesNoMore writer.new) }
 {
     a_volume_shows_the_logs_tree::<D, K>();
     bring(engine, page)?;
@@ -47,18 +50,19 @@ fn tell<W: Write, D: SectorDisk, K: ReadKeys + KeyClass<Key = Box2>>(
 /// splits; and for each page from 1 on its line, and one for each of its entries, by slot. Pages are brought one after another, with the
 /// events that give them frames. No node changes, and no set, claim, predicate or open call.
 ///
-/// `Write` where the writer fails or takes nothing, `Refused` as an event was, with `Device`, `Failed` or `Damaged`, and `GivenUp` where a page
+/// `Write` where the writer's last call failed or took nothing, or 2^32 calls of it were made; `Refused` as an event was, with `Device`, `Failed` or `Damaged`, and `GivenUp` where a page
 /// isn't brought within `gx_engine::EVENTS` turns of one or two events, which never is where the engine holds an index over a device
 /// that doesn't lie. What was written then is a beginning of the text. It takes no memory.
 pub fn dump<W: Write, D: SectorDisk, K: ReadKeys + KeyClass<Key = Box2>>(
     engine: &mut Engine<D, K>,
-    writer: &mut W,
+    writer: &mut Noted<W>,
 ) -> Result<(), Stop>
     ensures read { IsRead (Brings ⟦<Box2 as Shape>⟧ K.is_proper K.said K.KeyClass D.state) (Helps ⟦<Box2 as Shape>⟧ K.is_proper K.said K.KeyClass D.state) engine.old result engine.new }
     ensures text { OnOk result ((l : Limits) → OfItsTree (class_of ⟦<Box2 as Shape>⟧ K.is_proper l) (reading_of K.said (format_of K.KeyClass)) (format_of K.KeyClass) (is_node (format_of K.KeyClass))
-        D.state engine.old (λ t. Appends (W.contents writer.old) (W.contents writer.new) (dump_text engine.old.sessions.latest t))) }
+        D.state engine.old (λ t. Appends (W.contents writer.old.inner) (W.contents writer.new.inner) (dump_text engine.old.sessions.latest t))) }
     ensures cut { IfErr result (λ _. (l : Limits) → OfItsTree (class_of ⟦<Box2 as Shape>⟧ K.is_proper l) (reading_of K.said (format_of K.KeyClass)) (format_of K.KeyClass) (is_node (format_of K.KeyClass))
-        D.state engine.old (λ t. IsCut (W.contents writer.old) (W.contents writer.new) (dump_text engine.old.sessions.latest t))) }
+        D.state engine.old (λ t. IsCut (W.contents writer.old.inner) (W.contents writer.new.inner) (dump_text engine.old.sessions.latest t))) }
+    ensures stuck { IfErr result (λ e. e ≡ Stop.Write → TakesNoMore writer.new) }
     ensures reads { OnOk result ((l : Limits) → Reads (class_of ⟦<Box2 as Shape>⟧ K.is_proper l) (reading_of K.said (format_of K.KeyClass)) (format_of K.KeyClass) (is_node (format_of K.KeyClass))
         D.state engine.old engine.new) }
     ensures runs { (l : Limits) → Runs (class_of ⟦<Box2 as Shape>⟧ K.is_proper l) (reading_of K.said (format_of K.KeyClass)) (format_of K.KeyClass) (is_node (format_of K.KeyClass))

@@ -12,16 +12,16 @@ returns-in_err-make_room-clause-cut g c =
     let later = flat_map (entry_line c.args.session) (drop c.loop-entry.entry-index c.args.entries.now) in
     rw (p.1, p.2) (
       cut.0,
-      put_cut (g.W.Write.contents c.args.writer.now) (g.W.Write.contents c.loop-entry.writer) (g.W.Write.contents c.make_room.new.writer) c.args.output.now
+      put_cut (g.W.Write.contents c.args.writer.now.inner) (g.W.Write.contents c.loop-entry.writer.inner) (g.W.Write.contents c.make_room.new.writer.inner) c.args.output.now
           (flat_map (entry_line c.args.session) (take c.loop-entry.entry-index c.args.entries.now)) c.loop-entry.output later
           (flat_map (entry_line c.args.session) c.args.entries.now) c.loop-entry.invariant
-          (cut_more (g.W.Write.contents c.loop-entry.writer) (g.W.Write.contents c.make_room.new.writer) c.loop-entry.output later cut.1)
+          (cut_more (g.W.Write.contents c.loop-entry.writer.inner) (g.W.Write.contents c.make_room.new.writer.inner) c.loop-entry.output later cut.1)
           (texts_split (entry_line c.args.session) c.args.entries.now c.loop-entry.entry-index),
     )
 
 pub loop-entry-preserved : goal.loop-entry-preserved
 loop-entry-preserved g c =
-    put_more (g.W.Write.contents c.args.writer.now) (g.W.Write.contents c.loop-entry.writer) (g.W.Write.contents c.make_room.new.writer) c.args.output.now
+    put_more (g.W.Write.contents c.args.writer.now.inner) (g.W.Write.contents c.loop-entry.writer.inner) (g.W.Write.contents c.make_room.new.writer.inner) c.args.output.now
     (flat_map (entry_line c.args.session) (take c.loop-entry.entry-index c.args.entries.now)) c.loop-entry.output c.make_room.new.self
     (entry_line c.args.session c.entry-item.result) _ c.put_entry.new.self c.loop-entry.invariant c.in_ok-make_room.ensures.ok.1 c.put_entry.ensures
     (texts_more (entry_line c.args.session) c.args.entries.now c.loop-entry.entry-index c.entry-item.result c.entry-item.is (omega arith))

@@ -6,5 +6,5 @@ use Rattle.gx_script.proofs.replies.put_entries.Given as goal
 
 abbrev pub invariant-loop-entry : goal.invariant-loop-entry
 invariant-loop-entry g l =
-    IsPut (g.W.Write.contents l.initial.writer) (g.W.Write.contents l.writer) l.initial.output
+    IsPut (g.W.Write.contents l.initial.writer.inner) (g.W.Write.contents l.writer.inner) l.initial.output
     (flat_map (entry_line l.session) (take l.entry-index l.entries)) l.output

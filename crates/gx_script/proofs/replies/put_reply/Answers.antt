@@ -15,7 +15,7 @@ returns-in_err-make_room-clause-cut g c =
     let cut = c.in_err-make_room.ensures.cut in
     rw (p.1, p.2) (
       cut.0,
-      cut_more (g.W.Write.contents c.args.writer.now) (g.W.Write.contents c.make_room.new.writer) c.args.output.now (reply_text c.args.session c.args.reply.now)
+      cut_more (g.W.Write.contents c.args.writer.now.inner) (g.W.Write.contents c.make_room.new.writer.inner) c.args.output.now (reply_text c.args.session c.args.reply.now)
           cut.1,
     )
 
@@ -28,37 +28,37 @@ found_text session lent entries e =
 
 pub returns-in-Found-clause-ok : goal.returns-in-Found-clause-ok
 returns-in-Found-clause-ok g c =
-    let head : IsPut (g.W.Write.contents c.args.writer.now) (g.W.Write.contents c.make_room.new.writer) c.args.output.now
+    let head : IsPut (g.W.Write.contents c.args.writer.now.inner) (g.W.Write.contents c.make_room.new.writer.inner) c.args.output.now
     (told_line c.args.session (codes "found " ++ decimal (length c.as_slice-found.result.now))) c.put_counted.new.self =
-    put_more (g.W.Write.contents c.args.writer.now) (g.W.Write.contents c.args.writer.now) (g.W.Write.contents c.make_room.new.writer) c.args.output.now []
+    put_more (g.W.Write.contents c.args.writer.now.inner) (g.W.Write.contents c.args.writer.now.inner) (g.W.Write.contents c.make_room.new.writer.inner) c.args.output.now []
     c.args.output.now c.make_room.new.self (told_line c.args.session (codes "found " ++ decimal (length c.as_slice-found.result.now))) _ c.put_counted.new.self
-    (put_nothing (g.W.Write.contents c.args.writer.now) c.args.output.now) c.in_ok-make_room.ensures.ok.1 c.put_counted.ensures refl in
+    (put_nothing (g.W.Write.contents c.args.writer.now.inner) c.args.output.now) c.in_ok-make_room.ensures.ok.1 c.put_counted.ensures refl in
     let text = ap (λ r. reply_text c.args.session r) c.in-Found.is ∙ found_text c.args.session c.as_slice-found.result.now c.in-Found.entries c.as_slice-found.ensures in
     on_ok_weaker c.put_entries.result
     (λ put.
-    put_then (g.W.Write.contents c.args.writer.now) (g.W.Write.contents c.make_room.new.writer) (g.W.Write.contents c.put_entries.new.writer)
+    put_then (g.W.Write.contents c.args.writer.now.inner) (g.W.Write.contents c.make_room.new.writer.inner) (g.W.Write.contents c.put_entries.new.writer.inner)
     c.args.output.now _ c.put_counted.new.self _ _ c.put_entries.new.output head put text)
     c.put_entries.ensures.ok
 
 pub returns-in-Found-clause-cut : goal.returns-in-Found-clause-cut
 returns-in-Found-clause-cut g c =
-    let head : IsPut (g.W.Write.contents c.args.writer.now) (g.W.Write.contents c.make_room.new.writer) c.args.output.now
+    let head : IsPut (g.W.Write.contents c.args.writer.now.inner) (g.W.Write.contents c.make_room.new.writer.inner) c.args.output.now
     (told_line c.args.session (codes "found " ++ decimal (length c.as_slice-found.result.now))) c.put_counted.new.self =
-    put_more (g.W.Write.contents c.args.writer.now) (g.W.Write.contents c.args.writer.now) (g.W.Write.contents c.make_room.new.writer) c.args.output.now []
+    put_more (g.W.Write.contents c.args.writer.now.inner) (g.W.Write.contents c.args.writer.now.inner) (g.W.Write.contents c.make_room.new.writer.inner) c.args.output.now []
     c.args.output.now c.make_room.new.self (told_line c.args.session (codes "found " ++ decimal (length c.as_slice-found.result.now))) _ c.put_counted.new.self
-    (put_nothing (g.W.Write.contents c.args.writer.now) c.args.output.now) c.in_ok-make_room.ensures.ok.1 c.put_counted.ensures refl in
+    (put_nothing (g.W.Write.contents c.args.writer.now.inner) c.args.output.now) c.in_ok-make_room.ensures.ok.1 c.put_counted.ensures refl in
     let text = ap (λ r. reply_text c.args.session r) c.in-Found.is ∙ found_text c.args.session c.as_slice-found.result.now c.in-Found.entries c.as_slice-found.ensures in
     cut_as c.put_entries.result
     (λ cut.
-    put_cut (g.W.Write.contents c.args.writer.now) (g.W.Write.contents c.make_room.new.writer) (g.W.Write.contents c.put_entries.new.writer)
+    put_cut (g.W.Write.contents c.args.writer.now.inner) (g.W.Write.contents c.make_room.new.writer.inner) (g.W.Write.contents c.put_entries.new.writer.inner)
     c.args.output.now _ c.put_counted.new.self _ _ head cut text)
     c.put_entries.ensures.cut
 
 pub returns-in-Committed-clause-ok : goal.returns-in-Committed-clause-ok
 returns-in-Committed-clause-ok g c =
-    put_more (g.W.Write.contents c.args.writer.now) (g.W.Write.contents c.args.writer.now) (g.W.Write.contents c.make_room.new.writer) c.args.output.now []
+    put_more (g.W.Write.contents c.args.writer.now.inner) (g.W.Write.contents c.args.writer.now.inner) (g.W.Write.contents c.make_room.new.writer.inner) c.args.output.now []
     c.args.output.now c.make_room.new.self (told_line c.args.session (codes "committed " ++ decimal c.in-Committed.number)) _ c.put_counted-in-Committed.new.self
-    (put_nothing (g.W.Write.contents c.args.writer.now) c.args.output.now) c.in_ok-make_room.ensures.ok.1 c.put_counted-in-Committed.ensures
+    (put_nothing (g.W.Write.contents c.args.writer.now.inner) c.args.output.now) c.in_ok-make_room.ensures.ok.1 c.put_counted-in-Committed.ensures
     (ap (λ r. reply_text c.args.session r) c.in-Committed.is)
 
 pub returns-in-Ok-clause-ok : goal.returns-in-Ok-clause-ok

@@ -14,8 +14,8 @@ returns-clause-ok g c =
     λ number.
     on_ok_weaker c.put_reply.result
     (λ put.
-    asked_whole g.I.Answers.answered number (Asks c.args.session c.args.call) c.args.index.now c.call-reply.new.self (g.W.Write.contents c.args.writer.now)
-    (g.W.Write.contents c.flush.new.writer) (g.W.Write.contents c.put_reply.new.writer) c.args.output.now c.flush.new.self c.put_reply.new.output
+    asked_whole g.I.Answers.answered number (Asks c.args.session c.args.call) c.args.index.now c.call-reply.new.self (g.W.Write.contents c.args.writer.now.inner)
+    (g.W.Write.contents c.flush.new.writer.inner) (g.W.Write.contents c.put_reply.new.writer.inner) c.args.output.now c.flush.new.self c.put_reply.new.output
     (reply_text c.args.session c.call-reply.result) flushed.1 flushed.0 put (c.call-reply.result, answered, refl))
     c.put_reply.ensures.ok
 
@@ -26,8 +26,8 @@ returns-clause-cut g c =
     c.call-reply.ensures in
     cut_as c.put_reply.result
     (λ cut. λ number.
-    asked_part g.I.Answers.answered number (Asks c.args.session c.args.call) c.args.index.now c.call-reply.new.self (g.W.Write.contents c.args.writer.now)
-    (g.W.Write.contents c.flush.new.writer) (g.W.Write.contents c.put_reply.new.writer) c.args.output.now c.flush.new.self
+    asked_part g.I.Answers.answered number (Asks c.args.session c.args.call) c.args.index.now c.call-reply.new.self (g.W.Write.contents c.args.writer.now.inner)
+    (g.W.Write.contents c.flush.new.writer.inner) (g.W.Write.contents c.put_reply.new.writer.inner) c.args.output.now c.flush.new.self
     (reply_text c.args.session c.call-reply.result) flushed.1 flushed.0 cut (c.call-reply.result, answered, refl))
     c.put_reply.ensures.cut
 

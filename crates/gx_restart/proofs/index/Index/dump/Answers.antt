@@ -9,7 +9,7 @@ use Rattle.gx_restart.proofs.Telling.{none_told}
 use Rattle.gx_restart.proofs.index.Index.dump.Goals as goal
 
 pub returns-then-self-clause-cut : goal.returns-then-self-clause-cut
-returns-then-self-clause-cut g c = λ l bodies i h. none_told (g.W.Write.contents c.args.writer.now) c.args.self.now.engine.sessions.latest _
+returns-then-self-clause-cut g c = λ l bodies i h. none_told (g.W.Write.contents c.args.writer.now.inner) c.args.self.now.engine.sessions.latest _
 
 pub returns-then-self-clause-runs : goal.returns-then-self-clause-runs
 returns-then-self-clause-runs g c = λ l bodies i h.

@@ -13,14 +13,14 @@ returns-in_err-make_room-clause-cut g c =
     let later = flat_map child_line (drop c.loop-slot.slot c.args.inner.now.children) in
     rw (p.1, p.2) (
       cut.0,
-      put_cut (g.W.Write.contents c.args.writer.now) (g.W.Write.contents c.loop-slot.writer) (g.W.Write.contents c.make_room.new.writer) c.args.lines.now
+      put_cut (g.W.Write.contents c.args.writer.now.inner) (g.W.Write.contents c.loop-slot.writer.inner) (g.W.Write.contents c.make_room.new.writer.inner) c.args.lines.now
           (flat_map child_line (take c.loop-slot.slot c.args.inner.now.children)) c.loop-slot.lines later (flat_map child_line c.args.inner.now.children) c.loop-slot.invariant
-          (cut_more (g.W.Write.contents c.loop-slot.writer) (g.W.Write.contents c.make_room.new.writer) c.loop-slot.lines later cut.1)
+          (cut_more (g.W.Write.contents c.loop-slot.writer.inner) (g.W.Write.contents c.make_room.new.writer.inner) c.loop-slot.lines later cut.1)
           (texts_split child_line c.args.inner.now.children c.loop-slot.slot),
     )
 
 pub loop-slot-preserved : goal.loop-slot-preserved
 loop-slot-preserved g c =
-    put_more (g.W.Write.contents c.args.writer.now) (g.W.Write.contents c.loop-slot.writer) (g.W.Write.contents c.make_room.new.writer) c.args.lines.now
+    put_more (g.W.Write.contents c.args.writer.now.inner) (g.W.Write.contents c.loop-slot.writer.inner) (g.W.Write.contents c.make_room.new.writer.inner) c.args.lines.now
     (flat_map child_line (take c.loop-slot.slot c.args.inner.now.children)) c.loop-slot.lines c.make_room.new.self _ _ c.add_child.new.self c.loop-slot.invariant
     c.in_ok-make_room.ensures.ok.1 c.add_child.ensures (text_more child_line c.args.inner.now.children c.loop-slot.slot _ c.child-key.ensures)

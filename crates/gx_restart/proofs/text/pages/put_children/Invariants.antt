@@ -7,4 +7,4 @@ use Rattle.gx_restart.proofs.text.pages.put_children.Given as goal
 -- the lines of the children before this slot were put
 abbrev pub invariant-loop-slot : goal.invariant-loop-slot
 invariant-loop-slot g l =
-    IsPut (g.W.Write.contents l.initial.writer) (g.W.Write.contents l.writer) l.initial.lines (flat_map child_line (take l.slot l.inner.children)) l.lines
+    IsPut (g.W.Write.contents l.initial.writer.inner) (g.W.Write.contents l.writer.inner) l.initial.lines (flat_map child_line (take l.slot l.inner.children)) l.lines

@@ -9,5 +9,5 @@ returns-in_err-make_room-clause-cut g c =
     let cut = c.in_err-make_room.ensures.cut in
     rw (p.1, p.2) (
       cut.0,
-      cut_more (g.W.Write.contents c.args.writer.now) (g.W.Write.contents c.make_room.new.writer) c.args.lines.now (head_line c.args.number c.args.used c.args.counter) cut.1,
+      cut_more (g.W.Write.contents c.args.writer.now.inner) (g.W.Write.contents c.make_room.new.writer.inner) c.args.lines.now (head_line c.args.number c.args.used c.args.counter) cut.1,
     )

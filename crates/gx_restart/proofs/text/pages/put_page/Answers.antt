@@ -14,7 +14,7 @@ returns-in_err-make_room-clause-cut g c =
     let cut = c.in_err-make_room.ensures.cut in
     rw (p.1, p.2) (
       cut.0,
-      cut_more (g.W.Write.contents c.args.writer.now) (g.W.Write.contents c.make_room.new.writer) c.args.lines.now (node_text c.args.number (node_of (format_of g.K.KeyClass) c.args.page.now)) cut.1,
+      cut_more (g.W.Write.contents c.args.writer.now.inner) (g.W.Write.contents c.make_room.new.writer.inner) c.args.lines.now (node_text c.args.number (node_of (format_of g.K.KeyClass) c.args.page.now)) cut.1,
     )
 
 pub of-requires-else-level-eq0 : goal.of-requires-else-level-eq0
@@ -23,40 +23,40 @@ of-requires-else-level-eq0 g c =
 
 pub returns-then-level-eq0-clause-ok : goal.returns-then-level-eq0-clause-ok
 returns-then-level-eq0-clause-ok g c =
-    let old = g.W.Write.contents c.args.writer.now in
-    let middle = g.W.Write.contents c.make_room.new.writer in
+    let old = g.W.Write.contents c.args.writer.now.inner in
+    let middle = g.W.Write.contents c.make_room.new.writer.inner in
     let line = line_put old middle c.args.lines.now c.make_room.new.self _ c.add_page.new.self c.in_ok-make_room.ensures.ok.1 c.add_page.ensures in
     let text =
     told_as_leaf (format_of g.K.KeyClass) c.args.number c.args.page.now c.level.result c.nsn.result c.right.result c.count-count.result c.level.ensures c.nsn.ensures c.right.ensures
     c.count-count.ensures.count (sym c.level-2.ensures ∙ c.if-level-eq0.true) c.of.result c.of.ensures in
-    on_ok_weaker c.put_pairs.result (λ put. put_then old middle (g.W.Write.contents c.put_pairs.new.writer) c.args.lines.now _ c.add_page.new.self _ _ c.put_pairs.new.lines line put text) c.put_pairs.ensures.ok
+    on_ok_weaker c.put_pairs.result (λ put. put_then old middle (g.W.Write.contents c.put_pairs.new.writer.inner) c.args.lines.now _ c.add_page.new.self _ _ c.put_pairs.new.lines line put text) c.put_pairs.ensures.ok
 
 pub returns-then-level-eq0-clause-cut : goal.returns-then-level-eq0-clause-cut
 returns-then-level-eq0-clause-cut g c =
-    let old = g.W.Write.contents c.args.writer.now in
-    let middle = g.W.Write.contents c.make_room.new.writer in
+    let old = g.W.Write.contents c.args.writer.now.inner in
+    let middle = g.W.Write.contents c.make_room.new.writer.inner in
     let line = line_put old middle c.args.lines.now c.make_room.new.self _ c.add_page.new.self c.in_ok-make_room.ensures.ok.1 c.add_page.ensures in
     let text =
     told_as_leaf (format_of g.K.KeyClass) c.args.number c.args.page.now c.level.result c.nsn.result c.right.result c.count-count.result c.level.ensures c.nsn.ensures c.right.ensures
     c.count-count.ensures.count (sym c.level-2.ensures ∙ c.if-level-eq0.true) c.of.result c.of.ensures in
-    stop_as c.put_pairs.result _ (λ cut. (refl, put_cut old middle (g.W.Write.contents c.put_pairs.new.writer) c.args.lines.now _ c.add_page.new.self _ _ line cut text)) c.put_pairs.ensures.cut
+    stop_as c.put_pairs.result _ (λ cut. (refl, put_cut old middle (g.W.Write.contents c.put_pairs.new.writer.inner) c.args.lines.now _ c.add_page.new.self _ _ line cut text)) c.put_pairs.ensures.cut
 
 pub returns-else-level-eq0-clause-ok : goal.returns-else-level-eq0-clause-ok
 returns-else-level-eq0-clause-ok g c =
-    let old = g.W.Write.contents c.args.writer.now in
-    let middle = g.W.Write.contents c.make_room.new.writer in
+    let old = g.W.Write.contents c.args.writer.now.inner in
+    let middle = g.W.Write.contents c.make_room.new.writer.inner in
     let line = line_put old middle c.args.lines.now c.make_room.new.self _ c.add_page.new.self c.in_ok-make_room.ensures.ok.1 c.add_page.ensures in
     let text =
     told_as_inner (format_of g.K.KeyClass) c.args.number c.args.page.now c.level.result c.nsn.result c.right.result c.count-count.result c.level.ensures c.nsn.ensures c.right.ensures
     c.count-count.ensures.count (λ bottom. c.if-level-eq0.false (c.level-2.ensures ∙ bottom)) c.of-else-level-eq0.result c.of-else-level-eq0.ensures in
-    on_ok_weaker c.put_children.result (λ put. put_then old middle (g.W.Write.contents c.put_children.new.writer) c.args.lines.now _ c.add_page.new.self _ _ c.put_children.new.lines line put text) c.put_children.ensures.ok
+    on_ok_weaker c.put_children.result (λ put. put_then old middle (g.W.Write.contents c.put_children.new.writer.inner) c.args.lines.now _ c.add_page.new.self _ _ c.put_children.new.lines line put text) c.put_children.ensures.ok
 
 pub returns-else-level-eq0-clause-cut : goal.returns-else-level-eq0-clause-cut
 returns-else-level-eq0-clause-cut g c =
-    let old = g.W.Write.contents c.args.writer.now in
-    let middle = g.W.Write.contents c.make_room.new.writer in
+    let old = g.W.Write.contents c.args.writer.now.inner in
+    let middle = g.W.Write.contents c.make_room.new.writer.inner in
     let line = line_put old middle c.args.lines.now c.make_room.new.self _ c.add_page.new.self c.in_ok-make_room.ensures.ok.1 c.add_page.ensures in
     let text =
     told_as_inner (format_of g.K.KeyClass) c.args.number c.args.page.now c.level.result c.nsn.result c.right.result c.count-count.result c.level.ensures c.nsn.ensures c.right.ensures
     c.count-count.ensures.count (λ bottom. c.if-level-eq0.false (c.level-2.ensures ∙ bottom)) c.of-else-level-eq0.result c.of-else-level-eq0.ensures in
-    stop_as c.put_children.result _ (λ cut. (refl, put_cut old middle (g.W.Write.contents c.put_children.new.writer) c.args.lines.now _ c.add_page.new.self _ _ line cut text)) c.put_children.ensures.cut
+    stop_as c.put_children.result _ (λ cut. (refl, put_cut old middle (g.W.Write.contents c.put_children.new.writer.inner) c.args.lines.now _ c.add_page.new.self _ _ line cut text)) c.put_children.ensures.cut

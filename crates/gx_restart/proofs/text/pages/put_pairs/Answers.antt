@@ -13,14 +13,14 @@ returns-in_err-make_room-clause-cut g c =
     let later = flat_map entry_line (drop c.loop-slot.slot c.args.leaf.now.pairs) in
     rw (p.1, p.2) (
       cut.0,
-      put_cut (g.W.Write.contents c.args.writer.now) (g.W.Write.contents c.loop-slot.writer) (g.W.Write.contents c.make_room.new.writer) c.args.lines.now
+      put_cut (g.W.Write.contents c.args.writer.now.inner) (g.W.Write.contents c.loop-slot.writer.inner) (g.W.Write.contents c.make_room.new.writer.inner) c.args.lines.now
           (flat_map entry_line (take c.loop-slot.slot c.args.leaf.now.pairs)) c.loop-slot.lines later (flat_map entry_line c.args.leaf.now.pairs) c.loop-slot.invariant
-          (cut_more (g.W.Write.contents c.loop-slot.writer) (g.W.Write.contents c.make_room.new.writer) c.loop-slot.lines later cut.1)
+          (cut_more (g.W.Write.contents c.loop-slot.writer.inner) (g.W.Write.contents c.make_room.new.writer.inner) c.loop-slot.lines later cut.1)
           (texts_split entry_line c.args.leaf.now.pairs c.loop-slot.slot),
     )
 
 pub loop-slot-preserved : goal.loop-slot-preserved
 loop-slot-preserved g c =
-    put_more (g.W.Write.contents c.args.writer.now) (g.W.Write.contents c.loop-slot.writer) (g.W.Write.contents c.make_room.new.writer) c.args.lines.now
+    put_more (g.W.Write.contents c.args.writer.now.inner) (g.W.Write.contents c.loop-slot.writer.inner) (g.W.Write.contents c.make_room.new.writer.inner) c.args.lines.now
     (flat_map entry_line (take c.loop-slot.slot c.args.leaf.now.pairs)) c.loop-slot.lines c.make_room.new.self _ _ c.add_entry.new.self c.loop-slot.invariant
     c.in_ok-make_room.ensures.ok.1 c.add_entry.ensures (text_more entry_line c.args.leaf.now.pairs c.loop-slot.slot _ c.entry-entry.ensures)

@@ -7,4 +7,4 @@ use Rattle.gx_restart.proofs.text.pages.put_pairs.Given as goal
 -- the lines of the entries before this slot were put
 abbrev pub invariant-loop-slot : goal.invariant-loop-slot
 invariant-loop-slot g l =
-    IsPut (g.W.Write.contents l.initial.writer) (g.W.Write.contents l.writer) l.initial.lines (flat_map entry_line (take l.slot l.leaf.pairs)) l.lines
+    IsPut (g.W.Write.contents l.initial.writer.inner) (g.W.Write.contents l.writer.inner) l.initial.lines (flat_map entry_line (take l.slot l.leaf.pairs)) l.lines

@@ -17,7 +17,7 @@ pub returns-in_err-put_head-clause-cut : goal.returns-in_err-put_head-clause-cut
 returns-in_err-put_head-clause-cut g c =
     let p = err_from_is_err_and c.from_residual.result c.from_residual.ensures.1 in
     rw p.1 (λ l bodies i h.
-    head_cut c.args.engine.now.sessions.latest _ (g.W.Write.contents c.args.writer.now) (g.W.Write.contents c.put_head.new.writer) c.commits.result c.used-used.result c.counter.result
+    head_cut c.args.engine.now.sessions.latest _ (g.W.Write.contents c.args.writer.now.inner) (g.W.Write.contents c.put_head.new.writer.inner) c.commits.result c.used-used.result c.counter.result
     c.commits.ensures (c.used-used.ensures ∙ sym h.keeps.used) (c.counter.ensures ∙ sym h.keeps.counter) c.new-lines.result c.new-lines.ensures c.in_err-put_head.ensures.cut.1)
 
 pub returns-in_err-put_head-clause-runs : goal.returns-in_err-put_head-clause-runs
@@ -27,7 +27,7 @@ pub loop-last-init : goal.loop-last-init
 loop-last-init g c = record {
   all = refl;
   put = λ l bodies i h.
-      head_told c.args.engine.now.sessions.latest _ (g.W.Write.contents c.args.writer.now) (g.W.Write.contents c.put_head.new.writer) c.commits.result c.used-used.result c.counter.result
+      head_told c.args.engine.now.sessions.latest _ (g.W.Write.contents c.args.writer.now.inner) (g.W.Write.contents c.put_head.new.writer.inner) c.commits.result c.used-used.result c.counter.result
       c.commits.ensures (c.used-used.ensures ∙ sym h.keeps.used) (c.counter.ensures ∙ sym h.keeps.counter) c.new-lines.result c.put_head.new.lines c.new-lines.ensures
       c.in_ok-put_head.ensures.ok;
 }
@@ -47,10 +47,10 @@ pub returns-in_err-tell-clause-cut : goal.returns-in_err-tell-clause-cut
 returns-in_err-tell-clause-cut g c =
     let p = err_from_is_err_and c.from_residual-in_err-tell.result c.from_residual-in_err-tell.ensures.1 in
     rw p.1 (λ l bodies i h.
-    page_cut c.args.engine.now.sessions.latest _ (g.W.Write.contents c.args.writer.now) (g.W.Write.contents c.loop-last.writer) (g.W.Write.contents c.tell.new.writer) c.loop-last.last
+    page_cut c.args.engine.now.sessions.latest _ (g.W.Write.contents c.args.writer.now.inner) (g.W.Write.contents c.loop-last.writer.inner) (g.W.Write.contents c.tell.new.writer.inner) c.loop-last.last
     c.loop-last.lines (omega (arith, h.keeps.used, c.used-used.ensures, c.loop-last-test.true)) (c.loop-last.invariant.put l bodies i h)
     (later boxes g.K.ReadKeys.is_proper g.K.ReadKeys.said g.K.KeyClass g.D.SectorDisk.state l c.loop-last.last c.args.engine.now c.loop-last.engine
-    (λ t. IsCut (g.W.Write.contents c.loop-last.writer) (g.W.Write.contents c.tell.new.writer) (c.loop-last.lines ++ node_text (c.loop-last.last + 1) (t.node (c.loop-last.last + 1)))) c.loop-last.invariant.all (c.in_err-tell.ensures.cut l) bodies i h))
+    (λ t. IsCut (g.W.Write.contents c.loop-last.writer.inner) (g.W.Write.contents c.tell.new.writer.inner) (c.loop-last.lines ++ node_text (c.loop-last.last + 1) (t.node (c.loop-last.last + 1)))) c.loop-last.invariant.all (c.in_err-tell.ensures.cut l) bodies i h))
 
 pub returns-in_err-tell-clause-runs : goal.returns-in_err-tell-clause-runs
 returns-in_err-tell-clause-runs g c = λ l.
@@ -66,17 +66,17 @@ pub loop-last-preserved : goal.loop-last-preserved
 loop-last-preserved g c = record {
   all = one_more (brings boxes g.K.ReadKeys.is_proper g.K.ReadKeys.said g.K.KeyClass g.D.SectorDisk.state) (helps boxes g.K.ReadKeys.is_proper g.K.ReadKeys.said g.K.KeyClass g.D.SectorDisk.state) c.loop-last.last c.args.engine.now c.loop-last.engine c.tell.new.engine c.loop-last.invariant.all c.in_ok-tell.ensures.told;
   put = λ l bodies i h.
-      page_told c.args.engine.now.sessions.latest _ (g.W.Write.contents c.args.writer.now) (g.W.Write.contents c.loop-last.writer) (g.W.Write.contents c.tell.new.writer) c.loop-last.last
+      page_told c.args.engine.now.sessions.latest _ (g.W.Write.contents c.args.writer.now.inner) (g.W.Write.contents c.loop-last.writer.inner) (g.W.Write.contents c.tell.new.writer.inner) c.loop-last.last
       c.loop-last.lines c.tell.new.lines (c.loop-last.invariant.put l bodies i h)
       (later boxes g.K.ReadKeys.is_proper g.K.ReadKeys.said g.K.KeyClass g.D.SectorDisk.state l c.loop-last.last c.args.engine.now c.loop-last.engine
-      (λ t. IsPut (g.W.Write.contents c.loop-last.writer) (g.W.Write.contents c.tell.new.writer) c.loop-last.lines (node_text (c.loop-last.last + 1) (t.node (c.loop-last.last + 1))) c.tell.new.lines) c.loop-last.invariant.all (c.in_ok-tell.ensures.text l) bodies i h);
+      (λ t. IsPut (g.W.Write.contents c.loop-last.writer.inner) (g.W.Write.contents c.tell.new.writer.inner) c.loop-last.lines (node_text (c.loop-last.last + 1) (t.node (c.loop-last.last + 1))) c.tell.new.lines) c.loop-last.invariant.all (c.in_ok-tell.ensures.text l) bodies i h);
 }
 
 pub returns-clause-text : goal.returns-clause-text
 returns-clause-text g c =
     on_ok_weaker c.flush.result
     (λ flushed l bodies i h.
-    all_told c.args.engine.now.sessions.latest _ (g.W.Write.contents c.args.writer.now) (g.W.Write.contents c.loop-last.writer) (g.W.Write.contents c.flush.new.writer) c.loop-last.last c.loop-last.lines
+    all_told c.args.engine.now.sessions.latest _ (g.W.Write.contents c.args.writer.now.inner) (g.W.Write.contents c.loop-last.writer.inner) (g.W.Write.contents c.flush.new.writer.inner) c.loop-last.last c.loop-last.lines
     (omega (arith, h.keeps.used, c.used-used.ensures, c.loop-last-test.false, c.loop-last.auto.last-end)) (c.loop-last.invariant.put l bodies i h) flushed.1)
     c.flush.ensures.ok
 
@@ -84,7 +84,7 @@ pub returns-clause-cut : goal.returns-clause-cut
 returns-clause-cut g c =
     fault_as c.flush.result
     (λ cut l bodies i h.
-    last_cut c.args.engine.now.sessions.latest _ (g.W.Write.contents c.args.writer.now) (g.W.Write.contents c.loop-last.writer) (g.W.Write.contents c.flush.new.writer) c.loop-last.last c.loop-last.lines
+    last_cut c.args.engine.now.sessions.latest _ (g.W.Write.contents c.args.writer.now.inner) (g.W.Write.contents c.loop-last.writer.inner) (g.W.Write.contents c.flush.new.writer.inner) c.loop-last.last c.loop-last.lines
     (omega (arith, h.keeps.used, c.used-used.ensures, c.loop-last-test.false, c.loop-last.auto.last-end)) (c.loop-last.invariant.put l bodies i h) cut)
     c.flush.ensures.cut
 

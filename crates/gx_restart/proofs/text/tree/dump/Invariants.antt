@@ -16,5 +16,5 @@ invariant-loop-last g l = record {
       l.fn.engine l.last l.engine;
   put : (lim : Limits) → OfItsTree (class_of boxes g.K.ReadKeys.is_proper lim) (reading_of g.K.ReadKeys.said (format_of g.K.KeyClass)) (format_of g.K.KeyClass) (is_node (format_of g.K.KeyClass))
       g.D.SectorDisk.state l.fn.engine
-      (λ t. IsPut (g.W.Write.contents l.fn.writer) (g.W.Write.contents l.writer) [] (head_line l.fn.engine.sessions.latest t.used t.counter ++ pages_text t.node l.last) l.lines);
+      (λ t. IsPut (g.W.Write.contents l.fn.writer.inner) (g.W.Write.contents l.writer.inner) [] (head_line l.fn.engine.sessions.latest t.used t.counter ++ pages_text t.node l.last) l.lines);
 }

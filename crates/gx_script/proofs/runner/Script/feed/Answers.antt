@@ -15,7 +15,7 @@ loop-line-init g c = record {
   bound = omega arith;
   fed = λ u number done start written ran count.
       fed_none g.I.Answers.answered number c.args.self.now.number done start c.args.index.now written (c.args.self.now.line ++ c.args.bytes.now)
-      (g.W.Write.contents c.args.writer.now) c.args.self.now.output ran count;
+      (g.W.Write.contents c.args.writer.now.inner) c.args.self.now.output ran count;
 }
 
 pub returns-in_err-end_line-clause-cut : goal.returns-in_err-end_line-clause-cut
@@ -23,21 +23,21 @@ returns-in_err-end_line-clause-cut g c =
     let p = err_from_is_err_and c.from_residual.result c.from_residual.ensures.1 in
     let cut = c.in_err-end_line.ensures.cut in
     let told = subst (λ (v : List ℕ). IsToldPart g.I.Answers.answered c.loop-line.self.number (line_of v) c.loop-line.index c.end_line.new.index
-    (g.W.Write.contents c.loop-line.writer) (g.W.Write.contents c.end_line.new.writer) c.loop-line.self.output) c.keep.ensures cut.1 in
+    (g.W.Write.contents c.loop-line.writer.inner) (g.W.Write.contents c.end_line.new.writer.inner) c.loop-line.self.output) c.keep.ensures cut.1 in
     rw (p.1, p.2) (
       cut.0,
       λ u number done start written ran count.
           let so_far = c.loop-line.invariant.fed u number done start written ran count in
           fed_cut g.I.Answers.answered number c.loop-line.self.number done start c.loop-line.index c.end_line.new.index written
           (c.args.self.now.line ++ c.args.bytes.now) c.loop-line.self.line c.loop-line.rest.now c.in-Some.line.now c.in-Some.more.now
-          (g.W.Write.contents c.args.writer.now) (g.W.Write.contents c.loop-line.writer) (g.W.Write.contents c.end_line.new.writer) c.loop-line.self.output
+          (g.W.Write.contents c.args.writer.now.inner) (g.W.Write.contents c.loop-line.writer.inner) (g.W.Write.contents c.end_line.new.writer.inner) c.loop-line.self.output
           so_far.0 so_far.1 (c.loop-line.invariant.unended u) c.in-Some.ensures.0 c.in-Some.ensures.1 told,
     )
 
 pub loop-line-preserved : goal.loop-line-preserved
 loop-line-preserved g c =
     let told = subst (λ (v : List ℕ). IsToldWhole g.I.Answers.answered c.loop-line.self.number (line_of v) c.loop-line.index c.end_line.new.index
-    (g.W.Write.contents c.loop-line.writer) (g.W.Write.contents c.end_line.new.writer) c.loop-line.self.output c.end_line.new.self.output) c.keep.ensures
+    (g.W.Write.contents c.loop-line.writer.inner) (g.W.Write.contents c.end_line.new.writer.inner) c.loop-line.self.output c.end_line.new.self.output) c.keep.ensures
     c.in_ok-end_line.ensures.ok in
     record {
       unended = λ u. subst (λ (v : List ℕ). IsUnended v) (sym c.in_ok-end_line.ensures.line) refl;
@@ -52,7 +52,7 @@ loop-line-preserved g c =
           let so_far = c.loop-line.invariant.fed u number done start written ran count in
           fed_next g.I.Answers.answered number c.loop-line.self.number c.end_line.new.self.number done start c.loop-line.index c.end_line.new.index written
           (c.args.self.now.line ++ c.args.bytes.now) c.loop-line.self.line c.end_line.new.self.line c.loop-line.rest.now c.in-Some.line.now c.in-Some.more.now
-          (g.W.Write.contents c.args.writer.now) (g.W.Write.contents c.loop-line.writer) (g.W.Write.contents c.end_line.new.writer) c.loop-line.self.output
+          (g.W.Write.contents c.args.writer.now.inner) (g.W.Write.contents c.loop-line.writer.inner) (g.W.Write.contents c.end_line.new.writer.inner) c.loop-line.self.output
           c.end_line.new.self.output so_far.0 so_far.1 (c.loop-line.invariant.unended u) c.in-Some.ensures.0 c.in-Some.ensures.1 told
           c.in_ok-end_line.ensures.line c.in_ok-end_line.ensures.number;
     }
@@ -64,8 +64,8 @@ returns-clause-ok g c =
     λ u number done start written ran count.
     let so_far = c.loop-line.invariant.fed u number done start written ran count in
     fed_end g.I.Answers.answered number c.loop-line.self.number done start c.loop-line.index written (c.args.self.now.line ++ c.args.bytes.now)
-    (c.loop-line.self.line ++ c.loop-line.rest.now) c.keep-2.new.self (g.W.Write.contents c.args.writer.now) (g.W.Write.contents c.loop-line.writer)
-    (g.W.Write.contents c.flush.new.writer) c.loop-line.self.output c.flush.new.self so_far.0 so_far.1
+    (c.loop-line.self.line ++ c.loop-line.rest.now) c.keep-2.new.self (g.W.Write.contents c.args.writer.now.inner) (g.W.Write.contents c.loop-line.writer.inner)
+    (g.W.Write.contents c.flush.new.writer.inner) c.loop-line.self.output c.flush.new.self so_far.0 so_far.1
     (unended-append c.loop-line.self.line c.loop-line.rest.now (c.loop-line.invariant.unended u) c.in_default.ensures) c.keep-2.ensures flushed.0 flushed.1)
     c.flush.ensures.ok
 
@@ -86,8 +86,8 @@ returns-clause-cut g c =
     λ u number done start written ran count.
     let so_far = c.loop-line.invariant.fed u number done start written ran count in
     fed_end_cut g.I.Answers.answered number done start c.loop-line.index written (c.args.self.now.line ++ c.args.bytes.now)
-    (c.loop-line.self.line ++ c.loop-line.rest.now) (g.W.Write.contents c.args.writer.now) (g.W.Write.contents c.loop-line.writer)
-    (g.W.Write.contents c.flush.new.writer) c.loop-line.self.output so_far.0 cut)
+    (c.loop-line.self.line ++ c.loop-line.rest.now) (g.W.Write.contents c.args.writer.now.inner) (g.W.Write.contents c.loop-line.writer.inner)
+    (g.W.Write.contents c.flush.new.writer.inner) c.loop-line.self.output so_far.0 cut)
     c.flush.ensures.cut
 
 pub end_line-requires : goal.end_line-requires

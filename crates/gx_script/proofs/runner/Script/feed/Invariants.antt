@@ -10,7 +10,7 @@ invariant-loop-line g l = record {
   bound : l.self.number + length l.rest ≤ l.initial.self.number + length l.initial.bytes;
   fed : IsUnended l.initial.self.line → Feeds g.I.Answers.answered l.initial.self.number l.initial.index l.initial.self.output (λ number done start written.
       (fed : IsFed g.I.Answers.answered number done start written (l.initial.self.line ++ l.initial.bytes) (l.self.line ++ l.rest)
-      (g.W.Write.contents l.initial.writer) (g.W.Write.contents l.writer) l.self.output l.index)
+      (g.W.Write.contents l.initial.writer.inner) (g.W.Write.contents l.writer.inner) l.self.output l.index)
       × (l.self.number ≡ number + length (done ++ fed.more)));
 }
 

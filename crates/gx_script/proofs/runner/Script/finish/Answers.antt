@@ -12,7 +12,7 @@ returns-then-is_empty-clause-ok g c =
     (λ flushed.
     λ u number done start written ran count.
     ended_none g.I.Answers.answered number done start c.args.index.now written c.args.self.now.line c.args.self.now.output
-    (g.W.Write.contents c.args.writer.now) (g.W.Write.contents c.flush.new.writer) ran none flushed.1)
+    (g.W.Write.contents c.args.writer.now.inner) (g.W.Write.contents c.flush.new.writer.inner) ran none flushed.1)
     c.flush.ensures.ok
 
 pub returns-then-is_empty-clause-cut : goal.returns-then-is_empty-clause-cut
@@ -21,7 +21,7 @@ returns-then-is_empty-clause-cut g c =
     (λ cut.
     λ u number done start written ran count.
     ended_none_cut g.I.Answers.answered number done start c.args.index.now written c.args.self.now.line c.args.self.now.output
-    (g.W.Write.contents c.args.writer.now) (g.W.Write.contents c.flush.new.writer) ran cut)
+    (g.W.Write.contents c.args.writer.now.inner) (g.W.Write.contents c.flush.new.writer.inner) ran cut)
     c.flush.ensures.cut
 
 -- a length that isn't 0
@@ -37,7 +37,7 @@ returns-in_err-end_line-clause-cut g c =
       cut.0,
       λ u number done start written ran count.
           ended_part g.I.Answers.answered number c.args.self.now.number done start c.args.index.now c.end_line.new.index written c.args.self.now.line
-          c.args.self.now.output (g.W.Write.contents c.args.writer.now) (g.W.Write.contents c.end_line.new.writer) ran count u some cut.1,
+          c.args.self.now.output (g.W.Write.contents c.args.writer.now.inner) (g.W.Write.contents c.end_line.new.writer.inner) ran count u some cut.1,
     )
 
 pub returns-clause-ok : goal.returns-clause-ok
@@ -47,8 +47,8 @@ returns-clause-ok g c =
     (λ flushed.
     λ u number done start written ran count.
     ended_one g.I.Answers.answered number c.args.self.now.number done start c.args.index.now c.end_line.new.index written c.args.self.now.line
-    c.args.self.now.output c.end_line.new.self.output (g.W.Write.contents c.args.writer.now) (g.W.Write.contents c.end_line.new.writer)
-    (g.W.Write.contents c.flush-2.new.writer) ran count u some c.in_ok-end_line.ensures.ok flushed.1)
+    c.args.self.now.output c.end_line.new.self.output (g.W.Write.contents c.args.writer.now.inner) (g.W.Write.contents c.end_line.new.writer.inner)
+    (g.W.Write.contents c.flush-2.new.writer.inner) ran count u some c.in_ok-end_line.ensures.ok flushed.1)
     c.flush-2.ensures.ok
 
 pub returns-clause-cut : goal.returns-clause-cut
@@ -58,6 +58,6 @@ returns-clause-cut g c =
     (λ cut.
     λ u number done start written ran count.
     ended_one_cut g.I.Answers.answered number c.args.self.now.number done start c.args.index.now c.end_line.new.index written c.args.self.now.line
-    c.args.self.now.output c.end_line.new.self.output (g.W.Write.contents c.args.writer.now) (g.W.Write.contents c.end_line.new.writer)
-    (g.W.Write.contents c.flush-2.new.writer) ran count u some c.in_ok-end_line.ensures.ok cut)
+    c.args.self.now.output c.end_line.new.self.output (g.W.Write.contents c.args.writer.now.inner) (g.W.Write.contents c.end_line.new.writer.inner)
+    (g.W.Write.contents c.flush-2.new.writer.inner) ran count u some c.in_ok-end_line.ensures.ok cut)
     c.flush-2.ensures.cut
