@@ -37,14 +37,13 @@ use Rattle.gx_engine.specs.States.{IsOrderly, Parts, runs}
 use Rattle.gx_engine.specs.Stepping.{Stepped}
 use Rattle.gx_engine.specs.Backlog.{backlog}
 use Rattle.gx_engine.specs.Driven.{AreDriven, IsUnderWay}
-use Rattle.gx_engine.specs.Helping.{CallEnds, HasWork, HoldsIndex, StartsCall, WaitsForSealed, event_of}
+use Rattle.gx_engine.specs.Helping.{CallEnds, HasWork, HoldsIndex, StartsCall, event_of}
 use Rattle.gx_engine.specs.Made.{AreMade, Makes}
 use Rattle.gx_engine.specs.Resting.{KeepsSessions}
 use Rattle.gx_engine.proofs.Helping.{helps}
 use Rattle.gx_engine.proofs.Lessening.{few_left, few_orderly}
 use Rattle.gx_engine.proofs.Measured.{done_rests, few_driven}
 use Rattle.gx_engine.proofs.Resting.{checkpoint_keeps, keeps_all, log_steps_keep, page_keeps}
-use Rattle.gx_engine.proofs.Sealed.{asked_sealed, kept_sealed, more_sealed, same_sealed}
 use Rattle.gx_engine.proofs.Waits.{names_work, waiting_flushes, waiting_leaves, waits_made}
 
 left_by_few : {B : Type 0} (p : Phase B (Work B)) (n : ℕ) → n < 2 ^ 39 → left_by p n ≤ 2 ^ 39
@@ -72,13 +71,11 @@ module _ {C B D : Type 0} (shape : Members B) (proper : B → Bool) (said : List
   abbrev makes : Parts B D → Event B → Outcome B → Parts B D → Type 0
   makes = Makes shape proper said class state
 
-  -- An engine holds an index, of which the session's call has so much left; there is so much to flush; and the session waits for no commit that
-  -- isn't sealed.
+  -- An engine holds an index, of which the session's call has so much left; and there is so much to flush.
   record At (w h : ℕ) (e : Parts B D) : Type 0 where
     bodies : List (List (Record (Entry B) (Page B)))
     is : index.State B
     holds : HoldsIndex shape proper said class state l e bodies is
-    sealed : WaitsForSealed s e
     work : left e is ≡ w
     flush : backlog e ≡ h
 
@@ -93,9 +90,6 @@ module _ {C B D : Type 0} (shape : Members B) (proper : B → Bool) (said : List
           bodies = led.bodies;
           is = led.index;
           holds = led.holds;
-          sealed =
-              more_sealed (keys_of shape) (known_at shape proper) (reading_of said (format_of class)) (format_of class) (is_node (format_of class)) class.is_key class.spelling class.KEY
-              (state old.volume.shelf.disk) (state new.volume.shelf.disk) s old new one.comes;
           work = refl;
           flush = refl;
         },
@@ -106,7 +100,6 @@ module _ {C B D : Type 0} (shape : Members B) (proper : B → Bool) (said : List
   waits : (w h : ℕ) (old new : Parts B D) (n : Need) → At w h old → makes old (Move s) (Help n) new → (f : ℕ) × At w f new × (f ≤ h) × HasWork n new
   waits w h old new n at one =
       let led = (one.steps l at.bodies at.is at.holds).led in
-      let so = waits_made shape proper said class state short l old new s n one.order.0.stands one in
       let was = at.flush in
       let no_more = waiting_flushes shape proper said class state short l old new s n one in (
         backlog new,
@@ -114,12 +107,11 @@ module _ {C B D : Type 0} (shape : Members B) (proper : B → Bool) (said : List
           bodies = led.bodies;
           is = led.index;
           holds = led.holds;
-          sealed = same_sealed s old new so.sessions at.sealed;
           work = waiting_leaves shape proper said class state short l old new s n at.bodies at.is at.holds one s ∙ at.work;
           flush = refl;
         },
         omega (arith, no_more, was),
-        names_work shape proper said class state short l old new s n at.bodies at.is at.holds at.sealed one,
+        names_work shape proper said class state short l old new s n at.bodies at.is at.holds one,
       )
 
   never_idle : (w h : ℕ) (old new : Parts B D) → At w h old → makes old (Move s) Nothing new → ⊥
@@ -131,11 +123,6 @@ module _ {C B D : Type 0} (shape : Members B) (proper : B → Bool) (said : List
   leaves_all need.Log given old new i stepped = stepped.lowers
   leaves_all (need.Write page) given old new i stepped = stepped.lowers
   leaves_all need.Checkpoint given old new i stepped = stepped.lowers
-
-  sessions_kept : (n : Need) (given : Outcome B) (old new : Parts B D) → Makes shape proper said class state old (event_of n) given new → KeepsSessions old new
-  sessions_kept need.Log given old new made = log_steps_keep _ _ old new old.sessions.failed (runs old.checkpoint) given made.comes
-  sessions_kept (need.Write page) given old new made = write_keeps _ _ old new page old.sessions.failed given made.comes
-  sessions_kept need.Checkpoint given old new made = checkpoint_keeps _ _ old new old.sessions.failed given made.comes
 
   helped : (w h : ℕ) (old new : Parts B D) (n : Need) (given : Outcome B) → At w h old → HasWork n old → makes old (event_of n) given new
       → ((given ≡ More) × ((f : ℕ) × At w f new × (f < h))) ⊎ ((why : Refusal) × (given ≡ Refused why))
@@ -152,7 +139,6 @@ module _ {C B D : Type 0} (shape : Members B) (proper : B → Bool) (said : List
               bodies = stepped.led.bodies;
               is = stepped.led.index;
               holds = stepped.led.holds;
-              sealed = kept_sealed s old new (sessions_kept n given old new one) at.sealed;
               work = leaves_all n given old new at.is stepped s ∙ at.work;
               flush = refl;
             },
@@ -167,9 +153,9 @@ module _ {C B D : Type 0} (shape : Members B) (proper : B → Bool) (said : List
     (lawful : 4 ≤ l.most → IsLawful (class_of shape proper l))
     (bounded : (c : Class B) → IsLawful c → (old : index.State B) → IsWhole c old → c.pages ≤ 65536 → c.rules.most ≤ 100 → (s : ℕ) → work_left c old s < 2 ^ 39) where
   few_from : (old new : Parts B D) (s : ℕ) (due : Event B) (steps : List (Event B × Outcome B)) (bodies : List (List (Record (Entry B) (Page B)))) (i : index.State B)
-      → HoldsIndex shape proper said class state l old bodies i → WaitsForSealed s old → AreDriven s (Run (Move s)) steps (Run due)
+      → HoldsIndex shape proper said class state l old bodies i → AreDriven s (Run (Move s)) steps (Run due)
       → AreMade (Makes shape proper said class state) old steps new → IsOrderly old → length steps < 2 ^ 55
-  few_from old new s due steps bodies i holds sealed driven made order =
+  few_from old new s due steps bodies i holds driven made order =
       let small : l.pages ≤ 65536 = subst (λ n. n ≤ 65536) (sym holds.keeps.pages) order.pages in
       let most : l.most ≤ 100 = subst (λ n. n ≤ 100) holds.most order.most in
       let work = bounded (class_of shape proper l) (lawful holds.some) i holds.whole small most s in
@@ -177,19 +163,19 @@ module _ {C B D : Type 0} (shape : Members B) (proper : B → Bool) (said : List
       let flush_few = few_left old (few_orderly old order) in
       let all = few_driven (Makes shape proper said class state) s (At shape proper said class state short l s) HasWork (goes_on shape proper said class state short l s)
       (waits shape proper said class state short l s) (never_idle shape proper said class state short l s) (helped shape proper said class state short l s) steps old new due made None
-      (left shape proper said class state short l s old i) (backlog old) (record { bodies = bodies; is = i; holds = holds; sealed = sealed; work = refl; flush = refl }) tt driven in
+      (left shape proper said class state short l s old i) (backlog old) (record { bodies = bodies; is = i; holds = holds; work = refl; flush = refl }) tt driven in
       omega (arith, all, left_few, flush_few)
 
   few_steps : (old new : Parts B D) (s : ℕ) (due : Event B) (steps : List (Event B × Outcome B)) (bodies : List (List (Record (Entry B) (Page B)))) (i : index.State B)
-      → HoldsIndex shape proper said class state l old bodies i → WaitsForSealed s old → AreDriven s (Run (Move s)) steps (Run due)
+      → HoldsIndex shape proper said class state l old bodies i → AreDriven s (Run (Move s)) steps (Run due)
       → AreMade (Makes shape proper said class state) old steps new → length steps < 2 ^ 55
-  few_steps old new s due [] bodies i holds sealed driven made = omega arith
-  few_steps old new s due (step ∷ steps) bodies i holds sealed driven made =
-      few_from old new s due (step ∷ steps) bodies i holds sealed driven made made.1.order.0
+  few_steps old new s due [] bodies i holds driven made = omega arith
+  few_steps old new s due (step ∷ steps) bodies i holds driven made =
+      few_from old new s due (step ∷ steps) bodies i holds driven made made.1.order.0
 
   pub call_ends : CallEnds shape proper said class state l
-  call_ends old new s count due bodies i holds sealed way =
-      let few = few_steps old new s due way.steps bodies i holds sealed way.driven way.made in
+  call_ends old new s count due bodies i holds way =
+      let few = few_steps old new s due way.steps bodies i holds way.driven way.made in
       let many = way.many in
       omega (arith, few, many)
 
@@ -208,21 +194,21 @@ module _ {C B D : Type 0} (shape : Members B) (proper : B → Bool) (said : List
       few_after (Replied reply) rest middle one driven made = absurd (done_rests s reply rest due driven)
       few_after More rest middle one driven made =
           let led = (one.steps l bodies i holds).led in
-          let few = few_steps middle new s due rest led.bodies led.index led.holds (asked_sealed (keys_of shape) s call old middle one.comes) driven made in
+          let few = few_steps middle new s due rest led.bodies led.index led.holds driven made in
           omega (arith, few)
       few_after given rest middle one driven made = absurd one.comes
 
   -- so a call from its first event on
   pub starts_end : (old new : Parts B D) (s count : ℕ) (first due : Event B) (bodies : List (List (Record (Entry B) (Page B)))) (i : index.State B)
-      → HoldsIndex shape proper said class state l old bodies i → StartsCall s first old → IsUnderWay (Makes shape proper said class state) s first old count due new → count < 2 ^ 56
+      → HoldsIndex shape proper said class state l old bodies i → StartsCall s first → IsUnderWay (Makes shape proper said class state) s first old count due new → count < 2 ^ 56
   starts_end old new s count (Ask t call) due bodies i holds starts way =
       let driven = subst (λ n. AreDriven s (Run (Ask n call)) way.steps (Run due)) starts way.driven in
       let few = few_asked old new s call due way.steps bodies i holds driven way.made in
       let many = way.many in
       omega (arith, few, many)
   starts_end old new s count (Move t) due bodies i holds starts way =
-      let driven = subst (λ n. AreDriven s (Run (Move n)) way.steps (Run due)) starts.0 way.driven in
-      let few = few_steps old new s due way.steps bodies i holds starts.1 driven way.made in
+      let driven = subst (λ n. AreDriven s (Run (Move n)) way.steps (Run due)) starts way.driven in
+      let few = few_steps old new s due way.steps bodies i holds driven way.made in
       let many = way.many in
       omega (arith, few, many)
   starts_end old new s count event due bodies i holds starts way = absurd starts

@@ -55,5 +55,4 @@ pub mod Lessening
 pub mod Waits
 pub mod Helping
 pub mod Measured
-pub mod Sealed
 pub mod CallsEnd

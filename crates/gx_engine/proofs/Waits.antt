@@ -53,7 +53,7 @@ use Rattle.gx_phases.specs.declared.phase.Phase.{Phase}
 use Rattle.gx_phases.specs.declared.phase.Phase.TheVariants as phase
 use Rattle.gx_phases.specs.Moves.{next_of, transaction_of}
 use Rattle.gx_engine_laws.specs.Events.{Event}
-use Rattle.gx_phases.specs.States.{State as Sessions, phase_at}
+use Rattle.gx_phases.specs.States.{State as Sessions, WaitsForSealed, phase_at}
 use Rattle.gx_engine.specs.declared.checkpoint.Checkpoint.{Checkpoint}
 use Rattle.gx_engine.specs.declared.checkpoint.Checkpoint.TheVariants.{Off, Running, Turning}
 use Rattle.gx_engine.specs.declared.work.Work.{Work}
@@ -67,7 +67,7 @@ use Rattle.gx_engine.specs.Stepping.{has_call}
 use Rattle.gx_engine.specs.Undoing.{EndComes, UndoBy, end_of}
 use Rattle.gx_engine.specs.Writing.{IsDelayed, brought}
 use Rattle.gx_engine.specs.Backlog.{backlog, checkpoint_left, fillings, flight_left, log_left}
-use Rattle.gx_engine.specs.Helping.{HasWork, NamesWork, PageNamesWork, WaitingLeavesAll, WaitsForSealed}
+use Rattle.gx_engine.specs.Helping.{HasWork, NamesWork, PageNamesWork, WaitingLeavesAll}
 use Rattle.gx_engine.specs.Made.{Makes}
 use Rattle.gx_engine.proofs.Lessening.{one_fills}
 
@@ -378,7 +378,7 @@ module _ {B : Type 0} (c : Class B) (r : Reading (Entry B) (Page B)) (f : Format
   helped_work old new n checkpoint log (inr frames) are bodies j holds =
       subst (λ (x : Need). HasWork x new) (sym frames.2) (frames_work frames.0 (runs old.checkpoint) new bodies j (ap runs checkpoint) holds are frames.3 frames.1)
 
-  work_by : (s : ℕ) (old new : Parts B D) (n : Need) → Waits s old new n → WaitsForSealed s old → AreFrames new.volume.shelf.frames
+  work_by : (s : ℕ) (old new : Parts B D) (n : Need) → Waits s old new n → WaitsForSealed old.sessions.latest (phase_at (s - 1) old.sessions.phases) → AreFrames new.volume.shelf.frames
       → (bodies : List (List (Record (Entry B) (Page B)))) (j : index.State B) → Holds c r f passes d new bodies j → HasWork n new
   work_by s old new n waits sealed are bodies j holds =
       let running : runs new.checkpoint ≡ runs old.checkpoint = ap runs waits.checkpoint in
@@ -417,10 +417,10 @@ module _ {C B D : Type 0} (shape : Members B) (proper : B → Bool) (said : List
       (state old.volume.shelf.disk) (state new.volume.shelf.disk) s old new n stands made.comes
 
   pub names_work : NamesWork shape proper said class state l
-  names_work old new s n bodies i holds sealed made =
+  names_work old new s n bodies i holds made =
       let stepped = made.steps l bodies i holds in
       work_by (class_of shape proper l) (reading_of said (format_of class)) (format_of class) (is_node (format_of class)) (state new.volume.shelf.disk) s old new n
-      (waits_made old new s n made.order.0.stands made) sealed made.order.1.frames stepped.led.bodies stepped.led.index stepped.led.holds
+      (waits_made old new s n made.order.0.stands made) (made.order.0.sealed (s - 1)) made.order.1.frames stepped.led.bodies stepped.led.index stepped.led.holds
 
   pub waiting_leaves : WaitingLeavesAll shape proper said class state l
   waiting_leaves old new s n bodies i holds made =

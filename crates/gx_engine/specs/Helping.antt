@@ -19,8 +19,6 @@ use Rattle.gx_events.specs.declared.outcome.Need.{Need}
 use Rattle.gx_events.specs.declared.outcome.Need.TheVariants as need
 use Rattle.gx_events.specs.declared.outcome.Outcome.{Outcome}
 use Rattle.gx_events.specs.declared.outcome.Outcome.TheVariants.{Help, More, Refused}
-use Rattle.gx_phases.specs.declared.phase.Phase.TheVariants as phase
-use Rattle.gx_phases.specs.States.{phase_at}
 use Rattle.gx_engine.specs.Checkpoints.{CheckpointSteps}
 use Rattle.gx_engine.specs.Ending.{LeavesAll}
 use Rattle.gx_engine.specs.Flushing.{LogSteps, PageIsWritten}
@@ -54,15 +52,11 @@ HelpComes d e need.Log old new outcome = LogSteps d e old new old.sessions.faile
 HelpComes d e (need.Write page) old new outcome = PageIsWritten page d e old new old.sessions.failed outcome
 HelpComes d e need.Checkpoint old new outcome = CheckpointSteps d e old new old.sessions.failed outcome
 
--- where a session waits for a commit, that is sealed
-abbrev pub WaitsForSealed : {B D : Type 0} → ℕ → Parts B D → Type 0
-WaitsForSealed s e = (number : ℕ) → phase_at (s - 1) e.sessions.phases ≡ phase.Waiting number → number ≤ e.sessions.latest
-
 -- a session's event that starts its call, or goes on with it
-abbrev pub StartsCall : {B D : Type 0} → ℕ → Event B → Parts B D → Type 0
-StartsCall s (Ask t call) e = t ≡ s
-StartsCall s (Move t) e = (t ≡ s) × WaitsForSealed s e
-StartsCall s event e = ⊥
+abbrev pub StartsCall : {B : Type 0} → ℕ → Event B → Type 0
+StartsCall s (Ask t call) = t ≡ s
+StartsCall s (Move t) = t ≡ s
+StartsCall s event = ⊥
 
 module _ {C B D : Type 0} (shape : Members B) (proper : B → Bool) (said : List ℕ → B) (class : Ghosts C B) (state : D → Device) (l : Limits) where
   -- an engine holds an index of the class over its device
@@ -71,12 +65,12 @@ module _ {C B D : Type 0} (shape : Members B) (proper : B → Bool) (said : List
 
   -- where an engine holds an index of the class, and this event starts or goes on with a session's call, that is so
   abbrev pub WhereHeld : Parts B D → ℕ → Event B → Type 0 → Type 0
-  WhereHeld e s first P = (bodies : List (List (Record (Entry B) (Page B)))) (i : index.State B) → HoldsIndex e bodies i → StartsCall s first e → P
+  WhereHeld e s first P = (bodies : List (List (Record (Entry B) (Page B)))) (i : index.State B) → HoldsIndex e bodies i → StartsCall s first → P
 
   -- What a move waits for has work to do.
   abbrev pub NamesWork : Type 0
   NamesWork = (old new : Parts B D) (s : ℕ) (n : Need) (bodies : List (List (Record (Entry B) (Page B)))) (i : index.State B) → HoldsIndex old bodies i
-      → WaitsForSealed s old → Makes shape proper said class state old (Move s) (Help n) new → HasWork n new
+      → Makes shape proper said class state old (Move s) (Help n) new → HasWork n new
 
   -- What a page that is to be brought waits for has work to do, and there is no more to flush than there was.
   abbrev pub PageNamesWork : Type 0
@@ -92,7 +86,7 @@ module _ {C B D : Type 0} (shape : Members B) (proper : B → Bool) (said : List
   -- A session's move and the events that its driver names after it are fewer than 2^55 before the call ends.
   abbrev pub CallEnds : Type 0
   CallEnds = (old new : Parts B D) (s count : ℕ) (due : Event B) (bodies : List (List (Record (Entry B) (Page B)))) (i : index.State B) → HoldsIndex old bodies i
-      → WaitsForSealed s old → IsUnderWay (Makes shape proper said class state) s (Move s) old count due new → count < 2 ^ 55
+      → IsUnderWay (Makes shape proper said class state) s (Move s) old count due new → count < 2 ^ 55
 
   -- A call that is asked is not given up.
   abbrev pub AskedEnds : Type 0

@@ -2,7 +2,7 @@
 use Rattle.std.specs.Prelude.{ℕ, ◌≡◌, ◌≤◌, nat_le, Bool, true, false, ◌||◌, List, length}
 use Rattle.gx_glog.specs.declared.stage.Turn.TheVariants.{Closed}
 use Rattle.gx_node.specs.declared.items.TheConstants.{MAX_ENTRIES}
-use Rattle.gx_phases.specs.States.{State}
+use Rattle.gx_phases.specs.States.{State, WaitsForSealed, phase_at}
 use Rattle.gx_pool.specs.State.{State as Frames, IsSound}
 use Rattle.gx_storage.specs.Flushing.{ReadyToTurn}
 use Rattle.gx_storage.specs.State.{Volume}
@@ -51,9 +51,10 @@ pub record AreFrames (s : Frames) : Type 0 where
   pub held : length s.held ≤ 4
   pub sound : IsSound s
 
--- so an engine stands, on any device
+-- So an engine stands, on any device. A session that waits for its commit, waits for one that is sealed.
 pub record IsOrderly {B D : Type 0} (e : Parts B D) : Type 0 where
   pub stands : StandsIn e.checkpoint e.volume
   pub frames : AreFrames e.volume.shelf.frames
   pub pages : e.volume.shelf.pages ≤ 65536
   pub most : e.volume.most ≤ 100
+  pub sealed : (i : ℕ) → WaitsForSealed e.sessions.latest (phase_at i e.sessions.phases)

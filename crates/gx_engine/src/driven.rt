@@ -21,8 +21,7 @@ pub const EVENTS: u64 = 1 << 56;
 /// steps of the log and of a checkpoint and the writes of pages that help them.
 ///
 /// The reply is the one with which the call ended, also where an event was refused. None where the call hasn't ended within `EVENTS`
-/// events: it stands open then. That never comes over a device that doesn't lie, of a session that waits for no commit that isn't
-/// sealed. It takes no memory but what the events take.
+/// events: it stands open then. That never comes over a device that doesn't lie. It takes no memory but what the events take.
 pub fn drive<D: SectorDisk, K: ReadKeys + Probing>(
     engine: &mut Engine<D, K>,
     session: u8,

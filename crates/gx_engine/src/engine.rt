@@ -75,13 +75,14 @@ impl<D: SectorDisk, K: ReadKeys> Engine<D, K> {
     }
 
     /// How an engine stands on any device: its log turns only as its checkpoint has it; its frames are 16 or more, of which an event holds four
-    /// at most; it has 65,536 pages at most, and a node 100 entries.
+    /// at most; it has 65,536 pages at most, and a node 100 entries; a session that waits for its commit, waits for one that is sealed.
     pub fn in_order(&self)
         ensures { IsOrderly self.now }
     {
         self.storage.in_order();
         self.storage.most();
         self.storage.dirty_frames();
+        self.sessions.has_failed();
     }
 
     /// The number of the last commit that is sealed.

@@ -17,7 +17,7 @@ use Rattle.gx_phases.specs.declared.phase.Phase.{Phase}
 use Rattle.gx_phases.specs.declared.phase.Phase.TheVariants as phase
 use Rattle.gx_phases.specs.States.{State, phase_at, held_at, with_phase, with_session, may_commit, IsPlaced, IsKept}
 use Rattle.gx_phases.specs.Moves.{HeldNote, TakesUp}
-use Rattle.gx_phases.proofs.Keeping.{low, kept_with, numbers_left}
+use Rattle.gx_phases.proofs.Keeping.{low, kept_with, no_wait, numbers_left}
 
 set_again : {X : Type 0} (xs : List X) (i : ℕ) (a b : X) → slice_set (slice_set xs i a) i b ≡ slice_set xs i b
 set_again [] i a b = refl
@@ -69,7 +69,7 @@ module _ {B W : Type 0} (k : Keys B) (l : IsLawful k) (old : State B W) (kept : 
               (in_order_including k l n.entry (entries_of h.notes) (kept.placed (s - 1) (low k old kept s is)).in_order);
         })
         (numbers_left old.phases phases' (s - 1) (phase.Undoing 0 work) old.latest old.latest kept.phases (low k old kept s is) changed kept.numbers (omega arith))
-        kept.durable
+        kept.durable (omega arith) (no_wait old.latest (phase.Undoing 0 work) refl)
     taken_kept (Err why) a = let no : ⊥ = cc in absurd no
 
     pub taken_up : (r : Result (Locks B) Refusal) → HeldNote k r s n old.table (Ok done) table' → TakesUp k r s t n work old (Ok tt) new

@@ -15,10 +15,10 @@ use Rattle.gx_txn.specs.Tables.{Held, nothing_held, held_by, with_held, with_not
 use Rattle.gx_txn.proofs.Noted.{entries_of-noting}
 use Rattle.gx_phases.specs.declared.phase.Phase.{Phase}
 use Rattle.gx_phases.specs.declared.phase.Phase.TheVariants as phase
-use Rattle.gx_phases.specs.States.{State, phase_at, held_at, with_phase, HoldsNothing, ClaimsItsEntry, may_commit, IsPlaced, IsKept}
+use Rattle.gx_phases.specs.States.{State, phase_at, held_at, with_phase, HoldsNothing, ClaimsItsEntry, may_commit, IsPlaced, IsKept, WaitsForSealed}
 use Rattle.gx_phases.specs.Moves.{is_open, asks_commit, WritesEntry, HasWrite, MovedIn, moved, waits_for, with_work, covered}
 use Rattle.gx_phases.proofs.Moved.{set_map}
-use Rattle.gx_phases.proofs.Keeping.{low, kept_with, kept_session, same_session, numbers_left}
+use Rattle.gx_phases.proofs.Keeping.{low, kept_with, kept_session, no_wait, same_session, numbers_left}
 
 module _ {B W : Type 0} where
   open_commits : (p : Phase B W) → is_open p ≡ true → may_commit p ≡ 1
@@ -73,6 +73,14 @@ module _ {B W : Type 0} where
   work_commits work (phase.Undoing restored before) = refl
   work_commits work (phase.Waiting number) = refl
 
+  -- other work is no wait
+  work_sealed : (latest : ℕ) (work : W) (p : Phase B W) → WaitsForSealed latest p → WaitsForSealed latest (with_work work p).1
+  work_sealed latest work phase.Free sealed = sealed
+  work_sealed latest work phase.Working sealed = sealed
+  work_sealed latest work (phase.Open call before) sealed = no_wait latest (phase.Open call work) refl
+  work_sealed latest work (phase.Undoing restored before) sealed = no_wait latest (phase.Undoing restored work) refl
+  work_sealed latest work (phase.Waiting number) sealed = sealed
+
   -- a session that waits holds nothing
   waiting_nothing : (p : Phase B W) (number durable : ℕ) (h : Held B) → covered durable (waits_for p) ≡ Some number → HoldsNothing p h → h ≡ nothing_held
   waiting_nothing phase.Free number durable h is n = n
@@ -96,20 +104,21 @@ module _ {B W : Type 0} (k : Keys B) (old now : State B W) (same : old ≡ now) 
 
   -- a session that holds what it did is in another phase
   phase_kept : (phases' : List (Phase B W)) (q : Phase B W) → phases' ≡ with_phase s q old.phases → IsPlaced k q h → may_commit q ≤ may_commit p
-      → IsKept k (record old { phases = phases' })
-  phase_kept phases' q changed placed fewer =
+      → WaitsForSealed old.latest q → IsKept k (record old { phases = phases' })
+  phase_kept phases' q changed placed fewer waits =
       kept_session k old kept s is (record old { phases = phases' }) q h
-      ((λ i. record old { phases = changed i }) ∙ same_session k old kept s is q) placed fewer
+      ((λ i. record old { phases = changed i }) ∙ same_session k old kept s is q) placed fewer waits
 
   pub work_kept : (phases' : List (Phase B W)) (work : W) → phases' ≡ with_phase s (with_work work p).1 old.phases → IsKept k (record old { phases = phases' })
   work_kept phases' work changed =
       phase_kept phases' (with_work work p).1 changed (work_placed k work p h was) (omega (arith, work_commits work p))
+      (work_sealed old.latest work p (kept.sealed (s - 1)))
 
   pub answer_kept : (phases' : List (Phase B W)) → phases' ≡ with_phase s phase.Working old.phases → is_open (phase_at (s - 1) now.phases) ≡ true
       → IsKept k (record old { phases = phases' })
   answer_kept phases' changed open_now =
       phase_kept phases' phase.Working changed (record { nothing = tt; claimed = tt; in_order = was.in_order })
-      (omega (arith, open_commits p (test_old (λ (x : Phase B W). is_open x) open_now)))
+      (omega (arith, open_commits p (test_old (λ (x : Phase B W). is_open x) open_now))) (no_wait old.latest phase.Working refl)
 
   module _ (e : Entry B) (writes : HasWrite e (phase_at (s - 1) now.phases)) where
     writes_old : HasWrite e p
@@ -130,7 +139,7 @@ module _ {B W : Type 0} (k : Keys B) (old now : State B W) (same : old ≡ now) 
           claimed = tt;
           in_order = subst (InOrder k) (sym (entries_of-noting k n h.notes)) (in_order_including k l n.entry (entries_of h.notes) was.in_order);
         })
-        (omega (arith, write_commits e p writes_old))
+        (omega (arith, write_commits e p writes_old)) (no_wait old.latest phase.Working refl)
 
   module _ (commit : asks_commit (phase_at (s - 1) now.phases) ≡ true) where
     one : may_commit p ≡ 1
@@ -149,7 +158,7 @@ module _ {B W : Type 0} (k : Keys B) (old now : State B W) (same : old ≡ now) 
         changed freed kept.transactions (record { nothing = refl; claimed = tt; in_order = tt })
         (numbers_left old.phases phases' (s - 1) (phase.Waiting (old.latest + 1)) old.latest (old.latest + 1) kept.phases (low k old kept s is) changed kept.numbers
         (omega (arith, one)))
-        (omega (arith, kept.durable))
+        (omega (arith, kept.durable)) (omega arith) (λ number is. (let same : old.latest + 1 ≡ number = cc in omega (arith, same)))
 
   pub acknowledge_kept : (phases' : List (Phase B W)) (number : ℕ) → phases' ≡ with_phase s phase.Free old.phases
       → covered now.durable (waits_for (phase_at (s - 1) now.phases)) ≡ Some number → IsKept k (record old { phases = phases' })
@@ -158,6 +167,7 @@ module _ {B W : Type 0} (k : Keys B) (old now : State B W) (same : old ≡ now) 
       ap (λ (x : State B W). covered x.durable (waits_for (phase_at (s - 1) x.phases))) same ∙ covers in
       phase_kept phases' phase.Free changed
       (record { nothing = waiting_nothing p number old.durable h covers_old was.nothing; claimed = tt; in_order = was.in_order }) (omega arith)
+      (no_wait old.latest phase.Free refl)
 
   pub restored_kept : (phases' : List (Phase B W)) (table' : List (Held B)) (restored leaf : ℕ) (work : W) → phases' ≡ with_phase s (phase.Undoing (restored + 1) work) old.phases
       → MovedIn s restored leaf old.table table' → IsKept k (record old { phases = phases'; table = table' })
@@ -170,11 +180,11 @@ module _ {B W : Type 0} (k : Keys B) (old now : State B W) (same : old ≡ now) 
         claimed = tt;
         in_order = subst (InOrder k) (sym (set_map (λ (x : txn.Note B). x.entry) h.notes restored n (record n { leaf = leaf }) written.1 refl)) was.in_order;
       })
-      (omega arith)
+      (omega arith) (no_wait old.latest (phase.Undoing (restored + 1) work) refl)
 
   pub end_kept : (phases' : List (Phase B W)) (table' : List (Held B)) → phases' ≡ with_phase s phase.Free old.phases
       → table' ≡ with_held s nothing_held old.table → IsKept k (record old { phases = phases'; table = table' })
   end_kept phases' table' changed freed =
       kept_session k old kept s is (record old { phases = phases'; table = table' }) phase.Free nothing_held
       (λ i. record old { phases = changed i; table = freed i })
-      (record { nothing = refl; claimed = tt; in_order = tt }) (omega arith)
+      (record { nothing = refl; claimed = tt; in_order = tt }) (omega arith) (no_wait old.latest phase.Free refl)

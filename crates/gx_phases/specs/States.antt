@@ -122,6 +122,10 @@ may_commit (phase.Open call work) = 1
 may_commit (phase.Undoing restored work) = 0
 may_commit (phase.Waiting number) = 0
 
+-- a session that waits for its commit, waits for one that is sealed
+abbrev pub WaitsForSealed : {B W : Type 0} → ℕ → Phase B W → Type 0
+WaitsForSealed latest p = (number : ℕ) → p ≡ phase.Waiting number → number ≤ latest
+
 -- what is kept of each session: without a transaction it holds nothing; an open write claims its entry; notes are in the order
 -- of their entries
 pub record IsPlaced {B : Type 0} {W : Type 0} (k : Keys B) (p : Phase B W) (h : Held B) : Type 0 where
@@ -130,7 +134,7 @@ pub record IsPlaced {B : Type 0} {W : Type 0} (k : Keys B) (p : Phase B W) (h : 
   pub in_order : InOrder k (entries_of h.notes)
 
 -- What is kept of all: eight sessions, each as it should be; numbers are left for the commits of all transactions that may
--- commit; no commit is durable that isn't sealed.
+-- commit; no commit is durable that isn't sealed, and none is waited for.
 pub record IsKept {B : Type 0} {W : Type 0} (k : Keys B) (state : State B W) : Type 0 where
   pub phases : length state.phases ≡ SESSIONS
   pub table : length state.table ≡ SESSIONS
@@ -138,3 +142,4 @@ pub record IsKept {B : Type 0} {W : Type 0} (k : Keys B) (state : State B W) : T
   pub placed : (i : ℕ) → i < SESSIONS → IsPlaced k (phase_at i state.phases) (held_at i state.table)
   pub numbers : state.latest + sum_by may_commit state.phases ≤ LAST_NUMBER + SESSIONS
   pub durable : state.durable ≤ state.latest
+  pub sealed : (i : ℕ) → WaitsForSealed state.latest (phase_at i state.phases)

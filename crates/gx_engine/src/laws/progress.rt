@@ -28,9 +28,8 @@ pub fn each_step_leaves_less_to_flush<D: SectorDisk, K: ReadKeys>()
 {}
 
 /// What a session's move waits for has work to do: the page that it names may be written, the checkpoint that it names runs or is due, and while
-/// the log is named no checkpoint runs, and the log has a call to make. So it is of an engine over a device that doesn't lie, whose session
-/// waits for no commit that isn't sealed. And a move that waits leaves each session's call as much to do as it had, as does each event that
-/// helps.
+/// the log is named no checkpoint runs, and the log has a call to make. So it is of an engine over a device that doesn't lie. And a move that
+/// waits leaves each session's call as much to do as it had, as does each event that helps.
 ///
 /// Over any device a move that waits leaves no more to flush, and an event that has work to do does it, and leaves less to flush, or is
 /// refused.
@@ -55,7 +54,7 @@ pub fn a_page_that_waits_names_work<D: SectorDisk, K: ReadKeys>()
 {}
 
 /// A session's call that is moved alone, with the events that help it, comes to its end: fewer than 2^55 events are made of it. So it is of an
-/// engine over a device that doesn't lie, whose session waits for no commit that isn't sealed.
+/// engine over a device that doesn't lie.
 pub fn a_call_alone_ends<D: SectorDisk, K: ReadKeys>()
     ensures { (l : Limits) → CallEnds K.Key.Shape K.is_proper K.said K.KeyClass D.state l }
 {

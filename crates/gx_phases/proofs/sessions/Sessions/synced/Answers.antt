@@ -12,4 +12,5 @@ invariant_of-self g c =
       placed = is.placed;
       numbers = is.numbers;
       durable = omega (arith, c.requires.sealed, ap (λ (x : State g.row.B.Denot g.row.W.Denot). x.latest) c.self.view_is);
+      sealed = is.sealed;
     }
