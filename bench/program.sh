@@ -256,5 +256,78 @@ on_file "what a format leaves" 0 '1 ok
 1 found 0
 ' "" run places
 
+# CLOSED WORD..: a run with these words on the lines in $lines, with this standard stream closed (0, 1 or 2), or all of them.
+closing() {
+    local closed="$1"
+    shift
+    printf '%s' "$lines" > "$work/given"
+    : > "$work/out"
+    : > "$work/err"
+    status=0
+    case "$closed" in
+        0) "$program" "$@" <&- > "$work/out" 2> "$work/err" || status=$? ;;
+        1) "$program" "$@" < "$work/given" >&- 2> "$work/err" || status=$? ;;
+        2) "$program" "$@" < "$work/given" > "$work/out" 2>&- || status=$? ;;
+        all) "$program" "$@" <&- >&- 2>&- || status=$? ;;
+    esac
+}
+
+# Whether a file holds an index with this tree, as its dump tells it.
+has_tree() { "$program" dump "$1" | cmp -s - "$2"; }
+
+# Whatever streams are closed, only the index is written to its file, and nothing else is read from it.
+"$program" format kept 16 4 > /dev/null
+cp kept fresh
+printf '1 BEGIN\n1 INSERT 7 0 0 10 10\n1 COMMIT\n' | "$program" run kept > /dev/null
+"$program" dump kept > tree_before
+printf '1 ok\n1 inserted\n1 committed 2\n' > committed
+lines='1 BEGIN
+1 INSERT 8 1 1 2 2
+1 COMMIT
+'
+unread="^gist: the script can't be read"
+unwritten="^gist: a reply can't be written"
+for closed in 0 1 2 all; do
+    cp kept open
+    closing "$closed" run open
+    case "$closed" in
+        0) ended "a script with its input closed" 1 "$work/nothing" "$unread" ;;
+        1) ended "a script with its output closed" 1 "$work/nothing" "$unwritten" ;;
+        2) ended "a script with its error stream closed" 0 committed "" ;;
+        all) ended "a script with all streams closed" 1 "$work/nothing" "" ;;
+    esac
+    if [ "$closed" = 2 ]; then
+        "$program" dump open > tree
+        holds "its commit is there" grep -q '^entry 8 1 1 2 2 live$' tree
+        holds "and what was there before" grep -q '^entry 7 0 0 10 10 live$' tree
+    else
+        holds "it leaves the index, closed $closed" has_tree open tree_before
+    fi
+
+    cp kept open
+    closing "$closed" dump open
+    case "$closed" in
+        0 | 2) ended "a tree with stream $closed closed" 0 tree_before "" ;;
+        1) ended "a tree with its output closed" 1 "$work/nothing" "$unwritten" ;;
+        all) ended "a tree with all streams closed" 1 "$work/nothing" "" ;;
+    esac
+    holds "a dump leaves the index, closed $closed" has_tree open tree_before
+
+    cp zeros open
+    closing "$closed" dump open
+    holds "a dump of what is no index is refused, closed $closed" [ "$status" = 1 ]
+    holds "and leaves it, closed $closed" cmp -s open zeros
+
+    rm open
+    closing "$closed" format open 16 4
+    printf '%s' "$formatted" > "$work/wanted"
+    case "$closed" in
+        0 | 2) ended "a format with stream $closed closed" 0 "$work/wanted" "" ;;
+        1) ended "a format with its output closed" 1 "$work/nothing" "$unwritten" ;;
+        all) ended "a format with all streams closed" 1 "$work/nothing" "" ;;
+    esac
+    holds "it is made whole, closed $closed" cmp -s open fresh
+done
+
 echo "$passed passed, $failed failed"
 [ "$failed" = 0 ]

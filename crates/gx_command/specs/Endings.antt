@@ -1,6 +1,5 @@
 -- How a script on a fresh index ends: its status, what it has read, and what it has written.
-use Rattle.std.specs.Prelude.{ℕ, ◌≡◌, ◌⊎◌, ◌++◌, codes, Option, List}
-use Rattle.std.specs.Io.KnownBytes.{Appends, Keeps}
+use Rattle.std.specs.Prelude.{ℕ, ◌≡◌, ◌⊎◌, codes, List}
 use Rattle.gx_geom.specs.Rectangles.{Rectangle}
 use Rattle.gx_machine.specs.Machine.{fresh_machine}
 use Rattle.gx_script.specs.Scripts.{asked, IsDone, IsStopped}
@@ -8,40 +7,47 @@ use Rattle.gx_script.specs.declared.fault.ScriptFault.{ScriptFault}
 use Rattle.gx_plain.specs.Boxes.{box_keys}
 use Rattle.gx_plain.specs.Index.{Index, fresh_index, CallsIndex}
 use Rattle.gx_plain.specs.OneRun.{IsOneRun}
+use Rattle.gx_command.specs.Streams.{Stream, Outputs, HasEnded, IsFaultOf, Prints, TellsPerson}
 
 -- what a refused want of memory prints
 abbrev pub memory_line : List ℕ
 memory_line = codes "refused 10 memory\n"
 
--- the line of the refusal was written, or its front where a write failed
-pub record TellsMemory (held holds : Option (List ℕ)) (status : ℕ) : Type 0 where
-  pub written : List ℕ
-  pub lost : List ℕ
+-- memory was refused, which is written
+pub record TellsMemory (old new : Stream) (status : ℕ) : Type 0 where
   pub status_is : status ≡ 1
-  pub wrote : Appends held holds written
-  pub line : memory_line ≡ written ++ lost
+  pub told : Prints memory_line old new
+
+-- a person is told what stopped a script; or nothing, where whoever reads the replies has left
+abbrev pub TellsFault : Stream → Stream → Type 0
+TellsFault old new = (new ≡ old) ⊎ ((sentence : List ℕ) × TellsPerson sentence old new)
 
 -- memory was refused, and nothing was read
-abbrev pub LacksMemory : Option (List ℕ) → Option (List ℕ) → Option (List ℕ) → Option (List ℕ) → ℕ → Type 0
-LacksMemory had left held holds status = Keeps had left × TellsMemory held holds status
+pub record LacksMemory (had left : Stream) (old new : Outputs) (status : ℕ) : Type 0 where
+  pub unread : left ≡ had
+  pub tells : TellsMemory old.replies new.replies status
+  pub quiet : new.person ≡ old.person
 
 -- the script ran to its end, on an index that was fresh
-pub record RanScript (had left held holds : Option (List ℕ)) (status : ℕ) : Type 0 where
+pub record RanScript (had left : Stream) (old new : Outputs) (status : ℕ) : Type 0 where
   pub index : Index Rectangle
   pub status_is : status ≡ 0
-  pub done : IsDone (CallsIndex box_keys) had left held holds fresh_index index
+  pub done : IsDone (CallsIndex box_keys) had.bytes left.bytes old.replies.bytes new.replies.bytes fresh_index index
   -- what its lines asked and were answered is one run of the machine, and this is its text
   pub one_run : IsOneRun 1 (asked done.input) fresh_machine index.machine done.text
+  pub ended : HasEnded left
+  pub quiet : new.person ≡ old.person
 
--- the script was stopped by a fault, which is this
-pub record StoppedScript (is_fault : ScriptFault → Type 0) (had left held holds : Option (List ℕ)) (status : ℕ) : Type 0 where
+-- the script was stopped by a fault of its reader or its writer, of which a person is told
+pub record StoppedScript (had left : Stream) (old new : Outputs) (status : ℕ) : Type 0 where
   pub index : Index Rectangle
   pub fault : ScriptFault
   pub status_is : status ≡ 1
-  pub stopped : IsStopped (CallsIndex box_keys) had left held holds fresh_index index fault
-  pub is : is_fault fault
+  pub stopped : IsStopped (CallsIndex box_keys) had.bytes left.bytes old.replies.bytes new.replies.bytes fresh_index index fault
+  pub faulty : IsFaultOf left new.replies fault
+  pub tells : TellsFault old.person new.person
 
 -- how a script on a fresh index may end
-abbrev pub EndsScript : (ScriptFault → Type 0) → Option (List ℕ) → Option (List ℕ) → Option (List ℕ) → Option (List ℕ) → ℕ → Type 0
-EndsScript is_fault had left held holds status =
-    LacksMemory had left held holds status ⊎ RanScript had left held holds status ⊎ StoppedScript is_fault had left held holds status
+abbrev pub EndsScript : Stream → Stream → Outputs → Outputs → ℕ → Type 0
+EndsScript had left old new status =
+    LacksMemory had left old new status ⊎ (RanScript had left old new status ⊎ StoppedScript had left old new status)

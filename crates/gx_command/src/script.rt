@@ -1,12 +1,10 @@
 //! A script on a fresh index, from its first byte to the program's status.
-ghost use Rattle.std.specs.Prelude.{◌≡◌};
-ghost use Rattle.std.specs.Io.KnownBytes.{Keeps};
-ghost use Rattle.gx_script.specs.Noting.{IsFaultOf};
 ghost use Rattle.gx_command.specs.Endings.{TellsMemory, EndsScript};
+ghost use Rattle.gx_command.specs.Streams.{outputs_of, stream_of};
 
-use crate::faults;
+use crate::person::{print, tell_fault};
 use gx_plain::{PlainIndex, run_plain};
-use gx_script::{Noted, write_whole};
+use gx_script::{Noted, ScriptFault};
 use std::alloc::Global;
 use std::io::{Read, Write};
 
@@ -16,28 +14,27 @@ const DONE: u8 = 0;
 /// Status: a refusal outside of a script, or a script that a fault stopped.
 const REFUSED: u8 = 1;
 
-/// Tells that memory was refused, and answers the status.
+/// Tells that memory was refused, and returns the status.
 pub fn refuse_memory<W: Write>(writer: &mut Noted<W>) -> u8
-    ensures { TellsMemory (W.contents writer.old.inner) (W.contents writer.new.inner) result }
+    ensures { TellsMemory (stream_of W.contents writer.old) (stream_of W.contents writer.new) result }
 {
-    let _ = write_whole(writer, b"refused 10 memory\n");
+    print(writer, b"refused 10 memory\n");
     REFUSED
 }
 
-/// Runs a script on a fresh index in memory, writes the index's replies, and answers the status.
+/// Runs a script on a fresh index in memory, writes the index's replies, and returns the status.
 ///
-/// The status is 0 where the script was read to its end; and 1 where the last read failed, or the last write failed or took
-/// nothing, or 2^32 calls were made of one of both, about which a line is written to `faults` unless whoever reads the
-/// replies has left; and where memory is refused before the script begins, which writes `refused 10 memory`.
+/// The status is 0 where the script was read to its end; and 1 where a read or a write failed, of which a person is told
+/// unless whoever reads the replies has left, and where memory is refused before the script begins, which writes
+/// `refused 10 memory`.
 pub fn run_script<R: Read, W: Write, E: Write>(
     alloc: Global,
     reader: &mut Noted<R>,
     writer: &mut Noted<W>,
-    faults: &mut E,
+    faults: &mut Noted<E>,
 ) -> u8
-    ensures ends { EndsScript (IsFaultOf reader.new writer.new) (R.remaining reader.old.inner) (R.remaining reader.new.inner)
-        (W.contents writer.old.inner) (W.contents writer.new.inner) result }
-    ensures quiet { result ≡ 0 → Keeps (E.contents faults.old) (E.contents faults.new) }
+    ensures { EndsScript (stream_of R.remaining reader.old) (stream_of R.remaining reader.new)
+        (outputs_of W.contents E.contents writer.old faults.old) (outputs_of W.contents E.contents writer.new faults.new) result }
 {
     let Ok(mut index) = PlainIndex::new(alloc) else {
         return refuse_memory(writer);
@@ -45,7 +42,11 @@ pub fn run_script<R: Read, W: Write, E: Write>(
     match run_plain(reader, writer, &mut index) {
         Ok(()) => DONE,
         Err(fault) => {
-            faults::tell(faults, fault, reader.kind, writer.kind);
+            let kind = match fault {
+                ScriptFault::Read => reader.kind,
+                ScriptFault::Write => writer.kind,
+            };
+            tell_fault(faults, fault, kind);
             REFUSED
         }
     }

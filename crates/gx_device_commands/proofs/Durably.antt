@@ -1,8 +1,7 @@
 -- A run with status 0 over an honest device is one run of the machine, and durable.
-use Rattle.std.proofs.Common.{◌≡◌, ◌≤◌, ℕ, ◌+◌, Bool, true, false, List, [], ◌∷◌, Option, inl, inr, refl, ap, sym, ◌∙◌, arith}
+use Rattle.std.proofs.Common.{◌≡◌, ◌≤◌, ℕ, ◌+◌, Bool, true, false, List, [], ◌∷◌, Option, inl, inr, refl, ap, sym, subst, ◌∙◌, arith}
 use Rattle.std.specs.Prelude.{Result, Ok, Err, OnOk}
-use Rattle.std.specs.Io.KnownBytes.{Keeps}
-use Rattle.std.proofs.KnownBytes.{Appends-kept}
+use Rattle.std.specs.Io.KnownBytes.{Appends}
 use Rattle.gx_geom.specs.Rectangles.{Rectangle}
 use Rattle.gx_geom.specs.declared.refusal.Refusal.{Refusal}
 use Rattle.gx_machine.specs.declared.entry.Entry.{Entry}
@@ -32,9 +31,11 @@ use Rattle.gx_restart.specs.Called.{CallsIndex}
 use Rattle.gx_restart.specs.States.{State}
 use Rattle.gx_restart.proofs.Durable.{all_durable}
 use Rattle.gx_restart.proofs.Scripts.{script_alone}
+use Rattle.gx_command.specs.Streams.{Outputs, Stream}
 use Rattle.gx_device_commands.specs.Durably.{EndsDurably, StandsForLast}
 use Rattle.gx_device_commands.specs.Endings.{EndsBy, EndsSettling, HasRun, RunsOver, TellsSettled, WasOpened, watched_over}
 use Rattle.gx_device_commands.proofs.Forgetting.{script_forgets}
+use Rattle.gx_device_commands.proofs.Refusing.{refused_status}
 
 module _ {C D : Type 0} (shape : Members Rectangle) (is_key : Rectangle → Bool) (said : List ℕ → Rectangle) (class : Ghosts C Rectangle) (state : D → Device) where
   abbrev makes : Parts Rectangle D → Event Rectangle → Outcome Rectangle → Parts Rectangle D → Type 0
@@ -44,15 +45,15 @@ module _ {C D : Type 0} (shape : Members Rectangle) (is_key : Rectangle → Bool
   zero_not is = absurd (let bad : ⊥ = omega arith in bad)
 
   -- with status 0 nothing was met, and the index was settled
-  met_nothing : (met : Bool) (index : State Rectangle D) (written holds : Option (List ℕ)) → EndsBy shape is_key said class state met index written holds 0
-      → (met ≡ false) × EndsSettling shape is_key said class state index written holds 0
-  met_nothing true index written holds ends = zero_not ends.0
-  met_nothing false index written holds ends = (refl, ends)
+  met_nothing : (met : Bool) (index : State Rectangle D) (after : D) (from to : Outputs) → EndsBy shape is_key said class state met index after from to 0
+      → (met ≡ false) × EndsSettling shape is_key said class state index after from to 0
+  met_nothing true index after from to ends = zero_not ends.0
+  met_nothing false index after from to ends = (refl, ends)
 
   -- and the settling ended well
-  settled_well : {P : Type 0} (result : Result (Unit {0}) Refusal) (written holds : Option (List ℕ)) → OnOk result P → TellsSettled result written holds 0 → P × Keeps written holds
-  settled_well (Ok done) written holds well told = (well, told.1)
-  settled_well (Err why) written holds well told = zero_not told.status_is
+  settled_well : {P : Type 0} (result : Result (Unit {0}) Refusal) (from to : Outputs) → OnOk result P → TellsSettled result from to 0 → P × (to ≡ from)
+  settled_well (Ok done) from to well told = (well, told.1)
+  settled_well (Err why) from to well told = zero_not told.status_is
 
   module _ (never : (l : Limits) → AskedEnds shape is_key said class state l) (lawful : (l : Limits) → 4 ≤ l.most → IsLawful (class_of shape is_key l)) (boxes : (l : Limits) → (class_of shape is_key l).keys ≡ box_keys) where
     -- what a crash may leave of an index at rest stands for its last set
@@ -66,13 +67,14 @@ module _ {C D : Type 0} (shape : Members Rectangle) (is_key : Rectangle → Bool
         let gated = sym h.whole.sets.first ∙ h.sessions.oldest ∙ all_durable _ _ _ _ (state e.volume.shelf.disk) e bodies i h rest.quiet ∙ h.latest in
         record { stands = stands; last = omega (arith, gated, stands.stands.at_least, stands.stands.at_most) }
 
-    ran_durably : (number frames : ℕ) (disk : D) (had left held holds : Option (List ℕ)) → (state disk).honest ≡ true
-        → (opened : WasOpened shape is_key said class state number frames disk had left held holds 0) → HasRun shape is_key said class state (watched_over shape is_key said class state opened.engine) had left held holds 0
-        → EndsDurably shape is_key said class state number disk had left held holds
-    ran_durably number frames disk had left held holds honest opened ran =
-        let ended = met_nothing ran.new.met ran.new.index ran.written holds ran.ends in
+    ran_durably : (number frames : ℕ) (disk after : D) (had left : Stream) (from to : Outputs) → (state disk).honest ≡ true
+        → (opened : WasOpened shape is_key said class state number frames disk after had left from to 0)
+        → HasRun shape is_key said class state (watched_over shape is_key said class state opened.engine) after had left from to 0
+        → EndsDurably shape is_key said class state number disk after had left from to
+    ran_durably number frames disk after had left from to honest opened ran =
+        let ended = met_nothing ran.new.met ran.new.index after ran.between to ran.ends in
         let settled = ended.1 in
-        let rest = settled_well {P = IsAtRest settled.new.engine} settled.result ran.written holds settled.rests settled.told in
+        let rest = settled_well {P = IsAtRest settled.new.engine} settled.result ran.between to settled.rests settled.told in
         let is = opened.opening.opened honest in
         let p = is.parameters in
         let lc = lawful (limits_of p) is.holds.holds.some in
@@ -86,9 +88,10 @@ module _ {C D : Type 0} (shape : Members Rectangle) (is_key : Rectangle → Bool
           text = ran.done.text;
           read = ran.done.read;
           at_end = ran.done.at_end;
-          wrote = Appends-kept held ran.written holds ran.done.text ran.done.wrote rest.1;
+          wrote = subst (λ (o : Outputs). Appends from.replies.bytes o.replies.bytes ran.done.text) (sym rest.1) ran.done.wrote;
           ended = ran.new.index.engine;
           settled = settled.new.engine;
+          left_is = settled.left;
           runs = λ set kept.
               let run = script_alone shape is_key said class state (limits_of p) 1 (asked ran.done.input) old ran.new.index ran.done.text (boxes (limits_of p)) refl (never (limits_of p)) lc script
               is.holds.bodies is.holds.index is.holds.holds _ (is.seen set kept) in
@@ -104,11 +107,12 @@ module _ {C D : Type 0} (shape : Members Rectangle) (is_key : Rectangle → Bool
               };
         }
 
-    pub ends_durably : (number frames : ℕ) (disk : D) (had left held holds : Option (List ℕ)) → (state disk).honest ≡ true
-        → RunsOver shape is_key said class state number frames disk had left held holds 0 → EndsDurably shape is_key said class state number disk had left held holds
-    ends_durably number frames disk had left held holds honest (inl refused) = zero_not refused.told.status_is
-    ends_durably number frames disk had left held holds honest (inr opened) =
+    pub ends_durably : (number frames : ℕ) (disk after : D) (had left : Stream) (from to : Outputs) → (state disk).honest ≡ true
+        → RunsOver shape is_key said class state number frames disk after had left from to 0
+        → EndsDurably shape is_key said class state number disk after had left from to
+    ends_durably number frames disk after had left from to honest (inl refused) = zero_not (refused_status shape is_key said class state number refused.refused.why refused.refused.disk after from to 0 refused.told)
+    ends_durably number frames disk after had left from to honest (inr opened) =
         elim opened.script [
-          | inl ran ↦ ran_durably number frames disk had left held holds honest opened ran
+          | inl ran ↦ ran_durably number frames disk after had left from to honest opened ran
           | inr stopped ↦ zero_not stopped.status_is
         ]

@@ -1,4 +1,6 @@
+pub mod Refusing
+pub mod Faults
+pub mod Over
 pub mod Forgetting
-pub mod Endings
 pub mod Dumped
 pub mod Durably

@@ -1,5 +1,5 @@
 -- A script over an honest device that ended with status 0: one run of the set machine, and all of it is durable.
-use Rattle.std.specs.Prelude.{ℕ, ◌≡◌, Bool, List, Option}
+use Rattle.std.specs.Prelude.{ℕ, ◌≡◌, Bool, List}
 use Rattle.std.specs.Io.KnownBytes.{Appends, Consumes, IsAtEnd}
 use Rattle.gx_geom.specs.Rectangles.{Rectangle}
 use Rattle.gx_machine.specs.declared.entry.Entry.{Entry}
@@ -26,6 +26,7 @@ use Rattle.gx_engine.specs.Running.{Ran}
 use Rattle.gx_engine.specs.States.{Parts}
 use Rattle.gx_opening.specs.Standing.{IsFormatted, known_for, limits_of, reading}
 use Rattle.gx_restart.specs.Beginning.{IsGoodLog}
+use Rattle.gx_command.specs.Streams.{Outputs, Stream}
 
 module _ {C D : Type 0} (shape : Members Rectangle) (is_key : Rectangle → Bool) (said : List ℕ → Rectangle) (class : Ghosts C Rectangle) (state : D → Device) where
   -- An image stands for the last set that an index keeps, under its number.
@@ -46,18 +47,19 @@ module _ {C D : Type 0} (shape : Members Rectangle) (is_key : Rectangle → Bool
     pub stands : (image : List ℕ) → MayLeave (state settled.volume.shelf.disk) image → StandsForLast p settling.index image
 
   -- A device was opened that is formatted for an index of the class, and has a sound log; the script was read to its end, and its text
-  -- written; and it ran so from the set that the log keeps.
-  pub record EndsDurably (number : ℕ) (disk : D) (had left held holds : Option (List ℕ)) : Type 0 where
+  -- written; it ran so from the set that the log keeps; and the device that is left is the settled engine's.
+  pub record EndsDurably (number : ℕ) (disk after : D) (had left : Stream) (from to : Outputs) : Type 0 where
     pub parameters : Parameters
     pub formatted : IsFormatted shape is_key said (format_of class) number (state disk) parameters
     pub found : IsGoodLog shape is_key said (format_of class) parameters (state disk).seen
     pub input : List ℕ
     pub text : List ℕ
-    pub read : Consumes had left input
-    pub at_end : IsAtEnd left
-    pub wrote : Appends held holds text
+    pub read : Consumes had.bytes left.bytes input
+    pub at_end : IsAtEnd left.bytes
+    pub wrote : Appends from.replies.bytes to.replies.bytes text
     pub ended : Parts Rectangle D
     pub settled : Parts Rectangle D
+    pub left_is : after ≡ settled.volume.shelf.disk
     pub runs : (set : List (Entry Rectangle))
         → IsSetOf (class_of shape is_key (limits_of parameters)).keys
         (stands_for (known_for shape is_key said (format_of class) parameters)

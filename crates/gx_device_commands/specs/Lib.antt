@@ -1,4 +1,5 @@
 pub mod Lines
+pub mod Refusing
 pub mod Watching
 pub mod Openings
 pub mod Endings

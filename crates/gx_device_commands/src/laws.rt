@@ -1,6 +1,7 @@
 //! What a watched script says of the index, and a status of 0 of the device, after a script and after a dump. Each function is its
 //! contract alone.
 ghost use Rattle.std.specs.Prelude.{◌≡◌, ℕ, List, Option, false, true};
+ghost use Rattle.gx_command.specs.Streams.{Outputs, Stream};
 ghost use Rattle.gx_device_commands.specs.Durably.{EndsDurably};
 ghost use Rattle.gx_device_commands.specs.Dumping.{DumpsOver, TellsKept};
 ghost use Rattle.gx_device_commands.specs.Endings.{RunsOver};
@@ -33,12 +34,12 @@ pub fn a_script_that_met_nothing_is_faultless<I: Answers>()
 {}
 
 /// Where a script over an honest device ended with status 0, what its lines asked and were answered is one run of the set machine, which
-/// begins with the set that the device's log kept, under its number. All commits are durable then, and each image that a crash may leave
-/// stands for the last set.
+/// begins with the set that the device's log kept, under its number. On the device that is left all commits are durable, and each image that a
+/// crash may leave of it stands for the last set.
 pub fn a_run_that_is_done_is_durable<D: SectorDisk, K: ReadKeys + KeyClass<Key = Box2>>()
-    ensures { (number frames : ℕ) (disk : D) (had left held holds : Option (List ℕ)) → (D.state disk).honest ≡ true
-        → RunsOver ⟦<Box2 as Shape>⟧ K.is_proper K.said K.KeyClass D.state number frames disk had left held holds 0
-        → EndsDurably ⟦<Box2 as Shape>⟧ K.is_proper K.said K.KeyClass D.state number disk had left held holds }
+    ensures { (number frames : ℕ) (disk after : D) (had left : Stream) (from to : Outputs) → (D.state disk).honest ≡ true
+        → RunsOver ⟦<Box2 as Shape>⟧ K.is_proper K.said K.KeyClass D.state number frames disk after had left from to 0
+        → EndsDurably ⟦<Box2 as Shape>⟧ K.is_proper K.said K.KeyClass D.state number disk after had left from to }
 {
     gx_engine::laws::a_class_is_lawful::<K>();
     gx_engine::laws::progress::no_call_is_given_up::<D, K>();
@@ -47,7 +48,7 @@ pub fn a_run_that_is_done_is_durable<D: SectorDisk, K: ReadKeys + KeyClass<Key =
 /// Where a dump over an honest device ended with status 0, what was written is the text of the tree of an index that has the set which the
 /// device's log kept, with that set's number.
 pub fn a_dump_that_is_done_tells_what_was_kept<D: SectorDisk, K: ReadKeys + KeyClass<Key = Box2>>()
-    ensures { (number frames : ℕ) (disk : D) (held holds : Option (List ℕ)) → (D.state disk).honest ≡ true
-        → DumpsOver ⟦<Box2 as Shape>⟧ K.is_proper K.said K.KeyClass D.state number frames disk held holds 0
-        → TellsKept ⟦<Box2 as Shape>⟧ K.is_proper K.said K.KeyClass D.state number disk held holds }
+    ensures { (number frames : ℕ) (disk after : D) (from to : Outputs) → (D.state disk).honest ≡ true
+        → DumpsOver ⟦<Box2 as Shape>⟧ K.is_proper K.said K.KeyClass D.state number frames disk after from to 0
+        → TellsKept ⟦<Box2 as Shape>⟧ K.is_proper K.said K.KeyClass D.state number disk from to }
 {}

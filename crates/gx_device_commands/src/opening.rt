@@ -1,14 +1,19 @@
 //! The opening of a device, in one word; and what is told where it is refused.
-ghost use Rattle.gx_device_commands.specs.Endings.{Refuses};
+ghost use Rattle.std.specs.Prelude.{◌≡◌, ◌≤◌, IfSome, length};
+ghost use Rattle.std.specs.String.{string_bytes};
+ghost use Rattle.gx_command.specs.Streams.{outputs_of, stream_of};
+ghost use Rattle.gx_device_commands.specs.Lines.{damage_sentence};
 ghost use Rattle.gx_device_commands.specs.Openings.{Opens};
+ghost use Rattle.gx_device_commands.specs.Refusing.{TellsFound, TellsOpening};
 
-use crate::refusals::{print_refusal, refuse};
+use crate::REFUSED;
+use crate::refusals::{print_refusal, refuse, tell_refused};
 use gx_class::{KeyClass, Probing};
-use gx_command::Noted;
+use gx_command::{Noted, SENTENCE, tell_person};
 use gx_disk::SectorDisk;
 use gx_engine::Engine;
 use gx_geom::{Box2, Refusal, Shape};
-use gx_opening::examine;
+use gx_opening::{Damage, examine};
 use gx_readings::ReadKeys;
 use gx_restart::{NotOpened, open};
 use std::alloc::Global;
@@ -27,26 +32,49 @@ where
     open(alloc, disk, frames)
 }
 
-/// Writes the line of an opening that was refused, `refused N text`, and to `faults` a sentence for a person, and answers the status, 1. Where the
-/// device is damaged it is examined, and the sentence says where: in its log or on which page, and which rule is broken there.
+// The sentence that tells a person of damage, unless it is too long, or there is no memory for it.
+fn sentence_of(alloc: Global, damage: Damage) -> Option<String>
+    ensures words { IfSome result (λ sentence. string_bytes sentence ≡ damage_sentence damage) }
+    ensures short { IfSome result (λ sentence. length (string_bytes sentence) ≤ SENTENCE) }
+{
+    match format!(in alloc; "what the device holds is damaged: {damage}") {
+        Ok(sentence) if sentence.len() <= SENTENCE => Some(sentence),
+        _ => None,
+    }
+}
+
+// Tells a person of damage, where it was found.
+fn tell_found<E: Write>(alloc: Global, faults: &mut Noted<E>, found: Option<Damage>)
+    ensures { TellsFound found (stream_of E.contents faults.old) (stream_of E.contents faults.new) }
+{
+    let Some(damage) = found else {
+        return tell_refused(faults, Refusal::Damaged);
+    };
+    match sentence_of(alloc, damage) {
+        Some(sentence) => tell_person(faults, sentence.as_str()),
+        None => tell_refused(faults, Refusal::Damaged),
+    }
+}
+
+/// Writes the line of an opening that was refused, `refused N text`, tells a person what it means, and returns the device and the status, 1.
+/// Where the device is damaged it is examined, and the person is told where: in its log or on which page, and which rule is broken there.
 pub(crate) fn refuse_opening<D: SectorDisk + Drop, K: ReadKeys, W: Write, E: Write>(
     alloc: Global,
     refused: NotOpened<D>,
     writer: &mut Noted<W>,
-    faults: &mut E,
-) -> u8
-    ensures { Refuses refused.why (W.contents writer.old.inner) (W.contents writer.new.inner) result }
+    faults: &mut Noted<E>,
+) -> (D, u8)
+    ensures { TellsOpening K.Key.Shape K.is_proper K.said K.KeyClass D.state K.CLASS refused.why refused.disk result.0
+        (outputs_of W.contents E.contents writer.old faults.old) (outputs_of W.contents E.contents writer.new faults.new) result.1 }
 {
     let NotOpened { why, disk } = refused;
-    if why != Refusal::Damaged {
-        return refuse(writer, faults, why);
-    }
-    let (_disk, damage) = examine::<D, K>(alloc, disk);
-    match damage {
-        Some(damage) => {
-            let _ = writeln!(faults, "gist: what the device holds is damaged: {damage}");
-            print_refusal(writer, why)
+    match why {
+        Refusal::Damaged => {
+            let (disk, found) = examine::<D, K>(alloc, disk);
+            tell_found(alloc, faults, found);
+            print_refusal(writer, why);
+            (disk, REFUSED)
         }
-        None => refuse(writer, faults, why),
+        _ => (disk, refuse(writer, faults, why)),
     }
 }

@@ -1,13 +1,14 @@
 //! A refusal outside of a script, told.
-ghost use Rattle.std.specs.Prelude.{◌≡◌};
-ghost use Rattle.gx_device_commands.specs.Endings.{Refuses};
-ghost use Rattle.gx_device_commands.specs.Lines.{refusal_line};
+ghost use Rattle.std.specs.Prelude.{◌≡◌, ◌≤◌, length};
+ghost use Rattle.gx_command.specs.Streams.{Prints, TellsPerson, outputs_of, stream_of};
+ghost use Rattle.gx_geom.specs.Refusals.{refusal_text};
+ghost use Rattle.gx_device_commands.specs.Lines.{refusal_line, sentence_of};
+ghost use Rattle.gx_device_commands.specs.Refusing.{Refuses};
 
 use crate::REFUSED;
 use arrayvec::ArrayString;
-use gx_command::Noted;
+use gx_command::{Noted, print, tell_person};
 use gx_geom::Refusal;
-use gx_script::write_whole;
 use itoa::Buffer;
 use std::io::Write;
 
@@ -29,8 +30,13 @@ fn line_of(why: Refusal) -> ArrayString<LONGEST>
     line
 }
 
-// What a person is told of a refusal: of one that comes outside of scripts more than its text says.
-fn sentence(why: Refusal, text: &str) -> &str {
+// What a person is told of a refusal, of which this is the text: of one that comes outside of scripts more than that says.
+fn sentence(why: Refusal, text: &str) -> &str
+    requires words { text.now ≡ refusal_text why }
+    requires short { length text.now ≤ 16 }
+    ensures words { result.now ≡ sentence_of why }
+    ensures short { length result.now ≤ 128 }
+{
     match why {
         Refusal::Memory => "there isn't enough memory",
         Refusal::Device => "a read, a write or a sync of the device failed",
@@ -45,20 +51,26 @@ fn sentence(why: Refusal, text: &str) -> &str {
     }
 }
 
-/// Writes the line of a refusal, `refused N text`, and answers the status, 1.
-pub fn print_refusal<W: Write>(writer: &mut Noted<W>, why: Refusal) -> u8
-    ensures { Refuses why (W.contents writer.old.inner) (W.contents writer.new.inner) result }
-{
-    let _ = write_whole(writer, line_of(why).as_str().as_bytes());
-    REFUSED
-}
-
-/// Writes the line of a refusal, `refused N text`, and to `faults` a sentence for a person, and answers the status, 1.
-pub fn refuse<W: Write, E: Write>(writer: &mut Noted<W>, faults: &mut E, why: Refusal) -> u8
-    ensures { Refuses why (W.contents writer.old.inner) (W.contents writer.new.inner) result }
+/// Tells a person what a refusal outside of a script means.
+pub(crate) fn tell_refused<E: Write>(faults: &mut Noted<E>, why: Refusal)
+    ensures { TellsPerson (sentence_of why) (stream_of E.contents faults.old) (stream_of E.contents faults.new) }
 {
     let text = why.text();
-    let sentence = sentence(why, text.as_str());
-    let _ = writeln!(faults, "gist: {sentence}");
-    print_refusal(writer, why)
+    tell_person(faults, sentence(why, text.as_str()));
+}
+
+/// Writes the line of a refusal, `refused N text`.
+pub fn print_refusal<W: Write>(writer: &mut Noted<W>, why: Refusal)
+    ensures { Prints (refusal_line why) (stream_of W.contents writer.old) (stream_of W.contents writer.new) }
+{
+    print(writer, line_of(why).as_str().as_bytes());
+}
+
+/// Writes the line of a refusal, `refused N text`, tells a person what it means, and returns the status, 1.
+pub fn refuse<W: Write, E: Write>(writer: &mut Noted<W>, faults: &mut Noted<E>, why: Refusal) -> u8
+    ensures { Refuses why (outputs_of W.contents E.contents writer.old faults.old) (outputs_of W.contents E.contents writer.new faults.new) result }
+{
+    tell_refused(faults, why);
+    print_refusal(writer, why);
+    REFUSED
 }

@@ -8,3 +8,4 @@ pub mod Moments
 pub mod Past
 pub mod Room
 pub mod Sectors
+pub mod Streams

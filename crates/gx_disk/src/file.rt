@@ -2,16 +2,22 @@
 //!
 //! Nothing is claimed of what the file holds: that the system keeps it is a premise of whoever runs on a file.
 ghost use Rattle.std.specs.Prelude.{◌≡◌, ◌+◌, ◌*◌, ◌^◌, ◌<◌, ◌≤◌, ℕ, List, length, IsOk, IsErr, IfOk};
+ghost use Rattle.gx_disk.specs.Streams.{IsNoStream};
 
 use crate::device::{DiskFault, SECTOR_SIZE, SectorDisk};
 use crate::tally::{Tally, counted};
 use std::fs::{File, Files, OpenOptions};
+use std::os::fd::AsRawFd;
 use std::os::unix::fs::FileExt;
 use std::path::AsPath;
 
 const SECTOR: u64 = SECTOR_SIZE as u64;
 
-/// A file of whole sectors, which no other opener of this kind has.
+/// The greatest descriptor that a standard stream has.
+const LAST_STREAM: i32 = 2;
+
+/// A file of whole sectors, which no other opener of this kind has. Its descriptor is no standard stream's, also where those are closed: so
+/// nothing that a program writes to its output can reach the file, and its input is never read from it.
 #[derive(Drop)]
 pub struct FileDisk {
     file: File,
@@ -21,10 +27,26 @@ pub struct FileDisk {
     faults: Tally,
     calls: Tally,
     ghost addressable: { 512 * sectors < 2 ^ 64 },
+    ghost no_stream: { IsNoStream file },
+}
+
+// Another handle of the file where the system opened it in the place of a standard stream that is closed.
+fn beside_streams(file: File) -> Result<File, DiskFault>
+    ensures { IfOk result IsNoStream }
+{
+    if file.as_raw_fd() > LAST_STREAM {
+        return Ok(file);
+    }
+    match file.try_clone() {
+        Ok(other) if other.as_raw_fd() > LAST_STREAM => Ok(other),
+        _ => Err(DiskFault::File),
+    }
 }
 
 // The lock on the file, which ends with the file's last handle.
-fn lock(file: File) -> Result<File, DiskFault> {
+fn lock(file: File) -> Result<File, DiskFault>
+    ensures { IfOk result (λ locked. locked ≡ file) }
+{
     match file.try_lock() {
         Ok(()) => Ok(file),
         Err(_) => Err(DiskFault::InUse),
@@ -54,14 +76,16 @@ fn open_file<R: Files<File = File>, P: AsPath>(
     rt: &R,
     path: P,
     create: bool,
-) -> Result<File, DiskFault> {
+) -> Result<File, DiskFault>
+    ensures { IfOk result IsNoStream }
+{
     match OpenOptions::new()
         .read(true)
         .write(true)
         .create(create)
         .open(rt, path)
     {
-        Ok(file) => lock(file),
+        Ok(file) => lock(beside_streams(file)?),
         Err(_) => Err(DiskFault::File),
     }
 }

@@ -1,6 +1,5 @@
 -- How the program ends: its status, what it has read, and what it has written.
-use Rattle.std.specs.Prelude.{ℕ, ◌≡◌, ◌≢◌, ◌≤◌, ◌⊎◌, Option, List, []}
-use Rattle.std.specs.Io.KnownBytes.{Keeps}
+use Rattle.std.specs.Prelude.{ℕ, ◌≡◌, ◌≢◌, ◌≤◌, ◌⊎◌, List, [], ◌++◌, codes}
 use Rattle.clap.specs.Words.{Text, fault_of}
 use Rattle.gx_geom.specs.Rectangles.{Rectangle}
 use Rattle.gx_geom.specs.declared.refusal.Refusal.TheVariants.{Device as NoDevice}
@@ -11,10 +10,11 @@ use Rattle.gx_disk.specs.Device.{Device}
 use Rattle.gx_disk.specs.declared.file.FileDisk.{FileDisk}
 use Rattle.gx_format.specs.Formatting.{sectors_of}
 use Rattle.gx_format.specs.Fresh.{fresh_root}
-use Rattle.gx_script.specs.declared.fault.ScriptFault.{ScriptFault}
 use Rattle.gx_command.specs.Endings.{LacksMemory, EndsScript}
+use Rattle.gx_command.specs.Streams.{Outputs, Prints, Stream, TellsPerson}
 use Rattle.gx_device_commands.specs.Dumping.{DumpsOver}
-use Rattle.gx_device_commands.specs.Endings.{FormatsOver, Refuses, RunsOver}
+use Rattle.gx_device_commands.specs.Endings.{FormatsOver, RunsOver}
+use Rattle.gx_device_commands.specs.Lines.{refusal_line}
 use Rattle.gx_words.specs.Asking.{WordsAsk}
 use Rattle.gx_words.specs.Program.{gist_app}
 use Rattle.gx_words.specs.declared.asking.Asked.{Asked}
@@ -22,69 +22,79 @@ use Rattle.gx_words.specs.declared.asking.Asked.TheVariants.{Plain, Format, Run,
 use Rattle.gx_words.specs.declared.words.WordsFault.{WordsFault}
 use Rattle.gx_words.specs.declared.words.WordsFault.TheVariants.{NotText, Memory}
 
--- wrong words or a call for help: nothing was read, and nothing written
-pub record HasWrongWords (had left held holds : Option (List ℕ)) (status : ℕ) : Type 0 where
+-- wrong words or a call for help: nothing was read, and no reply written
+pub record HasWrongWords (had left : Stream) (from to : Outputs) (status : ℕ) : Type 0 where
   pub status_is : status ≡ 2
-  pub read : Keeps had left
-  pub wrote : Keeps held holds
+  pub unread : left ≡ had
+  pub unwritten : to.replies ≡ from.replies
 
--- a file that is no device: it can't be opened, or another process has it
-abbrev pub HasNoDevice : Option (List ℕ) → Option (List ℕ) → ℕ → Type 0
-HasNoDevice held holds status = Refuses NoDevice held holds status
+-- a person is told why a file is none, behind its name where there is room for that
+abbrev pub TellsOf : List ℕ → List ℕ → Stream → Stream → Type 0
+TellsOf file why old new = TellsPerson (file ++ (codes ": " ++ why)) old new ⊎ TellsPerson why old new
+
+-- A file that is no device: it can't be opened, or another process has it. A person is told why.
+pub record HasNoDevice (from to : Outputs) (status : ℕ) : Type 0 where
+  pub status_is : status ≡ 1
+  pub told : Prints (refusal_line NoDevice) from.replies to.replies
+  pub file : List ℕ
+  pub why : List ℕ
+  pub heard : TellsOf file why from.person to.person
 
 module _ {C : Type 0} (class : Ghosts C Rectangle) (state : FileDisk → Device) where
   -- an index of boxes, class 1, was laid down in a file, which had room for it by then
-  pub record FormatsFile (pages most : ℕ) (held holds : Option (List ℕ)) (status : ℕ) : Type 0 where
+  pub record FormatsFile (pages most : ℕ) (from to : Outputs) (status : ℕ) : Type 0 where
     pub old : FileDisk
     pub new : FileDisk
     pub room : sectors_of pages ≤ (state old).sectors
-    pub formats : FormatsOver state (record { pages = pages; most = most; class = 1 }) (fresh_root class.spelling class.start_key) old new held holds status
+    pub formats : FormatsOver state (record { pages = pages; most = most; class = 1 }) (fresh_root class.spelling class.start_key) old new from to status
 
   -- how a format of a file may end
-  abbrev pub EndsFormat : ℕ → ℕ → Option (List ℕ) → Option (List ℕ) → ℕ → Type 0
-  EndsFormat pages most held holds status = HasNoDevice held holds status ⊎ FormatsFile pages most held holds status
+  abbrev pub EndsFormat : ℕ → ℕ → Outputs → Outputs → ℕ → Type 0
+  EndsFormat pages most from to status = HasNoDevice from to status ⊎ FormatsFile pages most from to status
 
 module _ {C : Type 0} (shape : Members Rectangle) (class : Ghosts C Rectangle) (state : FileDisk → Device) where
   -- a script was run on the index of boxes that a file holds
-  pub record RunsFile (frames : ℕ) (had left held holds : Option (List ℕ)) (status : ℕ) : Type 0 where
+  pub record RunsFile (frames : ℕ) (had left : Stream) (from to : Outputs) (status : ℕ) : Type 0 where
     pub disk : FileDisk
-    pub runs : RunsOver shape in_order corners_of class state 1 frames disk had left held holds status
+    pub after : FileDisk
+    pub runs : RunsOver shape in_order corners_of class state 1 frames disk after had left from to status
 
   -- how a script on a file may end
-  abbrev pub EndsRun : ℕ → Option (List ℕ) → Option (List ℕ) → Option (List ℕ) → Option (List ℕ) → ℕ → Type 0
-  EndsRun frames had left held holds status = (Keeps had left × HasNoDevice held holds status) ⊎ RunsFile frames had left held holds status
+  abbrev pub EndsRun : ℕ → Stream → Stream → Outputs → Outputs → ℕ → Type 0
+  EndsRun frames had left from to status = ((left ≡ had) × HasNoDevice from to status) ⊎ RunsFile frames had left from to status
 
   -- the tree of the index of boxes that a file holds was told, with 64 frames
-  pub record DumpsFile (held holds : Option (List ℕ)) (status : ℕ) : Type 0 where
+  pub record DumpsFile (from to : Outputs) (status : ℕ) : Type 0 where
     pub disk : FileDisk
-    pub dumps : DumpsOver shape in_order corners_of class state 1 64 disk held holds status
+    pub after : FileDisk
+    pub dumps : DumpsOver shape in_order corners_of class state 1 64 disk after from to status
 
   -- how a dump of a file may end
-  abbrev pub EndsDump : Option (List ℕ) → Option (List ℕ) → ℕ → Type 0
-  EndsDump held holds status = HasNoDevice held holds status ⊎ DumpsFile held holds status
+  abbrev pub EndsDump : Outputs → Outputs → ℕ → Type 0
+  EndsDump from to status = HasNoDevice from to status ⊎ DumpsFile from to status
 
-  -- how what was asked for may end; what stops a script in memory is such a fault
-  abbrev pub EndsAsked : (ScriptFault → Type 0) → Asked → Option (List ℕ) → Option (List ℕ) → Option (List ℕ) → Option (List ℕ) → ℕ → Type 0
-  EndsAsked is_fault Plain had left held holds status = EndsScript is_fault had left held holds status
-  EndsAsked is_fault (Format file pages most) had left held holds status = Keeps had left × EndsFormat class state pages most held holds status
-  EndsAsked is_fault (Run file frames) had left held holds status = EndsRun frames had left held holds status
-  EndsAsked is_fault (Dump file) had left held holds status = Keeps had left × EndsDump held holds status
+  -- how what was asked for may end
+  abbrev pub EndsAsked : Asked → Stream → Stream → Outputs → Outputs → ℕ → Type 0
+  EndsAsked Plain had left from to status = EndsScript had left from to status
+  EndsAsked (Format file pages most) had left from to status = (left ≡ had) × EndsFormat class state pages most from to status
+  EndsAsked (Run file frames) had left from to status = EndsRun frames had left from to status
+  EndsAsked (Dump file) had left from to status = (left ≡ had) × EndsDump from to status
 
   -- nothing is wrong with the words, and what they ask for ended so
-  pub record EndsAsWanted (is_fault : ScriptFault → Type 0) (words : List Text) (had left held holds : Option (List ℕ)) (status : ℕ) : Type 0 where
+  pub record EndsAsWanted (words : List Text) (had left : Stream) (from to : Outputs) (status : ℕ) : Type 0 where
     pub right : fault_of gist_app words ≡ []
     pub asked : Asked
     pub asks : WordsAsk words asked
-    pub ends : EndsAsked is_fault asked had left held holds status
+    pub ends : EndsAsked asked had left from to status
 
   -- how the program may end on words that were read: they are wrong, or memory was refused, or what they ask for was done or refused
-  abbrev pub EndsOnWords : (ScriptFault → Type 0) → List Text → Option (List ℕ) → Option (List ℕ) → Option (List ℕ) → Option (List ℕ) → ℕ → Type 0
-  EndsOnWords is_fault words had left held holds status =
-      ((fault_of gist_app words ≢ []) × HasWrongWords had left held holds status)
-      ⊎ LacksMemory had left held holds status
-      ⊎ EndsAsWanted is_fault words had left held holds status
+  abbrev pub EndsOnWords : List Text → Stream → Stream → Outputs → Outputs → ℕ → Type 0
+  EndsOnWords words had left from to status =
+      ((fault_of gist_app words ≢ []) × HasWrongWords had left from to status)
+      ⊎ (LacksMemory had left from to status
+      ⊎ EndsAsWanted words had left from to status)
 
 -- how it ends where they couldn't be read
-abbrev pub EndsUnread : WordsFault → Option (List ℕ) → Option (List ℕ) → Option (List ℕ) → Option (List ℕ) → ℕ → Type 0
-EndsUnread (NotText place) had left held holds status = HasWrongWords had left held holds status
-EndsUnread Memory had left held holds status = LacksMemory had left held holds status
+abbrev pub EndsUnread : WordsFault → Stream → Stream → Outputs → Outputs → ℕ → Type 0
+EndsUnread (NotText place) had left from to status = HasWrongWords had left from to status
+EndsUnread Memory had left from to status = LacksMemory had left from to status

@@ -1,21 +1,25 @@
 //! The commands over a file.
-ghost use Rattle.std.specs.Prelude.{◌≡◌};
-ghost use Rattle.std.specs.Io.KnownBytes.{Keeps};
-ghost use Rattle.gx_device_commands.specs.Endings.{Refuses};
-ghost use Rattle.gx_front.specs.Endings.{EndsDump, EndsFormat, EndsRun};
+ghost use Rattle.std.specs.Prelude.{◌≤◌, length};
+ghost use Rattle.gx_command.specs.Streams.{outputs_of, stream_of};
+ghost use Rattle.gx_front.specs.Endings.{EndsDump, EndsFormat, EndsRun, HasNoDevice, TellsOf};
 
+use arrayvec::ArrayString;
 use gx_class::{Box2Class, KeyClass};
-use gx_command::Noted;
+use gx_command::{Noted, SENTENCE, tell_person};
 use gx_device_commands::{dump_over, format_over, print_refusal, run_over};
 use gx_disk::{DiskFault, FileDisk, SectorDisk};
 use gx_format::sectors_for;
 use gx_geom::{Box2, Refusal, Shape};
 use std::alloc::Global;
+use std::fmt::Write as _;
 use std::fs::{File, Files};
 use std::io::{Read, Write};
 
 /// How many pages a dump holds in memory.
 const DUMP_FRAMES: usize = 64;
+
+/// Status: a file that is no device.
+const REFUSED: u8 = 1;
 
 /// What is told of a file that isn't opened.
 const NOT_OPENED: &str = "it isn't there, or can't be opened";
@@ -23,7 +27,7 @@ const NOT_OPENED: &str = "it isn't there, or can't be opened";
 /// Opens or makes a file, extends a shorter one, and lays a new index down in it.
 ///
 /// The status is that of `gx_device_commands::format_over`. It is 1 too where the file can't be opened, made or extended, or
-/// another process has it, which writes `refused 11 device`, and a line to `faults`.
+/// another process has it, which writes `refused 11 device`, and tells a person why.
 pub(crate) fn format_file<T: Files<File = File>, W: Write, E: Write>(
     rt: &T,
     alloc: Global,
@@ -31,10 +35,10 @@ pub(crate) fn format_file<T: Files<File = File>, W: Write, E: Write>(
     pages: u32,
     most: u16,
     writer: &mut Noted<W>,
-    faults: &mut E,
+    faults: &mut Noted<E>,
 ) -> u8
-    ensures ends { EndsFormat ⟦<Box2Class as KeyClass>⟧ ⟦<FileDisk as SectorDisk>⟧.state pages most (W.contents writer.old.inner) (W.contents writer.new.inner) result }
-    ensures quiet { result ≡ 0 → Keeps (E.contents faults.old) (E.contents faults.new) }
+    ensures { EndsFormat ⟦<Box2Class as KeyClass>⟧ ⟦<FileDisk as SectorDisk>⟧.state pages most
+        (outputs_of W.contents E.contents writer.old faults.old) (outputs_of W.contents E.contents writer.new faults.new) result }
 {
     match FileDisk::create(rt, file, sectors_for(pages)) {
         Ok(mut disk) => {
@@ -53,7 +57,7 @@ pub(crate) fn format_file<T: Files<File = File>, W: Write, E: Write>(
 /// Opens a file that is there, and runs a script on the index that it holds.
 ///
 /// The status is that of `gx_device_commands::run_over`. It is 1 too where the file isn't there or can't be opened, or another
-/// process has it, which writes `refused 11 device`, and a line to `faults`; nothing is read then.
+/// process has it, which writes `refused 11 device`, and tells a person why; nothing is read then.
 pub(crate) fn run_file<T: Files<File = File>, R: Read, W: Write, E: Write>(
     rt: &T,
     alloc: Global,
@@ -61,16 +65,19 @@ pub(crate) fn run_file<T: Files<File = File>, R: Read, W: Write, E: Write>(
     frames: usize,
     reader: &mut Noted<R>,
     writer: &mut Noted<W>,
-    faults: &mut E,
+    faults: &mut Noted<E>,
 ) -> u8
-    ensures ends { EndsRun ⟦<Box2 as Shape>⟧ ⟦<Box2Class as KeyClass>⟧ ⟦<FileDisk as SectorDisk>⟧.state frames (R.remaining reader.old.inner) (R.remaining reader.new.inner)
-        (W.contents writer.old.inner) (W.contents writer.new.inner) result }
-    ensures quiet { result ≡ 0 → Keeps (E.contents faults.old) (E.contents faults.new) }
+    ensures { EndsRun ⟦<Box2 as Shape>⟧ ⟦<Box2Class as KeyClass>⟧ ⟦<FileDisk as SectorDisk>⟧.state frames
+        (stream_of R.remaining reader.old) (stream_of R.remaining reader.new)
+        (outputs_of W.contents E.contents writer.old faults.old) (outputs_of W.contents E.contents writer.new faults.new) result }
 {
     match FileDisk::open(rt, file) {
-        Ok(disk) => run_over::<FileDisk, Box2Class, R, W, E>(
-            alloc, disk, frames, reader, writer, faults,
-        ),
+        Ok(disk) => {
+            let (_disk, status) = run_over::<FileDisk, Box2Class, R, W, E>(
+                alloc, disk, frames, reader, writer, faults,
+            );
+            status
+        }
         Err(fault) => refuse_file(writer, faults, file, fault, NOT_OPENED),
     }
 }
@@ -78,43 +85,60 @@ pub(crate) fn run_file<T: Files<File = File>, R: Read, W: Write, E: Write>(
 /// Opens a file that is there, and writes the text of the tree of the index that it holds.
 ///
 /// The status is that of `gx_device_commands::dump_over`, with 64 frames. It is 1 too where the file isn't there or can't be opened, or
-/// another process has it, which writes `refused 11 device`, and a line to `faults`.
+/// another process has it, which writes `refused 11 device`, and tells a person why.
 pub(crate) fn dump_file<T: Files<File = File>, W: Write, E: Write>(
     rt: &T,
     alloc: Global,
     file: &str,
     writer: &mut Noted<W>,
-    faults: &mut E,
+    faults: &mut Noted<E>,
 ) -> u8
-    ensures ends { EndsDump ⟦<Box2 as Shape>⟧ ⟦<Box2Class as KeyClass>⟧ ⟦<FileDisk as SectorDisk>⟧.state (W.contents writer.old.inner) (W.contents writer.new.inner) result }
-    ensures quiet { result ≡ 0 → Keeps (E.contents faults.old) (E.contents faults.new) }
+    ensures { EndsDump ⟦<Box2 as Shape>⟧ ⟦<Box2Class as KeyClass>⟧ ⟦<FileDisk as SectorDisk>⟧.state
+        (outputs_of W.contents E.contents writer.old faults.old) (outputs_of W.contents E.contents writer.new faults.new) result }
 {
     match FileDisk::open(rt, file) {
-        Ok(disk) => dump_over::<FileDisk, Box2Class, W, E>(
-            alloc,
-            disk,
-            DUMP_FRAMES,
-            writer,
-            faults,
-        ),
+        Ok(disk) => {
+            let (_disk, status) = dump_over::<FileDisk, Box2Class, W, E>(
+                alloc,
+                disk,
+                DUMP_FRAMES,
+                writer,
+                faults,
+            );
+            status
+        }
         Err(fault) => refuse_file(writer, faults, file, fault, NOT_OPENED),
     }
 }
 
-// Tells that there is no such device, and a person why the file is none, and answers the status.
+// Tells a person why a file is no device.
+fn tell_file<E: Write>(faults: &mut Noted<E>, file: &str, why: &str)
+    requires { length why.now ≤ SENTENCE }
+    ensures { TellsOf file.now why.now (stream_of E.contents faults.old) (stream_of E.contents faults.new) }
+{
+    let mut sentence = ArrayString::<SENTENCE>::new();
+    match write!(sentence, "{file}: {why}") {
+        Ok(()) => tell_person(faults, sentence.as_str()),
+        Err(_) => tell_person(faults, why),
+    }
+}
+
+// Tells that there is no such device, and a person why the file is none, and returns the status.
 fn refuse_file<W: Write, E: Write>(
     writer: &mut Noted<W>,
-    faults: &mut E,
+    faults: &mut Noted<E>,
     file: &str,
     fault: DiskFault,
     otherwise: &str,
 ) -> u8
-    ensures { Refuses Refusal.Device (W.contents writer.old.inner) (W.contents writer.new.inner) result }
+    requires { length otherwise.now ≤ SENTENCE }
+    ensures { HasNoDevice (outputs_of W.contents E.contents writer.old faults.old) (outputs_of W.contents E.contents writer.new faults.new) result }
 {
     let why = match fault {
         DiskFault::InUse => "another process has it in use",
         _ => otherwise,
     };
-    let _ = writeln!(faults, "gist: {file}: {why}");
-    print_refusal(writer, Refusal::Device)
+    tell_file(faults, file, why);
+    print_refusal(writer, Refusal::Device);
+    REFUSED
 }

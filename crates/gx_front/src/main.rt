@@ -13,7 +13,7 @@ use std::process::ExitCode;
 fn main(rt: HostRuntime) -> ExitCode {
     let mut input = Noted::new(rt.stdin());
     let mut output = Noted::new(rt.stdout());
-    let mut faults = rt.stderr();
+    let mut faults = Noted::new(rt.stderr());
     let status = match gx_words::given(&rt) {
         Ok(given) => gist(
             &rt,

@@ -1,7 +1,6 @@
 //! The whole program, as a function of what it is given.
 ghost use Rattle.std.specs.Prelude.{◌≡◌, map, MatchResult};
-ghost use Rattle.std.specs.Io.KnownBytes.{Keeps};
-ghost use Rattle.gx_script.specs.Noting.{IsFaultOf};
+ghost use Rattle.gx_command.specs.Streams.{outputs_of, stream_of};
 ghost use Rattle.gx_front.specs.Endings.{EndsAsked, EndsOnWords, EndsUnread};
 
 use crate::files::{dump_file, format_file, run_file};
@@ -29,7 +28,7 @@ const WRONG_WORDS: u8 = 2;
 ///
 /// The status is 0 where all was done. It is 1 where a call outside of a script was refused, which writes `refused N text`, 11
 /// for a file that can't be opened or is in use; where a reply to a script on a file was refused with 11, 12 or 13; and where a
-/// read or a write failed. A line on it is written to `faults`, unless whoever reads the replies has left, or memory was refused
+/// read or a write failed. A person is told by a line in `faults`, unless whoever reads the replies has left, or memory was refused
 /// for words or for an index in memory. The status is 2 for words that ask for something else or for help, about which a text is
 /// written to `faults` and nothing to the writer.
 pub fn gist<T: Files<File = File>, S: AsStr, R: Read, W: Write, E: Write>(
@@ -38,14 +37,13 @@ pub fn gist<T: Files<File = File>, S: AsStr, R: Read, W: Write, E: Write>(
     words: Result<&[S], WordsFault>,
     reader: &mut Noted<R>,
     writer: &mut Noted<W>,
-    faults: &mut E,
+    faults: &mut Noted<E>,
 ) -> u8
-    ensures ends { MatchResult words.entry
-        (λ given. EndsOnWords ⟦<Box2 as Shape>⟧ ⟦<Box2Class as KeyClass>⟧ ⟦<FileDisk as SectorDisk>⟧.state
-        (IsFaultOf reader.new writer.new) (map S.text given.now)
-        (R.remaining reader.old.inner) (R.remaining reader.new.inner) (W.contents writer.old.inner) (W.contents writer.new.inner) result)
-        (λ fault. EndsUnread fault (R.remaining reader.old.inner) (R.remaining reader.new.inner) (W.contents writer.old.inner) (W.contents writer.new.inner) result) }
-    ensures quiet { result ≡ 0 → Keeps (E.contents faults.old) (E.contents faults.new) }
+    ensures { let had = stream_of R.remaining reader.old in let left = stream_of R.remaining reader.new in
+        let from = outputs_of W.contents E.contents writer.old faults.old in let to = outputs_of W.contents E.contents writer.new faults.new in
+        MatchResult words.entry
+        (λ given. EndsOnWords ⟦<Box2 as Shape>⟧ ⟦<Box2Class as KeyClass>⟧ ⟦<FileDisk as SectorDisk>⟧.state (map S.text given.now) had left from to result)
+        (λ fault. EndsUnread fault had left from to result) }
 {
     match words {
         Ok(given) => match gx_words::read(alloc, given) {
@@ -68,12 +66,11 @@ fn carry_out<T: Files<File = File>, R: Read, W: Write, E: Write>(
     asked: Asked,
     reader: &mut Noted<R>,
     writer: &mut Noted<W>,
-    faults: &mut E,
+    faults: &mut Noted<E>,
 ) -> u8
-    ensures ends { EndsAsked ⟦<Box2 as Shape>⟧ ⟦<Box2Class as KeyClass>⟧ ⟦<FileDisk as SectorDisk>⟧.state
-        (IsFaultOf reader.new writer.new) asked.entry
-        (R.remaining reader.old.inner) (R.remaining reader.new.inner) (W.contents writer.old.inner) (W.contents writer.new.inner) result }
-    ensures quiet { result ≡ 0 → Keeps (E.contents faults.old) (E.contents faults.new) }
+    ensures { EndsAsked ⟦<Box2 as Shape>⟧ ⟦<Box2Class as KeyClass>⟧ ⟦<FileDisk as SectorDisk>⟧.state asked.entry
+        (stream_of R.remaining reader.old) (stream_of R.remaining reader.new)
+        (outputs_of W.contents E.contents writer.old faults.old) (outputs_of W.contents E.contents writer.new faults.new) result }
 {
     match asked {
         Asked::Plain => run_script(alloc, reader, writer, faults),
@@ -86,9 +83,9 @@ fn carry_out<T: Files<File = File>, R: Read, W: Write, E: Write>(
 }
 
 // Tells what is wrong with the words, and answers the status.
-fn refuse_words<E: Write, D: Display>(faults: &mut E, why: &D) -> u8
+fn refuse_words<E: Write, D: Display>(faults: &mut Noted<E>, why: &D) -> u8
     ensures { result ≡ 2 }
 {
-    let _ = write!(faults, "{why}");
+    let _ = write!(faults.inner, "{why}");
     WRONG_WORDS
 }

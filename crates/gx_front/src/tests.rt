@@ -1,9 +1,12 @@
 //! The program's words and statuses.
 
 use super::*;
-use gx_words::{Asked, WordsFault, read};
-use std::fs::{File, Files};
+use gx_disk::FileDisk;
+use gx_words::{Asked, WordsFault, given, read};
+use std::env::FillError;
+use std::fs::{self, File, Files};
 use std::process::Abort;
+use std::rt::Env;
 
 // What asks for nothing the program knows, and calls for help.
 const WRONG: [&[&str]; 23] = [
@@ -87,7 +90,7 @@ fn ends<T: Abort + AllocGlobal + Files<File = File>>(
     let mut text = [0u8; 1];
     let mut reader = Noted::new(b"1 BEGIN\n".as_slice());
     let mut writer = Noted::new(room.as_mut_slice());
-    let mut faults = text.as_mut_slice();
+    let mut faults = Noted::new(text.as_mut_slice());
     let given = gist(rt, rt.alloc(), words, &mut reader, &mut writer, &mut faults);
     assert!(rt; given == status && room.starts_with(replies) && is_told == (text != [0]));
 }
@@ -140,4 +143,224 @@ fn no_file(rt: HostRuntime) {
         none,
         true,
     );
+}
+
+// The words that a process was started with.
+#[derive(Clone, Copy)]
+struct Started(&'static [&'static str]);
+
+impl Env for Started {
+    fn arg(&self, place: usize, room: &mut [u8]) -> Result<usize, FillError> {
+        let word = self.0.get(place).ok_or(FillError::NotPresent)?.as_bytes();
+        if room.len() < word.len() {
+            return Err(FillError::TooLong);
+        }
+        room[..word.len()].copy_from_slice(word);
+        Ok(word.len())
+    }
+
+    fn var(&self, _name: &str, _room: &mut [u8]) -> Result<usize, FillError> {
+        Err(FillError::NotPresent)
+    }
+
+    fn var_at(&self, _place: usize, _room: &mut [u8]) -> Result<usize, FillError> {
+        Err(FillError::NotPresent)
+    }
+}
+
+const EXACT: &str = "0123456789012345678901234567890123456789012345678901234567890123";
+
+const LONGER: &str =
+    "01234567890123456789012345678901234567890123456789012345678901234567890123456789012345678901234567890123456789012345678901234567890";
+
+const STARTS: [&[&str]; 3] = [
+    &[],
+    &["gist", "", EXACT, LONGER, "k\u{fc}rzer", "--", "7"],
+    &["gist", LONGER],
+];
+
+// Each word is given, whole and in its place: none, an empty one, one as long as the first room for it, and longer ones.
+#[test]
+fn words_are_given_whole(rt: HostRuntime) {
+    for words in STARTS {
+        match given(&(Started(words), rt.alloc())) {
+            Ok(all) => {
+                assert!(rt; all.len() == words.len());
+                for (word, wanted) in all.as_slice().iter().zip(words) {
+                    assert!(rt; word.as_str() == *wanted);
+                }
+            }
+            Err(_) => assert!(rt; false),
+        }
+    }
+}
+
+// A call of the program, and all that it has to do: its status, and its whole text on both outputs.
+#[derive(Clone, Copy)]
+struct Case {
+    words: &'static [&'static str],
+    script: &'static [u8],
+    status: u8,
+    replies: &'static [u8],
+    told: &'static [u8],
+}
+
+// A call that is done, and tells nothing of faults.
+const fn done(
+    words: &'static [&'static str],
+    script: &'static [u8],
+    replies: &'static [u8],
+) -> Case {
+    Case {
+        words,
+        script,
+        status: 0,
+        replies,
+        told: b"",
+    }
+}
+
+// A call that is refused, which a line to the reader and one to a person tell.
+const fn refused(
+    words: &'static [&'static str],
+    replies: &'static [u8],
+    told: &'static [u8],
+) -> Case {
+    Case {
+        words,
+        script: ALL,
+        status: 1,
+        replies,
+        told,
+    }
+}
+
+const ALL: &[u8] = b"1 BEGIN\n1 OVERLAP -2147483648 -2147483648 2147483647 2147483647\n";
+
+fn carries_out<T: Abort + AllocGlobal + Files<File = File>>(rt: &T, case: &Case) {
+    let mut reader = Noted::new(case.script);
+    let mut writer = Noted::new(Vec::new(rt.alloc()));
+    let mut faults = Noted::new(Vec::new(rt.alloc()));
+    let words = Ok(case.words);
+    let status = gist(rt, rt.alloc(), words, &mut reader, &mut writer, &mut faults);
+    assert_eq!(rt; status, case.status);
+    assert!(rt; writer.inner.as_slice() == case.replies && faults.inner.as_slice() == case.told);
+}
+
+// The length of a file that is there.
+fn length_of<T: Abort + Files<File = File>>(rt: &T, file: &str) -> u64 {
+    match fs::metadata(rt, file) {
+        Ok(found) => found.len(),
+        Err(_) => 0,
+    }
+}
+
+const NO_DEVICE: &[u8] = b"refused 11 device\n";
+
+// Two files with an index each: what was committed is found by later runs and dumps of that file, and of no other. Runs and
+// dumps leave a file as long as it is.
+#[test]
+fn what_is_committed_is_in_the_file(rt: HostRuntime) {
+    let steps = [
+        done(
+            &["gist", "format", "north", "16", "4"],
+            b"",
+            b"formatted pages 16 fanout 4\n",
+        ),
+        done(
+            &["gist", "format", "south", "8", "100"],
+            b"",
+            b"formatted pages 8 fanout 100\n",
+        ),
+        done(
+            &["gist", "run", "north"],
+            b"1 BEGIN\n1 INSERT 7 0 0 10 10\n1 COMMIT\n1 BEGIN\n1 INSERT 8 5 5 6 6\n",
+            b"1 ok\n1 inserted\n1 committed 1\n1 ok\n1 inserted\n",
+        ),
+        done(
+            &["gist", "run", "north", "--frames", "16"],
+            ALL,
+            b"1 ok\n1 found 1\n1 entry 7 0 0 10 10\n",
+        ),
+        done(&["gist", "run", "south"], ALL, b"1 ok\n1 found 0\n"),
+        done(
+            &["gist", "dump", "north"],
+            b"",
+            b"commits 1 used 2 counter 0\npage 1 level 1 nsn 0 right 0 count 1\nchild 2 0 0 10 10\npage 2 level 0 nsn 0 right 0 count 2\nentry 7 0 0 10 10 live\nentry 8 5 5 6 6 marked\n",
+        ),
+        done(
+            &["gist", "dump", "south"],
+            b"",
+            b"commits 0 used 2 counter 0\npage 1 level 1 nsn 0 right 0 count 1\nchild 2 0 0 0 0\npage 2 level 0 nsn 0 right 0 count 0\n",
+        ),
+    ];
+    for step in &steps {
+        carries_out(&rt, step);
+    }
+    assert!(rt; length_of(&rt, "north") == 512 * (4168 + 8 * 16));
+    assert!(rt; length_of(&rt, "south") == 512 * (4168 + 8 * 8));
+    let _ = fs::remove_file(&rt, "north");
+    let _ = fs::remove_file(&rt, "south");
+}
+
+// A file that another has, one that isn't there, and three that hold no index: each is told, and none is made, extended or changed.
+#[test]
+fn files_that_hold_no_index(rt: HostRuntime) {
+    carries_out(
+        &rt,
+        &done(
+            &["gist", "format", "used", "8", "4"],
+            b"",
+            b"formatted pages 8 fanout 4\n",
+        ),
+    );
+    let held = FileDisk::open(&rt, "used");
+    let in_use: &[u8] = b"gist: used: another process has it in use\n";
+    carries_out(&rt, &refused(&["gist", "run", "used"], NO_DEVICE, in_use));
+    carries_out(&rt, &refused(&["gist", "dump", "used"], NO_DEVICE, in_use));
+    carries_out(
+        &rt,
+        &refused(&["gist", "format", "used", "8", "4"], NO_DEVICE, in_use),
+    );
+    assert!(rt; held.is_ok());
+    drop(held);
+    carries_out(
+        &rt,
+        &done(&["gist", "run", "used"], ALL, b"1 ok\n1 found 0\n"),
+    );
+    let _ = fs::remove_file(&rt, "used");
+
+    let absent: &[u8] = b"gist: absent: it isn't there, or can't be opened\n";
+    carries_out(&rt, &refused(&["gist", "run", "absent"], NO_DEVICE, absent));
+    carries_out(
+        &rt,
+        &refused(&["gist", "dump", "absent"], NO_DEVICE, absent),
+    );
+    assert!(rt; matches!(fs::exists(&rt, "absent"), Ok(false)));
+
+    let _ = fs::write(&rt, "short", [0u8; 1000].as_slice());
+    let small: &[u8] = b"gist: the device is too small for the index\n";
+    carries_out(
+        &rt,
+        &refused(&["gist", "run", "short"], b"refused 17 too small\n", small),
+    );
+    carries_out(
+        &rt,
+        &refused(&["gist", "dump", "short"], b"refused 17 too small\n", small),
+    );
+    assert!(rt; length_of(&rt, "short") == 1000);
+    let _ = fs::remove_file(&rt, "short");
+
+    drop(FileDisk::create(&rt, "zeros", 4232));
+    let blank: &[u8] = b"gist: the device holds no index; it has to be formatted first\n";
+    carries_out(
+        &rt,
+        &refused(
+            &["gist", "run", "zeros"],
+            b"refused 14 not formatted\n",
+            blank,
+        ),
+    );
+    assert!(rt; length_of(&rt, "zeros") == 512 * 4232);
+    let _ = fs::remove_file(&rt, "zeros");
 }

@@ -5,49 +5,51 @@ use gx_command::Noted;
 use gx_device_commands::{dump_over, format_over, run_over};
 use gx_disk::{DiskFault, Fuse, FuseDisk, MemDisk, SectorDisk};
 use std::alloc::Global;
+use std::io::{self, Write};
 use std::process::Abort;
 
 // How many sectors an index of 16 pages takes.
 const SECTORS: usize = 4296;
 
-// More bytes than a command writes in these tests.
-const ROOM: usize = 192;
-
-// A device that is lent, so that it outlives the run of a script.
+// A device that counts its reads.
 #[derive(Drop)]
-struct Lent<'a, D>(&'a mut D);
+struct Counted {
+    disk: MemDisk,
+    reads: usize,
+}
 
-impl<D: SectorDisk> SectorDisk for Lent<'_, D> {
-    ghost state = { λ l. D.state l.0.now };
+impl SectorDisk for Counted {
+    ghost state = { λ c. ⟦<MemDisk as SectorDisk>⟧.state c.disk };
 
-    ghost whole = { λ l. D.whole l.0.now };
+    ghost whole = { λ c. ⟦<MemDisk as SectorDisk>⟧.whole c.disk };
 
-    ghost counts_now = { λ l. D.counts_now l.0.now };
+    ghost counts_now = { λ c. ⟦<MemDisk as SectorDisk>⟧.counts_now c.disk };
 
-    ghost only_now = { λ l. D.only_now l.0.now };
+    ghost only_now = { λ c. ⟦<MemDisk as SectorDisk>⟧.only_now c.disk };
 
     fn sectors(&self) -> u64 {
-        self.0.sectors()
+        self.disk.sectors()
     }
 
     fn read(&mut self, first: u64, buffer: &mut [u8]) -> Result<(), DiskFault> {
-        self.0.read(first, buffer)
+        self.reads = self.reads.saturating_add(1);
+        self.disk.read(first, buffer)
     }
 
     fn write(&mut self, first: u64, bytes: &[u8]) -> Result<(), DiskFault> {
-        self.0.write(first, bytes)
+        self.disk.write(first, bytes)
     }
 
     fn sync(&mut self) -> Result<(), DiskFault> {
-        self.0.sync()
+        self.disk.sync()
     }
 }
 
-// What became of a command: its status, what was written with zeros behind it, how many bytes weren't read, and whether a person was told.
+// What became of a command: its status, what was written, how many bytes weren't read, and whether a person was told.
 #[derive(Drop)]
 struct Ended {
     status: u8,
-    written: [u8; ROOM],
+    written: Vec<u8>,
     left: usize,
     is_told: bool,
 }
@@ -55,42 +57,36 @@ struct Ended {
 impl Ended {
     // Whether it is this status, and this text was written and no more. A person is told where the status isn't 0.
     fn is(&self, status: u8, text: &[u8]) -> bool {
-        self.status == status
-            && self.is_told == (status != 0)
-            && self.written.starts_with(text)
-            && self.written.get(text.len()) == Some(&0)
+        self.status == status && self.is_told == (status != 0) && self.written.as_slice() == text
     }
 }
 
-// A script is run over a device.
-fn run<D: SectorDisk + Drop>(alloc: Global, disk: D, script: &[u8]) -> Ended {
-    let mut written = [0u8; ROOM];
-    let mut told = [0u8; 1];
+// A script is run over a device with so many frames. The device, as it is left.
+fn run<D: SectorDisk + Drop>(alloc: Global, disk: D, frames: usize, script: &[u8]) -> (D, Ended) {
     let mut reader = Noted::new(script);
-    let mut writer = Noted::new(written.as_mut_slice());
-    let mut faults = told.as_mut_slice();
-    let status = run_over::<D, Box2Class, _, _, _>(
+    let mut writer = Noted::new(Vec::new(alloc));
+    let mut faults = Noted::new(Vec::new(alloc));
+    let (disk, status) = run_over::<D, Box2Class, _, _, _>(
         alloc,
         disk,
-        16,
+        frames,
         &mut reader,
         &mut writer,
         &mut faults,
     );
-    Ended {
+    let ended = Ended {
         status,
-        written,
+        written: writer.inner,
         left: reader.inner.len(),
-        is_told: told != [0],
-    }
+        is_told: !faults.inner.is_empty(),
+    };
+    (disk, ended)
 }
 
 // A device is formatted.
 fn format(alloc: Global, disk: &mut MemDisk, pages: u32, most: u16) -> Ended {
-    let mut written = [0u8; ROOM];
-    let mut told = [0u8; 1];
-    let mut writer = Noted::new(written.as_mut_slice());
-    let mut faults = told.as_mut_slice();
+    let mut writer = Noted::new(Vec::new(alloc));
+    let mut faults = Noted::new(Vec::new(alloc));
     let status = format_over::<MemDisk, Box2Class, _, _>(
         alloc,
         disk,
@@ -101,25 +97,30 @@ fn format(alloc: Global, disk: &mut MemDisk, pages: u32, most: u16) -> Ended {
     );
     Ended {
         status,
-        written,
+        written: writer.inner,
         left: 0,
-        is_told: told != [0],
+        is_told: !faults.inner.is_empty(),
     }
 }
 
-// The tree of a device's index is told.
-fn dump<D: SectorDisk + Drop>(alloc: Global, disk: D) -> Ended {
-    let mut written = [0u8; ROOM];
-    let mut told = [0u8; 1];
-    let mut writer = Noted::new(written.as_mut_slice());
-    let mut faults = told.as_mut_slice();
-    let status = dump_over::<D, Box2Class, _, _>(alloc, disk, 16, &mut writer, &mut faults);
-    Ended {
+// The tree of a device's index is told. The device, as it is left.
+fn dump(alloc: Global, disk: MemDisk) -> (MemDisk, Ended) {
+    let mut writer = Noted::new(Vec::new(alloc));
+    let mut faults = Noted::new(Vec::new(alloc));
+    let (disk, status) = dump_over::<MemDisk, Box2Class, _, _>(
+        alloc,
+        disk,
+        16,
+        &mut writer,
+        &mut faults,
+    );
+    let ended = Ended {
         status,
-        written,
+        written: writer.inner,
         left: 0,
-        is_told: told != [0],
-    }
+        is_told: !faults.inner.is_empty(),
+    };
+    (disk, ended)
 }
 
 // A new device with an index of 16 pages.
@@ -132,35 +133,82 @@ fn fresh(alloc: Global) -> Option<MemDisk> {
     }
 }
 
-// A script over this device is done, and gives these replies.
-fn gives<T: Abort + AllocGlobal>(rt: &T, disk: &mut MemDisk, script: &[u8], replies: &[u8]) {
-    assert!(rt; run(rt.alloc(), Lent(disk), script).is(0, replies));
+// A script over this device is done, and gives these replies. The device, as it is left.
+fn gives<T: Abort + AllocGlobal>(rt: &T, disk: MemDisk, script: &[u8], replies: &[u8]) -> MemDisk {
+    let (disk, ended) = run(rt.alloc(), disk, 16, script);
+    assert!(rt; ended.is(0, replies));
+    disk
 }
 
 #[test]
 fn commits_are_found_again(rt: HostRuntime) {
-    let Some(mut disk) = fresh(rt.alloc()) else {
+    let Some(disk) = fresh(rt.alloc()) else {
         assert!(rt; false);
         return;
     };
-    gives(
+    let disk = gives(
         &rt,
-        &mut disk,
+        disk,
         b"1 BEGIN\n1 INSERT 7 0 0 10 10\n1 COMMIT\n1 BEGIN\n1 OVERLAP 10 10 20 20\n",
         b"1 ok\n1 inserted\n1 committed 1\n1 ok\n1 found 1\n1 entry 7 0 0 10 10\n",
     );
-    gives(
+    let disk = gives(
         &rt,
-        &mut disk,
+        disk,
         b"1 BEGIN\n1 OVERLAP 10 10 20 20\n1 INSERT 8 0 0 1 1\n",
         b"1 ok\n1 found 1\n1 entry 7 0 0 10 10\n1 inserted\n",
     );
     gives(
         &rt,
-        &mut disk,
+        disk,
         b"1 BEGIN\n1 OVERLAP 0 0 9 9\n1 INSERT 8 0 0 1 1\n1 COMMIT\n",
         b"1 ok\n1 found 1\n1 entry 7 0 0 10 10\n1 inserted\n1 committed 2\n",
     );
+}
+
+// A script that commits sixty rows, four of which have room in a node.
+fn rows(alloc: Global) -> io::Result<Vec<u8>> {
+    let mut script = Vec::new(alloc);
+    writeln!(script, "1 BEGIN")?;
+    for row in 0..60u32 {
+        let (left, right) = (10 * row, 10 * row + 8);
+        writeln!(script, "1 INSERT {row} {left} 0 {right} 5")?;
+    }
+    writeln!(script, "1 COMMIT")?;
+    Ok(script)
+}
+
+// How often a device is read by a script with so many frames, which has to be done.
+fn reads<T: Abort + AllocGlobal>(
+    rt: &T,
+    disk: MemDisk,
+    frames: usize,
+    script: &[u8],
+) -> (MemDisk, usize) {
+    let (counted, ended) = run(rt.alloc(), Counted { disk, reads: 0 }, frames, script);
+    assert!(rt; ended.status == 0);
+    (counted.disk, counted.reads)
+}
+
+// There are as many frames as were asked for: 64 hold all leaves, so that a second search of them reads nothing; 16 don't.
+#[test]
+fn frames_are_as_many_as_asked_for(rt: HostRuntime) {
+    let (Ok(mut disk), Ok(rows)) = (MemDisk::new(rt.alloc(), 4168 + 8 * 64), rows(rt.alloc()))
+    else {
+        assert!(rt; false);
+        return;
+    };
+    assert!(rt; format(rt.alloc(), &mut disk, 64, 4).is(0, b"formatted pages 64 fanout 4\n"));
+    let (disk, _) = reads(&rt, disk, 16, rows.as_slice());
+    // (from here on an opening finds one body in the log)
+    let (disk, _) = reads(&rt, disk, 16, b"");
+    let once = b"1 BEGIN\n1 WITHIN 0 1 9999 2\n".as_slice();
+    let twice = b"1 BEGIN\n1 WITHIN 0 1 9999 2\n1 WITHIN 0 1 9999 3\n".as_slice();
+    let (disk, many_once) = reads(&rt, disk, 64, once);
+    let (disk, many_twice) = reads(&rt, disk, 64, twice);
+    let (disk, few_once) = reads(&rt, disk, 16, once);
+    let (_, few_twice) = reads(&rt, disk, 16, twice);
+    assert!(rt; many_twice == many_once && few_once + 20 <= few_twice);
 }
 
 #[test]
@@ -175,7 +223,7 @@ fn refusals(rt: HostRuntime) {
             assert!(rt; false);
             return;
         };
-        let ended = run(alloc, disk, script);
+        let (_, ended) = run(alloc, disk, 16, script);
         assert!(rt; ended.is(1, line) && ended.left == script.len());
     }
     let Ok(mut disk) = MemDisk::new(alloc, SECTORS) else {
@@ -194,20 +242,21 @@ fn refusals(rt: HostRuntime) {
 // The tree has what a transaction that was left open inserted, marked by the opening that undid it.
 #[test]
 fn trees_are_told(rt: HostRuntime) {
-    let Some(mut disk) = fresh(rt.alloc()) else {
+    let Some(disk) = fresh(rt.alloc()) else {
         assert!(rt; false);
         return;
     };
-    gives(
+    let disk = gives(
         &rt,
-        &mut disk,
+        disk,
         b"1 BEGIN\n1 INSERT 7 0 0 10 10\n1 COMMIT\n1 BEGIN\n1 INSERT 8 5 5 6 6\n",
         b"1 ok\n1 inserted\n1 committed 1\n1 ok\n1 inserted\n",
     );
     let text =
         b"commits 1 used 2 counter 0\npage 1 level 1 nsn 0 right 0 count 1\nchild 2 0 0 10 10\npage 2 level 0 nsn 0 right 0 count 2\nentry 7 0 0 10 10 live\nentry 8 5 5 6 6 marked\n";
-    assert!(rt; dump(rt.alloc(), Lent(&mut disk)).is(0, text));
-    assert!(rt; dump(rt.alloc(), disk).is(0, text));
+    let (disk, first) = dump(rt.alloc(), disk);
+    let (_, second) = dump(rt.alloc(), disk);
+    assert!(rt; first.is(0, text) && second.is(0, text));
 }
 
 // A writer without room ends a dump, as does a device that isn't formatted.
@@ -218,12 +267,13 @@ fn dumps_that_end_early(rt: HostRuntime) {
         assert!(rt; false);
         return;
     };
-    assert!(rt; dump(rt.alloc(), unformatted).is(1, b"refused 14 not formatted\n"));
+    let (_, refused) = dump(rt.alloc(), unformatted);
+    assert!(rt; refused.is(1, b"refused 14 not formatted\n"));
     let mut room = [0u8; 20];
     let mut told = [0u8; 1];
     let mut writer = Noted::new(room.as_mut_slice());
-    let mut faults = told.as_mut_slice();
-    let status = dump_over::<MemDisk, Box2Class, _, _>(
+    let mut faults = Noted::new(told.as_mut_slice());
+    let (_, status) = dump_over::<MemDisk, Box2Class, _, _>(
         rt.alloc(),
         disk,
         16,
@@ -251,9 +301,10 @@ fn devices_that_fail(rt: HostRuntime) {
             assert!(rt; false);
             return;
         };
-        let ended = run(
+        let (_, ended) = run(
             rt.alloc(),
             FuseDisk::new(disk, passed, Fuse::ForEver, false),
+            16,
             script,
         );
         if ended.is(0, b"1 ok\n1 inserted\n1 committed 1\n1 ok\n1 inserted\n") {

@@ -11,7 +11,7 @@ fn run(alloc: Global, script: &[u8]) -> (u8, [u8; 64], bool) {
     let mut told = [0u8; 1];
     let mut reader = Noted::new(script);
     let mut writer = Noted::new(replies.as_mut_slice());
-    let mut faults = told.as_mut_slice();
+    let mut faults = Noted::new(told.as_mut_slice());
     let status = run_script(alloc, &mut reader, &mut writer, &mut faults);
     (status, replies, told != [0])
 }
@@ -63,7 +63,7 @@ fn stops<T: Abort + AllocGlobal, R: Read + Drop, W: Write + Drop>(
     line: &[u8],
 ) {
     let mut told = [0u8; 64];
-    let mut faults = told.as_mut_slice();
+    let mut faults = Noted::new(told.as_mut_slice());
     let status = run_script(
         rt.alloc(),
         &mut Noted::new(reader),

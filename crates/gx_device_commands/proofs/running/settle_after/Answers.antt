@@ -1,14 +1,14 @@
-use Rattle.std.proofs.Common.{refl}
-use Rattle.std.proofs.KnownBytes.{Keeps-refl}
+use Rattle.gx_device_commands.proofs.Over.{left_of}
 use Rattle.gx_device_commands.proofs.running.settle_after.Goals as goal
 
-pub returns-in-Ok-clause-settles : goal.returns-in-Ok-clause-settles
-returns-in-Ok-clause-settles g c = record {
-  result = _;
-  new = c.settle.new.self;
-  settles = c.in-Ok.ensures.settles;
-  runs = c.in-Ok.ensures.runs;
-  rests = c.in-Ok.ensures.rests;
-  keeps = c.in-Ok.ensures.keeps;
-  told = (refl, Keeps-refl (g.W.Write.contents c.args.writer.now.inner));
+pub returns : goal.returns
+returns g c = record {
+  result = c.settle-ended.result;
+  new = c.settle-ended.new.self;
+  settles = c.settle-ended.ensures.settles;
+  runs = c.settle-ended.ensures.runs;
+  rests = c.settle-ended.ensures.rests;
+  keeps = c.settle-ended.ensures.keeps;
+  told = c.tell_settled-status.ensures;
+  left = left_of c.settle-ended.new.self c.into_engine.result c.into_disk.result c.into_engine.ensures c.into_disk.ensures;
 }
