@@ -175,10 +175,10 @@ module _ {B D : Type 0} (s : ℕ) (entry : Entry B) (k : Keys B) (leaf : ℕ) (o
       let is_end : new ≡ its_end = noted ∙ ap (λ (x : Parts B D). record x { sessions = written_state k s note x.sessions }) only in
       subst (λ (y : Outcome B). P new y) (sym one) (subst (λ (x : Parts B D). P x (Replied reply.Inserted)) (sym is_end) at_end)
 
-  pub added_comes : (passes : ℕ → Contents → Bool) (state : D → Device) → mid.volume.most ≡ old.volume.most
-      → WriteComes k passes (state old.volume.shelf.disk) (state new.volume.shelf.disk) s (Insert entry) old new o
-  added_comes passes state most =
-      added_is (λ x y. WriteComes k passes (state old.volume.shelf.disk) (state x.volume.shelf.disk) s (Insert entry) old x y)
+  pub added_comes : (f : Format B) (passes : ℕ → Contents → Bool) (state : D → Device) → mid.volume.most ≡ old.volume.most
+      → WriteComes k f passes (state old.volume.shelf.disk) (state new.volume.shelf.disk) s (Insert entry) old new o
+  added_comes f passes state most =
+      added_is (λ x y. WriteComes k f passes (state old.volume.shelf.disk) (state x.volume.shelf.disk) s (Insert entry) old x y)
       (record { entry = entry; before = true; leaf = leaf }, refl, refl, most)
 
 -- the leaf to which an insert has descended is refused as none, or as a full one: that is impossible

@@ -1,6 +1,7 @@
 -- A descent makes room: its full leaf is swept, or its node is split.
-use Rattle.std.proofs.Common.{◌≡◌, ◌≢◌, ◌∙◌, ap, sym, refl, subst, ℕ, suc, ◌+◌, ◌-◌, ◌^◌, ◌<◌, ◌≤◌, Bool, true, false, Option, None, Some, Ok, List, [], ◌∷◌, length, map, arith}
+use Rattle.std.proofs.Common.{◌≡◌, ◌≢◌, ne_eqb, if◌then◌else◌, ◌∙◌, ap, sym, refl, subst, ℕ, suc, ◌+◌, ◌-◌, ◌^◌, ◌<◌, ◌≤◌, Bool, true, false, Option, None, Some, Ok, List, [], ◌∷◌, length, map, arith}
 use Rattle.std.proofs.lemmas.List.{set-get_or}
+use Rattle.gx_geom.specs.declared.refusal.Refusal.{Refusal}
 use Rattle.gx_geom.specs.declared.refusal.Refusal.TheVariants as refusal
 use Rattle.gx_machine.specs.declared.call.Call.{Call}
 use Rattle.gx_machine.specs.declared.call.Call.TheVariants.{Insert}
@@ -62,7 +63,7 @@ use Rattle.gx_engine.specs.Holds.{Holds}
 use Rattle.gx_engine.specs.Moves.{Moves, calling}
 use Rattle.gx_engine.specs.States.{Parts, is_due}
 use Rattle.gx_engine.specs.Sweeping.{is_held}
-use Rattle.gx_engine.specs.Writing.{WriteComes}
+use Rattle.gx_engine.specs.Writing.{IsFull, LeftFew, SplitComes, WriteComes, pages_split}
 use Rattle.gx_engine.proofs.Brought.{as_brought}
 use Rattle.gx_engine.proofs.Claimed.{claimed_alike}
 use Rattle.gx_engine.proofs.Descents.{logged_on, logged_yet, quiet_moves}
@@ -86,15 +87,15 @@ module _ {B D : Type 0} (s : ℕ) (call : Call B) (from : ℕ) (next : Item) (ol
       let is_end : new ≡ its_end = there ∙ ap (λ (x : Parts B D). calling s call (Descends from next) x) only in
       subst (λ (y : Outcome B). P new y) (sym one) (subst (λ (x : Parts B D). P x More) (sym is_end) at_end)
 
-  pub on_comes : (k : Keys B) (passes : ℕ → Contents → Bool) (state : D → Device) → mid.volume.most ≡ old.volume.most
-      → WriteComes k passes (state old.volume.shelf.disk) (state new.volume.shelf.disk) s call old new o
-  on_comes k passes state most =
-      on_is (λ x y. WriteComes k passes (state old.volume.shelf.disk) (state x.volume.shelf.disk) s call old x y) (Descends from next, refl, most)
+  pub on_comes : (k : Keys B) (f : Format B) (passes : ℕ → Contents → Bool) (state : D → Device) → mid.volume.most ≡ old.volume.most
+      → WriteComes k f passes (state old.volume.shelf.disk) (state new.volume.shelf.disk) s call old new o
+  on_comes k f passes state most =
+      on_is (λ x y. WriteComes k f passes (state old.volume.shelf.disk) (state x.volume.shelf.disk) s call old x y) (Descends from next, refl, most)
 
 -- or with the work that it had
-pub yet_comes : {B D : Type 0} (k : Keys B) (passes : ℕ → Contents → Bool) (d e : Device) (s : ℕ) (call : Call B) (was : Work B) (old mid : Parts B D) → mid ≡ record old { volume = mid.volume }
-    → mid.volume.most ≡ old.volume.most → phase_at (s - 1) old.sessions.phases ≡ phase.Open call was → WriteComes k passes d e s call old mid More
-yet_comes {B} k passes d e s call was old mid only most at = (
+pub yet_comes : {B D : Type 0} (k : Keys B) (f : Format B) (passes : ℕ → Contents → Bool) (d e : Device) (s : ℕ) (call : Call B) (was : Work B) (old mid : Parts B D) → mid ≡ record old { volume = mid.volume }
+    → mid.volume.most ≡ old.volume.most → phase_at (s - 1) old.sessions.phases ≡ phase.Open call was → WriteComes k f passes d e s call old mid More
+yet_comes {B} k f passes d e s call was old mid only most at = (
   was,
   only ∙ sym (ap (λ (x : State B (Work B)). record old { volume = mid.volume; sessions = x }) (phase_yet s old.sessions (phase.Open call was) at)),
   most,
@@ -268,6 +269,55 @@ module _ {B D : Type 0} (c : Class B) (lawful : 4 ≤ c.rules.most → IsLawful 
         let large : 65536 ≤ 2 ^ 16 = omega arith in
         absurd (damaged steady (subst (λ (x : Rules B). Legal x t) same its_legal) its_full (omega (arith, below, before, few, pages, small, large)))
 
+-- A split below the root takes a page, and the root's takes two.
+pub few_below : {B D : Type 0} (d : Device) (old : Parts B D) (page : ℕ) → page ≢ 1
+    → (IsSteady d old.volume.shelf.frames → old.volume.shelf.pages ≤ old.volume.shelf.used) → LeftFew d old page
+few_below d old page below none steady =
+    let one : pages_split page ≡ 1 = ap (λ (b : Bool). if b then 2 else 1) (ne_eqb page 1 below) in
+    let low = none steady in
+    omega (arith, low, one)
+
+pub few_top : {B D : Type 0} (d : Device) (old : Parts B D) (page : ℕ) → page ≡ 1
+    → (IsSteady d old.volume.shelf.frames → old.volume.shelf.pages < old.volume.shelf.used + 2) → LeftFew d old page
+few_top d old page top few steady =
+    let two : pages_split page ≡ 2 = ap (λ (n : ℕ). pages_split n) top in
+    let low = few steady in
+    omega (arith, low, two)
+
+-- the page of a descent
+abbrev page_of : {B : Type 0} → Phase B (Work B) → ℕ
+page_of (phase.Open _ (Descends parent item)) = item.page
+page_of other = 0
+
+-- A split's move is a write's, where its node is full; and a write's may be a split's.
+module _ {B D : Type 0} (k : Keys B) (f : Format B) (passes : ℕ → Contents → Bool) (d e : Device) (s : ℕ) (entry : Entry B) (parent : ℕ) (item : Item) (old new : Parts B D)
+    (at : phase_at (s - 1) old.sessions.phases ≡ phase.Open (Insert entry) (Descends parent item)) where
+  abbrev Writes : Outcome B → Type 0
+  Writes o = WriteComes k f passes d e s (Insert entry) old new o
+
+  abbrev Splits : Outcome B → Type 0
+  Splits o = SplitComes k f passes d e s (Insert entry) item.page old new o
+
+  refused_split : (why : Refusal) → Writes (Replied (RefusedCall why)) → Splits (Replied (RefusedCall why))
+  refused_split refusal.PagesFull comes =
+      let same : comes.0.item.page ≡ item.page = ap (λ (p : Phase B (Work B)). page_of p) (sym comes.0.descends ∙ at) in
+      (subst (λ (n : ℕ). LeftFew d old n) same comes.0.few, comes.1)
+  refused_split why comes = comes
+
+  pub as_split : (o : Outcome B) → Writes o → Splits o
+  as_split (Replied (RefusedCall why)) comes = refused_split why comes
+  as_split o comes = comes
+
+  module _ (full : IsFull f d old item.page) where
+    refused_full : (why : Refusal) → Splits (Replied (RefusedCall why)) → Writes (Replied (RefusedCall why))
+    refused_full refusal.PagesFull comes =
+        (record { entry = entry; inserts = refl; parent = parent; item = item; descends = at; full = full; few = comes.0 }, comes.1)
+    refused_full why comes = comes
+
+    pub full_write : (o : Outcome B) → Splits o → Writes o
+    full_write (Replied (RefusedCall why)) comes = refused_full why comes
+    full_write o comes = comes
+
 -- No page is left, and the call is closed.
 module _ {B D : Type 0} (s : ℕ) (old mid new : Parts B D) (only : mid ≡ record old { volume = mid.volume })
     (shut : new ≡ record mid { sessions = answered_state s mid.sessions }) (o : Outcome B) (one : o ≡ Replied (RefusedCall refusal.PagesFull)) where
@@ -276,11 +326,11 @@ module _ {B D : Type 0} (s : ℕ) (old mid new : Parts B D) (only : mid ≡ reco
       let is_end : new ≡ record old { volume = mid.volume; sessions = answered_state s old.sessions } = shut ∙ ap (λ (x : Parts B D). record x { sessions = answered_state s x.sessions }) only in
       subst (λ (y : Outcome B). P new y) (sym one) (subst (λ (x : Parts B D). P x (Replied (RefusedCall refusal.PagesFull))) (sym is_end) at_end)
 
-  pub full_comes : (k : Keys B) (passes : ℕ → Contents → Bool) (state : D → Device) (entry : Entry B) → mid.volume.most ≡ old.volume.most → mid.volume.log ≡ old.volume.log
-      → (IsSteady (state old.volume.shelf.disk) old.volume.shelf.frames → old.volume.shelf.pages < old.volume.shelf.used + 2)
-      → WriteComes k passes (state old.volume.shelf.disk) (state new.volume.shelf.disk) s (Insert entry) old new o
-  full_comes k passes state entry most log few =
-      full_is (λ x y. WriteComes k passes (state old.volume.shelf.disk) (state x.volume.shelf.disk) s (Insert entry) old x y)
+  pub full_comes : (k : Keys B) (f : Format B) (passes : ℕ → Contents → Bool) (state : D → Device) (call : Call B) (page : ℕ) → mid.volume.most ≡ old.volume.most → mid.volume.log ≡ old.volume.log
+      → LeftFew (state old.volume.shelf.disk) old page
+      → SplitComes k f passes (state old.volume.shelf.disk) (state new.volume.shelf.disk) s call page old new o
+  full_comes k f passes state call page most log few =
+      full_is (λ x y. SplitComes k f passes (state old.volume.shelf.disk) (state x.volume.shelf.disk) s call page old x y)
       (few, as_brought old mid.volume (answered_state s old.sessions) log most)
 
 -- A split that was made, or for which there was no place.

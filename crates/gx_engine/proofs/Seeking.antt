@@ -195,14 +195,14 @@ module _ {B D : Type 0} (f : Format B) (IsKey : B → Type 0) (k : Keys B) (pass
   its_call m is = ap (λ b. write_call b entry) is
 
   refused_write : (why : Refusal) → SeekComes f IsKey k passes d e s entry leaf marked old new (Replied (reply.Refused why))
-      → WriteComes k passes d e s (write_call marked entry) old new (Replied (reply.Refused why))
+      → WriteComes k f passes d e s (write_call marked entry) old new (Replied (reply.Refused why))
   refused_write refusal.Present comes = (entry, its_call false comes.0, comes.1)
   refused_write refusal.Absent comes = (entry, its_call true comes.0, comes.1)
   refused_write refusal.Device comes = comes
   refused_write refusal.Damaged comes = comes
   refused_write why comes = absurd comes
 
-  replied_write : (r : Reply B) → SeekComes f IsKey k passes d e s entry leaf marked old new (Replied r) → WriteComes k passes d e s (write_call marked entry) old new (Replied r)
+  replied_write : (r : Reply B) → SeekComes f IsKey k passes d e s entry leaf marked old new (Replied r) → WriteComes k f passes d e s (write_call marked entry) old new (Replied r)
   replied_write reply.Inserted comes = (record { entry = entry; before = comes.1.before; leaf = leaf }, its_call false comes.0, comes.1.is, comes.1.most)
   replied_write reply.Deleted comes = (record { entry = entry; before = comes.1.before; leaf = leaf }, its_call true comes.0, comes.1.is, comes.1.most)
   replied_write (reply.Refused why) comes = refused_write why comes
@@ -212,7 +212,7 @@ module _ {B D : Type 0} (f : Format B) (IsKey : B → Type 0) (k : Keys B) (pass
   delayed n (inl due) = inl (due.0, due.1, due.2)
   delayed n (inr room) = inr room
 
-  pub seek_write : (o : Outcome B) → SeekComes f IsKey k passes d e s entry leaf marked old new o → WriteComes k passes d e s (write_call marked entry) old new o
+  pub seek_write : (o : Outcome B) → SeekComes f IsKey k passes d e s entry leaf marked old new o → WriteComes k f passes d e s (write_call marked entry) old new o
   seek_write More comes =
       let same : new.volume ≡ record old.volume { shelf = new.volume.shelf } = ap (λ (x : Parts B D). x.volume) comes.1 in (
         Seeks comes.0,

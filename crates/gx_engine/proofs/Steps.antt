@@ -116,7 +116,7 @@ module _ {B D : Type 0} (c : Class B) (r : Reading (Entry B) (Page B)) (f : Form
     search_is query other comes events are led = absurd comes
 
     -- an insert
-    insert_refused : (k : Keys B) (entry : Entry B) (why : Refusal) → WriteComes k passes d e s (Insert entry) old new (Replied (reply.Refused why))
+    insert_refused : (k : Keys B) (entry : Entry B) (why : Refusal) → WriteComes k f passes d e s (Insert entry) old new (Replied (reply.Refused why))
         → (events : List (laws.Event B)) → AreWriting s (Insert entry) (Replied (reply.Refused why)) events → Led c r f passes d e new i events
         → IsMove s (engine_of c i) (Replied (reply.Refused why)) events
     insert_refused k entry refusal.Present comes events are led = (laws.FindsPresent s entry, inl are, (refl, refl))
@@ -127,14 +127,14 @@ module _ {B D : Type 0} (c : Class B) (r : Reading (Entry B) (Page B)) (f : Form
     insert_refused k entry refusal.Damaged comes events are led = absurd (had_failed works (ap (λ (x : Parts B D). x.sessions.failed) comes) bodies i h events are led)
     insert_refused k entry why comes events are led = absurd comes
 
-    insert_replied : (k : Keys B) (entry : Entry B) (given : Reply B) → WriteComes k passes d e s (Insert entry) old new (Replied given)
+    insert_replied : (k : Keys B) (entry : Entry B) (given : Reply B) → WriteComes k f passes d e s (Insert entry) old new (Replied given)
         → (events : List (laws.Event B)) → AreWriting s (Insert entry) (Replied given) events → Led c r f passes d e new i events → IsMove s (engine_of c i) (Replied given) events
     insert_replied k entry reply.Inserted comes events are led = (laws.Inserts s entry, inl are, (refl, refl))
     insert_replied k entry reply.Deleted comes events are led = let same : ◌≡◌ {A = Call B} (Insert entry) (Delete comes.0.entry) = comes.1 in let no : ⊥ = cc in absurd no
     insert_replied k entry (reply.Refused why) comes events are led = insert_refused k entry why comes events are led
     insert_replied k entry given comes events are led = absurd comes
 
-    pub insert_is : (k : Keys B) (entry : Entry B) (outcome : Outcome B) → WriteComes k passes d e s (Insert entry) old new outcome
+    pub insert_is : (k : Keys B) (entry : Entry B) (outcome : Outcome B) → WriteComes k f passes d e s (Insert entry) old new outcome
         → (events : List (laws.Event B)) → AreWriting s (Insert entry) outcome events → Led c r f passes d e new i events → IsMove s (engine_of c i) outcome events
     insert_is k entry (Replied given) comes events are led = insert_replied k entry given comes events are led
     insert_is k entry More comes events are led = (still_works, (laws.Works, are, tt))
@@ -142,25 +142,26 @@ module _ {B D : Type 0} (c : Class B) (r : Reading (Entry B) (Page B)) (f : Form
     insert_is k entry other comes events are led = absurd comes
 
     -- a delete
-    delete_refused : (k : Keys B) (entry : Entry B) (why : Refusal) → WriteComes k passes d e s (Delete entry) old new (Replied (reply.Refused why))
+    delete_refused : (k : Keys B) (entry : Entry B) (why : Refusal) → WriteComes k f passes d e s (Delete entry) old new (Replied (reply.Refused why))
         → (events : List (laws.Event B)) → AreWriting s (Delete entry) (Replied (reply.Refused why)) events → Led c r f passes d e new i events
         → IsMove s (engine_of c i) (Replied (reply.Refused why)) events
     delete_refused k entry refusal.Present comes events are led = let same : ◌≡◌ {A = Call B} (Delete entry) (Insert comes.0) = comes.1 in let no : ⊥ = cc in absurd no
     delete_refused k entry refusal.Absent comes events are led = (laws.FindsAbsent s entry, are, (refl, refl))
     delete_refused k entry refusal.Memory comes events are led = (laws.Closes s (Delete entry) refusal.Memory, inl are, (refl, refl))
-    delete_refused k entry refusal.PagesFull comes events are led = (laws.Closes s (Delete entry) refusal.PagesFull, inl are, (refl, refl))
+    delete_refused k entry refusal.PagesFull comes events are led =
+        let same : ◌≡◌ {A = Call B} (Delete entry) (Insert comes.0.entry) = comes.0.inserts in let no : ⊥ = cc in absurd no
     delete_refused k entry refusal.Device comes events are led = (laws.RefusesCall s refusal.Device, inl are, (refl, refl, λ same. absurd (not_failed same)))
     delete_refused k entry refusal.Damaged comes events are led = absurd (had_failed works (ap (λ (x : Parts B D). x.sessions.failed) comes) bodies i h events are led)
     delete_refused k entry why comes events are led = absurd comes
 
-    delete_replied : (k : Keys B) (entry : Entry B) (given : Reply B) → WriteComes k passes d e s (Delete entry) old new (Replied given)
+    delete_replied : (k : Keys B) (entry : Entry B) (given : Reply B) → WriteComes k f passes d e s (Delete entry) old new (Replied given)
         → (events : List (laws.Event B)) → AreWriting s (Delete entry) (Replied given) events → Led c r f passes d e new i events → IsMove s (engine_of c i) (Replied given) events
     delete_replied k entry reply.Inserted comes events are led = let same : ◌≡◌ {A = Call B} (Delete entry) (Insert comes.0.entry) = comes.1 in let no : ⊥ = cc in absurd no
     delete_replied k entry reply.Deleted comes events are led = (laws.Deletes s entry, inl are, (refl, refl))
     delete_replied k entry (reply.Refused why) comes events are led = delete_refused k entry why comes events are led
     delete_replied k entry given comes events are led = absurd comes
 
-    pub delete_is : (k : Keys B) (entry : Entry B) (outcome : Outcome B) → WriteComes k passes d e s (Delete entry) old new outcome
+    pub delete_is : (k : Keys B) (entry : Entry B) (outcome : Outcome B) → WriteComes k f passes d e s (Delete entry) old new outcome
         → (events : List (laws.Event B)) → AreWriting s (Delete entry) outcome events → Led c r f passes d e new i events → IsMove s (engine_of c i) outcome events
     delete_is k entry (Replied given) comes events are led = delete_replied k entry given comes events are led
     delete_is k entry More comes events are led = (still_works, (laws.Works, are, tt))
@@ -222,12 +223,12 @@ module _ {B D : Type 0} (c : Class B) (r : Reading (Entry B) (Page B)) (f : Form
   search_steps works s query outcome comes moves =
       moves_step s outcome (AreSearching s query outcome) moves (λ bodies i h events are led. search_is works s bodies i h query outcome comes events are led)
 
-  pub insert_steps : old.sessions.failed ≡ false → (s : ℕ) (k : Keys B) (entry : Entry B) (outcome : Outcome B) → WriteComes k passes d e s (Insert entry) old new outcome
+  pub insert_steps : old.sessions.failed ≡ false → (s : ℕ) (k : Keys B) (entry : Entry B) (outcome : Outcome B) → WriteComes k f passes d e s (Insert entry) old new outcome
       → MovesSo c r f passes d e s old new outcome (AreWriting s (Insert entry) outcome) → Steps c r f passes d e (Move s) old new outcome
   insert_steps works s k entry outcome comes moves =
       moves_step s outcome (AreWriting s (Insert entry) outcome) moves (λ bodies i h events are led. insert_is works s bodies i h k entry outcome comes events are led)
 
-  pub delete_steps : old.sessions.failed ≡ false → (s : ℕ) (k : Keys B) (entry : Entry B) (outcome : Outcome B) → WriteComes k passes d e s (Delete entry) old new outcome
+  pub delete_steps : old.sessions.failed ≡ false → (s : ℕ) (k : Keys B) (entry : Entry B) (outcome : Outcome B) → WriteComes k f passes d e s (Delete entry) old new outcome
       → MovesSo c r f passes d e s old new outcome (AreWriting s (Delete entry) outcome) → Steps c r f passes d e (Move s) old new outcome
   delete_steps works s k entry outcome comes moves =
       moves_step s outcome (AreWriting s (Delete entry) outcome) moves (λ bodies i h events are led. delete_is works s bodies i h k entry outcome comes events are led)

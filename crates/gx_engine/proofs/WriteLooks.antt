@@ -60,11 +60,11 @@ use Rattle.gx_storage.specs.State.{Volume}
 use Rattle.gx_engine.specs.declared.work.Work.{Work}
 use Rattle.gx_engine.specs.declared.work.Work.TheVariants.{Descends, Looks, Rests, Seeks}
 use Rattle.gx_engine.specs.Holds.{CallDescends, CallSeeks, Holds, MayHaveFound}
-use Rattle.gx_engine.specs.Looking.{StopComes, is_looking, look_events, turned_by}
+use Rattle.gx_engine.specs.Looking.{StopComes, look_events, turned_by, work_before}
 use Rattle.gx_engine.specs.Moves.{Moves, MovesOn, MovesSo, calling}
 use Rattle.gx_engine.specs.Refusals.{CanBeHelped, IsEarly, IsHelp}
 use Rattle.gx_engine.specs.States.{Parts, is_due, runs}
-use Rattle.gx_engine.specs.Writing.{AreWriting, IsDelayed, OnlyReads, WriteComes, brought, write_events}
+use Rattle.gx_engine.specs.Writing.{AreWriting, IsAtLook, IsDelayed, OnlyReads, WriteComes, brought, is_looking, write_events}
 use Rattle.gx_engine.proofs.Looking.{answered_again, answers, as_it_stays, at_work, goes_on, held, looks_at, may_have_found, moves_on, phase_again, put_kept, slot_now}
 use Rattle.gx_engine.proofs.Reading.{its_phase, read_at_hand, settled, stays, step_here, look_wants, was_kept}
 use Rattle.gx_engine.proofs.Serving.{same_device}
@@ -108,8 +108,18 @@ pub are_writing : {B : Type 0} (s : ℕ) (call : Call B) (outcome : Outcome B) �
 are_writing s (Delete e) (Replied (reply.Refused refusal.Absent)) = inl refl
 are_writing s call outcome = refl
 
+-- a call that reads a page for its look is at that, or has yet to begin with it
+looks_before : {B : Type 0} (begun : Bool) (look : Look B) → is_looking (work_before begun look) ≡ true
+looks_before true look = refl
+looks_before false look = refl
+
+pub at_look : {B D : Type 0} (k : Keys B) (e : Parts B D) (kept : IsKept k e.sessions) (s : ℕ) (is : is_session s ≡ true) (call : Call B) (rest : Work B)
+    (at : phase_at (s - 1) e.sessions.phases ≡ phase.Open call rest) (begun : Bool) (look : Look B) → IsAtLook s call (calling s call (work_before begun look) e)
+at_look k e kept s is call rest at begun look =
+    record { work = work_before begun look; at = at_work k e kept s is call rest at (work_before begun look); looks = looks_before begun look }
+
 -- What stops as any call's look is a write's.
-module _ {B D : Type 0} (k : Keys B) (passes : ℕ → Contents → Bool) (d e : Device) (s : ℕ) (call : Call B) (old new : Parts B D) where
+module _ {B D : Type 0} (k : Keys B) (f : Format B) (passes : ℕ → Contents → Bool) (d e : Device) (s : ℕ) (call : Call B) (old new : Parts B D) where
   -- what helps a look asks for no room in the log
   help_delays : (n : Need) → IsHelp passes d e (runs old.checkpoint) (bringing old.volume) new.volume.shelf n → IsDelayed passes d e old new n
   help_delays n help = inr (0, omega arith, by help.fault refl)
@@ -134,19 +144,19 @@ module _ {B D : Type 0} (k : Keys B) (passes : ℕ → Contents → Bool) (d e :
       by fault.Device is = absurd (subst (λ (x : StoreFault). CanBeHelped x) is help.can)
       by fault.Damaged is = absurd (subst (λ (x : StoreFault). CanBeHelped x) is help.can)
 
-  stop_refused : (why : Refusal) → StopComes passes d e s old new (Replied (reply.Refused why))
-      → WriteComes k passes d e s call old new (Replied (reply.Refused why)) × (write_events s call (Replied (reply.Refused why)) ≡ look_events s call (Replied (reply.Refused why)))
-  stop_refused refusal.Memory comes = (comes, memory_told s call)
-  stop_refused refusal.Device comes = (comes, device_told s call)
-  stop_refused refusal.Damaged comes = (comes, damaged_told s call)
-  stop_refused why comes = absurd comes
+  stop_refused : (why : Refusal) → IsAtLook s call old → StopComes passes d e s old new (Replied (reply.Refused why))
+      → WriteComes k f passes d e s call old new (Replied (reply.Refused why)) × (write_events s call (Replied (reply.Refused why)) ≡ look_events s call (Replied (reply.Refused why)))
+  stop_refused refusal.Memory looks comes = ((looks, comes), memory_told s call)
+  stop_refused refusal.Device looks comes = (comes, device_told s call)
+  stop_refused refusal.Damaged looks comes = (comes, damaged_told s call)
+  stop_refused why looks comes = absurd comes
 
   -- an outcome by which a look stops is a write's, and so are its events
-  pub stop_write : (outcome : Outcome B) → StopComes passes d e s old new outcome
-      → WriteComes k passes d e s call old new outcome × (write_events s call outcome ≡ look_events s call outcome)
-  stop_write (Replied (reply.Refused why)) comes = stop_refused why comes
-  stop_write (Help n) comes = ((help_delays n comes.0, comes.1), help_told s call n)
-  stop_write other comes = absurd comes
+  pub stop_write : IsAtLook s call old → (outcome : Outcome B) → StopComes passes d e s old new outcome
+      → WriteComes k f passes d e s call old new outcome × (write_events s call outcome ≡ look_events s call outcome)
+  stop_write looks (Replied (reply.Refused why)) comes = stop_refused why looks comes
+  stop_write looks (Help n) comes = ((help_delays n comes.0, comes.1), help_told s call n)
+  stop_write looks other comes = absurd comes
 
 -- only pages were brought by a look that stops
 stop_reads_refused : {B D : Type 0} (passes : ℕ → Contents → Bool) (d e : Device) (s : ℕ) (old new : Parts B D) (why : Refusal) → StopComes passes d e s old new (Replied (reply.Refused why)) → OnlyReads old new
@@ -161,9 +171,9 @@ stop_reads passes d e s old new (Help n) comes = reads_of old new _ comes.1 refl
 stop_reads passes d e s old new other comes = absurd comes
 
 -- an insert whose look ended in the move, and that descends
-pub descends_comes : {B D : Type 0} (k : Keys B) (passes : ℕ → Contents → Bool) (d e : Device) (s : ℕ) (call : Call B) (work : Work B) (old mid new : Parts B D) → mid ≡ calling s call Rests (brought old mid)
-    → new ≡ calling s call work mid → WriteComes k passes d e s call old new More × OnlyReads old new
-descends_comes {B} {D} k passes d e s call work old mid new rest is =
+pub descends_comes : {B D : Type 0} (k : Keys B) (f : Format B) (passes : ℕ → Contents → Bool) (d e : Device) (s : ℕ) (call : Call B) (work : Work B) (old mid new : Parts B D) → mid ≡ calling s call Rests (brought old mid)
+    → new ≡ calling s call work mid → WriteComes k f passes d e s call old new More × OnlyReads old new
+descends_comes {B} {D} k f passes d e s call work old mid new rest is =
     let known : new ≡ calling s call work (brought old mid) = worked_so s call work old mid new rest is in
     ((work, known ∙ sym (ap (λ (x : Parts B D). calling s call work (record old { volume = x.volume })) known), ap (λ (x : Parts B D). x.volume.most) known), reads_of old new _ known refl)
 

@@ -19,18 +19,11 @@ use Rattle.gx_phases.specs.declared.phase.Phase.TheVariants as phase
 use Rattle.gx_phases.specs.Moves.{WritesEntry, answered_state, failed_state}
 use Rattle.gx_storage.specs.Bringing.{bringing}
 use Rattle.gx_engine.specs.declared.work.Work.{Work}
-use Rattle.gx_engine.specs.declared.work.Work.TheVariants.{Rests, Looks, Descends, Seeks}
+use Rattle.gx_engine.specs.declared.work.Work.TheVariants.{Rests, Looks, Seeks}
 use Rattle.gx_engine.specs.Moves.{MovesOn}
 use Rattle.gx_engine.specs.Refusals.{IsHelp}
 use Rattle.gx_engine.specs.States.{Parts, runs}
-use Rattle.gx_engine.specs.Writing.{brought}
-
--- a call's work is a look, or has yet to begin with one
-abbrev pub is_looking : {B : Type 0} → Work B → Bool
-is_looking Rests = true
-is_looking (Looks look) = true
-is_looking (Descends parent item) = false
-is_looking (Seeks leaf) = false
+use Rattle.gx_engine.specs.Writing.{brought, is_looking}
 
 -- a session's write of an entry is open, and looks
 pub record LooksFor {B : Type 0} (entry : Entry B) (call : Call B) (work : Work B) (now : Phase B (Work B)) : Type 0 where

@@ -1,13 +1,19 @@
 -- What a move of an insert or a delete comes to.
-use Rattle.std.specs.Prelude.{ℕ, ◌≡◌, ◌≤◌, ◌<◌, ◌+◌, ◌⊎◌, Bool, true, List, [], ◌∷◌}
+use Rattle.std.specs.Prelude.{ℕ, ◌≡◌, ◌≤◌, ◌<◌, ◌+◌, ◌-◌, ◌==◌, ◌⊎◌, Bool, true, false, if◌then◌else◌, List, [], ◌∷◌}
+use Rattle.gx_class.specs.declared.class.KeyClass.{Ghosts}
 use Rattle.gx_geom.specs.declared.refusal.Refusal.TheVariants.{Absent, Damaged as DamagedRefusal, Device as DeviceRefusal, Memory, PagesFull, Present}
 use Rattle.gx_machine.specs.declared.call.Call.{Call}
 use Rattle.gx_machine.specs.declared.entry.Entry.{Entry}
 use Rattle.gx_machine.specs.declared.call.Call.TheVariants.{Delete, Insert}
 use Rattle.gx_machine.specs.declared.reply.Reply.TheVariants.{Deleted, Inserted, Refused as RefusedCall}
-use Rattle.gx_machine.specs.Keys.{Keys}
+use Rattle.gx_machine.specs.Keys.{Keys, Members, keys_of}
 use Rattle.gx_disk.specs.Device.{Device}
 use Rattle.gx_page.specs.Contents.{Contents}
+use Rattle.gx_node.specs.Reading.{Format, format_of, is_node}
+use Rattle.gx_node.specs.Store.{tree_of}
+use Rattle.gx_tree_laws.specs.Reach.{Item}
+use Rattle.gx_tree_laws.specs.Trees.{size}
+use Rattle.gx_tree.specs.declared.look.Look.{Look}
 use Rattle.gx_engine_laws.specs.Events.{Event, Closes, Deletes, FindsAbsent, FindsPresent, Inserts, RefusesCall, Works}
 use Rattle.gx_events.specs.declared.outcome.Need.{Need}
 use Rattle.gx_events.specs.declared.outcome.Need.TheVariants as need
@@ -15,10 +21,14 @@ use Rattle.gx_events.specs.declared.outcome.Outcome.{Outcome}
 use Rattle.gx_events.specs.declared.outcome.Outcome.TheVariants.{Replied, More, Help}
 use Rattle.gx_events.specs.Engines.{IsJust}
 use Rattle.gx_txn.specs.declared.note.Note.{Note}
+use Rattle.gx_phases.specs.declared.phase.Phase.TheVariants as phase
 use Rattle.gx_phases.specs.Moves.{answered_state, failed_state, written_state}
+use Rattle.gx_phases.specs.States.{phase_at}
+use Rattle.gx_store.specs.Standing.{store_of}
 use Rattle.gx_store.specs.State.{IsSteady}
 use Rattle.gx_storage.specs.Changes.{begun}
 use Rattle.gx_engine.specs.declared.work.Work.{Work}
+use Rattle.gx_engine.specs.declared.work.Work.TheVariants.{Descends, Looks, Rests, Seeks}
 use Rattle.gx_engine.specs.Moves.{calling}
 use Rattle.gx_engine.specs.Refusals.{IsEarly, IsHelp, StampsStay}
 use Rattle.gx_engine.specs.States.{Parts, is_due, runs}
@@ -41,26 +51,80 @@ IsDelayed passes d e old new n =
     ((n ≡ need.Checkpoint) × (is_due old ≡ true) × StampsStay old.volume.shelf new.volume.shelf)
     ⊎ ((size : ℕ) × (size ≤ 12314) × ((help : IsHelp passes d e (runs old.checkpoint) (begun old.volume size) new.volume.shelf n) × IsEarly help.fault (is_due old)))
 
+-- a call's work is a look, or has yet to begin with one
+abbrev pub is_looking : {B : Type 0} → Work B → Bool
+is_looking Rests = true
+is_looking (Looks look) = true
+is_looking (Descends parent item) = false
+is_looking (Seeks leaf) = false
+
+-- A session's call looks, which takes memory; what comes after its look takes none.
+pub record IsAtLook {B D : Type 0} (s : ℕ) (call : Call B) (e : Parts B D) : Type 0 where
+  pub work : Work B
+  pub at : phase_at (s - 1) e.sessions.phases ≡ phase.Open call work
+  pub looks : is_looking work ≡ true
+
+-- the pages that a split takes: two at the root, and one below it
+abbrev pub pages_split : ℕ → ℕ
+pages_split page = if page == 1 then 2 else 1
+
+-- fewer pages are left than the split of this one takes
+abbrev pub LeftFew : {B D : Type 0} → Device → Parts B D → ℕ → Type 0
+LeftFew d e page = IsSteady d e.volume.shelf.frames → e.volume.shelf.pages < e.volume.shelf.used + pages_split page
+
+-- the node on a page is full
+abbrev pub IsFull : {B D : Type 0} → Format B → Device → Parts B D → ℕ → Type 0
+IsFull f d e page =
+    IsSteady d e.volume.shelf.frames → e.volume.most ≤ size ((tree_of (store_of f d.seen e.volume.shelf)).node page)
+
+-- A session's insert has descended to a full node, whose split takes more pages than are left.
+pub record LacksPages {B D : Type 0} (f : Format B) (d : Device) (s : ℕ) (call : Call B) (e : Parts B D) : Type 0 where
+  pub entry : Entry B
+  pub inserts : call ≡ Insert entry
+  pub parent : ℕ
+  pub item : Item
+  pub descends : phase_at (s - 1) e.sessions.phases ≡ phase.Open call (Descends parent item)
+  pub full : IsFull f d e item.page
+  pub few : LeftFew d e item.page
+
 -- The call goes on with other work; or its pair is written and noted; or an insert's stands live, or a delete's nowhere live, and the
--- call is closed; or it is closed for want of memory or of pages; or the engine has failed; or another event has to come first, and
--- the call is at what it was.
-abbrev pub WriteComes : {B D : Type 0} → Keys B → (ℕ → Contents → Bool) → Device → Device → ℕ → Call B → Parts B D → Parts B D → Outcome B → Type 0
-WriteComes {B} k passes d e s call old new More = (work : Work B) × (new ≡ calling s call work (record old { volume = new.volume })) × (new.volume.most ≡ old.volume.most)
-WriteComes {B} k passes d e s call old new (Replied Inserted) =
+-- call is closed; or it is closed for want of memory in its look, or of pages for a split; or the engine has failed; or another event
+-- has to come first, and the call is at what it was.
+abbrev pub WriteComes : {B D : Type 0} → Keys B → Format B → (ℕ → Contents → Bool) → Device → Device → ℕ → Call B → Parts B D → Parts B D → Outcome B → Type 0
+WriteComes {B} k f passes d e s call old new More = (work : Work B) × (new ≡ calling s call work (record old { volume = new.volume })) × (new.volume.most ≡ old.volume.most)
+WriteComes {B} k f passes d e s call old new (Replied Inserted) =
     (n : Note B) × (call ≡ Insert n.entry) × (new ≡ record old { volume = new.volume; sessions = written_state k s n old.sessions }) × (new.volume.most ≡ old.volume.most)
-WriteComes {B} k passes d e s call old new (Replied Deleted) =
+WriteComes {B} k f passes d e s call old new (Replied Deleted) =
     (n : Note B) × (call ≡ Delete n.entry) × (new ≡ record old { volume = new.volume; sessions = written_state k s n old.sessions }) × (new.volume.most ≡ old.volume.most)
-WriteComes {B} k passes d e s call old new (Replied (RefusedCall Present)) =
+WriteComes {B} k f passes d e s call old new (Replied (RefusedCall Present)) =
     (entry : Entry B) × (call ≡ Insert entry) × (new ≡ record (brought old new) { sessions = answered_state s old.sessions })
-WriteComes {B} k passes d e s call old new (Replied (RefusedCall Absent)) =
+WriteComes {B} k f passes d e s call old new (Replied (RefusedCall Absent)) =
     (entry : Entry B) × (call ≡ Delete entry) × (new ≡ record (brought old new) { sessions = answered_state s old.sessions })
-WriteComes k passes d e s call old new (Replied (RefusedCall Memory)) = new ≡ record (brought old new) { sessions = answered_state s old.sessions }
-WriteComes k passes d e s call old new (Replied (RefusedCall PagesFull)) =
-    (IsSteady d old.volume.shelf.frames → old.volume.shelf.pages < old.volume.shelf.used + 2) × (new ≡ record (brought old new) { sessions = answered_state s old.sessions })
-WriteComes k passes d e s call old new (Replied (RefusedCall DeviceRefusal)) = (d.faults < e.faults) × (new ≡ record (brought old new) { sessions = failed_state old.sessions })
-WriteComes k passes d e s call old new (Replied (RefusedCall DamagedRefusal)) = new ≡ record (brought old new) { sessions = failed_state old.sessions }
-WriteComes k passes d e s call old new (Help n) = IsDelayed passes d e old new n × (new ≡ brought old new)
-WriteComes k passes d e s call old new other = ⊥
+WriteComes k f passes d e s call old new (Replied (RefusedCall Memory)) =
+    IsAtLook s call old × (new ≡ record (brought old new) { sessions = answered_state s old.sessions })
+WriteComes k f passes d e s call old new (Replied (RefusedCall PagesFull)) =
+    LacksPages f d s call old × (new ≡ record (brought old new) { sessions = answered_state s old.sessions })
+WriteComes k f passes d e s call old new (Replied (RefusedCall DeviceRefusal)) = (d.faults < e.faults) × (new ≡ record (brought old new) { sessions = failed_state old.sessions })
+WriteComes k f passes d e s call old new (Replied (RefusedCall DamagedRefusal)) = new ≡ record (brought old new) { sessions = failed_state old.sessions }
+WriteComes k f passes d e s call old new (Help n) = IsDelayed passes d e old new n × (new ≡ brought old new)
+WriteComes k f passes d e s call old new other = ⊥
+
+-- The same of the split of a page, of which it isn't said that it is full.
+abbrev pub SplitComes : {B D : Type 0} → Keys B → Format B → (ℕ → Contents → Bool) → Device → Device → ℕ → Call B → ℕ → Parts B D → Parts B D → Outcome B → Type 0
+SplitComes k f passes d e s call page old new (Replied (RefusedCall PagesFull)) =
+    LeftFew d old page × (new ≡ record (brought old new) { sessions = answered_state s old.sessions })
+SplitComes k f passes d e s call page old new outcome = WriteComes k f passes d e s call old new outcome
+
+-- the two over a class of keys, and devices that are seen so
+abbrev pub WritesAs : {C B D : Type 0} → Members B → Ghosts C B → (D → Device) → ℕ → Call B → Parts B D → Parts B D → Outcome B → Type 0
+WritesAs shape class state s call old new outcome =
+    WriteComes (keys_of shape) (format_of class) (is_node (format_of class)) (state old.volume.shelf.disk) (state new.volume.shelf.disk)
+    s call old new outcome
+
+abbrev pub SplitsAs : {C B D : Type 0} → Members B → Ghosts C B → (D → Device) → ℕ → Call B → ℕ → Parts B D → Parts B D → Outcome B → Type 0
+SplitsAs shape class state s call page old new outcome =
+    SplitComes (keys_of shape) (format_of class) (is_node (format_of class)) (state old.volume.shelf.disk) (state new.volume.shelf.disk)
+    s call page old new outcome
 
 -- the index's event that it is
 abbrev pub write_events : {B : Type 0} → ℕ → Call B → Outcome B → List (Event B)

@@ -15,7 +15,6 @@ ghost use Rattle.gx_tree.specs.Descending.{WayAt, next_of};
 ghost use Rattle.gx_tree_laws.specs.Reach as reach;
 ghost use Rattle.gx_node.specs.Keyed.{rules_of};
 ghost use Rattle.gx_node.specs.Store.{tree_of};
-ghost use Rattle.gx_tree_laws.specs.Trees.{size};
 ghost use Rattle.gx_phases.specs.declared.phase.Phase.TheVariants.{Open};
 ghost use Rattle.gx_phases.specs.Moves.{HasWrite, is_open, transaction_of, written_state};
 ghost use Rattle.gx_phases.specs.States.{phase_at};
@@ -26,7 +25,7 @@ ghost use Rattle.gx_engine.specs.Descending.{Adding, LeafSweeping, RootSplitting
 ghost use Rattle.gx_engine.specs.Moves.{Moves, calling};
 ghost use Rattle.gx_engine.specs.States.{is_due};
 ghost use Rattle.gx_engine.specs.Sweeping.{is_held, node_shown};
-ghost use Rattle.gx_engine.specs.Writing.{WriteComes, write_events};
+ghost use Rattle.gx_engine.specs.Writing.{IsFull, SplitsAs, WritesAs, write_events};
 
 use crate::Engine;
 use crate::laws::a_class_is_lawful;
@@ -131,8 +130,7 @@ impl<D: SectorDisk, K: ReadKeys> Engine<D, K> {
         requires descends { phase_at (session - 1) self.old.sessions.phases ≡ Open (Insert entry) (Descends parent item) }
         requires works { self.old.sessions.failed ≡ false }
         requires early { is_due self.old ≡ false }
-        ensures comes { WriteComes (keys_of K.Key.Shape) (is_node (format_of K.KeyClass)) (D.state self.old.volume.shelf.disk) (D.state self.new.volume.shelf.disk) session
-            (Insert entry) self.old self.new result }
+        ensures comes { WritesAs K.Key.Shape K.KeyClass D.state session (Insert entry) self.old self.new result }
         ensures moves { (IsSteady (D.state self.old.volume.shelf.disk) self.old.volume.shelf.frames → WayAt K.cost K.joined self.old.volume.most
             (store_of (format_of K.KeyClass) (D.state self.old.volume.shelf.disk).seen self.old.volume.shelf) item entry.key Add) → (l : Limits)
             → Moves (class_of K.Key.Shape K.is_proper l) (reading_of K.said (format_of K.KeyClass)) (format_of K.KeyClass) (is_node (format_of K.KeyClass))
@@ -201,11 +199,9 @@ impl<D: SectorDisk, K: ReadKeys> Engine<D, K> {
         requires early { is_due self.old ≡ false }
         requires below { item.page ≢ 1 }
         ensures comes { (entry : Entry K.Key) → phase_at (session - 1) self.old.sessions.phases ≡ Open (Insert entry) (Descends parent item)
-            → WriteComes (keys_of K.Key.Shape) (is_node (format_of K.KeyClass)) (D.state self.old.volume.shelf.disk)
-            (D.state self.new.volume.shelf.disk) session (Insert entry) self.old self.new result }
+            → SplitsAs K.Key.Shape K.KeyClass D.state session (Insert entry) item.page self.old self.new result }
         ensures moves { (entry : Entry K.Key) → phase_at (session - 1) self.old.sessions.phases ≡ Open (Insert entry) (Descends parent item)
-            → (IsSteady (D.state self.old.volume.shelf.disk) self.old.volume.shelf.frames → self.old.volume.most
-            ≤ size ((tree_of (store_of (format_of K.KeyClass) (D.state self.old.volume.shelf.disk).seen self.old.volume.shelf)).node item.page)) → (l : Limits)
+            → IsFull (format_of K.KeyClass) (D.state self.old.volume.shelf.disk) self.old item.page → (l : Limits)
             → Moves (class_of K.Key.Shape K.is_proper l) (reading_of K.said (format_of K.KeyClass)) (format_of K.KeyClass) (is_node (format_of K.KeyClass))
             (D.state self.old.volume.shelf.disk) (D.state self.new.volume.shelf.disk) session self.old self.new result (write_events session (Insert entry) result) }
     {
@@ -227,11 +223,9 @@ impl<D: SectorDisk, K: ReadKeys> Engine<D, K> {
         requires early { is_due self.old ≡ false }
         requires top { item.page ≡ 1 }
         ensures comes { (entry : Entry K.Key) → phase_at (session - 1) self.old.sessions.phases ≡ Open (Insert entry) (Descends parent item)
-            → WriteComes (keys_of K.Key.Shape) (is_node (format_of K.KeyClass)) (D.state self.old.volume.shelf.disk)
-            (D.state self.new.volume.shelf.disk) session (Insert entry) self.old self.new result }
+            → SplitsAs K.Key.Shape K.KeyClass D.state session (Insert entry) item.page self.old self.new result }
         ensures moves { (entry : Entry K.Key) → phase_at (session - 1) self.old.sessions.phases ≡ Open (Insert entry) (Descends parent item)
-            → (IsSteady (D.state self.old.volume.shelf.disk) self.old.volume.shelf.frames → self.old.volume.most
-            ≤ size ((tree_of (store_of (format_of K.KeyClass) (D.state self.old.volume.shelf.disk).seen self.old.volume.shelf)).node item.page)) → (l : Limits)
+            → IsFull (format_of K.KeyClass) (D.state self.old.volume.shelf.disk) self.old item.page → (l : Limits)
             → Moves (class_of K.Key.Shape K.is_proper l) (reading_of K.said (format_of K.KeyClass)) (format_of K.KeyClass) (is_node (format_of K.KeyClass))
             (D.state self.old.volume.shelf.disk) (D.state self.new.volume.shelf.disk) session self.old self.new result (write_events session (Insert entry) result) }
     {
@@ -252,11 +246,9 @@ impl<D: SectorDisk, K: ReadKeys> Engine<D, K> {
         requires works { self.old.sessions.failed ≡ false }
         requires early { is_due self.old ≡ false }
         ensures comes { (entry : Entry K.Key) → phase_at (session - 1) self.old.sessions.phases ≡ Open (Insert entry) (Descends parent item)
-            → WriteComes (keys_of K.Key.Shape) (is_node (format_of K.KeyClass)) (D.state self.old.volume.shelf.disk)
-            (D.state self.new.volume.shelf.disk) session (Insert entry) self.old self.new result }
+            → SplitsAs K.Key.Shape K.KeyClass D.state session (Insert entry) item.page self.old self.new result }
         ensures moves { (entry : Entry K.Key) → phase_at (session - 1) self.old.sessions.phases ≡ Open (Insert entry) (Descends parent item)
-            → (IsSteady (D.state self.old.volume.shelf.disk) self.old.volume.shelf.frames → self.old.volume.most
-            ≤ size ((tree_of (store_of (format_of K.KeyClass) (D.state self.old.volume.shelf.disk).seen self.old.volume.shelf)).node item.page))
+            → IsFull (format_of K.KeyClass) (D.state self.old.volume.shelf.disk) self.old item.page
             → (IsSteady (D.state self.old.volume.shelf.disk) self.old.volume.shelf.frames
             → has_removable (is_held (keys_of K.Key.Shape) self.old) (node_shown (format_of K.KeyClass) (D.state self.old.volume.shelf.disk) item.page self.old) ≡ false) → (l : Limits)
             → Moves (class_of K.Key.Shape K.is_proper l) (reading_of K.said (format_of K.KeyClass)) (format_of K.KeyClass) (is_node (format_of K.KeyClass))
@@ -276,8 +268,7 @@ impl<D: SectorDisk, K: ReadKeys> Engine<D, K> {
         requires works { self.old.sessions.failed ≡ false }
         requires early { is_due self.old ≡ false }
         ensures comes { (entry : Entry K.Key) → phase_at (session - 1) self.old.sessions.phases ≡ Open (Insert entry) (Descends parent item)
-            → WriteComes (keys_of K.Key.Shape) (is_node (format_of K.KeyClass)) (D.state self.old.volume.shelf.disk)
-            (D.state self.new.volume.shelf.disk) session (Insert entry) self.old self.new result }
+            → SplitsAs K.Key.Shape K.KeyClass D.state session (Insert entry) item.page self.old self.new result }
         ensures moves { (entry : Entry K.Key) → phase_at (session - 1) self.old.sessions.phases ≡ Open (Insert entry) (Descends parent item)
             → (IsSteady (D.state self.old.volume.shelf.disk) self.old.volume.shelf.frames → (((tree_of (store_of (format_of K.KeyClass) (D.state self.old.volume.shelf.disk).seen self.old.volume.shelf)).node item.page).level ≡ 0)
             × (self.old.volume.most ≤ length ((tree_of (store_of (format_of K.KeyClass) (D.state self.old.volume.shelf.disk).seen self.old.volume.shelf)).node item.page).pairs)) → (l : Limits)
@@ -309,8 +300,7 @@ impl<D: SectorDisk, K: ReadKeys> Engine<D, K> {
         requires descends { phase_at (session - 1) self.old.sessions.phases ≡ Open (Insert entry) (Descends parent item) }
         requires works { self.old.sessions.failed ≡ false }
         requires early { is_due self.old ≡ false }
-        ensures comes { WriteComes (keys_of K.Key.Shape) (is_node (format_of K.KeyClass)) (D.state self.old.volume.shelf.disk)
-            (D.state self.new.volume.shelf.disk) session (Insert entry) self.old self.new result }
+        ensures comes { WritesAs K.Key.Shape K.KeyClass D.state session (Insert entry) self.old self.new result }
         ensures moves { (l : Limits) → Moves (class_of K.Key.Shape K.is_proper l) (reading_of K.said (format_of K.KeyClass)) (format_of K.KeyClass) (is_node (format_of K.KeyClass))
             (D.state self.old.volume.shelf.disk) (D.state self.new.volume.shelf.disk) session self.old self.new result (write_events session (Insert entry) result) }
     {
@@ -355,8 +345,7 @@ impl<D: SectorDisk, K: ReadKeys> Engine<D, K> {
         requires session { is_session session ≡ true }
         requires descends { phase_at (session - 1) self.old.sessions.phases ≡ Open (Insert entry) (Descends parent item) }
         requires works { self.old.sessions.failed ≡ false }
-        ensures comes { WriteComes (keys_of K.Key.Shape) (is_node (format_of K.KeyClass)) (D.state self.old.volume.shelf.disk)
-            (D.state self.new.volume.shelf.disk) session (Insert entry) self.old self.new result }
+        ensures comes { WritesAs K.Key.Shape K.KeyClass D.state session (Insert entry) self.old self.new result }
         ensures moves { (l : Limits) → Moves (class_of K.Key.Shape K.is_proper l) (reading_of K.said (format_of K.KeyClass)) (format_of K.KeyClass) (is_node (format_of K.KeyClass))
             (D.state self.old.volume.shelf.disk) (D.state self.new.volume.shelf.disk) session self.old self.new result (write_events session (Insert entry) result) }
     {

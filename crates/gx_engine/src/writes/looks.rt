@@ -14,9 +14,9 @@ ghost use Rattle.gx_phases.specs.Moves.{WritesEntry, answered_state, is_open};
 ghost use Rattle.gx_phases.specs.States.{phase_at};
 ghost use Rattle.gx_engine.specs.declared.work.Work as declared;
 ghost use Rattle.gx_engine.specs.declared.work.Work.TheVariants.{Looks, Rests};
-ghost use Rattle.gx_engine.specs.Looking.{IsFirstUnless, LooksFor, Reaches, is_looking, turned_by, work_before};
+ghost use Rattle.gx_engine.specs.Looking.{IsFirstUnless, LooksFor, Reaches, turned_by, work_before};
 ghost use Rattle.gx_engine.specs.Moves.{Moves, MovesOn, MovesSo, calling};
-ghost use Rattle.gx_engine.specs.Writing.{AreWriting, OnlyReads, WriteComes, brought, write_events};
+ghost use Rattle.gx_engine.specs.Writing.{AreWriting, OnlyReads, WritesAs, brought, is_looking, write_events};
 
 use crate::Engine;
 use crate::laws::a_class_is_lawful;
@@ -65,7 +65,7 @@ where
             (D.state self.old.volume.shelf.disk) (D.state self.new.volume.shelf.disk) session (calling session call (work_before begun look) self.old) (calling session call (Looks after) self.new)) }
         ensures reads { OnErr result ((call : Call K.Key) → phase_at (session - 1) self.old.sessions.phases ≡ Open call Rests → OnlyReads self.old self.new) }
         ensures comes { IfErr result (λ outcome. (call : Call K.Key) → WritesEntry entry.now call → phase_at (session - 1) self.old.sessions.phases ≡ Open call Rests
-            → WriteComes (keys_of K.Key.Shape) (is_node (format_of K.KeyClass)) (D.state self.old.volume.shelf.disk) (D.state self.new.volume.shelf.disk) session call
+            → WritesAs K.Key.Shape K.KeyClass D.state session call
             (calling session call (work_before begun look) self.old) self.new outcome) }
         ensures moves { IfErr result (λ outcome. (call : Call K.Key) → WritesEntry entry.now call → phase_at (session - 1) self.old.sessions.phases ≡ Open call Rests → (l : Limits)
             → Moves (class_of K.Key.Shape K.is_proper l) (reading_of K.said (format_of K.KeyClass)) (format_of K.KeyClass) (is_node (format_of K.KeyClass))
@@ -109,7 +109,7 @@ where
             D.state session self.old (calling session call (Looks look) self.new)) }
         ensures reads { OnErr result (OnlyReads self.old self.new) }
         ensures comes { IfErr result (λ outcome. (call : Call K.Key) (work : declared.Work K.Key) → LooksFor entry.now call work (phase_at (session - 1) self.old.sessions.phases)
-            → WriteComes (keys_of K.Key.Shape) (is_node (format_of K.KeyClass)) (D.state self.old.volume.shelf.disk) (D.state self.new.volume.shelf.disk) session call self.old self.new outcome) }
+            → WritesAs K.Key.Shape K.KeyClass D.state session call self.old self.new outcome) }
         ensures moves { IfErr result (λ outcome. (call : Call K.Key) (work : declared.Work K.Key) → LooksFor entry.now call work (phase_at (session - 1) self.old.sessions.phases) → (l : Limits)
             → Moves (class_of K.Key.Shape K.is_proper l) (reading_of K.said (format_of K.KeyClass)) (format_of K.KeyClass) (is_node (format_of K.KeyClass))
             (D.state self.old.volume.shelf.disk) (D.state self.new.volume.shelf.disk) session self.old self.new outcome (write_events session call outcome)) }
@@ -178,8 +178,7 @@ where
         requires session { is_session session ≡ true }
         requires looks { (work : declared.Work K.Key) × (phase_at (session - 1) self.old.sessions.phases ≡ Open (Insert entry) work) × (is_looking work ≡ true) }
         requires works { self.old.sessions.failed ≡ false }
-        ensures comes { WriteComes (keys_of K.Key.Shape) (is_node (format_of K.KeyClass)) (D.state self.old.volume.shelf.disk) (D.state self.new.volume.shelf.disk) session
-            (Insert entry) self.old self.new result }
+        ensures comes { WritesAs K.Key.Shape K.KeyClass D.state session (Insert entry) self.old self.new result }
         ensures reads { OnlyReads self.old self.new }
         ensures moves { (l : Limits) → MovesSo (class_of K.Key.Shape K.is_proper l) (reading_of K.said (format_of K.KeyClass)) (format_of K.KeyClass) (is_node (format_of K.KeyClass))
             (D.state self.old.volume.shelf.disk) (D.state self.new.volume.shelf.disk) session self.old self.new result (AreWriting session (Insert entry) result) }
@@ -197,8 +196,7 @@ where
         requires session { is_session session ≡ true }
         requires looks { (work : declared.Work K.Key) × (phase_at (session - 1) self.old.sessions.phases ≡ Open (Delete entry) work) × (is_looking work ≡ true) }
         requires works { self.old.sessions.failed ≡ false }
-        ensures comes { WriteComes (keys_of K.Key.Shape) (is_node (format_of K.KeyClass)) (D.state self.old.volume.shelf.disk) (D.state self.new.volume.shelf.disk) session
-            (Delete entry) self.old self.new result }
+        ensures comes { WritesAs K.Key.Shape K.KeyClass D.state session (Delete entry) self.old self.new result }
         ensures reads { OnlyReads self.old self.new }
         ensures moves { (l : Limits) → MovesSo (class_of K.Key.Shape K.is_proper l) (reading_of K.said (format_of K.KeyClass)) (format_of K.KeyClass) (is_node (format_of K.KeyClass))
             (D.state self.old.volume.shelf.disk) (D.state self.new.volume.shelf.disk) session self.old self.new result (AreWriting session (Delete entry) result) }

@@ -17,7 +17,7 @@ ghost use Rattle.gx_engine.specs.Moves.{Moves};
 ghost use Rattle.gx_engine.specs.Seeking.{IsSought, IsUnsought, SeekComes, set_outcome, set_state, standing_refusal, write_call, written_reply};
 ghost use Rattle.gx_engine.specs.States.{is_due};
 ghost use Rattle.gx_engine.specs.Undoing.{Seeking};
-ghost use Rattle.gx_engine.specs.Writing.{WriteComes, write_events};
+ghost use Rattle.gx_engine.specs.Writing.{WritesAs, write_events};
 
 use crate::Engine;
 use crate::laws::a_class_is_lawful;
@@ -243,8 +243,7 @@ where
         requires session { is_session session ≡ true }
         requires seeks { phase_at (session - 1) self.old.sessions.phases ≡ Open (Insert entry) (Seeks leaf) }
         requires works { self.old.sessions.failed ≡ false }
-        ensures comes { WriteComes (keys_of K.Key.Shape) (is_node (format_of K.KeyClass)) (D.state self.old.volume.shelf.disk) (D.state self.new.volume.shelf.disk) session
-            (Insert entry) self.old self.new result }
+        ensures comes { WritesAs K.Key.Shape K.KeyClass D.state session (Insert entry) self.old self.new result }
         ensures moves { (l : Limits) → Moves (class_of K.Key.Shape K.is_proper l) (reading_of K.said (format_of K.KeyClass)) (format_of K.KeyClass) (is_node (format_of K.KeyClass))
             (D.state self.old.volume.shelf.disk) (D.state self.new.volume.shelf.disk) session self.old self.new result (write_events session (Insert entry) result) }
     {
@@ -262,8 +261,7 @@ where
         requires session { is_session session ≡ true }
         requires seeks { phase_at (session - 1) self.old.sessions.phases ≡ Open (Delete entry) (Seeks leaf) }
         requires works { self.old.sessions.failed ≡ false }
-        ensures comes { WriteComes (keys_of K.Key.Shape) (is_node (format_of K.KeyClass)) (D.state self.old.volume.shelf.disk) (D.state self.new.volume.shelf.disk) session
-            (Delete entry) self.old self.new result }
+        ensures comes { WritesAs K.Key.Shape K.KeyClass D.state session (Delete entry) self.old self.new result }
         ensures moves { (l : Limits) → Moves (class_of K.Key.Shape K.is_proper l) (reading_of K.said (format_of K.KeyClass)) (format_of K.KeyClass) (is_node (format_of K.KeyClass))
             (D.state self.old.volume.shelf.disk) (D.state self.new.volume.shelf.disk) session self.old self.new result (write_events session (Delete entry) result) }
     {

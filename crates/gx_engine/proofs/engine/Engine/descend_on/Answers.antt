@@ -24,10 +24,10 @@ use Rattle.gx_storage.specs.Changes.{known_at}
 use Rattle.gx_storage.proofs.Descending.{IsJoin}
 use Rattle.gx_engine.specs.Sweeping.{is_held, node_shown}
 use Rattle.gx_engine.proofs.Serving.{flies_on}
-use Rattle.gx_engine.proofs.DescentMoves.{full_inner, inner_removable, never_stepped, removable_again, said_again, stepped_as}
+use Rattle.gx_engine.proofs.DescentMoves.{full_inner, full_leaf, inner_removable, never_stepped, removable_again, said_again, stepped_as}
 use Rattle.gx_engine.proofs.Descents.{again_moves, down_moves, widened_moves}
-use Rattle.gx_engine.proofs.MakingRoom.{on_comes, on_is}
-use Rattle.gx_engine.proofs.ReadFirst.{comes_then, moves_then}
+use Rattle.gx_engine.proofs.MakingRoom.{full_write, on_comes, on_is}
+use Rattle.gx_engine.proofs.ReadFirst.{comes_then, moves_then, split_then}
 use Rattle.gx_engine.proofs.Stopping.{lost_comes, stopped_comes, stopped_moves}
 use Rattle.gx_engine.proofs.Undone.{why_pages}
 use Rattle.gx_engine.proofs.engine.Engine.descend_on.Goals as goal
@@ -42,7 +42,7 @@ returns-in-Widened-clause-comes g c =
     let f = format_of g.K.KeyClass in
     let has = stepped_as (known_at shape g.K.ReadKeys.is_proper) (reading_of g.K.ReadKeys.said f) f (is_node f) (state old.volume.shelf.disk) (state c.step_down.new.self.volume.shelf.disk) old.volume c.step_down.new.self.volume g.K.KeyClass.cost g.K.KeyClass.joined c.args.item c.args.entry.key c.in-Ok.did (Widened c.in-Widened.field-0 c.in-Widened.field-1 c.in-Widened.field-2) c.in-Widened.is c.in-Ok.ensures.step in
     let there = c.go_down.ensures.there c.in-Widened.field-0 (ap (λ (x : Descended g.row.K-Key.Denot). next_of x) c.in-Widened.is) (Insert c.args.entry) (Descends c.args.parent c.args.item) (ap (λ (x : Parts g.row.K-Key.Denot g.row.D.Denot). phase_at (c.args.session - 1) x.sessions.phases) c.step_down.ensures.only ∙ c.requires.descends) in
-    on_comes c.args.session (Insert c.args.entry) c.args.item.page c.in-Widened.field-0 old c.step_down.new.self c.go_down.new.self c.step_down.ensures.only there c.go_down.result c.go_down.ensures.outcome k (is_node f) state has.logged.most
+    on_comes c.args.session (Insert c.args.entry) c.args.item.page c.in-Widened.field-0 old c.step_down.new.self c.go_down.new.self c.step_down.ensures.only there c.go_down.result c.go_down.ensures.outcome k f (is_node f) state has.logged.most
 
 pub returns-in-Widened-clause-moves : goal.returns-in-Widened-clause-moves
 returns-in-Widened-clause-moves g c l =
@@ -80,7 +80,7 @@ returns-in-Down-clause-comes g c =
     let f = format_of g.K.KeyClass in
     let has = stepped_as (known_at shape g.K.ReadKeys.is_proper) (reading_of g.K.ReadKeys.said f) f (is_node f) (state old.volume.shelf.disk) (state c.step_down.new.self.volume.shelf.disk) old.volume c.step_down.new.self.volume g.K.KeyClass.cost g.K.KeyClass.joined c.args.item c.args.entry.key c.in-Ok.did (Down c.in-Down.field-0) c.in-Down.is c.in-Ok.ensures.step in
     let there = c.go_down-in-Down.ensures.there c.in-Down.field-0 (ap (λ (x : Descended g.row.K-Key.Denot). next_of x) c.in-Down.is) (Insert c.args.entry) (Descends c.args.parent c.args.item) (ap (λ (x : Parts g.row.K-Key.Denot g.row.D.Denot). phase_at (c.args.session - 1) x.sessions.phases) c.step_down.ensures.only ∙ c.requires.descends) in
-    on_comes c.args.session (Insert c.args.entry) c.args.item.page c.in-Down.field-0 old c.step_down.new.self c.go_down-in-Down.new.self c.step_down.ensures.only there c.go_down-in-Down.result c.go_down-in-Down.ensures.outcome k (is_node f) state has.logged.most
+    on_comes c.args.session (Insert c.args.entry) c.args.item.page c.in-Down.field-0 old c.step_down.new.self c.go_down-in-Down.new.self c.step_down.ensures.only there c.go_down-in-Down.result c.go_down-in-Down.ensures.outcome k f (is_node f) state has.logged.most
 
 pub returns-in-Down-clause-moves : goal.returns-in-Down-clause-moves
 returns-in-Down-clause-moves g c l =
@@ -118,7 +118,7 @@ returns-in-Again-clause-comes g c =
     let f = format_of g.K.KeyClass in
     let has = stepped_as (known_at shape g.K.ReadKeys.is_proper) (reading_of g.K.ReadKeys.said f) f (is_node f) (state old.volume.shelf.disk) (state c.step_down.new.self.volume.shelf.disk) old.volume c.step_down.new.self.volume g.K.KeyClass.cost g.K.KeyClass.joined c.args.item c.args.entry.key c.in-Ok.did Again c.in-Again.is c.in-Ok.ensures.step in
     let there = c.begin_again.ensures.there (Insert c.args.entry) (Descends c.args.parent c.args.item) (ap (λ (x : Parts g.row.K-Key.Denot g.row.D.Denot). phase_at (c.args.session - 1) x.sessions.phases) c.step_down.ensures.only ∙ c.requires.descends) in
-    on_comes c.args.session (Insert c.args.entry) 0 (record { page = 1; seen = c.step_down.new.self.volume.shelf.counter }) old c.step_down.new.self c.begin_again.new.self c.step_down.ensures.only there c.begin_again.result c.begin_again.ensures.outcome k (is_node f) state has.logged.most
+    on_comes c.args.session (Insert c.args.entry) 0 (record { page = 1; seen = c.step_down.new.self.volume.shelf.counter }) old c.step_down.new.self c.begin_again.new.self c.step_down.ensures.only there c.begin_again.result c.begin_again.ensures.outcome k f (is_node f) state has.logged.most
 
 pub returns-in-Again-clause-moves : goal.returns-in-Again-clause-moves
 returns-in-Again-clause-moves g c l =
@@ -175,8 +175,10 @@ returns-in-FullLeaf-clause-comes g c =
     record { partial_cmp = g.K.Key.PartialOrd.partial_cmp; eq = g.K.Key.PartialEq.eq; cmp = g.K.Key.Ord.cmp; overlap = g.K.Key.Shape.overlap; inside = g.K.Key.Shape.inside } in
     let f = format_of g.K.KeyClass in
     let has = stepped_as (known_at shape g.K.ReadKeys.is_proper) (reading_of g.K.ReadKeys.said f) f (is_node f) (state old.volume.shelf.disk) (state c.step_down.new.self.volume.shelf.disk) old.volume c.step_down.new.self.volume g.K.KeyClass.cost g.K.KeyClass.joined c.args.item c.args.entry.key c.in-Ok.did FullLeaf c.in-FullLeaf.is c.in-Ok.ensures.step in
-    comes_then k (known_at shape g.K.ReadKeys.is_proper) (reading_of g.K.ReadKeys.said f) f (is_node f) 4114 (state old.volume.shelf.disk) (state c.step_down.new.self.volume.shelf.disk) (state c.make_room.new.self.volume.shelf.disk) c.args.session c.args.entry old c.step_down.new.self c.step_down.ensures.only has.logged
-    (λ steady. (has.steps steady).1) c.make_room.new.self c.make_room.result (c.make_room.ensures.comes c.args.entry (ap (λ (x : Parts g.row.K-Key.Denot g.row.D.Denot). phase_at (c.args.session - 1) x.sessions.phases) c.step_down.ensures.only ∙ c.requires.descends))
+    full_write k f (is_node f) (state old.volume.shelf.disk) (state c.make_room.new.self.volume.shelf.disk) c.args.session c.args.entry c.args.parent c.args.item old c.make_room.new.self c.requires.descends
+    (λ steady. full_leaf (node_shown f (state old.volume.shelf.disk) c.args.item.page old) old.volume.most (has.steps steady).0.2) c.make_room.result
+    (split_then k (known_at shape g.K.ReadKeys.is_proper) (reading_of g.K.ReadKeys.said f) f (is_node f) 4114 (state old.volume.shelf.disk) (state c.step_down.new.self.volume.shelf.disk) (state c.make_room.new.self.volume.shelf.disk) c.args.session c.args.entry old c.step_down.new.self c.step_down.ensures.only has.logged
+    (λ steady. (has.steps steady).1) c.args.item.page c.make_room.new.self c.make_room.result (c.make_room.ensures.comes c.args.entry (ap (λ (x : Parts g.row.K-Key.Denot g.row.D.Denot). phase_at (c.args.session - 1) x.sessions.phases) c.step_down.ensures.only ∙ c.requires.descends)))
 
 pub returns-in-FullLeaf-clause-moves : goal.returns-in-FullLeaf-clause-moves
 returns-in-FullLeaf-clause-moves g c l bodies i h =
@@ -204,8 +206,10 @@ returns-in-FullInner-clause-comes g c =
     record { partial_cmp = g.K.Key.PartialOrd.partial_cmp; eq = g.K.Key.PartialEq.eq; cmp = g.K.Key.Ord.cmp; overlap = g.K.Key.Shape.overlap; inside = g.K.Key.Shape.inside } in
     let f = format_of g.K.KeyClass in
     let has = stepped_as (known_at shape g.K.ReadKeys.is_proper) (reading_of g.K.ReadKeys.said f) f (is_node f) (state old.volume.shelf.disk) (state c.step_down.new.self.volume.shelf.disk) old.volume c.step_down.new.self.volume g.K.KeyClass.cost g.K.KeyClass.joined c.args.item c.args.entry.key c.in-Ok.did FullInner c.in-FullInner.is c.in-Ok.ensures.step in
-    comes_then k (known_at shape g.K.ReadKeys.is_proper) (reading_of g.K.ReadKeys.said f) f (is_node f) 4114 (state old.volume.shelf.disk) (state c.step_down.new.self.volume.shelf.disk) (state c.split_here.new.self.volume.shelf.disk) c.args.session c.args.entry old c.step_down.new.self c.step_down.ensures.only has.logged
-    (λ steady. (has.steps steady).1) c.split_here.new.self c.split_here.result (c.split_here.ensures.comes c.args.entry (ap (λ (x : Parts g.row.K-Key.Denot g.row.D.Denot). phase_at (c.args.session - 1) x.sessions.phases) c.step_down.ensures.only ∙ c.requires.descends))
+    full_write k f (is_node f) (state old.volume.shelf.disk) (state c.split_here.new.self.volume.shelf.disk) c.args.session c.args.entry c.args.parent c.args.item old c.split_here.new.self c.requires.descends
+    (λ steady. full_inner (node_shown f (state old.volume.shelf.disk) c.args.item.page old) old.volume.most (has.steps steady).0.2) c.split_here.result
+    (split_then k (known_at shape g.K.ReadKeys.is_proper) (reading_of g.K.ReadKeys.said f) f (is_node f) 4114 (state old.volume.shelf.disk) (state c.step_down.new.self.volume.shelf.disk) (state c.split_here.new.self.volume.shelf.disk) c.args.session c.args.entry old c.step_down.new.self c.step_down.ensures.only has.logged
+    (λ steady. (has.steps steady).1) c.args.item.page c.split_here.new.self c.split_here.result (c.split_here.ensures.comes c.args.entry (ap (λ (x : Parts g.row.K-Key.Denot g.row.D.Denot). phase_at (c.args.session - 1) x.sessions.phases) c.step_down.ensures.only ∙ c.requires.descends)))
 
 pub returns-in-FullInner-clause-moves : goal.returns-in-FullInner-clause-moves
 returns-in-FullInner-clause-moves g c l bodies i h =
@@ -231,7 +235,7 @@ returns-in-Err-Pages-clause-comes g c =
     let k = keys g.K.Key.Ord.cmp g.K.Key.Shape.overlap g.K.Key.Shape.inside in
     let state = g.D.SectorDisk.state in
     let did = c.in-Err-Pages.ensures.step in
-    stopped_comes k (is_node (format_of g.K.KeyClass)) state old c.args.session c.args.entry c.step_down.new.self.volume did.stops.unlogged.most did.stops.unlogged.log
+    stopped_comes k (format_of g.K.KeyClass) (is_node (format_of g.K.KeyClass)) state old c.args.session c.args.entry c.step_down.new.self.volume did.stops.unlogged.most did.stops.unlogged.log
     c.requires.early (λ page. (did.stops.unlogged.since page).same.stamp) 4114 (omega arith) c.in-Err-Pages.fault (why_pages _ c.in-Err-Pages.field-0 c.in-Err-Pages.fault c.in-Err-Pages.field-0-is did.stops.why)
     c.refuse.new.self c.refuse.result
     (subst (λ (x : Parts g.row.K-Key.Denot g.row.D.Denot). IsRefused c.in-Err-Pages.fault x c.refuse.new.self c.refuse.result) c.step_down.ensures.only
@@ -264,7 +268,7 @@ returns-in-Err-Memory g c =
     let damaged : c.in-Err-Memory.field-0 ≡ Damaged = search rules in
     record {
       comes =
-          lost_comes k (is_node f) state old c.args.session c.args.entry c.step_down.new.self.volume un.most un.log c.break_off.new.self c.break_off.result c.break_off.ensures.outcome
+          lost_comes k f (is_node f) state old c.args.session c.args.entry c.step_down.new.self.volume un.most un.log c.break_off.new.self c.break_off.result c.break_off.ensures.outcome
           (c.break_off.ensures.failed ∙ ap (λ (x : Parts g.row.K-Key.Denot g.row.D.Denot). record x { sessions = failed_state x.sessions }) c.step_down.ensures.only);
       moves = λ l.
           never_stepped _ (c.a_class_is_lawful.ensures l) g.K.ReadKeys.said f (is_node f) (state old.volume.shelf.disk) _ old kept c.args.session c.requires.session c.args.entry c.args.parent c.args.item

@@ -29,7 +29,7 @@ returns-in-Ok-clause-comes g c =
     let rest = c.in-Ok.ensures.rest (Insert c.args.entry) c.requires.looks.0 looks in
     let descends = c.begin_descent.ensures.descends c.args.entry rest.0 in
     rw (c.begin_descent.ensures.outcome)
-    (descends_comes k (is_node (format_of g.K.KeyClass)) d d c.args.session (Insert c.args.entry) descends.0 c.args.self.now c.write_look.new.self c.begin_descent.new.self rest.1 descends.1).0
+    (descends_comes k (format_of g.K.KeyClass) (is_node (format_of g.K.KeyClass)) d d c.args.session (Insert c.args.entry) descends.0 c.args.self.now c.write_look.new.self c.begin_descent.new.self rest.1 descends.1).0
 
 pub returns-in-Ok-clause-reads : goal.returns-in-Ok-clause-reads
 returns-in-Ok-clause-reads g c =
@@ -38,7 +38,7 @@ returns-in-Ok-clause-reads g c =
     let looks : LooksFor c.args.entry (Insert c.args.entry) c.requires.looks.0 (phase_at (c.args.session - 1) c.args.self.now.sessions.phases) = record { writes = refl; at = c.requires.looks.1; looking = c.requires.looks.2 } in
     let rest = c.in-Ok.ensures.rest (Insert c.args.entry) c.requires.looks.0 looks in
     let descends = c.begin_descent.ensures.descends c.args.entry rest.0 in
-    (descends_comes k (is_node (format_of g.K.KeyClass)) d d c.args.session (Insert c.args.entry) descends.0 c.args.self.now c.write_look.new.self c.begin_descent.new.self rest.1 descends.1).1
+    (descends_comes k (format_of g.K.KeyClass) (is_node (format_of g.K.KeyClass)) d d c.args.session (Insert c.args.entry) descends.0 c.args.self.now c.write_look.new.self c.begin_descent.new.self rest.1 descends.1).1
 
 pub returns-in-Ok-clause-moves : goal.returns-in-Ok-clause-moves
 returns-in-Ok-clause-moves g c l =

@@ -15,7 +15,7 @@ use Rattle.gx_engine.specs.Writing.{brought}
 use Rattle.gx_engine.proofs.Further.{hand_on, put_on, read_there}
 use Rattle.gx_engine.proofs.Looking.{same_events}
 use Rattle.gx_engine.proofs.Taking.{put_reads, put_write}
-use Rattle.gx_engine.proofs.WriteLooks.{may_find_none, none_left, stop_reads, stop_write, turned_moves}
+use Rattle.gx_engine.proofs.WriteLooks.{at_look, may_find_none, none_left, stop_reads, stop_write, turned_moves}
 use Rattle.gx_engine.proofs.engine.Engine.look_on.Goals as goal
 
 pub returns-then-is_done-clause-goes_on : goal.returns-then-is_done-clause-goes_on
@@ -107,14 +107,18 @@ pub returns-clause-comes : goal.returns-clause-comes
 returns-clause-comes g c call writes phase =
     let k = keys g.K.Key.Ord.cmp g.K.Key.Shape.overlap g.K.Key.Shape.inside in
     let old : Parts g.row.K-Key.Denot g.row.D.Denot = calling c.args.session call (work_before c.args.begun c.args.look) c.args.self.now in
-    (stop_write k (is_node (format_of g.K.KeyClass)) _ _ c.args.session call old
-    c.read_look-read.new.self c.in-Err.outcome (c.in-Err.ensures.stops call phase)).0
+    let kept = subst (λ (x : Parts g.row.K-Key.Denot g.row.D.Denot). IsKept k x.sessions) c.self.view_is c.has_failed.ensures.kept in
+    let looks = at_look k c.args.self.now kept c.args.session c.requires.session call Rests phase c.args.begun c.args.look in
+    (stop_write k (format_of g.K.KeyClass) (is_node (format_of g.K.KeyClass)) _ _ c.args.session call old
+    c.read_look-read.new.self looks c.in-Err.outcome (c.in-Err.ensures.stops call phase)).0
 
 pub returns-clause-moves : goal.returns-clause-moves
 returns-clause-moves g c call writes phase l =
     let k = keys g.K.Key.Ord.cmp g.K.Key.Shape.overlap g.K.Key.Shape.inside in
     let old : Parts g.row.K-Key.Denot g.row.D.Denot = calling c.args.session call (work_before c.args.begun c.args.look) c.args.self.now in
+    let kept = subst (λ (x : Parts g.row.K-Key.Denot g.row.D.Denot). IsKept k x.sessions) c.self.view_is c.has_failed.ensures.kept in
+    let looks = at_look k c.args.self.now kept c.args.session c.requires.session call Rests phase c.args.begun c.args.look in
     same_events _ _ _ _ _ _ c.args.session _ c.read_look-read.new.self c.in-Err.outcome _ _
-    (stop_write k (is_node (format_of g.K.KeyClass)) _ _ c.args.session call old
-    c.read_look-read.new.self c.in-Err.outcome (c.in-Err.ensures.stops call phase)).1
+    (stop_write k (format_of g.K.KeyClass) (is_node (format_of g.K.KeyClass)) _ _ c.args.session call old
+    c.read_look-read.new.self looks c.in-Err.outcome (c.in-Err.ensures.stops call phase)).1
     (c.in-Err.ensures.moves call phase (may_find_none c.args.entry.now call writes) l)

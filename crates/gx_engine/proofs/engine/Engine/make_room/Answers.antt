@@ -21,8 +21,8 @@ use Rattle.gx_storage.specs.Changes.{known_at}
 use Rattle.gx_engine.specs.Sweeping.{is_held, node_shown}
 use Rattle.gx_engine.proofs.Serving.{flies_on}
 use Rattle.gx_engine.proofs.DescentMoves.{full_leaf, none_removable, removable_again, said_again, swept_false, swept_true}
-use Rattle.gx_engine.proofs.MakingRoom.{never_swept, swept_moves, yet_comes}
-use Rattle.gx_engine.proofs.ReadFirst.{comes_then, moves_then}
+use Rattle.gx_engine.proofs.MakingRoom.{as_split, never_swept, swept_moves, yet_comes}
+use Rattle.gx_engine.proofs.ReadFirst.{moves_then, split_then}
 use Rattle.gx_engine.proofs.Stopping.{lost_comes, stopped_comes, stopped_moves}
 use Rattle.gx_engine.proofs.Undone.{why_pages}
 use Rattle.gx_engine.proofs.engine.Engine.make_room.Goals as goal
@@ -35,7 +35,8 @@ returns-in-Ok-true-clause-comes g c entry at =
     let shape : Members g.row.K-Key.Denot =
     record { partial_cmp = g.K.Key.PartialOrd.partial_cmp; eq = g.K.Key.PartialEq.eq; cmp = g.K.Key.Ord.cmp; overlap = g.K.Key.Shape.overlap; inside = g.K.Key.Shape.inside } in
     let has = swept_true (known_at shape g.K.ReadKeys.is_proper) (reading_of g.K.ReadKeys.said (format_of g.K.KeyClass)) (format_of g.K.KeyClass) (is_node (format_of g.K.KeyClass)) (state old.volume.shelf.disk) (state c.sweep_leaf.new.self.volume.shelf.disk) old.volume c.sweep_leaf.new.self.volume (is_held k old) c.args.item.page c.in-Ok-true.field-0 c.in-Ok-true.field-0-test c.in-Ok-true.ensures.sweeps in
-    yet_comes k (is_node (format_of g.K.KeyClass)) (state old.volume.shelf.disk) (state c.sweep_leaf.new.self.volume.shelf.disk) c.args.session (Insert entry) (Descends c.args.parent c.args.item) old c.sweep_leaf.new.self c.sweep_leaf.ensures.only has.logged.most at
+    as_split k (format_of g.K.KeyClass) (is_node (format_of g.K.KeyClass)) (state old.volume.shelf.disk) (state c.sweep_leaf.new.self.volume.shelf.disk) c.args.session entry c.args.parent c.args.item old c.sweep_leaf.new.self at More
+    (yet_comes k (format_of g.K.KeyClass) (is_node (format_of g.K.KeyClass)) (state old.volume.shelf.disk) (state c.sweep_leaf.new.self.volume.shelf.disk) c.args.session (Insert entry) (Descends c.args.parent c.args.item) old c.sweep_leaf.new.self c.sweep_leaf.ensures.only has.logged.most at)
 
 pub returns-in-Ok-true-clause-moves : goal.returns-in-Ok-true-clause-moves
 returns-in-Ok-true-clause-moves g c entry at leaf l =
@@ -59,8 +60,8 @@ returns-in-Ok-false-clause-comes g c entry at =
     let shape : Members g.row.K-Key.Denot =
     record { partial_cmp = g.K.Key.PartialOrd.partial_cmp; eq = g.K.Key.PartialEq.eq; cmp = g.K.Key.Ord.cmp; overlap = g.K.Key.Shape.overlap; inside = g.K.Key.Shape.inside } in
     let has = swept_false (known_at shape g.K.ReadKeys.is_proper) (reading_of g.K.ReadKeys.said (format_of g.K.KeyClass)) (format_of g.K.KeyClass) (is_node (format_of g.K.KeyClass)) (state old.volume.shelf.disk) (state c.sweep_leaf.new.self.volume.shelf.disk) old.volume c.sweep_leaf.new.self.volume (is_held k old) c.args.item.page c.in-Ok-false.field-0 c.in-Ok-false.field-0-test c.in-Ok-false.ensures.sweeps in
-    comes_then k (known_at shape g.K.ReadKeys.is_proper) (reading_of g.K.ReadKeys.said (format_of g.K.KeyClass)) (format_of g.K.KeyClass) (is_node (format_of g.K.KeyClass)) 4114 (state old.volume.shelf.disk) (state c.sweep_leaf.new.self.volume.shelf.disk) (state c.split_here.new.self.volume.shelf.disk) c.args.session entry old c.sweep_leaf.new.self c.sweep_leaf.ensures.only has.unlogged has.same
-    c.split_here.new.self c.split_here.result (c.split_here.ensures.comes entry (ap (λ (x : Parts g.row.K-Key.Denot g.row.D.Denot). phase_at (c.args.session - 1) x.sessions.phases) c.sweep_leaf.ensures.only ∙ at))
+    split_then k (known_at shape g.K.ReadKeys.is_proper) (reading_of g.K.ReadKeys.said (format_of g.K.KeyClass)) (format_of g.K.KeyClass) (is_node (format_of g.K.KeyClass)) 4114 (state old.volume.shelf.disk) (state c.sweep_leaf.new.self.volume.shelf.disk) (state c.split_here.new.self.volume.shelf.disk) c.args.session entry old c.sweep_leaf.new.self c.sweep_leaf.ensures.only has.unlogged has.same
+    c.args.item.page c.split_here.new.self c.split_here.result (c.split_here.ensures.comes entry (ap (λ (x : Parts g.row.K-Key.Denot g.row.D.Denot). phase_at (c.args.session - 1) x.sessions.phases) c.sweep_leaf.ensures.only ∙ at))
 
 pub returns-in-Ok-false-clause-moves : goal.returns-in-Ok-false-clause-moves
 returns-in-Ok-false-clause-moves g c entry at leaf l bodies i h =
@@ -88,11 +89,12 @@ returns-in-Err-Pages-clause-comes g c entry at =
     let k = keys g.K.Key.Ord.cmp g.K.Key.Shape.overlap g.K.Key.Shape.inside in
     let state = g.D.SectorDisk.state in
     let did = c.in-Err-Pages.ensures.sweeps in
-    stopped_comes k (is_node (format_of g.K.KeyClass)) state old c.args.session entry c.sweep_leaf.new.self.volume did.stops.unlogged.most did.stops.unlogged.log
+    as_split k (format_of g.K.KeyClass) (is_node (format_of g.K.KeyClass)) (state old.volume.shelf.disk) (state c.refuse.new.self.volume.shelf.disk) c.args.session entry c.args.parent c.args.item old c.refuse.new.self at c.refuse.result
+    (stopped_comes k (format_of g.K.KeyClass) (is_node (format_of g.K.KeyClass)) state old c.args.session entry c.sweep_leaf.new.self.volume did.stops.unlogged.most did.stops.unlogged.log
     c.requires.early (λ page. (did.stops.unlogged.since page).same.stamp) 4114 (omega arith) c.in-Err-Pages.fault (why_pages _ c.in-Err-Pages.field-0 c.in-Err-Pages.fault c.in-Err-Pages.field-0-is did.stops.why)
     c.refuse.new.self c.refuse.result
     (subst (λ (x : Parts g.row.K-Key.Denot g.row.D.Denot). IsRefused c.in-Err-Pages.fault x c.refuse.new.self c.refuse.result) c.sweep_leaf.ensures.only
-    (subst (λ (n : StoreFault). IsRefused n c.sweep_leaf.new.self c.refuse.new.self c.refuse.result) c.in-Err-Pages.fault-is c.refuse.ensures))
+    (subst (λ (n : StoreFault). IsRefused n c.sweep_leaf.new.self c.refuse.new.self c.refuse.result) c.in-Err-Pages.fault-is c.refuse.ensures)))
 
 pub returns-in-Err-Pages-clause-moves : goal.returns-in-Err-Pages-clause-moves
 returns-in-Err-Pages-clause-moves g c entry at leaf =
@@ -115,8 +117,9 @@ returns-in-Err-Memory-clause-comes g c entry at =
     let k = keys g.K.Key.Ord.cmp g.K.Key.Shape.overlap g.K.Key.Shape.inside in
     let state = g.D.SectorDisk.state in
     let un = c.in-Err-Memory.ensures.sweeps.stops.unlogged in
-    lost_comes k (is_node (format_of g.K.KeyClass)) state old c.args.session entry c.sweep_leaf.new.self.volume un.most un.log c.break_off.new.self c.break_off.result c.break_off.ensures.outcome
-    (c.break_off.ensures.failed ∙ ap (λ (x : Parts g.row.K-Key.Denot g.row.D.Denot). record x { sessions = failed_state x.sessions }) c.sweep_leaf.ensures.only)
+    as_split k (format_of g.K.KeyClass) (is_node (format_of g.K.KeyClass)) (state old.volume.shelf.disk) (state c.break_off.new.self.volume.shelf.disk) c.args.session entry c.args.parent c.args.item old c.break_off.new.self at c.break_off.result
+    (lost_comes k (format_of g.K.KeyClass) (is_node (format_of g.K.KeyClass)) state old c.args.session entry c.sweep_leaf.new.self.volume un.most un.log c.break_off.new.self c.break_off.result c.break_off.ensures.outcome
+    (c.break_off.ensures.failed ∙ ap (λ (x : Parts g.row.K-Key.Denot g.row.D.Denot). record x { sessions = failed_state x.sessions }) c.sweep_leaf.ensures.only))
 
 pub returns-in-Err-Memory-clause-moves : goal.returns-in-Err-Memory-clause-moves
 returns-in-Err-Memory-clause-moves g c entry at leaf l =

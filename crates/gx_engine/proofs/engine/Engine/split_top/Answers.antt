@@ -13,7 +13,7 @@ use Rattle.gx_engine.specs.Moves.{Moves}
 use Rattle.gx_engine.specs.Refusals.{IsRefused}
 use Rattle.gx_engine.specs.States.{Parts}
 use Rattle.gx_engine.specs.Writing.{write_events}
-use Rattle.gx_engine.proofs.MakingRoom.{full_comes, full_is, full_moves, never_split_root, on_comes, on_is, root_any}
+use Rattle.gx_engine.proofs.MakingRoom.{as_split, few_top, full_comes, full_is, full_moves, never_split_root, on_comes, on_is, root_any}
 use Rattle.gx_engine.proofs.Stopping.{lost_comes, stopped_comes, stopped_moves}
 use Rattle.gx_engine.proofs.Undone.{why_pages}
 use Rattle.gx_engine.proofs.engine.Engine.split_top.Goals as goal
@@ -27,8 +27,9 @@ returns-in-Ok-clause-comes g c entry at =
     record { partial_cmp = g.K.Key.PartialOrd.partial_cmp; eq = g.K.Key.PartialEq.eq; cmp = g.K.Key.Ord.cmp; overlap = g.K.Key.Shape.overlap; inside = g.K.Key.Shape.inside } in
     let there = c.begin_again.ensures.there (Insert entry) (Descends c.args.parent c.args.item)
     (ap (λ (x : Parts g.row.K-Key.Denot g.row.D.Denot). phase_at (c.args.session - 1) x.sessions.phases) c.split_root.ensures.only ∙ at) in
-    on_comes c.args.session (Insert entry) 0 (record { page = 1; seen = c.split_root.new.self.volume.shelf.counter }) old c.split_root.new.self c.begin_again.new.self c.split_root.ensures.only there c.begin_again.result c.begin_again.ensures.outcome
-    k (is_node (format_of g.K.KeyClass)) state c.in-Ok.ensures.splits.logged.most
+    as_split k (format_of g.K.KeyClass) (is_node (format_of g.K.KeyClass)) (state old.volume.shelf.disk) (state c.begin_again.new.self.volume.shelf.disk) c.args.session entry c.args.parent c.args.item old c.begin_again.new.self at c.begin_again.result
+    (on_comes c.args.session (Insert entry) 0 (record { page = 1; seen = c.split_root.new.self.volume.shelf.counter }) old c.split_root.new.self c.begin_again.new.self c.split_root.ensures.only there c.begin_again.result c.begin_again.ensures.outcome
+    k (format_of g.K.KeyClass) (is_node (format_of g.K.KeyClass)) state c.in-Ok.ensures.splits.logged.most)
 
 pub returns-in-Ok-clause-moves : goal.returns-in-Ok-clause-moves
 returns-in-Ok-clause-moves g c entry at full l =
@@ -53,11 +54,12 @@ returns-in-Err-Pages-clause-comes g c entry at =
     let k = keys g.K.Key.Ord.cmp g.K.Key.Shape.overlap g.K.Key.Shape.inside in
     let state = g.D.SectorDisk.state in
     let did = c.in-Err-Pages.ensures.splits in
-    stopped_comes k (is_node (format_of g.K.KeyClass)) state old c.args.session entry c.split_root.new.self.volume did.stops.unlogged.most did.stops.unlogged.log
+    as_split k (format_of g.K.KeyClass) (is_node (format_of g.K.KeyClass)) (state old.volume.shelf.disk) (state c.refuse.new.self.volume.shelf.disk) c.args.session entry c.args.parent c.args.item old c.refuse.new.self at c.refuse.result
+    (stopped_comes k (format_of g.K.KeyClass) (is_node (format_of g.K.KeyClass)) state old c.args.session entry c.split_root.new.self.volume did.stops.unlogged.most did.stops.unlogged.log
     c.requires.early (λ page. (did.stops.unlogged.since page).same.stamp) 12314 (omega arith) c.in-Err-Pages.fault (why_pages _ c.in-Err-Pages.field-0 c.in-Err-Pages.fault c.in-Err-Pages.field-0-is did.stops.why)
     c.refuse.new.self c.refuse.result
     (subst (λ (x : Parts g.row.K-Key.Denot g.row.D.Denot). IsRefused c.in-Err-Pages.fault x c.refuse.new.self c.refuse.result) c.split_root.ensures.only
-    (subst (λ (n : StoreFault). IsRefused n c.split_root.new.self c.refuse.new.self c.refuse.result) c.in-Err-Pages.fault-is c.refuse.ensures))
+    (subst (λ (n : StoreFault). IsRefused n c.split_root.new.self c.refuse.new.self c.refuse.result) c.in-Err-Pages.fault-is c.refuse.ensures)))
 
 pub returns-in-Err-Pages-clause-moves : goal.returns-in-Err-Pages-clause-moves
 returns-in-Err-Pages-clause-moves g c entry at full =
@@ -82,7 +84,8 @@ returns-in-Err-PagesFull-clause-comes g c entry at =
     let did = c.in-Err-PagesFull.ensures.splits in
     let full : c.in-Err-PagesFull.field-0 ≡ PagesFull = search rules in
     full_comes c.args.session old c.split_root.new.self c.close.new.self c.split_root.ensures.only c.close.ensures.closed c.close.result c.close.ensures.outcome
-    k (is_node (format_of g.K.KeyClass)) state entry did.stops.unlogged.most did.stops.unlogged.log (λ steady. did.full steady full)
+    k (format_of g.K.KeyClass) (is_node (format_of g.K.KeyClass)) state (Insert entry) c.args.item.page did.stops.unlogged.most did.stops.unlogged.log
+    (few_top (state old.volume.shelf.disk) old c.args.item.page c.requires.top (λ steady. did.full steady full))
 
 pub returns-in-Err-PagesFull-clause-moves : goal.returns-in-Err-PagesFull-clause-moves
 returns-in-Err-PagesFull-clause-moves g c entry at full l =
@@ -106,8 +109,9 @@ returns-in-Err-Memory-clause-comes g c entry at =
     let k = keys g.K.Key.Ord.cmp g.K.Key.Shape.overlap g.K.Key.Shape.inside in
     let state = g.D.SectorDisk.state in
     let un = c.in-Err-Memory.ensures.splits.stops.unlogged in
-    lost_comes k (is_node (format_of g.K.KeyClass)) state old c.args.session entry c.split_root.new.self.volume un.most un.log c.break_off.new.self c.break_off.result c.break_off.ensures.outcome
-    (c.break_off.ensures.failed ∙ ap (λ (x : Parts g.row.K-Key.Denot g.row.D.Denot). record x { sessions = failed_state x.sessions }) c.split_root.ensures.only)
+    as_split k (format_of g.K.KeyClass) (is_node (format_of g.K.KeyClass)) (state old.volume.shelf.disk) (state c.break_off.new.self.volume.shelf.disk) c.args.session entry c.args.parent c.args.item old c.break_off.new.self at c.break_off.result
+    (lost_comes k (format_of g.K.KeyClass) (is_node (format_of g.K.KeyClass)) state old c.args.session entry c.split_root.new.self.volume un.most un.log c.break_off.new.self c.break_off.result c.break_off.ensures.outcome
+    (c.break_off.ensures.failed ∙ ap (λ (x : Parts g.row.K-Key.Denot g.row.D.Denot). record x { sessions = failed_state x.sessions }) c.split_root.ensures.only))
 
 pub returns-in-Err-Memory-clause-moves : goal.returns-in-Err-Memory-clause-moves
 returns-in-Err-Memory-clause-moves g c entry at full l =

@@ -97,7 +97,7 @@ returns-else-is_done-clause-comes g c =
     let here = sym (taken e c.args.session call was at now is c.replace_work.result c.replace_work.ensures.given) ∙ c.in-Looks.is in
     again e c.args.session call was at now is (Looks c.in-Looks.look) here
     (λ (x : Parts g.row.K-Key.Denot g.row.D.Denot).
-    WriteComes k (is_node (format_of g.K.KeyClass)) (g.D.SectorDisk.state e.volume.shelf.disk) (g.D.SectorDisk.state c.look_on.new.self.volume.shelf.disk)
+    WriteComes k (format_of g.K.KeyClass) (is_node (format_of g.K.KeyClass)) (g.D.SectorDisk.state e.volume.shelf.disk) (g.D.SectorDisk.state c.look_on.new.self.volume.shelf.disk)
     c.args.session call x c.look_on.new.self outcome) (comes call looks.writes resting)) c.look_on.ensures.comes)
 
 pub returns-else-is_done-clause-moves : goal.returns-else-is_done-clause-moves
@@ -165,7 +165,7 @@ returns-in-Ok-clause-comes g c =
     let here = rests_yet was looks.looking (λ look same. no_look c.replace_work.result c.in-Rests.is look (had ∙ same)) in
     again e c.args.session call was at now is Rests here
     (λ (x : Parts g.row.K-Key.Denot g.row.D.Denot).
-    WriteComes k (is_node (format_of g.K.KeyClass)) (g.D.SectorDisk.state e.volume.shelf.disk) (g.D.SectorDisk.state c.look_on-in-Ok.new.self.volume.shelf.disk)
+    WriteComes k (format_of g.K.KeyClass) (is_node (format_of g.K.KeyClass)) (g.D.SectorDisk.state e.volume.shelf.disk) (g.D.SectorDisk.state c.look_on-in-Ok.new.self.volume.shelf.disk)
     c.args.session call x c.look_on-in-Ok.new.self outcome) (comes call looks.writes resting)) c.look_on-in-Ok.ensures.comes)
 
 pub returns-in-Ok-clause-moves : goal.returns-in-Ok-clause-moves
@@ -200,7 +200,7 @@ returns-in-Err-clause-comes g c call was looks =
     let at = ap (λ (x : Parts g.row.K-Key.Denot g.row.D.Denot). phase_at (c.args.session - 1) x.sessions.phases) c.self.view_is ∙ looks.at in
     let now = c.replace_work.new.self in
     let is = c.replace_work.ensures.state in
-    rw (c.close.ensures.closed, c.close.ensures.outcome, ← c.self.view_is) (answered_taken e c.args.session call was at now is)
+    rw (c.close.ensures.closed, c.close.ensures.outcome, ← c.self.view_is) (record { work = was; at = at; looks = looks.looking }, answered_taken e c.args.session call was at now is)
 
 pub returns-in-Err-clause-moves : goal.returns-in-Err-clause-moves
 returns-in-Err-clause-moves g c call was looks l =
