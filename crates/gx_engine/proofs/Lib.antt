@@ -36,6 +36,7 @@ pub mod Further
 pub mod Checkpointing
 pub mod Putting
 pub mod TurnBegins
+pub mod Calling
 pub mod Steps
 pub mod Losing
 pub mod LosingStates

@@ -1,5 +1,5 @@
 -- A descent makes room: its full leaf is swept, or its node is split.
-use Rattle.std.proofs.Common.{◌≡◌, ◌≢◌, ne_eqb, if◌then◌else◌, ◌∙◌, ap, sym, refl, subst, ℕ, suc, ◌+◌, ◌-◌, ◌^◌, ◌<◌, ◌≤◌, Bool, true, false, Option, None, Some, Ok, List, [], ◌∷◌, length, map, arith}
+use Rattle.std.proofs.Common.{◌≡◌, ◌≢◌, ne_eqb, if◌then◌else◌, ◌∙◌, ap, sym, refl, subst, inl, inr, ◌⊎◌, ℕ, suc, ◌+◌, ◌-◌, ◌^◌, ◌<◌, ◌≤◌, Bool, true, false, Option, None, Some, Ok, List, [], ◌∷◌, length, map, arith}
 use Rattle.std.proofs.lemmas.List.{set-get_or}
 use Rattle.gx_geom.specs.declared.refusal.Refusal.{Refusal}
 use Rattle.gx_geom.specs.declared.refusal.Refusal.TheVariants as refusal
@@ -39,7 +39,7 @@ use Rattle.gx_index_laws.proofs.Standing.{known_lawful}
 use Rattle.gx_durable.specs.Spelled.{Reading, record_read}
 use Rattle.gx_readings.specs.Classes.{class_of, reading_of}
 use Rattle.gx_events.specs.declared.outcome.Outcome.{Outcome}
-use Rattle.gx_events.specs.declared.outcome.Outcome.TheVariants.{More, Replied}
+use Rattle.gx_events.specs.declared.outcome.Outcome.TheVariants.{More, Replied, Help}
 use Rattle.gx_txn.specs.Tables.{Held}
 use Rattle.gx_phases.specs.declared.phase.Phase.{Phase}
 use Rattle.gx_phases.specs.declared.phase.Phase.TheVariants as phase
@@ -63,7 +63,7 @@ use Rattle.gx_engine.specs.Holds.{Holds}
 use Rattle.gx_engine.specs.Moves.{Moves, calling}
 use Rattle.gx_engine.specs.States.{Parts, is_due}
 use Rattle.gx_engine.specs.Sweeping.{is_held}
-use Rattle.gx_engine.specs.Writing.{IsFull, LeftFew, SplitComes, WriteComes, pages_split}
+use Rattle.gx_engine.specs.Writing.{AsksRoom, HasPlace, IsFull, LacksPages, LeftFew, WriteBy, page_record, pages_split, split_record, write_record}
 use Rattle.gx_engine.proofs.Brought.{as_brought}
 use Rattle.gx_engine.proofs.Claimed.{claimed_alike}
 use Rattle.gx_engine.proofs.Descents.{logged_on, logged_yet, quiet_moves}
@@ -87,15 +87,15 @@ module _ {B D : Type 0} (s : ℕ) (call : Call B) (from : ℕ) (next : Item) (ol
       let is_end : new ≡ its_end = there ∙ ap (λ (x : Parts B D). calling s call (Descends from next) x) only in
       subst (λ (y : Outcome B). P new y) (sym one) (subst (λ (x : Parts B D). P x More) (sym is_end) at_end)
 
-  pub on_comes : (k : Keys B) (f : Format B) (passes : ℕ → Contents → Bool) (state : D → Device) → mid.volume.most ≡ old.volume.most
-      → WriteComes k f passes (state old.volume.shelf.disk) (state new.volume.shelf.disk) s call old new o
-  on_comes k f passes state most =
-      on_is (λ x y. WriteComes k f passes (state old.volume.shelf.disk) (state x.volume.shelf.disk) s call old x y) (Descends from next, refl, most)
+  pub on_comes : (Asks : ℕ → Type 0) (Lacks : Type 0) (k : Keys B) (passes : ℕ → Contents → Bool) (state : D → Device) → mid.volume.most ≡ old.volume.most
+      → WriteBy Asks Lacks k passes (state old.volume.shelf.disk) (state new.volume.shelf.disk) s call old new o
+  on_comes Asks Lacks k passes state most =
+      on_is (λ x y. WriteBy Asks Lacks k passes (state old.volume.shelf.disk) (state x.volume.shelf.disk) s call old x y) (Descends from next, refl, most)
 
 -- or with the work that it had
-pub yet_comes : {B D : Type 0} (k : Keys B) (f : Format B) (passes : ℕ → Contents → Bool) (d e : Device) (s : ℕ) (call : Call B) (was : Work B) (old mid : Parts B D) → mid ≡ record old { volume = mid.volume }
-    → mid.volume.most ≡ old.volume.most → phase_at (s - 1) old.sessions.phases ≡ phase.Open call was → WriteComes k f passes d e s call old mid More
-yet_comes {B} k f passes d e s call was old mid only most at = (
+pub yet_comes : {B D : Type 0} (Asks : ℕ → Type 0) (Lacks : Type 0) (k : Keys B) (passes : ℕ → Contents → Bool) (d e : Device) (s : ℕ) (call : Call B) (was : Work B) (old mid : Parts B D) → mid ≡ record old { volume = mid.volume }
+    → mid.volume.most ≡ old.volume.most → phase_at (s - 1) old.sessions.phases ≡ phase.Open call was → WriteBy Asks Lacks k passes d e s call old mid More
+yet_comes {B} Asks Lacks k passes d e s call was old mid only most at = (
   was,
   only ∙ sym (ap (λ (x : State B (Work B)). record old { volume = mid.volume; sessions = x }) (phase_yet s old.sessions (phase.Open call was) at)),
   most,
@@ -284,39 +284,38 @@ few_top d old page top few steady =
     let low = few steady in
     omega (arith, low, two)
 
--- the page of a descent
-abbrev page_of : {B : Type 0} → Phase B (Work B) → ℕ
-page_of (phase.Open _ (Descends parent item)) = item.page
-page_of other = 0
+-- What comes of a move that may ask for fewer records, and that is refused for want of pages in fewer cases.
+module _ {B D : Type 0} (k : Keys B) (passes : ℕ → Contents → Bool) (d e : Device) (s : ℕ) (call : Call B) (old new : Parts B D)
+    (Asks Asks' : ℕ → Type 0) (asks : (size : ℕ) → Asks size → Asks' size) (Lacks Lacks' : Type 0) (lacks : Lacks → Lacks') where
+  refused_more : (why : Refusal) → WriteBy Asks Lacks k passes d e s call old new (Replied (RefusedCall why))
+      → WriteBy Asks' Lacks' k passes d e s call old new (Replied (RefusedCall why))
+  refused_more refusal.PagesFull comes = (lacks comes.0, comes.1)
+  refused_more why comes = comes
 
--- A split's move is a write's, where its node is full; and a write's may be a split's.
-module _ {B D : Type 0} (k : Keys B) (f : Format B) (passes : ℕ → Contents → Bool) (d e : Device) (s : ℕ) (entry : Entry B) (parent : ℕ) (item : Item) (old new : Parts B D)
+  pub comes_more : (o : Outcome B) → WriteBy Asks Lacks k passes d e s call old new o → WriteBy Asks' Lacks' k passes d e s call old new o
+  comes_more (Replied (RefusedCall why)) comes = refused_more why comes
+  comes_more (Help n) comes = ((comes.0.0, asks comes.0.0 comes.0.1, comes.0.2, comes.0.3), comes.1)
+  comes_more o comes = comes
+
+-- A descent's parts ask for what the descent may ask for.
+module _ {B D : Type 0} (f : Format B) (key : ℕ) (d : Device) (s : ℕ) (entry : Entry B) (parent : ℕ) (item : Item) (old : Parts B D)
     (at : phase_at (s - 1) old.sessions.phases ≡ phase.Open (Insert entry) (Descends parent item)) where
-  abbrev Writes : Outcome B → Type 0
-  Writes o = WriteComes k f passes d e s (Insert entry) old new o
+  pub asks_page : (size : ℕ) → size ≡ page_record → AsksRoom f key d s (Insert entry) old size
+  asks_page size is = record { work = Descends parent item; at = at; asks = inl is }
 
-  abbrev Splits : Outcome B → Type 0
-  Splits o = SplitComes k f passes d e s (Insert entry) item.page old new o
-
-  refused_split : (why : Refusal) → Writes (Replied (RefusedCall why)) → Splits (Replied (RefusedCall why))
-  refused_split refusal.PagesFull comes =
-      let same : comes.0.item.page ≡ item.page = ap (λ (p : Phase B (Work B)). page_of p) (sym comes.0.descends ∙ at) in
-      (subst (λ (n : ℕ). LeftFew d old n) same comes.0.few, comes.1)
-  refused_split why comes = comes
-
-  pub as_split : (o : Outcome B) → Writes o → Splits o
-  as_split (Replied (RefusedCall why)) comes = refused_split why comes
-  as_split o comes = comes
+  pub asks_write : HasPlace f d old item.page → (size : ℕ) → size ≡ write_record key → AsksRoom f key d s (Insert entry) old size
+  asks_write place size is = record { work = Descends parent item; at = at; asks = inr (inl (is, place)) }
 
   module _ (full : IsFull f d old item.page) where
-    refused_full : (why : Refusal) → Splits (Replied (RefusedCall why)) → Writes (Replied (RefusedCall why))
-    refused_full refusal.PagesFull comes =
-        (record { entry = entry; inserts = refl; parent = parent; item = item; descends = at; full = full; few = comes.0 }, comes.1)
-    refused_full why comes = comes
+    pub asks_split : (size : ℕ) → size ≡ split_record → AsksRoom f key d s (Insert entry) old size
+    asks_split size is = record { work = Descends parent item; at = at; asks = inr (inr (is, full)) }
 
-    pub full_write : (o : Outcome B) → Splits o → Writes o
-    full_write (Replied (RefusedCall why)) comes = refused_full why comes
-    full_write o comes = comes
+    pub asks_sweep : (size : ℕ) → (size ≡ page_record) ⊎ (size ≡ split_record) → AsksRoom f key d s (Insert entry) old size
+    asks_sweep size (inl is) = asks_page size is
+    asks_sweep size (inr is) = asks_split size is
+
+    pub lacks_pages : LeftFew d old item.page → LacksPages f d s (Insert entry) old
+    lacks_pages few = record { entry = entry; inserts = refl; parent = parent; item = item; descends = at; full = full; few = few }
 
 -- No page is left, and the call is closed.
 module _ {B D : Type 0} (s : ℕ) (old mid new : Parts B D) (only : mid ≡ record old { volume = mid.volume })
@@ -326,12 +325,11 @@ module _ {B D : Type 0} (s : ℕ) (old mid new : Parts B D) (only : mid ≡ reco
       let is_end : new ≡ record old { volume = mid.volume; sessions = answered_state s old.sessions } = shut ∙ ap (λ (x : Parts B D). record x { sessions = answered_state s x.sessions }) only in
       subst (λ (y : Outcome B). P new y) (sym one) (subst (λ (x : Parts B D). P x (Replied (RefusedCall refusal.PagesFull))) (sym is_end) at_end)
 
-  pub full_comes : (k : Keys B) (f : Format B) (passes : ℕ → Contents → Bool) (state : D → Device) (call : Call B) (page : ℕ) → mid.volume.most ≡ old.volume.most → mid.volume.log ≡ old.volume.log
-      → LeftFew (state old.volume.shelf.disk) old page
-      → SplitComes k f passes (state old.volume.shelf.disk) (state new.volume.shelf.disk) s call page old new o
-  full_comes k f passes state call page most log few =
-      full_is (λ x y. SplitComes k f passes (state old.volume.shelf.disk) (state x.volume.shelf.disk) s call page old x y)
-      (few, as_brought old mid.volume (answered_state s old.sessions) log most)
+  pub full_comes : (Asks : ℕ → Type 0) (Lacks : Type 0) (k : Keys B) (passes : ℕ → Contents → Bool) (state : D → Device) (call : Call B) → mid.volume.most ≡ old.volume.most → mid.volume.log ≡ old.volume.log
+      → Lacks → WriteBy Asks Lacks k passes (state old.volume.shelf.disk) (state new.volume.shelf.disk) s call old new o
+  full_comes Asks Lacks k passes state call most log lacks =
+      full_is (λ x y. WriteBy Asks Lacks k passes (state old.volume.shelf.disk) (state x.volume.shelf.disk) s call old x y)
+      (lacks, as_brought old mid.volume (answered_state s old.sessions) log most)
 
 -- A split that was made, or for which there was no place.
 module _ {B D : Type 0} (shape : Members B) (proper : B → Bool) (said : List ℕ → B) (f : Format B) (passes : ℕ → Contents → Bool) (sides_of : List B → ℕ → List Bool)

@@ -1,5 +1,5 @@
 -- What the moves of a write come to whose pair stands: of its parts, and joined.
-use Rattle.std.proofs.Common.{◌≡◌, ◌≢◌, ◌∙◌, sym, ap, refl, subst, inl, inr, ℕ, ◌≤◌, ◌==◌, ◌||◌, ◌&&◌, Bool, true, false, List, arith}
+use Rattle.std.proofs.Common.{◌≡◌, ◌≢◌, ◌∙◌, sym, ap, refl, subst, inl, inr, ℕ, ◌-◌, ◌≤◌, ◌⊎◌, ◌==◌, ◌||◌, ◌&&◌, Bool, true, false, List, arith}
 use Rattle.std.specs.Prelude.{nat_le, Result, Ok, Err, IfOk, IfErr}
 use Rattle.std.specs.Ordering.{is_eq}
 use Rattle.gx_geom.specs.declared.refusal.Refusal.{Refusal}
@@ -26,7 +26,7 @@ use Rattle.gx_events.specs.declared.outcome.Outcome.TheVariants.{Replied, More, 
 use Rattle.gx_phases.specs.declared.phase.Phase.{Phase}
 use Rattle.gx_phases.specs.declared.phase.Phase.TheVariants as phase
 use Rattle.gx_phases.specs.Moves.{HasWrite, failed_state}
-use Rattle.gx_phases.specs.States.{State, with_phase_of}
+use Rattle.gx_phases.specs.States.{State, phase_at, with_phase_of}
 use Rattle.gx_store.specs.declared.fault.StoreFault.{StoreFault}
 use Rattle.gx_store.specs.declared.fault.StoreFault.TheVariants as fault
 use Rattle.gx_store.specs.Faults as faults
@@ -46,7 +46,7 @@ use Rattle.gx_engine.specs.Refusals.{CanBeHelped, IsEarly, IsHelp, IsRefused, St
 use Rattle.gx_engine.specs.Seeking.{IsNoted, IsPutOff, IsSought, IsUnsought, SeekComes, set_outcome, set_state, write_call, written_reply}
 use Rattle.gx_engine.specs.States.{Parts, is_due, runs}
 use Rattle.gx_engine.specs.Undoing.{PairIsSought}
-use Rattle.gx_engine.specs.Writing.{IsDelayed, WriteComes, brought}
+use Rattle.gx_engine.specs.Writing.{AsksRoom, IsDelayed, WriteComes, brought, split_record, write_record}
 use Rattle.gx_engine.proofs.Reading.{only_shelf}
 
 -- a call that writes is open, and writes its entry
@@ -97,29 +97,29 @@ module _ {B D : Type 0} (old : Parts B D) (w : Volume D) (log : w.log ≡ old.vo
   brought_on : (new : Parts B D) (sessions : State B (Work B)) → record (brought mid new) { sessions = sessions } ≡ record (brought old new) { sessions = sessions }
   brought_on new sessions = λ j. record { volume = record { log = log j; shelf = new.volume.shelf; most = most j }; sessions = sessions; in_flight = old.in_flight; checkpoint = old.checkpoint }
 
-  module _ (f : Format B) (IsKey : B → Type 0) (k : Keys B) (passes : ℕ → Contents → Bool) (state : D → Device) (d : Device) (s : ℕ) (entry : Entry B) (leaf : ℕ) (marked : Bool) where
+  module _ (f : Format B) (IsKey : B → Type 0) (k : Keys B) (key : ℕ) (passes : ℕ → Contents → Bool) (state : D → Device) (d : Device) (s : ℕ) (entry : Entry B) (leaf : ℕ) (marked : Bool) where
     abbrev Comes : Parts B D → Outcome B → Type 0
-    Comes new o = SeekComes f IsKey k passes d (state new.volume.shelf.disk) s entry leaf marked old new o
+    Comes new o = SeekComes f IsKey k key passes d (state new.volume.shelf.disk) s entry leaf marked old new o
 
     at : (new there : Parts B D) (o given : Outcome B) → o ≡ given → new ≡ there → Comes there given → Comes new o
     at new there o given one other comes = subst (λ (y : Outcome B). Comes new y) (sym one) (subst (λ (x : Parts B D). Comes x given) (sym other) comes)
 
     -- what a move comes to that was refused pages
-    pub refused_comes : StampsStay old.volume.shelf w.shelf → (size : ℕ) → size ≤ 12314 → (refused : StoreFault) → (refused ≡ fault.NoRoom → is_due old ≡ false) → faults.IsWhy passes d (state w.shelf.disk) (begun old.volume size) w.shelf refused
+    pub refused_comes : StampsStay old.volume.shelf w.shelf → (size : ℕ) → (size ≡ 0) ⊎ (size ≡ write_record key) → size ≤ 12314 → (refused : StoreFault) → (refused ≡ fault.NoRoom → is_due old ≡ false) → faults.IsWhy passes d (state w.shelf.disk) (begun old.volume size) w.shelf refused
         → (new : Parts B D) (o : Outcome B) → IsRefused refused mid new o → Comes new o
-    refused_comes stay size small fault.NoRoom early why new o is =
-        at new mid o _ is.2 is.3 (inr (size, small, (record { fault = fault.NoRoom; can = tt; why = why; help = is.0; helps = is.1; is = refl; stamps = stay }, early refl)), brought_with old.sessions)
-    refused_comes stay size small (fault.TooFewFrames frames) early why new o is =
-        at new mid o _ is.2 is.3 (inr (size, small, (record { fault = fault.TooFewFrames frames; can = tt; why = why; help = is.0; helps = is.1; is = refl; stamps = stay }, tt)), brought_with old.sessions)
-    refused_comes stay size small fault.Device early why new o is = at new _ o _ is.0 is.1 (why, brought_with (failed_state old.sessions))
-    refused_comes stay size small fault.Damaged early why new o is = at new _ o _ is.0 is.1 (brought_with (failed_state old.sessions))
+    refused_comes stay size asks small fault.NoRoom early why new o is =
+        at new mid o _ is.2 is.3 (inr (size, asks, small, (record { fault = fault.NoRoom; can = tt; why = why; help = is.0; helps = is.1; is = refl; stamps = stay }, early refl)), brought_with old.sessions)
+    refused_comes stay size asks small (fault.TooFewFrames frames) early why new o is =
+        at new mid o _ is.2 is.3 (inr (size, asks, small, (record { fault = fault.TooFewFrames frames; can = tt; why = why; help = is.0; helps = is.1; is = refl; stamps = stay }, tt)), brought_with old.sessions)
+    refused_comes stay size asks small fault.Device early why new o is = at new _ o _ is.0 is.1 (why, brought_with (failed_state old.sessions))
+    refused_comes stay size asks small fault.Damaged early why new o is = at new _ o _ is.0 is.1 (brought_with (failed_state old.sessions))
 
     -- and one whose page is no leaf
     pub damaged_comes : (new : Parts B D) (o : Outcome B) → o ≡ Replied (reply.Refused refusal.Damaged) → new ≡ record mid { sessions = failed_state old.sessions } → Comes new o
     damaged_comes new o one other = at new _ o _ one other (brought_with (failed_state old.sessions))
 
   -- What comes of a part that begins with them is what comes of the whole.
-  module _ (f : Format B) (IsKey : B → Type 0) (k : Keys B) (passes : ℕ → Contents → Bool) (stay : StampsStay old.volume.shelf w.shelf) (d e later : Device) (sooner : d.faults ≤ e.faults) (s : ℕ) (entry : Entry B) (leaf : ℕ) (marked : Bool)
+  module _ (f : Format B) (IsKey : B → Type 0) (k : Keys B) (key : ℕ) (passes : ℕ → Contents → Bool) (stay : StampsStay old.volume.shelf w.shelf) (d e later : Device) (sooner : d.faults ≤ e.faults) (s : ℕ) (entry : Entry B) (leaf : ℕ) (marked : Bool)
       (new : Parts B D) where
     due_same : is_due mid ≡ is_due old
     due_same = ap (λ (g : Log). runs old.checkpoint || nat_le 24 g.used) log
@@ -162,57 +162,63 @@ module _ {B D : Type 0} (old : Parts B D) (w : Volume D) (log : w.log ≡ old.vo
         by fault.Device is = absurd (subst (λ (x : StoreFault). CanBeHelped x) is help.can)
         by fault.Damaged is = absurd (subst (λ (x : StoreFault). CanBeHelped x) is help.can)
 
-    delayed_on : (n : Need) → IsPutOff f IsKey k passes e later entry leaf marked mid new n → IsPutOff f IsKey k passes d later entry leaf marked old new n
+    delayed_on : (n : Need) → IsPutOff f IsKey k key passes e later entry leaf marked mid new n → IsPutOff f IsKey k key passes d later entry leaf marked old new n
     delayed_on n (inl due) = inl (due.0, sym due_same ∙ due.1, (λ page. due.2 page ∙ stay page), due.3)
-    delayed_on n (inr room) = inr (room.0, room.1, help_on room.0 n room.2.0 room.2.1)
+    delayed_on n (inr room) = inr (room.0, room.1, room.2, help_on room.0 n room.3.0 room.3.1)
 
     noted_on : IsNoted k s entry leaf mid new → IsNoted k s entry leaf old new
     noted_on noted = record { before = noted.before; is = noted.is; most = noted.most ∙ most }
 
-    refused_on : (why : Refusal) → SeekComes f IsKey k passes e later s entry leaf marked mid new (Replied (reply.Refused why))
-        → SeekComes f IsKey k passes d later s entry leaf marked old new (Replied (reply.Refused why))
+    refused_on : (why : Refusal) → SeekComes f IsKey k key passes e later s entry leaf marked mid new (Replied (reply.Refused why))
+        → SeekComes f IsKey k key passes d later s entry leaf marked old new (Replied (reply.Refused why))
     refused_on refusal.Present comes = (comes.0, comes.1 ∙ brought_on new _, comes.2)
     refused_on refusal.Absent comes = (comes.0, comes.1 ∙ brought_on new _, comes.2)
     refused_on refusal.Device comes = (omega (arith, sooner, comes.0), comes.1 ∙ brought_on new _)
     refused_on refusal.Damaged comes = comes ∙ brought_on new _
     refused_on why comes = absurd comes
 
-    replied_on : (r : Reply B) → SeekComes f IsKey k passes e later s entry leaf marked mid new (Replied r) → SeekComes f IsKey k passes d later s entry leaf marked old new (Replied r)
+    replied_on : (r : Reply B) → SeekComes f IsKey k key passes e later s entry leaf marked mid new (Replied r) → SeekComes f IsKey k key passes d later s entry leaf marked old new (Replied r)
     replied_on reply.Inserted comes = (comes.0, noted_on comes.1)
     replied_on reply.Deleted comes = (comes.0, noted_on comes.1)
     replied_on (reply.Refused why) comes = refused_on why comes
     replied_on r comes = absurd comes
 
-    pub comes_on : (o : Outcome B) → SeekComes f IsKey k passes e later s entry leaf marked mid new o → SeekComes f IsKey k passes d later s entry leaf marked old new o
+    pub comes_on : (o : Outcome B) → SeekComes f IsKey k key passes e later s entry leaf marked mid new o → SeekComes f IsKey k key passes d later s entry leaf marked old new o
     comes_on More comes = (comes.0, comes.1 ∙ brought_on new _)
     comes_on (Replied r) comes = replied_on r comes
     comes_on (Help n) comes = (delayed_on n comes.0, comes.1 ∙ brought_on new _)
     comes_on o comes = absurd comes
 
 -- Such a move is a write's.
-module _ {B D : Type 0} (f : Format B) (IsKey : B → Type 0) (k : Keys B) (passes : ℕ → Contents → Bool) (d e : Device) (s : ℕ) (entry : Entry B) (leaf : ℕ) (marked : Bool) (old new : Parts B D) where
+module _ {B D : Type 0} (f : Format B) (IsKey : B → Type 0) (k : Keys B) (key : ℕ) (short : write_record key ≤ split_record) (passes : ℕ → Contents → Bool) (d e : Device) (s : ℕ)
+    (entry : Entry B) (leaf : ℕ) (marked : Bool) (old new : Parts B D) (at : phase_at (s - 1) old.sessions.phases ≡ phase.Open (write_call marked entry) (Seeks leaf)) where
   its_call : (m : Bool) → marked ≡ m → write_call marked entry ≡ write_call m entry
   its_call m is = ap (λ b. write_call b entry) is
 
-  refused_write : (why : Refusal) → SeekComes f IsKey k passes d e s entry leaf marked old new (Replied (reply.Refused why))
-      → WriteComes k f passes d e s (write_call marked entry) old new (Replied (reply.Refused why))
+  refused_write : (why : Refusal) → SeekComes f IsKey k key passes d e s entry leaf marked old new (Replied (reply.Refused why))
+      → WriteComes k f passes key d e s (write_call marked entry) old new (Replied (reply.Refused why))
   refused_write refusal.Present comes = (entry, its_call false comes.0, comes.1)
   refused_write refusal.Absent comes = (entry, its_call true comes.0, comes.1)
   refused_write refusal.Device comes = comes
   refused_write refusal.Damaged comes = comes
   refused_write why comes = absurd comes
 
-  replied_write : (r : Reply B) → SeekComes f IsKey k passes d e s entry leaf marked old new (Replied r) → WriteComes k f passes d e s (write_call marked entry) old new (Replied r)
+  replied_write : (r : Reply B) → SeekComes f IsKey k key passes d e s entry leaf marked old new (Replied r) → WriteComes k f passes key d e s (write_call marked entry) old new (Replied r)
   replied_write reply.Inserted comes = (record { entry = entry; before = comes.1.before; leaf = leaf }, its_call false comes.0, comes.1.is, comes.1.most)
   replied_write reply.Deleted comes = (record { entry = entry; before = comes.1.before; leaf = leaf }, its_call true comes.0, comes.1.is, comes.1.most)
   replied_write (reply.Refused why) comes = refused_write why comes
   replied_write r comes = absurd comes
 
-  delayed : (n : Need) → IsPutOff f IsKey k passes d e entry leaf marked old new n → IsDelayed passes d e old new n
-  delayed n (inl due) = inl (due.0, due.1, due.2)
-  delayed n (inr room) = inr room
+  delayed : (n : Need) → IsPutOff f IsKey k key passes d e entry leaf marked old new n → IsDelayed (AsksRoom f key d s (write_call marked entry) old) passes d e old new n
+  delayed n (inl due) = (
+    write_record key,
+    record { work = Seeks leaf; at = at; asks = inr refl },
+    short,
+    inl (due.0, due.1, omega arith, due.2),
+  )
+  delayed n (inr room) = (room.0, record { work = Seeks leaf; at = at; asks = room.1 }, room.2, inr room.3)
 
-  pub seek_write : (o : Outcome B) → SeekComes f IsKey k passes d e s entry leaf marked old new o → WriteComes k f passes d e s (write_call marked entry) old new o
+  pub seek_write : (o : Outcome B) → SeekComes f IsKey k key passes d e s entry leaf marked old new o → WriteComes k f passes key d e s (write_call marked entry) old new o
   seek_write More comes =
       let same : new.volume ≡ record old.volume { shelf = new.volume.shelf } = ap (λ (x : Parts B D). x.volume) comes.1 in (
         Seeks comes.0,
@@ -230,13 +236,13 @@ module _ {B D : Type 0} (f : Format B) (IsKey : B → Type 0) (k : Keys B) (pass
   its_end sought = record old { volume = w; sessions = set_state k s entry leaf marked sought old.sessions }
 
   pub set_comes : (sought : Sought) → PairIsSought known r f passes IsKey k spelling key d e old.volume w t n leaf sought
-      → SeekComes f IsKey k passes d e s entry leaf marked old (its_end sought) (set_outcome marked sought)
+      → SeekComes f IsKey k key passes d e s entry leaf marked old (its_end sought) (set_outcome marked sought)
   set_comes (Here slot before) set = by marked refl
     where
       noted : IsNoted k s entry leaf old (its_end (Here slot before))
       noted = record { before = before; is = refl; most = set.logged.most }
 
-      by : (m : Bool) → marked ≡ m → SeekComes f IsKey k passes d e s entry leaf marked old (its_end (Here slot before)) (Replied (written_reply m))
+      by : (m : Bool) → marked ≡ m → SeekComes f IsKey k key passes d e s entry leaf marked old (its_end (Here slot before)) (Replied (written_reply m))
       by true is = (is, noted)
       by false is = (is, noted)
   set_comes (Right next) set = (next, brought_with old w set.logged.log set.logged.most (with_phase_of s (phase.Open (write_call marked entry) (Seeks next)) old.sessions))

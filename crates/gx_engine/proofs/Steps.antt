@@ -56,7 +56,7 @@ use Rattle.gx_engine.specs.Sealing.{AcknowledgeBy, AcknowledgeComes, AreSealing,
 use Rattle.gx_engine.specs.Searching.{AreSearching, SearchComes}
 use Rattle.gx_engine.specs.States.{Parts, is_due, runs}
 use Rattle.gx_engine.specs.Stepping.{LowersBy, Stepped, Steps, has_call}
-use Rattle.gx_engine.specs.Sweeping.{HasFailed, SweepComes, sweep_events}
+use Rattle.gx_engine.specs.Sweeping.{HasFailed, SweepComes, SweepsBy, SweepsPage, is_page, sweep_events}
 use Rattle.gx_engine.specs.Undoing.{AreUndoing, EndComes, RestoreComes, UndoBy, UndoComes}
 use Rattle.gx_engine.specs.Writing.{AreWriting, WriteComes}
 use Rattle.gx_engine.proofs.Flushing.{nothing_led}
@@ -97,7 +97,7 @@ module _ {B D : Type 0} (c : Class B) (r : Reading (Entry B) (Page B)) (f : Form
     search_refused : (query : Query B) (why : Refusal) → SearchComes passes d e s query old new (Replied (reply.Refused why))
         → (events : List (laws.Event B)) → AreSearching s query (Replied (reply.Refused why)) events → Led c r f passes d e new i events
         → IsMove s (engine_of c i) (Replied (reply.Refused why)) events
-    search_refused query refusal.Memory comes events are led = (laws.Closes s (Search query) refusal.Memory, are, (refl, refl))
+    search_refused query refusal.Memory comes events are led = (laws.Closes s (Search query) refusal.Memory, are, (refl, refl, refl))
     search_refused query refusal.Device comes events are led = (laws.RefusesCall s refusal.Device, inl are, (refl, refl, λ same. absurd (not_failed same)))
     search_refused query refusal.Damaged comes events are led = absurd (had_failed works (ap (λ (x : Parts B D). x.sessions.failed) comes) bodies i h events are led)
     search_refused query why comes events are led = absurd comes
@@ -116,57 +116,57 @@ module _ {B D : Type 0} (c : Class B) (r : Reading (Entry B) (Page B)) (f : Form
     search_is query other comes events are led = absurd comes
 
     -- an insert
-    insert_refused : (k : Keys B) (entry : Entry B) (why : Refusal) → WriteComes k f passes d e s (Insert entry) old new (Replied (reply.Refused why))
+    insert_refused : (k : Keys B) (key : ℕ) (entry : Entry B) (why : Refusal) → WriteComes k f passes key d e s (Insert entry) old new (Replied (reply.Refused why))
         → (events : List (laws.Event B)) → AreWriting s (Insert entry) (Replied (reply.Refused why)) events → Led c r f passes d e new i events
         → IsMove s (engine_of c i) (Replied (reply.Refused why)) events
-    insert_refused k entry refusal.Present comes events are led = (laws.FindsPresent s entry, inl are, (refl, refl))
-    insert_refused k entry refusal.Absent comes events are led = let same : ◌≡◌ {A = Call B} (Insert entry) (Delete comes.0) = comes.1 in let no : ⊥ = cc in absurd no
-    insert_refused k entry refusal.Memory comes events are led = (laws.Closes s (Insert entry) refusal.Memory, inl are, (refl, refl))
-    insert_refused k entry refusal.PagesFull comes events are led = (laws.Closes s (Insert entry) refusal.PagesFull, inl are, (refl, refl))
-    insert_refused k entry refusal.Device comes events are led = (laws.RefusesCall s refusal.Device, inl are, (refl, refl, λ same. absurd (not_failed same)))
-    insert_refused k entry refusal.Damaged comes events are led = absurd (had_failed works (ap (λ (x : Parts B D). x.sessions.failed) comes) bodies i h events are led)
-    insert_refused k entry why comes events are led = absurd comes
+    insert_refused k key entry refusal.Present comes events are led = (laws.FindsPresent s entry, inl are, (refl, refl))
+    insert_refused k key entry refusal.Absent comes events are led = let same : ◌≡◌ {A = Call B} (Insert entry) (Delete comes.0) = comes.1 in let no : ⊥ = cc in absurd no
+    insert_refused k key entry refusal.Memory comes events are led = (laws.Closes s (Insert entry) refusal.Memory, inl are, (refl, refl, refl))
+    insert_refused k key entry refusal.PagesFull comes events are led = (laws.Closes s (Insert entry) refusal.PagesFull, inl are, (refl, refl, refl))
+    insert_refused k key entry refusal.Device comes events are led = (laws.RefusesCall s refusal.Device, inl are, (refl, refl, λ same. absurd (not_failed same)))
+    insert_refused k key entry refusal.Damaged comes events are led = absurd (had_failed works (ap (λ (x : Parts B D). x.sessions.failed) comes) bodies i h events are led)
+    insert_refused k key entry why comes events are led = absurd comes
 
-    insert_replied : (k : Keys B) (entry : Entry B) (given : Reply B) → WriteComes k f passes d e s (Insert entry) old new (Replied given)
+    insert_replied : (k : Keys B) (key : ℕ) (entry : Entry B) (given : Reply B) → WriteComes k f passes key d e s (Insert entry) old new (Replied given)
         → (events : List (laws.Event B)) → AreWriting s (Insert entry) (Replied given) events → Led c r f passes d e new i events → IsMove s (engine_of c i) (Replied given) events
-    insert_replied k entry reply.Inserted comes events are led = (laws.Inserts s entry, inl are, (refl, refl))
-    insert_replied k entry reply.Deleted comes events are led = let same : ◌≡◌ {A = Call B} (Insert entry) (Delete comes.0.entry) = comes.1 in let no : ⊥ = cc in absurd no
-    insert_replied k entry (reply.Refused why) comes events are led = insert_refused k entry why comes events are led
-    insert_replied k entry given comes events are led = absurd comes
+    insert_replied k key entry reply.Inserted comes events are led = (laws.Inserts s entry, inl are, (refl, refl))
+    insert_replied k key entry reply.Deleted comes events are led = let same : ◌≡◌ {A = Call B} (Insert entry) (Delete comes.0.entry) = comes.1 in let no : ⊥ = cc in absurd no
+    insert_replied k key entry (reply.Refused why) comes events are led = insert_refused k key entry why comes events are led
+    insert_replied k key entry given comes events are led = absurd comes
 
-    pub insert_is : (k : Keys B) (entry : Entry B) (outcome : Outcome B) → WriteComes k f passes d e s (Insert entry) old new outcome
+    pub insert_is : (k : Keys B) (key : ℕ) (entry : Entry B) (outcome : Outcome B) → WriteComes k f passes key d e s (Insert entry) old new outcome
         → (events : List (laws.Event B)) → AreWriting s (Insert entry) outcome events → Led c r f passes d e new i events → IsMove s (engine_of c i) outcome events
-    insert_is k entry (Replied given) comes events are led = insert_replied k entry given comes events are led
-    insert_is k entry More comes events are led = (still_works, (laws.Works, are, tt))
-    insert_is k entry (Help n) comes events are led = (still_works, are)
-    insert_is k entry other comes events are led = absurd comes
+    insert_is k key entry (Replied given) comes events are led = insert_replied k key entry given comes events are led
+    insert_is k key entry More comes events are led = (still_works, (laws.Works, are, tt))
+    insert_is k key entry (Help n) comes events are led = (still_works, are)
+    insert_is k key entry other comes events are led = absurd comes
 
     -- a delete
-    delete_refused : (k : Keys B) (entry : Entry B) (why : Refusal) → WriteComes k f passes d e s (Delete entry) old new (Replied (reply.Refused why))
+    delete_refused : (k : Keys B) (key : ℕ) (entry : Entry B) (why : Refusal) → WriteComes k f passes key d e s (Delete entry) old new (Replied (reply.Refused why))
         → (events : List (laws.Event B)) → AreWriting s (Delete entry) (Replied (reply.Refused why)) events → Led c r f passes d e new i events
         → IsMove s (engine_of c i) (Replied (reply.Refused why)) events
-    delete_refused k entry refusal.Present comes events are led = let same : ◌≡◌ {A = Call B} (Delete entry) (Insert comes.0) = comes.1 in let no : ⊥ = cc in absurd no
-    delete_refused k entry refusal.Absent comes events are led = (laws.FindsAbsent s entry, are, (refl, refl))
-    delete_refused k entry refusal.Memory comes events are led = (laws.Closes s (Delete entry) refusal.Memory, inl are, (refl, refl))
-    delete_refused k entry refusal.PagesFull comes events are led =
+    delete_refused k key entry refusal.Present comes events are led = let same : ◌≡◌ {A = Call B} (Delete entry) (Insert comes.0) = comes.1 in let no : ⊥ = cc in absurd no
+    delete_refused k key entry refusal.Absent comes events are led = (laws.FindsAbsent s entry, are, (refl, refl))
+    delete_refused k key entry refusal.Memory comes events are led = (laws.Closes s (Delete entry) refusal.Memory, inl are, (refl, refl, refl))
+    delete_refused k key entry refusal.PagesFull comes events are led =
         let same : ◌≡◌ {A = Call B} (Delete entry) (Insert comes.0.entry) = comes.0.inserts in let no : ⊥ = cc in absurd no
-    delete_refused k entry refusal.Device comes events are led = (laws.RefusesCall s refusal.Device, inl are, (refl, refl, λ same. absurd (not_failed same)))
-    delete_refused k entry refusal.Damaged comes events are led = absurd (had_failed works (ap (λ (x : Parts B D). x.sessions.failed) comes) bodies i h events are led)
-    delete_refused k entry why comes events are led = absurd comes
+    delete_refused k key entry refusal.Device comes events are led = (laws.RefusesCall s refusal.Device, inl are, (refl, refl, λ same. absurd (not_failed same)))
+    delete_refused k key entry refusal.Damaged comes events are led = absurd (had_failed works (ap (λ (x : Parts B D). x.sessions.failed) comes) bodies i h events are led)
+    delete_refused k key entry why comes events are led = absurd comes
 
-    delete_replied : (k : Keys B) (entry : Entry B) (given : Reply B) → WriteComes k f passes d e s (Delete entry) old new (Replied given)
+    delete_replied : (k : Keys B) (key : ℕ) (entry : Entry B) (given : Reply B) → WriteComes k f passes key d e s (Delete entry) old new (Replied given)
         → (events : List (laws.Event B)) → AreWriting s (Delete entry) (Replied given) events → Led c r f passes d e new i events → IsMove s (engine_of c i) (Replied given) events
-    delete_replied k entry reply.Inserted comes events are led = let same : ◌≡◌ {A = Call B} (Delete entry) (Insert comes.0.entry) = comes.1 in let no : ⊥ = cc in absurd no
-    delete_replied k entry reply.Deleted comes events are led = (laws.Deletes s entry, inl are, (refl, refl))
-    delete_replied k entry (reply.Refused why) comes events are led = delete_refused k entry why comes events are led
-    delete_replied k entry given comes events are led = absurd comes
+    delete_replied k key entry reply.Inserted comes events are led = let same : ◌≡◌ {A = Call B} (Delete entry) (Insert comes.0.entry) = comes.1 in let no : ⊥ = cc in absurd no
+    delete_replied k key entry reply.Deleted comes events are led = (laws.Deletes s entry, inl are, (refl, refl))
+    delete_replied k key entry (reply.Refused why) comes events are led = delete_refused k key entry why comes events are led
+    delete_replied k key entry given comes events are led = absurd comes
 
-    pub delete_is : (k : Keys B) (entry : Entry B) (outcome : Outcome B) → WriteComes k f passes d e s (Delete entry) old new outcome
+    pub delete_is : (k : Keys B) (key : ℕ) (entry : Entry B) (outcome : Outcome B) → WriteComes k f passes key d e s (Delete entry) old new outcome
         → (events : List (laws.Event B)) → AreWriting s (Delete entry) outcome events → Led c r f passes d e new i events → IsMove s (engine_of c i) outcome events
-    delete_is k entry (Replied given) comes events are led = delete_replied k entry given comes events are led
-    delete_is k entry More comes events are led = (still_works, (laws.Works, are, tt))
-    delete_is k entry (Help n) comes events are led = (still_works, are)
-    delete_is k entry other comes events are led = absurd comes
+    delete_is k key entry (Replied given) comes events are led = delete_replied k key entry given comes events are led
+    delete_is k key entry More comes events are led = (still_works, (laws.Works, are, tt))
+    delete_is k key entry (Help n) comes events are led = (still_works, are)
+    delete_is k key entry other comes events are led = absurd comes
 
     -- an abort
     module _ (known : Limits → Known (Entry B) (Page B)) (IsKey : B → Type 0) (k : Keys B) (spelling : B → List ℕ) (key : ℕ)
@@ -223,15 +223,15 @@ module _ {B D : Type 0} (c : Class B) (r : Reading (Entry B) (Page B)) (f : Form
   search_steps works s query outcome comes moves =
       moves_step s outcome (AreSearching s query outcome) moves (λ bodies i h events are led. search_is works s bodies i h query outcome comes events are led)
 
-  pub insert_steps : old.sessions.failed ≡ false → (s : ℕ) (k : Keys B) (entry : Entry B) (outcome : Outcome B) → WriteComes k f passes d e s (Insert entry) old new outcome
+  pub insert_steps : old.sessions.failed ≡ false → (s : ℕ) (k : Keys B) (key : ℕ) (entry : Entry B) (outcome : Outcome B) → WriteComes k f passes key d e s (Insert entry) old new outcome
       → MovesSo c r f passes d e s old new outcome (AreWriting s (Insert entry) outcome) → Steps c r f passes d e (Move s) old new outcome
-  insert_steps works s k entry outcome comes moves =
-      moves_step s outcome (AreWriting s (Insert entry) outcome) moves (λ bodies i h events are led. insert_is works s bodies i h k entry outcome comes events are led)
+  insert_steps works s k key entry outcome comes moves =
+      moves_step s outcome (AreWriting s (Insert entry) outcome) moves (λ bodies i h events are led. insert_is works s bodies i h k key entry outcome comes events are led)
 
-  pub delete_steps : old.sessions.failed ≡ false → (s : ℕ) (k : Keys B) (entry : Entry B) (outcome : Outcome B) → WriteComes k f passes d e s (Delete entry) old new outcome
+  pub delete_steps : old.sessions.failed ≡ false → (s : ℕ) (k : Keys B) (key : ℕ) (entry : Entry B) (outcome : Outcome B) → WriteComes k f passes key d e s (Delete entry) old new outcome
       → MovesSo c r f passes d e s old new outcome (AreWriting s (Delete entry) outcome) → Steps c r f passes d e (Move s) old new outcome
-  delete_steps works s k entry outcome comes moves =
-      moves_step s outcome (AreWriting s (Delete entry) outcome) moves (λ bodies i h events are led. delete_is works s bodies i h k entry outcome comes events are led)
+  delete_steps works s k key entry outcome comes moves =
+      moves_step s outcome (AreWriting s (Delete entry) outcome) moves (λ bodies i h events are led. delete_is works s bodies i h k key entry outcome comes events are led)
 
   pub undo_steps : old.sessions.failed ≡ false → (s : ℕ) (known : Limits → Known (Entry B) (Page B)) (IsKey : B → Type 0) (k : Keys B) (spelling : B → List ℕ) (key : ℕ) (outcome : Outcome B)
       → UndoComes known r f passes IsKey k spelling key d e s old new outcome
@@ -351,14 +351,23 @@ module _ {B D : Type 0} (c : Class B) (r : Reading (Entry B) (Page B)) (f : Form
         absurd (had_failed works (ap (λ (x : Parts B D). x.sessions.failed) is) bodies i h (sweep_events (Refused why))
         (ap (λ (x : Refusal). sweep_events {B = B} (Refused x)) lies.0) led)
 
+    page_is : old.sessions.failed ≡ false → (outcome : Outcome B) → SweepsPage k known r f passes page d e old new outcome
+        → Led c r f passes d e new i (sweep_events outcome) → IsWork false outcome (sweep_events outcome)
+    page_is is More comes led = (refl, refl)
+    page_is is Nothing comes led = (refl, refl)
+    page_is is (Help n) comes led = (refl, refl)
+    page_is is (Refused why) comes led = sweep_failed is _ why comes led
+    page_is is (Replied given) comes led = absurd comes
+
+    sweep_by : old.sessions.failed ≡ false → (there : Bool) (outcome : Outcome B) → SweepsBy k known r f passes there page d e old new outcome
+        → Led c r f passes d e new i (sweep_events outcome) → IsWork false outcome (sweep_events outcome)
+    sweep_by is true outcome comes led = page_is is outcome comes led
+    sweep_by is false outcome comes led = subst (λ (o : Outcome B). IsWork false o (sweep_events o)) (sym comes.0) (refl, refl)
+
     sweep_is : (failed : Bool) → old.sessions.failed ≡ failed → (outcome : Outcome B) → SweepComes k known r f passes page d e old new failed outcome
         → Led c r f passes d e new i (sweep_events outcome) → IsWork failed outcome (sweep_events outcome)
     sweep_is true is outcome comes led = subst (λ (o : Outcome B). IsWork true o (sweep_events o)) (sym comes.0) (refl, refl)
-    sweep_is false is More comes led = (refl, refl)
-    sweep_is false is Nothing comes led = (refl, refl)
-    sweep_is false is (Help n) comes led = (refl, refl)
-    sweep_is false is (Refused why) comes led = sweep_failed is _ why comes led
-    sweep_is false is (Replied given) comes led = absurd comes
+    sweep_is false is outcome comes led = sweep_by is (is_page page old) outcome comes led
 
   pub sweep_steps : (k : Keys B) (known : Limits → Known (Entry B) (Page B)) (page : ℕ) (outcome : Outcome B) → SweepComes k known r f passes page d e old new old.sessions.failed outcome
       → Leads c r f passes d e old new (sweep_events outcome) → Steps c r f passes d e (Sweep page) old new outcome

@@ -32,23 +32,23 @@ use Rattle.gx_engine.specs.Holds.{Holds}
 use Rattle.gx_engine.specs.Moves.{Moves}
 use Rattle.gx_engine.specs.Refusals.{IsRefused, StampsStay}
 use Rattle.gx_engine.specs.States.{Parts, is_due}
-use Rattle.gx_engine.specs.Writing.{WriteComes, write_events}
+use Rattle.gx_engine.specs.Writing.{WriteBy, write_events}
 use Rattle.gx_engine.proofs.Brought.{as_brought, by_refusal}
 use Rattle.gx_engine.proofs.Ending.{always_early}
 use Rattle.gx_engine.proofs.Looking.{fails, waits}
 use Rattle.gx_engine.proofs.Serving.{StaysSettled, of_reads}
 
 -- What it comes to.
-module _ {B D : Type 0} (k : Keys B) (f : Format B) (passes : ℕ → Contents → Bool) (state : D → Device) (old : Parts B D) (s : ℕ) (entry : Entry B) (w : Volume D)
+module _ {B D : Type 0} (Asks : ℕ → Type 0) (Lacks : Type 0) (k : Keys B) (passes : ℕ → Contents → Bool) (state : D → Device) (old : Parts B D) (s : ℕ) (entry : Entry B) (w : Volume D)
     (most : w.most ≡ old.volume.most) (same_log : w.log ≡ old.volume.log) where
   abbrev Comes : Parts B D → Outcome B → Type 0
-  Comes new o = WriteComes k f passes (state old.volume.shelf.disk) (state new.volume.shelf.disk) s (Insert entry) old new o
+  Comes new o = WriteBy Asks Lacks k passes (state old.volume.shelf.disk) (state new.volume.shelf.disk) s (Insert entry) old new o
 
-  pub stopped_comes : is_due old ≡ false → StampsStay old.volume.shelf w.shelf → (size : ℕ) → size ≤ 12314 → (n : StoreFault) → faults.IsWhy passes (state old.volume.shelf.disk) (state w.shelf.disk) (begun old.volume size) w.shelf n
+  pub stopped_comes : is_due old ≡ false → StampsStay old.volume.shelf w.shelf → (size : ℕ) → Asks size → size ≤ 12314 → (n : StoreFault) → faults.IsWhy passes (state old.volume.shelf.disk) (state w.shelf.disk) (begun old.volume size) w.shelf n
       → (new : Parts B D) (o : Outcome B) → IsRefused n (record old { volume = w }) new o → Comes new o
-  stopped_comes early stay size small n why new o is =
+  stopped_comes early stay size asks small n why new o is =
       by_refusal (λ x. Replied (RefusedCall x)) (record old { volume = w }) new o Comes n is
-      (λ can found helps. (inr (size, small, (record { fault = n; can = can; why = why; help = found; helps = helps; is = refl; stamps = stay }, always_early n (is_due old) early)), as_brought old w old.sessions same_log most))
+      (λ can found helps. ((size, asks, small, inr (record { fault = n; can = can; why = why; help = found; helps = helps; is = refl; stamps = stay }, always_early n (is_due old) early)), as_brought old w old.sessions same_log most))
       (λ device. (
         subst (λ (x : StoreFault). faults.IsWhy passes (state old.volume.shelf.disk) (state w.shelf.disk) (begun old.volume size) w.shelf x) device why,
         as_brought old w (failed_state old.sessions) same_log most,

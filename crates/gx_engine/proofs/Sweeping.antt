@@ -53,7 +53,7 @@ use Rattle.gx_engine.specs.Holds.{Holds, Led, Leads, Sits}
 use Rattle.gx_engine.specs.Noted.{AreTold}
 use Rattle.gx_engine.specs.Refusals.{IsTurnedAway, StampsStay}
 use Rattle.gx_engine.specs.States.{Parts, is_due, runs}
-use Rattle.gx_engine.specs.Sweeping.{SweepComes, is_held, node_shown, takes_any}
+use Rattle.gx_engine.specs.Sweeping.{SweepsPage, is_held, node_shown, takes_any}
 use Rattle.gx_engine.specs.Writing.{brought}
 use Rattle.gx_engine.proofs.Brought.{as_brought, begun_on, by_refusal, help_later, logged_later}
 use Rattle.gx_engine.proofs.Claimed.{claimed_alike}
@@ -90,7 +90,7 @@ module _ {B D : Type 0} (k : Keys B) (known : Limits → Known (Entry B) (Page B
       ap (λ (n : ℕ). (nat_lt 0 page && nat_le page n) && has_removable (is_held k old) (node_shown f m page mid)) same_used
       ∙ ap (λ (s : Store B). (nat_lt 0 page && nat_le page old.volume.shelf.used) && has_removable (is_held k old) ((tree_of s).node page)) (same_store steady)
 
-  then_comes : (new : Parts B D) (outcome : Outcome B) → SweepComes k known r f passes page m e mid new false outcome → SweepComes k known r f passes page d e old new false outcome
+  then_comes : (new : Parts B D) (outcome : Outcome B) → SweepsPage k known r f passes page m e mid new outcome → SweepsPage k known r f passes page d e old new outcome
   then_comes new More is = record {
     early = is.early;
     logged = logged_later known r f passes 4114 d m e old.volume t new.volume (page_given page e.seen new.volume.shelf) first is.logged;
@@ -126,12 +126,12 @@ module _ {B D : Type 0} (k : Keys B) (known : Limits → Known (Entry B) (Page B
 pub sweep_then : {B D : Type 0} (k : Keys B) (known : Limits → Known (Entry B) (Page B)) (r : Reading (Entry B) (Page B)) (f : Format B) (passes : ℕ → Contents → Bool) (page : ℕ) (d m e : Device) (old mid : Parts B D)
     → mid ≡ brought old mid → IsUnlogged known r f passes (bringing old.volume) d m old.volume mid.volume
     → Stays (IsSteady d old.volume.shelf.frames) (store_of f d.seen old.volume.shelf) (store_of f m.seen mid.volume.shelf) → (new : Parts B D) (outcome : Outcome B)
-    → SweepComes k known r f passes page m e mid new false outcome → SweepComes k known r f passes page d e old new false outcome
+    → SweepsPage k known r f passes page m e mid new outcome → SweepsPage k known r f passes page d e old new outcome
 sweep_then {B} {D} k known r f passes page d m e old mid same first stays new outcome is =
     subst
     (λ (x : Parts B D). IsUnlogged known r f passes (bringing old.volume) d m old.volume x.volume
     → Stays (IsSteady d old.volume.shelf.frames) (store_of f d.seen old.volume.shelf) (store_of f m.seen x.volume.shelf)
-    → SweepComes k known r f passes page m e x new false outcome → SweepComes k known r f passes page d e old new false outcome)
+    → SweepsPage k known r f passes page m e x new outcome → SweepsPage k known r f passes page d e old new outcome)
     (sym same) (λ first stays is. then_comes k known r f passes page d m e old mid.volume.shelf first stays new outcome is) first stays is
 
 -- something was logged, or nothing
@@ -228,14 +228,14 @@ pub turned_comes : {B D : Type 0} (k : Keys B) (known : Limits → Known (Entry 
     → has_removable (is_held k old) (node_shown f (state old.volume.shelf.disk) page old) ≡ true → is_due old ≡ false
     → StampsStay old.volume.shelf w.shelf
     → (n : StoreFault) → faults.IsWhy passes (state old.volume.shelf.disk) (state w.shelf.disk) (begun old.volume 4114) w.shelf n → (new : Parts B D) (o : Outcome B)
-    → IsTurnedAway n (record old { volume = w }) new o → SweepComes k known r f passes page (state old.volume.shelf.disk) (state new.volume.shelf.disk) old new false o
+    → IsTurnedAway n (record old { volume = w }) new o → SweepsPage k known r f passes page (state old.volume.shelf.disk) (state new.volume.shelf.disk) old new o
 turned_comes {B} {D} k known r f passes page state old w most log low high some early stay n why new o is =
     let d = state old.volume.shelf.disk in
     let taken : (nat_lt 0 page && nat_le page old.volume.shelf.used) ≡ true =
     and_all (nat_lt 0 page) (nat_le page old.volume.shelf.used) (lt-ltb 0 page low) (le-leb page old.volume.shelf.used high) in
     let takes : takes_any k f d page old ≡ true =
     and_all (nat_lt 0 page && nat_le page old.volume.shelf.used) (has_removable (is_held k old) (node_shown f d page old)) taken some in
-    by_refusal Refused (record old { volume = w }) new o (λ x y. SweepComes k known r f passes page d (state x.volume.shelf.disk) old x false y) n is
+    by_refusal Refused (record old { volume = w }) new o (λ x y. SweepsPage k known r f passes page d (state x.volume.shelf.disk) old x y) n is
     (λ can found helps. (
       inr ((λ steady. takes), inr (early, record { fault = n; can = can; why = why; help = found; helps = helps; is = refl; stamps = stay })),
       as_brought old w old.sessions log most,

@@ -185,13 +185,13 @@ module _ {B D : Type 0} where
       why_helped s old new n
       (helped passes d e old new n (begun old.volume size) (λ f. IsEarly f (is_due old)) h.fault h.help (λ is none. fills old size small is none) h.can h.why early h.helps h.is)
 
-  why_delayed : (passes : ℕ → Contents → Bool) (d e : Device) (s : ℕ) (old new : Parts B D) (n : Need) → IsDelayed passes d e old new n → Why s old new n
-  why_delayed passes d e s old new n (inl due) = inl (due.0, due.1)
-  why_delayed passes d e s old new n (inr (size, small, h)) = why_begun passes d e s old new n size (omega (arith, small)) h.0 h.1
+  why_delayed : (Asks : ℕ → Type 0) (passes : ℕ → Contents → Bool) (d e : Device) (s : ℕ) (old new : Parts B D) (n : Need) → IsDelayed Asks passes d e old new n → Why s old new n
+  why_delayed Asks passes d e s old new n (size, asks, small, inl due) = inl (due.0, due.1)
+  why_delayed Asks passes d e s old new n (size, asks, small, inr h) = why_begun passes d e s old new n size (omega (arith, small)) h.0 h.1
 
-  delayed_stamps : (passes : ℕ → Contents → Bool) (d e : Device) (old new : Parts B D) (n : Need) → IsDelayed passes d e old new n → StampsStay old.volume.shelf new.volume.shelf
-  delayed_stamps passes d e old new n (inl due) = due.2
-  delayed_stamps passes d e old new n (inr (size, small, h)) = h.0.stamps
+  delayed_stamps : (Asks : ℕ → Type 0) (passes : ℕ → Contents → Bool) (d e : Device) (old new : Parts B D) (n : Need) → IsDelayed Asks passes d e old new n → StampsStay old.volume.shelf new.volume.shelf
+  delayed_stamps Asks passes d e old new n (size, asks, small, inl due) = due.3
+  delayed_stamps Asks passes d e old new n (size, asks, small, inr h) = h.0.stamps
 
   no_turn : (c : Checkpoint) (e : Parts B D) → runs c ≡ false → StandsIn c e.volume → 1 ≤ turning e.volume.log.turn → ⊥
   no_turn Off e off stands turns = let none = ap turning stands in omega (arith, none, turns)
@@ -254,8 +254,8 @@ module _ {B : Type 0} (k : Keys B) (known : Limits → Known (Entry B) (Page B))
   call_waits : (s : ℕ) (old new : Parts B D) (n : Need) (call : Call B) → StandsIn old.checkpoint old.volume
       → CallMoves k known r f passes IsKey spells key d e s old new call (Help n) → Waits s old new n
   call_waits s old new n Begin stands comes = let names = comes.0 in let no : ⊥ = cc in absurd no
-  call_waits s old new n (Insert entry) stands comes = brings s old new n comes.1 (delayed_stamps passes d e old new n comes.0) (why_delayed passes d e s old new n comes.0)
-  call_waits s old new n (Delete entry) stands comes = brings s old new n comes.1 (delayed_stamps passes d e old new n comes.0) (why_delayed passes d e s old new n comes.0)
+  call_waits s old new n (Insert entry) stands comes = brings s old new n comes.1 (delayed_stamps _ passes d e old new n comes.0) (why_delayed _ passes d e s old new n comes.0)
+  call_waits s old new n (Delete entry) stands comes = brings s old new n comes.1 (delayed_stamps _ passes d e old new n comes.0) (why_delayed _ passes d e s old new n comes.0)
   call_waits s old new n (Search query) stands comes = brings s old new n comes.1 comes.0.stamps (why_brought passes d e s old new n comes.0)
   call_waits s old new n Commit stands comes = seal_waits s old new n stands comes
   call_waits s old new n Abort stands comes = let names = comes.0 in let no : ⊥ = cc in absurd no

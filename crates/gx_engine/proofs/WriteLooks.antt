@@ -64,7 +64,7 @@ use Rattle.gx_engine.specs.Looking.{StopComes, look_events, turned_by, work_befo
 use Rattle.gx_engine.specs.Moves.{Moves, MovesOn, MovesSo, calling}
 use Rattle.gx_engine.specs.Refusals.{CanBeHelped, IsEarly, IsHelp}
 use Rattle.gx_engine.specs.States.{Parts, is_due, runs}
-use Rattle.gx_engine.specs.Writing.{AreWriting, IsAtLook, IsDelayed, OnlyReads, WriteComes, brought, is_looking, write_events}
+use Rattle.gx_engine.specs.Writing.{AreWriting, AsksAt, AsksRoom, IsAtLook, IsDelayed, OnlyReads, WriteBy, WriteComes, brought, is_looking, write_events}
 use Rattle.gx_engine.proofs.Looking.{answered_again, answers, as_it_stays, at_work, goes_on, held, looks_at, may_have_found, moves_on, phase_again, put_kept, slot_now}
 use Rattle.gx_engine.proofs.Reading.{its_phase, read_at_hand, settled, stays, step_here, look_wants, was_kept}
 use Rattle.gx_engine.proofs.Serving.{same_device}
@@ -119,10 +119,19 @@ at_look k e kept s is call rest at begun look =
     record { work = work_before begun look; at = at_work k e kept s is call rest at (work_before begun look); looks = looks_before begun look }
 
 -- What stops as any call's look is a write's.
-module _ {B D : Type 0} (k : Keys B) (f : Format B) (passes : ℕ → Contents → Bool) (d e : Device) (s : ℕ) (call : Call B) (old new : Parts B D) where
+module _ {B D : Type 0} (k : Keys B) (f : Format B) (passes : ℕ → Contents → Bool) (key : ℕ) (d e : Device) (s : ℕ) (call : Call B) (old new : Parts B D) where
   -- what helps a look asks for no room in the log
-  help_delays : (n : Need) → IsHelp passes d e (runs old.checkpoint) (bringing old.volume) new.volume.shelf n → IsDelayed passes d e old new n
-  help_delays n help = inr (0, omega arith, by help.fault refl)
+  -- it asks for none
+  looks_asks : (work : Work B) → is_looking work ≡ true → AsksAt f key d old work 0
+  looks_asks Rests looks = refl
+  looks_asks (Looks look) looks = refl
+  looks_asks (Descends parent item) looks = absurd (let both : true ≡ false = sym looks in cc)
+  looks_asks (Seeks leaf) looks = absurd (let both : true ≡ false = sym looks in cc)
+
+  help_delays : IsAtLook s call old → (n : Need) → IsHelp passes d e (runs old.checkpoint) (bringing old.volume) new.volume.shelf n
+      → IsDelayed (AsksRoom f key d s call old) passes d e old new n
+  help_delays looks n help =
+      (0, record { work = looks.work; at = looks.at; asks = looks_asks looks.work looks.looks }, omega arith, inr (by help.fault refl))
     where
       why_is : (x : StoreFault) → help.fault ≡ x → IsWhy passes d e (bringing old.volume) new.volume.shelf x
       why_is x is = subst (λ (y : StoreFault). IsWhy passes d e (bringing old.volume) new.volume.shelf y) is help.why
@@ -145,7 +154,7 @@ module _ {B D : Type 0} (k : Keys B) (f : Format B) (passes : ℕ → Contents �
       by fault.Damaged is = absurd (subst (λ (x : StoreFault). CanBeHelped x) is help.can)
 
   stop_refused : (why : Refusal) → IsAtLook s call old → StopComes passes d e s old new (Replied (reply.Refused why))
-      → WriteComes k f passes d e s call old new (Replied (reply.Refused why)) × (write_events s call (Replied (reply.Refused why)) ≡ look_events s call (Replied (reply.Refused why)))
+      → WriteComes k f passes key d e s call old new (Replied (reply.Refused why)) × (write_events s call (Replied (reply.Refused why)) ≡ look_events s call (Replied (reply.Refused why)))
   stop_refused refusal.Memory looks comes = ((looks, comes), memory_told s call)
   stop_refused refusal.Device looks comes = (comes, device_told s call)
   stop_refused refusal.Damaged looks comes = (comes, damaged_told s call)
@@ -153,9 +162,9 @@ module _ {B D : Type 0} (k : Keys B) (f : Format B) (passes : ℕ → Contents �
 
   -- an outcome by which a look stops is a write's, and so are its events
   pub stop_write : IsAtLook s call old → (outcome : Outcome B) → StopComes passes d e s old new outcome
-      → WriteComes k f passes d e s call old new outcome × (write_events s call outcome ≡ look_events s call outcome)
+      → WriteComes k f passes key d e s call old new outcome × (write_events s call outcome ≡ look_events s call outcome)
   stop_write looks (Replied (reply.Refused why)) comes = stop_refused why looks comes
-  stop_write looks (Help n) comes = ((help_delays n comes.0, comes.1), help_told s call n)
+  stop_write looks (Help n) comes = ((help_delays looks n comes.0, comes.1), help_told s call n)
   stop_write looks other comes = absurd comes
 
 -- only pages were brought by a look that stops
@@ -171,9 +180,9 @@ stop_reads passes d e s old new (Help n) comes = reads_of old new _ comes.1 refl
 stop_reads passes d e s old new other comes = absurd comes
 
 -- an insert whose look ended in the move, and that descends
-pub descends_comes : {B D : Type 0} (k : Keys B) (f : Format B) (passes : ℕ → Contents → Bool) (d e : Device) (s : ℕ) (call : Call B) (work : Work B) (old mid new : Parts B D) → mid ≡ calling s call Rests (brought old mid)
-    → new ≡ calling s call work mid → WriteComes k f passes d e s call old new More × OnlyReads old new
-descends_comes {B} {D} k f passes d e s call work old mid new rest is =
+pub descends_comes : {B D : Type 0} (Asks : ℕ → Type 0) (Lacks : Type 0) (k : Keys B) (passes : ℕ → Contents → Bool) (d e : Device) (s : ℕ) (call : Call B) (work : Work B) (old mid new : Parts B D) → mid ≡ calling s call Rests (brought old mid)
+    → new ≡ calling s call work mid → WriteBy Asks Lacks k passes d e s call old new More × OnlyReads old new
+descends_comes {B} {D} Asks Lacks k passes d e s call work old mid new rest is =
     let known : new ≡ calling s call work (brought old mid) = worked_so s call work old mid new rest is in
     ((work, known ∙ sym (ap (λ (x : Parts B D). calling s call work (record old { volume = x.volume })) known), ap (λ (x : Parts B D). x.volume.most) known), reads_of old new _ known refl)
 

@@ -41,8 +41,8 @@ module _ {B : Type 0} (k : Keys B) (known : Limits → Known (Entry B) (Page B))
   -- A move of a call that is open. An ask leaves no Begin open, and no Abort.
   abbrev pub CallMoves : {D : Type 0} → Device → Device → ℕ → Parts B D → Parts B D → Call B → Outcome B → Type 0
   CallMoves d e s old new Begin outcome = IsOnly (Refused NoCall) old new outcome
-  CallMoves d e s old new (Insert entry) outcome = WriteComes k f passes d e s (Insert entry) old new outcome
-  CallMoves d e s old new (Delete entry) outcome = WriteComes k f passes d e s (Delete entry) old new outcome
+  CallMoves d e s old new (Insert entry) outcome = WriteComes k f passes key d e s (Insert entry) old new outcome
+  CallMoves d e s old new (Delete entry) outcome = WriteComes k f passes key d e s (Delete entry) old new outcome
   CallMoves d e s old new (Search query) outcome = SearchComes passes d e s query old new outcome
   CallMoves d e s old new Commit outcome = SealComes s old new outcome
   CallMoves d e s old new Abort outcome = IsOnly (Refused NoCall) old new outcome

@@ -9,6 +9,7 @@ use Rattle.gx_readings.specs.Classes.{class_of, reading_of}
 use Rattle.gx_storage.specs.Changes.{known_at}
 use Rattle.gx_events.specs.declared.event.Event.{Event}
 use Rattle.gx_events.specs.declared.outcome.Outcome.{Outcome}
+use Rattle.gx_engine.specs.Calls.{MakesCalls}
 use Rattle.gx_engine.specs.Comes.{StepComes}
 use Rattle.gx_engine.specs.States.{IsOrderly, Parts}
 use Rattle.gx_engine.specs.Stepping.{Steps}
@@ -21,6 +22,7 @@ pub record Makes {C B D : Type 0} (shape : Members B) (proper : B → Bool) (sai
       class.spelling class.KEY (state old.volume.shelf.disk) (state new.volume.shelf.disk) event old new outcome
   pub steps : (l : Limits) → Steps (class_of shape proper l) (reading_of said (format_of class)) (format_of class) (is_node (format_of class))
       (state old.volume.shelf.disk) (state new.volume.shelf.disk) event old new outcome
+  pub calls : MakesCalls state event old new
   pub order : IsOrderly old × IsOrderly new
 
 -- from old, these events with their outcomes lead to new

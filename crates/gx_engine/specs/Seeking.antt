@@ -8,10 +8,11 @@ use Rattle.gx_machine.specs.declared.call.Call.TheVariants.{Delete, Insert}
 use Rattle.gx_machine.specs.declared.entry.Entry.{Entry}
 use Rattle.gx_machine.specs.declared.reply.Reply.{Reply}
 use Rattle.gx_machine.specs.declared.reply.Reply.TheVariants.{Deleted, Inserted, Refused as RefusedCall}
-use Rattle.gx_machine.specs.Keys.{Keys}
+use Rattle.gx_machine.specs.Keys.{Keys, Members, keys_of}
 use Rattle.gx_disk.specs.Device.{Device}
 use Rattle.gx_page.specs.Contents.{Contents}
-use Rattle.gx_node.specs.Reading.{Format}
+use Rattle.gx_node.specs.Reading.{Format, format_of, is_node}
+use Rattle.gx_class.specs.declared.class.KeyClass.{Ghosts}
 use Rattle.gx_tree_laws.specs.Trees.{Pair, Used}
 use Rattle.gx_node.specs.declared.fault.StepFault.{StepFault}
 use Rattle.gx_node.specs.declared.fault.StepFault.TheVariants as step
@@ -38,7 +39,7 @@ use Rattle.gx_engine.specs.declared.work.Work.TheVariants.{Seeks}
 use Rattle.gx_engine.specs.Moves.{calling}
 use Rattle.gx_engine.specs.Refusals.{IsEarly, IsHelp, StampsStay}
 use Rattle.gx_engine.specs.States.{Parts, is_due, runs}
-use Rattle.gx_engine.specs.Writing.{brought}
+use Rattle.gx_engine.specs.Writing.{brought, split_record, write_record}
 
 -- the call that writes an entry, by the mark that it gives the pair: a delete sets it, and an insert clears it
 abbrev pub write_call : {B : Type 0} → Bool → Entry B → Call B
@@ -84,12 +85,14 @@ module _ {B : Type 0} (f : Format B) (IsKey : B → Type 0) (k : Keys B) where
     pub memory : fault ≢ step.Memory
     pub full : fault ≢ step.PagesFull
 
+-- What such a move comes to, of a class whose keys are spelled in so many bytes.
+module _ {B : Type 0} (f : Format B) (IsKey : B → Type 0) (k : Keys B) (key : ℕ) where
   -- Another event has to come first: a checkpoint, since one is due, and the pair stands in the leaf with the other mark; or what makes
-  -- room in the log, for a record of at most three images, where none is due, or among the frames. No page got a change.
+  -- room in the log, for the record of a mark that is set, where none is due, or among the frames. No page got a change.
   abbrev pub IsPutOff : {D : Type 0} → (ℕ → Contents → Bool) → Device → Device → Entry B → ℕ → Bool → Parts B D → Parts B D → Need → Type 0
   IsPutOff passes d e entry leaf marked old new n =
-      ((n ≡ need.Checkpoint) × (is_due old ≡ true) × StampsStay old.volume.shelf new.volume.shelf × ((slot : ℕ) × IsSought e new.volume entry leaf (Here slot (not marked))))
-      ⊎ ((size : ℕ) × (size ≤ 12314) × ((help : IsHelp passes d e (runs old.checkpoint) (begun old.volume size) new.volume.shelf n) × IsEarly help.fault (is_due old)))
+      ((n ≡ need.Checkpoint) × (is_due old ≡ true) × StampsStay old.volume.shelf new.volume.shelf × ((slot : ℕ) × IsSought f IsKey k e new.volume entry leaf (Here slot (not marked))))
+      ⊎ ((size : ℕ) × ((size ≡ 0) ⊎ (size ≡ write_record key)) × (size ≤ split_record) × ((help : IsHelp passes d e (runs old.checkpoint) (begun old.volume size) new.volume.shelf n) × IsEarly help.fault (is_due old)))
 
   -- The pair is sought further to the right, and nothing is logged; or its mark was set, and the write is noted; or it has the mark
   -- already, and nothing is logged; or the engine has failed; or another event has to come first, and the call is at what it was.
@@ -98,10 +101,16 @@ module _ {B : Type 0} (f : Format B) (IsKey : B → Type 0) (k : Keys B) where
   SeekComes passes d e s entry leaf marked old new (Replied Inserted) = (marked ≡ false) × IsNoted k s entry leaf old new
   SeekComes passes d e s entry leaf marked old new (Replied Deleted) = (marked ≡ true) × IsNoted k s entry leaf old new
   SeekComes passes d e s entry leaf marked old new (Replied (RefusedCall Present)) =
-      (marked ≡ false) × (new ≡ record (brought old new) { sessions = answered_state s old.sessions }) × ((slot : ℕ) × IsSought e new.volume entry leaf (Here slot false))
+      (marked ≡ false) × (new ≡ record (brought old new) { sessions = answered_state s old.sessions }) × ((slot : ℕ) × IsSought f IsKey k e new.volume entry leaf (Here slot false))
   SeekComes passes d e s entry leaf marked old new (Replied (RefusedCall Absent)) =
-      (marked ≡ true) × (new ≡ record (brought old new) { sessions = answered_state s old.sessions }) × ((slot : ℕ) × IsSought e new.volume entry leaf (Here slot true))
+      (marked ≡ true) × (new ≡ record (brought old new) { sessions = answered_state s old.sessions }) × ((slot : ℕ) × IsSought f IsKey k e new.volume entry leaf (Here slot true))
   SeekComes passes d e s entry leaf marked old new (Replied (RefusedCall DeviceRefusal)) = (d.faults < e.faults) × (new ≡ record (brought old new) { sessions = failed_state old.sessions })
   SeekComes passes d e s entry leaf marked old new (Replied (RefusedCall DamagedRefusal)) = new ≡ record (brought old new) { sessions = failed_state old.sessions }
   SeekComes passes d e s entry leaf marked old new (Help n) = IsPutOff passes d e entry leaf marked old new n × (new ≡ brought old new)
   SeekComes passes d e s entry leaf marked old new other = ⊥
+
+-- the same over a class of keys, and devices that are seen so
+abbrev pub SeeksAs : {C B D : Type 0} → Members B → Ghosts C B → (D → Device) → ℕ → Entry B → ℕ → Bool → Parts B D → Parts B D → Outcome B → Type 0
+SeeksAs shape class state s entry leaf marked old new outcome =
+    SeekComes (format_of class) class.is_key (keys_of shape) class.KEY (is_node (format_of class)) (state old.volume.shelf.disk) (state new.volume.shelf.disk)
+    s entry leaf marked old new outcome

@@ -62,9 +62,13 @@ node_shown f d page e = (tree_of (store_of f d.seen e.volume.shelf)).node page
 abbrev pub is_held : {B D : Type 0} → Keys B → Parts B D → Entry B → Bool
 is_held k e entry = claimed_in k entry e.sessions.table
 
--- whether a sweep takes anything: the page is taken, and is a leaf that has a marked pair that no session claims
+-- whether a page is in use
+abbrev pub is_page : {B D : Type 0} → ℕ → Parts B D → Bool
+is_page page e = nat_lt 0 page && nat_le page e.volume.shelf.used
+
+-- whether a sweep takes anything: the page is in use, and is a leaf that has a marked pair that no session claims
 abbrev pub takes_any : {B D : Type 0} → Keys B → Format B → Device → ℕ → Parts B D → Bool
-takes_any k f d page e = (nat_lt 0 page && nat_le page e.volume.shelf.used) && has_removable (is_held k e) (node_shown f d page e)
+takes_any k f d page e = is_page page e && has_removable (is_held k e) (node_shown f d page e)
 
 module _ {B : Type 0} (k : Keys B) (known : Limits → Known (Entry B) (Page B)) (r : Reading (Entry B) (Page B)) (f : Format B) (passes : ℕ → Contents → Bool) where
   -- The leaf's marked pairs that no session claims are gone, and the record of its page is logged.
@@ -82,13 +86,22 @@ module _ {B : Type 0} (k : Keys B) (known : Limits → Known (Entry B) (Page B))
       ⊎ ((IsSteady d old.volume.shelf.frames → takes_any k f d page old ≡ true)
       × (((n ≡ need.Checkpoint) × (is_due old ≡ true)) ⊎ ((is_due old ≡ false) × IsHelp passes d e (runs old.checkpoint) (begun old.volume 4114) new.volume.shelf n)))
 
-  -- Something was taken; or there was nothing to take; or it waits; or the engine has failed: the device failed, or it lies, or had no
+  -- What the sweep of a page in use comes to. Something was taken; or there was nothing to take; or it waits; or the engine has failed: the device failed, or it lies, or had no
   -- right page there, or one with more pairs than fit. But for what was taken pages may have been brought, and nothing else has changed.
+  abbrev pub SweepsPage : {D : Type 0} → ℕ → Device → Device → Parts B D → Parts B D → Outcome B → Type 0
+  SweepsPage page d e old new More = IsSwept page d e old new
+  SweepsPage page d e old new Nothing = (IsSteady d old.volume.shelf.frames → takes_any k f d page old ≡ false) × (new ≡ brought old new)
+  SweepsPage page d e old new (Help n) = SweepWaits page d e old new n × (new ≡ brought old new)
+  SweepsPage page d e old new (Refused why) =
+      HasFailed (IsSteady d old.volume.shelf.frames → CanBeRead passes d old.volume.shelf → MAX_ENTRIES < length (node_shown f d page old).pairs) d e old new why
+  SweepsPage page d e old new other = ⊥
+
+  -- by whether the page is in use: of one that isn't there is nothing to do, and no page was brought
+  abbrev pub SweepsBy : {D : Type 0} → Bool → ℕ → Device → Device → Parts B D → Parts B D → Outcome B → Type 0
+  SweepsBy true page d e old new outcome = SweepsPage page d e old new outcome
+  SweepsBy false page d e old new outcome = (outcome ≡ Nothing) × (new ≡ old)
+
+  -- by whether a fault has ended the engine
   abbrev pub SweepComes : {D : Type 0} → ℕ → Device → Device → Parts B D → Parts B D → Bool → Outcome B → Type 0
   SweepComes page d e old new true outcome = IsEnded old new outcome
-  SweepComes page d e old new false More = IsSwept page d e old new
-  SweepComes page d e old new false Nothing = (IsSteady d old.volume.shelf.frames → takes_any k f d page old ≡ false) × (new ≡ brought old new)
-  SweepComes page d e old new false (Help n) = SweepWaits page d e old new n × (new ≡ brought old new)
-  SweepComes page d e old new false (Refused why) =
-      HasFailed (IsSteady d old.volume.shelf.frames → CanBeRead passes d old.volume.shelf → MAX_ENTRIES < length (node_shown f d page old).pairs) d e old new why
-  SweepComes page d e old new false other = ⊥
+  SweepComes page d e old new false outcome = SweepsBy (is_page page old) page d e old new outcome

@@ -1,5 +1,5 @@
 -- What a move of an insert or a delete comes to.
-use Rattle.std.specs.Prelude.{ℕ, ◌≡◌, ◌≤◌, ◌<◌, ◌+◌, ◌-◌, ◌==◌, ◌⊎◌, Bool, true, false, if◌then◌else◌, List, [], ◌∷◌}
+use Rattle.std.specs.Prelude.{ℕ, ◌≡◌, ◌≤◌, ◌<◌, ◌+◌, ◌-◌, ◌==◌, ◌⊎◌, Bool, true, false, if◌then◌else◌, List, [], ◌∷◌, length}
 use Rattle.gx_class.specs.declared.class.KeyClass.{Ghosts}
 use Rattle.gx_geom.specs.declared.refusal.Refusal.TheVariants.{Absent, Damaged as DamagedRefusal, Device as DeviceRefusal, Memory, PagesFull, Present}
 use Rattle.gx_machine.specs.declared.call.Call.{Call}
@@ -44,12 +44,24 @@ only_read old new = record (brought old new) { sessions = record old.sessions { 
 abbrev pub OnlyReads : {B D : Type 0} → Parts B D → Parts B D → Type 0
 OnlyReads old new = new ≡ only_read old new
 
--- Another event has to come first: a checkpoint, since one is due; or what makes room in the log, for a record of at most three
--- images, where none is due, or among the frames. No page got a change.
-abbrev pub IsDelayed : {B D : Type 0} → (ℕ → Contents → Bool) → Device → Device → Parts B D → Parts B D → Need → Type 0
-IsDelayed passes d e old new n =
-    ((n ≡ need.Checkpoint) × (is_due old ≡ true) × StampsStay old.volume.shelf new.volume.shelf)
-    ⊎ ((size : ℕ) × (size ≤ 12314) × ((help : IsHelp passes d e (runs old.checkpoint) (begun old.volume size) new.volume.shelf n) × IsEarly help.fault (is_due old)))
+-- The sizes of records, in bytes, for which moves ask room: a changed page's; a transaction's write of an entry, whose key is spelled
+-- in so many; and a split's.
+abbrev pub page_record : ℕ
+page_record = 4114
+
+abbrev pub write_record : ℕ → ℕ
+write_record key = key + 4119
+
+abbrev pub split_record : ℕ
+split_record = 12314
+
+-- Another event has to come first, for a record of one of these sizes: a checkpoint, since one is due; or what makes room for it in the
+-- log, where none is due, or among the frames. No page got a change.
+abbrev pub IsDelayed : {B D : Type 0} → (ℕ → Type 0) → (ℕ → Contents → Bool) → Device → Device → Parts B D → Parts B D → Need → Type 0
+IsDelayed Asks passes d e old new n =
+    (size : ℕ) × Asks size × (size ≤ split_record)
+    × (((n ≡ need.Checkpoint) × (is_due old ≡ true) × (1 ≤ size) × StampsStay old.volume.shelf new.volume.shelf)
+    ⊎ ((help : IsHelp passes d e (runs old.checkpoint) (begun old.volume size) new.volume.shelf n) × IsEarly help.fault (is_due old)))
 
 -- a call's work is a look, or has yet to begin with one
 abbrev pub is_looking : {B : Type 0} → Work B → Bool
@@ -77,6 +89,26 @@ abbrev pub IsFull : {B D : Type 0} → Format B → Device → Parts B D → ℕ
 IsFull f d e page =
     IsSteady d e.volume.shelf.frames → e.volume.most ≤ size ((tree_of (store_of f d.seen e.volume.shelf)).node page)
 
+-- the page has a leaf with room for a pair
+abbrev pub HasPlace : {B D : Type 0} → Format B → Device → Parts B D → ℕ → Type 0
+HasPlace f d e page =
+    IsSteady d e.volume.shelf.frames → (((tree_of (store_of f d.seen e.volume.shelf)).node page).level ≡ 0)
+    × (length ((tree_of (store_of f d.seen e.volume.shelf)).node page).pairs < e.volume.most)
+
+-- The room for which a write's move may ask, by its work: a look asks for none; a seek for that of a mark that is set; and a descent for
+-- that of a page's change, of a pair that is added to a leaf with room, or of the split of a full node.
+abbrev pub AsksAt : {B D : Type 0} → Format B → ℕ → Device → Parts B D → Work B → ℕ → Type 0
+AsksAt f key d e Rests size = size ≡ 0
+AsksAt f key d e (Looks look) size = size ≡ 0
+AsksAt f key d e (Seeks leaf) size = (size ≡ 0) ⊎ (size ≡ write_record key)
+AsksAt f key d e (Descends parent item) size =
+    (size ≡ page_record) ⊎ (((size ≡ write_record key) × HasPlace f d e item.page) ⊎ ((size ≡ split_record) × IsFull f d e item.page))
+
+pub record AsksRoom {B D : Type 0} (f : Format B) (key : ℕ) (d : Device) (s : ℕ) (call : Call B) (e : Parts B D) (size : ℕ) : Type 0 where
+  pub work : Work B
+  pub at : phase_at (s - 1) e.sessions.phases ≡ phase.Open call work
+  pub asks : AsksAt f key d e work size
+
 -- A session's insert has descended to a full node, whose split takes more pages than are left.
 pub record LacksPages {B D : Type 0} (f : Format B) (d : Device) (s : ℕ) (call : Call B) (e : Parts B D) : Type 0 where
   pub entry : Entry B
@@ -87,44 +119,57 @@ pub record LacksPages {B D : Type 0} (f : Format B) (d : Device) (s : ℕ) (call
   pub full : IsFull f d e item.page
   pub few : LeftFew d e item.page
 
--- The call goes on with other work; or its pair is written and noted; or an insert's stands live, or a delete's nowhere live, and the
+-- What a write's move comes to, by the sizes of records for which it may ask room, and by what is so where it is refused for want of
+-- pages. The call goes on with other work; or its pair is written and noted; or an insert's stands live, or a delete's nowhere live, and the
 -- call is closed; or it is closed for want of memory in its look, or of pages for a split; or the engine has failed; or another event
 -- has to come first, and the call is at what it was.
-abbrev pub WriteComes : {B D : Type 0} → Keys B → Format B → (ℕ → Contents → Bool) → Device → Device → ℕ → Call B → Parts B D → Parts B D → Outcome B → Type 0
-WriteComes {B} k f passes d e s call old new More = (work : Work B) × (new ≡ calling s call work (record old { volume = new.volume })) × (new.volume.most ≡ old.volume.most)
-WriteComes {B} k f passes d e s call old new (Replied Inserted) =
+abbrev pub WriteBy : {B D : Type 0} → (ℕ → Type 0) → Type 0 → Keys B → (ℕ → Contents → Bool) → Device → Device → ℕ → Call B → Parts B D → Parts B D → Outcome B → Type 0
+WriteBy {B} Asks Lacks k passes d e s call old new More = (work : Work B) × (new ≡ calling s call work (record old { volume = new.volume })) × (new.volume.most ≡ old.volume.most)
+WriteBy {B} Asks Lacks k passes d e s call old new (Replied Inserted) =
     (n : Note B) × (call ≡ Insert n.entry) × (new ≡ record old { volume = new.volume; sessions = written_state k s n old.sessions }) × (new.volume.most ≡ old.volume.most)
-WriteComes {B} k f passes d e s call old new (Replied Deleted) =
+WriteBy {B} Asks Lacks k passes d e s call old new (Replied Deleted) =
     (n : Note B) × (call ≡ Delete n.entry) × (new ≡ record old { volume = new.volume; sessions = written_state k s n old.sessions }) × (new.volume.most ≡ old.volume.most)
-WriteComes {B} k f passes d e s call old new (Replied (RefusedCall Present)) =
+WriteBy {B} Asks Lacks k passes d e s call old new (Replied (RefusedCall Present)) =
     (entry : Entry B) × (call ≡ Insert entry) × (new ≡ record (brought old new) { sessions = answered_state s old.sessions })
-WriteComes {B} k f passes d e s call old new (Replied (RefusedCall Absent)) =
+WriteBy {B} Asks Lacks k passes d e s call old new (Replied (RefusedCall Absent)) =
     (entry : Entry B) × (call ≡ Delete entry) × (new ≡ record (brought old new) { sessions = answered_state s old.sessions })
-WriteComes k f passes d e s call old new (Replied (RefusedCall Memory)) =
+WriteBy Asks Lacks k passes d e s call old new (Replied (RefusedCall Memory)) =
     IsAtLook s call old × (new ≡ record (brought old new) { sessions = answered_state s old.sessions })
-WriteComes k f passes d e s call old new (Replied (RefusedCall PagesFull)) =
-    LacksPages f d s call old × (new ≡ record (brought old new) { sessions = answered_state s old.sessions })
-WriteComes k f passes d e s call old new (Replied (RefusedCall DeviceRefusal)) = (d.faults < e.faults) × (new ≡ record (brought old new) { sessions = failed_state old.sessions })
-WriteComes k f passes d e s call old new (Replied (RefusedCall DamagedRefusal)) = new ≡ record (brought old new) { sessions = failed_state old.sessions }
-WriteComes k f passes d e s call old new (Help n) = IsDelayed passes d e old new n × (new ≡ brought old new)
-WriteComes k f passes d e s call old new other = ⊥
+WriteBy Asks Lacks k passes d e s call old new (Replied (RefusedCall PagesFull)) =
+    Lacks × (new ≡ record (brought old new) { sessions = answered_state s old.sessions })
+WriteBy Asks Lacks k passes d e s call old new (Replied (RefusedCall DeviceRefusal)) = (d.faults < e.faults) × (new ≡ record (brought old new) { sessions = failed_state old.sessions })
+WriteBy Asks Lacks k passes d e s call old new (Replied (RefusedCall DamagedRefusal)) = new ≡ record (brought old new) { sessions = failed_state old.sessions }
+WriteBy Asks Lacks k passes d e s call old new (Help n) = IsDelayed Asks passes d e old new n × (new ≡ brought old new)
+WriteBy Asks Lacks k passes d e s call old new other = ⊥
 
--- The same of the split of a page, of which it isn't said that it is full.
-abbrev pub SplitComes : {B D : Type 0} → Keys B → Format B → (ℕ → Contents → Bool) → Device → Device → ℕ → Call B → ℕ → Parts B D → Parts B D → Outcome B → Type 0
-SplitComes k f passes d e s call page old new (Replied (RefusedCall PagesFull)) =
-    LeftFew d old page × (new ≡ record (brought old new) { sessions = answered_state s old.sessions })
-SplitComes k f passes d e s call page old new outcome = WriteComes k f passes d e s call old new outcome
+-- The same of the work at hand.
+abbrev pub WriteComes : {B D : Type 0} → Keys B → Format B → (ℕ → Contents → Bool) → ℕ → Device → Device → ℕ → Call B → Parts B D → Parts B D → Outcome B → Type 0
+WriteComes k f passes key d e s call old new outcome =
+    WriteBy (AsksRoom f key d s call old) (LacksPages f d s call old) k passes d e s call old new outcome
 
--- the two over a class of keys, and devices that are seen so
-abbrev pub WritesAs : {C B D : Type 0} → Members B → Ghosts C B → (D → Device) → ℕ → Call B → Parts B D → Parts B D → Outcome B → Type 0
-WritesAs shape class state s call old new outcome =
-    WriteComes (keys_of shape) (format_of class) (is_node (format_of class)) (state old.volume.shelf.disk) (state new.volume.shelf.disk)
-    s call old new outcome
+-- The same over a class of keys, and devices that are seen so.
+module _ {C B D : Type 0} (shape : Members B) (class : Ghosts C B) (state : D → Device) (s : ℕ) (call : Call B) where
+  abbrev pub ComesBy : (ℕ → Type 0) → (Parts B D → Type 0) → Parts B D → Parts B D → Outcome B → Type 0
+  ComesBy Asks Lacks old new outcome =
+      WriteBy Asks (Lacks old) (keys_of shape) (is_node (format_of class)) (state old.volume.shelf.disk) (state new.volume.shelf.disk) s call old new outcome
 
-abbrev pub SplitsAs : {C B D : Type 0} → Members B → Ghosts C B → (D → Device) → ℕ → Call B → ℕ → Parts B D → Parts B D → Outcome B → Type 0
-SplitsAs shape class state s call page old new outcome =
-    SplitComes (keys_of shape) (format_of class) (is_node (format_of class)) (state old.volume.shelf.disk) (state new.volume.shelf.disk)
-    s call page old new outcome
+  abbrev pub WritesAs : Parts B D → Parts B D → Outcome B → Type 0
+  WritesAs old new outcome =
+      WriteComes (keys_of shape) (format_of class) (is_node (format_of class)) class.KEY (state old.volume.shelf.disk) (state new.volume.shelf.disk)
+      s call old new outcome
+
+  -- a pair is added
+  abbrev pub AddsAs : Parts B D → Parts B D → Outcome B → Type 0
+  AddsAs old new outcome = ComesBy (λ size. size ≡ write_record class.KEY) (λ e. ⊥) old new outcome
+
+  -- a page is split, of which it isn't said that it is full
+  abbrev pub SplitsAs : ℕ → Parts B D → Parts B D → Outcome B → Type 0
+  SplitsAs page old new outcome = ComesBy (λ size. size ≡ split_record) (λ e. LeftFew (state e.volume.shelf.disk) e page) old new outcome
+
+  -- or swept
+  abbrev pub MakesRoomAs : ℕ → Parts B D → Parts B D → Outcome B → Type 0
+  MakesRoomAs page old new outcome =
+      ComesBy (λ size. (size ≡ page_record) ⊎ (size ≡ split_record)) (λ e. LeftFew (state e.volume.shelf.disk) e page) old new outcome
 
 -- the index's event that it is
 abbrev pub write_events : {B : Type 0} → ℕ → Call B → Outcome B → List (Event B)

@@ -31,7 +31,7 @@ impl<D: SectorDisk, K: ReadKeys> Engine<D, K> {
     /// `Replied` where the call is refused, and for a Begin; else the call is open, which is `More`. Refusals, the first that holds:
     /// `Failed`, `BadSession`, `CallOpen`, `InTransaction` or `NoTransaction`, `HistoryFull`, `Busy`, `ClaimsFull` or
     /// `PredicatesFull`, as `Sessions::ask` says. A refused call changes nothing.
-    pub fn ask(&mut self, session: u8, call: Call<K::Key>) -> Outcome<K::Key>
+    pub(crate) fn ask(&mut self, session: u8, call: Call<K::Key>) -> Outcome<K::Key>
         ensures comes { AskComes (keys_of K.Key.Shape) session call self.old result self.new }
         ensures leads { (l : Limits) → Leads (class_of K.Key.Shape K.is_proper l) (reading_of K.said (format_of K.KeyClass)) (format_of K.KeyClass) (is_node (format_of K.KeyClass))
             (D.state self.old.volume.shelf.disk) (D.state self.new.volume.shelf.disk) self.old self.new (ask_events session call self.old.sessions result) }

@@ -35,7 +35,7 @@ impl<D: SectorDisk, K: ReadKeys> Engine<D, K> {
     ///
     /// `Help(Checkpoint)` exactly where a checkpoint runs or 24 places of the extent are taken, `Help(Log)` where the record doesn't fit
     /// the batch that fills; nothing has changed then.
-    pub fn seal(&mut self, session: u8) -> Outcome<K::Key>
+    pub(crate) fn seal(&mut self, session: u8) -> Outcome<K::Key>
         requires session { is_session session ≡ true }
         requires commit { asks_commit (phase_at (session - 1) self.old.sessions.phases) ≡ true }
         requires works { self.old.sessions.failed ≡ false }
@@ -62,7 +62,7 @@ impl<D: SectorDisk, K: ReadKeys> Engine<D, K> {
     /// Acknowledges a session's commit where its number is durable, and the session is free: `Replied` with `Committed` and that number.
     /// Else `Help(Log)`, or `Help(Checkpoint)` while a checkpoint runs, and nothing has changed. It makes no call of the device and
     /// takes no memory.
-    pub fn acknowledge(&mut self, session: u8) -> Outcome<K::Key>
+    pub(crate) fn acknowledge(&mut self, session: u8) -> Outcome<K::Key>
         requires session { is_session session ≡ true }
         requires works { self.old.sessions.failed ≡ false }
         ensures comes { (number : ℕ) → phase_at (session - 1) self.old.sessions.phases ≡ Waiting number → AcknowledgeComes session number self.old self.new result }

@@ -76,7 +76,7 @@ impl<D: SectorDisk, K: ReadKeys> Engine<D, K> {
 
     /// How an engine stands on any device: its log turns only as its checkpoint has it; its frames are 16 or more, of which an event holds four
     /// at most; it has 65,536 pages at most, and a node 100 entries; a session that waits for its commit, waits for one that is sealed.
-    pub fn in_order(&self)
+    pub(crate) fn in_order(&self)
         ensures { IsOrderly self.now }
     {
         self.storage.in_order();

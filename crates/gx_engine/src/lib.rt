@@ -27,6 +27,7 @@ mod writes;
 pub use checkpoint::Checkpoint;
 pub use driven::{EVENTS, drive};
 pub use engine::Engine;
+pub use gx_events::{Event, Need, Outcome};
 pub use losers::Loser;
 pub use pages::NotLent;
 pub use repeated::repeat;

@@ -14,6 +14,7 @@ ghost use Rattle.gx_tree.specs.Wants.{wants};
 ghost use Rattle.gx_phases.specs.declared.phase.Phase.TheVariants.{Open};
 ghost use Rattle.gx_phases.specs.Moves.{is_open};
 ghost use Rattle.gx_phases.specs.States.{phase_at};
+ghost use Rattle.gx_engine.specs.Calls.{IsRead};
 ghost use Rattle.gx_engine.specs.declared.work.Work.TheVariants.{Rests};
 ghost use Rattle.gx_engine.specs.Holds.{MayHaveFound};
 ghost use Rattle.gx_engine.specs.Looking.{IsFirst, IsFirstUnless, StopComes, look_events, work_before};
@@ -77,6 +78,7 @@ impl<D: SectorDisk, K: ReadKeys + Probing> Engine<D, K> {
             → Moves (class_of K.Key.Shape K.is_proper l) (reading_of K.said (format_of K.KeyClass)) (format_of K.KeyClass) (is_node (format_of K.KeyClass))
             (D.state self.old.volume.shelf.disk) (D.state self.new.volume.shelf.disk) session (calling session call (work_before begun look) self.old) self.new outcome
             (look_events session call outcome)) }
+        ensures device { IsRead D.state self.old self.new }
     {
         a_class_is_lawful::<K>();
         self.sessions.has_failed();

@@ -9,6 +9,7 @@ ghost use Rattle.gx_store.specs.State.{IsHeld, IsSteady};
 ghost use Rattle.gx_storage.specs.Bringing.{bringing};
 ghost use Rattle.gx_storage.specs.Changes.{IsUnlogged, known_at};
 ghost use Rattle.gx_node.specs.Store.{Stays};
+ghost use Rattle.gx_engine.specs.Calls.{IsRead};
 ghost use Rattle.gx_engine.specs.Holds.{Leads};
 ghost use Rattle.gx_engine.specs.Lending.{BringPageComes, StandsAs};
 ghost use Rattle.gx_engine.specs.States.{IsOrderly};
@@ -47,6 +48,7 @@ impl<D: SectorDisk, K: ReadKeys> Engine<D, K> {
         ensures comes { BringComes (is_node (format_of K.KeyClass)) (D.state self.old.volume.shelf.disk) (D.state self.new.volume.shelf.disk) self.old self.new result }
         ensures leads { (l : Limits) → Leads (class_of K.Key.Shape K.is_proper l) (reading_of K.said (format_of K.KeyClass)) (format_of K.KeyClass) (is_node (format_of K.KeyClass))
             (D.state self.old.volume.shelf.disk) (D.state self.new.volume.shelf.disk) self.old self.new (bring_events result) }
+        ensures device { IsRead D.state self.old self.new }
     {
         a_class_is_lawful::<K>();
         match self.storage.bring(page) {
@@ -71,6 +73,7 @@ impl<D: SectorDisk, K: ReadKeys> Engine<D, K> {
         ensures leads { (l : Limits) → Leads (class_of K.Key.Shape K.is_proper l) (reading_of K.said (format_of K.KeyClass)) (format_of K.KeyClass) (is_node (format_of K.KeyClass))
             (D.state self.old.volume.shelf.disk) (D.state self.new.volume.shelf.disk) self.old self.new (bring_events result) }
         ensures order { IsOrderly self.old × IsOrderly self.new }
+        ensures device { IsRead D.state self.old self.new }
     {
         self.in_order();
         if self.sessions.has_failed() {

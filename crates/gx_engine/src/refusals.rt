@@ -3,6 +3,7 @@ ghost use Rattle.std.specs.Prelude.{◌≡◌, ◌-◌, true};
 ghost use Rattle.gx_machine.specs.Machine.{is_session};
 ghost use Rattle.gx_phases.specs.Moves.{answered_state, failed_state, is_open};
 ghost use Rattle.gx_phases.specs.States.{phase_at};
+ghost use Rattle.gx_engine.specs.Calls.{IsRead};
 ghost use Rattle.gx_engine.specs.Refusals.{IsRefused, IsTurnedAway, log_need, need_of};
 
 use crate::Engine;
@@ -38,6 +39,7 @@ impl<D: SectorDisk, K: ReadKeys> Engine<D, K> {
         requires open { is_open (phase_at (session - 1) self.old.sessions.phases) ≡ true }
         ensures outcome { result ≡ Outcome.Replied (Reply.Refused why) }
         ensures closed { self.new ≡ record self.old { sessions = answered_state session self.old.sessions } }
+        ensures device { IsRead D.state self.old self.new }
     {
         self.sessions.answer(session);
         Outcome::Replied(Reply::Refused(why))
@@ -47,6 +49,7 @@ impl<D: SectorDisk, K: ReadKeys> Engine<D, K> {
     pub(crate) fn break_off(&mut self, why: Refusal) -> Outcome<K::Key>
         ensures outcome { result ≡ Outcome.Replied (Reply.Refused why) }
         ensures failed { self.new ≡ record self.old { sessions = failed_state self.old.sessions } }
+        ensures device { IsRead D.state self.old self.new }
     {
         self.sessions.fail();
         Outcome::Replied(Reply::Refused(why))
@@ -54,7 +57,8 @@ impl<D: SectorDisk, K: ReadKeys> Engine<D, K> {
 
     // Pages were refused: what helps, or the engine has failed.
     pub(crate) fn refuse(&mut self, fault: StoreFault) -> Outcome<K::Key>
-        ensures { IsRefused fault self.old self.new result }
+        ensures refused { IsRefused fault self.old self.new result }
+        ensures device { IsRead D.state self.old self.new }
     {
         match fault {
             StoreFault::NoRoom | StoreFault::TooFewFrames(_) => Outcome::Help(need_of(
@@ -70,6 +74,7 @@ impl<D: SectorDisk, K: ReadKeys> Engine<D, K> {
     pub(crate) fn end(&mut self, why: Refusal) -> Outcome<K::Key>
         ensures outcome { result ≡ Outcome.Refused why }
         ensures failed { self.new ≡ record self.old { sessions = failed_state self.old.sessions } }
+        ensures device { IsRead D.state self.old self.new }
     {
         self.sessions.fail();
         Outcome::Refused(why)
@@ -77,7 +82,8 @@ impl<D: SectorDisk, K: ReadKeys> Engine<D, K> {
 
     // Pages were refused in an event of no session: what helps, or the engine has failed.
     pub(crate) fn turn_away(&mut self, fault: StoreFault) -> Outcome<K::Key>
-        ensures { IsTurnedAway fault self.old self.new result }
+        ensures refused { IsTurnedAway fault self.old self.new result }
+        ensures device { IsRead D.state self.old self.new }
     {
         match fault {
             StoreFault::NoRoom | StoreFault::TooFewFrames(_) => Outcome::Help(need_of(

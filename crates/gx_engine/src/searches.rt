@@ -11,6 +11,7 @@ ghost use Rattle.gx_tree.specs.Found.{pairs_found};
 ghost use Rattle.gx_readings.specs.Classes.{class_of, reading_of};
 ghost use Rattle.gx_phases.specs.declared.phase.Phase.TheVariants.{Open};
 ghost use Rattle.gx_phases.specs.States.{phase_at};
+ghost use Rattle.gx_engine.specs.Calls.{IsRead};
 ghost use Rattle.gx_engine.specs.declared.work.Work as declared;
 ghost use Rattle.gx_engine.specs.declared.work.Work.TheVariants.{Looks, Rests};
 ghost use Rattle.gx_engine.specs.Looking.{IsFirstUnless, Reaches, work_before};
@@ -61,6 +62,7 @@ where
         ensures moves { (l : Limits) → Moves (class_of K.Key.Shape K.is_proper l) (reading_of K.said (format_of K.KeyClass)) (format_of K.KeyClass) (is_node (format_of K.KeyClass))
             (D.state self.old.volume.shelf.disk) (D.state self.new.volume.shelf.disk) session (calling session (Search query) (Looks look) self.old) self.new result
             (search_events session query result) }
+        ensures device { IsRead D.state self.old self.new }
     {
         a_class_is_lawful::<K>();
         self.sessions.has_failed();
@@ -97,6 +99,7 @@ where
         ensures moves { IfErr result (λ outcome. (l : Limits) → Moves (class_of K.Key.Shape K.is_proper l) (reading_of K.said (format_of K.KeyClass)) (format_of K.KeyClass) (is_node (format_of K.KeyClass))
             (D.state self.old.volume.shelf.disk) (D.state self.new.volume.shelf.disk) session (calling session (Search query.now) (work_before begun look) self.old) self.new outcome
             (search_events session query.now outcome)) }
+        ensures device { IsRead D.state self.old self.new }
     {
         a_class_is_lawful::<K>();
         a_volume_shows_the_logs_tree::<D, K>();
@@ -135,6 +138,7 @@ where
         ensures comes { IfErr result (SearchComes (is_node (format_of K.KeyClass)) (D.state self.old.volume.shelf.disk) (D.state self.new.volume.shelf.disk) session query.now self.old self.new) }
         ensures moves { IfErr result (λ outcome. (l : Limits) → Moves (class_of K.Key.Shape K.is_proper l) (reading_of K.said (format_of K.KeyClass)) (format_of K.KeyClass) (is_node (format_of K.KeyClass))
             (D.state self.old.volume.shelf.disk) (D.state self.new.volume.shelf.disk) session self.old self.new outcome (search_events session query.now outcome)) }
+        ensures device { IsRead D.state self.old self.new }
     {
         a_class_is_lawful::<K>();
         self.sessions.has_failed();
@@ -163,7 +167,7 @@ where
     /// `Help` where a page couldn't be brought, with what has to happen first; the search is then at what it was. Refused memory closes
     /// the call: `Replied(Refused(Memory))`. Where the device failed, or a page didn't read, the engine has failed, and the reply is
     /// `Device` or `Damaged`.
-    pub fn search(&mut self, session: u8, query: Query<K::Key>) -> Outcome<K::Key>
+    pub(crate) fn search(&mut self, session: u8, query: Query<K::Key>) -> Outcome<K::Key>
         requires session { is_session session ≡ true }
         requires searches { (work : declared.Work K.Key) × (phase_at (session - 1) self.old.sessions.phases ≡ Open (Search query) work) }
         requires works { self.old.sessions.failed ≡ false }
@@ -171,6 +175,7 @@ where
         ensures reads { OnlyReads self.old self.new }
         ensures moves { (l : Limits) → MovesSo (class_of K.Key.Shape K.is_proper l) (reading_of K.said (format_of K.KeyClass)) (format_of K.KeyClass) (is_node (format_of K.KeyClass))
             (D.state self.old.volume.shelf.disk) (D.state self.new.volume.shelf.disk) session self.old self.new result (AreSearching session query result) }
+        ensures device { IsRead D.state self.old self.new }
     {
         a_class_is_lawful::<K>();
         match self.search_look(session, &query) {

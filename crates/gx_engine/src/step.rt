@@ -11,6 +11,7 @@ ghost use Rattle.gx_phases.specs.States.{held_at, phase_at, slot_of};
 ghost use Rattle.gx_engine.specs.declared.work.Work as work;
 ghost use Rattle.gx_machine.specs.Keys.{keys_of};
 ghost use Rattle.gx_storage.specs.Changes.{known_at};
+ghost use Rattle.gx_engine.specs.Calls.{IsRead, MakesCalls};
 ghost use Rattle.gx_engine.specs.Comes.{CallMoves, MoveComes, StepComes};
 ghost use Rattle.gx_engine.specs.States.{IsOrderly};
 ghost use Rattle.gx_engine.specs.Stepping.{Steps, has_call};
@@ -56,6 +57,7 @@ where
             K.spelling K.KEY (D.state self.old.volume.shelf.disk) (D.state self.new.volume.shelf.disk) session self.old self.new call result }
         ensures steps { (l : Limits) → Steps (class_of K.Key.Shape K.is_proper l) (reading_of K.said (format_of K.KeyClass)) (format_of K.KeyClass) (is_node (format_of K.KeyClass))
             (D.state self.old.volume.shelf.disk) (D.state self.new.volume.shelf.disk) (Event.Move session) self.old self.new result }
+        ensures device { IsRead D.state self.old self.new }
     {
         a_class_is_lawful::<K>();
         self.sessions.has_failed();
@@ -77,6 +79,7 @@ where
             K.spelling K.KEY (D.state self.old.volume.shelf.disk) (D.state self.new.volume.shelf.disk) session self.old self.new result }
         ensures steps { (l : Limits) → Steps (class_of K.Key.Shape K.is_proper l) (reading_of K.said (format_of K.KeyClass)) (format_of K.KeyClass) (is_node (format_of K.KeyClass))
             (D.state self.old.volume.shelf.disk) (D.state self.new.volume.shelf.disk) (Event.Move session) self.old self.new result }
+        ensures device { IsRead D.state self.old self.new }
     {
         a_class_is_lawful::<K>();
         let failed = self.sessions.has_failed();
@@ -106,6 +109,7 @@ where
             K.spelling K.KEY (D.state self.old.volume.shelf.disk) (D.state self.new.volume.shelf.disk) event self.old self.new result }
         ensures steps { (l : Limits) → Steps (class_of K.Key.Shape K.is_proper l) (reading_of K.said (format_of K.KeyClass)) (format_of K.KeyClass) (is_node (format_of K.KeyClass))
             (D.state self.old.volume.shelf.disk) (D.state self.new.volume.shelf.disk) event self.old self.new result }
+        ensures calls { MakesCalls D.state event self.old self.new }
     {
         self.sessions.has_failed();
         match event {
@@ -118,7 +122,8 @@ where
         }
     }
 
-    /// Makes one event, and says what came of it. Each makes at most one write or sync of the device.
+    /// Makes one event, and says what came of it. An ask, a move and a sweep make no write and no sync of the device, and the others
+    /// one at most.
     ///
     /// `Ask` opens a session's call, or answers it at once. `Move` takes an open call further by a page or a record, or answers it; it
     /// is refused with `BadSession` where there is no such session, and with `NoCall` where that has no call open. `LogStep` makes
@@ -132,6 +137,7 @@ where
             K.spelling K.KEY (D.state self.old.volume.shelf.disk) (D.state self.new.volume.shelf.disk) event self.old self.new result }
         ensures steps { (l : Limits) → Steps (class_of K.Key.Shape K.is_proper l) (reading_of K.said (format_of K.KeyClass)) (format_of K.KeyClass) (is_node (format_of K.KeyClass))
             (D.state self.old.volume.shelf.disk) (D.state self.new.volume.shelf.disk) event self.old self.new result }
+        ensures calls { MakesCalls D.state event self.old self.new }
         ensures order { IsOrderly self.old × IsOrderly self.new }
     {
         self.in_order();

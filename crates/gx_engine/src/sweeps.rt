@@ -7,9 +7,10 @@ ghost use Rattle.gx_readings.specs.Classes.{class_of, reading_of};
 ghost use Rattle.gx_store.specs.State.{IsHeld, IsSteady};
 ghost use Rattle.gx_storage.specs.Bringing.{has_removable};
 ghost use Rattle.gx_storage.specs.Changes.{known_at};
+ghost use Rattle.gx_engine.specs.Calls.{IsRead};
 ghost use Rattle.gx_engine.specs.Holds.{Leads};
 ghost use Rattle.gx_engine.specs.States.{is_due};
-ghost use Rattle.gx_engine.specs.Sweeping.{SweepComes, is_held, node_shown, sweep_events};
+ghost use Rattle.gx_engine.specs.Sweeping.{SweepComes, SweepsPage, is_held, is_page, node_shown, sweep_events};
 
 use crate::Engine;
 use crate::laws::a_class_is_lawful;
@@ -30,6 +31,13 @@ impl<D: SectorDisk, K: ReadKeys> Engine<D, K> {
             .has_removable(page, |entry| sessions.is_claimed(&entry))
     }
 
+    // Whether a page is in use.
+    fn is_page(&self, page: u32) -> bool
+        ensures { result ≡ is_page page self.now }
+    {
+        0 < page && page <= self.storage.used()
+    }
+
     // Takes out of a leaf what is marked and no session claims, where no checkpoint is due.
     fn take_out(&mut self, page: u32) -> Outcome<K::Key>
         requires from { 1 ≤ page }
@@ -37,10 +45,11 @@ impl<D: SectorDisk, K: ReadKeys> Engine<D, K> {
         requires some { has_removable (is_held (keys_of K.Key.Shape) self.old) (node_shown (format_of K.KeyClass) (D.state self.old.volume.shelf.disk) page self.old) ≡ true }
         requires early { is_due self.old ≡ false }
         requires works { self.old.sessions.failed ≡ false }
-        ensures sweeps { SweepComes (keys_of K.Key.Shape) (known_at K.Key.Shape K.is_proper) (reading_of K.said (format_of K.KeyClass)) (format_of K.KeyClass) (is_node (format_of K.KeyClass))
-            page (D.state self.old.volume.shelf.disk) (D.state self.new.volume.shelf.disk) self.old self.new false result }
+        ensures sweeps { SweepsPage (keys_of K.Key.Shape) (known_at K.Key.Shape K.is_proper) (reading_of K.said (format_of K.KeyClass)) (format_of K.KeyClass) (is_node (format_of K.KeyClass))
+            page (D.state self.old.volume.shelf.disk) (D.state self.new.volume.shelf.disk) self.old self.new result }
         ensures leads { (l : Limits) → Leads (class_of K.Key.Shape K.is_proper l) (reading_of K.said (format_of K.KeyClass)) (format_of K.KeyClass) (is_node (format_of K.KeyClass))
             (D.state self.old.volume.shelf.disk) (D.state self.new.volume.shelf.disk) self.old self.new (sweep_events result) }
+        ensures device { IsRead D.state self.old self.new }
     {
         a_class_is_lawful::<K>();
         self.sessions.has_failed();
@@ -63,10 +72,11 @@ impl<D: SectorDisk, K: ReadKeys> Engine<D, K> {
     fn sweep_held(&mut self, page: u32) -> Outcome<K::Key>
         requires held { IsHeld self.old.volume.shelf page }
         requires works { self.old.sessions.failed ≡ false }
-        ensures sweeps { SweepComes (keys_of K.Key.Shape) (known_at K.Key.Shape K.is_proper) (reading_of K.said (format_of K.KeyClass)) (format_of K.KeyClass) (is_node (format_of K.KeyClass))
-            page (D.state self.old.volume.shelf.disk) (D.state self.new.volume.shelf.disk) self.old self.new false result }
+        ensures sweeps { SweepsPage (keys_of K.Key.Shape) (known_at K.Key.Shape K.is_proper) (reading_of K.said (format_of K.KeyClass)) (format_of K.KeyClass) (is_node (format_of K.KeyClass))
+            page (D.state self.old.volume.shelf.disk) (D.state self.new.volume.shelf.disk) self.old self.new result }
         ensures leads { (l : Limits) → Leads (class_of K.Key.Shape K.is_proper l) (reading_of K.said (format_of K.KeyClass)) (format_of K.KeyClass) (is_node (format_of K.KeyClass))
             (D.state self.old.volume.shelf.disk) (D.state self.new.volume.shelf.disk) self.old self.new (sweep_events result) }
+        ensures device { IsRead D.state self.old self.new }
     {
         if !self.has_removable(page) {
             return Outcome::Nothing;
@@ -78,22 +88,23 @@ impl<D: SectorDisk, K: ReadKeys> Engine<D, K> {
     }
 
     /// Takes the marked pairs that no session claims out of the leaf on a page, and logs the page: `More`. `Nothing` where no such page
-    /// is taken, it isn't a leaf, or it has no such pair.
+    /// is in use, before any is brought; or it isn't a leaf, or has no such pair.
     ///
     /// `Help` where the page couldn't be brought, or something is to be taken and a checkpoint is due, or the log has no room for the
     /// record, with what has to happen first. Refused with `Failed` by an engine that has failed, with `Device` where the device
     /// failed, and with `Damaged` where what it has there is no right page; the engine has failed then. Whatever else comes of it,
     /// pages may have been brought and nothing else has changed. It takes no memory.
-    pub fn sweep(&mut self, page: u32) -> Outcome<K::Key>
+    pub(crate) fn sweep(&mut self, page: u32) -> Outcome<K::Key>
         ensures sweeps { SweepComes (keys_of K.Key.Shape) (known_at K.Key.Shape K.is_proper) (reading_of K.said (format_of K.KeyClass)) (format_of K.KeyClass) (is_node (format_of K.KeyClass))
             page (D.state self.old.volume.shelf.disk) (D.state self.new.volume.shelf.disk) self.old self.new self.old.sessions.failed result }
         ensures leads { (l : Limits) → Leads (class_of K.Key.Shape K.is_proper l) (reading_of K.said (format_of K.KeyClass)) (format_of K.KeyClass) (is_node (format_of K.KeyClass))
             (D.state self.old.volume.shelf.disk) (D.state self.new.volume.shelf.disk) self.old self.new (sweep_events result) }
+        ensures device { IsRead D.state self.old self.new }
     {
         if self.sessions.has_failed() {
             return Outcome::Refused(Refusal::Failed);
         }
-        if page == 0 || page > self.storage.used() {
+        if !self.is_page(page) {
             return Outcome::Nothing;
         }
         match self.bring(page) {

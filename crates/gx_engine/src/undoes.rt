@@ -138,7 +138,7 @@ where
     /// `Help(Checkpoint)` exactly where a checkpoint runs or 24 places of the extent are taken, and nothing has changed. `Help` where
     /// the record doesn't fit the batch that fills or a page couldn't be brought, with what has to happen first; the undo is then at
     /// what it was. Where the device failed, or a page didn't read, the engine has failed, and the reply is `Device` or `Damaged`.
-    pub fn undo(&mut self, session: u8) -> Outcome<K::Key>
+    pub(crate) fn undo(&mut self, session: u8) -> Outcome<K::Key>
         requires session { is_session session ≡ true }
         requires undoes { is_undoing (phase_at (session - 1) self.old.sessions.phases) ≡ true }
         requires works { self.old.sessions.failed ≡ false }

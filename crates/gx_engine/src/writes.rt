@@ -8,6 +8,7 @@ ghost use Rattle.gx_recovery.specs.Known.{Limits};
 ghost use Rattle.gx_readings.specs.Classes.{class_of, reading_of};
 ghost use Rattle.gx_phases.specs.declared.phase.Phase.TheVariants.{Open};
 ghost use Rattle.gx_phases.specs.States.{phase_at};
+ghost use Rattle.gx_engine.specs.Calls.{IsRead};
 ghost use Rattle.gx_engine.specs.declared.work.Work as declared;
 ghost use Rattle.gx_engine.specs.Moves.{MovesSo};
 ghost use Rattle.gx_engine.specs.Writing.{AreWriting, WritesAs};
@@ -40,13 +41,14 @@ where
     /// no room in the batch that fills, or a page no frame, with what has to happen first. The insert is then at what it was. Refused
     /// memory, in its look alone, closes the call with `Memory`, and want of pages with `PagesFull`. Where the device failed, or a page
     /// didn't read, the engine has failed, and the reply is `Device` or `Damaged`.
-    pub fn insert(&mut self, session: u8, entry: Entry<K::Key>) -> Outcome<K::Key>
+    pub(crate) fn insert(&mut self, session: u8, entry: Entry<K::Key>) -> Outcome<K::Key>
         requires session { is_session session ≡ true }
         requires inserts { (work : declared.Work K.Key) × (phase_at (session - 1) self.old.sessions.phases ≡ Open (Insert entry) work) }
         requires works { self.old.sessions.failed ≡ false }
         ensures comes { WritesAs K.Key.Shape K.KeyClass D.state session (Insert entry) self.old self.new result }
         ensures moves { (l : Limits) → MovesSo (class_of K.Key.Shape K.is_proper l) (reading_of K.said (format_of K.KeyClass)) (format_of K.KeyClass) (is_node (format_of K.KeyClass))
             (D.state self.old.volume.shelf.disk) (D.state self.new.volume.shelf.disk) session self.old self.new result (AreWriting session (Insert entry) result) }
+        ensures device { IsRead D.state self.old self.new }
     {
         self.sessions.has_failed();
         match self.sessions.phase(session) {
@@ -69,13 +71,14 @@ where
 
     /// A move of a session's delete, which is open: it looks for its pair, seeks it where it stands, and marks it: `Replied(Deleted)`. Where
     /// it stands nowhere, or is marked, the reply is `Refused(Absent)`. All else is as for an insert; a delete takes no pages.
-    pub fn delete(&mut self, session: u8, entry: Entry<K::Key>) -> Outcome<K::Key>
+    pub(crate) fn delete(&mut self, session: u8, entry: Entry<K::Key>) -> Outcome<K::Key>
         requires session { is_session session ≡ true }
         requires deletes { (work : declared.Work K.Key) × (phase_at (session - 1) self.old.sessions.phases ≡ Open (Delete entry) work) }
         requires works { self.old.sessions.failed ≡ false }
         ensures comes { WritesAs K.Key.Shape K.KeyClass D.state session (Delete entry) self.old self.new result }
         ensures moves { (l : Limits) → MovesSo (class_of K.Key.Shape K.is_proper l) (reading_of K.said (format_of K.KeyClass)) (format_of K.KeyClass) (is_node (format_of K.KeyClass))
             (D.state self.old.volume.shelf.disk) (D.state self.new.volume.shelf.disk) session self.old self.new result (AreWriting session (Delete entry) result) }
+        ensures device { IsRead D.state self.old self.new }
     {
         self.sessions.has_failed();
         match self.sessions.phase(session) {

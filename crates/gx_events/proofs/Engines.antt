@@ -30,7 +30,7 @@ use Rattle.gx_events.specs.declared.event.Event.TheVariants.{Ask, Move, LogStep,
 use Rattle.gx_events.specs.declared.outcome.Outcome.{Outcome}
 use Rattle.gx_events.specs.declared.outcome.Outcome.TheVariants.{Replied, More, Help, Nothing, Refused}
 use Rattle.gx_events.specs.Engines.{AreOf, IsAsk, IsEnd, GoesOn, IsJust, IsMove, IsSync, IsWork}
-use Rattle.gx_events.specs.Happens.{AskHappens, Ends, Happens, MoveHappens, SyncHappens, WorkHappens}
+use Rattle.gx_events.specs.Happens.{AskHappens, Ends, Happens, Lacks, MoveHappens, SyncHappens, WorkHappens, may_lack}
 use Rattle.gx_events.proofs.Begins.{begins_alone}
 
 module _ {B : Type 0} (k : Keys B) where
@@ -106,14 +106,24 @@ module _ {B : Type 0} (k : Keys B) where
       answered s t r given same is f ends =
           (f.next, subst (λ (x : Reply B). Ends k s x m f.next) (sym is) (ends f.next (subst (λ (x : ℕ). IsStep k m (runs.Answers x given) f.next) same f.is_step)), f.seen)
 
-      closed : (s t : ℕ) (r : Reply B) (why : Refusal) → t ≡ s → r ≡ reply.Refused why → Follows k m (runs.Closes t why) new → Told (Ends k s r m)
-      closed s t r why same is f =
-          (f.next, subst (λ (x : Reply B). Ends k s x m f.next) (sym is) (by why (subst (λ (x : ℕ). IsStep k m (runs.Closes x why) f.next) same f.is_step)), f.seen)
+      -- the call that is closed is open in the machine too
+      lacks_there : (s t : ℕ) (call : Call B) (why : Refusal) → t ≡ s → may_lack why call ≡ true → AreEvents k old (laws.Closes t call why ∷ []) new
+          → Lacks why (session_at s m.sessions)
+      lacks_there s t call why same lacks are =
+          let closes = are.1.1 in
+          let its : slot_at s old.slots ≡ slots.Working closes.locks closes.notes (Some call) = ap (λ (n : ℕ). slot_at n old.slots) (sym same) ∙ closes.asked in
+          subst (λ (x : Session B). Lacks why x)
+          (sym (ap (λ (xs : List (Session B)). session_at s xs) seen.sessions ∙ session_of_slot k old.live s old.slots ∙ ap (λ (x : Slot B). session_of k old.live x) its))
+          lacks
+
+      closed : (s t : ℕ) (r : Reply B) (why : Refusal) → t ≡ s → r ≡ reply.Refused why → Lacks why (session_at s m.sessions) → Follows k m (runs.Closes t why) new → Told (Ends k s r m)
+      closed s t r why same is lacks f =
+          (f.next, subst (λ (x : Reply B). Ends k s x m f.next) (sym is) (by why lacks (subst (λ (x : ℕ). IsStep k m (runs.Closes x why) f.next) same f.is_step)), f.seen)
         where
-          by : (why : Refusal) → IsStep k m (runs.Closes s why) f.next → Ends k s (reply.Refused why) m f.next
-          by refusal.PagesFull step = step
-          by refusal.Memory step = step
-          by other step = absurd (let no : false ≡ true = step.1 in cc)
+          by : (why : Refusal) → Lacks why (session_at s m.sessions) → IsStep k m (runs.Closes s why) f.next → Ends k s (reply.Refused why) m f.next
+          by refusal.PagesFull lacks step = (lacks, step)
+          by refusal.Memory lacks step = (lacks, step)
+          by other lacks step = absurd (let no : false ≡ true = step.1 in cc)
 
       faulted : (s t : ℕ) (r : Reply B) (why : Refusal) → t ≡ s → r ≡ reply.Refused why → (why ≡ refusal.Failed → old.failed ≡ true) → Follows k m (runs.RefusesCall t why) new → Told (Ends k s r m)
       faulted s t r why same is had f =
@@ -130,7 +140,7 @@ module _ {B : Type 0} (k : Keys B) where
       ends s r (laws.FindsPresent t e) is are = answered s t r (reply.Refused refusal.Present) is.0 is.1 (one (laws.FindsPresent t e) new are) (λ n step. step)
       ends s r (laws.FindsAbsent t e) is are = answered s t r (reply.Refused refusal.Absent) is.0 is.1 (one (laws.FindsAbsent t e) new are) (λ n step. step)
       ends s r (laws.Finds t query entries) is are = answered s t r (reply.Found entries) is.0 is.1 (one (laws.Finds t query entries) new are) (λ n step. step)
-      ends s r (laws.Closes t call why) is are = closed s t r why is.0 is.1 (one (laws.Closes t call why) new are)
+      ends s r (laws.Closes t call why) is are = closed s t r why is.0 is.1 (lacks_there s t call why is.0 is.2 are) (one (laws.Closes t call why) new are)
       ends s r (laws.Acknowledges t number) is are = answered s t r (reply.Committed number) is.0 is.1 (one (laws.Acknowledges t number) new are) (λ n step. step)
       ends s r (laws.EndsUndo t) is are = answered s t r reply.Aborted is.0 is.1 (one (laws.EndsUndo t) new are) (λ n step. step)
       ends s r (laws.RefusesCall t why) is are = faulted s t r why is.0 is.1 is.2 (one (laws.RefusesCall t why) new are)

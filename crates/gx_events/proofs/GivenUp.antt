@@ -10,9 +10,10 @@ use Rattle.gx_machine.specs.Keys.{Keys}
 use Rattle.gx_machine.specs.Sets.{has, including, excluding}
 use Rattle.gx_machine.specs.Sessions.{Session, Changes, view, Idle, Open, Aborting, Committing, answer_session, closed_session}
 use Rattle.gx_machine.specs.Machine.{Machine, session_at, with_session}
-use Rattle.gx_machine.specs.Runs.{Answers, Closes, IsStep}
+use Rattle.gx_machine.specs.Runs.{Answers, IsStep}
 use Rattle.gx_machine.proofs.StepEffects.{mapped}
 use Rattle.gx_machine.proofs.SessionMoves.{value_of}
+use Rattle.gx_events.specs.Happens.{Ends, Lacks}
 
 abbrev is_found : {B : Type 0} → Reply B → Bool
 is_found (reply.Found entries) = true
@@ -33,7 +34,7 @@ module _ {B : Type 0} (k : Keys B) where
   committing_none false number y h = let no : ⊥ = cc in absurd no
 
   closed_at : (latest : List (Entry B)) (oldest : ℕ) (x : Session B) (y : Reply B × Session B) → answer_session k latest oldest x ≡ Some y
-      → is_found y.0 ≡ true → closed_session x ≡ Some y.1
+      → is_found y.0 ≡ true → (closed_session x ≡ Some y.1) × Lacks refusal.Memory x
   closed_at latest oldest Idle y h is = let no : ⊥ = cc in absurd no
   closed_at latest oldest (Open locks changes None) y h is = let no : ⊥ = cc in absurd no
   closed_at latest oldest (Open locks changes (Some (Insert e))) y h is =
@@ -46,7 +47,7 @@ module _ {B : Type 0} (k : Keys B) where
       let none : is_found p.0 ≡ false = either_none (has k e (view k latest changes)) (reply.Deleted, record { added = excluding k e changes.added; taken = including k e changes.taken }) (reply.Refused refusal.Absent, changes) p refl refl refl in
       let same : is_found p.0 ≡ is_found y.0 = ap (λ (z : Reply B × Session B). is_found z.0) (value_of h) in
       let no : ⊥ = cc in absurd no
-  closed_at latest oldest (Open locks changes (Some (Search q))) y h is = ap (λ (z : Reply B × Session B). Some z.1) (value_of h)
+  closed_at latest oldest (Open locks changes (Some (Search q))) y h is = (ap (λ (z : Reply B × Session B). Some z.1) (value_of h), refl)
   closed_at latest oldest (Open locks changes (Some Begin)) y h is = let no : ⊥ = cc in absurd no
   closed_at latest oldest (Open locks changes (Some Commit)) y h is = let no : ⊥ = cc in absurd no
   closed_at latest oldest (Open locks changes (Some Abort)) y h is = let no : ⊥ = cc in absurd no
@@ -57,12 +58,16 @@ module _ {B : Type 0} (k : Keys B) where
       let none : is_found y.0 ≡ false = committing_none (nat_le number oldest) number y h in
       let no : ⊥ = cc in absurd no
 
-  pub given_up : (old new : Machine B) (s : ℕ) (entries : List (Entry B)) → IsStep k old (Answers s (reply.Found entries)) new → IsStep k old (Closes s refusal.Memory) new
+  pub given_up : (old new : Machine B) (s : ℕ) (entries : List (Entry B)) → IsStep k old (Answers s (reply.Found entries)) new → Ends k s (reply.Refused refusal.Memory) old new
   given_up old new s entries h =
       let f = mapped (λ (p : Reply B × Session B). (p.0, with_session s p.1 old)) (answer_session k old.latest old.oldest (session_at s old.sessions)) (reply.Found entries, new) h.1 in
-      let is : is_found f.0.0 ≡ true = ap (λ (p : Reply B × Machine B). is_found p.0) f.2 in (
-        h.0,
-        refl,
-        ap (λ (o : Option (Session B)). option_map (λ (x : Session B). with_session s x old) o) (closed_at old.latest old.oldest (session_at s old.sessions) f.0 f.1 is)
-            ∙ ap (λ (p : Reply B × Machine B). Some p.1) f.2,
+      let is : is_found f.0.0 ≡ true = ap (λ (p : Reply B × Machine B). is_found p.0) f.2 in
+      let closed = closed_at old.latest old.oldest (session_at s old.sessions) f.0 f.1 is in (
+        closed.1,
+        (
+          h.0,
+          refl,
+          ap (λ (o : Option (Session B)). option_map (λ (x : Session B). with_session s x old) o) closed.0
+              ∙ ap (λ (p : Reply B × Machine B). Some p.1) f.2,
+        ),
       )

@@ -187,8 +187,8 @@ module _ {B : Type 0} (k : Keys B) where
     ended : (s : ℕ) (x : Reply B) (new : Machine B) → Ends k s x old new → ReplaysAs k start (items ++ Replied s x ∷ []) new
     ended s (reply.Refused refusal.Present) new h = answered s (reply.Refused refusal.Present) new refl (λ c. refl) (λ end f. f) h
     ended s (reply.Refused refusal.Absent) new h = answered s (reply.Refused refusal.Absent) new refl (λ c. refl) (λ end f. f) h
-    ended s (reply.Refused refusal.PagesFull) new h = closed s refusal.PagesFull new (λ c. refl) (λ end f. f) h
-    ended s (reply.Refused refusal.Memory) new h = closed s refusal.Memory new (λ c. refl) (λ end f. f) h
+    ended s (reply.Refused refusal.PagesFull) new h = closed s refusal.PagesFull new (λ c. refl) (λ end f. f) h.1
+    ended s (reply.Refused refusal.Memory) new h = closed s refusal.Memory new (λ c. refl) (λ end f. f) h.1
     ended s (reply.Refused refusal.Device) new h =
         let w = works r old st h.1.0 in
         let here : is_unanswered (session_at s r.sessions) ≡ true = ap (λ (xs : List (Session B)). is_unanswered (session_at s xs)) (sym (st.sessions w)) ∙ h.0 in

@@ -14,7 +14,7 @@ use Rattle.gx_events.specs.declared.event.Event.{Event}
 use Rattle.gx_events.specs.declared.event.Event.TheVariants.{Ask, Move, LogStep, WritePage, CheckpointStep, Sweep}
 use Rattle.gx_events.specs.declared.outcome.Outcome.{Outcome}
 use Rattle.gx_events.specs.declared.outcome.Outcome.TheVariants.{Replied, More, Help, Nothing, Refused}
-use Rattle.gx_events.specs.Happens.{Happens}
+use Rattle.gx_events.specs.Happens.{Happens, may_lack}
 
 -- An ask is given a reply at once, or is open; or it is refused, since a fault had ended the engine, or since a Begin finds the numbers
 -- used up.
@@ -33,7 +33,7 @@ IsEnd s failed r (laws.Deletes t e) = (t ≡ s) × (r ≡ reply.Deleted)
 IsEnd s failed r (laws.FindsPresent t e) = (t ≡ s) × (r ≡ reply.Refused refusal.Present)
 IsEnd s failed r (laws.FindsAbsent t e) = (t ≡ s) × (r ≡ reply.Refused refusal.Absent)
 IsEnd s failed r (laws.Finds t query entries) = (t ≡ s) × (r ≡ reply.Found entries)
-IsEnd s failed r (laws.Closes t call why) = (t ≡ s) × (r ≡ reply.Refused why)
+IsEnd s failed r (laws.Closes t call why) = (t ≡ s) × (r ≡ reply.Refused why) × (may_lack why call ≡ true)
 IsEnd s failed r (laws.Acknowledges t number) = (t ≡ s) × (r ≡ reply.Committed number)
 IsEnd s failed r (laws.EndsUndo t) = (t ≡ s) × (r ≡ reply.Aborted)
 IsEnd s failed r (laws.RefusesCall t why) = (t ≡ s) × (r ≡ reply.Refused why) × (why ≡ refusal.Failed → failed ≡ true)

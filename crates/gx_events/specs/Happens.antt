@@ -1,14 +1,14 @@
 -- What an event does to the machine that an engine is seen as, by its outcome.
-use Rattle.std.specs.Prelude.{ℕ, ◌≡◌, ◌⊎◌, Bool, true, false}
+use Rattle.std.specs.Prelude.{ℕ, ◌≡◌, ◌⊎◌, Bool, true, false, Some}
 use Rattle.gx_geom.specs.declared.refusal.Refusal.{Refusal}
 use Rattle.gx_geom.specs.declared.refusal.Refusal.TheVariants as refusal
 use Rattle.gx_machine.specs.declared.call.Call.{Call}
-use Rattle.gx_machine.specs.declared.call.Call.TheVariants.{Begin}
+use Rattle.gx_machine.specs.declared.call.Call.TheVariants.{Begin, Insert, Delete, Search}
 use Rattle.gx_machine.specs.declared.reply.Reply.{Reply}
 use Rattle.gx_machine.specs.declared.reply.Reply.TheVariants as reply
 use Rattle.gx_machine.specs.declared.reply.Asked.TheVariants as asked
 use Rattle.gx_machine.specs.Keys.{Keys}
-use Rattle.gx_machine.specs.Sessions.{is_unanswered}
+use Rattle.gx_machine.specs.Sessions.{Session, Open, is_unanswered}
 use Rattle.gx_machine.specs.Machine.{Machine, newest, is_session, session_at, failed_machine}
 use Rattle.gx_machine.specs.Runs.{Asks, Answers, Seals, Durable, Closes, RefusesAsk, IsStep}
 use Rattle.gx_events.specs.declared.event.Event.{Event}
@@ -38,12 +38,27 @@ AskRefused k s call (reply.Refused refusal.Failed) old new = (old.failed ≡ tru
 AskRefused k s call (reply.Refused refusal.HistoryFull) old new = (is_begin call ≡ true) × IsStep k old (RefusesAsk s call refusal.HistoryFull) new
 AskRefused k s call other old new = ⊥
 
--- the end of an open call: an answer; or the call is closed; or it meets a fault, and stays open
+-- a call may be closed for this: want of pages closes an insert, and want of memory a write or a search
+abbrev pub may_lack : {B : Type 0} → Refusal → Call B → Bool
+may_lack refusal.PagesFull (Insert entry) = true
+may_lack refusal.Memory (Insert entry) = true
+may_lack refusal.Memory (Delete entry) = true
+may_lack refusal.Memory (Search query) = true
+may_lack why call = false
+
+-- the session has such a call open
+abbrev pub Lacks : {B : Type 0} → Refusal → Session B → Type 0
+Lacks why (Open locks changes (Some call)) = may_lack why call ≡ true
+Lacks why other = ⊥
+
+-- the end of an open call: an answer; or the call is closed, which no commit and no abort is; or it meets a fault, and stays open
 abbrev pub Ends : {B : Type 0} → Keys B → ℕ → Reply B → Machine B → Machine B → Type 0
 Ends k s (reply.Refused refusal.Present) old new = IsStep k old (Answers s (reply.Refused refusal.Present)) new
 Ends k s (reply.Refused refusal.Absent) old new = IsStep k old (Answers s (reply.Refused refusal.Absent)) new
-Ends k s (reply.Refused refusal.PagesFull) old new = IsStep k old (Closes s refusal.PagesFull) new
-Ends k s (reply.Refused refusal.Memory) old new = IsStep k old (Closes s refusal.Memory) new
+Ends k s (reply.Refused refusal.PagesFull) old new =
+    Lacks refusal.PagesFull (session_at s old.sessions) × IsStep k old (Closes s refusal.PagesFull) new
+Ends k s (reply.Refused refusal.Memory) old new =
+    Lacks refusal.Memory (session_at s old.sessions) × IsStep k old (Closes s refusal.Memory) new
 Ends k s (reply.Refused why) old new = (is_unanswered (session_at s old.sessions) ≡ true) × MeetsFault why old new
 Ends k s r old new = IsStep k old (Answers s r) new
 

@@ -60,8 +60,8 @@ module _ {B : Type 0} (k : Keys B) where
   ends : (s : ℕ) (r : Reply B) (old new : Machine B) → Ends k s r old new → Run old new (TellsReply s r)
   ends s (reply.Refused refusal.Present) old new h = answers s (reply.Refused refusal.Present) old new h
   ends s (reply.Refused refusal.Absent) old new h = answers s (reply.Refused refusal.Absent) old new h
-  ends s (reply.Refused refusal.PagesFull) old new h = closes s refusal.PagesFull old new h
-  ends s (reply.Refused refusal.Memory) old new h = closes s refusal.Memory old new h
+  ends s (reply.Refused refusal.PagesFull) old new h = closes s refusal.PagesFull old new h.1
+  ends s (reply.Refused refusal.Memory) old new h = closes s refusal.Memory old new h.1
   ends s (reply.Refused refusal.Device) old new h = refuses s refusal.Device old new h
   ends s (reply.Refused refusal.Failed) old new h = refuses s refusal.Failed old new (h.0, had_failed old new h.1.0 h.1.1)
   ends s (reply.Refused other) old new h = absurd h.1

@@ -97,8 +97,8 @@ module _ {B : Type 0} (k : Keys B) where
   ended_by : (s : ℕ) (why : Refusal) (m n : Machine B) → Ends k s (reply.Refused why) m n → Shows m (Replied s (reply.Refused why) ∷ []) n
   ended_by s refusal.Present m n ends = answered s (reply.Refused refusal.Present) m n ends
   ended_by s refusal.Absent m n ends = answered s (reply.Refused refusal.Absent) m n ends
-  ended_by s refusal.PagesFull m n ends = one (Closes s refusal.PagesFull) refl m n ends
-  ended_by s refusal.Memory m n ends = one (Closes s refusal.Memory) refl m n ends
+  ended_by s refusal.PagesFull m n ends = one (Closes s refusal.PagesFull) refl m n ends.1
+  ended_by s refusal.Memory m n ends = one (Closes s refusal.Memory) refl m n ends.1
   ended_by s refusal.Device m n ends = by_fault s refusal.Device m n ends.0 ends.1
   ended_by s refusal.Failed m n ends = by_fault s refusal.Failed m n ends.0 ends.1
   ended_by s other m n ends = absurd ends.1

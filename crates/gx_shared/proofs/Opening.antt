@@ -337,8 +337,8 @@ module _ {B : Type 0} (k : Keys B) where
     pub ends_sums : (r : Reply B) → Ends k s r m n → Sums m n 0 (closes_of (is_fault r)) 1 0 × (1 ≤ owed m.sessions)
     ends_sums (reply.Refused refusal.Present) h = answered_sums (reply.Refused refusal.Present) h
     ends_sums (reply.Refused refusal.Absent) h = answered_sums (reply.Refused refusal.Absent) h
-    ends_sums (reply.Refused refusal.PagesFull) h = closed_sums refusal.PagesFull h
-    ends_sums (reply.Refused refusal.Memory) h = closed_sums refusal.Memory h
+    ends_sums (reply.Refused refusal.PagesFull) h = closed_sums refusal.PagesFull h.1
+    ends_sums (reply.Refused refusal.Memory) h = closed_sums refusal.Memory h.1
     ends_sums (reply.Refused refusal.Device) h = fault_sums refusal.Device h.0 h.1
     ends_sums (reply.Refused refusal.Failed) h = fault_sums refusal.Failed h.0 h.1
     ends_sums (reply.Refused other) h = absurd h.1
@@ -356,8 +356,8 @@ module _ {B : Type 0} (k : Keys B) where
     pub ends_failed : (r : Reply B) → Ends k s r m n → m.failed ≡ true → (r ≡ reply.Refused refusal.Failed) × (n ≡ m)
     ends_failed (reply.Refused refusal.Present) h t = no_answer t h.0
     ends_failed (reply.Refused refusal.Absent) h t = no_answer t h.0
-    ends_failed (reply.Refused refusal.PagesFull) h t = no_answer t h.0
-    ends_failed (reply.Refused refusal.Memory) h t = no_answer t h.0
+    ends_failed (reply.Refused refusal.PagesFull) h t = no_answer t h.1.0
+    ends_failed (reply.Refused refusal.Memory) h t = no_answer t h.1.0
     ends_failed (reply.Refused refusal.Device) h t = no_answer t h.1.0
     ends_failed (reply.Refused refusal.Failed) h t = (refl, h.1.1)
     ends_failed (reply.Refused other) h t = absurd h.1

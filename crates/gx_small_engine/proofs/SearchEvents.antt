@@ -31,7 +31,7 @@ use Rattle.gx_small_engine.proofs.AskEvents.{of_others}
 use Rattle.gx_small_engine.proofs.Slots.{slots_at, slots_set}
 use Rattle.gx_small_engine.proofs.Closing.{is_closed, slot_is, slots_moved, as_many}
 use Rattle.gx_small_engine.proofs.Keeping.{kept_by_one, numbers_left}
-use Rattle.gx_small_engine.proofs.MoveEvents.{low, phase_now, moves, phase_kept, call_closed, closed_kept}
+use Rattle.gx_small_engine.proofs.MoveEvents.{low, phase_now, moves, phase_kept, call_closed, closed_kept, rests}
 use Rattle.gx_small_engine.proofs.Sealing.{standing_is}
 
 both_ways : (h m v : Bool) → (h ≡ true → (m ≡ true) × (v ≡ true)) → (m ≡ true → v ≡ true → h ≡ true) → h ≡ (m && v)
@@ -191,17 +191,15 @@ module _ {B : Type 0} (k : Keys B) (l : IsLawful k) (old now : State B) (same : 
   look_ended (phase.Waiting number) q' at on none entries are middle phases' first last = absurd on
 
   module _ (at : At (phase.Open Commit)) where
-    -- a commit lacks memory
-    pub commit_closes : (older' : List (List (Entry B))) (phases' : List (Phase B)) → older' ≡ old.older → phases' ≡ with_phase s phase.Working old.phases
-        → Moves k s now (Some (reply.Refused Memory)) (record old { phases = phases'; older = older' }) × IsKept k (record old { phases = phases'; older = older' })
-    commit_closes older' phases' eo changed =
-        let event : IsEvent k (engine_of k old) (events.Closes s Commit Memory) (engine_of k (record old { phases = phases' })) =
-        (refl, call_closed k l old now same kept s is phases' changed Commit at) in
-        subst (λ (xs : List (List (Entry B))). Moves k s now (Some (reply.Refused Memory)) (record old { phases = phases'; older = xs }) × IsKept k (record old { phases = phases'; older = xs }))
-        (sym eo) (
-          moves k l old now same kept s is (events.Closes s Commit Memory) (Some (reply.Refused Memory)) (record old { phases = phases' }) (refl, refl, refl) refl event,
-          closed_kept k l old now same kept s is phases' changed Commit at (events.Closes s Commit Memory) event (λ a ne. of_others a s ne),
-        )
+    -- a commit that is refused memory stays open
+    pub commit_rests : (older' : List (List (Entry B))) → older' ≡ old.older
+        → Moves k s now None (record old { older = older' }) × IsKept k (record old { older = older' })
+    commit_rests older' eo =
+        let work : is_session s ≡ true → IsWork old.oldest (phase_at (s - 1) old.phases) (phase_at (s - 1) old.phases) =
+        λ there. subst (λ (q : Phase B). IsWork old.oldest q q) (sym (phase_now k l old now same kept s is (phase.Open Commit) at)) refl in
+        let yet : Moves k s now None old = subst (λ (x : State B). Moves k s x None old) same (rests k old s work) in
+        subst (λ (xs : List (List (Entry B))). Moves k s now None (record old { older = xs }) × IsKept k (record old { older = xs }))
+        (sym eo) (yet, kept)
 
     module _ (number : ℕ) (next : number ≡ last_number (engine_of k old) + 1) where
       abbrev sealed_state : State B

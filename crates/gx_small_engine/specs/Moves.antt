@@ -55,13 +55,13 @@ swept k state = record state { pairs = filter (λ p. p.live || claimed_in k p.en
 abbrev pub revived : {B : Type 0} → Keys B → Entry B → List (Listed B) → List (Listed B)
 revived k e pairs = if is_listed k e pairs then with_mark k e true pairs else pairs ++ record { entry = e; live = true } ∷ []
 
--- a call that needs memory to be answered: of inserts, only one whose entry has no pair
+-- a call that is closed where it is refused memory: of inserts, only one whose entry has no pair
 abbrev pub takes_memory : {B : Type 0} → Keys B → List (Listed B) → Call B → Bool
 takes_memory k pairs Begin = false
 takes_memory k pairs (Insert e) = not (is_listed k e pairs)
 takes_memory k pairs (Delete e) = false
 takes_memory k pairs (Search q) = true
-takes_memory k pairs Commit = true
+takes_memory k pairs Commit = false
 takes_memory k pairs Abort = false
 
 -- an undo restores the next note, which is of this entry, and counts it
@@ -91,8 +91,8 @@ abbrev pub HasGathered : {B : Type 0} → Keys B → Phase B → List (Entry B) 
 HasGathered k (phase.Looking look) entries = entries ≡ including_all k look.found []
 HasGathered k other entries = ⊥
 
--- what a session may do that decides nothing: nothing is open; its look begins, or has one pair less to read; its commit
--- isn't durable yet
+-- what a session may do that decides nothing: nothing is open; its look begins, or has one pair less to read; its commit is
+-- refused memory and stays open, or isn't durable yet
 abbrev pub IsWork : {B : Type 0} → ℕ → Phase B → Phase B → Type 0
 IsWork oldest phase.Free q = Unit {0}
 IsWork oldest phase.Working q = Unit {0}
@@ -100,7 +100,7 @@ IsWork oldest (phase.Open Begin) q = Unit {0}
 IsWork oldest (phase.Open (Insert e)) q = ⊥
 IsWork oldest (phase.Open (Delete e)) q = ⊥
 IsWork oldest (phase.Open (Search query)) q = HasLook q
-IsWork oldest (phase.Open Commit) q = ⊥
+IsWork oldest (phase.Open Commit) q = q ≡ phase.Open Commit
 IsWork oldest (phase.Open Abort) q = Unit {0}
 IsWork oldest (phase.Looking look) q = IsNearer true (phase.Looking look) q
 IsWork oldest (phase.Undoing restored) q = ⊥

@@ -305,7 +305,8 @@ impl<B: Shape> SmallEngine<B> {
         }
     }
 
-    /// An open commit: what stood is kept, and what the transaction wrote stands from then on.
+    /// An open commit: what stood is kept, and what the transaction wrote stands from then on. Where that is refused memory it
+    /// stays open.
     fn seal(&mut self, session: u8) -> Option<Reply<B>>
         requires session { is_session session ≡ true }
         requires open { phase_at (session - 1) self.old.phases ≡ phase.Open Call.Commit }
@@ -319,10 +320,7 @@ impl<B: Shape> SmallEngine<B> {
                 asks::set_phase(&mut self.phases, session, Phase::Waiting(number));
                 None
             }
-            Err(AllocError) => {
-                asks::set_phase(&mut self.phases, session, Phase::Working);
-                Some(Reply::Refused(Refusal::Memory))
-            }
+            Err(AllocError) => None,
         }
     }
 
@@ -347,8 +345,8 @@ impl<B: Shape> SmallEngine<B> {
     /// answered. None where the reply is still to come, or nothing is open.
     ///
     /// Refusals: `Present` for an insert of an entry that is live, `Absent` for a delete of one that isn't, `Memory` for want
-    /// of it in a search, a commit, or an insert of an entry that has no pair. The call is then closed, and may be asked
-    /// again.
+    /// of it in a search, or an insert of an entry that has no pair. The call is then closed, and may be asked again. A commit
+    /// that is refused memory stays open.
     pub fn go_on(&mut self, session: u8) -> Option<Reply<B>>
         ensures { Moves (keys_of B.Shape) session self.old result self.new }
     {

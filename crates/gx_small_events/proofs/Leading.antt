@@ -1,7 +1,9 @@
 -- Events of the small engine, as the machine that it is seen as.
-use Rattle.std.proofs.Common.{◌≡◌, ℕ, inl, inr, false, Option, Some, None, [], ◌∷◌, refl, sym, subst}
+use Rattle.std.proofs.Common.{◌≡◌, ℕ, inl, inr, true, false, Option, Some, None, [], ◌∷◌, refl, sym, subst}
+use Rattle.gx_geom.specs.declared.refusal.Refusal.{Refusal}
 use Rattle.gx_geom.specs.declared.refusal.Refusal.TheVariants as refusal
 use Rattle.gx_machine.specs.declared.call.Call.{Call}
+use Rattle.gx_machine.specs.declared.call.Call.TheVariants.{Begin, Insert, Delete, Search, Commit, Abort}
 use Rattle.gx_machine.specs.declared.reply.Reply.{Reply}
 use Rattle.gx_machine.specs.declared.reply.Reply.TheVariants as reply
 use Rattle.gx_machine.specs.declared.reply.Asked.{Asked as Given}
@@ -20,9 +22,10 @@ use Rattle.gx_events.specs.declared.event.Event.TheVariants.{Ask, Move, LogStep,
 use Rattle.gx_events.specs.declared.outcome.Outcome.{Outcome}
 use Rattle.gx_events.specs.declared.outcome.Outcome.TheVariants as outcome
 use Rattle.gx_events.specs.Engines as engines
+use Rattle.gx_events.specs.Happens.{may_lack}
 use Rattle.gx_events.proofs.Engines as lemmas
 use Rattle.gx_small_engine.specs.States.{State, engine_of, slots_of}
-use Rattle.gx_small_engine.specs.Moves.{AskGives, Moves, IsMove, reply_of}
+use Rattle.gx_small_engine.specs.Moves.{AskGives, Moves, IsMove, reply_of, takes_memory}
 use Rattle.gx_small_events.specs.Leads.{Sees, Leads}
 
 module _ {B : Type 0} (k : Keys B) where
@@ -56,13 +59,25 @@ module _ {B : Type 0} (k : Keys B) where
         subst (λ (x : Given B). Leads k old (Ask s call) (asked_outcome x) new) (sym h.0)
         (leads (Ask s call) (outcome.Replied (reply.Refused refusal.HistoryFull)) (laws.RefusesAsk s call refusal.HistoryFull) (inr (inr (refl, refl))) h.2)
 
+    -- what is closed for want of memory is no commit and no abort
+    lacks_memory : (call : Call B) → takes_memory k old.pairs call ≡ true → may_lack refusal.Memory call ≡ true
+    lacks_memory Begin takes = absurd (let no : false ≡ true = takes in cc)
+    lacks_memory (Insert e) takes = refl
+    lacks_memory (Delete e) takes = refl
+    lacks_memory (Search query) takes = refl
+    lacks_memory Commit takes = absurd (let no : false ≡ true = takes in cc)
+    lacks_memory Abort takes = absurd (let no : false ≡ true = takes in cc)
+
+    lacks_why : (call : Call B) (why : Refusal) → takes_memory k old.pairs call ≡ true → why ≡ refusal.Memory → may_lack why call ≡ true
+    lacks_why call why takes is = subst (λ (x : Refusal). may_lack x call ≡ true) (sym is) (lacks_memory call takes)
+
     told : (s : ℕ) (event : laws.Event B) → IsMove k s old new event → engines.IsMove s (engine_of k old) (moved_outcome (reply_of event)) (event ∷ [])
     told s (laws.Inserts t e) same = (laws.Inserts t e, inl refl, (same, refl))
     told s (laws.Deletes t e) same = (laws.Deletes t e, inl refl, (same, refl))
     told s (laws.FindsPresent t e) same = (laws.FindsPresent t e, inl refl, (same, refl))
     told s (laws.FindsAbsent t e) same = (laws.FindsAbsent t e, inl refl, (same, refl))
     told s (laws.Finds t query entries) same = (laws.Finds t query entries, inl refl, (same, refl))
-    told s (laws.Closes t call why) same = (laws.Closes t call why, inl refl, (same.0, refl))
+    told s (laws.Closes t call why) same = (laws.Closes t call why, inl refl, (same.0, refl, lacks_why call why same.1 same.2))
     told s (laws.Seals t set number) same = (refl, (laws.Seals t set number, refl, same))
     told s (laws.Acknowledges t number) same = (laws.Acknowledges t number, inl refl, (same, refl))
     told s (laws.Undoes t e) same = (refl, (laws.Undoes t e, refl, same.0))

@@ -19,13 +19,14 @@ ghost use Rattle.gx_phases.specs.declared.phase.Phase.TheVariants.{Open};
 ghost use Rattle.gx_phases.specs.Moves.{HasWrite, is_open, transaction_of, written_state};
 ghost use Rattle.gx_phases.specs.States.{phase_at};
 ghost use Rattle.gx_storage.specs.Changes.{known_at};
+ghost use Rattle.gx_engine.specs.Calls.{IsRead};
 ghost use Rattle.gx_engine.specs.declared.work.Work as declared;
 ghost use Rattle.gx_engine.specs.declared.work.Work.TheVariants.{Descends};
 ghost use Rattle.gx_engine.specs.Descending.{Adding, LeafSweeping, RootSplitting, Splitting, Stepping};
 ghost use Rattle.gx_engine.specs.Moves.{Moves, calling};
 ghost use Rattle.gx_engine.specs.States.{is_due};
 ghost use Rattle.gx_engine.specs.Sweeping.{is_held, node_shown};
-ghost use Rattle.gx_engine.specs.Writing.{IsFull, SplitsAs, WritesAs, write_events};
+ghost use Rattle.gx_engine.specs.Writing.{AddsAs, IsFull, MakesRoomAs, SplitsAs, WritesAs, write_events};
 
 use crate::Engine;
 use crate::laws::a_class_is_lawful;
@@ -46,6 +47,7 @@ impl<D: SectorDisk, K: ReadKeys> Engine<D, K> {
         ensures outcome { result ≡ Outcome.More }
         ensures there { (call : Call K.Key) (was : declared.Work K.Key) → phase_at (session - 1) self.old.sessions.phases ≡ Open call was
             → self.new ≡ calling session call (Descends from item) self.old }
+        ensures device { IsRead D.state self.old self.new }
     {
         self.sessions
             .replace_work(session, Work::Descends(from, item));
@@ -58,6 +60,7 @@ impl<D: SectorDisk, K: ReadKeys> Engine<D, K> {
         ensures outcome { result ≡ Outcome.More }
         ensures there { (call : Call K.Key) (was : declared.Work K.Key) → phase_at (session - 1) self.old.sessions.phases ≡ Open call was
             → self.new ≡ calling session call (Descends 0 (record { page = 1; seen = self.old.volume.shelf.counter })) self.old }
+        ensures device { IsRead D.state self.old self.new }
     {
         let root = Item::new(1, self.storage.counter());
         self.go_to(session, 0, root)
@@ -69,6 +72,7 @@ impl<D: SectorDisk, K: ReadKeys> Engine<D, K> {
         ensures outcome { result ≡ Outcome.More }
         ensures there { (next : reach.Item) → next_of did.now ≡ Some next → (call : Call K.Key) (was : declared.Work K.Key)
             → phase_at (session - 1) self.old.sessions.phases ≡ Open call was → self.new ≡ calling session call (Descends from.now.page next) self.old }
+        ensures device { IsRead D.state self.old self.new }
     {
         let next = did.next().unwrap_or(Item::new(from.page(), from.seen()));
         self.go_to(session, from.page(), next)
@@ -84,6 +88,7 @@ impl<D: SectorDisk, K: ReadKeys> Engine<D, K> {
         ensures step { Stepping (known_at K.Key.Shape K.is_proper) (reading_of K.said (format_of K.KeyClass)) (format_of K.KeyClass) (is_node (format_of K.KeyClass)) K.cost K.joined
             (D.state self.old.volume.shelf.disk) (D.state self.new.volume.shelf.disk) self.old.volume self.new.volume item.now coming.now result }
         ensures only { self.new ≡ record self.old { volume = self.new.volume } }
+        ensures device { IsRead D.state self.old self.new }
     {
         self.storage.descend(item, coming)
     }
@@ -100,6 +105,7 @@ impl<D: SectorDisk, K: ReadKeys> Engine<D, K> {
         ensures adds { Adding (known_at K.Key.Shape K.is_proper) (reading_of K.said (format_of K.KeyClass)) (format_of K.KeyClass) (is_node (format_of K.KeyClass)) K.spelling K.KEY
             (D.state self.old.volume.shelf.disk) (D.state self.new.volume.shelf.disk) self.old.volume self.new.volume (transaction_of session self.old.sessions) entry.now item.now.page result }
         ensures only { self.new ≡ record self.old { volume = self.new.volume } }
+        ensures device { IsRead D.state self.old self.new }
     {
         let transaction = self.sessions.transaction(session);
         self.storage.add(transaction, item.page(), entry)
@@ -113,6 +119,7 @@ impl<D: SectorDisk, K: ReadKeys> Engine<D, K> {
         ensures noted { self.new ≡ record self.old {
           sessions = written_state (keys_of K.Key.Shape) session (record { entry = entry; before = true; leaf = item.now.page }) self.old.sessions;
         } }
+        ensures device { IsRead D.state self.old self.new }
     {
         self.sessions.note(session, entry, true, item.page());
         Outcome::Replied(Reply::Inserted)
@@ -130,11 +137,12 @@ impl<D: SectorDisk, K: ReadKeys> Engine<D, K> {
         requires descends { phase_at (session - 1) self.old.sessions.phases ≡ Open (Insert entry) (Descends parent item) }
         requires works { self.old.sessions.failed ≡ false }
         requires early { is_due self.old ≡ false }
-        ensures comes { WritesAs K.Key.Shape K.KeyClass D.state session (Insert entry) self.old self.new result }
+        ensures comes { AddsAs K.Key.Shape K.KeyClass D.state session (Insert entry) self.old self.new result }
         ensures moves { (IsSteady (D.state self.old.volume.shelf.disk) self.old.volume.shelf.frames → WayAt K.cost K.joined self.old.volume.most
             (store_of (format_of K.KeyClass) (D.state self.old.volume.shelf.disk).seen self.old.volume.shelf) item entry.key Add) → (l : Limits)
             → Moves (class_of K.Key.Shape K.is_proper l) (reading_of K.said (format_of K.KeyClass)) (format_of K.KeyClass) (is_node (format_of K.KeyClass))
             (D.state self.old.volume.shelf.disk) (D.state self.new.volume.shelf.disk) session self.old self.new result (write_events session (Insert entry) result) }
+        ensures device { IsRead D.state self.old self.new }
     {
         a_class_is_lawful::<K>();
         K::known(&entry.key);
@@ -154,6 +162,7 @@ impl<D: SectorDisk, K: ReadKeys> Engine<D, K> {
         ensures sweeps { LeafSweeping (known_at K.Key.Shape K.is_proper) (reading_of K.said (format_of K.KeyClass)) (format_of K.KeyClass) (is_node (format_of K.KeyClass))
             (is_held (keys_of K.Key.Shape) self.old) (D.state self.old.volume.shelf.disk) (D.state self.new.volume.shelf.disk) self.old.volume self.new.volume item.now.page result }
         ensures only { self.new ≡ record self.old { volume = self.new.volume } }
+        ensures device { IsRead D.state self.old self.new }
     {
         let sessions = &self.sessions;
         self.storage
@@ -171,6 +180,7 @@ impl<D: SectorDisk, K: ReadKeys> Engine<D, K> {
             (rules_of K.Key.Shape) K.sides_of (D.state self.old.volume.shelf.disk) (D.state self.new.volume.shelf.disk) self.old.volume self.new.volume item.now.page parent result }
         ensures only { self.new ≡ record self.old { volume = self.new.volume } }
         ensures fits { (self.new.volume.shelf.used ≤ self.new.volume.shelf.pages) × (self.new.volume.shelf.pages ≤ 65536) }
+        ensures device { IsRead D.state self.old self.new }
     {
         let split = self.storage.split(item.page(), parent, &mut self.keys);
         self.storage.in_order();
@@ -184,6 +194,7 @@ impl<D: SectorDisk, K: ReadKeys> Engine<D, K> {
             (rules_of K.Key.Shape) K.sides_of (D.state self.old.volume.shelf.disk) (D.state self.new.volume.shelf.disk) self.old.volume self.new.volume result }
         ensures only { self.new ≡ record self.old { volume = self.new.volume } }
         ensures fits { (self.new.volume.shelf.used ≤ self.new.volume.shelf.pages) × (self.new.volume.shelf.pages ≤ 65536) }
+        ensures device { IsRead D.state self.old self.new }
     {
         let split = self.storage.split_root(&mut self.keys);
         self.storage.in_order();
@@ -204,6 +215,7 @@ impl<D: SectorDisk, K: ReadKeys> Engine<D, K> {
             → IsFull (format_of K.KeyClass) (D.state self.old.volume.shelf.disk) self.old item.page → (l : Limits)
             → Moves (class_of K.Key.Shape K.is_proper l) (reading_of K.said (format_of K.KeyClass)) (format_of K.KeyClass) (is_node (format_of K.KeyClass))
             (D.state self.old.volume.shelf.disk) (D.state self.new.volume.shelf.disk) session self.old self.new result (write_events session (Insert entry) result) }
+        ensures device { IsRead D.state self.old self.new }
     {
         a_class_is_lawful::<K>();
         self.sessions.has_failed();
@@ -228,6 +240,7 @@ impl<D: SectorDisk, K: ReadKeys> Engine<D, K> {
             → IsFull (format_of K.KeyClass) (D.state self.old.volume.shelf.disk) self.old item.page → (l : Limits)
             → Moves (class_of K.Key.Shape K.is_proper l) (reading_of K.said (format_of K.KeyClass)) (format_of K.KeyClass) (is_node (format_of K.KeyClass))
             (D.state self.old.volume.shelf.disk) (D.state self.new.volume.shelf.disk) session self.old self.new result (write_events session (Insert entry) result) }
+        ensures device { IsRead D.state self.old self.new }
     {
         a_class_is_lawful::<K>();
         self.sessions.has_failed();
@@ -253,6 +266,7 @@ impl<D: SectorDisk, K: ReadKeys> Engine<D, K> {
             → has_removable (is_held (keys_of K.Key.Shape) self.old) (node_shown (format_of K.KeyClass) (D.state self.old.volume.shelf.disk) item.page self.old) ≡ false) → (l : Limits)
             → Moves (class_of K.Key.Shape K.is_proper l) (reading_of K.said (format_of K.KeyClass)) (format_of K.KeyClass) (is_node (format_of K.KeyClass))
             (D.state self.old.volume.shelf.disk) (D.state self.new.volume.shelf.disk) session self.old self.new result (write_events session (Insert entry) result) }
+        ensures device { IsRead D.state self.old self.new }
     {
         if item.page() == 1 {
             self.split_top(session, parent, item)
@@ -268,12 +282,13 @@ impl<D: SectorDisk, K: ReadKeys> Engine<D, K> {
         requires works { self.old.sessions.failed ≡ false }
         requires early { is_due self.old ≡ false }
         ensures comes { (entry : Entry K.Key) → phase_at (session - 1) self.old.sessions.phases ≡ Open (Insert entry) (Descends parent item)
-            → SplitsAs K.Key.Shape K.KeyClass D.state session (Insert entry) item.page self.old self.new result }
+            → MakesRoomAs K.Key.Shape K.KeyClass D.state session (Insert entry) item.page self.old self.new result }
         ensures moves { (entry : Entry K.Key) → phase_at (session - 1) self.old.sessions.phases ≡ Open (Insert entry) (Descends parent item)
             → (IsSteady (D.state self.old.volume.shelf.disk) self.old.volume.shelf.frames → (((tree_of (store_of (format_of K.KeyClass) (D.state self.old.volume.shelf.disk).seen self.old.volume.shelf)).node item.page).level ≡ 0)
             × (self.old.volume.most ≤ length ((tree_of (store_of (format_of K.KeyClass) (D.state self.old.volume.shelf.disk).seen self.old.volume.shelf)).node item.page).pairs)) → (l : Limits)
             → Moves (class_of K.Key.Shape K.is_proper l) (reading_of K.said (format_of K.KeyClass)) (format_of K.KeyClass) (is_node (format_of K.KeyClass))
             (D.state self.old.volume.shelf.disk) (D.state self.new.volume.shelf.disk) session self.old self.new result (write_events session (Insert entry) result) }
+        ensures device { IsRead D.state self.old self.new }
     {
         a_class_is_lawful::<K>();
         self.sessions.has_failed();
@@ -303,6 +318,7 @@ impl<D: SectorDisk, K: ReadKeys> Engine<D, K> {
         ensures comes { WritesAs K.Key.Shape K.KeyClass D.state session (Insert entry) self.old self.new result }
         ensures moves { (l : Limits) → Moves (class_of K.Key.Shape K.is_proper l) (reading_of K.said (format_of K.KeyClass)) (format_of K.KeyClass) (is_node (format_of K.KeyClass))
             (D.state self.old.volume.shelf.disk) (D.state self.new.volume.shelf.disk) session self.old self.new result (write_events session (Insert entry) result) }
+        ensures device { IsRead D.state self.old self.new }
     {
         a_class_is_lawful::<K>();
         a_volume_shows_keys::<D, K>();
@@ -348,6 +364,7 @@ impl<D: SectorDisk, K: ReadKeys> Engine<D, K> {
         ensures comes { WritesAs K.Key.Shape K.KeyClass D.state session (Insert entry) self.old self.new result }
         ensures moves { (l : Limits) → Moves (class_of K.Key.Shape K.is_proper l) (reading_of K.said (format_of K.KeyClass)) (format_of K.KeyClass) (is_node (format_of K.KeyClass))
             (D.state self.old.volume.shelf.disk) (D.state self.new.volume.shelf.disk) session self.old self.new result (write_events session (Insert entry) result) }
+        ensures device { IsRead D.state self.old self.new }
     {
         if self.is_due() {
             return Outcome::Help(Need::Checkpoint);

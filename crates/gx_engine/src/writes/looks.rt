@@ -12,6 +12,7 @@ ghost use Rattle.gx_readings.specs.Classes.{class_of, reading_of};
 ghost use Rattle.gx_phases.specs.declared.phase.Phase.TheVariants.{Open};
 ghost use Rattle.gx_phases.specs.Moves.{WritesEntry, answered_state, is_open};
 ghost use Rattle.gx_phases.specs.States.{phase_at};
+ghost use Rattle.gx_engine.specs.Calls.{IsRead};
 ghost use Rattle.gx_engine.specs.declared.work.Work as declared;
 ghost use Rattle.gx_engine.specs.declared.work.Work.TheVariants.{Looks, Rests};
 ghost use Rattle.gx_engine.specs.Looking.{IsFirstUnless, LooksFor, Reaches, turned_by, work_before};
@@ -71,6 +72,7 @@ where
             → Moves (class_of K.Key.Shape K.is_proper l) (reading_of K.said (format_of K.KeyClass)) (format_of K.KeyClass) (is_node (format_of K.KeyClass))
             (D.state self.old.volume.shelf.disk) (D.state self.new.volume.shelf.disk) session (calling session call (work_before begun look) self.old) self.new outcome
             (write_events session call outcome)) }
+        ensures device { IsRead D.state self.old self.new }
     {
         a_class_is_lawful::<K>();
         a_volume_shows_the_logs_tree::<D, K>();
@@ -113,6 +115,7 @@ where
         ensures moves { IfErr result (λ outcome. (call : Call K.Key) (work : declared.Work K.Key) → LooksFor entry.now call work (phase_at (session - 1) self.old.sessions.phases) → (l : Limits)
             → Moves (class_of K.Key.Shape K.is_proper l) (reading_of K.said (format_of K.KeyClass)) (format_of K.KeyClass) (is_node (format_of K.KeyClass))
             (D.state self.old.volume.shelf.disk) (D.state self.new.volume.shelf.disk) session self.old self.new outcome (write_events session call outcome)) }
+        ensures device { IsRead D.state self.old self.new }
     {
         a_class_is_lawful::<K>();
         self.sessions.has_failed();
@@ -140,6 +143,7 @@ where
         ensures moves { (entry : Entry K.Key) → phase_at (session - 1) self.old.sessions.phases ≡ Open (Insert entry) Rests → (l : Limits)
             → Moves (class_of K.Key.Shape K.is_proper l) (reading_of K.said (format_of K.KeyClass)) (format_of K.KeyClass) (is_node (format_of K.KeyClass))
             (D.state self.old.volume.shelf.disk) (D.state self.new.volume.shelf.disk) session (calling session (Insert entry) (Looks look.now) self.old) self.new Outcome.More (Works ∷ []) }
+        ensures device { IsRead D.state self.old self.new }
     {
         a_class_is_lawful::<K>();
         self.sessions.has_failed();
@@ -160,6 +164,7 @@ where
             → Moves (class_of K.Key.Shape K.is_proper l) (reading_of K.said (format_of K.KeyClass)) (format_of K.KeyClass) (is_node (format_of K.KeyClass))
             (D.state self.old.volume.shelf.disk) (D.state self.new.volume.shelf.disk) session (calling session (Delete entry) (Looks look.now) self.old) self.new
             (Outcome.Replied (Reply.Refused Refusal.Absent)) (FindsAbsent session entry ∷ []) }
+        ensures device { IsRead D.state self.old self.new }
     {
         a_class_is_lawful::<K>();
         self.sessions.has_failed();
@@ -182,6 +187,7 @@ where
         ensures reads { OnlyReads self.old self.new }
         ensures moves { (l : Limits) → MovesSo (class_of K.Key.Shape K.is_proper l) (reading_of K.said (format_of K.KeyClass)) (format_of K.KeyClass) (is_node (format_of K.KeyClass))
             (D.state self.old.volume.shelf.disk) (D.state self.new.volume.shelf.disk) session self.old self.new result (AreWriting session (Insert entry) result) }
+        ensures device { IsRead D.state self.old self.new }
     {
         a_class_is_lawful::<K>();
         match self.write_look(session, &entry) {
@@ -200,6 +206,7 @@ where
         ensures reads { OnlyReads self.old self.new }
         ensures moves { (l : Limits) → MovesSo (class_of K.Key.Shape K.is_proper l) (reading_of K.said (format_of K.KeyClass)) (format_of K.KeyClass) (is_node (format_of K.KeyClass))
             (D.state self.old.volume.shelf.disk) (D.state self.new.volume.shelf.disk) session self.old self.new result (AreWriting session (Delete entry) result) }
+        ensures device { IsRead D.state self.old self.new }
     {
         a_class_is_lawful::<K>();
         match self.write_look(session, &entry) {

@@ -12,9 +12,10 @@ ghost use Rattle.gx_phases.specs.Moves.{transaction_of};
 ghost use Rattle.gx_phases.specs.States.{phase_at};
 ghost use Rattle.gx_storage.specs.Bringing.{bringing};
 ghost use Rattle.gx_storage.specs.Changes.{IsUnlogged, known_at};
+ghost use Rattle.gx_engine.specs.Calls.{IsRead};
 ghost use Rattle.gx_engine.specs.declared.work.Work.TheVariants.{Seeks};
 ghost use Rattle.gx_engine.specs.Moves.{Moves};
-ghost use Rattle.gx_engine.specs.Seeking.{IsSought, IsUnsought, SeekComes, set_outcome, set_state, standing_refusal, write_call, written_reply};
+ghost use Rattle.gx_engine.specs.Seeking.{IsSought, IsUnsought, SeeksAs, set_outcome, set_state, standing_refusal, write_call, written_reply};
 ghost use Rattle.gx_engine.specs.States.{is_due};
 ghost use Rattle.gx_engine.specs.Undoing.{Seeking};
 ghost use Rattle.gx_engine.specs.Writing.{WritesAs, write_events};
@@ -69,6 +70,7 @@ impl<D: SectorDisk, K: ReadKeys> Engine<D, K> {
         requires seeks { phase_at (session - 1) self.old.sessions.phases ≡ Open (write_call marked entry) (Seeks leaf) }
         ensures outcome { result ≡ set_outcome marked sought }
         ensures noted { self.new ≡ record self.old { sessions = set_state (keys_of K.Key.Shape) session entry leaf marked sought self.old.sessions } }
+        ensures device { IsRead D.state self.old self.new }
     {
         match sought {
             Sought::Here(_, before) => {
@@ -101,6 +103,7 @@ where
             K.spelling K.KEY (D.state self.old.volume.shelf.disk) (D.state self.new.volume.shelf.disk) self.old.volume self.new.volume (transaction_of session self.old.sessions)
             (record { entry = entry.now; before = marked; leaf = leaf }) leaf result }
         ensures only { self.new ≡ record self.old { volume = self.new.volume } }
+        ensures device { IsRead D.state self.old self.new }
     {
         let wanted = Wanted::<K>::entry(entry);
         let transaction = self.sessions.transaction(session);
@@ -120,6 +123,7 @@ where
         ensures refused { IfErr result (IsUnsought (format_of K.KeyClass) K.is_key (keys_of K.Key.Shape) (is_node (format_of K.KeyClass))
             (D.state self.old.volume.shelf.disk) (D.state self.new.volume.shelf.disk) self.old.volume self.new.volume leaf) }
         ensures only { self.new ≡ record self.old { volume = self.new.volume } }
+        ensures device { IsRead D.state self.old self.new }
     {
         let wanted = Wanted::<K>::entry(entry);
         self.storage.seek_step(&wanted, leaf)
@@ -139,10 +143,10 @@ where
         requires works { self.old.sessions.failed ≡ false }
         requires early { is_due self.old ≡ false }
         requires found { (slot : ℕ) × IsSought (format_of K.KeyClass) K.is_key (keys_of K.Key.Shape) (D.state self.old.volume.shelf.disk) self.old.volume entry leaf (Here slot (not marked)) }
-        ensures comes { SeekComes (format_of K.KeyClass) K.is_key (keys_of K.Key.Shape) (is_node (format_of K.KeyClass)) (D.state self.old.volume.shelf.disk) (D.state self.new.volume.shelf.disk)
-            session entry leaf marked self.old self.new result }
+        ensures comes { SeeksAs K.Key.Shape K.KeyClass D.state session entry leaf marked self.old self.new result }
         ensures moves { (l : Limits) → Moves (class_of K.Key.Shape K.is_proper l) (reading_of K.said (format_of K.KeyClass)) (format_of K.KeyClass) (is_node (format_of K.KeyClass))
             (D.state self.old.volume.shelf.disk) (D.state self.new.volume.shelf.disk) session self.old self.new result (write_events session (write_call marked entry) result) }
+        ensures device { IsRead D.state self.old self.new }
     {
         a_class_is_lawful::<K>();
         a_volume_shows_the_logs_tree::<D, K>();
@@ -173,10 +177,10 @@ where
         requires seeks { phase_at (session - 1) self.old.sessions.phases ≡ Open (write_call marked entry) (Seeks leaf) }
         requires works { self.old.sessions.failed ≡ false }
         requires found { IsSought (format_of K.KeyClass) K.is_key (keys_of K.Key.Shape) (D.state self.old.volume.shelf.disk) self.old.volume entry leaf sought }
-        ensures comes { SeekComes (format_of K.KeyClass) K.is_key (keys_of K.Key.Shape) (is_node (format_of K.KeyClass)) (D.state self.old.volume.shelf.disk) (D.state self.new.volume.shelf.disk)
-            session entry leaf marked self.old self.new result }
+        ensures comes { SeeksAs K.Key.Shape K.KeyClass D.state session entry leaf marked self.old self.new result }
         ensures moves { (l : Limits) → Moves (class_of K.Key.Shape K.is_proper l) (reading_of K.said (format_of K.KeyClass)) (format_of K.KeyClass) (is_node (format_of K.KeyClass))
             (D.state self.old.volume.shelf.disk) (D.state self.new.volume.shelf.disk) session self.old self.new result (write_events session (write_call marked entry) result) }
+        ensures device { IsRead D.state self.old self.new }
     {
         a_class_is_lawful::<K>();
         a_volume_shows_the_logs_tree::<D, K>();
@@ -209,10 +213,10 @@ where
         requires session { is_session session ≡ true }
         requires seeks { phase_at (session - 1) self.old.sessions.phases ≡ Open (write_call marked entry) (Seeks leaf) }
         requires works { self.old.sessions.failed ≡ false }
-        ensures comes { SeekComes (format_of K.KeyClass) K.is_key (keys_of K.Key.Shape) (is_node (format_of K.KeyClass)) (D.state self.old.volume.shelf.disk) (D.state self.new.volume.shelf.disk)
-            session entry leaf marked self.old self.new result }
+        ensures comes { SeeksAs K.Key.Shape K.KeyClass D.state session entry leaf marked self.old self.new result }
         ensures moves { (l : Limits) → Moves (class_of K.Key.Shape K.is_proper l) (reading_of K.said (format_of K.KeyClass)) (format_of K.KeyClass) (is_node (format_of K.KeyClass))
             (D.state self.old.volume.shelf.disk) (D.state self.new.volume.shelf.disk) session self.old self.new result (write_events session (write_call marked entry) result) }
+        ensures device { IsRead D.state self.old self.new }
     {
         a_class_is_lawful::<K>();
         a_volume_shows_the_logs_tree::<D, K>();
@@ -246,6 +250,7 @@ where
         ensures comes { WritesAs K.Key.Shape K.KeyClass D.state session (Insert entry) self.old self.new result }
         ensures moves { (l : Limits) → Moves (class_of K.Key.Shape K.is_proper l) (reading_of K.said (format_of K.KeyClass)) (format_of K.KeyClass) (is_node (format_of K.KeyClass))
             (D.state self.old.volume.shelf.disk) (D.state self.new.volume.shelf.disk) session self.old self.new result (write_events session (Insert entry) result) }
+        ensures device { IsRead D.state self.old self.new }
     {
         self.write_at(session, entry, leaf, false)
     }
@@ -264,6 +269,7 @@ where
         ensures comes { WritesAs K.Key.Shape K.KeyClass D.state session (Delete entry) self.old self.new result }
         ensures moves { (l : Limits) → Moves (class_of K.Key.Shape K.is_proper l) (reading_of K.said (format_of K.KeyClass)) (format_of K.KeyClass) (is_node (format_of K.KeyClass))
             (D.state self.old.volume.shelf.disk) (D.state self.new.volume.shelf.disk) session self.old self.new result (write_events session (Delete entry) result) }
+        ensures device { IsRead D.state self.old self.new }
     {
         self.write_at(session, entry, leaf, true)
     }

@@ -14,14 +14,14 @@ loop-turn-preserved g c = record {
   driver = c.in-Run.ensures.same ∙ c.loop-turn.invariant.driver;
   way =
       under_way_more (Makes (record { partial_cmp = g.K.Key.PartialOrd.partial_cmp; eq = g.K.Key.PartialEq.eq; cmp = g.K.Key.Ord.cmp; overlap = g.K.Key.Shape.overlap; inside = g.K.Key.Shape.inside }) g.K.ReadKeys.is_proper g.K.ReadKeys.said g.K.KeyClass g.D.SectorDisk.state) c.args.session c.args.first c.args.engine.now c.loop-turn._turn c.loop-turn.next c.in-Run.event c.step.result c.loop-turn.engine c.step.new.self
-      c.loop-turn.invariant.way (record { comes = c.step.ensures.comes; steps = c.step.ensures.steps; order = c.step.ensures.order })
+      c.loop-turn.invariant.way (record { comes = c.step.ensures.comes; steps = c.step.ensures.steps; calls = c.step.ensures.calls; order = c.step.ensures.order })
       (c.in-Run.ensures.next ∙ ap (λ s. next_of s c.step.result) c.loop-turn.invariant.driver);
 }
 
 pub returns-in-Done-clause-made : goal.returns-in-Done-clause-made
 returns-in-Done-clause-made g c =
     driven_last (Makes (record { partial_cmp = g.K.Key.PartialOrd.partial_cmp; eq = g.K.Key.PartialEq.eq; cmp = g.K.Key.Ord.cmp; overlap = g.K.Key.Shape.overlap; inside = g.K.Key.Shape.inside }) g.K.ReadKeys.is_proper g.K.ReadKeys.said g.K.KeyClass g.D.SectorDisk.state) c.args.session c.args.first c.args.engine.now c.loop-turn._turn c.loop-turn.next c.step.result c.loop-turn.engine c.step.new.self c.in-Done.reply
-    c.loop-turn.invariant.way (record { comes = c.step.ensures.comes; steps = c.step.ensures.steps; order = c.step.ensures.order })
+    c.loop-turn.invariant.way (record { comes = c.step.ensures.comes; steps = c.step.ensures.steps; calls = c.step.ensures.calls; order = c.step.ensures.order })
     (c.in-Done.ensures.next ∙ ap (λ s. next_of s c.step.result) c.loop-turn.invariant.driver) (omega arith)
 
 pub returns-clause-ends : goal.returns-clause-ends

@@ -16,12 +16,13 @@ use Rattle.gx_engine.proofs.Serving.{flies_on}
 use Rattle.gx_engine.proofs.Inserted.{added_comes, added_is, added_moves, never_added}
 use Rattle.gx_engine.proofs.Stopping.{lost_comes, stopped_comes, stopped_moves}
 use Rattle.gx_engine.proofs.Undone.{why_pages}
+use Rattle.gx_engine.proofs.Calling.{then_read}
 use Rattle.gx_engine.proofs.engine.Engine.add_here.Goals as goal
 
 pub returns-in-Ok-clause-comes : goal.returns-in-Ok-clause-comes
 returns-in-Ok-clause-comes g c =
     added_comes c.args.session c.args.entry (keys g.K.Key.Ord.cmp g.K.Key.Shape.overlap g.K.Key.Shape.inside) c.args.item.page c.args.self.now c.add_pair.new.self c.note_added.new.self
-    c.add_pair.ensures.only (search rules) c.note_added.result c.note_added.ensures.outcome (format_of g.K.KeyClass) _ g.D.SectorDisk.state c.in-Ok.ensures.adds.logged.most
+    c.add_pair.ensures.only (search rules) c.note_added.result c.note_added.ensures.outcome _ _ _ g.D.SectorDisk.state c.in-Ok.ensures.adds.logged.most
 
 pub returns-in-Ok-clause-moves : goal.returns-in-Ok-clause-moves
 returns-in-Ok-clause-moves g c leaf =
@@ -46,11 +47,11 @@ pub returns-in-Err-Pages-clause-comes : goal.returns-in-Err-Pages-clause-comes
 returns-in-Err-Pages-clause-comes g c =
     let did = c.in-Err-Pages.ensures.adds in
     let short = g.met.K.KeyClass.key_is_short in
-    stopped_comes (keys g.K.Key.Ord.cmp g.K.Key.Shape.overlap g.K.Key.Shape.inside) (format_of g.K.KeyClass) (is_node (format_of g.K.KeyClass)) g.D.SectorDisk.state c.args.self.now c.args.session c.args.entry c.add_pair.new.self.volume did.stops.unlogged.most did.stops.unlogged.log
-    c.requires.early (λ page. (did.stops.unlogged.since page).same.stamp) (g.K.KeyClass.KEY + 4119) (omega (arith, short)) c.in-Err-Pages.fault (why_pages _ c.in-Err-Pages.field-0 c.in-Err-Pages.fault c.in-Err-Pages.field-0-is did.stops.why)
+    stopped_comes _ _ (keys g.K.Key.Ord.cmp g.K.Key.Shape.overlap g.K.Key.Shape.inside) (is_node (format_of g.K.KeyClass)) g.D.SectorDisk.state c.args.self.now c.args.session c.args.entry c.add_pair.new.self.volume did.stops.unlogged.most did.stops.unlogged.log
+    c.requires.early (λ page. (did.stops.unlogged.since page).same.stamp) (g.K.KeyClass.KEY + 4119) refl (omega (arith, short)) c.in-Err-Pages.fault (why_pages _ c.in-Err-Pages.field-0 c.in-Err-Pages.fault c.in-Err-Pages.field-0-is did.stops.why)
     c.refuse.new.self c.refuse.result
     (subst (λ (x : Parts g.row.K-Key.Denot g.row.D.Denot). IsRefused c.in-Err-Pages.fault x c.refuse.new.self c.refuse.result) c.add_pair.ensures.only
-    (subst (λ (n : StoreFault). IsRefused n c.add_pair.new.self c.refuse.new.self c.refuse.result) c.in-Err-Pages.fault-is c.refuse.ensures))
+    (subst (λ (n : StoreFault). IsRefused n c.add_pair.new.self c.refuse.new.self c.refuse.result) c.in-Err-Pages.fault-is c.refuse.ensures.refused))
 
 pub returns-in-Err-Pages-clause-moves : goal.returns-in-Err-Pages-clause-moves
 returns-in-Err-Pages-clause-moves g c leaf =
@@ -64,7 +65,7 @@ returns-in-Err-Pages-clause-moves g c leaf =
     (g.K.KeyClass.KEY + 4119) c.in-Err-Pages.fault (why_pages _ c.in-Err-Pages.field-0 c.in-Err-Pages.fault c.in-Err-Pages.field-0-is did.stops.why)
     c.refuse.new.self c.refuse.result
     (subst (λ (x : Parts g.row.K-Key.Denot g.row.D.Denot). IsRefused c.in-Err-Pages.fault x c.refuse.new.self c.refuse.result) c.add_pair.ensures.only
-    (subst (λ (n : StoreFault). IsRefused n c.add_pair.new.self c.refuse.new.self c.refuse.result) c.in-Err-Pages.fault-is c.refuse.ensures))
+    (subst (λ (n : StoreFault). IsRefused n c.add_pair.new.self c.refuse.new.self c.refuse.result) c.in-Err-Pages.fault-is c.refuse.ensures.refused))
 
 pub returns-in-Err-Memory : goal.returns-in-Err-Memory
 returns-in-Err-Memory g c =
@@ -77,8 +78,9 @@ returns-in-Err-Memory g c =
     let damaged : c.in-Err-Memory.field-0 ≡ Damaged = search rules in
     record {
       comes =
-          lost_comes k (format_of g.K.KeyClass) (is_node (format_of g.K.KeyClass)) state old c.args.session c.args.entry c.add_pair.new.self.volume un.most un.log c.break_off.new.self c.break_off.result c.break_off.ensures.outcome
+          lost_comes _ _ k (is_node (format_of g.K.KeyClass)) state old c.args.session c.args.entry c.add_pair.new.self.volume un.most un.log c.break_off.new.self c.break_off.result c.break_off.ensures.outcome
           (c.break_off.ensures.failed ∙ ap (λ (x : Parts g.row.K-Key.Denot g.row.D.Denot). record x { sessions = failed_state x.sessions }) c.add_pair.ensures.only);
+      device = then_read g.D.SectorDisk.state c.args.self.now c.add_pair.new.self c.break_off.new.self c.add_pair.ensures.device c.break_off.ensures.device;
       moves = λ leaf l.
           never_added _ (c.a_class_is_lawful.ensures l) _ (format_of g.K.KeyClass) _ (state old.volume.shelf.disk) _ old kept c.args.session c.requires.session c.args.entry c.args.parent c.args.item c.requires.descends
           (λ steady. ((leaf steady).1, (leaf steady).2)) (λ steady. did.damaged steady damaged) c.break_off.new.self c.break_off.result _;

@@ -6,6 +6,7 @@ use Rattle.gx_engine.specs.Refusals.{IsTurnedAway}
 use Rattle.gx_engine.specs.States.{Parts}
 use Rattle.gx_engine.proofs.Ordered.{order_read}
 use Rattle.gx_engine.proofs.Brought.{brought_leads, by_refusal, refused_leads}
+use Rattle.gx_pool.proofs.Bringing.{only_read_joined}
 use Rattle.gx_engine.proofs.engine.Engine.bring.Goals as goal
 
 -- an engine that turns pages away has the same pages
@@ -28,12 +29,12 @@ returns-in-Ok-clause-leads g c =
 
 pub returns-in-Err-clause-unlogged : goal.returns-in-Err-clause-unlogged
 returns-in-Err-clause-unlogged g c =
-    let same = same_pages c.in-Err.fault _ c.turn_away.new.self c.turn_away.result c.turn_away.ensures in
+    let same = same_pages c.in-Err.fault _ c.turn_away.new.self c.turn_away.result c.turn_away.ensures.refused in
     rw (same, ← c.self.view_is) c.bring.ensures.unlogged
 
 pub returns-in-Err-clause-stays : goal.returns-in-Err-clause-stays
 returns-in-Err-clause-stays g c =
-    let same = same_pages c.in-Err.fault _ c.turn_away.new.self c.turn_away.result c.turn_away.ensures in
+    let same = same_pages c.in-Err.fault _ c.turn_away.new.self c.turn_away.result c.turn_away.ensures.refused in
     rw (same, ← c.self.view_is) c.bring.ensures.stays
 
 pub returns-in-Err-clause-leads : goal.returns-in-Err-clause-leads
@@ -42,4 +43,11 @@ returns-in-Err-clause-leads g c =
     let w = c.bring.new.self in
     let did = c.bring.ensures.unlogged in
     rw (← c.self.view_is) (λ l. refused_leads _ (c.a_class_is_lawful.ensures l) _ _ _ g.D.SectorDisk.state old w did.most did.log (did.since 0).goes_on.device (did.keeps l)
-    true c.in-Err.fault c.in-Err.ensures.why c.turn_away.new.self c.turn_away.result c.turn_away.ensures)
+    true c.in-Err.fault c.in-Err.ensures.why c.turn_away.new.self c.turn_away.result c.turn_away.ensures.refused)
+
+pub returns-in-Err-clause-device : goal.returns-in-Err-clause-device
+returns-in-Err-clause-device g c =
+    let state = g.D.SectorDisk.state in
+    let did = c.bring.ensures.unlogged in
+    rw (← c.self.view_is)
+    (only_read_joined (state c.self.inside.storage.shelf.disk) (state c.bring.new.self.shelf.disk) (state c.turn_away.new.self.volume.shelf.disk) (did.since 0).goes_on.device c.turn_away.ensures.device)

@@ -1,4 +1,4 @@
-use Rattle.std.proofs.Common.{◌≡◌, ◌≤◌, length, ◌-◌, ◌∙◌, ap, refl, subst, arith, rules}
+use Rattle.std.proofs.Common.{◌≡◌, ◌⊎◌, ◌≤◌, length, ◌-◌, ◌∙◌, ap, refl, subst, arith, rules}
 use Rattle.gx_machine.specs.declared.call.Call.TheVariants.{Insert}
 use Rattle.gx_machine.specs.Keys.{Members, keys}
 use Rattle.gx_glog.specs.State.{Log}
@@ -12,7 +12,7 @@ use Rattle.gx_engine.specs.declared.work.Work.TheVariants.{Descends}
 use Rattle.gx_engine.specs.Moves.{Moves}
 use Rattle.gx_engine.specs.Refusals.{IsRefused}
 use Rattle.gx_engine.specs.States.{Parts}
-use Rattle.gx_engine.specs.Writing.{write_events}
+use Rattle.gx_engine.specs.Writing.{AsksRoom, IsFull, LacksPages, LeftFew, page_record, split_record, write_events, write_record}
 use Rattle.gx_tree.specs.declared.descent.Descended.TheVariants.{Again, Down, FullInner, FullLeaf, Leaf, Widened}
 use Rattle.gx_tree.specs.declared.descent.Way.TheVariants.{Add}
 use Rattle.gx_tree.specs.declared.descent.Descended.{Descended}
@@ -26,10 +26,11 @@ use Rattle.gx_engine.specs.Sweeping.{is_held, node_shown}
 use Rattle.gx_engine.proofs.Serving.{flies_on}
 use Rattle.gx_engine.proofs.DescentMoves.{full_inner, full_leaf, inner_removable, never_stepped, removable_again, said_again, stepped_as}
 use Rattle.gx_engine.proofs.Descents.{again_moves, down_moves, widened_moves}
-use Rattle.gx_engine.proofs.MakingRoom.{full_write, on_comes, on_is}
-use Rattle.gx_engine.proofs.ReadFirst.{comes_then, moves_then, split_then}
+use Rattle.gx_engine.proofs.MakingRoom.{asks_page, asks_split, asks_sweep, asks_write, comes_more, lacks_pages, on_comes, on_is}
+use Rattle.gx_engine.proofs.ReadFirst.{comes_then, few_then, moves_then}
 use Rattle.gx_engine.proofs.Stopping.{lost_comes, stopped_comes, stopped_moves}
 use Rattle.gx_engine.proofs.Undone.{why_pages}
+use Rattle.gx_engine.proofs.Calling.{then_read}
 use Rattle.gx_engine.proofs.engine.Engine.descend_on.Goals as goal
 
 pub returns-in-Widened-clause-comes : goal.returns-in-Widened-clause-comes
@@ -42,7 +43,7 @@ returns-in-Widened-clause-comes g c =
     let f = format_of g.K.KeyClass in
     let has = stepped_as (known_at shape g.K.ReadKeys.is_proper) (reading_of g.K.ReadKeys.said f) f (is_node f) (state old.volume.shelf.disk) (state c.step_down.new.self.volume.shelf.disk) old.volume c.step_down.new.self.volume g.K.KeyClass.cost g.K.KeyClass.joined c.args.item c.args.entry.key c.in-Ok.did (Widened c.in-Widened.field-0 c.in-Widened.field-1 c.in-Widened.field-2) c.in-Widened.is c.in-Ok.ensures.step in
     let there = c.go_down.ensures.there c.in-Widened.field-0 (ap (λ (x : Descended g.row.K-Key.Denot). next_of x) c.in-Widened.is) (Insert c.args.entry) (Descends c.args.parent c.args.item) (ap (λ (x : Parts g.row.K-Key.Denot g.row.D.Denot). phase_at (c.args.session - 1) x.sessions.phases) c.step_down.ensures.only ∙ c.requires.descends) in
-    on_comes c.args.session (Insert c.args.entry) c.args.item.page c.in-Widened.field-0 old c.step_down.new.self c.go_down.new.self c.step_down.ensures.only there c.go_down.result c.go_down.ensures.outcome k f (is_node f) state has.logged.most
+    on_comes c.args.session (Insert c.args.entry) c.args.item.page c.in-Widened.field-0 old c.step_down.new.self c.go_down.new.self c.step_down.ensures.only there c.go_down.result c.go_down.ensures.outcome _ _ k (is_node f) state has.logged.most
 
 pub returns-in-Widened-clause-moves : goal.returns-in-Widened-clause-moves
 returns-in-Widened-clause-moves g c l =
@@ -80,7 +81,7 @@ returns-in-Down-clause-comes g c =
     let f = format_of g.K.KeyClass in
     let has = stepped_as (known_at shape g.K.ReadKeys.is_proper) (reading_of g.K.ReadKeys.said f) f (is_node f) (state old.volume.shelf.disk) (state c.step_down.new.self.volume.shelf.disk) old.volume c.step_down.new.self.volume g.K.KeyClass.cost g.K.KeyClass.joined c.args.item c.args.entry.key c.in-Ok.did (Down c.in-Down.field-0) c.in-Down.is c.in-Ok.ensures.step in
     let there = c.go_down-in-Down.ensures.there c.in-Down.field-0 (ap (λ (x : Descended g.row.K-Key.Denot). next_of x) c.in-Down.is) (Insert c.args.entry) (Descends c.args.parent c.args.item) (ap (λ (x : Parts g.row.K-Key.Denot g.row.D.Denot). phase_at (c.args.session - 1) x.sessions.phases) c.step_down.ensures.only ∙ c.requires.descends) in
-    on_comes c.args.session (Insert c.args.entry) c.args.item.page c.in-Down.field-0 old c.step_down.new.self c.go_down-in-Down.new.self c.step_down.ensures.only there c.go_down-in-Down.result c.go_down-in-Down.ensures.outcome k f (is_node f) state has.logged.most
+    on_comes c.args.session (Insert c.args.entry) c.args.item.page c.in-Down.field-0 old c.step_down.new.self c.go_down-in-Down.new.self c.step_down.ensures.only there c.go_down-in-Down.result c.go_down-in-Down.ensures.outcome _ _ k (is_node f) state has.logged.most
 
 pub returns-in-Down-clause-moves : goal.returns-in-Down-clause-moves
 returns-in-Down-clause-moves g c l =
@@ -118,7 +119,7 @@ returns-in-Again-clause-comes g c =
     let f = format_of g.K.KeyClass in
     let has = stepped_as (known_at shape g.K.ReadKeys.is_proper) (reading_of g.K.ReadKeys.said f) f (is_node f) (state old.volume.shelf.disk) (state c.step_down.new.self.volume.shelf.disk) old.volume c.step_down.new.self.volume g.K.KeyClass.cost g.K.KeyClass.joined c.args.item c.args.entry.key c.in-Ok.did Again c.in-Again.is c.in-Ok.ensures.step in
     let there = c.begin_again.ensures.there (Insert c.args.entry) (Descends c.args.parent c.args.item) (ap (λ (x : Parts g.row.K-Key.Denot g.row.D.Denot). phase_at (c.args.session - 1) x.sessions.phases) c.step_down.ensures.only ∙ c.requires.descends) in
-    on_comes c.args.session (Insert c.args.entry) 0 (record { page = 1; seen = c.step_down.new.self.volume.shelf.counter }) old c.step_down.new.self c.begin_again.new.self c.step_down.ensures.only there c.begin_again.result c.begin_again.ensures.outcome k f (is_node f) state has.logged.most
+    on_comes c.args.session (Insert c.args.entry) 0 (record { page = 1; seen = c.step_down.new.self.volume.shelf.counter }) old c.step_down.new.self c.begin_again.new.self c.step_down.ensures.only there c.begin_again.result c.begin_again.ensures.outcome _ _ k (is_node f) state has.logged.most
 
 pub returns-in-Again-clause-moves : goal.returns-in-Again-clause-moves
 returns-in-Again-clause-moves g c l =
@@ -147,8 +148,19 @@ returns-in-Leaf-clause-comes g c =
     record { partial_cmp = g.K.Key.PartialOrd.partial_cmp; eq = g.K.Key.PartialEq.eq; cmp = g.K.Key.Ord.cmp; overlap = g.K.Key.Shape.overlap; inside = g.K.Key.Shape.inside } in
     let f = format_of g.K.KeyClass in
     let has = stepped_as (known_at shape g.K.ReadKeys.is_proper) (reading_of g.K.ReadKeys.said f) f (is_node f) (state old.volume.shelf.disk) (state c.step_down.new.self.volume.shelf.disk) old.volume c.step_down.new.self.volume g.K.KeyClass.cost g.K.KeyClass.joined c.args.item c.args.entry.key c.in-Ok.did Leaf c.in-Leaf.is c.in-Ok.ensures.step in
-    comes_then k (known_at shape g.K.ReadKeys.is_proper) (reading_of g.K.ReadKeys.said f) f (is_node f) 4114 (state old.volume.shelf.disk) (state c.step_down.new.self.volume.shelf.disk) (state c.add_here.new.self.volume.shelf.disk) c.args.session c.args.entry old c.step_down.new.self c.step_down.ensures.only has.logged
-    (λ steady. (has.steps steady).1) c.add_here.new.self c.add_here.result c.add_here.ensures.comes
+    let known = known_at shape g.K.ReadKeys.is_proper in
+    let r = reading_of g.K.ReadKeys.said f in
+    let d = state old.volume.shelf.disk in
+    let m = state c.step_down.new.self.volume.shelf.disk in
+    let mid = c.step_down.new.self in
+    let page = c.args.item.page in
+    let key = g.K.KeyClass.KEY in
+    let e = state c.add_here.new.self.volume.shelf.disk in
+    comes_more k (is_node f) d e c.args.session (Insert c.args.entry) old c.add_here.new.self (λ size. size ≡ write_record key) (AsksRoom f key d c.args.session (Insert c.args.entry) old)
+    (asks_write f key d c.args.session c.args.entry c.args.parent c.args.item old c.requires.descends (λ steady. ((has.steps steady).0.1, (has.steps steady).0.2)))
+    ⊥ (LacksPages f d c.args.session (Insert c.args.entry) old) (λ none. absurd none) c.add_here.result
+    (comes_then k known r f (is_node f) 4114 d m e c.args.session c.args.entry old mid c.step_down.ensures.only has.logged (λ size. size ≡ write_record key) ⊥ ⊥ (λ none. none)
+    c.add_here.new.self c.add_here.result c.add_here.ensures.comes)
 
 pub returns-in-Leaf-clause-moves : goal.returns-in-Leaf-clause-moves
 returns-in-Leaf-clause-moves g c l bodies i h =
@@ -175,10 +187,22 @@ returns-in-FullLeaf-clause-comes g c =
     record { partial_cmp = g.K.Key.PartialOrd.partial_cmp; eq = g.K.Key.PartialEq.eq; cmp = g.K.Key.Ord.cmp; overlap = g.K.Key.Shape.overlap; inside = g.K.Key.Shape.inside } in
     let f = format_of g.K.KeyClass in
     let has = stepped_as (known_at shape g.K.ReadKeys.is_proper) (reading_of g.K.ReadKeys.said f) f (is_node f) (state old.volume.shelf.disk) (state c.step_down.new.self.volume.shelf.disk) old.volume c.step_down.new.self.volume g.K.KeyClass.cost g.K.KeyClass.joined c.args.item c.args.entry.key c.in-Ok.did FullLeaf c.in-FullLeaf.is c.in-Ok.ensures.step in
-    full_write k f (is_node f) (state old.volume.shelf.disk) (state c.make_room.new.self.volume.shelf.disk) c.args.session c.args.entry c.args.parent c.args.item old c.make_room.new.self c.requires.descends
-    (λ steady. full_leaf (node_shown f (state old.volume.shelf.disk) c.args.item.page old) old.volume.most (has.steps steady).0.2) c.make_room.result
-    (split_then k (known_at shape g.K.ReadKeys.is_proper) (reading_of g.K.ReadKeys.said f) f (is_node f) 4114 (state old.volume.shelf.disk) (state c.step_down.new.self.volume.shelf.disk) (state c.make_room.new.self.volume.shelf.disk) c.args.session c.args.entry old c.step_down.new.self c.step_down.ensures.only has.logged
-    (λ steady. (has.steps steady).1) c.args.item.page c.make_room.new.self c.make_room.result (c.make_room.ensures.comes c.args.entry (ap (λ (x : Parts g.row.K-Key.Denot g.row.D.Denot). phase_at (c.args.session - 1) x.sessions.phases) c.step_down.ensures.only ∙ c.requires.descends)))
+    let known = known_at shape g.K.ReadKeys.is_proper in
+    let r = reading_of g.K.ReadKeys.said f in
+    let d = state old.volume.shelf.disk in
+    let m = state c.step_down.new.self.volume.shelf.disk in
+    let mid = c.step_down.new.self in
+    let page = c.args.item.page in
+    let key = g.K.KeyClass.KEY in
+    let e = state c.make_room.new.self.volume.shelf.disk in
+    let full : IsFull f d old page = λ steady. full_leaf (node_shown f d page old) old.volume.most (has.steps steady).0.2 in
+    comes_more k (is_node f) d e c.args.session (Insert c.args.entry) old c.make_room.new.self (λ size. (size ≡ page_record) ⊎ (size ≡ split_record)) (AsksRoom f key d c.args.session (Insert c.args.entry) old)
+    (asks_sweep f key d c.args.session c.args.entry c.args.parent c.args.item old c.requires.descends full)
+    (LeftFew d old page) (LacksPages f d c.args.session (Insert c.args.entry) old)
+    (lacks_pages f key d c.args.session c.args.entry c.args.parent c.args.item old c.requires.descends full) c.make_room.result
+    (comes_then k known r f (is_node f) 4114 d m e c.args.session c.args.entry old mid c.step_down.ensures.only has.logged (λ size. (size ≡ page_record) ⊎ (size ≡ split_record)) (LeftFew m mid page) (LeftFew d old page)
+    (few_then k known r f (is_node f) 4114 d m e c.args.session c.args.entry old mid c.step_down.ensures.only has.logged (λ steady. (has.steps steady).1) page)
+    c.make_room.new.self c.make_room.result (c.make_room.ensures.comes c.args.entry (ap (λ (x : Parts g.row.K-Key.Denot g.row.D.Denot). phase_at (c.args.session - 1) x.sessions.phases) c.step_down.ensures.only ∙ c.requires.descends)))
 
 pub returns-in-FullLeaf-clause-moves : goal.returns-in-FullLeaf-clause-moves
 returns-in-FullLeaf-clause-moves g c l bodies i h =
@@ -206,10 +230,22 @@ returns-in-FullInner-clause-comes g c =
     record { partial_cmp = g.K.Key.PartialOrd.partial_cmp; eq = g.K.Key.PartialEq.eq; cmp = g.K.Key.Ord.cmp; overlap = g.K.Key.Shape.overlap; inside = g.K.Key.Shape.inside } in
     let f = format_of g.K.KeyClass in
     let has = stepped_as (known_at shape g.K.ReadKeys.is_proper) (reading_of g.K.ReadKeys.said f) f (is_node f) (state old.volume.shelf.disk) (state c.step_down.new.self.volume.shelf.disk) old.volume c.step_down.new.self.volume g.K.KeyClass.cost g.K.KeyClass.joined c.args.item c.args.entry.key c.in-Ok.did FullInner c.in-FullInner.is c.in-Ok.ensures.step in
-    full_write k f (is_node f) (state old.volume.shelf.disk) (state c.split_here.new.self.volume.shelf.disk) c.args.session c.args.entry c.args.parent c.args.item old c.split_here.new.self c.requires.descends
-    (λ steady. full_inner (node_shown f (state old.volume.shelf.disk) c.args.item.page old) old.volume.most (has.steps steady).0.2) c.split_here.result
-    (split_then k (known_at shape g.K.ReadKeys.is_proper) (reading_of g.K.ReadKeys.said f) f (is_node f) 4114 (state old.volume.shelf.disk) (state c.step_down.new.self.volume.shelf.disk) (state c.split_here.new.self.volume.shelf.disk) c.args.session c.args.entry old c.step_down.new.self c.step_down.ensures.only has.logged
-    (λ steady. (has.steps steady).1) c.args.item.page c.split_here.new.self c.split_here.result (c.split_here.ensures.comes c.args.entry (ap (λ (x : Parts g.row.K-Key.Denot g.row.D.Denot). phase_at (c.args.session - 1) x.sessions.phases) c.step_down.ensures.only ∙ c.requires.descends)))
+    let known = known_at shape g.K.ReadKeys.is_proper in
+    let r = reading_of g.K.ReadKeys.said f in
+    let d = state old.volume.shelf.disk in
+    let m = state c.step_down.new.self.volume.shelf.disk in
+    let mid = c.step_down.new.self in
+    let page = c.args.item.page in
+    let key = g.K.KeyClass.KEY in
+    let e = state c.split_here.new.self.volume.shelf.disk in
+    let full : IsFull f d old page = λ steady. full_inner (node_shown f d page old) old.volume.most (has.steps steady).0.2 in
+    comes_more k (is_node f) d e c.args.session (Insert c.args.entry) old c.split_here.new.self (λ size. size ≡ split_record) (AsksRoom f key d c.args.session (Insert c.args.entry) old)
+    (asks_split f key d c.args.session c.args.entry c.args.parent c.args.item old c.requires.descends full)
+    (LeftFew d old page) (LacksPages f d c.args.session (Insert c.args.entry) old)
+    (lacks_pages f key d c.args.session c.args.entry c.args.parent c.args.item old c.requires.descends full) c.split_here.result
+    (comes_then k known r f (is_node f) 4114 d m e c.args.session c.args.entry old mid c.step_down.ensures.only has.logged (λ size. size ≡ split_record) (LeftFew m mid page) (LeftFew d old page)
+    (few_then k known r f (is_node f) 4114 d m e c.args.session c.args.entry old mid c.step_down.ensures.only has.logged (λ steady. (has.steps steady).1) page)
+    c.split_here.new.self c.split_here.result (c.split_here.ensures.comes c.args.entry (ap (λ (x : Parts g.row.K-Key.Denot g.row.D.Denot). phase_at (c.args.session - 1) x.sessions.phases) c.step_down.ensures.only ∙ c.requires.descends)))
 
 pub returns-in-FullInner-clause-moves : goal.returns-in-FullInner-clause-moves
 returns-in-FullInner-clause-moves g c l bodies i h =
@@ -235,11 +271,11 @@ returns-in-Err-Pages-clause-comes g c =
     let k = keys g.K.Key.Ord.cmp g.K.Key.Shape.overlap g.K.Key.Shape.inside in
     let state = g.D.SectorDisk.state in
     let did = c.in-Err-Pages.ensures.step in
-    stopped_comes k (format_of g.K.KeyClass) (is_node (format_of g.K.KeyClass)) state old c.args.session c.args.entry c.step_down.new.self.volume did.stops.unlogged.most did.stops.unlogged.log
-    c.requires.early (λ page. (did.stops.unlogged.since page).same.stamp) 4114 (omega arith) c.in-Err-Pages.fault (why_pages _ c.in-Err-Pages.field-0 c.in-Err-Pages.fault c.in-Err-Pages.field-0-is did.stops.why)
+    stopped_comes _ _ k (is_node (format_of g.K.KeyClass)) state old c.args.session c.args.entry c.step_down.new.self.volume did.stops.unlogged.most did.stops.unlogged.log
+    c.requires.early (λ page. (did.stops.unlogged.since page).same.stamp) 4114 (asks_page (format_of g.K.KeyClass) g.K.KeyClass.KEY (state old.volume.shelf.disk) c.args.session c.args.entry c.args.parent c.args.item old c.requires.descends 4114 refl) (omega arith) c.in-Err-Pages.fault (why_pages _ c.in-Err-Pages.field-0 c.in-Err-Pages.fault c.in-Err-Pages.field-0-is did.stops.why)
     c.refuse.new.self c.refuse.result
     (subst (λ (x : Parts g.row.K-Key.Denot g.row.D.Denot). IsRefused c.in-Err-Pages.fault x c.refuse.new.self c.refuse.result) c.step_down.ensures.only
-    (subst (λ (n : StoreFault). IsRefused n c.step_down.new.self c.refuse.new.self c.refuse.result) c.in-Err-Pages.fault-is c.refuse.ensures))
+    (subst (λ (n : StoreFault). IsRefused n c.step_down.new.self c.refuse.new.self c.refuse.result) c.in-Err-Pages.fault-is c.refuse.ensures.refused))
 
 pub returns-in-Err-Pages-clause-moves : goal.returns-in-Err-Pages-clause-moves
 returns-in-Err-Pages-clause-moves g c =
@@ -254,7 +290,7 @@ returns-in-Err-Pages-clause-moves g c =
     4114 c.in-Err-Pages.fault (why_pages _ c.in-Err-Pages.field-0 c.in-Err-Pages.fault c.in-Err-Pages.field-0-is did.stops.why)
     c.refuse.new.self c.refuse.result
     (subst (λ (x : Parts g.row.K-Key.Denot g.row.D.Denot). IsRefused c.in-Err-Pages.fault x c.refuse.new.self c.refuse.result) c.step_down.ensures.only
-    (subst (λ (n : StoreFault). IsRefused n c.step_down.new.self c.refuse.new.self c.refuse.result) c.in-Err-Pages.fault-is c.refuse.ensures))
+    (subst (λ (n : StoreFault). IsRefused n c.step_down.new.self c.refuse.new.self c.refuse.result) c.in-Err-Pages.fault-is c.refuse.ensures.refused))
 
 pub returns-in-Err-Memory : goal.returns-in-Err-Memory
 returns-in-Err-Memory g c =
@@ -268,9 +304,28 @@ returns-in-Err-Memory g c =
     let damaged : c.in-Err-Memory.field-0 ≡ Damaged = search rules in
     record {
       comes =
-          lost_comes k f (is_node f) state old c.args.session c.args.entry c.step_down.new.self.volume un.most un.log c.break_off.new.self c.break_off.result c.break_off.ensures.outcome
+          lost_comes _ _ k (is_node f) state old c.args.session c.args.entry c.step_down.new.self.volume un.most un.log c.break_off.new.self c.break_off.result c.break_off.ensures.outcome
           (c.break_off.ensures.failed ∙ ap (λ (x : Parts g.row.K-Key.Denot g.row.D.Denot). record x { sessions = failed_state x.sessions }) c.step_down.ensures.only);
+      device = then_read g.D.SectorDisk.state c.args.self.now c.step_down.new.self c.break_off.new.self c.step_down.ensures.device c.break_off.ensures.device;
       moves = λ l.
           never_stepped _ (c.a_class_is_lawful.ensures l) g.K.ReadKeys.said f (is_node f) (state old.volume.shelf.disk) _ old kept c.args.session c.requires.session c.args.entry c.args.parent c.args.item
           c.requires.descends (λ steady. did.damaged steady damaged) c.break_off.new.self c.break_off.result _;
     }
+
+pub returns-in-Widened-clause-device : goal.returns-in-Widened-clause-device
+returns-in-Widened-clause-device g c = then_read g.D.SectorDisk.state c.args.self.now c.step_down.new.self c.go_down.new.self c.step_down.ensures.device c.go_down.ensures.device
+
+pub returns-in-Down-clause-device : goal.returns-in-Down-clause-device
+returns-in-Down-clause-device g c = then_read g.D.SectorDisk.state c.args.self.now c.step_down.new.self c.go_down-in-Down.new.self c.step_down.ensures.device c.go_down-in-Down.ensures.device
+
+pub returns-in-Again-clause-device : goal.returns-in-Again-clause-device
+returns-in-Again-clause-device g c = then_read g.D.SectorDisk.state c.args.self.now c.step_down.new.self c.begin_again.new.self c.step_down.ensures.device c.begin_again.ensures.device
+
+pub returns-in-Leaf-clause-device : goal.returns-in-Leaf-clause-device
+returns-in-Leaf-clause-device g c = then_read g.D.SectorDisk.state c.args.self.now c.step_down.new.self c.add_here.new.self c.step_down.ensures.device c.add_here.ensures.device
+
+pub returns-in-FullLeaf-clause-device : goal.returns-in-FullLeaf-clause-device
+returns-in-FullLeaf-clause-device g c = then_read g.D.SectorDisk.state c.args.self.now c.step_down.new.self c.make_room.new.self c.step_down.ensures.device c.make_room.ensures.device
+
+pub returns-in-FullInner-clause-device : goal.returns-in-FullInner-clause-device
+returns-in-FullInner-clause-device g c = then_read g.D.SectorDisk.state c.args.self.now c.step_down.new.self c.split_here.new.self c.step_down.ensures.device c.split_here.ensures.device

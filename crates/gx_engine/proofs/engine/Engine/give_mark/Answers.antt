@@ -3,6 +3,7 @@ use Rattle.gx_txn.specs.declared.note.Note.{Note}
 use Rattle.gx_engine.proofs.Framed.{marked_frames}
 use Rattle.gx_engine.proofs.Undone.{seeking}
 use Rattle.gx_engine.proofs.Ordered.{order_changed}
+use Rattle.gx_engine.proofs.Calling.{marked_read}
 use Rattle.gx_engine.proofs.engine.Engine.give_mark.Goals as goal
 
 pub invariant_of-self : goal.invariant_of-self
@@ -18,3 +19,9 @@ returns-clause-sought g c =
     rw (← c.self.view_is, ← c.transaction-transaction.ensures)
     (seeking _ _ _ _ g.K.KeyClass.is_key _ _ _ _ _ _ _ c.transaction-transaction.result n c.args.leaf _ c.entry-wanted.ensures.pairs c.set_mark.result
     did.logged did.unlogged did.marked did.own did.why did.damaged did.memory did.full)
+
+pub returns-clause-device : goal.returns-clause-device
+returns-clause-device g c =
+    let did = c.set_mark.ensures in
+    rw (← c.self.view_is)
+    (marked_read _ _ _ _ _ _ _ _ g.K.KeyClass.spelling g.K.KeyClass.KEY c.transaction-transaction.result c.args.entry.now c.args.leaf c.args.marked c.set_mark.result did.logged did.unlogged)

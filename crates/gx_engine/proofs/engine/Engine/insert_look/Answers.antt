@@ -8,6 +8,7 @@ use Rattle.gx_engine.specs.declared.work.Work.TheVariants.{Looks}
 use Rattle.gx_engine.specs.Looking.{LooksFor}
 use Rattle.gx_engine.specs.Moves.{calling}
 use Rattle.gx_engine.specs.States.{Parts}
+use Rattle.gx_engine.specs.Writing.{AsksRoom, LacksPages}
 use Rattle.gx_engine.proofs.Further.{reached_more}
 use Rattle.gx_engine.proofs.WriteLooks.{descends_comes, write_so}
 use Rattle.gx_engine.proofs.engine.Engine.insert_look.Goals as goal
@@ -29,7 +30,7 @@ returns-in-Ok-clause-comes g c =
     let rest = c.in-Ok.ensures.rest (Insert c.args.entry) c.requires.looks.0 looks in
     let descends = c.begin_descent.ensures.descends c.args.entry rest.0 in
     rw (c.begin_descent.ensures.outcome)
-    (descends_comes k (format_of g.K.KeyClass) (is_node (format_of g.K.KeyClass)) d d c.args.session (Insert c.args.entry) descends.0 c.args.self.now c.write_look.new.self c.begin_descent.new.self rest.1 descends.1).0
+    (descends_comes (AsksRoom (format_of g.K.KeyClass) g.K.KeyClass.KEY d c.args.session (Insert c.args.entry) c.args.self.now) (LacksPages (format_of g.K.KeyClass) d c.args.session (Insert c.args.entry) c.args.self.now) k (is_node (format_of g.K.KeyClass)) d d c.args.session (Insert c.args.entry) descends.0 c.args.self.now c.write_look.new.self c.begin_descent.new.self rest.1 descends.1).0
 
 pub returns-in-Ok-clause-reads : goal.returns-in-Ok-clause-reads
 returns-in-Ok-clause-reads g c =
@@ -38,7 +39,7 @@ returns-in-Ok-clause-reads g c =
     let looks : LooksFor c.args.entry (Insert c.args.entry) c.requires.looks.0 (phase_at (c.args.session - 1) c.args.self.now.sessions.phases) = record { writes = refl; at = c.requires.looks.1; looking = c.requires.looks.2 } in
     let rest = c.in-Ok.ensures.rest (Insert c.args.entry) c.requires.looks.0 looks in
     let descends = c.begin_descent.ensures.descends c.args.entry rest.0 in
-    (descends_comes k (format_of g.K.KeyClass) (is_node (format_of g.K.KeyClass)) d d c.args.session (Insert c.args.entry) descends.0 c.args.self.now c.write_look.new.self c.begin_descent.new.self rest.1 descends.1).1
+    (descends_comes (AsksRoom (format_of g.K.KeyClass) g.K.KeyClass.KEY d c.args.session (Insert c.args.entry) c.args.self.now) (LacksPages (format_of g.K.KeyClass) d c.args.session (Insert c.args.entry) c.args.self.now) k (is_node (format_of g.K.KeyClass)) d d c.args.session (Insert c.args.entry) descends.0 c.args.self.now c.write_look.new.self c.begin_descent.new.self rest.1 descends.1).1
 
 pub returns-in-Ok-clause-moves : goal.returns-in-Ok-clause-moves
 returns-in-Ok-clause-moves g c l =

@@ -109,7 +109,7 @@ returns-clause-comes g c call writes phase =
     let old : Parts g.row.K-Key.Denot g.row.D.Denot = calling c.args.session call (work_before c.args.begun c.args.look) c.args.self.now in
     let kept = subst (λ (x : Parts g.row.K-Key.Denot g.row.D.Denot). IsKept k x.sessions) c.self.view_is c.has_failed.ensures.kept in
     let looks = at_look k c.args.self.now kept c.args.session c.requires.session call Rests phase c.args.begun c.args.look in
-    (stop_write k (format_of g.K.KeyClass) (is_node (format_of g.K.KeyClass)) _ _ c.args.session call old
+    (stop_write k (format_of g.K.KeyClass) (is_node (format_of g.K.KeyClass)) g.K.KeyClass.KEY _ _ c.args.session call old
     c.read_look-read.new.self looks c.in-Err.outcome (c.in-Err.ensures.stops call phase)).0
 
 pub returns-clause-moves : goal.returns-clause-moves
@@ -119,6 +119,6 @@ returns-clause-moves g c call writes phase l =
     let kept = subst (λ (x : Parts g.row.K-Key.Denot g.row.D.Denot). IsKept k x.sessions) c.self.view_is c.has_failed.ensures.kept in
     let looks = at_look k c.args.self.now kept c.args.session c.requires.session call Rests phase c.args.begun c.args.look in
     same_events _ _ _ _ _ _ c.args.session _ c.read_look-read.new.self c.in-Err.outcome _ _
-    (stop_write k (format_of g.K.KeyClass) (is_node (format_of g.K.KeyClass)) _ _ c.args.session call old
+    (stop_write k (format_of g.K.KeyClass) (is_node (format_of g.K.KeyClass)) g.K.KeyClass.KEY _ _ c.args.session call old
     c.read_look-read.new.self looks c.in-Err.outcome (c.in-Err.ensures.stops call phase)).1
     (c.in-Err.ensures.moves call phase (may_find_none c.args.entry.now call writes) l)

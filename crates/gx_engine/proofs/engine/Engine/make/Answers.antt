@@ -1,6 +1,7 @@
 use Rattle.std.proofs.Common.{◌≡◌, ◌-◌}
 use Rattle.gx_machine.specs.Keys.{keys}
 use Rattle.gx_engine.proofs.Steps.{ask_steps, checkpoint_steps, log_steps, page_steps, sweep_steps}
+use Rattle.gx_engine.proofs.Calling.{ask_read, checkpoint_calls, log_calls, page_calls}
 use Rattle.gx_engine.proofs.engine.Engine.make.Goals as goal
 
 pub returns-in-Ask-clause-steps : goal.returns-in-Ask-clause-steps
@@ -43,3 +44,24 @@ returns-in-Sweep-clause-comes g c = rw (c.in-Sweep.is) c.sweep.ensures.sweeps
 
 pub returns-in-Move-clause-comes : goal.returns-in-Move-clause-comes
 returns-in-Move-clause-comes g c = rw (c.in-Move.is) c.move_on.ensures.comes
+
+pub returns-in-Ask-clause-calls : goal.returns-in-Ask-clause-calls
+returns-in-Ask-clause-calls g c =
+    rw (c.in-Ask.is) (ask_read g.D.SectorDisk.state c.args.self.now c.ask.new.self _ c.in-Ask.session c.in-Ask.call c.ask.result c.ask.ensures.comes)
+
+pub returns-in-Move-clause-calls : goal.returns-in-Move-clause-calls
+returns-in-Move-clause-calls g c = rw (c.in-Move.is) c.move_on.ensures.device
+
+pub returns-in-LogStep-clause-calls : goal.returns-in-LogStep-clause-calls
+returns-in-LogStep-clause-calls g c = rw (c.in-LogStep.is) (log_calls g.D.SectorDisk.state c.args.self.now c.log_step.new.self _ _ c.log_step.result c.log_step.ensures.steps)
+
+pub returns-in-WritePage-clause-calls : goal.returns-in-WritePage-clause-calls
+returns-in-WritePage-clause-calls g c =
+    rw (c.in-WritePage.is) (page_calls g.D.SectorDisk.state c.args.self.now c.write_page.new.self c.in-WritePage.page _ c.write_page.result c.write_page.ensures.writes)
+
+pub returns-in-CheckpointStep-clause-calls : goal.returns-in-CheckpointStep-clause-calls
+returns-in-CheckpointStep-clause-calls g c =
+    rw (c.in-CheckpointStep.is) (checkpoint_calls g.D.SectorDisk.state c.checkpoint_step.new.self c.args.self.now _ c.checkpoint_step.result c.checkpoint_step.ensures.steps)
+
+pub returns-in-Sweep-clause-calls : goal.returns-in-Sweep-clause-calls
+returns-in-Sweep-clause-calls g c = rw (c.in-Sweep.is) c.sweep.ensures.device

@@ -1,4 +1,4 @@
-use Rattle.std.proofs.Common.{◌≡◌, ◌≤◌, ◌-◌, ◌∙◌, ap, sym, subst, arith, rules}
+use Rattle.std.proofs.Common.{◌≡◌, ◌⊎◌, inl, inr, refl, ◌≤◌, ◌-◌, ◌∙◌, ap, sym, subst, arith, rules}
 use Rattle.gx_machine.specs.declared.call.Call.TheVariants.{Insert}
 use Rattle.gx_machine.specs.Keys.{Members, keys}
 use Rattle.gx_glog.specs.State.{Log}
@@ -14,17 +14,18 @@ use Rattle.gx_node.specs.declared.items.TheConstants.{MAX_ENTRIES}
 use Rattle.gx_engine.specs.Moves.{Moves}
 use Rattle.gx_engine.specs.Refusals.{IsRefused}
 use Rattle.gx_engine.specs.States.{Parts}
-use Rattle.gx_engine.specs.Writing.{write_events}
+use Rattle.gx_engine.specs.Writing.{LeftFew, page_record, split_record, write_events}
 use Rattle.gx_node.specs.Store.{tree_of}
 use Rattle.gx_tree_laws.specs.Trees.{size}
 use Rattle.gx_storage.specs.Changes.{known_at}
 use Rattle.gx_engine.specs.Sweeping.{is_held, node_shown}
 use Rattle.gx_engine.proofs.Serving.{flies_on}
 use Rattle.gx_engine.proofs.DescentMoves.{full_leaf, none_removable, removable_again, said_again, swept_false, swept_true}
-use Rattle.gx_engine.proofs.MakingRoom.{as_split, never_swept, swept_moves, yet_comes}
-use Rattle.gx_engine.proofs.ReadFirst.{moves_then, split_then}
+use Rattle.gx_engine.proofs.MakingRoom.{comes_more, never_swept, swept_moves, yet_comes}
+use Rattle.gx_engine.proofs.ReadFirst.{comes_then, few_then, moves_then}
 use Rattle.gx_engine.proofs.Stopping.{lost_comes, stopped_comes, stopped_moves}
 use Rattle.gx_engine.proofs.Undone.{why_pages}
+use Rattle.gx_engine.proofs.Calling.{then_read}
 use Rattle.gx_engine.proofs.engine.Engine.make_room.Goals as goal
 
 pub returns-in-Ok-true-clause-comes : goal.returns-in-Ok-true-clause-comes
@@ -35,8 +36,7 @@ returns-in-Ok-true-clause-comes g c entry at =
     let shape : Members g.row.K-Key.Denot =
     record { partial_cmp = g.K.Key.PartialOrd.partial_cmp; eq = g.K.Key.PartialEq.eq; cmp = g.K.Key.Ord.cmp; overlap = g.K.Key.Shape.overlap; inside = g.K.Key.Shape.inside } in
     let has = swept_true (known_at shape g.K.ReadKeys.is_proper) (reading_of g.K.ReadKeys.said (format_of g.K.KeyClass)) (format_of g.K.KeyClass) (is_node (format_of g.K.KeyClass)) (state old.volume.shelf.disk) (state c.sweep_leaf.new.self.volume.shelf.disk) old.volume c.sweep_leaf.new.self.volume (is_held k old) c.args.item.page c.in-Ok-true.field-0 c.in-Ok-true.field-0-test c.in-Ok-true.ensures.sweeps in
-    as_split k (format_of g.K.KeyClass) (is_node (format_of g.K.KeyClass)) (state old.volume.shelf.disk) (state c.sweep_leaf.new.self.volume.shelf.disk) c.args.session entry c.args.parent c.args.item old c.sweep_leaf.new.self at More
-    (yet_comes k (format_of g.K.KeyClass) (is_node (format_of g.K.KeyClass)) (state old.volume.shelf.disk) (state c.sweep_leaf.new.self.volume.shelf.disk) c.args.session (Insert entry) (Descends c.args.parent c.args.item) old c.sweep_leaf.new.self c.sweep_leaf.ensures.only has.logged.most at)
+    yet_comes (λ size. (size ≡ page_record) ⊎ (size ≡ split_record)) (LeftFew (state old.volume.shelf.disk) old c.args.item.page) k (is_node (format_of g.K.KeyClass)) (state old.volume.shelf.disk) (state c.sweep_leaf.new.self.volume.shelf.disk) c.args.session (Insert entry) (Descends c.args.parent c.args.item) old c.sweep_leaf.new.self c.sweep_leaf.ensures.only has.logged.most at
 
 pub returns-in-Ok-true-clause-moves : goal.returns-in-Ok-true-clause-moves
 returns-in-Ok-true-clause-moves g c entry at leaf l =
@@ -60,8 +60,20 @@ returns-in-Ok-false-clause-comes g c entry at =
     let shape : Members g.row.K-Key.Denot =
     record { partial_cmp = g.K.Key.PartialOrd.partial_cmp; eq = g.K.Key.PartialEq.eq; cmp = g.K.Key.Ord.cmp; overlap = g.K.Key.Shape.overlap; inside = g.K.Key.Shape.inside } in
     let has = swept_false (known_at shape g.K.ReadKeys.is_proper) (reading_of g.K.ReadKeys.said (format_of g.K.KeyClass)) (format_of g.K.KeyClass) (is_node (format_of g.K.KeyClass)) (state old.volume.shelf.disk) (state c.sweep_leaf.new.self.volume.shelf.disk) old.volume c.sweep_leaf.new.self.volume (is_held k old) c.args.item.page c.in-Ok-false.field-0 c.in-Ok-false.field-0-test c.in-Ok-false.ensures.sweeps in
-    split_then k (known_at shape g.K.ReadKeys.is_proper) (reading_of g.K.ReadKeys.said (format_of g.K.KeyClass)) (format_of g.K.KeyClass) (is_node (format_of g.K.KeyClass)) 4114 (state old.volume.shelf.disk) (state c.sweep_leaf.new.self.volume.shelf.disk) (state c.split_here.new.self.volume.shelf.disk) c.args.session entry old c.sweep_leaf.new.self c.sweep_leaf.ensures.only has.unlogged has.same
-    c.args.item.page c.split_here.new.self c.split_here.result (c.split_here.ensures.comes entry (ap (λ (x : Parts g.row.K-Key.Denot g.row.D.Denot). phase_at (c.args.session - 1) x.sessions.phases) c.sweep_leaf.ensures.only ∙ at))
+    let f = format_of g.K.KeyClass in
+    let known = known_at shape g.K.ReadKeys.is_proper in
+    let r = reading_of g.K.ReadKeys.said f in
+    let d = state old.volume.shelf.disk in
+    let m = state c.sweep_leaf.new.self.volume.shelf.disk in
+    let e = state c.split_here.new.self.volume.shelf.disk in
+    let page = c.args.item.page in
+    comes_then k known r f (is_node f) 4114 d m e c.args.session entry old c.sweep_leaf.new.self c.sweep_leaf.ensures.only has.unlogged
+    (λ size. (size ≡ page_record) ⊎ (size ≡ split_record)) (LeftFew m c.sweep_leaf.new.self page) (LeftFew d old page)
+    (few_then k known r f (is_node f) 4114 d m e c.args.session entry old c.sweep_leaf.new.self c.sweep_leaf.ensures.only has.unlogged has.same page)
+    c.split_here.new.self c.split_here.result
+    (comes_more k (is_node f) m e c.args.session (Insert entry) c.sweep_leaf.new.self c.split_here.new.self (λ size. size ≡ split_record) (λ size. (size ≡ page_record) ⊎ (size ≡ split_record))
+    (λ size is. inr is) (LeftFew m c.sweep_leaf.new.self page) (LeftFew m c.sweep_leaf.new.self page) (λ few. few) c.split_here.result
+    (c.split_here.ensures.comes entry (ap (λ (x : Parts g.row.K-Key.Denot g.row.D.Denot). phase_at (c.args.session - 1) x.sessions.phases) c.sweep_leaf.ensures.only ∙ at)))
 
 pub returns-in-Ok-false-clause-moves : goal.returns-in-Ok-false-clause-moves
 returns-in-Ok-false-clause-moves g c entry at leaf l bodies i h =
@@ -89,12 +101,11 @@ returns-in-Err-Pages-clause-comes g c entry at =
     let k = keys g.K.Key.Ord.cmp g.K.Key.Shape.overlap g.K.Key.Shape.inside in
     let state = g.D.SectorDisk.state in
     let did = c.in-Err-Pages.ensures.sweeps in
-    as_split k (format_of g.K.KeyClass) (is_node (format_of g.K.KeyClass)) (state old.volume.shelf.disk) (state c.refuse.new.self.volume.shelf.disk) c.args.session entry c.args.parent c.args.item old c.refuse.new.self at c.refuse.result
-    (stopped_comes k (format_of g.K.KeyClass) (is_node (format_of g.K.KeyClass)) state old c.args.session entry c.sweep_leaf.new.self.volume did.stops.unlogged.most did.stops.unlogged.log
-    c.requires.early (λ page. (did.stops.unlogged.since page).same.stamp) 4114 (omega arith) c.in-Err-Pages.fault (why_pages _ c.in-Err-Pages.field-0 c.in-Err-Pages.fault c.in-Err-Pages.field-0-is did.stops.why)
+    stopped_comes _ _ k (is_node (format_of g.K.KeyClass)) state old c.args.session entry c.sweep_leaf.new.self.volume did.stops.unlogged.most did.stops.unlogged.log
+    c.requires.early (λ page. (did.stops.unlogged.since page).same.stamp) 4114 (inl refl) (omega arith) c.in-Err-Pages.fault (why_pages _ c.in-Err-Pages.field-0 c.in-Err-Pages.fault c.in-Err-Pages.field-0-is did.stops.why)
     c.refuse.new.self c.refuse.result
     (subst (λ (x : Parts g.row.K-Key.Denot g.row.D.Denot). IsRefused c.in-Err-Pages.fault x c.refuse.new.self c.refuse.result) c.sweep_leaf.ensures.only
-    (subst (λ (n : StoreFault). IsRefused n c.sweep_leaf.new.self c.refuse.new.self c.refuse.result) c.in-Err-Pages.fault-is c.refuse.ensures)))
+    (subst (λ (n : StoreFault). IsRefused n c.sweep_leaf.new.self c.refuse.new.self c.refuse.result) c.in-Err-Pages.fault-is c.refuse.ensures.refused))
 
 pub returns-in-Err-Pages-clause-moves : goal.returns-in-Err-Pages-clause-moves
 returns-in-Err-Pages-clause-moves g c entry at leaf =
@@ -109,7 +120,7 @@ returns-in-Err-Pages-clause-moves g c entry at leaf =
     4114 c.in-Err-Pages.fault (why_pages _ c.in-Err-Pages.field-0 c.in-Err-Pages.fault c.in-Err-Pages.field-0-is did.stops.why)
     c.refuse.new.self c.refuse.result
     (subst (λ (x : Parts g.row.K-Key.Denot g.row.D.Denot). IsRefused c.in-Err-Pages.fault x c.refuse.new.self c.refuse.result) c.sweep_leaf.ensures.only
-    (subst (λ (n : StoreFault). IsRefused n c.sweep_leaf.new.self c.refuse.new.self c.refuse.result) c.in-Err-Pages.fault-is c.refuse.ensures))
+    (subst (λ (n : StoreFault). IsRefused n c.sweep_leaf.new.self c.refuse.new.self c.refuse.result) c.in-Err-Pages.fault-is c.refuse.ensures.refused))
 
 pub returns-in-Err-Memory-clause-comes : goal.returns-in-Err-Memory-clause-comes
 returns-in-Err-Memory-clause-comes g c entry at =
@@ -117,9 +128,8 @@ returns-in-Err-Memory-clause-comes g c entry at =
     let k = keys g.K.Key.Ord.cmp g.K.Key.Shape.overlap g.K.Key.Shape.inside in
     let state = g.D.SectorDisk.state in
     let un = c.in-Err-Memory.ensures.sweeps.stops.unlogged in
-    as_split k (format_of g.K.KeyClass) (is_node (format_of g.K.KeyClass)) (state old.volume.shelf.disk) (state c.break_off.new.self.volume.shelf.disk) c.args.session entry c.args.parent c.args.item old c.break_off.new.self at c.break_off.result
-    (lost_comes k (format_of g.K.KeyClass) (is_node (format_of g.K.KeyClass)) state old c.args.session entry c.sweep_leaf.new.self.volume un.most un.log c.break_off.new.self c.break_off.result c.break_off.ensures.outcome
-    (c.break_off.ensures.failed ∙ ap (λ (x : Parts g.row.K-Key.Denot g.row.D.Denot). record x { sessions = failed_state x.sessions }) c.sweep_leaf.ensures.only))
+    lost_comes _ _ k (is_node (format_of g.K.KeyClass)) state old c.args.session entry c.sweep_leaf.new.self.volume un.most un.log c.break_off.new.self c.break_off.result c.break_off.ensures.outcome
+    (c.break_off.ensures.failed ∙ ap (λ (x : Parts g.row.K-Key.Denot g.row.D.Denot). record x { sessions = failed_state x.sessions }) c.sweep_leaf.ensures.only)
 
 pub returns-in-Err-Memory-clause-moves : goal.returns-in-Err-Memory-clause-moves
 returns-in-Err-Memory-clause-moves g c entry at leaf l =
@@ -134,3 +144,6 @@ returns-in-Err-Memory-clause-moves g c entry at leaf l =
     never_swept _ (c.a_class_is_lawful.ensures l) g.K.ReadKeys.said (format_of g.K.KeyClass) (is_node (format_of g.K.KeyClass)) (state old.volume.shelf.disk) _
     old kept c.requires.works c.args.session c.requires.session c.requires.early entry c.args.parent c.args.item at c.sweep_leaf.new.self.volume un.most
     fits (λ steady. (leaf steady).0) (λ steady. did.damaged steady damaged) c.break_off.new.self c.break_off.result _
+
+pub returns-in-Ok-false-clause-device : goal.returns-in-Ok-false-clause-device
+returns-in-Ok-false-clause-device g c = then_read g.D.SectorDisk.state c.args.self.now c.sweep_leaf.new.self c.split_here.new.self c.sweep_leaf.ensures.device c.split_here.ensures.device

@@ -6,17 +6,18 @@ use Rattle.gx_phases.specs.declared.phase.Phase.TheVariants as phase
 use Rattle.gx_phases.specs.States.{IsKept, phase_at}
 use Rattle.gx_engine.specs.States.{Parts}
 use Rattle.gx_engine.proofs.Steps.{delete_steps, insert_steps, never_steps, seal_steps, search_steps}
+use Rattle.gx_engine.proofs.Calling.{seal_read}
 use Rattle.gx_engine.proofs.engine.Engine.move_call.Goals as goal
 
 pub returns-in-Insert-clause-steps : goal.returns-in-Insert-clause-steps
 returns-in-Insert-clause-steps g c l =
     let k = keys g.K.Key.Ord.cmp g.K.Key.Shape.overlap g.K.Key.Shape.inside in
-    insert_steps _ _ _ _ _ _ c.args.self.now c.insert.new.self c.requires.works c.args.session k c.in-Insert.entry c.insert.result c.insert.ensures.comes (c.insert.ensures.moves l)
+    insert_steps _ _ _ _ _ _ c.args.self.now c.insert.new.self c.requires.works c.args.session k _ c.in-Insert.entry c.insert.result c.insert.ensures.comes (c.insert.ensures.moves l)
 
 pub returns-in-Delete-clause-steps : goal.returns-in-Delete-clause-steps
 returns-in-Delete-clause-steps g c l =
     let k = keys g.K.Key.Ord.cmp g.K.Key.Shape.overlap g.K.Key.Shape.inside in
-    delete_steps _ _ _ _ _ _ c.args.self.now c.delete.new.self c.requires.works c.args.session k c.in-Delete.entry c.delete.result c.delete.ensures.comes (c.delete.ensures.moves l)
+    delete_steps _ _ _ _ _ _ c.args.self.now c.delete.new.self c.requires.works c.args.session k _ c.in-Delete.entry c.delete.result c.delete.ensures.comes (c.delete.ensures.moves l)
 
 pub returns-in-Search-clause-steps : goal.returns-in-Search-clause-steps
 returns-in-Search-clause-steps g c l =
@@ -43,3 +44,15 @@ returns-in-Search-clause-comes g c = rw (c.in-Search.is) c.search.ensures.comes
 
 pub returns-in-Commit-clause-comes : goal.returns-in-Commit-clause-comes
 returns-in-Commit-clause-comes g c = rw (c.in-Commit.is) c.seal.ensures.comes
+
+pub returns-in-Insert-clause-device : goal.returns-in-Insert-clause-device
+returns-in-Insert-clause-device g c = c.insert.ensures.device
+
+pub returns-in-Delete-clause-device : goal.returns-in-Delete-clause-device
+returns-in-Delete-clause-device g c = c.delete.ensures.device
+
+pub returns-in-Search-clause-device : goal.returns-in-Search-clause-device
+returns-in-Search-clause-device g c = c.search.ensures.device
+
+pub returns-in-Commit-clause-device : goal.returns-in-Commit-clause-device
+returns-in-Commit-clause-device g c = seal_read g.D.SectorDisk.state c.args.self.now c.seal.new.self c.args.session c.seal.result c.seal.ensures.comes

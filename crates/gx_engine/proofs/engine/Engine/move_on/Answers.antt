@@ -7,6 +7,7 @@ use Rattle.gx_engine.specs.declared.work.Work.{Work}
 use Rattle.gx_engine.specs.States.{Parts}
 use Rattle.gx_engine.specs.Stepping.{has_call}
 use Rattle.gx_engine.proofs.Steps.{acknowledge_steps, ended_steps, no_call_steps, undo_steps}
+use Rattle.gx_engine.proofs.Calling.{acknowledge_read, undo_read}
 use Rattle.gx_engine.proofs.engine.Engine.move_on.Goals as goal
 
 pub returns-then-not-has_call-clause-steps : goal.returns-then-not-has_call-clause-steps
@@ -43,3 +44,13 @@ returns-in-Waiting-clause-steps g c l =
     acknowledge_steps _ _ _ _ _ _ c.args.self.now c.acknowledge.new.self
     (subst (λ (x : Parts g.row.K-Key.Denot g.row.D.Denot). x.sessions.failed ≡ false) c.self.view_is works) c.args.session c.in-Waiting.field-0 c.acknowledge.result
     (c.acknowledge.ensures.comes c.in-Waiting.field-0 waits) (c.acknowledge.ensures.leads c.in-Waiting.field-0 waits l)
+
+pub returns-in-Undoing-clause-device : goal.returns-in-Undoing-clause-device
+returns-in-Undoing-clause-device g c =
+    undo_read g.D.SectorDisk.state c.args.self.now c.undo.new.self _ _ _ _ _ _ _ _ c.args.session c.undo.result c.undo.ensures.comes
+
+pub returns-in-Waiting-clause-device : goal.returns-in-Waiting-clause-device
+returns-in-Waiting-clause-device g c =
+    let waits = subst (λ (x : Parts g.row.K-Key.Denot g.row.D.Denot). phase_at (c.args.session - 1) x.sessions.phases ≡ phase.Waiting c.in-Waiting.field-0) c.self.view_is
+    (sym c.phase-2.ensures ∙ c.in-Waiting.is) in
+    acknowledge_read g.D.SectorDisk.state c.args.self.now c.acknowledge.new.self c.args.session c.in-Waiting.field-0 c.acknowledge.result (c.acknowledge.ensures.comes c.in-Waiting.field-0 waits)

@@ -18,6 +18,7 @@ use Rattle.gx_engine.proofs.Further.{none_at_hand}
 use Rattle.gx_engine.proofs.Looking.{replaced}
 use Rattle.gx_engine.proofs.Ordered.{order_read}
 use Rattle.gx_engine.proofs.Reading.{closed_comes, damaged_at_hand, memory_at_hand, of_err, on_err, pages_at_hand, refused_comes}
+use Rattle.gx_pool.proofs.Bringing.{only_read_joined}
 use Rattle.gx_engine.proofs.engine.Engine.read_look.Goals as goal
 
 pub invariant_of-self : goal.invariant_of-self
@@ -90,7 +91,7 @@ returns-in-Err-Pages-clause-stops g c call phase =
     rw (← c.self.view_is)
     (refused_comes (is_node (format_of g.K.KeyClass)) g.D.SectorDisk.state _
     c.args.session (calling c.args.session call (work_before c.args.begun c.args.look) e) w did.log did.most (λ page. (did.since page).same.stamp) c.in-Err-Pages.fault why c.refuse.new.self c.refuse.result
-    (subst (λ (x : State g.row.K-Key.Denot (Work g.row.K-Key.Denot)). IsRefused c.in-Err-Pages.fault (record e { volume = w; sessions = x }) c.refuse.new.self c.refuse.result) put c.refuse.ensures))
+    (subst (λ (x : State g.row.K-Key.Denot (Work g.row.K-Key.Denot)). IsRefused c.in-Err-Pages.fault (record e { volume = w; sessions = x }) c.refuse.new.self c.refuse.result) put c.refuse.ensures.refused))
 
 pub returns-in-Err-Pages-clause-moves : goal.returns-in-Err-Pages-clause-moves
 returns-in-Err-Pages-clause-moves g c call phase may l =
@@ -109,7 +110,7 @@ returns-in-Err-Pages-clause-moves g c call phase may l =
     rw (← c.self.view_is)
     (pages_at_hand _ (c.a_class_is_lawful.ensures l) _ _ _ g.D.SectorDisk.state e c.has_failed.ensures.kept c.args.session c.requires.session call Rests at (work_before c.args.begun c.args.look) works
     w did.most did.log (did.since 0).goes_on.device (did.keeps l) c.in-Err-Pages.fault why c.refuse.new.self c.refuse.result
-    (subst (λ (x : State g.row.K-Key.Denot (Work g.row.K-Key.Denot)). IsRefused c.in-Err-Pages.fault (record e { volume = w; sessions = x }) c.refuse.new.self c.refuse.result) put c.refuse.ensures))
+    (subst (λ (x : State g.row.K-Key.Denot (Work g.row.K-Key.Denot)). IsRefused c.in-Err-Pages.fault (record e { volume = w; sessions = x }) c.refuse.new.self c.refuse.result) put c.refuse.ensures.refused))
 
 pub returns-in-Err-Damaged-clause-moves : goal.returns-in-Err-Damaged-clause-moves
 returns-in-Err-Damaged-clause-moves g c call phase may l =
@@ -127,3 +128,35 @@ returns-in-Err-Damaged-clause-moves g c call phase may l =
     (damaged_at_hand _ (c.a_class_is_lawful.ensures l) _ _ _ g.D.SectorDisk.state e c.has_failed.ensures.kept c.args.session c.requires.session call Rests at c.args.look works
     w did.most did.log (did.since 0).goes_on.device (did.keeps l) (c.a_volume_shows_the_logs_tree.ensures l w) c.requires.more (c.look_step.ensures.damaged failed))
     _ _ _ _)
+
+pub returns-in-Ok-clause-device : goal.returns-in-Ok-clause-device
+returns-in-Ok-clause-device g c =
+    let did = c.look_step.ensures.unlogged in
+    rw (← c.self.view_is) (did.since 0).goes_on.device
+
+pub returns-in-Err-Memory-clause-device : goal.returns-in-Err-Memory-clause-device
+returns-in-Err-Memory-clause-device g c =
+    let e : Parts g.row.K-Key.Denot g.row.D.Denot =
+    record { volume = c.self.inside.storage; sessions = c.self.inside.sessions; in_flight = c.self.inside.in_flight; checkpoint = c.self.inside.checkpoint } in
+    let state = g.D.SectorDisk.state in
+    let did = c.look_step.ensures.unlogged in
+    rw (← c.self.view_is)
+    (only_read_joined (state e.volume.shelf.disk) (state c.look_step.new.self.shelf.disk) (state c.close.new.self.volume.shelf.disk) (did.since 0).goes_on.device c.close.ensures.device)
+
+pub returns-in-Err-Pages-clause-device : goal.returns-in-Err-Pages-clause-device
+returns-in-Err-Pages-clause-device g c =
+    let e : Parts g.row.K-Key.Denot g.row.D.Denot =
+    record { volume = c.self.inside.storage; sessions = c.self.inside.sessions; in_flight = c.self.inside.in_flight; checkpoint = c.self.inside.checkpoint } in
+    let state = g.D.SectorDisk.state in
+    let did = c.look_step.ensures.unlogged in
+    rw (← c.self.view_is)
+    (only_read_joined (state e.volume.shelf.disk) (state c.look_step.new.self.shelf.disk) (state c.refuse.new.self.volume.shelf.disk) (did.since 0).goes_on.device c.refuse.ensures.device)
+
+pub returns-in-Err-Damaged-clause-device : goal.returns-in-Err-Damaged-clause-device
+returns-in-Err-Damaged-clause-device g c =
+    let e : Parts g.row.K-Key.Denot g.row.D.Denot =
+    record { volume = c.self.inside.storage; sessions = c.self.inside.sessions; in_flight = c.self.inside.in_flight; checkpoint = c.self.inside.checkpoint } in
+    let state = g.D.SectorDisk.state in
+    let did = c.look_step.ensures.unlogged in
+    rw (← c.self.view_is)
+    (only_read_joined (state e.volume.shelf.disk) (state c.look_step.new.self.shelf.disk) (state c.break_off.new.self.volume.shelf.disk) (did.since 0).goes_on.device c.break_off.ensures.device)

@@ -43,7 +43,7 @@ returns-in-Err-Pages-clause-moves g c =
     λ l. refused_moves _ (c.a_class_is_lawful.ensures l) _ _ _ state (state old.volume.shelf.disk) old kept c.requires.works c.args.session c.requires.session c.requires.early
     c.set_noted.new.self.volume did.unlogged.most c.args.note c.requires.next c.args.leaf c.requires.leaf did.unlogged.log (did.unlogged.since 0).goes_on.device (did.unlogged.keeps l)
     (g.K.KeyClass.KEY + 4119) c.in-Err-Pages.fault (why_pages _ c.in-Err-Pages.field-0 c.in-Err-Pages.fault c.in-Err-Pages.field-0-is did.why) c.refuse.new.self c.refuse.result
-    (subst (λ (x : Parts g.row.K-Key.Denot g.row.D.Denot). IsRefused c.in-Err-Pages.fault x c.refuse.new.self c.refuse.result) c.set_noted.ensures.only c.refuse.ensures)
+    (subst (λ (x : Parts g.row.K-Key.Denot g.row.D.Denot). IsRefused c.in-Err-Pages.fault x c.refuse.new.self c.refuse.result) c.set_noted.ensures.only c.refuse.ensures.refused)
 
 pub returns-in-Err-Memory-clause-comes : goal.returns-in-Err-Memory-clause-comes
 returns-in-Err-Memory-clause-comes g c =
@@ -69,4 +69,4 @@ returns-in-Err-Pages-clause-comes g c =
     let did = c.in-Err-Pages.ensures.sought in
     λ restored place. refused_comes _ _ _ _ _ _ _ _ g.D.SectorDisk.state _ c.args.session restored c.args.note c.args.leaf c.args.self.now c.set_noted.new.self.volume did.unlogged
     c.in-Err-Pages.fault (why_pages _ c.in-Err-Pages.field-0 c.in-Err-Pages.fault c.in-Err-Pages.field-0-is did.why) c.refuse.new.self c.refuse.result
-    (subst (λ (x : Parts g.row.K-Key.Denot g.row.D.Denot). IsRefused c.in-Err-Pages.fault x c.refuse.new.self c.refuse.result) c.set_noted.ensures.only c.refuse.ensures)
+    (subst (λ (x : Parts g.row.K-Key.Denot g.row.D.Denot). IsRefused c.in-Err-Pages.fault x c.refuse.new.self c.refuse.result) c.set_noted.ensures.only c.refuse.ensures.refused)

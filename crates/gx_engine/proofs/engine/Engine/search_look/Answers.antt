@@ -13,6 +13,7 @@ use Rattle.gx_engine.proofs.Further.{moves_again, on_again}
 use Rattle.gx_engine.proofs.Looking.{closes_moves}
 use Rattle.gx_engine.proofs.Reading.{err_map, ok_map, on_ok_map}
 use Rattle.gx_engine.proofs.Taking.{again, answered_taken, phase_now, put_back, read_rests, rests, returned, taken}
+use Rattle.gx_pool.proofs.Bringing.{only_read_nothing}
 use Rattle.gx_engine.proofs.engine.Engine.search_look.Goals as goal
 
 pub read_on-requires-clause-phase : goal.read_on-requires-clause-phase
@@ -241,3 +242,6 @@ returns-in_default-clause-moves g c l =
     rw (← c.self.view_is)
     (no_search _ (c.a_class_is_lawful.ensures l) _ _ _ _ _ e c.has_failed.ensures.kept c.args.session c.requires.session c.args.query.now was at
     (λ begun. (let same : c.replace_work.result ≡ Rests = had ∙ begun in search rules)) (λ look same. (let other : c.replace_work.result ≡ Looks look = had ∙ same in search rules)) _ _ _)
+
+pub returns-then-is_done-clause-device : goal.returns-then-is_done-clause-device
+returns-then-is_done-clause-device g c = rw (← c.self.view_is) (only_read_nothing (g.D.SectorDisk.state c.self.inside.storage.shelf.disk))

@@ -1,4 +1,4 @@
-use Rattle.std.proofs.Common.{◌≡◌, ◌∙◌, ap, subst, ◌+◌, ◌-◌, arith, rules}
+use Rattle.std.proofs.Common.{◌≡◌, inr, refl, ◌∙◌, ap, subst, ◌+◌, ◌-◌, arith, rules}
 use Rattle.gx_machine.specs.Keys.{Members, keys}
 use Rattle.gx_node.specs.Reading.{format_of, is_node}
 use Rattle.gx_events.specs.declared.outcome.Outcome.{Outcome}
@@ -30,7 +30,7 @@ returns-in-Ok-clause-comes g c =
     let w = c.give_mark.new.self.volume in
     noted_so k c.args.session entry c.args.leaf c.args.marked c.in-Ok.sought old c.give_mark.new.self c.note_set.new.self c.give_mark.ensures.only c.note_set.ensures.noted c.note_set.result
     c.note_set.ensures.outcome
-    (λ (x : Parts g.row.K-Key.Denot g.row.D.Denot) (o : Outcome g.row.K-Key.Denot). SeekComes (format_of g.K.KeyClass) g.K.KeyClass.is_key k (is_node (format_of g.K.KeyClass))
+    (λ (x : Parts g.row.K-Key.Denot g.row.D.Denot) (o : Outcome g.row.K-Key.Denot). SeekComes (format_of g.K.KeyClass) g.K.KeyClass.is_key k g.K.KeyClass.KEY (is_node (format_of g.K.KeyClass))
     (state old.volume.shelf.disk) (state x.volume.shelf.disk)
     c.args.session entry c.args.leaf c.args.marked old x o)
     (set_comes (format_of g.K.KeyClass) g.K.KeyClass.is_key k (is_node (format_of g.K.KeyClass)) (state old.volume.shelf.disk) (state w.shelf.disk) c.args.session entry c.args.leaf c.args.marked old w
@@ -68,9 +68,9 @@ returns-in-Err-Pages-clause-comes g c =
     let refused : IsRefused c.in-Err-Pages.fault c.give_mark.new.self c.refuse.new.self c.refuse.result = search rules in
     let short = g.met.K.KeyClass.key_is_short in
     let k = keys g.K.Key.Ord.cmp g.K.Key.Shape.overlap g.K.Key.Shape.inside in
-    refused_comes c.args.self.now c.give_mark.new.self.volume did.unlogged.log did.unlogged.most (format_of g.K.KeyClass) g.K.KeyClass.is_key k (is_node (format_of
+    refused_comes c.args.self.now c.give_mark.new.self.volume did.unlogged.log did.unlogged.most (format_of g.K.KeyClass) g.K.KeyClass.is_key k g.K.KeyClass.KEY (is_node (format_of
     g.K.KeyClass)) g.D.SectorDisk.state _
-    c.args.session c.args.entry c.args.leaf c.args.marked (λ page. (did.unlogged.since page).same.stamp) (g.K.KeyClass.KEY + 4119) (omega (arith, short)) c.in-Err-Pages.fault
+    c.args.session c.args.entry c.args.leaf c.args.marked (λ page. (did.unlogged.since page).same.stamp) (g.K.KeyClass.KEY + 4119) (inr refl) (omega (arith, short)) c.in-Err-Pages.fault
     (λ room. c.requires.early)
     (why_pages _ c.in-Err-Pages.field-0 c.in-Err-Pages.fault c.in-Err-Pages.field-0-is did.why) c.refuse.new.self c.refuse.result
     (subst (λ (x : Parts g.row.K-Key.Denot g.row.D.Denot). IsRefused c.in-Err-Pages.fault x c.refuse.new.self c.refuse.result) c.give_mark.ensures.only refused)
@@ -92,7 +92,7 @@ pub returns-in-Err-Memory-clause-comes : goal.returns-in-Err-Memory-clause-comes
 returns-in-Err-Memory-clause-comes g c =
     let did = c.in-Err-Memory.ensures.sought in
     let k = keys g.K.Key.Ord.cmp g.K.Key.Shape.overlap g.K.Key.Shape.inside in
-    damaged_comes c.args.self.now c.give_mark.new.self.volume did.unlogged.log did.unlogged.most (format_of g.K.KeyClass) g.K.KeyClass.is_key k (is_node (format_of
+    damaged_comes c.args.self.now c.give_mark.new.self.volume did.unlogged.log did.unlogged.most (format_of g.K.KeyClass) g.K.KeyClass.is_key k g.K.KeyClass.KEY (is_node (format_of
     g.K.KeyClass)) g.D.SectorDisk.state _
     c.args.session c.args.entry c.args.leaf c.args.marked c.break_off.new.self c.break_off.result c.break_off.ensures.outcome
     (c.break_off.ensures.failed ∙ ap (λ (x : Parts g.row.K-Key.Denot g.row.D.Denot). record x { sessions = failed_state x.sessions }) c.give_mark.ensures.only)

@@ -1,4 +1,6 @@
 use Rattle.gx_engine.proofs.Descents.{splitting}
+use Rattle.gx_engine.proofs.Calling.{changed_read}
+use Rattle.gx_tree.specs.Splitting.{has_split}
 use Rattle.gx_engine.proofs.engine.Engine.split_node.Goals as goal
 
 pub returns-clause-splits : goal.returns-clause-splits
@@ -6,3 +8,8 @@ returns-clause-splits g c =
     let did = c.split-split.ensures in
     rw (← c.self.view_is, ← c.page.ensures)
     (splitting _ _ _ _ _ _ _ _ _ g.K.KeyClass.sides_of c.page.result c.args.parent c.split-split.result did.logged did.unlogged did.split did.own did.why did.full did.damaged did.memory)
+
+pub returns-clause-device : goal.returns-clause-device
+returns-clause-device g c =
+    let did = c.split-split.ensures in
+    rw (← c.self.view_is) (changed_read _ _ _ _ _ _ _ _ 12314 _ has_split c.split-split.result did.logged did.unlogged)

@@ -13,9 +13,10 @@ use Rattle.gx_engine.specs.Moves.{Moves}
 use Rattle.gx_engine.specs.Refusals.{IsRefused}
 use Rattle.gx_engine.specs.States.{Parts}
 use Rattle.gx_engine.specs.Writing.{write_events}
-use Rattle.gx_engine.proofs.MakingRoom.{as_split, few_top, full_comes, full_is, full_moves, never_split_root, on_comes, on_is, root_any}
+use Rattle.gx_engine.proofs.MakingRoom.{few_top, full_comes, full_is, full_moves, never_split_root, on_comes, on_is, root_any}
 use Rattle.gx_engine.proofs.Stopping.{lost_comes, stopped_comes, stopped_moves}
 use Rattle.gx_engine.proofs.Undone.{why_pages}
+use Rattle.gx_engine.proofs.Calling.{then_read}
 use Rattle.gx_engine.proofs.engine.Engine.split_top.Goals as goal
 
 pub returns-in-Ok-clause-comes : goal.returns-in-Ok-clause-comes
@@ -27,9 +28,8 @@ returns-in-Ok-clause-comes g c entry at =
     record { partial_cmp = g.K.Key.PartialOrd.partial_cmp; eq = g.K.Key.PartialEq.eq; cmp = g.K.Key.Ord.cmp; overlap = g.K.Key.Shape.overlap; inside = g.K.Key.Shape.inside } in
     let there = c.begin_again.ensures.there (Insert entry) (Descends c.args.parent c.args.item)
     (ap (λ (x : Parts g.row.K-Key.Denot g.row.D.Denot). phase_at (c.args.session - 1) x.sessions.phases) c.split_root.ensures.only ∙ at) in
-    as_split k (format_of g.K.KeyClass) (is_node (format_of g.K.KeyClass)) (state old.volume.shelf.disk) (state c.begin_again.new.self.volume.shelf.disk) c.args.session entry c.args.parent c.args.item old c.begin_again.new.self at c.begin_again.result
-    (on_comes c.args.session (Insert entry) 0 (record { page = 1; seen = c.split_root.new.self.volume.shelf.counter }) old c.split_root.new.self c.begin_again.new.self c.split_root.ensures.only there c.begin_again.result c.begin_again.ensures.outcome
-    k (format_of g.K.KeyClass) (is_node (format_of g.K.KeyClass)) state c.in-Ok.ensures.splits.logged.most)
+    on_comes c.args.session (Insert entry) 0 (record { page = 1; seen = c.split_root.new.self.volume.shelf.counter }) old c.split_root.new.self c.begin_again.new.self c.split_root.ensures.only there c.begin_again.result c.begin_again.ensures.outcome
+    _ _ k (is_node (format_of g.K.KeyClass)) state c.in-Ok.ensures.splits.logged.most
 
 pub returns-in-Ok-clause-moves : goal.returns-in-Ok-clause-moves
 returns-in-Ok-clause-moves g c entry at full l =
@@ -54,12 +54,11 @@ returns-in-Err-Pages-clause-comes g c entry at =
     let k = keys g.K.Key.Ord.cmp g.K.Key.Shape.overlap g.K.Key.Shape.inside in
     let state = g.D.SectorDisk.state in
     let did = c.in-Err-Pages.ensures.splits in
-    as_split k (format_of g.K.KeyClass) (is_node (format_of g.K.KeyClass)) (state old.volume.shelf.disk) (state c.refuse.new.self.volume.shelf.disk) c.args.session entry c.args.parent c.args.item old c.refuse.new.self at c.refuse.result
-    (stopped_comes k (format_of g.K.KeyClass) (is_node (format_of g.K.KeyClass)) state old c.args.session entry c.split_root.new.self.volume did.stops.unlogged.most did.stops.unlogged.log
-    c.requires.early (λ page. (did.stops.unlogged.since page).same.stamp) 12314 (omega arith) c.in-Err-Pages.fault (why_pages _ c.in-Err-Pages.field-0 c.in-Err-Pages.fault c.in-Err-Pages.field-0-is did.stops.why)
+    stopped_comes _ _ k (is_node (format_of g.K.KeyClass)) state old c.args.session entry c.split_root.new.self.volume did.stops.unlogged.most did.stops.unlogged.log
+    c.requires.early (λ page. (did.stops.unlogged.since page).same.stamp) 12314 refl (omega arith) c.in-Err-Pages.fault (why_pages _ c.in-Err-Pages.field-0 c.in-Err-Pages.fault c.in-Err-Pages.field-0-is did.stops.why)
     c.refuse.new.self c.refuse.result
     (subst (λ (x : Parts g.row.K-Key.Denot g.row.D.Denot). IsRefused c.in-Err-Pages.fault x c.refuse.new.self c.refuse.result) c.split_root.ensures.only
-    (subst (λ (n : StoreFault). IsRefused n c.split_root.new.self c.refuse.new.self c.refuse.result) c.in-Err-Pages.fault-is c.refuse.ensures)))
+    (subst (λ (n : StoreFault). IsRefused n c.split_root.new.self c.refuse.new.self c.refuse.result) c.in-Err-Pages.fault-is c.refuse.ensures.refused))
 
 pub returns-in-Err-Pages-clause-moves : goal.returns-in-Err-Pages-clause-moves
 returns-in-Err-Pages-clause-moves g c entry at full =
@@ -74,7 +73,7 @@ returns-in-Err-Pages-clause-moves g c entry at full =
     12314 c.in-Err-Pages.fault (why_pages _ c.in-Err-Pages.field-0 c.in-Err-Pages.fault c.in-Err-Pages.field-0-is did.stops.why)
     c.refuse.new.self c.refuse.result
     (subst (λ (x : Parts g.row.K-Key.Denot g.row.D.Denot). IsRefused c.in-Err-Pages.fault x c.refuse.new.self c.refuse.result) c.split_root.ensures.only
-    (subst (λ (n : StoreFault). IsRefused n c.split_root.new.self c.refuse.new.self c.refuse.result) c.in-Err-Pages.fault-is c.refuse.ensures))
+    (subst (λ (n : StoreFault). IsRefused n c.split_root.new.self c.refuse.new.self c.refuse.result) c.in-Err-Pages.fault-is c.refuse.ensures.refused))
 
 pub returns-in-Err-PagesFull-clause-comes : goal.returns-in-Err-PagesFull-clause-comes
 returns-in-Err-PagesFull-clause-comes g c entry at =
@@ -84,7 +83,7 @@ returns-in-Err-PagesFull-clause-comes g c entry at =
     let did = c.in-Err-PagesFull.ensures.splits in
     let full : c.in-Err-PagesFull.field-0 ≡ PagesFull = search rules in
     full_comes c.args.session old c.split_root.new.self c.close.new.self c.split_root.ensures.only c.close.ensures.closed c.close.result c.close.ensures.outcome
-    k (format_of g.K.KeyClass) (is_node (format_of g.K.KeyClass)) state (Insert entry) c.args.item.page did.stops.unlogged.most did.stops.unlogged.log
+    _ _ k (is_node (format_of g.K.KeyClass)) state (Insert entry) did.stops.unlogged.most did.stops.unlogged.log
     (few_top (state old.volume.shelf.disk) old c.args.item.page c.requires.top (λ steady. did.full steady full))
 
 pub returns-in-Err-PagesFull-clause-moves : goal.returns-in-Err-PagesFull-clause-moves
@@ -109,9 +108,8 @@ returns-in-Err-Memory-clause-comes g c entry at =
     let k = keys g.K.Key.Ord.cmp g.K.Key.Shape.overlap g.K.Key.Shape.inside in
     let state = g.D.SectorDisk.state in
     let un = c.in-Err-Memory.ensures.splits.stops.unlogged in
-    as_split k (format_of g.K.KeyClass) (is_node (format_of g.K.KeyClass)) (state old.volume.shelf.disk) (state c.break_off.new.self.volume.shelf.disk) c.args.session entry c.args.parent c.args.item old c.break_off.new.self at c.break_off.result
-    (lost_comes k (format_of g.K.KeyClass) (is_node (format_of g.K.KeyClass)) state old c.args.session entry c.split_root.new.self.volume un.most un.log c.break_off.new.self c.break_off.result c.break_off.ensures.outcome
-    (c.break_off.ensures.failed ∙ ap (λ (x : Parts g.row.K-Key.Denot g.row.D.Denot). record x { sessions = failed_state x.sessions }) c.split_root.ensures.only))
+    lost_comes _ _ k (is_node (format_of g.K.KeyClass)) state old c.args.session entry c.split_root.new.self.volume un.most un.log c.break_off.new.self c.break_off.result c.break_off.ensures.outcome
+    (c.break_off.ensures.failed ∙ ap (λ (x : Parts g.row.K-Key.Denot g.row.D.Denot). record x { sessions = failed_state x.sessions }) c.split_root.ensures.only)
 
 pub returns-in-Err-Memory-clause-moves : goal.returns-in-Err-Memory-clause-moves
 returns-in-Err-Memory-clause-moves g c entry at full l =
@@ -129,3 +127,6 @@ returns-in-Err-Memory-clause-moves g c entry at full l =
     never_split_root _ (c.a_class_is_lawful.ensures l) g.K.ReadKeys.said (format_of g.K.KeyClass) (is_node (format_of g.K.KeyClass)) (state old.volume.shelf.disk) _
     old kept c.requires.works c.args.session c.requires.session c.requires.early entry c.args.parent c.args.item at c.split_root.new.self.volume un.most (rules_of shape) refl
     (omega (arith, few, same)) full c.requires.top (λ steady. did.damaged steady damaged) c.break_off.new.self c.break_off.result _
+
+pub returns-in-Ok-clause-device : goal.returns-in-Ok-clause-device
+returns-in-Ok-clause-device g c = then_read g.D.SectorDisk.state c.args.self.now c.split_root.new.self c.begin_again.new.self c.split_root.ensures.device c.begin_again.ensures.device

@@ -5,6 +5,7 @@ use Rattle.gx_engine.specs.Sweeping.{is_held}
 use Rattle.gx_engine.proofs.Framed.{changed_frames}
 use Rattle.gx_engine.proofs.Descents.{leaf_sweeping}
 use Rattle.gx_engine.proofs.Ordered.{order_changed}
+use Rattle.gx_engine.proofs.Calling.{changed_read}
 use Rattle.gx_engine.proofs.engine.Engine.sweep_leaf.Goals as goal
 
 pub invariant_of-self : goal.invariant_of-self
@@ -21,3 +22,8 @@ returns-clause-sweeps g c =
     rw (← c.self.view_is, ← c.page.ensures)
     (leaf_sweeping _ _ _ _ _ _ _ _ (is_held k old) c.page.result c.sweep.result did.logged did.unlogged
     (λ steady. did.swept steady (is_held k old) (λ entry answer post. search rules)) did.own did.why did.damaged did.memory did.full)
+
+pub returns-clause-device : goal.returns-clause-device
+returns-clause-device g c =
+    let did = c.sweep.ensures in
+    rw (← c.self.view_is) (changed_read _ _ _ _ _ _ _ _ 4114 _ (λ any. any) c.sweep.result did.logged did.unlogged)

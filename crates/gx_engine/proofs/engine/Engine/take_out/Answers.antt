@@ -16,6 +16,7 @@ use Rattle.gx_engine.proofs.Reading.{of_err}
 use Rattle.gx_engine.proofs.Serving.{flies_on, is_calm, not_due}
 use Rattle.gx_engine.proofs.Ordered.{order_read}
 use Rattle.gx_engine.proofs.Sweeping.{logged_so, more_than_fit, never_full, never_none, none_taken, sweep_leads, swept_so, turned_comes, unlogged_so}
+use Rattle.gx_pool.proofs.Bringing.{only_read_joined}
 use Rattle.gx_engine.proofs.engine.Engine.take_out.Goals as goal
 
 pub invariant_of-self-in-Err-Pages : goal.invariant_of-self-in-Err-Pages
@@ -86,7 +87,7 @@ returns-in-Err-Pages-clause-leads g c =
     let failed : c.sweep.result ≡ Err (Pages c.in-Err-Pages.fault) = search rules in
     let why = of_err _ c.sweep.result (Pages c.in-Err-Pages.fault) failed c.sweep.ensures.why in
     rw (← c.self.view_is) (λ l. refused_leads _ (c.a_class_is_lawful.ensures l) _ _ _ g.D.SectorDisk.state old w did.most did.log (did.since 0).goes_on.device (did.keeps l)
-    (has_room old.volume.log 4114) c.in-Err-Pages.fault why c.turn_away.new.self c.turn_away.result c.turn_away.ensures)
+    (has_room old.volume.log 4114) c.in-Err-Pages.fault why c.turn_away.new.self c.turn_away.result c.turn_away.ensures.refused)
 
 pub returns-in-Err-Damaged : goal.returns-in-Err-Damaged
 returns-in-Err-Damaged g c =
@@ -104,6 +105,7 @@ returns-in-Err-Damaged g c =
     rw (← c.self.view_is, c.end.ensures.failed, c.end.ensures.outcome) (record {
       sweeps = (inr (refl, full), as_brought old c.sweep.new.self (failed_state old.sessions) did.log did.most);
       leads = λ l. never_full _ (c.a_class_is_lawful.ensures l) _ _ _ c.args.page d _ old c.has_failed.ensures.kept _ _ c.requires.from high c.most.ensures.few full;
+      device = (did.since 0).goes_on.device;
     })
 
 pub returns-in-Err-Pages-clause-sweeps : goal.returns-in-Err-Pages-clause-sweeps
@@ -120,4 +122,11 @@ returns-in-Err-Pages-clause-sweeps g c =
     let failed : c.sweep.result ≡ Err (Pages c.in-Err-Pages.fault) = search rules in
     let why = of_err _ c.sweep.result (Pages c.in-Err-Pages.fault) failed c.sweep.ensures.why in
     rw (← c.self.view_is) (turned_comes k _ _ f (is_node f) c.args.page g.D.SectorDisk.state old c.sweep.new.self did.most did.log c.requires.from high some early (λ page. (did.since page).same.stamp)
-    c.in-Err-Pages.fault why c.turn_away.new.self c.turn_away.result c.turn_away.ensures)
+    c.in-Err-Pages.fault why c.turn_away.new.self c.turn_away.result c.turn_away.ensures.refused)
+
+pub returns-in-Err-Pages-clause-device : goal.returns-in-Err-Pages-clause-device
+returns-in-Err-Pages-clause-device g c =
+    let state = g.D.SectorDisk.state in
+    let did = c.in-Err-Pages.ensures.unlogged in
+    rw (← c.self.view_is)
+    (only_read_joined (state c.self.inside.storage.shelf.disk) (state c.sweep.new.self.shelf.disk) (state c.turn_away.new.self.volume.shelf.disk) (did.since 0).goes_on.device c.turn_away.ensures.device)

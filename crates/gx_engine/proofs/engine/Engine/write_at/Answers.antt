@@ -1,4 +1,4 @@
-use Rattle.std.proofs.Common.{◌≡◌, ◌∙◌, ap, subst, ◌-◌, arith, rules}
+use Rattle.std.proofs.Common.{◌≡◌, inl, refl, ◌∙◌, ap, subst, ◌-◌, arith, rules}
 use Rattle.gx_machine.specs.Keys.{Members, keys}
 use Rattle.gx_node.specs.Reading.{format_of, is_node}
 use Rattle.gx_readings.specs.Classes.{class_of, reading_of}
@@ -27,9 +27,9 @@ returns-in-Ok-clause-comes g c =
     let did = c.seek_pair.ensures.unlogged in
     let w = c.seek_pair.new.self.volume in
     let new = c.write_sought.new.self in
-    comes_on old w did.log did.most (format_of g.K.KeyClass) g.K.KeyClass.is_key k (is_node (format_of g.K.KeyClass)) (λ page. (did.since page).same.stamp) (state old.volume.shelf.disk) (state w.shelf.disk) (state new.volume.shelf.disk)
+    comes_on old w did.log did.most (format_of g.K.KeyClass) g.K.KeyClass.is_key k g.K.KeyClass.KEY (is_node (format_of g.K.KeyClass)) (λ page. (did.since page).same.stamp) (state old.volume.shelf.disk) (state w.shelf.disk) (state new.volume.shelf.disk)
     (did.since 0).goes_on.faults c.args.session c.args.entry c.args.leaf c.args.marked new c.write_sought.result
-    (subst (λ (x : Parts g.row.K-Key.Denot g.row.D.Denot). SeekComes (format_of g.K.KeyClass) g.K.KeyClass.is_key k (is_node (format_of g.K.KeyClass)) (state w.shelf.disk)
+    (subst (λ (x : Parts g.row.K-Key.Denot g.row.D.Denot). SeekComes (format_of g.K.KeyClass) g.K.KeyClass.is_key k g.K.KeyClass.KEY (is_node (format_of g.K.KeyClass)) (state w.shelf.disk)
     (state new.volume.shelf.disk)
     c.args.session c.args.entry c.args.leaf c.args.marked x new c.write_sought.result) c.seek_pair.ensures.only c.write_sought.ensures.comes)
 
@@ -61,8 +61,8 @@ returns-in-Err-Pages-clause-comes g c =
     let refused : IsRefused c.in-Err-Pages.fault c.seek_pair.new.self c.refuse.new.self c.refuse.result = search rules in
     let k = keys g.K.Key.Ord.cmp g.K.Key.Shape.overlap g.K.Key.Shape.inside in
     let why = why_pages _ c.in-Err-Pages.field-0 c.in-Err-Pages.fault c.in-Err-Pages.field-0-is c.in-Err-Pages.ensures.refused.why in
-    refused_comes c.args.self.now c.seek_pair.new.self.volume did.log did.most (format_of g.K.KeyClass) g.K.KeyClass.is_key k (is_node (format_of g.K.KeyClass)) state
-    (state c.args.self.now.volume.shelf.disk) c.args.session c.args.entry c.args.leaf c.args.marked (λ page. (did.since page).same.stamp) 0 (omega arith) c.in-Err-Pages.fault
+    refused_comes c.args.self.now c.seek_pair.new.self.volume did.log did.most (format_of g.K.KeyClass) g.K.KeyClass.is_key k g.K.KeyClass.KEY (is_node (format_of g.K.KeyClass)) state
+    (state c.args.self.now.volume.shelf.disk) c.args.session c.args.entry c.args.leaf c.args.marked (λ page. (did.since page).same.stamp) 0 (inl refl) (omega arith) c.in-Err-Pages.fault
     (no_room (is_node (format_of g.K.KeyClass)) (state c.args.self.now.volume.shelf.disk) (state c.seek_pair.new.self.volume.shelf.disk) c.args.self.now.volume c.seek_pair.new.self.volume
     c.in-Err-Pages.fault why)
     (why_begun (is_node (format_of g.K.KeyClass)) (state c.args.self.now.volume.shelf.disk) (state c.seek_pair.new.self.volume.shelf.disk) c.args.self.now.volume c.seek_pair.new.self.volume
@@ -88,7 +88,7 @@ pub returns-in-Err-Memory-clause-comes : goal.returns-in-Err-Memory-clause-comes
 returns-in-Err-Memory-clause-comes g c =
     let did = c.seek_pair.ensures.unlogged in
     let k = keys g.K.Key.Ord.cmp g.K.Key.Shape.overlap g.K.Key.Shape.inside in
-    damaged_comes c.args.self.now c.seek_pair.new.self.volume did.log did.most (format_of g.K.KeyClass) g.K.KeyClass.is_key k (is_node (format_of g.K.KeyClass)) g.D.SectorDisk.state _
+    damaged_comes c.args.self.now c.seek_pair.new.self.volume did.log did.most (format_of g.K.KeyClass) g.K.KeyClass.is_key k g.K.KeyClass.KEY (is_node (format_of g.K.KeyClass)) g.D.SectorDisk.state _
     c.args.session c.args.entry c.args.leaf c.args.marked c.break_off.new.self c.break_off.result c.break_off.ensures.outcome
     (c.break_off.ensures.failed ∙ ap (λ (x : Parts g.row.K-Key.Denot g.row.D.Denot). record x { sessions = failed_state x.sessions }) c.seek_pair.ensures.only)
 

@@ -13,6 +13,7 @@ use Rattle.gx_engine.proofs.Looking.{closes_moves, same_events}
 use Rattle.gx_engine.proofs.Reading.{err_map, ok_map, on_err_map, on_ok_map}
 use Rattle.gx_engine.proofs.Taking.{again, answered_taken, no_look, phase_now, put_back, read_rests, reads_of, reads_rested, rests, taken}
 use Rattle.gx_engine.proofs.WriteLooks.{memory_told, rests_yet}
+use Rattle.gx_pool.proofs.Bringing.{only_read_nothing}
 use Rattle.gx_engine.proofs.engine.Engine.write_look.Goals as goal
 
 pub look_on-requires-clause-open : goal.look_on-requires-clause-open
@@ -97,7 +98,7 @@ returns-else-is_done-clause-comes g c =
     let here = sym (taken e c.args.session call was at now is c.replace_work.result c.replace_work.ensures.given) ∙ c.in-Looks.is in
     again e c.args.session call was at now is (Looks c.in-Looks.look) here
     (λ (x : Parts g.row.K-Key.Denot g.row.D.Denot).
-    WriteComes k (format_of g.K.KeyClass) (is_node (format_of g.K.KeyClass)) (g.D.SectorDisk.state e.volume.shelf.disk) (g.D.SectorDisk.state c.look_on.new.self.volume.shelf.disk)
+    WriteComes k (format_of g.K.KeyClass) (is_node (format_of g.K.KeyClass)) g.K.KeyClass.KEY (g.D.SectorDisk.state e.volume.shelf.disk) (g.D.SectorDisk.state c.look_on.new.self.volume.shelf.disk)
     c.args.session call x c.look_on.new.self outcome) (comes call looks.writes resting)) c.look_on.ensures.comes)
 
 pub returns-else-is_done-clause-moves : goal.returns-else-is_done-clause-moves
@@ -165,7 +166,7 @@ returns-in-Ok-clause-comes g c =
     let here = rests_yet was looks.looking (λ look same. no_look c.replace_work.result c.in-Rests.is look (had ∙ same)) in
     again e c.args.session call was at now is Rests here
     (λ (x : Parts g.row.K-Key.Denot g.row.D.Denot).
-    WriteComes k (format_of g.K.KeyClass) (is_node (format_of g.K.KeyClass)) (g.D.SectorDisk.state e.volume.shelf.disk) (g.D.SectorDisk.state c.look_on-in-Ok.new.self.volume.shelf.disk)
+    WriteComes k (format_of g.K.KeyClass) (is_node (format_of g.K.KeyClass)) g.K.KeyClass.KEY (g.D.SectorDisk.state e.volume.shelf.disk) (g.D.SectorDisk.state c.look_on-in-Ok.new.self.volume.shelf.disk)
     c.args.session call x c.look_on-in-Ok.new.self outcome) (comes call looks.writes resting)) c.look_on-in-Ok.ensures.comes)
 
 pub returns-in-Ok-clause-moves : goal.returns-in-Ok-clause-moves
@@ -213,3 +214,6 @@ returns-in-Err-clause-moves g c call was looks l =
     rw (c.close.ensures.closed, c.close.ensures.outcome, ← c.self.view_is, answered_taken e c.args.session call was at now is)
     (same_events _ _ _ _ _ _ c.args.session e _ _ _ _ (memory_told c.args.session call)
     (closes_moves _ (c.a_class_is_lawful.ensures l) _ _ _ (g.D.SectorDisk.state e.volume.shelf.disk) e c.has_failed.ensures.kept c.args.session c.requires.session call was at works))
+
+pub returns-then-is_done-clause-device : goal.returns-then-is_done-clause-device
+returns-then-is_done-clause-device g c = rw (← c.self.view_is) (only_read_nothing (g.D.SectorDisk.state c.self.inside.storage.shelf.disk))

@@ -4,7 +4,7 @@ use Rattle.gx_engine_laws.specs.declared.look.Listed.{Listed}
 use Rattle.gx_engine_laws.specs.Engines.{last_number}
 use Rattle.gx_small_engine.specs.Standing.{standing}
 use Rattle.gx_small_engine.specs.States.{State, engine_of, IsKept}
-use Rattle.gx_small_engine.proofs.SearchEvents.{sealed, commit_closes}
+use Rattle.gx_small_engine.proofs.SearchEvents.{sealed, commit_rests}
 use Rattle.gx_small_engine.proofs.engine.SmallEngine.seal.Goals as goal
 
 pub overflow_add-number : goal.overflow_add-number
@@ -46,7 +46,7 @@ invariant_of-self-in-Err g c =
     let self = c.self.inside in
     let old : State g.row.B.Denot = record { pairs = self.pairs.items; phases = self.phases.items; table = self.table; older = self.older.items; oldest = self.oldest } in
     let now = c.args.self.now in
-    (commit_closes k lawful old now c.self.view_is c.self.invariant c.args.session c.requires.session c.requires.open c.keep_standing.new.older.items c.set_phase-in-Err.new.phases.items c.in-Err.ensures.err c.set_phase-in-Err.ensures).1
+    (commit_rests k lawful old now c.self.view_is c.self.invariant c.args.session c.requires.session c.requires.open c.keep_standing.new.older.items c.in-Err.ensures.err).1
 
 pub returns-in-Err : goal.returns-in-Err
 returns-in-Err g c =
@@ -55,19 +55,13 @@ returns-in-Err g c =
     let self = c.self.inside in
     let old : State g.row.B.Denot = record { pairs = self.pairs.items; phases = self.phases.items; table = self.table; older = self.older.items; oldest = self.oldest } in
     let now = c.args.self.now in
-    (commit_closes k lawful old now c.self.view_is c.self.invariant c.args.session c.requires.session c.requires.open c.keep_standing.new.older.items c.set_phase-in-Err.new.phases.items c.in-Err.ensures.err c.set_phase-in-Err.ensures).0
+    (commit_rests k lawful old now c.self.view_is c.self.invariant c.args.session c.requires.session c.requires.open c.keep_standing.new.older.items c.in-Err.ensures.err).0
 
 pub set_phase-requires-clause-session : goal.set_phase-requires-clause-session
 set_phase-requires-clause-session g c = c.requires.session
 
 pub set_phase-requires-clause-eight : goal.set_phase-requires-clause-eight
 set_phase-requires-clause-eight g c = c.self.invariant.phases
-
-pub set_phase-requires-in-Err-clause-session : goal.set_phase-requires-in-Err-clause-session
-set_phase-requires-in-Err-clause-session g c = c.requires.session
-
-pub set_phase-requires-in-Err-clause-eight : goal.set_phase-requires-in-Err-clause-eight
-set_phase-requires-in-Err-clause-eight g c = c.self.invariant.phases
 
 pub keep_standing-requires : goal.keep_standing-requires
 keep_standing-requires g c = c.self.invariant.table
