@@ -45,8 +45,8 @@ module _ {B : Type 0} (k : Keys B) where
   failed_rises m n is = subst (λ (z : Machine B). m.oldest ≤ z.oldest) (sym is) (omega arith)
 
   refused_rises : (s : ℕ) (why : Refusal) (m n : Machine B) → FitsReply k s (reply.Refused why) m n → m.oldest ≤ n.oldest
-  refused_rises s refusal.PagesFull m n h = oldest_rises k m n (Closes s refusal.PagesFull) h.1
-  refused_rises s refusal.Memory m n h = oldest_rises k m n (Closes s refusal.Memory) h.1
+  refused_rises s refusal.PagesFull m n h = oldest_rises k m n (Closes s refusal.PagesFull) h
+  refused_rises s refusal.Memory m n h = oldest_rises k m n (Closes s refusal.Memory) h
   refused_rises s refusal.Device m n h = oldest_rises k m n (RefusesCall s refusal.Device) h
   refused_rises s refusal.Failed m n h = failed_rises m n h.1
   refused_rises s other m n h = oldest_rises k m n (Answers s (reply.Refused other)) h
