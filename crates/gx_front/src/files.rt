@@ -1,9 +1,8 @@
 //! The commands over a file.
-ghost use Rattle.std.specs.Prelude.{◌≤◌, length};
+ghost use Rattle.std.specs.Prelude.{◌≡◌, ◌≤◌, ◌++◌, IfSome, codes, length, string_bytes};
 ghost use Rattle.gx_command.specs.Streams.{outputs_of, stream_of};
 ghost use Rattle.gx_front.specs.Endings.{EndsDump, EndsFormat, EndsRun, HasNoDevice, TellsOf};
 
-use arrayvec::ArrayString;
 use gx_class::{Box2Class, KeyClass};
 use gx_command::{Noted, SENTENCE, tell_person};
 use gx_device_commands::{dump_over, format_over, print_refusal, run_over};
@@ -11,7 +10,6 @@ use gx_disk::{DiskFault, FileDisk, SectorDisk};
 use gx_format::sectors_for;
 use gx_geom::{Box2, Refusal, Shape};
 use std::alloc::Global;
-use std::fmt::Write as _;
 use std::fs::{File, Files};
 use std::io::{Read, Write};
 
@@ -45,6 +43,7 @@ pub(crate) fn format_file<T: Files<File = File>, W: Write, E: Write>(
             format_over::<FileDisk, Box2Class, W, E>(alloc, &mut disk, pages, most, writer, faults)
         }
         Err(fault) => refuse_file(
+            alloc,
             writer,
             faults,
             file,
@@ -78,7 +77,7 @@ pub(crate) fn run_file<T: Files<File = File>, R: Read, W: Write, E: Write>(
             );
             status
         }
-        Err(fault) => refuse_file(writer, faults, file, fault, NOT_OPENED),
+        Err(fault) => refuse_file(alloc, writer, faults, file, fault, NOT_OPENED),
     }
 }
 
@@ -107,24 +106,35 @@ pub(crate) fn dump_file<T: Files<File = File>, W: Write, E: Write>(
             );
             status
         }
-        Err(fault) => refuse_file(writer, faults, file, fault, NOT_OPENED),
+        Err(fault) => refuse_file(alloc, writer, faults, file, fault, NOT_OPENED),
+    }
+}
+
+// The sentence that tells a person why a file is no device, unless it is too long, or there is no memory for it.
+fn sentence_of(alloc: Global, file: &str, why: &str) -> Option<String>
+    ensures words { IfSome result (λ sentence. string_bytes sentence ≡ file.now ++ (codes ": " ++ why.now)) }
+    ensures short { IfSome result (λ sentence. length (string_bytes sentence) ≤ SENTENCE) }
+{
+    match format!(in alloc; "{file}: {why}") {
+        Ok(sentence) if sentence.len() <= SENTENCE => Some(sentence),
+        _ => None,
     }
 }
 
 // Tells a person why a file is no device.
-fn tell_file<E: Write>(faults: &mut Noted<E>, file: &str, why: &str)
+fn tell_file<E: Write>(alloc: Global, faults: &mut Noted<E>, file: &str, why: &str)
     requires { length why.now ≤ SENTENCE }
     ensures { TellsOf file.now why.now (stream_of E.contents faults.old) (stream_of E.contents faults.new) }
 {
-    let mut sentence = ArrayString::<SENTENCE>::new();
-    match write!(sentence, "{file}: {why}") {
-        Ok(()) => tell_person(faults, sentence.as_str()),
-        Err(_) => tell_person(faults, why),
+    match sentence_of(alloc, file, why) {
+        Some(sentence) => tell_person(faults, sentence.as_str()),
+        None => tell_person(faults, why),
     }
 }
 
 // Tells that there is no such device, and a person why the file is none, and returns the status.
 fn refuse_file<W: Write, E: Write>(
+    alloc: Global,
     writer: &mut Noted<W>,
     faults: &mut Noted<E>,
     file: &str,
@@ -138,7 +148,7 @@ fn refuse_file<W: Write, E: Write>(
         DiskFault::InUse => "another process has it in use",
         _ => otherwise,
     };
-    tell_file(faults, file, why);
+    tell_file(alloc, faults, file, why);
     print_refusal(writer, Refusal::Device);
     REFUSED
 }

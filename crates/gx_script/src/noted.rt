@@ -1,5 +1,5 @@
 //! Readers and writers, each with how its last call ended.
-ghost use Rattle.std.specs.Prelude.{◌≡◌, ◌≢◌, ◌+◌, ◌-◌, ◌^◌, ◌<◌, min, length, Some, None};
+ghost use Rattle.std.specs.Prelude.{◌≡◌, ◌≢◌, ◌+◌, ◌-◌, ◌^◌, ◌<◌, min, length, Some, None, IfErr, IsSome};
 ghost use Rattle.std.specs.IoError.{error_kind};
 ghost use Rattle.gx_script.specs.Noting.{IsGiven, IsTaken, IsTransfer, IsError};
 
@@ -49,6 +49,7 @@ impl<T> Noted<T> {
         ensures transfer { IsTransfer error_kind ErrorKind.Interrupted ended result }
         ensures inner { self.new.inner ≡ self.old.inner }
         ensures last { self.new.last ≡ Some result }
+        ensures kind { IfErr ended (λ error. self.new.kind ≡ Some (error_kind error)) }
         ensures calls { self.new.calls ≡ min (self.old.calls + 1) (2 ^ 64 - 1) }
     {
         let transfer = match ended {
@@ -83,6 +84,7 @@ impl<R: Read> Noted<R> {
         requires { 0 < length buffer.old }
         ensures given { IsGiven (R.remaining self.old.inner) (R.remaining self.new.inner) buffer.new result }
         ensures last { self.new.last ≡ Some result }
+        ensures kind { result ≡ Transfer.Failed → IsSome self.new.kind }
         ensures calls { self.new.calls ≡ min (self.old.calls + 1) (2 ^ 64 - 1) }
     {
         let ended = self.inner.read(buffer);
@@ -95,6 +97,7 @@ impl<W: Write> Noted<W> {
     pub fn write(&mut self, bytes: &[u8]) -> Transfer
         ensures taken { IsTaken (W.contents self.old.inner) (W.contents self.new.inner) bytes.now result }
         ensures last { self.new.last ≡ Some result }
+        ensures kind { result ≡ Transfer.Failed → IsSome self.new.kind }
         ensures calls { self.new.calls ≡ min (self.old.calls + 1) (2 ^ 64 - 1) }
     {
         let ended = self.inner.write(bytes);
