@@ -14,7 +14,7 @@ ALL = 32000
 # Names of other programs, of the toolchain and of its library.
 ELSEWHERE = {
     "gist_redo", "integrity_check", "rtree_i32", "common_steps", "may_wait", "StartupXLOG", "XLogInsert", "XLogFlush",
-    "ReadBuffer", "CreateCheckPoint", "copy_nonoverlapping", "ptr",
+    "ReadBuffer", "CreateCheckPoint", "copy_nonoverlapping", "ptr", "TypeError", "ValueError",
 }
 TOP = pathlib.Path(__file__).resolve().parent.parent
 WORD = re.compile(r"[A-Za-z_][A-Za-z0-9_]*")
@@ -50,6 +50,7 @@ def of_crate(name):
 def everywhere():
     found = words_of([path for path in (TOP / "bench").iterdir() if path.is_file()])
     found |= words_of([path for path in (TOP / "tools").iterdir() if path.is_file()] + [TOP / "gist"])
+    found |= words_of(files(TOP / "python", {".py"}) + files(TOP / "c", {".c", ".h"}))
     for name in CRATES:
         found |= of_crate(name)
     return found | set(CRATES) | FOLDERS | ELSEWHERE
@@ -83,7 +84,8 @@ def wrong(span, known):
     """What in one span of backquotes names nothing."""
     for text in expanded(span):
         if is_path(text):
-            if not has_path(text):
+            # (what a build makes isn't there)
+            if "/out/" not in text and not has_path(text):
                 yield text
             continue
         parts = text.split("::")

@@ -19,8 +19,16 @@ pub(crate) fn set_of<I: Answers>(alloc: Global, index: &mut I) -> Result<Vec<u8>
 fn set_after(alloc: Global, front: &[u8]) -> Result<Vec<u8>, RunFault> {
     let mut plain = PlainIndex::new(alloc)?;
     let mut replies = Vec::new(alloc);
-    run(&mut Noted::new(front), &mut Noted::new(&mut replies), &mut plain)?;
-    run(&mut Noted::new(ABORTS), &mut Noted::new(&mut replies), &mut plain)?;
+    run(
+        &mut Noted::new(front),
+        &mut Noted::new(&mut replies),
+        &mut plain,
+    )?;
+    run(
+        &mut Noted::new(ABORTS),
+        &mut Noted::new(&mut replies),
+        &mut plain,
+    )?;
     set_of(alloc, &mut plain)
 }
 

@@ -86,7 +86,11 @@ fn run_on(
 ) -> Result<Stopped, RunFault> {
     let mut index = Index::new(engine);
     let mut replies = Vec::new(alloc);
-    run_script(&mut Noted::new(script), &mut Noted::new(&mut replies), &mut index)?;
+    run_script(
+        &mut Noted::new(script),
+        &mut Noted::new(&mut replies),
+        &mut index,
+    )?;
     let is_whole = index.settle().is_ok();
     let engine = index.into_engine();
     let sealed = engine.commits();
