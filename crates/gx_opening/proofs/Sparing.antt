@@ -1,6 +1,6 @@
 -- Sectors that calls on a settled device don't write.
-use Rattle.std.proofs.Common.{◌≡◌, ◌∙◌, ℕ, false, List, length, refl, ap}
-use Rattle.gx_disk.specs.Device.{Device, Elapses, IsSettled, MayLeave, Rests, SamePending}
+use Rattle.std.proofs.Common.{◌≡◌, ◌∙◌, ℕ, List, length, refl, ap}
+use Rattle.gx_disk.specs.Device.{Device, Elapses, IsSettled, MayLeave, Rests}
 use Rattle.gx_disk.specs.Looks.{Looks}
 use Rattle.gx_disk.specs.Sectors.{sector_of}
 use Rattle.gx_disk.proofs.Leaving.{call_leaves, leaves_joined, leaves_weaker, rested_image}
