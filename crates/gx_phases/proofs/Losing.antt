@@ -1,5 +1,5 @@
 -- A note of a transaction that is to be undone, taken up.
-use Rattle.std.proofs.Common.{◌≡◌, ℕ, zero, suc, ◌+◌, ◌-◌, ◌<◌, ◌≤◌, Bool, true, List, [], ◌∷◌, length, Result, Ok, Err, refl, ap, sym, ◌∙◌, arith, subst, get_or-set_same}
+use Rattle.std.proofs.Common.{◌≡◌, ℕ, zero, suc, ◌-◌, ◌<◌, true, List, [], ◌∷◌, length, Result, Ok, Err, refl, ap, sym, ◌∙◌, arith, subst, get_or-set_same}
 use Rattle.std.specs.Prelude.{slice_set, IsOk}
 use Rattle.std.proofs.lemmas.List.{length-set}
 use Rattle.gx_geom.specs.declared.refusal.Refusal.{Refusal}
@@ -15,7 +15,7 @@ use Rattle.gx_txn.specs.Tables.{Held, nothing_held, held_by, with_held, with_not
 use Rattle.gx_txn.proofs.Noted.{entries_of-noting}
 use Rattle.gx_phases.specs.declared.phase.Phase.{Phase}
 use Rattle.gx_phases.specs.declared.phase.Phase.TheVariants as phase
-use Rattle.gx_phases.specs.States.{State, phase_at, held_at, with_phase, with_session, may_commit, IsPlaced, IsKept}
+use Rattle.gx_phases.specs.States.{State, with_phase, IsKept}
 use Rattle.gx_phases.specs.Moves.{HeldNote, TakesUp}
 use Rattle.gx_phases.proofs.Keeping.{low, kept_with, no_wait, numbers_left}
 

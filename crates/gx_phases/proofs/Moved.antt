@@ -4,11 +4,10 @@ use Rattle.std.specs.declared.cmp.Ordering.TheVariants.{Equal}
 use Rattle.std.specs.Prelude.{if◌then◌else◌, nat_lt}
 use Rattle.std.proofs.lemmas.Bool.{ltb-true}
 use Rattle.std.proofs.lemmas.Option.{slice_get_read}
-use Rattle.gx_machine.specs.declared.entry.Entry.{Entry}
 use Rattle.gx_machine.specs.Keys.{Keys, IsLawful, entry_cmp}
 use Rattle.gx_machine.proofs.SetLaws.{entry_itself}
 use Rattle.gx_txn.specs.declared.note.Note.{Note}
-use Rattle.gx_txn.specs.Notes.{entries_of, noting}
+use Rattle.gx_txn.specs.Notes.{noting}
 use Rattle.gx_txn.specs.Tables.{Held, IsKept, claims, held_by, with_held, with_notes}
 use Rattle.gx_txn.proofs.Noted.{noting_at}
 use Rattle.gx_phases.specs.declared.phase.Phase.{Phase}

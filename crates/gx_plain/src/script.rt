@@ -22,18 +22,20 @@ impl Answers for PlainIndex<Box2> {
 /// Reads a script of boxes to its end, asks the index for the calls of its lines, and writes the replies.
 ///
 /// All lines of a reply are written before the next line's call is asked. A line that isn't one of a script's is
-/// answered by its number, and the script goes on. It ends well where the reader's last call gave nothing. Faults: `Read`
-/// where that failed, or 2^32 calls were made of the reader; `Write` where the writer's last call failed or took nothing,
-/// or 2^32 calls were made of the writer. What was written then is a beginning of the text, and replies given before
-/// stand. An interrupted read or write is made again.
+/// answered by its number, and the script goes on. It ends well where the reader's last call gave nothing. Faults:
+/// `Read` where that failed, or 2^32 calls were made of the reader; `Write` where the writer's last call failed or took
+/// nothing, or 2^32 calls were made of the writer. What was written then is a beginning of the text, and replies given
+/// before stand. An interrupted read or write is made again.
 pub fn run_plain<R: Read, W: Write>(
     reader: &mut Noted<R>,
     writer: &mut Noted<W>,
     index: &mut PlainIndex<Box2>,
 ) -> Result<(), ScriptFault>
-    ensures done { OnOk result (IsDone (CallsIndex box_keys) (R.remaining reader.old.inner) (R.remaining reader.new.inner)
+    ensures done { OnOk result (IsDone (CallsIndex box_keys)
+        (R.remaining reader.old.inner) (R.remaining reader.new.inner)
         (W.contents writer.old.inner) (W.contents writer.new.inner) index.old index.new) }
-    ensures stopped { IfErr result (IsStopped (CallsIndex box_keys) (R.remaining reader.old.inner) (R.remaining reader.new.inner)
+    ensures stopped { IfErr result (IsStopped (CallsIndex box_keys)
+        (R.remaining reader.old.inner) (R.remaining reader.new.inner)
         (W.contents writer.old.inner) (W.contents writer.new.inner) index.old index.new) }
     ensures ended { OnOk result (reader.new.last ≡ Some Transfer.Nothing) }
     ensures fault { IfErr result (IsFaultOf reader.new writer.new) }

@@ -46,14 +46,6 @@ use Rattle.gx_events.specs.declared.event.Event.TheVariants.{Move}
 use Rattle.gx_restart.proofs.Going.{goes_stays}
 use Rattle.gx_restart.proofs.Runs.{all_undo, step_keeps, step_why}
 
--- a session that undoes, or is free, waits for no commit
-waits_never : {B W : Type 0} (p : Phase B W) (number : ℕ) → MayUndo p → p ≡ phase.Waiting number → ⊥
-waits_never phase.Free number may is = let no : ⊥ = cc in no
-waits_never phase.Working number may is = may
-waits_never (phase.Open call work) number may is = may
-waits_never (phase.Undoing restored work) number may is = let no : ⊥ = cc in no
-waits_never (phase.Waiting other) number may is = may
-
 module _ {C B D : Type 0} (shape : Members B) (proper : B → Bool) (said : List ℕ → B) (class : Ghosts C B) (state : D → Device) (p : Parameters) (seen : List ℕ)
     (lc : IsLawful (class_of shape proper (limits_of p))) where
   abbrev makes : Parts B D → Event B → Outcome B → Parts B D → Type 0
@@ -177,7 +169,7 @@ module _ {C B D : Type 0} (shape : Members B) (proper : B → Bool) (said : List
     never_endless old new undoes h endless =
         let held = (goes_hold old endless.middle undoes endless.before h).holds in
         let few = starts_end shape proper said class state short (limits_of p) (λ some. lc) bounded endless.middle new endless.session 72057594037927936 (Move endless.session) endless.given_up.0
-        held.bodies held.index held.holds (refl, λ number waits. absurd (waits_never (phase_at (endless.session - 1) endless.middle.sessions.phases) number (endless.undoes (endless.session - 1)) waits))
+        held.bodies held.index held.holds refl
         endless.given_up.1 in
         let no : ⊥ = omega (arith, few) in no
 

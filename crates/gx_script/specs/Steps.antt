@@ -1,5 +1,5 @@
 -- What each step of the runner does: to one line, and to a piece of the script.
-use Rattle.std.specs.Prelude.{ℕ, ◌≡◌, ◌+◌, ◌<◌, ◌≤◌, ◌⊎◌, true, length, take, Option, List, [], ◌++◌}
+use Rattle.std.specs.Prelude.{ℕ, ◌≡◌, ◌+◌, ◌<◌, ◌⊎◌, true, length, take, Option, List, [], ◌++◌}
 use Rattle.std.specs.Io.KnownBytes.{Appends}
 use Rattle.gx_geom.specs.Rectangles.{Rectangle}
 use Rattle.gx_machine.specs.declared.call.Call.{Call}

@@ -51,8 +51,10 @@ impl Output {
 
     /// Writes all that waits.
     pub(crate) fn flush<W: Write>(&mut self, writer: &mut Noted<W>) -> Result<(), ScriptFault>
-        ensures ok { OnOk result ((self.new ≡ []) × Appends (W.contents writer.old.inner) (W.contents writer.new.inner) self.old) }
-        ensures cut { IfErr result (λ e. (e ≡ ScriptFault.Write) × IsCut (W.contents writer.old.inner) (W.contents writer.new.inner) self.old) }
+        ensures ok { OnOk result ((self.new ≡ []) × Appends
+            (W.contents writer.old.inner) (W.contents writer.new.inner) self.old) }
+        ensures cut { IfErr result (λ e. (e ≡ ScriptFault.Write) × IsCut
+            (W.contents writer.old.inner) (W.contents writer.new.inner) self.old) }
         ensures stuck { OnErr result (TakesNoMore writer.new) }
     {
         write_whole(writer, self.bytes.as_slice())?;
@@ -64,7 +66,8 @@ impl Output {
     pub(crate) fn make_room<W: Write>(&mut self, writer: &mut Noted<W>) -> Result<(), ScriptFault>
         ensures ok { OnOk result ((length self.new + LONGEST ≤ WAITING)
             × IsPut (W.contents writer.old.inner) (W.contents writer.new.inner) self.old [] self.new) }
-        ensures cut { IfErr result (λ e. (e ≡ ScriptFault.Write) × IsCut (W.contents writer.old.inner) (W.contents writer.new.inner) self.old) }
+        ensures cut { IfErr result (λ e. (e ≡ ScriptFault.Write) × IsCut
+            (W.contents writer.old.inner) (W.contents writer.new.inner) self.old) }
         ensures stuck { OnErr result (TakesNoMore writer.new) }
     {
         if self.bytes.len() + LONGEST > WAITING {
@@ -178,11 +181,12 @@ impl Output {
 
 /// Writes all of the bytes, in as many writes as it takes. One that was interrupted is made again.
 ///
-/// `Write` where the writer's last call failed or took nothing, or where 2^32 calls of it were made; a front of the bytes
-/// is written then.
+/// `Write` where the writer's last call failed or took nothing, or where 2^32 calls of it were made; a front of the
+/// bytes is written then.
 pub fn write_whole<W: Write>(writer: &mut Noted<W>, bytes: &[u8]) -> Result<(), ScriptFault>
     ensures ok { OnOk result (Appends (W.contents writer.old.inner) (W.contents writer.new.inner) bytes.now) }
-    ensures cut { IfErr result (λ e. (e ≡ ScriptFault.Write) × IsCut (W.contents writer.old.inner) (W.contents writer.new.inner) bytes.now) }
+    ensures cut { IfErr result (λ e. (e ≡ ScriptFault.Write) × IsCut
+        (W.contents writer.old.inner) (W.contents writer.new.inner) bytes.now) }
     ensures stuck { OnErr result (TakesNoMore writer.new) }
 {
     let mut rest = bytes;

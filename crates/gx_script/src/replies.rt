@@ -18,9 +18,11 @@ pub(crate) fn put_reply<W: Write>(
     session: u64,
     reply: &Reply<Box2>,
 ) -> Result<(), ScriptFault>
-    ensures ok { OnOk result (IsPut (W.contents writer.old.inner) (W.contents writer.new.inner) output.old (reply_text session reply.now) output.new) }
+    ensures ok { OnOk result (IsPut
+        (W.contents writer.old.inner) (W.contents writer.new.inner) output.old (reply_text session reply.now) output.new) }
     ensures cut { IfErr result (λ e. (e ≡ ScriptFault.Write)
-        × IsCut (W.contents writer.old.inner) (W.contents writer.new.inner) (output.old ++ reply_text session reply.now)) }
+        × IsCut
+        (W.contents writer.old.inner) (W.contents writer.new.inner) (output.old ++ reply_text session reply.now)) }
     ensures stuck { OnErr result (TakesNoMore writer.new) }
 {
     output.make_room(writer)?;
@@ -49,7 +51,8 @@ fn put_entries<W: Write>(
     ensures ok { OnOk result (IsPut (W.contents writer.old.inner) (W.contents writer.new.inner) output.old
         (flat_map (entry_line session) entries.now) output.new) }
     ensures cut { IfErr result (λ e. (e ≡ ScriptFault.Write)
-        × IsCut (W.contents writer.old.inner) (W.contents writer.new.inner) (output.old ++ flat_map (entry_line session) entries.now)) }
+        × IsCut
+        (W.contents writer.old.inner) (W.contents writer.new.inner) (output.old ++ flat_map (entry_line session) entries.now)) }
     ensures stuck { OnErr result (TakesNoMore writer.new) }
 {
     for entry in entries {

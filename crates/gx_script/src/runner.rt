@@ -23,8 +23,8 @@ const PIECE: usize = 16384;
 /// Reads a script to its end, asks the index for the calls of its lines, and writes the replies.
 ///
 /// Each reply is written before the next call is asked. An interrupted read or write is made again. The script ends
-/// well where the reader's last call gave nothing; with `Read` where that failed, or 2^32 calls were made of the reader;
-/// and with `Write` where the writer's last call failed or took nothing, or 2^32 calls were made of the writer.
+/// well where the reader's last call gave nothing; with `Read` where that failed, or 2^32 calls were made of the
+/// reader; and with `Write` where the writer's last call failed or took nothing, or 2^32 calls were made of the writer.
 pub fn run<R: Read, W: Write, I: Answers>(
     reader: &mut Noted<R>,
     writer: &mut Noted<W>,
@@ -118,9 +118,11 @@ impl Script {
     ) -> Result<(), ScriptFault>
         requires { self.old.number + 1 < 2 ^ 64 }
         ensures ok { OnOk result (IsUnended self.old.line → Feeds I.answered self.old.number index.old self.old.output (λ number done start written.
-            IsEnded I.answered number done start written self.old.line (W.contents writer.old.inner) (W.contents writer.new.inner) index.new)) }
+            IsEnded I.answered number done start written self.old.line
+            (W.contents writer.old.inner) (W.contents writer.new.inner) index.new)) }
         ensures cut { IfErr result (λ e. (e ≡ ScriptFault.Write) × (IsUnended self.old.line → Feeds I.answered self.old.number index.old self.old.output (λ number done start written.
-            IsEndedPart I.answered number done start written self.old.line (W.contents writer.old.inner) (W.contents writer.new.inner) index.new))) }
+            IsEndedPart I.answered number done start written self.old.line
+            (W.contents writer.old.inner) (W.contents writer.new.inner) index.new))) }
         ensures stuck { OnErr result (TakesNoMore writer.new) }
     {
         if self.line.is_empty() {

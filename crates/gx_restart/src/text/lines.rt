@@ -49,8 +49,10 @@ impl Lines {
 
     /// Writes all that waits. `Write` as `write_whole` says; a front was written then.
     pub(crate) fn flush<W: Write>(&mut self, writer: &mut Noted<W>) -> Result<(), Stop>
-        ensures ok { OnOk result ((self.new ≡ []) × Appends (W.contents writer.old.inner) (W.contents writer.new.inner) self.old) }
-        ensures cut { IfErr result (λ e. (e ≡ Stop.Write) × IsCut (W.contents writer.old.inner) (W.contents writer.new.inner) self.old) }
+        ensures ok { OnOk result ((self.new ≡ []) × Appends
+            (W.contents writer.old.inner) (W.contents writer.new.inner) self.old) }
+        ensures cut { IfErr result (λ e. (e ≡ Stop.Write) × IsCut
+            (W.contents writer.old.inner) (W.contents writer.new.inner) self.old) }
         ensures stuck { OnErr result (TakesNoMore writer.new) }
     {
         match write_whole(writer, self.bytes.as_slice()) {
@@ -66,7 +68,8 @@ impl Lines {
     pub(crate) fn make_room<W: Write>(&mut self, writer: &mut Noted<W>) -> Result<(), Stop>
         ensures ok { OnOk result ((length self.new + LONGEST ≤ WAITING)
             × IsPut (W.contents writer.old.inner) (W.contents writer.new.inner) self.old [] self.new) }
-        ensures cut { IfErr result (λ e. (e ≡ Stop.Write) × IsCut (W.contents writer.old.inner) (W.contents writer.new.inner) self.old) }
+        ensures cut { IfErr result (λ e. (e ≡ Stop.Write) × IsCut
+            (W.contents writer.old.inner) (W.contents writer.new.inner) self.old) }
         ensures stuck { OnErr result (TakesNoMore writer.new) }
     {
         if self.bytes.len() + LONGEST > WAITING {

@@ -17,9 +17,11 @@ use gx_page::Page;
 use gx_script::Noted;
 use std::io::Write;
 
-/// Adds the first line of a tree: the number of the last commit, the greatest page that is taken, and the counter of splits.
+/// Adds the first line of a tree: the number of the last commit, the greatest page that is taken, and the counter of
+/// splits.
 ///
-/// `Write` where the writer fails or takes nothing; what was written then is a beginning of what waited with that line behind it.
+/// `Write` where the writer fails or takes nothing; what was written then is a beginning of what waited with that line
+/// behind it.
 pub(crate) fn put_head<W: Write>(
     writer: &mut Noted<W>,
     lines: &mut Lines,
@@ -27,8 +29,10 @@ pub(crate) fn put_head<W: Write>(
     used: u32,
     counter: u64,
 ) -> Result<(), Stop>
-    ensures ok { OnOk result (IsPut (W.contents writer.old.inner) (W.contents writer.new.inner) lines.old (head_line number used counter) lines.new) }
-    ensures cut { IfErr result (λ e. (e ≡ Stop.Write) × IsCut (W.contents writer.old.inner) (W.contents writer.new.inner) (lines.old ++ head_line number used counter)) }
+    ensures ok { OnOk result (IsPut
+        (W.contents writer.old.inner) (W.contents writer.new.inner) lines.old (head_line number used counter) lines.new) }
+    ensures cut { IfErr result (λ e. (e ≡ Stop.Write) × IsCut
+        (W.contents writer.old.inner) (W.contents writer.new.inner) (lines.old ++ head_line number used counter)) }
     ensures stuck { OnErr result (TakesNoMore writer.new) }
 {
     lines.make_room(writer)?;
@@ -38,7 +42,8 @@ pub(crate) fn put_head<W: Write>(
 
 /// Adds the lines of a page, under this number: its own, and one for each of its entries, by slot.
 ///
-/// `Write` where the writer fails or takes nothing; what was written then is a beginning of what waited with those lines behind it.
+/// `Write` where the writer fails or takes nothing; what was written then is a beginning of what waited with those
+/// lines behind it.
 pub(crate) fn put_page<W: Write, K: KeyClass<Key = Box2>>(
     writer: &mut Noted<W>,
     lines: &mut Lines,
@@ -46,9 +51,11 @@ pub(crate) fn put_page<W: Write, K: KeyClass<Key = Box2>>(
     page: &Page,
 ) -> Result<(), Stop>
     requires { IsNode (format_of K.KeyClass) page.now }
-    ensures ok { OnOk result (IsPut (W.contents writer.old.inner) (W.contents writer.new.inner) lines.old (node_text number (node_of (format_of K.KeyClass) page.now)) lines.new) }
+    ensures ok { OnOk result (IsPut
+        (W.contents writer.old.inner) (W.contents writer.new.inner) lines.old (node_text number (node_of (format_of K.KeyClass) page.now)) lines.new) }
     ensures cut { IfErr result (λ e. (e ≡ Stop.Write)
-        × IsCut (W.contents writer.old.inner) (W.contents writer.new.inner) (lines.old ++ node_text number (node_of (format_of K.KeyClass) page.now))) }
+        × IsCut
+        (W.contents writer.old.inner) (W.contents writer.new.inner) (lines.old ++ node_text number (node_of (format_of K.KeyClass) page.now))) }
     ensures stuck { OnErr result (TakesNoMore writer.new) }
 {
     lines.make_room(writer)?;
@@ -68,8 +75,10 @@ fn put_pairs<W: Write, K: KeyClass<Key = Box2>>(
     lines: &mut Lines,
     leaf: &Leaf<K>,
 ) -> Result<(), Stop>
-    ensures ok { OnOk result (IsPut (W.contents writer.old.inner) (W.contents writer.new.inner) lines.old (flat_map entry_line leaf.now.pairs) lines.new) }
-    ensures cut { IfErr result (λ e. (e ≡ Stop.Write) × IsCut (W.contents writer.old.inner) (W.contents writer.new.inner) (lines.old ++ flat_map entry_line leaf.now.pairs)) }
+    ensures ok { OnOk result (IsPut
+        (W.contents writer.old.inner) (W.contents writer.new.inner) lines.old (flat_map entry_line leaf.now.pairs) lines.new) }
+    ensures cut { IfErr result (λ e. (e ≡ Stop.Write) × IsCut
+        (W.contents writer.old.inner) (W.contents writer.new.inner) (lines.old ++ flat_map entry_line leaf.now.pairs)) }
     ensures stuck { OnErr result (TakesNoMore writer.new) }
 {
     for slot in 0..leaf.len() {
@@ -86,8 +95,10 @@ fn put_children<W: Write, K: KeyClass<Key = Box2>>(
     lines: &mut Lines,
     inner: &Inner<K>,
 ) -> Result<(), Stop>
-    ensures ok { OnOk result (IsPut (W.contents writer.old.inner) (W.contents writer.new.inner) lines.old (flat_map child_line inner.now.children) lines.new) }
-    ensures cut { IfErr result (λ e. (e ≡ Stop.Write) × IsCut (W.contents writer.old.inner) (W.contents writer.new.inner) (lines.old ++ flat_map child_line inner.now.children)) }
+    ensures ok { OnOk result (IsPut
+        (W.contents writer.old.inner) (W.contents writer.new.inner) lines.old (flat_map child_line inner.now.children) lines.new) }
+    ensures cut { IfErr result (λ e. (e ≡ Stop.Write) × IsCut
+        (W.contents writer.old.inner) (W.contents writer.new.inner) (lines.old ++ flat_map child_line inner.now.children)) }
     ensures stuck { OnErr result (TakesNoMore writer.new) }
 {
     for slot in 0..inner.len() {

@@ -1,8 +1,8 @@
 use Rattle.std.proofs.Common.{refl, ap, sym, ◌∙◌, length}
 use Rattle.gx_machine.specs.Keys.{keys}
 use Rattle.gx_txn.specs.Tables.{held_by}
-use Rattle.gx_phases.specs.Moves.{next_of, restored_by}
-use Rattle.gx_phases.specs.States.{State, phase_at}
+use Rattle.gx_phases.specs.Moves.{next_of}
+use Rattle.gx_phases.specs.States.{State}
 use Rattle.gx_phases.proofs.Moved.{next_low, one_restored}
 use Rattle.gx_phases.proofs.Moving.{restored_kept}
 use Rattle.gx_phases.proofs.sessions.Sessions.restored.Goals as goal
