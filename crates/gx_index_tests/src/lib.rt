@@ -9,6 +9,8 @@ mod devices;
 #[cfg(test)]
 mod dumps;
 #[cfg(test)]
+mod full;
+#[cfg(test)]
 mod openings;
 #[cfg(test)]
 mod plain_commands;
