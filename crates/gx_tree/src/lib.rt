@@ -14,7 +14,6 @@ mod moving;
 mod seek;
 mod split;
 mod split_root;
-mod stack;
 mod sweep;
 mod wanted;
 
