@@ -8,7 +8,6 @@ ghost use Rattle.gx_phases.specs.Parts.{PartsAsked, Settled, WorkingAsked};
 ghost use Rattle.gx_phases.specs.States.{phase_at, with_phase};
 
 use crate::phase::Phase;
-use crate::phases::Phases;
 use gx_geom::{Refusal, Shape};
 use gx_machine::{Asked, Call, Reply, SESSIONS};
 use gx_txn::Transactions;
@@ -51,17 +50,17 @@ pub fn is_free<B: Shape, W>(phase: &Phase<B, W>) -> bool
 }
 
 /// Makes a session this far.
-pub fn set_phase<B: Shape, W: Drop>(phases: &mut Phases<B, W>, session: u8, phase: Phase<B, W>)
+pub fn set_phase<B: Shape, W: Drop>(phases: &mut Vec<Phase<B, W>>, session: u8, phase: Phase<B, W>)
     requires session { is_session session ≡ true }
     requires eight { length phases.old.items ≡ SESSIONS }
     ensures { phases.new.items ≡ with_phase session phase phases.old.items }
 {
-    phases.replace(place_of(session), phase);
+    phases[place_of(session)] = phase;
 }
 
 /// Opens a call of a session that has its lock, or says why it lacks it.
 fn settle<B: Shape, W: Drop>(
-    phases: &mut Phases<B, W>,
+    phases: &mut Vec<Phase<B, W>>,
     session: u8,
     call: Call<B>,
     work: W,
@@ -82,7 +81,7 @@ fn settle<B: Shape, W: Drop>(
 
 /// A call of a session that has a transaction, and none open.
 fn ask_working<B: Shape, W: Drop>(
-    phases: &mut Phases<B, W>,
+    phases: &mut Vec<Phase<B, W>>,
     table: &mut Transactions<B>,
     session: u8,
     call: Call<B>,
@@ -119,7 +118,7 @@ fn ask_working<B: Shape, W: Drop>(
 
 /// A call of a session, but for a Begin of one that has no transaction.
 pub fn ask_at<B: Shape, W: Drop>(
-    phases: &mut Phases<B, W>,
+    phases: &mut Vec<Phase<B, W>>,
     table: &mut Transactions<B>,
     session: u8,
     call: Call<B>,
@@ -130,7 +129,7 @@ pub fn ask_at<B: Shape, W: Drop>(
     ensures { PartsAsked (keys_of B.Shape) session call work (phase_at (session - 1) phases.old.items)
         phases.old.items table.old result phases.new.items table.new }
 {
-    match phases.at(place_of(session)) {
+    match &phases[place_of(session)] {
         Phase::Free => refused(Refusal::NoTransaction),
         Phase::Working => ask_working(phases, table, session, call, work),
         Phase::Open(_, _) | Phase::Undoing(_, _) | Phase::Waiting(_) => refused(Refusal::CallOpen),

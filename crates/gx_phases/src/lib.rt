@@ -7,7 +7,6 @@
 mod asks;
 pub mod laws;
 mod phase;
-mod phases;
 mod sessions;
 mod steps;
 

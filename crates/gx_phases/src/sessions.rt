@@ -5,7 +5,6 @@ ghost use Rattle.gx_machine.specs.Machine.{is_session};
 ghost use Rattle.gx_phases.specs.declared.phase.Phase.TheVariants as phase;
 
 use crate::phase::Phase;
-use crate::phases::Phases;
 use crate::{asks, steps};
 use gx_geom::{Refusal, Shape};
 use gx_machine::{Asked, Call, Entry, LAST_NUMBER, Reply, SESSIONS};
@@ -13,13 +12,24 @@ use gx_txn::{Note, Transactions};
 use std::alloc::{AllocError, Global};
 use std::marker::Model;
 
+/// All sessions, with no transaction.
+fn free_phases<B: Shape, W: Drop>(alloc: Global) -> Result<Vec<Phase<B, W>>, AllocError>
+    ensures { IfOk result (λ phases. phases.items ≡ replicate SESSIONS phase.Free) }
+{
+    let mut phases = Vec::with_capacity(alloc, SESSIONS)?;
+    for _ in 0..SESSIONS {
+        phases.push(Phase::Free)?;
+    }
+    Ok(phases)
+}
+
 /// How far each of eight sessions is, its transaction's number, its locks and its notes; and the numbers of the next
 /// transaction, of the last commit and of the last one that is durable.
 ///
 /// A session is a number from 1 to 8. Only `new` takes memory.
 #[derive(Drop)]
 pub struct Sessions<B: Shape, W> {
-    phases: Phases<B, W>,
+    phases: Vec<Phase<B, W>>,
     table: Transactions<B>,
     transactions: Vec<u64>,
     next: u64,
@@ -58,7 +68,7 @@ impl<B: Shape, W: Drop> Sessions<B, W> {
         ensures { IfOk result (λ sessions. sessions ≡ fresh_state W latest durable next) }
     {
         Ok(Sessions {
-            phases: Phases::new(alloc)?,
+            phases: free_phases(alloc)?,
             table: Transactions::new(alloc)?,
             transactions: vec![in alloc; 0; SESSIONS]?,
             next,
@@ -80,7 +90,7 @@ impl<B: Shape, W: Drop> Sessions<B, W> {
         requires { is_session session ≡ true }
         ensures { result ≡ begins call.now (phase_at (session - 1) self.now.phases) }
     {
-        asks::is_free(self.phases.at(asks::place_of(session))) && asks::is_begin(call)
+        asks::is_free(&self.phases[asks::place_of(session)]) && asks::is_begin(call)
     }
 
     /// A Begin of a session without a transaction.
@@ -127,7 +137,7 @@ impl<B: Shape, W: Drop> Sessions<B, W> {
         requires { is_session session ≡ true }
         ensures { result.now ≡ phase_at (session - 1) self.now.phases }
     {
-        self.phases.at(asks::place_of(session))
+        &self.phases[asks::place_of(session)]
     }
 
     /// The number of a session's transaction, or of the last one that it had.
@@ -233,7 +243,7 @@ impl<B: Shape, W: Drop> Sessions<B, W> {
         requires { is_session session ≡ true }
         ensures { result ≡ covered self.now.durable (waits_for (phase_at (session - 1) self.now.phases)) }
     {
-        match steps::waits_for(self.phases.at(asks::place_of(session))) {
+        match steps::waits_for(&self.phases[asks::place_of(session)]) {
             None => None,
             Some(number) => if number <= self.durable {
                 Some(number)
@@ -265,7 +275,7 @@ impl<B: Shape, W: Drop> Sessions<B, W> {
         ensures next { result ≡ next_of session self.now }
         ensures small { IfSome result (λ restored. restored < usize.MAX) }
     {
-        match steps::restored_by(self.phases.at(asks::place_of(session))) {
+        match steps::restored_by(&self.phases[asks::place_of(session)]) {
             None => None,
             Some(restored) => if restored < self.table.notes(session).len() {
                 Some(restored)

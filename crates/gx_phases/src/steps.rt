@@ -11,12 +11,12 @@ ghost use Rattle.gx_phases.specs.States.{phase_at, with_phase};
 
 use crate::asks::{place_of, set_phase};
 use crate::phase::Phase;
-use crate::phases::Phases;
 use gx_geom::{Refusal, Shape};
 use gx_txn::{Note, Transactions};
+use std::mem;
 
 /// Closes a session's call: it has a transaction, and no call open.
-pub fn close<B: Shape, W: Drop>(phases: &mut Phases<B, W>, session: u8)
+pub fn close<B: Shape, W: Drop>(phases: &mut Vec<Phase<B, W>>, session: u8)
     requires session { is_session session ≡ true }
     requires eight { length phases.old.items ≡ SESSIONS }
     ensures { phases.new.items ≡ with_phase session phase.Working phases.old.items }
@@ -25,7 +25,7 @@ pub fn close<B: Shape, W: Drop>(phases: &mut Phases<B, W>, session: u8)
 }
 
 /// A session has no transaction.
-pub fn free<B: Shape, W: Drop>(phases: &mut Phases<B, W>, session: u8)
+pub fn free<B: Shape, W: Drop>(phases: &mut Vec<Phase<B, W>>, session: u8)
     requires session { is_session session ≡ true }
     requires eight { length phases.old.items ≡ SESSIONS }
     ensures { phases.new.items ≡ with_phase session phase.Free phases.old.items }
@@ -106,17 +106,17 @@ fn with_work<B: Shape, W: Drop>(work: W, phase: Phase<B, W>) -> (W, Phase<B, W>)
 }
 
 /// Takes how far a session is, and leaves it with no call open.
-fn take_phase<B: Shape, W: Drop>(phases: &mut Phases<B, W>, session: u8) -> Phase<B, W>
+fn take_phase<B: Shape, W: Drop>(phases: &mut Vec<Phase<B, W>>, session: u8) -> Phase<B, W>
     requires session { is_session session ≡ true }
     requires eight { length phases.old.items ≡ SESSIONS }
     ensures was { result ≡ phase_at (session - 1) phases.old.items }
     ensures phases { phases.new.items ≡ with_phase session phase.Working phases.old.items }
 {
-    phases.replace(place_of(session), Phase::Working)
+    mem::replace(&mut phases[place_of(session)], Phase::Working)
 }
 
 /// Gives a session this work, and hands back what it had; or hands this back.
-pub fn replace_work<B: Shape, W: Drop>(phases: &mut Phases<B, W>, session: u8, work: W) -> W
+pub fn replace_work<B: Shape, W: Drop>(phases: &mut Vec<Phase<B, W>>, session: u8, work: W) -> W
     requires session { is_session session ≡ true }
     requires eight { length phases.old.items ≡ SESSIONS }
     ensures given { result ≡ (with_work work (phase_at (session - 1) phases.old.items)).0 }

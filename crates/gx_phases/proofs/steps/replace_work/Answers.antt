@@ -1,5 +1,6 @@
-use Rattle.std.proofs.Common.{◌≡◌, ◌-◌, ℕ, zero, suc, List, [], ◌∷◌, refl, ap, ◌∙◌}
+use Rattle.std.proofs.Common.{◌≡◌, ◌-◌, ℕ, zero, suc, List, [], ◌∷◌, length, refl, ap, ◌∙◌}
 use Rattle.std.specs.Prelude.{slice_set}
+use Rattle.std.proofs.lemmas.List.{length-set}
 use Rattle.gx_phases.specs.declared.phase.Phase.{Phase}
 use Rattle.gx_phases.specs.declared.phase.Phase.TheVariants as phase
 use Rattle.gx_phases.specs.Moves.{with_work}
@@ -11,6 +12,11 @@ set_again : {X : Type 0} (xs : List X) (i : ℕ) (a b : X) → slice_set (slice_
 set_again [] i a b = refl
 set_again (x ∷ xs) zero a b = refl
 set_again {X} (x ∷ xs) (suc i) a b = ap (λ (ys : List X). x ∷ ys) (set_again xs i a b)
+
+pub set_phase-requires-clause-eight : goal.set_phase-requires-clause-eight
+set_phase-requires-clause-eight g c =
+    ap (λ (ps : List (Phase g.row.B.Denot g.row.W.Denot)). length ps) c.take_phase-was.ensures.phases
+    ∙ length-set c.args.phases.now.items (c.args.session - 1) phase.Working ∙ c.requires.eight
 
 pub returns-clause-phases : goal.returns-clause-phases
 returns-clause-phases g c =
