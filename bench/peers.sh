@@ -113,8 +113,7 @@ python3 - "$work" "${ROUNDS:-3}" "$entries" "${peers[@]}" <<'P'
 import statistics, sys
 
 work, rounds, entries, peers = sys.argv[1], int(sys.argv[2]), int(sys.argv[3]), sys.argv[4:]
-TITLES = {"gist": "gist, a second", "sqlite": "SQLite's R\\*Tree", "postgres": "PostgreSQL's GiST",
-          "spatialindex": "libspatialindex", "boost": "Boost, in memory"}
+TITLES = {"gist": "gist, a second", "sqlite": "SQLite", "postgres": "PostgreSQL", "spatialindex": "libspatialindex", "boost": "Boost"}
 
 def read(peer, number):
     """What a run said: figures by work, and what its searches found."""
@@ -139,13 +138,15 @@ def cell(peer, work, is_size):
         return f"{figure / 1e6:.1f} MB" if is_size else f"{figure:,.0f}"
     return f"{statistics.median(a / b for a, b in zip(*figures)):.2f}"
 
-WORK = {"load, drawn order": "load, drawn order, 100 a commit", "load, local order": "load, local order, 100 a commit",
-        "searches, ten hits": "searches, ten hits", "searches, a tenth of all": f"searches, {entries // 10:,} hits",
-        "deletes": "deletes, 100 a commit", "single commits": "inserts, each with its commit",
-        "single commits of four writers": "the same by four writers at once", "bytes on disk": "on the disk", "bytes of memory": "in memory"}
-print("| Work | " + " | ".join(TITLES[it] for it in peers) + " |")
-print("|---|" + "---|" * len(peers))
-for work, title in WORK.items():
-    print(f"| {title} | " + " | ".join(cell(it, work, work.startswith("bytes")) for it in peers) + " |")
+WORK = {"searches, a tenth of all": f"searches, {entries // 10:,} hits", "single commits of four writers": "by four writers"}
+ROWS = ("load, drawn order", "load, local order", "searches, ten hits", "searches, a tenth of all", "deletes", "single commits",
+        "single commits of four writers", "bytes on disk", "bytes of memory")
+def tell(*cells):
+    print(f"|{'|'.join(cells)}|")
+
+tell("Work", *(TITLES[it] for it in peers))
+tell(*["---"] * (1 + len(peers)))
+for work in ROWS:
+    tell(WORK.get(work, work), *(cell(it, work, work.startswith("bytes")) for it in peers))
 print(f"\n{entries:,} entries; what {len(wanted)} series of searches found is the same in all {len(peers)}, in each of {rounds} rounds.")
 P

@@ -243,10 +243,10 @@ static int exchange(gist_index *index, const char *lines, size_t length, size_t 
 }
 
 /* What one answer says: GIST_OK where it is the expected one, and what stands behind that. */
-static int answer(gist_index *index, const char *line, const char *expected, const char **rest) {
+static int answer(gist_index *index, unsigned session, const char *line, const char *expected, const char **rest) {
     size_t digits = strspn(line, "0123456789"), length = strlen(expected);
     if (strncmp(line, "refused ", 8) == 0) return lost(index);
-    if (digits == 0 || line[digits] != ' ') return senseless(index);
+    if (digits == 0 || line[digits] != ' ' || strtoul(line, NULL, 10) != session) return senseless(index);
     line += digits + 1;
     if (strncmp(line, expected, length) == 0) {
         *rest = line + length;
@@ -263,7 +263,7 @@ static int call(gist_index *index, unsigned session, const char *words, const ch
     const char *unused;
     int length = snprintf(line, sizeof line, "%u %s\n", session, words);
     int told = exchange(index, line, (size_t)length, 1);
-    return told == GIST_OK ? answer(index, index->bytes, expected, rest ? rest : &unused) : told;
+    return told == GIST_OK ? answer(index, session, index->bytes, expected, rest ? rest : &unused) : told;
 }
 
 int gist_open(gist_index **index, const char *program, const char *path, unsigned frames, gist_end *end) {
@@ -329,7 +329,7 @@ static int write_many(gist_index *index, unsigned session, const char *command, 
                                        command, it->row, it->box.x1, it->box.y1, it->box.x2, it->box.y2);
         told = exchange(index, lines, length, calls);
         for (const char *line = index->bytes; told == GIST_OK && calls > 0; calls--) {
-            told = answer(index, line, expected, &line);
+            told = answer(index, session, line, expected, &line);
             place += told == GIST_OK;
         }
     }

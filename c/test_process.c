@@ -183,6 +183,7 @@ void odd_answers(void) {
         {"0 found 5\\n0 entry", GIST_ENDED},
         {"0 found 1\\n0 entr\\n", GIST_PROTOCOL},
         {"0 aborted\\n", GIST_PROTOCOL},
+        {"1 refused 15 bad session\\n", GIST_PROTOCOL},
         {"0 refused 12 failed\\n", GIST_PROTOCOL},
     };
     gist_index *index;

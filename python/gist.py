@@ -102,7 +102,7 @@ class Reader:
     def __init__(self, index: "Index", session: int) -> None:
         self._index = index
         self._program = index._program
-        self._prefix = f"{session} "
+        self._prefix, self._mark = f"{session} ", b"%d " % session
         #: Its session, 1 to 8; 0 once it has ended.
         self.session = session
         self._call("BEGIN", b"ok")
@@ -163,7 +163,7 @@ class Reader:
     def _result(self, line: bytes, expected: bytes,
                 place: Optional[int] = None) -> bytes:
         """What an answer has behind a word; raises its refusal."""
-        answer = line[len(self._prefix):]
+        answer = line[2:] if line[:2] == self._mark else b""
         if answer.startswith(expected):
             return answer[len(expected):]
         if answer.startswith(b"refused "):

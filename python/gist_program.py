@@ -67,7 +67,11 @@ class Program:
         self._lock = threading.Lock()
         self._end: Optional[GistError] = None
         self._faults = _faults()
-        self._process = _start(words, subprocess.PIPE, self._faults, 0)
+        try:
+            self._process = _start(words, subprocess.PIPE, self._faults, 0)
+        except BaseException:
+            self._faults.close()
+            raise
         assert self._process.stdin and self._process.stdout
         self._stdin, self._stdout = self._process.stdin, self._process.stdout
         self._to, self._from = self._stdin.fileno(), self._stdout.fileno()
@@ -143,7 +147,7 @@ class Program:
             parts[0] = data
         wanted, lines = calls, data.count(b"\n")
         words = data[:64].split(b"\n", 1)[0].split(b" ")
-        if len(words) == 3 and words[1] == b"found":
+        if len(words) == 3 and words[1] == b"found" and words[2].isdigit():
             wanted += int(words[2])
         while lines < wanted or not data.endswith(b"\n"):
             data = self._some()

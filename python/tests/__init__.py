@@ -80,12 +80,15 @@ class Case(unittest.TestCase):
         path.chmod(path.stat().st_mode | stat.S_IXUSR)
         return path
 
-    def answering(self, lines: bytes, status: int = 0) -> Path:
-        """The path of a program that answers only this, and ends."""
+    def answering(self, lines: bytes, status: int = 0,
+                  more: bytes = b"") -> Path:
+        """The path of a program that answers only these, and ends."""
         path = self.folder / "answering"
         path.write_text(f"#!{sys.executable}\nimport sys\n"
-                        f"sys.stdin.readline()\n"
-                        f"sys.stdout.buffer.write({lines!r})\n"
+                        f"for lines in {lines!r}, {more!r}:\n"
+                        f"    if lines: sys.stdin.readline()\n"
+                        f"    sys.stdout.buffer.write(lines)\n"
+                        f"    sys.stdout.flush()\n"
                         f"sys.exit({status})\n")
         path.chmod(path.stat().st_mode | stat.S_IXUSR)
         return path

@@ -131,7 +131,8 @@ class Ends(Case):
             self.assertEqual(len(list(gist.dump(self.path, PROGRAM))), 4)
 
     def test_what_no_gist_answers(self) -> None:
-        for lines in (b"0 what\n", b"0 refused x\n", b"0 ok\n1 ok\n", b"\n"):
+        for lines in (b"0 what\n", b"0 refused x\n", b"0 ok\n1 ok\n", b"\n",
+                      b"0 found x\n", b"1 refused 15 bad session\n"):
             with self.assertRaises(gist.ProtocolError):
                 gist.open(self.path, program=self.answering(lines))
         for lines in (b"", b"0 refused 15 bad ses", b"0 found 5\n0 entry"):
@@ -142,6 +143,15 @@ class Ends(Case):
             gist.open(self.path, program=self.answering(
                 b"refused 13 damaged\n", 1))
         self.assertEqual(that.exception.status, 1)
+
+    def test_answer_of_another_session(self) -> None:
+        lines = b"0 refused 15 bad session\n"
+        program = self.answering(lines, more=b"2 ok\n")
+        index = gist.open(self.path, program=program)
+        with self.assertRaises(gist.ProtocolError):
+            index.transaction()
+        with self.assertRaises(gist.Ended):
+            index.reading()
 
 
 class Pipes(Case):
