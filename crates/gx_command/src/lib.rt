@@ -1,5 +1,5 @@
-//! What a command of the program does, whatever words ask for it: it runs a script between a reader and a writer, tells a
-//! person what stopped it, and returns the program's status.
+//! What a command of the program does, whatever words ask for it: it runs a script between a reader and a writer,
+//! tells a person what stopped it, and returns the program's status.
 #![tactic(auto)]
 
 mod person;

@@ -24,8 +24,8 @@ pub fn refuse_memory<W: Write>(writer: &mut Noted<W>) -> u8
 
 /// Runs a script on a fresh index in memory, writes the index's replies, and returns the status.
 ///
-/// The status is 0 where the script was read to its end; and 1 where a read or a write failed, of which a person is told
-/// unless whoever reads the replies has left, and where memory is refused before the script begins, which writes
+/// The status is 0 where the script was read to its end; and 1 where a read or a write failed, of which a person is
+/// told unless whoever reads the replies has left, and where memory is refused before the script begins, which writes
 /// `refused 10 memory`.
 pub fn run_script<R: Read, W: Write, E: Write>(
     alloc: Global,
@@ -34,7 +34,8 @@ pub fn run_script<R: Read, W: Write, E: Write>(
     faults: &mut Noted<E>,
 ) -> u8
     ensures { EndsScript (stream_of R.remaining reader.old) (stream_of R.remaining reader.new)
-        (outputs_of W.contents E.contents writer.old faults.old) (outputs_of W.contents E.contents writer.new faults.new) result }
+        (outputs_of W.contents E.contents writer.old faults.old)
+        (outputs_of W.contents E.contents writer.new faults.new) result }
 {
     let Ok(mut index) = PlainIndex::new(alloc) else {
         return refuse_memory(writer);

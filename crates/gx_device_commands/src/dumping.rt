@@ -22,7 +22,8 @@ fn tell_dump<W: Write, E: Write>(
     faults: &mut Noted<E>,
 ) -> u8
     requires { IfErr ends (λ fault. fault ≡ DumpFault.Write → TakesNoMore (stream_of W.contents writer.old)) }
-    ensures { TellsDump ends (outputs_of W.contents E.contents writer.old faults.old) (outputs_of W.contents E.contents writer.new faults.new) result }
+    ensures { TellsDump ends (outputs_of W.contents E.contents writer.old faults.old)
+        (outputs_of W.contents E.contents writer.new faults.new) result }
 {
     match ends {
         Ok(()) => DONE,
@@ -41,7 +42,8 @@ fn dump_index<D: SectorDisk + Drop, K: ReadKeys + KeyClass<Key = Box2>, W: Write
     faults: &mut Noted<E>,
 ) -> (D, u8)
     ensures { DumpsIndex ⟦<Box2 as Shape>⟧ K.is_proper K.said K.KeyClass D.state index result.0
-        (outputs_of W.contents E.contents writer.old faults.old) (outputs_of W.contents E.contents writer.new faults.new) result.1 }
+        (outputs_of W.contents E.contents writer.old faults.old)
+        (outputs_of W.contents E.contents writer.new faults.new) result.1 }
 {
     let mut index = index;
     let ends = index.dump(writer);
@@ -49,12 +51,13 @@ fn dump_index<D: SectorDisk + Drop, K: ReadKeys + KeyClass<Key = Box2>, W: Write
     (index.into_engine().into_disk(), status)
 }
 
-/// Opens a device with so many frames for pages, 16 to 4,096, writes the text of the tree of the index that it holds, as
-/// `gx_restart::Index::dump` does, and returns the device and the status.
+/// Opens a device with so many frames for pages, 16 to 4,096, writes the text of the tree of the index that it holds,
+/// as `gx_restart::Index::dump` does, and returns the device and the status.
 ///
-/// The status is 0 where the device was opened and the whole text was written. It is 1 in all other cases. Where the opening is refused
-/// `refused N text` is written, and a person told what it means, and of damage where it lies; where a page is refused while the text is
-/// written, that line follows what was written of it. Where the text couldn't be written, a person is told, unless whoever reads has left.
+/// The status is 0 where the device was opened and the whole text was written. It is 1 in all other cases. Where the
+/// opening is refused `refused N text` is written, and a person told what it means, and of damage where it lies; where
+/// a page is refused while the text is written, that line follows what was written of it. Where the text couldn't be
+/// written, a person is told, unless whoever reads has left.
 pub fn dump_over<
     D: SectorDisk + Drop,
     K: ReadKeys + KeyClass<Key = Box2> + Probing,
@@ -64,7 +67,8 @@ pub fn dump_over<
 where
     K::Probe: Drop,
     ensures { DumpsOver ⟦<Box2 as Shape>⟧ K.is_proper K.said K.KeyClass D.state K.CLASS frames disk result.0
-        (outputs_of W.contents E.contents writer.old faults.old) (outputs_of W.contents E.contents writer.new faults.new) result.1 }
+        (outputs_of W.contents E.contents writer.old faults.old)
+        (outputs_of W.contents E.contents writer.new faults.new) result.1 }
 {
     match opened::<D, K>(alloc, disk, frames) {
         Ok(engine) => {

@@ -41,7 +41,8 @@ fn tell_formatted<W: Write, E: Write>(
     writer: &mut Noted<W>,
     faults: &mut Noted<E>,
 ) -> u8
-    ensures { TellsFormatted pages most (outputs_of W.contents E.contents writer.old faults.old) (outputs_of W.contents E.contents writer.new faults.new) result }
+    ensures { TellsFormatted pages most (outputs_of W.contents E.contents writer.old faults.old)
+        (outputs_of W.contents E.contents writer.new faults.new) result }
 {
     match write_whole(writer, line_of(pages, most).as_str().as_bytes()) {
         Ok(()) => DONE,
@@ -52,12 +53,14 @@ fn tell_formatted<W: Write, E: Write>(
     }
 }
 
-/// Lays a new, empty index of a class of keys down on a device, for so many pages, 8 to 65,536, and so many entries in a node at most,
-/// 4 to 100, as `gx_restart::format` does; writes `formatted pages P fanout M`; and returns the status.
+/// Lays a new, empty index of a class of keys down on a device, for so many pages, 8 to 65,536, and so many entries in
+/// a node at most, 4 to 100, as `gx_restart::format` does; writes `formatted pages P fanout M`; and returns the
+/// status.
 ///
-/// The status is 0 where both were done. It is 1 where the line couldn't be written, of which a person is told unless whoever reads has
-/// left; the index stands then. It is 1 too where the format was refused, which writes `refused N text`, and tells a person what that
-/// means: `BadParameter` for numbers out of range, `TooSmall` for too few sectors, `Memory`, and `Device` where a call failed.
+/// The status is 0 where both were done. It is 1 where the line couldn't be written, of which a person is told unless
+/// whoever reads has left; the index stands then. It is 1 too where the format was refused, which writes `refused N
+/// text`, and tells a person what that means: `BadParameter` for numbers out of range, `TooSmall` for too few sectors,
+/// `Memory`, and `Device` where a call failed.
 pub fn format_over<D: SectorDisk, K: KeyClass, W: Write, E: Write>(
     alloc: Global,
     disk: &mut D,
@@ -66,8 +69,10 @@ pub fn format_over<D: SectorDisk, K: KeyClass, W: Write, E: Write>(
     writer: &mut Noted<W>,
     faults: &mut Noted<E>,
 ) -> u8
-    ensures { FormatsOver D.state (record { pages = pages; most = most; class = K.CLASS }) (fresh_root K.spelling K.start_key) disk.old disk.new
-        (outputs_of W.contents E.contents writer.old faults.old) (outputs_of W.contents E.contents writer.new faults.new) result }
+    ensures { FormatsOver D.state (record { pages = pages; most = most; class = K.CLASS })
+        (fresh_root K.spelling K.start_key) disk.old disk.new
+        (outputs_of W.contents E.contents writer.old faults.old)
+        (outputs_of W.contents E.contents writer.new faults.new) result }
 {
     match format::<D, K>(alloc, disk, pages, most) {
         Ok(()) => tell_formatted(pages, most, writer, faults),

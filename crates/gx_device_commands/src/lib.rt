@@ -1,6 +1,6 @@
-//! What a command of the program does over a device, whatever words ask for it: the device is formatted, a script is run on the index
-//! that it holds, or the tree of that is told. What was refused is told, by a line to whoever reads and by one to a person, and the
-//! program's status is answered.
+//! What a command of the program does over a device, whatever words ask for it: the device is formatted, a script is
+//! run on the index that it holds, or the tree of that is told. What was refused is told, by a line to whoever reads
+//! and by one to a person, and the program's status is answered.
 #![tactic(auto)]
 
 mod dumping;
@@ -20,5 +20,6 @@ pub use watched::Watched;
 /// Status: all was done.
 const DONE: u8 = 0;
 
-/// Status: a refusal outside of a script, a script or a dump that a fault stopped, or a script one of whose replies told of a fault.
+/// Status: a refusal outside of a script, a script or a dump that a fault stopped, or a script one of whose replies
+/// told of a fault.
 const REFUSED: u8 = 1;

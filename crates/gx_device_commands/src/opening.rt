@@ -56,8 +56,9 @@ fn tell_found<E: Write>(alloc: Global, faults: &mut Noted<E>, found: Option<Dama
     }
 }
 
-/// Writes the line of an opening that was refused, `refused N text`, tells a person what it means, and returns the device and the status, 1.
-/// Where the device is damaged it is examined, and the person is told where: in its log or on which page, and which rule is broken there.
+/// Writes the line of an opening that was refused, `refused N text`, tells a person what it means, and returns the
+/// device and the status, 1. Where the device is damaged it is examined, and the person is told where: in its log or
+/// on which page, and which rule is broken there.
 pub(crate) fn refuse_opening<D: SectorDisk + Drop, K: ReadKeys, W: Write, E: Write>(
     alloc: Global,
     refused: NotOpened<D>,
@@ -65,7 +66,8 @@ pub(crate) fn refuse_opening<D: SectorDisk + Drop, K: ReadKeys, W: Write, E: Wri
     faults: &mut Noted<E>,
 ) -> (D, u8)
     ensures { TellsOpening K.Key.Shape K.is_proper K.said K.KeyClass D.state K.CLASS refused.why refused.disk result.0
-        (outputs_of W.contents E.contents writer.old faults.old) (outputs_of W.contents E.contents writer.new faults.new) result.1 }
+        (outputs_of W.contents E.contents writer.old faults.old)
+        (outputs_of W.contents E.contents writer.new faults.new) result.1 }
 {
     let NotOpened { why, disk } = refused;
     match why {

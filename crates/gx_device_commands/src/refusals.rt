@@ -30,7 +30,8 @@ fn line_of(why: Refusal) -> ArrayString<LONGEST>
     line
 }
 
-// What a person is told of a refusal, of which this is the text: of one that comes outside of scripts more than that says.
+// What a person is told of a refusal, of which this is the text: of one that comes outside of scripts more than that
+// says.
 fn sentence(why: Refusal, text: &str) -> &str
     requires words { text.now ≡ refusal_text why }
     requires short { length text.now ≤ 16 }
@@ -68,7 +69,8 @@ pub fn print_refusal<W: Write>(writer: &mut Noted<W>, why: Refusal)
 
 /// Writes the line of a refusal, `refused N text`, tells a person what it means, and returns the status, 1.
 pub fn refuse<W: Write, E: Write>(writer: &mut Noted<W>, faults: &mut Noted<E>, why: Refusal) -> u8
-    ensures { Refuses why (outputs_of W.contents E.contents writer.old faults.old) (outputs_of W.contents E.contents writer.new faults.new) result }
+    ensures { Refuses why (outputs_of W.contents E.contents writer.old faults.old)
+        (outputs_of W.contents E.contents writer.new faults.new) result }
 {
     tell_refused(faults, why);
     print_refusal(writer, why);

@@ -21,7 +21,8 @@ fn tell_settled<W: Write, E: Write>(
     writer: &mut Noted<W>,
     faults: &mut Noted<E>,
 ) -> u8
-    ensures { TellsSettled ended (outputs_of W.contents E.contents writer.old faults.old) (outputs_of W.contents E.contents writer.new faults.new) result }
+    ensures { TellsSettled ended (outputs_of W.contents E.contents writer.old faults.old)
+        (outputs_of W.contents E.contents writer.new faults.new) result }
 {
     match ended {
         Ok(()) => DONE,
@@ -39,7 +40,8 @@ fn settle_after<
 where
     K::Probe: Drop,
     ensures { EndsSettling ⟦<Box2 as Shape>⟧ K.is_proper K.said K.KeyClass D.state index result.0
-        (outputs_of W.contents E.contents writer.old faults.old) (outputs_of W.contents E.contents writer.new faults.new) result.1 }
+        (outputs_of W.contents E.contents writer.old faults.old)
+        (outputs_of W.contents E.contents writer.new faults.new) result.1 }
 {
     let mut index = index;
     let ended = index.settle();
@@ -47,8 +49,8 @@ where
     (index.into_engine().into_disk(), status)
 }
 
-// What follows a script that was read to its end: where a reply told of a fault, a person is told; else the index is settled. The device is
-// handed back.
+// What follows a script that was read to its end: where a reply told of a fault, a person is told; else the index is
+// settled. The device is handed back.
 fn end_script<
     D: SectorDisk + Drop,
     K: ReadKeys + KeyClass<Key = Box2> + Probing,
@@ -58,7 +60,8 @@ fn end_script<
 where
     K::Probe: Drop,
     ensures { EndsBy ⟦<Box2 as Shape>⟧ K.is_proper K.said K.KeyClass D.state watched.met watched.index result.0
-        (outputs_of W.contents E.contents writer.old faults.old) (outputs_of W.contents E.contents writer.new faults.new) result.1 }
+        (outputs_of W.contents E.contents writer.old faults.old)
+        (outputs_of W.contents E.contents writer.new faults.new) result.1 }
 {
     let Watched { index, met } = watched;
     if met {
@@ -88,7 +91,8 @@ where
     K::Probe: Drop,
     ensures { RunsScript ⟦<Box2 as Shape>⟧ K.is_proper K.said K.KeyClass D.state watched result.0
         (stream_of R.remaining reader.old) (stream_of R.remaining reader.new)
-        (outputs_of W.contents E.contents writer.old faults.old) (outputs_of W.contents E.contents writer.new faults.new) result.1 }
+        (outputs_of W.contents E.contents writer.old faults.old)
+        (outputs_of W.contents E.contents writer.new faults.new) result.1 }
 {
     let mut watched = watched;
     match gx_script::run(reader, writer, &mut watched) {
@@ -116,14 +120,16 @@ fn tell_stopped<R, W, E: Write>(
     tell_fault(faults, fault, kind);
 }
 
-/// Opens a device with so many frames for pages, 16 to 4,096, runs a script of boxes on the index that it holds, writes the replies, gates
-/// all that is logged, and returns the device and the status. Transactions that are open at the script's end stay open, and the next opening undoes them.
+/// Opens a device with so many frames for pages, 16 to 4,096, runs a script of boxes on the index that it holds,
+/// writes the replies, gates all that is logged, and returns the device and the status. Transactions that are open at
+/// the script's end stay open, and the next opening undoes them.
 ///
-/// The status is 0 where the device was opened, the script was read to its end, no reply was refused with `Device`, `Failed` or `Damaged`,
-/// and all that was logged is gated. It is 1 in all other cases. Where the opening is refused nothing is read, and `refused N text` is
-/// written, and a person told what it means, and of damage where it lies; where the settling behind the script is refused, that line follows
-/// the replies. Where a read or a write of the script failed, or a reply told of a fault, nothing is settled, and a person is told, unless
-/// whoever reads the replies has left. Of the device nothing is asked but by the opening, the script's calls and the settling.
+/// The status is 0 where the device was opened, the script was read to its end, no reply was refused with `Device`,
+/// `Failed` or `Damaged`, and all that was logged is gated. It is 1 in all other cases. Where the opening is refused
+/// nothing is read, and `refused N text` is written, and a person told what it means, and of damage where it lies;
+/// where the settling behind the script is refused, that line follows the replies. Where a read or a write of the
+/// script failed, or a reply told of a fault, nothing is settled, and a person is told, unless whoever reads the
+/// replies has left. Of the device nothing is asked but by the opening, the script's calls and the settling.
 pub fn run_over<
     D: SectorDisk + Drop,
     K: ReadKeys + KeyClass<Key = Box2> + Probing,
@@ -142,7 +148,8 @@ where
     K::Probe: Drop,
     ensures { RunsOver ⟦<Box2 as Shape>⟧ K.is_proper K.said K.KeyClass D.state K.CLASS frames disk result.0
         (stream_of R.remaining reader.old) (stream_of R.remaining reader.new)
-        (outputs_of W.contents E.contents writer.old faults.old) (outputs_of W.contents E.contents writer.new faults.new) result.1 }
+        (outputs_of W.contents E.contents writer.old faults.old)
+        (outputs_of W.contents E.contents writer.new faults.new) result.1 }
 {
     match opened::<D, K>(alloc, disk, frames) {
         Ok(engine) => {

@@ -24,8 +24,8 @@ const NOT_OPENED: &str = "it isn't there, or can't be opened";
 
 /// Opens or makes a file, extends a shorter one, and lays a new index down in it.
 ///
-/// The status is that of `gx_device_commands::format_over`. It is 1 too where the file can't be opened, made or extended, or
-/// another process has it, which writes `refused 11 device`, and tells a person why.
+/// The status is that of `gx_device_commands::format_over`. It is 1 too where the file can't be opened, made or
+/// extended, or another process has it, which writes `refused 11 device`, and tells a person why.
 pub(crate) fn format_file<T: Files<File = File>, W: Write, E: Write>(
     rt: &T,
     alloc: Global,
@@ -36,7 +36,8 @@ pub(crate) fn format_file<T: Files<File = File>, W: Write, E: Write>(
     faults: &mut Noted<E>,
 ) -> u8
     ensures { EndsFormat ⟦<Box2Class as KeyClass>⟧ ⟦<FileDisk as SectorDisk>⟧.state pages most
-        (outputs_of W.contents E.contents writer.old faults.old) (outputs_of W.contents E.contents writer.new faults.new) result }
+        (outputs_of W.contents E.contents writer.old faults.old)
+        (outputs_of W.contents E.contents writer.new faults.new) result }
 {
     match FileDisk::create(rt, file, sectors_for(pages)) {
         Ok(mut disk) => {
@@ -55,8 +56,8 @@ pub(crate) fn format_file<T: Files<File = File>, W: Write, E: Write>(
 
 /// Opens a file that is there, and runs a script on the index that it holds.
 ///
-/// The status is that of `gx_device_commands::run_over`. It is 1 too where the file isn't there or can't be opened, or another
-/// process has it, which writes `refused 11 device`, and tells a person why; nothing is read then.
+/// The status is that of `gx_device_commands::run_over`. It is 1 too where the file isn't there or can't be opened, or
+/// another process has it, which writes `refused 11 device`, and tells a person why; nothing is read then.
 pub(crate) fn run_file<T: Files<File = File>, R: Read, W: Write, E: Write>(
     rt: &T,
     alloc: Global,
@@ -68,7 +69,8 @@ pub(crate) fn run_file<T: Files<File = File>, R: Read, W: Write, E: Write>(
 ) -> u8
     ensures { EndsRun ⟦<Box2 as Shape>⟧ ⟦<Box2Class as KeyClass>⟧ ⟦<FileDisk as SectorDisk>⟧.state frames
         (stream_of R.remaining reader.old) (stream_of R.remaining reader.new)
-        (outputs_of W.contents E.contents writer.old faults.old) (outputs_of W.contents E.contents writer.new faults.new) result }
+        (outputs_of W.contents E.contents writer.old faults.old)
+        (outputs_of W.contents E.contents writer.new faults.new) result }
 {
     match FileDisk::open(rt, file) {
         Ok(disk) => {
@@ -83,8 +85,8 @@ pub(crate) fn run_file<T: Files<File = File>, R: Read, W: Write, E: Write>(
 
 /// Opens a file that is there, and writes the text of the tree of the index that it holds.
 ///
-/// The status is that of `gx_device_commands::dump_over`, with 64 frames. It is 1 too where the file isn't there or can't be opened, or
-/// another process has it, which writes `refused 11 device`, and tells a person why.
+/// The status is that of `gx_device_commands::dump_over`, with 64 frames. It is 1 too where the file isn't there or
+/// can't be opened, or another process has it, which writes `refused 11 device`, and tells a person why.
 pub(crate) fn dump_file<T: Files<File = File>, W: Write, E: Write>(
     rt: &T,
     alloc: Global,
@@ -93,7 +95,8 @@ pub(crate) fn dump_file<T: Files<File = File>, W: Write, E: Write>(
     faults: &mut Noted<E>,
 ) -> u8
     ensures { EndsDump ⟦<Box2 as Shape>⟧ ⟦<Box2Class as KeyClass>⟧ ⟦<FileDisk as SectorDisk>⟧.state
-        (outputs_of W.contents E.contents writer.old faults.old) (outputs_of W.contents E.contents writer.new faults.new) result }
+        (outputs_of W.contents E.contents writer.old faults.old)
+        (outputs_of W.contents E.contents writer.new faults.new) result }
 {
     match FileDisk::open(rt, file) {
         Ok(disk) => {
@@ -142,7 +145,8 @@ fn refuse_file<W: Write, E: Write>(
     otherwise: &str,
 ) -> u8
     requires { length otherwise.now ≤ SENTENCE }
-    ensures { HasNoDevice (outputs_of W.contents E.contents writer.old faults.old) (outputs_of W.contents E.contents writer.new faults.new) result }
+    ensures { HasNoDevice (outputs_of W.contents E.contents writer.old faults.old)
+        (outputs_of W.contents E.contents writer.new faults.new) result }
 {
     let why = match fault {
         DiskFault::InUse => "another process has it in use",

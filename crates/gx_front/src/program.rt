@@ -26,11 +26,11 @@ const WRONG_WORDS: u8 = 2;
 /// - `gist run FILE [--frames N]` reads a script from the reader and writes the replies of the index in a file.
 /// - `gist dump FILE` writes the text of the tree of the index in a file.
 ///
-/// The status is 0 where all was done. It is 1 where a call outside of a script was refused, which writes `refused N text`, 11
-/// for a file that can't be opened or is in use; where a reply to a script on a file was refused with 11, 12 or 13; and where a
-/// read or a write failed. A person is told by a line in `faults`, unless whoever reads the replies has left, or memory was refused
-/// for words or for an index in memory. The status is 2 for words that ask for something else or for help, about which a text is
-/// written to `faults` and nothing to the writer.
+/// The status is 0 where all was done. It is 1 where a call outside of a script was refused, which writes `refused N
+/// text`, 11 for a file that can't be opened or is in use; where a reply to a script on a file was refused with 11, 12
+/// or 13; and where a read or a write failed. A person is told by a line in `faults`, unless whoever reads the replies
+/// has left, or memory was refused for words or for an index in memory. The status is 2 for words that ask for
+/// something else or for help, about which a text is written to `faults` and nothing to the writer.
 pub fn gist<T: Files<File = File>, S: AsStr, R: Read, W: Write, E: Write>(
     rt: &T,
     alloc: Global,
@@ -40,9 +40,11 @@ pub fn gist<T: Files<File = File>, S: AsStr, R: Read, W: Write, E: Write>(
     faults: &mut Noted<E>,
 ) -> u8
     ensures { let had = stream_of R.remaining reader.old in let left = stream_of R.remaining reader.new in
-        let from = outputs_of W.contents E.contents writer.old faults.old in let to = outputs_of W.contents E.contents writer.new faults.new in
+        let from = outputs_of W.contents E.contents writer.old faults.old in let to = outputs_of W.contents E.contents
+        writer.new faults.new in
         MatchResult words.entry
-        (λ given. EndsOnWords ⟦<Box2 as Shape>⟧ ⟦<Box2Class as KeyClass>⟧ ⟦<FileDisk as SectorDisk>⟧.state (map S.text given.now) had left from to result)
+        (λ given. EndsOnWords ⟦<Box2 as Shape>⟧ ⟦<Box2Class as KeyClass>⟧ ⟦<FileDisk as SectorDisk>⟧.state
+        (map S.text given.now) had left from to result)
         (λ fault. EndsUnread fault had left from to result) }
 {
     match words {
@@ -70,7 +72,8 @@ fn carry_out<T: Files<File = File>, R: Read, W: Write, E: Write>(
 ) -> u8
     ensures { EndsAsked ⟦<Box2 as Shape>⟧ ⟦<Box2Class as KeyClass>⟧ ⟦<FileDisk as SectorDisk>⟧.state asked.entry
         (stream_of R.remaining reader.old) (stream_of R.remaining reader.new)
-        (outputs_of W.contents E.contents writer.old faults.old) (outputs_of W.contents E.contents writer.new faults.new) result }
+        (outputs_of W.contents E.contents writer.old faults.old)
+        (outputs_of W.contents E.contents writer.new faults.new) result }
 {
     match asked {
         Asked::Plain => run_script(alloc, reader, writer, faults),
