@@ -4,7 +4,7 @@
 set -euo pipefail
 top="$(cd "$(dirname "${BASH_SOURCE[0]}")/.." && pwd)"
 if [ $# -eq 1 ]; then
-    program="$1"
+    program="$(realpath "$1")"
 else
     "$top/gist" plain < /dev/null
     program="$top/crates/gx_front/out/gx_front"
