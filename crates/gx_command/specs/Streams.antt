@@ -1,6 +1,7 @@
 -- What contracts know of a command's streams.
 use Rattle.std.specs.Prelude.{ℕ, ◌≡◌, ◌≤◌, ◌⊎◌, Option, Some, List, [], ◌∷◌, ◌++◌, codes}
 use Rattle.std.specs.Io.KnownBytes.{Appends}
+use Rattle.std.specs.declared.io.ErrorKind.{ErrorKind}
 use Rattle.gx_script.specs.declared.noted.Noted.{Noted}
 use Rattle.gx_script.specs.declared.noted.Transfer.{Transfer}
 use Rattle.gx_script.specs.declared.noted.Transfer.TheVariants.{Nothing, Failed}
@@ -9,14 +10,16 @@ use Rattle.gx_script.specs.declared.fault.ScriptFault.TheVariants.{Read, Write}
 use Rattle.gx_script.specs.Noting.{most_calls}
 use Rattle.gx_script.specs.Writes.{IsCut}
 
--- Of a reader or a writer: the bytes that it has left or holds, where they are known; how its last call ended; and how many were made.
+-- Of a reader or a writer: the bytes that it has left or holds, where they are known; how its last call ended; the kind of the last
+-- error that it gave; and how many calls were made.
 pub record Stream : Type 0 where
   pub bytes : Option (List ℕ)
   pub last : Option Transfer
+  pub kind : Option ErrorKind
   pub calls : ℕ
 
 abbrev pub stream_of : {T : Type 0} → (T → Option (List ℕ)) → Noted T → Stream
-stream_of bytes noted = record { bytes = bytes noted.inner; last = noted.last; calls = noted.calls }
+stream_of bytes noted = record { bytes = bytes noted.inner; last = noted.last; kind = noted.kind; calls = noted.calls }
 
 -- What a command writes to: replies, and what it tells a person.
 pub record Outputs : Type 0 where
@@ -42,6 +45,11 @@ TakesNoMore s = (s.last ≡ Some Nothing) ⊎ HasFailed s
 abbrev pub IsFaultOf : Stream → Stream → ScriptFault → Type 0
 IsFaultOf read written Read = HasFailed read
 IsFaultOf read written Write = TakesNoMore written
+
+-- the kind of the error that it comes from, where one was given
+abbrev pub kind_of : Stream → Stream → ScriptFault → Option ErrorKind
+kind_of read written Read = read.kind
+kind_of read written Write = written.kind
 
 -- a text was written; or a front of it, and the writer takes no more
 abbrev pub Prints : List ℕ → Stream → Stream → Type 0

@@ -36,7 +36,7 @@ pub fn tell_person<E: Write>(faults: &mut Noted<E>, sentence: &str)
 /// Tells a person that reading or writing a script failed, and why, as far as it is known. Whoever reads the replies
 /// may leave before their end; that is no fault of the program, and nothing is told.
 pub fn tell_fault<E: Write>(faults: &mut Noted<E>, fault: ScriptFault, kind: Option<ErrorKind>)
-    ensures { TellsFault (stream_of E.contents faults.old) (stream_of E.contents faults.new) }
+    ensures { TellsFault kind (stream_of E.contents faults.old) (stream_of E.contents faults.new) }
 {
     if kind == Some(ErrorKind::BrokenPipe) {
         return;

@@ -40,7 +40,7 @@ use Rattle.gx_device_commands.specs.Refusing.{Refuses, TellsOpening}
 abbrev pub TellsDump : Result (Unit {0}) DumpFault → Outputs → Outputs → ℕ → Type 0
 TellsDump (Ok done) old new status = (status ≡ 0) × (new ≡ old)
 TellsDump (Err fault.Write) old new status =
-    (status ≡ 1) × ((new.replies ≡ old.replies) × (TakesNoMore old.replies × TellsFault old.person new.person))
+    (status ≡ 1) × ((new.replies ≡ old.replies) × (TakesNoMore old.replies × TellsFault old.replies.kind old.person new.person))
 TellsDump (Err (fault.Refused why)) old new status = Refuses why old new status
 
 module _ {C D : Type 0} (shape : Members Rectangle) (is_key : Rectangle → Bool) (said : List ℕ → Rectangle) (class : Ghosts C Rectangle) (state : D → Device) where

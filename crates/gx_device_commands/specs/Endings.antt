@@ -30,7 +30,7 @@ use Rattle.gx_restart.specs.Settled.{Settles}
 use Rattle.gx_restart.specs.States.{State}
 use Rattle.gx_device_commands.specs.declared.watched.Watched.{Watched}
 use Rattle.gx_command.specs.Endings.{TellsFault}
-use Rattle.gx_command.specs.Streams.{HasEnded, IsFaultOf, Outputs, Stream, TakesNoMore, TellsPerson}
+use Rattle.gx_command.specs.Streams.{HasEnded, IsFaultOf, Outputs, Stream, TakesNoMore, TellsPerson, kind_of}
 use Rattle.gx_device_commands.specs.Lines.{fault_sentence, formatted_line}
 use Rattle.gx_device_commands.specs.Openings.{Opens}
 use Rattle.gx_device_commands.specs.Refusing.{Refuses, TellsOpening}
@@ -41,7 +41,7 @@ abbrev pub TellsFormatted : ℕ → ℕ → Outputs → Outputs → ℕ → Type
 TellsFormatted pages most old new status =
     ((status ≡ 0) × (Appends old.replies.bytes new.replies.bytes (formatted_line pages most) × (new.person ≡ old.person)))
     ⊎ ((status ≡ 1) × (IsCut old.replies.bytes new.replies.bytes (formatted_line pages most)
-    × (TakesNoMore new.replies × TellsFault old.person new.person)))
+    × (TakesNoMore new.replies × TellsFault new.replies.kind old.person new.person)))
 
 -- so is what it was refused with
 abbrev pub TellsFormat : ℕ → ℕ → Result (Unit {0}) Refusal → Outputs → Outputs → ℕ → Type 0
@@ -111,7 +111,7 @@ module _ {C D : Type 0} (shape : Members Rectangle) (is_key : Rectangle → Bool
     pub status_is : status ≡ 1
     pub stopped : IsStopped AnswersWatched had.bytes left.bytes from.replies.bytes to.replies.bytes old new fault
     pub faulty : IsFaultOf left to.replies fault
-    pub heard : TellsFault from.person to.person
+    pub heard : TellsFault (kind_of left to.replies fault) from.person to.person
     pub left_is : after ≡ device_of new.index
 
   -- a script was run on a watched index

@@ -1,5 +1,5 @@
 //! A script over a device, from its opening to the program's status.
-ghost use Rattle.gx_command.specs.Streams.{outputs_of, stream_of};
+ghost use Rattle.gx_command.specs.Streams.{kind_of, outputs_of, stream_of};
 ghost use Rattle.gx_command.specs.Endings.{TellsFault};
 ghost use Rattle.gx_device_commands.specs.Endings.{EndsBy, EndsSettling, RunsOver, RunsScript, TellsSettled};
 
@@ -105,13 +105,14 @@ where
 }
 
 // Tells a person what stopped a script.
-fn tell_stopped<R, W, E: Write>(
+fn tell_stopped<R: Read, W: Write, E: Write>(
     faults: &mut Noted<E>,
     fault: ScriptFault,
     reader: &Noted<R>,
     writer: &Noted<W>,
 )
-    ensures { TellsFault (stream_of E.contents faults.old) (stream_of E.contents faults.new) }
+    ensures { TellsFault (kind_of (stream_of R.remaining reader.now) (stream_of W.contents writer.now) fault)
+        (stream_of E.contents faults.old) (stream_of E.contents faults.new) }
 {
     let kind = match fault {
         ScriptFault::Read => reader.kind,

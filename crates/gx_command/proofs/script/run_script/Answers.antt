@@ -1,4 +1,4 @@
-use Rattle.std.proofs.Common.{◌≡◌, ℕ, List, Option, inl, inr, refl, subst}
+use Rattle.std.proofs.Common.{◌≡◌, inl, inr, refl, subst}
 use Rattle.gx_geom.specs.Rectangles.{Rectangle}
 use Rattle.gx_script.specs.Scripts.{asked, IsDone}
 use Rattle.gx_plain.specs.Boxes.{box_keys}
