@@ -9,7 +9,7 @@ use gx_disk::{MemDisk, SectorDisk};
 use gx_found_log::{FoundLog, read_class_log};
 use gx_geom::Refusal;
 use gx_glog::{BODY_SIZE, Extent, read_extent};
-use gx_legality::{LegalityFault, Note, are_in_order, test_placed, test_tree};
+use gx_legality::{LegalityFault, Note, Rule, are_in_order, test_tree};
 use gx_machine::Entry;
 use gx_pool::Pool;
 use gx_readings::ReadKeys;
@@ -145,6 +145,7 @@ pub(crate) fn notes_of<K: ReadKeys>(
 /// What a refusal of legality finds, where an honest device is read.
 fn found_by(fault: LegalityFault<StoreFault>) -> Result<Found, RunFault> {
     match fault {
+        LegalityFault::Broken(_, Rule::PairOutOfPlace) => Ok(Found::Place),
         LegalityFault::Broken(..) => Ok(Found::Tree),
         LegalityFault::Pages(StoreFault::Damaged) => Ok(Found::Page),
         LegalityFault::Memory => Err(RunFault::Memory),
@@ -178,16 +179,12 @@ pub(crate) fn test_pages<D: SectorDisk, K: ReadKeys>(
 ) -> Result<Option<Found>, RunFault>
     requires { (0 < half) × (half < 2 ^ 40) }
 {
-    if let Err(fault) = test_tree(alloc, store, most, half) {
-        return Ok(Some(found_by(fault)?));
-    }
     if !are_in_order(notes) {
         return Err(RunFault::Unexpected);
     }
-    match test_placed(alloc, store, notes) {
+    match test_tree(alloc, store, most, half, notes) {
         Ok(()) => Ok(None),
-        Err(LegalityFault::Broken(..)) => Ok(Some(Found::Place)),
-        Err(_) => Err(RunFault::Unexpected),
+        Err(fault) => Ok(Some(found_by(fault)?)),
     }
 }
 

@@ -13,6 +13,8 @@ mod full;
 #[cfg(test)]
 mod openings;
 #[cfg(test)]
+mod passes;
+#[cfg(test)]
 mod plain_commands;
 #[cfg(test)]
 mod readings;

@@ -1,7 +1,7 @@
 -- A node's children, tested one by one.
-use Rattle.std.proofs.Common.{◌≡◌, ℕ, suc, ◌+◌, ◌<◌, ◌≤◌, ◌==◌, Bool, true, false, [], length, Some, refl, ap, sym, ◌∙◌, subst, arith}
+use Rattle.std.proofs.Common.{◌≡◌, ℕ, suc, ◌+◌, ◌<◌, ◌≤◌, ◌==◌, Bool, true, false, inl, inr, [], length, Some, refl, ap, sym, ◌∙◌, subst, arith}
 use Rattle.std.specs.Prelude.{if◌then◌else◌, slice_get}
-use Rattle.std.proofs.lemmas.Bool.{eqb-true, eq-eqb}
+use Rattle.std.proofs.lemmas.Bool.{cases_eq, eqb-true, eq-eqb}
 use Rattle.gx_page.specs.Contents.{Contents}
 use Rattle.gx_node.specs.Reading.{Format, leaf_of, inner_of}
 use Rattle.gx_tree_laws.specs.Trees.{Child, Node, Tree, Rules, Used, size}
@@ -15,7 +15,7 @@ use Rattle.gx_legality.specs.declared.fault.Rule.{Rule}
 use Rattle.gx_legality.specs.declared.fault.Rule.TheVariants.{SplitsOutnumberPages, RootIsLeaf, TooManyEntries, NoChild, SequenceNumber, ChildPage, ChildLevel, Bound, NamedTwice, NotNamed, Chain, OffTheChain, PairTwice, PairOutOfPlace}
 use Rattle.gx_legality.specs.Breaks.{Breaks}
 use Rattle.gx_legality.specs.Nodes.{FitsAlone, FitsBelow, FailsBelow}
-use Rattle.gx_legality.specs.Owner.{OnlyReads, IsWhy, IsFound}
+use Rattle.gx_legality.specs.Owner.{OnlyReads, WasHeld, IsWhy, IsFound}
 use Rattle.gx_legality.proofs.Slots.{some_slot, each_below, below_next}
 
 module _ {P B : Type 0} {steady : P → Type 0} {store : P → Store B} {since : P → P → ℕ → Type 0} where
@@ -40,6 +40,18 @@ module _ {P B : Type 0} {steady : P → Type 0} {store : P → Store B} {since :
     still = λ is. next.still (first.still is);
     goes_on = λ was q h. next.goes_on was q (first.goes_on was q h);
   }
+
+  -- one page more was held, and now that is
+  pub held_next : {held : P → ℕ → Type 0} (a b : P) (n : ℕ) → OnlyReads steady store since a b → ((p : ℕ) → 0 < p → p ≤ n → WasHeld steady store since held a p)
+      → held b (n + 1) → (p : ℕ) → 0 < p → p ≤ n + 1 → WasHeld steady store since held a p
+  held_next {held = held} a b n reads below here p low high = elim (cases_eq p (n + 1)) [
+    | inl same ↦ record { moment = b; reads = reads; is = subst (λ p. held b p) (sym same) here }
+    | inr other ↦ below p low (omega (arith, high, other))
+  ]
+
+  -- what was held since a moment was since an earlier one
+  pub held_before : {held : P → ℕ → Type 0} (a b : P) (p : ℕ) → OnlyReads steady store since a b → WasHeld steady store since held b p → WasHeld steady store since held a p
+  held_before a b p reads was = record { moment = was.moment; reads = reads_more a b was.moment reads was.reads; is = was.is }
 
 module _ {P F : Type 0} where
   pub why_later : (why : P → P → F → Type 0) (a b c : P) (e : LegalityFault F) → IsWhyLater why a b → IsWhy (why b c) e → IsWhy (why a c) e

@@ -1,12 +1,19 @@
 -- The parts of the test, joined.
-use Rattle.std.proofs.Common.{◌≡◌, ◌∙◌, ℕ, suc, ◌+◌, ◌<◌, ◌≤◌, Bool, List, length, Option, Result, Ok, Err, OnOk, IfErr, arith, subst, sym}
+use Rattle.std.proofs.Common.{◌≡◌, ◌∙◌, inl, ℕ, suc, ◌<◌, ◌≤◌, Bool, List, [], length, Option, Result, Ok, Err, OnOk, arith, subst, sym}
 use Rattle.gx_tree_laws.specs.Legal.{Legal, Linked, NodeFits}
 use Rattle.gx_tree_laws.specs.Trees.{Tree, Rules, Used, leaves, parents, times, size, standing, is_entry}
 use Rattle.gx_node.specs.Store.{Store, node_at, tree_of}
 use Rattle.gx_legality.specs.declared.fault.LegalityFault.{LegalityFault}
 use Rattle.gx_legality.specs.Breaks.{Breaks}
-use Rattle.gx_legality.specs.Marks.{AreLinks, HasShape, marked}
+use Rattle.gx_legality.specs.Marks.{AreLinks, HasShape, IsLegalButPairs, marked}
+use Rattle.std.specs.declared.cmp.Ordering.{Ordering}
+use Rattle.gx_machine.specs.declared.entry.Entry.{Entry}
+use Rattle.gx_legality.specs.Entries.{entries_on}
+use Rattle.gx_legality.specs.Gathered.{Gathered, Gathers}
 use Rattle.gx_legality.specs.Owner.{IsFound}
+use Rattle.gx_legality.specs.Placing.{BreaksOrLeavesOut}
+use Rattle.gx_legality.specs.declared.fault.LegalityFault.TheVariants.{Memory, Pages, Broken, Unsteady}
+use Rattle.gx_legality.specs.declared.notes.Note.{Note}
 
 module _ {B : Type 0} where
   pub has_shape : {T E : Type 0} (t : Tree B) (marks : List Bool) (links : List (Option ℕ)) (result : Result T E) → AreLinks t links
@@ -24,19 +31,17 @@ module _ {B : Type 0} where
   }
   has_shape t marks links (Err e) are long named ones chain once = tt
 
-  is_legal : {T E : Type 0} (r : Rules B) (t : Tree B) (result : Result T E) → ((p : ℕ) → Used t p → NodeFits r t (t.node p))
-      → 0 < (t.node 1).level → HasShape t → t.counter + 2 ≤ t.used
-      → OnOk result ((row : ℕ) (key : B) → standing (is_entry r row key) t ≤ 1) → OnOk result (Legal r t)
-  is_legal r t (Ok done) fits root shape counter single = record {
-    pages = fits;
-    root = root;
-    parent = shape.parent;
-    chain = shape.chain;
-    once = shape.once;
+  -- a tree that is legal but for its pairs is legal where none stands twice
+  pub with_pairs : (r : Rules B) (t : Tree B) → IsLegalButPairs r t → ((row : ℕ) (key : B) → standing (is_entry r row key) t ≤ 1) → Legal r t
+  with_pairs r t legal single = record {
+    pages = legal.pages;
+    root = legal.root;
+    parent = legal.shape.parent;
+    chain = legal.shape.chain;
+    once = legal.shape.once;
     single = single;
-    counter = counter;
+    counter = legal.counter;
   }
-  is_legal r t (Err e) fits root shape counter single = tt
 
   -- what is found of the store after a call that leaves it as it was
   pub fits_before : (r : Rules B) (old new : Store B) → new ≡ old → ((p : ℕ) → Used (tree_of new) p → NodeFits r (tree_of new) (node_at new.nodes p))
@@ -46,21 +51,28 @@ module _ {B : Type 0} where
   pub shape_before : (old new : Store B) → new ≡ old → HasShape (tree_of new) → HasShape (tree_of old)
   shape_before old new same shape = subst (λ (s : Store B). HasShape (tree_of s)) same shape
 
-  pub all_legal : {T E : Type 0} (r : Rules B) (old new : Store B) (result : Result T E) → new ≡ old
-      → 0 < (node_at old.nodes 1).level → old.counter + 2 ≤ length old.nodes
-      → ((p : ℕ) → Used (tree_of old) p → NodeFits r (tree_of old) (node_at old.nodes p)) → HasShape (tree_of old)
+  -- what holds of a store that a pass has read holds of the one before it
+  pub pairs_before : (r : Rules B) (old new : Store B) (g : Gathered (Entry B)) (cmp : Entry B → Entry B → Ordering) → new ≡ old → (P : Rules B → Tree B → Type 0)
       → (Linked (tree_of new) 2 (leaves (tree_of new)) → ((p : ℕ) → Used (tree_of new) p → size (node_at new.nodes p) ≤ r.most)
-      → OnOk result ((row : ℕ) (key : B) → standing (is_entry r row key) (tree_of new) ≤ 1)) → OnOk result (Legal r (tree_of old))
-  all_legal r old new result same root counter fits shape single =
-      let here = subst (λ (s : Store B). Linked (tree_of s) 2 (leaves (tree_of s)) → ((p : ℕ) → Used (tree_of s) p → size (node_at s.nodes p) ≤ r.most)
-      → OnOk result ((row : ℕ) (key : B) → standing (is_entry r row key) (tree_of s) ≤ 1)) same single in
-      is_legal r (tree_of old) result fits root shape counter (here shape.chain (λ p used. (fits p used).room))
+      → Gathers cmp g (entries_on (tree_of new) (leaves (tree_of new))) [] → P r (tree_of new))
+      → Linked (tree_of old) 2 (leaves (tree_of old)) → ((p : ℕ) → Used (tree_of old) p → size (node_at old.nodes p) ≤ r.most)
+      → Gathers cmp g (entries_on (tree_of old) (leaves (tree_of old))) [] → P r (tree_of old)
+  pairs_before r old new g cmp same P so =
+      subst (λ (s : Store B). Linked (tree_of s) 2 (leaves (tree_of s)) → ((p : ℕ) → Used (tree_of s) p → size (node_at s.nodes p) ≤ r.most)
+      → Gathers cmp g (entries_on (tree_of s) (leaves (tree_of s))) [] → P r (tree_of s)) same so
 
-  pub all_found : {T F : Type 0} (r : Rules B) (old new : Store B) (result : Result T (LegalityFault F)) → new ≡ old
-      → ((p : ℕ) → Used (tree_of old) p → NodeFits r (tree_of old) (node_at old.nodes p)) → HasShape (tree_of old)
-      → (Linked (tree_of new) 2 (leaves (tree_of new)) → ((p : ℕ) → Used (tree_of new) p → size (node_at new.nodes p) ≤ r.most)
-      → IfErr result (IsFound (Breaks r (tree_of new)))) → IfErr result (IsFound (Breaks r (tree_of old)))
-  all_found r old new result same fits shape found =
-      let here = subst (λ (s : Store B). Linked (tree_of s) 2 (leaves (tree_of s)) → ((p : ℕ) → Used (tree_of s) p → size (node_at s.nodes p) ≤ r.most)
-      → IfErr result (IsFound (Breaks r (tree_of s)))) same found in
-      here shape.chain (λ p used. (fits p used).room)
+  pub legal_before : (r : Rules B) (old new : Store B) → new ≡ old → (P : Tree B → Type 0) → (IsLegalButPairs r (tree_of new) → P (tree_of new))
+      → IsLegalButPairs r (tree_of old) → P (tree_of old)
+  legal_before r old new same P so = subst (λ (s : Store B). IsLegalButPairs r (tree_of s) → P (tree_of s)) same so
+
+  -- a rule that is broken is one that is broken or a pair left out
+  pub found_breaks : {F : Type 0} (r : Rules B) (t : Tree B) (notes : List (Note (Entry B))) (e : LegalityFault F) → IsFound (Breaks r t) e → IsFound (BreaksOrLeavesOut r t notes) e
+  found_breaks r t notes Memory is = tt
+  found_breaks r t notes (Pages fault) is = tt
+  found_breaks r t notes Unsteady is = is
+  found_breaks r t notes (Broken page rule) is = inl is
+
+-- what holds holds of an answer that is Ok
+pub on_ok : {T E P : Type 0} (result : Result T E) → P → OnOk result P
+on_ok (Ok done) so = so
+on_ok (Err why) so = tt

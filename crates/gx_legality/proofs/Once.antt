@@ -126,12 +126,21 @@ module _ {E : Type 0} (cmp : E → E → Ordering) (o : IsTotalOrder cmp) where
     many = let rises = below_rises g.above b all after in let many = was.many in omega (arith, rises, many, some);
   })
 
+  -- a pass came to a new bound, above which the next begins
+  pub tested_again : (g new : Gathered E) (all : List E) (passes : ℕ) → Tested cmp (gathered_above 0 g.above) all passes
+      → (b : E) × IsAfter cmp g.above b × (0 < count cmp b all) × OnceBetween cmp g.above (Some b) all × (new ≡ gathered_above g.half (Some b)) → Tested cmp new all (passes + 1)
+  tested_again g new all passes was again = tested_more (gathered_above 0 g.above) new all passes g.half again.0 was again.1 again.2 again.3 again.4
+
   pub tested_all : (g : Gathered E) (all : List E) (passes : ℕ) → Tested cmp g all passes → OnceBetween cmp g.above None all
       → (e : E) → count cmp e all ≤ 1
   tested_all g all passes was once e = elim (after_or g.above e) [
     | inl later ↦ once e later tt
     | inr up ↦ was.once e up
   ]
+
+-- what was tested doesn't depend on the buffer
+pub tested_from : {E : Type 0} (cmp : E → E → Ordering) (g : Gathered E) (all : List E) (passes : ℕ) → Tested cmp g all passes → Tested cmp (gathered_above 0 g.above) all passes
+tested_from cmp g all passes was = record { fresh = refl; once = was.once; many = was.many }
 
 module _ {B : Type 0} (order : B → B → Ordering) (overlap inside : B → B → Bool) (most : ℕ) where
   abbrev the_keys : Keys B

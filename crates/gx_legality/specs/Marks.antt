@@ -1,8 +1,8 @@
 -- A mark for each page, and the rightlink of each leaf.
-use Rattle.std.specs.Prelude.{◌≡◌, ℕ, suc, ◌+◌, ◌≤◌, ◌==◌, Bool, false, if◌then◌else◌, List, length, slice_index_or, Option, None, Some}
+use Rattle.std.specs.Prelude.{◌≡◌, ℕ, suc, ◌+◌, ◌<◌, ◌≤◌, ◌==◌, Bool, false, if◌then◌else◌, List, length, slice_index_or, Option, None, Some}
 use Rattle.gx_tree_laws.specs.Lists.{one_if, total}
-use Rattle.gx_tree_laws.specs.Trees.{Node, Tree, Used, leaves, parents, times, child_pages}
-use Rattle.gx_tree_laws.specs.Legal.{Linked}
+use Rattle.gx_tree_laws.specs.Trees.{Node, Rules, Tree, Used, leaves, parents, times, child_pages}
+use Rattle.gx_tree_laws.specs.Legal.{Linked, NodeFits}
 use Rattle.gx_legality.specs.declared.fault.Rule.{Rule}
 use Rattle.gx_legality.specs.declared.fault.Rule.TheVariants.{NamedTwice}
 
@@ -33,3 +33,10 @@ pub record HasShape {K : Type 0} (t : Tree K) : Type 0 where
   pub parent : (q : ℕ) → 2 ≤ q → q ≤ t.used → parents t q ≡ 1
   pub chain : Linked t 2 (leaves t)
   pub once : (q : ℕ) → Used t q → (t.node q).level ≡ 0 → times q (leaves t) ≡ 1
+
+-- the tree is legal, but that a pair may stand twice
+pub record IsLegalButPairs {K : Type 0} (r : Rules K) (t : Tree K) : Type 0 where
+  pub pages : (p : ℕ) → Used t p → NodeFits r t (t.node p)
+  pub root : 0 < (t.node 1).level
+  pub shape : HasShape t
+  pub counter : t.counter + 2 ≤ t.used

@@ -12,6 +12,12 @@ pub record OnlyReads {P B : Type 0} (steady : P → Type 0) (store : P → Store
   pub still : steady old → steady new
   pub goes_on : KeepsSince since old new
 
+-- a page was held at some moment, up to which pages were read since another and nothing else was done
+pub record WasHeld {P B : Type 0} (steady : P → Type 0) (store : P → Store B) (since : P → P → ℕ → Type 0) (held : P → ℕ → Type 0) (old : P) (page : ℕ) : Type 0 where
+  pub moment : P
+  pub reads : OnlyReads steady store since old moment
+  pub is : held moment page
+
 -- a test that pages were refused for says why
 abbrev pub IsWhy : {F : Type 0} → (F → Type 0) → LegalityFault F → Type 0
 IsWhy why (Pages fault) = why fault

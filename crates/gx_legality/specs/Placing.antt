@@ -1,5 +1,5 @@
 -- How a pass along the chain comes to pairs that are sought, each in its leaf or to the right of it.
-use Rattle.std.specs.Prelude.{◌≡◌, ℕ, ◌==◌, Bool, if◌then◌else◌, List, [], ◌∷◌, map, slice_get, slice_index_or, Some}
+use Rattle.std.specs.Prelude.{◌≡◌, ◌⊎◌, ℕ, ◌==◌, Bool, if◌then◌else◌, List, [], ◌∷◌, map, slice_get, slice_index_or, Some}
 use Rattle.std.specs.Ordering.{is_eq}
 use Rattle.std.specs.declared.cmp.Ordering.{Ordering}
 use Rattle.gx_machine.specs.declared.entry.Entry.{Entry}
@@ -7,6 +7,8 @@ use Rattle.gx_node.specs.Edits.{entry_of}
 use Rattle.gx_tree_laws.specs.Lists.{SomeOf}
 use Rattle.gx_tree_laws.specs.Trees.{Rules, Tree}
 use Rattle.gx_tree_laws.specs.Writes.{IsSeek}
+use Rattle.gx_tree_laws.specs.Legal.{Legal}
+use Rattle.gx_legality.specs.Breaks.{Breaks}
 use Rattle.gx_legality.specs.declared.fault.Rule.{Rule}
 use Rattle.gx_legality.specs.declared.fault.Rule.TheVariants.{PairOutOfPlace}
 use Rattle.gx_legality.specs.declared.notes.Note.{Note}
@@ -20,6 +22,10 @@ IsPlaced r t n = IsSeek r t n.leaf n.entry.row n.entry.key
 -- this leaf is that of a note whose pair doesn't
 abbrev pub IsOutOfPlace : {B : Type 0} → Rules B → Tree B → List (Note (Entry B)) → ℕ → Rule → Type 0
 IsOutOfPlace r t notes leaf rule = (rule ≡ PairOutOfPlace) × SomeOf (λ n. (n.leaf ≡ leaf) × (¬ IsPlaced r t n)) notes
+
+-- a page of a tree breaks a rule; or the tree is legal, and the page is the leaf of a note whose pair isn't in its place
+abbrev pub BreaksOrLeavesOut : {B : Type 0} → Rules B → Tree B → List (Note (Entry B)) → ℕ → Rule → Type 0
+BreaksOrLeavesOut r t notes page rule = Breaks r t page rule ⊎ (Legal r t × IsOutOfPlace r t notes page rule)
 
 -- the entries of notes
 abbrev pub noted : {E : Type 0} → List (Note E) → List E

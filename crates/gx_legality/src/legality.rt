@@ -5,9 +5,14 @@ ghost use Rattle.gx_tree_laws.specs.Trees.{Tree, Rules, Used, parents};
 ghost use Rattle.gx_node.specs.Keyed.{rules_of};
 ghost use Rattle.gx_node.specs.Owner.{IsWhyLater};
 ghost use Rattle.gx_node.specs.Store.{node_at, tree_of};
+ghost use Rattle.gx_machine.specs.Keys.{keys_of, entry_cmp};
+ghost use Rattle.gx_tree_laws.specs.Lists.{Each};
 ghost use Rattle.gx_legality.specs.Breaks.{Breaks};
-ghost use Rattle.gx_legality.specs.Marks.{AreLinks, HasShape, marked};
-ghost use Rattle.gx_legality.specs.Owner.{OnlyReads, IsWhy, IsFound};
+ghost use Rattle.gx_legality.specs.Gathered.{Ascends, gathered_above};
+ghost use Rattle.gx_legality.specs.Placing.{BreaksOrLeavesOut, IsPlaced, noted, stage_at};
+ghost use Rattle.gx_legality.specs.declared.notes.Stage.TheVariants.{Ahead};
+ghost use Rattle.gx_legality.specs.Marks.{AreLinks, HasShape, IsLegalButPairs, marked};
+ghost use Rattle.gx_legality.specs.Owner.{OnlyReads, WasHeld, IsWhy, IsFound};
 
 use crate::chain::test_chain;
 use crate::fault::{LegalityFault, Rule};
@@ -15,8 +20,10 @@ use crate::gather::Gather;
 use crate::named::test_named;
 use crate::node::bring_pages;
 use crate::nodes::test_nodes;
-use crate::pairs::test_pairs_in;
+use crate::notes::{Note, Stage, blank_stages, test_found};
+use crate::pairs::test_pairs;
 use gx_class::KeyClass;
+use gx_machine::Entry;
 use gx_node::Pages;
 use std::alloc::{AllocError, Global};
 
@@ -107,6 +114,7 @@ fn test_shape<K: KeyClass, P: Pages<K>>(
     ensures later { OnOk result (IsWhyLater P.why pages.old pages.new) }
     ensures counter { OnOk result ((P.store pages.old).counter + 2 ≤ length (P.store pages.old).nodes) }
     ensures root { P.steady pages.old → OnOk result (0 < (node_at (P.store pages.old).nodes 1).level) }
+    ensures held { OnOk result ((p : ℕ) → Used (tree_of (P.store pages.old)) p → WasHeld P.steady P.store P.since P.held pages.old p) }
     ensures fits { P.steady pages.old → OnOk result ((p : ℕ) → Used (tree_of (P.store pages.old)) p
         → NodeFits (rules_of K.Key.Shape most) (tree_of (P.store pages.old)) (node_at (P.store pages.old).nodes p)) }
     ensures shape { P.steady pages.old → OnOk result (HasShape (tree_of (P.store pages.old))) }
@@ -120,25 +128,63 @@ fn test_shape<K: KeyClass, P: Pages<K>>(
     }
 }
 
+/// Tests that no pair stands twice, and that each note's pair is in its place, in a tree that is legal otherwise. No stage
+/// has come to its leaf before.
+fn test_leaves<K: KeyClass, P: Pages<K>>(
+    pages: &mut P,
+    most: u16,
+    gather: &mut Gather<Entry<K::Key>>,
+    notes: &[Note<Entry<K::Key>>],
+    stages: &mut [Stage],
+) -> Result<(), LegalityFault<P::Fault>>
+    requires fresh { gather.old ≡ gathered_above gather.old.half None }
+    requires as_many { length stages.old ≡ length notes.now }
+    requires ahead { (i : ℕ) → stage_at stages.old i ≡ Ahead }
+    requires in_order { Ascends (entry_cmp (keys_of K.Key.Shape)) (noted notes.now) }
+    ensures reads { OnlyReads P.steady P.store P.since pages.old pages.new }
+    ensures why { IfErr result (IsWhy (P.why pages.old pages.new)) }
+    ensures later { OnOk result (IsWhyLater P.why pages.old pages.new) }
+    ensures legal { P.steady pages.old → IsLegalButPairs (rules_of K.Key.Shape most) (tree_of (P.store pages.old))
+        → OnOk result (Legal (rules_of K.Key.Shape most) (tree_of (P.store pages.old))) }
+    ensures placed { P.steady pages.old → IsLegalButPairs (rules_of K.Key.Shape most) (tree_of (P.store pages.old))
+        → OnOk result (Each (IsPlaced (rules_of K.Key.Shape most) (tree_of (P.store pages.old))) notes.now) }
+    ensures found { P.steady pages.old → IsLegalButPairs (rules_of K.Key.Shape most) (tree_of (P.store pages.old))
+        → IfErr result (IsFound (BreaksOrLeavesOut (rules_of K.Key.Shape most) (tree_of (P.store pages.old)) notes.now)) }
+{
+    test_pairs(pages, most, gather, notes, stages)?;
+    match test_found(notes, stages) {
+        Ok(()) => Ok(()),
+        Err(leaf) => Err(LegalityFault::Broken(leaf, Rule::PairOutOfPlace)),
+    }
+}
+
 /// Tests that the tree is legal, where a node has at most `most` entries: the number of splits and the root, then
-/// `test_nodes`, `test_named`, `test_chain` and `test_pairs`, whose buffer has room for twice `half` pairs. Two pages at
-/// most are held at a time.
+/// `test_nodes`, `test_named`, `test_chain` and `test_pairs`, whose buffer has room for twice `half` pairs. And tests that
+/// the pair of each note stands in the note's leaf or to the right of it on the chain: the first pass over the leaves comes
+/// to the notes too, and looks each pair up among them by halves. Notes are of pairs that open transactions touched, in order
+/// by row and key, and no pair has two (`are_in_order`). Two pages at most are held at a time, and each page was held once.
 ///
-/// Refused with `Memory` before any page is brought, with `Pages`, and with `Broken`; with `Unsteady` only on a device that
-/// lies.
+/// Refused with `Memory` before any page is brought, with `Pages`, and with `Broken`: with `PairOutOfPlace` only in a legal
+/// tree, at the leaf of a note whose pair stands elsewhere or nowhere. With `Unsteady` only on a device that lies.
 pub fn test_tree<K: KeyClass, P: Pages<K>>(
     alloc: Global,
     pages: &mut P,
     most: u16,
     half: usize,
+    notes: &[Note<Entry<K::Key>>],
 ) -> Result<(), LegalityFault<P::Fault>>
     requires some { 0 < half }
     requires few { half < 2 ^ 40 }
+    requires in_order { Ascends (entry_cmp (keys_of K.Key.Shape)) (noted notes.now) }
     ensures reads { OnlyReads P.steady P.store P.since pages.old pages.new }
     ensures why { IfErr result (IsWhy (P.why pages.old pages.new)) }
     ensures later { OnOk result (IsWhyLater P.why pages.old pages.new) }
+    ensures held { OnOk result ((p : ℕ) → Used (tree_of (P.store pages.old)) p → WasHeld P.steady P.store P.since P.held pages.old p) }
     ensures legal { P.steady pages.old → OnOk result (Legal (rules_of K.Key.Shape most) (tree_of (P.store pages.old))) }
-    ensures found { P.steady pages.old → IfErr result (IsFound (Breaks (rules_of K.Key.Shape most) (tree_of (P.store pages.old)))) }
+    ensures placed { P.steady pages.old
+        → OnOk result (Each (IsPlaced (rules_of K.Key.Shape most) (tree_of (P.store pages.old))) notes.now) }
+    ensures found { P.steady pages.old
+        → IfErr result (IsFound (BreaksOrLeavesOut (rules_of K.Key.Shape most) (tree_of (P.store pages.old)) notes.now)) }
 {
     let used = pages.used();
     let Ok(mut marks) = blank_marks(alloc, used) else {
@@ -153,6 +199,9 @@ pub fn test_tree<K: KeyClass, P: Pages<K>>(
     let Ok(mut gather) = Gather::new(alloc, half) else {
         return Err(LegalityFault::Memory);
     };
+    let Ok(mut stages) = blank_stages(alloc, notes.len()) else {
+        return Err(LegalityFault::Memory);
+    };
     test_shape(
         pages,
         most,
@@ -160,5 +209,5 @@ pub fn test_tree<K: KeyClass, P: Pages<K>>(
         links.as_mut_slice(),
         passed.as_mut_slice(),
     )?;
-    test_pairs_in(pages, most, &mut gather)
+    test_leaves(pages, most, &mut gather, notes, stages.as_mut_slice())
 }

@@ -8,7 +8,7 @@ ghost use Rattle.gx_node.specs.Store.{node_at, node_of, tree_of};
 ghost use Rattle.gx_node.specs.Reading.{format_of};
 ghost use Rattle.gx_legality.specs.Breaks.{Breaks};
 ghost use Rattle.gx_legality.specs.Marks.{AreLinks, IsTwice, link_of, marked};
-ghost use Rattle.gx_legality.specs.Owner.{OnlyReads, IsWhy, IsFound};
+ghost use Rattle.gx_legality.specs.Owner.{OnlyReads, WasHeld, IsWhy, IsFound};
 
 use crate::fault::{LegalityFault, Rule};
 use crate::named::mark_children;
@@ -39,6 +39,7 @@ fn test_page<K: KeyClass, P: Pages<K>>(
     requires used { Used (tree_of (P.store pages.old)) page }
     requires marks { length marks.old ≡ suc (length (P.store pages.old).nodes) }
     requires links { length links.old ≡ suc (length (P.store pages.old).nodes) }
+    ensures held { OnOk result (P.held pages.new page) }
     ensures reads { OnlyReads P.steady P.store P.since pages.old pages.new }
     ensures why { IfErr result (IsWhy (P.why pages.old pages.new)) }
     ensures later { OnOk result (IsWhyLater P.why pages.old pages.new) }
@@ -76,6 +77,7 @@ pub fn test_nodes<K: KeyClass, P: Pages<K>>(
     ensures reads { OnlyReads P.steady P.store P.since pages.old pages.new }
     ensures why { IfErr result (IsWhy (P.why pages.old pages.new)) }
     ensures later { OnOk result (IsWhyLater P.why pages.old pages.new) }
+    ensures held { OnOk result ((p : ℕ) → Used (tree_of (P.store pages.old)) p → WasHeld P.steady P.store P.since P.held pages.old p) }
     ensures fits { P.steady pages.old → OnOk result ((p : ℕ) → Used (tree_of (P.store pages.old)) p
         → NodeFits (rules_of K.Key.Shape most) (tree_of (P.store pages.old)) (node_at (P.store pages.old).nodes p)) }
     ensures parents { P.steady pages.old → OnOk result ((q : ℕ) → q < length marks.old → marked marks.new q ≡ parents (tree_of (P.store pages.old)) q) }

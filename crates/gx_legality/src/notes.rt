@@ -1,10 +1,11 @@
 //! Notes of pairs that are sought, and how far a pass has come with each.
-ghost use Rattle.std.specs.Prelude.{◌≡◌, ◌≢◌, ◌↔◌, ◌==◌, ℕ, ◌<◌, true, false, IsTrue, Some, length, slice_get, MatchOption, OnOk, IfErr};
+ghost use Rattle.std.specs.Prelude.{◌≡◌, ◌≢◌, ◌↔◌, ◌==◌, ℕ, ◌<◌, true, false, IsTrue, Some, length, slice_get, MatchOption, OnOk, IfOk, IfErr};
 ghost use Rattle.std.specs.Ordering.{is_eq};
 ghost use Rattle.gx_legality.specs.Gathered.{Ascends};
 ghost use Rattle.gx_legality.specs.Placing.{Moves, come_to, is_noted, meets, noted, stage_at};
-ghost use Rattle.gx_legality.specs.declared.notes.Stage.TheVariants.{Found};
+ghost use Rattle.gx_legality.specs.declared.notes.Stage.TheVariants.{Ahead, Found};
 
+use std::alloc::{AllocError, Global};
 use std::cmp::Ordering;
 
 /// A pair that an open transaction touched, by its row and key, and the leaf that is remembered for it.
@@ -57,6 +58,14 @@ fn find<E: Ord + Copy>(notes: &[Note<E>], entry: &E) -> Option<usize>
         }
     }
     None
+}
+
+/// Stages of so many notes, none of them come to.
+pub(crate) fn blank_stages(alloc: Global, count: usize) -> Result<Vec<Stage>, AllocError>
+    ensures len { IfOk result (λ stages. length stages.items ≡ count) }
+    ensures ahead { IfOk result (λ stages. (i : ℕ) → stage_at stages.items i ≡ Ahead) }
+{
+    vec![in alloc; Stage::Ahead; count]
 }
 
 /// A note's stage once the pass comes to its pair.

@@ -1,7 +1,7 @@
 //! What a test of legality tells, whoever keeps the pages.
 use crate::built::{Corners, a_box};
 use gx_class::Box2Class;
-use gx_legality::{LegalityFault, Note, Rule, are_in_order, test_placed, test_tree};
+use gx_legality::{LegalityFault, Note, Rule, are_in_order, test_tree};
 use gx_machine::Entry;
 use gx_tree::Pages;
 use std::process::Abort;
@@ -28,7 +28,7 @@ pub(crate) fn told_of<R: AllocGlobal, P: Pages<Box2Class>>(rt: &R, pages: &mut P
 where
     P::Fault: Drop,
 {
-    answer_of(test_tree(rt.alloc(), pages, 4, 2))
+    answer_of(test_tree(rt.alloc(), pages, 4, 2, &[]))
 }
 
 /// What is told of one note: a row's box, and the leaf that it was left on.
@@ -47,5 +47,5 @@ where
         leaf,
     }];
     assert!(rt; are_in_order(&notes));
-    answer_of(test_placed(rt.alloc(), pages, &notes))
+    answer_of(test_tree(rt.alloc(), pages, 4, 2, &notes))
 }

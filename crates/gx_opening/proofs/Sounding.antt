@@ -2,7 +2,7 @@
 use Rattle.std.proofs.Common.{◌≡◌, inl, inr, ℕ, ◌+◌, Bool, List, [], ◌∷◌, length, Option, Some, None, IsSome, Result, Ok, Err, refl, sym, ap, subst, ◌∙◌, arith}
 use Rattle.std.specs.Prelude.{slice_get, OnOk}
 use Rattle.std.specs.declared.cmp.Ordering.{Ordering}
-use Rattle.std.proofs.lemmas.Bool.{leb-true, le-leb, cases_eq}
+use Rattle.std.proofs.lemmas.Bool.{leb-true}
 use Rattle.std.proofs.lemmas.Option.{slice_get_within}
 use Rattle.gx_disk.specs.Device.{Device}
 use Rattle.gx_geom.specs.declared.refusal.Refusal.{Refusal}
@@ -13,29 +13,29 @@ use Rattle.gx_pool.specs.Bringing.{HasImage}
 use Rattle.gx_pool.specs.State.{Kept, kept, stamp_of}
 use Rattle.gx_node.specs.Reading.{Format}
 use Rattle.gx_recovery.specs.Records.{Touch}
-use Rattle.gx_legality.specs.Owner.{IsFound, IsWhy}
+use Rattle.gx_legality.specs.Owner.{IsFound, IsWhy, WasHeld}
 use Rattle.gx_legality.specs.Gathered.{Ascends}
-use Rattle.gx_legality.specs.Placing.{IsPlaced, IsOutOfPlace, noted}
+use Rattle.gx_legality.specs.Placing.{BreaksOrLeavesOut, IsPlaced, IsOutOfPlace, noted}
+use Rattle.gx_legality.specs.Breaks.{Breaks}
 use Rattle.gx_legality.specs.declared.fault.Rule.{Rule}
 use Rattle.gx_legality.specs.declared.fault.LegalityFault.{LegalityFault}
 use Rattle.gx_legality.specs.declared.fault.LegalityFault.TheVariants as fault
 use Rattle.gx_legality.specs.declared.notes.Note.{Note}
-use Rattle.gx_legality.proofs.Children.{reads_same}
 use Rattle.gx_legality.proofs.Slots.{each_slot, slot_of, some_against}
 use Rattle.gx_store.specs.Faults as faults
 use Rattle.gx_store.specs.Faults.{CanBeRead, is_taken}
 use Rattle.gx_store.specs.Since.{IsSince}
-use Rattle.gx_store.specs.Standing.{standing_node}
-use Rattle.gx_store.specs.State.{IsInOrder, IsSteady, Shelf}
+use Rattle.gx_store.specs.Standing.{standing_node, store_of}
+use Rattle.gx_store.specs.State.{IsHeld, IsInOrder, IsSteady, Shelf}
 use Rattle.gx_store.specs.declared.fault.StoreFault.{StoreFault}
 use Rattle.gx_store.specs.declared.fault.StoreFault.TheVariants as store_fault
 use Rattle.gx_store.proofs.Listed.{nodes_long}
-use Rattle.gx_node.specs.Store as store
 use Rattle.gx_tree_laws.specs.Legal.{Legal}
 use Rattle.gx_tree_laws.specs.Lists.{Each, SomeOf}
-use Rattle.gx_tree_laws.specs.Trees.{Rules, Tree}
+use Rattle.gx_tree_laws.proofs.Sums.{each_map}
+use Rattle.gx_tree_laws.specs.Trees.{Rules, Tree, Used}
 use Rattle.gx_opening.specs.Noting.{AreNoted, AreOfOthers, IsOfOne, note_of}
-use Rattle.gx_opening.specs.Sound.{AllInPlace, AreClean, CanAllBeRead, CanReadStore, IsDamage, IsShownSound, IsSoundStore, OnlyReadsStore, Tells, shown_tree}
+use Rattle.gx_opening.specs.Sound.{AllInPlace, AreClean, CanAllBeRead, IsDamage, IsReadRight, IsSoundStore, OnlyReadsStore, Tells, shown_tree}
 
 -- ---- one page that was brought
 
@@ -59,13 +59,15 @@ brought_passes passes d e old new page steady clean since order is =
       passing = ap (passes old.pages) image.read ∙ ap (λ n. passes n k.page) (sym since.goes_on.pages) ∙ passed.1;
     })
 
+-- pages that are held, of a store that is in order, were read right
+pub read_right : {D E : Type 0} (passes : ℕ → Contents → Bool) (d : Device) (s : Shelf D) (pages : List ℕ) (result : Result (Unit {0}) E)
+    → OnOk result (Each (λ page. IsHeld s page) pages) → IsInOrder (passes s.pages) d.sectors s.frames s.used s.pages → OnOk result (Each (λ page. IsReadRight passes d s page) pages)
+read_right passes d s pages (Ok done) held order = each_map (λ page. IsHeld s page) (λ page. IsReadRight passes d s page) (λ page is. record { held = is; order = order }) pages held
+read_right passes d s pages (Err why) held order = tt
+
 -- what can all be read can be read by a store
 pub can_be_read : {D : Type 0} (passes : ℕ → Contents → Bool) (d : Device) (s : Shelf D) → CanAllBeRead (passes s.pages) s.used d.seen → CanBeRead passes d s
 can_be_read passes d s all = λ page low taken none. all page low (leb-true page s.used taken)
-
--- and the other way round, of a store that keeps none
-pub can_all_be_read : {D : Type 0} (passes : ℕ → Contents → Bool) (d : Device) (s : Shelf D) → ((page : ℕ) → kept s.frames page ≡ None) → CanBeRead passes d s → CanAllBeRead (passes s.pages) s.used d.seen
-can_all_be_read passes d s none can = λ page low high. can page low (le-leb page s.used high) (none page)
 
 -- ---- why a test was refused
 
@@ -127,64 +129,31 @@ module _ {B D : Type 0} (f : Format B) (passes : ℕ → Contents → Bool) (sta
   used_same old new reads =
       sym (nodes_long (standing_node f new.frames (state new.disk).seen) new.used) ∙ reads.stays.used ∙ nodes_long (standing_node f old.frames (state old.disk).seen) old.used
 
-  -- pages that can be read still can be
-  pub can_still : (old new : Shelf D) → Reads old new → ((page : ℕ) → IsSince passes (state old.disk) (state old.disk) old old page) → IsSteady (state old.disk) old.frames
-      → CanReadStore f passes state old → CanReadStore f passes state new
-  can_still old new reads begins steady can = (since_all old new reads begins 1).goes_on.readable steady can
+  -- where each page in use was held, and read right, all can be read
+  pub all_read : (old : Shelf D) → IsSteady (state old.disk) old.frames → AreClean old.frames → ((page : ℕ) → IsSince passes (state old.disk) (state old.disk) old old page)
+      → ((page : ℕ) → Used (shown_tree f passes state old) page
+      → WasHeld {P = Shelf D} {B = B} (λ s. IsSteady (state s.disk) s.frames) (λ s. store_of f (state s.disk).seen s) (λ was now q. IsSince passes (state was.disk) (state now.disk) was now q)
+      (λ s q. IsReadRight passes (state s.disk) s q) old page)
+      → CanAllBeRead (passes old.pages) old.used (state old.disk).seen
+  all_read old steady clean begins held = λ page low high.
+      let long = nodes_long (standing_node f old.frames (state old.disk).seen) old.used in
+      let one = held page (low, omega (arith, high, long)) in
+      brought_passes passes (state old.disk) (state one.moment.disk) old one.moment page steady clean (since_all old one.moment one.reads begins page) one.is.order one.is.held.kept
 
-  -- the same tree is shown
-  pub shows_same : (old new : Shelf D) → Reads old new → IsSteady (state old.disk) old.frames → shown_tree f passes state new ≡ shown_tree f passes state old
-  shows_same old new reads steady = ap (λ (s : store.Store B). store.tree_of s) (reads_same old new reads steady)
-
-  module _ (r : Rules B) (touched : List (Touch (Entry B))) (a b : Shelf D) (reads : Reads a b) (steady : IsSteady (state a.disk) a.frames) where
-    -- what is shown behind a reading was shown before it
-    pub shown_before : (result : Result (Unit {0}) Refusal) → Tells {T = Unit {0}} (AllInPlace r (shown_tree f passes state b) touched) result → Legal r (shown_tree f passes state a)
-        → Tells {T = Unit {0}} (IsShownSound r touched (shown_tree f passes state a)) result
-    shown_before (Ok done) placed legal = record { legal = legal; placed = subst (λ (t : Tree B). AllInPlace r t touched) (shows_same a b reads steady) placed }
-    shown_before (Err why) refused legal = λ is sound. refused is (subst (λ (t : Tree B). AllInPlace r t touched) (sym (shows_same a b reads steady)) sound.placed)
-
-    -- so is a store's soundness, where its pages can be read
-    pub sound_before : (result : Result (Unit {0}) Refusal) → CanAllBeRead (passes a.pages) a.used (state a.disk).seen
-        → Tells {T = Unit {0}} (IsShownSound r touched (shown_tree f passes state b)) result → Tells {T = Unit {0}} (IsSoundStore f passes state r touched a) result
-    sound_before (Ok done) read shown = record { read = read; shown = subst (λ (t : Tree B). IsShownSound r touched t) (shows_same a b reads steady) shown }
-    sound_before (Err why) read refused = λ is sound. refused is (subst (λ (t : Tree B). IsShownSound r touched t) (sym (shows_same a b reads steady)) sound.shown)
+  -- what a test of the whole refuses isn't sound
+  pub never_sound : (r : Rules B) (touched : List (Touch (Entry B))) (cmp : Entry B → Entry B → Ordering) (notes : List (Note (Entry B))) (s : Shelf D) → AreNoted cmp touched (length touched) notes
+      → ((page : ℕ) (rule : Rule) → Breaks r (shown_tree f passes state s) page rule → ¬ Legal r (shown_tree f passes state s))
+      → (page : ℕ) (rule : Rule) → BreaksOrLeavesOut r (shown_tree f passes state s) notes page rule → IsSoundStore f passes state r touched s → ⊥
+  never_sound r touched cmp notes s so illegal page rule (inl broken) sound = illegal page rule broken sound.shown.legal
+  never_sound r touched cmp notes s so illegal page rule (inr out) sound = one_out_of_place r (shown_tree f passes state s) cmp touched notes so page rule out.1 sound.shown.placed
 
 -- what is said of one thing is said of another that holds just where it does
 pub tells_so : {T : Type 0} (P Q : Type 0) (result : Result T Refusal) → (P → Q) → (Q → P) → Tells {T = T} P result → Tells {T = T} Q result
 tells_so P Q (Ok done) there back told = there told
 tells_so P Q (Err why) there back told = λ is q. told is (back q)
 
--- one page more can be read
-pub read_more : (passes : Contents → Bool) (n : ℕ) (seen : List ℕ) → CanAllBeRead passes n seen → IsPassing passes (n + 1) (bytes_of seen (n + 1)) → CanAllBeRead passes (n + 1) seen
-read_more passes n seen all here = λ page low high. elim (cases_eq page (n + 1)) [
-  | inl same ↦ subst (λ p. IsPassing passes p (bytes_of seen p)) (sym same) here
-  | inr other ↦ all page low (omega (arith, high, other))
-]
-
-pub none_read : (passes : Contents → Bool) (seen : List ℕ) → CanAllBeRead passes 0 seen
-none_read passes seen = λ page low high. absurd (omega (arith, low, high))
-
-module _ {B : Type 0} (r : Rules B) (t : Tree B) where
-  -- a note out of place is one that isn't in it
-  pub notes_out : (notes : List (Note (Entry B))) (page : ℕ) (rule : Rule) → IsOutOfPlace r t notes page rule → Each (IsPlaced r t) notes → ⊥
-  notes_out notes page rule out placed = some_against (λ n. (n.leaf ≡ page) × (¬ IsPlaced r t n)) (IsPlaced r t) notes (λ n un is. un.1 is) out.1 placed
-
-  -- a test of notes is one of touches
-  pub touched_told : (cmp : Entry B → Entry B → Ordering) (touched : List (Touch (Entry B))) (notes slice : List (Note (Entry B))) (result : Result (Unit {0}) Refusal) → slice ≡ notes
-      → AreNoted cmp touched (length touched) notes → (Ascends cmp (noted slice) → Tells {T = Unit {0}} (Each (IsPlaced r t) slice) result) → AreOfOthers cmp touched
-      → Tells {T = Unit {0}} (AllInPlace r t touched) result
-  touched_told cmp touched notes slice result same so told others =
-      tells_so (Each (IsPlaced r t) notes) (AllInPlace r t touched) result (touches_have cmp (IsPlaced r t) touched notes so) (notes_have cmp (IsPlaced r t) touched notes so)
-      (subst (λ (ns : List (Note (Entry B))). Tells {T = Unit {0}} (Each (IsPlaced r t) ns) result) same
-      (told (subst (λ (ns : List (Note (Entry B))). Ascends cmp (noted ns)) (sym same) (so.in_order others))))
-
 -- notes in order are of touches of which no two are of one entry
 pub noted_others : {E : Type 0} (cmp : E → E → Ordering) (touched : List (Touch E)) (notes slice : List (Note E)) → slice ≡ notes
     → AreNoted cmp touched (length touched) notes → Ascends cmp (noted slice) → AreOfOthers cmp touched
 noted_others {E = E} cmp touched notes slice same so up i j x y before first second tied =
     so.others (subst (λ (ns : List (Note E)). Ascends cmp (noted ns)) same up) i j x y before (slice_get_within touched j y second) first second tied
-
-pub told_others : {E : Type 0} (cmp : E → E → Ordering) (touched : List (Touch E)) (notes slice : List (Note E)) (result : Result (Unit {0}) Refusal) → slice ≡ notes
-    → AreNoted cmp touched (length touched) notes → OnOk result (Ascends cmp (noted slice)) → OnOk result (AreOfOthers cmp touched)
-told_others cmp touched notes slice (Ok done) same so up = noted_others cmp touched notes slice same so up
-told_others cmp touched notes slice (Err why) same so up = tt

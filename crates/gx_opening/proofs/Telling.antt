@@ -13,7 +13,7 @@ use Rattle.gx_legality.specs.declared.fault.LegalityFault.{LegalityFault}
 use Rattle.gx_legality.specs.declared.fault.LegalityFault.TheVariants as fault
 use Rattle.gx_legality.specs.declared.fault.Rule.{Rule}
 use Rattle.gx_legality.specs.declared.notes.Note.{Note}
-use Rattle.gx_legality.specs.Placing.{IsPlaced, IsOutOfPlace}
+use Rattle.gx_legality.specs.Placing.{BreaksOrLeavesOut, IsPlaced}
 use Rattle.gx_legality.proofs.Slots.{some_slot}
 use Rattle.gx_machine.specs.declared.entry.Entry.{Entry}
 use Rattle.gx_machine.specs.Keys.{Members}
@@ -45,8 +45,10 @@ module _ {B : Type 0} (r : Rules B) (t : Tree B) (cmp : Entry B → Entry B → 
       (subst (λ (x : Note (Entry B)). (x.leaf ≡ page) × (¬ IsPlaced r t x)) one.same here) one.there
   one_left_out page n (m ∷ notes) only (inr some) = one_left_out page n notes only.1 some
 
-  pub out_of_place : (n page : ℕ) (rule : Rule) (notes : List (Note (Entry B))) → AreNoted cmp touched n notes → IsOutOfPlace r t notes page rule → IsBroken r touched t page rule
-  out_of_place n page rule notes noted out = inr (out.0, one_left_out page n notes noted.only out.1)
+  -- what a test of the whole finds is broken
+  pub one_broken : (n page : ℕ) (rule : Rule) (notes : List (Note (Entry B))) → AreNoted cmp touched n notes → BreaksOrLeavesOut r t notes page rule → IsBroken r touched t page rule
+  one_broken n page rule notes noted (inl broken) = inl broken
+  one_broken n page rule notes noted (inr out) = inr (out.1.0, one_left_out page n notes noted.only out.1.1)
 
 module _ {B D : Type 0} (f : Format B) (r : Rules B) where
   -- what is told by the same touches
@@ -61,19 +63,6 @@ module _ {B D : Type 0} (f : Format B) (r : Rules B) (touched : List (Touch (Ent
       → ((page : ℕ) (rule : Rule) → why ≡ fault.Broken page rule → IsBroken r touched (tree_of (store_of f seen s)) page rule) → IfSome result (TreeShows f r touched seen s)
   found_shows seen s why None told so = tt
   found_shows seen s why (Some damage) told so = subst (λ (d : Damage). TreeShows f r touched seen s d) (sym told.3) (so told.0 told.1 told.2)
-
-  same_tree : (damage : Damage) (now before : List ℕ) (new old : Shelf D) → tree_of (store_of f now new) ≡ tree_of (store_of f before old) → TreeShows f r touched now new damage
-      → TreeShows f r touched before old damage
-  same_tree (Log damage) now before new old same shows = shows
-  same_tree (TooManyPages used) now before new old same shows = shows
-  same_tree (Unreadable page) now before new old same shows = shows
-  same_tree (Broken page rule) now before new old same shows = subst (λ (t : Tree B). IsBroken r touched t page rule) same shows
-
-  -- the same tree was shown before
-  pub shows_before : (result : Option Damage) (now before : List ℕ) (new old : Shelf D) → tree_of (store_of f now new) ≡ tree_of (store_of f before old)
-      → IfSome result (TreeShows f r touched now new) → IfSome result (TreeShows f r touched before old)
-  shows_before None now before new old same shows = tt
-  shows_before (Some damage) now before new old same shows = same_tree damage now before new old same shows
 
 module _ {B D : Type 0} (f : Format B) (r : Rules B) (passes : Contents → Bool) (told : Analysis (Entry B)) where
   tree_told : (damage : Damage) (now seen : List ℕ) (pages : ℕ) (s : Shelf D) → Starts pages told s → now ≡ seen → TreeShows f r told.touched now s damage

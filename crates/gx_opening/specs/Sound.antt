@@ -20,7 +20,7 @@ use Rattle.gx_legality.specs.declared.fault.LegalityFault.TheVariants as fault
 use Rattle.gx_store.specs.Faults.{CanBeRead}
 use Rattle.gx_store.specs.Since.{IsSince}
 use Rattle.gx_store.specs.Standing.{store_of}
-use Rattle.gx_store.specs.State.{IsSteady, Shelf}
+use Rattle.gx_store.specs.State.{IsHeld, IsInOrder, IsSteady, Shelf}
 use Rattle.gx_store.specs.declared.fault.StoreFault.{StoreFault}
 use Rattle.gx_store.specs.declared.fault.StoreFault.TheVariants as store_fault
 use Rattle.gx_node.specs.Store as store
@@ -77,6 +77,11 @@ AllInPlace r t touched = Each (λ x. IsSeek r t x.leaf x.entry.row x.entry.key) 
 pub record IsShownSound {B : Type 0} (r : Rules B) (touched : List (Touch (Entry B))) (t : trees.Tree B) : Type 0 where
   pub legal : Legal r t
   pub placed : AllInPlace r t touched
+
+-- A page of a store over a device is held, and was read right.
+pub record IsReadRight {D : Type 0} (passes : ℕ → Contents → Bool) (d : Device) (s : Shelf D) (page : ℕ) : Type 0 where
+  pub held : IsHeld s page
+  pub order : IsInOrder (passes s.pages) d.sectors s.frames s.used s.pages
 
 -- the pages of a store over a device of a kind
 module _ {B D : Type 0} (f : Format B) (passes : ℕ → Contents → Bool) (state : D → Device) where

@@ -1,6 +1,6 @@
 //! The pages of a device whose log is laid are tested: that each can be read, that they are a legal tree, and that what open transactions have
 //! touched is in its place.
-ghost use Rattle.std.specs.Prelude.{◌≡◌, ◌≤◌, ◌<◌, ◌+◌, ◌*◌, ℕ, true, OnOk, IfErr, IfOk, Err};
+ghost use Rattle.std.specs.Prelude.{◌≡◌, ◌≤◌, ◌<◌, ◌+◌, ◌*◌, true, OnOk, IfErr, IfOk, Err};
 ghost use Rattle.gx_machine.specs.Keys.{keys_of, entry_cmp};
 ghost use Rattle.gx_node.specs.Reading.{format_of, is_node};
 ghost use Rattle.gx_pool.specs.Bringing.{OnlyRead};
@@ -8,20 +8,17 @@ ghost use Rattle.gx_recovery.specs.Known.{Limits};
 ghost use Rattle.gx_index_laws.specs.Classes.{known_of};
 ghost use Rattle.gx_readings.specs.Classes.{class_of, reading_of};
 ghost use Rattle.gx_node.specs.Keyed.{rules_of};
-ghost use Rattle.gx_tree_laws.specs.Legal.{Legal};
-ghost use Rattle.gx_tree_laws.specs.Lists.{Each};
-ghost use Rattle.gx_legality.specs.Gathered.{Ascends};
-ghost use Rattle.gx_legality.specs.Placing.{IsPlaced, noted};
 ghost use Rattle.gx_opening.specs.Formatted.{TellsFaults};
 ghost use Rattle.gx_opening.specs.Noting.{AreOfOthers};
-ghost use Rattle.gx_opening.specs.Sound.{AllInPlace, AreClean, AreSound, CanAllBeRead, CanReadStore, IsCause, IsDamage, IsShownSound, IsSoundStore, IsSteadyStore, OnlyReadsStore, Tells, refusal_of, shown_tree, store_refusal_of};
+ghost use Rattle.gx_opening.specs.Sound.{AreClean, AreSound, IsCause, IsDamage, IsSoundStore, IsSteadyStore, OnlyReadsStore, Tells, refusal_of, store_refusal_of};
 
 use crate::notes::notes_of;
+use crate::reader::StoreReader;
 use gx_analysis::{Analysis, Touch};
 use gx_disk::SectorDisk;
 use gx_geom::Refusal;
 use gx_legality::laws::what_breaks_a_rule_is_not_legal;
-use gx_legality::{LegalityFault, Note, are_in_order, test_placed, test_tree};
+use gx_legality::{LegalityFault, are_in_order, test_tree};
 use gx_machine::Entry;
 use gx_node::Pages;
 use gx_pool::Pool;
@@ -73,118 +70,11 @@ fn test_refusal(fault: LegalityFault<StoreFault>) -> Refusal
     }
 }
 
-// Tests that each page in use can be read.
-fn test_readable<D: SectorDisk, K: ReadKeys>(store: &mut PageStore<D, K>) -> Result<(), Refusal>
-    ensures cause { IfErr result IsCause }
-    ensures reads { OnlyReadsStore (format_of K.KeyClass) (is_node (format_of K.KeyClass)) D.state store.old store.new }
-    ensures faults { result ≡ Err Refusal.Device → (D.state store.old.disk).faults < (D.state store.new.disk).faults }
-    ensures read { IsSteadyStore (format_of K.KeyClass) (is_node (format_of K.KeyClass)) D.state store.old → AreClean store.old.frames
-        → OnOk result (CanAllBeRead (is_node (format_of K.KeyClass) store.old.pages) store.old.used (D.state store.old.disk).seen) }
-    ensures refused { IsSteadyStore (format_of K.KeyClass) (is_node (format_of K.KeyClass)) D.state store.old
-        → result ≡ Err Refusal.Damaged → CanReadStore (format_of K.KeyClass) (is_node (format_of K.KeyClass)) D.state store.old → ⊥ }
-{
-    going_on::<D, K>();
-    let used = store.used();
-    for before in 0..used {
-        if let Err(fault) = store.bring(&[before + 1]) {
-            return Err(store_refusal(fault));
-        }
-        store.in_order();
-    }
-    Ok(())
-}
-
-// Tests that the tree is legal.
-fn test_legal<D: SectorDisk, K: ReadKeys>(
-    alloc: Global,
-    store: &mut PageStore<D, K>,
-    most: u16,
-) -> Result<(), Refusal>
-    ensures cause { IfErr result IsCause }
-    ensures reads { OnlyReadsStore (format_of K.KeyClass) (is_node (format_of K.KeyClass)) D.state store.old store.new }
-    ensures faults { result ≡ Err Refusal.Device → (D.state store.old.disk).faults < (D.state store.new.disk).faults }
-    ensures legal { IsSteadyStore (format_of K.KeyClass) (is_node (format_of K.KeyClass)) D.state store.old → CanReadStore (format_of K.KeyClass) (is_node (format_of K.KeyClass)) D.state store.old
-        → Tells (Legal (rules_of K.Key.Shape most) (shown_tree (format_of K.KeyClass) (is_node (format_of K.KeyClass)) D.state store.old)) result }
-{
-    what_breaks_a_rule_is_not_legal::<K::Key>();
-    let half = half_of(store.used(), most);
-    match test_tree(alloc, store, most, half) {
-        Ok(()) => Ok(()),
-        Err(fault) => Err(test_refusal(fault)),
-    }
-}
-
-// Tests that the entries of notes are in their places, in a legal tree.
-fn test_notes<D: SectorDisk, K: ReadKeys>(
-    alloc: Global,
-    store: &mut PageStore<D, K>,
-    notes: &[Note<Entry<K::Key>>],
-) -> Result<(), Refusal>
-    ensures cause { IfErr result IsCause }
-    ensures up { OnOk result (Ascends (entry_cmp (keys_of K.Key.Shape)) (noted notes.now)) }
-    ensures reads { OnlyReadsStore (format_of K.KeyClass) (is_node (format_of K.KeyClass)) D.state store.old store.new }
-    ensures faults { result ≡ Err Refusal.Device → (D.state store.old.disk).faults < (D.state store.new.disk).faults }
-    ensures placed { (most : ℕ) → IsSteadyStore (format_of K.KeyClass) (is_node (format_of K.KeyClass)) D.state store.old → CanReadStore (format_of K.KeyClass) (is_node (format_of K.KeyClass)) D.state store.old
-        → Legal (rules_of K.Key.Shape most) (shown_tree (format_of K.KeyClass) (is_node (format_of K.KeyClass)) D.state store.old)
-        → Ascends (entry_cmp (keys_of K.Key.Shape)) (noted notes.now)
-        → Tells (Each (IsPlaced (rules_of K.Key.Shape most) (shown_tree (format_of K.KeyClass) (is_node (format_of K.KeyClass)) D.state store.old)) notes.now) result }
-{
-    if !are_in_order(notes) {
-        return Err(Refusal::Damaged);
-    }
-    match test_placed(alloc, store, notes) {
-        Ok(()) => Ok(()),
-        Err(fault) => Err(test_refusal(fault)),
-    }
-}
-
-// Tests that what was touched is in its place, in a legal tree.
-fn test_touched<D: SectorDisk, K: ReadKeys>(
-    alloc: Global,
-    store: &mut PageStore<D, K>,
-    touched: &[Touch<Entry<K::Key>>],
-) -> Result<(), Refusal>
-    ensures cause { IfErr result IsCause }
-    ensures others { OnOk result (AreOfOthers (entry_cmp (keys_of K.Key.Shape)) touched.now) }
-    ensures reads { OnlyReadsStore (format_of K.KeyClass) (is_node (format_of K.KeyClass)) D.state store.old store.new }
-    ensures faults { result ≡ Err Refusal.Device → (D.state store.old.disk).faults < (D.state store.new.disk).faults }
-    ensures placed { (most : ℕ) → IsSteadyStore (format_of K.KeyClass) (is_node (format_of K.KeyClass)) D.state store.old → CanReadStore (format_of K.KeyClass) (is_node (format_of K.KeyClass)) D.state store.old
-        → Legal (rules_of K.Key.Shape most) (shown_tree (format_of K.KeyClass) (is_node (format_of K.KeyClass)) D.state store.old)
-        → AreOfOthers (entry_cmp (keys_of K.Key.Shape)) touched.now
-        → Tells (AllInPlace (rules_of K.Key.Shape most) (shown_tree (format_of K.KeyClass) (is_node (format_of K.KeyClass)) D.state store.old) touched.now) result }
-{
-    match notes_of(alloc, touched) {
-        Ok(notes) => test_notes(alloc, store, &notes),
-        Err(_) => Err(Refusal::Memory),
-    }
-}
-
-// Tests the tree that pages are which can be read.
-fn test_shown<D: SectorDisk, K: ReadKeys>(
-    alloc: Global,
-    store: &mut PageStore<D, K>,
-    most: u16,
-    touched: &[Touch<Entry<K::Key>>],
-) -> Result<(), Refusal>
-    ensures cause { IfErr result IsCause }
-    ensures others { OnOk result (AreOfOthers (entry_cmp (keys_of K.Key.Shape)) touched.now) }
-    ensures reads { OnlyReadsStore (format_of K.KeyClass) (is_node (format_of K.KeyClass)) D.state store.old store.new }
-    ensures faults { result ≡ Err Refusal.Device → (D.state store.old.disk).faults < (D.state store.new.disk).faults }
-    ensures shown { IsSteadyStore (format_of K.KeyClass) (is_node (format_of K.KeyClass)) D.state store.old → CanReadStore (format_of K.KeyClass) (is_node (format_of K.KeyClass)) D.state store.old
-        → AreOfOthers (entry_cmp (keys_of K.Key.Shape)) touched.now
-        → Tells (IsShownSound (rules_of K.Key.Shape most) touched.now (shown_tree (format_of K.KeyClass) (is_node (format_of K.KeyClass)) D.state store.old)) result }
-{
-    going_on::<D, K>();
-    match test_legal(alloc, store, most) {
-        Ok(()) => test_touched(alloc, store, touched),
-        Err(why) => Err(why),
-    }
-}
-
-// Makes the three tests over a store that starts.
+// Tests pages over a store that starts: that each in use can be read, that they are a legal tree, and that what was touched is in its
+// place.
 fn test_store<D: SectorDisk, K: ReadKeys>(
     alloc: Global,
-    store: &mut PageStore<D, K>,
+    store: &mut StoreReader<D, K>,
     most: u16,
     touched: &[Touch<Entry<K::Key>>],
 ) -> Result<(), Refusal>
@@ -196,16 +86,24 @@ fn test_store<D: SectorDisk, K: ReadKeys>(
         → Tells (IsSoundStore (format_of K.KeyClass) (is_node (format_of K.KeyClass)) D.state (rules_of K.Key.Shape most) touched.now store.old) result }
 {
     going_on::<D, K>();
-    match test_readable(store) {
-        Ok(()) => test_shown(alloc, store, most, touched),
-        Err(why) => Err(why),
+    what_breaks_a_rule_is_not_legal::<K::Key>();
+    let Ok(notes) = notes_of(alloc, touched) else {
+        return Err(Refusal::Memory);
+    };
+    if !are_in_order(&notes) {
+        return Err(Refusal::Damaged);
+    }
+    let half = half_of(store.used(), most);
+    match test_tree(alloc, store, most, half, &notes) {
+        Ok(()) => Ok(()),
+        Err(fault) => Err(test_refusal(fault)),
     }
 }
 
-// Makes the three tests over a store that starts, and hands its device back.
+// Tests pages over a store that starts, and hands its device back.
 fn test_over<D: SectorDisk, K: ReadKeys>(
     alloc: Global,
-    store: PageStore<D, K>,
+    store: StoreReader<D, K>,
     most: u16,
     touched: &[Touch<Entry<K::Key>>],
 ) -> (D, Result<(), Refusal>)
@@ -252,5 +150,6 @@ pub(crate) fn test_pages<D: SectorDisk, K: ReadKeys>(
         return (disk, Err(Refusal::Memory));
     };
     let store = PageStore::<D, K>::new(disk, pool, used, analysis.counter(), pages);
-    test_over(alloc, store, most, analysis.touched())
+    let reader = StoreReader::new(store);
+    test_over(alloc, reader, most, analysis.touched())
 }

@@ -8,6 +8,7 @@ pub mod laws;
 mod legal;
 mod log;
 mod notes;
+mod reader;
 mod standing;
 
 pub use damage::{Damage, examine};

@@ -2,17 +2,16 @@
 ghost use Rattle.std.specs.Prelude.{◌≡◌, ◌≤◌, ◌+◌, ◌*◌, ℕ, true, IfSome};
 ghost use Rattle.gx_legality.specs.declared.fault.Rule.{Rule as RuleOf};
 ghost use Rattle.gx_node.specs.Reading.{format_of, is_node};
-ghost use Rattle.gx_opening.specs.Sound.{IsSteadyStore, OnlyReadsStore, shown_tree};
+ghost use Rattle.gx_opening.specs.Sound.{IsSteadyStore, OnlyReadsStore};
 ghost use Rattle.gx_pool.specs.Bringing.{OnlyRead};
 ghost use Rattle.gx_node.specs.Keyed.{rules_of};
-ghost use Rattle.gx_tree_laws.specs.Legal.{Legal};
 ghost use Rattle.gx_opening.specs.Shown.{IsUnreadable, PagesShow, TreeShows};
 
 use super::Damage;
 use crate::notes_of;
 use gx_analysis::{Analysis, Touch};
 use gx_disk::SectorDisk;
-use gx_legality::{LegalityFault, are_in_order, test_placed, test_tree};
+use gx_legality::{LegalityFault, are_in_order, test_tree};
 use gx_machine::Entry;
 use gx_pool::{Pool, PoolFault};
 use gx_readings::ReadKeys;
@@ -55,29 +54,6 @@ fn broken(fault: LegalityFault<StoreFault>) -> Option<Damage>
     }
 }
 
-// An entry that an open transaction touched and that isn't in its place, in a legal tree.
-fn misplaced<D: SectorDisk, K: ReadKeys>(
-    alloc: Global,
-    store: &mut PageStore<D, K>,
-    touched: &[Touch<Entry<K::Key>>],
-) -> Option<Damage>
-    ensures reads { OnlyReadsStore (format_of K.KeyClass) (is_node (format_of K.KeyClass)) D.state store.old store.new }
-    ensures shows { (most : ℕ) → IsSteadyStore (format_of K.KeyClass) (is_node (format_of K.KeyClass)) D.state store.old
-        → Legal (rules_of K.Key.Shape most) (shown_tree (format_of K.KeyClass) (is_node (format_of K.KeyClass)) D.state store.old)
-        → IfSome result (TreeShows (format_of K.KeyClass) (rules_of K.Key.Shape most) touched.now (D.state store.old.disk).seen store.old) }
-{
-    let Ok(notes) = notes_of(alloc, touched) else {
-        return None;
-    };
-    if !are_in_order(&notes) {
-        return None;
-    }
-    match test_placed(alloc, store, &notes) {
-        Ok(()) => None,
-        Err(fault) => broken(fault),
-    }
-}
-
 // What is damaged in the tree that a store shows.
 fn in_tree<D: SectorDisk, K: ReadKeys>(
     alloc: Global,
@@ -90,8 +66,14 @@ fn in_tree<D: SectorDisk, K: ReadKeys>(
         → IfSome result (TreeShows (format_of K.KeyClass) (rules_of K.Key.Shape most) touched.now (D.state store.old.disk).seen store.old) }
 {
     going_on::<D, K>();
-    match test_tree(alloc, store, most, HALF) {
-        Ok(()) => misplaced(alloc, store, touched),
+    let Ok(notes) = notes_of(alloc, touched) else {
+        return None;
+    };
+    if !are_in_order(&notes) {
+        return None;
+    }
+    match test_tree(alloc, store, most, HALF, &notes) {
+        Ok(()) => None,
         Err(fault) => broken(fault),
     }
 }

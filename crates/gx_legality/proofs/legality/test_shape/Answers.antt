@@ -4,7 +4,7 @@ use Rattle.gx_legality.specs.Marks.{marked}
 use Rattle.std.proofs.lemmas.Result.{err_from_is_err_and}
 use Rattle.gx_node.specs.Store.{tree_of}
 use Rattle.gx_legality.specs.declared.fault.LegalityFault.TheVariants.{Broken}
-use Rattle.gx_legality.proofs.Children.{reads_same, found_before}
+use Rattle.gx_legality.proofs.Children.{held_before, reads_same, found_before}
 use Rattle.gx_legality.proofs.Joined.{fits_before, shape_before}
 use Rattle.gx_legality.proofs.legality.test_shape.Goals as goal
 
@@ -42,3 +42,8 @@ returns-in-Err-clause-found g c = λ steady.
     λ q within. c.in_ok-test_nodes.ensures.parents still q (omega (arith, within, kept)) in
     found_before {F = g.row.P-Fault.Denot} _ (g.P.Pages.store c.args.pages.now) mid (Broken c.in-Err.page c.in-Err.rule)
     (reads_same c.args.pages.now c.test_root.new.pages first steady) (c.in-Err.ensures.breaks _ (tree_of mid) (c.in_ok-test_nodes.ensures.linked still) named)
+
+pub returns-in-Ok-clause-held : goal.returns-in-Ok-clause-held
+returns-in-Ok-clause-held g c = λ p used.
+    (let first = c.in_ok-test_root.ensures.reads in
+    held_before c.args.pages.now c.test_root.new.pages p first (c.in_ok-test_nodes.ensures.held p (used.0, omega (arith, used.1, first.stays.used))))

@@ -1,6 +1,6 @@
 use Rattle.std.proofs.Common.{◌≡◌, ◌<◌, ◌+◌, suc, ◌∙◌, length, arith, rules}
 use Rattle.std.proofs.lemmas.Result.{err_from_is_err_and}
-use Rattle.gx_legality.proofs.Children.{reads_same, reads_more}
+use Rattle.gx_legality.proofs.Children.{held_next, reads_same, reads_more}
 use Rattle.gx_legality.proofs.Numbered.{found_at, fits_next, named_next, linked_next, unlinked_more}
 use Rattle.gx_legality.proofs.nodes.test_nodes.Goals as goal
 
@@ -23,8 +23,10 @@ loop-before-preserved g c =
     let now = g.P.Pages.store c.loop-before.pages in
     let before = c.loop-before.before in
     let low : before + 1 < length c.loop-before.links = omega (arith, kept.links, c.requires.links) in
+    let reads = reads_more c.args.pages.now c.loop-before.pages c.test_page.new.pages kept.reads next.reads in
     record {
-      reads = reads_more c.args.pages.now c.loop-before.pages c.test_page.new.pages kept.reads next.reads;
+      reads = reads;
+      held = held_next c.args.pages.now c.test_page.new.pages before reads kept.held next.held;
       later = λ later fault why. kept.later later fault (next.later later fault why);
       marks = search rules;
       links = search rules;

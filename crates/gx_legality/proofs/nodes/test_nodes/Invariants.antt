@@ -4,7 +4,7 @@ use Rattle.gx_tree_laws.specs.Legal.{NodeFits}
 use Rattle.gx_node.specs.Owner.{IsWhyLater}
 use Rattle.gx_node.specs.Store.{node_at, tree_of}
 use Rattle.gx_legality.specs.Marks.{marked, named_by, link_of}
-use Rattle.gx_legality.specs.Owner.{OnlyReads}
+use Rattle.gx_legality.specs.Owner.{OnlyReads, WasHeld}
 use Rattle.gx_legality.proofs.nodes.test_nodes.Given as goal
 
 abbrev pub invariant-loop-before : goal.invariant-loop-before
@@ -13,6 +13,7 @@ invariant-loop-before g l = record {
   later : IsWhyLater g.P.Pages.why l.fn.pages l.pages;
   marks : length l.marks ≡ length l.fn.marks;
   links : length l.links ≡ length l.fn.links;
+  held : (p : ℕ) → 0 < p → p ≤ l.before → WasHeld g.P.Pages.steady g.P.Pages.store g.P.Pages.since g.P.Pages.held l.fn.pages p;
   unlinked : g.P.Pages.steady l.fn.pages → get_or l.links 0 None ≡ None;
   fits : g.P.Pages.steady l.fn.pages → (p : ℕ) → 0 < p → p ≤ l.before
       → NodeFits (record { covers = λ a b. g.K.Key.Shape.inside b a; same = λ a b. is_eq (g.K.Key.Ord.cmp a b); most = l.most })
