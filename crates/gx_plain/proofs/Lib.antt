@@ -1,5 +1,6 @@
 pub mod SlotLaws
 pub mod IndexLaws
 pub mod AnswerLaws
+pub mod SealLaws
 pub mod CallRuns
 pub mod Decided

@@ -1,5 +1,5 @@
 -- The plain index as a state, and what asking and answering it do, by the set machine's steps.
-use Rattle.std.specs.Prelude.{ℕ, ◌≡◌, ◌⊎◌, ◌+◌, Bool, true, false, ◌&&◌, ◌||◌, nat_le, if◌then◌else◌, Option, Some, option_map, unwrap_or}
+use Rattle.std.specs.Prelude.{ℕ, ◌≡◌, ◌⊎◌, ◌+◌, Bool, true, false, ◌&&◌, ◌||◌, nat_le, if◌then◌else◌, Option, Some, option_map, unwrap_or, None}
 use Rattle.std.specs.Option.{option_and_then, option_or}
 use Rattle.gx_geom.specs.declared.refusal.Refusal.TheVariants.{BadSession, NoCall, Memory, HistoryFull}
 use Rattle.gx_machine.specs.declared.call.Call.{Call}
@@ -71,6 +71,17 @@ pub record LacksMemory {B : Type 0} (k : Keys B) (s : ℕ) (old : Index B) (repl
 -- what answering may do
 abbrev pub AnswersIndex : {B : Type 0} → Keys B → ℕ → Index B → Reply B → Index B → Type 0
 AnswersIndex k s old reply new = AnswersFully k s old reply new ⊎ LacksMemory k s old reply new
+
+-- Seal: a commit gets the next number, and is durable at once; or there is no commit to seal, and nothing changes.
+abbrev pub SealsIndex : {B : Type 0} → Keys B → ℕ → Index B → Option ℕ → Index B → Type 0
+SealsIndex k s old None new = (seal k s old.machine ≡ None) × (new ≡ old)
+SealsIndex k s old (Some number) new =
+    (sealed_machine k s old.machine ≡ Some new.machine) × (number ≡ newest old.machine + 1) × (new.next ≡ old.next)
+
+-- Close: an open call goes without an answer; or there is none, and nothing changes.
+abbrev pub DropsIndex : {B : Type 0} → ℕ → Index B → Bool → Index B → Type 0
+DropsIndex s old true new = (close s old.machine ≡ Some new.machine) × (new.next ≡ old.next)
+DropsIndex s old false new = (close s old.machine ≡ None) × (new ≡ old)
 
 -- asking a call, and answering it where it is then open
 abbrev pub AnswersAsked : {B : Type 0} → Keys B → ℕ → Asked B → Index B → Reply B → Index B → Type 0

@@ -6,7 +6,7 @@ ghost use Rattle.gx_machine.specs.Keys.{keys_of};
 ghost use Rattle.gx_machine.specs.Machine.{is_session, least_conflicting, claims_held};
 ghost use Rattle.gx_machine.specs.Sessions.{Idle, claims_of, ask_session};
 ghost use Rattle.gx_machine.specs.Sets.{InOrder};
-ghost use Rattle.gx_session.specs.Slots.{added_by, opened_by, begins, CanAnswer, SlotAnswers};
+ghost use Rattle.gx_session.specs.Slots.{added_by, opened_by, begins, CanAnswer, SlotAnswers, SlotSeals, NothingSealed, SlotDrops};
 
 use gx_geom::{Refusal, Shape};
 use gx_machine::{Asked, Call, Entry, LAST_NUMBER, Reply, SESSIONS};
@@ -117,6 +117,44 @@ fn answer_at<B: Shape>(
     slots[place].answer(latest, commits, added)
 }
 
+/// Seals the commit of the session at a place.
+fn seal_at<B: Shape>(
+    slots: &mut Vec<Slot<B>>,
+    place: usize,
+    latest: &mut Vec<Entry<B>>,
+    commits: &mut u64,
+) -> Option<u64>
+    requires within { place < length slots.old.items }
+    requires in_order { InOrder (keys_of B.Shape) latest.old.items }
+    requires room { vec_len latest.old + added_by (slice_index_or slots.old.items place Idle) ≤ vec_capacity latest.old }
+    requires more { commits.old + 1 < 2 ^ 64 }
+    ensures seals { MatchOption result
+        (NothingSealed (keys_of B.Shape) (slice_index_or slots.old.items place Idle) latest.old.items commits.old
+        (slice_index_or slots.new.items place Idle) latest.new.items commits.new)
+        (SlotSeals (keys_of B.Shape) (slice_index_or slots.old.items place Idle) latest.old.items commits.old
+        (slice_index_or slots.new.items place Idle) latest.new.items commits.new) }
+    ensures others { slots.new.items ≡ slice_set slots.old.items place (slice_index_or slots.new.items place Idle) }
+    ensures room { vec_len latest.new + added_by (slice_index_or slots.new.items place Idle) ≤ vec_len latest.old + added_by (slice_index_or slots.old.items place Idle) }
+    ensures capacity { vec_capacity latest.old ≤ vec_capacity latest.new }
+    ensures opened { commits.new + opened_by (slice_index_or slots.new.items place Idle) ≤ commits.old + opened_by (slice_index_or slots.old.items place Idle) }
+    ensures claims { claims_of (slice_index_or slots.new.items place Idle) ≤ claims_of (slice_index_or slots.old.items place Idle) }
+    ensures in_order { InOrder (keys_of B.Shape) latest.new.items }
+{
+    slots[place].seal(latest, commits)
+}
+
+/// Closes the open call of the session at a place.
+fn drop_at<B: Shape>(slots: &mut Vec<Slot<B>>, place: usize) -> bool
+    requires { place < length slots.old.items }
+    ensures drops { SlotDrops (slice_index_or slots.old.items place Idle) result (slice_index_or slots.new.items place Idle) }
+    ensures others { slots.new.items ≡ slice_set slots.old.items place (slice_index_or slots.new.items place Idle) }
+    ensures added { added_by (slice_index_or slots.new.items place Idle) ≡ added_by (slice_index_or slots.old.items place Idle) }
+    ensures opened { opened_by (slice_index_or slots.new.items place Idle) ≡ opened_by (slice_index_or slots.old.items place Idle) }
+    ensures claims { claims_of (slice_index_or slots.new.items place Idle) ≡ claims_of (slice_index_or slots.old.items place Idle) }
+{
+    slots[place].drop_call()
+}
+
 /// An index of entries as a set machine over a sorted list: for up to eight sessions, in memory.
 ///
 /// It is the plain program of the definitions, slow and exact, which other indexes are compared with.
@@ -146,7 +184,8 @@ impl<B: Shape> Model for PlainIndex<B> {
 }
 
 impl<B: Shape> PlainIndex<B> {
-    ghost use Rattle.gx_plain.specs.Index.{fresh_index, ask_index, AnswersIndex, CallsIndex};
+    ghost use Rattle.gx_plain.specs.Index.{fresh_index, ask_index, AnswersIndex, CallsIndex, SealsIndex, DropsIndex};
+    ghost use Rattle.gx_plain.specs.Runs.{IsPlain};
 
     /// An index with nothing committed. It takes the room for all claims and predicates, and for deletes.
     pub fn new(alloc: Global) -> Result<Self, AllocError>
@@ -204,6 +243,40 @@ impl<B: Shape> PlainIndex<B> {
             &mut self.commits,
             added,
         )
+    }
+
+    /// Seals the open commit of a session under the next number, which it returns: the last committed set becomes what the
+    /// session sees, durable at once, and its claims and predicates are free. `answer` of the session then gives
+    /// `Committed` with that number. `None`, and nothing changes, where the session has no commit open.
+    pub fn seal(&mut self, session: u8) -> Option<u64>
+        ensures { SealsIndex (keys_of B.Shape) session self.old result self.new }
+    {
+        let place = place_of(session)?;
+        seal_at(
+            &mut self.slots,
+            place,
+            &mut self.committed,
+            &mut self.commits,
+        )
+    }
+
+    /// Closes the open call of a session without an answer. The session keeps its transaction, its claims and its
+    /// predicates, and the call may be asked again. `false`, and nothing changes, where the session has no call open; an
+    /// abort and a sealed commit are no open calls.
+    pub fn drop_call(&mut self, session: u8) -> bool
+        ensures { DropsIndex session self.old result self.new }
+    {
+        match place_of(session) {
+            Some(place) => drop_at(&mut self.slots, place),
+            None => false,
+        }
+    }
+
+    /// What such an index is, always: eight sessions, each commit durable, and no fault has made it fail.
+    pub fn stands(&self)
+        ensures { IsPlain self.now }
+    {
+        let _ = &self.slots;
     }
 
     /// Asks a call and, where it is then open, answers it. The refusals are those of `ask` and of `answer`.

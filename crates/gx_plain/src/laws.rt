@@ -1,10 +1,12 @@
 //! Laws: what the plain index has to do with runs of the set machine, and what holds of every such run.
-ghost use Rattle.std.specs.Prelude.{◌≡◌, ℕ, List, true};
+ghost use Rattle.std.specs.Prelude.{◌≡◌, ℕ, List, true, Some, [], ◌∷◌};
+ghost use Rattle.gx_geom.specs.declared.refusal.Refusal.{Refusal};
+ghost use Rattle.gx_machine.specs.Runs.{Seals, Durable, Closes, IsStep, IsRun, may_close};
 ghost use Rattle.gx_machine.specs.declared.call.Call.{Call};
 ghost use Rattle.gx_machine.specs.declared.reply.Reply.{Reply};
 ghost use Rattle.gx_machine.specs.Keys.{Keys};
 ghost use Rattle.gx_machine.specs.Machine.{Machine};
-ghost use Rattle.gx_plain.specs.Index.{Index, AnswersIndex, ask_index, fresh_index};
+ghost use Rattle.gx_plain.specs.Index.{Index, AnswersIndex, SealsIndex, DropsIndex, ask_index, fresh_index};
 ghost use Rattle.gx_plain.specs.Boxes.{box_keys};
 ghost use Rattle.gx_plain.specs.Decided.{AnswersDecided, IsDecidedCall, Rests, decided_text, is_decided};
 ghost use Rattle.gx_plain.specs.Index.{CallsIndex};
@@ -38,6 +40,20 @@ pub fn asking_is_a_step<B>()
 pub fn answering_is_a_run<B>()
     ensures run { (k : Keys B) (s : ℕ) (old new : Index B) (reply : Reply B) → IsPlain old → AnswersIndex k s old reply new → AnswerIsRun k s old reply new }
     ensures plain { (k : Keys B) (s : ℕ) (old new : Index B) (reply : Reply B) → IsPlain old → AnswersIndex k s old reply new → IsPlain new }
+{}
+
+/// Sealing is a run of the machine, a seal and its becoming durable, and keeps the index plain.
+pub fn sealing_is_a_run<B>()
+    ensures run { (k : Keys B) (s number : ℕ) (old new : Index B) → IsPlain old → SealsIndex k s old (Some number) new
+        → IsRun k old.machine (Seals s number ∷ Durable number ∷ []) new.machine }
+    ensures plain { (k : Keys B) (s number : ℕ) (old new : Index B) → IsPlain old → SealsIndex k s old (Some number) new → IsPlain new }
+{}
+
+/// Dropping a call is a step of the machine, a call closed for want of pages or of memory, and keeps the index plain.
+pub fn dropping_is_a_step<B>()
+    ensures step { (k : Keys B) (s : ℕ) (why : Refusal) (old new : Index B) → IsPlain old → may_close why ≡ true → DropsIndex s old true new
+        → IsStep k old.machine (Closes s why) new.machine }
+    ensures plain { (s : ℕ) (old new : Index B) → IsPlain old → DropsIndex s old true new → IsPlain new }
 {}
 
 /// A call that is asked and answered is a run of the machine in which that call is asked and given that reply, and

@@ -1,0 +1,4 @@
+pub mod Comparing
+pub mod Following
+pub mod Asking
+pub mod Replaying
