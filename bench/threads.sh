@@ -1,7 +1,7 @@
 #!/usr/bin/env bash
 # Times sessions in threads over one index: for 1, 2, 4 and 8 threads as many transactions in all, of six calls each (begin,
-# three inserts, a search, a commit). First on a device in memory, then, a tenth as many, on one with a file as its mirror:
-# each write and each sync goes to that file too. Prints the calls a second, from the best of nine runs less that of nine with
+# three inserts, a search, a commit). First on a device in memory, then, a tenth as many, over a file; each time an index is made,
+# opened, shared, settled and opened again. Prints the calls a second, from the best of nine runs less that of nine with
 # no transaction, all in turn; and, where perf is there, what share of the time the lock is held.
 # The first argument, if there is one, is how many transactions there are in memory, up to 5,000: a record has room for no
 # more. The second is a folder on the file system to be measured.
@@ -17,7 +17,7 @@ python3 - "$top/crates/gx_threads_example/out/gx_threads_example" "${1:-4000}" <
 import os, re, statistics, subprocess, sys, time
 
 program, total = sys.argv[1], int(sys.argv[2])
-file, samples, summary = "mirror.gist", "samples", "summary"
+file, samples, summary = "shared.gist", "samples", "summary"
 rate = 5000
 
 def run(threads, transactions, file, before=[]):
@@ -28,8 +28,9 @@ def run(threads, transactions, file, before=[]):
     done = subprocess.run(before + [program], input=line + "\n", text=True, check=True, stdout=subprocess.PIPE, stderr=subprocess.DEVNULL)
     took = time.perf_counter() - began
     said = done.stdout.splitlines()
-    agree = all(words.endswith(f": {6 * each} calls finished, the record agrees: true") for words in said[:-1])
-    if not agree or said[-1] != f"{6 * each * threads} calls finished in all, {each * threads} commits":
+    agree = all(words.endswith(f": {6 * each} calls finished, the record agrees: true") for words in said[:-2])
+    last = [f"{6 * each * threads} calls finished in all, {each * threads} commits", f"opened again: {3 * each * threads} entries"]
+    if not agree or said[-2:] != last:
         sys.exit("\n".join(said))
     return took
 

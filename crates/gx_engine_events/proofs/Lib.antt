@@ -2,3 +2,5 @@ pub mod Stepping
 pub mod Crashes
 pub mod AtOnce
 pub mod Acknowledged
+pub mod Quiet
+pub mod Holds

@@ -12,6 +12,7 @@ use Rattle.gx_node.specs.Reading.{Format}
 use Rattle.gx_readings.specs.Classes.{reading_of}
 use Rattle.gx_events.specs.Replay.{ReplaysAs}
 use Rattle.gx_engine.specs.States.{Parts}
+use Rattle.gx_shared.specs.Books.{StartsAt}
 use Rattle.gx_engine_events.specs.Crashes.{StandsForSet}
 use Rattle.gx_engine_events.specs.Seen.{Sees, class_in}
 
@@ -26,10 +27,12 @@ acknowledges number (Asked s call) = false
 acknowledges number (Sealed s n) = false
 acknowledges number (Replied s r) = is_commit number r
 
--- A record replays from the start as a machine that the engine is seen as; and whatever a crash may leave now stands for a set that this machine
+-- A record replays from the machine that the run starts at as one that the engine is seen as; and whatever a crash may leave now stands for a set that this machine
 -- keeps, under a number that is none below a commit's which the record acknowledges.
-pub record Outlives {B D : Type 0} (shape : Members B) (proper : B → Bool) (said : List ℕ → B) (f : Format B) (state : D → Device) (start : Machine B) (e : Parts B D)
+pub record Outlives {B D : Type 0} (shape : Members B) (proper : B → Bool) (said : List ℕ → B) (f : Format B) (state : D → Device) (starts : Machine B → Type 0) (e : Parts B D)
     (calls : List (Item B)) : Type 0 where
+  pub start : Machine B
+  pub at : StartsAt starts start
   pub machine : Machine B
   pub seen : Sees shape proper said f state e machine
   pub replays : ReplaysAs (keys_of shape) start calls machine

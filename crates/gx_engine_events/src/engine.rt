@@ -61,23 +61,36 @@ impl<D: SectorDisk, K: ReadKeys + Probing> Events<K::Key> for EngineEvents<D, K>
 where
     K::Probe: Drop,
 {
-    ghost use Rattle.std.specs.Prelude.{◌≡◌, max};
+    ghost use Rattle.std.specs.Prelude.{◌≡◌, max, true};
     ghost use Rattle.gx_machine.specs.Keys.{keys_of};
     ghost use Rattle.gx_machine.specs.Machine.{Machine, newest};
     ghost use Rattle.gx_node.specs.Reading.{format_of};
     ghost use Rattle.gx_storage.specs.Flushing.{IsLeastWritable};
     ghost use Rattle.gx_events.specs.Happens.{Happens};
+    ghost use Rattle.gx_events.specs.Work.{is_work, replied};
+    ghost use Rattle.gx_engine.specs.Made.{Makes};
     ghost use Rattle.gx_engine_events.specs.Crashes.{LeavesSets};
     ghost use Rattle.gx_engine_events.specs.Seen.{Sees};
     ghost use Rattle.gx_engine_events.specs.One.{one_seen};
 
+    // devices of its kind keep what they are told
+    ghost granted = { (d : D) → (D.state d).honest ≡ true };
+
     ghost sees = { λ e m. Sees K.Key.Shape K.is_proper K.said (format_of K.KeyClass) D.state e m };
+
+    ghost makes = { λ old event outcome new. Makes K.Key.Shape K.is_proper K.said K.KeyClass D.state old event outcome new };
+
+    ghost uses = { λ e. max 1 e.volume.shelf.used };
+
+    ghost dirties = { λ e page. IsLeastWritable e.volume.shelf.frames page };
 
     /// As the trait says. And at each moment within the event, whatever a crash may leave stands for a set that the machine of before it
     /// keeps: one from the last durable commit's to the last one's.
     fn step(&mut self, event: Event<K::Key>) -> Outcome<K::Key>
         ensures happens { (m : Machine K.Key) → Sees K.Key.Shape K.is_proper K.said (format_of K.KeyClass) D.state self.old m
             → (n : Machine K.Key) × Happens (keys_of K.Key.Shape) m event result n × Sees K.Key.Shape K.is_proper K.said (format_of K.KeyClass) D.state self.new n }
+        ensures made { Makes K.Key.Shape K.is_proper K.said K.KeyClass D.state self.old event result self.new }
+        ensures quiet { is_work event ≡ true → replied result ≡ 0 }
         ensures leaves { (m : Machine K.Key) → Sees K.Key.Shape K.is_proper K.said (format_of K.KeyClass) D.state self.old m
             → LeavesSets K.Key.Shape K.is_proper K.said (format_of K.KeyClass) D.state m self.old self.new }
     {

@@ -20,7 +20,7 @@ use Rattle.gx_events.specs.declared.event.Event.{Event}
 use Rattle.gx_events.specs.declared.event.Event.TheVariants.{Ask, Move, LogStep, WritePage, CheckpointStep, Sweep}
 use Rattle.gx_events.specs.declared.outcome.Outcome.{Outcome}
 use Rattle.gx_events.specs.declared.outcome.Outcome.TheVariants as outcome
-use Rattle.gx_events.specs.Happens.{AskRefused, Ends, WorkRefused, AskHappens, MoveHappens, WorkHappens, SyncHappens, Happens}
+use Rattle.gx_events.specs.Happens.{AskRefused, Ends, MeetsFault, AskHappens, MoveHappens, WorkHappens, SyncHappens, Happens}
 use Rattle.gx_events.specs.Items.{items_of, items_sealed}
 use Rattle.gx_events.specs.Replay.{Point, At, Asking, Fits, FitsReply, FitsGiven, FitsEither, Leads, EndsAt, StandsFor, ReplaysAs, refuses_ask}
 use Rattle.gx_events.proofs.Replies.{given_refuses_none}
@@ -242,8 +242,7 @@ module _ {B : Type 0} (k : Keys B) where
     fails : (new : Machine B) → new ≡ failed_machine old → ReplaysAs k start (items ++ []) new
     fails new is = none new (subst (λ (z : Machine B). StandsFor r z) (sym is) (stands_unseen r old st))
 
-    work_refused : (why : Refusal) (new : Machine B) → WorkRefused why old new → ReplaysAs k start (items ++ []) new
-    work_refused refusal.Damaged new h = fails new h.1
+    work_refused : (why : Refusal) (new : Machine B) → MeetsFault why old new → ReplaysAs k start (items ++ []) new
     work_refused refusal.Device new h = fails new h.1
     work_refused refusal.Failed new h = stays new h.1
     work_refused other new h = absurd h

@@ -68,11 +68,6 @@ MoveRefused s refusal.BadSession old = is_session s ≡ false
 MoveRefused s refusal.NoCall old = (is_session s ≡ true) × (is_unanswered (session_at s old.sessions) ≡ false)
 MoveRefused s other old = ⊥
 
--- an event that is no session's is refused for a fault alone; a page that can't be read ends the engine too
-abbrev pub WorkRefused : {B : Type 0} → Refusal → Machine B → Machine B → Type 0
-WorkRefused refusal.Damaged old new = (old.failed ≡ false) × (new ≡ failed_machine old)
-WorkRefused why old new = MeetsFault why old new
-
 -- by its outcome, an event that asks
 abbrev pub AskHappens : {B : Type 0} → Keys B → ℕ → Call B → Machine B → Outcome B → Machine B → Type 0
 AskHappens k s call old (Replied r) new = IsStep k old (Asks s call (asked.Now r)) new ⊎ AskRefused k s call r old new
@@ -87,13 +82,13 @@ MoveHappens k s old (Help need) new = Stays old new
 MoveHappens k s old Nothing new = ⊥
 MoveHappens k s old (Refused why) new = MoveRefused s why old × (new ≡ old)
 
--- an event that is no session's and shows nothing but faults
+-- an event that is no session's and shows nothing but faults; it is refused for a fault of the device alone
 abbrev pub WorkHappens : {B : Type 0} → Machine B → Outcome B → Machine B → Type 0
 WorkHappens old (Replied r) new = ⊥
 WorkHappens old More new = Stays old new
 WorkHappens old (Help need) new = Stays old new
 WorkHappens old Nothing new = Stays old new
-WorkHappens old (Refused why) new = WorkRefused why old new
+WorkHappens old (Refused why) new = MeetsFault why old new
 
 -- one by which commits may become durable
 abbrev pub SyncHappens : {B : Type 0} → Keys B → Machine B → Outcome B → Machine B → Type 0

@@ -1,3 +1,4 @@
+pub mod Work
 pub mod Driven
 pub mod Happens
 pub mod Items

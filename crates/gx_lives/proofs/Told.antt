@@ -14,7 +14,7 @@ use Rattle.gx_events.specs.declared.event.Event.{Event}
 use Rattle.gx_events.specs.declared.event.Event.TheVariants.{Ask, Move, LogStep, WritePage, CheckpointStep, Sweep}
 use Rattle.gx_events.specs.declared.outcome.Outcome.{Outcome}
 use Rattle.gx_events.specs.declared.outcome.Outcome.TheVariants.{Replied, More, Help, Nothing, Refused}
-use Rattle.gx_events.specs.Happens.{AskHappens, AskRefused, Ends, Happens, MoveHappens, SyncHappens, WorkHappens, WorkRefused}
+use Rattle.gx_events.specs.Happens.{AskHappens, AskRefused, Ends, Happens, MoveHappens, MeetsFault, SyncHappens, WorkHappens}
 use Rattle.gx_lives.specs.Bearing.{AreOf, IsOf}
 use Rattle.gx_lives.specs.Lives.{Turn}
 use Rattle.gx_lives.specs.Lives as life
@@ -80,8 +80,7 @@ module _ {B : Type 0} (k : Keys B) where
   move s Nothing old new h = absurd h
   move s (Refused why) old new h = none old new (TellsEvent (Move s) (Refused why)) refl h.1
 
-  fails : (why : Refusal) (old new : Machine B) → WorkRefused why old new → Run old new (TellsWork (Refused why))
-  fails refusal.Damaged old new h = one old new Fails (TellsWork (Refused refusal.Damaged)) (inr refl) h.1
+  fails : (why : Refusal) (old new : Machine B) → MeetsFault why old new → Run old new (TellsWork (Refused why))
   fails refusal.Device old new h = one old new Fails (TellsWork (Refused refusal.Device)) (inr refl) h.1
   fails refusal.Failed old new h = none old new (TellsWork (Refused refusal.Failed)) (inl refl) h.1
   fails other old new h = absurd h

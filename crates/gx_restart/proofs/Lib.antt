@@ -19,3 +19,4 @@ pub mod Telling
 pub mod Ending
 pub mod Ordered
 pub mod Decided
+pub mod Idle

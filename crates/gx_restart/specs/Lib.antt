@@ -13,3 +13,4 @@ pub mod Bringing
 pub mod Reading
 pub mod Order
 pub mod Decided
+pub mod Idle

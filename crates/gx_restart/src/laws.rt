@@ -27,6 +27,8 @@ ghost use Rattle.gx_engine.specs.Made.{Makes};
 ghost use Rattle.gx_engine.specs.Resting.{IsAtRest};
 ghost use Rattle.gx_restart.specs.States.{State};
 
+pub mod idle;
+
 use gx_class::KeyClass;
 use gx_disk::SectorDisk;
 use gx_geom::{Box2, Shape};

@@ -1,5 +1,5 @@
 -- A book stays one from event to event.
-use Rattle.std.proofs.Common.{arith, ◌≡◌, ℕ, ◌+◌, ◌<◌, ◌≤◌, ◌⊎◌, inl, inr, Bool, true, false, List, [], ◌∷◌, ◌++◌, length, refl, ap, sym, ◌∙◌, subst}
+use Rattle.std.proofs.Common.{arith, ◌≡◌, ℕ, ◌+◌, ◌-◌, ◌<◌, ◌≤◌, ◌⊎◌, inl, inr, Bool, true, false, List, [], ◌∷◌, ◌++◌, length, refl, ap, sym, ◌∙◌, subst}
 use Rattle.std.specs.Prelude.{if◌then◌else◌, nat_lt, MatchBool}
 use Rattle.std.proofs.lemmas.List.{append-nil, append_assoc, length-append}
 use Rattle.gx_geom.specs.declared.refusal.Refusal.{Refusal}
@@ -15,15 +15,16 @@ use Rattle.gx_events.specs.declared.event.Event.{Event}
 use Rattle.gx_events.specs.declared.event.Event.TheVariants.{Ask, Move, LogStep, WritePage, CheckpointStep, Sweep}
 use Rattle.gx_events.specs.declared.outcome.Outcome.{Outcome}
 use Rattle.gx_events.specs.declared.outcome.Outcome.TheVariants as outcome
-use Rattle.gx_events.specs.Happens.{AskHappens, MoveHappens, WorkHappens, SyncHappens, WorkRefused, Ends, Happens}
+use Rattle.gx_events.specs.Happens.{AskHappens, MoveHappens, WorkHappens, SyncHappens, MeetsFault, Ends, Happens}
 use Rattle.gx_events.specs.Items.{items_of, items_sealed, finished}
 use Rattle.gx_events.specs.Replay.{ReplaysAs}
+use Rattle.gx_events.specs.Work.{is_work, replied}
 use Rattle.gx_machine.specs.Runs.{Seals, IsStep}
 use Rattle.gx_events.proofs.Follows.{true_or_false}
 use Rattle.gx_events.proofs.Goes.{goes_on, not_less}
 use Rattle.gx_shared.specs.declared.record.TheConstants.{RECORD}
 use Rattle.gx_shared.specs.Calls.{open_calls, owed, HasRoom}
-use Rattle.gx_shared.specs.Books.{IsBook, IsHold, applied, is_work, replied, is_fault, RoomFor, lacks_room, finds_it_full}
+use Rattle.gx_shared.specs.Books.{IsBook, IsHold, applied, is_fault, RoomFor, lacks_room, finds_it_full}
 use Rattle.gx_shared.proofs.Opening.{closes_of, asked_more, ended, ask_sums, move_sums, ends_sums, ends_failed, sealed_sums, seal_works, owed_by_open}
 
 pub finished_join : {B : Type 0} (xs ys : List (Item B)) → finished (xs ++ ys) ≡ finished xs + finished ys
@@ -66,8 +67,7 @@ module _ {B : Type 0} (k : Keys B) where
     pub works : n.failed ≡ false → m.failed ≡ false
     pub none : (x y : ℕ) → items_of x y event o ≡ []
 
-  refused_works : (m n : Machine B) (why : Refusal) → WorkRefused why m n → (n.sessions ≡ m.sessions) × (n.failed ≡ false → m.failed ≡ false)
-  refused_works m n refusal.Damaged h = (ap (λ (z : Machine B). z.sessions) h.1, λ f. h.0)
+  refused_works : (m n : Machine B) (why : Refusal) → MeetsFault why m n → (n.sessions ≡ m.sessions) × (n.failed ≡ false → m.failed ≡ false)
   refused_works m n refusal.Device h = (ap (λ (z : Machine B). z.sessions) h.1, λ f. h.0)
   refused_works m n refusal.Failed h = (ap (λ (z : Machine B). z.sessions) h.1, λ f. ap (λ (z : Machine B). z.failed) (sym h.1) ∙ f)
   refused_works m n other h = absurd h
@@ -310,17 +310,36 @@ module _ {B : Type 0} (k : Keys B) where
           )
     ]
 
-    pub total_fits : counted + 1 < 18446744073709551616
-    total_fits = let a = b.counted_is in let c = finished_few calls in let d = b.fits in omega (arith, a, c, d)
-
--- how many calls are open once one was given a reply
-pub closes_right : (fault : Bool) (left opened : ℕ) → MatchBool fault (left ≡ opened) (left + 1 ≡ opened) → left + closes_of fault ≡ opened
-closes_right true left opened h = omega (arith, h)
-closes_right false left opened h = h
+-- how many calls are open once one was given a reply, where one was
+pub closes_right : (fault : Bool) (left opened : ℕ) → MatchBool fault (left ≡ opened) (left ≡ opened - 1) → (0 < opened) ⊎ (fault ≡ true) → left + closes_of fault ≡ opened
+closes_right true left opened h some = omega (arith, h)
+closes_right false left opened h (inl some) = omega (arith, h, some)
+closes_right false left opened h (inr fault_is) = let away : ⊥ = cc in absurd away
 
 -- Items behind the last.
 
 module _ {B : Type 0} where
+  -- the finished calls of a record that fits are few
+  pub total_fits : (calls : List (Item B)) (counted : ℕ) → counted ≡ finished calls → length calls ≤ RECORD → counted + 1 < 18446744073709551616
+  total_fits calls counted is fits = let few = finished_few calls in omega (arith, is, few, fits)
+
+  -- a record with items that end so many calls
+  pub counted_on : (calls added ys : List (Item B)) (counted more counted' : ℕ) → ys ≡ calls ++ added → counted ≡ finished calls → finished added ≡ more → counted' ≡ counted + more
+      → counted' ≡ finished ys
+  counted_on calls added ys counted more counted' is counts by after =
+      let all : finished ys ≡ finished calls + finished added = ap (λ (xs : List (Item B)). finished xs) is ∙ finished_join calls added in
+      omega (arith, all, counts, by, after)
+
+  pub fits_on : (calls added ys : List (Item B)) → ys ≡ calls ++ added → length calls + length added ≤ RECORD → length ys ≤ RECORD
+  fits_on calls added ys is few =
+      let long : length ys ≡ length calls + length added = ap (λ (zs : List (Item B)). length zs) is ∙ length-append calls added in
+      omega (arith, long, few)
+
+  -- a record to which a sealed commit was added, or nothing
+  pub sealed_counts : (calls ys : List (Item B)) (s number counted : ℕ) → (ys ≡ calls) ⊎ (ys ≡ calls ++ Sealed s number ∷ []) → counted ≡ finished calls → counted ≡ finished ys
+  sealed_counts calls ys s number counted (inl same) counts = counts ∙ ap (λ (xs : List (Item B)). finished xs) (sym same)
+  sealed_counts calls ys s number counted (inr more) counts = counted_on calls (Sealed s number ∷ []) ys counted 0 counted more counts refl (omega arith)
+
   pub two_items : (calls xs ys : List (Item B)) (s t : ℕ) (call : Call B) (r : Reply B) → xs ≡ calls ++ Asked s call ∷ [] → ys ≡ xs ++ Replied t r ∷ [] → s ≡ t
       → ys ≡ calls ++ Asked s call ∷ Replied s r ∷ []
   two_items calls xs ys s t call r first second same =
@@ -334,8 +353,3 @@ module _ {B : Type 0} where
 
   pub sealed_same : (s before after x y : ℕ) → before ≡ x → after ≡ y → items_sealed {B = B} s before after ≡ items_sealed s x y
   sealed_same s before after x y one two = ap (λ (z : ℕ). items_sealed {B = B} s z after) one ∙ ap (λ (z : ℕ). items_sealed {B = B} s x z) two
-
-  pub sealed_long : (calls ys zs : List (Item B)) → ys ≡ calls ++ zs → length calls + length zs ≤ RECORD → length ys ≤ RECORD
-  sealed_long calls ys zs is few =
-      let long : length ys ≡ length calls + length zs = ap (λ (ws : List (Item B)). length ws) is ∙ length-append calls zs in
-      omega (arith, long, few)

@@ -30,7 +30,8 @@ use Rattle.gx_events.specs.Happens.{AskRefused, Ends, AskHappens, MoveHappens, M
 use Rattle.gx_events.specs.Items.{items_moved, items_sealed, items_of}
 use Rattle.gx_events.specs.declared.event.Event.TheVariants.{Ask, Move}
 use Rattle.gx_shared.specs.Calls.{open_of, open_calls, owed_of, owed}
-use Rattle.gx_shared.specs.Books.{is_fault, replied, IsHanded}
+use Rattle.gx_events.specs.Work.{replied}
+use Rattle.gx_shared.specs.Books.{is_fault, IsHanded}
 use Rattle.gx_events.proofs.GivenUp.{given_up}
 use Rattle.gx_events.proofs.Goes.{not_less, is_less}
 

@@ -7,7 +7,7 @@ use Rattle.std.proofs.lemmas.List.Edits.{length-remove}
 use Rattle.gx_machine.specs.declared.item.Item.{Item}
 use Rattle.gx_machine.specs.declared.reply.Reply.{Reply}
 use Rattle.gx_machine.specs.Keys.{Keys}
-use Rattle.gx_machine.specs.Machine.{Machine}
+use Rattle.gx_machine.specs.Machine.{Machine, fresh_machine}
 use Rattle.gx_events.specs.declared.event.Event.{Event}
 use Rattle.gx_events.specs.declared.event.Event.TheVariants.{Ask, Move, LogStep, WritePage, CheckpointStep, Sweep}
 use Rattle.gx_events.specs.declared.outcome.Outcome.{Outcome}
@@ -16,33 +16,56 @@ use Rattle.gx_events.specs.declared.outcome.Need.TheVariants as need
 use Rattle.gx_events.specs.declared.driver.Next.{Next}
 use Rattle.gx_events.specs.declared.driver.Next.TheVariants.{Run, Done}
 use Rattle.gx_events.specs.Driven.{next_of}
-use Rattle.gx_events.specs.Happens.{Happens, WorkHappens, SyncHappens}
 use Rattle.gx_events.specs.Replay.{At}
+use Rattle.gx_events.specs.Work.{is_work, replied}
 use Rattle.gx_events.proofs.Follows.{stands_itself}
 use Rattle.gx_shared.specs.declared.record.TheConstants.{RECORD}
 use Rattle.gx_shared.specs.declared.flush.Part.{Part}
 use Rattle.gx_shared.specs.declared.flush.Part.TheVariants as part
 use Rattle.gx_shared.specs.Calls.{open_calls}
-use Rattle.gx_shared.specs.Books.{IsBook, IsHold, IsOf, is_work, replied, Applies, applied, lacks_room, finds_it_full, LacksRoom, FindsItFull}
+use Rattle.gx_shared.specs.Books.{IsBook, IsKept, IsOf, MayBeShared}
 use Rattle.gx_shared.specs.Sharing.{RefusesToGiveUp, InCall, Follows, IsCalled, flusher_event, shares_of, fresh_sessions}
 use Rattle.gx_shared.proofs.Opening.{owed_by_open}
 
+-- an engine that is seen as the machine with nothing committed may be shared by a run that starts at it
+pub fresh_may_be_shared : {B E : Type 0} (sees : E → Machine B → Type 0) (engine : E) → sees engine fresh_machine → MayBeShared sees (λ m. m ≡ fresh_machine) engine
+fresh_may_be_shared sees engine seen = record {
+  start = fresh_machine;
+  at = record { starts_here = refl; only = λ other is. is };
+  seen = seen;
+  eight = refl;
+  none_open = refl;
+}
+
 -- a book begins with an empty record
-pub begun : {B E : Type 0} (k : Keys B) (sees : E → Machine B → Type 0) (start : Machine B) (engine : E) (calls : List (Item B)) (capacity total : ℕ)
-    → sees engine start → length start.sessions ≡ 8 → open_calls start.sessions ≡ 0 → calls ≡ [] → RECORD ≤ capacity → total ≡ 0
-    → IsBook k sees start engine calls 0 capacity total
-begun {B} k sees start engine calls capacity total seen eight none empty room counted =
-    subst (λ (xs : List (Item B)). IsBook k sees start engine xs 0 capacity total) (sym empty)
+pub begun : {B E : Type 0} (k : Keys B) (granted : Type 0) (sees : E → Machine B → Type 0) (starts : Machine B → Type 0) (engine : E) (calls : List (Item B)) (capacity total : ℕ)
+    → (granted → MayBeShared sees starts engine) → calls ≡ [] → RECORD ≤ capacity → total ≡ 0
+    → IsKept k granted sees starts engine calls 0 capacity total
+begun {B} k granted sees starts engine calls capacity total may empty room counted =
+    subst (λ (xs : List (Item B)). IsKept k granted sees starts engine xs 0 capacity total) (sym empty)
     record {
-      machine = start;
-      seen = seen;
-      replays = (start, (At start, refl, refl), stands_itself start);
-      eight = eight;
-      opened_is = sym none;
       fits = omega arith;
-      owes = λ works. let few = owed_by_open start.sessions in omega (arith, few, none);
       has_capacity = room;
       counted_is = counted;
+      facts = λ grant.
+          let m = may grant in
+          let start : Machine B = m.start in
+          let none = m.none_open in
+          record {
+            start = start;
+            at = m.at;
+            book = record {
+              machine = start;
+              seen = m.seen;
+              replays = (start, (At start, refl, refl), stands_itself start);
+              eight = m.eight;
+              opened_is = sym none;
+              fits = omega arith;
+              owes = λ works. let few = owed_by_open start.sessions in omega (arith, few, none);
+              has_capacity = room;
+              counted_is = counted;
+            };
+          };
     }
 
 -- a session that finished none is as it was
@@ -53,55 +76,6 @@ same_share x n none = let e : x.1 ≡ x.1 + n = omega (arith, none) in λ i. (x.
 pub own_event : {B : Type 0} (s : ℕ) (event : Event B) → InCall s event → is_work event ≡ false → IsOf s event
 own_event s event (inl own) none = own
 own_event s event (inr work) none = let both : true ≡ false = sym work ∙ none in let no : ⊥ = cc in absurd no
-
-module _ {B : Type 0} (k : Keys B) (m n : Machine B) where
-  work_none : (o : Outcome B) → WorkHappens m o n → replied o ≡ 0
-  work_none (Replied r) h = absurd h
-  work_none More h = refl
-  work_none (Help why) h = refl
-  work_none Nothing h = refl
-  work_none (Refused why) h = refl
-
-  sync_none : (o : Outcome B) → SyncHappens k m o n → replied o ≡ 0
-  sync_none (Replied r) h = absurd h
-  sync_none More h = refl
-  sync_none (Help why) h = refl
-  sync_none Nothing h = refl
-  sync_none (Refused why) h = refl
-
-  happens_none : (event : Event B) (o : Outcome B) → is_work event ≡ true → Happens k m event o n → replied o ≡ 0
-  happens_none (Ask s call) o work h = let no : ⊥ = cc in absurd no
-  happens_none (Move s) o work h = let no : ⊥ = cc in absurd no
-  happens_none LogStep o work h = sync_none o h
-  happens_none (WritePage page) o work h = work_none o h
-  happens_none CheckpointStep o work h = sync_none o h
-  happens_none (Sweep page) o work h = work_none o h
-
-  lacks_none : (calls : List (Item B)) (event : Event B) (o : Outcome B) → is_work event ≡ true → LacksRoom calls m event o → replied o ≡ 0
-  lacks_none calls (Ask s call) o work h = let no : ⊥ = cc in absurd no
-  lacks_none calls (Move s) o work h = absurd h
-  lacks_none calls LogStep o work h = absurd h
-  lacks_none calls (WritePage page) o work h = absurd h
-  lacks_none calls CheckpointStep o work h = absurd h
-  lacks_none calls (Sweep page) o work h = absurd h
-
-  full_none : (calls : List (Item B)) (event : Event B) (o : Outcome B) → is_work event ≡ true → FindsItFull calls m event o → replied o ≡ 0
-  full_none calls (Ask s call) o work h = absurd h
-  full_none calls (Move s) o work h = let no : ⊥ = cc in absurd no
-  full_none calls LogStep o work h = absurd h
-  full_none calls (WritePage page) o work h = absurd h
-  full_none calls CheckpointStep o work h = absurd h
-  full_none calls (Sweep page) o work h = absurd h
-
-  applies_none : (calls calls' : List (Item B)) (event : Event B) (o : Outcome B) → is_work event ≡ true → Applies k calls m event o calls' n → replied o ≡ 0
-  applies_none calls calls' event o work (applied h) = happens_none event o work h.happens
-  applies_none calls calls' event o work (lacks_room h same left) = lacks_none calls event o work h
-  applies_none calls calls' event o work (finds_it_full h same left) = full_none calls event o work h
-
--- no event that is no session's replies
-pub work_replies_none : {B E : Type 0} (k : Keys B) (sees : E → Machine B → Type 0) (old new : E × List (Item B)) (event : Event B) (o : Outcome B)
-    → is_work event ≡ true → IsHold k sees old event o new → replied o ≡ 0
-work_replies_none k sees old new event o work h = applies_none k h.before h.after old.1 new.1 event o work h.applies
 
 -- what follows a hold
 pub follows_hold : {B : Type 0} (old new : ℕ × ℕ) (o : Outcome B) → new ≡ (old.0, old.1 + replied o) → RefusesToGiveUp o → Follows old (next_of old.0 o) new
@@ -141,16 +115,14 @@ taken_first xs ys x some is rest =
     let v : x.1 ≡ (get_or xs 0 x).1 = ap (λ (p : ℕ × ℕ). p.1) is in
     (omega (arith, l, length-remove xs 0 some), omega (arith, s, v, sum_by-remove (λ (p : ℕ × ℕ). p.1) xs 0 x some))
 
-module _ {B E : Type 0} (k : Keys B) (sees : E → Machine B → Type 0) where
-  -- work leaves a share as it is
-  pub share_of_work : (old new : E × List (Item B)) (event : Event B) (o told : Outcome B) (session : ℕ × ℕ)
-      → is_work event ≡ true → IsHold k sees old event o new → replied told ≡ replied o → session ≡ (session.0, session.1 + replied told)
-  share_of_work old new event o told session work h same = same_share session (replied told) (same ∙ work_replies_none k sees old new event o work h)
+-- a total that is the same
+pub kept_total : {B E : Type 0} (k : Keys B) (granted : Type 0) (sees : E → Machine B → Type 0) (starts : Machine B → Type 0) (engine : E) (calls : List (Item B)) (opened capacity total total' : ℕ)
+    → IsKept k granted sees starts engine calls opened capacity total → total' ≡ total → IsKept k granted sees starts engine calls opened capacity total'
+kept_total k granted sees starts engine calls opened capacity total total' b same = subst (IsKept k granted sees starts engine calls opened capacity) (sym same) b
 
-  -- a total that is the same
-  pub kept_total : (start : Machine B) (engine : E) (calls : List (Item B)) (opened capacity total total' : ℕ) → IsBook k sees start engine calls opened capacity total
-      → total' ≡ total → IsBook k sees start engine calls opened capacity total'
-  kept_total start engine calls opened capacity total total' b same = subst (IsBook k sees start engine calls opened capacity) (sym same) b
+-- an outcome without a reply leaves a share as it is
+pub share_of_work : {B : Type 0} (o told : Outcome B) (session : ℕ × ℕ) → replied o ≡ 0 → replied told ≡ replied o → session ≡ (session.0, session.1 + replied told)
+share_of_work o told session none same = same_share session (replied told) (same ∙ none)
 
 -- an outcome that is told replies as the one that came
 pub share_of_own : {B : Type 0} (old new : ℕ × ℕ) (o told : Outcome B) → new ≡ (old.0, old.1 + replied o) → replied told ≡ replied o

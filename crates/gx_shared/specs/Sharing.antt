@@ -10,9 +10,11 @@ use Rattle.gx_events.specs.declared.event.Event.{Event}
 use Rattle.gx_events.specs.declared.event.Event.TheVariants.{LogStep, WritePage, CheckpointStep, Sweep}
 use Rattle.gx_events.specs.declared.outcome.Outcome.{Outcome}
 use Rattle.gx_events.specs.declared.outcome.Outcome.TheVariants.{Refused}
+use Rattle.gx_events.specs.declared.engine.Events.{Ghosts}
 use Rattle.gx_events.specs.declared.driver.Next.{Next}
 use Rattle.gx_events.specs.declared.driver.Next.TheVariants.{Run, Done}
-use Rattle.gx_shared.specs.Books.{IsOf, is_work, IsHold}
+use Rattle.gx_events.specs.Work.{is_work}
+use Rattle.gx_shared.specs.Books.{IsOf, IsHold, IsWorked}
 use Rattle.gx_shared.specs.declared.flush.Part.{Part}
 use Rattle.gx_shared.specs.declared.flush.Part.TheVariants as part
 
@@ -59,9 +61,10 @@ flusher_event part.Page round used None = None
 flusher_event part.Page round used (Some page) = Some (WritePage page)
 flusher_event part.Leaf round used dirty = Some (Sweep (1 + round % used))
 
--- A flusher's part was applied: its event is one hold; or it has none, as no page may be written, and nothing changes.
-abbrev pub IsFlushed : {B E : Type 0} → Keys B → (E → Machine B → Type 0) → Part → ℕ → E × List (Item B) → Option (Outcome B) → E × List (Item B) → Type 0
-IsFlushed {B} k sees which round old None new = (which ≡ part.Page) × (new ≡ old)
-IsFlushed {B} k sees which round old (Some outcome) new =
-    (used : ℕ) × (dirty : Option ℕ) × (event : Event B) × (0 < used) × (flusher_event which round used dirty ≡ Some event)
-    × IsHold k sees old event outcome new × (new.1 ≡ old.1)
+-- A flusher's part was applied: its event, by how many pages the engine takes and which may be written, is one hold; or it has none, as no page may
+-- be written, and nothing changes.
+abbrev pub IsFlushed : {B E : Type 0} → Keys B → Ghosts E B → Part → ℕ → E × List (Item B) → Option (Outcome B) → E × List (Item B) → Type 0
+IsFlushed k engine which round old None new = (which ≡ part.Page) × engine.dirties old.0 None × (new ≡ old)
+IsFlushed {B} k engine which round old (Some outcome) new =
+    (dirty : Option ℕ) × (event : Event B) × engine.dirties old.0 dirty × (flusher_event which round (engine.uses old.0) dirty ≡ Some event)
+    × IsWorked k engine old event outcome new

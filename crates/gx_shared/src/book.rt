@@ -1,9 +1,10 @@
 //! What lies under the lock.
-ghost use Rattle.std.specs.Prelude.{◌≡◌, ℕ, ◌⊎◌, ◌+◌, ◌*◌, ◌<◌, ◌≤◌, ◌^◌, ◌++◌, ◌∷◌, [], true, MatchBool, MatchResult, vec_len, vec_capacity};
+ghost use Rattle.std.specs.Prelude.{◌≡◌, ℕ, ◌+◌, ◌-◌, ◌*◌, ◌<◌, ◌≤◌, ◌^◌, ◌++◌, ◌∷◌, [], true, MatchBool, MatchResult, vec_len, vec_capacity};
 ghost use Rattle.gx_machine.specs.declared.item.Item.TheVariants as item;
 ghost use Rattle.gx_events.specs.declared.outcome.Outcome.TheVariants as outcome;
 ghost use Rattle.gx_machine.specs.declared.reply.Reply.TheVariants as reply;
-ghost use Rattle.gx_shared.specs.Books.{IsHanded, is_fault, is_work, replied};
+ghost use Rattle.gx_events.specs.Work.{is_work, replied};
+ghost use Rattle.gx_shared.specs.Books.{IsHanded, is_fault};
 ghost use Rattle.gx_shared.specs.Sharing.{gives_up, RefusesToGiveUp};
 ghost use Rattle.gx_shared.specs.declared.record.TheConstants.{RECORD};
 
@@ -98,22 +99,21 @@ fn is_work<B: Shape>(event: &Event<B>) -> bool
     }
 }
 
-/// How many calls are open once one was given this reply: one less, unless a fault leaves it open.
+/// How many calls are open once one was given this reply: one less, unless a fault leaves it open or there was none.
 fn open_after<B: Shape>(reply: &Reply<B>, opened: u64) -> u64
-    requires { 0 < opened ⊎ (is_fault reply.now ≡ true) }
-    ensures { MatchBool (is_fault reply.now) (result ≡ opened) (result + 1 ≡ opened) }
+    ensures { MatchBool (is_fault reply.now) (result ≡ opened) (result ≡ opened - 1) }
 {
     match reply {
         Reply::Refused(Refusal::Device) => opened,
         Reply::Refused(Refusal::Failed) => opened,
-        _ => opened - 1,
+        _ => opened.saturating_sub(1),
     }
 }
 
 /// An engine, and the record of all that its sessions asked and were replied. Contracts see it as both.
 ///
-/// Whenever it is looked at, its record replays, from the machine that the run names, as the machine that the engine is seen
-/// as, and the ledger's total is the number of replies in the record.
+/// Whenever it is looked at, the ledger's total is the number of replies in the record. Where what has to be granted of the engine is
+/// granted, the record replays, from the machine that the run names, as the machine that the engine is seen as.
 #[derive(Drop)]
 pub struct Book<B: Shape, E: Events<B>, R: Run<B>> {
     engine: E,
@@ -126,32 +126,28 @@ impl<B: Shape, E: Events<B>, R: Run<B>> Model for Book<B, E, R> {
     ghost use Rattle.std.specs.Prelude.{List, vec_capacity};
     ghost use Rattle.gx_machine.specs.declared.item.Item.{Item};
     ghost use Rattle.gx_machine.specs.Keys.{keys};
-    ghost use Rattle.gx_shared.specs.Books.{IsBook};
+    ghost use Rattle.gx_shared.specs.Books.{IsKept};
 
     ghost Value = { E × List (Item B) };
 
     ghost view = { λ b. (b.engine, b.calls.items) };
 
-    ghost invariant = { λ b. IsBook (keys B.cmp B.overlap B.inside) E.sees R.start b.engine b.calls.items b.opened (vec_capacity b.calls) b.tally.total };
+    ghost invariant = { λ b. IsKept (keys B.cmp B.overlap B.inside) E.granted E.sees R.starts b.engine b.calls.items b.opened (vec_capacity b.calls) b.tally.total };
 }
 
 impl<B: Shape, E: Events<B>, R: Run<B>> Book<B, E, R> {
     ghost use Rattle.std.specs.Prelude.{length, IfOk, IfErr, MatchOption};
-    ghost use Rattle.gx_machine.specs.declared.limits.TheConstants.{SESSIONS};
     ghost use Rattle.gx_machine.specs.Keys.{keys_of};
     ghost use Rattle.gx_events.specs.Items.{finished};
-    ghost use Rattle.gx_shared.specs.Calls.{open_calls};
     ghost use Rattle.gx_shared.specs.Sharing.{InCall, IsFlushed};
     ghost use Rattle.gx_events.specs.declared.event.Event.TheVariants.{Ask, Move};
     ghost use Rattle.gx_shared.specs.Agreed.{replies_of};
-    ghost use Rattle.gx_shared.specs.Books.{Stands, is_work, IsOf, IsHold};
+    ghost use Rattle.gx_shared.specs.Books.{MayBeShared, Stands, IsOf, IsHold, IsMade, IsWorked};
 
     /// A book over an engine, with nothing recorded. It takes all room of the record; without that the engine comes back.
     #[tactic(auto, using(crate::proofs::Sharing::begun))]
     pub(crate) fn new(alloc: Global, tally: Tally<R>, engine: E) -> Result<Self, E>
-        requires seen { E.sees engine R.start }
-        requires sessions { length R.start.sessions ≡ SESSIONS }
-        requires none_open { open_calls R.start.sessions ≡ 0 }
+        requires starts { E.granted → MayBeShared E.sees R.starts engine }
         requires none_finished { tally.total ≡ 0 }
         ensures made { IfOk result (λ book. book ≡ (engine, [])) }
         ensures back { IfErr result (λ back. back ≡ engine) }
@@ -174,6 +170,13 @@ impl<B: Shape, E: Events<B>, R: Run<B>> Book<B, E, R> {
         self.calls.as_slice()
     }
 
+    /// The engine, as the holds left it; the record is gone.
+    pub fn into_engine(self) -> E
+        ensures { result ≡ self.0 }
+    {
+        self.engine
+    }
+
     /// The engine.
     pub fn engine(&self) -> &E
         ensures { result.now ≡ self.now.0 }
@@ -190,26 +193,28 @@ impl<B: Shape, E: Events<B>, R: Run<B>> Book<B, E, R> {
         self.tally.audit(share);
     }
 
-    /// What a book keeps: its record replays, from the machine that the run names, as the machine that its engine is seen as.
+    /// What a book keeps, where what has to be granted of the engine is granted: its record replays, from the machine that the run names,
+    /// as the machine that its engine is seen as.
     pub fn stands(&self)
-        ensures { Stands (keys_of B.Shape) E.sees R.start self.now.0 self.now.1 }
+        ensures { E.granted → Stands (keys_of B.Shape) E.sees R.starts self.now.0 self.now.1 }
     {
         let _ = &self.engine;
     }
 
-    /// Applies an event that is no session's, of the log, of a page or of a checkpoint. The outcome is the engine's, and
-    /// nothing is recorded.
+    /// Applies an event that is no session's, of the log, of a page or of a checkpoint: the engine makes it, once. The outcome is the
+    /// engine's, which is no reply, and nothing is recorded.
     pub fn apply(&mut self, event: Event<B>) -> Outcome<B>
         requires { is_work event ≡ true }
-        ensures hold { IsHold (keys_of B.Shape) E.sees self.old event result self.new }
-        ensures calls { self.new.1 ≡ self.old.1 }
+        ensures worked { IsWorked (keys_of B.Shape) E.Events self.old event result self.new }
+        ensures quiet { replied result ≡ 0 }
     {
         self.engine.step(event)
     }
 
     /// Asks a call of the session, where there is room for it.
     fn ask(&mut self, session: &mut Session<R>, call: Call<B>) -> Outcome<B>
-        ensures hold { IsHold (keys_of B.Shape) E.sees self.old (Ask session.old.0 call) result self.new }
+        ensures hold { E.granted → IsHold (keys_of B.Shape) E.sees self.old (Ask session.old.0 call) result self.new }
+        ensures made { IsMade E.makes self.old (Ask session.old.0 call) result self.new }
         ensures share { session.new ≡ (session.old.0, session.old.1 + replied result) }
     {
         let number = session.number();
@@ -232,7 +237,8 @@ impl<B: Shape, E: Events<B>, R: Run<B>> Book<B, E, R> {
 
     /// Goes on with the session's call.
     fn go_on(&mut self, session: &mut Session<R>) -> Outcome<B>
-        ensures hold { IsHold (keys_of B.Shape) E.sees self.old (Move session.old.0) result self.new }
+        ensures hold { E.granted → IsHold (keys_of B.Shape) E.sees self.old (Move session.old.0) result self.new }
+        ensures made { IsMade E.makes self.old (Move session.old.0) result self.new }
         ensures share { session.new ≡ (session.old.0, session.old.1 + replied result) }
     {
         let number = session.number();
@@ -254,16 +260,17 @@ impl<B: Shape, E: Events<B>, R: Run<B>> Book<B, E, R> {
         }
     }
 
-    /// Applies an event of the session, an ask or a move, in one hold of the lock. The outcome is the engine's, and what it
-    /// adds is recorded: the call that is asked, the number under which a commit is sealed, the reply that ends a call. The
-    /// session's share rises by one where a reply is recorded, and in no other case.
+    /// Applies an event of the session, an ask or a move, in one hold of the lock: the engine makes it, once. The outcome is the engine's,
+    /// and what it adds is recorded: the call that is asked, the number under which a commit is sealed, the reply that ends a call. A
+    /// reply that is handed out is the item that was recorded. The session's share rises by one where a reply is recorded, and in no other case.
     ///
     /// An ask is refused with `HistoryFull`, neither applied nor recorded, unless three items for it and for each open call
     /// still fit. What a search found becomes `Memory`, here and in the record, where its copy is refused memory. The reply of
     /// an engine that a fault has ended, to a call that it has refused before, is `Refused(Failed)` once the record is full.
     pub fn apply_for(&mut self, session: &mut Session<R>, event: Event<B>) -> Outcome<B>
         requires { IsOf session.old.0 event }
-        ensures hold { IsHold (keys_of B.Shape) E.sees self.old event result self.new }
+        ensures hold { E.granted → IsHold (keys_of B.Shape) E.sees self.old event result self.new }
+        ensures made { IsMade E.makes self.old event result self.new }
         ensures share { session.new ≡ (session.old.0, session.old.1 + replied result) }
     {
         match event {
@@ -290,7 +297,7 @@ impl<B: Shape, E: Events<B>, R: Run<B>> Book<B, E, R> {
     /// Applies the event of a flusher's part in a round, where it has one.
     #[tactic(auto, using(crate::proofs::Sharing::flusher_works, crate::proofs::Sharing::only_pages_lack))]
     pub(crate) fn flush(&mut self, part: Part, round: u64) -> Option<Outcome<B>>
-        ensures flushed { IsFlushed (keys_of B.Shape) E.sees part round self.old result self.new }
+        ensures flushed { IsFlushed (keys_of B.Shape) E.Events part round self.old result self.new }
     {
         match flusher_event(part, round, self.engine.used(), self.engine.dirty()) {
             Some(event) => Some(self.apply(event)),

@@ -1,4 +1,5 @@
 //! What a run of sessions is named by.
+ghost use Rattle.std.specs.Prelude.{◌≡◌};
 ghost use Rattle.gx_machine.specs.Machine.{Machine, fresh_machine};
 
 use std::marker::Brand;
@@ -6,10 +7,10 @@ use std::sync::ledger::Ledger;
 
 /// Names the ledger of finished calls, and the machine that the engine was seen as when its sessions were made.
 pub trait Run<B>: Ledger {
-    /// The machine at the start.
-    ghost start: { Machine B };
+    /// Whether this is the machine at the start.
+    ghost starts: { Machine B → Type 0 };
 }
 
 impl<B> Run<B> for Brand {
-    ghost start = { fresh_machine };
+    ghost starts = { λ m. m ≡ fresh_machine };
 }

@@ -50,10 +50,11 @@ pub struct Shared<B: Shape, E: Events<B>, R: Run<B>> {
 impl<B: Shape, E: Events<B>, R: Run<B>> Shared<B, E, R> {
     ghost use Rattle.std.specs.Prelude.{◌≤◌, IfErr};
     ghost use Rattle.gx_events.specs.Items.{finished};
-    ghost use Rattle.gx_shared.specs.Calls.{open_calls};
+    ghost use Rattle.gx_shared.specs.Books.{MayBeShared};
 
     /// Puts an engine under a lock, with an empty record, and makes its eight sessions, of which none has a call finished. The
-    /// blank is that of the run's ledger, in eight parts; the engine is seen as the run's machine, in which no call is open.
+    /// blank is that of the run's ledger, in eight parts. Where what has to be granted of the engine is granted, it is seen as the run's
+    /// machine, in which no call is open.
     ///
     /// It takes all room that the record will need, 65,536 items. Without that memory it answers `Memory`, and the engine comes
     /// back; the blank is spent.
@@ -64,9 +65,7 @@ impl<B: Shape, E: Events<B>, R: Run<B>> Shared<B, E, R> {
     ) -> Result<(Self, Vec<Session<R>>), (Refusal, E)>
         requires name { blank.name ≡ R.name }
         requires parts { (blank.parts ≡ R.parts) × (R.parts ≡ SESSIONS) }
-        requires seen { E.sees engine R.start }
-        requires eight { length R.start.sessions ≡ SESSIONS }
-        requires none_open { open_calls R.start.sessions ≡ 0 }
+        requires starts { E.granted → MayBeShared E.sees R.starts engine }
         ensures sessions { IfOk result (λ made. made.1.items ≡ fresh_sessions SESSIONS) }
         ensures memory { IfErr result (λ refused. (refused.0 ≡ Refusal.Memory) × (refused.1 ≡ engine)) }
     {

@@ -1,7 +1,7 @@
 //! A session with the replies that it was handed.
 ghost use Rattle.std.specs.Prelude.{◌≡◌};
 ghost use Rattle.gx_machine.specs.declared.limits.TheConstants.{SESSIONS};
-ghost use Rattle.gx_machine.specs.Machine.{fresh_machine};
+ghost use Rattle.gx_shared.specs.Books.{MayBeShared};
 
 use gx_events::Events;
 use gx_geom::Box2;
@@ -105,8 +105,7 @@ pub fn start<E: Events<Box2> + Drop, R: Run<Box2>>(
 ) -> Result<(Shared<Box2, E, R>, Vec<Session<R>>), Fail>
     requires name { blank.name ≡ R.name }
     requires parts { (blank.parts ≡ R.parts) × (R.parts ≡ SESSIONS) }
-    requires fresh { R.start ≡ fresh_machine }
-    requires seen { E.sees engine fresh_machine }
+    requires starts { E.granted → MayBeShared E.sees R.starts engine }
 {
     match Shared::new(alloc, blank, engine) {
         Ok(made) => Ok(made),

@@ -1,7 +1,7 @@
 //! Sessions in threads.
 ghost use Rattle.std.specs.Prelude.{◌≡◌};
 ghost use Rattle.gx_machine.specs.declared.limits.TheConstants.{SESSIONS};
-ghost use Rattle.gx_machine.specs.Machine.{fresh_machine};
+ghost use Rattle.gx_shared.specs.Books.{MayBeShared};
 
 use crate::callers::{Caller, at, back, entry, next_caller, overlap, start, wanted};
 use crate::draws::draws;
@@ -95,8 +95,7 @@ pub fn first_hold<
 >(rt: &W, alloc: Global, blank: Blank, engine: E) -> Result<(), Fail>
     requires name { blank.name ≡ R.name }
     requires parts { (blank.parts ≡ R.parts) × (R.parts ≡ SESSIONS) }
-    requires fresh { R.start ≡ fresh_machine }
-    requires seen { E.sees engine fresh_machine }
+    requires starts { E.granted → MayBeShared E.sees R.starts engine }
 {
     let (shared, mut sessions) = start::<E, R>(alloc, blank, engine)?;
     let hold = Hold::new(1);
@@ -135,8 +134,7 @@ pub fn flusher_hold<
 >(rt: &W, alloc: Global, blank: Blank, engine: E) -> Result<(), Fail>
     requires name { blank.name ≡ R.name }
     requires parts { (blank.parts ≡ R.parts) × (R.parts ≡ SESSIONS) }
-    requires fresh { R.start ≡ fresh_machine }
-    requires seen { E.sees engine fresh_machine }
+    requires starts { E.granted → MayBeShared E.sees R.starts engine }
 {
     let (shared, mut sessions) = start::<E, R>(alloc, blank, engine)?;
     let hold = Hold::new(2);
@@ -249,8 +247,7 @@ pub fn search_hold<
 >(rt: &W, alloc: Global, blank: Blank, engine: E, events: u64) -> Result<(), Fail>
     requires name { blank.name ≡ R.name }
     requires parts { (blank.parts ≡ R.parts) × (R.parts ≡ SESSIONS) }
-    requires fresh { R.start ≡ fresh_machine }
-    requires seen { E.sees engine fresh_machine }
+    requires starts { E.granted → MayBeShared E.sees R.starts engine }
 {
     let (shared, mut sessions) = start::<E, R>(alloc, blank, engine)?;
     let hold = Hold::new(2);
@@ -297,8 +294,7 @@ pub fn pairing<E: Events<Box2> + Drop + Send, R: Run<Box2> + Send + Sync, W: Thr
 ) -> Result<(), Fail>
     requires name { blank.name ≡ R.name }
     requires parts { (blank.parts ≡ R.parts) × (R.parts ≡ SESSIONS) }
-    requires fresh { R.start ≡ fresh_machine }
-    requires seen { E.sees engine fresh_machine }
+    requires starts { E.granted → MayBeShared E.sees R.starts engine }
 {
     let (shared, mut sessions) = start::<E, R>(alloc, blank, engine)?;
     let one = next_caller(alloc, &mut sessions)?;
@@ -328,8 +324,7 @@ pub fn empty<E: Events<Box2> + Drop, R: Run<Box2>>(
 ) -> Result<(), Fail>
     requires name { blank.name ≡ R.name }
     requires parts { (blank.parts ≡ R.parts) × (R.parts ≡ SESSIONS) }
-    requires fresh { R.start ≡ fresh_machine }
-    requires seen { E.sees engine fresh_machine }
+    requires starts { E.granted → MayBeShared E.sees R.starts engine }
 {
     let (shared, sessions) = start::<E, R>(alloc, blank, engine)?;
     let none = sessions.iter().all(|session| session.share() == 0);

@@ -4,6 +4,7 @@
 
 pub mod callers;
 pub mod draws;
+pub mod flushed;
 pub mod held;
 pub mod holds;
 mod replayed;

@@ -1,7 +1,7 @@
 //! Sessions in threads, replayed by the plain index.
 ghost use Rattle.std.specs.Prelude.{◌≡◌};
 ghost use Rattle.gx_machine.specs.declared.limits.TheConstants.{SESSIONS};
-ghost use Rattle.gx_machine.specs.Machine.{fresh_machine};
+ghost use Rattle.gx_shared.specs.Books.{MayBeShared};
 
 use crate::callers::{Caller, back, next_caller, start, wanted};
 use crate::draws::draws;
@@ -91,8 +91,7 @@ pub fn seeded<E: Events<Box2> + Drop + Send, R: Run<Box2> + Send + Sync, W: Thre
 ) -> Result<(), Fail>
     requires name { blank.name ≡ R.name }
     requires parts { (blank.parts ≡ R.parts) × (R.parts ≡ SESSIONS) }
-    requires fresh { R.start ≡ fresh_machine }
-    requires seen { E.sees engine fresh_machine }
+    requires starts { E.granted → MayBeShared E.sees R.starts engine }
 {
     let (shared, mut sessions) = start::<E, R>(alloc, blank, engine)?;
     let one = next_caller(alloc, &mut sessions)?;

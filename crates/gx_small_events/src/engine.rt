@@ -37,17 +37,29 @@ impl<B: Shape> SmallEvents<B> {
 }
 
 impl<B: Shape> Events<B> for SmallEvents<B> {
+    ghost use Rattle.std.specs.Prelude.{None, true};
     ghost use Rattle.gx_machine.specs.Keys.{keys, keys_of};
     ghost use Rattle.gx_machine.specs.Machine.{Machine};
     ghost use Rattle.gx_events.specs.Happens.{Happens};
+    ghost use Rattle.gx_events.specs.Work.{is_work, replied};
     ghost use Rattle.gx_engine_laws.proofs.Views.{one_machine};
     ghost use Rattle.gx_small_engine.specs.States.{engine_of};
-    ghost use Rattle.gx_small_events.specs.Leads.{Sees};
+    ghost use Rattle.gx_small_events.specs.Leads.{Leads, Sees};
+
+    ghost granted = { Unit {0} };
+
+    ghost makes = { λ old event outcome new. Leads (keys B.cmp B.overlap B.inside) old event outcome new };
+
+    ghost uses = { λ e. 1 };
+
+    ghost dirties = { λ e page. page ≡ None };
 
     ghost sees = { λ e m. Sees (keys B.cmp B.overlap B.inside) e m };
 
     fn step(&mut self, event: Event<B>) -> Outcome<B>
-        ensures { (m : Machine B) → Sees (keys_of B.Shape) self.old m → (n : Machine B) × Happens (keys_of B.Shape) m event result n × Sees (keys_of B.Shape) self.new n }
+        ensures happens { (m : Machine B) → Sees (keys_of B.Shape) self.old m → (n : Machine B) × Happens (keys_of B.Shape) m event result n × Sees (keys_of B.Shape) self.new n }
+        ensures made { Leads (keys_of B.Shape) self.old event result self.new }
+        ensures quiet { is_work event ≡ true → replied result ≡ 0 }
     {
         run(&mut self.engine, event)
     }

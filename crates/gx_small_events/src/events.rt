@@ -1,8 +1,9 @@
 //! Events of a small engine.
-ghost use Rattle.std.specs.Prelude.{◌≡◌};
+ghost use Rattle.std.specs.Prelude.{◌≡◌, true};
 ghost use Rattle.gx_machine.specs.Machine.{is_session};
 ghost use Rattle.gx_events.specs.declared.event.Event.TheVariants as event;
 ghost use Rattle.gx_machine.specs.Keys.{keys_of};
+ghost use Rattle.gx_events.specs.Work.{is_work, replied};
 ghost use Rattle.gx_small_events.specs.Leads.{Leads};
 
 use gx_events::{Event, Need, Outcome};
@@ -54,7 +55,8 @@ fn go_on<B: Shape>(engine: &mut SmallEngine<B>, session: u8) -> Outcome<B>
 
 /// A step of the log: all sealed commits become durable, where there are some.
 fn log_step<B: Shape>(engine: &mut SmallEngine<B>) -> Outcome<B>
-    ensures { Leads (keys_of B.Shape) engine.old event.LogStep result engine.new }
+    ensures leads { Leads (keys_of B.Shape) engine.old event.LogStep result engine.new }
+    ensures quiet { replied result ≡ 0 }
 {
     if engine.commits() == engine.durable() {
         return Outcome::Nothing;
@@ -66,7 +68,8 @@ fn log_step<B: Shape>(engine: &mut SmallEngine<B>) -> Outcome<B>
 
 /// A sweep of a page.
 fn sweep<B: Shape>(engine: &mut SmallEngine<B>, page: u32) -> Outcome<B>
-    ensures { Leads (keys_of B.Shape) engine.old (event.Sweep page) result engine.new }
+    ensures leads { Leads (keys_of B.Shape) engine.old (event.Sweep page) result engine.new }
+    ensures quiet { replied result ≡ 0 }
 {
     if page != PAGE {
         return Outcome::Nothing;
@@ -78,7 +81,8 @@ fn sweep<B: Shape>(engine: &mut SmallEngine<B>, page: u32) -> Outcome<B>
 
 /// One event.
 pub(crate) fn run<B: Shape>(engine: &mut SmallEngine<B>, event: Event<B>) -> Outcome<B>
-    ensures { Leads (keys_of B.Shape) engine.old event result engine.new }
+    ensures leads { Leads (keys_of B.Shape) engine.old event result engine.new }
+    ensures quiet { is_work event ≡ true → replied result ≡ 0 }
 {
     match event {
         Event::Ask(session, call) => ask(engine, session, call),

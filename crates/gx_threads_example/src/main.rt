@@ -1,76 +1,29 @@
-//! Threads insert, search and commit over one index, on a device in memory. Each has a session of its own, and rows of its own.
+//! Threads over one index in a file, as a service has them: the index is opened, shared by threads, closed, settled, and opened again.
 //!
-//! A line of `stdin` has two numbers: how many threads there are, 1 to 8, and how many transactions each makes. Once the threads have been
-//! joined, the program prints what the record says of each session, how many calls were finished in all, and how many commits there are:
-//! the same in whatever order the threads came.
+//! A line of `stdin` has two numbers: how many threads there are, 1 to 8, and how many transactions each makes. Behind them a file may be
+//! named; an index is made in it, and what it held is lost. Without a file the device is one in memory.
 //!
-//! Behind the numbers a file may be named. Then every write and sync of the device goes to that file too, and what it held is lost.
+//! The program prints what the record says of each session, how many calls were finished in all, how many commits there are, and how many
+//! entries the index has once it is opened again: the same in whatever order the threads came.
 #![tactic(auto)]
 
-ghost use Rattle.std.specs.Prelude.{◌≡◌, true, IfOk};
-ghost use Rattle.gx_machine.specs.Machine.{fresh_machine};
-
-mod mirrored;
-mod run;
+mod index;
+mod share;
 mod trouble;
 mod work;
 
-use gx_class::Box2Class;
 use gx_disk::{FileDisk, MemDisk, SectorDisk};
-use gx_engine_events::EngineEvents;
-use gx_events::Events;
 use gx_format::sectors_for;
-use gx_geom::Box2;
-use gx_new_index::new_index;
-use mirrored::Mirrored;
-use run::run;
+use index::{count, make, open_index, settle};
+use share::share;
 use std::alloc::Global;
 use std::fs::{File, Files};
-use std::marker::Brand;
-use std::process::ExitCode;
 use std::sync::Wait;
-use std::sync::ledger::Blank;
 use std::thread::Threads;
 use trouble::Trouble;
 
 /// How many pages the device has.
 const PAGES: u32 = 4096;
-
-/// A new index with eight entries in a node at most and 64 frames, on a device that keeps what it is told.
-fn fresh<D: SectorDisk + Drop>(
-    alloc: Global,
-    disk: D,
-) -> Result<EngineEvents<D, Box2Class>, Trouble>
-    requires { (D.state disk).honest ≡ true }
-    ensures { IfOk result (λ engine. ⟦<EngineEvents<D, Box2Class> as Events<Box2>>⟧.sees engine fresh_machine) }
-{
-    match new_index::<D, Box2Class>(alloc, disk, PAGES, 8, 64) {
-        Ok(engine) => Ok(engine),
-        Err(_) => Err(Trouble::NoIndex),
-    }
-}
-
-/// A device in memory for an index of so many pages.
-fn memory(alloc: Global) -> Result<MemDisk, Trouble> {
-    let Ok(sectors) = usize::try_from(sectors_for(PAGES)) else {
-        return Err(Trouble::Memory);
-    };
-    Ok(MemDisk::new(alloc, sectors)?)
-}
-
-/// The same, with a file as its mirror.
-fn with_file<W: Files<File = File>>(
-    rt: &W,
-    disk: MemDisk,
-    file: &str,
-) -> Result<Mirrored<MemDisk, FileDisk>, Trouble>
-    ensures { IfOk result (λ disk. (⟦<Mirrored<MemDisk, FileDisk> as SectorDisk>⟧.state disk).honest ≡ true) }
-{
-    match FileDisk::create(rt, file, disk.sectors()) {
-        Ok(file) => Ok(Mirrored::new(disk, file)),
-        Err(_) => Err(Trouble::File),
-    }
-}
 
 /// What a line wants.
 #[derive(Clone, Copy)]
@@ -99,24 +52,20 @@ fn read_line(line: &str) -> Result<Wanted<'_>, Trouble> {
     }
 }
 
-/// Makes an index on a device, and runs the threads over it.
-fn run_over<D: SectorDisk + Drop + Send, W: Threads + Wait + Sync + Print>(
+/// Makes an index on a device, opens it, has the threads work on it, settles it, and opens it again.
+fn serve<D: SectorDisk + Drop + Send, W: Threads + Wait + Sync + Print>(
     rt: &W,
     alloc: Global,
     disk: D,
     wanted: &Wanted<'_>,
-) -> Result<(), Trouble>
-    requires { (D.state disk).honest ≡ true }
-{
-    let engine = fresh(alloc, disk)?;
-    run::<_, Brand, _>(
-        rt,
-        alloc,
-        Blank::new(8),
-        engine,
-        wanted.threads,
-        wanted.transactions,
-    )
+) -> Result<(), Trouble> {
+    let disk = make(alloc, disk, PAGES)?;
+    let engine = open_index(alloc, disk)?;
+    let engine = share(rt, alloc, engine, wanted.threads, wanted.transactions)?;
+    let disk = settle(engine)?;
+    let entries = count(alloc, disk)?;
+    println!(rt; "opened again: {entries} entries")?;
+    Ok(())
 }
 
 /// Does what a line says.
@@ -126,10 +75,10 @@ fn run_line<W: Threads + Wait + Sync + Print + Files<File = File>>(
     line: &str,
 ) -> Result<(), Trouble> {
     let wanted = read_line(line)?;
-    let disk = memory(alloc)?;
+    let sectors = sectors_for(PAGES);
     match wanted.file {
-        Some(file) => run_over(rt, alloc, with_file(rt, disk, file)?, &wanted),
-        None => run_over(rt, alloc, disk, &wanted),
+        Some(file) => serve(rt, alloc, FileDisk::create(rt, file, sectors)?, &wanted),
+        None => serve(rt, alloc, MemDisk::new(alloc, sectors as usize)?, &wanted),
     }
 }
 
@@ -144,13 +93,6 @@ fn run_lines<W: Threads + Wait + Sync + Print + Input + Files<File = File>>(
     Ok(())
 }
 
-fn main(rt: HostRuntime) -> ExitCode {
-    match run_lines(&rt, rt.alloc()) {
-        Ok(()) => ExitCode::SUCCESS,
-        Err(trouble) => {
-            let text = trouble.text();
-            let _ = eprintln!(rt; "{text}");
-            ExitCode::FAILURE
-        }
-    }
+fn main(rt: HostRuntime) -> Result<(), Trouble> {
+    run_lines(&rt, rt.alloc())
 }

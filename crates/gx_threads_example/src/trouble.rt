@@ -1,4 +1,6 @@
 //! What ends the program early.
+use gx_disk::DiskFault;
+use gx_geom::Refusal;
 use std::alloc::{AllocError, AllocFailed};
 use std::io;
 
@@ -9,25 +11,23 @@ pub(crate) enum Trouble {
     BadLine,
     /// The file can't be opened, or another program has it.
     File,
-    /// No index can be made on the device.
-    NoIndex,
+    /// The index can't be made, opened or settled, or refuses a call.
+    Index,
     /// Memory lacks.
     Memory,
     /// A line can't be read or written.
     Stream,
 }
 
-impl Trouble {
-    /// A text for it.
-    pub(crate) fn text(self) -> &'static str {
-        match self {
-            Trouble::BadLine =>
-                "a line wants two numbers, 1 to 8 threads and transactions, and may name a file behind them",
-            Trouble::File => "the file can't be opened, or another program has it",
-            Trouble::NoIndex => "no index can be made on the device",
-            Trouble::Memory => "memory lacks",
-            Trouble::Stream => "a line can't be read or written",
-        }
+impl From<DiskFault> for Trouble {
+    fn from(_fault: DiskFault) -> Trouble {
+        Trouble::File
+    }
+}
+
+impl From<Refusal> for Trouble {
+    fn from(_why: Refusal) -> Trouble {
+        Trouble::Index
     }
 }
 

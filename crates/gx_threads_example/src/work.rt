@@ -14,6 +14,14 @@ pub(crate) struct Worker<R: Ledger> {
     pub(crate) replies: Vec<Reply<Box2>>,
 }
 
+/// The box between two corners, which are in order.
+fn between(x1: i32, y1: i32, x2: i32, y2: i32) -> Box2 {
+    match Box2::new(x1, y1, x2, y2) {
+        Ok(key) => key,
+        Err(_) => Box2::point(x1, y1),
+    }
+}
+
 impl<R: Ledger> Worker<R> {
     /// A session that was handed none.
     pub(crate) fn new(alloc: Global, session: Session<R>) -> Self {
@@ -40,55 +48,44 @@ impl<R: Ledger> Worker<R> {
         }
         Ok(())
     }
-}
 
-/// A box one wide and one high, in a strip that this session alone uses: one for each insert of each transaction.
-fn place(session: u8, turn: u16, insert: u8) -> Box2 {
-    let x = i32::from(turn) * 100 + i32::from(insert) * 10;
-    let y = i32::from(session) * 100;
-    match Box2::new(x, y, x + 1, y + 1) {
-        Ok(key) => key,
-        Err(_) => Box2::point(x, y),
+    /// A transaction in a strip that this session alone uses: three inserts, a search of what it has inserted first, and a commit.
+    fn transact<E: Events<Box2>, W: Wait>(
+        &mut self,
+        rt: &W,
+        shared: &Shared<Box2, E, R>,
+        turn: u16,
+    ) -> Result<(), AllocError>
+    where
+        R: Run<Box2>,
+    {
+        let row = u64::from(self.session.number());
+        let y = i32::from(self.session.number()) * 100;
+        self.call(rt, shared, Call::Begin)?;
+        for insert in 0..3u8 {
+            let x = i32::from(turn) * 100 + i32::from(insert) * 10;
+            let key = between(x, y, x + 1, y + 1);
+            self.call(rt, shared, Call::Insert(Entry { row, key }))?;
+        }
+        let strip = Query::Overlap(between(0, y, 1000, y + 1));
+        self.call(rt, shared, Call::Search(strip))?;
+        self.call(rt, shared, Call::Commit)
     }
-}
 
-/// The beginning of the session's strip.
-fn strip(session: u8) -> Box2 {
-    let y = i32::from(session) * 100;
-    match Box2::new(0, y, 1000, y + 1) {
-        Ok(key) => key,
-        Err(_) => Box2::point(0, y),
+    /// Transactions, one after another.
+    pub(crate) fn work<E: Events<Box2>, W: Wait>(
+        self,
+        rt: &W,
+        shared: &Shared<Box2, E, R>,
+        transactions: u16,
+    ) -> Result<Self, AllocError>
+    where
+        R: Run<Box2>,
+    {
+        let mut worker = self;
+        for turn in 0..transactions {
+            worker.transact(rt, shared, turn)?;
+        }
+        Ok(worker)
     }
-}
-
-/// A transaction: three inserts, a search of what the session has inserted first, and a commit.
-fn transact<E: Events<Box2>, R: Run<Box2>, W: Wait>(
-    rt: &W,
-    shared: &Shared<Box2, E, R>,
-    worker: &mut Worker<R>,
-    turn: u16,
-) -> Result<(), AllocError> {
-    let session = worker.session.number();
-    worker.call(rt, shared, Call::Begin)?;
-    for insert in 0..3 {
-        let row = u64::from(session);
-        let key = place(session, turn, insert);
-        worker.call(rt, shared, Call::Insert(Entry { row, key }))?;
-    }
-    worker.call(rt, shared, Call::Search(Query::Overlap(strip(session))))?;
-    worker.call(rt, shared, Call::Commit)
-}
-
-/// Transactions, one after another.
-pub(crate) fn work<E: Events<Box2>, R: Run<Box2>, W: Wait>(
-    rt: &W,
-    shared: &Shared<Box2, E, R>,
-    worker: Worker<R>,
-    transactions: u16,
-) -> Result<Worker<R>, AllocError> {
-    let mut worker = worker;
-    for turn in 0..transactions {
-        transact(rt, shared, &mut worker, turn)?;
-    }
-    Ok(worker)
 }

@@ -1,7 +1,7 @@
 //! A new index on a device in memory.
-ghost use Rattle.std.specs.Prelude.{IfOk};
+ghost use Rattle.std.specs.Prelude.{◌≡◌, IfOk};
 ghost use Rattle.gx_machine.specs.Machine.{fresh_machine};
-ghost use Rattle.gx_events.specs.declared.engine.Events as events;
+ghost use Rattle.gx_shared.specs.Books.{MayBeShared};
 
 use gx_class::Box2Class;
 use gx_disk::MemDisk;
@@ -14,13 +14,14 @@ use std::alloc::Global;
 use std::test::Fail;
 
 /// An engine on a new index of boxes, with so many pages, entries in a node and frames.
+#[tactic(auto, using(gx_shared::proofs::Sharing::fresh_may_be_shared))]
 pub(crate) fn fresh(
     alloc: Global,
     pages: u32,
     most: u16,
     frames: usize,
 ) -> Result<EngineEvents<MemDisk, Box2Class>, Fail>
-    ensures { IfOk result (λ engine. ⟦<EngineEvents<MemDisk, Box2Class> as Events<Box2>>⟧.sees engine fresh_machine) }
+    ensures { IfOk result (λ engine. MayBeShared ⟦<EngineEvents<MemDisk, Box2Class> as Events<Box2>>⟧.sees (λ m. m ≡ fresh_machine) engine) }
 {
     let Ok(sectors) = usize::try_from(sectors_for(pages)) else {
         return Err(Fail::new("the device is too large"));

@@ -1,5 +1,11 @@
 //! Sessions in threads over the engine, on a device in memory.
 use crate::fresh::fresh;
+use gx_class::Box2Class;
+use gx_disk::MemDisk;
+use gx_engine_events::EngineEvents;
+use gx_events::Events;
+use gx_shared_callers::callers::wanted;
+use gx_shared_callers::flushed::flushed;
 use gx_shared_callers::holds::{empty, first_hold, flusher_hold, pairing, search_hold};
 use gx_shared_callers::seeded::seeded;
 use std::marker::Brand;
@@ -46,4 +52,34 @@ fn the_plain_index_replays_a_record_of_four_threads(rt: HostRuntime) -> Result<(
     let alloc = rt.alloc();
     let engine = fresh(alloc, 1024, 8, 64)?;
     seeded::<_, Brand, _>(&rt, alloc, Blank::new(8), engine)
+}
+
+/// How many entries the first leaf has, deleted ones among them that no sweep has taken.
+fn entries(engine: EngineEvents<MemDisk, Box2Class>) -> Result<usize, Fail> {
+    let mut engine = engine.into_inner();
+    if engine.used() < 2 {
+        return Err(Fail::new("there is no leaf"));
+    }
+    match engine.page(2) {
+        Ok(page) => Ok(page.count()),
+        Err(_) => Err(Fail::new("the leaf can't be read")),
+    }
+}
+
+#[test]
+fn without_a_flusher_pages_stay_dirty_and_unswept(rt: HostRuntime) -> Result<(), Fail> {
+    let alloc = rt.alloc();
+    let engine = fresh(alloc, 16, 4, 16)?;
+    let engine = flushed::<_, Brand, _>(&rt, alloc, Blank::new(8), engine, 0)?;
+    wanted(engine.dirty().is_some(), "no page waits to be written")?;
+    wanted(entries(engine)? == 2, "the deleted entry is gone")
+}
+
+#[test]
+fn a_flusher_writes_pages_and_sweeps_a_leaf(rt: HostRuntime) -> Result<(), Fail> {
+    let alloc = rt.alloc();
+    let engine = fresh(alloc, 16, 4, 16)?;
+    let engine = flushed::<_, Brand, _>(&rt, alloc, Blank::new(8), engine, 16)?;
+    wanted(engine.dirty().is_none(), "a page waits to be written")?;
+    wanted(entries(engine)? == 1, "the deleted entry is left")
 }

@@ -5,15 +5,12 @@ use Rattle.gx_shared.proofs.book.Book.audit.Goals as goal
 
 pub invariant_of-self : goal.invariant_of-self
 invariant_of-self g c =
-    kept_total (keys g.B.Ord.cmp g.B.Shape.overlap g.B.Shape.inside) g.E.Events.sees g.R.Run.start c.self.inside.engine c.self.inside.calls.items c.self.inside.opened (vec_capacity c.self.inside.calls)
-    c.self.inside.tally.total c.audit.new.self.total c.self.invariant c.audit.ensures.total
+    kept_total (keys g.B.Ord.cmp g.B.Shape.overlap g.B.Shape.inside) g.E.Events.granted g.E.Events.sees g.R.Run.starts c.self.inside.engine c.self.inside.calls.items c.self.inside.opened
+    (vec_capacity c.self.inside.calls) c.self.inside.tally.total c.audit.new.self.total c.self.invariant c.audit.ensures.total
 
 pub returns-clause-bound : goal.returns-clause-bound
 returns-clause-bound g c =
-    let b = c.self.invariant in
-    rw (← c.self.view_is) (let counted = b.counted_is in omega (arith, counted, c.audit.ensures.bound))
+    rw (← c.self.view_is) (let counted = c.self.invariant.counted_is in omega (arith, counted, c.audit.ensures.bound))
 
 pub returns-clause-whole : goal.returns-clause-whole
-returns-clause-whole g c =
-    let b = c.self.invariant in
-    λ all. rw (← c.self.view_is) (sym b.counted_is ∙ sym (c.audit.ensures.whole all))
+returns-clause-whole g c = λ all. rw (← c.self.view_is) (sym c.self.invariant.counted_is ∙ sym (c.audit.ensures.whole all))
