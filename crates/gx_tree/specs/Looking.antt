@@ -5,6 +5,10 @@ use Rattle.gx_tree_laws.specs.Reach.{Item}
 use Rattle.gx_tree.specs.declared.found.Found.{Found}
 use Rattle.gx_tree.specs.Found.{found_at}
 
+-- the items that a look is to read, the next one last
+pub record Stack : Type 0 where
+  pub items : List Item
+
 -- the rightlink of a node that was split since its number was read
 abbrev pub beyond : {B : Type 0} → Node B → Item → List Item
 beyond node item = if nat_lt item.seen node.nsn then record { page = node.right; seen = item.seen } ∷ [] else []

@@ -14,6 +14,7 @@ mod moving;
 mod seek;
 mod split;
 mod split_root;
+mod stack;
 mod sweep;
 mod wanted;
 

@@ -13,6 +13,7 @@ ghost use Rattle.gx_tree.specs.Wants.{has_row, wants};
 use crate::bring::bring_page;
 use crate::found::Found;
 use crate::item::Item;
+use crate::stack::Stack;
 use crate::wanted::Wanted;
 use gx_class::{KeyClass, Probing};
 use gx_geom::Shape;
@@ -20,13 +21,10 @@ use gx_node::{BLOCK, Inner, Leaf, Pages, StepFault};
 use gx_page::Page;
 use std::alloc::{AllocError, Global};
 
-/// How many items a stack has room for at first.
-const FIRST_ITEMS: usize = 16;
-
 /// A look at work: the items that are to be read, the next one last, and what is found.
 #[derive(Drop)]
 pub struct Look<B: Shape> {
-    pub(crate) stack: Vec<Item>,
+    pub(crate) stack: Stack,
     pub(crate) found: Vec<Found<B>>,
 }
 
@@ -97,7 +95,7 @@ fn descend_block<K: Probing>(
     from: usize,
     counter: u64,
     wanted: &Wanted<K>,
-    stack: &mut Vec<Item>,
+    stack: &mut Stack,
 ) -> Result<(), AllocError>
     requires { from ≤ length inner.now.children }
     ensures { OnOk result (stack.new.items ≡ stack.old.items ++ map (item_of counter)
@@ -116,7 +114,7 @@ fn descend<K: Probing>(
     inner: &Inner<K>,
     counter: u64,
     wanted: &Wanted<K>,
-    stack: &mut Vec<Item>,
+    stack: &mut Stack,
 ) -> Result<(), AllocError>
     ensures { OnOk result (stack.new.items ≡ stack.old.items ++ below counter (K.passes wanted.now.bounds) inner.now.children) }
 {
@@ -131,10 +129,8 @@ impl<B: Shape> Look<B> {
     pub fn new(alloc: Global, item: Item) -> Result<Self, AllocError>
         ensures { IfOk result (λ look. (look.stack.items ≡ item ∷ []) × (look.found.items ≡ [])) }
     {
-        let mut stack = Vec::with_capacity(alloc, FIRST_ITEMS)?;
-        stack.push(item)?;
         Ok(Look {
-            stack,
+            stack: Stack::of(alloc, item)?,
             found: Vec::new(alloc),
         })
     }
@@ -158,14 +154,6 @@ impl<B: Shape> Look<B> {
         ensures { result ≡ self.found }
     {
         self.found
-    }
-
-    /// The item that is read next.
-    fn next(&self) -> Item
-        requires { 0 < length self.now.stack.items }
-        ensures { (rest : List reach.Item) (item : reach.Item) → self.now.stack.items ≡ rest ++ item ∷ [] → result ≡ item }
-    {
-        self.stack.as_slice()[self.stack.len() - 1]
     }
 }
 
@@ -227,7 +215,7 @@ pub fn look_step<K: Probing, P: Pages<K>>(
     ensures refused { OnErr result (result ≢ Err StepFault.Memory → look.new ≡ look.old) }
     ensures full { result ≢ Err StepFault.PagesFull }
 {
-    let item = look.next();
+    let item = look.stack.last();
     bring_page(pages, item.page())?;
     let counter = pages.counter();
     let room = pages.room();

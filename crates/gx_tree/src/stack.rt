@@ -1,0 +1,68 @@
+//! The stack of a look.
+ghost use Rattle.std.specs.Prelude.{◌≡◌, ◌<◌, ◌==◌, ◌↔◌, ◌++◌, ◌∷◌, [], length, IfOk, IsSome, List, OnOk};
+ghost use Rattle.std.specs.Option.{option_to_list};
+ghost use Rattle.gx_tree_laws.specs.Reach as reach;
+
+use crate::item::Item;
+use smallvec::SmallVec;
+use std::alloc::{AllocError, Global};
+use std::marker::Model;
+
+/// How many items a stack holds before it takes memory. A look is moved with all of them, so they are few.
+const INLINE_ITEMS: usize = 2;
+
+/// The items that a look is to read, the next one last.
+#[derive(Drop)]
+pub(crate) struct Stack {
+    items: SmallVec<Item, INLINE_ITEMS>,
+}
+
+impl Model for Stack {
+    ghost use Rattle.gx_tree.specs.Looking as looking;
+
+    ghost Value = { looking.Stack };
+
+    ghost view = { λ s. record { items = s.items.items } };
+}
+
+impl Stack {
+    /// A stack of one item. It takes no memory.
+    pub(crate) fn of(alloc: Global, item: Item) -> Result<Self, AllocError>
+        ensures { IfOk result (λ stack. stack.items ≡ item ∷ []) }
+    {
+        let mut items = SmallVec::new(alloc);
+        items.push(item)?;
+        Ok(Stack { items })
+    }
+
+    /// Whether nothing is left to read.
+    pub(crate) fn is_empty(&self) -> bool
+        ensures { result ≡ (length self.now.items == 0) }
+    {
+        self.items.is_empty()
+    }
+
+    /// The item that is read next.
+    pub(crate) fn last(&self) -> Item
+        requires { 0 < length self.now.items }
+        ensures { (rest : List reach.Item) (item : reach.Item) → self.now.items ≡ rest ++ item ∷ [] → result ≡ item }
+    {
+        self.items.as_slice()[self.items.len() - 1]
+    }
+
+    /// Puts an item on top.
+    pub(crate) fn push(&mut self, item: Item) -> Result<(), AllocError>
+        ensures items { OnOk result (self.new.items ≡ self.old.items ++ item ∷ []) }
+    {
+        self.items.push(item)?;
+        Ok(())
+    }
+
+    /// Takes the item on top.
+    pub(crate) fn pop(&mut self) -> Option<Item>
+        ensures items { self.old.items ≡ self.new.items ++ option_to_list result }
+        ensures variant { IsSome result ↔ (0 < length self.old.items) }
+    {
+        self.items.pop()
+    }
+}
