@@ -1,10 +1,13 @@
 //! Rows of trees, and what is told of each: that it is legal, or the rule that is broken and the page.
-use crate::built::{Node, in_memory, on_device};
-use crate::told::Told::{Broken, Legal};
-use crate::told::{Told, told_of, told_of_note};
+mod built;
+mod told;
+
+use built::{Node, in_memory, on_device};
 use gx_legality::Rule;
 use std::process::Abort;
 use std::test::Fail;
+use told::Told::{Broken, Legal};
+use told::{Told, told_of, told_of_note};
 
 /// How many splits were made, the pages, and what is told.
 type Row = (u64, &'static [Node<'static>], Told);

@@ -1,14 +1,33 @@
 //! A store over a fresh index: a pair is refused without room for its record, then added and found.
-use crate::looks::look_on;
-use crate::starts::start;
-use gx_class::{Box2Class, IntervalClass, Probing};
+ghost use Rattle.std.specs.Prelude.{◌≡◌, ◌≤◌, ◌+◌, ◌*◌, IfOk};
+
+use gx_class::{Box2Class, IntervalClass, KeyClass, Probing};
 use gx_disk::{MemDisk, SectorDisk};
 use gx_format::{format, sectors_for};
 use gx_machine::{Entry, Query};
-use gx_store::{PageStore, StoreFault};
-use gx_tree::{Item, Look, Pages, StepFault, Wanted, add_step};
-use std::alloc::Global;
+use gx_pool::{FRAMES, Pool};
+use gx_store::laws::a_store_starts;
+use gx_store::{NodeTest, PageStore, StoreFault};
+use gx_tree::{Item, Look, Pages, StepFault, Wanted, add_step, look_step};
+use std::alloc::{AllocError, Global};
 use std::test::Fail;
+
+/// A store of so many pages, of which so many are taken, with empty frames, over a device that has them.
+fn start<D: SectorDisk + Drop, K: KeyClass>(
+    alloc: Global,
+    disk: D,
+    frames: usize,
+    used: u32,
+    pages: u32,
+) -> Result<PageStore<D, K>, AllocError>
+    requires frames { frames ≤ FRAMES }
+    requires pages { (used ≤ pages) × (pages ≤ 65536) × (4168 + 8 * pages ≤ (D.state disk).sectors) }
+    ensures store { IfOk result (λ store. (store.used ≡ used) × (store.pages ≡ pages) × (store.disk ≡ disk)) }
+{
+    a_store_starts::<D, K>();
+    let pool = Pool::with_capacity(alloc, frames, NodeTest::new(pages))?;
+    Ok(PageStore::new(disk, pool, used, 0, pages))
+}
 
 /// How many pairs a look for a key finds, in at most eight steps; none where it is refused or hasn't ended.
 fn found<D: SectorDisk, K: Probing>(
@@ -28,7 +47,7 @@ where
         if look.is_done() {
             return Some(look.found().len());
         }
-        if look_on(store, &wanted, &mut look).is_err() {
+        if look_step(store, &wanted, &mut look).is_err() {
             return None;
         }
     }

@@ -1,5 +1,5 @@
 //! What a test of legality tells, whoever keeps the pages.
-use crate::built::{Corners, a_box};
+use crate::legality::built::{Corners, a_box};
 use gx_class::Box2Class;
 use gx_legality::{LegalityFault, Note, Rule, are_in_order, test_tree};
 use gx_machine::Entry;
