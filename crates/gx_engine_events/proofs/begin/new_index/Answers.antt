@@ -1,5 +1,5 @@
-use Rattle.gx_new_index.proofs.New.{if_new_sees}
-use Rattle.gx_new_index.proofs.begin.new_index.Goals as goal
+use Rattle.gx_engine_events.proofs.New.{if_new_sees}
+use Rattle.gx_engine_events.proofs.begin.new_index.Goals as goal
 
 pub returns-in-Ok-clause-seen : goal.returns-in-Ok-clause-seen
 returns-in-Ok-clause-seen g c = λ honest.

@@ -57,8 +57,8 @@ use Rattle.gx_engine.specs.Noted.{AreTold, has_transaction}
 use Rattle.gx_engine.specs.States.{Parts}
 use Rattle.gx_engine_events.specs.Seen.{Sees}
 use Rattle.gx_engine_events.proofs.Stepping.{sees_within}
-use Rattle.gx_new_index.specs.New.{IsNew, new_parts}
-use Rattle.gx_new_index.proofs.Pages.{areas_agree, both_fit, both_readable, laid_page}
+use Rattle.gx_engine_events.specs.New.{IsNew, new_parts}
+use Rattle.gx_engine_events.proofs.Pages.{areas_agree, both_fit, both_readable, laid_page}
 
 -- each place of a list of one item has it, and so has each place behind it
 all_one : {X : Type 0} (x : X) (n i : ℕ) → slice_index_or (replicate n x) i x ≡ x

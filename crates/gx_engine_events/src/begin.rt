@@ -12,13 +12,13 @@ ghost use Rattle.gx_durable.specs.Beginning.{first_glog};
 ghost use Rattle.gx_phases.specs.States.{fresh_state};
 ghost use Rattle.gx_engine.specs.declared.work.Work as work;
 ghost use Rattle.gx_engine_events.specs.Seen.{Sees};
-ghost use Rattle.gx_new_index.specs.New.{IsFrames, IsNew, WhyNone, new_parts};
+ghost use Rattle.gx_engine_events.specs.New.{IsFrames, IsNew, WhyNone, new_parts};
 
+use crate::engine::EngineEvents;
 use gx_class::KeyClass;
 use gx_disk::SectorDisk;
 use gx_engine::laws::a_class_is_lawful;
 use gx_engine::{Engine, NotOpened, Work};
-use gx_engine_events::EngineEvents;
 use gx_format::format;
 use gx_geom::Refusal;
 use gx_glog::{Extent, Glog};

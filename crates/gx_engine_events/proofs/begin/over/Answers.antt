@@ -1,6 +1,6 @@
 use Rattle.std.proofs.Common.{arith}
-use Rattle.gx_new_index.proofs.New.{over_new}
-use Rattle.gx_new_index.proofs.begin.over.Goals as goal
+use Rattle.gx_engine_events.proofs.New.{over_new}
+use Rattle.gx_engine_events.proofs.begin.over.Goals as goal
 
 pub new-store-requires-clause-order : goal.new-store-requires-clause-order
 new-store-requires-clause-order g c =
