@@ -22,8 +22,8 @@ use Rattle.gx_page.specs.Format.{IsWellFormed}
 use Rattle.gx_pool.specs.State.{IsEmpty, State, kept}
 use Rattle.gx_readings.specs.Classes.{class_of}
 use Rattle.gx_recovery.specs.Known.{Limits}
-use Rattle.gx_new_index.specs.New.{IsNew, new_parts}
-use Rattle.gx_new_index.proofs.New.{if_new_sees, run_sectors}
+use Rattle.gx_engine_events.specs.New.{IsNew, new_parts}
+use Rattle.gx_engine_events.proofs.New.{if_new_sees, run_sectors}
 use Rattle.gx_lives.specs.Bearing.{Bears, HasSets}
 use Rattle.gx_lives.specs.Lives.{Lies}
 use Rattle.gx_lives.proofs.Images.{given_up}
