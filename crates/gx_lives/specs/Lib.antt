@@ -1,3 +1,4 @@
 pub mod Lives
 pub mod Bearing
+pub mod OneRun
 pub mod Told

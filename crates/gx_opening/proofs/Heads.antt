@@ -9,9 +9,11 @@ use Rattle.gx_glog.specs.declared.parameters.Parameters.{Parameters}
 use Rattle.gx_opening.specs.Formatted.{Says, head_of}
 
 -- a device that is formatted so reads so
+pub head_read : (image : List ℕ) (p : Parameters) → HasMagic image → take 8 (sector_of image 1) ≡ parameters_bytes p → head_in image ≡ head_of p
+head_read image p magic told = ap (λ (bytes : List ℕ). bytes ++ take 8 (sector_of image 1)) magic ∙ ap (λ (bytes : List ℕ). magic_bytes ++ bytes) told
+
 pub formatted_head : (image : List ℕ) (p : Parameters) → HasMagic image → Says image p → head_in image ≡ head_of p
-formatted_head image p magic says =
-    ap (λ (bytes : List ℕ). bytes ++ take 8 (sector_of image 1)) magic ∙ ap (λ (bytes : List ℕ). magic_bytes ++ bytes) says.bytes
+formatted_head image p magic says = head_read image p magic says.bytes
 
 -- eight bytes are read of a sector that is there
 eight_read : (image : List ℕ) → 512 ≤ length image → length (take 8 (sector_of image 0)) ≡ 8
