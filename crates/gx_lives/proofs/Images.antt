@@ -193,15 +193,12 @@ module _ {C B D : Type 0} (shape : Members B) (proper : B → Bool) (said : List
     }
 
     -- the device says what it was formatted for
-    module _ (fit : Fit p) (long : length d.seen ≡ 512 * d.sectors) where
-      there : 512 ≤ length d.seen
-      there = let large = sets.large in omega (arith, long, large)
+    pub magic : HasMagic d.seen
+    magic = head_magic d.seen p own.head
 
-      pub magic : HasMagic d.seen
-      magic = head_magic d.seen p there own.head
-
+    module _ (fit : Fit p) where
       pub says : Says d.seen p
-      says = head_says d.seen p there own.head fit
+      says = head_says d.seen p own.head fit
 
       -- at each moment of an opening each image has a set of the machine
       pub tried_leaves : (e : Device) → IsTried shape proper said class d e → Leaves (Has m) d e
@@ -226,9 +223,9 @@ module _ {C B D : Type 0} (shape : Members B) (proper : B → Bool) (said : List
         each_has (Has m) (at old) (at new) (event_went m old new event outcome made s).leaves
         (λ image left. left_of_engine m old s image (only_now old.volume.shelf.disk image s.holds.keeps.steady.honest left))
 
-    module _ (fit : Fit p) (whole : (d : D) → (state d).honest ≡ true → length (state d).seen ≡ 512 * (state d).sectors) where
+    module _ (fit : Fit p) where
       tried_so : (m : Machine B) (old new : D) → Sets m (state old) → IsTried shape proper said class (state old) (state new) → Leaves (Has m) (state old) (state new)
-      tried_so m old new sets tried = tried_leaves m (state old) sets fit (whole old sets.honest) (state new) tried
+      tried_so m old new sets tried = tried_leaves m (state old) sets fit (state new) tried
 
       pub since_opening : (m : Machine B) (old new : D) → Sets m (state old) → IsTried shape proper said class (state old) (state new)
           → (image : List ℕ) → (state new).left_since (state old).moment image → Has m image

@@ -51,7 +51,7 @@ module _ {C B D : Type 0} (shape : Members B) (proper : B → Bool) (said : List
   left_lying : (m : Machine B) (d : D) → HasSets shape proper said class state p m (state d) → (image : List ℕ) → MayBeLeft shape proper said class code state (Lies d) image
       → HasSet shape proper said class state p m image
   left_lying m d sets image (inl may) = sets.sets image may
-  left_lying m d sets image (inr (new, tried, left)) = since_opening shape proper said class state p lawful counts_now only_now fit whole m d new sets tried image left
+  left_lying m d sets image (inr (new, tried, left)) = since_opening shape proper said class state p lawful counts_now only_now fit m d new sets tried image left
 
   up_again : (m : Machine B) (IsLeft : List ℕ → Type 0) (d : D) → ((image : List ℕ) → IsLeft image → HasSet shape proper said class state p m image)
       → (sectors : ℕ) → sectors_of p.pages ≤ sectors → ComesUp sectors IsLeft (state d) → HasSets shape proper said class state p m (state d)
@@ -76,10 +76,10 @@ module _ {C B D : Type 0} (shape : Members B) (proper : B → Bool) (said : List
         record { bodies = h.bodies; index = h.index; holds = h.holds; seen = seen (set_of number m) kept.set },
       )
 
-  opened : (m : Machine B) (d : Device) (e : Parts B D) → HasSets shape proper said class state p m d → length d.seen ≡ 512 * d.sectors → IsOpened shape proper said (format_of class) code d (at e) e
+  opened : (m : Machine B) (d : Device) (e : Parts B D) → HasSets shape proper said class state p m d → IsOpened shape proper said (format_of class) code d (at e) e
       → Went m life.Opens (Works e)
-  opened m d e sets long is =
-      subst (λ (q : Parameters). Began m d e q) (one_saying d.seen p is.parameters (says shape proper said class state p lawful m d sets fit long) is.formatted.says) (began m d e sets) is.holds is.seen
+  opened m d e sets is =
+      subst (λ (q : Parameters). Began m d e q) (one_saying d.seen p is.parameters (says shape proper said class state p lawful m d sets fit) is.formatted.says) (began m d e sets) is.holds is.seen
 
   goes_working : (m : Machine B) (e : Parts B D) (turn : Turn B) (new : Stage B D) → WorksOn shape proper said class code state e turn new
       → IsSeen shape proper said class state p m e → Went m turn new
@@ -101,11 +101,11 @@ module _ {C B D : Type 0} (shape : Members B) (proper : B → Bool) (said : List
   goes_lying m d life.Crashes (Works e) up sets = absurd up
   goes_lying m d life.Crashes (Lies new) up sets = (m, refl, up_again m (MayBeLeft shape proper said class code state (Lies d)) new (left_lying m d sets) (state d).sectors sets.large up)
   goes_lying m d life.GivesUp new none sets = absurd none
-  goes_lying m d life.Opens (Works e) opens sets = opened m (state d) e sets (whole d sets.honest) opens.1
+  goes_lying m d life.Opens (Works e) opens sets = opened m (state d) e sets opens.1
   goes_lying m d life.Opens (Lies new) none sets = absurd none
   goes_lying m d (life.Refuses why) (Works e) none sets = absurd none
   goes_lying m d (life.Refuses why) (Lies new) tried sets =
-      (m, refl, refused_sets shape proper said class state p lawful counts_now only_now fit whole m d new sets tried)
+      (m, refl, refused_sets shape proper said class state p lawful counts_now only_now fit m d new sets tried)
 
   goes : (m : Machine B) (old : Stage B D) (turn : Turn B) (new : Stage B D) → GoesOn shape proper said class code state old turn new → Bear m old → Went m turn new
   goes m (Works e) turn new on bears = goes_working m e turn new on bears

@@ -1,5 +1,5 @@
 -- An opening in a life finds no damage.
-use Rattle.std.proofs.Common.{◌≡◌, inl, inr, refl, subst, ℕ, ◌*◌, ◌≤◌, Bool, List, length, Result, Ok, Err, arith}
+use Rattle.std.proofs.Common.{◌≡◌, inl, inr, refl, subst, ℕ, ◌≤◌, Bool, List, Result, Ok, Err, arith}
 use Rattle.std.specs.Prelude.{IfErr}
 use Rattle.gx_geom.specs.declared.refusal.Refusal.{Refusal}
 use Rattle.gx_geom.specs.declared.refusal.Refusal.TheVariants as refusal
@@ -66,10 +66,10 @@ module _ {C B D : Type 0} (shape : Members B) (proper : B → Bool) (said : List
   kl = known_lawful c lawful.keys
 
   -- it is formatted for what it was
-  pub formatted_so : (code : ℕ) → IsAllowed code p → Fit p → length d.seen ≡ 512 * d.sectors → IsFormatted shape proper said f code d p
-  formatted_so code allowed fit long = record {
-    magic = magic shape proper said class state p lawful m d sets fit long;
-    says = says shape proper said class state p lawful m d sets fit long;
+  pub formatted_so : (code : ℕ) → IsAllowed code p → Fit p → IsFormatted shape proper said f code d p
+  formatted_so code allowed fit = record {
+    magic = magic shape proper said class state p lawful m d sets;
+    says = says shape proper said class state p lawful m d sets fit;
     allowed = allowed;
     large = sets.large;
   }

@@ -79,7 +79,10 @@ pub fn an_index_lives_as_one_run<D: SectorDisk, K: ReadKeys>()
     gx_format::laws::phases::<D>();
     leaves::<K>();
     inners::<K>();
-    is_class(K::CLASS);
+    every_life_is_the_machines::<D, K>();
+    every_life_is_a_run::<K::Key>();
+    a_crash_leaves_a_set_of_the_machine::<D, K>();
+    an_opening_finds_no_damage::<D, K>();
 }
 
 /// What a life is of the machine is a run of it: a step for each ask and each reply, and one crash for each opening that ends well. So all that holds of
