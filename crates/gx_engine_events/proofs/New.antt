@@ -29,6 +29,7 @@ use Rattle.gx_index_laws.proofs.Found.{found_whole}
 use Rattle.gx_index_laws.proofs.Listed.{log_listed}
 use Rattle.gx_durable.specs.Area.{area_of}
 use Rattle.gx_durable.specs.Beginning.{first_glog, first_records}
+use Rattle.gx_durable.specs.Head.{head_in}
 use Rattle.gx_durable.specs.Legal.{AgreeOnUsed}
 use Rattle.gx_durable.specs.Spelled.{Reading}
 use Rattle.gx_durable.specs.Standing.{Up}
@@ -71,11 +72,12 @@ none_there o x none some = let no : None ≡ Some x = sym none ∙ some in cc
 
 module _ {B D : Type 0} (shape : Members B) (proper : B → Bool) (IsKey : B → Type 0) (spelling : B → List ℕ) (said : List ℕ → B) (f : Format B) (start : B)
     (pairs_read : HeldPairsAreRead IsKey spelling f) (children_read : HeldChildrenAreRead IsKey spelling f) (start_is : IsKey start)
-    (p : Parameters) (l : IsLawful (class_of shape proper (record { most = p.most; pages = p.pages }))) (range : AreInRange p.pages p.most) (disk : D) (d : Device) (honest : d.honest ≡ true)
+    (p : Parameters) (head : List ℕ) (l : IsLawful (class_of shape proper (record { most = p.most; pages = p.pages; head = head }))) (range : AreInRange p.pages p.most) (disk : D) (d : Device)
+    (says : head_in d.seen ≡ head) (honest : d.honest ≡ true)
     (large : sectors_of p.pages ≤ d.sectors) (formed : IsWellFormed (fresh_root spelling start)) (fresh : IsFresh p (fresh_root spelling start) d.seen) (settled : IsSettled d)
     (frames : State) (count : ℕ) (empty : IsEmpty count frames) where
   abbrev c : Class B
-  c = class_of shape proper (record { most = p.most; pages = p.pages })
+  c = class_of shape proper (record { most = p.most; pages = p.pages; head = head })
 
   abbrev k : Known (Entry B) (Page B)
   k = known_of c
@@ -119,7 +121,7 @@ module _ {B D : Type 0} (shape : Members B) (proper : B → Bool) (IsKey : B →
 
   up : Up k r first_glog d.sectors d.seen d.pending (log ∷ []) i.log
   up =
-      first_up k r d.sectors d.seen d.pending fresh.laid.log (λ s is. settled s) (omega (arith, range.least_pages)) (record { few = range.most_pages; inside = large }) (λ page s is unnamed within. settled s)
+      first_up k r d.sectors d.seen d.pending (record { reads = says; magic = settled 0; parameters = settled 1 }) fresh.laid.log (λ s is. settled s) (omega (arith, range.least_pages)) (record { few = range.most_pages; inside = large }) (λ page s is unnamed within. settled s)
       ((reads_used c).sound (tree_of k laid log) (tree_of k area log) agree sound)
       (λ page low high. both_fit IsKey spelling said f start pairs_read children_read start_is p range.least_pages range.most_pages d.seen formed fresh.laid page low high)
 
@@ -234,19 +236,20 @@ new_sees : {B D : Type 0} (shape : Members B) (proper : B → Bool) (IsKey : B �
     → IsFresh p (fresh_root spelling start) (state new).seen → IsSettled (state new) → (count : ℕ) (e : Parts B D) → e.volume.shelf.disk ≡ new
     → IsNew p.pages p.most count e → Sees shape proper said f state e fresh_machine
 new_sees {B} {D} shape proper IsKey spelling said f start state pairs_read children_read start_is lawful p old new honest formats formed fresh settled count e on is =
-    let l = lawful (record { most = p.most; pages = p.pages }) formats.0.least_entries in
+    let head = head_in (state new).seen in
+    let l = lawful (record { most = p.most; pages = p.pages; head = head }) formats.0.least_entries in
     let honest_yet : (state new).honest ≡ true = run_honest state (formatting p (fresh_root spelling start)) old new formats.1.1 ∙ honest in
     let size : (state new).sectors ≡ (state old).sectors = run_sectors state (formatting p (fresh_root spelling start)) old new formats.1.1 in
     let large : sectors_of p.pages ≤ (state new).sectors = subst (λ (n : ℕ). sectors_of p.pages ≤ n) (sym size) formats.1.0 in
     let frames = e.volume.shelf.frames in
     let same : e ≡ new_parts p.pages p.most frames new = is.parts ∙ (λ t. new_parts p.pages p.most frames (on t)) in
-    let limits : Limits = record { most = p.most; pages = p.pages } in
+    let limits : Limits = record { most = p.most; pages = p.pages; head = head } in
     let bodies = first_records (Entry B) (Page B) ∷ [] in
     let i = found_state (class_of shape proper limits) 1 (area_of (reading_of said f) p.pages (state new).seen) (first_records (Entry B) (Page B)) in
     subst (λ (x : Parts B D). Sees shape proper said f state x fresh_machine) (sym same)
     (sees_within shape proper said f state limits (new_parts p.pages p.most frames new) bodies i fresh_machine
-    (new_holds shape proper IsKey spelling said f start pairs_read children_read start_is p l formats.0 new (state new) honest_yet large formed fresh settled frames count is.empty)
-    (new_seen shape proper IsKey spelling said f start pairs_read children_read start_is p l formats.0 new (state new) honest_yet large formed fresh settled frames count is.empty))
+    (new_holds shape proper IsKey spelling said f start pairs_read children_read start_is p head l formats.0 new (state new) refl honest_yet large formed fresh settled frames count is.empty)
+    (new_seen shape proper IsKey spelling said f start pairs_read children_read start_is p head l formats.0 new (state new) refl honest_yet large formed fresh settled frames count is.empty))
 
 if_ok : {T E : Type 0} (P Q : T → Type 0) (r : Result T E) → IfOk r P → ((x : T) → P x → Q x) → IfOk r Q
 if_ok P Q (Ok x) has so = so x has
