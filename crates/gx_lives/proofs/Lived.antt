@@ -87,8 +87,12 @@ module _ {C B D : Type 0} (shape : Members B) (proper : B → Bool) (said : List
       let went = event_went shape proper said class state p lawful m e new event outcome made s in (went.machine, went.happens, went.seen)
   goes_working m e (life.Happens event outcome) (Lies d) made s = absurd made
   goes_working m e life.Crashes (Works new) up s = absurd up
-  goes_working m e life.Crashes (Lies d) up s = (m, refl, up_again m (MayBeLeft shape proper said class code state (Works e)) d (left_working m e s) (at e).sectors
-      s.holds.keeps.runs.up.carries.has_pages.inside up)
+  goes_working m e life.Crashes (Lies d) up s = (
+    m,
+    refl,
+    up_again m (MayBeLeft shape proper said class code state (Works e)) d (left_working m e s) (at e).sectors
+        s.holds.keeps.runs.up.carries.has_pages.inside up,
+  )
   goes_working m e life.GivesUp (Works new) same s = absurd same
   goes_working m e life.GivesUp (Lies d) same s =
       (m, refl, subst (λ (x : D). HasSets shape proper said class state p m (state x)) (sym same) (given_up shape proper said class state p lawful m e s))
