@@ -61,12 +61,12 @@ pub fn a_dump_that_is_done_tells_what_was_kept<D: SectorDisk, K: ReadKeys + KeyC
         → TellsKept ⟦<Box2 as Shape>⟧ K.is_proper K.said K.KeyClass D.state number disk from to }
 {}
 
-/// What an honest device says that it is formatted for it says after a command too, as it reads and in whatever a crash may leave: after a
-/// script, however that ended, after a dump, and where the opening was refused.
+/// What an honest device says that it is formatted for it says after a command too, as it reads and in whatever a
+/// crash may leave: after a script, however that ended, after a dump, and where the opening was refused.
 pub fn a_command_leaves_what_a_device_says<D: SectorDisk, K: ReadKeys + KeyClass<Key = Box2>>()
-    ensures run { (p : Parameters) (number frames : ℕ) (disk after : D) (had left : Stream) (from to : Outputs) (status : ℕ)
-        → (D.state disk).honest ≡ true → SaysSo p (D.state disk)
-        → RunsOver ⟦<Box2 as Shape>⟧ K.is_proper K.said K.KeyClass D.state number frames disk after had left from to status
+    ensures run { (p : Parameters) (number frames : ℕ) (disk after : D) (had left : Stream) (from to : Outputs)
+        (status : ℕ) → (D.state disk).honest ≡ true → SaysSo p (D.state disk) → RunsOver ⟦<Box2 as Shape>⟧
+        K.is_proper K.said K.KeyClass D.state number frames disk after had left from to status
         → SaysSo p (D.state after) }
     ensures dump { (p : Parameters) (number frames : ℕ) (disk after : D) (from to : Outputs) (status : ℕ)
         → (D.state disk).honest ≡ true → SaysSo p (D.state disk)

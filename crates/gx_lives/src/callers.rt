@@ -26,8 +26,8 @@ use gx_disk::SectorDisk;
 use gx_geom::{Box2, Shape};
 use gx_readings::ReadKeys;
 
-/// A call of an index (`gx_restart::Index::call`) is turns of its life: events, from its ask to the outcome that gives its reply. So is one that
-/// is given up, or refused because the index gave up.
+/// A call of an index (`gx_restart::Index::call`) is turns of its life: events, from its ask to the outcome that gives
+/// its reply. So is one that is given up, or refused because the index gave up.
 pub fn calls_are_turns<D: SectorDisk, K: ReadKeys>()
     ensures answered { (old new : Parts K.Key D) (s : ℕ) (call : Call K.Key) (reply : Reply K.Key)
         → IsDriven (Makes K.Key.Shape K.is_proper K.said K.KeyClass D.state) s (Ask s call) old reply new
@@ -44,18 +44,19 @@ pub fn settlings_are_turns<D: SectorDisk, K: ReadKeys>()
         → LivesOn K.Key.Shape K.is_proper K.said K.KeyClass K.CLASS D.state old.engine new.engine }
 {}
 
-/// So is a script (`gx_restart::run_script`), whether it is read to its end or stopped by a fault of its reader or writer.
+/// So is a script (`gx_restart::run_script`), whether it is read to its end or stopped by a fault of its reader or
+/// writer.
 pub fn scripts_are_turns<D: SectorDisk, K: ReadKeys + KeyClass<Key = Box2>>()
     ensures done { (had left held holds : Option (List ℕ)) (old new : State Rectangle D)
-        → IsDone (CallsIndex (Makes ⟦<Box2 as Shape>⟧ K.is_proper K.said K.KeyClass D.state)) had left held holds old new
-        → LivesOn ⟦<Box2 as Shape>⟧ K.is_proper K.said K.KeyClass K.CLASS D.state old.engine new.engine }
+        → IsDone (CallsIndex (Makes ⟦<Box2 as Shape>⟧ K.is_proper K.said K.KeyClass D.state))
+        had left held holds old new → LivesOn ⟦<Box2 as Shape>⟧ K.is_proper K.said K.KeyClass K.CLASS D.state old.engine new.engine }
     ensures stopped { (had left held holds : Option (List ℕ)) (old new : State Rectangle D) (fault : ScriptFault)
-        → IsStopped (CallsIndex (Makes ⟦<Box2 as Shape>⟧ K.is_proper K.said K.KeyClass D.state)) had left held holds old new fault
-        → LivesOn ⟦<Box2 as Shape>⟧ K.is_proper K.said K.KeyClass K.CLASS D.state old.engine new.engine }
+        → IsStopped (CallsIndex (Makes ⟦<Box2 as Shape>⟧ K.is_proper K.said K.KeyClass D.state))
+        had left held holds old new fault → LivesOn ⟦<Box2 as Shape>⟧ K.is_proper K.said K.KeyClass K.CLASS D.state old.engine new.engine }
 {}
 
-/// A hold of a book over an engine (`gx_shared::Book::apply_for`) is one turn of its life, or none where an ask is turned away; and one of work
-/// (`gx_shared::Book::apply`) is one turn.
+/// A hold of a book over an engine (`gx_shared::Book::apply_for`) is one turn of its life, or none where an ask is
+/// turned away; and one of work (`gx_shared::Book::apply`) is one turn.
 pub fn holds_are_turns<D: SectorDisk, K: ReadKeys>()
     ensures session { (old new : Parts K.Key D × List (Item K.Key)) (e : event.Event K.Key) (o : outcome.Outcome K.Key)
         → IsMade (Makes K.Key.Shape K.is_proper K.said K.KeyClass D.state) old e o new

@@ -35,8 +35,9 @@ fn is_class(_class: u16)
 /// A crash may come at each moment of an event and of an opening, and a device may be left unsettled where an engine is given up or an opening
 /// is refused.
 pub fn every_life_is_the_machines<D: SectorDisk, K: ReadKeys>()
-    ensures { (p : Parameters) → IsAllowed K.CLASS p → (turns : List (Turn K.Key)) (m : Machine K.Key) (old new : Stage K.Key D)
-        → Lives K.Key.Shape K.is_proper K.said K.KeyClass K.CLASS D.state old turns new → Bears K.Key.Shape K.is_proper K.said K.KeyClass D.state p m old
+    ensures { (p : Parameters) → IsAllowed K.CLASS p → (turns : List (Turn K.Key)) (m : Machine K.Key)
+        (old new : Stage K.Key D) → Lives K.Key.Shape K.is_proper K.said K.KeyClass K.CLASS D.state old turns new
+        → Bears K.Key.Shape K.is_proper K.said K.KeyClass D.state p m old
         → (n : Machine K.Key) × AreOf (keys_of K.Key.Shape) m turns n × Bears K.Key.Shape K.is_proper K.said K.KeyClass D.state p n new }
 {
     gx_engine::laws::a_class_is_lawful::<K>();
@@ -46,8 +47,10 @@ pub fn every_life_is_the_machines<D: SectorDisk, K: ReadKeys>()
 /// Whatever a crash may leave, now or at any moment of the event or the opening that begins now, stands for a set that the machine keeps under the
 /// number of the image's log: from the last durable commit's to the last one's.
 pub fn a_crash_leaves_a_set_of_the_machine<D: SectorDisk, K: ReadKeys>()
-    ensures { (p : Parameters) → IsAllowed K.CLASS p → (m : Machine K.Key) (now : Stage K.Key D) → Bears K.Key.Shape K.is_proper K.said K.KeyClass D.state p m now → (image : List ℕ)
-        → MayBeLeft K.Key.Shape K.is_proper K.said K.KeyClass K.CLASS D.state now image → HasSet K.Key.Shape K.is_proper K.said K.KeyClass D.state p m image }
+    ensures { (p : Parameters) → IsAllowed K.CLASS p → (m : Machine K.Key) (now : Stage K.Key D)
+        → Bears K.Key.Shape K.is_proper K.said K.KeyClass D.state p m now → (image : List ℕ)
+        → MayBeLeft K.Key.Shape K.is_proper K.said K.KeyClass K.CLASS D.state now image
+        → HasSet K.Key.Shape K.is_proper K.said K.KeyClass D.state p m image }
 {
     gx_engine::laws::a_class_is_lawful::<K>();
     is_class(K::CLASS);
@@ -65,10 +68,12 @@ pub fn an_opening_finds_no_damage<D: SectorDisk, K: ReadKeys>()
     is_class(K::CLASS);
 }
 
-/// The headline. An index is formatted on an honest device, which ends well, and then lives through any list of events, crashes at any moment, and
-/// openings. What it lived through is one run of the set machine, from nothing committed: a step for each ask and each reply, and one crash for each
-/// opening that ended well. The engine at work is seen as the machine that this run led to; whatever a crash may leave has a set that this machine
-/// keeps; and an opening of the device is refused only where a call of the device failed or memory was refused.
+/// The headline. An index is formatted on an honest device, which ends well, and then lives through any list of events,
+/// crashes at any moment, and openings. What it lived through is one run of the set machine, from nothing committed: a
+/// step for each ask and each reply, and one crash for each opening that ended well. The engine at work is seen as the
+/// machine that this run led to; whatever a crash may leave has a set that this machine keeps, of the first n commits;
+/// n covers each commit that was answered; and an opening of the device is refused only where a call of the device
+/// failed or memory was refused.
 pub fn an_index_lives_as_one_run<D: SectorDisk, K: ReadKeys>()
     ensures { (p : Parameters) → p.class ≡ K.CLASS → (disk : D) → IsNew K.KeyClass K.start_key D.state p disk
         → (turns : List (Turn K.Key)) (now : Stage K.Key D)
@@ -83,6 +88,7 @@ pub fn an_index_lives_as_one_run<D: SectorDisk, K: ReadKeys>()
     every_life_is_a_run::<K::Key>();
     a_crash_leaves_a_set_of_the_machine::<D, K>();
     an_opening_finds_no_damage::<D, K>();
+    gx_machine::laws::acknowledged_commits_survive::<K::Key>();
 }
 
 /// What a life is of the machine is a run of it: a step for each ask and each reply, and one crash for each opening that ends well. So all that holds of

@@ -44,7 +44,8 @@ pub fn format<D: SectorDisk, K: ReadKeys>(
     ensures begins { (D.state disk.old).honest ≡ true
         → OnOk result (Bears K.Key.Shape K.is_proper K.said K.KeyClass D.state (record { pages = pages; most = most; class = K.CLASS }) fresh_machine (Lies disk.new)) }
     ensures new { (D.state disk.old).honest ≡ true
-        → OnOk result (IsNew K.KeyClass K.start_key D.state (record { pages = pages; most = most; class = K.CLASS }) disk.new) }
+        → OnOk result (IsNew K.KeyClass K.start_key D.state
+        (record { pages = pages; most = most; class = K.CLASS }) disk.new) }
     ensures formatted { (D.state disk.old).honest ≡ true
         → OnOk result (IsFormatted K.Key.Shape K.is_proper K.said (format_of K.KeyClass) K.CLASS (D.state disk.new) (record { pages = pages; most = most; class = K.CLASS })) }
 {
@@ -62,7 +63,8 @@ pub fn step<D: SectorDisk, K: ReadKeys + Probing>(
 ) -> Outcome<K::Key>
 where
     K::Probe: Drop,
-    ensures { GoesOn K.Key.Shape K.is_proper K.said K.KeyClass K.CLASS D.state (Works engine.old) (life.Happens event result) (Works engine.new) }
+    ensures { GoesOn K.Key.Shape K.is_proper K.said K.KeyClass K.CLASS D.state
+        (Works engine.old) (life.Happens event result) (Works engine.new) }
 {
     engine.step(event)
 }
@@ -86,8 +88,10 @@ where
         → Bears K.Key.Shape K.is_proper K.said K.KeyClass D.state p m (Lies disk) → 16 ≤ frames → frames ≤ 4096
         → IfErr result (λ n. HasFailed n.why) }
     ensures turn { (D.state disk).honest ≡ true → MatchResult result
-        (λ engine. GoesOn K.Key.Shape K.is_proper K.said K.KeyClass K.CLASS D.state (Lies disk) life.Opens (Works engine))
-        (λ n. GoesOn K.Key.Shape K.is_proper K.said K.KeyClass K.CLASS D.state (Lies disk) (life.Refuses n.why) (Lies n.disk)) }
+        (λ engine. GoesOn K.Key.Shape K.is_proper K.said K.KeyClass K.CLASS D.state
+        (Lies disk) life.Opens (Works engine))
+        (λ n. GoesOn K.Key.Shape K.is_proper K.said K.KeyClass K.CLASS D.state
+        (Lies disk) (life.Refuses n.why) (Lies n.disk)) }
 {
     an_opening_finds_no_damage::<D, K>();
     gx_restart::open(alloc, disk, frames)
