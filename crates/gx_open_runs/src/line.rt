@@ -3,7 +3,7 @@ use crate::again::stands;
 use crate::fault::RunFault;
 use crate::listing::DeviceCall;
 use crate::ran::{Ran, new_device, run_failing, run_whole};
-use crate::replies::{Answered, acknowledged_in, answered};
+use crate::replies::{Answered, acknowledged_in, how_answered};
 use crate::upward::Setting;
 use crate::ways::{Left, Way};
 use std::alloc::Global;
@@ -49,7 +49,7 @@ fn stop_line(
     if ran.passed != call {
         return Err(RunFault::Calls(call));
     }
-    match answered(script, &expected.replies, &ran.replies) {
+    match how_answered(script, &expected.replies, &ran.replies) {
         Answered::RefusedAt(place) if place == line => Ok(ran),
         _ => Err(RunFault::Replies(call)),
     }

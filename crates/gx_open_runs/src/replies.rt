@@ -73,7 +73,7 @@ fn take_reply<'a>(told: Told<'a>, place: usize, line: &[u8], reply: &[u8]) -> Op
 }
 
 /// How a text answers a script, of which these are the replies of the plain index.
-pub(crate) fn answered(script: &[u8], replies: &[Vec<u8>], text: &[u8]) -> Answered {
+pub(crate) fn how_answered(script: &[u8], replies: &[Vec<u8>], text: &[u8]) -> Answered {
     let mut told = Told {
         rest: text,
         refused: None,
@@ -108,10 +108,10 @@ pub(crate) fn is_told(script: &[u8], replies: &[Vec<u8>], ran: &Ran) -> bool {
     match ran.end {
         End::NotOpened(why) => why == Refusal::Device && ran.replies.is_empty(),
         End::Settled | End::NotSettled(Refusal::Device) => {
-            answered(script, replies, &ran.replies) == Answered::Whole
+            how_answered(script, replies, &ran.replies) == Answered::Whole
         }
         End::NotSettled(Refusal::Failed) => matches!(
-            answered(script, replies, &ran.replies),
+            how_answered(script, replies, &ran.replies),
             Answered::RefusedAt(_)
         ),
         End::NotSettled(_) => false,
