@@ -13,8 +13,6 @@ mod full;
 #[cfg(test)]
 mod legality;
 #[cfg(test)]
-mod life;
-#[cfg(test)]
 mod openings;
 #[cfg(test)]
 mod passes;
