@@ -5,8 +5,9 @@ ghost use Rattle.gx_shared.specs.Books.{MayBeShared};
 
 use gx_events::Events;
 use gx_geom::Box2;
+use gx_shared_callers::callers::wanted;
 use gx_shared_callers::holds::{empty, first_hold, flusher_hold, pairing, search_hold};
-use gx_shared_callers::seeded::seeded;
+use gx_storm::{Storm, Verdict, judge, run_storm};
 use gx_small_events::SmallEvents;
 use std::alloc::{AllocError, Global};
 use std::marker::Brand;
@@ -52,7 +53,14 @@ fn a_run_without_calls_has_an_empty_record(rt: HostRuntime) -> Result<(), Fail> 
 }
 
 #[test]
-fn the_plain_index_replays_a_record_of_four_threads(rt: HostRuntime) -> Result<(), Fail> {
+fn the_plain_index_replays_a_storm(rt: HostRuntime) -> Result<(), Fail> {
     let alloc = rt.alloc();
-    seeded::<_, Brand, _>(&rt, alloc, Blank::new(8), small(alloc)?)
+    let storm = Storm {
+        seed: 11,
+        sessions: 4,
+        calls: 250,
+    };
+    let (book, all) = run_storm::<_, Brand, _>(&rt, alloc, Blank::new(8), small(alloc)?, &storm)?;
+    let sound = judge(alloc, &book, 250, all.as_slice());
+    wanted(sound == Verdict::Sound, "the plain index replies otherwise")
 }

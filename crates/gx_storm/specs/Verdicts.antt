@@ -1,5 +1,5 @@
 -- What is said of a storm by its record and by what its sessions were handed.
-use Rattle.std.specs.Prelude.{ℕ, ◌≡◌, ◌⊎◌, ◌+◌, ◌≤◌, List, Option, None, Some, slice_get, length, vec_len}
+use Rattle.std.specs.Prelude.{ℕ, ◌≡◌, ◌⊎◌, ◌+◌, ◌<◌, List, Option, None, Some, slice_get, length, vec_len}
 use Rattle.gx_geom.specs.declared.refusal.Refusal.{Refusal}
 use Rattle.gx_geom.specs.declared.refusal.Refusal.TheVariants as refusal
 use Rattle.gx_machine.specs.declared.item.Item.{Item}
@@ -7,6 +7,7 @@ use Rattle.gx_machine.specs.Keys.{Keys}
 use Rattle.gx_machine.specs.Machine.{Machine, fresh_machine}
 use Rattle.gx_events.specs.Replay.{ReplaysAs}
 use Rattle.gx_shared.specs.Agreed.{replies_of}
+use Rattle.gx_shared.specs.declared.record.TheConstants.{RECORD}
 use Rattle.gx_replay.specs.Mismatches.{AreFaultless, StopsAt}
 use Rattle.gx_storm.specs.Refusals.{least_given_up, least_told, lesser}
 use Rattle.gx_storm.specs.declared.handed.Handed.{Handed}
@@ -53,7 +54,8 @@ pub record IsLeast {B : Type 0} (calls : ℕ) (items : List (Item B)) (all : Lis
 abbrev pub Says : {B : Type 0} → Keys B → ℕ → List (Item B) → List (Handed B) → Verdict → Type 0
 Says k calls items all verdict.Sound = IsSound k calls items all
 Says k calls items all (verdict.Mismatch place) = IsMismatchAt k calls items all place
-Says k calls items all (verdict.Refused why) = (why ≡ refusal.Memory) ⊎ IsLeast calls items all why
+Says k calls items all (verdict.Refused why) =
+    (why ≡ refusal.Memory) ⊎ (((why ≡ refusal.HistoryFull) × (RECORD < length items)) ⊎ IsLeast calls items all why)
 
 -- There is a record of sessions as the storm has them, of which the verdict says this; or memory was refused.
 pub record EndsStorm {B : Type 0} (k : Keys B) (storm : Storm) (said : Verdict) : Type 0 where

@@ -10,7 +10,7 @@ use gx_events::Events;
 use gx_geom::{Refusal, Shape};
 use gx_plain::PlainIndex;
 use gx_replay::{Mismatch, replay};
-use gx_shared::{Book, Run};
+use gx_shared::{Book, RECORD, Run};
 use std::alloc::Global;
 
 /// What is said of a storm.
@@ -81,7 +81,8 @@ fn agreed<B: Shape, E: Events<B>, R: Run<B>>(
 /// What is said of a storm, by the book that was closed, and by what its sessions, from number 1 on, were handed of so many calls each.
 ///
 /// The plain index, with nothing committed, replays the record; then what each session was handed is compared with it; then the least refusal
-/// of `Device`, `Failed`, `Damaged` and `HistoryFull` that was answered is looked for. `Refused(Memory)` where memory lacks for the replay.
+/// of `Device`, `Failed`, `Damaged` and `HistoryFull` that was answered is looked for. `Refused(Memory)` where memory lacks for the replay, and
+/// `Refused(HistoryFull)` for a record that is longer than records may be.
 pub fn judge<B: Shape, E: Events<B>, R: Run<B>>(
     alloc: Global,
     book: &Book<B, E, R>,
@@ -91,6 +92,9 @@ pub fn judge<B: Shape, E: Events<B>, R: Run<B>>(
     requires { length all.now ≤ SESSIONS }
     ensures { Says (keys_of B.Shape) calls book.now.1 all.now result }
 {
+    if book.calls().len() > RECORD {
+        return Verdict::Refused(Refusal::HistoryFull);
+    }
     let Ok(mut index) = PlainIndex::new(alloc) else {
         return Verdict::Refused(Refusal::Memory);
     };
