@@ -1,6 +1,7 @@
 -- What follows of the least refusal that was told, and of a replay.
-use Rattle.std.proofs.Common.{arith, ◌≡◌, ◌≤◌, ◌+◌, ℕ, Bool, true, false, List, [], ◌∷◌, Option, None, Some, refl, length, inl, inr, All}
-use Rattle.std.specs.Prelude.{if◌then◌else◌, nat_le}
+use Rattle.std.proofs.Common.{arith, ◌≡◌, ◌∙◌, ◌<◌, ◌≤◌, ◌+◌, ℕ, Bool, true, false, List, [], ◌∷◌, Option, None, Some, refl, sym, subst, length, inl, inr, below_more}
+use Rattle.std.specs.Prelude.{if◌then◌else◌, nat_le, slice_get}
+use Rattle.std.proofs.lemmas.Option.{slice_get_within}
 use Rattle.std.specs.List.{fold}
 use Rattle.gx_geom.specs.declared.refusal.Refusal.{Refusal}
 use Rattle.gx_geom.specs.declared.refusal.Refusal.TheVariants as refusal
@@ -10,11 +11,18 @@ use Rattle.gx_machine.specs.declared.reply.Reply.{Reply}
 use Rattle.gx_machine.specs.declared.reply.Reply.TheVariants as reply
 use Rattle.gx_machine.specs.declared.item.Item.{Item}
 use Rattle.gx_machine.specs.declared.item.Item.TheVariants.{Asked, Sealed, Replied}
+use Rattle.gx_machine.specs.Keys.{Keys}
+use Rattle.gx_machine.specs.Machine.{Machine, fresh_machine}
+use Rattle.gx_events.specs.Replay.{ReplaysAs}
 use Rattle.gx_shared.specs.declared.record.TheConstants.{RECORD}
 use Rattle.gx_plain.specs.Index.{fresh_index}
 use Rattle.gx_replay.specs.Following.{is_faultless, is_faultless_reply}
-use Rattle.gx_replay.specs.Mismatches.{AreFaultless, HasNumbersFor}
+use Rattle.gx_replay.specs.Mismatches.{AreFaultless, HasNumbersFor, StopsAt}
 use Rattle.gx_storm.specs.Refusals.{least_told, lesser, told_of, told_reply}
+use Rattle.gx_storm.specs.Verdicts.{AgreesAs, HasAll, HasReplies, Says}
+use Rattle.gx_storm.specs.declared.handed.Handed.{Handed}
+use Rattle.gx_storm.specs.declared.verdict.Verdict.{Verdict}
+use Rattle.gx_storm.specs.declared.verdict.Verdict.TheVariants as verdict
 
 -- the lesser of a refusal and another is one
 lesser_some : (a : Refusal) (o : Option Refusal) → (b : Refusal) × (lesser (Some a) o ≡ Some b)
@@ -85,3 +93,36 @@ module _ {B : Type 0} where
   -- a fresh index has numbers for any record
   pub has_numbers : (items : List (Item B)) → length items ≤ RECORD → HasNumbersFor (length items) (fresh_index {B = B})
   has_numbers items few = record { commits = omega (arith, few); transactions = omega (arith, few) }
+
+  -- the record has the replies of the first so many sessions
+  abbrev pub HasBelow : ℕ → ℕ → List (Item B) → List (Handed B) → Type 0
+  HasBelow n calls items all = (i : ℕ) → i < n → (h : Handed B) → slice_get all i ≡ Some h → HasReplies calls items (i + 1) h
+
+  same_some : {A : Type 0} (x y : A) → Some x ≡ Some y → x ≡ y
+  same_some x y e = cc
+
+  -- and of one more
+  pub has_more : (n calls : ℕ) (items : List (Item B)) (all : List (Handed B)) (x : Handed B) → slice_get all n ≡ Some x → HasBelow n calls items all
+      → HasReplies calls items (n + 1) x → HasBelow (n + 1) calls items all
+  has_more n calls items all x at below here =
+      below_more _ _ below (λ h is. subst (λ (y : Handed B). HasReplies calls items (n + 1) y) (same_some x h (sym at ∙ is)) here)
+
+  -- of all
+  pub has_every : (n calls : ℕ) (items : List (Item B)) (all : List (Handed B)) → length all ≤ n → HasBelow n calls items all → HasAll calls items all
+  has_every n calls items all past below i h is = let inside = slice_get_within all i h is in below i (omega (arith, past, inside)) h is
+
+  module _ (k : Keys B) (calls : ℕ) (items : List (Item B)) (all : List (Handed B)) (few : length items ≤ RECORD) where
+    -- what is said where the replay was defined
+    pub replayed : (end : Machine B) (said : Verdict) → (AreFaultless items → HasNumbersFor (length items) (fresh_index {B = B}) → ReplaysAs k fresh_machine items end)
+        → AgreesAs calls items all said → Says k calls items all said
+    replayed end verdict.Sound replays agrees =
+        let none = lesser_none _ _ agrees.1 in
+        let faultless = are_faultless items none.0 in
+        record { faultless = faultless; end = end; replays = replays faultless (has_numbers items few); replies = agrees.0; none = none.1 }
+    replayed end (verdict.Mismatch place) replays agrees = inr agrees
+    replayed end (verdict.Refused why) replays agrees = inr (inr agrees)
+
+    -- and where it wasn't
+    pub stopped : (place : ℕ) → (AreFaultless items → HasNumbersFor (length items) (fresh_index {B = B}) → StopsAt k fresh_machine items place)
+        → Says k calls items all (verdict.Mismatch place)
+    stopped place stops = inl (λ faultless. stops faultless (has_numbers items few))

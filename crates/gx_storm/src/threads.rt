@@ -100,7 +100,7 @@ fn workers<R: Run<Box2>>(
     ensures { IfOk result (λ workers. vec_len workers ≡ storm.now.sessions) }
 {
     let mut workers = Vec::new(alloc);
-    for _ in 0..storm.sessions {
+    for _taken in 0..storm.sessions {
         workers.push(Worker::new(alloc, sessions.remove(0), storm)?)?;
     }
     Ok(workers)
