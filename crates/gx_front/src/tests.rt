@@ -7,9 +7,11 @@ use std::env::FillError;
 use std::fs::{self, File, Files};
 use std::process::Abort;
 use std::rt::Env;
+use std::sync::Wait;
+use std::thread::Threads;
 
 // What asks for nothing the program knows, and calls for help.
-const WRONG: [&[&str]; 23] = [
+const WRONG: [&[&str]; 26] = [
     &["gist"],
     &["gist", "plane"],
     &["gist", "PLAIN"],
@@ -28,6 +30,9 @@ const WRONG: [&[&str]; 23] = [
     &["gist", "dump"],
     &["gist", "dump", "f", "g"],
     &["gist", "dump", "f", "--frames", "64"],
+    &["gist", "storm", "1", "9", "200"],
+    &["gist", "storm", "1", "4", "2001"],
+    &["gist", "storm", "4294967296", "4", "200"],
     &["gist", "--help"],
     &["gist", "help"],
     &["gist", "plain", "-h"],
@@ -36,7 +41,7 @@ const WRONG: [&[&str]; 23] = [
 ];
 
 // What asks for something, and what it asks for.
-const RIGHT: [(&[&str], Asked); 7] = [
+const RIGHT: [(&[&str], Asked); 8] = [
     (&["gist", "plain"], Asked::Plain),
     (
         &["gist", "format", "f", "8", "100"],
@@ -76,10 +81,18 @@ const RIGHT: [(&[&str], Asked); 7] = [
         },
     ),
     (&["gist", "dump", "f"], Asked::Dump { file: "f" }),
+    (
+        &["gist", "storm", "4294967295", "8", "2000"],
+        Asked::Storm {
+            seed: 4294967295,
+            sessions: 8,
+            calls: 2000,
+        },
+    ),
 ];
 
 // With these words a script of one line ends with this status, writes this, and a text about the words or none.
-fn ends<T: Abort + AllocGlobal + Files<File = File>>(
+fn ends<T: Abort + AllocGlobal + Files<File = File> + Threads + Wait + Sync>(
     rt: &T,
     words: Result<&[&str], WordsFault>,
     status: u8,
@@ -116,6 +129,17 @@ fn what_words_ask_for(rt: HostRuntime) {
     for (words, wanted) in RIGHT {
         assert!(rt; matches!(read(rt.alloc(), words), Ok(asked) if asked == wanted));
     }
+}
+
+#[test]
+fn a_storm_is_sound(rt: HostRuntime) {
+    ends(
+        &rt,
+        Ok(["gist", "storm", "1", "2", "20"].as_slice()),
+        0,
+        b"storm ok calls 40\n\0",
+        false,
+    );
 }
 
 // A file that can't be opened is told, and the script isn't read.
@@ -237,7 +261,10 @@ const fn refused(
 
 const ALL: &[u8] = b"1 BEGIN\n1 OVERLAP -2147483648 -2147483648 2147483647 2147483647\n";
 
-fn carries_out<T: Abort + AllocGlobal + Files<File = File>>(rt: &T, case: &Case) {
+fn carries_out<T: Abort + AllocGlobal + Files<File = File> + Threads + Wait + Sync>(
+    rt: &T,
+    case: &Case,
+) {
     let mut reader = Noted::new(case.script);
     let mut writer = Noted::new(Vec::new(rt.alloc()));
     let mut faults = Noted::new(Vec::new(rt.alloc()));
