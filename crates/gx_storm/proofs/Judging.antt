@@ -1,6 +1,7 @@
 -- What follows of the least refusal that was told, and of a replay.
 use Rattle.std.proofs.Common.{arith, ◌≡◌, ◌∙◌, ◌<◌, ◌≤◌, ◌+◌, ℕ, Bool, true, false, List, [], ◌∷◌, Option, None, Some, refl, sym, subst, length, inl, inr, below_more}
 use Rattle.std.specs.Prelude.{if◌then◌else◌, nat_le, slice_get}
+use Rattle.std.proofs.lemmas.List.Elements.{All-cons, All-nil}
 use Rattle.std.proofs.lemmas.Option.{slice_get_within}
 use Rattle.std.specs.List.{fold}
 use Rattle.gx_geom.specs.declared.refusal.Refusal.{Refusal}
@@ -87,12 +88,12 @@ module _ {B : Type 0} where
 
   -- a record that tells of none is faultless
   pub are_faultless : (items : List (Item B)) → least_told items ≡ None → AreFaultless items
-  are_faultless [] e = tt
+  are_faultless [] e = All-nil (λ item. is_faultless item ≡ true)
   are_faultless (item ∷ items) e = go (told_of item) refl e (are_faultless items)
     where
       go : (o : Option Refusal) → told_of item ≡ o → fold (λ least next. lesser least (told_of next)) (lesser None o) items ≡ None
-          → (least_told items ≡ None → AreFaultless items) → (is_faultless item ≡ true) × AreFaultless items
-      go None is e rest = (faultless_item item is, rest e)
+          → (least_told items ≡ None → AreFaultless items) → AreFaultless (item ∷ items)
+      go None is e rest = All-cons (λ next. is_faultless next ≡ true) item items (faultless_item item is) (rest e)
       go (Some a) is e rest = absurd (some_stays a items e)
 
   -- a fresh index has numbers for any record
