@@ -2,7 +2,8 @@
 # Times sessions in threads over one index: for 1, 2, 4 and 8 threads as many transactions in all, of six calls each (begin,
 # three inserts, a search, a commit). First on a device in memory, then, a tenth as many, over a file; each time an index is made,
 # opened, shared, settled and opened again. Prints the calls a second, from the best of nine runs less that of nine with
-# no transaction, all in turn; and, where perf is there, what share of the time the lock is held.
+# no transaction, all in turn; and, where perf is there, what share of the time the lock is held. Then commits of one insert each, in strips of
+# their own, over the file, beside SQLite's R*Tree by a connection a thread (write-ahead log, full sync), where its headers are there.
 # The first argument, if there is one, is how many transactions there are in memory, up to 5,000: a record has room for no
 # more. The second is a folder on the file system to be measured.
 set -euo pipefail
@@ -11,6 +12,7 @@ work="$(mktemp -d ${2:+-p "$2"})"
 trap 'rm -rf "$work"' EXIT
 cd "$top/crates/gx_threads_example"
 rt run < stdin > "$work/log" 2>&1 || { cat "$work/log"; exit 1; }
+cc -O2 -Wall -Wextra -o "$work/commits" "$top/bench/commits.c" -lsqlite3 -lpthread 2> "$work/log" || echo "SQLite isn't there: $(head -1 "$work/log")"
 cd "$work"
 echo "load $(cut -d' ' -f1 /proc/loadavg), the file is on $(df -T . | tail -1 | awk '{ print $2 }')"
 python3 - "$top/crates/gx_threads_example/out/gx_threads_example" "${1:-4000}" <<'P'
@@ -90,8 +92,44 @@ def shares(transactions):
         print(f"file, threads {threads}: in writes and syncs for {(inside - began[1]) / (took - began[0]):.0%} of the time, "
               f"{(syncs - began[2]) / (transactions // threads * threads):.1f} syncs a transaction", flush=True)
 
+def single(threads, transactions):
+    """Seconds of so many commits of one insert each over the file, and how many syncs there were, without those of a run with none."""
+    def one(each):
+        line = f"single {threads} {each} {file}"
+        began = time.perf_counter()
+        subprocess.run([program], input=line + "\n", text=True, check=True, stdout=subprocess.DEVNULL)
+        return time.perf_counter() - began
+    each = transactions // threads
+    return (min(one(each) for _ in range(5)) - min(one(0) for _ in range(5))) / (each * threads)
+
+def synced(threads, transactions):
+    """How many syncs a commit of one insert takes."""
+    def count(each):
+        traced = ["strace", "-f", "-qq", "-e", "trace=fdatasync,fsync", "-o", summary, program]
+        subprocess.run(traced, input=f"single {threads} {each} {file}\n", text=True, check=True, stdout=subprocess.DEVNULL)
+        return sum("sync(" in line for line in open(summary))
+    each = transactions // threads
+    return (count(each) - count(0)) / (each * threads)
+
+def sqlite(threads, transactions):
+    each = transactions // threads
+    done = subprocess.run(["./commits", "other.db", str(threads), str(each)], text=True, check=True, stdout=subprocess.PIPE)
+    return float(done.stdout) / (each * threads)
+
+def commits(transactions):
+    for threads in [1, 2, 4, 8]:
+        line = f"single commits, threads {threads}: {1 / single(threads, transactions):.0f} a second"
+        try:
+            line += f", {synced(threads, transactions):.2f} syncs a commit"
+        except FileNotFoundError:
+            pass
+        if os.path.exists("commits"):
+            line += f"; SQLite {1 / min(sqlite(threads, transactions) for _ in range(3)):.0f}"
+        print(line, flush=True)
+
 table("memory", total, "")
 table("file", total // 10, file)
+commits(total // 5)
 print("a write of 4,096 bytes there with its sync: at least {:.0f} microseconds, in the middle {:.0f}".format(*bare()), flush=True)
 try:
     shares(total // 4)

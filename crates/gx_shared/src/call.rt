@@ -3,6 +3,7 @@ ghost use Rattle.std.specs.Prelude.{◌≡◌};
 ghost use Rattle.gx_shared.specs.Sharing.{InCall, Follows};
 
 use crate::flush::{Part, ROUND};
+use crate::turns::Turn;
 use crate::{Between, Run, Session, Shared};
 use gx_events::{Driver, Event, Events, Next, Outcome};
 use gx_geom::Shape;
@@ -40,7 +41,8 @@ impl<R: Ledger> Session<R> {
     ghost use Rattle.gx_shared.specs.Sharing.{IsCalled};
 
     /// Asks a call and runs its events to the end, one hold of the lock for each; `between` comes between two of them, while no
-    /// lock is held. The session is used with the `Shared` that made it.
+    /// lock is held. The session is used with the `Shared` that made it. For a sealed commit the log is stepped once others, whose calls may
+    /// still seal, had a bounded number of turns, or another session steps it.
     ///
     /// The reply is the one that was recorded, and the session's share rises by one. Or the call is given up, and its share is as
     /// before: with `Device`, `Failed` or `Damaged` where an event of the log or of a page met a fault, with `Failed` where the
@@ -58,12 +60,17 @@ impl<R: Ledger> Session<R> {
         ensures { IsCalled self.old result self.new }
     {
         let number = self.number();
+        let mut turn = Turn::begin(&shared.turns, matches!(call, Call::Commit));
         let mut event = Event::Ask(number, call);
         let mut step: u64 = 0;
         for _ in rt.forever() {
+            let moved = matches!(event, Event::Move(_));
             match hold(rt, shared, self, event) {
-                Next::Done(reply) => return reply,
-                Next::Run(next) => event = next,
+                Next::Done(reply) => {
+                    turn.end(&shared.turns);
+                    return reply;
+                }
+                Next::Run(named) => event = turn.next(&shared.turns, number, moved, named),
             }
             step = step.saturating_add(1);
             between.between(number, step);

@@ -16,6 +16,7 @@ mod record;
 mod run;
 mod session;
 mod shared;
+mod turns;
 
 pub use between::{Between, NoBetween};
 pub use book::Book;

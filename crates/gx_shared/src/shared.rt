@@ -3,6 +3,7 @@ ghost use Rattle.std.specs.Prelude.{◌≡◌, ◌+◌, [], length, IfOk};
 ghost use Rattle.gx_machine.specs.declared.limits.TheConstants.{SESSIONS};
 ghost use Rattle.gx_shared.specs.Sharing.{fresh_sessions, shares_of};
 
+use crate::turns::Turns;
 use crate::{Book, Run, Session};
 use gx_events::Events;
 use gx_geom::{Refusal, Shape};
@@ -45,6 +46,7 @@ fn gathered<R: Ledger>(first: Share<R>, sessions: Vec<Session<R>>) -> Share<R>
 #[derive(Drop)]
 pub struct Shared<B: Shape, E: Events<B>, R: Run<B>> {
     pub(crate) book: Mutex<Book<B, E, R>>,
+    pub(crate) turns: Turns,
 }
 
 impl<B: Shape, E: Events<B>, R: Run<B>> Shared<B, E, R> {
@@ -77,6 +79,7 @@ impl<B: Shape, E: Events<B>, R: Run<B>> Shared<B, E, R> {
             Ok(book) => Ok((
                 Shared {
                     book: Mutex::new(book),
+                    turns: Turns::new(),
                 },
                 sessions,
             )),

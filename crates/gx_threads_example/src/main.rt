@@ -3,6 +3,8 @@
 //! A line of `stdin` has two numbers: how many threads there are, 1 to 8, and how many transactions each makes. Behind them a file may be
 //! named; an index is made in it, and what it held is lost. Without a file the device is one in memory.
 //!
+//! Behind the word `single` a transaction has one insert, and no search, in place of three and one.
+//!
 //! A line may have the word `storm` first, and then a seed, how many sessions there are and how many calls each makes; so their calls are
 //! drawn, and the record is replayed by the plain index.
 //!
@@ -38,11 +40,16 @@ const MOST: u16 = 100;
 struct Wanted<'l> {
     threads: u8,
     transactions: u16,
+    inserts: u8,
     file: Option<&'l str>,
 }
 
 /// A line's two numbers, and the file behind them, if there is one.
 fn read_line(line: &str) -> Result<Wanted<'_>, Trouble> {
+    let (line, inserts) = match line.strip_prefix("single ") {
+        Some(rest) => (rest, 1),
+        None => (line, 3),
+    };
     let Some((threads, rest)) = line.split_once(' ') else {
         return Err(Trouble::BadLine);
     };
@@ -54,6 +61,7 @@ fn read_line(line: &str) -> Result<Wanted<'_>, Trouble> {
         (Ok(threads), Ok(transactions)) => Ok(Wanted {
             threads,
             transactions,
+            inserts,
             file,
         }),
         _ => Err(Trouble::BadLine),
@@ -69,7 +77,14 @@ fn serve<D: SectorDisk + Drop + Send, W: Threads + Wait + Sync + Print>(
 ) -> Result<(), Trouble> {
     let disk = make(alloc, disk, PAGES, MOST)?;
     let engine = open_index(alloc, disk)?;
-    let engine = share(rt, alloc, engine, wanted.threads, wanted.transactions)?;
+    let engine = share(
+        rt,
+        alloc,
+        engine,
+        wanted.threads,
+        wanted.transactions,
+        wanted.inserts,
+    )?;
     let disk = settle(engine)?;
     let entries = count(alloc, disk)?;
     println!(rt; "opened again: {entries} entries")?;

@@ -86,6 +86,7 @@ fn run<E: Events<Box2> + Drop + Send, R: Run<Box2> + Send + Sync, W: Threads + W
     engine: E,
     threads: u8,
     transactions: u16,
+    inserts: u8,
 ) -> Result<E, Trouble>
     requires name { blank.name ≡ R.name }
     requires parts { (blank.parts ≡ R.parts) × (R.parts ≡ SESSIONS) }
@@ -98,7 +99,7 @@ fn run<E: Events<Box2> + Drop + Send, R: Run<Box2> + Send + Sync, W: Threads + W
     let done = map_vec(
         rt,
         workers,
-        &|worker| worker.work(rt, &shared, transactions),
+        &|worker| worker.work(rt, &shared, transactions, inserts),
     )?;
     let handed = all_back(alloc, &mut sessions, done)?;
     let book = shared.close(sessions);
@@ -113,8 +114,9 @@ pub(crate) fn share<E: Events<Box2> + Drop + Send, W: Threads + Wait + Sync + Pr
     engine: E,
     threads: u8,
     transactions: u16,
+    inserts: u8,
 ) -> Result<E, Trouble>
     requires { E.granted → MayBeShared E.sees (E.sees engine) engine }
 {
-    run::<E, Brand, W>(rt, alloc, Blank::new(8), engine, threads, transactions)
+    run::<E, Brand, W>(rt, alloc, Blank::new(8), engine, threads, transactions, inserts)
 }

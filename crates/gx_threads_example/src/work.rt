@@ -49,12 +49,14 @@ impl<R: Ledger> Worker<R> {
         Ok(())
     }
 
-    /// A transaction in a strip that this session alone uses: three inserts, a search of what it has inserted first, and a commit.
+    /// A transaction in a strip that this session alone uses: so many inserts, a search of what it has inserted first where there are
+    /// several, and a commit.
     fn transact<E: Events<Box2>, W: Wait>(
         &mut self,
         rt: &W,
         shared: &Shared<Box2, E, R>,
         turn: u16,
+        inserts: u8,
     ) -> Result<(), AllocError>
     where
         R: Run<Box2>,
@@ -62,13 +64,15 @@ impl<R: Ledger> Worker<R> {
         let row = u64::from(self.session.number());
         let y = i32::from(self.session.number()) * 100;
         self.call(rt, shared, Call::Begin)?;
-        for insert in 0..3u8 {
+        for insert in 0..inserts {
             let x = i32::from(turn) * 100 + i32::from(insert) * 10;
             let key = between(x, y, x + 1, y + 1);
             self.call(rt, shared, Call::Insert(Entry { row, key }))?;
         }
-        let strip = Query::Overlap(between(0, y, 1000, y + 1));
-        self.call(rt, shared, Call::Search(strip))?;
+        if inserts > 1 {
+            let strip = Query::Overlap(between(0, y, 1000, y + 1));
+            self.call(rt, shared, Call::Search(strip))?;
+        }
         self.call(rt, shared, Call::Commit)
     }
 
@@ -78,13 +82,14 @@ impl<R: Ledger> Worker<R> {
         rt: &W,
         shared: &Shared<Box2, E, R>,
         transactions: u16,
+        inserts: u8,
     ) -> Result<Self, AllocError>
     where
         R: Run<Box2>,
     {
         let mut worker = self;
         for turn in 0..transactions {
-            worker.transact(rt, shared, turn)?;
+            worker.transact(rt, shared, turn, inserts)?;
         }
         Ok(worker)
     }
