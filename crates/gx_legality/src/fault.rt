@@ -58,7 +58,10 @@ impl fmt::Display for Rule {
                 write!(f, "the child in slot {slot} is not one level lower")
             }
             Rule::Bound(slot) => {
-                write!(f, "the bound in slot {slot} does not cover a key of its child")
+                write!(
+                    f,
+                    "the bound in slot {slot} does not cover a key of its child"
+                )
             }
             Rule::NamedTwice => f.write_str("two entries name the page"),
             Rule::NotNamed => f.write_str("no entry names the page"),
