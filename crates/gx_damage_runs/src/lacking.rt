@@ -219,7 +219,7 @@ fn helping(need: Need) -> Event<Box2> {
 }
 
 /// Draws so many events of a new index, of eight sessions and of the flusher, settles it, and says how often memory lacked.
-pub(crate) fn lacking(alloc: Global, seed: u64, events: u64) -> Result<Lacked, RunFault> {
+pub(crate) fn run_lacking(alloc: Global, seed: u64, events: u64) -> Result<Lacked, RunFault> {
     let sectors = (PAGES as usize).saturating_mul(8).saturating_add(4168);
     let mut disk = MemDisk::new(alloc, sectors)?;
     disk.reserve(CALLS, SECTORS)?;

@@ -38,7 +38,7 @@ use counts::Counts;
 use damage::damage;
 use fault::RunFault;
 use gx_class::{Box2Class, IntervalClass};
-use lacking::lacking;
+use lacking::run_lacking;
 use large::make;
 use moments::Life;
 use opened::{Found, judge};
@@ -160,7 +160,7 @@ impl Runs {
                 return Ok(true);
             }
             "lacking" => {
-                let lacked = lacking(rt.alloc(), number(&mut words)?, number(&mut words)?)?;
+                let lacked = run_lacking(rt.alloc(), number(&mut words)?, number(&mut words)?)?;
                 println!(rt; " {lacked}")?;
                 return Ok(true);
             }

@@ -175,7 +175,7 @@ fn note(class: u16, cursor: &mut Cursor<'_>) -> Option<Logged> {
 }
 
 /// The record that begins there. `None` where none does that is whole.
-fn logged(class: u16, cursor: &mut Cursor<'_>) -> Option<Logged> {
+fn record_at(class: u16, cursor: &mut Cursor<'_>) -> Option<Logged> {
     match cursor.byte()? {
         1 => pages(cursor),
         2 => write(class, cursor),
@@ -215,7 +215,7 @@ fn take_body(log: &mut Log, image: &[u8], at: usize) -> Result<(), Damage> {
             break;
         }
         log.at = cursor.at.saturating_sub(start);
-        match logged(log.parameters.class, &mut cursor) {
+        match record_at(log.parameters.class, &mut cursor) {
             Some(logged) => {
                 let may = may_stand(log.body, log.at, &logged);
                 log.test(may, rules::MISPLACED)?;
