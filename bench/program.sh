@@ -189,6 +189,15 @@ for words in "format places 7 4" "format places 65537 4" "format places 16 3" "f
     # shellcheck disable=SC2086
     on_file "wrong words: $words" 2 "$nothing" "For more information, try '--help'" $words
 done
+for words in "storm 1 9 200" "storm 1 0 200" "storm 1 4 2001" "storm 1 4 0" "storm 4294967296 4 200" "storm -1 4 200" "storm 1 4" "storm 1 4 200 1" "storm"; do
+    # shellcheck disable=SC2086
+    on_file "wrong words: $words" 2 "$nothing" "For more information, try '--help'" $words
+done
+on_file "a storm" 0 'storm ok calls 800
+' "" storm 1 4 200
+on_file "a storm of one session" 0 'storm ok calls 2000
+' "" storm 4294967295 1 2000
+on_file "help of storm" 2 "$nothing" "gist storm 1 4 200" storm --help
 on_file "help of format" 2 "$nothing" "gist format places.gist 4096 100" format --help
 on_file "help of run" 2 "$nothing" "gist run places.gist < changes" run -h
 on_file "help of dump" 2 "$nothing" "gist dump places.gist" dump --help
@@ -252,6 +261,9 @@ ended "a format told to a full disk" 1 "$work/nothing" "^gist: a reply can't be 
 status=0
 "$program" dump places > /dev/full 2> "$work/err" < /dev/null || status=$?
 ended "a tree told to a full disk" 1 "$work/nothing" "^gist: a reply can't be written: no storage space$"
+status=0
+"$program" storm 1 2 10 > /dev/full 2> "$work/err" < /dev/null || status=$?
+ended "a storm told to a full disk" 1 "$work/nothing" "^gist: a reply can't be written: no storage space$"
 on_file "what a format leaves" 0 '1 ok
 1 found 0
 ' "" run places
