@@ -5,3 +5,4 @@ pub mod Openings
 pub mod Endings
 pub mod Dumping
 pub mod Durably
+pub mod Saying

@@ -111,7 +111,7 @@ module _ {C B D : Type 0} (shape : Members B) (proper : B → Bool) (said : List
   pub stands_so : (g : Found) (i : index.State B) → KeepsIt g i → (image : List ℕ) → durable.Stands k r i.log image → InSet image
   stands_so g i keeps image s = record {
     log = g.log;
-    stands = record { bodies = s.bodies; told = s.told; undamaged = s.undamaged; sizes = s.sizes; stands = kept_so g i keeps (area_of r k.pages image) (records_of s.bodies) s.stands; fit = s.fit };
+    stands = record { head = s.head; bodies = s.bodies; told = s.told; undamaged = s.undamaged; sizes = s.sizes; stands = kept_so g i keeps (area_of r k.pages image) (records_of s.bodies) s.stands; fit = s.fit };
   }
 
   pub keeps_of : (e : Parts B D) (h : Holds e) → KeepsIt h.found h.index
