@@ -1,6 +1,6 @@
 -- What an opening reads of a device lies below the end of its pages: so what holds of a copy of these sectors holds of the device.
 use Rattle.std.proofs.Common.{◌≡◌, ◌⊎◌, ◌∙◌, sym, ap, refl, subst, inl, inr, ℕ, zero, suc, ◌+◌, ◌*◌, ◌<◌, ◌≤◌, Bool, true, false, List, length, take, drop, arith}
-use Rattle.std.specs.Prelude.{if◌then◌else◌, Err}
+use Rattle.std.specs.Prelude.{if◌then◌else◌, IfOk, Result, Ok, Err}
 use Rattle.std.proofs.Math.Path.{fun_ext}
 use Rattle.std.proofs.lemmas.List.{drop-drop, drop-take, take-take}
 use Rattle.gx_geom.specs.declared.refusal.Refusal.{Refusal}
@@ -8,7 +8,6 @@ use Rattle.gx_geom.specs.declared.refusal.Refusal.TheVariants as refusal
 use Rattle.gx_disk.specs.Device.{Device}
 use Rattle.gx_disk.specs.Sectors.{sector_of, span_of}
 use Rattle.gx_disk.proofs.Spans.{spans_same}
-use Rattle.gx_format.specs.Formatting.{sectors_of}
 use Rattle.gx_glog.specs.declared.extent.Extent.{Extent}
 use Rattle.gx_glog.specs.declared.parameters.Parameters.{Parameters}
 use Rattle.gx_glog.specs.Cuts.{bodies_in}
@@ -33,12 +32,14 @@ use Rattle.gx_machine.specs.declared.entry.Entry.{Entry}
 use Rattle.gx_machine.specs.Keys.{Members}
 use Rattle.gx_machine.specs.Sets.{IsSetOf}
 use Rattle.gx_node.specs.Reading.{Format}
-use Rattle.gx_opening.specs.Formatted.{IsAllowed, MaySettle, Says}
+use Rattle.gx_format.specs.Formatting.{AreInRange, sectors_of}
+use Rattle.gx_opening.specs.Formatted.{Counted, MaySettle, Says}
+use Rattle.gx_opening.proofs.Stood.{one_saying}
 use Rattle.gx_opening.specs.Sound.{IsCause}
 use Rattle.gx_opening.specs.Standing.{IsFormatted, IsUnlaid, IsUnsound, known_for, limits_of, reading}
 use Rattle.gx_readings.specs.Classes.{class_of}
 use Rattle.gx_restart.specs.Beginning.{HasFailed, IsGoodLog}
-use Rattle.gx_restart.specs.Copied.{AreEnough, IsCopy, refusal_of_copy}
+use Rattle.gx_restart.specs.Copied.{AreEnough, IsCopy, IsFront, refusal_of_copy}
 use Rattle.gx_restart.specs.Opened.{IsRefused}
 use Rattle.gx_restart.specs.Verified.{HasDamagedLog, HasUnsoundPages, IsUnverified, IsVerified}
 use Rattle.gx_restart.specs.declared.verification.Report.{Report}
@@ -259,3 +260,47 @@ module _ {B D : Type 0} (shape : Members B) (is_key : B → Bool) (said : List �
 pub never_device : (why : Refusal) → refusal_of_copy why ≡ refusal.Device → ⊥
 never_device refusal.Device is = cc
 never_device other is = cc
+
+-- the first sectors of a device, as many as are enough, are a copy
+module _ {M : Type 0} (state : M → Device) (d middle : Device) (n : ℕ) (least : 4232 ≤ n) (inside : n ≤ d.sectors) (same : middle.seen ≡ d.seen) (p : Parameters) (says : Says d.seen p)
+    (wanted : 8 ≤ p.pages → p.pages ≤ 65536 → (n ≡ d.sectors) ⊎ (sectors_of p.pages ≤ n)) where
+  enough_for : (q : Parameters) → Says d.seen q → AreInRange q.pages q.most → AreEnough d.sectors n q
+  enough_for q so range =
+      let is : p ≡ q = one_saying d.seen p q says so in
+      subst (λ (x : Parameters). AreInRange x.pages x.most → AreEnough d.sectors n x) is (λ r. wanted r.least_pages r.most_pages) range
+
+  copy_so : (e : Device) → IsFront middle n e → IsCopy d e
+  copy_so e front = record {
+    least = let is = front.sectors in omega (arith, is, least);
+    inside = let is = front.sectors in omega (arith, is, inside);
+    honest = front.honest;
+    bytes = front.bytes ∙ ap (λ seen. span_of seen 0 (512 * n)) same ∙ ap (λ m. span_of d.seen 0 (512 * m)) (sym front.sectors);
+    enough = λ q so range. subst (λ m. AreEnough d.sectors m q) (sym front.sectors) (enough_for q so range);
+  }
+
+  pub copy_made : (result : Result M Refusal) → IfOk result (λ m. IsFront middle n (state m)) → IfOk result (λ m. IsCopy d (state m))
+  copy_made (Ok m) front = copy_so (state m) front
+  copy_made (Err why) front = tt
+
+pub large_enough : {M : Type 0} (state : M → Device) (n : ℕ) → 4232 ≤ n → (result : Result M Refusal) → IfOk result (λ m. (state m).sectors ≡ n) → IfOk result (λ m. 4232 ≤ (state m).sectors)
+large_enough state n least (Ok m) is = omega (arith, is, least)
+large_enough state n least (Err why) is = tt
+
+-- calls that only read, one behind the other
+pub counted_joined : {T U : Type 0} (a b e : Device) (x : T) (result : Result U Refusal) → Counted 0 a b (Ok {E = Refusal} x) → Counted 0 b e result → Counted 0 a e result
+counted_joined a b e x (Ok y) first next =
+    let from = first.from in
+    let to = first.to in
+    let since = next.from in
+    let till = next.to in
+    let before = first.faults in
+    let after = next.faults in
+    record { sectors = next.sectors ∙ first.sectors; honest = next.honest ∙ first.honest; from = omega (arith, from, since); to = omega (arith, to, till); faults = omega (arith, before, after) }
+counted_joined a b e x (Err why) first next =
+    let from = first.from in
+    let to = first.to in
+    let since = next.from in
+    let till = next.to in
+    let before = first.faults in
+    let after = next.faults in
+    record { sectors = next.sectors ∙ first.sectors; honest = next.honest ∙ first.honest; from = omega (arith, from, since); to = omega (arith, to, till); faults = omega (arith, before, after) }

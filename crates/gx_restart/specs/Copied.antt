@@ -12,6 +12,12 @@ use Rattle.gx_opening.specs.Formatted.{Says}
 abbrev pub AreEnough : ℕ → ℕ → Parameters → Type 0
 AreEnough sectors n p = (n ≡ sectors) ⊎ (sectors_of p.pages ≤ n)
 
+-- the first so many sectors of a device, as a device that doesn't lie
+pub record IsFront (d : Device) (n : ℕ) (e : Device) : Type 0 where
+  pub sectors : e.sectors ≡ n
+  pub honest : e.honest ≡ true
+  pub bytes : e.seen ≡ span_of d.seen 0 (512 * n)
+
 -- The first sectors of a device, those of the smallest index at least: all that an index takes that the device says it is formatted for, if it has
 -- them, else all.
 pub record IsCopy (d e : Device) : Type 0 where

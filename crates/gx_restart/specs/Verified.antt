@@ -1,5 +1,5 @@
 -- What verifying a device tells of its bytes: what an opening of it would come to.
-use Rattle.std.specs.Prelude.{◌≡◌, ◌⊎◌, ℕ, Bool, List, Err, length}
+use Rattle.std.specs.Prelude.{◌≡◌, ◌⊎◌, ℕ, Bool, List, Result, Ok, Err, length}
 use Rattle.gx_geom.specs.declared.refusal.Refusal.{Refusal}
 use Rattle.gx_geom.specs.declared.refusal.Refusal.TheVariants.{Damaged}
 use Rattle.gx_disk.specs.Device.{Device}
@@ -20,7 +20,13 @@ use Rattle.gx_recovery.specs.Damage.{records_of}
 use Rattle.gx_recovery.specs.Redo.{redone}
 use Rattle.gx_recovery.specs.Standing.{stands_for}
 use Rattle.gx_restart.specs.Beginning.{HasFailed, IsGoodLog}
+use Rattle.gx_restart.specs.declared.verification.NotVerified.{NotVerified}
 use Rattle.gx_restart.specs.declared.verification.Report.{Report}
+
+-- what is answered, with the refusal alone
+abbrev pub why_of : Result Report NotVerified → Result Report Refusal
+why_of (Ok report) = Ok report
+why_of (Err refused) = Err refused.why
 
 module _ {B : Type 0} (shape : Members B) (is_key : B → Bool) (said : List ℕ → B) (f : Format B) where
   -- A device is formatted for an index of the class; its log is undamaged, and the pages after it are good for it and can be read. The report has

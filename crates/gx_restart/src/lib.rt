@@ -19,4 +19,4 @@ pub use gx_script::{Noted, ScriptFault};
 pub use index::Index;
 pub use opening::open;
 pub use script::run_script;
-pub use verification::{Report, verify};
+pub use verification::{NotVerified, Report, verify, verify_or_copy};

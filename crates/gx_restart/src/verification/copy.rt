@@ -1,12 +1,11 @@
 //! A copy in memory of what an opening may read of a device.
-ghost use Rattle.std.specs.Prelude.{◌≡◌, ◌⊎◌, ◌≤◌, ◌*◌, length, true, IfErr, IfOk};
+ghost use Rattle.std.specs.Prelude.{◌≡◌, ◌⊎◌, ◌≤◌, ◌*◌, length, true, IfErr, IfOk, OnOk};
 ghost use Rattle.gx_disk.specs.Looks.{Looks};
 ghost use Rattle.gx_disk.specs.Sectors.{span_of};
 ghost use Rattle.gx_format.specs.Formatting.{sectors_of};
-ghost use Rattle.gx_glog.specs.declared.parameters.Parameters.{Parameters as ParametersOf};
 ghost use Rattle.gx_opening.specs.Formatted.{Counted, Says};
 ghost use Rattle.gx_restart.specs.Beginning.{HasFailed};
-ghost use Rattle.gx_restart.specs.Copied.{IsCopy};
+ghost use Rattle.gx_restart.specs.Copied.{IsCopy, IsFront};
 
 use gx_disk::{MemDisk, SECTOR_SIZE, SectorDisk};
 use gx_format::sectors_for;
@@ -19,18 +18,17 @@ const LEAST_PAGES: u32 = 8;
 
 const MOST_PAGES: u32 = 65_536;
 
-// How many pages a device says that it is formatted for. Any number may stand there.
-fn pages_told<D: SectorDisk>(disk: &mut D) -> Result<u32, Refusal>
+// What a device says that it is formatted for. Any numbers may stand there.
+fn parameters_told<D: SectorDisk>(disk: &mut D) -> Result<Parameters, Refusal>
     requires { 4232 ≤ (D.state disk.old).sectors }
     ensures counted { Counted 0 (D.state disk.old) (D.state disk.new) result }
     ensures looks { (D.state disk.old).honest ≡ true → Looks (D.state disk.old) (D.state disk.new) }
-    ensures told { (D.state disk.old).honest ≡ true
-        → IfOk result (λ pages. (p : ParametersOf) → Says (D.state disk.old).seen p → p.pages ≡ pages) }
+    ensures told { (D.state disk.old).honest ≡ true → IfOk result (Says (D.state disk.old).seen) }
     ensures refused { IfErr result (λ why. why ≡ Refusal.Device) }
 {
     let mut bytes = [0; SECTOR_SIZE];
     match disk.read(PARAMETERS, &mut bytes) {
-        Ok(()) => Ok(Parameters::decode(&bytes).pages),
+        Ok(()) => Ok(Parameters::decode(&bytes)),
         Err(_) => Err(Refusal::Device),
     }
 }
@@ -62,28 +60,46 @@ fn room_for(alloc: Global, sectors: u64) -> Result<Vec<u8>, AllocError>
     vec![in alloc; 0; SECTOR_SIZE * sectors as usize]
 }
 
-// Reads the first so many sectors of a device.
-fn read_first<D: SectorDisk>(
+// Reads as many bytes from the start of a device.
+fn read_first<D: SectorDisk>(disk: &mut D, bytes: &mut [u8], sectors: u64) -> Result<(), Refusal>
+    requires least { 4232 ≤ sectors }
+    requires inside { sectors ≤ (D.state disk.old).sectors }
+    requires size { length bytes.old ≡ 512 * sectors }
+    ensures size { length bytes.new ≡ length bytes.old }
+    ensures counted { Counted 0 (D.state disk.old) (D.state disk.new) result }
+    ensures looks { (D.state disk.old).honest ≡ true → Looks (D.state disk.old) (D.state disk.new) }
+    ensures bytes { (D.state disk.old).honest ≡ true
+        → OnOk result (bytes.new ≡ span_of (D.state disk.old).seen 0 (512 * sectors)) }
+    ensures refused { IfErr result (λ why. why ≡ Refusal.Device) }
+{
+    match disk.read(0, bytes) {
+        Ok(()) => Ok(()),
+        Err(_) => Err(Refusal::Device),
+    }
+}
+
+// Copies the first so many sectors of a device.
+fn copy_first<D: SectorDisk>(
     alloc: Global,
     disk: &mut D,
     sectors: u64,
-) -> Result<Vec<u8>, Refusal>
+) -> Result<MemDisk, Refusal>
     requires least { 4232 ≤ sectors }
     requires inside { sectors ≤ (D.state disk.old).sectors }
     requires few { sectors ≤ 528456 }
     ensures counted { Counted 0 (D.state disk.old) (D.state disk.new) result }
     ensures looks { (D.state disk.old).honest ≡ true → Looks (D.state disk.old) (D.state disk.new) }
-    ensures size { IfOk result (λ bytes. length bytes.items ≡ 512 * sectors) }
-    ensures bytes { (D.state disk.old).honest ≡ true
-        → IfOk result (λ bytes. bytes.items ≡ span_of (D.state disk.old).seen 0 (512 * sectors)) }
+    ensures size { IfOk result (λ copy. (⟦<MemDisk as SectorDisk>⟧.state copy).sectors ≡ sectors) }
+    ensures front { (D.state disk.old).honest ≡ true
+        → IfOk result (λ copy. IsFront (D.state disk.old) sectors (⟦<MemDisk as SectorDisk>⟧.state copy)) }
     ensures refused { IfErr result HasFailed }
 {
     let Ok(mut bytes) = room_for(alloc, sectors) else {
         return Err(Refusal::Memory);
     };
-    match disk.read(0, &mut bytes) {
-        Ok(()) => Ok(bytes),
-        Err(_) => Err(Refusal::Device),
+    match read_first(disk, &mut bytes, sectors) {
+        Ok(()) => Ok(MemDisk::from_bytes(alloc, bytes)),
+        Err(why) => Err(why),
     }
 }
 
@@ -99,8 +115,11 @@ pub(crate) fn copied<D: SectorDisk>(alloc: Global, disk: &mut D) -> Result<MemDi
         → IfOk result (λ copy. IsCopy (D.state disk.old) (⟦<MemDisk as SectorDisk>⟧.state copy)) }
     ensures refused { IfErr result HasFailed }
 {
-    let pages = pages_told(disk)?;
-    let sectors = sectors_copied(disk.sectors(), pages);
-    let bytes = read_first(alloc, disk, sectors)?;
-    Ok(MemDisk::from_bytes(alloc, bytes))
+    match parameters_told(disk) {
+        Ok(parameters) => {
+            let sectors = sectors_copied(disk.sectors(), parameters.pages);
+            copy_first(alloc, disk, sectors)
+        }
+        Err(why) => Err(why),
+    }
 }

@@ -1,11 +1,12 @@
 //! The entries of an index that no session has a transaction of: the pairs of its leaves that aren't marked.
-ghost use Rattle.std.specs.Prelude.{◌≡◌, ◌≤◌, OnOk, IfOk};
+ghost use Rattle.std.specs.Prelude.{◌≡◌, ◌≤◌, not, OnOk, IfOk, Ok};
 ghost use Rattle.gx_node.specs.Reading.{format_of};
 ghost use Rattle.gx_node.specs.Store.{node_of};
 ghost use Rattle.gx_restart.specs.Bringing.{Brings, Helps, IsBrought};
 ghost use Rattle.gx_restart.specs.Counted.{HasLive, HasLiveOn};
 ghost use Rattle.gx_restart.specs.Pages.{IsNode};
 ghost use Rattle.gx_restart.specs.Sizes.{live_on};
+ghost use Rattle.gx_tree_laws.specs.Lists.{one_if};
 
 use crate::text::Stop;
 use crate::text::bring::bring;
@@ -17,16 +18,20 @@ use gx_page::Page;
 use gx_readings::ReadKeys;
 use gx_storage::laws::a_volume_shows_the_logs_tree;
 
+// One for a pair that isn't marked.
+fn count_pair(marked: bool) -> usize
+    ensures { result ≡ one_if (not marked) }
+{
+    if marked { 0 } else { 1 }
+}
+
 // How many pairs of a leaf aren't marked.
 fn count_pairs<K: KeyClass>(leaf: &Leaf<K>) -> usize
     ensures { result ≡ live_on leaf.now }
 {
     let mut live = 0;
     for slot in 0..leaf.len() {
-        let (_, marked) = leaf.entry(slot);
-        if !marked {
-            live += 1;
-        }
+        live += count_pair(leaf.is_marked(slot));
     }
     live
 }
