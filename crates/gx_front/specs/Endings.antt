@@ -15,10 +15,11 @@ use Rattle.gx_command.specs.Streams.{Outputs, Prints, Stream, TellsPerson}
 use Rattle.gx_device_commands.specs.Dumping.{DumpsOver}
 use Rattle.gx_device_commands.specs.Endings.{FormatsOver, RunsOver}
 use Rattle.gx_device_commands.specs.Lines.{refusal_line}
+use Rattle.gx_device_commands.specs.Verifying.{VerifiesOver}
 use Rattle.gx_words.specs.Asking.{WordsAsk}
 use Rattle.gx_words.specs.Program.{gist_app}
 use Rattle.gx_words.specs.declared.asking.Asked.{Asked}
-use Rattle.gx_words.specs.declared.asking.Asked.TheVariants.{Plain, Format, Run, Dump}
+use Rattle.gx_words.specs.declared.asking.Asked.TheVariants.{Plain, Format, Run, Dump, Verify}
 use Rattle.gx_words.specs.declared.words.WordsFault.{WordsFault}
 use Rattle.gx_words.specs.declared.words.WordsFault.TheVariants.{NotText, Memory}
 
@@ -73,12 +74,23 @@ module _ {C : Type 0} (shape : Members Rectangle) (class : Ghosts C Rectangle) (
   abbrev pub EndsDump : Outputs → Outputs → ℕ → Type 0
   EndsDump from to status = HasNoDevice from to status ⊎ DumpsFile from to status
 
+  -- the index of boxes that a file holds was verified, with 64 frames
+  pub record VerifiesFile (from to : Outputs) (status : ℕ) : Type 0 where
+    pub disk : FileDisk
+    pub after : FileDisk
+    pub verifies : VerifiesOver shape in_order corners_of class state 1 64 disk after from to status
+
+  -- how verifying a file may end
+  abbrev pub EndsVerify : Outputs → Outputs → ℕ → Type 0
+  EndsVerify from to status = HasNoDevice from to status ⊎ VerifiesFile from to status
+
   -- how what was asked for may end
   abbrev pub EndsAsked : Asked → Stream → Stream → Outputs → Outputs → ℕ → Type 0
   EndsAsked Plain had left from to status = EndsScript had left from to status
   EndsAsked (Format file pages most) had left from to status = (left ≡ had) × EndsFormat class state pages most from to status
   EndsAsked (Run file frames) had left from to status = EndsRun frames had left from to status
   EndsAsked (Dump file) had left from to status = (left ≡ had) × EndsDump from to status
+  EndsAsked (Verify file) had left from to status = (left ≡ had) × EndsVerify from to status
 
   -- nothing is wrong with the words, and what they ask for ended so
   pub record EndsAsWanted (words : List Text) (had left : Stream) (from to : Outputs) (status : ℕ) : Type 0 where

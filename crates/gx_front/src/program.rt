@@ -3,7 +3,7 @@ ghost use Rattle.std.specs.Prelude.{◌≡◌, map, MatchResult};
 ghost use Rattle.gx_command.specs.Streams.{outputs_of, stream_of};
 ghost use Rattle.gx_front.specs.Endings.{EndsAsked, EndsOnWords, EndsUnread};
 
-use crate::files::{dump_file, format_file, run_file};
+use crate::files::{dump_file, format_file, run_file, verify_file};
 use clap::error::ErrorKind;
 use gx_class::{Box2Class, KeyClass};
 use gx_command::{Noted, refuse_memory, run_script};
@@ -25,6 +25,7 @@ const WRONG_WORDS: u8 = 2;
 /// - `gist format FILE PAGES M` lays a new index down in a file, and writes `formatted pages PAGES fanout M`.
 /// - `gist run FILE [--frames N]` reads a script from the reader and writes the replies of the index in a file.
 /// - `gist dump FILE` writes the text of the tree of the index in a file.
+/// - `gist verify FILE` tests the index in a file, and writes `ok commits N entries E used U`; the file stays as it is.
 ///
 /// The status is 0 where all was done. It is 1 where a call outside of a script was refused, which writes `refused N
 /// text`, 11 for a file that can't be opened or is in use; where a reply to a script on a file was refused with 11, 12
@@ -82,6 +83,7 @@ fn carry_out<T: Files<File = File>, R: Read, W: Write, E: Write>(
         }
         Asked::Run { file, frames } => run_file(rt, alloc, file, frames, reader, writer, faults),
         Asked::Dump { file } => dump_file(rt, alloc, file, writer, faults),
+        Asked::Verify { file } => verify_file(rt, alloc, file, writer, faults),
     }
 }
 

@@ -88,12 +88,12 @@ module _ (n : ℕ) (xs ys : List ℕ) (enough : 4168 ≤ n) (same : ReadAlike n 
       [ true ↦ (let rest = few_by bytes x places (k + 1) in omega (arith, rest)) | false ↦ omega arith ]
 
   -- each body of the log, and all of them
-  log_body : (j : ℕ) → j < opened ys → body_of xs (selected_of xs) j ≡ body_of ys (selected_of ys) j
+  pub log_body : (j : ℕ) → j < opened ys → body_of xs (selected_of xs) j ≡ body_of ys (selected_of ys) j
   log_body j less =
       let few = few_by ys (selected_of ys) 32 0 in
       ap (λ x. body_of xs x j) selected_alike ∙ bodies_alike (selected_of ys) j (omega (arith, few, less))
 
-  log_bodies : bodies_in xs (selected_of xs) (opened xs) ≡ bodies_in ys (selected_of ys) (opened ys)
+  pub log_bodies : bodies_in xs (selected_of xs) (opened xs) ≡ bodies_in ys (selected_of ys) (opened ys)
   log_bodies =
       let few = few_by ys (selected_of ys) 32 0 in
       ap (λ x. bodies_in xs x (opened xs)) selected_alike ∙ ap (λ m. bodies_in xs (selected_of ys) m) opened_alike
@@ -202,14 +202,14 @@ module _ {B : Type 0} (shape : Members B) (is_key : B → Bool) (said : List ℕ
   too_small p (inr some) less = absurd (omega (arith, some, less))
 
   settles_there : (why : Refusal) → MaySettle class e.sectors e.seen (Err why) → MaySettle class d.sectors d.seen (Err why)
-  settles_there refusal.NotFormatted no = λ magic. no (magic_there ∙ magic)
-  settles_there refusal.BadParameter is = (sym magic_there ∙ is.0, is.1.0, says_there is.1.0 is.1.1.0, is.1.1.1)
+  settles_there refusal.NotFormatted never = λ magic. never (magic_there ∙ magic)
+  settles_there refusal.BadParameter is = (sym magic_there ∙ is.0, (is.1.0, (says_there is.1.0 is.1.1.0, is.1.1.1)))
   settles_there refusal.TooSmall is =
       let p = is.1.0 in
       let says = says_there p is.1.1.0 in
-      (sym magic_there ∙ is.0, p, says, is.1.1.1.0, too_small p (copy.enough p says is.1.1.1.0.range) is.1.1.1.1)
+      (sym magic_there ∙ is.0, (p, (says, (is.1.1.1.0, too_small p (copy.enough p says is.1.1.1.0.range) is.1.1.1.1))))
   settles_there refusal.Device is = tt
-  settles_there other no = absurd no
+  settles_there other never = absurd never
 
   -- and what a copy isn't verified for
   pub unverified_there : (why : Refusal) → IsUnverified shape is_key said f class e why → IsUnverified shape is_key said f class d why
@@ -239,7 +239,7 @@ module _ {B D : Type 0} (shape : Members B) (is_key : B → Bool) (said : List �
   settles_so refusal.BadParameter is = inl is
   settles_so refusal.TooSmall is = inl is
   settles_so refusal.Device is = inr (inr (inr refl))
-  settles_so other no = absurd no
+  settles_so other never = absurd never
 
   pub refused_so : (why : Refusal) → IsRefused shape is_key said f state class d e why → Unverified (refusal_of_copy why)
   refused_so why (inl settles) = settles_so why settles
@@ -287,7 +287,7 @@ large_enough state n least (Ok m) is = omega (arith, is, least)
 large_enough state n least (Err why) is = tt
 
 -- calls that only read, one behind the other
-pub counted_joined : {T U : Type 0} (a b e : Device) (x : T) (result : Result U Refusal) → Counted 0 a b (Ok {E = Refusal} x) → Counted 0 b e result → Counted 0 a e result
+pub counted_joined : {T U : Type 0} (a b e : Device) (x : T) (result : Result U Refusal) → Counted 0 a b (Ok x) → Counted 0 b e result → Counted 0 a e result
 counted_joined a b e x (Ok y) first next =
     let from = first.from in
     let to = first.to in

@@ -90,7 +90,7 @@ module _ {K : Type 0} (t : Tree K) (r : Rules K) (legal : Legal r t) where
 module _ {B : Type 0} (k : Keys B) (l : keys.IsLawful k) where
   by_first : (b c : Bool) (n : ℕ) → c ≡ nat_lt 0 n → (b || c) ≡ nat_lt 0 (one_if b + n)
   by_first true c n is = sym (lt-ltb 0 (1 + n) (omega arith))
-  by_first false c n is = is
+  by_first false c n is = let none : n ≡ 0 + n = omega arith in is ∙ ap (λ m. nat_lt 0 m) none
 
   has_times : (e : Entry B) (xs : List (Entry B)) → has k e xs ≡ nat_lt 0 (how_many (same_entry k e) xs)
   has_times e [] = refl
@@ -118,7 +118,7 @@ module _ {B : Type 0} (k : Keys B) (l : keys.IsLawful k) where
 
   gathered_size : (xs set : List (Entry B)) → ((e : Entry B) → how_many (same_entry k e) xs + one_if (has k e set) ≤ 1)
       → length (including_all k xs set) ≡ length xs + length set
-  gathered_size [] set once = refl
+  gathered_size [] set once = omega arith
   gathered_size (x ∷ xs) set once =
       let itself : one_if (same_entry k x x) ≡ 1 = ap (λ b. one_if b) (same_itself k l x) in
       let first = once x in
@@ -154,8 +154,8 @@ module _ {B : Type 0} (k : Keys B) (l : keys.IsLawful k) where
     is_live_of e x = is_entry r e.row e.key x && not x.marked
 
     size_by : (live : Bool) (e : Entry B) (xs : List (Entry B)) (n : ℕ) → length xs ≡ n → length (cond live (e ∷ xs) xs) ≡ one_if live + n
-    size_by true e xs n is = ap suc is
-    size_by false e xs n is = is
+    size_by true e xs n is = omega (arith, is)
+    size_by false e xs n is = omega (arith, is)
 
     live_size : (xs : List (Pair B)) → length (live_entries xs) ≡ how_many (λ x. not x.marked) xs
     live_size [] = refl
@@ -193,8 +193,8 @@ module _ {B : Type 0} (k : Keys B) (l : keys.IsLawful k) where
         with_true : (mine : Bool) → one_if (same_entry k e x) ≡ one_if mine → one_if (same_entry k e x) + how_many (same_entry k e) xs ≡ one_if (mine && true) + n
         with_true true here = omega (arith, here, is)
         with_true false here = omega (arith, here, is)
-    times_by true false e x xs n same is = is
-    times_by false false e x xs n same is = is
+    times_by true false e x xs n same is = omega (arith, is)
+    times_by false false e x xs n same is = omega (arith, is)
 
     live_times : (e : Entry B) (xs : List (Pair B)) → how_many (same_entry k e) (live_entries xs) ≡ how_many (is_live_of e) xs
     live_times e [] = refl

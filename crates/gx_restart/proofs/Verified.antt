@@ -103,15 +103,15 @@ none_of other is = refl
 
 module _ {T U : Type 0} (d e : Device) where
   -- a copy that was made, and another answer
-  pub counted_then : (x : T) (y : U) → Counted 0 d e (Ok {E = Refusal} x) → Counted 0 d e (Ok {E = Refusal} y)
+  pub counted_then : (x : T) (y : U) → Counted 0 d e (Ok x) → Counted 0 d e (Ok y)
   counted_then x y counted = record { sectors = counted.sectors; honest = counted.honest; from = counted.from; to = counted.to; faults = counted.faults }
 
   -- or a refusal that isn't the device's
-  pub refused_then : (x : T) (why : Refusal) → Counted 0 d e (Ok {E = Refusal} x) → why ≢ refusal.Device → Counted 0 d e (Err {T = U} why)
+  pub refused_then : (x : T) (why : Refusal) → Counted 0 d e (Ok x) → why ≢ refusal.Device → Counted {T = U} 0 d e (Err why)
   refused_then x why counted other =
       let same = counted.faults in
       let none = none_of why other in
       record { sectors = counted.sectors; honest = counted.honest; from = counted.from; to = counted.to; faults = omega (arith, same, none) }
 
-  pub counted_refused : (why : Refusal) → Counted 0 d e (Err {T = T} why) → Counted 0 d e (Err {T = U} why)
+  pub counted_refused : (why : Refusal) → Counted {T = T} 0 d e (Err why) → Counted {T = U} 0 d e (Err why)
   counted_refused why counted = record { sectors = counted.sectors; honest = counted.honest; from = counted.from; to = counted.to; faults = counted.faults }

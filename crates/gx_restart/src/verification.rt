@@ -128,9 +128,9 @@ where
     ensures counted { Counted 0 (D.state disk.old) (D.state disk.new) (why_of result) }
     ensures looks { (D.state disk.old).honest ≡ true → Looks (D.state disk.old) (D.state disk.new) }
     ensures verified { (D.state disk.old).honest ≡ true
-        → IfOk result (IsVerified K.Key.Shape K.is_proper K.said (format_of K.KeyClass) K.CLASS (D.state disk.old)) }
+        → IfOk (why_of result) (IsVerified K.Key.Shape K.is_proper K.said (format_of K.KeyClass) K.CLASS (D.state disk.old)) }
     ensures refused { (D.state disk.old).honest ≡ true → 16 ≤ frames → frames ≤ 4096 → 4232 ≤ (D.state disk.old).sectors
-        → IfErr result (λ n. IsUnverified K.Key.Shape K.is_proper K.said (format_of K.KeyClass) K.CLASS (D.state disk.old) n.why) }
+        → IfErr (why_of result) (IsUnverified K.Key.Shape K.is_proper K.said (format_of K.KeyClass) K.CLASS (D.state disk.old)) }
 {
     if frames < LEAST_FRAMES || MOST_FRAMES < frames {
         return Err(NotVerified {

@@ -44,9 +44,14 @@ run_app = with_rule (with_rule (new_app (codes "run")) (wanted_rule (codes "FILE
 abbrev pub dump_app : App
 dump_app = with_rule (new_app (codes "dump")) (wanted_rule (codes "FILE"))
 
--- `gist`, which wants a command, and its four commands
+-- `verify FILE`
+abbrev pub verify_app : App
+verify_app = with_rule (new_app (codes "verify")) (wanted_rule (codes "FILE"))
+
+-- `gist`, which wants a command, and its five commands
 unfoldable pub gist_app : App
-gist_app = with_subcommand (with_subcommand (with_subcommand (with_subcommand (with_required (new_app (codes "gist"))) plain_app.top) format_app.top) run_app.top) dump_app.top
+gist_app = with_subcommand (with_subcommand (with_subcommand (with_subcommand (with_subcommand (with_required (new_app (codes "gist")))
+    plain_app.top) format_app.top) run_app.top) dump_app.top) verify_app.top
 
 -- the command is this one, and none of its arguments is for the commands below it too
 abbrev pub Is : App → Command → Type 0

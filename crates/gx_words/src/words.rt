@@ -2,7 +2,7 @@
 ghost use Rattle.std.specs.Prelude.{◌≡◌, [], map, codes, OnOk, IfOk, IfErr};
 ghost use Rattle.clap.specs.Words.{app_of, new_app, fault_of, HasKind};
 ghost use Rattle.gx_words.specs.Asking.{WordsAsk};
-ghost use Rattle.gx_words.specs.Program.{gist_app, with_required, plain_app, format_app, run_app, dump_app, wanted_rule, number_rule, frames_rule, Is, IsRule};
+ghost use Rattle.gx_words.specs.Program.{gist_app, with_required, plain_app, format_app, run_app, dump_app, verify_app, wanted_rule, number_rule, frames_rule, Is, IsRule};
 
 use crate::asking::{Asked, what_is_asked};
 use clap::{Arg, Command, Error, value_parser};
@@ -69,6 +69,10 @@ const RUN: &str =
 const DUMP: &str =
     "The tree of the index in the file places.gist, page by page:\n\ngist dump places.gist\n\ndocs/SCRIPT.md has its lines and the refusals.";
 
+/// How an index is verified.
+const VERIFY: &str =
+    "Whether the index in the file places.gist is sound, and what it holds; the file stays as it is:\n\ngist verify places.gist\n\ndocs/SCRIPT.md has the line and the refusals.";
+
 /// The program, which calls itself `gist` whatever its file is called, and wants a command.
 fn program<'a>(alloc: Global) -> Result<Command<'a>, AllocError>
     ensures { IfOk result (λ command. app_of command ≡ with_required (new_app (codes "gist"))) }
@@ -117,6 +121,15 @@ fn dump<'a>(alloc: Global) -> Result<Command<'a>, AllocError>
         .arg(file(alloc))
 }
 
+fn verify<'a>(alloc: Global) -> Result<Command<'a>, AllocError>
+    ensures { IfOk result (Is verify_app) }
+{
+    Command::new(alloc, "verify")
+        .about("Tests the index in a file, and prints what it holds; writes nothing")
+        .after_help(VERIFY)
+        .arg(file(alloc))
+}
+
 fn file<'a>(alloc: Global) -> Arg<'a>
     ensures { IsRule (wanted_rule (codes "FILE")) result }
 {
@@ -162,7 +175,8 @@ fn command<'a>(alloc: Global) -> Result<Command<'a>, AllocError>
         .subcommand(plain(alloc))?
         .subcommand(format(alloc)?)?
         .subcommand(run(alloc)?)?
-        .subcommand(dump(alloc)?)
+        .subcommand(dump(alloc)?)?
+        .subcommand(verify(alloc)?)
 }
 
 /// Reads the words, the program's own name first: what they ask for, or what is wrong with them.
