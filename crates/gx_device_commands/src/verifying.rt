@@ -111,12 +111,13 @@ where
 /// The status is 0 where the line was written. It is 1 in all other cases: where the line couldn't be written, of which a person is told unless whoever
 /// reads has left; and where the device isn't verified, which writes `refused N text`, and tells a person what that means, and of damage where it lies,
 /// as it is found in a copy of the device.
-pub fn verify_over<
-    D: SectorDisk,
-    K: ReadKeys + KeyClass<Key = Box2> + Probing,
-    W: Write,
-    E: Write,
->(alloc: Global, disk: &mut D, frames: usize, writer: &mut Noted<W>, faults: &mut Noted<E>) -> u8
+pub fn verify_over<D: SectorDisk, K: ReadKeys + KeyClass<Key = Box2> + Probing, W: Write, E: Write>(
+    alloc: Global,
+    disk: &mut D,
+    frames: usize,
+    writer: &mut Noted<W>,
+    faults: &mut Noted<E>,
+) -> u8
 where
     K::Probe: Drop,
     ensures { VerifiesOver ⟦<Box2 as Shape>⟧ K.is_proper K.said K.KeyClass D.state K.CLASS frames disk.old disk.new

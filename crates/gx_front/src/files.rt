@@ -101,11 +101,7 @@ pub(crate) fn dump_file<T: Files<File = File>, W: Write, E: Write>(
     match FileDisk::open(rt, file) {
         Ok(disk) => {
             let (_disk, status) = dump_over::<FileDisk, Box2Class, W, E>(
-                alloc,
-                disk,
-                FRAMES,
-                writer,
-                faults,
+                alloc, disk, FRAMES, writer, faults,
             );
             status
         }

@@ -5,11 +5,15 @@ use gx_class::Box2Class;
 use gx_disk::{Fuse, FuseDisk, MemDisk, SectorDisk};
 use gx_format::format;
 use gx_geom::Refusal;
-use gx_restart::{Index, Report, open, run_script, verify, Noted};
+use gx_restart::{Index, Noted, Report, open, run_script, verify};
 use std::alloc::Global;
 
 // What verifying a device answers, where there is one.
-fn verified(alloc: Global, disk: Option<MemDisk>, frames: usize) -> Option<Result<Report, Refusal>> {
+fn verified(
+    alloc: Global,
+    disk: Option<MemDisk>,
+    frames: usize,
+) -> Option<Result<Report, Refusal>> {
     let mut disk = disk?;
     Some(verify::<MemDisk, Box2Class>(alloc, &mut disk, frames))
 }
@@ -97,6 +101,12 @@ fn faults(rt: HostRuntime) {
         };
         let mut disk = FuseDisk::new(inner, calls, Fuse::Once, false);
         let result = verify::<FuseDisk<MemDisk>, Box2Class>(alloc, &mut disk, 64);
-        assert!(rt; if calls < 2 { result == Err(Refusal::Device) } else { result.is_ok() });
+        assert!(rt;
+            if calls < 2 {
+                result == Err(Refusal::Device)
+            } else {
+                result.is_ok()
+            }
+        );
     }
 }

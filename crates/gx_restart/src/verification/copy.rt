@@ -79,11 +79,7 @@ fn read_first<D: SectorDisk>(disk: &mut D, bytes: &mut [u8], sectors: u64) -> Re
 }
 
 // Copies the first so many sectors of a device.
-fn copy_first<D: SectorDisk>(
-    alloc: Global,
-    disk: &mut D,
-    sectors: u64,
-) -> Result<MemDisk, Refusal>
+fn copy_first<D: SectorDisk>(alloc: Global, disk: &mut D, sectors: u64) -> Result<MemDisk, Refusal>
     requires least { 4232 ≤ sectors }
     requires inside { sectors ≤ (D.state disk.old).sectors }
     requires few { sectors ≤ 528456 }

@@ -51,10 +51,7 @@ fn count_page<K: KeyClass>(page: &Page) -> usize
 }
 
 // Brings a page, and counts its pairs that aren't marked.
-fn count_on<D: SectorDisk, K: ReadKeys>(
-    engine: &mut Engine<D, K>,
-    page: u32,
-) -> Result<usize, Stop>
+fn count_on<D: SectorDisk, K: ReadKeys>(engine: &mut Engine<D, K>, page: u32) -> Result<usize, Stop>
     requires from { 1 ≤ page }
     requires to { page ≤ engine.old.volume.shelf.used }
     ensures brought { OnOk result (IsBrought (Brings K.Key.Shape K.is_proper K.said K.KeyClass D.state page)
