@@ -2,7 +2,9 @@
 use Rattle.std.specs.Prelude.{◌≡◌, ◌⊎◌, ◌*◌, ◌≤◌, ℕ, true, List}
 use Rattle.gx_geom.specs.declared.refusal.Refusal.{Refusal}
 use Rattle.gx_geom.specs.declared.refusal.Refusal.TheVariants.{Device as DeviceRefusal, Memory}
+use Rattle.gx_disk.specs.declared.memory.MemDisk.{MemDisk}
 use Rattle.gx_disk.specs.Device.{Device}
+use Rattle.gx_disk.specs.Memory.{device_of}
 use Rattle.gx_disk.specs.Sectors.{span_of}
 use Rattle.gx_format.specs.Formatting.{AreInRange, sectors_of}
 use Rattle.gx_glog.specs.declared.parameters.Parameters.{Parameters}
@@ -11,6 +13,10 @@ use Rattle.gx_opening.specs.Formatted.{Says}
 -- so many sectors are all that a device has, or all that an index with these parameters takes
 abbrev pub AreEnough : ℕ → ℕ → Parameters → Type 0
 AreEnough sectors n p = (n ≡ sectors) ⊎ (sectors_of p.pages ≤ n)
+
+-- a device in memory, as contracts see it
+abbrev pub memory_state : MemDisk → Device
+memory_state m = device_of m.sectors m.past.items m.kept.items m.bytes.items m.faults.count m.calls.count
 
 -- the first so many sectors of a device, as a device that doesn't lie
 pub record IsFront (d : Device) (n : ℕ) (e : Device) : Type 0 where

@@ -5,7 +5,7 @@ ghost use Rattle.gx_disk.specs.Sectors.{span_of};
 ghost use Rattle.gx_format.specs.Formatting.{sectors_of};
 ghost use Rattle.gx_opening.specs.Formatted.{Counted, Says};
 ghost use Rattle.gx_restart.specs.Beginning.{HasFailed};
-ghost use Rattle.gx_restart.specs.Copied.{IsCopy, IsFront};
+ghost use Rattle.gx_restart.specs.Copied.{IsCopy, IsFront, memory_state};
 
 use gx_disk::{MemDisk, SECTOR_SIZE, SectorDisk};
 use gx_format::sectors_for;
@@ -85,9 +85,9 @@ fn copy_first<D: SectorDisk>(alloc: Global, disk: &mut D, sectors: u64) -> Resul
     requires few { sectors ≤ 528456 }
     ensures counted { Counted 0 (D.state disk.old) (D.state disk.new) result }
     ensures looks { (D.state disk.old).honest ≡ true → Looks (D.state disk.old) (D.state disk.new) }
-    ensures size { IfOk result (λ copy. (⟦<MemDisk as SectorDisk>⟧.state copy).sectors ≡ sectors) }
+    ensures size { IfOk result (λ copy. (memory_state copy).sectors ≡ sectors) }
     ensures front { (D.state disk.old).honest ≡ true
-        → IfOk result (λ copy. IsFront (D.state disk.old) sectors (⟦<MemDisk as SectorDisk>⟧.state copy)) }
+        → IfOk result (λ copy. IsFront (D.state disk.old) sectors (memory_state copy)) }
     ensures refused { IfErr result HasFailed }
 {
     let Ok(mut bytes) = room_for(alloc, sectors) else {
@@ -106,9 +106,9 @@ pub(crate) fn copied<D: SectorDisk>(alloc: Global, disk: &mut D) -> Result<MemDi
     requires { 4232 ≤ (D.state disk.old).sectors }
     ensures counted { Counted 0 (D.state disk.old) (D.state disk.new) result }
     ensures looks { (D.state disk.old).honest ≡ true → Looks (D.state disk.old) (D.state disk.new) }
-    ensures large { IfOk result (λ copy. 4232 ≤ (⟦<MemDisk as SectorDisk>⟧.state copy).sectors) }
+    ensures large { IfOk result (λ copy. 4232 ≤ (memory_state copy).sectors) }
     ensures copy { (D.state disk.old).honest ≡ true
-        → IfOk result (λ copy. IsCopy (D.state disk.old) (⟦<MemDisk as SectorDisk>⟧.state copy)) }
+        → IfOk result (λ copy. IsCopy (D.state disk.old) (memory_state copy)) }
     ensures refused { IfErr result HasFailed }
 {
     match parameters_told(disk) {

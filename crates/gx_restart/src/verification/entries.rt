@@ -20,7 +20,8 @@ use gx_storage::laws::a_volume_shows_the_logs_tree;
 
 // One for a pair that isn't marked.
 fn count_pair(marked: bool) -> usize
-    ensures { result ≡ one_if (not marked) }
+    ensures live { result ≡ one_if (not marked) }
+    ensures few { result ≤ 1 }
 {
     if marked { 0 } else { 1 }
 }
