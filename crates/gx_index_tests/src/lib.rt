@@ -26,3 +26,5 @@ mod scripts;
 mod sessions;
 #[cfg(test)]
 mod stores;
+#[cfg(test)]
+mod verified;
