@@ -117,7 +117,9 @@ fn all_back<R: Run<Box2>>(
     let mut all = Vec::new(alloc);
     for worker in workers {
         let Worker {
-            session, handed, ..
+            session,
+            handed,
+            ..
         } = worker?;
         all.push(handed)?;
         sessions.push(session)?;
