@@ -67,11 +67,7 @@ fn line_of_place(place: u64) -> ArrayString<LONGEST>
 }
 
 // Writes that all calls of a storm are sound, and returns the status.
-fn tell_sound<W: Write, E: Write>(
-    calls: u32,
-    writer: &mut Noted<W>,
-    faults: &mut Noted<E>,
-) -> u8
+fn tell_sound<W: Write, E: Write>(calls: u32, writer: &mut Noted<W>, faults: &mut Noted<E>) -> u8
     ensures { TellsSound calls (outputs_of W.contents E.contents writer.old faults.old)
         (outputs_of W.contents E.contents writer.new faults.new) result }
 {

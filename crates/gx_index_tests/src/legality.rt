@@ -96,7 +96,7 @@ const ROWS: [Row; 20] = [
     (
         0,
         &[((1, 0, 0), &[(1, (0, 0, 0, 0))]), ((0, 0, 0), &[])],
-        Broken(1, Rule::ChildPage),
+        Broken(1, Rule::ChildPage(0)),
     ),
     (
         0,
@@ -104,13 +104,13 @@ const ROWS: [Row; 20] = [
             ((1, 0, 0), &[(2, (0, 0, 0, 0)), (3, (0, 0, 0, 0))]),
             ((0, 0, 0), &[]),
         ],
-        Broken(1, Rule::ChildPage),
+        Broken(1, Rule::ChildPage(1)),
     ),
     // a leaf two levels lower
     (
         0,
         &[((2, 0, 0), &[(2, (0, 0, 0, 0))]), ((0, 0, 0), &[])],
-        Broken(1, Rule::ChildLevel),
+        Broken(1, Rule::ChildLevel(0)),
     ),
     // a bound that a row's box overlaps, and doesn't lie in
     (
@@ -119,7 +119,7 @@ const ROWS: [Row; 20] = [
             ((1, 0, 0), &[(2, (1, 0, 2, 1))]),
             ((0, 0, 0), &[(1, (2, 0, 3, 1))]),
         ],
-        Broken(1, Rule::Bound),
+        Broken(1, Rule::Bound(0)),
     ),
     // a page that is named twice, and one that isn't named
     (

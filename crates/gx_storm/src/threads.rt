@@ -119,7 +119,9 @@ fn all_back<R: Run<Box2>>(
     let mut rest = workers;
     for place in 0..count {
         let Worker {
-            session, handed, ..
+            session,
+            handed,
+            ..
         } = rest.remove(0)?;
         all.push(handed)?;
         sessions.push(session)?;
