@@ -85,7 +85,7 @@ pub fn before_threads<T: Files<File = File>, S: AsStr, R: Read, W: Write, E: Wri
 {
     match words {
         Ok(given) => match gx_words::read(alloc, given) {
-            Ok(asked) => carry_out(rt, alloc, asked, reader, writer, faults),
+            Ok(asked) => Ok(carry_out(rt, alloc, asked, reader, writer, faults)?),
             Err(error) if error.kind() == ErrorKind::OutOfMemory => Ok(refuse_memory(writer)),
             Err(error) => Ok(refuse_words(faults, &error)),
         },
@@ -114,27 +114,26 @@ fn carry_out<T: Files<File = File>, R: Read, W: Write, E: Write>(
         had left from to status)
         (λ storm. WantsStorm asked.entry storm had left from to) }
 {
-    let status = match asked {
-        Asked::Plain => run_script(alloc, reader, writer, faults),
-        Asked::Format { file, pages, most } => {
-            format_file(rt, alloc, file, pages, most, writer, faults)
-        }
-        Asked::Run { file, frames } => run_file(rt, alloc, file, frames, reader, writer, faults),
-        Asked::Dump { file } => dump_file(rt, alloc, file, writer, faults),
-        Asked::Verify { file } => verify_file(rt, alloc, file, writer, faults),
+    match asked {
+        Asked::Plain => Ok(run_script(alloc, reader, writer, faults)),
+        Asked::Format { file, pages, most } => Ok(format_file(
+            rt, alloc, file, pages, most, writer, faults,
+        )),
+        Asked::Run { file, frames } => Ok(run_file(
+            rt, alloc, file, frames, reader, writer, faults,
+        )),
+        Asked::Dump { file } => Ok(dump_file(rt, alloc, file, writer, faults)),
+        Asked::Verify { file } => Ok(verify_file(rt, alloc, file, writer, faults)),
         Asked::Storm {
             seed,
             sessions,
             calls,
-        } => {
-            return Err(Storm {
-                seed,
-                sessions,
-                calls,
-            });
-        }
-    };
-    Ok(status)
+        } => Err(Storm {
+            seed,
+            sessions,
+            calls,
+        }),
+    }
 }
 
 // Tells what is wrong with the words, and answers the status.
