@@ -1,5 +1,5 @@
 -- What is kept of a log while it is read, and which record it lets come next, by the order of entries alone.
-use Rattle.std.specs.Prelude.{◌≡◌, ℕ, ◌+◌, max, Bool, true, false, not, ◌&&◌, ◌||◌, nat_le, nat_lt, ◌==◌, length, List, Result, Ok, Err}
+use Rattle.std.specs.Prelude.{◌≡◌, ℕ, ◌+◌, max, Bool, true, false, not, ◌&&◌, ◌||◌, nat_le, nat_lt, ◌==◌, length, List, [], Result, Ok, Err}
 use Rattle.std.specs.List.{list_any, list_all}
 use Rattle.std.specs.declared.cmp.Ordering.{Ordering}
 use Rattle.gx_geom.specs.declared.refusal.Refusal.{Refusal}
@@ -25,6 +25,7 @@ by_order cmp = record {
   is_entry = λ e. true;
   own = λ content. content;
   pages = 0;
+  head = [];
 }
 
 abbrev pub is_closed : ℕ → List ℕ → Bool

@@ -22,15 +22,22 @@ fn item(base: &Base, draw: &mut Pcg32, at: usize) -> (usize, usize) {
     (at.saturating_add(4096).saturating_sub(before), size)
 }
 
-/// A gate is opened, or closed, or the other extent is selected.
+/// A gate is opened, or closed, or the other extent is selected, or a bit of what the device is formatted for is turned over.
 fn gate(base: &mut Base, draw: &mut Pcg32) {
     let number = below(draw, 5);
     let at = sector(number.saturating_add(8));
     match below(draw, 8) {
+        0 if one_in(draw, 2) => flip_head(base, draw),
         0 => set(&mut base.bytes, 1024, 0x5A),
         1..=3 => set(&mut base.bytes, at, 0xA7),
         _ => set(&mut base.bytes, at, 0),
     }
+}
+
+/// A bit of the magic or of the parameters is turned over.
+fn flip_head(base: &mut Base, draw: &mut Pcg32) {
+    let at = sector(below(draw, 2)).saturating_add(below(draw, 8));
+    flip(&mut base.bytes, at, below(draw, 8));
 }
 
 /// A body's size or one of its bytes is another.
@@ -133,9 +140,9 @@ fn damage_once(base: &mut Base, draw: &mut Pcg32) {
     }
 }
 
-/// Damages an image up to three times, or not at all.
+/// Damages an image in one to four places.
 pub(crate) fn damage(base: &mut Base, draw: &mut Pcg32) {
-    for _ in 0..below(draw, 4) {
+    for _ in 0..below(draw, 4).saturating_add(1) {
         damage_once(base, draw);
     }
 }

@@ -16,3 +16,8 @@ pub(crate) fn below(draw: &mut Pcg32, bound: usize) -> usize
 pub(crate) fn one_in(draw: &mut Pcg32, bound: usize) -> bool {
     below(draw, bound) == 0
 }
+
+/// A byte.
+pub(crate) fn byte_of(draw: &mut Pcg32) -> u8 {
+    u8::try_from(below(draw, 256)).unwrap_or(0)
+}

@@ -1,6 +1,8 @@
 //! Why a line stops the program.
 use gx_geom::Refusal;
 use gx_page::PageFault;
+use gx_plain_reader::Damage;
+use gx_restart::ScriptFault;
 use std::alloc::{AllocError, AllocFailed};
 use std::io;
 
@@ -52,10 +54,25 @@ impl From<io::Error> for RunFault {
     }
 }
 
+impl From<ScriptFault> for RunFault {
+    fn from(_fault: ScriptFault) -> RunFault {
+        RunFault::Stream
+    }
+}
+
 impl From<Refusal> for RunFault {
     fn from(refusal: Refusal) -> RunFault {
         match refusal {
             Refusal::Memory => RunFault::Memory,
+            _ => RunFault::Unexpected,
+        }
+    }
+}
+
+impl From<Damage> for RunFault {
+    fn from(damage: Damage) -> RunFault {
+        match damage {
+            Damage::Memory => RunFault::Memory,
             _ => RunFault::Unexpected,
         }
     }

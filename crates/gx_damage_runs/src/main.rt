@@ -1,9 +1,17 @@
-//! Images with damage that is drawn, read by a restart's tests and by the plain reader: a line of `stdin` has a class (1 for
-//! boxes, 2 for intervals), a seed and a number of images, and behind it is printed how many were sound and what was wrong with
-//! the others, where both agree on every one.
+//! Images with damage, opened: each opens or is refused by number exactly as the plain reader finds it, what is said of it is found
+//! there, and what opens is a sound image of the same set.
 //!
-//! `make PATH PAIRS` makes a file with a tree of so many boxes, `open PATH` opens it as a restart does, and `remove PATH` removes it;
-//! each prints how many pages are in use then.
+//! A line of `stdin` asks for one thing, and what came of it is printed behind it.
+//! `boxes SEED IMAGES` and `intervals SEED IMAGES` draw images of an index of nine rows.
+//! `new PAGES MOST` begins the life of an index of boxes. A line that begins with a digit is one of a script; `stop` opens the index,
+//! runs the script since the last stop, and keeps the image that it leaves then. `moments SEED IMAGES` draws one of
+//! these, with bytes changed, sectors exchanged, and sectors of other moments.
+//! `byte SECTOR BYTE VALUE`, the last in hexadecimal, changes a byte of a new index of 16 pages with 4 entries a node; `zero SECTOR`
+//! a sector, `cut SECTORS` the number of sectors, and `frames FRAMES` nothing but with how many frames it is opened.
+//! `lacking SEED EVENTS` draws events of an index, each of them between two marks, and settles it; how often memory was refused is
+//! printed.
+//! `make PATH PAIRS` makes a file with a tree of so many boxes, `open PATH` makes an opening's tests of it, and `remove PATH`
+//! removes it; each prints how many pages are in use then.
 //!
 //! An empty line, and one that begins with `#`, is printed as it stands. The program ends at the first image on which the two
 //! differ, with status 1.
@@ -11,100 +19,89 @@
 
 mod base;
 mod bytes;
+mod changed;
+mod counts;
 mod damage;
+mod device;
 mod draw;
 mod fault;
+mod lacking;
 mod large;
+mod moments;
+mod opened;
 mod opening;
-mod tested;
+mod told;
 
 use base::make_base;
+use changed::changed;
+use counts::Counts;
 use damage::damage;
 use fault::RunFault;
 use gx_class::{Box2Class, IntervalClass};
-use gx_plain_reader::{Damage, read};
+use lacking::run_lacking;
 use large::make;
+use moments::Life;
+use opened::{Found, judge};
 use opening::open;
 use rand_pcg::Pcg32;
 use std::alloc::Global;
 use std::process::ExitCode;
 use std::str::SplitWhitespace;
-use tested::{Found, Told, tested};
 
-/// How many images were found so.
+/// What lines asked for so far that later ones use.
+#[derive(Drop)]
+struct Runs {
+    life: Life,
+    script: Vec<u8>,
+}
+
+/// What images are drawn of.
 #[derive(Clone, Copy)]
-struct Counts {
-    sound: u64,
-    log: u64,
-    page: u64,
-    tree: u64,
-    place: u64,
-}
-
-impl Counts {
-    fn add(&mut self, found: Found) {
-        let count = match found {
-            Found::Sound(_) => &mut self.sound,
-            Found::Log => &mut self.log,
-            Found::Page => &mut self.page,
-            Found::Tree => &mut self.tree,
-            Found::Place => &mut self.place,
-        };
-        *count = count.saturating_add(1);
-    }
-}
-
-/// What the plain reader tells of a sound image. Nothing of a damaged one.
-fn plainly(alloc: Global, bytes: &[u8], class: u16) -> Result<Option<Told>, RunFault> {
-    match read(alloc, bytes, class) {
-        Ok(reading) => Ok(Some((reading.number, reading.counter, reading.used))),
-        Err(Damage::Memory) => Err(RunFault::Memory),
-        Err(_) => Ok(None),
-    }
-}
-
-/// Whether both found the same.
-fn agree(found: Found, plain: Option<Told>) -> bool {
-    match found {
-        Found::Sound(told) => plain == Some(told),
-        _ => plain.is_none(),
-    }
-}
-
-/// Draws an image, and answers what was found, where both agree.
-fn take_image(alloc: Global, class: u16, draw: &mut Pcg32) -> Result<Option<Found>, RunFault> {
-    let mut image = make_base(alloc, class, draw)?;
-    damage(&mut image, draw);
-    let found = if class == 1 {
-        tested::<Box2Class>(alloc, &image.bytes)?
-    } else {
-        tested::<IntervalClass>(alloc, &image.bytes)?
-    };
-    let plain = plainly(alloc, &image.bytes, class)?;
-    Ok(agree(found, plain).then_some(found))
+enum Kind {
+    Boxes,
+    Intervals,
+    Moments,
 }
 
 /// The next word as a number.
-fn number(words: &mut SplitWhitespace<'_>) -> Result<u64, RunFault> {
+pub(crate) fn number(words: &mut SplitWhitespace<'_>) -> Result<u64, RunFault> {
     let word = words.next().ok_or(RunFault::BadLine)?;
     word.parse::<u64>().ok().ok_or(RunFault::BadLine)
 }
 
+/// Draws an image, and answers what came of it, where an opening and the plain reader agree.
+fn take_image(
+    alloc: Global,
+    life: &Life,
+    kind: Kind,
+    draw: &mut Pcg32,
+) -> Result<Option<Found>, RunFault> {
+    match kind {
+        Kind::Boxes => {
+            let mut image = make_base(alloc, 1, draw)?;
+            damage(&mut image, draw);
+            judge::<Box2Class>(alloc, &image.bytes)
+        }
+        Kind::Intervals => {
+            let mut image = make_base(alloc, 2, draw)?;
+            damage(&mut image, draw);
+            judge::<IntervalClass>(alloc, &image.bytes)
+        }
+        Kind::Moments => judge::<Box2Class>(alloc, &life.damaged(alloc, draw)?),
+    }
+}
+
 /// Draws the images of a line. Answers whether both agreed on all.
-fn take_images(rt: &HostRuntime, line: &str) -> Result<bool, RunFault> {
-    let mut words = line.split_whitespace();
-    let class = if number(&mut words)? == 1 { 1 } else { 2 };
-    let mut draw = Pcg32::new(number(&mut words)?, 7);
-    let images = number(&mut words)?;
-    let mut counts = Counts {
-        sound: 0,
-        log: 0,
-        page: 0,
-        tree: 0,
-        place: 0,
-    };
-    for image in 0..images {
-        match take_image(rt.alloc(), class, &mut draw)? {
+fn take_images(
+    rt: &HostRuntime,
+    life: &Life,
+    kind: Kind,
+    words: &mut SplitWhitespace<'_>,
+) -> Result<bool, RunFault> {
+    let mut draw = Pcg32::new(number(words)?, 7);
+    let mut counts = Counts::default();
+    for image in 0..number(words)? {
+        match take_image(rt.alloc(), life, kind, &mut draw)? {
             Some(found) => counts.add(found),
             None => {
                 println!(rt; " they differ on image {image}")?;
@@ -112,51 +109,114 @@ fn take_images(rt: &HostRuntime, line: &str) -> Result<bool, RunFault> {
             }
         }
     }
-    let Counts {
-        sound,
-        log,
-        page,
-        tree,
-        place,
-    } = counts;
-    println!(rt; " sound {sound}, damaged log {log}, page {page}, tree {tree}, place {place}")?;
+    println!(rt; " {counts}")?;
     Ok(true)
 }
 
-/// Makes a file with a large tree, opens one or removes one. `None` where the line asks for none of these.
-fn take_large(rt: &HostRuntime, line: &str) -> Result<Option<u32>, RunFault> {
-    let mut words = line.split_whitespace();
-    let Some(asked) = words.next() else {
-        return Ok(None);
-    };
-    if asked != "make" && asked != "open" && asked != "remove" {
-        return Ok(None);
-    }
+/// Makes a file with a large tree, opens one or removes one. Answers how many pages it has in use.
+fn take_large(
+    rt: &HostRuntime,
+    asked: &str,
+    words: &mut SplitWhitespace<'_>,
+) -> Result<u32, RunFault> {
     let path = words.next().ok_or(RunFault::BadLine)?;
-    let used = match asked {
-        "make" => make(rt, path, number(&mut words)?)?,
-        "open" => open(rt, path)?,
+    match asked {
+        "make" => make(rt, path, number(words)?),
+        "open" => open(rt, path),
         _ => {
             std::fs::remove_file(rt, path)?;
-            0
+            Ok(0)
         }
-    };
-    Ok(Some(used))
+    }
+}
+
+impl Runs {
+    /// A new index's life begins.
+    fn begin(&mut self, alloc: Global, words: &mut SplitWhitespace<'_>) -> Result<(), RunFault> {
+        let pages = u32::try_from(number(words)?).unwrap_or(0);
+        let most = u16::try_from(number(words)?).unwrap_or(0);
+        self.script.clear();
+        self.life.begin(alloc, pages, most)
+    }
+
+    /// The script since the last stop is run.
+    fn stop(&mut self, alloc: Global) -> Result<(), RunFault> {
+        self.life.go_on(alloc, &self.script)?;
+        self.script.clear();
+        Ok(())
+    }
+
+    /// Takes a line that asks for something, and answers whether all agreed.
+    fn take_words(&mut self, rt: &HostRuntime, line: &str) -> Result<bool, RunFault> {
+        let mut words = line.split_whitespace();
+        let asked = words.next().ok_or(RunFault::BadLine)?;
+        let kind = match asked {
+            "boxes" => Kind::Boxes,
+            "intervals" => Kind::Intervals,
+            "moments" => Kind::Moments,
+            "make" | "open" | "remove" => {
+                let used = take_large(rt, asked, &mut words)?;
+                println!(rt; " {used} pages in use")?;
+                return Ok(true);
+            }
+            "lacking" => {
+                let lacked = run_lacking(rt.alloc(), number(&mut words)?, number(&mut words)?)?;
+                println!(rt; " {lacked}")?;
+                return Ok(true);
+            }
+            _ => return take_changed(rt, asked, &mut words),
+        };
+        take_images(rt, &self.life, kind, &mut words)
+    }
+
+    /// Takes a line, and answers whether all agreed.
+    fn take_line(&mut self, rt: &HostRuntime, line: &str) -> Result<bool, RunFault> {
+        match line.as_bytes() {
+            [] | [b'#', ..] => println!(rt; "{line}")?,
+            [b'0'..=b'9', ..] => {
+                self.script.extend_from_slice(line.as_bytes())?;
+                self.script.push(b'\n')?;
+            }
+            b"stop" => self.stop(rt.alloc())?,
+            _ if line.starts_with("new ") => {
+                let mut words = line.split_whitespace();
+                let _new = words.next();
+                self.begin(rt.alloc(), &mut words)?;
+            }
+            _ => {
+                print!(rt; "{line}:")?;
+                return self.take_words(rt, line);
+            }
+        }
+        Ok(true)
+    }
+}
+
+/// Changes a new index as a line says, and tells what comes of it.
+fn take_changed(
+    rt: &HostRuntime,
+    asked: &str,
+    words: &mut SplitWhitespace<'_>,
+) -> Result<bool, RunFault> {
+    match changed(rt.alloc(), asked, words)? {
+        Some(text) => println!(rt; " {text}")?,
+        None => {
+            println!(rt; " the commands differ")?;
+            return Ok(false);
+        }
+    }
+    Ok(true)
 }
 
 /// Takes each line of the input. Answers whether all agreed.
 fn run(rt: &HostRuntime) -> Result<bool, RunFault> {
+    let mut runs = Runs {
+        life: Life::new(rt.alloc()),
+        script: Vec::new(rt.alloc()),
+    };
     for line in rt.lines(rt.alloc()) {
         let line = line?;
-        let line = line.as_str();
-        if matches!(line.as_bytes(), [] | [b'#', ..]) {
-            println!(rt; "{line}")?;
-            continue;
-        }
-        print!(rt; "{line}:")?;
-        if let Some(used) = take_large(rt, line)? {
-            println!(rt; " {used} pages in use")?;
-        } else if !take_images(rt, line)? {
+        if !runs.take_line(rt, line.as_str())? {
             return Ok(false);
         }
     }

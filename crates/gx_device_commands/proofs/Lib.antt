@@ -4,3 +4,4 @@ pub mod Over
 pub mod Forgetting
 pub mod Dumped
 pub mod Durably
+pub mod Saying

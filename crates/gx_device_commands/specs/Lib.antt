@@ -5,3 +5,5 @@ pub mod Openings
 pub mod Endings
 pub mod Dumping
 pub mod Durably
+pub mod Saying
+pub mod Verifying

@@ -5,8 +5,10 @@ ghost use Rattle.gx_command.specs.Streams.{Outputs, Stream};
 ghost use Rattle.gx_device_commands.specs.Durably.{EndsDurably};
 ghost use Rattle.gx_device_commands.specs.Dumping.{DumpsOver, TellsKept};
 ghost use Rattle.gx_device_commands.specs.Endings.{RunsOver};
+ghost use Rattle.gx_device_commands.specs.Saying.{SaysSo};
 ghost use Rattle.gx_device_commands.specs.Watching.{IsFaultless, Watches};
 ghost use Rattle.gx_device_commands.specs.declared.watched.Watched.{Watched};
+ghost use Rattle.gx_glog.specs.declared.parameters.Parameters.{Parameters};
 ghost use Rattle.gx_script.specs.declared.fault.ScriptFault.{ScriptFault};
 ghost use Rattle.gx_script.specs.declared.line.Line.{Line};
 ghost use Rattle.gx_script.specs.Scripts.{IsDone, IsScript, IsStopped};
@@ -57,4 +59,17 @@ pub fn a_dump_that_is_done_tells_what_was_kept<D: SectorDisk, K: ReadKeys + KeyC
     ensures { (number frames : ℕ) (disk after : D) (from to : Outputs) → (D.state disk).honest ≡ true
         → DumpsOver ⟦<Box2 as Shape>⟧ K.is_proper K.said K.KeyClass D.state number frames disk after from to 0
         → TellsKept ⟦<Box2 as Shape>⟧ K.is_proper K.said K.KeyClass D.state number disk from to }
+{}
+
+/// What an honest device says that it is formatted for it says after a command too, as it reads and in whatever a
+/// crash may leave: after a script, however that ended, after a dump, and where the opening was refused.
+pub fn a_command_leaves_what_a_device_says<D: SectorDisk, K: ReadKeys + KeyClass<Key = Box2>>()
+    ensures run { (p : Parameters) (number frames : ℕ) (disk after : D) (had left : Stream) (from to : Outputs)
+        (status : ℕ) → (D.state disk).honest ≡ true → SaysSo p (D.state disk) → RunsOver ⟦<Box2 as Shape>⟧
+        K.is_proper K.said K.KeyClass D.state number frames disk after had left from to status
+        → SaysSo p (D.state after) }
+    ensures dump { (p : Parameters) (number frames : ℕ) (disk after : D) (from to : Outputs) (status : ℕ)
+        → (D.state disk).honest ≡ true → SaysSo p (D.state disk)
+        → DumpsOver ⟦<Box2 as Shape>⟧ K.is_proper K.said K.KeyClass D.state number frames disk after from to status
+        → SaysSo p (D.state after) }
 {}

@@ -39,6 +39,7 @@ module _ {E P : Type 0} (k : Known E P) (r : Reading E P) (x : Rec) (old new : L
           healthy = appended_healthy k l s c.healthy (record_read r x) may;
           fit = appended_fit k r (record_read r x) s fit c.fit;
           has_pages = c.has_pages;
+          head = c.head;
           area = c.area;
           settled = c.settled;
           turn = λ turns. absurd (omega (arith, rests, turns));

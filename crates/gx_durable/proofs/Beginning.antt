@@ -41,7 +41,7 @@ module _ {E P : Type 0} (k : Known E P) (r : Reading E P) where
   first_are = record { spelled = rec.Counters 0 0 2 1 ∷ []; in_range = (record { in_range = (omega arith, omega arith, omega arith, omega arith); has_key = tt }, tt); bytes_are = append-nil (spelling (rec.Counters 0 0 2 1)) ∙ first_spelled; read = refl }
 
   pub first_up : FirstIsUp k r
-  first_up sectors seen pending has settled two pages all sound fit =
+  first_up sectors seen pending says has settled two pages all sound fit =
       let B : List (List ℕ) → Type 0 = λ b. AreBodies r b (first_records E P ∷ []) in
       let head : is_head k (first_records E P) ≡ true = first_head two in
       record {
@@ -61,6 +61,7 @@ module _ {E P : Type 0} (k : Known E P) (r : Reading E P) where
           };
           fit = found_fit k r (area_of r k.pages seen) (first_records E P) fit;
           has_pages = pages;
+          head = says;
           area = λ p. refl;
           settled = λ p n is unnamed within. all p n is refl within;
           turn = λ turns. absurd (omega arith);

@@ -26,11 +26,13 @@ use Rattle.gx_durable.specs.Spelled.{Reading, AreRecords}
 use Rattle.gx_durable.specs.Bodies.{AreBodies}
 use Rattle.gx_durable.specs.Area.{area_of}
 use Rattle.gx_durable.specs.Fitting.{HasSizes, PagesFit}
+use Rattle.gx_durable.specs.Head.{head_in}
 use Rattle.gx_durable.specs.Standing.{batch_of, MayRenew, Carries, Stands}
 use Rattle.gx_durable.specs.Laws.{ACrashLeavesAKeptSet, StandsOfBefore}
 use Rattle.gx_durable.proofs.Areas.{image_agrees, image_page}
 use Rattle.gx_durable.proofs.BodyLists.{body_adds}
 use Rattle.gx_durable.proofs.Fitting.{gated_fit, head_fits, over_fit}
+use Rattle.gx_durable.proofs.Heads.{image_head}
 use Rattle.gx_durable.proofs.Images.{BodiesShown, bodies_shown}
 use Rattle.gx_durable.proofs.Sizes.{image_sizes}
 
@@ -47,6 +49,9 @@ module _ {E P : Type 0} (k : Known E P) (l : IsLawful k) (r : Reading E P) (log 
   agrees : AgreesBeside s.gated s.area (area_of r k.pages image)
   agrees = image_agrees r k.pages sectors c.has_pages s.gated s.area seen pending image c.area c.settled may
 
+  says : head_in image ≡ k.head
+  says = image_head k.head seen pending image may c.head
+
   -- the pages of an image that has these bodies, by the records that they are
   fit_of : (told : List (List (Record E P))) (records : List (Record E P)) → records_of told ≡ records → PagesFit r (tree_of k (area_of r k.pages image) records)
       → PagesFit r (tree_of k (area_of r k.pages image) (records_of told))
@@ -54,6 +59,7 @@ module _ {E P : Type 0} (k : Known E P) (l : IsLawful k) (r : Reading E P) (log 
 
   gated_stands : open_bodies image ≡ bodies_in seen log.extent log.gated → Stands k r s image
   gated_stands is = record {
+    head = says;
     bodies = bodies;
     told = (let B : List (List ℕ) → Type 0 = λ b. AreBodies r b bodies in subst B (sym is) c.told.gated_bodies);
     undamaged = c.undamaged;
@@ -71,6 +77,7 @@ module _ {E P : Type 0} (k : Known E P) (l : IsLawful k) (r : Reading E P) (log 
       let S : List (Record E P) → Type 0 = λ x. StandsForKept k s (area_of r k.pages image) x in
       let all : records_of (bodies ++ s.flight ∷ []) ≡ s.gated ++ s.flight = records_append k bodies s.flight ∙ ap (λ (x : List (Record E P)). x ++ s.flight) c.told.gated in
       record {
+        head = says;
         bodies = bodies ++ s.flight ∷ [];
         told = subst B (sym is) (body_adds r (bodies_in seen log.extent log.gated) log.flight bodies s.flight c.told.gated_bodies flight);
         undamaged = batch_undamaged k l s.area bodies s.flight c.undamaged (subst C (sym c.told.gated) (coming_first k l s.area s.gated s.flight s.filling c.healthy.coming));
@@ -107,6 +114,7 @@ module _ {E P : Type 0} (k : Known E P) (l : IsLawful k) (r : Reading E P) (log 
       let S : List (Record E P) → Type 0 = λ x. StandsForKept k s (area_of r k.pages image) x in
       let A : (ℕ → P) → Type 0 = λ area. StandsForKept k s area (renewed k t.next s.gated) in
       record {
+        head = says;
         bodies = renewed k t.next s.gated ∷ [];
         told = subst B (sym is) (t.head_is, tt);
         undamaged = renewed_undamaged k l t.next s.area s.gated c.healthy.gated;
@@ -134,6 +142,7 @@ module _ {E P : Type 0} (k : Known E P) (r : Reading E P) where
 
   pub stands_before : StandsOfBefore k r
   stands_before old new image on stands = record {
+    head = stands.head;
     bodies = stands.bodies;
     told = stands.told;
     undamaged = stands.undamaged;

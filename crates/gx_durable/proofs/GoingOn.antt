@@ -34,12 +34,14 @@ use Rattle.gx_durable.specs.Spelled.{Reading}
 use Rattle.gx_durable.specs.Bodies.{AreBodies}
 use Rattle.gx_durable.specs.Area.{area_of, HasPages}
 use Rattle.gx_durable.specs.Fitting.{AreGood, HasSizes}
+use Rattle.gx_durable.specs.Head.{head_in}
 use Rattle.gx_durable.specs.Standing.{Stands}
 use Rattle.gx_durable.specs.Stored.{IsStored, stored, bytes_by}
 use Rattle.gx_durable.specs.Opening.{found_glog}
 use Rattle.gx_durable.specs.GoingOn.{opened, found_state, IsFoundGood, FoundIsUp, BeginsBehind, FoundRuns, SameLogStands, IsClosedFound, ClosingKeepsFound}
 use Rattle.gx_durable.proofs.Areas.{by_test}
 use Rattle.gx_durable.proofs.Fitting.{gated_fit}
+use Rattle.gx_durable.proofs.Heads.{same_head}
 use Rattle.gx_durable.proofs.Opening.{found_up}
 use Rattle.gx_durable.proofs.Storing.{stored_as}
 
@@ -57,7 +59,7 @@ none_dirty frames p place none is = let never : None ≡ Some place = sym (ap st
 module _ {E P : Type 0} (k : Known E P) (r : Reading E P) where
   pub found_goes : FoundIsUp k r
   found_goes sectors seen pending bodies is closed =
-      let up = found_up k r sectors seen pending bodies is.settled is.size is.pages is.sizes is.told is.undamaged is.good in
+      let up = found_up k r sectors seen pending bodies is.settled is.size is.pages is.sizes is.told is.undamaged is.good is.head in
       record {
         on = record { sound = up.may_turn.sound; batches = closed; flight = tt; turn = up.may_turn.turn; quiet = up.may_turn.quiet };
         carries = up.carries;
@@ -88,13 +90,14 @@ module _ {E P : Type 0} (k : Known E P) (r : Reading E P) where
       }
 
   pub same_log_stands : SameLogStands k r
-  same_log_stands l sectors seen pending bodies image is same sizes pages =
+  same_log_stands l sectors seen pending bodies image is says same sizes pages =
       let s = found_state k r seen bodies in
       let log = records_of bodies in
       let B : List (List ℕ) → Type 0 = λ b. AreBodies r b bodies in
       let healthy = found_as_state k (area_of r k.pages seen) log (bodies_log k bodies is.undamaged) is.good.good in
       let agrees : AgreesBeside log (area_of r k.pages seen) (area_of r k.pages image) = λ p unnamed. same_pages r k.pages image seen pages p in
       record {
+        head = says ∙ is.head;
         bodies = bodies;
         told = subst B (sym same) is.told;
         undamaged = is.undamaged;
@@ -110,6 +113,12 @@ module _ {E P : Type 0} (k : Known E P) (r : Reading E P) where
     abbrev n : ℕ
     n = opened d.seen
 
+    -- the first two sectors are as they were
+    head_kept : (image : List ℕ) → KeepsRun x n d.seen image → head_in image ≡ head_in d.seen
+    head_kept image keeps =
+        let at = placed x in
+        same_head image d.seen (keeps.others 0 (inl (omega arith))) (keeps.others 1 (inl (let from = at.from in omega (arith, from))))
+
     pages_kept : (image : List ℕ) → KeepsRun x n d.seen image → (s : ℕ) → 4168 ≤ s → sector_of image s ≡ sector_of d.seen s
     pages_kept image keeps s from = let at = placed x in keeps.others s (inr (omega (arith, at.bodies, at.to, from)))
 
@@ -123,7 +132,7 @@ module _ {E P : Type 0} (k : Known E P) (r : Reading E P) where
         subst (λ (extent : Extent). IsSize (size_in (body_of image extent j))) (sym keeps.selected) (subst (λ (b : List ℕ). IsSize (size_in b)) (sym same) (is.sizes j within))
 
     kept_stands : IsLawful k → (image : List ℕ) → KeepsRun x n d.seen image → Stands k r (found_state k r d.seen bodies) image
-    kept_stands l image keeps = same_log_stands l d.sectors d.seen d.pending bodies image is keeps.bodies (kept_sizes image keeps) (pages_kept image keeps)
+    kept_stands l image keeps = same_log_stands l d.sectors d.seen d.pending bodies image is (head_kept image keeps) keeps.bodies (kept_sizes image keeps) (pages_kept image keeps)
 
     -- a log at this extent and place
     abbrev glog_at : Extent → ℕ → Log
@@ -145,6 +154,7 @@ module _ {E P : Type 0} (k : Known E P) (r : Reading E P) where
         record {
           found = record {
             settled = behind.settled;
+            head = head_kept e.seen keeps ∙ is.head;
             size = closed.size;
             pages = subst S (sym sectors) is.pages;
             sizes = closed.sizes;
@@ -163,7 +173,7 @@ module _ {E P : Type 0} (k : Known E P) (r : Reading E P) where
 
   pub closing_keeps : (d e : Device) → ClosingKeepsFound k r d e
   closing_keeps d e l honest sectors bodies result is closes =
-      let up = found_up k r d.sectors d.seen d.pending bodies is.settled is.size is.pages is.sizes is.told is.undamaged is.good in
+      let up = found_up k r d.sectors d.seen d.pending bodies is.settled is.size is.pages is.sizes is.told is.undamaged is.good is.head in
       let c = closes honest is.settled up.may_turn.run up.may_turn.turn in
       record {
         leaves = leaves_weaker (KeepsRun (selected_of d.seen) (opened d.seen) d.seen) (Stands k r (found_state k r d.seen bodies)) d e (kept_stands d e bodies is l) c.moments;

@@ -6,6 +6,7 @@ pub mod BodyLists
 pub mod Crashes
 pub mod Fitting
 pub mod GoingOn
+pub mod Heads
 pub mod Images
 pub mod Joining
 pub mod Legality

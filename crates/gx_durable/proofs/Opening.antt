@@ -69,7 +69,7 @@ open_bodies_are seen = refl
 
 module _ {E P : Type 0} (k : Known E P) (r : Reading E P) where
   pub found_up : FoundIsUpToTurn k r
-  found_up sectors seen pending bodies settled size pages sizes told undamaged good =
+  found_up sectors seen pending bodies settled size pages sizes told undamaged good says =
       let x = selected_of seen in
       let n = open_run seen x 0 32 in
       let first : is_open seen x 0 ≡ is_open seen x 0 = refl in
@@ -90,6 +90,7 @@ module _ {E P : Type 0} (k : Known E P) (r : Reading E P) where
           healthy = found_as_state k (area_of r k.pages seen) (records_of bodies) (bodies_log k bodies undamaged) good.good;
           fit = found_fit k r (area_of r k.pages seen) (records_of bodies) good.fit;
           has_pages = pages;
+          head = record { reads = says; magic = settled 0; parameters = settled 1 };
           area = λ p. refl;
           settled = λ p s is unnamed within. settled s;
           turn = λ turns. absurd (omega arith);

@@ -21,11 +21,13 @@ use Rattle.gx_recovery.proofs.States.{redone_agrees}
 use Rattle.gx_durable.specs.Spelled.{Reading}
 use Rattle.gx_durable.specs.Bodies.{AreBodies}
 use Rattle.gx_durable.specs.Area.{area_of, HasPages, is_given}
+use Rattle.gx_durable.specs.Head.{HasHead}
 use Rattle.gx_durable.specs.Stamps.{Stamped}
 use Rattle.gx_durable.specs.Standing.{Up}
 use Rattle.gx_durable.specs.Pages.{rewritten, PageKeepsRunning}
 use Rattle.gx_durable.proofs.Fitting.{written_fit}
 use Rattle.gx_durable.proofs.Areas.{page_same}
+use Rattle.gx_durable.proofs.Heads.{touched_head}
 use Rattle.gx_durable.proofs.BodyLists.{bodies_same}
 use Rattle.gx_durable.proofs.Moving.{same_goes}
 use Rattle.gx_durable.proofs.Reading.{later_stamps}
@@ -56,9 +58,9 @@ module _ {E P : Type 0} (k : Known E P) (r : Reading E P) (d e : Device) (log : 
   outside_beside up agrees p unnamed =
       page_same r k.pages d.sectors up.carries.has_pages p e.seen d.seen (λ is. agrees p is unnamed) ∙ sym (up.carries.area p)
 
-  pub page_up : IsLawful k → turning log.turn ≡ 0 → e.sectors ≡ d.sectors → LeavesLog d.seen e.seen d.pending e.pending → KeepsArea (is_given s.gated) d e
+  pub page_up : IsLawful k → turning log.turn ≡ 0 → e.sectors ≡ d.sectors → LeavesLog d.seen e.seen d.pending e.pending → KeepsArea (is_given s.gated) d e → HasHead k.head e.seen e.pending
       → Up k r log d.sectors d.seen d.pending bodies s → Up k r log e.sectors e.seen e.pending bodies (rewritten r k.pages e.seen s)
-  page_up l still sectors leaves keeps up =
+  page_up l still sectors leaves keeps says up =
       let c = up.carries in
       let few : log.gated ≤ 32 = omega (arith, up.on.sound.places, up.on.sound.few) in
       let B : List (List ℕ) → Type 0 = λ b. AreBodies r b bodies in
@@ -71,6 +73,7 @@ module _ {E P : Type 0} (k : Known E P) (r : Reading E P) (d e : Device) (log : 
           healthy = written_healthy k s c.healthy l (area_of r k.pages e.seen) (outside_beside up keeps.seen);
           fit = written_fit k r l s (area_of r k.pages e.seen) (outside_beside up keeps.seen) c.fit;
           has_pages = subst H (sym sectors) c.has_pages;
+          head = says;
           area = λ p. refl;
           settled = keeps.settled;
           turn = λ turns. absurd (omega (arith, still, turns));
@@ -86,7 +89,8 @@ page_runs {E} {P} k r frames frames' d e page sectors touches time area gated di
     let still : turning log.turn ≡ 0 = ap turning closed in
     let leaves = touched_leaves (first_of page) 8 d e (λ n of_log. page_is_apart (first_of page) 8 n (omega arith) of_log) (touches honest) in
     let keeps = area (is_given s.gated) honest (stamps_name log frames s runs.stamped) runs.up.carries.settled in
-    let up = page_up k r d e log bodies s l still sectors leaves keeps runs.up in
+    let says = touched_head k.head (first_of page) 8 d e (omega arith) (touches honest) runs.up.carries.head in
+    let up = page_up k r d e log bodies s l still sectors leaves keeps says runs.up in
     let now = rewritten r k.pages e.seen s in
     let beside = outside_beside k r d e log bodies s runs.up keeps.seen in
     let goes = same_goes k s now (written_stays k s runs.up.carries.healthy l (area_of r k.pages e.seen) beside) in

@@ -19,6 +19,7 @@ use Rattle.gx_durable.specs.Bodies.{AreBodies}
 use Rattle.gx_durable.specs.Area.{area_of, is_given}
 use Rattle.gx_durable.specs.Standing.{Up}
 use Rattle.gx_durable.specs.PoolLaws.{LaterStampsStay, BringingIsClean, CreatingIsLater, ChangeIsLater, RecordSays, StaysUp, ReadsStayUp}
+use Rattle.gx_durable.proofs.Heads.{rested_head}
 use Rattle.gx_durable.proofs.Moving.{given_more, goes_nowhere}
 use Rattle.gx_durable.proofs.Stepping.{call_stands}
 
@@ -110,6 +111,7 @@ rests_up {E} {P} k r d e log bodies s sectors rests up =
         healthy = c.healthy;
         fit = c.fit;
         has_pages = c.has_pages;
+        head = rested_head k.head d e rests c.head;
         area = λ p. c.area p ∙ sym (ap (λ (seen : List ℕ). area_of r k.pages seen p) rests.seen);
         settled = λ p n is unnamed within. rests.settled n (c.settled p n is unnamed within);
         turn = λ turns. (let t = c.turn turns in record {

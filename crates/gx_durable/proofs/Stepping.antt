@@ -31,6 +31,7 @@ use Rattle.gx_durable.specs.Area.{is_given}
 use Rattle.gx_durable.specs.Standing.{batch_of, Carries, Up, Stands}
 use Rattle.gx_durable.specs.Steps.{with_batch, stepped, bodies_stepped, GoesOn}
 use Rattle.gx_durable.proofs.Fitting.{begun_fit, synced_fit}
+use Rattle.gx_durable.proofs.Heads.{touched_head}
 use Rattle.gx_durable.proofs.BodyLists.{bodies_more, bodies_same, body_adds}
 use Rattle.gx_durable.proofs.Crashes.{batch_flies, crash_leaves, stands_before}
 use Rattle.gx_durable.proofs.Moving.{area_elsewhere, settled_elsewhere, given_fewer, goes_nowhere, goes_joined, begun_goes, synced_goes}
@@ -89,6 +90,7 @@ module _ {E P : Type 0} (k : Known E P) (l : IsLawful k) (r : Reading E P) (due 
     healthy = d.carries.healthy;
     fit = d.carries.fit;
     has_pages = d.carries.has_pages;
+    head = touched_head k.head 8 4160 before now (omega arith) touches d.carries.head;
     area = λ p. d.carries.area p ∙ sym (area_elsewhere r k.pages before.sectors d.carries.has_pages 8 4160 before now (omega arith) touches p);
     settled = settled_elsewhere 8 4160 before.sectors before now (omega arith) touches (is_given s.gated) d.carries.settled;
     turn = λ turns. absurd (omega (arith, d.still));
@@ -113,6 +115,7 @@ module _ {E P : Type 0} (k : Known E P) (l : IsLawful k) (r : Reading E P) (due 
         healthy = synced_healthy k l s d.carries.healthy;
         fit = synced_fit k r s d.carries.fit;
         has_pages = d.carries.has_pages;
+        head = touched_head k.head 8 4160 before now (omega arith) touches d.carries.head;
         area = λ p. d.carries.area p ∙ sym (area_elsewhere r k.pages before.sectors d.carries.has_pages 8 4160 before now (omega arith) touches p);
         settled = λ p t is unnamed within.
             settled_elsewhere 8 4160 before.sectors before now (omega arith) touches (is_given s.gated) d.carries.settled p t is (given_fewer s.gated s.flight p unnamed) within;
@@ -183,6 +186,7 @@ module _ {E P : Type 0} (k : Known E P) (l : IsLawful k) (r : Reading E P) (old 
       healthy = begun_healthy k s up.carries.healthy (none_flies idle);
       fit = begun_fit k r s (none_flies idle) up.carries.fit;
       has_pages = up.carries.has_pages;
+      head = up.carries.head;
       area = up.carries.area;
       settled = up.carries.settled;
       turn = λ turns. absurd (omega arith);

@@ -53,6 +53,7 @@ module _ {E P : Type 0} (r : Reading E P) (x : Rec) (old new : Log) where
         healthy = c.healthy;
         fit = c.fit;
         has_pages = c.has_pages;
+        head = c.head;
         area = c.area;
         settled = c.settled;
         turn = λ turns. absurd (omega (arith, rests, turns));

@@ -30,6 +30,7 @@ use Rattle.gx_durable.specs.Standing.{batch_of, MayRenew, Carries}
 use Rattle.gx_durable.specs.Steps.{bodies_turned, GoesOn}
 use Rattle.gx_durable.specs.Steps as steps
 use Rattle.gx_durable.proofs.Fitting.{renewed_fit}
+use Rattle.gx_durable.proofs.Heads.{touched_head}
 use Rattle.gx_durable.proofs.BodyLists.{bodies_same}
 use Rattle.gx_durable.proofs.Moving.{area_elsewhere, settled_elsewhere, goes_nowhere, same_goes}
 
@@ -75,17 +76,18 @@ head_body extent seen head is = ap (λ (body : List ℕ). body ∷ []) is
 pub record Front (before now : Device) : Type 0 where
   pub first : ℕ
   pub n : ℕ
+  pub behind : 2 ≤ first
   pub front : first + n ≤ 4168
   pub touches : Touches first n before now
 
 pub front_of : (t : Turn) (before now : Device) → TouchesIn t before now → Front before now
-front_of turn.Closed before now touches = record { first = 8; n = 4160; front = omega arith; touches = touches }
-front_of turn.Body before now touches = record { first = 8; n = 4160; front = omega arith; touches = touches }
-front_of turn.BodySync before now touches = record { first = 8; n = 4160; front = omega arith; touches = touches }
-front_of turn.Gate before now touches = record { first = 8; n = 4160; front = omega arith; touches = touches }
-front_of turn.GateSync before now touches = record { first = 8; n = 4160; front = omega arith; touches = touches }
-front_of turn.Selector before now touches = record { first = 2; n = 1; front = omega arith; touches = touches }
-front_of turn.Done before now touches = record { first = 8; n = 4160; front = omega arith; touches = touches }
+front_of turn.Closed before now touches = record { first = 8; n = 4160; behind = omega arith; front = omega arith; touches = touches }
+front_of turn.Body before now touches = record { first = 8; n = 4160; behind = omega arith; front = omega arith; touches = touches }
+front_of turn.BodySync before now touches = record { first = 8; n = 4160; behind = omega arith; front = omega arith; touches = touches }
+front_of turn.Gate before now touches = record { first = 8; n = 4160; behind = omega arith; front = omega arith; touches = touches }
+front_of turn.GateSync before now touches = record { first = 8; n = 4160; behind = omega arith; front = omega arith; touches = touches }
+front_of turn.Selector before now touches = record { first = 2; n = 1; behind = omega arith; front = omega arith; touches = touches }
+front_of turn.Done before now touches = record { first = 8; n = 4160; behind = omega arith; front = omega arith; touches = touches }
 
 module _ {E P : Type 0} (k : Known E P) (l : IsLawful k) (r : Reading E P) (log : Log) (before now : Device) (bodies : List (List (Record E P))) (s : Logged E P)
     (c : Carries k r log before.sectors before.seen before.pending bodies s) (may : MayRenew k r log.flight before.sectors before.pending s) (idle : log.stage ≡ Idle) (f : Front before now) where
@@ -110,6 +112,7 @@ module _ {E P : Type 0} (k : Known E P) (l : IsLawful k) (r : Reading E P) (log 
     healthy = c.healthy;
     fit = c.fit;
     has_pages = c.has_pages;
+    head = touched_head k.head f.first f.n before now f.behind f.touches c.head;
     area = same_area;
     settled = settled_elsewhere f.first f.n before.sectors before now f.front f.touches (is_given s.gated) c.settled;
     turn = λ turns. record {
@@ -137,6 +140,7 @@ module _ {E P : Type 0} (k : Known E P) (l : IsLawful k) (r : Reading E P) (log 
     healthy = checkpoint_healthy k l s c.healthy may.no_flight may.no_filling may.written may.next;
     fit = renewed_fit k r l may.next s may.no_flight may.no_filling may.written c.healthy.gated c.fit;
     has_pages = c.has_pages;
+    head = touched_head k.head f.first f.n before now f.behind f.touches c.head;
     area = same_area;
     settled = λ p n there unnamed within. all_settled p n there refl within;
     turn = λ turns. absurd (omega arith);

@@ -14,6 +14,7 @@ use Rattle.gx_recovery.specs.declared.TheConstants.{TOUCHED}
 use Rattle.gx_durable.specs.Spelled.{Reading, AreRecords}
 use Rattle.gx_durable.specs.Area.{area_of, HasPages, IsSettledBut}
 use Rattle.gx_durable.specs.Fitting.{PagesFit}
+use Rattle.gx_durable.specs.Head.{HasHead}
 use Rattle.gx_durable.specs.Standing.{Up}
 
 -- a log that starts behind the one batch of a new device, and the one record of that
@@ -23,9 +24,9 @@ first_glog = record { extent = A; used = 1; gated = 1; stage = Idle; turn = Clos
 abbrev pub first_records : (E P : Type 0) → List (Record E P)
 first_records E P = Counters 0 0 2 1 ∷ []
 
--- Of a device as it was laid down, all of it settled, whose two pages are a sound tree and can be read: the log that starts there is up.
+-- Of a device as it was laid down, all of it settled, that says what is known of it, whose two pages are a sound tree and can be read: the log that starts there is up.
 abbrev pub FirstIsUp : {E P : Type 0} → Known E P → Reading E P → Type 0
-FirstIsUp {E} {P} k r = (sectors : ℕ) (seen : List ℕ) (pending : ℕ → Bool) → HasFirstLog seen → IsFirstSettled pending → 2 ≤ k.pages → HasPages k.pages sectors
+FirstIsUp {E} {P} k r = (sectors : ℕ) (seen : List ℕ) (pending : ℕ → Bool) → HasHead k.head seen pending → HasFirstLog seen → IsFirstSettled pending → 2 ≤ k.pages → HasPages k.pages sectors
     → IsSettledBut (λ p. false) sectors pending → k.sound (tree_of k (area_of r k.pages seen) (first_records E P)) → PagesFit r (tree_of k (area_of r k.pages seen) (first_records E P))
     → Up k r first_glog sectors seen pending (first_records E P ∷ []) (found (area_of r k.pages seen) (first_records E P))
 

@@ -21,6 +21,7 @@ use Rattle.gx_durable.specs.Spelled.{Reading}
 use Rattle.gx_durable.specs.Bodies.{AreBodies}
 use Rattle.gx_durable.specs.Area.{area_of, HasPages}
 use Rattle.gx_durable.specs.Fitting.{AreGood, HasSizes}
+use Rattle.gx_durable.specs.Head.{head_in}
 use Rattle.gx_durable.specs.Standing.{Up, Stands}
 use Rattle.gx_durable.specs.Stamps.{AllSaid, AllPlaced}
 use Rattle.gx_durable.specs.Stored.{IsStored}
@@ -35,9 +36,11 @@ opened seen = open_run seen (selected_of seen) 0 32
 abbrev pub found_state : {E P : Type 0} → Known E P → Reading E P → List ℕ → List (List (Record E P)) → Logged E P
 found_state k r seen bodies = found (area_of r k.pages seen) (records_of bodies)
 
--- A settled device has these open bodies, which are undamaged, over a page area that is good for them and can be read.
+-- A settled device says what is known of it, and has these open bodies, which are undamaged, over a page area that is good for them and can
+-- be read.
 pub record IsFoundGood {E P : Type 0} (k : Known E P) (r : Reading E P) (sectors : ℕ) (seen : List ℕ) (pending : ℕ → Bool) (bodies : List (List (Record E P))) : Type 0 where
   pub settled : (n : ℕ) → pending n ≡ false
+  pub head : head_in seen ≡ k.head
   pub size : 2134016 ≤ length seen
   pub pages : HasPages k.pages sectors
   pub sizes : (j : ℕ) → j < opened seen → IsSize (size_in (body_of seen (selected_of seen) j))
@@ -70,10 +73,11 @@ abbrev pub FoundRuns : {E P : Type 0} → Known E P → Reading E P → Device �
 FoundRuns {E} {P} k r d = (frames : State) (bodies : List (List (Record E P))) → IsFoundGood k r d.sectors d.seen d.pending bodies → HasNoLater d.seen d.pending → BeginsBehind frames (opened d.seen)
     → RunsAfresh k r (found_glog d.seen) frames d bodies (found_state k r d.seen bodies)
 
--- An image with the open bodies and the pages of a device that a log was found on, and with sizes in range, stands for the kept set of that log.
+-- An image that says the same as a device that a log was found on, with its open bodies and its pages, and with sizes in range, stands for the
+-- kept set of that log.
 abbrev pub SameLogStands : {E P : Type 0} → Known E P → Reading E P → Type 0
 SameLogStands {E} {P} k r = IsLawful k → (sectors : ℕ) (seen : List ℕ) (pending : ℕ → Bool) (bodies : List (List (Record E P))) (image : List ℕ) → IsFoundGood k r sectors seen pending bodies
-    → open_bodies image ≡ open_bodies seen → HasSizes image → ((s : ℕ) → 4168 ≤ s → sector_of image s ≡ sector_of seen s) → Stands k r (found_state k r seen bodies) image
+    → head_in image ≡ head_in seen → open_bodies image ≡ open_bodies seen → HasSizes image → ((s : ℕ) → 4168 ≤ s → sector_of image s ≡ sector_of seen s) → Stands k r (found_state k r seen bodies) image
 
 -- a device on which the same log stands, over the same pages, with no later gate open
 pub record IsClosedFound {E P : Type 0} (k : Known E P) (r : Reading E P) (d e : Device) (bodies : List (List (Record E P))) : Type 0 where

@@ -4,6 +4,7 @@ pub mod Bodies
 pub mod Calls
 pub mod Fitting
 pub mod GoingOn
+pub mod Head
 pub mod Joining
 pub mod Laws
 pub mod Legal

@@ -19,6 +19,7 @@ use Rattle.gx_durable.specs.Spelled.{Reading}
 use Rattle.gx_durable.specs.Bodies.{AreBodies}
 use Rattle.gx_durable.specs.Area.{area_of, HasPages}
 use Rattle.gx_durable.specs.Fitting.{AreGood}
+use Rattle.gx_durable.specs.Head.{head_in}
 use Rattle.gx_durable.specs.Standing.{MayRenew, Carries, Up, Stands}
 use Rattle.gx_durable.specs.Steps.{turned, bodies_turned}
 use Rattle.gx_durable.specs.Calls.{GoesSafely}
@@ -42,12 +43,12 @@ found_glog seen =
       filling = [];
     }
 
--- Of a settled device whose open bodies are undamaged, over a page area that is good for them and can be read: the log that starts behind them is
+-- Of a settled device that says what is known of it, whose open bodies are undamaged, over a page area that is good for them and can be read: the log that starts behind them is
 -- up to its turn, whatever the later gates are.
 abbrev pub FoundIsUpToTurn : {E P : Type 0} → Known E P → Reading E P → Type 0
 FoundIsUpToTurn {E} {P} k r = (sectors : ℕ) (seen : List ℕ) (pending : ℕ → Bool) (bodies : List (List (Record E P))) → ((n : ℕ) → pending n ≡ false) → 2134016 ≤ length seen
     → HasPages k.pages sectors → ((j : ℕ) → j < open_run seen (selected_of seen) 0 32 → IsSize (size_in (body_of seen (selected_of seen) j)))
-    → AreBodies r (open_bodies seen) bodies → is_undamaged k bodies ≡ true → AreGood k r (area_of r k.pages seen) (records_of bodies)
+    → AreBodies r (open_bodies seen) bodies → is_undamaged k bodies ≡ true → AreGood k r (area_of r k.pages seen) (records_of bodies) → head_in seen ≡ k.head
     → UpToTurn k r (found_glog seen) sectors seen pending bodies (found (area_of r k.pages seen) (records_of bodies))
 
 -- a crash of it leaves a kept set too

@@ -17,6 +17,7 @@ use Rattle.gx_durable.specs.Spelled.{Reading, AreRecords}
 use Rattle.gx_durable.specs.Bodies.{AreBodies}
 use Rattle.gx_durable.specs.Area.{area_of, HasPages, is_given, IsSettledBut}
 use Rattle.gx_durable.specs.Fitting.{AllFit, HasSizes, PagesFit}
+use Rattle.gx_durable.specs.Head.{HasHead, head_in}
 
 -- the bytes of the batch in flight: while there is none, what stands there is a head
 abbrev pub batch_of : Stage → List ℕ → List ℕ
@@ -45,13 +46,15 @@ pub record MayRenew {E P : Type 0} (k : Known E P) (r : Reading E P) (head : Lis
   pub head_is : AreRecords r head (renewed k next s.gated)
 
 -- What a device carries, as it reads and with what is pending on it: the bodies of a log that is undamaged, the records of a
--- healthy state whose pages can be read, and its page area, of which a crash leaves each page that no gated record gives.
+-- healthy state whose pages can be read, its page area, of which a crash leaves each page that no gated record gives, and what it says
+-- of itself.
 pub record Carries {E P : Type 0} (k : Known E P) (r : Reading E P) (log : Log) (sectors : ℕ) (seen : List ℕ) (pending : ℕ → Bool) (bodies : List (List (Record E P))) (s : Logged E P) : Type 0 where
   pub told : Tells r log seen bodies s
   pub undamaged : is_undamaged k bodies ≡ true
   pub healthy : IsHealthy k s
   pub fit : AllFit k r s
   pub has_pages : HasPages k.pages sectors
+  pub head : HasHead k.head seen pending
   pub area : (p : ℕ) → s.area p ≡ area_of r k.pages seen p
   pub settled : IsSettledBut (is_given s.gated) sectors pending
   pub turn : 1 ≤ turning log.turn → MayRenew k r log.flight sectors pending s
@@ -61,8 +64,10 @@ pub record Up {E P : Type 0} (k : Known E P) (r : Reading E P) (log : Log) (sect
   pub on : On log seen pending
   pub carries : Carries k r log sectors seen pending bodies s
 
--- An image stands for a kept set of a state: its open bodies are an undamaged log, over its page area; and bodies and pages can be read.
+-- An image stands for a kept set of a state: it says what the device does, its open bodies are an undamaged log, over its page area; and
+-- bodies and pages can be read.
 pub record Stands {E P : Type 0} (k : Known E P) (r : Reading E P) (s : Logged E P) (image : List ℕ) : Type 0 where
+  pub head : head_in image ≡ k.head
   pub bodies : List (List (Record E P))
   pub told : AreBodies r (open_bodies image) bodies
   pub undamaged : is_undamaged k bodies ≡ true

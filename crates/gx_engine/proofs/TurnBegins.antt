@@ -164,6 +164,7 @@ module _ {B D : Type 0} (k : Known (Entry B) (Page B)) (r : Reading (Entry B) (P
               healthy = carries.healthy;
               fit = carries.fit;
               has_pages = carries.has_pages;
+              head = carries.head;
               area = carries.area;
               settled = carries.settled;
               turn = λ turns. absurd (omega (arith, still, turns));

@@ -69,10 +69,10 @@ module _ {B : Type 0} (c : Class B) (l : IsLawful c) (r : Reading (Entry B) (Pag
 
 module _ {B D : Type 0} (shape : Members B) (proper : B → Bool) (said : List ℕ → B) (f : Format B) (state : D → Device) (lawful : (l : Limits) → 4 ≤ l.most → IsLawful (class_of shape proper l)) where
   pub crash_kept : (e : Parts B D) (m : Machine B) → Sees shape proper said f state e m → (image : List ℕ) → MayLeave (state e.volume.shelf.disk) image
-      → StandsForSet (class_in shape proper e) (reading_of said f) m image
+      → StandsForSet (class_in shape proper state e) (reading_of said f) m image
   crash_kept e m s image may =
-      let c = class_in shape proper e in
-      let l : IsLawful c = lawful (limits_in e) s.holds.some in
+      let c = class_in shape proper state e in
+      let l : IsLawful c = lawful (limits_in state e) s.holds.some in
       let d = state e.volume.shelf.disk in
       set_of_image c l (reading_of said f) s.index s.holds.whole m s.seen image
       (crash_leaves (known_of c) (reading_of said f) (known_lawful c l.keys) e.volume.log d.sectors d.seen d.pending s.bodies s.index.log image s.holds.keeps.runs.up may)
@@ -81,7 +81,7 @@ module _ {B D : Type 0} (shape : Members B) (proper : B → Bool) (said : List �
       → ((l : Limits) → Steps (class_of shape proper l) (reading_of said f) f (is_node f) (state old.volume.shelf.disk) (state new.volume.shelf.disk) event old new outcome)
       → (m : Machine B) → Sees shape proper said f state old m → LeavesSets shape proper said f state m old new
   step_leaves old new event outcome steps m s =
-      let c = class_in shape proper old in
+      let c = class_in shape proper state old in
       let one : Stepped c (reading_of said f) f (is_node f) (state old.volume.shelf.disk) (state new.volume.shelf.disk) event old new outcome s.index =
-      steps (limits_in old) s.bodies s.index s.holds in
-      sets_of_images c (lawful (limits_in old) s.holds.some) (reading_of said f) s.index s.holds.whole m s.seen (state old.volume.shelf.disk) (state new.volume.shelf.disk) one.led.leaves
+      steps (limits_in state old) s.bodies s.index s.holds in
+      sets_of_images c (lawful (limits_in state old) s.holds.some) (reading_of said f) s.index s.holds.whole m s.seen (state old.volume.shelf.disk) (state new.volume.shelf.disk) one.led.leaves

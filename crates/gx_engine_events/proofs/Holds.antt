@@ -31,5 +31,5 @@ module _ {C B D : Type 0} (shape : Members B) (proper : B → Bool) (said : List
   hold_leaves old new event outcome m seen (is_made given made told recorded) = event_leaves old.0 new.0 event given m seen made
   hold_leaves old new event outcome m seen (is_turned_away why same) =
       subst (λ (x : Parts B D × List (Item B)). LeavesSets shape proper said (format_of class) state m old.0 x.0) (sym same)
-      (nothing_leaves (StandsForSet (class_in shape proper old.0) (reading_of said (format_of class)) m) (state old.0.volume.shelf.disk))
+      (nothing_leaves (StandsForSet (class_in shape proper state old.0) (reading_of said (format_of class)) m) (state old.0.volume.shelf.disk))
   hold_leaves old new event outcome m seen (is_unrecorded given made full same) = event_leaves old.0 new.0 event (Replied given) m seen made

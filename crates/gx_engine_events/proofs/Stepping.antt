@@ -5,6 +5,7 @@ use Rattle.gx_machine.specs.Keys.{Members, keys_of}
 use Rattle.gx_machine.specs.Machine.{Machine}
 use Rattle.gx_disk.specs.Device.{Device}
 use Rattle.gx_node.specs.Reading.{Format, is_node}
+use Rattle.gx_durable.specs.Head.{head_in}
 use Rattle.gx_engine_laws.specs.Engines.{SeenAs}
 use Rattle.gx_recovery.specs.Known.{Limits}
 use Rattle.gx_recovery.specs.Records.{Record}
@@ -29,7 +30,8 @@ module _ {B D : Type 0} (shape : Members B) (proper : B → Bool) (said : List �
   sees_within l e bodies i m h seen =
       let most : l.most ≡ e.volume.most = sym h.most in
       let pages : l.pages ≡ e.volume.shelf.pages = h.keeps.pages in
-      let same : l ≡ limits_in e = λ t. record { most = most t; pages = pages t } in
+      let says : l.head ≡ head_in (state e.volume.shelf.disk).seen = sym h.keeps.runs.up.carries.head.reads in
+      let same : l ≡ limits_in state e = λ t. record { most = most t; pages = pages t; head = says t } in
       record {
         bodies = bodies;
         index = i;
@@ -42,8 +44,8 @@ module _ {B D : Type 0} (shape : Members B) (proper : B → Bool) (said : List �
       → ((l : Limits) → Steps (class_of shape proper l) (reading_of said f) f (is_node f) (state old.volume.shelf.disk) (state new.volume.shelf.disk) event old new outcome)
       → (m : Machine B) → Sees shape proper said f state old m → (n : Machine B) × Happens (keys_of shape) m event outcome n × Sees shape proper said f state new n
   step_leads lawful old new event outcome steps m s =
-      let c = class_in shape proper old in
+      let c = class_in shape proper state old in
       let one : Stepped c (reading_of said f) f (is_node f) (state old.volume.shelf.disk) (state new.volume.shelf.disk) event old new outcome s.index =
-      steps (limits_in old) s.bodies s.index s.holds in
-      let led = event_happens c (lawful (limits_in old) s.holds.some) s.index one.led.index s.holds.whole event outcome one.events one.are one.led.happening m s.seen in
-      (led.0, led.1, sees_within (limits_in old) new one.led.bodies one.led.index led.0 one.led.holds led.2)
+      steps (limits_in state old) s.bodies s.index s.holds in
+      let led = event_happens c (lawful (limits_in state old) s.holds.some) s.index one.led.index s.holds.whole event outcome one.events one.are one.led.happening m s.seen in
+      (led.0, led.1, sees_within (limits_in state old) new one.led.bodies one.led.index led.0 one.led.holds led.2)

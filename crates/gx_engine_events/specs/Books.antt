@@ -36,5 +36,5 @@ pub record Outlives {B D : Type 0} (shape : Members B) (proper : B → Bool) (sa
   pub machine : Machine B
   pub seen : Sees shape proper said f state e machine
   pub replays : ReplaysAs (keys_of shape) start calls machine
-  pub sets : (image : List ℕ) → MayLeave (state e.volume.shelf.disk) image → StandsForSet (class_in shape proper e) (reading_of said f) machine image
+  pub sets : (image : List ℕ) → MayLeave (state e.volume.shelf.disk) image → StandsForSet (class_in shape proper state e) (reading_of said f) machine image
   pub covers : (number : ℕ) → list_any (acknowledges number) calls ≡ true → number ≤ machine.oldest

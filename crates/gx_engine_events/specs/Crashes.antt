@@ -29,4 +29,4 @@ pub record StandsForSet {B : Type 0} (c : Class B) (r : Reading (Entry B) (Page 
 -- at each moment from one engine to another, whatever a crash may leave that it could not leave before stands for a set that the machine keeps
 abbrev pub LeavesSets : {B D : Type 0} → Members B → (B → Bool) → (List ℕ → B) → Format B → (D → Device) → Machine B → Parts B D → Parts B D → Type 0
 LeavesSets shape proper said f state m old new =
-    Leaves (StandsForSet (class_in shape proper old) (reading_of said f) m) (state old.volume.shelf.disk) (state new.volume.shelf.disk)
+    Leaves (StandsForSet (class_in shape proper state old) (reading_of said f) m) (state old.volume.shelf.disk) (state new.volume.shelf.disk)

@@ -27,7 +27,7 @@ use gx_shared::{Book, Run};
 pub fn a_crash_leaves_a_set_of_the_machine<D: SectorDisk, K: ReadKeys>()
     ensures { (e : Parts K.Key D) (m : Machine K.Key) → Sees K.Key.Shape K.is_proper K.said (format_of K.KeyClass) D.state e m
         → (image : List ℕ) → MayLeave (D.state e.volume.shelf.disk) image
-        → StandsForSet (class_in K.Key.Shape K.is_proper e) (reading_of K.said (format_of K.KeyClass)) m image }
+        → StandsForSet (class_in K.Key.Shape K.is_proper D.state e) (reading_of K.said (format_of K.KeyClass)) m image }
 {
     a_class_is_lawful::<K>();
 }

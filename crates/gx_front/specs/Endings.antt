@@ -15,6 +15,7 @@ use Rattle.gx_command.specs.Streams.{Outputs, Prints, Stream, TellsPerson}
 use Rattle.gx_device_commands.specs.Dumping.{DumpsOver}
 use Rattle.gx_device_commands.specs.Endings.{FormatsOver, RunsOver}
 use Rattle.gx_device_commands.specs.Lines.{refusal_line}
+use Rattle.gx_device_commands.specs.Verifying.{VerifiesOver}
 use Rattle.gx_front.specs.Storms.{EndsStormed}
 use Rattle.gx_storm.specs.declared.threads.Storm.{Storm}
 use Rattle.gx_words.specs.Asking.{WordsAsk}
@@ -75,12 +76,23 @@ module _ {C : Type 0} (shape : Members Rectangle) (class : Ghosts C Rectangle) (
   abbrev pub EndsDump : Outputs → Outputs → ℕ → Type 0
   EndsDump from to status = HasNoDevice from to status ⊎ DumpsFile from to status
 
+  -- the index of boxes that a file holds was verified, with 64 frames
+  pub record VerifiesFile (from to : Outputs) (status : ℕ) : Type 0 where
+    pub disk : FileDisk
+    pub after : FileDisk
+    pub verifies : VerifiesOver shape in_order corners_of class state 1 64 disk after from to status
+
+  -- how verifying a file may end
+  abbrev pub EndsVerify : Outputs → Outputs → ℕ → Type 0
+  EndsVerify from to status = HasNoDevice from to status ⊎ VerifiesFile from to status
+
   -- how what was asked for may end
   abbrev pub EndsAsked : Asked → Stream → Stream → Outputs → Outputs → ℕ → Type 0
   EndsAsked command.Plain had left from to status = EndsScript had left from to status
   EndsAsked (command.Format file pages most) had left from to status = (left ≡ had) × EndsFormat class state pages most from to status
   EndsAsked (command.Run file frames) had left from to status = EndsRun frames had left from to status
   EndsAsked (command.Dump file) had left from to status = (left ≡ had) × EndsDump from to status
+  EndsAsked (command.Verify file) had left from to status = (left ≡ had) × EndsVerify from to status
   EndsAsked (command.Storm seed sessions calls) had left from to status =
       (left ≡ had) × EndsStormed (keys_of shape) (record { seed = seed; sessions = sessions; calls = calls }) from to status
 

@@ -27,12 +27,15 @@ TellsSound calls old new status =
     ⊎ ((status ≡ 1) × (IsCut old.replies.bytes new.replies.bytes (sound_line calls)
     × (TakesNoMore new.replies × TellsFault new.replies.kind old.person new.person)))
 
+-- what a person is told of it
+abbrev pub differs_sentence : List ℕ
+differs_sentence = codes "a reply isn't the one that the plain index gives"
+
 -- a place is told, and a person what it is
 pub record TellsPlace (place : ℕ) (old new : Outputs) (status : ℕ) : Type 0 where
   pub status_is : status ≡ 1
   pub told : Prints (differs_line place) old.replies new.replies
-  pub sentence : List ℕ
-  pub heard : TellsPerson sentence old.person new.person
+  pub heard : TellsPerson differs_sentence old.person new.person
 
 -- a verdict is told
 abbrev pub TellsVerdict : Storm → Verdict → Outputs → Outputs → ℕ → Type 0

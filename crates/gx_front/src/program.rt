@@ -3,7 +3,7 @@ ghost use Rattle.std.specs.Prelude.{◌≡◌, map, IfErr, IfOk, MatchResult};
 ghost use Rattle.gx_command.specs.Streams.{outputs_of, stream_of};
 ghost use Rattle.gx_front.specs.Endings.{AwaitsStorm, EndsAsked, EndsOnWords, EndsUnread, WantsStorm};
 
-use crate::files::{dump_file, format_file, run_file};
+use crate::files::{dump_file, format_file, run_file, verify_file};
 use crate::storms::tell_storm;
 use clap::error::ErrorKind;
 use gx_class::{Box2Class, KeyClass};
@@ -29,6 +29,7 @@ const WRONG_WORDS: u8 = 2;
 /// - `gist format FILE PAGES M` lays a new index down in a file, and writes `formatted pages PAGES fanout M`.
 /// - `gist run FILE [--frames N]` reads a script from the reader and writes the replies of the index in a file.
 /// - `gist dump FILE` writes the text of the tree of the index in a file.
+/// - `gist verify FILE` tests the index in a file, and writes `ok commits N entries E used U`; the file stays as it is.
 /// - `gist storm SEED SESSIONS CALLS` runs sessions in threads on an index in memory, and writes whether a plain index
 ///   replies the same. No other command has threads or waits: `before_threads` is all that they do.
 ///
@@ -84,7 +85,7 @@ pub fn before_threads<T: Files<File = File>, S: AsStr, R: Read, W: Write, E: Wri
 {
     match words {
         Ok(given) => match gx_words::read(alloc, given) {
-            Ok(asked) => carry_out(rt, alloc, asked, reader, writer, faults),
+            Ok(asked) => Ok(carry_out(rt, alloc, asked, reader, writer, faults)?),
             Err(error) if error.kind() == ErrorKind::OutOfMemory => Ok(refuse_memory(writer)),
             Err(error) => Ok(refuse_words(faults, &error)),
         },
@@ -113,26 +114,26 @@ fn carry_out<T: Files<File = File>, R: Read, W: Write, E: Write>(
         had left from to status)
         (λ storm. WantsStorm asked.entry storm had left from to) }
 {
-    let status = match asked {
-        Asked::Plain => run_script(alloc, reader, writer, faults),
-        Asked::Format { file, pages, most } => {
-            format_file(rt, alloc, file, pages, most, writer, faults)
-        }
-        Asked::Run { file, frames } => run_file(rt, alloc, file, frames, reader, writer, faults),
-        Asked::Dump { file } => dump_file(rt, alloc, file, writer, faults),
+    match asked {
+        Asked::Plain => Ok(run_script(alloc, reader, writer, faults)),
+        Asked::Format { file, pages, most } => Ok(format_file(
+            rt, alloc, file, pages, most, writer, faults,
+        )),
+        Asked::Run { file, frames } => Ok(run_file(
+            rt, alloc, file, frames, reader, writer, faults,
+        )),
+        Asked::Dump { file } => Ok(dump_file(rt, alloc, file, writer, faults)),
+        Asked::Verify { file } => Ok(verify_file(rt, alloc, file, writer, faults)),
         Asked::Storm {
             seed,
             sessions,
             calls,
-        } => {
-            return Err(Storm {
-                seed,
-                sessions,
-                calls,
-            });
-        }
-    };
-    Ok(status)
+        } => Err(Storm {
+            seed,
+            sessions,
+            calls,
+        }),
+    }
 }
 
 // Tells what is wrong with the words, and answers the status.

@@ -11,11 +11,10 @@ use gx_class::Box2Class;
 use gx_command::{Noted, print, tell_fault, tell_person};
 use gx_device_commands::refuse;
 use gx_disk::MemDisk;
-use gx_engine_events::EngineEvents;
+use gx_engine_events::{EngineEvents, new_index};
 use gx_events::Events;
 use gx_format::sectors_for;
 use gx_geom::{Box2, Refusal, Shape};
-use gx_new_index::new_index;
 use gx_script::write_whole;
 use gx_shared::laws::an_idle_engine_may_be_shared;
 use gx_storm::{Storm, Verdict, storm_over};
@@ -68,11 +67,7 @@ fn line_of_place(place: u64) -> ArrayString<LONGEST>
 }
 
 // Writes that all calls of a storm are sound, and returns the status.
-fn tell_sound<W: Write, E: Write>(
-    calls: u32,
-    writer: &mut Noted<W>,
-    faults: &mut Noted<E>,
-) -> u8
+fn tell_sound<W: Write, E: Write>(calls: u32, writer: &mut Noted<W>, faults: &mut Noted<E>) -> u8
     ensures { TellsSound calls (outputs_of W.contents E.contents writer.old faults.old)
         (outputs_of W.contents E.contents writer.new faults.new) result }
 {

@@ -13,12 +13,13 @@ use Rattle.gx_recovery.specs.Known as known
 use Rattle.gx_recovery.specs.Known.{Known}
 
 -- A class of keys on a device: its keys as the machine knows them; what the tree is told of them, with so many entries a
--- node; which keys are of the class; how many pages the device has.
+-- node; which keys are of the class; how many pages the device has, and what is read of its first two sectors.
 pub record Class (B : Type 0) : Type 0 where
   pub keys : Keys B
   pub rules : Rules B
   pub is_key : B → Bool
   pub pages : ℕ
+  pub head : List ℕ
 
 -- what a class owes: its order and its covering are lawful, and the tree takes those for the same that the order does
 pub record IsLawful {B : Type 0} (c : Class B) : Type 0 where
@@ -64,4 +65,5 @@ known_of c = record {
   is_entry = λ e. c.is_key e.key;
   own = λ page. page.own;
   pages = c.pages;
+  head = c.head;
 }

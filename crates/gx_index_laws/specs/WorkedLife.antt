@@ -29,6 +29,7 @@ numbers = record {
   rules = record { covers = λ a b. nat_le b a; same = λ a b. is_eq (nat_cmp a b); most = 4 };
   is_key = λ key. true;
   pages = 8;
+  head = [];
 }
 
 -- the n-th entry, and the fifth

@@ -1,48 +1,14 @@
 //! Openings of devices in memory.
 use crate::devices::formatted;
 use gx_class::Box2Class;
-use gx_disk::{MemDisk, SectorDisk};
+use gx_disk::MemDisk;
 use gx_engine::{Engine, drive, repeat};
 use gx_events::Event;
-use gx_geom::{Box2, Refusal};
-use gx_legality::Rule;
+use gx_geom::Box2;
 use gx_machine::{Call, Entry, Query, Reply};
-use gx_opening::{Damage, examine};
 use gx_restart::open;
 use std::alloc::Global;
 use std::process::Abort;
-
-// Why a device isn't opened, where there is one.
-fn refusal(alloc: Global, disk: Option<MemDisk>, frames: usize) -> Option<Refusal> {
-    match open::<MemDisk, Box2Class>(alloc, disk?, frames) {
-        Ok(_) => None,
-        Err(refused) => Some(refused.why),
-    }
-}
-
-// A new device in which one byte was changed.
-fn formatted_with(alloc: Global, sector: u64, at: usize, value: u8) -> Option<MemDisk> {
-    let mut disk = formatted(alloc)?;
-    if disk.sectors() <= sector {
-        return None;
-    }
-    let mut bytes = [0u8; 512];
-    disk.read(sector, &mut bytes).ok()?;
-    *bytes.get_mut(at)? = value;
-    disk.write(sector, &bytes).ok()?;
-    Some(disk)
-}
-
-// Why a new device isn't opened in which one byte was changed.
-fn refusal_with(alloc: Global, sector: u64, at: usize, value: u8) -> Option<Refusal> {
-    refusal(alloc, Some(formatted_with(alloc, sector, at, value)?), 16)
-}
-
-// What is damaged on a new device in which one byte was changed.
-fn damage_with(alloc: Global, sector: u64, at: usize, value: u8) -> Option<Damage> {
-    let disk = formatted_with(alloc, sector, at, value)?;
-    examine::<MemDisk, Box2Class>(alloc, disk).1
-}
 
 // A session's call, to its end.
 fn ask(
@@ -136,40 +102,4 @@ fn opened_twice(alloc: Global) -> Option<MemDisk> {
 #[test]
 fn new_devices(rt: HostRuntime) {
     assert!(rt; opened_twice(rt.alloc()).is_some());
-}
-
-#[test]
-fn refusals(rt: HostRuntime) {
-    let alloc = rt.alloc();
-    let short = MemDisk::new(alloc, 4231).ok();
-    assert!(rt; refusal(alloc, short, 16) == Some(Refusal::TooSmall));
-    assert!(rt; refusal(alloc, formatted(alloc), 15) == Some(Refusal::BadParameter));
-    assert!(rt; refusal(alloc, formatted(alloc), 4097) == Some(Refusal::BadParameter));
-    // the magic, the class, the pages; the first body's size, and the number of page 1
-    assert!(rt; refusal_with(alloc, 0, 0, 0) == Some(Refusal::NotFormatted));
-    assert!(rt; refusal_with(alloc, 1, 7, 9) == Some(Refusal::BadParameter));
-    assert!(rt; refusal_with(alloc, 1, 3, 17) == Some(Refusal::TooSmall));
-    assert!(rt; refusal_with(alloc, 40, 0, 255) == Some(Refusal::Damaged));
-    assert!(rt; refusal_with(alloc, 4168, 0, 255) == Some(Refusal::Damaged));
-}
-
-// No contract can say that memory is there. Where it is, no damage is told as want of it, and each is told where it lies.
-#[test]
-fn damage_is_no_want_of_memory(rt: HostRuntime) {
-    let alloc = rt.alloc();
-    assert!(rt;
-        formatted(alloc).is_some_and(|disk| open::<MemDisk, Box2Class>(alloc, disk, 16).is_ok())
-    );
-    // the first body's size; the head of page 1; and its sequence number, which no split gave
-    assert!(rt; refusal_with(alloc, 40, 0, 255) == Some(Refusal::Damaged));
-    assert!(rt; refusal_with(alloc, 4168, 0, 255) == Some(Refusal::Damaged));
-    assert!(rt; refusal_with(alloc, 4168, 15, 9) == Some(Refusal::Damaged));
-    assert!(rt; matches!(damage_with(alloc, 40, 0, 255), Some(Damage::Log(_))));
-    assert!(rt; matches!(damage_with(alloc, 4168, 6, 1), Some(Damage::Unreadable(1))));
-    assert!(rt;
-        matches!(
-            damage_with(alloc, 4168, 15, 9),
-            Some(Damage::Broken(1, Rule::SequenceNumber))
-        )
-    );
 }

@@ -16,7 +16,7 @@ use Rattle.gx_legality.specs.declared.fault.Rule.TheVariants.{SplitsOutnumberPag
 use Rattle.gx_legality.specs.Breaks.{Breaks}
 use Rattle.gx_legality.specs.Nodes.{FitsAlone, FitsBelow, FailsBelow}
 use Rattle.gx_legality.specs.Owner.{OnlyReads, WasHeld, IsWhy, IsFound}
-use Rattle.gx_legality.proofs.Slots.{some_slot, each_below, below_next}
+use Rattle.gx_legality.proofs.Slots.{each_below, below_next}
 
 module _ {P B : Type 0} {steady : P → Type 0} {store : P → Store B} {since : P → P → ℕ → Type 0} where
   pub reads_same : (a b : P) → OnlyReads steady store since a b → steady a → store b ≡ store a
@@ -88,25 +88,23 @@ module _ {B : Type 0} where
   pub child_fails : (r : Rules B) (old new : Store B) (page slot level : ℕ) (c : Child B) (below : Node B) (rule : Rule) → new ≡ old
       → below ≡ node_at new.nodes c.page → level ≡ (node_at old.nodes page).level
       → slice_get (node_at old.nodes page).children slot ≡ Some c → Used (tree_of old) page
-      → FailsBelow r level c.key below rule → Breaks r (tree_of old) page rule
-  child_fails r old new page slot level c below ChildLevel same is above at used fails =
+      → FailsBelow r level c.key slot below rule → Breaks r (tree_of old) page rule
+  child_fails r old new page slot level c below (ChildLevel told) same is above at used fails =
       let here : below ≡ node_at old.nodes c.page = is ∙ ap (λ (s : Store B). node_at s.nodes c.page) same in (
         used,
-        some_slot (λ (c : Child B). ¬ (suc (node_at old.nodes c.page).level ≡ (node_at old.nodes page).level)) (node_at old.nodes page).children slot c
-            (λ fits. fails (ap (λ (n : Node B). suc n.level) here ∙ fits ∙ sym above)) at,
+        (c, subst (λ k. slice_get (node_at old.nodes page).children k ≡ Some c) (sym fails.0) at, λ fits. fails.1 (ap (λ (n : Node B). suc n.level) here ∙ fits ∙ sym above)),
       )
-  child_fails r old new page slot level c below Bound same is above at used fails =
+  child_fails r old new page slot level c below (Bound told) same is above at used fails =
       let here : below ≡ node_at old.nodes c.page = is ∙ ap (λ (s : Store B). node_at s.nodes c.page) same in (
         used,
-        some_slot (λ (c : Child B). ¬ Bounds r c.key (node_at old.nodes c.page)) (node_at old.nodes page).children slot c
-            (λ fits. fails (subst (λ n. Bounds r c.key n) (sym here) fits)) at,
+        (c, subst (λ k. slice_get (node_at old.nodes page).children k ≡ Some c) (sym fails.0) at, λ fits. fails.1 (subst (λ n. Bounds r c.key n) (sym here) fits)),
       )
   child_fails r old new page slot level c below SplitsOutnumberPages same is above at used fails = absurd fails
   child_fails r old new page slot level c below RootIsLeaf same is above at used fails = absurd fails
   child_fails r old new page slot level c below TooManyEntries same is above at used fails = absurd fails
   child_fails r old new page slot level c below NoChild same is above at used fails = absurd fails
   child_fails r old new page slot level c below SequenceNumber same is above at used fails = absurd fails
-  child_fails r old new page slot level c below ChildPage same is above at used fails = absurd fails
+  child_fails r old new page slot level c below (ChildPage told) same is above at used fails = absurd fails
   child_fails r old new page slot level c below NamedTwice same is above at used fails = absurd fails
   child_fails r old new page slot level c below NotNamed same is above at used fails = absurd fails
   child_fails r old new page slot level c below Chain same is above at used fails = absurd fails

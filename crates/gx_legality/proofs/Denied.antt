@@ -7,7 +7,7 @@ use Rattle.gx_tree_laws.specs.Legal.{Legal, ChildFits, Bounds, Linked}
 use Rattle.gx_legality.specs.declared.fault.Rule.{Rule}
 use Rattle.gx_legality.specs.declared.fault.Rule.TheVariants.{SplitsOutnumberPages, RootIsLeaf, TooManyEntries, NoChild, SequenceNumber, ChildPage, ChildLevel, Bound, NamedTwice, NotNamed, Chain, OffTheChain, PairTwice, PairOutOfPlace}
 use Rattle.gx_legality.specs.Breaks.{Breaks, Leads}
-use Rattle.gx_legality.proofs.Slots.{some_against}
+use Rattle.gx_legality.proofs.Slots.{slot_of}
 
 module _ {K : Type 0} where
   -- where rightlinks lead from a page to another, its chain is the pages between and the other's chain
@@ -29,15 +29,15 @@ module _ {K : Type 0} where
   denied r t p TooManyEntries broken legal = let many = broken.1 in let room = (legal.pages p broken.0).room in omega (arith, many, room)
   denied r t p NoChild broken legal = let none = broken.2 in let some = ((legal.pages p broken.0).inner broken.1).1 in omega (arith, none, some)
   denied r t p SequenceNumber broken legal = let ahead = broken.1 in let nsn = (legal.pages p broken.0).nsn in omega (arith, ahead, nsn)
-  denied r t p ChildPage broken legal =
-      some_against (λ (c : Child K). ¬ ((2 ≤ c.page) × (c.page ≤ t.used))) (ChildFits r t (t.node p).level) (t.node p).children
-      (λ c never fits. never (fits.low, fits.used)) broken.1 (legal.pages p broken.0).children
-  denied r t p ChildLevel broken legal =
-      some_against (λ (c : Child K). ¬ (suc (t.node c.page).level ≡ (t.node p).level)) (ChildFits r t (t.node p).level) (t.node p).children
-      (λ c never fits. never fits.level) broken.1 (legal.pages p broken.0).children
-  denied r t p Bound broken legal =
-      some_against (λ (c : Child K). ¬ Bounds r c.key (t.node c.page)) (ChildFits r t (t.node p).level) (t.node p).children
-      (λ c never fits. never fits.bounds) broken.1 (legal.pages p broken.0).children
+  denied r t p (ChildPage slot) broken legal =
+      let fits = slot_of (ChildFits r t (t.node p).level) (t.node p).children slot broken.1.0 (legal.pages p broken.0).children broken.1.1 in
+      broken.1.2 (fits.low, fits.used)
+  denied r t p (ChildLevel slot) broken legal =
+      let fits = slot_of (ChildFits r t (t.node p).level) (t.node p).children slot broken.1.0 (legal.pages p broken.0).children broken.1.1 in
+      broken.1.2 fits.level
+  denied r t p (Bound slot) broken legal =
+      let fits = slot_of (ChildFits r t (t.node p).level) (t.node p).children slot broken.1.0 (legal.pages p broken.0).children broken.1.1 in
+      broken.1.2 fits.bounds
   denied r t p NamedTwice broken legal = let one = legal.parent p broken.0 broken.1 in let two = broken.2 in omega (arith, one, two)
   denied r t p NotNamed broken legal = let one = legal.parent p broken.0 broken.1 in let none = broken.2 in omega (arith, one, none)
   denied r t p Chain broken legal = by_rest (led_on t p 2 broken.1 (leaves t) broken.2 legal.chain) broken.3

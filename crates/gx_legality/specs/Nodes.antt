@@ -18,9 +18,9 @@ FailsAlone most counter node NoChild = (0 < node.level) × (length node.children
 FailsAlone most counter node SequenceNumber = counter < node.nsn
 FailsAlone most counter node SplitsOutnumberPages = ⊥
 FailsAlone most counter node RootIsLeaf = ⊥
-FailsAlone most counter node ChildPage = ⊥
-FailsAlone most counter node ChildLevel = ⊥
-FailsAlone most counter node Bound = ⊥
+FailsAlone most counter node (ChildPage slot) = ⊥
+FailsAlone most counter node (ChildLevel slot) = ⊥
+FailsAlone most counter node (Bound slot) = ⊥
 FailsAlone most counter node NamedTwice = ⊥
 FailsAlone most counter node NotNamed = ⊥
 FailsAlone most counter node Chain = ⊥
@@ -33,19 +33,19 @@ pub record FitsBelow {K : Type 0} (r : Rules K) (above : ℕ) (key : K) (node : 
   pub level : suc node.level ≡ above
   pub bounds : Bounds r key node
 
--- it fails in this
-abbrev pub FailsBelow : {K : Type 0} → Rules K → ℕ → K → Node K → Rule → Type 0
-FailsBelow r above key node ChildLevel = ¬ (suc node.level ≡ above)
-FailsBelow r above key node Bound = ¬ Bounds r key node
-FailsBelow r above key node SplitsOutnumberPages = ⊥
-FailsBelow r above key node RootIsLeaf = ⊥
-FailsBelow r above key node TooManyEntries = ⊥
-FailsBelow r above key node NoChild = ⊥
-FailsBelow r above key node SequenceNumber = ⊥
-FailsBelow r above key node ChildPage = ⊥
-FailsBelow r above key node NamedTwice = ⊥
-FailsBelow r above key node NotNamed = ⊥
-FailsBelow r above key node Chain = ⊥
-FailsBelow r above key node OffTheChain = ⊥
-FailsBelow r above key node PairTwice = ⊥
-FailsBelow r above key node PairOutOfPlace = ⊥
+-- below the entry of this slot it fails in this
+abbrev pub FailsBelow : {K : Type 0} → Rules K → ℕ → K → ℕ → Node K → Rule → Type 0
+FailsBelow r above key slot node (ChildLevel at) = (at ≡ slot) × ¬ (suc node.level ≡ above)
+FailsBelow r above key slot node (Bound at) = (at ≡ slot) × ¬ Bounds r key node
+FailsBelow r above key slot node SplitsOutnumberPages = ⊥
+FailsBelow r above key slot node RootIsLeaf = ⊥
+FailsBelow r above key slot node TooManyEntries = ⊥
+FailsBelow r above key slot node NoChild = ⊥
+FailsBelow r above key slot node SequenceNumber = ⊥
+FailsBelow r above key slot node (ChildPage at) = ⊥
+FailsBelow r above key slot node NamedTwice = ⊥
+FailsBelow r above key slot node NotNamed = ⊥
+FailsBelow r above key slot node Chain = ⊥
+FailsBelow r above key slot node OffTheChain = ⊥
+FailsBelow r above key slot node PairTwice = ⊥
+FailsBelow r above key slot node PairOutOfPlace = ⊥

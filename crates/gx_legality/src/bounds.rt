@@ -84,22 +84,23 @@ fn covers_node<K: KeyClass>(bound: &K::Key, page: &Page, room: u32) -> bool
     }
 }
 
-/// Tests a node below an entry with this bound, of a node of this level.
+/// Tests a node below the entry of a slot, with this bound, of a node of this level.
 pub(crate) fn test_below<K: KeyClass>(
     page: &Page,
     room: u32,
     level: u16,
+    slot: usize,
     bound: &K::Key,
 ) -> Result<(), Rule>
     requires { is_node (format_of K.KeyClass) room page.now ≡ true }
     ensures fits { (most : ℕ) → OnOk result (FitsBelow (rules_of K.Key.Shape most) level bound.now (node_of (format_of K.KeyClass) page.now)) }
-    ensures fails { (most : ℕ) → IfErr result (FailsBelow (rules_of K.Key.Shape most) level bound.now (node_of (format_of K.KeyClass) page.now)) }
+    ensures fails { (most : ℕ) → IfErr result (FailsBelow (rules_of K.Key.Shape most) level bound.now slot (node_of (format_of K.KeyClass) page.now)) }
 {
     if u32::from(page.level()) + 1 != u32::from(level) {
-        return Err(Rule::ChildLevel);
+        return Err(Rule::ChildLevel(slot));
     }
     if !covers_node::<K>(bound, page, room) {
-        return Err(Rule::Bound);
+        return Err(Rule::Bound(slot));
     }
     Ok(())
 }

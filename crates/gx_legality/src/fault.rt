@@ -15,12 +15,12 @@ pub enum Rule {
     NoChild,
     /// A node's sequence number is at most the counter of splits.
     SequenceNumber,
-    /// A child is a page that is taken, and not the root.
-    ChildPage,
-    /// A child is one level lower.
-    ChildLevel,
-    /// A bound covers each key of its child.
-    Bound,
+    /// The child in this slot is a page that is taken, and not the root.
+    ChildPage(usize),
+    /// The child in this slot is one level lower.
+    ChildLevel(usize),
+    /// The bound in this slot covers each key of its child.
+    Bound(usize),
     /// No two entries name one page.
     NamedTwice,
     /// An entry names each page but the root.
@@ -51,9 +51,18 @@ impl fmt::Display for Rule {
             Rule::SequenceNumber => f.write_str(
                 "the sequence number is above the counter of splits",
             ),
-            Rule::ChildPage => f.write_str("a child is the root, or not in use"),
-            Rule::ChildLevel => f.write_str("a child is not one level lower"),
-            Rule::Bound => f.write_str("a bound does not cover a key of its child"),
+            Rule::ChildPage(slot) => {
+                write!(f, "the child in slot {slot} is the root, or not in use")
+            }
+            Rule::ChildLevel(slot) => {
+                write!(f, "the child in slot {slot} is not one level lower")
+            }
+            Rule::Bound(slot) => {
+                write!(
+                    f,
+                    "the bound in slot {slot} does not cover a key of its child"
+                )
+            }
             Rule::NamedTwice => f.write_str("two entries name the page"),
             Rule::NotNamed => f.write_str("no entry names the page"),
             Rule::Chain => f.write_str(

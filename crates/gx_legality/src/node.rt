@@ -59,10 +59,10 @@ fn test_child<K: KeyClass, P: Pages<K>>(
     };
     let child = entry.1;
     if child < 2 || pages.used() < child {
-        return Err(LegalityFault::Broken(page, Rule::ChildPage));
+        return Err(LegalityFault::Broken(page, Rule::ChildPage(slot)));
     }
     bring_pages(pages, &[page, child])?;
-    match test_below::<K>(pages.page(child), room, level, &entry.0) {
+    match test_below::<K>(pages.page(child), room, level, slot, &entry.0) {
         Ok(()) => Ok(()),
         Err(rule) => Err(LegalityFault::Broken(page, rule)),
     }

@@ -19,9 +19,12 @@ use Rattle.gx_engine_events.proofs.Crashes.{set_of_image}
 use Rattle.gx_events.specs.declared.event.Event.{Event}
 use Rattle.gx_events.specs.declared.outcome.Outcome.{Outcome}
 use Rattle.gx_events.specs.Happens.{Happens}
+use Rattle.gx_format.specs.Formatting.{sectors_of}
+use Rattle.gx_format.specs.Fresh.{HasMagic}
 use Rattle.gx_found_log.specs.Found.{HasUndamaged}
 use Rattle.gx_glog.specs.Cuts.{bodies_in, open_bodies}
 use Rattle.gx_glog.specs.Layout.{open_run, selected_of}
+use Rattle.gx_glog.specs.Parameters.{Fit}
 use Rattle.gx_glog.specs.declared.parameters.Parameters.{Parameters}
 use Rattle.gx_index_laws.specs.Classes.{Class, IsLawful, Page, known_of}
 use Rattle.gx_index_laws.specs.Openings.{IsKeptBy}
@@ -31,7 +34,9 @@ use Rattle.gx_machine.specs.Machine.{Machine, newest, set_of}
 use Rattle.gx_machine.specs.Sets.{IsSetOf}
 use Rattle.gx_machine.proofs.SetsByTests.{set_of_a_test_that_agrees}
 use Rattle.gx_node.specs.Reading.{format_of}
+use Rattle.gx_opening.specs.Formatted.{Says}
 use Rattle.gx_opening.specs.Standing.{limits_of}
+use Rattle.gx_opening.proofs.Heads.{head_magic, head_says}
 use Rattle.gx_readings.specs.Classes.{class_of, reading_of}
 use Rattle.gx_readings.proofs.Used.{known_lawful}
 use Rattle.gx_recovery.specs.Analysis.{number_of}
@@ -84,6 +89,7 @@ module _ {C B D : Type 0} (shape : Members B) (proper : B → Bool) (said : List
       let set = set_of_image c lawful r s.index s.holds.whole m s.seen image stands in
       let same : stands.bodies ≡ set.bodies = bodies_one_way r (open_bodies image) stands.bodies set.bodies stands.told set.told in
       record {
+        head = stands.head;
         stands = set;
         sizes = stands.sizes;
         good = subst (λ (bodies : List (List (Record (Entry B) (Page B)))). AreGood k r (area_of r p.pages image) (records_of bodies)) same (record { good = stands.stands.good; fit = stands.fit });
@@ -117,7 +123,11 @@ module _ {C B D : Type 0} (shape : Members B) (proper : B → Bool) (said : List
 
   -- a device that is given up has the sets of its engine's machine
   pub given_up : (m : Machine B) (e : Parts B D) → Seen m e → Sets m (at e)
-  given_up m e s = record { honest = s.holds.keeps.steady.honest; sets = left_of_engine m e s }
+  given_up m e s = record {
+    honest = s.holds.keeps.steady.honest;
+    large = s.holds.keeps.runs.up.carries.has_pages.inside;
+    sets = left_of_engine m e s;
+  }
 
   module _ (m : Machine B) (d : Device) (sets : Sets m d) where
     pub own : Has m d.seen
@@ -171,6 +181,7 @@ module _ {C B D : Type 0} (shape : Members B) (proper : B → Bool) (said : List
 
     pub found_has : (image : List ℕ) → StandsForFound shape proper said (format_of class) p d.seen image → Has m image
     found_has image f = record {
+      head = f.stands.head;
       stands = record {
         bodies = f.stands.bodies;
         told = f.stands.told;
@@ -181,16 +192,25 @@ module _ {C B D : Type 0} (shape : Members B) (proper : B → Bool) (said : List
       good = record { good = f.stands.stands.good; fit = f.stands.fit };
     }
 
-    -- at each moment of an opening each image has a set of the machine
-    pub tried_leaves : (e : Device) → IsTried shape proper said class p d e → Leaves (Has m) d e
-    tried_leaves e tried =
-        leaves_weaker _ (Has m) d e (λ image. ⊎_elim (sets.sets image) (found_has image)) (tried.keeps p tried.says pages_good)
+    -- the device says what it was formatted for
+    pub magic : HasMagic d.seen
+    magic = head_magic d.seen p own.head
+
+    module _ (fit : Fit p) where
+      pub says : Says d.seen p
+      says = head_says d.seen p own.head fit
+
+      -- at each moment of an opening each image has a set of the machine
+      pub tried_leaves : (e : Device) → IsTried shape proper said class d e → Leaves (Has m) d e
+      tried_leaves e tried =
+          leaves_weaker _ (Has m) d e (λ image. ⊎_elim (sets.sets image) (found_has image)) (tried.keeps p magic says pages_good)
 
   -- behind a crash
-  pub come_up : (m : Machine B) (IsLeft : List ℕ → Type 0) (d : Device) → length d.seen ≡ 512 * d.sectors → ((image : List ℕ) → IsLeft image → Has m image) → ComesUp IsLeft d
-      → Sets m d
-  come_up m IsLeft d long each up = record {
+  pub come_up : (m : Machine B) (IsLeft : List ℕ → Type 0) (d : Device) → length d.seen ≡ 512 * d.sectors → ((image : List ℕ) → IsLeft image → Has m image) → (sectors : ℕ) → sectors_of p.pages ≤ sectors
+      → ComesUp sectors IsLeft d → Sets m d
+  come_up m IsLeft d long each sectors large up = record {
     honest = up.honest;
+    large = (let same = up.sectors in omega (arith, same, large));
     sets = λ image may. subst (λ (bytes : List ℕ). Has m bytes) (sym (settled_image d.seen d.pending d.sectors image long up.settled may)) (each d.seen up.left);
   }
 
@@ -203,17 +223,22 @@ module _ {C B D : Type 0} (shape : Members B) (proper : B → Bool) (said : List
         each_has (Has m) (at old) (at new) (event_went m old new event outcome made s).leaves
         (λ image left. left_of_engine m old s image (only_now old.volume.shelf.disk image s.holds.keeps.steady.honest left))
 
-    pub since_opening : (m : Machine B) (old new : D) → Sets m (state old) → IsTried shape proper said class p (state old) (state new)
-        → (image : List ℕ) → (state new).left_since (state old).moment image → Has m image
-    since_opening m old new sets tried =
-        each_has (Has m) (state old) (state new) (tried_leaves m (state old) sets (state new) tried) (λ image left. sets.sets image (only_now old image sets.honest left))
+    module _ (fit : Fit p) where
+      tried_so : (m : Machine B) (old new : D) → Sets m (state old) → IsTried shape proper said class (state old) (state new) → Leaves (Has m) (state old) (state new)
+      tried_so m old new sets tried = tried_leaves m (state old) sets fit (state new) tried
 
-    -- what an opening that was refused leaves of the device
-    pub refused_sets : (m : Machine B) (old new : D) → Sets m (state old) → IsTried shape proper said class p (state old) (state new) → Sets m (state new)
-    refused_sets m old new sets tried =
-        let honest : (state new).honest ≡ true = tried.same.1 ∙ sets.honest in
-        let later = (tried_leaves m (state old) sets (state new) tried).later in
-        record {
-          honest = honest;
-          sets = λ image may. since_opening m old new sets tried image (counts_now new (state old).moment image honest later may);
-        }
+      pub since_opening : (m : Machine B) (old new : D) → Sets m (state old) → IsTried shape proper said class (state old) (state new)
+          → (image : List ℕ) → (state new).left_since (state old).moment image → Has m image
+      since_opening m old new sets tried =
+          each_has (Has m) (state old) (state new) (tried_so m old new sets tried) (λ image left. sets.sets image (only_now old image sets.honest left))
+
+      -- what an opening that was refused leaves of the device
+      pub refused_sets : (m : Machine B) (old new : D) → Sets m (state old) → IsTried shape proper said class (state old) (state new) → Sets m (state new)
+      refused_sets m old new sets tried =
+          let honest : (state new).honest ≡ true = tried.same.1 ∙ sets.honest in
+          let later = (tried_so m old new sets tried).later in
+          record {
+            honest = honest;
+            large = (let same = tried.same.0 in let was = sets.large in omega (arith, same, was));
+            sets = λ image may. since_opening m old new sets tried image (counts_now new (state old).moment image honest later may);
+          }

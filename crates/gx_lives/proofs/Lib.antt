@@ -1,5 +1,8 @@
+pub mod Calling
+pub mod Fitting
 pub mod Images
 pub mod Lived
+pub mod OneRun
 pub mod Told
 pub mod Beginning
 pub mod Narrow

@@ -16,6 +16,7 @@ use Rattle.gx_found_log.specs.declared.found.FoundLog.{FoundLog}
 use Rattle.gx_found_log.specs.Found.{HasUndamaged}
 use Rattle.gx_format.specs.Formatting.{sectors_of}
 use Rattle.gx_glog.specs.Cuts.{open_bodies}
+use Rattle.gx_glog.specs.Parameters.{Fit}
 use Rattle.gx_glog.specs.declared.parameters.Parameters.{Parameters}
 use Rattle.gx_index_laws.specs.Classes.{Class, IsLawful, Page, known_of, tree_in}
 use Rattle.gx_machine.specs.declared.entry.Entry.{Entry}
@@ -44,7 +45,7 @@ use Rattle.gx_tree_laws.specs.Legal.{ChildFits}
 use Rattle.gx_tree_laws.specs.Lists.{Each}
 use Rattle.gx_tree_laws.specs.Trees.{Child}
 use Rattle.gx_lives.specs.Bearing.{HasSets}
-use Rattle.gx_lives.proofs.Images.{good_log, own}
+use Rattle.gx_lives.proofs.Images.{good_log, magic, own, says}
 use Rattle.gx_lives.proofs.Narrow.{each_weaker, narrow}
 
 module _ {C B D : Type 0} (shape : Members B) (proper : B → Bool) (said : List ℕ → B) (class : Ghosts C B) (state : D → Device) (p : Parameters)
@@ -63,6 +64,15 @@ module _ {C B D : Type 0} (shape : Members B) (proper : B → Bool) (said : List
 
   kl : known.IsLawful k
   kl = known_lawful c lawful.keys
+
+  -- it is formatted for what it was
+  pub formatted_so : (code : ℕ) → IsAllowed code p → Fit p → IsFormatted shape proper said f code d p
+  formatted_so code allowed fit = record {
+    magic = magic shape proper said class state p lawful m d sets;
+    says = says shape proper said class state p lawful m d sets fit;
+    allowed = allowed;
+    large = sets.large;
+  }
 
   -- the log of what is seen is undamaged
   log_is : HasUndamaged k r d.seen

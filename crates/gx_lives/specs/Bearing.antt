@@ -1,14 +1,16 @@
 -- What the stages of a life have of the set machine.
-use Rattle.std.specs.Prelude.{ℕ, ◌≡◌, Bool, true, List, [], ◌∷◌}
+use Rattle.std.specs.Prelude.{ℕ, ◌≡◌, ◌≤◌, Bool, true, List, [], ◌∷◌}
 use Rattle.gx_class.specs.declared.class.KeyClass.{Ghosts}
 use Rattle.gx_disk.specs.Device.{Device, MayLeave}
 use Rattle.gx_durable.specs.Area.{area_of}
 use Rattle.gx_durable.specs.Fitting.{AreGood, HasSizes}
+use Rattle.gx_durable.specs.Head.{head_in}
 use Rattle.gx_engine.specs.Holds.{Holds}
 use Rattle.gx_engine.specs.States.{Parts}
 use Rattle.gx_engine_events.specs.Crashes.{StandsForSet}
 use Rattle.gx_engine_laws.specs.Engines.{SeenAs}
 use Rattle.gx_events.specs.Happens as events
+use Rattle.gx_format.specs.Formatting.{sectors_of}
 use Rattle.gx_glog.specs.declared.parameters.Parameters.{Parameters}
 use Rattle.gx_index_laws.specs.Classes.{Class, Page, known_of}
 use Rattle.gx_index_laws.specs.States as index
@@ -18,6 +20,7 @@ use Rattle.gx_machine.specs.Keys.{Keys, Members, keys_of}
 use Rattle.gx_machine.specs.Machine.{Machine}
 use Rattle.gx_machine.specs.Runs as runs
 use Rattle.gx_node.specs.Reading.{format_of, is_node}
+use Rattle.gx_opening.specs.Formatted.{head_of}
 use Rattle.gx_opening.specs.Standing.{limits_of}
 use Rattle.gx_readings.specs.Classes.{class_of, reading_of}
 use Rattle.gx_recovery.specs.Damage.{records_of}
@@ -44,8 +47,10 @@ module _ {C B D : Type 0} (shape : Members B) (proper : B → Bool) (said : List
   abbrev pub class_for : Class B
   class_for = class_of shape proper (limits_of p)
 
-  -- An image stands for the set that a machine keeps under its log's number, over pages that are good for the log; and bodies and pages can be read.
+  -- An image says what it was formatted for, and stands for the set that a machine keeps under its log's number, over pages that are good for
+  -- the log; and bodies and pages can be read.
   pub record HasSet (m : Machine B) (image : List ℕ) : Type 0 where
+    pub head : head_in image ≡ head_of p
     pub stands : StandsForSet class_for (reading_of said (format_of class)) m image
     pub sizes : HasSizes image
     pub good : AreGood (known_of class_for) (reading_of said (format_of class)) (area_of (reading_of said (format_of class)) p.pages image) (records_of stands.bodies)
@@ -57,9 +62,10 @@ module _ {C B D : Type 0} (shape : Members B) (proper : B → Bool) (said : List
     pub holds : Holds class_for (reading_of said (format_of class)) (format_of class) (is_node (format_of class)) (state e.volume.shelf.disk) e bodies index
     pub seen : SeenAs (keys_of shape) (engine_of class_for index) m
 
-  -- Whatever a crash may leave of a device has a set of a machine.
+  -- A device has the sectors of its pages, and whatever a crash may leave of it has a set of a machine.
   pub record HasSets (m : Machine B) (d : Device) : Type 0 where
     pub honest : d.honest ≡ true
+    pub large : sectors_of p.pages ≤ d.sectors
     pub sets : (image : List ℕ) → MayLeave d image → HasSet m image
 
   -- so of either stage

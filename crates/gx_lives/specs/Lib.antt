@@ -1,3 +1,5 @@
 pub mod Lives
 pub mod Bearing
+pub mod Calling
+pub mod OneRun
 pub mod Told

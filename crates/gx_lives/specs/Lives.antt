@@ -7,10 +7,8 @@ use Rattle.gx_disk.specs.Device.{Device, IsSettled, MayLeave}
 use Rattle.gx_engine.specs.States.{Parts}
 use Rattle.gx_events.specs.declared.event.Event.{Event}
 use Rattle.gx_events.specs.declared.outcome.Outcome.{Outcome}
-use Rattle.gx_glog.specs.declared.parameters.Parameters.{Parameters}
 use Rattle.gx_machine.specs.Keys.{Members}
 use Rattle.gx_node.specs.Reading.{format_of}
-use Rattle.gx_opening.specs.Formatted.{Says}
 use Rattle.gx_engine.specs.Made.{Makes}
 use Rattle.gx_restart.specs.Beginning.{HasFailed, IsSameDevice}
 use Rattle.gx_restart.specs.Keeping.{KeepsItsSet}
@@ -30,23 +28,23 @@ pub data Turn (B : Type 0) : Type 0 where
   Opens : Turn B
   Refuses : (why : Refusal) → Turn B
 
--- A device comes up again behind a crash: it reads as an image that could be left, and nothing of it is pending.
-pub record ComesUp (IsLeft : List ℕ → Type 0) (d : Device) : Type 0 where
+-- A device of so many sectors comes up again behind a crash: it reads as an image that could be left, and nothing of it is pending.
+pub record ComesUp (many : ℕ) (IsLeft : List ℕ → Type 0) (d : Device) : Type 0 where
   pub honest : d.honest ≡ true
+  pub sectors : d.sectors ≡ many
   pub left : IsLeft d.seen
   pub settled : IsSettled d
 
-module _ {C B : Type 0} (shape : Members B) (proper : B → Bool) (said : List ℕ → B) (class : Ghosts C B) (p : Parameters) where
-  -- What any opening does to a device that says that it is formatted for these: as `gx_restart::open` promises of whatever comes of it, a crash at each
-  -- moment leaves what it could leave before, or what stands for the set that the log keeps.
+module _ {C B : Type 0} (shape : Members B) (proper : B → Bool) (said : List ℕ → B) (class : Ghosts C B) where
+  -- What any opening does to a device: as `gx_restart::open` promises of whatever comes of it, a crash at each moment leaves what it could leave
+  -- before, or what stands for the set that the log keeps.
   pub record IsTried (d e : Device) : Type 0 where
-    pub says : Says d.seen p
     pub same : IsSameDevice d e
     pub keeps : KeepsItsSet shape proper said (format_of class) d e
 
-module _ {C B D : Type 0} (shape : Members B) (proper : B → Bool) (said : List ℕ → B) (class : Ghosts C B) (code : ℕ) (state : D → Device) (p : Parameters) where
+module _ {C B D : Type 0} (shape : Members B) (proper : B → Bool) (said : List ℕ → B) (class : Ghosts C B) (code : ℕ) (state : D → Device) where
   abbrev pub IsTriedOn : D → D → Type 0
-  IsTriedOn old new = IsTried shape proper said class p (state old) (state new)
+  IsTriedOn old new = IsTried shape proper said class (state old) (state new)
 
   -- what a crash may leave now, and at each moment of an event or of an opening that begins now
   abbrev pub MayBeLeft : Stage B D → List ℕ → Type 0
@@ -59,13 +57,13 @@ module _ {C B D : Type 0} (shape : Members B) (proper : B → Bool) (said : List
   -- how an engine at work goes on
   abbrev pub WorksOn : Parts B D → Turn B → Stage B D → Type 0
   WorksOn e (Happens event outcome) (Works new) = Makes shape proper said class state e event outcome new
-  WorksOn e Crashes (Lies d) = ComesUp (MayBeLeft (Works e)) (state d)
+  WorksOn e Crashes (Lies d) = ComesUp (state e.volume.shelf.disk).sectors (MayBeLeft (Works e)) (state d)
   WorksOn e GivesUp (Lies d) = d ≡ e.volume.shelf.disk
   WorksOn e other new = ⊥
 
   -- what becomes of a device alone
   abbrev pub LiesOn : D → Turn B → Stage B D → Type 0
-  LiesOn d Crashes (Lies new) = ComesUp (MayBeLeft (Lies d)) (state new)
+  LiesOn d Crashes (Lies new) = ComesUp (state d).sectors (MayBeLeft (Lies d)) (state new)
   LiesOn d Opens (Works e) =
       IsTriedOn d e.volume.shelf.disk × IsOpened shape proper said (format_of class) code (state d) (state e.volume.shelf.disk) e
   LiesOn d (Refuses why) (Lies new) = IsTriedOn d new

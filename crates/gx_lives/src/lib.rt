@@ -1,6 +1,7 @@
 //! The life of an index on a device: events of an engine, crashes and openings, as a run of the set machine.
 #![tactic(auto)]
 
+pub mod callers;
 pub mod laws;
 mod turns;
 

@@ -9,11 +9,12 @@ ghost use Rattle.gx_machine.specs.Machine.{Machine, fresh_machine};
 ghost use Rattle.gx_node.specs.Reading.{format_of};
 ghost use Rattle.gx_restart.specs.Beginning.{HasFailed};
 ghost use Rattle.gx_restart.specs.Opened.{IsRefused};
-ghost use Rattle.gx_opening.specs.Formatted.{Says};
+ghost use Rattle.gx_opening.specs.Formatted.{IsAllowed};
 ghost use Rattle.gx_opening.specs.Standing.{IsFormatted};
 ghost use Rattle.gx_lives.specs.Bearing.{Bears};
 ghost use Rattle.gx_lives.specs.Lives.{GoesOn, Lies, Works};
 ghost use Rattle.gx_lives.specs.Lives as life;
+ghost use Rattle.gx_lives.specs.OneRun.{IsNew};
 
 use crate::laws::an_opening_finds_no_damage;
 use gx_class::Probing;
@@ -42,6 +43,9 @@ pub fn format<D: SectorDisk, K: ReadKeys>(
     ensures formats { Formats D.state (record { pages = pages; most = most; class = K.CLASS }) (fresh_root K.spelling K.start_key) disk.old disk.new result }
     ensures begins { (D.state disk.old).honest ≡ true
         → OnOk result (Bears K.Key.Shape K.is_proper K.said K.KeyClass D.state (record { pages = pages; most = most; class = K.CLASS }) fresh_machine (Lies disk.new)) }
+    ensures new { (D.state disk.old).honest ≡ true
+        → OnOk result (IsNew K.KeyClass K.start_key D.state
+        (record { pages = pages; most = most; class = K.CLASS }) disk.new) }
     ensures formatted { (D.state disk.old).honest ≡ true
         → OnOk result (IsFormatted K.Key.Shape K.is_proper K.said (format_of K.KeyClass) K.CLASS (D.state disk.new) (record { pages = pages; most = most; class = K.CLASS })) }
 {
@@ -59,13 +63,13 @@ pub fn step<D: SectorDisk, K: ReadKeys + Probing>(
 ) -> Outcome<K::Key>
 where
     K::Probe: Drop,
-    ensures { (p : Parameters) → GoesOn K.Key.Shape K.is_proper K.said K.KeyClass K.CLASS D.state p (Works engine.old) (life.Happens event result) (Works engine.new) }
+    ensures { GoesOn K.Key.Shape K.is_proper K.said K.KeyClass K.CLASS D.state
+        (Works engine.old) (life.Happens event result) (Works engine.new) }
 {
     engine.step(event)
 }
 
-/// Opens a device (`gx_restart::open`, with its refusals). On an honest one, whatever it says that it is formatted for, that is a turn of its life, an
-/// opening or one that is refused. In a life it is refused, with frames in range, only where a call of the device failed (`Device`) or memory was refused
+/// Opens a device (`gx_restart::open`, with its refusals). On an honest one that is a turn of its life, an opening or one that is refused. In a life it is refused, with frames in range, only where a call of the device failed (`Device`) or memory was refused
 /// (`Memory`): never because of what a crash left.
 pub fn open<D: SectorDisk, K: ReadKeys + Probing>(
     alloc: Global,
@@ -80,12 +84,14 @@ where
     ensures refused { (D.state disk).honest ≡ true → 16 ≤ frames → frames ≤ 4096 → 4232 ≤ (D.state disk).sectors
         → IfErr result (λ n. IsRefused K.Key.Shape K.is_proper K.said (format_of K.KeyClass) D.state K.CLASS
         (D.state disk) (D.state n.disk) n.why) }
-    ensures undamaged { (p : Parameters) (m : Machine K.Key) → Bears K.Key.Shape K.is_proper K.said K.KeyClass D.state p m (Lies disk)
-        → IsFormatted K.Key.Shape K.is_proper K.said (format_of K.KeyClass) K.CLASS (D.state disk) p → 16 ≤ frames → frames ≤ 4096
+    ensures undamaged { (p : Parameters) → IsAllowed K.CLASS p → (m : Machine K.Key)
+        → Bears K.Key.Shape K.is_proper K.said K.KeyClass D.state p m (Lies disk) → 16 ≤ frames → frames ≤ 4096
         → IfErr result (λ n. HasFailed n.why) }
-    ensures turn { (p : Parameters) → (D.state disk).honest ≡ true → Says (D.state disk).seen p → MatchResult result
-        (λ engine. GoesOn K.Key.Shape K.is_proper K.said K.KeyClass K.CLASS D.state p (Lies disk) life.Opens (Works engine))
-        (λ n. GoesOn K.Key.Shape K.is_proper K.said K.KeyClass K.CLASS D.state p (Lies disk) (life.Refuses n.why) (Lies n.disk)) }
+    ensures turn { (D.state disk).honest ≡ true → MatchResult result
+        (λ engine. GoesOn K.Key.Shape K.is_proper K.said K.KeyClass K.CLASS D.state
+        (Lies disk) life.Opens (Works engine))
+        (λ n. GoesOn K.Key.Shape K.is_proper K.said K.KeyClass K.CLASS D.state
+        (Lies disk) (life.Refuses n.why) (Lies n.disk)) }
 {
     an_opening_finds_no_damage::<D, K>();
     gx_restart::open(alloc, disk, frames)

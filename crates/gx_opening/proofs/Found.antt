@@ -20,6 +20,7 @@ use Rattle.gx_recovery.proofs.Moves.{found_as_state}
 use Rattle.gx_durable.specs.Area.{area_of}
 use Rattle.gx_durable.specs.Bodies.{AreBodies}
 use Rattle.gx_durable.specs.Fitting.{AreGood}
+use Rattle.gx_durable.specs.Head.{head_in}
 use Rattle.gx_durable.specs.Legal.{AgreeOnUsed, ReadsUsed}
 use Rattle.gx_durable.specs.Spelled.{Reading}
 use Rattle.gx_durable.specs.Standing.{Stands}
@@ -46,8 +47,9 @@ module _ {E P : Type 0} (k : Known E P) (l : IsLawful k) (r : Reading E P) (seen
   told : AreBodies r (open_bodies image) has.log.bodies
   told = subst (λ (b : List (List ℕ)). AreBodies r b has.log.bodies) (sym (has.same.bodies ∙ bodies_are seen)) has.log.told
 
-  pub found_stands : AreGood k r (area_of r k.pages seen) log → Stands k r (found (area_of r k.pages seen) log) image
-  found_stands good = record {
+  pub found_stands : head_in seen ≡ k.head → AreGood k r (area_of r k.pages seen) log → Stands k r (found (area_of r k.pages seen) log) image
+  found_stands says good = record {
+    head = has.same.head ∙ says;
     bodies = has.log.bodies;
     told = told;
     undamaged = has.log.undamaged;

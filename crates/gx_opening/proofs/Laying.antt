@@ -107,7 +107,7 @@ module _ {E P : Type 0} (k : Known E P) (r : Reading E P) where
             settled = whole.redone.done.settled;
             area = whole.redone.done.area;
             same = whole.redone.done.same;
-            stays = record { glog = whole.redone.done.glog; written = whole.redone.done.written; sizes = λ good j below. (whole.redone.done.turn good).may_turn.run.sizes j below };
+            stays = record { glog = whole.redone.done.glog; written = whole.redone.done.written; sizes = λ good j below. whole.redone.done.sizes j below };
           };
         }
 

@@ -11,3 +11,4 @@ pub mod Telling
 pub mod Resting
 pub mod Sparing
 pub mod Ordering
+pub mod Heads

@@ -1,5 +1,5 @@
 -- What a device is formatted for, as it is read once it is settled.
-use Rattle.std.specs.Prelude.{◌≡◌, ℕ, ◌+◌, ◌<◌, ◌≤◌, List, take, Result, Ok, Err, OnOk}
+use Rattle.std.specs.Prelude.{◌≡◌, ℕ, ◌+◌, ◌<◌, ◌≤◌, List, ◌++◌, take, Result, Ok, Err, OnOk}
 use Rattle.gx_geom.specs.declared.refusal.Refusal.{Refusal}
 use Rattle.gx_geom.specs.declared.refusal.Refusal.TheVariants.{BadParameter, TooSmall, NotFormatted, Device}
 use Rattle.gx_disk.specs.Device as disk
@@ -7,7 +7,7 @@ use Rattle.gx_disk.specs.Device.{MayLeave, IsSettled, Rests}
 use Rattle.gx_disk.specs.Moments.{Leaves}
 use Rattle.gx_disk.specs.Sectors.{sector_of}
 use Rattle.gx_format.specs.Formatting.{AreInRange, sectors_of}
-use Rattle.gx_format.specs.Fresh.{HasMagic}
+use Rattle.gx_format.specs.Fresh.{HasMagic, magic_bytes}
 use Rattle.gx_glog.specs.Parameters.{parameters_bytes, Fit}
 use Rattle.gx_glog.specs.declared.parameters.Parameters.{Parameters}
 
@@ -15,6 +15,10 @@ use Rattle.gx_glog.specs.declared.parameters.Parameters.{Parameters}
 pub record Says (image : List ℕ) (p : Parameters) : Type 0 where
   pub bytes : take 8 (sector_of image 1) ≡ parameters_bytes p
   pub fit : Fit p
+
+-- what is read of the first two sectors of a device that is formatted so
+abbrev pub head_of : Parameters → List ℕ
+head_of p = magic_bytes ++ parameters_bytes p
 
 -- an index of the class may be so
 pub record IsAllowed (class : ℕ) (p : Parameters) : Type 0 where

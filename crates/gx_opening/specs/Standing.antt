@@ -14,13 +14,14 @@ use Rattle.gx_recovery.specs.Renewal.{found}
 use Rattle.gx_recovery.specs.Known.{Known, Limits}
 use Rattle.gx_durable.specs.Area.{area_of}
 use Rattle.gx_durable.specs.Fitting.{AreGood}
+use Rattle.gx_durable.specs.Head.{head_in}
 use Rattle.gx_durable.specs.Standing as durable
 use Rattle.gx_durable.specs.Spelled.{Reading}
 use Rattle.gx_found_log.specs.declared.found.FoundLog.{FoundLog}
 use Rattle.gx_found_log.specs.Found.{HasUndamaged}
 use Rattle.gx_index_laws.specs.Classes.{Page, known_of}
 use Rattle.gx_readings.specs.Classes.{class_of, reading_of}
-use Rattle.gx_opening.specs.Formatted.{IsAllowed, IsLarge, MaySettle, Says}
+use Rattle.gx_opening.specs.Formatted.{IsAllowed, IsLarge, MaySettle, Says, head_of}
 use Rattle.gx_redo.specs.Laid.{Spares}
 use Rattle.gx_opening.specs.Laid.{HasFoundLog, IsKeptOrFound, IsLaid, IsSpared}
 use Rattle.gx_opening.specs.Sound.{AreSound, IsCause}
@@ -34,7 +35,7 @@ told_with (Err why) x = Err why
 
 -- the limits of an index that a device is formatted for
 abbrev pub limits_of : Parameters → Limits
-limits_of p = record { most = p.most; pages = p.pages }
+limits_of p = record { most = p.most; pages = p.pages; head = head_of p }
 
 -- An engine may start with these numbers: the log has a body and no more than an extent has, and no more pages are in use than there are.
 pub record MayStart {B : Type 0} (s : Standing B) : Type 0 where
@@ -64,10 +65,10 @@ module _ {B : Type 0} (shape : Members B) (is_key : B → Bool) (said : List ℕ
   FindsInOrder state d e (Ok s) = SyncsFirst state LaysSafely d e
   FindsInOrder state d e (Err why) = IsInOrder state LaysSafely d e × (IsUnfit why → IsUnwritten d e)
 
-  -- Where the pages after the log that is found are good for it, an image that has that log and the same pages after it stands for what the log
-  -- keeps, as it was found.
+  -- Of a device that is formatted so, where the pages after the log that is found are good for it, an image that says the same and has that log
+  -- and the same pages after it stands for what the log keeps, as it was found.
   abbrev pub FoundStands : Parameters → Type 0
-  FoundStands p = (seen image : List ℕ) → (has : HasFoundLog (known_for p) reading seen image)
+  FoundStands p = (seen image : List ℕ) → head_in seen ≡ head_of p → (has : HasFoundLog (known_for p) reading seen image)
       → AreGood (known_for p) reading (area_of reading p.pages seen) (records_of has.log.bodies)
       → durable.Stands (known_for p) reading (found (area_of reading p.pages seen) (records_of has.log.bodies)) image
 

@@ -1,10 +1,12 @@
 //! A whole image.
 use crate::bytes::{sector, span, u16_at, u32_at};
+use crate::finding::{Finding, Findings, Place};
 use crate::log::Log;
 use crate::page::{Node, node_of, own_number, page_at};
 use crate::records::take_extent;
+use crate::rules::{self, Rule};
 use crate::set::set_of;
-use crate::tree::check;
+use crate::tree::test_tree;
 use crate::{Damage, Entry};
 use std::alloc::Global;
 
@@ -45,59 +47,130 @@ fn told(image: &[u8]) -> Option<Parameters> {
     })
 }
 
-/// The parameters of an index of this class, on a device that has room for it.
-fn tested(image: &[u8], class: u16) -> Result<Parameters, Damage> {
-    let found = told(image).ok_or(Damage::Short)?;
-    let Parameters { pages, most, .. } = found;
-    if pages < 8 || pages > 65_536 || most < 4 || most > 100 || found.class != class {
-        return Err(Damage::Parameters);
+/// Why a device isn't one of an index of this class, if it isn't; the first reason.
+fn wrong_head(image: &[u8], parameters: Option<Parameters>, class: u16) -> Option<Rule> {
+    if image.len() < sector(LEAST) {
+        return Some(rules::SHORT);
+    }
+    if span(image, 0, 8) != Some(b"GISTRT01".as_slice()) {
+        return Some(rules::MAGIC);
+    }
+    let Some(
+        Parameters {
+            pages,
+            most,
+            class: found,
+        },
+    ) = parameters
+    else {
+        return Some(rules::SHORT);
+    };
+    if pages < 8 || pages > 65_536 || most < 4 || most > 100 || found != class {
+        return Some(rules::PARAMETERS);
     }
     if image.len() < sector(pages as usize * 8 + 4168) {
-        return Err(Damage::Short);
+        return Some(rules::SHORT);
     }
-    Ok(found)
+    None
 }
 
 /// The log of the selected extent.
 fn log_of(alloc: Global, image: &[u8], parameters: Parameters) -> Result<Log, Damage> {
-    let mut log = Log::new(alloc, parameters);
-    let selector = image.get(1024).copied();
-    let first = if selector == Some(0x5A) { 2088 } else { 8 };
+    let (extent, first) = match image.get(1024) {
+        Some(0x5A) => ("B", 2088),
+        _ => ("A", 8),
+    };
+    let mut log = Log::new(alloc, parameters, extent);
     take_extent(&mut log, image, first)?;
     Ok(log)
 }
 
-/// The pages in use, by number.
-fn nodes_of(alloc: Global, image: &[u8], log: &Log) -> Result<Vec<Node>, Damage> {
+/// The node of a page in use.
+fn node_at(alloc: Global, image: &[u8], log: &Log, number: u32) -> Result<Node, Damage> {
+    let page = page_at(image, log.place(number))?;
+    if own_number(page)? != number {
+        return Err(Damage::OwnNumber);
+    }
+    node_of(alloc, log.parameters.class, log.parameters.pages, page)
+}
+
+/// What is wrong with a page that can't be read.
+fn unreadable(damage: Damage) -> Result<Rule, Damage> {
+    match damage {
+        Damage::Memory => Err(damage),
+        Damage::OwnNumber => Ok(rules::OWN_NUMBER),
+        Damage::Entry | Damage::Key => Ok(rules::ENTRY),
+        _ => Ok(rules::PAGE),
+    }
+}
+
+/// The pages in use, by number, as far as they can be read.
+fn nodes_of(
+    alloc: Global,
+    image: &[u8],
+    log: &Log,
+    found: &mut Findings,
+) -> Result<Vec<Node>, Damage> {
     let mut nodes = Vec::new(alloc);
     for before in 0..log.used {
         let number = before.saturating_add(1);
-        let page = page_at(image, log.place(number))?;
-        if own_number(page)? != number {
-            return Err(Damage::OwnNumber);
+        match node_at(alloc, image, log, number) {
+            Ok(node) => nodes.push(node)?,
+            Err(damage) => found.tell(Place::Unread(number), unreadable(damage)?)?,
         }
-        nodes.push(node_of(alloc, log.parameters.class, log.used, page)?)?;
     }
     Ok(nodes)
+}
+
+/// What was read of an image: a sound one's log and pages; else what is wrong.
+fn look(
+    alloc: Global,
+    image: &[u8],
+    class: u16,
+) -> Result<Result<(Log, Vec<Node>), Findings>, Damage> {
+    let mut found = Findings::new(alloc);
+    let parameters = told(image);
+    let (Some(parameters), None) = (parameters, wrong_head(image, parameters, class)) else {
+        let rule = wrong_head(image, parameters, class).unwrap_or(rules::SHORT);
+        found.tell(Place::Head, rule)?;
+        return Ok(Err(found));
+    };
+    let log = log_of(alloc, image, parameters)?;
+    if !log.found.is_none() {
+        return Ok(Err(log.found));
+    }
+    let nodes = nodes_of(alloc, image, &log, &mut found)?;
+    if found.is_none() {
+        test_tree(alloc, &nodes, &log, &mut found)?;
+    }
+    Ok(if found.is_none() {
+        Ok((log, nodes))
+    } else {
+        Err(found)
+    })
+}
+
+/// All that is found to be wrong with a device's bytes as an index of this class, 1 for boxes and 2 for intervals: the first reason
+/// ahead of the log; or else each rule that the first record which may not be there breaks; or else each page that can't be
+/// read; or else each rule that the tree breaks. Nothing of a sound image. Refused with `Damage::Memory` alone.
+pub fn findings(alloc: Global, image: &[u8], class: u16) -> Result<Vec<Finding>, Damage> {
+    match look(alloc, image, class)? {
+        Ok(_sound) => Ok(Vec::new(alloc)),
+        Err(found) => Ok(found.all),
+    }
 }
 
 /// Reads a device's bytes as an index of this class, 1 for boxes and 2 for intervals. Nothing is taken on trust: the bytes that
 /// an index has are tested one by one, and `Damage` says what the first test was that failed, where tests go from the sectors
 /// to the log, then the pages, then the tree.
 pub fn read(alloc: Global, image: &[u8], class: u16) -> Result<Reading, Damage> {
-    if image.len() < sector(LEAST) {
-        return Err(Damage::Short);
-    }
-    if span(image, 0, 8) != Some(b"GISTRT01".as_slice()) {
-        return Err(Damage::Magic);
-    }
-    let parameters = tested(image, class)?;
-    let log = log_of(alloc, image, parameters)?;
-    let nodes = nodes_of(alloc, image, &log)?;
-    check(alloc, &nodes, &log)?;
+    let (log, nodes) = match look(alloc, image, class)? {
+        Ok(sound) => sound,
+        Err(found) => return Err(found.first()),
+    };
     let set = set_of(alloc, &nodes, &log)?;
     Ok(Reading {
-        parameters,
+        parameters: log.parameters,
         number: log.number,
         counter: log.counter,
         used: log.used,

@@ -5,15 +5,18 @@
 
 mod bytes;
 mod damage;
+mod finding;
 mod image;
 mod key;
 mod log;
 mod page;
 mod records;
+mod rules;
 mod set;
 mod tree;
 
 pub use damage::Damage;
-pub use image::{Parameters, Reading, read};
+pub use finding::{Finding, Part};
+pub use image::{Parameters, Reading, findings, read};
 pub use key::{Entry, Key};
 pub use page::{Child, Node, Pair};

@@ -1,4 +1,7 @@
 //! What a log tells, as its records are read one by one.
+use crate::finding::{Findings, Place};
+use crate::records::{Logged, Touching};
+use crate::rules::{self, Rule};
 use crate::{Damage, Entry, Parameters};
 use std::alloc::Global;
 
@@ -42,6 +45,12 @@ pub(crate) struct Log {
     pub(crate) closed: Vec<u64>,
     /// Every image, in order.
     pub(crate) images: Vec<Image>,
+    /// What is wrong with the record that is read.
+    pub(crate) found: Findings,
+    /// Where that stands: the extent, the body, and how many bytes of records are ahead of it there.
+    pub(crate) extent: &'static str,
+    pub(crate) body: usize,
+    pub(crate) at: usize,
 }
 
 /// Whether one of the first so many touches is by this transaction.
@@ -65,8 +74,8 @@ fn has_same(touches: &[Touch], first: usize, same: &Touch) -> bool {
 }
 
 impl Log {
-    /// Nothing is read.
-    pub(crate) fn new(alloc: Global, parameters: Parameters) -> Log {
+    /// Nothing is read of this extent.
+    pub(crate) fn new(alloc: Global, parameters: Parameters, extent: &'static str) -> Log {
         Log {
             parameters,
             number: 0,
@@ -76,7 +85,20 @@ impl Log {
             touches: Vec::new(alloc),
             closed: Vec::new(alloc),
             images: Vec::new(alloc),
+            found: Findings::new(alloc),
+            extent,
+            body: 0,
+            at: 0,
         }
+    }
+
+    /// The record that is read breaks this rule, if it does.
+    pub(crate) fn test(&mut self, holds: bool, rule: Rule) -> Result<(), Damage> {
+        if holds {
+            return Ok(());
+        }
+        let place = Place::Log(self.extent, self.body, self.at);
+        self.found.tell(place, rule)
     }
 
     /// Whether a touch is by a transaction that neither committed nor ended.
@@ -138,66 +160,112 @@ impl Log {
         false
     }
 
-    /// The number of a transaction that is at work.
-    fn take_transaction(&mut self, transaction: u64) -> Result<(), Damage> {
-        let after = transaction.checked_add(1).ok_or(Damage::Transaction)?;
-        if self.closed.contains(&transaction) {
-            return Err(Damage::Closed);
-        }
-        self.next = self.next.max(after);
-        Ok(())
+    /// Whether a page is in use.
+    fn is_used(&self, page: u32) -> bool {
+        page > 0 && page <= self.used
     }
 
-    /// A page's number in a record.
-    pub(crate) fn take_page(&self, page: u32) -> Result<(), Damage> {
-        if page == 0 || page > self.used {
-            return Err(Damage::PageNumber);
-        }
+    /// The number of a transaction that is at work.
+    fn test_transaction(&mut self, transaction: u64) -> Result<(), Damage> {
+        self.test(transaction < u64::MAX, rules::TRANSACTION)?;
+        let ended = self.closed.contains(&transaction);
+        self.test(!ended, rules::ENDED)?;
+        self.next = self.next.max(transaction.saturating_add(1));
         Ok(())
     }
 
     /// Splits so far and pages in use, as a record leaves them.
-    pub(crate) fn take_counters(&mut self, counter: u64, used: u32) -> Result<(), Damage> {
-        if counter < self.counter || used < self.used {
-            return Err(Damage::Falls);
-        }
-        if used > self.parameters.pages {
-            return Err(Damage::PageNumber);
-        }
+    fn test_counters(&mut self, counter: u64, used: u32) -> Result<(), Damage> {
+        self.test(counter >= self.counter, rules::COUNTER_FALLS)?;
+        self.test(used >= self.used, rules::USED_FALLS)?;
+        self.test(used <= self.parameters.pages, rules::PAGES_OF_DEVICE)?;
         self.counter = counter;
         self.used = used;
         Ok(())
     }
 
     /// A write, or a note.
-    pub(crate) fn take_touch(&mut self, touch: Touch) -> Result<(), Damage> {
-        self.take_transaction(touch.transaction)?;
-        self.take_page(touch.leaf)?;
-        if self.is_shared(&touch) {
-            return Err(Damage::Shared);
-        }
+    fn test_touch(&mut self, told: &Touching) -> Result<(), Damage> {
+        self.test_transaction(told.transaction)?;
+        let is_used = self.is_used(told.leaf);
+        self.test(is_used, rules::LEAF_IN_USE)?;
+        let Some(entry) = told.entry else {
+            return self.test(false, rules::KEY);
+        };
+        let touch = Touch {
+            transaction: told.transaction,
+            entry,
+            before: told.before,
+            leaf: told.leaf,
+        };
+        let is_shared = self.is_shared(&touch);
+        self.test(!is_shared, rules::SHARED)?;
         self.touches.push(touch)?;
-        if self.open_transactions() > TRANSACTIONS || self.open_entries() > TOUCHED {
-            return Err(Damage::TooMany);
-        }
+        let transactions = self.open_transactions();
+        self.test(transactions <= TRANSACTIONS, rules::TRANSACTIONS)?;
+        let entries = self.open_entries();
+        self.test(entries <= TOUCHED, rules::TOUCHES)
+    }
+
+    /// A page's image.
+    fn test_image(&mut self, image: Image) -> Result<(), Damage> {
+        let is_used = self.is_used(image.page);
+        self.test(is_used, rules::PAGE_IN_USE)?;
+        self.images.push(image)?;
         Ok(())
     }
 
     /// A commit's or an end's transaction.
-    pub(crate) fn close(&mut self, transaction: u64) -> Result<(), Damage> {
-        self.take_transaction(transaction)?;
+    fn close(&mut self, transaction: u64) -> Result<(), Damage> {
+        self.test_transaction(transaction)?;
         self.closed.push(transaction)?;
         Ok(())
     }
 
     /// A commit.
-    pub(crate) fn commit(&mut self, transaction: u64, number: u64) -> Result<(), Damage> {
+    fn commit(&mut self, transaction: u64, number: u64) -> Result<(), Damage> {
         self.close(transaction)?;
-        if self.number.checked_add(1) != Some(number) {
-            return Err(Damage::CommitNumber);
-        }
+        let is_next = self.number.checked_add(1) == Some(number);
+        self.test(is_next, rules::COMMIT_NUMBER)?;
         self.number = number;
         Ok(())
+    }
+
+    /// What a record says, which stands here.
+    pub(crate) fn take(&mut self, logged: &Logged) -> Result<(), Damage> {
+        match logged {
+            Logged::Pages {
+                counter,
+                used,
+                images,
+            } => {
+                self.test_counters(*counter, *used)?;
+                for place in images {
+                    if let Some(image) = place {
+                        self.test_image(*image)?;
+                    }
+                }
+                Ok(())
+            }
+            Logged::Write(touching, image) => {
+                self.test_touch(touching)?;
+                self.images.push(*image)?;
+                Ok(())
+            }
+            Logged::Commit(transaction, number) => self.commit(*transaction, *number),
+            Logged::End(transaction) => self.close(*transaction),
+            Logged::Counters {
+                number,
+                counter,
+                used,
+                next,
+            } => {
+                self.number = *number;
+                self.next = *next;
+                self.test_counters(*counter, *used)
+            }
+            Logged::Note(touching) => self.test_touch(touching),
+        }
     }
 
     /// Where a page's bytes begin: its last image, or its place in the page area.

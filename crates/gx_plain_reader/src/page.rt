@@ -116,9 +116,9 @@ fn pair_of(class: u16, item: &[u8]) -> Result<Pair, Damage> {
 }
 
 /// An inner node's entry: key, child.
-fn child_of(class: u16, used: u32, item: &[u8]) -> Result<Child, Damage> {
+fn child_of(class: u16, pages: u32, item: &[u8]) -> Result<Child, Damage> {
     let page = u32_at(item, 16).ok_or(Damage::Entry)?;
-    if item.len() != 20 || page == 0 || page > used {
+    if item.len() != 20 || page == 0 || page > pages {
         return Err(Damage::Entry);
     }
     let key = front_key(class, item)?;
@@ -134,17 +134,17 @@ fn pairs_of(alloc: Global, class: u16, page: &[u8]) -> Result<Vec<Pair>, Damage>
     Ok(pairs)
 }
 
-fn children_of(alloc: Global, class: u16, used: u32, page: &[u8]) -> Result<Vec<Child>, Damage> {
+fn children_of(alloc: Global, class: u16, pages: u32, page: &[u8]) -> Result<Vec<Child>, Damage> {
     let mut children = Vec::new(alloc);
     for number in 0..count(page).ok_or(Damage::Page)? {
         let item = item(page, number).ok_or(Damage::Page)?;
-        children.push(child_of(class, used, item)?)?;
+        children.push(child_of(class, pages, item)?)?;
     }
     Ok(children)
 }
 
-/// The node that a page's bytes spell, where pages up to `used` are in use.
-pub(crate) fn node_of(alloc: Global, class: u16, used: u32, page: &[u8]) -> Result<Node, Damage> {
+/// The node that a page's bytes spell, on a device of so many pages.
+pub(crate) fn node_of(alloc: Global, class: u16, pages: u32, page: &[u8]) -> Result<Node, Damage> {
     let level = u16_at(page, 0).ok_or(Damage::Page)?;
     let nsn = u64_at(page, 8).ok_or(Damage::Page)?;
     let right = u32_at(page, 16).ok_or(Damage::Page)?;
@@ -153,7 +153,7 @@ pub(crate) fn node_of(alloc: Global, class: u16, used: u32, page: &[u8]) -> Resu
     if level == 0 {
         pairs = pairs_of(alloc, class, page)?;
     } else {
-        children = children_of(alloc, class, used, page)?;
+        children = children_of(alloc, class, pages, page)?;
     }
     Ok(Node {
         level,

@@ -1,216 +1,245 @@
 //! The records of bodies, one behind another.
-use crate::Damage;
 use crate::bytes::{sector, span, u32_at, u64_at};
 use crate::key::{Entry, KEY, key_of};
-use crate::log::{Image, Log, Touch};
+use crate::log::{Image, Log};
 use crate::page::{PAGE, own_number, page_at};
+use crate::{Damage, rules};
 
 /// How many bytes of records a body may have.
 const MOST: u32 = 32_764;
 
-/// How far a body is read.
+/// What a record says that a transaction wrote. The entry is `None` where its key is none of the class.
+#[derive(Clone, Copy)]
+pub(crate) struct Touching {
+    pub(crate) transaction: u64,
+    pub(crate) entry: Option<Entry>,
+    pub(crate) before: bool,
+    pub(crate) leaf: u32,
+}
+
+/// A record.
+#[derive(Clone, Copy)]
+pub(crate) enum Logged {
+    /// Counter, pages in use, and one to three pages by rising number.
+    Pages {
+        counter: u64,
+        used: u32,
+        images: [Option<Image>; 3],
+    },
+    /// What was written, and the leaf's image.
+    Write(Touching, Image),
+    /// Transaction, number.
+    Commit(u64, u64),
+    /// Transaction.
+    End(u64),
+    /// The last commit's number, counter, pages in use, the next transaction's number.
+    Counters {
+        number: u64,
+        counter: u64,
+        used: u32,
+        next: u64,
+    },
+    Note(Touching),
+}
+
+/// How far a record is read.
 #[derive(Drop)]
 struct Cursor<'a> {
     image: &'a [u8],
     at: usize,
-    /// Where its records end.
+    /// Where the body's records end.
     end: usize,
 }
 
 impl<'a> Cursor<'a> {
     /// Goes so many bytes on, and answers where they begin.
-    fn step(&mut self, size: usize) -> Result<usize, Damage> {
+    fn step(&mut self, size: usize) -> Option<usize> {
         let at = self.at;
-        let after = at.checked_add(size).ok_or(Damage::Record)?;
+        let after = at.checked_add(size)?;
         if after > self.end {
-            return Err(Damage::Record);
+            return None;
         }
         self.at = after;
-        Ok(at)
+        Some(at)
     }
 
-    fn byte(&mut self) -> Result<u8, Damage> {
+    fn byte(&mut self) -> Option<u8> {
         let at = self.step(1)?;
-        self.image.get(at).copied().ok_or(Damage::Record)
+        self.image.get(at).copied()
     }
 
-    fn mark(&mut self) -> Result<bool, Damage> {
+    fn mark(&mut self) -> Option<bool> {
         match self.byte()? {
-            0 => Ok(false),
-            1 => Ok(true),
-            _ => Err(Damage::Record),
+            0 => Some(false),
+            1 => Some(true),
+            _ => None,
         }
     }
 
-    fn number32(&mut self) -> Result<u32, Damage> {
+    fn number32(&mut self) -> Option<u32> {
         let at = self.step(4)?;
-        u32_at(self.image, at).ok_or(Damage::Record)
+        u32_at(self.image, at)
     }
 
-    fn number64(&mut self) -> Result<u64, Damage> {
+    fn number64(&mut self) -> Option<u64> {
         let at = self.step(8)?;
-        u64_at(self.image, at).ok_or(Damage::Record)
+        u64_at(self.image, at)
     }
 
-    /// A row and a key.
-    fn entry(&mut self, class: u16) -> Result<Entry, Damage> {
-        let row = self.number64()?;
+    /// The entry of a row, by its key's bytes.
+    fn entry(&mut self, class: u16, row: u64) -> Option<Option<Entry>> {
         let at = self.step(KEY)?;
-        let bytes = span(self.image, at, KEY).ok_or(Damage::Record)?;
-        let key = key_of(class, bytes).ok_or(Damage::Key)?;
-        Ok(Entry { row, key })
+        let bytes = span(self.image, at, KEY)?;
+        Some(key_of(class, bytes).map(|key| Entry { row, key }))
     }
 
-    /// A page's image, with its own number.
-    fn image(&mut self) -> Result<Image, Damage> {
+    /// A page's number and its image, which has that number as its own.
+    fn image(&mut self) -> Option<Image> {
+        let page = self.number32()?;
         let at = self.step(PAGE)?;
-        let page = own_number(page_at(self.image, at)?)?;
-        Ok(Image { page, at })
-    }
-}
-
-/// An image of this page: its own number is the page's.
-fn take_image(log: &mut Log, page: u32, image: Image) -> Result<(), Damage> {
-    log.take_page(page)?;
-    if image.page != page {
-        return Err(Damage::OwnNumber);
-    }
-    log.images.push(image)?;
-    Ok(())
-}
-
-/// `Pages`: counter, pages in use, and one to three pages by rising number.
-fn take_pages(log: &mut Log, cursor: &mut Cursor<'_>) -> Result<(), Damage> {
-    let counter = cursor.number64()?;
-    let used = cursor.number32()?;
-    let count = cursor.byte()?;
-    if count < 1 || count > 3 {
-        return Err(Damage::Record);
-    }
-    log.take_counters(counter, used)?;
-    let mut last = None;
-    for _ in 0..count {
-        let page = cursor.number32()?;
-        if last >= Some(page) {
-            return Err(Damage::Record);
+        let bytes = page_at(self.image, at).ok()?;
+        if own_number(bytes).ok()? == page {
+            Some(Image { page, at })
+        } else {
+            None
         }
-        last = Some(page);
-        let image = cursor.image()?;
-        take_image(log, page, image)?;
     }
-    Ok(())
 }
 
-/// `Write`: transaction, row, key, marks before and after, leaf, the leaf's image.
-fn take_write(log: &mut Log, cursor: &mut Cursor<'_>) -> Result<(), Damage> {
-    let transaction = cursor.number64()?;
-    let entry = cursor.entry(log.parameters.class)?;
-    let before = cursor.mark()?;
-    let _after = cursor.mark()?;
-    let leaf = cursor.number32()?;
-    let image = cursor.image()?;
-    log.take_touch(Touch {
-        transaction,
-        entry,
-        before,
-        leaf,
-    })?;
-    take_image(log, leaf, image)
+/// The images of a `Pages`, whose numbers rise.
+fn images(cursor: &mut Cursor<'_>) -> Option<[Option<Image>; 3]> {
+    let count = usize::from(cursor.byte()?);
+    let mut images = [None; 3];
+    if count < 1 || count > 3 {
+        return None;
+    }
+    let mut last = None;
+    for place in images.iter_mut().take(count) {
+        let image = cursor.image()?;
+        if last >= Some(image.page) {
+            return None;
+        }
+        last = Some(image.page);
+        *place = Some(image);
+    }
+    Some(images)
 }
 
-/// `Commit`: transaction, number.
-fn take_commit(log: &mut Log, cursor: &mut Cursor<'_>) -> Result<(), Damage> {
-    let transaction = cursor.number64()?;
-    let number = cursor.number64()?;
-    log.commit(transaction, number)
-}
-
-/// `End`: transaction.
-fn take_end(log: &mut Log, cursor: &mut Cursor<'_>) -> Result<(), Damage> {
-    let transaction = cursor.number64()?;
-    log.close(transaction)
-}
-
-/// `Counters`: the last commit's number, counter, pages in use, the next transaction's number.
-fn take_counters(log: &mut Log, cursor: &mut Cursor<'_>) -> Result<(), Damage> {
-    log.number = cursor.number64()?;
-    let counter = cursor.number64()?;
-    let used = cursor.number32()?;
-    log.next = cursor.number64()?;
-    log.take_counters(counter, used)
-}
-
-/// `Note`: transaction, row, key, mark before, leaf.
-fn take_note(log: &mut Log, cursor: &mut Cursor<'_>) -> Result<(), Damage> {
-    let transaction = cursor.number64()?;
-    let entry = cursor.entry(log.parameters.class)?;
-    let before = cursor.mark()?;
-    let leaf = cursor.number32()?;
-    log.take_touch(Touch {
-        transaction,
-        entry,
-        before,
-        leaf,
+fn pages(cursor: &mut Cursor<'_>) -> Option<Logged> {
+    Some(Logged::Pages {
+        counter: cursor.number64()?,
+        used: cursor.number32()?,
+        images: images(cursor)?,
     })
 }
 
-/// A record of the first body: counters come first, and then notes.
-fn take_of_head(log: &mut Log, cursor: &mut Cursor<'_>, first: bool) -> Result<(), Damage> {
-    match (cursor.byte()?, first) {
-        (5, true) => take_counters(log, cursor),
-        (6, false) => take_note(log, cursor),
-        (1..=6, _) => Err(Damage::Head),
-        _ => Err(Damage::Record),
+/// A write: transaction, row, key, marks before and after, leaf, the leaf's image.
+fn write(class: u16, cursor: &mut Cursor<'_>) -> Option<Logged> {
+    let transaction = cursor.number64()?;
+    let row = cursor.number64()?;
+    let entry = cursor.entry(class, row)?;
+    let before = cursor.mark()?;
+    let _after = cursor.mark()?;
+    let image = cursor.image()?;
+    let touching = Touching {
+        transaction,
+        entry,
+        before,
+        leaf: image.page,
+    };
+    Some(Logged::Write(touching, image))
+}
+
+fn counters(cursor: &mut Cursor<'_>) -> Option<Logged> {
+    Some(Logged::Counters {
+        number: cursor.number64()?,
+        counter: cursor.number64()?,
+        used: cursor.number32()?,
+        next: cursor.number64()?,
+    })
+}
+
+/// A note: transaction, row, key, mark before, leaf.
+fn note(class: u16, cursor: &mut Cursor<'_>) -> Option<Logged> {
+    let transaction = cursor.number64()?;
+    let row = cursor.number64()?;
+    let entry = cursor.entry(class, row)?;
+    let before = cursor.mark()?;
+    let leaf = cursor.number32()?;
+    Some(Logged::Note(Touching {
+        transaction,
+        entry,
+        before,
+        leaf,
+    }))
+}
+
+/// The record that begins there. `None` where none does that is whole.
+fn record_at(class: u16, cursor: &mut Cursor<'_>) -> Option<Logged> {
+    match cursor.byte()? {
+        1 => pages(cursor),
+        2 => write(class, cursor),
+        3 => Some(Logged::Commit(cursor.number64()?, cursor.number64()?)),
+        4 => Some(Logged::End(cursor.number64()?)),
+        5 => counters(cursor),
+        6 => note(class, cursor),
+        _ => None,
     }
 }
 
-/// A record of a later body.
-fn take_of_body(log: &mut Log, cursor: &mut Cursor<'_>) -> Result<(), Damage> {
-    match cursor.byte()? {
-        1 => take_pages(log, cursor),
-        2 => take_write(log, cursor),
-        3 => take_commit(log, cursor),
-        4 => take_end(log, cursor),
-        5 | 6 => Err(Damage::Head),
-        _ => Err(Damage::Record),
+/// Whether a record may stand there: the first body has counters at its start and then notes, and another one neither.
+fn may_stand(body: usize, at: usize, logged: &Logged) -> bool {
+    match logged {
+        Logged::Counters { .. } => body == 0 && at == 0,
+        Logged::Note(_) => body == 0 && at > 0,
+        _ => body > 0,
     }
 }
 
 /// A body: how many bytes of records it has, and those records, whole.
-fn take_body(log: &mut Log, image: &[u8], at: usize, head: bool) -> Result<(), Damage> {
-    let size = u32_at(image, at).ok_or(Damage::Body)?;
+fn take_body(log: &mut Log, image: &[u8], at: usize) -> Result<(), Damage> {
+    log.at = 0;
+    let size = u32_at(image, at).unwrap_or(0);
     if size < 1 || size > MOST {
-        return Err(Damage::Body);
+        return log.test(false, rules::BODY_SIZE);
     }
-    let at = at.saturating_add(4);
-    let end = at.saturating_add(size as usize);
-    let mut cursor = Cursor { image, at, end };
-    for done in 0..size {
-        if cursor.at >= end {
+    let start = at.saturating_add(4);
+    let end = start.saturating_add(size as usize);
+    let mut cursor = Cursor {
+        image,
+        at: start,
+        end,
+    };
+    for _ in 0..size {
+        if cursor.at >= end || !log.found.is_none() {
             break;
         }
-        if head {
-            take_of_head(log, &mut cursor, done == 0)?;
-        } else {
-            take_of_body(log, &mut cursor)?;
+        log.at = cursor.at.saturating_sub(start);
+        match record_at(log.parameters.class, &mut cursor) {
+            Some(logged) => {
+                let may = may_stand(log.body, log.at, &logged);
+                log.test(may, rules::MISPLACED)?;
+                log.take(&logged)?;
+            }
+            None => log.test(false, rules::SPELLING)?,
         }
     }
     Ok(())
 }
 
-/// The records behind the leading open gates of an extent that begins at this sector.
+/// The records behind the leading open gates of an extent that begins at this sector, up to one that may not be there.
 pub(crate) fn take_extent(log: &mut Log, image: &[u8], first: usize) -> Result<(), Damage> {
     for place in 0..32_usize {
+        log.body = place;
         let gate = sector(first.saturating_add(place));
         if image.get(gate).copied() != Some(0xA7) {
-            return if place == 0 {
-                Err(Damage::Selector)
-            } else {
-                Ok(())
-            };
+            return log.test(place > 0, rules::FIRST_GATE);
         }
         let body = sector(first.saturating_add(32 + 64 * place));
-        take_body(log, image, body, place == 0)?;
+        take_body(log, image, body)?;
+        if !log.found.is_none() {
+            break;
+        }
     }
     Ok(())
 }

@@ -19,7 +19,8 @@ rules_of shape most = record { covers = λ a b. shape.inside b a; same = λ a b.
 
 -- a class of keys, by what its key type's trait says of them and by the test of keys, within an index's limits
 abbrev pub class_of : {B : Type 0} → Members B → (B → Bool) → Limits → Class B
-class_of shape is_key limits = record { keys = keys_of shape; rules = rules_of shape limits.most; is_key = is_key; pages = limits.pages }
+class_of shape is_key limits =
+    record { keys = keys_of shape; rules = rules_of shape limits.most; is_key = is_key; pages = limits.pages; head = limits.head }
 
 -- the node that a page is read as
 abbrev pub node_of : {B : Type 0} → Format B → Contents → Node B

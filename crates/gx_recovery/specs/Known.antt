@@ -1,5 +1,5 @@
 -- What is known of entries and pages, and nothing else: the laws hold whatever they are.
-use Rattle.std.specs.Prelude.{◌≡◌, ℕ, Bool}
+use Rattle.std.specs.Prelude.{◌≡◌, ℕ, Bool, List}
 use Rattle.std.specs.Cmp.{IsTotalOrder}
 use Rattle.std.specs.declared.cmp.Ordering.{Ordering}
 use Rattle.std.specs.declared.cmp.Ordering.TheVariants.{Equal}
@@ -11,14 +11,16 @@ pub record Tree (P : Type 0) : Type 0 where
   pub counter : ℕ
   pub used : ℕ
 
--- What is known of an index only as it runs: how many entries a node may have, and how many pages the device has.
+-- What is known of an index only as it runs: how many entries a node may have, how many pages the device has, and what is read
+-- of the device's first two sectors.
 pub record Limits : Type 0 where
   pub most : ℕ
   pub pages : ℕ
+  pub head : List ℕ
 
 -- The order of entries; which are live in the pages; whether the tree of the pages is sound; whether an entry stands on
 -- a leaf or to the right of it; whether an entry's key is one of the class; the number that a page's content has as its
--- own; how many pages the device has.
+-- own; how many pages the device has; what is read of its first two sectors.
 pub record Known (E P : Type 0) : Type 1 where
   pub cmp : E → E → Ordering
   pub live : Tree P → E → Bool
@@ -27,6 +29,7 @@ pub record Known (E P : Type 0) : Type 1 where
   pub is_entry : E → Bool
   pub own : P → ℕ
   pub pages : ℕ
+  pub head : List ℕ
 
 -- the order is total, and only an entry and itself compare as equal
 pub record IsLawful {E P : Type 0} (k : Known E P) : Type 0 where

@@ -38,6 +38,7 @@ worked = record {
   is_entry = λ e. nat_lt e 1000;
   own = λ content. content.own;
   pages = 8;
+  head = [];
 }
 
 -- an insert by a transaction, of an entry that wasn't there, on page 2

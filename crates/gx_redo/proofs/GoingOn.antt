@@ -18,6 +18,7 @@ use Rattle.gx_durable.specs.Spelled.{Reading}
 use Rattle.gx_durable.specs.Bodies.{AreBodies}
 use Rattle.gx_durable.specs.Area.{area_of, HasPages}
 use Rattle.gx_durable.specs.Fitting.{AreGood}
+use Rattle.gx_durable.specs.Head.{head_in}
 use Rattle.gx_durable.specs.GoingOn.{opened, found_state, IsFoundGood, IsClosedFound}
 use Rattle.gx_durable.proofs.GoingOn.{closing_keeps}
 use Rattle.gx_found_log.specs.declared.found.FoundLog.{FoundLog}
@@ -35,16 +36,17 @@ module _ {E P : Type 0} (k : Known E P) (r : Reading E P) (d e b f : Device) (lo
   bodies = is.log.bodies
 
   -- the log that was read stands on the device that its pages were laid on, and was only read since
-  stands_there : IsRedone k r d e bodies → Looks e b → HasPages k.pages b.sectors → AreGood k r (area_of r k.pages b.seen) (records_of bodies)
+  stands_there : head_in d.seen ≡ k.head → IsRedone k r d e bodies → Looks e b → HasPages k.pages b.sectors → AreGood k r (area_of r k.pages b.seen) (records_of bodies)
       → IsFoundGood k r b.sectors b.seen b.pending bodies
-  stands_there redone looks pages good =
+  stands_there says redone looks pages good =
       let B : List (List ℕ) → Type 0 = λ x. AreBodies r x bodies in
       let F : List ℕ → Type 0 = λ seen. IsFoundGood k r b.sectors seen b.pending bodies in
       let G : List ℕ → Type 0 = λ seen. AreGood k r (area_of r k.pages seen) (records_of bodies) in
       let good_there : G e.seen = subst G looks.rests.seen good in
-      let up = redone.turn good_there in
+      let up = redone.turn says good_there in
       subst F (sym looks.rests.seen) (record {
         settled = λ s. looks.pending s ∙ redone.settled s;
+        head = redone.same.head ∙ says;
         size = up.may_turn.run.size;
         pages = pages;
         sizes = up.may_turn.run.sizes;
@@ -68,14 +70,14 @@ module _ {E P : Type 0} (k : Known E P) (r : Reading E P) (d e b f : Device) (lo
 
 module _ {E P : Type 0} (k : Known E P) (r : Reading E P) where
   pub redone_goes_on : (d e b f : Device) → RedoneGoesOn k r d e b f
-  redone_goes_on d e b f lawful honest settled pages same_e same_b same_f log is redoes looks good closes =
+  redone_goes_on d e b f lawful honest settled says pages same_e same_b same_f log is redoes looks good closes =
       let redone = (redoes lawful honest settled is).redone.done in
       let S : ℕ → Type 0 = λ n. HasPages k.pages n in
       let X : Extent → Type 0 = λ extent. ClosesLaterOfRun {T = Unit {0}} {E = Refusal} extent log.bodies b f (Ok tt) in
       let N : ℕ → Type 0 = λ n. ClosesLaterOfRun {T = Unit {0}} {E = Refusal} (selected_of b.seen) n b f (Ok tt) in
       let extent = extent_there k r d e b f log is redone looks in
       let places = places_there k r d e b f log is redone looks in
-      let there = stands_there k r d e b f log is redone looks (subst S (sym (same_b.sectors ∙ same_e.sectors)) pages) good in
+      let there = stands_there k r d e b f log is says redone looks (subst S (sym (same_b.sectors ∙ same_e.sectors)) pages) good in
       let after = closing_keeps k r b f lawful (same_b.honest ∙ same_e.honest ∙ honest) same_f.sectors is.log.bodies (Ok tt) there (subst N places (subst X extent closes)) in
       let closed = after.done in
       record {

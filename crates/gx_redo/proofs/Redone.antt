@@ -29,7 +29,9 @@ use Rattle.gx_recovery.proofs.Lives.{left_stands}
 use Rattle.gx_recovery.proofs.Moves.{found_as_state}
 use Rattle.gx_recovery.proofs.States.{redone_again}
 use Rattle.gx_durable.specs.Fitting.{AreGood, HasSizes}
+use Rattle.gx_durable.specs.Head.{head_in}
 use Rattle.gx_durable.proofs.Fitting.{gated_fit}
+use Rattle.gx_durable.proofs.Heads.{same_head}
 use Rattle.gx_durable.specs.Spelled.{Reading}
 use Rattle.gx_durable.specs.Bodies.{AreBodies}
 use Rattle.gx_durable.specs.Area.{area_of, HasPages}
@@ -146,6 +148,7 @@ module _ {E P : Type 0} (k : Known E P) (r : Reading E P) (kept : List Imaged) (
 
   same_pages : (image : List ℕ) → ((s : ℕ) → IsBeside kept s → sector_of image s ≡ sector_of d.seen s) → HasSamePages k r d.seen log image
   same_pages image same = record {
+    head = same_head image d.seen (same 0 (ahead kept 0 (omega arith))) (same 1 (ahead kept 1 (omega arith)));
     bodies = log_same image d.seen (λ s less. same s (ahead kept s less));
     sizes = sizes_same image d.seen (λ s less. same s (ahead kept s less));
     pages = λ p. ap (λ (area : ℕ → P). area p) (redone_again log (area_of r k.pages d.seen) (area_of r k.pages image) (beside_agrees image same));
@@ -154,12 +157,13 @@ module _ {E P : Type 0} (k : Known E P) (r : Reading E P) (kept : List Imaged) (
   image_same : (image : List ℕ) → IsImageBeside kept d image → (s : ℕ) → IsBeside kept s → sector_of image s ≡ sector_of d.seen s
   image_same image beside s out = beside.settled s out (is.settled s)
 
-  image_stands : AreGood k r (area_of r k.pages d.seen) log → (image : List ℕ) → IsImageBeside kept d image → Stands k r (found (area_of r k.pages d.seen) log) image
-  image_stands good image beside =
+  image_stands : head_in d.seen ≡ k.head → AreGood k r (area_of r k.pages d.seen) log → (image : List ℕ) → IsImageBeside kept d image → Stands k r (found (area_of r k.pages d.seen) log) image
+  image_stands says good image beside =
       let B : List (List ℕ) → Type 0 = λ b. AreBodies r b bodies in
       let s : Logged E P = found (area_of r k.pages d.seen) log in
       let same = image_same image beside in
       record {
+        head = (same_pages image same).head ∙ says;
         bodies = bodies;
         told = subst B (sym (same_pages image same).bodies) is.told;
         undamaged = is.undamaged;
@@ -202,9 +206,10 @@ module _ {E P : Type 0} (k : Known E P) (r : Reading E P) (kept : List Imaged) (
         same = so;
         glog = ap (λ (y : Extent). glog_at y (open_run e.seen y 0 32)) selects ∙ ap (λ n. glog_at x n) run;
         written = λ p. ap (λ (a : ℕ → P). a p) (area ∙ sym (redone_twice k log (area_of r k.pages d.seen) is_log) ∙ ap (λ (a : ℕ → P). redone a log) (sym area));
-        turn = λ good.
+        sizes = subst (λ (y : Extent). (j : ℕ) → j < open_run e.seen y 0 32 → IsSize (size_in (body_of e.seen y j))) (sym selects) sizes;
+        turn = λ says good.
             found_up k r e.sectors e.seen e.pending bodies settled (omega (arith, size, whole, is.pages.inside)) (subst H (sym sectors) is.pages)
-            (subst (λ (y : Extent). (j : ℕ) → j < open_run e.seen y 0 32 → IsSize (size_in (body_of e.seen y j))) (sym selects) sizes) (subst B (sym so.bodies) is.told) is.undamaged good;
+            (subst (λ (y : Extent). (j : ℕ) → j < open_run e.seen y 0 32 → IsSize (size_in (body_of e.seen y j))) (sym selects) sizes) (subst B (sym so.bodies) is.told) is.undamaged good (so.head ∙ says);
       }
 
   done_so : {T R : Type 0} (e : Device) (result : Result T R) → length d.seen ≡ 512 * d.sectors → e.sectors ≡ d.sectors → length e.seen ≡ length d.seen
@@ -230,8 +235,8 @@ module _ {E P : Type 0} (k : Known E P) (r : Reading E P) (kept : List Imaged) (
       → Redone k r d e bodies result
   redone_so e result whole sectors lays settled = record {
     leaves = leaves_weaker (IsImageBeside kept d) (HasSamePages k r d.seen log) d e (λ image beside. same_pages image (image_same image beside)) lays.leaves;
-    stands = λ good.
-        leaves_weaker (IsImageBeside kept d) (Stands k r (found (area_of r k.pages d.seen) log)) d e (λ image beside. image_stands good image beside) lays.leaves;
+    stands = λ says good.
+        leaves_weaker (IsImageBeside kept d) (Stands k r (found (area_of r k.pages d.seen) log)) d e (λ image beside. image_stands says good image beside) lays.leaves;
     done = done_so e result whole sectors lays.size lays.others lays.laid settled;
     spares = spares_so e result lays;
   }

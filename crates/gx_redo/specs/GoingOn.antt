@@ -13,6 +13,7 @@ use Rattle.gx_analysis.specs.Telling.{IsKept}
 use Rattle.gx_durable.specs.Spelled.{Reading}
 use Rattle.gx_durable.specs.Area.{area_of, HasPages}
 use Rattle.gx_durable.specs.Fitting.{AreGood}
+use Rattle.gx_durable.specs.Head.{head_in}
 use Rattle.gx_durable.specs.GoingOn.{opened, found_state, IsFoundGood, HasNoLater}
 use Rattle.gx_found_log.specs.declared.found.FoundLog.{FoundLog}
 use Rattle.gx_found_log.specs.Found.{IsFound}
@@ -33,10 +34,11 @@ pub record MayGoOn {E P : Type 0} (k : Known E P) (r : Reading E P) (d : Device)
   pub places : log.bodies ≡ opened d.seen
   pub kept : IsKept k (records_of bodies) log.analysis
 
--- The calls of a restart in a row, each answered Ok, with reads between them: a log was read of a settled device d, its pages were laid (e),
+-- The calls of a restart in a row, each answered Ok, with reads between them: a log was read of a settled device d that says what is known of
+-- it, its pages were laid (e),
 -- they were tested and found good for it (at b), and its later gates were closed (f).
 abbrev pub RedoneGoesOn : {E P : Type 0} → Known E P → Reading E P → Device → Device → Device → Device → Type 0
 RedoneGoesOn {E} {P} k r d e b f =
-    IsLawful k → d.honest ≡ true → IsSettled d → HasPages k.pages d.sectors → IsSameDevice d e → IsSameDevice e b → IsSameDevice b f → (log : FoundLog E) (is : IsFound k r d.seen log)
+    IsLawful k → d.honest ≡ true → IsSettled d → head_in d.seen ≡ k.head → HasPages k.pages d.sectors → IsSameDevice d e → IsSameDevice e b → IsSameDevice b f → (log : FoundLog E) (is : IsFound k r d.seen log)
     → RedoesFound {T = Unit {0}} k r log d e (Ok tt) → Looks e b → AreGood k r (area_of r k.pages b.seen) (records_of is.log.bodies)
     → ClosesLaterOfRun {T = Unit {0}} {E = Refusal} log.extent log.bodies b f (Ok tt) → MayGoOn k r f is.log.bodies log

@@ -21,6 +21,7 @@ use Rattle.gx_durable.specs.Spelled.{Reading}
 use Rattle.gx_durable.specs.Bodies.{AreBodies}
 use Rattle.gx_durable.specs.Area.{area_of, HasPages}
 use Rattle.gx_durable.specs.Fitting.{AreGood, HasSizes}
+use Rattle.gx_durable.specs.Head.{head_in}
 use Rattle.gx_durable.specs.Standing.{Stands}
 use Rattle.gx_durable.specs.Opening.{UpToTurn, found_glog}
 use Rattle.gx_redo.specs.Kept.{Imaged, image_in, with_all, all_images, are_on_device}
@@ -51,21 +52,23 @@ pub record IsFoundOn {E P : Type 0} (k : Known E P) (r : Reading E P) (d : Devic
   pub told : AreBodies r (open_bodies d.seen) bodies
   pub undamaged : is_undamaged k bodies ≡ true
 
--- An image has the log of these bytes, with sizes in range where theirs are, and after it the same pages.
+-- An image says the same of itself as these bytes, and has their log, with sizes in range where theirs are, and after it the same pages.
 pub record HasSamePages {E P : Type 0} (k : Known E P) (r : Reading E P) (seen : List ℕ) (log : List (Record E P)) (image : List ℕ) : Type 0 where
+  pub head : head_in image ≡ head_in seen
   pub bodies : open_bodies image ≡ open_bodies seen
   pub sizes : HasSizes seen → HasSizes image
   pub pages : (p : ℕ) → redone (area_of r k.pages image) log p ≡ redone (area_of r k.pages seen) log p
 
--- Each page is as the log leaves it, and all is settled. So the log that starts behind its bodies has all pages written; and it is up
--- to its turn where the pages are good for it and can be read.
+-- Each page is as the log leaves it, and all is settled. So the log that starts behind its bodies has all pages written; and of a device
+-- that says what is known of it, it is up to its turn where the pages are good for it and can be read.
 pub record IsRedone {E P : Type 0} (k : Known E P) (r : Reading E P) (d e : Device) (bodies : List (List (Record E P))) : Type 0 where
   pub settled : IsSettled e
   pub area : (p : ℕ) → area_of r k.pages e.seen p ≡ redone (area_of r k.pages d.seen) (records_of bodies) p
   pub same : HasSamePages k r d.seen (records_of bodies) e.seen
   pub glog : found_glog e.seen ≡ found_glog d.seen
   pub written : AllWritten (found (area_of r k.pages e.seen) (records_of bodies))
-  pub turn : AreGood k r (area_of r k.pages e.seen) (records_of bodies)
+  pub sizes : HasSizes e.seen
+  pub turn : head_in d.seen ≡ k.head → AreGood k r (area_of r k.pages e.seen) (records_of bodies)
       → UpToTurn k r (found_glog e.seen) e.sectors e.seen e.pending bodies (found (area_of r k.pages e.seen) (records_of bodies))
 
 -- a sector is no part of a page of which a log gives the content
@@ -73,11 +76,11 @@ abbrev pub IsUngiven : {E P : Type 0} → List (Record E P) → ℕ → Type 0
 IsUngiven log s = (p : ℕ) → given p log ≢ None → IsOutside (first_of p) 8 s
 
 -- At each moment of a redo, also where a call fails, what a crash may leave has the log that was found, and after it the same pages.
--- Where these are good for it and can be read, it stands for the set that the log as it was found keeps. Of all sectors only those of pages
--- that the log gives are written.
+-- Where these are good for it and can be read, and the device says what is known of it, it stands for the set that the log as it was found
+-- keeps. Of all sectors only those of pages that the log gives are written.
 pub record Redone {T R E P : Type 0} (k : Known E P) (r : Reading E P) (d e : Device) (bodies : List (List (Record E P))) (result : Result T R) : Type 0 where
   pub leaves : Leaves (HasSamePages k r d.seen (records_of bodies)) d e
-  pub stands : AreGood k r (area_of r k.pages d.seen) (records_of bodies)
+  pub stands : head_in d.seen ≡ k.head → AreGood k r (area_of r k.pages d.seen) (records_of bodies)
       → Leaves (Stands k r (found (area_of r k.pages d.seen) (records_of bodies))) d e
   pub done : OnOk result (IsRedone k r d e bodies)
   pub spares : Spares (IsUngiven (records_of bodies)) d e

@@ -14,6 +14,7 @@ use Rattle.gx_durable.specs.Bodies.{AreBodies}
 use Rattle.gx_durable.specs.Fitting.{AreGood, PagesFit}
 use Rattle.gx_glog.specs.Cuts.{bodies_in, open_bodies}
 use Rattle.gx_durable.specs.GoingOn.{AfterClosing, IsClosedFound, IsFoundGood, found_state, opened}
+use Rattle.gx_durable.specs.Head.{head_in}
 use Rattle.gx_durable.specs.Spelled.{Reading}
 use Rattle.gx_durable.specs.Standing as durable
 use Rattle.gx_durable.proofs.GoingOn.{closing_keeps}
@@ -37,6 +38,7 @@ use Rattle.gx_machine.specs.Keys.{Keys, Members}
 use Rattle.gx_node.specs.Reading.{Format, is_node}
 use Rattle.gx_opening.specs.declared.standing.Standing.{Standing}
 use Rattle.gx_opening.specs.Standing.{Stands, known_for, limits_of, reading}
+use Rattle.gx_opening.proofs.Heads.{formatted_head}
 use Rattle.gx_pool.specs.Area.{IsPassing, bytes_of, first_of}
 use Rattle.gx_pool.specs.Readable.{IsReadable}
 use Rattle.gx_pool.specs.State.{State as Frames, kept}
@@ -115,7 +117,7 @@ module _ {E P : Type 0} (k : Known E P) (l : known.IsLawful k) (r : Reading E P)
       }
 
   pub moved_stands : (image : List ℕ) → durable.Stands k r (found area log) image → durable.Stands k r (found other log) image
-  moved_stands image s = record { bodies = s.bodies; told = s.told; undamaged = s.undamaged; sizes = s.sizes; stands = moved_kept (area_of r k.pages image) (records_of s.bodies) s.stands; fit = s.fit }
+  moved_stands image s = record { head = s.head; bodies = s.bodies; told = s.told; undamaged = s.undamaged; sizes = s.sizes; stands = moved_kept (area_of r k.pages image) (records_of s.bodies) s.stands; fit = s.fit }
 
 gates_before : (x : Extent) (s : ℕ) → 4168 ≤ s → gates_of x + 32 ≤ s
 gates_before A s from = omega (arith, from)
@@ -164,6 +166,9 @@ module _ {B : Type 0} (shape : Members B) (is_key : B → Bool) (said : List ℕ
   places_there : s.log.bodies ≡ opened m.seen
   places_there = st.laid.is.bodies ∙ sym (ap (λ (g : Log). g.gated) st.laid.stays.glog)
 
+  says_there : head_in m.seen ≡ k.head
+  says_there = st.laid.same.head ∙ formatted_head a.seen s.parameters st.formatted.magic st.formatted.says
+
   bodies_there : AreBodies r (open_bodies m.seen) bodies
   bodies_there = subst (λ (b : List (List ℕ)). AreBodies r b bodies) (sym (st.laid.same.bodies ∙ bodies_are a.seen)) st.laid.is.log.told
 
@@ -172,6 +177,7 @@ module _ {B : Type 0} (shape : Members B) (is_key : B → Bool) (said : List ℕ
     found_there : IsFoundGood k r m.sectors m.seen m.pending bodies
     found_there = record {
       settled = st.laid.settled;
+      head = says_there;
       size = size;
       pages = record { few = st.formatted.allowed.range.most_pages; inside = inside };
       sizes = st.laid.stays.sizes good_there;
@@ -207,7 +213,7 @@ module _ {B : Type 0} (shape : Members B) (is_key : B → Bool) (said : List ℕ
       run : KeepsRun (selected_of m.seen) (opened m.seen) m.seen e.seen
       run =
           let up = found_up k r m.sectors m.seen m.pending bodies st.laid.settled size (record { few = st.formatted.allowed.range.most_pages; inside = inside })
-          (st.laid.stays.sizes good_there) bodies_there st.laid.is.log.undamaged good_there in
+          (st.laid.stays.sizes good_there) bodies_there st.laid.is.log.undamaged good_there says_there in
           (closes_there (Ok tt) closes honest st.laid.settled up.may_turn.run up.may_turn.turn).seen
 
       same_area : area e.seen ≡ area m.seen
@@ -263,13 +269,15 @@ module _ {B : Type 0} (shape : Members B) (is_key : B → Bool) (said : List ℕ
         keeps_one = found_keeps c lc start.next (area e.seen) log is_log closed.found.good.good next_covers
 
         -- so an engine that starts there holds the set that was found
-        pub begins : {D : Type 0} → (engine : Parts B D) → HoldsFrom c r f (is_node f) e start engine → HoldsFound shape is_key said f s.parameters a.seen e engine
-        begins engine holds = record {
+        pub begins : {D : Type 0} → (engine : Parts B D) → engine.volume.shelf.used ≡ start.used → HoldsFrom c r f (is_node f) e start engine
+            → HoldsFound shape is_key said f s.parameters a.seen e engine
+        begins engine used holds = record {
           found = record { log = st.laid.is.log; good = good };
           bodies = bodies;
           index = openings.found_state c start.next (area e.seen) log;
           holds = holds bodies stands_on;
           set = record { older = keeps_one.older; oldest = keeps_one.oldest; stands = λ x. keeps_one.stands x ∙ set_after x };
+          used = used ∙ from.used ∙ ap (λ (x : Analysis (Entry B)). x.used) told_there;
         }
 
         -- and it isn't refused as damaged
@@ -302,7 +310,7 @@ module _ {B : Type 0} (shape : Members B) (is_key : B → Bool) (said : List ℕ
     begun_so (Ok engine) started refused holds =
         let same : engine.volume.shelf.disk ≡ disk = ap (λ (v : Volume D). v.shelf.disk) started.volume in
         subst (λ (d : D). HasBegun shape is_key said f s.parameters a.seen m (state d) engine) (sym same)
-        (record { holds = begins (state disk) honest size inside sectors begun_closes frames start from (still ∙ honest) engine holds; leaves = begun_leaves })
+        (record { holds = begins (state disk) honest size inside sectors begun_closes frames start from (still ∙ honest) engine (ap (λ (v : Volume D). v.shelf.used) started.volume) holds; leaves = begun_leaves })
     begun_so (Err n) started refused holds =
         subst (λ (d : D). HasNotBegun shape is_key said f s.parameters a.seen m (state d) n.why) (sym refused.0)
         (record { cause = refused_so (state disk) honest size inside sectors begun_closes frames start from (still ∙ honest) n.why cut refused.1; leaves = begun_leaves })

@@ -8,6 +8,7 @@ use Rattle.gx_class.specs.declared.class.KeyClass.{Ghosts}
 use Rattle.gx_disk.specs.Device.{Device, MayLeave}
 use Rattle.gx_disk.specs.Moments.{Leaves}
 use Rattle.gx_disk.proofs.Leaving.{leaves_joined, leaves_weaker, nothing_leaves}
+use Rattle.gx_durable.specs.Head.{head_in}
 use Rattle.gx_durable.proofs.Crashes.{crash_leaves}
 use Rattle.gx_engine_laws.specs.Slots as slots
 use Rattle.gx_engine_laws.specs.Slots.{Slot}
@@ -21,9 +22,10 @@ use Rattle.gx_index_laws.proofs.Standing.{known_lawful}
 use Rattle.gx_machine.specs.Keys.{Members}
 use Rattle.gx_node.specs.Reading.{Format, format_of}
 use Rattle.gx_opening.specs.declared.standing.Standing.{Standing}
-use Rattle.gx_opening.specs.Formatted.{IsAllowed, IsLarge, Says}
+use Rattle.gx_opening.specs.Formatted.{IsAllowed, IsLarge, Says, head_of}
 use Rattle.gx_opening.specs.Laid.{IsKeptOrFound}
 use Rattle.gx_opening.specs.Standing.{FoundStands, IsTested, Stands, StaysSafe, known_for, limits_of, reading}
+use Rattle.gx_opening.proofs.Heads.{formatted_head}
 use Rattle.gx_opening.proofs.Stood.{one_saying}
 use Rattle.gx_phases.specs.declared.phase.Phase.{Phase}
 use Rattle.gx_phases.specs.declared.phase.Phase.TheVariants as phase
@@ -49,13 +51,13 @@ device_later state of before middle first (Ok x) same = (same.0 ∙ first.0, sam
 device_later state of before middle first (Err n) same = (same.0 ∙ first.0, same.1 ∙ first.1)
 
 -- a list of free slots
-free_place : {B W : Type 0} (phases : List (Phase B W)) (table : List (Held B)) (n : ℕ) → phase_at n phases ≡ phase.Free → slice_index_or (slots_of phases table) n slots.Free ≡ slots.Free
+pub free_place : {B W : Type 0} (phases : List (Phase B W)) (table : List (Held B)) (n : ℕ) → phase_at n phases ≡ phase.Free → slice_index_or (slots_of phases table) n slots.Free ≡ slots.Free
 free_place [] table n is = refl
 free_place (p ∷ phases) [] n is = refl
 free_place (p ∷ phases) (h ∷ table) zero is = ap (λ q. slot_of q h) is
 free_place (p ∷ phases) (h ∷ table) (suc n) is = free_place phases table n is
 
-all_free : {B : Type 0} (xs : List (Slot B)) (n : ℕ) → length xs ≡ n → ((i : ℕ) → i < n → slice_index_or xs i slots.Free ≡ slots.Free) → xs ≡ replicate n slots.Free
+pub all_free : {B : Type 0} (xs : List (Slot B)) (n : ℕ) → length xs ≡ n → ((i : ℕ) → i < n → slice_index_or xs i slots.Free ≡ slots.Free) → xs ≡ replicate n slots.Free
 all_free [] zero long each = refl
 all_free [] (suc n) long each = absurd (omega (arith, long))
 all_free (x ∷ xs) zero long each = absurd (omega (arith, long))
@@ -81,16 +83,17 @@ module _ {B : Type 0} (shape : Members B) (proper : B → Bool) (said : List ℕ
   pub safe_nowhere : (d : Device) → OpensSafely shape proper said f d d
   safe_nowhere d = λ p says. nothing_leaves (IsKept shape proper said f p d) d
 
-  kept_set : (d : Device) (p : Parameters) → FoundStands shape proper said f p → ArePagesGood shape proper said f p d.seen → (image : List ℕ) → IsKept shape proper said f p d image
+  kept_set : (d : Device) (p : Parameters) → FoundStands shape proper said f p → head_in d.seen ≡ head_of p → ArePagesGood shape proper said f p d.seen → (image : List ℕ) → IsKept shape proper said f p d image
       → MayLeave d image ⊎ StandsForFound shape proper said f p d.seen image
-  kept_set d p law good image (inl (inl may)) = inl may
-  kept_set d p law good image (inl (inr has)) = inr (record { log = has.log; stands = law d.seen image has (good has.log) })
-  kept_set d p law good image (inr stands) = inr stands
+  kept_set d p law says good image (inl (inl may)) = inl may
+  kept_set d p law says good image (inl (inr has)) = inr (record { log = has.log; stands = law d.seen image says has (good has.log) })
+  kept_set d p law says good image (inr stands) = inr stands
 
   -- where the pages are good for the log
   pub keeps_set : (d e : Device) → ((p : Parameters) → FoundStands shape proper said f p) → OpensSafely shape proper said f d e → KeepsItsSet shape proper said f d e
-  keeps_set d e law safe = λ p says good.
-      leaves_weaker (IsKept shape proper said f p d) (λ image. MayLeave d image ⊎ StandsForFound shape proper said f p d.seen image) d e (kept_set d p (law p) good) (safe p says)
+  keeps_set d e law safe = λ p magic says good.
+      leaves_weaker (IsKept shape proper said f p d) (λ image. MayLeave d image ⊎ StandsForFound shape proper said f p d.seen image) d e
+      (kept_set d p (law p) (formatted_head d.seen p magic says) good) (safe p says)
 
   module _ {D : Type 0} (state : D → Device) (d : Device) where
     pub keeps_either : (result : Result (Parts B D) (NotOpened D)) → ((p : Parameters) → FoundStands shape proper said f p)

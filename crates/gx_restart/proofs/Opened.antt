@@ -45,6 +45,7 @@ use Rattle.gx_index_laws.specs.Whole.{IsWhole}
 use Rattle.gx_events.specs.declared.event.Event.TheVariants.{Move}
 use Rattle.gx_restart.proofs.Going.{goes_stays}
 use Rattle.gx_restart.proofs.Runs.{all_undo, step_keeps, step_why}
+use Rattle.gx_restart.proofs.Used.{event_used}
 
 module _ {C B D : Type 0} (shape : Members B) (proper : B → Bool) (said : List ℕ → B) (class : Ghosts C B) (state : D → Device) (p : Parameters) (seen : List ℕ)
     (lc : IsLawful (class_of shape proper (limits_of p))) where
@@ -111,7 +112,7 @@ module _ {C B D : Type 0} (shape : Members B) (proper : B → Bool) (said : List
   pub stands_so : (g : Found) (i : index.State B) → KeepsIt g i → (image : List ℕ) → durable.Stands k r i.log image → InSet image
   stands_so g i keeps image s = record {
     log = g.log;
-    stands = record { bodies = s.bodies; told = s.told; undamaged = s.undamaged; sizes = s.sizes; stands = kept_so g i keeps (area_of r k.pages image) (records_of s.bodies) s.stands; fit = s.fit };
+    stands = record { head = s.head; bodies = s.bodies; told = s.told; undamaged = s.undamaged; sizes = s.sizes; stands = kept_so g i keeps (area_of r k.pages image) (records_of s.bodies) s.stands; fit = s.fit };
   }
 
   pub keeps_of : (e : Parts B D) (h : Holds e) → KeepsIt h.found h.index
@@ -131,6 +132,7 @@ module _ {C B D : Type 0} (shape : Members B) (proper : B → Bool) (said : List
           index = stepped.led.index;
           holds = stepped.led.holds;
           set = record { older = keeps.older; oldest = keeps.oldest; stands = keeps.stands };
+          used = event_used shape proper said class state (limits_of p) lc old new h.bodies h.index h.holds event given is undoes one ∙ h.used;
         },
         leaves_weaker (durable.Stands k r h.index.log) InSet (at old) (at new) (λ image stands. stands_so h.found h.index was image stands) stepped.led.leaves,
       )

@@ -5,6 +5,7 @@ use Rattle.gx_disk.specs.Moments.{Leaves}
 use Rattle.gx_durable.specs.Area.{area_of}
 use Rattle.gx_durable.specs.Fitting.{AreGood}
 use Rattle.gx_durable.specs.Standing.{Stands}
+use Rattle.gx_format.specs.Fresh.{HasMagic}
 use Rattle.gx_found_log.specs.Found.{HasUndamaged}
 use Rattle.gx_glog.specs.declared.parameters.Parameters.{Parameters}
 use Rattle.gx_machine.specs.Keys.{Members}
@@ -35,6 +36,7 @@ module _ {B : Type 0} (shape : Members B) (is_key : B → Bool) (said : List ℕ
   ArePagesGood p seen = (log : HasUndamaged (known_for shape is_key said f p) (reading shape is_key said f) seen)
       → AreGood (known_for shape is_key said f p) (reading shape is_key said f) (area_of (reading shape is_key said f) p.pages seen) (records_of log.bodies)
 
-  -- Where they are, at each moment an image could be left at the start, or stands for the set that the log keeps.
+  -- Where they are, on a device with the magic, at each moment an image could be left at the start, or stands for the set that the log keeps.
   abbrev pub KeepsItsSet : Device → Device → Type 0
-  KeepsItsSet d e = (p : Parameters) → Says d.seen p → ArePagesGood p d.seen → Leaves (λ image. MayLeave d image ⊎ StandsForFound p d.seen image) d e
+  KeepsItsSet d e = (p : Parameters) → HasMagic d.seen → Says d.seen p → ArePagesGood p d.seen
+      → Leaves (λ image. MayLeave d image ⊎ StandsForFound p d.seen image) d e

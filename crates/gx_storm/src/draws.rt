@@ -1,4 +1,6 @@
 //! Calls that are drawn.
+ghost use Rattle.std.specs.Prelude.{◌<◌};
+
 use gx_geom::Box2;
 use gx_machine::{Call, Entry, Query, Reply};
 use rand_core::SeedableRng;
@@ -21,9 +23,12 @@ impl Draws {
         }
     }
 
-    /// A word below a number; 0 is below 0 here.
-    fn below(&mut self, count: u32) -> u32 {
-        self.words.next_word().checked_rem(count).unwrap_or(0)
+    /// A number below this one.
+    fn below(&mut self, count: u32) -> u32
+        requires { 0 < count }
+        ensures { result < count }
+    {
+        self.words.next_word() % count
     }
 
     /// A box of up to five by five, among few enough that sessions meet now and then.

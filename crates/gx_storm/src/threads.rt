@@ -19,7 +19,7 @@ use std::sync::ledger::{Blank, Ledger};
 use std::thread::{Threads, join, map_vec};
 
 /// A storm: the seed by which calls are drawn, how many sessions there are, 1 to 8, and how many calls each makes.
-#[derive(Clone, Copy, Debug, PartialEq, Eq)]
+#[derive(Clone, Copy)]
 pub struct Storm {
     /// Session s draws by this number plus s.
     pub seed: u32,
@@ -100,7 +100,7 @@ fn workers<R: Run<Box2>>(
     ensures { IfOk result (λ workers. vec_len workers ≡ storm.now.sessions) }
 {
     let mut workers = Vec::new(alloc);
-    for _ in 0..storm.sessions {
+    for taken in 0..storm.sessions {
         workers.push(Worker::new(alloc, sessions.remove(0), storm)?)?;
     }
     Ok(workers)
@@ -115,10 +115,14 @@ fn all_back<R: Run<Box2>>(
     ensures { IfOk result (λ all. vec_len all ≡ vec_len workers) }
 {
     let mut all = Vec::new(alloc);
-    for worker in workers {
+    let count = workers.len();
+    let mut rest = workers;
+    for place in 0..count {
         let Worker {
-            session, handed, ..
-        } = worker?;
+            session,
+            handed,
+            ..
+        } = rest.remove(0)?;
         all.push(handed)?;
         sessions.push(session)?;
     }

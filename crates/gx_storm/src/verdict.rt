@@ -14,7 +14,7 @@ use gx_shared::{Book, RECORD, Run};
 use std::alloc::Global;
 
 /// What is said of a storm.
-#[derive(Clone, Copy, Debug, PartialEq, Eq)]
+#[derive(Clone, Copy, PartialEq, Eq)]
 pub enum Verdict {
     /// The plain index replays the record, which has each reply that the sessions were handed.
     Sound,

@@ -22,11 +22,11 @@ use gx_disk::{FileDisk, MemDisk, SectorDisk};
 use gx_format::sectors_for;
 use index::{count, make, open_index, settle};
 use share::share;
-use storms::{read_storm, storm};
 use std::alloc::Global;
 use std::fs::{File, Files};
 use std::sync::Wait;
 use std::thread::Threads;
+use storms::{read_storm, storm};
 use trouble::Trouble;
 
 /// How many pages the device has.

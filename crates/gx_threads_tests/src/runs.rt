@@ -71,8 +71,7 @@ fn the_plain_index_replays_a_storm(rt: HostRuntime) -> Result<(), Fail> {
         sessions: 4,
         calls: 250,
     };
-    let (book, mut all) =
-        run_storm::<_, Brand, _>(&rt, alloc, Blank::new(8), engine, &storm)?;
+    let (book, mut all) = run_storm::<_, Brand, _>(&rt, alloc, Blank::new(8), engine, &storm)?;
     let sound = judge(alloc, &book, 250, all.as_slice());
     wanted(sound == Verdict::Sound, "the plain index replies otherwise")?;
     give_up(all.as_mut_slice(), 1, Refusal::Damaged);

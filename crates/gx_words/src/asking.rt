@@ -31,6 +31,11 @@ pub enum Asked<'a> {
         /// The file's path.
         file: &'a str,
     },
+    /// Whether a file's index is sound, and what it holds.
+    Verify {
+        /// The file's path.
+        file: &'a str,
+    },
     /// Sessions in threads that draw their calls, on an index in memory.
     Storm {
         /// What the calls are drawn by.
@@ -51,6 +56,7 @@ pub(crate) fn what_is_asked<'a>(found: &ArgMatches<'a>) -> Asked<'a>
         Some(("format", given)) => format_of(given),
         Some(("run", given)) => run_of(given),
         Some(("dump", given)) => dump_of(given),
+        Some(("verify", given)) => verify_of(given),
         Some(("storm", given)) => storm_of(given),
         _ => Asked::Plain,
     }
@@ -85,6 +91,16 @@ fn dump_of<'a>(given: &ArgMatches<'a>) -> Asked<'a>
     ensures { Asks (codes "dump") (rows_of (found_of given.now)) result }
 {
     Asked::Dump {
+        file: given.get_str("FILE").unwrap(),
+    }
+}
+
+// What is given to `verify`.
+fn verify_of<'a>(given: &ArgMatches<'a>) -> Asked<'a>
+    requires { HasDump (rows_of (found_of given.now)) }
+    ensures { Asks (codes "verify") (rows_of (found_of given.now)) result }
+{
+    Asked::Verify {
         file: given.get_str("FILE").unwrap(),
     }
 }

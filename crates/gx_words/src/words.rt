@@ -2,7 +2,7 @@
 ghost use Rattle.std.specs.Prelude.{◌≡◌, [], map, codes, OnOk, IfOk, IfErr};
 ghost use Rattle.clap.specs.Words.{app_of, new_app, fault_of, HasKind};
 ghost use Rattle.gx_words.specs.Asking.{WordsAsk};
-ghost use Rattle.gx_words.specs.Program.{gist_app, with_required, plain_app, format_app, run_app, dump_app, storm_app, wanted_rule, number_rule, frames_rule, Is, IsRule};
+ghost use Rattle.gx_words.specs.Program.{gist_app, with_required, plain_app, format_app, run_app, dump_app, verify_app, storm_app, wanted_rule, number_rule, frames_rule, Is, IsRule};
 
 use crate::asking::{Asked, what_is_asked};
 use clap::{Arg, Command, Error, value_parser};
@@ -69,6 +69,10 @@ const RUN: &str =
 const DUMP: &str =
     "The tree of the index in the file places.gist, page by page:\n\ngist dump places.gist\n\ndocs/SCRIPT.md has its lines and the refusals.";
 
+/// How an index is verified.
+const VERIFY: &str =
+    "Whether the index in the file places.gist is sound, and what it holds; the file stays as it is:\n\ngist verify places.gist\n\ndocs/SCRIPT.md has the line and the refusals.";
+
 /// What a storm is.
 const STORM: &str =
     "Four sessions in threads, each of which makes 200 calls that are drawn by the seed 1; a plain index replays what they asked and were answered:\n\ngist storm 1 4 200\n\nIt touches no file. docs/SCRIPT.md has what it prints.";
@@ -121,11 +125,22 @@ fn dump<'a>(alloc: Global) -> Result<Command<'a>, AllocError>
         .arg(file(alloc))
 }
 
+fn verify<'a>(alloc: Global) -> Result<Command<'a>, AllocError>
+    ensures { IfOk result (Is verify_app) }
+{
+    Command::new(alloc, "verify")
+        .about("Tests the index in a file, and prints what it holds; writes nothing")
+        .after_help(VERIFY)
+        .arg(file(alloc))
+}
+
 fn storm<'a>(alloc: Global) -> Result<Command<'a>, AllocError>
     ensures { IfOk result (Is storm_app) }
 {
     Command::new(alloc, "storm")
-        .about("Runs sessions in threads on an index in memory, and replays what they were answered")
+        .about(
+            "Runs sessions in threads on an index in memory, and replays what they were answered",
+        )
         .after_help(STORM)
         .arg(seed(alloc))?
         .arg(sessions(alloc))?
@@ -205,6 +220,7 @@ fn command<'a>(alloc: Global) -> Result<Command<'a>, AllocError>
         .subcommand(format(alloc)?)?
         .subcommand(run(alloc)?)?
         .subcommand(dump(alloc)?)?
+        .subcommand(verify(alloc)?)?
         .subcommand(storm(alloc)?)
 }
 

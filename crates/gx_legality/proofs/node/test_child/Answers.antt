@@ -4,7 +4,6 @@ use Rattle.gx_node.specs.Reading.{format_of}
 use Rattle.gx_tree_laws.specs.Trees.{Child}
 use Rattle.gx_node.specs.Store.{node_of, node_at}
 use Rattle.gx_legality.proofs.Children.{node_level, child_of_node, child_fits, child_fails, reads_same}
-use Rattle.gx_legality.proofs.Slots.{some_slot}
 use Rattle.gx_legality.proofs.node.test_child.Goals as goal
 use Rattle.gx_legality.proofs.node.test_child.Goals.{then-child-lt2-via-then-child-lt2, then-child-lt2-via-else-child-lt2+then-used-child}
 
@@ -20,7 +19,7 @@ returns-then-child-lt2-clause-found g c = λ steady.
       | then-child-lt2-via-then-child-lt2 w ↦ omega arith
       | then-child-lt2-via-else-child-lt2+then-used-child w ↦ omega arith
     ]) in
-    (c.requires.used, some_slot (λ (c : Child g.row.K-Key.Denot). (2 ≤ c.page) × (c.page ≤ length store.nodes) → ⊥) node.children c.args.slot child bad at)
+    (c.requires.used, (child, at, bad))
 
 pub returns-in-Ok-clause-fits : goal.returns-in-Ok-clause-fits
 returns-in-Ok-clause-fits g c = λ steady other is.

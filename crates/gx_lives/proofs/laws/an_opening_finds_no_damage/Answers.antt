@@ -1,8 +1,15 @@
+use Rattle.std.proofs.Common.{◌<◌, subst}
+use Rattle.std.specs.Prelude.{◌^◌}
 use Rattle.gx_opening.specs.Standing.{limits_of}
-use Rattle.gx_lives.proofs.Undamaged.{only_fails}
+use Rattle.gx_lives.proofs.Fitting.{fit_of}
+use Rattle.gx_lives.proofs.Undamaged.{formatted_so, only_fails}
 use Rattle.gx_lives.proofs.laws.an_opening_finds_no_damage.Goals as goal
 
 pub returns : goal.returns
-returns g c = λ p m old new why bears formatted refused.
-    only_fails _ _ _ g.K.KeyClass g.D.SectorDisk.state p (c.a_class_is_lawful.ensures (limits_of p) formatted.allowed.range.least_entries) m (g.D.SectorDisk.state old) bears
-    g.K.KeyClass.CLASS formatted (g.D.SectorDisk.state new) why refused
+returns g c = λ p allowed m old new why bears refused.
+    let code = g.K.KeyClass.CLASS in
+    let few : code < 2 ^ 16 = subst (λ n. n < 2 ^ 16) c.CLASS.ensures c.is_class.ensures in
+    let lawful = c.a_class_is_lawful.ensures (limits_of p) allowed.range.least_entries in
+    let state = g.D.SectorDisk.state in
+    let formatted = formatted_so _ _ _ g.K.KeyClass state p lawful m (state old) bears code allowed (fit_of code p few allowed) in
+    only_fails _ _ _ g.K.KeyClass state p lawful m (state old) bears code formatted (state new) why refused

@@ -9,6 +9,7 @@ use Rattle.gx_engine.specs.Looking.{LooksFor}
 use Rattle.gx_engine.specs.Moves.{calling}
 use Rattle.gx_engine.specs.States.{Parts}
 use Rattle.gx_engine.specs.Writing.{AsksRoom, LacksPages}
+use Rattle.gx_engine.proofs.Calling.{then_read}
 use Rattle.gx_engine.proofs.Further.{reached_more}
 use Rattle.gx_engine.proofs.WriteLooks.{descends_comes, write_so}
 use Rattle.gx_engine.proofs.engine.Engine.insert_look.Goals as goal
@@ -49,6 +50,10 @@ returns-in-Ok-clause-moves g c l =
     (calling c.args.session (Insert c.args.entry) (Looks c.in-Ok.look) c.write_look.new.self) c.begin_descent.new.self
     (c.in-Ok.ensures.reaches (Insert c.args.entry) c.requires.looks.0 looks l) (c.begin_descent.ensures.moves c.args.entry rest.0 l) in
     rw (c.begin_descent.ensures.outcome) (λ bodies i h. (Works ∷ [], refl, on bodies i h))
+
+pub returns-in-Ok-clause-device : goal.returns-in-Ok-clause-device
+returns-in-Ok-clause-device g c =
+    then_read g.D.SectorDisk.state c.args.self.now c.write_look.new.self c.begin_descent.new.self c.write_look.ensures.device c.begin_descent.ensures.device
 
 pub returns-in-Err-clause-comes : goal.returns-in-Err-clause-comes
 returns-in-Err-clause-comes g c =

@@ -1,0 +1,137 @@
+//! An image is opened, and what comes of it is compared with what the plain reader finds there.
+use crate::device::{bytes_of, device};
+use crate::fault::RunFault;
+use gx_class::Probing;
+use gx_disk::MemDisk;
+use gx_engine::Engine;
+use gx_opening::examine;
+use gx_plain_reader::{Damage, Finding, Part, Reading, findings, read};
+use gx_readings::ReadKeys;
+use gx_restart::{NotOpened, open};
+use std::alloc::Global;
+
+/// How many frames an opening has here.
+pub(crate) const FRAMES: usize = 16;
+
+/// What came of an image, where an opening and the plain reader agree on it.
+#[derive(Clone, Copy, PartialEq, Eq)]
+pub(crate) enum Found {
+    Sound,
+    /// It is refused with this number, since this part is damaged.
+    Refused(u8, Part),
+}
+
+/// The number of the refusal of an image of which this is found first.
+fn refusal_of(finding: &Finding) -> u8 {
+    match finding.damage() {
+        Damage::Magic => 14,
+        Damage::Short => 17,
+        Damage::Parameters => 18,
+        _ => 13,
+    }
+}
+
+/// Whether one of these findings is what a sentence says.
+fn is_told(alloc: Global, found: &[Finding], sentence: &str) -> Result<bool, RunFault> {
+    for finding in found {
+        if finding.is_said(alloc, sentence)? {
+            return Ok(true);
+        }
+    }
+    Ok(false)
+}
+
+/// Whether a device whose opening was refused as damaged is said to have damage that it has.
+fn is_said<K: ReadKeys>(alloc: Global, disk: MemDisk, found: &[Finding]) -> Result<bool, RunFault> {
+    let (_disk, damage) = examine::<MemDisk, K>(alloc, disk);
+    match damage {
+        Some(damage) => is_told(alloc, found, format!(in alloc; "{damage}")?.as_str()),
+        None => Ok(false),
+    }
+}
+
+/// What was read before and after an opening has the same number, the same set and the same pages in use.
+fn is_same(before: &Reading, after: &Reading) -> bool {
+    before.number == after.number
+        && before.set.as_slice() == after.set.as_slice()
+        && before.counter == after.counter
+        && before.used == after.used
+        && before.next <= after.next
+}
+
+/// Whether an engine was opened well, over an image that is so: it has its number, and leaves a device with its set.
+fn is_opened<K: ReadKeys>(
+    alloc: Global,
+    engine: Engine<MemDisk, K>,
+    before: &Reading,
+) -> Result<bool, RunFault> {
+    let number = engine.commits();
+    let mut disk = engine.into_disk();
+    let bytes = bytes_of(alloc, &mut disk)?;
+    let after = read(alloc, &bytes, K::CLASS)?;
+    Ok(number == before.number && is_same(before, &after))
+}
+
+/// Whether a refused opening is right, with what it says of the device.
+fn is_refused<K: ReadKeys>(
+    alloc: Global,
+    refused: NotOpened<MemDisk>,
+    found: &[Finding],
+    wanted: u8,
+) -> Result<bool, RunFault> {
+    let NotOpened { why, disk } = refused;
+    if why.number() != wanted {
+        return Ok(false);
+    }
+    if wanted == 13 {
+        return is_said::<K>(alloc, disk, found);
+    }
+    Ok(true)
+}
+
+/// Opens a sound image.
+fn open_sound<K: ReadKeys + Probing>(alloc: Global, bytes: &[u8]) -> Result<bool, RunFault>
+where
+    K::Probe: Drop,
+{
+    let before = read(alloc, bytes, K::CLASS)?;
+    match open::<MemDisk, K>(alloc, device(alloc, bytes)?, FRAMES) {
+        Ok(engine) => is_opened(alloc, engine, &before),
+        Err(_) => Ok(false),
+    }
+}
+
+/// Opens an image of which this is found.
+fn open_damaged<K: ReadKeys + Probing>(
+    alloc: Global,
+    bytes: &[u8],
+    found: &[Finding],
+    wanted: u8,
+) -> Result<bool, RunFault>
+where
+    K::Probe: Drop,
+{
+    match open::<MemDisk, K>(alloc, device(alloc, bytes)?, FRAMES) {
+        Ok(_engine) => Ok(false),
+        Err(refused) => is_refused::<K>(alloc, refused, found, wanted),
+    }
+}
+
+/// Opens an image, and answers what came of it; nothing where the plain reader finds another thing. It opens exactly where that finds
+/// nothing wrong, and then has the same number and leaves a sound image of the same set. Else it is refused with the number of
+/// the damage, and what is said of it is found there.
+pub(crate) fn judge<K: ReadKeys + Probing>(
+    alloc: Global,
+    bytes: &[u8],
+) -> Result<Option<Found>, RunFault>
+where
+    K::Probe: Drop,
+{
+    let found = findings(alloc, bytes, K::CLASS)?;
+    let Some(first) = found.first() else {
+        return Ok(open_sound::<K>(alloc, bytes)?.then_some(Found::Sound));
+    };
+    let wanted = refusal_of(first);
+    let told = open_damaged::<K>(alloc, bytes, &found, wanted)?;
+    Ok(told.then_some(Found::Refused(wanted, first.part())))
+}

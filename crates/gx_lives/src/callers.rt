@@ -1,0 +1,67 @@
+//! What those who call an index do to it is turns of its life. Each function is its contract alone.
+ghost use Rattle.std.specs.Prelude.{ℕ, List, Option, Result};
+ghost use Rattle.gx_engine.specs.Driven.{IsDriven};
+ghost use Rattle.gx_engine.specs.Made.{Makes};
+ghost use Rattle.gx_engine.specs.States.{Parts};
+ghost use Rattle.gx_events.specs.declared.event.Event as event;
+ghost use Rattle.gx_events.specs.declared.event.Event.TheVariants.{Ask};
+ghost use Rattle.gx_events.specs.declared.outcome.Outcome as outcome;
+ghost use Rattle.gx_geom.specs.Rectangles.{Rectangle};
+ghost use Rattle.gx_geom.specs.declared.refusal.Refusal.{Refusal};
+ghost use Rattle.gx_machine.specs.declared.call.Call.{Call};
+ghost use Rattle.gx_machine.specs.declared.item.Item.{Item};
+ghost use Rattle.gx_machine.specs.declared.reply.Reply.{Reply};
+ghost use Rattle.gx_restart.specs.Called.{CallsIndex};
+ghost use Rattle.gx_restart.specs.Settled.{Settles};
+ghost use Rattle.gx_restart.specs.States.{State};
+ghost use Rattle.gx_script.specs.declared.fault.ScriptFault.{ScriptFault};
+ghost use Rattle.gx_script.specs.Scripts.{IsDone, IsStopped};
+ghost use Rattle.gx_shared.specs.Books.{IsMade};
+ghost use Rattle.gx_lives.specs.Calling.{IsAnswered, IsOneEvent, LivesBy, LivesOn};
+ghost use Rattle.gx_lives.specs.Lives.{GoesOn, Works};
+ghost use Rattle.gx_lives.specs.Lives as life;
+
+use gx_class::KeyClass;
+use gx_disk::SectorDisk;
+use gx_geom::{Box2, Shape};
+use gx_readings::ReadKeys;
+
+/// A call of an index (`gx_restart::Index::call`) is turns of its life: events, from its ask to the outcome that gives
+/// its reply. So is one that is given up, or refused because the index gave up.
+pub fn calls_are_turns<D: SectorDisk, K: ReadKeys>()
+    ensures answered { (old new : Parts K.Key D) (s : ℕ) (call : Call K.Key) (reply : Reply K.Key)
+        → IsDriven (Makes K.Key.Shape K.is_proper K.said K.KeyClass D.state) s (Ask s call) old reply new
+        → LivesBy K.Key.Shape K.is_proper K.said K.KeyClass K.CLASS D.state (IsAnswered s call reply) old new }
+    ensures calls { (old new : State K.Key D) (s : ℕ) (call : Call K.Key) (reply : Reply K.Key)
+        → CallsIndex (Makes K.Key.Shape K.is_proper K.said K.KeyClass D.state) old s call reply new
+        → LivesOn K.Key.Shape K.is_proper K.said K.KeyClass K.CLASS D.state old.engine new.engine }
+{}
+
+/// So is a settling (`gx_restart::Index::settle`).
+pub fn settlings_are_turns<D: SectorDisk, K: ReadKeys>()
+    ensures { (old new : State K.Key D) (result : Result (Unit {0}) Refusal)
+        → Settles (Makes K.Key.Shape K.is_proper K.said K.KeyClass D.state) old result new
+        → LivesOn K.Key.Shape K.is_proper K.said K.KeyClass K.CLASS D.state old.engine new.engine }
+{}
+
+/// So is a script (`gx_restart::run_script`), whether it is read to its end or stopped by a fault of its reader or
+/// writer.
+pub fn scripts_are_turns<D: SectorDisk, K: ReadKeys + KeyClass<Key = Box2>>()
+    ensures done { (had left held holds : Option (List ℕ)) (old new : State Rectangle D)
+        → IsDone (CallsIndex (Makes ⟦<Box2 as Shape>⟧ K.is_proper K.said K.KeyClass D.state))
+        had left held holds old new → LivesOn ⟦<Box2 as Shape>⟧ K.is_proper K.said K.KeyClass K.CLASS D.state old.engine new.engine }
+    ensures stopped { (had left held holds : Option (List ℕ)) (old new : State Rectangle D) (fault : ScriptFault)
+        → IsStopped (CallsIndex (Makes ⟦<Box2 as Shape>⟧ K.is_proper K.said K.KeyClass D.state))
+        had left held holds old new fault → LivesOn ⟦<Box2 as Shape>⟧ K.is_proper K.said K.KeyClass K.CLASS D.state old.engine new.engine }
+{}
+
+/// A hold of a book over an engine (`gx_shared::Book::apply_for`) is one turn of its life, or none where an ask is
+/// turned away; and one of work (`gx_shared::Book::apply`) is one turn.
+pub fn holds_are_turns<D: SectorDisk, K: ReadKeys>()
+    ensures session { (old new : Parts K.Key D × List (Item K.Key)) (e : event.Event K.Key) (o : outcome.Outcome K.Key)
+        → IsMade (Makes K.Key.Shape K.is_proper K.said K.KeyClass D.state) old e o new
+        → LivesBy K.Key.Shape K.is_proper K.said K.KeyClass K.CLASS D.state (IsOneEvent e) old.0 new.0 }
+    ensures work { (old new : Parts K.Key D) (e : event.Event K.Key) (o : outcome.Outcome K.Key)
+        → Makes K.Key.Shape K.is_proper K.said K.KeyClass D.state old e o new
+        → GoesOn K.Key.Shape K.is_proper K.said K.KeyClass K.CLASS D.state (Works old) (life.Happens e o) (Works new) }
+{}
