@@ -57,7 +57,7 @@ fn told_of_copy(why: Refusal) -> Refusal
 }
 
 // What an engine that was just opened holds. Its device is handed back where that isn't counted.
-fn report<D: SectorDisk + Drop, K: ReadKeys + Probing>(
+fn report_of<D: SectorDisk + Drop, K: ReadKeys + Probing>(
     engine: Engine<D, K>,
 ) -> Result<Report, NotOpened<D>>
 where
@@ -105,7 +105,7 @@ where
     ensures device { IfErr result (λ n. n.why ≢ Refusal.Device) }
 {
     match open::<D, K>(alloc, copy, frames) {
-        Ok(engine) => report(engine),
+        Ok(engine) => report_of(engine),
         Err(refused) => Err(NotOpened {
             why: told_of_copy(refused.why),
             disk: refused.disk,

@@ -22,8 +22,8 @@ returns-then-level-eq0-clause-few g c =
     let same = c.count_pairs.ensures ∙ ap (λ (n : Node _). live_on n) c.of.ensures in
     let few = few_pass (λ x. not x.marked) (map (pair_of f) page.items) in
     let long = length-map page.items (pair_of f) in
-    let count = c.count-_count.ensures.count in
-    let bound = c.count-_count.ensures.bound in
+    let count = c.count-count.ensures.count in
+    let bound = c.count-count.ensures.bound in
     omega (arith, same, few, long, count, bound)
 
 pub returns-else-level-eq0-clause-live : goal.returns-else-level-eq0-clause-live

@@ -6,9 +6,9 @@ use Rattle.gx_restart.proofs.verification.entries.count_pairs.Goals as goal
 
 pub loop-slot-preserved : goal.loop-slot-preserved
 loop-slot-preserved g c =
-    let less : c.loop-slot.slot < length c.args.leaf.now.pairs = omega (arith, c.len.ensures, c.loop-slot-test.true) in
-    let one = c.count_pair.ensures.few in
-    let here = c.count_pair.ensures.live in
+    let less : c.loop-slot.slot < length c.args.leaf.now.pairs = omega (arith, c.len-slot-end.ensures, c.loop-slot-test.true) in
+    let one = c.count_pair-live.ensures.few in
+    let here = c.count_pair-live.ensures.live in
     let so_far = c.loop-slot.invariant.few in
     record {
       live = ap (λ n. c.loop-slot.live + n) here
@@ -18,5 +18,5 @@ loop-slot-preserved g c =
 
 pub returns : goal.returns
 returns g c =
-    let all : length c.args.leaf.now.pairs ≤ c.loop-slot.slot = omega (arith, c.len.ensures, c.loop-slot-test.false) in
+    let all : length c.args.leaf.now.pairs ≤ c.loop-slot.slot = omega (arith, c.len-slot-end.ensures, c.loop-slot-test.false) in
     c.loop-slot.invariant.live ∙ ap (λ xs. how_many (λ x. not x.marked) xs) (take_all c.loop-slot.slot c.args.leaf.now.pairs all)
