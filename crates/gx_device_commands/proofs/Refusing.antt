@@ -9,6 +9,7 @@ use Rattle.gx_command.specs.Streams.{Outputs}
 use Rattle.gx_geom.specs.Refusals.{refusal_text}
 use Rattle.gx_device_commands.specs.Lines.{sentence_of}
 use Rattle.gx_device_commands.specs.Refusing.{Refuses, TellsOpening}
+use Rattle.gx_device_commands.specs.Verifying.{TellsUnverified}
 
 -- of a refusal that has no sentence of its own a person is told its text
 pub told_by_text : (why : Refusal) → (why ≡ Memory → ⊥) → (why ≡ Device → ⊥) → (why ≡ Failed → ⊥) → (why ≡ Damaged → ⊥) → (why ≡ NotFormatted → ⊥)
@@ -82,3 +83,26 @@ module _ {B C D : Type 0} (shape : Members B) (is_key : B → Bool) (said : List
   told_refused number BadParameter disk old new status other told = (told, refl)
   told_refused number NoCall disk old new status other told = (told, refl)
   told_refused number HistoryFull disk old new status other told = (told, refl)
+
+-- so is one of a device that isn't verified
+pub told_unverified : (why : Refusal) (old new : Outputs) (status : ℕ) → (why ≡ Damaged → ⊥) → Refuses why old new status → TellsUnverified why old new status
+told_unverified Damaged old new status other told = absurd (other refl)
+told_unverified (Busy s) old new status other told = told
+told_unverified NoTransaction old new status other told = told
+told_unverified InTransaction old new status other told = told
+told_unverified Present old new status other told = told
+told_unverified Absent old new status other told = told
+told_unverified PagesFull old new status other told = told
+told_unverified ClaimsFull old new status other told = told
+told_unverified PredicatesFull old new status other told = told
+told_unverified BadBox old new status other told = told
+told_unverified Memory old new status other told = told
+told_unverified Device old new status other told = told
+told_unverified Failed old new status other told = told
+told_unverified NotFormatted old new status other told = told
+told_unverified BadSession old new status other told = told
+told_unverified CallOpen old new status other told = told
+told_unverified TooSmall old new status other told = told
+told_unverified BadParameter old new status other told = told
+told_unverified NoCall old new status other told = told
+told_unverified HistoryFull old new status other told = told

@@ -6,3 +6,4 @@ pub mod Endings
 pub mod Dumping
 pub mod Durably
 pub mod Saying
+pub mod Verifying

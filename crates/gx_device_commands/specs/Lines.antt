@@ -5,6 +5,7 @@ use Rattle.gx_geom.specs.declared.refusal.Refusal.TheVariants.{Memory, Device, F
 use Rattle.gx_geom.specs.Refusals.{refusal_number, refusal_text}
 use Rattle.gx_opening.specs.Texts.{damage_text}
 use Rattle.gx_opening.specs.declared.damage.Damage.{Damage}
+use Rattle.gx_restart.specs.declared.verification.Report.{Report}
 
 -- a refusal outside of a script: its number and its text
 abbrev pub refusal_line : Refusal → List ℕ
@@ -13,6 +14,11 @@ refusal_line why = codes "refused " ++ (decimal (refusal_number why) ++ (32 ∷ 
 -- a format: its pages, and how many entries a node has at most
 abbrev pub formatted_line : ℕ → ℕ → List ℕ
 formatted_line pages most = codes "formatted pages " ++ (decimal pages ++ (codes " fanout " ++ (decimal most ++ (10 ∷ []))))
+
+-- a device that was verified: the number of the last commit, how many entries that has, and the greatest page that is taken
+abbrev pub verified_line : Report → List ℕ
+verified_line r =
+    codes "ok commits " ++ (decimal r.commits ++ (codes " entries " ++ (decimal r.entries ++ (codes " used " ++ (decimal r.used ++ (10 ∷ []))))))
 
 -- what a person is told of a refusal outside of a script
 abbrev pub sentence_of : Refusal → List ℕ

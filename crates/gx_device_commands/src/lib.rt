@@ -1,5 +1,5 @@
 //! What a command of the program does over a device, whatever words ask for it: the device is formatted, a script is
-//! run on the index that it holds, or the tree of that is told. What was refused is told, by a line to whoever reads
+//! run on the index that it holds, the tree of that is told, or it is verified. What was refused is told, by a line to whoever reads
 //! and by one to a person, and the program's status is answered.
 #![tactic(auto)]
 
@@ -9,12 +9,14 @@ pub mod laws;
 mod opening;
 mod refusals;
 mod running;
+mod verifying;
 mod watched;
 
 pub use dumping::dump_over;
 pub use formatting::format_over;
 pub use refusals::{print_refusal, refuse};
 pub use running::run_over;
+pub use verifying::verify_over;
 pub use watched::Watched;
 
 /// Status: all was done.

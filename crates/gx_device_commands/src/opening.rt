@@ -43,8 +43,8 @@ fn sentence_of(alloc: Global, damage: Damage) -> Option<String>
     }
 }
 
-// Tells a person of damage, where it was found.
-fn tell_found<E: Write>(alloc: Global, faults: &mut Noted<E>, found: Option<Damage>)
+/// Tells a person of damage, where it was found.
+pub(crate) fn tell_found<E: Write>(alloc: Global, faults: &mut Noted<E>, found: Option<Damage>)
     ensures { TellsFound found (stream_of E.contents faults.old) (stream_of E.contents faults.new) }
 {
     let Some(damage) = found else {

@@ -3,6 +3,7 @@
 
 mod files;
 mod program;
+mod storms;
 #[cfg(test)]
 mod tests;
 

@@ -9,7 +9,7 @@ use std::process::Abort;
 use std::rt::Env;
 
 // What asks for nothing the program knows, and calls for help.
-const WRONG: [&[&str]; 23] = [
+const WRONG: [&[&str]; 25] = [
     &["gist"],
     &["gist", "plane"],
     &["gist", "PLAIN"],
@@ -28,6 +28,8 @@ const WRONG: [&[&str]; 23] = [
     &["gist", "dump"],
     &["gist", "dump", "f", "g"],
     &["gist", "dump", "f", "--frames", "64"],
+    &["gist", "verify"],
+    &["gist", "verify", "f", "--frames", "64"],
     &["gist", "--help"],
     &["gist", "help"],
     &["gist", "plain", "-h"],
@@ -36,7 +38,7 @@ const WRONG: [&[&str]; 23] = [
 ];
 
 // What asks for something, and what it asks for.
-const RIGHT: [(&[&str], Asked); 7] = [
+const RIGHT: [(&[&str], Asked); 8] = [
     (&["gist", "plain"], Asked::Plain),
     (
         &["gist", "format", "f", "8", "100"],
@@ -76,6 +78,7 @@ const RIGHT: [(&[&str], Asked); 7] = [
         },
     ),
     (&["gist", "dump", "f"], Asked::Dump { file: "f" }),
+    (&["gist", "verify", "f"], Asked::Verify { file: "f" }),
 ];
 
 // With these words a script of one line ends with this status, writes this, and a text about the words or none.
@@ -289,6 +292,16 @@ fn what_is_committed_is_in_the_file(rt: HostRuntime) {
             b"commits 1 used 2 counter 0\npage 1 level 1 nsn 0 right 0 count 1\nchild 2 0 0 10 10\npage 2 level 0 nsn 0 right 0 count 2\nentry 7 0 0 10 10 live\nentry 8 5 5 6 6 marked\n",
         ),
         done(
+            &["gist", "verify", "north"],
+            b"",
+            b"ok commits 1 entries 1 used 2\n",
+        ),
+        done(
+            &["gist", "verify", "south"],
+            b"",
+            b"ok commits 0 entries 0 used 2\n",
+        ),
+        done(
             &["gist", "dump", "south"],
             b"",
             b"commits 0 used 2 counter 0\npage 1 level 1 nsn 0 right 0 count 1\nchild 2 0 0 0 0\npage 2 level 0 nsn 0 right 0 count 0\n",
@@ -320,6 +333,10 @@ fn files_that_hold_no_index(rt: HostRuntime) {
     carries_out(&rt, &refused(&["gist", "dump", "used"], NO_DEVICE, in_use));
     carries_out(
         &rt,
+        &refused(&["gist", "verify", "used"], NO_DEVICE, in_use),
+    );
+    carries_out(
+        &rt,
         &refused(&["gist", "format", "used", "8", "4"], NO_DEVICE, in_use),
     );
     assert!(rt; held.is_ok());
@@ -348,6 +365,14 @@ fn files_that_hold_no_index(rt: HostRuntime) {
         &rt,
         &refused(&["gist", "dump", "short"], b"refused 17 too small\n", small),
     );
+    carries_out(
+        &rt,
+        &refused(
+            &["gist", "verify", "short"],
+            b"refused 17 too small\n",
+            small,
+        ),
+    );
     assert!(rt; length_of(&rt, "short") == 1000);
     let _ = fs::remove_file(&rt, "short");
 
@@ -357,6 +382,14 @@ fn files_that_hold_no_index(rt: HostRuntime) {
         &rt,
         &refused(
             &["gist", "run", "zeros"],
+            b"refused 14 not formatted\n",
+            blank,
+        ),
+    );
+    carries_out(
+        &rt,
+        &refused(
+            &["gist", "verify", "zeros"],
             b"refused 14 not formatted\n",
             blank,
         ),

@@ -13,6 +13,8 @@ mod full;
 #[cfg(test)]
 mod legality;
 #[cfg(test)]
+mod life;
+#[cfg(test)]
 mod openings;
 #[cfg(test)]
 mod passes;
@@ -26,3 +28,5 @@ mod scripts;
 mod sessions;
 #[cfg(test)]
 mod stores;
+#[cfg(test)]
+mod verified;

@@ -19,6 +19,10 @@ pub(crate) enum RunFault {
     Number(u64),
     /// The set isn't the one of this number.
     Set(u64),
+    /// A run of which this call fails makes another number of calls, or ends in another way.
+    Calls(u64),
+    /// It is answered otherwise.
+    Replies(u64),
 }
 
 impl RunFault {
@@ -31,6 +35,8 @@ impl RunFault {
             RunFault::NotOpened(why) => ("not opened, by refusal", u64::from(why.number())),
             RunFault::Number(number) => ("another number", number),
             RunFault::Set(number) => ("another set at number", number),
+            RunFault::Calls(call) => ("other calls where this one fails:", call),
+            RunFault::Replies(call) => ("other replies where this call fails:", call),
         }
     }
 }

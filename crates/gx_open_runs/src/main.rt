@@ -1,46 +1,45 @@
-//! Scripts on a device in memory that stops at one of its calls. It is then opened again, and is to have the set and the number of as many
-//! commits as the plain index has behind one of the script's, none before the last that was acknowledged.
+//! Scripts on a device in memory that fails at one of its calls. It is then opened again, and is to have the set and the number of as many
+//! commits as the plain index has behind one of the script's, none before the last that was acknowledged. Up to the call that fails the
+//! script is answered as by the plain index; that call is told once, and all that is asked behind it is refused.
 //!
-//! A line of `stdin` that begins with a digit is one of the script. `new` begins another script. `stops FRAMES FIRST STRIDE COUNT` runs
-//! the script once for each of so many calls of the device, from a first one on by a stride, each with the call made and not, and with
-//! four crashes: all that wasn't synced is old, is new, old and new in turn, or torn. `again FRAMES CALL DONE LEFT FIRST STRIDE COUNT` stops
-//! the script at this call, made where DONE is 1, with this crash (`old`, `new`, `mixed`, `torn`), and then the opening behind it at each of so
-//! many calls, in each way; the number that is found stays. Both print how many runs there
-//! were, how many were not stopped, and how many were opened with the last commit that was acknowledged, and with a later one.
+//! A line of `stdin` that begins with a digit is one of the script. `new` begins another script. The others make runs:
 //!
-//! An empty line, and one that begins with `#`, is printed as it stands. The program ends at the first difference, with status 1.
+//! - `stops FRAMES FIRST STRIDE`: the device stops for good at each call, from a first one on by a stride up to a run that meets no stop; each
+//!   with the call made and not, and with four crashes: all that wasn't synced is old, is new, old and new in turn, or torn.
+//! - `again FRAMES CALL DONE LEFT FIRST STRIDE`: the script stops at this call, made where DONE is 1, with this crash (`old`, `new`, `mixed`,
+//!   `torn`), and then so does the opening behind it, at each call. The number that is found stays.
+//! - `fails FRAMES`, `fails_again FRAMES CALL DONE LEFT`: likewise each call fails, once or for ever, made and not, and no crash comes.
+//! - `twice FRAMES`: the script is run to its end, and the opening behind it stops at each write and sync, and the next one too.
+//! - `line FRAMES LINE`: the device stops at each call that this line of the script makes, from 1 on. The numbers are printed.
+//! - `replies FRAMES LINE`: it stops at the first of these calls. What the script is answered is printed.
+//!
+//! Runs are counted: all, those of which no call failed, and those behind which the last commit that was acknowledged was found, and a
+//! later one. An empty line, and one that begins with `#`, is printed as it stands. The program ends at the first difference, with status 1.
 #![tactic(auto)]
 
 mod again;
 mod fault;
+mod line;
+mod listing;
+mod ran;
+mod replies;
 mod sets;
-mod stopped;
+mod twice;
+mod upward;
+mod ways;
 
 use again::{copy_of, stands};
 use fault::RunFault;
-use gx_disk::MemDisk;
-use sets::sets_of;
+use line::{print_line, print_replies};
+use ran::{new_device, run_failing};
+use replies::acknowledged_in;
+use sets::{Expected, expected_of};
 use std::alloc::Global;
 use std::process::ExitCode;
 use std::str::SplitWhitespace;
-use stopped::{Left, Stop, Stopped, new_device, run_stopped};
-
-/// What is run: with how many frames, which script, and its sets.
-#[derive(Clone, Copy)]
-struct Setting<'a> {
-    frames: usize,
-    script: &'a [u8],
-    sets: &'a [Vec<u8>],
-}
-
-/// How the runs of a line ended.
-#[derive(Clone, Copy, Default)]
-struct Endings {
-    runs: u64,
-    whole: u64,
-    last: u64,
-    later: u64,
-}
+use twice::{Twice, stop_twice};
+use upward::{Calls, Endings, Runs, Setting, Start};
+use ways::{Left, Way};
 
 /// The next word as a number.
 fn number(words: &mut SplitWhitespace<'_>) -> Result<u64, RunFault> {
@@ -48,146 +47,12 @@ fn number(words: &mut SplitWhitespace<'_>) -> Result<u64, RunFault> {
     word.parse::<u64>().ok().ok_or(RunFault::BadLine)
 }
 
-/// Opens what a stop left, and counts how that ended.
-fn judge(
-    alloc: Global,
-    setting: Setting<'_>,
-    stopped: Stopped,
-    ends: &mut Endings,
-) -> Result<(), RunFault> {
-    let Stopped {
-        disk,
-        acknowledged,
-        sealed,
-        is_whole,
-    } = stopped;
-    let stood = stands(
-        alloc,
-        disk,
-        setting.frames,
-        setting.sets,
-        acknowledged,
-        sealed,
-    )?;
-    ends.runs = ends.runs.saturating_add(1);
-    if is_whole {
-        ends.whole = ends.whole.saturating_add(1);
-    }
-    if stood == acknowledged {
-        ends.last = ends.last.saturating_add(1);
-    } else {
-        ends.later = ends.later.saturating_add(1);
-    }
-    Ok(())
-}
-
-/// Stops a script at a call, in each way.
-fn stop_script(
-    alloc: Global,
-    setting: Setting<'_>,
-    call: u64,
-    ends: &mut Endings,
-) -> Result<(), RunFault> {
-    for is_done in [false, true] {
-        for left in Left::ALL {
-            let stop = Stop {
-                call,
-                is_done,
-                left,
-            };
-            let disk = new_device(alloc)?;
-            let stopped = run_stopped(alloc, disk, setting.frames, setting.script, stop)?;
-            judge(alloc, setting, stopped, ends)?;
-        }
-    }
-    Ok(())
-}
-
-/// Stops the opening of what a script's stop left, at a call and in each way: the number that is found stays.
-fn stop_opening(
-    alloc: Global,
-    setting: Setting<'_>,
-    disk: &mut MemDisk,
-    number: u64,
-    call: u64,
-    ends: &mut Endings,
-) -> Result<(), RunFault> {
-    for is_done in [false, true] {
-        for left in Left::ALL {
-            let stop = Stop {
-                call,
-                is_done,
-                left,
-            };
-            let again = copy_of(alloc, disk)?;
-            let mut stopped = run_stopped(alloc, again, setting.frames, &[], stop)?;
-            stopped.acknowledged = number;
-            stopped.sealed = number;
-            judge(alloc, setting, stopped, ends)?;
-        }
-    }
-    Ok(())
-}
-
-/// Calls of the device: a first one, and by a stride how many more.
-#[derive(Clone, Copy)]
-struct Calls {
-    first: u64,
-    stride: u64,
-    count: u64,
-}
-
 /// The calls that a line names.
-fn named_calls(words: &mut SplitWhitespace<'_>) -> Result<Calls, RunFault> {
+fn calls(words: &mut SplitWhitespace<'_>) -> Result<Calls, RunFault> {
     Ok(Calls {
         first: number(words)?,
         stride: number(words)?,
-        count: number(words)?,
     })
-}
-
-/// Stops a script at calls.
-fn stops(alloc: Global, setting: Setting<'_>, calls: Calls) -> Result<Endings, RunFault> {
-    let mut ends = Endings::default();
-    let mut call = calls.first;
-    for _run in 0..calls.count {
-        stop_script(alloc, setting, call, &mut ends)?;
-        call = call.saturating_add(calls.stride);
-    }
-    Ok(ends)
-}
-
-/// Stops a script at a call, and the opening behind it at calls.
-fn stops_again(
-    alloc: Global,
-    setting: Setting<'_>,
-    stop: Stop,
-    calls: Calls,
-) -> Result<Endings, RunFault> {
-    let mut ends = Endings::default();
-    let mut stopped = run_stopped(
-        alloc,
-        new_device(alloc)?,
-        setting.frames,
-        setting.script,
-        stop,
-    )?;
-    let found = copy_of(alloc, &mut stopped.disk)?;
-    let Setting { frames, sets, .. } = setting;
-    let number = stands(
-        alloc,
-        found,
-        frames,
-        sets,
-        stopped.acknowledged,
-        stopped.sealed,
-    )?;
-    let mut call = calls.first;
-    for _run in 0..calls.count {
-        stop_opening(alloc, setting, &mut stopped.disk, number, call, &mut ends)?;
-        call = call.saturating_add(calls.stride);
-    }
-    Ok(ends)
 }
 
 /// How a crash is named.
@@ -201,27 +66,124 @@ fn left(words: &mut SplitWhitespace<'_>) -> Result<Left, RunFault> {
     }
 }
 
-/// Makes the runs of a line.
-fn run_line(alloc: Global, script: &[u8], line: &str) -> Result<Endings, RunFault> {
-    let sets = sets_of(alloc, script)?;
-    let mut words = line.split_whitespace();
-    let name = words.next();
-    let setting = Setting {
-        frames: usize::try_from(number(&mut words)?).unwrap_or(0),
+/// What the stop that a line names left of a device, with the number that is found.
+fn found(
+    alloc: Global,
+    setting: Setting<'_>,
+    words: &mut SplitWhitespace<'_>,
+) -> Result<Start, RunFault> {
+    let call = number(words)?;
+    let is_done = number(words)? == 1;
+    let left = left(words)?;
+    let Setting {
+        frames,
         script,
-        sets: &sets,
+        expected,
+    } = setting;
+    let way = Way::stop(is_done, left);
+    let ran = run_failing(alloc, new_device(alloc)?, frames, script, call, way)?;
+    let (first, last) = (acknowledged_in(&ran.replies), ran.sealed);
+    let mut disk = ran.disk;
+    left.crash(&mut disk);
+    let copy = copy_of(alloc, &mut disk)?;
+    let number = stands(alloc, copy, frames, &expected.sets, first, last)?;
+    Ok(Start::Found(disk, number))
+}
+
+/// The runs of a script on a new device.
+fn of_script<'a>(alloc: Global, setting: Setting<'a>) -> Result<Runs<'a>, RunFault> {
+    Runs::new(alloc, setting, Start::New)
+}
+
+/// The runs of an opening behind the stop that a line names.
+fn of_opening<'a>(
+    alloc: Global,
+    setting: Setting<'a>,
+    words: &mut SplitWhitespace<'_>,
+) -> Result<Runs<'a>, RunFault> {
+    let start = found(alloc, setting, words)?;
+    let opening = Setting {
+        script: &[],
+        ..setting
     };
+    Runs::new(alloc, opening, start)
+}
+
+/// Prints how runs ended.
+fn print_ends<R: Print>(rt: &R, line: &str, ends: Endings) -> Result<(), RunFault> {
+    let Endings {
+        runs,
+        whole,
+        last,
+        later,
+    } = ends;
+    println!(rt;
+        "{line}: {runs} runs, {whole} not stopped; {last} with the last, {later} with a later one"
+    )?;
+    Ok(())
+}
+
+/// Prints how an opening and the next one were stopped.
+fn print_twice<R: Print>(rt: &R, line: &str, twice: Twice) -> Result<(), RunFault> {
+    let Twice {
+        first,
+        second,
+        number,
+    } = twice;
+    println!(rt;
+        "{line}: {first} stops, and behind them {second} of the next opening; all with {number}"
+    )?;
+    Ok(())
+}
+
+/// Makes the runs that a line names.
+fn make_runs(
+    alloc: Global,
+    setting: Setting<'_>,
+    name: &str,
+    words: &mut SplitWhitespace<'_>,
+) -> Result<Endings, RunFault> {
     match name {
-        Some("stops") => stops(alloc, setting, named_calls(&mut words)?),
-        Some("again") => {
-            let stop = Stop {
-                call: number(&mut words)?,
-                is_done: number(&mut words)? == 1,
-                left: left(&mut words)?,
-            };
-            stops_again(alloc, setting, stop, named_calls(&mut words)?)
+        "stops" => {
+            let mut runs = of_script(alloc, setting)?;
+            runs.upward(alloc, calls(words)?, &Way::stops())
+        }
+        "again" => {
+            let mut runs = of_opening(alloc, setting, words)?;
+            runs.upward(alloc, calls(words)?, &Way::stops())
+        }
+        "fails" => {
+            let mut runs = of_script(alloc, setting)?;
+            runs.upward(alloc, Calls::ALL, &Way::fails())
+        }
+        "fails_again" => {
+            let mut runs = of_opening(alloc, setting, words)?;
+            runs.upward(alloc, Calls::ALL, &Way::fails())
         }
         _ => Err(RunFault::BadLine),
+    }
+}
+
+/// A number that counts something in memory.
+fn count(words: &mut SplitWhitespace<'_>) -> Result<usize, RunFault> {
+    Ok(usize::try_from(number(words)?).unwrap_or(0))
+}
+
+/// Does what a line names.
+fn run_line<R: Print>(rt: &R, alloc: Global, script: &[u8], line: &str) -> Result<(), RunFault> {
+    let expected: Expected = expected_of(alloc, script)?;
+    let mut words = line.split_whitespace();
+    let name = words.next().unwrap_or("");
+    let setting = Setting {
+        frames: count(&mut words)?,
+        script,
+        expected: &expected,
+    };
+    match name {
+        "line" => print_line(rt, alloc, setting, count(&mut words)?),
+        "replies" => print_replies(rt, alloc, setting, count(&mut words)?),
+        "twice" => print_twice(rt, line, stop_twice(alloc, setting)?),
+        _ => print_ends(rt, line, make_runs(alloc, setting, name, &mut words)?),
     }
 }
 
@@ -239,17 +201,7 @@ fn take_line<R: Print>(
             script.extend_from_slice(line.as_bytes())?;
             script.push(b'\n')?;
         }
-        _ => {
-            let Endings {
-                runs,
-                whole,
-                last,
-                later,
-            } = run_line(alloc, script, line)?;
-            println!(rt;
-                "{line}: {runs} runs, {whole} not stopped; {last} with the last, {later} with a later one"
-            )?;
-        }
+        _ => run_line(rt, alloc, script, line)?,
     }
     Ok(())
 }

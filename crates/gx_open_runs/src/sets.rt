@@ -1,8 +1,18 @@
-//! The sets that a script commits, by the plain index.
+//! What a script is expected to do: the sets that it commits and its replies, by the plain index.
 use crate::fault::RunFault;
+use crate::replies::replies_of;
 use gx_plain::PlainIndex;
 use gx_script::{Answers, Noted, run};
 use std::alloc::Global;
+
+/// What is expected of a script.
+#[derive(Drop)]
+pub(crate) struct Expected {
+    /// The sets by the number of commits: of nothing, and behind each commit.
+    pub(crate) sets: Vec<Vec<u8>>,
+    /// The replies of each line.
+    pub(crate) replies: Vec<Vec<u8>>,
+}
 
 const ABORTS: &[u8] = b"1 ABORT\n2 ABORT\n3 ABORT\n4 ABORT\n5 ABORT\n6 ABORT\n7 ABORT\n8 ABORT\n";
 
@@ -32,8 +42,8 @@ fn set_after(alloc: Global, front: &[u8]) -> Result<Vec<u8>, RunFault> {
     set_of(alloc, &mut plain)
 }
 
-/// The sets by the number of commits: of nothing, and behind each commit of the script.
-pub(crate) fn sets_of(alloc: Global, script: &[u8]) -> Result<Vec<Vec<u8>>, RunFault> {
+// The sets by the number of commits: of nothing, and behind each commit of the script.
+fn sets_of(alloc: Global, script: &[u8]) -> Result<Vec<Vec<u8>>, RunFault> {
     let mut sets = Vec::new(alloc);
     sets.push(set_after(alloc, &[])?)?;
     let mut end: usize = 0;
@@ -45,4 +55,12 @@ pub(crate) fn sets_of(alloc: Global, script: &[u8]) -> Result<Vec<Vec<u8>>, RunF
         }
     }
     Ok(sets)
+}
+
+/// What is expected of a script.
+pub(crate) fn expected_of(alloc: Global, script: &[u8]) -> Result<Expected, RunFault> {
+    Ok(Expected {
+        sets: sets_of(alloc, script)?,
+        replies: replies_of(alloc, script)?,
+    })
 }

@@ -269,13 +269,15 @@ module _ {B : Type 0} (shape : Members B) (is_key : B → Bool) (said : List ℕ
         keeps_one = found_keeps c lc start.next (area e.seen) log is_log closed.found.good.good next_covers
 
         -- so an engine that starts there holds the set that was found
-        pub begins : {D : Type 0} → (engine : Parts B D) → HoldsFrom c r f (is_node f) e start engine → HoldsFound shape is_key said f s.parameters a.seen e engine
-        begins engine holds = record {
+        pub begins : {D : Type 0} → (engine : Parts B D) → engine.volume.shelf.used ≡ start.used → HoldsFrom c r f (is_node f) e start engine
+            → HoldsFound shape is_key said f s.parameters a.seen e engine
+        begins engine used holds = record {
           found = record { log = st.laid.is.log; good = good };
           bodies = bodies;
           index = openings.found_state c start.next (area e.seen) log;
           holds = holds bodies stands_on;
           set = record { older = keeps_one.older; oldest = keeps_one.oldest; stands = λ x. keeps_one.stands x ∙ set_after x };
+          used = used ∙ from.used ∙ ap (λ (x : Analysis (Entry B)). x.used) told_there;
         }
 
         -- and it isn't refused as damaged
@@ -308,7 +310,7 @@ module _ {B : Type 0} (shape : Members B) (is_key : B → Bool) (said : List ℕ
     begun_so (Ok engine) started refused holds =
         let same : engine.volume.shelf.disk ≡ disk = ap (λ (v : Volume D). v.shelf.disk) started.volume in
         subst (λ (d : D). HasBegun shape is_key said f s.parameters a.seen m (state d) engine) (sym same)
-        (record { holds = begins (state disk) honest size inside sectors begun_closes frames start from (still ∙ honest) engine holds; leaves = begun_leaves })
+        (record { holds = begins (state disk) honest size inside sectors begun_closes frames start from (still ∙ honest) engine (ap (λ (v : Volume D). v.shelf.used) started.volume) holds; leaves = begun_leaves })
     begun_so (Err n) started refused holds =
         subst (λ (d : D). HasNotBegun shape is_key said f s.parameters a.seen m (state d) n.why) (sym refused.0)
         (record { cause = refused_so (state disk) honest size inside sectors begun_closes frames start from (still ∙ honest) n.why cut refused.1; leaves = begun_leaves })

@@ -51,13 +51,13 @@ device_later state of before middle first (Ok x) same = (same.0 ∙ first.0, sam
 device_later state of before middle first (Err n) same = (same.0 ∙ first.0, same.1 ∙ first.1)
 
 -- a list of free slots
-free_place : {B W : Type 0} (phases : List (Phase B W)) (table : List (Held B)) (n : ℕ) → phase_at n phases ≡ phase.Free → slice_index_or (slots_of phases table) n slots.Free ≡ slots.Free
+pub free_place : {B W : Type 0} (phases : List (Phase B W)) (table : List (Held B)) (n : ℕ) → phase_at n phases ≡ phase.Free → slice_index_or (slots_of phases table) n slots.Free ≡ slots.Free
 free_place [] table n is = refl
 free_place (p ∷ phases) [] n is = refl
 free_place (p ∷ phases) (h ∷ table) zero is = ap (λ q. slot_of q h) is
 free_place (p ∷ phases) (h ∷ table) (suc n) is = free_place phases table n is
 
-all_free : {B : Type 0} (xs : List (Slot B)) (n : ℕ) → length xs ≡ n → ((i : ℕ) → i < n → slice_index_or xs i slots.Free ≡ slots.Free) → xs ≡ replicate n slots.Free
+pub all_free : {B : Type 0} (xs : List (Slot B)) (n : ℕ) → length xs ≡ n → ((i : ℕ) → i < n → slice_index_or xs i slots.Free ≡ slots.Free) → xs ≡ replicate n slots.Free
 all_free [] zero long each = refl
 all_free [] (suc n) long each = absurd (omega (arith, long))
 all_free (x ∷ xs) zero long each = absurd (omega (arith, long))

@@ -45,6 +45,7 @@ use Rattle.gx_index_laws.specs.Whole.{IsWhole}
 use Rattle.gx_events.specs.declared.event.Event.TheVariants.{Move}
 use Rattle.gx_restart.proofs.Going.{goes_stays}
 use Rattle.gx_restart.proofs.Runs.{all_undo, step_keeps, step_why}
+use Rattle.gx_restart.proofs.Used.{event_used}
 
 module _ {C B D : Type 0} (shape : Members B) (proper : B → Bool) (said : List ℕ → B) (class : Ghosts C B) (state : D → Device) (p : Parameters) (seen : List ℕ)
     (lc : IsLawful (class_of shape proper (limits_of p))) where
@@ -131,6 +132,7 @@ module _ {C B D : Type 0} (shape : Members B) (proper : B → Bool) (said : List
           index = stepped.led.index;
           holds = stepped.led.holds;
           set = record { older = keeps.older; oldest = keeps.oldest; stands = keeps.stands };
+          used = event_used shape proper said class state (limits_of p) lc old new h.bodies h.index h.holds event given is undoes one ∙ h.used;
         },
         leaves_weaker (durable.Stands k r h.index.log) InSet (at old) (at new) (λ image stands. stands_so h.found h.index was image stands) stepped.led.leaves,
       )

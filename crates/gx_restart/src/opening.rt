@@ -27,10 +27,11 @@ use gx_readings::ReadKeys;
 use std::alloc::Global;
 use undo::finish;
 
-// How many frames an engine may have.
-const LEAST_FRAMES: usize = 16;
+/// How few frames an engine may have.
+pub(crate) const LEAST_FRAMES: usize = 16;
 
-const MOST_FRAMES: usize = 4096;
+/// How many.
+pub(crate) const MOST_FRAMES: usize = 4096;
 
 // Ends an engine's checkpoint, and undoes what a crash cut off; or gives the engine up.
 fn finished<D: SectorDisk, K: ReadKeys + Probing>(

@@ -14,16 +14,18 @@ use gx_restart::{Index, format, open};
 use gx_shared::laws::an_idle_engine_may_be_shared;
 use std::alloc::Global;
 
-/// How many entries a node has at most.
-const MOST: u16 = 100;
-
 /// How many pages are held in memory.
 const FRAMES: usize = 64;
 
-/// Lays a new index of boxes down on a device.
-pub(crate) fn make<D: SectorDisk + Drop>(alloc: Global, disk: D, pages: u32) -> Result<D, Trouble> {
+/// Lays a new index of boxes down on a device, with so many entries in a node at most.
+pub(crate) fn make<D: SectorDisk + Drop>(
+    alloc: Global,
+    disk: D,
+    pages: u32,
+    most: u16,
+) -> Result<D, Trouble> {
     let mut disk = disk;
-    format::<D, Box2Class>(alloc, &mut disk, pages, MOST)?;
+    format::<D, Box2Class>(alloc, &mut disk, pages, most)?;
     Ok(disk)
 }
 

@@ -4,10 +4,11 @@ use gx_class::Box2Class;
 use gx_disk::MemDisk;
 use gx_engine_events::EngineEvents;
 use gx_events::Events;
+use gx_geom::{Box2, Refusal};
 use gx_shared_callers::callers::wanted;
 use gx_shared_callers::flushed::flushed;
 use gx_shared_callers::holds::{empty, first_hold, flusher_hold, pairing, search_hold};
-use gx_shared_callers::seeded::seeded;
+use gx_storm::{Handed, Storm, Verdict, judge, run_storm};
 use std::marker::Brand;
 use std::sync::ledger::Blank;
 use std::test::Fail;
@@ -47,11 +48,45 @@ fn a_run_without_calls_has_an_empty_record(rt: HostRuntime) -> Result<(), Fail> 
     empty::<_, Brand>(alloc, Blank::new(8), engine)
 }
 
+/// Says of the session at a place that a call of it was given up so.
+fn give_up(all: &mut [Handed<Box2>], place: usize, why: Refusal) {
+    if let Some(handed) = all.get_mut(place) {
+        handed.given_up = Some(why);
+    }
+}
+
+/// Takes the last reply of the session at a place away.
+fn lose_reply(all: &mut [Handed<Box2>], place: usize) {
+    if let Some(handed) = all.get_mut(place) {
+        let _ = handed.replies.pop();
+    }
+}
+
 #[test]
-fn the_plain_index_replays_a_record_of_four_threads(rt: HostRuntime) -> Result<(), Fail> {
+fn the_plain_index_replays_a_storm(rt: HostRuntime) -> Result<(), Fail> {
     let alloc = rt.alloc();
     let engine = fresh(alloc, 1024, 8, 64)?;
-    seeded::<_, Brand, _>(&rt, alloc, Blank::new(8), engine)
+    let storm = Storm {
+        seed: 11,
+        sessions: 4,
+        calls: 250,
+    };
+    let (book, mut all) = run_storm::<_, Brand, _>(&rt, alloc, Blank::new(8), engine, &storm)?;
+    let sound = judge(alloc, &book, 250, all.as_slice());
+    wanted(sound == Verdict::Sound, "the plain index replies otherwise")?;
+    give_up(all.as_mut_slice(), 1, Refusal::Damaged);
+    give_up(all.as_mut_slice(), 2, Refusal::Device);
+    let refused = judge(alloc, &book, 250, all.as_slice());
+    wanted(
+        refused == Verdict::Refused(Refusal::Device),
+        "the least refusal isn't told",
+    )?;
+    lose_reply(all.as_mut_slice(), 3);
+    let lost = judge(alloc, &book, 250, all.as_slice());
+    wanted(
+        lost == Verdict::Mismatch(book.calls().len() as u64),
+        "a lost reply is passed over",
+    )
 }
 
 /// How many entries the first leaf has, deleted ones among them that no sweep has taken.

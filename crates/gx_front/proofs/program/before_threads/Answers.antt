@@ -3,7 +3,7 @@ use Rattle.clap.specs.Words.{fault_of, kind_of}
 use Rattle.clap.specs.declared.error.kind.ErrorKind.TheVariants.{OutOfMemory}
 use Rattle.gx_words.specs.Program.{gist_app}
 use Rattle.gx_front.proofs.Wrong.{no_memory_fault, some_fault}
-use Rattle.gx_front.proofs.program.gist.Goals as goal
+use Rattle.gx_front.proofs.program.before_threads.Goals as goal
 
 pub returns-in-Err-2 : goal.returns-in-Err-2
 returns-in-Err-2 g c =
