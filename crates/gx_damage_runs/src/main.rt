@@ -1,5 +1,5 @@
 //! Images with damage, opened: each opens or is refused by number exactly as the plain reader finds it, what is said of it is found
-//! there, and what opens is a sound image of the same set.
+//! there, and what opens is a sound image of the same set. Each eighth is verified too.
 //!
 //! A line of `stdin` asks for one thing, and what came of it is printed behind it.
 //! `boxes SEED IMAGES` and `intervals SEED IMAGES` draw images of an index of nine rows.
@@ -75,19 +75,20 @@ fn take_image(
     life: &Life,
     kind: Kind,
     draw: &mut Pcg32,
+    is_verified: bool,
 ) -> Result<Option<Found>, RunFault> {
     match kind {
         Kind::Boxes => {
             let mut image = make_base(alloc, 1, draw)?;
             damage(&mut image, draw);
-            judge::<Box2Class>(alloc, &image.bytes)
+            judge::<Box2Class>(alloc, &image.bytes, is_verified)
         }
         Kind::Intervals => {
             let mut image = make_base(alloc, 2, draw)?;
             damage(&mut image, draw);
-            judge::<IntervalClass>(alloc, &image.bytes)
+            judge::<IntervalClass>(alloc, &image.bytes, is_verified)
         }
-        Kind::Moments => judge::<Box2Class>(alloc, &life.damaged(alloc, draw)?),
+        Kind::Moments => judge::<Box2Class>(alloc, &life.damaged(alloc, draw)?, is_verified),
     }
 }
 
@@ -101,7 +102,7 @@ fn take_images(
     let mut draw = Pcg32::new(number(words)?, 7);
     let mut counts = Counts::default();
     for image in 0..number(words)? {
-        match take_image(rt.alloc(), life, kind, &mut draw)? {
+        match take_image(rt.alloc(), life, kind, &mut draw, image % 8 == 0)? {
             Some(found) => counts.add(found),
             None => {
                 println!(rt; " they differ on image {image}")?;

@@ -7,7 +7,7 @@ use gx_engine::Engine;
 use gx_opening::examine;
 use gx_plain_reader::{Damage, Finding, Part, Reading, findings, read};
 use gx_readings::ReadKeys;
-use gx_restart::{NotOpened, open};
+use gx_restart::{NotOpened, open, verify};
 use std::alloc::Global;
 
 /// How many frames an opening has here.
@@ -89,12 +89,53 @@ fn is_refused<K: ReadKeys>(
     Ok(true)
 }
 
+/// Whether an image verifies as what is read of it.
+fn verifies<K: ReadKeys + Probing>(
+    alloc: Global,
+    bytes: &[u8],
+    read: &Reading,
+) -> Result<bool, RunFault>
+where
+    K::Probe: Drop,
+{
+    match verify::<MemDisk, K>(alloc, &mut device(alloc, bytes)?, FRAMES) {
+        Ok(report) => Ok(
+            report.commits == read.number
+                && report.entries == read.set.len() as u64
+                && report.used == read.used,
+        ),
+        Err(_) => Ok(false),
+    }
+}
+
+/// Whether an image doesn't verify, for this reason.
+fn is_unverified<K: ReadKeys + Probing>(
+    alloc: Global,
+    bytes: &[u8],
+    wanted: u8,
+) -> Result<bool, RunFault>
+where
+    K::Probe: Drop,
+{
+    match verify::<MemDisk, K>(alloc, &mut device(alloc, bytes)?, FRAMES) {
+        Ok(_report) => Ok(false),
+        Err(why) => Ok(why.number() == wanted),
+    }
+}
+
 /// Opens a sound image.
-fn open_sound<K: ReadKeys + Probing>(alloc: Global, bytes: &[u8]) -> Result<bool, RunFault>
+fn open_sound<K: ReadKeys + Probing>(
+    alloc: Global,
+    bytes: &[u8],
+    is_verified: bool,
+) -> Result<bool, RunFault>
 where
     K::Probe: Drop,
 {
     let before = read(alloc, bytes, K::CLASS)?;
+    if is_verified && !verifies::<K>(alloc, bytes, &before)? {
+        return Ok(false);
+    }
     match open::<MemDisk, K>(alloc, device(alloc, bytes)?, FRAMES) {
         Ok(engine) => is_opened(alloc, engine, &before),
         Err(_) => Ok(false),
@@ -117,21 +158,26 @@ where
     }
 }
 
-/// Opens an image, and answers what came of it; nothing where the plain reader finds another thing. It opens exactly where that finds
+/// Opens an image, and verifies it, if that is wanted too, and answers what came of it; nothing where the plain reader finds another thing. It opens exactly where that finds
 /// nothing wrong, and then has the same number and leaves a sound image of the same set. Else it is refused with the number of
 /// the damage, and what is said of it is found there.
 pub(crate) fn judge<K: ReadKeys + Probing>(
     alloc: Global,
     bytes: &[u8],
+    is_verified: bool,
 ) -> Result<Option<Found>, RunFault>
 where
     K::Probe: Drop,
 {
     let found = findings(alloc, bytes, K::CLASS)?;
     let Some(first) = found.first() else {
-        return Ok(open_sound::<K>(alloc, bytes)?.then_some(Found::Sound));
+        let is_sound = open_sound::<K>(alloc, bytes, is_verified)?;
+        return Ok(is_sound.then_some(Found::Sound));
     };
     let wanted = refusal_of(first);
+    if is_verified && !is_unverified::<K>(alloc, bytes, wanted)? {
+        return Ok(None);
+    }
     let told = open_damaged::<K>(alloc, bytes, &found, wanted)?;
     Ok(told.then_some(Found::Refused(wanted, first.part())))
 }

@@ -2,7 +2,7 @@
 use crate::device::device;
 use crate::fault::RunFault;
 use gx_class::Box2Class;
-use gx_device_commands::{dump_over, run_over};
+use gx_device_commands::{dump_over, run_over, verify_over};
 use gx_disk::MemDisk;
 use gx_restart::{Noted, open};
 use std::alloc::Global;
@@ -52,6 +52,24 @@ fn dump(alloc: Global, bytes: &[u8], frames: usize) -> Result<Written, RunFault>
     })
 }
 
+/// What is written as the device is verified.
+fn verify(alloc: Global, bytes: &[u8], frames: usize) -> Result<Written, RunFault> {
+    let mut writer = Noted::new(Vec::new(alloc));
+    let mut faults = Noted::new(Vec::new(alloc));
+    let mut disk = device(alloc, bytes)?;
+    let _status = verify_over::<MemDisk, Box2Class, _, _>(
+        alloc,
+        &mut disk,
+        frames,
+        &mut writer,
+        &mut faults,
+    );
+    Ok(Written {
+        replies: writer.inner,
+        sentence: faults.inner,
+    })
+}
+
 impl Written {
     /// Whether it is this line, and told a person the same as another.
     fn is(&self, line: &str, other: &Written) -> bool {
@@ -70,8 +88,9 @@ fn refused(
     let line = format!(in alloc; "{text}\n")?;
     let ran = run(alloc, bytes, frames)?;
     let dumped = dump(alloc, bytes, frames)?;
-    // (a further command that opens a device is one more of these)
-    if !ran.is(line.as_str(), &ran) || !dumped.is(line.as_str(), &ran) {
+    let verified = verify(alloc, bytes, frames)?;
+    let line = line.as_str();
+    if !ran.is(line, &ran) || !dumped.is(line, &ran) || !verified.is(line, &ran) {
         return Ok(None);
     }
     match String::from_utf8(ran.sentence) {
