@@ -92,16 +92,12 @@ module _ {B : Type 0} where
   child_fails r old new page slot level c below (ChildLevel told) same is above at used fails =
       let here : below ≡ node_at old.nodes c.page = is ∙ ap (λ (s : Store B). node_at s.nodes c.page) same in (
         used,
-        c,
-        subst (λ k. slice_get (node_at old.nodes page).children k ≡ Some c) (sym fails.0) at,
-        λ fits. fails.1 (ap (λ (n : Node B). suc n.level) here ∙ fits ∙ sym above),
+        (c, subst (λ k. slice_get (node_at old.nodes page).children k ≡ Some c) (sym fails.0) at, λ fits. fails.1 (ap (λ (n : Node B). suc n.level) here ∙ fits ∙ sym above)),
       )
   child_fails r old new page slot level c below (Bound told) same is above at used fails =
       let here : below ≡ node_at old.nodes c.page = is ∙ ap (λ (s : Store B). node_at s.nodes c.page) same in (
         used,
-        c,
-        subst (λ k. slice_get (node_at old.nodes page).children k ≡ Some c) (sym fails.0) at,
-        λ fits. fails.1 (subst (λ n. Bounds r c.key n) (sym here) fits),
+        (c, subst (λ k. slice_get (node_at old.nodes page).children k ≡ Some c) (sym fails.0) at, λ fits. fails.1 (subst (λ n. Bounds r c.key n) (sym here) fits)),
       )
   child_fails r old new page slot level c below SplitsOutnumberPages same is above at used fails = absurd fails
   child_fails r old new page slot level c below RootIsLeaf same is above at used fails = absurd fails

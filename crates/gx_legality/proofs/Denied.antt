@@ -30,14 +30,14 @@ module _ {K : Type 0} where
   denied r t p NoChild broken legal = let none = broken.2 in let some = ((legal.pages p broken.0).inner broken.1).1 in omega (arith, none, some)
   denied r t p SequenceNumber broken legal = let ahead = broken.1 in let nsn = (legal.pages p broken.0).nsn in omega (arith, ahead, nsn)
   denied r t p (ChildPage slot) broken legal =
-      let fits = slot_of (ChildFits r t (t.node p).level) (t.node p).children slot broken.1 (legal.pages p broken.0).children broken.2 in
-      broken.3 (fits.low, fits.used)
+      let fits = slot_of (ChildFits r t (t.node p).level) (t.node p).children slot broken.1.0 (legal.pages p broken.0).children broken.1.1 in
+      broken.1.2 (fits.low, fits.used)
   denied r t p (ChildLevel slot) broken legal =
-      let fits = slot_of (ChildFits r t (t.node p).level) (t.node p).children slot broken.1 (legal.pages p broken.0).children broken.2 in
-      broken.3 fits.level
+      let fits = slot_of (ChildFits r t (t.node p).level) (t.node p).children slot broken.1.0 (legal.pages p broken.0).children broken.1.1 in
+      broken.1.2 fits.level
   denied r t p (Bound slot) broken legal =
-      let fits = slot_of (ChildFits r t (t.node p).level) (t.node p).children slot broken.1 (legal.pages p broken.0).children broken.2 in
-      broken.3 fits.bounds
+      let fits = slot_of (ChildFits r t (t.node p).level) (t.node p).children slot broken.1.0 (legal.pages p broken.0).children broken.1.1 in
+      broken.1.2 fits.bounds
   denied r t p NamedTwice broken legal = let one = legal.parent p broken.0 broken.1 in let two = broken.2 in omega (arith, one, two)
   denied r t p NotNamed broken legal = let one = legal.parent p broken.0 broken.1 in let none = broken.2 in omega (arith, one, none)
   denied r t p Chain broken legal = by_rest (led_on t p 2 broken.1 (leaves t) broken.2 legal.chain) broken.3

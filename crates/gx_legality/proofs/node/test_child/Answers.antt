@@ -19,7 +19,7 @@ returns-then-child-lt2-clause-found g c = λ steady.
       | then-child-lt2-via-then-child-lt2 w ↦ omega arith
       | then-child-lt2-via-else-child-lt2+then-used-child w ↦ omega arith
     ]) in
-    (c.requires.used, child, at, bad)
+    (c.requires.used, (child, at, bad))
 
 pub returns-in-Ok-clause-fits : goal.returns-in-Ok-clause-fits
 returns-in-Ok-clause-fits g c = λ steady other is.
