@@ -12,6 +12,8 @@ PROGRAM, SHIM, HOW = sys.argv[1:]
 LACKS = "refused 10 memory"
 # Calls that may be refused memory; no other may.
 MAY_LACK = {"INSERT", "DELETE", "OVERLAP", "WITHIN", "EQUAL"}
+# How many allocations the last run of each command asked for, and how many of them were refused.
+ASKED, REFUSED = {}, {}
 FORMATTED = {(16, 4): "formatted pages 16 fanout 4", (8, 4): "formatted pages 8 fanout 4", (4096, 8): "formatted pages 4096 fanout 8"}
 
 
@@ -126,7 +128,9 @@ def start(words, refused=0):
 def counted():
     """How many allocations the last run asked for, and how many were refused."""
     with open("counted") as file:
-        return [int(word) for word in file.read().split()]
+        asked, refused = (int(word) for word in file.read().split())
+    os.remove("counted")
+    return asked, refused
 
 
 def ask(name, child, line, wanted):
@@ -151,14 +155,16 @@ def ask(name, child, line, wanted):
 
 
 def end(child):
-    """Closes its input and waits: its status, and the rest of its output."""
+    """Closes its input and waits: its status, and the rest of its output. Keeps how many allocations its command asked for."""
     try:
         child.stdin.close()
     except BrokenPipeError:
         pass
     rest = child.stdout.read()
     child.stderr.read()
-    return child.wait(), rest
+    status = child.wait()
+    ASKED[child.args[1]], REFUSED[child.args[1]] = counted()
+    return status, rest
 
 
 def run(name, words, script, refused=0):
@@ -203,11 +209,11 @@ class Counts:
         self.call += lacked is not None and lacked is not True and lacked > 0
 
 
-def in_turn(once, counts):
-    """Refuses each allocation that the ample run asks for, one after another."""
-    if once(0):
+def in_turn(command, once, counts):
+    """Refuses each allocation that this command's ample run asks for, one after another."""
+    if once(0) not in (0, False):
         fail("an ample run was refused memory")
-    for number in range(1, counted()[0] + 1):
+    for number in range(1, ASKED[command] + 1):
         counts.add(once(number))
 
 
@@ -222,7 +228,8 @@ def format_file(pages, most, counts=None):
             tell("format again", words, FORMATTED[pages, most] + "\n")
         return lacks
 
-    in_turn(once, counts) if counts else once(0)
+    if counts:
+        in_turn("format", once, counts)
     once(0)
 
 
@@ -241,9 +248,9 @@ def on_file(name, pages, most, script, tree, counts):
             tell(f"{name}, its tree", ["dump", "index"], tree)
         return lacked
 
-    in_turn(once, counts)
+    in_turn("run", once, counts)
     if tree:
-        in_turn(lambda refused: tell(f"{name}, its tree", ["dump", "index"], tree, refused), counts)
+        in_turn("dump", lambda refused: tell(f"{name}, its tree", ["dump", "index"], tree, refused), counts)
 
 
 def drawn():
@@ -286,7 +293,7 @@ def throughout():
             child.send_signal(signal.SIGUSR1)
     if end(child) != (0, ""):
         fail("memory refused throughout: the settling")
-    return len(lines), counted()[1]
+    return len(lines), REFUSED["run"]
 
 
 def main():
@@ -296,7 +303,7 @@ def main():
         rows = rows[:1]
     for name, text in rows:
         script = calls(text)
-        in_turn(lambda refused: run(f"{name}, in memory", ["plain"], script, refused), counts)
+        in_turn("plain", lambda refused: run(f"{name}, in memory", ["plain"], script, refused), counts)
         on_file(f"{name}, on a file", 16, 4, script, None, counts)
     format_file(16, 4, counts)
     files = list(ON_FILE.items())
