@@ -1,5 +1,5 @@
 #!/usr/bin/env python3
-"""What refuse_memory.sh asks the program, and what it has to answer: usage: refuse_memory.py PROGRAM SHIM all|quick
+"""What refuse_memory.sh asks the program, and what it has to answer: usage: refuse_memory.py PROGRAM SHIM RUNS all|quick
 
 A row has calls with their ample answers, which are those of docs/SCRIPT.md's rules; the last rows are on a file alone."""
 import os
@@ -8,7 +8,7 @@ import signal
 import subprocess
 import sys
 
-PROGRAM, SHIM, HOW = sys.argv[1:]
+PROGRAM, SHIM, RUNS, HOW = sys.argv[1:]
 LACKS = "refused 10 memory"
 # Calls that may be refused memory; no other may.
 MAY_LACK = {"INSERT", "DELETE", "OVERLAP", "WITHIN", "EQUAL"}
@@ -163,6 +163,8 @@ def end(child):
     rest = child.stdout.read()
     child.stderr.read()
     status = child.wait()
+    if not os.path.exists("counted"):
+        fail(f"{child.args[1]}: it was ended, with status {status}")
     ASKED[child.args[1]], REFUSED[child.args[1]] = counted()
     return status, rest
 
@@ -296,6 +298,18 @@ def throughout():
     return len(lines), REFUSED["run"]
 
 
+def by_events(seed, events):
+    """Drawn events of an engine, without memory during each: the sentence on how often it lacked, where searches alone were refused."""
+    env = {**os.environ, "LD_PRELOAD": SHIM, "COUNTED": "counted"}
+    ran = subprocess.run([RUNS], input=f"lacking {seed} {events}\n", capture_output=True, text=True, env=env)
+    text = ran.stdout.strip()
+    if ran.returncode or ": refused for want of memory: asks 0, ends of transactions 0, writes 0, the flusher's 0, searches " not in text:
+        fail(f"events without memory: status {ran.returncode}, {text}")
+    if text.endswith("searches 0") or not counted()[1]:
+        fail(f"events without memory: none was refused: {text}")
+    return text
+
+
 def main():
     counts = Counts()
     rows = list(SCRIPTS.items())
@@ -313,6 +327,9 @@ def main():
     print(f"{counts.all} allocations refused in turn: {counts.program} answered by the program, {counts.call} by one call")
     answered, refused = throughout()
     print(f"{answered} calls and a settling without memory; {refused} allocations were asked for")
+    if RUNS:
+        for seed in range(1, 2 if HOW == "quick" else 11):
+            print(by_events(seed, 3000))
     print(f"{counts.all + 1} passed, 0 failed")
 
 
