@@ -97,7 +97,7 @@ module _ {C D : Type 0} (shape : Members Rectangle) (is_key : Rectangle → Bool
   -- and what follows a script
   ends_hold : (met : Bool) (old : State Rectangle D) (after : D) (from to : Outputs) (status : ℕ) → EndsBy shape is_key said class state met old after from to status → Fit p
       → HoldsSome old.engine → SaysSo p (state after)
-  ends_hold true old after from to status ends fit some = subst (λ (d : D). SaysSo p (state d)) (sym ends.2.1) (held_says fit old.engine some)
+  ends_hold true old after from to status ends fit some = subst (λ (d : D). SaysSo p (state d)) (sym ends.1.1.1) (held_says fit old.engine some)
   ends_hold false old after from to status ends fit some =
       let ran = ends.runs (limits_of p) some.bodies some.index some.holds in
       subst (λ (d : D). SaysSo p (state d)) (sym ends.left) (held_says fit ends.new.engine (record { bodies = ran.bodies; index = ran.index; holds = ran.holds }))

@@ -29,9 +29,9 @@ pub data Turn (B : Type 0) : Type 0 where
   Refuses : (why : Refusal) → Turn B
 
 -- A device of so many sectors comes up again behind a crash: it reads as an image that could be left, and nothing of it is pending.
-pub record ComesUp (sectors : ℕ) (IsLeft : List ℕ → Type 0) (d : Device) : Type 0 where
+pub record ComesUp (many : ℕ) (IsLeft : List ℕ → Type 0) (d : Device) : Type 0 where
   pub honest : d.honest ≡ true
-  pub sectors : d.sectors ≡ sectors
+  pub sectors : d.sectors ≡ many
   pub left : IsLeft d.seen
   pub settled : IsSettled d
 
