@@ -1,7 +1,8 @@
 //! An index of drawn boxes on a device in memory, by the events of one session. `inserts`: so many boxes in a new index, in
 //! transactions of a hundred. `queries`: so many windows looked for in an index of a hundred thousand boxes, in transactions of
-//! sixteen, each given up at its end. `marks`: so many of its pairs deleted, in transactions of a hundred. `commits`: so many boxes in a
-//! new index, each with a commit of its own. The boxes and windows are those of the benchmark `tree`.
+//! sixteen, each given up at its end. `marks`: so many of its pairs deleted, in transactions of a hundred. `undo`: so many boxes in a new
+//! index, deleted in transactions of 512, each given up at its end. `commits`: so many boxes in a new index, each with a commit of its
+//! own. The boxes and windows are those of the benchmark `tree`.
 //!
 //! `index` has the sum of what was done: the pages that are taken, the rows that were found, or the pairs that were deleted. In its place
 //! `asks`, `moves`, `helps`, `log-steps`, `page-writes` and `checkpoint-steps` count the events of a kind from the new index on, of which
@@ -13,7 +14,7 @@ mod works;
 
 use driven::Index;
 use std::alloc::Global;
-use works::{delete_many, insert_many, query_many};
+use works::{delete_many, insert_many, query_many, undo_many};
 
 /// How many boxes stand in the index in which is looked.
 const BOXES: u64 = 100_000;
@@ -30,6 +31,8 @@ pub(crate) enum Kind {
     Queries,
     /// Pairs deleted.
     Marks,
+    /// Pairs deleted, and each delete undone.
+    Undo,
     /// Boxes inserted in a new index, each with its commit.
     Commits,
 }
@@ -41,6 +44,7 @@ impl Kind {
             "inserts" => Some(Kind::Inserts),
             "queries" => Some(Kind::Queries),
             "marks" => Some(Kind::Marks),
+            "undo" => Some(Kind::Undo),
             "commits" => Some(Kind::Commits),
             _ => None,
         }
@@ -67,6 +71,10 @@ impl Kind {
                     return None;
                 }
                 delete_many(index, entries.as_slice(), count, WRITES)
+            }
+            Kind::Undo => {
+                let entries = insert_many(alloc, index, count, WRITES)?;
+                undo_many(index, entries.as_slice())
             }
         }
     }

@@ -1,13 +1,12 @@
 //! Benchmarks of the index's parts, each beside the same in plain C.
 //!
-//! The words are a benchmark (`claims`, `engine`, `pool`, `log`, `tree` or `index`), what is asked of it and how often, as its module
+//! The words are a benchmark (`claims`, `pool`, `log`, `tree` or `index`), what is asked of it and how often, as its module
 //! says. A sum of what was done is printed, or in place of `index` a count of it is named. With the word `all` alone a little of each is
 //! asked, and each sum is printed with its words.
 #![tactic(auto)]
 
 mod claims;
 mod drawn;
-mod engine;
 mod index;
 mod leaves;
 mod log;
@@ -23,7 +22,6 @@ use std::rt::Env;
 const ALL: [(&str, &str, u64); 18] = [
     ("claims", "claims", 1000),
     ("claims", "searches", 1000),
-    ("engine", "undo", 30),
     ("pool", "hits", 1000),
     ("pool", "misses", 1000),
     ("log", "commit", 1),
@@ -36,6 +34,7 @@ const ALL: [(&str, &str, u64); 18] = [
     ("index", "inserts", 3000),
     ("index", "queries", 100),
     ("index", "marks", 100),
+    ("index", "undo", 30),
     ("index", "commits", 100),
     ("moves", "inserts", 3000),
     ("bytes", "commits", 100),
@@ -45,7 +44,6 @@ const ALL: [(&str, &str, u64); 18] = [
 #[derive(Clone, Copy)]
 enum Benchmark {
     Claims(claims::Kind),
-    Engine(engine::Kind),
     Pool(pool::Kind),
     Log(log::Kind),
     Tree(tree::Kind),
@@ -64,7 +62,6 @@ impl Benchmark {
     fn named(benchmark: &str, kind: &str) -> Option<Benchmark> {
         match benchmark {
             "claims" => Some(Benchmark::Claims(claims::Kind::named(kind)?)),
-            "engine" => Some(Benchmark::Engine(engine::Kind::named(kind)?)),
             "pool" => Some(Benchmark::Pool(pool::Kind::named(kind)?)),
             "log" => Some(Benchmark::Log(log::Kind::named(kind)?)),
             "tree" => Some(Benchmark::Tree(tree::Kind::named(kind)?)),
@@ -76,7 +73,6 @@ impl Benchmark {
     fn run<R: AllocGlobal + Files<File = File>>(self, rt: &R, count: u64) -> Option<u64> {
         match self {
             Benchmark::Claims(kind) => claims::run(rt.alloc(), kind, count),
-            Benchmark::Engine(kind) => engine::run(rt.alloc(), kind, count),
             Benchmark::Pool(kind) => pool::run(rt, kind, count),
             Benchmark::Log(kind) => log::run(rt, kind, count),
             Benchmark::Tree(kind) => tree::run(rt.alloc(), kind, count),

@@ -1,5 +1,5 @@
 -- When a fuse blows.
-use Rattle.std.specs.Prelude.{◌≡◌, ◌+◌, ◌-◌, ℕ, List, Bool, true, false, ◌&&◌, ◌||◌, ◌==◌, not}
+use Rattle.std.specs.Prelude.{◌≡◌, ◌+◌, ◌-◌, ◌^◌, ℕ, List, Bool, true, false, ◌&&◌, ◌||◌, ◌==◌, not, min}
 use Rattle.gx_disk.specs.Device.{Device, IsWritten}
 use Rattle.gx_disk.specs.declared.fuse.Fuse.{Fuse}
 use Rattle.gx_disk.specs.declared.fuse.Fuse.TheVariants.{Once, ForEver}
@@ -12,6 +12,11 @@ blows_again ForEver = true
 -- whether the next call fails: none is left to pass, and the fuse hasn't blown or blows again
 abbrev pub blows : ℕ → Bool → Fuse → Bool
 blows left blown fuse = (left == 0) && (not blown || blows_again fuse)
+
+-- how many calls were passed on after one more, which the fuse fails or passes: at 2^64 - 1 the count stays
+abbrev pub passed_after : Bool → ℕ → ℕ
+passed_after true passed = passed
+passed_after false passed = min (passed + 1) (2 ^ 64 - 1)
 
 -- what one call does to a fuse: one call less is left to pass, and it has blown if it had or does
 pub record Burns (fuse fuse' : Fuse) (done done' : Bool) (left left' : ℕ) (blown blown' : Bool) : Type 0 where

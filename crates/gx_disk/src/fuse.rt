@@ -1,8 +1,8 @@
 //! A device that is made to fail.
-ghost use Rattle.std.specs.Prelude.{◌≡◌, ◌+◌, ◌-◌, ◌/◌, ◌||◌, ℕ, true, false, length, IsErr};
+ghost use Rattle.std.specs.Prelude.{◌≡◌, ◌+◌, ◌-◌, ◌^◌, ◌/◌, ◌||◌, ℕ, true, false, length, min, IsErr};
 ghost use Rattle.gx_disk.specs.Sectors.{IsSpan};
 ghost use Rattle.gx_disk.specs.Device.{Counts, Reads, Writes, Syncs};
-ghost use Rattle.gx_disk.specs.Fuse.{blows, blows_again, Burns, IsMade};
+ghost use Rattle.gx_disk.specs.Fuse.{blows, blows_again, passed_after, Burns, IsMade};
 
 use crate::device::{DiskFault, SECTOR_SIZE, SectorDisk};
 use crate::tally::{Tally, counted};
@@ -35,6 +35,8 @@ pub struct FuseDisk<D> {
     fuse: Fuse,
     done: bool,
     blown: bool,
+    // the calls that were passed on
+    passed: u64,
     faults: Tally,
     calls: Tally,
 }
@@ -48,6 +50,7 @@ impl<D: SectorDisk> FuseDisk<D> {
         ensures fuse { result.fuse ≡ fuse }
         ensures done { result.done ≡ done }
         ensures whole { result.blown ≡ false }
+        ensures passed { result.passed ≡ 0 }
     {
         FuseDisk {
             inner,
@@ -55,6 +58,7 @@ impl<D: SectorDisk> FuseDisk<D> {
             fuse,
             done,
             blown: false,
+            passed: 0,
             faults: Tally::zero(),
             calls: Tally::zero(),
         }
@@ -70,10 +74,18 @@ impl<D: SectorDisk> FuseDisk<D> {
             fuse: _,
             done: _,
             blown: _,
+            passed: _,
             faults: _,
             calls: _,
         } = self;
         inner
+    }
+
+    /// How many reads, writes and syncs it has passed on, whatever the inner device answered. At 2^64 - 1 it stays.
+    pub fn calls(&self) -> u64
+        ensures { result ≡ self.now.passed }
+    {
+        self.passed
     }
 }
 
@@ -90,6 +102,15 @@ fn burn(left: &mut u64, blown: &mut bool, fuse: Fuse) -> bool
     let again = !*blown || fuse.blows_again();
     *blown = *blown || again;
     again
+}
+
+// The outcome of a call that was passed on, which is counted.
+fn passed_on(passed: &mut u64, outcome: Result<(), DiskFault>) -> Result<(), DiskFault>
+    ensures outcome { result ≡ outcome }
+    ensures passed { passed.new ≡ passed_after false passed.old }
+{
+    *passed = passed.saturating_add(1);
+    outcome
 }
 
 impl<D: SectorDisk> SectorDisk for FuseDisk<D> {
@@ -119,13 +140,15 @@ impl<D: SectorDisk> SectorDisk for FuseDisk<D> {
         ensures counts { Counts 0 (⟦<FuseDisk<D> as SectorDisk>⟧.state self.old) (⟦<FuseDisk<D> as SectorDisk>⟧.state self.new) result }
         ensures reads { (D.state self.old.inner).honest ≡ true → Reads first buffer.new (⟦<FuseDisk<D> as SectorDisk>⟧.state self.old) (⟦<FuseDisk<D> as SectorDisk>⟧.state self.new) result }
         ensures burns { Burns self.old.fuse self.new.fuse self.old.done self.new.done self.old.left self.new.left self.old.blown self.new.blown }
+        ensures passed { self.new.passed
+            ≡ passed_after (blows self.old.left self.old.blown self.old.fuse) self.old.passed }
         ensures fails { blows self.old.left self.old.blown self.old.fuse ≡ true → IsErr result × (self.new.inner ≡ self.old.inner) }
         ensures passes { blows self.old.left self.old.blown self.old.fuse ≡ false → Counts 0 (D.state self.old.inner) (D.state self.new.inner) result }
     {
         if burn(&mut self.left, &mut self.blown, self.fuse) {
             return counted(&mut self.faults, Err(DiskFault::Fuse));
         }
-        let outcome = self.inner.read(first, buffer);
+        let outcome = passed_on(&mut self.passed, self.inner.read(first, buffer));
         counted(&mut self.faults, outcome)
     }
 
@@ -134,6 +157,8 @@ impl<D: SectorDisk> SectorDisk for FuseDisk<D> {
         ensures counts { Counts 1 (⟦<FuseDisk<D> as SectorDisk>⟧.state self.old) (⟦<FuseDisk<D> as SectorDisk>⟧.state self.new) result }
         ensures writes { (D.state self.old.inner).honest ≡ true → Writes first (length bytes.now / SECTOR_SIZE) bytes.now (⟦<FuseDisk<D> as SectorDisk>⟧.state self.old) (⟦<FuseDisk<D> as SectorDisk>⟧.state self.new) result }
         ensures burns { Burns self.old.fuse self.new.fuse self.old.done self.new.done self.old.left self.new.left self.old.blown self.new.blown }
+        ensures passed { self.new.passed
+            ≡ passed_after (blows self.old.left self.old.blown self.old.fuse) self.old.passed }
         ensures fails { blows self.old.left self.old.blown self.old.fuse ≡ true → IsErr result }
         ensures not_made { blows self.old.left self.old.blown self.old.fuse ≡ true → self.old.done ≡ false → self.new.inner ≡ self.old.inner }
         ensures made { blows self.old.left self.old.blown self.old.fuse ≡ true → self.old.done ≡ true
@@ -147,7 +172,7 @@ impl<D: SectorDisk> SectorDisk for FuseDisk<D> {
             }
             return counted(&mut self.faults, Err(DiskFault::Fuse));
         }
-        let outcome = self.inner.write(first, bytes);
+        let outcome = passed_on(&mut self.passed, self.inner.write(first, bytes));
         counted(&mut self.faults, outcome)
     }
 
@@ -155,6 +180,8 @@ impl<D: SectorDisk> SectorDisk for FuseDisk<D> {
         ensures counts { Counts 1 (⟦<FuseDisk<D> as SectorDisk>⟧.state self.old) (⟦<FuseDisk<D> as SectorDisk>⟧.state self.new) result }
         ensures syncs { (D.state self.old.inner).honest ≡ true → Syncs (⟦<FuseDisk<D> as SectorDisk>⟧.state self.old) (⟦<FuseDisk<D> as SectorDisk>⟧.state self.new) result }
         ensures burns { Burns self.old.fuse self.new.fuse self.old.done self.new.done self.old.left self.new.left self.old.blown self.new.blown }
+        ensures passed { self.new.passed
+            ≡ passed_after (blows self.old.left self.old.blown self.old.fuse) self.old.passed }
         ensures fails { blows self.old.left self.old.blown self.old.fuse ≡ true → IsErr result × (self.new.inner ≡ self.old.inner) }
         ensures passes { blows self.old.left self.old.blown self.old.fuse ≡ false → Counts 1 (D.state self.old.inner) (D.state self.new.inner) result }
     {
@@ -162,7 +189,7 @@ impl<D: SectorDisk> SectorDisk for FuseDisk<D> {
         if burn(&mut self.left, &mut self.blown, self.fuse) {
             return counted(&mut self.faults, Err(DiskFault::Fuse));
         }
-        let outcome = self.inner.sync();
+        let outcome = passed_on(&mut self.passed, self.inner.sync());
         counted(&mut self.faults, outcome)
     }
 }

@@ -4,3 +4,5 @@ pub mod AtOnce
 pub mod Acknowledged
 pub mod Quiet
 pub mod Holds
+pub mod Pages
+pub mod New

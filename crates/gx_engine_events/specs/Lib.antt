@@ -2,3 +2,4 @@ pub mod Seen
 pub mod One
 pub mod Crashes
 pub mod Books
+pub mod New

@@ -13,6 +13,5 @@ pub mod Apart
 pub mod WhatStood
 pub mod WorkedEvents
 pub mod Meanwhile
-pub mod Looked
 pub mod Reopened
 pub mod Claims

@@ -6,5 +6,4 @@ pub mod Runs
 pub mod Wants
 pub mod Kinds
 pub mod Worked
-pub mod Looks
 pub mod Losers

@@ -17,7 +17,6 @@ ghost use Rattle.gx_engine_laws.specs.Asking.{claims_held, ask};
 ghost use Rattle.gx_engine_laws.specs.Engines.{Engine, opened_engine, opened_machine, last_number, stood, kept, gathered, changes_of, SeenAs, IsSound, IsSame};
 ghost use Rattle.gx_engine_laws.specs.Events.{Event, Seals, Opens, IsEvent, step_of};
 ghost use Rattle.gx_engine_laws.specs.Runs.{AreEvents, steps_of, RunsAs};
-ghost use Rattle.gx_engine_laws.specs.Looks.{Looking, left, IsLooking};
 ghost use Rattle.gx_engine_laws.specs.Wants.{Pair, Change, slot_wants, HasLooked, is_claimed, ToldByLocks, LeavesAlone, is_sweep, LeavesSession};
 ghost use Rattle.gx_machine.specs.Worked.{number_keys};
 ghost use Rattle.gx_engine_laws.specs.Worked.{sought, first_engine, last_engine, worked_events};
@@ -65,17 +64,6 @@ pub fn an_ended_look_is_what_is_found<B>()
         (query : Query B) (seen : List (Entry B)) → IsSound k engine → SeenAs k engine m
         → slot_at s engine.slots ≡ Working locks notes (Some (Search query)) → HasLooked k query engine.live seen
         → gathered k seen ≡ found k query (view k m.latest (changes_of k engine.live notes)) }
-{}
-
-/// A look over a list of pairs that has nothing left has looked; and events of others, however many, keep one that is at work
-/// for an open search.
-pub fn a_look_is_kept_while_others_work<B>()
-    ensures ends { (k : Keys B) (live : Entry B → Bool) (look : Looking B) → left look ≡ 0 → IsLooking k live look
-        → HasLooked k look.query live look.found }
-    ensures stays { (k : Keys B) → IsLawful k → (old new : Engine B) (m : Machine B) (events : List (Event B)) (s : ℕ) → IsSound k old
-        → SeenAs k old m → AreEvents k old events new → All (λ event. is_of_another s event ≡ true) events
-        → (locks : Locks B) (notes : List (Note B)) (look : Looking B) → slot_at s old.slots ≡ Working locks notes (Some (Search look.query))
-        → IsLooking k old.live look → IsLooking k new.live look }
 {}
 
 /// Events of others, however many, leave a session's slot as it was, and as live each entry that its locks bar. So what an

@@ -1,4 +1,4 @@
-//! An engine beside the plain index and the small engine: each reply is compared with both.
+//! An engine beside the plain index: each reply is compared.
 use crate::counts::Counts;
 use crate::fault::RunFault;
 use crate::keys::Drawn;
@@ -11,11 +11,7 @@ use gx_geom::Refusal;
 use gx_machine::{Asked, Call, Entry, Reply, SESSIONS};
 use gx_plain::PlainIndex;
 use gx_plain_reader::Entry as PlainEntry;
-use gx_small_events::SmallEvents;
 use std::alloc::Global;
-
-/// How many events a call of the small engine takes at most.
-const SMALL_EVENTS: usize = 4096;
 
 /// What a session's call is at.
 #[derive(Clone, Copy)]
@@ -43,7 +39,7 @@ pub(crate) enum Went {
     Failed,
 }
 
-/// An engine, the two that it is compared with, and what is to be committed.
+/// An engine, the index that it is compared with, and what is to be committed.
 #[derive(Drop)]
 pub(crate) struct Beside<K: Drawn>
 where
@@ -51,7 +47,6 @@ where
 {
     pub(crate) engine: Engine<FuseDisk<MemDisk>, K>,
     plain: PlainIndex<K::Key>,
-    small: SmallEvents<K::Key>,
     sets: Sets,
     sessions: [At<K::Key>; SESSIONS],
     /// The number of the last commit that was acknowledged.
@@ -97,7 +92,6 @@ where
         Ok(Beside {
             engine,
             plain: PlainIndex::new(alloc)?,
-            small: SmallEvents::new(alloc)?,
             sets: Sets::new(alloc)?,
             sessions: [At::Idle; SESSIONS],
             acknowledged: 0,
@@ -110,7 +104,6 @@ where
         let Beside {
             engine,
             plain: _,
-            small: _,
             sets,
             sessions: _,
             acknowledged,
@@ -145,18 +138,15 @@ where
         &mut self,
         session: u8,
         reply: &Reply<K::Key>,
-        small: &Outcome<K::Key>,
         plain: &Reply<K::Key>,
     ) -> Result<(), RunFault> {
-        match small {
-            Outcome::Replied(other) if are_same(reply, other) && are_same(reply, plain) => {
-                if let Reply::Ok = reply {
-                    self.set_at(session, At::Working);
-                }
-                Ok(())
-            }
-            _ => Err(RunFault::Reply(session)),
+        if !are_same(reply, plain) {
+            return Err(RunFault::Reply(session));
         }
+        if let Reply::Ok = reply {
+            self.set_at(session, At::Working);
+        }
+        Ok(())
     }
 
     // A session asked a call.
@@ -166,42 +156,21 @@ where
         call: Call<K::Key>,
         outcome: &Outcome<K::Key>,
     ) -> Result<(), RunFault> {
-        let small = self.small.step(Event::Ask(session, call));
-        let plain = self.plain.ask(session, call);
-        match (outcome, &small, &plain) {
-            (Outcome::More, Outcome::More, Asked::Open) => {
+        match (outcome, &self.plain.ask(session, call)) {
+            (Outcome::More, Asked::Open) => {
                 self.set_at(session, At::Open(call));
                 Ok(())
             }
-            (Outcome::Replied(reply), small, Asked::Now(plain)) => {
-                self.answered_at_once(session, reply, small, plain)
+            (Outcome::Replied(reply), Asked::Now(plain)) => {
+                self.answered_at_once(session, reply, plain)
             }
             _ => Err(RunFault::Reply(session)),
         }
     }
 
-    // The small engine's reply to an open call, at whose commit its log is synced.
-    fn small_reply(&mut self, session: u8) -> Result<Reply<K::Key>, RunFault> {
-        for _event in 0..SMALL_EVENTS {
-            match self.small.step(Event::Move(session)) {
-                Outcome::Replied(reply) => return Ok(reply),
-                Outcome::More => {}
-                Outcome::Help(_) => {
-                    self.small.step(Event::LogStep);
-                }
-                Outcome::Nothing | Outcome::Refused(_) => return Err(RunFault::Reply(session)),
-            }
-        }
-        Err(RunFault::Endless(session))
-    }
-
     // A session's commit was sealed, under the engine's last number.
     fn sealed(&mut self, session: u8) -> Result<(), RunFault> {
         let number = self.engine.commits();
-        let is_small = matches!(self.small.step(Event::Move(session)), Outcome::More);
-        if !is_small || self.small.commits() != number {
-            return Err(RunFault::Reply(session));
-        }
         if !are_same(&self.plain.answer(session), &Reply::Committed(number)) {
             return Err(RunFault::Reply(session));
         }
@@ -218,8 +187,7 @@ where
         number: u64,
         reply: &Reply<K::Key>,
     ) -> Result<(), RunFault> {
-        let small = self.small_reply(session)?;
-        if !are_same(reply, &Reply::Committed(number)) || !are_same(reply, &small) {
+        if !are_same(reply, &Reply::Committed(number)) {
             return Err(RunFault::Reply(session));
         }
         self.acknowledged = self.acknowledged.max(number);
@@ -227,16 +195,14 @@ where
         Ok(())
     }
 
-    // A session's call was answered, and both others answer it so.
+    // A session's call was answered, and the plain index answers it so.
     fn answered(
         &mut self,
         session: u8,
         call: Call<K::Key>,
         reply: &Reply<K::Key>,
     ) -> Result<(), RunFault> {
-        let small = self.small_reply(session)?;
-        let plain = self.plain.answer(session);
-        if !are_same(reply, &small) || !are_same(reply, &plain) {
+        if !are_same(reply, &self.plain.answer(session)) {
             return Err(RunFault::Reply(session));
         }
         match (call, reply) {

@@ -15,7 +15,7 @@ pub(crate) enum RunFault {
     Stream,
     /// No index begins.
     NotBegun(Refusal),
-    /// A session's reply isn't that of the plain index, or of the small engine.
+    /// A session's reply isn't that of the plain index.
     Reply(u8),
     /// An event of no session comes to what it can't.
     Event,

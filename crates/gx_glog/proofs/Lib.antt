@@ -8,5 +8,4 @@ pub mod Images
 pub mod Keeping
 pub mod Stepping
 pub mod Told
-pub mod TurnBesides
 pub mod Turning

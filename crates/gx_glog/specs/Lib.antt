@@ -1,5 +1,4 @@
 pub mod Appending
-pub mod Beside
 pub mod Bodies
 pub mod Cuts
 pub mod First
@@ -11,5 +10,4 @@ pub mod Reading
 pub mod Standing
 pub mod State
 pub mod Steps
-pub mod TurnBeside
 pub mod Turning

@@ -3,7 +3,6 @@
 
 mod batch;
 mod buffer;
-pub mod caller;
 mod extent;
 mod filling;
 mod first;
@@ -12,7 +11,6 @@ pub mod laws;
 mod parameters;
 mod stage;
 mod turn;
-pub mod turn_caller;
 
 pub use batch::open_gate;
 pub use extent::{BODY_SIZE, Extent, PLACES, SELECTOR, read_extent, selected};

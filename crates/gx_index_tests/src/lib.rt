@@ -1,5 +1,5 @@
-//! Tests by public calls of what an index in a file stands on: an engine's sessions, openings, scripts and dumps over a device, and the
-//! program's commands.
+//! Tests by public calls of what an index in a file stands on: a store of pages, the test of a tree, an engine's sessions, openings,
+//! scripts and dumps over a device, and the program's commands.
 #![tactic(auto)]
 
 #[cfg(test)]
@@ -10,6 +10,8 @@ mod devices;
 mod dumps;
 #[cfg(test)]
 mod full;
+#[cfg(test)]
+mod legality;
 #[cfg(test)]
 mod openings;
 #[cfg(test)]
@@ -22,3 +24,5 @@ mod readings;
 mod scripts;
 #[cfg(test)]
 mod sessions;
+#[cfg(test)]
+mod stores;

@@ -29,9 +29,9 @@ use Rattle.gx_page.specs.Format.{IsWellFormed}
 use Rattle.gx_pool.specs.State.{IsEmpty, State, kept}
 use Rattle.gx_readings.specs.Classes.{class_of, reading_of}
 use Rattle.gx_recovery.specs.Known.{Limits}
-use Rattle.gx_new_index.specs.New as new_index
-use Rattle.gx_new_index.specs.New.{new_parts}
-use Rattle.gx_new_index.proofs.New.{if_new_sees, run_sectors}
+use Rattle.gx_engine_events.specs.New as new_index
+use Rattle.gx_engine_events.specs.New.{new_parts}
+use Rattle.gx_engine_events.proofs.New.{if_new_sees, run_sectors}
 use Rattle.gx_lives.specs.Bearing.{Bears, HasSets}
 use Rattle.gx_lives.specs.Lives.{Lies}
 use Rattle.gx_lives.specs.OneRun.{IsNew}

@@ -1,5 +1,5 @@
 -- A life's events and openings are steps of the machine, one after another.
-use Rattle.std.proofs.Common.{◌≡◌, inl, inr, ℕ, ◌≤◌, true, List, [], ◌∷◌, ◌++◌, refl, ap, sym, ◌∙◌, subst}
+use Rattle.std.proofs.Common.{◌≡◌, inl, inr, ℕ, ◌≤◌, true, List, [], ◌∷◌, ◌++◌, refl, ap, sym, ◌∙◌, subst, arith}
 use Rattle.gx_geom.specs.declared.refusal.Refusal.{Refusal}
 use Rattle.gx_geom.specs.declared.refusal.Refusal.TheVariants as refusal
 use Rattle.gx_machine.specs.declared.call.Call.{Call}
@@ -7,7 +7,7 @@ use Rattle.gx_machine.specs.declared.reply.Reply.{Reply}
 use Rattle.gx_machine.specs.declared.reply.Reply.TheVariants as reply
 use Rattle.gx_machine.specs.declared.reply.Asked.TheVariants as asked
 use Rattle.gx_machine.specs.Keys.{Keys}
-use Rattle.gx_machine.specs.Machine.{Machine, failed_machine, newest, set_of}
+use Rattle.gx_machine.specs.Machine.{Machine, crash, failed_machine, newest, set_of}
 use Rattle.gx_machine.specs.Runs.{Step, Asks, Answers, Seals, Durable, Closes, RefusesAsk, RefusesCall, Fails, Crashes, IsRun, IsStep}
 use Rattle.gx_machine.proofs.RunLemmas.{join}
 use Rattle.gx_events.specs.declared.event.Event.{Event}
@@ -18,6 +18,7 @@ use Rattle.gx_events.specs.Happens.{AskHappens, AskRefused, Ends, Happens, MoveH
 use Rattle.gx_lives.specs.Bearing.{AreOf, IsOf}
 use Rattle.gx_lives.specs.Lives.{Turn}
 use Rattle.gx_lives.specs.Lives as life
+use Rattle.gx_lives.specs.OneRun.{IsAcknowledged}
 use Rattle.gx_lives.specs.Told.{Tells, TellsEvent, TellsReply, TellsTurn, TellsWork}
 
 module _ {B : Type 0} (k : Keys B) where
@@ -118,6 +119,18 @@ module _ {B : Type 0} (k : Keys B) where
       let first = turn_told turn old middle is in
       let rest = told turns middle new others in
       (first.0 ++ rest.0, (first.0, rest.0, first.1, rest.1, refl), join k first.0 rest.0 old middle new first.2 rest.2)
+
+  -- what was acknowledged is durable from then on
+  pub covered : ((old answered last crashed : Machine B) (s committed number : ℕ) (steps : List (Step B)) → IsStep k old (Answers s (reply.Committed committed)) answered
+      → IsRun k answered steps last → IsStep k last (Crashes number) crashed → (committed ≤ number) × (newest crashed ≡ number) × (crashed.latest ≡ set_of number last))
+      → (turns : List (Turn B)) (old new : Machine B) → AreOf k old turns new → (number : ℕ) → IsAcknowledged number turns → number ≤ new.oldest
+  covered law [] old new same number none = absurd none
+  covered law (turn ∷ turns) old new (middle, is, others) number (inl (s, same)) =
+      let answered : IsStep k old (Answers s (reply.Committed number)) middle = subst (λ (t : Turn B). IsOf k old t middle) same is in
+      let run = told turns middle new others in
+      let kept : IsStep k new (Crashes new.oldest) (crash new.oldest new) = (omega arith, omega arith, refl) in
+      (law old middle new (crash new.oldest new) s number new.oldest run.0 answered run.2 kept).0
+  covered law (turn ∷ turns) old new (middle, is, others) number (inr more) = covered law turns middle new others number more
 
   -- what was acknowledged is there at a later opening
   pub opened_later : ((old answered last crashed : Machine B) (s committed number : ℕ) (steps : List (Step B)) → IsStep k old (Answers s (reply.Committed committed)) answered

@@ -1,11 +1,14 @@
 -- The headline as one statement: what an index that was formatted lives through is one run of the set machine.
-use Rattle.std.specs.Prelude.{ℕ, ◌≡◌, Bool, true, List, Ok}
+use Rattle.std.specs.Prelude.{ℕ, ◌≡◌, ◌≤◌, ◌⊎◌, Bool, true, List, [], ◌∷◌, Ok}
 use Rattle.gx_class.specs.declared.class.KeyClass.{Ghosts}
 use Rattle.gx_disk.specs.Device.{Device}
+use Rattle.gx_events.specs.declared.event.Event.TheVariants.{Move}
+use Rattle.gx_events.specs.declared.outcome.Outcome.TheVariants.{Replied}
 use Rattle.gx_format.specs.Formatting.{Formats}
 use Rattle.gx_format.specs.Fresh.{fresh_root}
 use Rattle.gx_geom.specs.declared.refusal.Refusal.{Refusal}
 use Rattle.gx_glog.specs.declared.parameters.Parameters.{Parameters}
+use Rattle.gx_machine.specs.declared.reply.Reply.TheVariants.{Committed}
 use Rattle.gx_machine.specs.Keys.{Members, keys_of}
 use Rattle.gx_machine.specs.Machine.{Machine, fresh_machine}
 use Rattle.gx_machine.specs.Runs.{IsRun, Step}
@@ -15,6 +18,7 @@ use Rattle.gx_restart.specs.Beginning.{HasFailed}
 use Rattle.gx_restart.specs.Opened.{IsRefused}
 use Rattle.gx_lives.specs.Bearing.{Bears, HasSet}
 use Rattle.gx_lives.specs.Lives.{Lies, MayBeLeft, Stage, Turn}
+use Rattle.gx_lives.specs.Lives as life
 use Rattle.gx_lives.specs.Told.{Tells}
 
 -- A device is new: an honest one was formatted, which ended well, and the root that was laid down is a page.
@@ -24,6 +28,11 @@ pub record IsNew {C B D : Type 0} (class : Ghosts C B) (start : B) (state : D �
   pub formats : Formats state p (fresh_root class.spelling start) before disk (Ok tt)
   pub root : IsWellFormed (fresh_root class.spelling start)
 
+-- a commit was answered with this number
+abbrev pub IsAcknowledged : {B : Type 0} → ℕ → List (Turn B) → Type 0
+IsAcknowledged number [] = ⊥
+IsAcknowledged number (turn ∷ turns) = ((s : ℕ) × (turn ≡ life.Happens (Move s) (Replied (Committed number)))) ⊎ IsAcknowledged number turns
+
 -- Turns that led to a stage are one run of the set machine, from nothing committed.
 pub record IsOneRun {C B D : Type 0} (shape : Members B) (proper : B → Bool) (said : List ℕ → B) (class : Ghosts C B) (code : ℕ) (state : D → Device) (p : Parameters) (turns : List (Turn B))
     (now : Stage B D) : Type 0 where
@@ -32,6 +41,8 @@ pub record IsOneRun {C B D : Type 0} (shape : Members B) (proper : B → Bool) (
   pub told : Tells turns steps
   pub machine : Machine B
   pub runs : IsRun (keys_of shape) fresh_machine steps machine
+  -- each commit that was answered is among those that every kept set has
+  pub covers : (number : ℕ) → IsAcknowledged number turns → number ≤ machine.oldest
   -- the stage is seen as that machine
   pub bears : Bears shape proper said class state p machine now
   -- whatever a crash may leave, now or within what begins now, has a set that the machine keeps

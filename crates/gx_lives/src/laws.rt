@@ -71,8 +71,9 @@ pub fn an_opening_finds_no_damage<D: SectorDisk, K: ReadKeys>()
 /// The headline. An index is formatted on an honest device, which ends well, and then lives through any list of events,
 /// crashes at any moment, and openings. What it lived through is one run of the set machine, from nothing committed: a
 /// step for each ask and each reply, and one crash for each opening that ended well. The engine at work is seen as the
-/// machine that this run led to; whatever a crash may leave has a set that this machine keeps; and an opening of the
-/// device is refused only where a call of the device failed or memory was refused.
+/// machine that this run led to; whatever a crash may leave has a set that this machine keeps, of the first n commits;
+/// n covers each commit that was answered; and an opening of the device is refused only where a call of the device
+/// failed or memory was refused.
 pub fn an_index_lives_as_one_run<D: SectorDisk, K: ReadKeys>()
     ensures { (p : Parameters) → p.class ≡ K.CLASS → (disk : D) → IsNew K.KeyClass K.start_key D.state p disk
         → (turns : List (Turn K.Key)) (now : Stage K.Key D)
@@ -87,6 +88,7 @@ pub fn an_index_lives_as_one_run<D: SectorDisk, K: ReadKeys>()
     every_life_is_a_run::<K::Key>();
     a_crash_leaves_a_set_of_the_machine::<D, K>();
     an_opening_finds_no_damage::<D, K>();
+    gx_machine::laws::acknowledged_commits_survive::<K::Key>();
 }
 
 /// What a life is of the machine is a run of it: a step for each ask and each reply, and one crash for each opening that ends well. So all that holds of

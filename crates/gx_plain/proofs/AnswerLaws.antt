@@ -16,7 +16,7 @@ use Rattle.gx_machine.specs.Sessions.{Locks, Changes, Session, Idle, Open, Abort
 use Rattle.gx_machine.specs.Machine.{Machine, newest, is_session, session_at, with_session, answer, durable}
 use Rattle.gx_machine.specs.Sets.{found}
 use Rattle.gx_plain.specs.Index.{Index, answer_machine, AnswersIndex}
-use Rattle.gx_session.specs.Slots.{CanAnswer, SlotAnswers, Closes, SameSet, takes_memory}
+use Rattle.gx_plain.specs.Slots.{CanAnswer, SlotAnswers, Closes, SameSet, takes_memory}
 use Rattle.gx_plain.proofs.IndexLaws.{index_with}
 
 leb-true : (n : ℕ) → nat_le n n ≡ true

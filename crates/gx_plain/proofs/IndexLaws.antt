@@ -18,7 +18,7 @@ use Rattle.gx_machine.specs.Sets.{InOrder}
 use Rattle.gx_machine.specs.Sessions.{Session, Idle, Open, Aborting, Committing, claims_of, ask_session}
 use Rattle.gx_machine.specs.Machine.{Machine, is_session, with_session, least_conflicting, claims_held, ask}
 use Rattle.gx_plain.specs.Index.{Index, has_begun, is_used_up, ask_index}
-use Rattle.gx_session.specs.Slots.{CanAnswer, added_by, opened_by, begins}
+use Rattle.gx_plain.specs.Slots.{CanAnswer, added_by, opened_by, begins}
 use Rattle.gx_plain.specs.Kept.{IsKept}
 use Rattle.gx_plain.proofs.SlotLaws.{claims_ask, added_ask, opened_ask, can_answer_ask, begun_ask}
 

@@ -1,3 +1,7 @@
+pub mod Filters
+pub mod Merging
+pub mod Parts
+pub mod TakenAway
 pub mod SlotLaws
 pub mod IndexLaws
 pub mod AnswerLaws

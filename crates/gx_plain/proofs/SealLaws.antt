@@ -14,7 +14,7 @@ use Rattle.gx_machine.proofs.StepEffects.{mapped}
 use Rattle.gx_plain.specs.Index.{Index, SealsIndex, DropsIndex}
 use Rattle.gx_plain.specs.Runs.{IsPlain}
 use Rattle.gx_plain.specs.Kept.{IsKept}
-use Rattle.gx_session.specs.Slots.{CanAnswer, SlotSeals, NothingSealed, SlotDrops, added_by, opened_by}
+use Rattle.gx_plain.specs.Slots.{CanAnswer, SlotSeals, NothingSealed, SlotDrops, added_by, opened_by}
 use Rattle.gx_plain.proofs.IndexLaws.{index_with, kept_answer}
 
 module _ {B : Type 0} (k : Keys B) where

@@ -13,7 +13,7 @@ use Rattle.gx_machine.specs.Sets.{has}
 use Rattle.gx_machine.specs.Sessions.{Locks, Changes, no_locks, no_changes, Session, Idle, Open, Aborting, Committing, claims_of, has_query, with_lock, lock_for, asked_with, ask_open, ask_session}
 use Rattle.gx_machine.proofs.SessionMoves.{claim_given, predicate_given}
 use Rattle.gx_plain.specs.Index.{has_begun}
-use Rattle.gx_session.specs.Slots.{added_by, opened_by, begins, CanAnswer}
+use Rattle.gx_plain.specs.Slots.{added_by, opened_by, begins, CanAnswer}
 use Rattle.gx_locks.proofs.SetLemmas.{length-including}
 
 module _ {B : Type 0} (k : Keys B) where

@@ -9,7 +9,7 @@ use Rattle.gx_machine.specs.declared.reply.Reply.TheVariants.{Ok, Inserted, Dele
 use Rattle.gx_machine.specs.declared.reply.Asked.{Asked}
 use Rattle.gx_machine.specs.declared.reply.Asked.TheVariants as asked
 use Rattle.gx_machine.specs.Keys.{Keys}
-use Rattle.gx_session.specs.Slots.{takes_memory}
+use Rattle.gx_plain.specs.Slots.{takes_memory}
 use Rattle.gx_machine.specs.Machine.{Machine, fresh_machine, newest, is_session, ask, answer, seal, durable, close}
 
 -- the machine, and the number that the next transaction gets

@@ -7,7 +7,7 @@ use Rattle.gx_machine.specs.Keys.{Keys}
 use Rattle.gx_machine.specs.Sessions.{Session, Idle}
 use Rattle.gx_machine.specs.Sets.{InOrder}
 use Rattle.gx_machine.specs.Machine.{claims_held}
-use Rattle.gx_session.specs.Slots.{CanAnswer, added_by, opened_by}
+use Rattle.gx_plain.specs.Slots.{CanAnswer, added_by, opened_by}
 
 -- what the plain index keeps of its parts: eight sessions, claims within their places, room for all that was
 -- added, numbers left for the open transactions, and the set in order

@@ -1,3 +1,4 @@
+pub mod Slots
 pub mod Index
 pub mod Kept
 pub mod Runs

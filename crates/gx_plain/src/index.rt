@@ -6,11 +6,11 @@ ghost use Rattle.gx_machine.specs.Keys.{keys_of};
 ghost use Rattle.gx_machine.specs.Machine.{is_session, least_conflicting, claims_held};
 ghost use Rattle.gx_machine.specs.Sessions.{Idle, claims_of, ask_session};
 ghost use Rattle.gx_machine.specs.Sets.{InOrder};
-ghost use Rattle.gx_session.specs.Slots.{added_by, opened_by, begins, CanAnswer, SlotAnswers, SlotSeals, NothingSealed, SlotDrops};
+ghost use Rattle.gx_plain.specs.Slots.{added_by, opened_by, begins, CanAnswer, SlotAnswers, SlotSeals, NothingSealed, SlotDrops};
 
+use crate::slot::Slot;
 use gx_geom::{Refusal, Shape};
 use gx_machine::{Asked, Call, Entry, LAST_NUMBER, Reply, SESSIONS};
-use gx_session::Slot;
 use std::alloc::{AllocError, Global};
 use std::marker::Model;
 

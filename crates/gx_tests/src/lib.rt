@@ -37,8 +37,6 @@ mod reaches;
 #[cfg(test)]
 mod scripts;
 #[cfg(test)]
-mod small_engine;
-#[cfg(test)]
 mod tree_drawn;
 #[cfg(test)]
 mod tree_held;

@@ -3,7 +3,6 @@
 use crate::asserts::same;
 use crate::boxes::make_box;
 use crate::reaches::{Reach, ReachClass};
-use gx_callers::pages::{key_at, move_item, put_entry, redo, redo_from};
 use gx_class::{Box2Class, KeyClass};
 use gx_page::{PAGE_SIZE, Page, PageFault};
 use std::process::Abort;
@@ -303,27 +302,27 @@ fn each_call_once(rt: HostRuntime) -> Result<(), Fail> {
 fn has_key<K: KeyClass>(rt: &impl Abort, page: &Page, key: K::Key) {
     assert!(rt; page.count() == 1 && page.get(0).len() == 25);
     assert!(rt; K::KEY <= 25);
-    assert!(rt; key_at::<K>(page, 0) == Some(key));
+    assert!(rt; K::decode(&page.get(0)[..K::KEY]) == Some(key));
 }
 
 /// Moves a page's only item behind the only one of another.
 fn move_the_only_item(rt: &impl Abort, from: &mut Page, to: &mut Page) {
     assert!(rt; (from.count(), to.count()) == (1, 1));
-    let moved = move_item(from, 0, to);
-    assert!(rt; moved);
+    put(rt, to, 1, from.get(0));
+    take_out(rt, from, 0);
     same(rt, &[from.count(), to.count()], &[0, 2]);
 }
 
 #[test]
-fn callers_of_pages_and_classes(rt: HostRuntime) -> Result<(), Fail> {
+fn an_item_moves_and_a_page_is_read_again(rt: HostRuntime) -> Result<(), Fail> {
     let mut page = Page::from_image(rt.alloc(), &entry_image(&rt, 0, 0))?;
     has_key::<Box2Class>(&rt, &page, make_box(&rt, (0, 0, 10, 10)));
     has_key::<ReachClass>(&rt, &page, Reach(0));
     let mut other = Page::fresh(rt.alloc(), 0, 9)?;
-    put_entry::<Box2Class>(&mut other, 0, &ENTRY);
+    put(&rt, &mut other, 0, &ENTRY);
     move_the_only_item(&rt, &mut page, &mut other);
-    assert!(rt; !redo(&mut page, &[]));
-    redo_from(&mut page, &other);
+    load_gives(&rt, &mut page, &[], Err(PageFault::Size));
+    load_gives(&rt, &mut page, other.image(), Ok(()));
     has_image(&rt, &page, other.image());
     Ok(())
 }

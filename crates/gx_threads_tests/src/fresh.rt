@@ -5,11 +5,10 @@ ghost use Rattle.gx_shared.specs.Books.{MayBeShared};
 
 use gx_class::Box2Class;
 use gx_disk::MemDisk;
-use gx_engine_events::EngineEvents;
+use gx_engine_events::{EngineEvents, new_index};
 use gx_events::Events;
 use gx_format::sectors_for;
 use gx_geom::Box2;
-use gx_new_index::new_index;
 use std::alloc::Global;
 use std::test::Fail;
 

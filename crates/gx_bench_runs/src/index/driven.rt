@@ -2,12 +2,11 @@
 use crate::index::counted::Counted;
 use gx_class::Box2Class;
 use gx_disk::MemDisk;
-use gx_engine_events::EngineEvents;
+use gx_engine_events::{EngineEvents, new_index};
 use gx_events::{Driver, Event, Events, Next, Outcome};
 use gx_format::sectors_for;
 use gx_geom::Box2;
 use gx_machine::{Call, Reply};
-use gx_new_index::new_index;
 use std::alloc::Global;
 
 /// How many pages there may be, each of which has a frame.

@@ -4,7 +4,7 @@ ghost use Rattle.std.specs.Prelude.{◌≤◌, length};
 use crate::drawn::{draw_box, draw_window};
 use crate::index::driven::Index;
 use gx_geom::Box2;
-use gx_machine::{Call, Entry, MAX_PREDICATES, Query, Reply};
+use gx_machine::{Call, Entry, MAX_CLAIMS, MAX_PREDICATES, Query, Reply};
 use std::alloc::Global;
 
 /// How many places lie between a pair that is deleted and the next one: a number that has no divisor in common with how many there are.
@@ -26,7 +26,7 @@ fn commit(index: &mut Index) -> Option<()> {
     }
 }
 
-/// Ends the session's transaction, which has no changes.
+/// Ends the session's transaction, whose changes are undone.
 fn abort(index: &mut Index) -> Option<()> {
     match index.call(Call::Abort)? {
         Reply::Aborted => Some(()),
@@ -127,4 +127,21 @@ pub(crate) fn delete_many(
         }
     }
     Some(marks)
+}
+
+/// Deletes these pairs, as many in a transaction as it may write, undoes each transaction, and answers how many deletes that were.
+pub(crate) fn undo_many(index: &mut Index, entries: &[Entry<Box2>]) -> Option<u64> {
+    let each = MAX_CLAIMS as u64;
+    let mut deleted: u64 = 0;
+    for entry in entries {
+        if deleted % each == 0 {
+            begin(index)?;
+        }
+        delete(index, entry)?;
+        deleted = deleted.wrapping_add(1);
+        if deleted % each == 0 || deleted == entries.len() as u64 {
+            abort(index)?;
+        }
+    }
+    Some(deleted)
 }

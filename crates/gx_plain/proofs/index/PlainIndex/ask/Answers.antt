@@ -5,7 +5,7 @@ use Rattle.std.specs.Int.{from_bool}
 use Rattle.gx_machine.specs.Keys.{keys}
 use Rattle.gx_machine.specs.Machine.{claims_held}
 use Rattle.gx_machine.specs.Sessions.{Session, Idle}
-use Rattle.gx_session.specs.Slots.{begins}
+use Rattle.gx_plain.specs.Slots.{begins}
 use Rattle.gx_plain.specs.Kept.{IsKept}
 use Rattle.gx_plain.proofs.IndexLaws.{late_is, asked_is, kept_ask, next_fits, index_with, from_bool_is}
 use Rattle.gx_plain.proofs.index.PlainIndex.ask.Goals as goal

@@ -1,4 +1,0 @@
-pub mod Deeds
-pub mod Frames
-pub mod Lives
-pub mod Logs

@@ -1,4 +1,0 @@
-pub mod Filters
-pub mod Merging
-pub mod Parts
-pub mod TakenAway

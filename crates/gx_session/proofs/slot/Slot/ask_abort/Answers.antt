@@ -1,5 +1,0 @@
-use Rattle.gx_session.proofs.Parts.{abort_asked}
-use Rattle.gx_session.proofs.slot.Slot.ask_abort.Goals as goal
-
-pub returns-clause-session : goal.returns-clause-session
-returns-clause-session g c = abort_asked c.self.inside.phase _ _ c.args.self.now c.self.view_is c.requires

@@ -1,5 +1,0 @@
-use Rattle.std.proofs.Common.{rules}
-use Rattle.gx_session.proofs.slot.Slot.begins.Goals as goal
-
-pub returns-in-Idle : goal.returns-in-Idle
-returns-in-Idle g c = search rules

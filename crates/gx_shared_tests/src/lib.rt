@@ -1,5 +1,0 @@
-//! Tests of sessions in threads over the small engine.
-#![tactic(auto)]
-
-#[cfg(test)]
-mod runs;

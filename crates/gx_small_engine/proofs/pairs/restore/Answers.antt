@@ -1,4 +1,0 @@
-use Rattle.gx_small_engine.proofs.pairs.restore.Goals as goal
-
-pub returns : goal.returns
-returns g c = c.set_mark.ensures
