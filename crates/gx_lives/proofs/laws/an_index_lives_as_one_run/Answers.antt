@@ -9,7 +9,6 @@ use Rattle.gx_lives.specs.Lives.{Lies}
 use Rattle.gx_lives.proofs.Beginning.{begins}
 use Rattle.gx_lives.proofs.OneRun.{lies_so}
 use Rattle.gx_lives.proofs.Told.{covered}
-use Rattle.gx_machine.specs.Keys.{keys_of}
 use Rattle.gx_lives.proofs.laws.an_index_lives_as_one_run.Goals as goal
 
 pub returns : goal.returns
@@ -32,7 +31,7 @@ returns g c = λ p of_class disk new turns now lives.
       told = run.1;
       machine = all.0;
       runs = run.2;
-      covers = λ number is. covered (keys_of _) (c.acknowledged_commits_survive.ensures (keys_of _)) turns fresh_machine all.0 all.1 number is;
+      covers = λ number is. covered (keys_of shape) (c.acknowledged_commits_survive.ensures (keys_of shape)) turns fresh_machine all.0 all.1 number is;
       bears = all.2;
       left = c.a_crash_leaves_a_set_of_the_machine.ensures p allowed all.0 now all.2;
       opens = λ old after why is refused. c.an_opening_finds_no_damage.ensures p allowed all.0 old after why (lies_so shape proper said class state p all.0 now old is all.2) refused;
