@@ -20,6 +20,12 @@ module _ {X : Type 0} where
   some_slot P (y ∷ ys) zero x is at = let same : x ≡ y = cc in inl (subst P same is)
   some_slot P (y ∷ ys) (suc k) x is at = inr (some_slot P ys k x is at)
 
+  -- some element is against what holds of each
+  pub some_against : (P Q : X → Type 0) (xs : List X) → ((x : X) → P x → Q x → ⊥) → SomeOf P xs → Each Q xs → ⊥
+  some_against P Q [] against some each = some
+  some_against P Q (x ∷ xs) against (inl here) each = against x here each.0
+  some_against P Q (x ∷ xs) against (inr there) each = some_against P Q xs against there each.1
+
   -- all slots below the length were seen
   pub each_below : (P : X → Type 0) (xs : List X) (n : ℕ) → length xs ≤ n → ((k : ℕ) (x : X) → k < n → slice_get xs k ≡ Some x → P x) → Each P xs
   each_below P xs n all at = each_slot P xs (λ k x is. at k x (let low = slice_get_within xs k x is in omega (arith, low, all)) is)
