@@ -93,7 +93,7 @@ fn make(engine: &mut Working, plain: &mut Plain, event: Event<Box2>) -> Option<O
     let is_same = match event {
         Event::Ask(session, call) => is_asked(&outcome, &plain.ask(session, call)),
         Event::Move(session) => is_moved(plain, session, sealed, &outcome),
-        _ => matches!(outcome, Outcome::More | Outcome::Nothing),
+        _ => matches!(&outcome, Outcome::More | Outcome::Nothing),
     };
     if is_same { Some(outcome) } else { None }
 }
@@ -133,12 +133,18 @@ impl<'a> Asking<'a> {
         Some(Event::Ask(self.session, *call))
     }
 
-    // What its driver says of an outcome.
+    // Takes what its driver says of an outcome.
     fn go_on(&mut self, outcome: Outcome<Box2>) {
-        self.next = match Driver::new(self.session).next(outcome) {
-            Next::Run(event) => Some(event),
-            Next::Done(_) => None,
-        };
+        let next = Driver::new(self.session).next(outcome);
+        self.next = event_of(&next);
+    }
+}
+
+// The event that comes next, where the call goes on.
+fn event_of(next: &Next<Box2>) -> Option<Event<Box2>> {
+    match next {
+        Next::Run(event) => Some(*event),
+        Next::Done(_) => None,
     }
 }
 
