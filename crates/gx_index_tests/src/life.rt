@@ -2,15 +2,17 @@
 //! two sessions in turn, a split, commits, a transaction that is left open; a crash at the write of a checkpoint's selector; an opening
 //! that is cut twice; openings that end well. One device of one type lives through all of it, so its turns are those of `gx_lives`:
 //! each is a call whose contract is that turn, or a crash of a `MemDisk`, which comes up under a new fuse.
+mod beside;
+
+use beside::{Device, EVENTS, Plain, Working, call, interleave, make, work};
 use gx_class::Box2Class;
 use gx_disk::{Fuse, FuseDisk, MemDisk, SectorDisk, Torn};
-use gx_engine::{Engine, NotOpened};
-use gx_events::{Driver, Event, Next, Outcome};
+use gx_engine::NotOpened;
+use gx_events::{Event, Outcome};
 use gx_format::sectors_for;
 use gx_geom::{Box2, Refusal};
-use gx_lives::{format, open, step};
-use gx_machine::{Asked, Call, Entry, Query, Reply};
-use gx_plain::PlainIndex;
+use gx_lives::{format, open};
+use gx_machine::{Call, Entry, Query, Reply};
 use std::alloc::Global;
 use std::process::Abort;
 
@@ -20,16 +22,6 @@ const PAGES: u32 = 16;
 const MOST: u16 = 4;
 
 const FRAMES: usize = 16;
-
-// How many events calls take at most.
-const EVENTS: u32 = 10_000;
-
-// The device of the whole life.
-type Device = FuseDisk<MemDisk>;
-
-type Working = Engine<Device, Box2Class>;
-
-type Plain = PlainIndex<Box2>;
 
 // A device of which the call behind so many fails, and each later one. A write that fails is made none the less.
 fn failing(disk: MemDisk, calls: u64) -> Device {
@@ -50,132 +42,6 @@ fn entry(row: u8) -> Entry<Box2> {
         row: u64::from(row),
         key: Box2::point(i32::from(row), 0),
     }
-}
-
-// Whether two replies are the same.
-fn are_same(here: &Reply<Box2>, there: &Reply<Box2>) -> bool {
-    match (here, there) {
-        (Reply::Ok, Reply::Ok) => true,
-        (Reply::Inserted, Reply::Inserted) => true,
-        (Reply::Deleted, Reply::Deleted) => true,
-        (Reply::Aborted, Reply::Aborted) => true,
-        (Reply::Found(found), Reply::Found(wanted)) => found.as_slice() == wanted.as_slice(),
-        (Reply::Committed(number), Reply::Committed(wanted)) => number == wanted,
-        _ => false,
-    }
-}
-
-// Whether a call that was asked is answered as by the machine, or open as there.
-fn is_asked(outcome: &Outcome<Box2>, asked: &Asked<Box2>) -> bool {
-    match (outcome, asked) {
-        (Outcome::More, Asked::Open) => true,
-        (Outcome::Replied(here), Asked::Now(there)) => are_same(here, there),
-        _ => false,
-    }
-}
-
-// Whether a call that went on is answered as by the machine, or not yet. A commit that is sealed is sealed there, under the same number.
-fn is_moved(plain: &mut Plain, session: u8, sealed: Option<u64>, outcome: &Outcome<Box2>) -> bool {
-    match outcome {
-        Outcome::More => sealed.is_none() || plain.seal(session) == sealed,
-        Outcome::Replied(reply) => are_same(reply, &plain.answer(session)),
-        Outcome::Help(_) => true,
-        Outcome::Nothing | Outcome::Refused(_) => false,
-    }
-}
-
-// Makes an event of an engine and of the machine. None where what comes of it differs, or it is refused.
-fn make(engine: &mut Working, plain: &mut Plain, event: Event<Box2>) -> Option<Outcome<Box2>> {
-    let before = engine.commits();
-    let outcome = step(engine, event);
-    let number = engine.commits();
-    let sealed = if number == before { None } else { Some(number) };
-    let is_same = match event {
-        Event::Ask(session, call) => is_asked(&outcome, &plain.ask(session, call)),
-        Event::Move(session) => is_moved(plain, session, sealed, &outcome),
-        _ => matches!(&outcome, Outcome::More | Outcome::Nothing),
-    };
-    if is_same { Some(outcome) } else { None }
-}
-
-// Makes an event that has work to do.
-fn work(engine: &mut Working, plain: &mut Plain, event: Event<Box2>) -> Option<()> {
-    match make(engine, plain, event)? {
-        Outcome::More => Some(()),
-        _ => None,
-    }
-}
-
-// A session, the next event of its open call, and the calls that it is to ask yet.
-#[derive(Drop)]
-struct Asking<'a> {
-    session: u8,
-    next: Option<Event<Box2>>,
-    calls: &'a [Call<Box2>],
-}
-
-impl<'a> Asking<'a> {
-    fn new(session: u8, calls: &'a [Call<Box2>]) -> Self {
-        Asking {
-            session,
-            next: None,
-            calls,
-        }
-    }
-
-    // The next event of its call, or the ask of its next one.
-    fn due(&mut self) -> Option<Event<Box2>> {
-        if let Some(event) = self.next {
-            return Some(event);
-        }
-        let (call, rest) = self.calls.split_first()?;
-        self.calls = rest;
-        Some(Event::Ask(self.session, *call))
-    }
-
-    // Takes what its driver says of an outcome.
-    fn go_on(&mut self, outcome: Outcome<Box2>) {
-        let next = Driver::new(self.session).next(outcome);
-        self.next = event_of(&next);
-    }
-}
-
-// The event that comes next, where the call goes on.
-fn event_of(next: &Next<Box2>) -> Option<Event<Box2>> {
-    match next {
-        Next::Run(event) => Some(*event),
-        Next::Done(_) => None,
-    }
-}
-
-// Makes a session's next event, if it has one. Answers whether it had.
-fn turn(engine: &mut Working, plain: &mut Plain, asking: &mut Asking<'_>) -> Option<bool> {
-    match asking.due() {
-        Some(event) => {
-            asking.go_on(make(engine, plain, event)?);
-            Some(true)
-        }
-        None => Some(false),
-    }
-}
-
-// Sessions 1 and 2 ask these calls, an event each in turn, to their last replies.
-fn interleave(
-    engine: &mut Working,
-    plain: &mut Plain,
-    first: &[Call<Box2>],
-    second: &[Call<Box2>],
-) -> Option<()> {
-    let mut one = Asking::new(1, first);
-    let mut two = Asking::new(2, second);
-    for _event in 0..EVENTS {
-        let has_one = turn(engine, plain, &mut one)?;
-        let has_two = turn(engine, plain, &mut two)?;
-        if !has_one && !has_two {
-            return Some(());
-        }
-    }
-    None
 }
 
 // Two transactions of three rows each, of which a leaf holds four: it is split once.
@@ -259,24 +125,6 @@ fn turn_log(engine: &mut Working, plain: &mut Plain) -> Option<()> {
         work(engine, plain, Event::CheckpointStep)?;
     }
     Some(())
-}
-
-// A session's call, to its end.
-fn call(
-    engine: &mut Working,
-    plain: &mut Plain,
-    session: u8,
-    call: Call<Box2>,
-) -> Option<Reply<Box2>> {
-    let mut driver = Driver::new(session);
-    let mut next = Event::Ask(session, call);
-    for _event in 0..EVENTS {
-        match driver.next(make(engine, plain, next)?) {
-            Next::Run(event) => next = event,
-            Next::Done(reply) => return Some(reply),
-        }
-    }
-    None
 }
 
 // Whether this is the set of a number: of 0 nothing, and from 3 on rows 1 to 6, and the row that came with that commit.
