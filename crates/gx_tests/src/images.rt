@@ -76,7 +76,7 @@ const CHANGED: [(usize, usize, u8, Option<Damage>); 24] = [
     (10, 0, 0xa7, None),
     (40, 3, 30, Some(Damage::Record)),
     (40, 3, 28, Some(Damage::Record)),
-    (40, 4, 6, Some(Damage::Head)),
+    (40, 4, 6, Some(Damage::Record)),
     (40, 4, 7, Some(Damage::Record)),
     (40, 20, 1, Some(Damage::Counter)),
     (40, 24, 17, Some(Damage::PageNumber)),
