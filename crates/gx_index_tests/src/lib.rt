@@ -13,6 +13,8 @@ mod full;
 #[cfg(test)]
 mod legality;
 #[cfg(test)]
+mod life;
+#[cfg(test)]
 mod openings;
 #[cfg(test)]
 mod passes;
