@@ -69,27 +69,8 @@ if [ "${SLOW:-0}" = 1 ]; then
     slow="$work/slow_sync.so"
 fi
 
-# Starts a server of its own, which can't be reached from elsewhere. It doesn't run as root.
-start_postgres() {
-    mkdir "$work/server"
-    local as=()
-    if [ "$(id -u)" = 0 ]; then
-        chown postgres "$work/server"
-        as=(setpriv --reuid postgres --regid postgres --clear-groups)
-    fi
-    export PGUSER=postgres
-    "${as[@]}" "$binaries/initdb" -D "$work/server/data" -U postgres -A trust --locale=C -E UTF8 > "$work/log"
-    LD_PRELOAD="$slow" "${as[@]}" "$binaries/postgres" -D "$work/server/data" -k "$work/server" -c listen_addresses= -c shared_buffers=16MB \
-        > "$work/log" 2>&1 &
-    server=$!
-    for _ in $(seq 100); do
-        "$binaries/pg_isready" -q -h "$work/server" && return
-        sleep 0.1
-    done
-    cat "$work/log"
-    exit 1
-}
-[ ! -x "$work/postgres" ] || start_postgres
+source "$from/server.sh"
+[ ! -x "$work/postgres" ] || start_postgres "$work" "$binaries" "$slow"
 
 # ROUND PEER: a run of its own, on new files.
 run() {

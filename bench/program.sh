@@ -180,18 +180,34 @@ entry 8 5 5 6 6 marked
 cp "$work/out" dumped
 on_file "its tree again" 0 "$(cat dumped)
 " "" dump tree
+cp tree whole
+changed="$(stat -c %y tree)"
+on_file "what it holds" 0 'ok commits 1 entries 1 used 2
+' "" verify tree
+holds "verifying leaves the file" cmp -s tree whole
+holds "and when it was changed" [ "$(stat -c %y tree)" = "$changed" ]
 holds "a picture of it" [ "$("$top/bench/picture.sh" dumped picture.svg)" = "2 entries, 1 bounds of level 0" ]
 
 cp places before
 for words in "format places 7 4" "format places 65537 4" "format places 16 3" "format places 16 101" "format places -16 4" "format places 16" \
     "format places 16 4 4" "format places sixteen 4" "run places --frames 15" "run places --frames 4097" "run places --frames" \
-    "run places --frames 16 --frames 16" "run places places" "run" "run --frames 16" "format" "dump" "dump places places" "dump places --frames 64" "open places"; do
+    "run places --frames 16 --frames 16" "run places places" "run" "run --frames 16" "format" "dump" "dump places places" "dump places --frames 64" "verify" "verify places places" "verify places --frames 64" "open places"; do
     # shellcheck disable=SC2086
     on_file "wrong words: $words" 2 "$nothing" "For more information, try '--help'" $words
 done
+for words in "storm 1 9 200" "storm 1 0 200" "storm 1 4 2001" "storm 1 4 0" "storm 4294967296 4 200" "storm -1 4 200" "storm 1 4" "storm 1 4 200 1" "storm"; do
+    # shellcheck disable=SC2086
+    on_file "wrong words: $words" 2 "$nothing" "For more information, try '--help'" $words
+done
+on_file "a storm" 0 'storm ok calls 800
+' "" storm 1 4 200
+on_file "a storm of one session" 0 'storm ok calls 2000
+' "" storm 4294967295 1 2000
+on_file "help of storm" 2 "$nothing" "gist storm 1 4 200" storm --help
 on_file "help of format" 2 "$nothing" "gist format places.gist 4096 100" format --help
 on_file "help of run" 2 "$nothing" "gist run places.gist < changes" run -h
 on_file "help of dump" 2 "$nothing" "gist dump places.gist" dump --help
+on_file "help of verify" 2 "$nothing" "gist verify places.gist" verify --help
 on_file "a number out of its range is told" 2 "$nothing" "7 is not in 8..=65536" format places 7 4
 holds "wrong words leave the file" cmp -s places before
 on_file "wrong words for a new file" 2 "$nothing" "7 is not in 8..=65536" format new 7 4
@@ -199,6 +215,7 @@ holds "wrong words make no file" [ ! -e new ]
 
 on_file "a file that isn't there" 1 "$none" "^gist: nowhere: it isn't there, or can't be opened$" run nowhere
 on_file "a file that isn't there, to be dumped" 1 "$none" "^gist: nowhere: it isn't there, or can't be opened$" dump nowhere
+on_file "a file that isn't there, to be verified" 1 "$none" "^gist: nowhere: it isn't there, or can't be opened$" verify nowhere
 holds "it isn't made" [ ! -e nowhere ]
 on_file "a folder" 1 "$none" "^gist: \.: it isn't there, or can't be opened$" run .
 on_file "a folder to be formatted" 1 "$none" "^gist: \.: it can't be opened, made or extended$" format . 16 4
@@ -211,10 +228,16 @@ on_file "a file of zeros" 1 'refused 14 not formatted
 ' "^gist: " run zeros
 on_file "its tree: none" 1 'refused 14 not formatted
 ' "^gist: " dump zeros
+on_file "zeros, verified" 1 'refused 14 not formatted
+' "^gist: " verify zeros
 on_file "a name that begins with a hyphen" 0 "$formatted" "" format -- -places 16 4
 on_file "a path" 0 "$formatted" "" format "$work/another place" 16 4
 cp places damaged
 printf '\000\000\000\002' | dd of=damaged bs=1 seek=$((4176 * 512 + 16)) conv=notrunc 2> /dev/null
+cp damaged as_damaged
+on_file "a damaged page, verified" 1 'refused 13 damaged
+' "^gist: what the device holds is damaged: page 2" verify damaged
+holds "verifying leaves a damaged file" cmp -s damaged as_damaged
 on_file "a damaged page" 1 'refused 13 damaged
 ' "^gist: what the device holds is damaged: page 2" run damaged
 cp places cut
@@ -230,6 +253,7 @@ exec 7> lines
 printf '1 BEGIN\n' >&7
 while ! grep -q '1 ok' first; do sleep 0.05; done
 on_file "a file in use" 1 "$none" "^gist: places: another process has it in use$" run places
+on_file "a file in use, to be verified" 1 "$none" "^gist: places: another process has it in use$" verify places
 on_file "a file in use, to be formatted" 1 "$none" "^gist: places: another process has it in use$" format places 16 4
 printf '1 COMMIT\n' >&7
 exec 7>&-
@@ -252,6 +276,12 @@ ended "a format told to a full disk" 1 "$work/nothing" "^gist: a reply can't be 
 status=0
 "$program" dump places > /dev/full 2> "$work/err" < /dev/null || status=$?
 ended "a tree told to a full disk" 1 "$work/nothing" "^gist: a reply can't be written: no storage space$"
+status=0
+"$program" verify places > /dev/full 2> "$work/err" < /dev/null || status=$?
+ended "verifying told to a full disk" 1 "$work/nothing" "^gist: a reply can't be written: no storage space$"
+status=0
+"$program" storm 1 2 10 > /dev/full 2> "$work/err" < /dev/null || status=$?
+ended "a storm told to a full disk" 1 "$work/nothing" "^gist: a reply can't be written: no storage space$"
 on_file "what a format leaves" 0 '1 ok
 1 found 0
 ' "" run places
@@ -281,6 +311,8 @@ cp kept fresh
 printf '1 BEGIN\n1 INSERT 7 0 0 10 10\n1 COMMIT\n' | "$program" run kept > /dev/null
 "$program" dump kept > tree_before
 printf '1 ok\n1 inserted\n1 committed 2\n' > committed
+printf 'ok commits 1 entries 1 used 2\n' > held
+printf 'storm ok calls 20\n' > stormed
 lines='1 BEGIN
 1 INSERT 8 1 1 2 2
 1 COMMIT
@@ -327,6 +359,22 @@ for closed in 0 1 2 all; do
         all) ended "a format with all streams closed" 1 "$work/nothing" "" ;;
     esac
     holds "it is made whole, closed $closed" cmp -s open fresh
+
+    cp kept open
+    closing "$closed" verify open
+    case "$closed" in
+        0 | 2) ended "verifying with stream $closed closed" 0 held "" ;;
+        1) ended "verifying with its output closed" 1 "$work/nothing" "$unwritten" ;;
+        all) ended "verifying with all streams closed" 1 "$work/nothing" "" ;;
+    esac
+    holds "verifying leaves the file, closed $closed" cmp -s open kept
+
+    closing "$closed" storm 1 2 10
+    case "$closed" in
+        0 | 2) ended "a storm with stream $closed closed" 0 stormed "" ;;
+        1) ended "a storm with its output closed" 1 "$work/nothing" "$unwritten" ;;
+        all) ended "a storm with all streams closed" 1 "$work/nothing" "" ;;
+    esac
 done
 
 echo "$passed passed, $failed failed"

@@ -233,8 +233,15 @@ def format_file(pages, most, counts=None):
     once(0)
 
 
+def holding(tree):
+    """What verifying an index with this tree prints, where no transaction was open."""
+    lines = tree.splitlines()
+    commits, used = lines[0].split()[1::2][:2]
+    return f"ok commits {commits} entries {sum(line.endswith(' live') for line in lines)} used {used}\n"
+
+
 def on_file(name, pages, most, script, tree, counts):
-    """Each allocation of a script on a new file is refused in turn, then each of the dump of what it left."""
+    """Each allocation of a script on a new file is refused in turn, then each of the dump and of the verification of what it left."""
     format_file(pages, most)
 
     def once(refused):
@@ -251,6 +258,7 @@ def on_file(name, pages, most, script, tree, counts):
     in_turn("run", once, counts)
     if tree:
         in_turn("dump", lambda refused: tell(f"{name}, its tree", ["dump", "index"], tree, refused), counts)
+        in_turn("verify", lambda refused: tell(f"{name}, verified", ["verify", "index"], holding(tree), refused), counts)
 
 
 def drawn():

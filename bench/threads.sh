@@ -1,24 +1,62 @@
 #!/usr/bin/env bash
-# Times sessions in threads over one index: for 1, 2, 4 and 8 threads as many transactions in all, of six calls each (begin,
-# three inserts, a search, a commit). First on a device in memory, then, a tenth as many, over a file; each time an index is made,
-# opened, shared, settled and opened again. Prints the calls a second, from the best of nine runs less that of nine with
-# no transaction, all in turn; and, where perf is there, what share of the time the lock is held.
-# The first argument, if there is one, is how many transactions there are in memory, up to 5,000: a record has room for no
-# more. The second is a folder on the file system to be measured.
+# Times sessions in threads over one index: for 1, 2, 4 and 8 threads as many transactions in all, of six calls each
+# (begin, three inserts, a search, a commit). First on a device in memory, then, a tenth as many, over a file; each time
+# an index is made, opened, shared, settled and opened again. Prints the calls a second, from the best of nine runs less
+# that of nine with no transaction, all in turn; and, where perf is there, what share of the time the lock is held.
+#
+# Then commits of one insert each in strips of their own, over the file, and of a search and an insert: how many a
+# second, with the syncs and bytes of each, beside SQLite's R*Tree by a connection a thread (write-ahead log, full sync)
+# and, with four threads, PostgreSQL's GiST; medians of ROUNDS (5), all in turn. A peer that isn't installed is left
+# out; Debian's packages are libsqlite3-dev, and postgresql with libpq-dev.
+#
+#   bench/threads.sh [TRANSACTIONS [FOLDER [PROGRAM]]]
+#
+# TRANSACTIONS is how many there are in memory, up to 5,000: a record has room for no more. FOLDER is on the file system
+# to be measured, and without PROGRAM the one that stands here is proved and built. ONLY=commits leaves out the first
+# part.
 set -euo pipefail
 top="$(cd "$(dirname "${BASH_SOURCE[0]}")/.." && pwd)"
 work="$(mktemp -d ${2:+-p "$2"})"
-trap 'rm -rf "$work"' EXIT
-cd "$top/crates/gx_threads_example"
-rt run < stdin > "$work/log" 2>&1 || { cat "$work/log"; exit 1; }
+server=
+# Ends what the script started, and removes what it made.
+clear_up() {
+    [ -z "$server" ] || kill -INT "$server" 2> /dev/null || true
+    [ -z "$server" ] || wait "$server" || true
+    rm -rf "$work"
+}
+trap clear_up EXIT
+chmod 755 "$work"
+if [ $# -ge 3 ]; then
+    program="$(realpath "$3")"
+else
+    cd "$top/crates/gx_threads_example"
+    rt run < stdin > "$work/log" 2>&1 || { cat "$work/log"; exit 1; }
+    program="$PWD/out/gx_threads_example"
+fi
+cd "$top/bench/commits"
+flags=(-O2 -std=gnu11 -Wall -Wextra -pthread)
+cc "${flags[@]}" -shared -fPIC -o "$work/count.so" count.c
+cc "${flags[@]}" -o "$work/sqlite" commits.c sqlite.c -lsqlite3 2> "$work/log" ||
+    echo "left out: SQLite, for want of libsqlite3-dev" >&2
+binaries="$(pg_config --bindir 2> /dev/null || true)"
+flags+=("-I$(pg_config --includedir 2> /dev/null || true)")
+if [ -x "$binaries/initdb" ] && cc "${flags[@]}" -o "$work/postgres" commits.c postgres.c -lpq 2> "$work/log"; then
+    source "$top/bench/peers/server.sh"
+    start_postgres "$work" "$binaries"
+else
+    echo "left out: PostgreSQL, for want of postgresql and libpq-dev" >&2
+fi
+export SERVER="$work/server"
 cd "$work"
 echo "load $(cut -d' ' -f1 /proc/loadavg), the file is on $(df -T . | tail -1 | awk '{ print $2 }')"
-python3 - "$top/crates/gx_threads_example/out/gx_threads_example" "${1:-4000}" <<'P'
+python3 - "$program" "${1:-4000}" <<'P'
 import os, re, statistics, subprocess, sys, time
 
 program, total = sys.argv[1], int(sys.argv[2])
 file, samples, summary = "shared.gist", "samples", "summary"
 rate = 5000
+rounds = int(os.environ.get("ROUNDS", 5))
+counting = {**os.environ, "LD_PRELOAD": os.path.abspath("count.so")}
 
 def run(threads, transactions, file, before=[]):
     """The seconds that so many transactions take, which the record has to have."""
@@ -90,11 +128,56 @@ def shares(transactions):
         print(f"file, threads {threads}: in writes and syncs for {(inside - began[1]) / (took - began[0]):.0%} of the time, "
               f"{(syncs - began[2]) / (transactions // threads * threads):.1f} syncs a transaction", flush=True)
 
-table("memory", total, "")
-table("file", total // 10, file)
+def ours(kind, threads, each):
+    """Seconds of a run over the file in which each thread commits so many transactions, and the syncs and bytes that it made."""
+    began = time.perf_counter()
+    line = f"{kind} {threads} {each} {file}\n"
+    done = subprocess.run([program], input=line, text=True, check=True, capture_output=True, env=counting)
+    return time.perf_counter() - began, *map(int, done.stderr.split()[-2:])
+
+def peer(name, kind, threads, each):
+    """The same by another index: its seconds are those of its threads alone."""
+    where = {"sqlite": "other.db", "postgres": os.environ.get("SERVER", "")}[name]
+    words = [f"./{name}", where, str(threads), str(each)] + ["search"] * (kind == "pair")
+    done = subprocess.run(words, text=True, check=True, capture_output=True, env=counting)
+    return float(done.stdout), *map(int, done.stderr.split()[-2:])
+
+def commits(transactions):
+    """Commits of one insert each in strips of their own, and of a search and an insert, by us and by the peers that are there, all in turn."""
+    peers = [name for name in ("sqlite", "postgres") if os.path.exists(name)]
+    for kind in ("single", "pair"):
+        work = [(threads, name) for threads in (1, 2, 4, 8) for name in ["gist"] + peers
+                if name != "postgres" or threads == 4]
+        told = {it: [] for it in work}
+        for _ in range(rounds):
+            for threads, name in work:
+                each = transactions // threads
+                if name == "gist":
+                    none, some = ours(kind, threads, 0), ours(kind, threads, each)
+                    told[threads, name].append([after - before for before, after in zip(none, some)])
+                else:
+                    told[threads, name].append(peer(name, kind, threads, each))
+        for threads, name in work:
+            count = transactions // threads * threads
+            middle = [statistics.median(it) for it in zip(*told[threads, name])]
+            best = min(it[0] for it in told[threads, name])
+            ratio = statistics.median(one[0] / our[0] for one, our in zip(told[threads, name], told[threads, "gist"]))
+            told_of = f"{count / middle[0]:.0f} commits a second (at best {count / best:.0f})"
+            if name != "postgres":
+                told_of += f", {middle[1] / count:.2f} syncs and {middle[2] / count / 1000:.1f} KB a commit"
+            if name != "gist":
+                told_of += f", gist {ratio:.2f} times as many"
+            print(f"{kind}, threads {threads}, {name}: {told_of}", flush=True)
+
+alone = os.environ.get("ONLY") == "commits"
+if not alone:
+    table("memory", total, "")
+    table("file", total // 10, file)
+commits(total // 2)
 print("a write of 4,096 bytes there with its sync: at least {:.0f} microseconds, in the middle {:.0f}".format(*bare()), flush=True)
 try:
-    shares(total // 4)
+    if not alone:
+        shares(total // 4)
 except (FileNotFoundError, subprocess.CalledProcessError):
     print("perf isn't there, or may not be used: the share of time for which the lock is held isn't measured")
 P

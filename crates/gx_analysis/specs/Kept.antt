@@ -4,6 +4,7 @@ use Rattle.std.specs.List.{list_any, list_all}
 use Rattle.std.specs.declared.cmp.Ordering.{Ordering}
 use Rattle.gx_geom.specs.declared.refusal.Refusal.{Refusal}
 use Rattle.gx_geom.specs.declared.refusal.Refusal.TheVariants.{Damaged}
+use Rattle.gx_recovery.specs.declared.TheConstants.{TOUCHED}
 use Rattle.gx_recovery.specs.Known.{Known, same}
 use Rattle.gx_recovery.specs.Records.{Touch}
 use Rattle.gx_recovery.specs.Analysis.{Analysis, touching, without}
@@ -47,7 +48,7 @@ may_be_open t touched = has_touched t touched || nat_lt (transactions touched) 8
 
 -- they may have touched 512 entries in all, with this one
 abbrev pub has_place : {E : Type 0} → (E → E → Ordering) → Touch E → List (Touch E) → Bool
-has_place cmp t touched = nat_le (length (touching (by_order cmp) t touched)) 512
+has_place cmp t touched = nat_le (length (touching (by_order cmp) t touched)) TOUCHED
 
 -- one more touch: its transaction has a number that another can follow, and its leaf is in use
 abbrev pub may_touch : {E : Type 0} → (E → E → Ordering) → Touch E → Kept E → Bool

@@ -1,10 +1,14 @@
 //! What is kept of a log while its records are read.
-ghost use Rattle.std.specs.Prelude.{◌≡◌, ◌+◌, ◌<◌, ◌≤◌, ◌==◌, ◌&&◌, ◌||◌, not, true, false, nat_lt, nat_le, max, [], length, IfOk, IfErr, OnErr};
+ghost use Rattle.std.specs.Prelude.{◌≡◌, ◌+◌, ◌<◌, ◌≤◌, ◌==◌, ◌&&◌, ◌||◌, not, true, false};
+ghost use Rattle.std.specs.Prelude.{nat_lt, nat_le, max, [], length, IfOk, IfErr, OnErr};
 ghost use Rattle.std.specs.List.{list_all};
 ghost use Rattle.gx_recovery.specs.Analysis.{unread};
 ghost use Rattle.gx_recovery.specs.Damage.{is_transaction, is_page};
-ghost use Rattle.gx_analysis.specs.Broken.{refused, breaks_counters, breaks_touch, breaks_write, breaks_pages, breaks_end, breaks_commit, Tested};
-ghost use Rattle.gx_analysis.specs.Kept.{may_touch, may_write, may_give, may_end, may_commit, may_be_open, has_place, with_counters, with_touch, with_pages, with_end, with_commit, Takes, ClosedBy, Closes};
+ghost use Rattle.gx_analysis.specs.Broken.{refused, breaks_counters, breaks_touch, breaks_write};
+ghost use Rattle.gx_analysis.specs.Broken.{breaks_pages, breaks_end, breaks_commit, Tested};
+ghost use Rattle.gx_analysis.specs.Kept.{may_touch, may_write, may_give, may_end, may_commit};
+ghost use Rattle.gx_analysis.specs.Kept.{may_be_open, has_place, with_counters, with_touch};
+ghost use Rattle.gx_analysis.specs.Kept.{with_pages, with_end, with_commit, Takes, ClosedBy, Closes};
 ghost use Rattle.gx_analysis.specs.declared.closed.TheConstants.{CLOSINGS};
 
 use crate::closed::Closed;
@@ -16,11 +20,11 @@ use gx_recovery::{LAST_TRANSACTION, TOUCHED, TRANSACTIONS};
 use std::alloc::{AllocError, Global};
 use std::marker::Model;
 
-/// What the records of a log tell so far: its numbers, the touches of its open transactions (by transaction, then by entry,
-/// each once, with the first mark before and the last leaf), and the transactions that it closes.
+/// What the records of a log tell so far: its numbers, the touches of its open transactions (by transaction, then by
+/// entry, each once, with the first mark before and the last leaf), and the transactions that it closes.
 ///
-/// Each record of the log is told in turn, and refused exactly where it may not come next, by a rule that it breaks. All memory
-/// is taken at the start.
+/// Each record of the log is told in turn, and refused exactly where it may not come next, by a rule that it breaks.
+/// All memory is taken at the start.
 #[derive(Drop)]
 pub struct Analysis<E> {
     number: u64,
@@ -146,7 +150,8 @@ impl<E: Copy + Ord> Analysis<E> {
 
     /// Tests that there is room for the touch beside those that are.
     fn test_room(&self, t: &Touch<E>) -> Result<(), LogRule>
-        ensures { Tested (may_be_open t.now.transaction self.now.told.touched && has_place E.Ord.cmp t.now self.now.told.touched)
+        ensures { Tested (may_be_open t.now.transaction self.now.told.touched
+            && has_place E.Ord.cmp t.now self.now.told.touched)
             (breaks_touch E.Ord.cmp t.now self.now) result }
     {
         if !may_be_open(t.transaction(), &self.touched) {
@@ -191,7 +196,8 @@ impl<E: Copy + Ord> Analysis<E> {
         used: u32,
         next: u64,
     ) -> Result<(), LogRule>
-        ensures takes { Takes (nat_le used self.old.pages) (with_counters number counter used next self.old) self.old (refused result) self.new }
+        ensures takes { Takes (nat_le used self.old.pages) (with_counters number counter used next self.old)
+            self.old (refused result) self.new }
         ensures rule { IfErr result (λ rule. breaks_counters used self.old rule ≡ true) }
     {
         if used > self.pages {
@@ -204,11 +210,13 @@ impl<E: Copy + Ord> Analysis<E> {
         Ok(())
     }
 
-    /// A note of a log's head. Refused where its transaction has the last number (`TransactionNumber`) or its leaf isn't in use
-    /// (`LeafInUse`), where another transaction has touched the entry (`SharedEntry`), and where it would be one transaction or one
-    /// touch too many (`TooManyTransactions`, `TooManyTouches`): by the first of these that holds.
+    /// A note of a log's head. Refused where its transaction has the last number (`TransactionNumber`) or its leaf
+    /// isn't in use (`LeafInUse`), where another transaction has touched the entry (`SharedEntry`), and where it would
+    /// be one transaction or one touch too many (`TooManyTransactions`, `TooManyTouches`):
+    /// by the first of these that holds.
     pub fn on_note(&mut self, t: Touch<E>) -> Result<(), LogRule>
-        ensures takes { Takes (may_touch E.Ord.cmp t self.old) (with_touch E.Ord.cmp t self.old) self.old (refused result) self.new }
+        ensures takes { Takes (may_touch E.Ord.cmp t self.old) (with_touch E.Ord.cmp t self.old)
+            self.old (refused result) self.new }
         ensures rule { IfErr result (λ rule. breaks_touch E.Ord.cmp t self.old rule ≡ true) }
     {
         match self.test_touch(&t) {
@@ -222,7 +230,8 @@ impl<E: Copy + Ord> Analysis<E> {
 
     /// A write, with an image of its own leaf. Refused where its transaction is closed (`Ended`), and as a note is.
     pub fn on_write(&mut self, t: Touch<E>) -> Result<(), LogRule>
-        ensures takes { Takes (may_write E.Ord.cmp t self.old) (with_touch E.Ord.cmp t self.old) self.old (refused result) self.new }
+        ensures takes { Takes (may_write E.Ord.cmp t self.old) (with_touch E.Ord.cmp t self.old)
+            self.old (refused result) self.new }
         ensures rule { IfErr result (λ rule. breaks_write E.Ord.cmp t self.old rule ≡ true) }
     {
         if self.closed.has(t.transaction()) {
@@ -233,7 +242,8 @@ impl<E: Copy + Ord> Analysis<E> {
 
     /// Tests that pages of these numbers may be given, with the counter and the pages in use after them.
     fn test_pages(&self, counter: u64, used: u32, pages: &[u32]) -> Result<(), LogRule>
-        ensures { Tested (may_give counter used pages.now self.now) (breaks_pages counter used pages.now self.now) result }
+        ensures { Tested (may_give counter used pages.now self.now)
+            (breaks_pages counter used pages.now self.now) result }
     {
         if counter < self.counter {
             return Err(LogRule::CounterFalls);
@@ -250,11 +260,13 @@ impl<E: Copy + Ord> Analysis<E> {
         Ok(())
     }
 
-    /// Images of the pages of these numbers, each with its own, and the counter and the pages in use after them. Refused
-    /// where one of these two falls (`CounterFalls`, `UsedFalls`), where a page isn't in use then (`PageInUse`), and where more are
-    /// in use than the device has (`PagesOfDevice`): by the first of these that holds.
+    /// Images of the pages of these numbers, each with its own, and the counter and the pages in use after them.
+    /// Refused where one of these two falls (`CounterFalls`, `UsedFalls`), where a page isn't in use then
+    /// (`PageInUse`), and where more are in use than the device has (`PagesOfDevice`):
+    /// by the first of these that holds.
     pub fn on_pages(&mut self, counter: u64, used: u32, pages: &[u32]) -> Result<(), LogRule>
-        ensures takes { Takes (may_give counter used pages.now self.old) (with_pages counter used self.old) self.old (refused result) self.new }
+        ensures takes { Takes (may_give counter used pages.now self.old) (with_pages counter used self.old)
+            self.old (refused result) self.new }
         ensures rule { IfErr result (λ rule. breaks_pages counter used pages.now self.old rule ≡ true) }
     {
         match self.test_pages(counter, used, pages) {
@@ -305,11 +317,12 @@ impl<E: Copy + Ord> Analysis<E> {
         self.closed.add(t);
     }
 
-    /// A commit. Refused where its transaction has the last number (`TransactionNumber`) or is closed (`Ended`), and where its
-    /// number isn't the last one plus one (`CommitNumber`): by the first of these that holds.
+    /// A commit. Refused where its transaction has the last number (`TransactionNumber`) or is closed (`Ended`), and
+    /// where its number isn't the last one plus one (`CommitNumber`): by the first of these that holds.
     pub fn on_commit(&mut self, t: u64, number: u64) -> Result<(), LogRule>
         requires { length self.old.closed < CLOSINGS }
-        ensures closes { Closes (may_commit t number self.old) t (with_commit t number self.old.told) self.old (refused result) self.new }
+        ensures closes { Closes (may_commit t number self.old) t (with_commit t number self.old.told)
+            self.old (refused result) self.new }
         ensures rule { IfErr result (λ rule. breaks_commit t number self.old rule ≡ true) }
     {
         match self.test_commit(t, number) {
@@ -322,7 +335,8 @@ impl<E: Copy + Ord> Analysis<E> {
         }
     }
 
-    /// An end. Refused where its transaction has the last number (`TransactionNumber`), and where that is closed (`Ended`).
+    /// An end. Refused where its transaction has the last number (`TransactionNumber`),
+    /// and where that is closed (`Ended`).
     pub fn on_end(&mut self, t: u64) -> Result<(), LogRule>
         requires { length self.old.closed < CLOSINGS }
         ensures closes { Closes (may_end t self.old) t (with_end t self.old.told) self.old (refused result) self.new }

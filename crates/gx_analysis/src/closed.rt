@@ -1,5 +1,6 @@
 //! The transactions that a log closes.
-ghost use Rattle.std.specs.Prelude.{insert, ◌≡◌, ◌+◌, ◌<◌, ◌≤◌, true, false, MatchResult, IfOk, [], length, vec_len, vec_capacity};
+ghost use Rattle.std.specs.Prelude.{insert, ◌≡◌, ◌+◌, ◌<◌, ◌≤◌, true, false, MatchResult};
+ghost use Rattle.std.specs.Prelude.{IfOk, [], length, vec_len, vec_capacity};
 ghost use Rattle.std.specs.List.Sorted.{IsNonDecreasing};
 ghost use Rattle.gx_analysis.specs.Kept.{is_closed, ClosesOne};
 ghost use Rattle.gx_analysis.specs.declared.closed.TheConstants.{CLOSINGS};
@@ -7,7 +8,8 @@ ghost use Rattle.gx_analysis.specs.declared.closed.TheConstants.{CLOSINGS};
 use std::alloc::{AllocError, Global};
 use std::marker::Model;
 
-/// How many commits and ends an extent may hold: each is 9 bytes at least, of 32 bodies with 32,764 bytes of records each.
+/// How many commits and ends an extent may hold:
+/// each is 9 bytes at least, of 32 bodies with 32,764 bytes of records each.
 pub const CLOSINGS: usize = 116_494;
 
 /// The numbers of closed transactions, rising, with room for all that an extent may close.

@@ -1,11 +1,13 @@
 //! What is kept of a log tells what may follow it. Each function is its contract alone.
 ghost use Rattle.gx_recovery.specs.Known.{Limits};
-ghost use Rattle.gx_analysis.specs.Telling.{WritesTell, NoEntryIsRefused, PagesTell, CommitsTell, EndsTell, CountersTell, NotesTell, NoEntryIsNoNote, HeadsBegin};
+ghost use Rattle.gx_analysis.specs.Telling.{WritesTell, NoEntryIsRefused, PagesTell, CommitsTell, EndsTell};
+ghost use Rattle.gx_analysis.specs.Telling.{CountersTell, NotesTell, NoEntryIsNoNote, HeadsBegin};
 
 use gx_recovery::Meaning;
 
-/// A record follows an undamaged log just where the test of what is kept of that log passes; and what is kept then is what
-/// the longer log tells. So the passes and refusals of [`crate::Analysis`] are those of the definition of damaged logs.
+/// A record follows an undamaged log just where the test of what is kept of that log passes; and what is kept then is
+/// what the longer log tells. So the passes and refusals of [`crate::Analysis`] are those
+/// of the definition of damaged logs.
 pub fn the_kept_state_tells_what_follows<M: Meaning>()
     ensures write { (d : Limits) → WritesTell (M.known d) }
     ensures no_entry { (d : Limits) → NoEntryIsRefused (M.known d) }
@@ -14,8 +16,8 @@ pub fn the_kept_state_tells_what_follows<M: Meaning>()
     ensures end { (d : Limits) → EndsTell (M.known d) }
 {}
 
-/// The same of a log's head: its numbers, and then one note more. What begins a head is one, so that a note which doesn't fit spoils
-/// the head whatever comes behind it.
+/// The same of a log's head: its numbers, and then one note more. What begins a head is one, so that a note which
+/// doesn't fit spoils the head whatever comes behind it.
 pub fn the_kept_state_tells_what_heads_are<M: Meaning>()
     ensures counters { (d : Limits) → CountersTell (M.known d) }
     ensures notes { (d : Limits) → NotesTell (M.known d) }

@@ -1,5 +1,6 @@
-//! What a restart learns from a log before it redoes anything: the numbers, what open transactions have touched, and which
-//! transactions are closed (the analysis pass of Mohan and others, ARIES, 1992). A log that is damaged is refused.
+//! What a restart learns from a log before it redoes anything: the numbers, what open transactions have touched, and
+//! which transactions are closed (the analysis pass of Mohan and others, ARIES, 1992).
+//! A log that is damaged is refused.
 #![tactic(auto)]
 
 mod analysis;

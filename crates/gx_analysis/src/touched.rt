@@ -1,5 +1,6 @@
 //! Touches in a row, by transaction and then by entry.
-ghost use Rattle.std.specs.Prelude.{insert, ◌≡◌, ◌+◌, ◌<◌, ◌≤◌, ◌==◌, ◌&&◌, ◌||◌, not, length, MatchResult, slice_index_or, slice_set, if◌then◌else◌, vec_len, vec_capacity};
+ghost use Rattle.std.specs.Prelude.{insert, ◌≡◌, ◌+◌, ◌<◌, ◌≤◌, ◌==◌, ◌&&◌, ◌||◌, not, length, MatchResult};
+ghost use Rattle.std.specs.Prelude.{slice_index_or, slice_set, if◌then◌else◌, vec_len, vec_capacity};
 ghost use Rattle.gx_recovery.specs.Known.{same};
 ghost use Rattle.gx_recovery.specs.Records as records;
 ghost use Rattle.gx_recovery.specs.Analysis.{touch_cmp, touching, without};
@@ -29,7 +30,8 @@ fn is_same_entry<E: Copy + Ord>(a: &Touch<E>, b: &Touch<E>) -> bool
 
 /// Whether two touches may be of transactions that are open at once.
 fn is_apart<E: Copy + Ord>(a: &Touch<E>, b: &Touch<E>) -> bool
-    ensures { result ≡ (a.now.transaction == b.now.transaction || not (same (by_order E.Ord.cmp) a.now.entry b.now.entry)) }
+    ensures { result ≡ (a.now.transaction == b.now.transaction
+        || not (same (by_order E.Ord.cmp) a.now.entry b.now.entry)) }
 {
     a.transaction() == b.transaction() || !is_same_entry(a, b)
 }
@@ -83,7 +85,8 @@ fn place<E: Copy + Ord>(t: &Touch<E>, touched: &[Touch<E>]) -> Result<usize, usi
     ensures { MatchResult result
         (λ i. (i < length touched.now) × ((d : records.Touch E) → touching (by_order E.Ord.cmp) t.now touched.now
         ≡ slice_set touched.now i (record (slice_index_or touched.now i d) { leaf = t.now.leaf })))
-        (λ i. (i ≤ length touched.now) × (touching (by_order E.Ord.cmp) t.now touched.now ≡ insert touched.now i t.now)) }
+        (λ i. (i ≤ length touched.now) × (touching (by_order E.Ord.cmp) t.now touched.now
+        ≡ insert touched.now i t.now)) }
 {
     for (i, x) in touched.iter().enumerate() {
         match compare(t, x) {

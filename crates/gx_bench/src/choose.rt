@@ -24,9 +24,9 @@ fn choose_all(inner: &Inner<'_, Box2Class>, keys: &[SentBox], slots: &mut [usize
     }
 }
 
-/// For each of some boxes, writes into `slots`, which has a place for each, the slot of an inner node's child that needs
-/// least enlargement for it, and of those the smallest, the first of several. False, and nothing is written, where the image
-/// is no inner node of boxes with a child, where `used` is the greatest page taken, or memory lacks.
+/// For each of some boxes, writes into `slots`, which has a place for each, the slot of an inner node's child that
+/// needs least enlargement for it, and of those the smallest, the first of several. False, and nothing is written,
+/// where the image is no inner node of boxes with a child, where `used` is the greatest page taken, or memory lacks.
 #[unsafe(no_mangle)]
 pub extern "C" fn gx_bench_choose(
     alloc: Global,
@@ -37,7 +37,8 @@ pub extern "C" fn gx_bench_choose(
 ) -> bool
     requires in_order { All InOrder keys.now }
     requires as_many { length slots.old ≡ length keys.now }
-    ensures { OnTrue result (AreChosen (inner_of boxes (page_of sent.now)).children keys.now slots.new (length keys.now)) }
+    ensures { OnTrue result (AreChosen (inner_of boxes (page_of sent.now)).children
+        keys.now slots.new (length keys.now)) }
 {
     let Ok(page) = Page::from_image(alloc, &sent.image) else {
         return false;

@@ -1,5 +1,5 @@
-//! Parts of the index as C functions, for the benchmarks: the split of boxes, records of the log, the scan of leaves, and the
-//! choice of a child.
+//! Parts of the index as C functions, for the benchmarks: the split of boxes, records of the log, the scan of leaves,
+//! and the choice of a child.
 #![tactic(auto)]
 
 mod choose;

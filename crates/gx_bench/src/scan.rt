@@ -46,7 +46,8 @@ fn live_in_block(leaf: &Leaf<'_, Box2Class>, from: usize, probe: &BoxProbe) -> u
 /// How many of a leaf's pairs are live and pass.
 fn live_hits(page: &Page, probe: &BoxProbe) -> usize
     requires { is_leaf boxes page.now ≡ true }
-    ensures hits { result ≡ count_by (is_live_hit (λ key. are_between probe.now.low probe.now.high (corners key))) (leaf_of boxes page.now).pairs }
+    ensures hits { result ≡ count_by (is_live_hit (λ key. are_between probe.now.low probe.now.high (corners key)))
+        (leaf_of boxes page.now).pairs }
     ensures few { result ≤ 832 }
     ensures well_formed { IsWellFormed page.now }
 {
@@ -88,8 +89,8 @@ fn count_all(pages: &[Page], queries: &[SentBox], counts: &mut [usize])
     }
 }
 
-/// For each of some boxes, writes into `counts`, which has a place for each, how many live pairs of the leaves overlap it.
-/// False where an image is no leaf of boxes, or memory lacks.
+/// For each of some boxes, writes into `counts`, which has a place for each, how many live pairs of the leaves overlap
+/// it. False where an image is no leaf of boxes, or memory lacks.
 #[unsafe(no_mangle)]
 pub extern "C" fn gx_bench_scan(
     alloc: Global,

@@ -1,5 +1,5 @@
-//! Batches of a log written to a file, 32 at a time, with one record each (`commit`), as many notes as fit (`notes`), or as
-//! many writes to leaves of 100 entries (`leaves`). The sum is how many records were written.
+//! Batches of a log written to a file, 32 at a time, with one record each (`commit`), as many notes as fit (`notes`),
+//! or as many writes to leaves of 100 entries (`leaves`). The sum is how many records were written.
 ghost use Rattle.gx_record.specs.Format.{IsInRange};
 ghost use Rattle.gx_record.specs.Seen.{rec_of};
 

@@ -1,8 +1,8 @@
 //! Benchmarks of the index's parts, each beside the same in plain C.
 //!
-//! The words are a benchmark (`claims`, `pool`, `log`, `tree` or `index`), what is asked of it and how often, as its module
-//! says. A sum of what was done is printed, or in place of `index` a count of it is named. With the word `all` alone a little of each is
-//! asked, and each sum is printed with its words.
+//! The words are a benchmark (`claims`, `pool`, `log`, `tree` or `index`), what is asked of it and how often, as its
+//! module says. A sum of what was done is printed, or in place of `index` a count of it is named. With the word `all`
+//! alone a little of each is asked, and each sum is printed with its words.
 #![tactic(auto)]
 
 mod claims;

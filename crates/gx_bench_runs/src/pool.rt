@@ -1,10 +1,10 @@
-//! Looks at pages of a file through frames: `hits`, where each page is in a frame, or `misses`, where few are. The sum is of
-//! what the pages say.
+//! Looks at pages of a file through frames: `hits`, where each page is in a frame, or `misses`, where few are. The sum
+//! is of what the pages say.
 
 mod looks;
 
-use gx_disk::{FileDisk, SectorDisk};
-use gx_pool::{AREA, PAGE_SECTORS, Pool};
+use gx_disk::{FileDisk, PAGE_SECTORS, PAGES_AT, SectorDisk};
+use gx_pool::Pool;
 use looks::{Leaves, create_all, lay_all, look_at_many};
 use std::fs::{File, Files};
 
@@ -42,7 +42,7 @@ impl Kind {
 
 /// Looks at pages that were made in frames.
 fn look_at_kept<R: AllocGlobal>(rt: &R, disk: &mut FileDisk, looks: u64) -> Option<u64> {
-    if disk.sectors() < AREA + PAGE_SECTORS * u64::from(KEPT) {
+    if disk.sectors() < PAGES_AT + PAGE_SECTORS * u64::from(KEPT) {
         return None;
     }
     let mut pool = Pool::with_capacity(rt.alloc(), KEPT as usize, Leaves).ok()?;
@@ -52,7 +52,7 @@ fn look_at_kept<R: AllocGlobal>(rt: &R, disk: &mut FileDisk, looks: u64) -> Opti
 
 /// Looks at pages of the file.
 fn look_at_file<R: AllocGlobal>(rt: &R, disk: &mut FileDisk, looks: u64) -> Option<u64> {
-    if disk.sectors() < AREA + PAGE_SECTORS * u64::from(PAGES) {
+    if disk.sectors() < PAGES_AT + PAGE_SECTORS * u64::from(PAGES) {
         return None;
     }
     let mut pool = Pool::with_capacity(rt.alloc(), FRAMES, Leaves).ok()?;
@@ -66,7 +66,7 @@ pub(crate) fn run<R: AllocGlobal + Files<File = File>>(
     kind: Kind,
     looks: u64,
 ) -> Option<u64> {
-    let sectors = AREA + PAGE_SECTORS * u64::from(PAGES);
+    let sectors = PAGES_AT + PAGE_SECTORS * u64::from(PAGES);
     let mut disk = FileDisk::create(rt, FILE, sectors).ok()?;
     match kind {
         Kind::Hits => look_at_kept(rt, &mut disk, looks),

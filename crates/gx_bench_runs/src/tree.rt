@@ -1,6 +1,6 @@
-//! A tree of drawn boxes, built in memory by the tree's steps: `inserts`, so many boxes in a new tree; `pages`, the same, and
-//! a sum of all pages' bytes; `queries`, so many windows looked for in a tree of a hundred thousand boxes; `marks`, so many of
-//! its pairs looked for and marked. The sum is of what was done.
+//! A tree of drawn boxes, built in memory by the tree's steps: `inserts`, so many boxes in a new tree; `pages`, the
+//! same, and a sum of all pages' bytes; `queries`, so many windows looked for in a tree of a hundred thousand boxes;
+//! `marks`, so many of its pairs looked for and marked. The sum is of what was done.
 
 mod looks;
 mod writes;

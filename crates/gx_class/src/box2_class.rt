@@ -43,7 +43,9 @@ impl KeyClass for Box2Class {
     ghost use Rattle.gx_geom.specs.Rectangles.{within};
     ghost use Rattle.gx_split.specs.Split.{measure, split_sides};
     ghost use Rattle.gx_geom.specs.BoxLaws.{within_itself, within_through, union_is_box};
-    ghost use Rattle.gx_class.specs.BoxKeyLaws.{start_is_box, match_is_consistent, union_covers_first, union_covers_second, union_is_least, split_leaves_each, length-spelling};
+    ghost use Rattle.gx_class.specs.BoxKeyLaws.{start_is_box, match_is_consistent};
+    ghost use Rattle.gx_class.specs.BoxKeyLaws.{union_covers_first, union_covers_second};
+    ghost use Rattle.gx_class.specs.BoxKeyLaws.{union_is_least, split_leaves_each, length-spelling};
     ghost use Rattle.gx_class.specs.BoxReadings.{reading_back, reading_only};
 
     type Key = Box2;

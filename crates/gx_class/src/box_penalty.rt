@@ -48,7 +48,8 @@ fn raised(key: &Box2) -> u32x4
 
 /// The width and the height of a bound's union with a key, and of the bound.
 fn sides(bound: u32x4, key: u32x4) -> u32x4
-    ensures { (b k : Rectangle) → IsBox b → IsBox k → bound ≡ raised b → key ≡ raised k → result ≡ sides_of_two (union b k) b }
+    ensures { (b k : Rectangle) → IsBox b → IsBox k → bound ≡ raised b → key ≡ raised k
+        → result ≡ sides_of_two (union b k) b }
 {
     let lows = bound.simd_min(key).shuffle(bound, [0, 1, 4, 5]);
     let highs = bound.simd_max(key).shuffle(bound, [2, 3, 6, 7]);
@@ -57,7 +58,8 @@ fn sides(bound: u32x4, key: u32x4) -> u32x4
 
 /// The areas of two boxes of which these are the sides.
 fn areas(sides: u32x4) -> u64x2
-    ensures { (w h v g : ℕ) → w < 2 ^ 32 → h < 2 ^ 32 → v < 2 ^ 32 → g < 2 ^ 32 → sides ≡ w ∷ h ∷ v ∷ g ∷ [] → result ≡ w * h ∷ v * g ∷ [] }
+    ensures { (w h v g : ℕ) → w < 2 ^ 32 → h < 2 ^ 32 → v < 2 ^ 32 → g < 2 ^ 32 → sides ≡ w ∷ h ∷ v ∷ g ∷ []
+        → result ≡ w * h ∷ v * g ∷ [] }
 {
     let widths: u64x2 = sides.swizzle([0, 2]).cast();
     let heights: u64x2 = sides.swizzle([1, 3]).cast();

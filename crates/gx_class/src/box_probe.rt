@@ -8,8 +8,8 @@ use gx_geom::Box2;
 use gx_machine::Query;
 use std::simd::prelude::*;
 
-/// A query of boxes as the least and the greatest that each corner may be, in the order `x1 y1 x2 y2`. So one comparison
-/// serves every query, of entries' keys and of bounds alike.
+/// A query of boxes as the least and the greatest that each corner may be, in the order `x1 y1 x2 y2`. So one
+/// comparison serves every query, of entries' keys and of bounds alike.
 #[derive(Clone, Copy, Debug)]
 pub struct BoxProbe {
     low: [i32; 4],

@@ -72,8 +72,8 @@ pub trait KeyClass {
     fn union(first: Self::Key, second: Self::Key) -> Self::Key
         ensures { result ≡ joined first second };
 
-    /// How much the bound grows by the key, and how large it is: Penalty. The bound for which this is least is chosen, as
-    /// Guttman (1984) chooses the box that needs least enlargement, then the smaller.
+    /// How much the bound grows by the key, and how large it is: Penalty. The bound for which this is least is chosen,
+    /// as Guttman (1984) chooses the box that needs least enlargement, then the smaller.
     fn penalty(bound: &Self::Key, key: &Self::Key) -> (u128, u128)
         ensures { result ≡ cost bound.now key.now };
 
@@ -88,8 +88,8 @@ pub trait KeyClass {
         }
     }
 
-    /// PickSplit: splits 2 to 101 keys, with at least `least` on each side. In `sides`, which has a place for each key, `true`
-    /// stands for the second group.
+    /// PickSplit: splits 2 to 101 keys, with at least `least` on each side. In `sides`, which has a place for each key,
+    /// `true` stands for the second group.
     fn pick_split(keys: &[Self::Key], least: usize, sides: &mut [bool])
         requires some { 1 ≤ least }
         requires enough { 2 * least ≤ length keys.now }
@@ -114,7 +114,8 @@ pub trait KeyClass {
     ghost covers_itself: { (a : Self.Key) → is_key a → Self.Key.inside a a ≡ true };
 
     /// What covers a cover covers.
-    ghost covers_through: { (a b c : Self.Key) → is_key a → is_key b → is_key c → Self.Key.inside a b ≡ true → Self.Key.inside b c ≡ true
+    ghost covers_through: { (a b c : Self.Key) → is_key a → is_key b → is_key c → Self.Key.inside a b ≡ true
+        → Self.Key.inside b c ≡ true
         → Self.Key.inside a c ≡ true };
 
     /// A key that matches may match below every bound that covers it.
@@ -131,7 +132,8 @@ pub trait KeyClass {
     ghost union_covers_second: { (a b : Self.Key) → is_key a → is_key b → Self.Key.inside b (joined a b) ≡ true };
 
     /// Whatever covers both covers the union.
-    ghost union_is_least: { (a b c : Self.Key) → is_key a → is_key b → Self.Key.inside a c ≡ true → Self.Key.inside b c ≡ true
+    ghost union_is_least: { (a b c : Self.Key) → is_key a → is_key b → Self.Key.inside a c ≡ true
+        → Self.Key.inside b c ≡ true
         → Self.Key.inside (joined a b) c ≡ true };
 
     /// A split leaves each side its least number.
@@ -148,6 +150,7 @@ pub trait KeyClass {
     ghost reading_back: { (k : Self.Key) → is_key k → reading (spelling k) ≡ Some k };
 
     /// Bytes spell no key but the one whose bytes they are.
-    ghost reading_only: { (bytes : List ℕ) (k : Self.Key) → ((i : ℕ) → slice_index bytes i < 256) → reading bytes ≡ Some k
+    ghost reading_only: { (bytes : List ℕ) (k : Self.Key) → ((i : ℕ) → slice_index bytes i < 256)
+        → reading bytes ≡ Some k
         → is_key k × (bytes ≡ spelling k) };
 }

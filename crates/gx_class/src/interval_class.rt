@@ -54,9 +54,11 @@ impl KeyClass for IntervalClass {
     ghost use Rattle.std.specs.Prelude.{pos};
     ghost use Rattle.std.proofs.Common.{arith};
     ghost use Rattle.gx_geom.specs.Spans.{lies_in};
-    ghost use Rattle.gx_geom.specs.SpanLaws.{lies_in_itself, lies_in_through, hull_covers_first, hull_covers_second, hull_is_least, hull_is_interval};
+    ghost use Rattle.gx_geom.specs.SpanLaws.{lies_in_itself, lies_in_through, hull_covers_first};
+    ghost use Rattle.gx_geom.specs.SpanLaws.{hull_covers_second, hull_is_least, hull_is_interval};
     ghost use Rattle.gx_class.specs.Halving.{halves_by_order};
-    ghost use Rattle.gx_class.specs.IntervalKeyLaws.{start_is_interval, match_is_consistent, halves_leave_each, length-spelling};
+    ghost use Rattle.gx_class.specs.IntervalKeyLaws.{start_is_interval, match_is_consistent};
+    ghost use Rattle.gx_class.specs.IntervalKeyLaws.{halves_leave_each, length-spelling};
     ghost use Rattle.gx_class.specs.IntervalReadings.{reading_back, reading_only};
 
     type Key = Interval;
@@ -117,8 +119,8 @@ impl KeyClass for IntervalClass {
         (u128::from(bound.union(key).size()) - size, size)
     }
 
-    /// The first half by order, with the odd one, goes to the first group. Each key's place is counted afresh, which takes
-    /// `n * n` comparisons of `n` keys, 101 at most.
+    /// The first half by order, with the odd one, goes to the first group. Each key's place is counted afresh, which
+    /// takes `n * n` comparisons of `n` keys, 101 at most.
     fn pick_split(keys: &[Interval], _least: usize, sides: &mut [bool]) {
         let first = (keys.len() + 1) / 2;
         for (slot, key) in keys.iter().enumerate() {

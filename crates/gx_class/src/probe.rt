@@ -9,14 +9,15 @@ use gx_machine::Query;
 /// each key, be it an entry's own or a bound.
 pub trait Probing: KeyClass {
     /// A query in the form in which it is put to keys.
-    type Probe;
+    type Probe: Drop;
 
     /// Whether a key passes.
     ghost passes: { Self.Probe → Self.Key → Bool };
 
     /// The probe that the keys pass which match the query.
     fn probe_keys(query: &Query<Self::Key>) -> Self::Probe
-        ensures { (key : Self.Key) → Self.is_key key → passes result key ≡ key_matches (keys_of Self.Key.Shape) query.now key };
+        ensures { (key : Self.Key) → Self.is_key key → passes result key
+            ≡ key_matches (keys_of Self.Key.Shape) query.now key };
 
     /// The probe that the bounds pass below which a key may match the query.
     fn probe_bounds(query: &Query<Self::Key>) -> Self::Probe

@@ -1,4 +1,5 @@
-//! An image to be damaged: nine rows in seven pages, four entries a node, and a log of three bodies that has some of these pages.
+//! An image to be damaged: nine rows in seven pages, four entries a node, and a log of three bodies that has some of
+//! these pages.
 use crate::bytes::{lay, sector};
 use crate::draw::{below, one_in};
 use crate::fault::RunFault;
@@ -17,8 +18,8 @@ pub(crate) const MOST: u16 = 4;
 /// How many sectors the device has.
 pub(crate) const SECTORS: usize = 4296;
 
-/// A page of the tree: level, sequence number, rightlink, and of each entry the row or the child, and the first and the last of
-/// the rows that its key covers.
+/// A page of the tree: level, sequence number, rightlink, and of each entry the row or the child, and the first and the
+/// last of the rows that its key covers.
 type Node = (u16, u64, u32, &'static [(u8, u8, u8)]);
 
 /// The pages, page 1 first. Row `i` has the key from `10 i` to `10 i + 1`.

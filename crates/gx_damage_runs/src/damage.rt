@@ -4,7 +4,8 @@ use crate::bytes::{byte, copy, exchange, flip, sector, set};
 use crate::draw::{below, one_in};
 use rand_pcg::Pcg32;
 
-/// The bytes of a page's head that say something: level, count, heap start, reserved ones, sequence number, rightlink, own number.
+/// The bytes of a page's head that say something: level, count, heap start, reserved ones, sequence number, rightlink,
+/// own number.
 const HEAD: [usize; 10] = [1, 3, 5, 7, 15, 18, 19, 23, 25, 31];
 
 /// Where the bytes of a page stand that is drawn.
@@ -22,7 +23,8 @@ fn item(base: &Base, draw: &mut Pcg32, at: usize) -> (usize, usize) {
     (at.saturating_add(4096).saturating_sub(before), size)
 }
 
-/// A gate is opened, or closed, or the other extent is selected, or a bit of what the device is formatted for is turned over.
+/// A gate is opened, or closed, or the other extent is selected, or a bit of what the device is formatted for is turned
+/// over.
 fn gate(base: &mut Base, draw: &mut Pcg32) {
     let number = below(draw, 5);
     let at = sector(number.saturating_add(8));
@@ -53,7 +55,8 @@ fn body(base: &mut Base, draw: &mut Pcg32) {
     flip(&mut base.bytes, at.saturating_add(offset), below(draw, 8));
 }
 
-/// A note of the log's head tells another leaf. The head's counters have 29 bytes, and each note 38, its leaf at the end.
+/// A note of the log's head tells another leaf. The head's counters have 29 bytes, and each note 38, its leaf at the
+/// end.
 fn note(base: &mut Base, draw: &mut Pcg32) {
     let behind = below(draw, 4).saturating_add(1).saturating_mul(38);
     let at = sector(40).saturating_add(32).saturating_add(behind);

@@ -1,5 +1,5 @@
-//! Events of an engine between two marks, of which whoever is loaded in front of the C library knows that no memory is to be had
-//! there (`bench/refuse_memory.c`). By itself nothing is refused.
+//! Events of an engine between two marks, of which whoever is loaded in front of the C library knows that no memory is
+//! to be had there (`bench/refuse_memory.c`). By itself nothing is refused.
 use crate::draw::{below, one_in};
 use crate::fault::RunFault;
 use crate::opened::FRAMES;
@@ -218,7 +218,8 @@ fn helping(need: Need) -> Event<Box2> {
     }
 }
 
-/// Draws so many events of a new index, of eight sessions and of the flusher, settles it, and says how often memory lacked.
+/// Draws so many events of a new index, of eight sessions and of the flusher, settles it, and says how often memory
+/// lacked.
 pub(crate) fn run_lacking(alloc: Global, seed: u64, events: u64) -> Result<Lacked, RunFault> {
     let sectors = (PAGES as usize).saturating_mul(8).saturating_add(4168);
     let mut disk = MemDisk::new(alloc, sectors)?;

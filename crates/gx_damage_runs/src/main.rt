@@ -1,20 +1,19 @@
-//! Images with damage, opened: each opens or is refused by number exactly as the plain reader finds it, what is said of it is found
-//! there, and what opens is a sound image of the same set.
+//! Images with damage, opened and verified: each opens or is refused by number exactly as the plain reader finds it,
+//! and verifies or isn't just so; what is said of it is found there, and what opens is a sound image of the same set.
 //!
-//! A line of `stdin` asks for one thing, and what came of it is printed behind it.
-//! `boxes SEED IMAGES` and `intervals SEED IMAGES` draw images of an index of nine rows.
-//! `new PAGES MOST` begins the life of an index of boxes. A line that begins with a digit is one of a script; `stop` opens the index,
-//! runs the script since the last stop, and keeps the image that it leaves then. `moments SEED IMAGES` draws one of
-//! these, with bytes changed, sectors exchanged, and sectors of other moments.
-//! `byte SECTOR BYTE VALUE`, the last in hexadecimal, changes a byte of a new index of 16 pages with 4 entries a node; `zero SECTOR`
-//! a sector, `cut SECTORS` the number of sectors, and `frames FRAMES` nothing but with how many frames it is opened.
-//! `lacking SEED EVENTS` draws events of an index, each of them between two marks, and settles it; how often memory was refused is
-//! printed.
-//! `make PATH PAIRS` makes a file with a tree of so many boxes, `open PATH` makes an opening's tests of it, and `remove PATH`
-//! removes it; each prints how many pages are in use then.
+//! A line of `stdin` asks for one thing, and what came of it is printed behind it. `boxes SEED IMAGES` and `intervals
+//! SEED IMAGES` draw images of an index of nine rows. `new PAGES MOST` begins the life of an index of boxes. A line
+//! that begins with a digit is one of a script; `stop` opens the index, runs the script since the last stop, and
+//! keeps the image that it leaves then. `moments SEED IMAGES` draws one of these, with bytes changed, sectors
+//! exchanged, and sectors of other moments. `byte SECTOR BYTE VALUE`, the last in hexadecimal, changes a byte of a
+//! new index of 16 pages with 4 entries a node; `zero SECTOR` a sector, `cut SECTORS` the number of sectors, and
+//! `frames FRAMES` nothing but with how many frames it is opened. `lacking SEED EVENTS` draws events of an index,
+//! each of them between two marks, and settles it; how often memory was refused is printed. `make PATH PAIRS` makes a
+//! file with a tree of so many boxes, `open PATH` makes an opening's tests of it, and `remove PATH` removes it; each
+//! prints how many pages are in use then.
 //!
-//! An empty line, and one that begins with `#`, is printed as it stands. The program ends at the first image on which the two
-//! differ, with status 1.
+//! An empty line, and one that begins with `#`, is printed as it stands. The program ends at the first image on which
+//! the two differ, with status 1.
 #![tactic(auto)]
 
 mod base;
@@ -43,6 +42,7 @@ use large::make;
 use moments::Life;
 use opened::{Found, judge};
 use opening::open;
+use rand_core::SeedableRng;
 use rand_pcg::Pcg32;
 use std::alloc::Global;
 use std::process::ExitCode;
@@ -63,13 +63,25 @@ enum Kind {
     Moments,
 }
 
+impl Kind {
+    /// What draws images of this kind by a seed. Seeds that are near each other, and kinds, draw nothing alike.
+    fn draws(self, seed: u64) -> Pcg32 {
+        let kind = match self {
+            Kind::Boxes => 0,
+            Kind::Intervals => 1,
+            Kind::Moments => 2,
+        };
+        Pcg32::seed_from_u64(seed.wrapping_mul(3).wrapping_add(kind))
+    }
+}
+
 /// The next word as a number.
 pub(crate) fn number(words: &mut SplitWhitespace<'_>) -> Result<u64, RunFault> {
     let word = words.next().ok_or(RunFault::BadLine)?;
     word.parse::<u64>().ok().ok_or(RunFault::BadLine)
 }
 
-/// Draws an image, and answers what came of it, where an opening and the plain reader agree.
+/// Draws an image, and answers what came of it, where an opening, the verification and the plain reader agree.
 fn take_image(
     alloc: Global,
     life: &Life,
@@ -98,7 +110,7 @@ fn take_images(
     kind: Kind,
     words: &mut SplitWhitespace<'_>,
 ) -> Result<bool, RunFault> {
-    let mut draw = Pcg32::new(number(words)?, 7);
+    let mut draw = kind.draws(number(words)?);
     let mut counts = Counts::default();
     for image in 0..number(words)? {
         match take_image(rt.alloc(), life, kind, &mut draw)? {

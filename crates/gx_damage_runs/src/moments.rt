@@ -1,7 +1,7 @@
 //! Images of an index at moments of its life, and such with sectors of other moments.
 use crate::bytes::{exchange, lay, sector, set};
 use crate::device::{bytes_of, device, formatted};
-use crate::draw::{below, byte_of};
+use crate::draw::{below, byte_of, one_in};
 use crate::fault::RunFault;
 use crate::opened::FRAMES;
 use gx_class::Box2Class;
@@ -10,12 +10,16 @@ use gx_restart::{Index, Noted, open, run_script};
 use rand_pcg::Pcg32;
 use std::alloc::Global;
 
+/// The first sector of pages.
+const FIRST_OF_PAGES: usize = 4168;
+
 /// An index's images, in the order of its life.
 #[derive(Drop)]
 pub(crate) struct Life {
     images: Vec<Vec<u8>>,
-    /// The sectors that hold something at one of these moments.
+    /// The sectors that hold something at one of these moments, of the log or ahead of it, and of pages.
     sectors: Vec<usize>,
+    pages: Vec<usize>,
 }
 
 /// Whether a sector holds anything but zeros.
@@ -42,6 +46,7 @@ impl Life {
         Life {
             images: Vec::new(alloc),
             sectors: Vec::new(alloc),
+            pages: Vec::new(alloc),
         }
     }
 
@@ -49,21 +54,36 @@ impl Life {
     pub(crate) fn begin(&mut self, alloc: Global, pages: u32, most: u16) -> Result<(), RunFault> {
         self.images = Vec::new(alloc);
         self.sectors = Vec::new(alloc);
+        self.pages = Vec::new(alloc);
         self.keep(formatted(alloc, pages, most)?)
+    }
+
+    /// A sector holds something.
+    fn note(&mut self, number: usize) -> Result<(), RunFault> {
+        let list = if number < FIRST_OF_PAGES {
+            &mut self.sectors
+        } else {
+            &mut self.pages
+        };
+        if !list.contains(&number) {
+            list.push(number)?;
+        }
+        Ok(())
     }
 
     /// A moment's image.
     fn keep(&mut self, image: Vec<u8>) -> Result<(), RunFault> {
         for number in 0..image.len() / 512 {
-            if holds(&image, number) && !self.sectors.contains(&number) {
-                self.sectors.push(number)?;
+            if holds(&image, number) {
+                self.note(number)?;
             }
         }
         self.images.push(image)?;
         Ok(())
     }
 
-    /// Opens the index as the last moment left it, runs a script, and stops: what was written by then is the next moment.
+    /// Opens the index as the last moment left it, runs a script, and stops: what was written by then is the next
+    /// moment.
     pub(crate) fn go_on(&mut self, alloc: Global, script: &[u8]) -> Result<(), RunFault> {
         let last = self.images.last().ok_or(RunFault::BadLine)?;
         let Ok(engine) = open::<MemDisk, Box2Class>(alloc, device(alloc, last)?, FRAMES) else {
@@ -85,8 +105,13 @@ impl Life {
 
     /// Draws a sector that holds something.
     fn place(&self, draw: &mut Pcg32) -> usize {
-        let place = below(draw, self.sectors.len());
-        sector(self.sectors.get(place).copied().unwrap_or(0))
+        let list = if one_in(draw, 2) {
+            &self.sectors
+        } else {
+            &self.pages
+        };
+        let place = below(draw, list.len());
+        sector(list.get(place).copied().unwrap_or(0))
     }
 
     /// Changes an image once: a byte, two sectors that are exchanged, or one or two that another moment had.

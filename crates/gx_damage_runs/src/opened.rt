@@ -7,7 +7,7 @@ use gx_engine::Engine;
 use gx_opening::examine;
 use gx_plain_reader::{Damage, Finding, Part, Reading, findings, read};
 use gx_readings::ReadKeys;
-use gx_restart::{NotOpened, open};
+use gx_restart::{NotOpened, Report, open, verify};
 use std::alloc::Global;
 
 /// How many frames an opening has here.
@@ -89,19 +89,46 @@ fn is_refused<K: ReadKeys>(
     Ok(true)
 }
 
-/// Opens a sound image.
+/// Verifies an image: what it holds, or the number of the refusal.
+fn verified<K: ReadKeys + Probing>(
+    alloc: Global,
+    bytes: &[u8],
+) -> Result<Result<Report, u8>, RunFault>
+where
+    K::Probe: Drop,
+{
+    let mut disk = device(alloc, bytes)?;
+    Ok(match verify::<MemDisk, K>(alloc, &mut disk, FRAMES) {
+        Ok(report) => Ok(report),
+        Err(why) => Err(why.number()),
+    })
+}
+
+/// What an image holds of which this is read.
+fn holding(read: &Reading) -> Report {
+    Report {
+        commits: read.number,
+        entries: read.set.len() as u64,
+        used: read.used,
+    }
+}
+
+/// Verifies and opens a sound image.
 fn open_sound<K: ReadKeys + Probing>(alloc: Global, bytes: &[u8]) -> Result<bool, RunFault>
 where
     K::Probe: Drop,
 {
     let before = read(alloc, bytes, K::CLASS)?;
+    if verified::<K>(alloc, bytes)? != Ok(holding(&before)) {
+        return Ok(false);
+    }
     match open::<MemDisk, K>(alloc, device(alloc, bytes)?, FRAMES) {
         Ok(engine) => is_opened(alloc, engine, &before),
         Err(_) => Ok(false),
     }
 }
 
-/// Opens an image of which this is found.
+/// Verifies and opens an image of which this is found.
 fn open_damaged<K: ReadKeys + Probing>(
     alloc: Global,
     bytes: &[u8],
@@ -111,15 +138,19 @@ fn open_damaged<K: ReadKeys + Probing>(
 where
     K::Probe: Drop,
 {
+    if verified::<K>(alloc, bytes)? != Err(wanted) {
+        return Ok(false);
+    }
     match open::<MemDisk, K>(alloc, device(alloc, bytes)?, FRAMES) {
         Ok(_engine) => Ok(false),
         Err(refused) => is_refused::<K>(alloc, refused, found, wanted),
     }
 }
 
-/// Opens an image, and answers what came of it; nothing where the plain reader finds another thing. It opens exactly where that finds
-/// nothing wrong, and then has the same number and leaves a sound image of the same set. Else it is refused with the number of
-/// the damage, and what is said of it is found there.
+/// Opens an image, verifies it, and answers what came of it; nothing where the plain reader finds another thing. It
+/// opens exactly where that finds nothing wrong, and then has the same number and leaves a sound image of the same
+/// set. Else it is refused with the number of the damage, and what is said of it is found there. It verifies exactly
+/// where it opens, with what is read of it.
 pub(crate) fn judge<K: ReadKeys + Probing>(
     alloc: Global,
     bytes: &[u8],

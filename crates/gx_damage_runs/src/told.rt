@@ -1,8 +1,9 @@
-//! What the program says of a device on which one thing was changed: the line of its refusal, and the sentence that a person reads.
+//! What the program says of a device on which one thing was changed: the line of its refusal, and the sentence that a
+//! person reads.
 use crate::device::device;
 use crate::fault::RunFault;
 use gx_class::Box2Class;
-use gx_device_commands::{dump_over, run_over};
+use gx_commands::{dump_over, run_over, verify_over};
 use gx_disk::MemDisk;
 use gx_restart::{Noted, open};
 use std::alloc::Global;
@@ -52,6 +53,24 @@ fn dump(alloc: Global, bytes: &[u8], frames: usize) -> Result<Written, RunFault>
     })
 }
 
+/// What is written as the device is verified.
+fn verify(alloc: Global, bytes: &[u8], frames: usize) -> Result<Written, RunFault> {
+    let mut writer = Noted::new(Vec::new(alloc));
+    let mut faults = Noted::new(Vec::new(alloc));
+    let mut disk = device(alloc, bytes)?;
+    let _status = verify_over::<MemDisk, Box2Class, _, _>(
+        alloc,
+        &mut disk,
+        frames,
+        &mut writer,
+        &mut faults,
+    );
+    Ok(Written {
+        replies: writer.inner,
+        sentence: faults.inner,
+    })
+}
+
 impl Written {
     /// Whether it is this line, and told a person the same as another.
     fn is(&self, line: &str, other: &Written) -> bool {
@@ -70,8 +89,9 @@ fn refused(
     let line = format!(in alloc; "{text}\n")?;
     let ran = run(alloc, bytes, frames)?;
     let dumped = dump(alloc, bytes, frames)?;
-    // (a further command that opens a device is one more of these)
-    if !ran.is(line.as_str(), &ran) || !dumped.is(line.as_str(), &ran) {
+    let verified = verify(alloc, bytes, frames)?;
+    let line = line.as_str();
+    if !ran.is(line, &ran) || !dumped.is(line, &ran) || !verified.is(line, &ran) {
         return Ok(None);
     }
     match String::from_utf8(ran.sentence) {
@@ -83,8 +103,8 @@ fn refused(
     }
 }
 
-/// Opens a device with these bytes, and says what came of it: so many commits, or how it is refused, and what a person reads then.
-/// Nothing where the commands that open it differ.
+/// Opens a device with these bytes, and says what came of it: so many commits, or how it is refused, and what a person
+/// reads then. Nothing where the commands that open it differ.
 pub(crate) fn tell(alloc: Global, bytes: &[u8], frames: usize) -> Result<Option<String>, RunFault> {
     match open::<MemDisk, Box2Class>(alloc, device(alloc, bytes)?, frames) {
         Ok(engine) => {

@@ -55,8 +55,8 @@ struct Case {
 }
 
 impl Case {
-    /// Gets a log ready: the counters are its first batch, and a commit waits for its batch; for a turn the commit's batch is
-    /// written too, and a head put first.
+    /// Gets a log ready: the counters are its first batch, and a commit waits for its batch; for a turn the commit's
+    /// batch is written too, and a head put first.
     fn prepare(self, logged: &mut Logged) -> Result<(), RunFault> {
         let Logged { disk, log } = logged;
         append_counters(log)?;

@@ -1,4 +1,5 @@
 //! Why a line stops the program.
+use crate::storage::StorageFault;
 use gx_geom::Refusal;
 use gx_page::PageFault;
 use std::alloc::{AllocError, AllocFailed};
@@ -19,17 +20,21 @@ pub(crate) enum RunFault {
     Damaged,
     /// A call answered what it never should.
     Unexpected,
+    /// A run of the storage ended before its end.
+    Storage(StorageFault),
 }
 
 impl RunFault {
-    pub(crate) fn name(self) -> &'static str {
+    /// What it is about, and a number.
+    pub(crate) fn told(self) -> (&'static str, u64) {
         match self {
-            RunFault::BadLine => "bad line",
-            RunFault::Memory => "memory",
-            RunFault::Stream => "stream",
-            RunFault::Device => "device",
-            RunFault::Damaged => "damaged",
-            RunFault::Unexpected => "unexpected",
+            RunFault::BadLine => ("bad line", 0),
+            RunFault::Memory => ("memory", 0),
+            RunFault::Stream => ("stream", 0),
+            RunFault::Device => ("device", 0),
+            RunFault::Damaged => ("damaged", 0),
+            RunFault::Unexpected => ("unexpected", 0),
+            RunFault::Storage(fault) => fault.told(),
         }
     }
 }
@@ -66,5 +71,11 @@ impl From<Refusal> for RunFault {
             Refusal::Damaged => RunFault::Damaged,
             _ => RunFault::Unexpected,
         }
+    }
+}
+
+impl From<StorageFault> for RunFault {
+    fn from(fault: StorageFault) -> RunFault {
+        RunFault::Storage(fault)
     }
 }

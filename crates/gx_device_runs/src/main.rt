@@ -1,7 +1,8 @@
-//! Devices, records, frames and the log by public calls, a line of `stdin` each, with what is answered behind it.
+//! What stands on a device below the engine, by public calls, a line of `stdin` each, with what is answered behind it:
+//! devices, records, frames, the log, scans of nodes, and runs of the storage that are drawn.
 //!
-//! An empty line, and one that begins with `#`, is printed as it stands. The first word of any other names what it is about;
-//! a line that can't be done ends the program, with status 1.
+//! An empty line, and one that begins with `#`, is printed as it stands. The first word of any other names what it is
+//! about; a line that can't be done ends the program, with status 1.
 #![tactic(auto)]
 
 mod cases;
@@ -14,7 +15,9 @@ mod parameters;
 mod pools;
 mod records;
 mod runs;
+mod scans;
 mod sectors;
+mod storage;
 mod words;
 
 use fault::RunFault;
@@ -93,6 +96,8 @@ fn on_pages(
         "pool" => pools::call(rt, pool, disk, words),
         "look" => pools::look(rt, pool, words),
         "run" => runs::call(rt, alloc, words),
+        "storage" => storage::call(rt, alloc, words),
+        "scan" => scans::call(rt, alloc, words),
         "record" => records::call(rt, alloc, text, words),
         "text" => records::read(rt, text, words),
         "file" => files::call(rt, words),
@@ -138,8 +143,8 @@ fn main(rt: HostRuntime) -> ExitCode {
     match run(&rt) {
         Ok(()) => ExitCode::from(0),
         Err(fault) => {
-            let fault = fault.name();
-            let _ = println!(rt; " stopped: {fault}");
+            let (what, place) = fault.told();
+            let _ = println!(rt; " stopped: {what} {place}");
             ExitCode::from(1)
         }
     }

@@ -5,9 +5,9 @@ ghost use Rattle.gx_pool.specs.Area.{IsPage, first_of};
 
 use crate::fault::RunFault;
 use crate::words::{Part, count, number_or_zero, say, say_number, say_parts, word};
-use gx_disk::SectorDisk;
+use gx_disk::{MAX_PAGES, PAGE_SECTORS, PAGES_AT, SectorDisk};
 use gx_page::{PAGE_SIZE, Page};
-use gx_pool::{AREA, FRAMES, PAGE_SECTORS, PAGES, PageTest, Pool, PoolFault};
+use gx_pool::{FRAMES, PageTest, Pool, PoolFault};
 use std::alloc::Global;
 use std::str::SplitWhitespace;
 
@@ -40,17 +40,17 @@ struct Numbers {
 pub(crate) fn is_there<D: SectorDisk>(disk: &D, page: u32) -> bool
     ensures { OnTrue result (IsPage (D.state disk.now).sectors page) }
 {
-    if page < 1 || page as usize > PAGES {
+    if page < 1 || page as usize > MAX_PAGES {
         return false;
     }
-    disk.sectors() >= AREA + PAGE_SECTORS * u64::from(page)
+    disk.sectors() >= PAGES_AT + PAGE_SECTORS * u64::from(page)
 }
 
 /// The sector at which a page begins.
 fn first_sector(page: u32) -> u64
     ensures { result ≡ first_of page }
 {
-    AREA + PAGE_SECTORS * u64::from(page.saturating_sub(1))
+    PAGES_AT + PAGE_SECTORS * u64::from(page.saturating_sub(1))
 }
 
 /// Writes the image of a fresh page to the sectors of a place.
@@ -106,7 +106,7 @@ fn change<D: SectorDisk>(
 
 /// The same of a page that is kept.
 fn change_kept(pool: &mut Pool<Leaves>, page: u32, batch: u64, nsn: u64) -> Answer {
-    if page as usize > PAGES || !pool.is_kept(page) {
+    if page as usize > MAX_PAGES || !pool.is_kept(page) {
         return Err(PoolFault::Damaged);
     }
     pool.change_kept(page, batch).set_nsn(nsn);
@@ -136,7 +136,7 @@ fn gate(pool: &mut Pool<Leaves>, batch: u64) -> Answer {
 
 /// A kept page's sequence number.
 fn nsn(pool: &Pool<Leaves>, page: u32) -> Option<u64> {
-    if page as usize > PAGES || !pool.is_kept(page) {
+    if page as usize > MAX_PAGES || !pool.is_kept(page) {
         return None;
     }
     Some(pool.page(page).nsn())
@@ -257,7 +257,8 @@ fn say_look<R: Print>(rt: &R, found: Option<u64>) -> Result<(), RunFault> {
     }
 }
 
-/// A line that looks at the pool: a page's sequence number, the least page that may be written, how many are dirty or kept.
+/// A line that looks at the pool: a page's sequence number, the least page that may be written, how many are dirty or
+/// kept.
 pub(crate) fn look<R: Print>(
     rt: &R,
     pool: &Pool<Leaves>,

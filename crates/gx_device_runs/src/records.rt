@@ -25,7 +25,8 @@ fn is_read(given: &Record<'_>, bytes: &[u8], size: usize) -> bool {
     matches!(Record::decode(bytes, KEY), Some((read, taken)) if read == *given && taken == size)
 }
 
-/// Whether the record is read from its spelling, with nothing and with something behind it, and nothing from a shorter front.
+/// Whether the record is read from its spelling, with nothing and with something behind it, and nothing from a shorter
+/// front.
 fn reads_back(given: &Record<'_>, text: &[u8], size: usize) -> bool {
     if size >= text.len() {
         return false;

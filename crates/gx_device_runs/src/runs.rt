@@ -2,14 +2,15 @@
 use crate::fault::RunFault;
 use crate::pools::{Leaves, empty, is_there};
 use crate::words::{Part, number, say_parts, truth, word};
-use gx_disk::{Fuse, FuseDisk, MemDisk, SectorDisk};
-use gx_pool::{PAGES, Pool, PoolFault};
+use gx_disk::{Fuse, FuseDisk, MAX_PAGES, MemDisk, SectorDisk};
+use gx_pool::{Pool, PoolFault};
 use rand_core::utils::NextWord;
 use rand_pcg::Pcg32;
 use std::alloc::Global;
 use std::str::SplitWhitespace;
 
-/// A pool of 16 frames, and of each page the sequence number that it was last given; none was made yet of a page without one.
+/// A pool of 16 frames, and of each page the sequence number that it was last given; none was made yet of a page
+/// without one.
 #[derive(Drop)]
 struct Run {
     pool: Pool<Leaves>,
@@ -54,7 +55,7 @@ fn bring_or_make<D: SectorDisk>(
 
 /// Gives a kept page a sequence number, as a change of that batch.
 fn change(run: &mut Run, page: u32, step: u64) -> bool {
-    if page as usize > PAGES || !run.pool.is_kept(page) {
+    if page as usize > MAX_PAGES || !run.pool.is_kept(page) {
         return false;
     }
     run.pool.change_kept(page, step).set_nsn(step);
@@ -66,7 +67,7 @@ fn change(run: &mut Run, page: u32, step: u64) -> bool {
 
 /// Whether a page is kept with the sequence number that it was last given.
 fn is_right(run: &Run, page: u32) -> bool {
-    if page as usize > PAGES || !run.pool.is_kept(page) {
+    if page as usize > MAX_PAGES || !run.pool.is_kept(page) {
         return false;
     }
     Some(run.pool.page(page).nsn()) == last_of(run, page)
@@ -88,8 +89,8 @@ struct Step {
     changes: bool,
 }
 
-/// Takes a step: every fourth gates all batches before it, a page is written where one may be, and one is read, and perhaps
-/// changed. The first fault ends it.
+/// Takes a step: every fourth gates all batches before it, a page is written where one may be, and one is read, and
+/// perhaps changed. The first fault ends it.
 fn take_step<D: SectorDisk>(run: &mut Run, disk: &mut D, step: Step) -> Option<PoolFault> {
     let Step {
         number,
@@ -111,8 +112,8 @@ fn take_step<D: SectorDisk>(run: &mut Run, disk: &mut D, step: Step) -> Option<P
     None
 }
 
-/// Writes all that was changed up to a step, and says whether each page below a number then reads from the device as it was
-/// last given.
+/// Writes all that was changed up to a step, and says whether each page below a number then reads from the device as it
+/// was last given.
 fn ends_well<D: SectorDisk>(run: &mut Run, disk: &mut D, step: u64, pages: u32) -> bool {
     run.pool.gated(step);
     for _frame in 0..16 {

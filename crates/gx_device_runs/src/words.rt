@@ -12,6 +12,17 @@ pub(crate) fn number(words: &mut SplitWhitespace<'_>) -> Result<u64, RunFault> {
     word(words)?.parse::<u64>().ok().ok_or(RunFault::BadLine)
 }
 
+/// The next words as numbers.
+pub(crate) fn numbers<const N: usize>(
+    words: &mut SplitWhitespace<'_>,
+) -> Result<[u64; N], RunFault> {
+    let mut numbers = [0; N];
+    for place in &mut numbers {
+        *place = number(words)?;
+    }
+    Ok(numbers)
+}
+
 /// The next word as a number, 0 where there is none.
 pub(crate) fn number_or_zero(words: &mut SplitWhitespace<'_>) -> Result<u64, RunFault> {
     match words.next() {

@@ -92,3 +92,11 @@ pub record Syncs {T E : Type 0} (old new : Device) (result : Result T E) : Type 
   pub pending : OnErr result (SamePending old new)
   pub rests : Rests old new
   pub time : Elapses old new
+
+-- it has as many sectors as before, and is as honest
+abbrev pub SameDevice : Device → Device → Type 0
+SameDevice old new = (new.sectors ≡ old.sectors) × (new.honest ≡ old.honest)
+
+-- where a call failed there is one fault more, and no other
+abbrev pub CountsFault : {T E : Type 0} → Device → Device → Result T E → Type 0
+CountsFault old new result = MatchResult result (λ _. new.faults ≡ old.faults) (λ _. new.faults ≡ old.faults + 1)

@@ -31,13 +31,15 @@ pub trait SectorDisk {
     fn read(&mut self, first: u64, buffer: &mut [u8]) -> Result<(), DiskFault>
         requires { IsSpan (state self.old).sectors first (length buffer.old) }
         ensures counts { Counts 0 (state self.old) (state self.new) result }
-        ensures reads { (state self.old).honest ≡ true → Reads first buffer.new (state self.old) (state self.new) result };
+        ensures reads { (state self.old).honest ≡ true
+            → Reads first buffer.new (state self.old) (state self.new) result };
 
     /// Writes whole sectors.
     fn write(&mut self, first: u64, bytes: &[u8]) -> Result<(), DiskFault>
         requires { IsSpan (state self.old).sectors first (length bytes.now) }
         ensures counts { Counts 1 (state self.old) (state self.new) result }
-        ensures writes { (state self.old).honest ≡ true → Writes first (length bytes.now / SECTOR_SIZE) bytes.now (state self.old) (state self.new) result };
+        ensures writes { (state self.old).honest ≡ true
+            → Writes first (length bytes.now / SECTOR_SIZE) bytes.now (state self.old) (state self.new) result };
 
     /// Settles every sector.
     fn sync(&mut self) -> Result<(), DiskFault>
@@ -48,8 +50,10 @@ pub trait SectorDisk {
     ghost whole: { (d : Self) → (state d).honest ≡ true → length (state d).seen ≡ 512 * (state d).sectors };
 
     /// This moment is one of those since an earlier one.
-    ghost counts_now: { (d : Self) (t : ℕ) (image : List ℕ) → (state d).honest ≡ true → t ≤ (state d).moment → MayLeave (state d) image → (state d).left_since t image };
+    ghost counts_now: { (d : Self) (t : ℕ) (image : List ℕ) → (state d).honest ≡ true → t ≤ (state d).moment
+        → MayLeave (state d) image → (state d).left_since t image };
 
     /// Since this moment there is no other.
-    ghost only_now: { (d : Self) (image : List ℕ) → (state d).honest ≡ true → (state d).left_since (state d).moment image → MayLeave (state d) image };
+    ghost only_now: { (d : Self) (image : List ℕ) → (state d).honest ≡ true
+        → (state d).left_since (state d).moment image → MayLeave (state d) image };
 }

@@ -16,8 +16,9 @@ const SECTOR: u64 = SECTOR_SIZE as u64;
 /// The greatest descriptor that a standard stream has.
 const LAST_STREAM: i32 = 2;
 
-/// A file of whole sectors, which no other opener of this kind has. Its descriptor is no standard stream's, also where those are closed: so
-/// nothing that a program writes to its output can reach the file, and its input is never read from it.
+/// A file of whole sectors, which no other opener of this kind has. Its descriptor is no standard stream's, also where
+/// those are closed: so nothing that a program writes to its output can reach the file,
+/// and its input is never read from it.
 #[derive(Drop)]
 pub struct FileDisk {
     file: File,

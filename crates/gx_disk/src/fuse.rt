@@ -137,13 +137,19 @@ impl<D: SectorDisk> SectorDisk for FuseDisk<D> {
 
     fn read(&mut self, first: u64, buffer: &mut [u8]) -> Result<(), DiskFault>
         requires { IsSpan (D.state self.old.inner).sectors first (length buffer.old) }
-        ensures counts { Counts 0 (⟦<FuseDisk<D> as SectorDisk>⟧.state self.old) (⟦<FuseDisk<D> as SectorDisk>⟧.state self.new) result }
-        ensures reads { (D.state self.old.inner).honest ≡ true → Reads first buffer.new (⟦<FuseDisk<D> as SectorDisk>⟧.state self.old) (⟦<FuseDisk<D> as SectorDisk>⟧.state self.new) result }
-        ensures burns { Burns self.old.fuse self.new.fuse self.old.done self.new.done self.old.left self.new.left self.old.blown self.new.blown }
+        ensures counts { Counts 0 (⟦<FuseDisk<D> as SectorDisk>⟧.state self.old)
+            (⟦<FuseDisk<D> as SectorDisk>⟧.state self.new) result }
+        ensures reads { (D.state self.old.inner).honest ≡ true
+            → Reads first buffer.new (⟦<FuseDisk<D> as SectorDisk>⟧.state self.old)
+            (⟦<FuseDisk<D> as SectorDisk>⟧.state self.new) result }
+        ensures burns { Burns self.old.fuse self.new.fuse self.old.done self.new.done self.old.left self.new.left
+            self.old.blown self.new.blown }
         ensures passed { self.new.passed
             ≡ passed_after (blows self.old.left self.old.blown self.old.fuse) self.old.passed }
-        ensures fails { blows self.old.left self.old.blown self.old.fuse ≡ true → IsErr result × (self.new.inner ≡ self.old.inner) }
-        ensures passes { blows self.old.left self.old.blown self.old.fuse ≡ false → Counts 0 (D.state self.old.inner) (D.state self.new.inner) result }
+        ensures fails { blows self.old.left self.old.blown self.old.fuse ≡ true
+            → IsErr result × (self.new.inner ≡ self.old.inner) }
+        ensures passes { blows self.old.left self.old.blown self.old.fuse ≡ false
+            → Counts 0 (D.state self.old.inner) (D.state self.new.inner) result }
     {
         if burn(&mut self.left, &mut self.blown, self.fuse) {
             return counted(&mut self.faults, Err(DiskFault::Fuse));
@@ -154,16 +160,23 @@ impl<D: SectorDisk> SectorDisk for FuseDisk<D> {
 
     fn write(&mut self, first: u64, bytes: &[u8]) -> Result<(), DiskFault>
         requires { IsSpan (D.state self.old.inner).sectors first (length bytes.now) }
-        ensures counts { Counts 1 (⟦<FuseDisk<D> as SectorDisk>⟧.state self.old) (⟦<FuseDisk<D> as SectorDisk>⟧.state self.new) result }
-        ensures writes { (D.state self.old.inner).honest ≡ true → Writes first (length bytes.now / SECTOR_SIZE) bytes.now (⟦<FuseDisk<D> as SectorDisk>⟧.state self.old) (⟦<FuseDisk<D> as SectorDisk>⟧.state self.new) result }
-        ensures burns { Burns self.old.fuse self.new.fuse self.old.done self.new.done self.old.left self.new.left self.old.blown self.new.blown }
+        ensures counts { Counts 1 (⟦<FuseDisk<D> as SectorDisk>⟧.state self.old)
+            (⟦<FuseDisk<D> as SectorDisk>⟧.state self.new) result }
+        ensures writes { (D.state self.old.inner).honest ≡ true
+            → Writes first (length bytes.now / SECTOR_SIZE) bytes.now (⟦<FuseDisk<D> as SectorDisk>⟧.state self.old)
+            (⟦<FuseDisk<D> as SectorDisk>⟧.state self.new) result }
+        ensures burns { Burns self.old.fuse self.new.fuse self.old.done self.new.done self.old.left self.new.left
+            self.old.blown self.new.blown }
         ensures passed { self.new.passed
             ≡ passed_after (blows self.old.left self.old.blown self.old.fuse) self.old.passed }
         ensures fails { blows self.old.left self.old.blown self.old.fuse ≡ true → IsErr result }
-        ensures not_made { blows self.old.left self.old.blown self.old.fuse ≡ true → self.old.done ≡ false → self.new.inner ≡ self.old.inner }
+        ensures not_made { blows self.old.left self.old.blown self.old.fuse ≡ true → self.old.done ≡ false
+            → self.new.inner ≡ self.old.inner }
         ensures made { blows self.old.left self.old.blown self.old.fuse ≡ true → self.old.done ≡ true
-            → IsMade first (length bytes.now / SECTOR_SIZE) bytes.now (D.state self.old.inner) (D.state self.new.inner) }
-        ensures passes { blows self.old.left self.old.blown self.old.fuse ≡ false → Counts 1 (D.state self.old.inner) (D.state self.new.inner) result }
+            → IsMade first (length bytes.now / SECTOR_SIZE) bytes.now
+            (D.state self.old.inner) (D.state self.new.inner) }
+        ensures passes { blows self.old.left self.old.blown self.old.fuse ≡ false
+            → Counts 1 (D.state self.old.inner) (D.state self.new.inner) result }
     {
         self.calls = self.calls.next();
         if burn(&mut self.left, &mut self.blown, self.fuse) {
@@ -177,13 +190,19 @@ impl<D: SectorDisk> SectorDisk for FuseDisk<D> {
     }
 
     fn sync(&mut self) -> Result<(), DiskFault>
-        ensures counts { Counts 1 (⟦<FuseDisk<D> as SectorDisk>⟧.state self.old) (⟦<FuseDisk<D> as SectorDisk>⟧.state self.new) result }
-        ensures syncs { (D.state self.old.inner).honest ≡ true → Syncs (⟦<FuseDisk<D> as SectorDisk>⟧.state self.old) (⟦<FuseDisk<D> as SectorDisk>⟧.state self.new) result }
-        ensures burns { Burns self.old.fuse self.new.fuse self.old.done self.new.done self.old.left self.new.left self.old.blown self.new.blown }
+        ensures counts { Counts 1 (⟦<FuseDisk<D> as SectorDisk>⟧.state self.old)
+            (⟦<FuseDisk<D> as SectorDisk>⟧.state self.new) result }
+        ensures syncs { (D.state self.old.inner).honest ≡ true
+            → Syncs (⟦<FuseDisk<D> as SectorDisk>⟧.state self.old)
+            (⟦<FuseDisk<D> as SectorDisk>⟧.state self.new) result }
+        ensures burns { Burns self.old.fuse self.new.fuse self.old.done self.new.done self.old.left self.new.left
+            self.old.blown self.new.blown }
         ensures passed { self.new.passed
             ≡ passed_after (blows self.old.left self.old.blown self.old.fuse) self.old.passed }
-        ensures fails { blows self.old.left self.old.blown self.old.fuse ≡ true → IsErr result × (self.new.inner ≡ self.old.inner) }
-        ensures passes { blows self.old.left self.old.blown self.old.fuse ≡ false → Counts 1 (D.state self.old.inner) (D.state self.new.inner) result }
+        ensures fails { blows self.old.left self.old.blown self.old.fuse ≡ true
+            → IsErr result × (self.new.inner ≡ self.old.inner) }
+        ensures passes { blows self.old.left self.old.blown self.old.fuse ≡ false
+            → Counts 1 (D.state self.old.inner) (D.state self.new.inner) result }
     {
         self.calls = self.calls.next();
         if burn(&mut self.left, &mut self.blown, self.fuse) {

@@ -1,5 +1,7 @@
 //! A device in memory. It keeps a record of its writes and syncs, since a crash may fall at each earlier moment.
-ghost use Rattle.std.specs.Prelude.{◌≡◌, ◌+◌, ◌-◌, ◌*◌, ◌/◌, ◌%◌, ◌<◌, ◌≤◌, ℕ, List, [], ◌∷◌, ◌++◌, length, take, drop, replicate, Bool, false, true, IsTrue, IsOk, IfOk, IfErr, OnOk, OnErr, vec_len, vec_capacity};
+ghost use Rattle.std.specs.Prelude.{◌≡◌, ◌+◌, ◌-◌, ◌*◌, ◌/◌, ◌%◌, ◌<◌, ◌≤◌, ℕ, List, [], ◌∷◌};
+ghost use Rattle.std.specs.Prelude.{◌++◌, length, take, drop, replicate, Bool, false, true};
+ghost use Rattle.std.specs.Prelude.{IsTrue, IsOk, IfOk, IfErr, OnOk, OnErr, vec_len, vec_capacity};
 ghost use Rattle.gx_disk.specs.Sectors.{IsSpan, put};
 ghost use Rattle.gx_disk.specs.Device.{IsImage, Counts, Reads, Writes, Syncs};
 ghost use Rattle.gx_disk.specs.Memory.{pending_after, bytes_at, device_of, IsKept};
@@ -26,7 +28,8 @@ pub enum Torn {
 // A write or sync that was made.
 #[derive(Clone, Copy)]
 pub(crate) enum Call {
-    // So many sectors from the first on. Of the last ones the overwritten bytes aren't kept, since they stayed as they were.
+    // So many sectors from the first on.
+    // Of the last ones the overwritten bytes aren't kept, since they stayed as they were.
     Write {
         first: usize,
         sectors: usize,
@@ -101,10 +104,12 @@ fn remember(
     call: Call,
     bytes: &[u8],
 ) -> Result<(), AllocError>
-    ensures ok { OnOk result ((past.new.items ≡ past.old.items ++ call ∷ []) × (kept.new.items ≡ kept.old.items ++ bytes.now)) }
+    ensures ok { OnOk result ((past.new.items ≡ past.old.items ++ call ∷ [])
+        × (kept.new.items ≡ kept.old.items ++ bytes.now)) }
     ensures err { OnErr result ((past.new.items ≡ past.old.items) × (kept.new.items ≡ kept.old.items)) }
     ensures succeeds { HasRoom 1 (length bytes.now) past.old kept.old → IsOk result }
-    ensures room { (c n : ℕ) → HasRoom (c + 1) (n + length bytes.now) past.old kept.old → HasRoom c n past.new kept.new }
+    ensures room { (c n : ℕ) → HasRoom (c + 1) (n + length bytes.now) past.old kept.old
+        → HasRoom c n past.new kept.new }
 {
     past.reserve(1)?;
     kept.extend_from_slice(bytes)?;
@@ -122,7 +127,7 @@ pub(crate) fn overwrite(bytes: &mut Vec<u8>, at: usize, new: &[u8])
 }
 
 impl MemDisk {
-    #[tactic(auto, unfolding(crate::specs::Memory::total_kept, crate::specs::Memory::pending_after, crate::specs::Memory::fit_all))]
+    #[tactic(auto, unfolding(crate::specs::Memory::total_kept, crate::specs::Memory::fit_all))]
     /// A device of these bytes, which are whole sectors, with nothing pending.
     pub fn from_bytes(alloc: Global, bytes: Vec<u8>) -> MemDisk
         requires { length bytes.items % 512 ≡ 0 }
@@ -154,12 +159,14 @@ impl MemDisk {
         Ok(MemDisk::from_bytes(alloc, bytes))
     }
 
-    /// Takes room for the record of so many writes and syncs that write so many sectors in all. Refused where there is none.
+    /// Takes room for the record of so many writes and syncs that write so many sectors in all.
+    /// Refused where there is none.
     pub fn reserve(&mut self, calls: usize, sectors: usize) -> Result<(), AllocError>
         ensures room { OnOk result (HasRoom calls (512 * sectors) self.new.past self.new.kept) }
         ensures bytes { self.new.bytes ≡ self.old.bytes }
         ensures past { (self.new.past.items ≡ self.old.past.items) × (self.new.kept.items ≡ self.old.kept.items) }
-        ensures rest { (self.new.sectors ≡ self.old.sectors) × (self.new.synced ≡ self.old.synced) × (self.new.faults ≡ self.old.faults) × (self.new.calls ≡ self.old.calls) }
+        ensures rest { (self.new.sectors ≡ self.old.sectors) × (self.new.synced ≡ self.old.synced)
+            × (self.new.faults ≡ self.old.faults) × (self.new.calls ≡ self.old.calls) }
     {
         let Some(size) = sectors.checked_mul(SECTOR_SIZE) else {
             return Err(AllocError);
@@ -168,8 +175,9 @@ impl MemDisk {
         self.kept.reserve(size)
     }
 
-    /// Cuts the device to its first sectors, with nothing pending. Its record begins anew; faults and calls are counted on.
-    #[tactic(auto, unfolding(crate::specs::Memory::total_kept, crate::specs::Memory::pending_after, crate::specs::Memory::fit_all))]
+    /// Cuts the device to its first sectors, with nothing pending. Its record begins anew;
+    /// faults and calls are counted on.
+    #[tactic(auto, unfolding(crate::specs::Memory::total_kept, crate::specs::Memory::fit_all))]
     pub fn cut(&mut self, sectors: usize)
         requires { sectors ≤ self.old.sectors }
         ensures sectors { self.new.sectors ≡ sectors }
@@ -193,12 +201,13 @@ impl MemDisk {
         count_pending(behind(&self.past, self.synced), self.sectors)
     }
 
-    #[tactic(auto, unfolding(crate::specs::Memory::total_kept, crate::specs::Memory::pending_after, crate::specs::Memory::fit_all))]
+    #[tactic(auto, unfolding(crate::specs::Memory::total_kept, crate::specs::Memory::fit_all))]
     /// A crash. The i-th unsynced sector by number takes the choice i mod the number of choices; with none all are old.
     /// Afterwards nothing is pending, and the record begins anew; faults and calls are counted on.
     pub fn crash(&mut self, torn: &[Torn])
         ensures crash { IsCrash self.old.sectors (pending_after self.old.past.items false) torn.now
-            (bytes_at self.old.synced self.old.past.items self.old.kept.items self.old.bytes.items) self.old.bytes.items self.new.bytes.items }
+            (bytes_at self.old.synced self.old.past.items self.old.kept.items self.old.bytes.items)
+            self.old.bytes.items self.new.bytes.items }
         ensures image { IsImage self.old.bytes.items (pending_after self.old.past.items false) self.new.bytes.items }
         ensures past { self.new.past.items ≡ [] }
         ensures sectors { self.new.sectors ≡ self.old.sectors }
@@ -220,9 +229,11 @@ impl SectorDisk for MemDisk {
 
     ghost whole = { λ d honest. d.whole };
 
-    ghost counts_now = { λ d t image honest. image_counts d.sectors d.past.items d.kept.items d.bytes.items d.faults.count d.calls.count t image };
+    ghost counts_now = { λ d t image honest. image_counts d.sectors d.past.items d.kept.items d.bytes.items
+        d.faults.count d.calls.count t image };
 
-    ghost only_now = { λ d image honest. image_is_now d.sectors d.past.items d.kept.items d.bytes.items d.faults.count d.calls.count image };
+    ghost only_now = { λ d image honest. image_is_now d.sectors d.past.items d.kept.items d.bytes.items
+        d.faults.count d.calls.count image };
 
     fn sectors(&self) -> u64 {
         self.sectors as u64
@@ -237,11 +248,14 @@ impl SectorDisk for MemDisk {
 
     fn write(&mut self, first: u64, bytes: &[u8]) -> Result<(), DiskFault>
         requires { IsSpan self.old.sectors first (length bytes.now) }
-        ensures counts { Counts 1 (⟦<MemDisk as SectorDisk>⟧.state self.old) (⟦<MemDisk as SectorDisk>⟧.state self.new) result }
-        ensures writes { Writes first (length bytes.now / SECTOR_SIZE) bytes.now (⟦<MemDisk as SectorDisk>⟧.state self.old) (⟦<MemDisk as SectorDisk>⟧.state self.new) result }
+        ensures counts { Counts 1 (⟦<MemDisk as SectorDisk>⟧.state self.old)
+            (⟦<MemDisk as SectorDisk>⟧.state self.new) result }
+        ensures writes { Writes first (length bytes.now / SECTOR_SIZE) bytes.now
+            (⟦<MemDisk as SectorDisk>⟧.state self.old) (⟦<MemDisk as SectorDisk>⟧.state self.new) result }
         ensures fault { IfErr result (λ fault. fault ≡ DiskFault.Memory) }
         ensures room { HasRoom 1 (length bytes.now) self.old.past self.old.kept → IsOk result }
-        ensures left { (c n : ℕ) → HasRoom (c + 1) (n + length bytes.now) self.old.past self.old.kept → HasRoom c n self.new.past self.new.kept }
+        ensures left { (c n : ℕ) → HasRoom (c + 1) (n + length bytes.now) self.old.past self.old.kept
+            → HasRoom c n self.new.past self.new.kept }
     {
         self.calls = self.calls.next();
         let first = first as usize;
@@ -264,11 +278,14 @@ impl SectorDisk for MemDisk {
     }
 
     fn sync(&mut self) -> Result<(), DiskFault>
-        ensures counts { Counts 1 (⟦<MemDisk as SectorDisk>⟧.state self.old) (⟦<MemDisk as SectorDisk>⟧.state self.new) result }
-        ensures syncs { Syncs (⟦<MemDisk as SectorDisk>⟧.state self.old) (⟦<MemDisk as SectorDisk>⟧.state self.new) result }
+        ensures counts { Counts 1 (⟦<MemDisk as SectorDisk>⟧.state self.old)
+            (⟦<MemDisk as SectorDisk>⟧.state self.new) result }
+        ensures syncs { Syncs (⟦<MemDisk as SectorDisk>⟧.state self.old)
+            (⟦<MemDisk as SectorDisk>⟧.state self.new) result }
         ensures fault { IfErr result (λ fault. fault ≡ DiskFault.Memory) }
         ensures room { HasRoom 1 0 self.old.past self.old.kept → IsOk result }
-        ensures left { (c n : ℕ) → HasRoom (c + 1) n self.old.past self.old.kept → HasRoom c n self.new.past self.new.kept }
+        ensures left { (c n : ℕ) → HasRoom (c + 1) n self.old.past self.old.kept
+            → HasRoom c n self.new.past self.new.kept }
     {
         self.calls = self.calls.next();
         match remember(&mut self.past, &mut self.kept, Call::Sync, &[]) {

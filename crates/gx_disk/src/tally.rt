@@ -37,7 +37,8 @@ impl Tally {
 /// A call's outcome. A refusal counts as one fault.
 pub(crate) fn counted(faults: &mut Tally, outcome: Result<(), DiskFault>) -> Result<(), DiskFault>
     ensures outcome { result ≡ outcome }
-    ensures faults { MatchResult outcome (λ _. faults.new.count ≡ faults.old.count) (λ _. faults.new.count ≡ faults.old.count + 1) }
+    ensures faults { MatchResult outcome (λ _. faults.new.count ≡ faults.old.count)
+        (λ _. faults.new.count ≡ faults.old.count + 1) }
 {
     if let Err(fault) = outcome {
         *faults = faults.next();

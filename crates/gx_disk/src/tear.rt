@@ -1,7 +1,9 @@
 //! What a crash does to the bytes of a device in memory.
-ghost use Rattle.std.specs.Prelude.{◌≡◌, ◌+◌, ◌*◌, ◌<◌, ◌≤◌, ℕ, List, length, drop, take, true, false, IfSome, MatchOption, if◌then◌else◌};
+ghost use Rattle.std.specs.Prelude.{◌≡◌, ◌+◌, ◌*◌, ◌<◌, ◌≤◌, ℕ, List, length, drop, take};
+ghost use Rattle.std.specs.Prelude.{true, false, IfSome, MatchOption, if◌then◌else◌};
 ghost use Rattle.gx_disk.specs.Sectors.{IsOutside, sector_of, put};
-ghost use Rattle.gx_disk.specs.Memory.{pending_next, pending_after, size_kept, total_kept, place_kept, fit_all, bytes_before};
+ghost use Rattle.gx_disk.specs.Memory.{pending_next, pending_after, size_kept};
+ghost use Rattle.gx_disk.specs.Memory.{total_kept, place_kept, fit_all, bytes_before};
 ghost use Rattle.gx_disk.specs.Crash.{choice_of, torn_bytes, pending_below, crashed, IsCrash};
 
 use crate::device::SECTOR_SIZE;
@@ -69,8 +71,10 @@ fn old_bytes<'a>(calls: &[Call], kept: &'a [u8], sectors: usize, s: usize) -> Op
     requires sized { total_kept calls.now ≡ length kept.now }
     ensures size { IfSome result (λ old. length old.now ≡ 512) }
     ensures old { MatchOption result
-        ((now : List ℕ) → length now ≡ 512 * sectors → sector_of (bytes_before calls.now kept.now now) s ≡ sector_of now s)
-        (λ old. (now : List ℕ) → length now ≡ 512 * sectors → sector_of (bytes_before calls.now kept.now now) s ≡ old.now) }
+        ((now : List ℕ) → length now ≡ 512 * sectors
+        → sector_of (bytes_before calls.now kept.now now) s ≡ sector_of now s)
+        (λ old. (now : List ℕ) → length now ≡ 512 * sectors
+        → sector_of (bytes_before calls.now kept.now now) s ≡ old.now) }
 {
     let mut rest = kept;
     for call in calls {
@@ -120,7 +124,8 @@ fn tear_sector(
     requires inside { s < sectors }
     ensures size { length bytes.new.items ≡ length bytes.old.items }
     ensures torn { (now : List ℕ) → length now ≡ 512 * sectors → sector_of now s ≡ sector_of bytes.old.items s
-        → sector_of bytes.new.items s ≡ torn_bytes torn (sector_of (bytes_before calls.now kept.now now) s) (sector_of now s) }
+        → sector_of bytes.new.items s ≡ torn_bytes torn
+        (sector_of (bytes_before calls.now kept.now now) s) (sector_of now s) }
     ensures others { (r : ℕ) → IsOutside s 1 r → sector_of bytes.new.items r ≡ sector_of bytes.old.items r }
 {
     match torn {
@@ -161,8 +166,10 @@ fn tear_next(
     ensures size { length bytes.new.items ≡ length bytes.old.items }
     ensures count { result ≡ i + (if pending_after calls.now false s then 1 else 0) }
     ensures bound { result ≤ i + 1 }
-    ensures there { (now : List ℕ) → length now ≡ 512 * sectors → sector_of now s ≡ sector_of bytes.old.items s → i ≡ pending_below (pending_after calls.now false) s
-        → sector_of bytes.new.items s ≡ crashed (pending_after calls.now false) torn.now (bytes_before calls.now kept.now now) now s }
+    ensures there { (now : List ℕ) → length now ≡ 512 * sectors → sector_of now s ≡ sector_of bytes.old.items s
+        → i ≡ pending_below (pending_after calls.now false) s
+        → sector_of bytes.new.items s ≡ crashed (pending_after calls.now false) torn.now
+        (bytes_before calls.now kept.now now) now s }
     ensures others { (r : ℕ) → IsOutside s 1 r → sector_of bytes.new.items r ≡ sector_of bytes.old.items r }
 {
     let pending = is_pending(calls, s);
@@ -177,7 +184,8 @@ pub(crate) fn tear(bytes: &mut Vec<u8>, calls: &[Call], kept: &[u8], sectors: us
     requires fits { fit_all sectors calls.now ≡ true }
     requires sized { total_kept calls.now ≡ length kept.now }
     requires whole { length bytes.old.items ≡ 512 * sectors }
-    ensures { IsCrash sectors (pending_after calls.now false) torn.now (bytes_before calls.now kept.now bytes.old.items) bytes.old.items bytes.new.items }
+    ensures { IsCrash sectors (pending_after calls.now false) torn.now (bytes_before calls.now kept.now bytes.old.items)
+        bytes.old.items bytes.new.items }
 {
     let mut i = 0;
     for s in 0..sectors {

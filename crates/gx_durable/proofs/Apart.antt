@@ -1,5 +1,6 @@
 -- The calls of a log leave the pages as the device has them.
 use Rattle.std.proofs.Common.{arith}
+use Rattle.gx_disk.specs.declared.layout.TheConstants.{LOG_AT, LOG_SECTORS}
 use Rattle.gx_disk.specs.Device.{Device, Touches}
 use Rattle.gx_glog.specs.declared.stage.Turn.{Turn}
 use Rattle.gx_glog.specs.declared.stage.Turn.TheVariants as turn
@@ -8,8 +9,8 @@ use Rattle.gx_pool.specs.Elsewhere.{LeavesPages}
 
 module _ (d e : Device) where
   -- gates and bodies stand ahead of the pages
-  pub batches_apart : Touches 8 4160 d e → LeavesPages d e
-  batches_apart touches = record { first = 8; count = 4160; ahead = omega arith; touches = touches }
+  pub batches_apart : Touches LOG_AT LOG_SECTORS d e → LeavesPages d e
+  batches_apart touches = record { first = LOG_AT; count = LOG_SECTORS; ahead = omega arith; touches = touches }
 
   -- and so does the selector
   pub turn_apart : (call : Turn) → TouchesIn call d e → LeavesPages d e

@@ -2,6 +2,7 @@
 use Rattle.std.proofs.Common.{◌≡◌, sym, ap, subst, ◌<◌, arith}
 use Rattle.gx_record.specs.Rec.{Rec}
 use Rattle.gx_record.specs.Format.{IsInRange, spelling}
+use Rattle.gx_glog.specs.declared.extent.TheConstants.{PLACES}
 use Rattle.gx_glog.specs.declared.filling.Appended.{Appended}
 use Rattle.gx_glog.specs.declared.filling.Appended.TheVariants.{At, NoRoom}
 use Rattle.gx_glog.specs.Appending.{Appends}
@@ -20,7 +21,7 @@ use Rattle.gx_durable.proofs.Spellings.{spelling_adds}
 use Rattle.gx_durable.proofs.Stamping.{longer_placed, same_placed}
 
 module _ {E P : Type 0} (k : Known E P) (r : Reading E P) (x : Rec) (old new : Log) where
-  pub append_up : (result : Appended) → IsInRange x → old.used < 32 → Appends (spelling x) old new result → AppendStaysUp k r x old new result
+  pub append_up : (result : Appended) → IsInRange x → old.used < PLACES → Appends (spelling x) old new result → AppendStaysUp k r x old new result
   append_up (At place) range room appends sectors seen pending bodies s l key may fit up =
       let still = appends.3 in
       let U : Log → Type 0 = λ g. Up k r g sectors seen pending bodies (appended (record_read r x) s) in

@@ -1,5 +1,6 @@
 -- Bodies told one by one.
 use Rattle.std.proofs.Common.{◌≡◌, ℕ, zero, suc, ◌+◌, ◌<◌, ◌≤◌, List, [], ◌∷◌, ◌++◌, refl, ap, ◌∙◌, true, false, arith}
+use Rattle.gx_glog.specs.declared.extent.TheConstants.{PLACES}
 use Rattle.gx_glog.specs.declared.extent.Extent.{Extent}
 use Rattle.gx_glog.specs.Layout.{selected_of, is_open, body_of, records_in, open_run}
 use Rattle.gx_glog.proofs.Gates.{run_is}
@@ -25,12 +26,12 @@ bodies_same xs ys extent (suc n) same =
     rw (before, last) refl
 
 -- which bodies an image has whose first n gates are open, and the next closed
-pub open_are : (extent : Extent) (n : ℕ) (image : List ℕ) → selected_of image ≡ extent → n ≤ 32 → ((k : ℕ) → k < n → is_open image extent k ≡ true) → (n < 32 → is_open image extent n ≡ false)
+pub open_are : (extent : Extent) (n : ℕ) (image : List ℕ) → selected_of image ≡ extent → n ≤ PLACES → ((k : ℕ) → k < n → is_open image extent k ≡ true) → (n < PLACES → is_open image extent n ≡ false)
     → open_bodies image ≡ bodies_in image extent n
 unfolding open_bodies
 open_are extent n image selects few opened closed =
     let there : 0 + n ≡ n = omega arith in
-    let run : open_run image extent 0 32 ≡ n = run_is extent 32 0 n image few (λ j from below. opened j (omega arith)) (λ less. ap (λ j. is_open image extent j) there ∙ closed less) in
+    let run : open_run image extent 0 PLACES ≡ n = run_is extent PLACES 0 n image few (λ j from below. opened j (omega arith)) (λ less. ap (λ j. is_open image extent j) there ∙ closed less) in
     rw selects (ap (λ m. bodies_in image extent m) run)
 
 module _ {E P : Type 0} (r : Reading E P) where

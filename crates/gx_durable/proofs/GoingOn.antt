@@ -4,19 +4,18 @@ use Rattle.std.proofs.Math.Path.{fun_ext}
 use Rattle.std.specs.Prelude.{OnOk, nat_le, nat_lt}
 use Rattle.std.proofs.lemmas.List.{append-nil}
 use Rattle.gx_geom.specs.declared.refusal.Refusal.{Refusal}
+use Rattle.gx_disk.specs.declared.layout.TheConstants.{PAGES_AT}
 use Rattle.gx_disk.specs.Device.{Device}
 use Rattle.gx_disk.specs.Sectors.{sector_of}
 use Rattle.gx_disk.proofs.Leaving.{leaves_weaker}
 use Rattle.gx_disk.proofs.Spans.{spans_same}
 use Rattle.gx_glog.specs.declared.extent.Extent.{Extent}
 use Rattle.gx_glog.specs.Cuts.{open_bodies}
-use Rattle.gx_glog.specs.declared.stage.Stage.TheVariants.{Idle}
-use Rattle.gx_glog.specs.declared.stage.Turn.TheVariants.{Closed}
 use Rattle.gx_glog.specs.Later.{KeepsRun, IsClosedBehind, ClosesLater}
 use Rattle.gx_glog.specs.Layout.{selected_of, body_of, size_in}
 use Rattle.gx_glog.specs.Reading.{IsSize}
 use Rattle.gx_glog.specs.Standing.{HasBatches}
-use Rattle.gx_glog.specs.State.{Log}
+use Rattle.gx_glog.specs.State.{starting}
 use Rattle.gx_glog.proofs.Gates.{placed, body_same}
 use Rattle.gx_pool.specs.Area.{bytes_of, first_of}
 use Rattle.gx_pool.specs.State.{State, Kept, kept, stamp_of}
@@ -46,7 +45,7 @@ use Rattle.gx_durable.proofs.Opening.{found_up}
 use Rattle.gx_durable.proofs.Storing.{stored_as}
 
 -- pages read the same where their sectors do
-same_pages : {E P : Type 0} (r : Reading E P) (pages : ℕ) (xs ys : List ℕ) → ((s : ℕ) → 4168 ≤ s → sector_of xs s ≡ sector_of ys s) → (p : ℕ) → area_of r pages xs p ≡ area_of r pages ys p
+same_pages : {E P : Type 0} (r : Reading E P) (pages : ℕ) (xs ys : List ℕ) → ((s : ℕ) → PAGES_AT ≤ s → sector_of xs s ≡ sector_of ys s) → (p : ℕ) → area_of r pages xs p ≡ area_of r pages ys p
 unfolding area_of
 same_pages r pages xs ys same p =
     by_test (nat_lt 0 p && nat_le p pages) (r.content (bytes_of xs p)) (r.content (bytes_of ys p)) r.no_page
@@ -61,7 +60,7 @@ module _ {E P : Type 0} (k : Known E P) (r : Reading E P) where
   found_goes sectors seen pending bodies is closed =
       let up = found_up k r sectors seen pending bodies is.settled is.size is.pages is.sizes is.told is.undamaged is.good is.head in
       record {
-        on = record { sound = up.may_turn.sound; batches = closed; flight = tt; turn = up.may_turn.turn; quiet = up.may_turn.quiet };
+        on = record { sound = up.may_turn.sound; batches = closed; flight = tt; turn = up.may_turn.turn; quiet = up.may_turn.quiet; tails = up.may_turn.tails };
         carries = up.carries;
       }
 
@@ -119,7 +118,7 @@ module _ {E P : Type 0} (k : Known E P) (r : Reading E P) where
         let at = placed x in
         same_head image d.seen (keeps.others 0 (inl (omega arith))) (keeps.others 1 (inl (let from = at.from in omega (arith, from))))
 
-    pages_kept : (image : List ℕ) → KeepsRun x n d.seen image → (s : ℕ) → 4168 ≤ s → sector_of image s ≡ sector_of d.seen s
+    pages_kept : (image : List ℕ) → KeepsRun x n d.seen image → (s : ℕ) → PAGES_AT ≤ s → sector_of image s ≡ sector_of d.seen s
     pages_kept image keeps s from = let at = placed x in keeps.others s (inr (omega (arith, at.bodies, at.to, from)))
 
     -- each body is as it was
@@ -134,12 +133,8 @@ module _ {E P : Type 0} (k : Known E P) (r : Reading E P) where
     kept_stands : IsLawful k → (image : List ℕ) → KeepsRun x n d.seen image → Stands k r (found_state k r d.seen bodies) image
     kept_stands l image keeps = same_log_stands l d.sectors d.seen d.pending bodies image is (head_kept image keeps) keeps.bodies (kept_sizes image keeps) (pages_kept image keeps)
 
-    -- a log at this extent and place
-    abbrev glog_at : Extent → ℕ → Log
-    glog_at extent gated = record { extent = extent; used = gated; gated = gated; stage = Idle; turn = Closed; flight = []; filling = [] }
-
     same_glog : KeepsRun x n d.seen e.seen → found_glog e.seen ≡ found_glog d.seen
-    same_glog keeps = ap (λ (extent : Extent). glog_at extent (opened e.seen)) keeps.selected ∙ ap (λ (gated : ℕ). glog_at x gated) keeps.run
+    same_glog keeps = ap (λ (extent : Extent). starting extent (opened e.seen)) keeps.selected ∙ ap (λ (gated : ℕ). starting x gated) keeps.run
 
     closed_found : e.sectors ≡ d.sectors → KeepsRun x n d.seen e.seen → IsClosedBehind x n e → IsClosedFound k r d e bodies
     closed_found sectors keeps behind =

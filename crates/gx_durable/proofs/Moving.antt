@@ -1,6 +1,7 @@
 -- What a call in the log's sectors leaves of the page area, and how moves of the kept sets join.
 use Rattle.std.proofs.Common.{◌≡◌, ◌∙◌, sym, refl, inl, inr, ℕ, ◌+◌, ◌≤◌, Bool, true, false, ◌||◌, List, [], ◌++◌, arith}
 use Rattle.std.proofs.lemmas.List.Folds.{list_any-append}
+use Rattle.gx_disk.specs.declared.layout.TheConstants.{PAGES_AT, PAGE_SECTORS}
 use Rattle.gx_disk.specs.Device.{Device, Touches}
 use Rattle.gx_disk.proofs.Spans.{touched_span}
 use Rattle.gx_pool.specs.Area.{first_of}
@@ -17,11 +18,11 @@ use Rattle.gx_durable.proofs.Areas.{page_same}
 
 module _ {E P : Type 0} (r : Reading E P) (pages sectors : ℕ) (has : HasPages pages sectors) where
   -- a call in front of the pages leaves each
-  pub area_elsewhere : (first n : ℕ) (old new : Device) → first + n ≤ 4168 → Touches first n old new → (p : ℕ) → area_of r pages new.seen p ≡ area_of r pages old.seen p
+  pub area_elsewhere : (first n : ℕ) (old new : Device) → first + n ≤ PAGES_AT → Touches first n old new → (p : ℕ) → area_of r pages new.seen p ≡ area_of r pages old.seen p
   area_elsewhere first n old new front touches p =
-      page_same r pages sectors has p new.seen old.seen (λ is. touched_span first n (first_of p) 8 old new touches (inl (omega arith)))
+      page_same r pages sectors has p new.seen old.seen (λ is. touched_span first n (first_of p) PAGE_SECTORS old new touches (inl (omega arith)))
 
-pub settled_elsewhere : (first n sectors : ℕ) (old new : Device) → first + n ≤ 4168 → Touches first n old new → (named : ℕ → Bool) → IsSettledBut named sectors old.pending → IsSettledBut named sectors new.pending
+pub settled_elsewhere : (first n sectors : ℕ) (old new : Device) → first + n ≤ PAGES_AT → Touches first n old new → (named : ℕ → Bool) → IsSettledBut named sectors old.pending → IsSettledBut named sectors new.pending
 settled_elsewhere first n sectors old new front touches named settled p s is unnamed within =
     touches.settled s (inr (omega (arith, within.from))) (settled p s is unnamed within)
 

@@ -4,14 +4,15 @@ use Rattle.std.proofs.lemmas.Bool.{cases_lt}
 use Rattle.gx_geom.specs.declared.refusal.Refusal.{Refusal}
 use Rattle.gx_disk.specs.Device.{Device, IsImage, Counts}
 use Rattle.gx_disk.proofs.Leaving.{call_leaves}
+use Rattle.gx_glog.specs.declared.extent.TheConstants.{PLACES}
 use Rattle.gx_glog.specs.declared.extent.Extent.{Extent}
 use Rattle.gx_glog.specs.declared.stage.Turn.{Turn}
 use Rattle.gx_glog.specs.declared.stage.Turn.TheVariants as turn
-use Rattle.gx_glog.specs.Layout.{selected_of, other_of, is_open, open_run}
+use Rattle.gx_glog.specs.Layout.{selected_of, is_open, open_run}
 use Rattle.gx_glog.specs.State.{Log, turning}
 use Rattle.gx_glog.specs.State as log_state
 use Rattle.gx_glog.specs.Standing.{MayTurn}
-use Rattle.gx_glog.specs.Turning.{TurnCalls, GoesOnTurning, KeepsMayTurn}
+use Rattle.gx_glog.specs.Turning.{TurnCallFor, GoesOnTurning, KeepsMayTurn}
 use Rattle.gx_glog.proofs.Images.{turn_shows_bodies}
 use Rattle.gx_glog.proofs.Keeping.{start_may_turn, on_may_turn}
 use Rattle.gx_glog.specs.Cuts.{bodies_in, open_bodies}
@@ -63,7 +64,7 @@ run_ends bytes extent (suc places) k true is less =
     rw is (ap (λ n. is_open bytes extent n) same ∙ rest)
 run_ends bytes extent (suc places) k false is less = let here : k + 0 ≡ k = omega arith in rw is (ap (λ n. is_open bytes extent n) here ∙ is)
 
-open_bodies_are : (seen : List ℕ) → open_bodies seen ≡ bodies_in seen (selected_of seen) (open_run seen (selected_of seen) 0 32)
+open_bodies_are : (seen : List ℕ) → open_bodies seen ≡ bodies_in seen (selected_of seen) (open_run seen (selected_of seen) 0 PLACES)
 unfolding open_bodies
 open_bodies_are seen = refl
 
@@ -71,18 +72,18 @@ module _ {E P : Type 0} (k : Known E P) (r : Reading E P) where
   pub found_up : FoundIsUpToTurn k r
   found_up sectors seen pending bodies settled size pages sizes told undamaged good says =
       let x = selected_of seen in
-      let n = open_run seen x 0 32 in
+      let n = open_run seen x 0 PLACES in
       let first : is_open seen x 0 ≡ is_open seen x 0 = refl in
-      let few : n ≤ 32 = run_within seen x 32 0 (is_open seen x 0) first in
+      let few : n ≤ PLACES = run_within seen x PLACES 0 (is_open seen x 0) first in
       let B : List (List ℕ) → Type 0 = λ b. AreBodies r b bodies in
       let start : 0 + n ≡ n = omega arith in
       record {
         may_turn = start_may_turn x n seen pending few (record { reads = refl; settled = settled 2 }) (record {
           size = size;
-          opened = λ j less. record { reads = run_opened seen x 32 0 j (is_open seen x 0) first (omega arith) (omega (arith, less)); settled = settled _ };
+          opened = λ j less. record { reads = run_opened seen x PLACES 0 j (is_open seen x 0) first (omega arith) (omega (arith, less)); settled = settled _ };
           bodies = λ j less s within. settled s;
           sizes = sizes;
-          ends = λ less. record { reads = sym (ap (λ m. is_open seen x m) start) ∙ run_ends seen x 32 0 (is_open seen x 0) first less; settled = settled _ };
+          ends = λ less. record { reads = sym (ap (λ m. is_open seen x m) start) ∙ run_ends seen x PLACES 0 (is_open seen x 0) first less; settled = settled _ };
         });
         carries = record {
           told = record { gated_bodies = subst B (open_bodies_are seen) told; gated = refl; flight = none_are r; filling = none_are r };
@@ -130,13 +131,13 @@ module _ {E P : Type 0} (k : Known E P) (r : Reading E P) where
 
   -- a step of the turn of a log that was found
   pub first_turn : (old new : Log) (d e : Device) (result : Result Turn Refusal) → Counts 1 d e result → log_state.Turns old new result
-      → (d.honest ≡ true → TurnCalls old.turn (other_of old.extent) old.flight d e result) → (d.honest ≡ true → MayTurn old d.seen d.pending → KeepsMayTurn old new d e result)
+      → (d.honest ≡ true → TurnCallFor old.turn old d e result) → (d.honest ≡ true → MayTurn old d.seen d.pending → KeepsMayTurn old new d e result)
       → FirstTurnKeeps k r old new d e result
   first_turn old new d e result counts turns call keeps bodies s l honest up may =
       let kept_so = keeps honest up.may_turn in
       let f = front_of old.turn d e kept_so.touches in
       let t : Logged E P = steps.turned k may.next result s in
-      let few : old.gated ≤ 32 = omega (arith, up.may_turn.sound.places, up.may_turn.sound.few) in
+      let few : old.gated ≤ PLACES = omega (arith, up.may_turn.sound.places, up.may_turn.sound.few) in
       let C : ℕ → Type 0 = λ n. Carries k r new n e.seen e.pending (bodies_turned k may.next result bodies s) t in
       let carries = subst C (sym counts.sectors) (turn_carries k l r old d e bodies s up.carries may up.may_turn.idle f few new result turns (call honest) kept_so.gated) in
       let after = stands_so new e (bodies_turned k may.next result bodies s) t result kept_so.stands carries in

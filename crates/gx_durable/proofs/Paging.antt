@@ -1,7 +1,9 @@
 -- A page's write keeps the log up and the pool's stamps.
 use Rattle.std.proofs.Common.{◌≡◌, ◌∙◌, sym, ap, refl, subst, inl, inr, ℕ, ◌≤◌, Bool, true, List, ◌++◌, Option, None, Some, arith}
 use Rattle.std.proofs.lemmas.Bool.{leb-true}
+use Rattle.gx_disk.specs.declared.layout.TheConstants.{PAGE_SECTORS}
 use Rattle.gx_disk.specs.Device.{Device, Elapses, Touches}
+use Rattle.gx_glog.specs.declared.extent.TheConstants.{PLACES}
 use Rattle.gx_glog.specs.State.{Log, turning}
 use Rattle.gx_glog.specs.Standing.{LeavesLog}
 use Rattle.gx_glog.proofs.Besides.{page_is_apart}
@@ -46,7 +48,7 @@ stamps_name log frames s stamped page may =
     stamped.gated page told.0 told.1 (omega (arith, told.2, stamped.behind))
 
 module _ {E P : Type 0} (k : Known E P) (r : Reading E P) (d e : Device) (log : Log) (bodies : List (List (Record E P))) (s : Logged E P) where
-  body_is_kept : LeavesLog d.seen e.seen d.pending e.pending → log.gated ≤ 32 → bodies_in e.seen log.extent log.gated ≡ bodies_in d.seen log.extent log.gated
+  body_is_kept : LeavesLog d.seen e.seen d.pending e.pending → log.gated ≤ PLACES → bodies_in e.seen log.extent log.gated ≡ bodies_in d.seen log.extent log.gated
   body_is_kept leaves few =
       let at = placed log.extent in
       bodies_same e.seen d.seen log.extent log.gated
@@ -62,7 +64,7 @@ module _ {E P : Type 0} (k : Known E P) (r : Reading E P) (d e : Device) (log : 
       → Up k r log d.sectors d.seen d.pending bodies s → Up k r log e.sectors e.seen e.pending bodies (rewritten r k.pages e.seen s)
   page_up l still sectors leaves keeps says up =
       let c = up.carries in
-      let few : log.gated ≤ 32 = omega (arith, up.on.sound.places, up.on.sound.few) in
+      let few : log.gated ≤ PLACES = omega (arith, up.on.sound.places, up.on.sound.few) in
       let B : List (List ℕ) → Type 0 = λ b. AreBodies r b bodies in
       let H : ℕ → Type 0 = λ n. HasPages k.pages n in
       record {
@@ -81,15 +83,15 @@ module _ {E P : Type 0} (k : Known E P) (r : Reading E P) (d e : Device) (log : 
       }
 
 -- a page's write, after which what is dirty was so with the same stamp
-pub page_runs : {E P : Type 0} (k : Known E P) (r : Reading E P) (frames frames' : State) (d e : Device) (page : ℕ) → e.sectors ≡ d.sectors → (d.honest ≡ true → Touches (first_of page) 8 d e) → (d.honest ≡ true → Elapses d e)
+pub page_runs : {E P : Type 0} (k : Known E P) (r : Reading E P) (frames frames' : State) (d e : Device) (page : ℕ) → e.sectors ≡ d.sectors → (d.honest ≡ true → Touches (first_of page) PAGE_SECTORS d e) → (d.honest ≡ true → Elapses d e)
     → ((named : ℕ → Bool) → d.honest ≡ true → NamesGated named frames → IsAreaSettled named d → KeepsArea named d e) → frames'.gated ≡ frames.gated
     → ((q n : ℕ) → stamp_of (kept frames' q) ≡ Some n → stamp_of (kept frames q) ≡ Some n) → IsPage d.sectors page → ((q : ℕ) → contents_of (kept frames' q) ≡ contents_of (kept frames q))
     → (kept frames page ≡ None → e.seen ≡ d.seen) → PageKeepsRunning k r frames frames' d e
 page_runs {E} {P} k r frames frames' d e page sectors touches time area gated dirty here contents rests log bodies s l honest closed runs =
     let still : turning log.turn ≡ 0 = ap turning closed in
-    let leaves = touched_leaves (first_of page) 8 d e (λ n of_log. page_is_apart (first_of page) 8 n (omega arith) of_log) (touches honest) in
+    let leaves = touched_leaves (first_of page) PAGE_SECTORS d e (λ n of_log. page_is_apart (first_of page) PAGE_SECTORS n (omega arith) of_log) (touches honest) in
     let keeps = area (is_given s.gated) honest (stamps_name log frames s runs.stamped) runs.up.carries.settled in
-    let says = touched_head k.head (first_of page) 8 d e (omega arith) (touches honest) runs.up.carries.head in
+    let says = touched_head k.head (first_of page) PAGE_SECTORS d e (omega arith) (touches honest) runs.up.carries.head in
     let up = page_up k r d e log bodies s l still sectors leaves keeps says runs.up in
     let now = rewritten r k.pages e.seen s in
     let beside = outside_beside k r d e log bodies s runs.up keeps.seen in

@@ -4,6 +4,7 @@ use Rattle.std.specs.Prelude.{◌==◌, if◌then◌else◌, nat_le, nat_lt}
 use Rattle.std.proofs.Math.Decide.{ℕ_discrete}
 use Rattle.std.proofs.Math.Path.{fun_ext}
 use Rattle.std.proofs.lemmas.Bool.{eqb-true, lt-ltb, le-leb}
+use Rattle.gx_disk.specs.declared.layout.TheConstants.{PAGE_SECTORS}
 use Rattle.gx_disk.specs.Device.{Device, Touches}
 use Rattle.gx_disk.proofs.Spans.{touched_span}
 use Rattle.gx_page.specs.Contents.{Contents}
@@ -45,11 +46,11 @@ kept_bytes (Some k) (Some j) was now same rests =
     let both : ◌≡◌ {A = Option Contents} (Some j.page) (Some k.page) = same in let one : j.page ≡ k.page = cc in ap image_of one
 
 -- a page that isn't in a frame has the bytes that it had, whichever page was written
-other_bytes : (d e : Device) (frames : State) (page p : ℕ) → IsPage d.sectors page → IsPage d.sectors p → Touches (first_of page) 8 d e → (kept frames page ≡ None → e.seen ≡ d.seen)
+other_bytes : (d e : Device) (frames : State) (page p : ℕ) → IsPage d.sectors page → IsPage d.sectors p → Touches (first_of page) PAGE_SECTORS d e → (kept frames page ≡ None → e.seen ≡ d.seen)
     → kept frames p ≡ None → bytes_of e.seen p ≡ bytes_of d.seen p
 other_bytes d e frames page p here there touches rests none = elim (ℕ_discrete p page) [
   | yes this ↦ ap (λ (seen : List ℕ). bytes_of seen p) (rests (sym (ap (λ q. kept frames q) this) ∙ none))
-  | no other ↦ touched_span (first_of page) 8 (first_of p) 8 d e touches (pages_apart page p here.from there.from (λ same. other (sym same)))
+  | no other ↦ touched_span (first_of page) PAGE_SECTORS (first_of p) PAGE_SECTORS d e touches (pages_apart page p here.from there.from (λ same. other (sym same)))
 ]
 
 redone_more : {E P : Type 0} (area : ℕ → P) (xs ys : List (Record E P)) → redone area (xs ++ ys) ≡ redone (redone area xs) ys
@@ -58,7 +59,7 @@ redone_more area (x ∷ xs) ys = redone_more (redo area x) xs ys
 
 module _ {E P : Type 0} (r : Reading E P) where
   -- a page's write leaves what is stored
-  pub write_stores : (pages : ℕ) (frames frames' : State) (d e : Device) (page : ℕ) → HasPages pages d.sectors → IsPage d.sectors page → Touches (first_of page) 8 d e
+  pub write_stores : (pages : ℕ) (frames frames' : State) (d e : Device) (page : ℕ) → HasPages pages d.sectors → IsPage d.sectors page → Touches (first_of page) PAGE_SECTORS d e
       → ((q : ℕ) → contents_of (kept frames' q) ≡ contents_of (kept frames q)) → (kept frames page ≡ None → e.seen ≡ d.seen)
       → (p : ℕ) → stored r pages frames' e.seen p ≡ stored r pages frames d.seen p
   unfolding stored

@@ -64,15 +64,16 @@ module _ {E P : Type 0} (frames : State) where
   }
 
   -- a log with another stage
-  staged : (due : Log) (stage : Stage) (s : Logged E P) → Stamped due frames s → Stamped (record due { stage = stage }) frames s
-  staged due stage s stamped = record { behind = stamped.behind; places = stamped.places; gated = stamped.gated; flight = stamped.flight }
+  staged : (due : Log) (stage : Stage) (tails : List ℕ) (s : Logged E P) → Stamped due frames s
+      → Stamped (record due { stage = stage; tails = tails }) frames s
+  staged due stage tails s stamped = record { behind = stamped.behind; places = stamped.places; gated = stamped.gated; flight = stamped.flight }
 
   by_stage : (due : Log) (stage : Stage) (s : Logged E P) → stage ≡ due.stage → in_flight due.stage ≡ 1 → due.used ≡ due.gated + 1 → Stamped due frames s
       → Stamped (after stage due) (told_frames (Ok stage) (after stage due) frames) (stepped (Ok stage) s)
   by_stage due Idle s is flying places stamped = stamped
-  by_stage due Body s is flying places stamped = staged due BodySync s stamped
-  by_stage due BodySync s is flying places stamped = staged due Gate s stamped
-  by_stage due Gate s is flying places stamped = staged due GateSync s stamped
+  by_stage due Body s is flying places stamped = staged due BodySync due.tails s stamped
+  by_stage due BodySync s is flying places stamped = staged due Gate (after BodySync due).tails s stamped
+  by_stage due Gate s is flying places stamped = staged due GateSync due.tails s stamped
   by_stage due GateSync s is flying places stamped = synced_stamped due s places stamped
 
   made_stamped : (due new : Log) (result : Result Stage Refusal) (s : Logged E P) → Made due new result → in_flight due.stage ≡ 1 → due.used ≡ due.gated + 1 → Stamped due frames s

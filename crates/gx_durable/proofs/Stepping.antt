@@ -1,9 +1,11 @@
 -- A step of the log keeps it up.
 use Rattle.std.proofs.Common.{◌≡◌, ◌∙◌, sym, ap, refl, subst, inl, inr, ℕ, ◌+◌, ◌*◌, ◌<◌, ◌≤◌, List, [], ◌∷◌, ◌++◌, length, Result, Ok, Err, arith}
 use Rattle.gx_geom.specs.declared.refusal.Refusal.{Refusal}
+use Rattle.gx_disk.specs.declared.layout.TheConstants.{LOG_AT, LOG_SECTORS}
 use Rattle.gx_disk.specs.Device.{Device, Elapses, Touches}
 use Rattle.gx_disk.specs.Moments.{Leaves}
 use Rattle.gx_disk.proofs.Leaving.{call_leaves}
+use Rattle.gx_glog.specs.declared.extent.TheConstants.{BODY_SECTORS, PLACES}
 use Rattle.gx_glog.specs.declared.extent.Extent.{Extent}
 use Rattle.gx_glog.specs.declared.stage.Stage.{Stage}
 use Rattle.gx_glog.specs.declared.stage.Stage.TheVariants.{Body, BodySync, Gate, GateSync, Idle}
@@ -11,7 +13,8 @@ use Rattle.gx_glog.specs.Layout.{gates_of, bodies_of, body_of, records_in}
 use Rattle.gx_glog.specs.Bodies.{HasRecords}
 use Rattle.gx_glog.specs.State.{Log, in_flight, turning, begun, after, Made, Goes, GoesFrom}
 use Rattle.gx_glog.specs.Standing.{Flies}
-use Rattle.gx_glog.specs.Steps.{Calls, CallOf, Keeps}
+use Rattle.gx_glog.specs.Steps.{CallFor, CallOf, Calls, Keeps}
+use Rattle.gx_glog.specs.Tails.{tail_of}
 use Rattle.gx_glog.proofs.Gates.{placed}
 use Rattle.gx_glog.proofs.Stepping.{room_left}
 use Rattle.gx_glog.proofs.Keeping.{touched_kept, rested_kept, body_kept}
@@ -38,28 +41,28 @@ use Rattle.gx_durable.proofs.Moving.{area_elsewhere, settled_elsewhere, given_fe
 use Rattle.gx_durable.proofs.Spellings.{one_way, none_are}
 
 -- a call of a batch in flight leaves the bodies before it
-call_bodies : {T : Type 0} → (stage : Stage) (extent : Extent) (n : ℕ) (flight : List ℕ) (before now : Device) (result : Result T Refusal) → in_flight stage ≡ 1 → n < 32
-    → Calls stage extent n flight before now result → (j : ℕ) → j < n → body_of now.seen extent j ≡ body_of before.seen extent j
-call_bodies Idle extent n flight before now result flying few calls j less = absurd (omega arith)
-call_bodies Body extent n flight before now result flying few calls j less =
+call_bodies : {T : Type 0} → (stage : Stage) (extent : Extent) (n sectors : ℕ) (flight : List ℕ) (before now : Device) (result : Result T Refusal) → in_flight stage ≡ 1 → n < PLACES
+    → Calls stage extent n sectors flight before now result → (j : ℕ) → j < n → body_of now.seen extent j ≡ body_of before.seen extent j
+call_bodies Idle extent n sectors flight before now result flying few calls j less = absurd (omega arith)
+call_bodies Body extent n sectors flight before now result flying few calls j less =
     body_kept before.seen now.seen before.pending now.pending extent j
-    (λ s within. touched_kept (bodies_of extent + 64 * n) 64 s before now calls.2.touches (inl (omega (arith, within.below))))
-call_bodies BodySync extent n flight before now result flying few calls j less =
+    (λ s within. touched_kept (bodies_of extent + BODY_SECTORS * n) sectors s before now calls.3.touches (inl (omega (arith, within.below))))
+call_bodies BodySync extent n sectors flight before now result flying few calls j less =
     body_kept before.seen now.seen before.pending now.pending extent j (λ s within. rested_kept s before now calls.rests)
-call_bodies Gate extent n flight before now result flying few calls j less =
+call_bodies Gate extent n sectors flight before now result flying few calls j less =
     body_kept before.seen now.seen before.pending now.pending extent j
     (λ s within. touched_kept (gates_of extent + n) 1 s before now calls.2.touches (inr (let at = placed extent in omega (arith, at.bodies, within.from))))
-call_bodies GateSync extent n flight before now result flying few calls j less =
+call_bodies GateSync extent n sectors flight before now result flying few calls j less =
     body_kept before.seen now.seen before.pending now.pending extent j (λ s within. rested_kept s before now calls.rests)
 
 -- and the gate's sync leaves the body in flight too
-synced_body : {T : Type 0} → (stage : Stage) (extent : Extent) (n : ℕ) (flight : List ℕ) (before now : Device) (result : Result T Refusal) → stage ≡ GateSync
-    → Calls stage extent n flight before now result → body_of now.seen extent n ≡ body_of before.seen extent n
-synced_body Idle extent n flight before now result is calls = cc
-synced_body Body extent n flight before now result is calls = cc
-synced_body BodySync extent n flight before now result is calls = cc
-synced_body Gate extent n flight before now result is calls = cc
-synced_body GateSync extent n flight before now result is calls =
+synced_body : {T : Type 0} → (stage : Stage) (extent : Extent) (n sectors : ℕ) (flight : List ℕ) (before now : Device) (result : Result T Refusal) → stage ≡ GateSync
+    → Calls stage extent n sectors flight before now result → body_of now.seen extent n ≡ body_of before.seen extent n
+synced_body Idle extent n sectors flight before now result is calls = cc
+synced_body Body extent n sectors flight before now result is calls = cc
+synced_body BodySync extent n sectors flight before now result is calls = cc
+synced_body Gate extent n sectors flight before now result is calls = cc
+synced_body GateSync extent n sectors flight before now result is calls =
     body_kept before.seen now.seen before.pending now.pending extent n (λ s within. rested_kept s before now calls.rests)
 
 -- what a step finds: a batch in flight or about to be, whose state the device carries
@@ -68,18 +71,22 @@ pub record Due {E P : Type 0} (k : Known E P) (r : Reading E P) (due : Log) (bef
   pub flying : in_flight due.stage ≡ 1
   pub still : turning due.turn ≡ 0
   pub places : due.used ≡ due.gated + 1
-  pub few : due.gated < 32
+  pub few : due.gated < PLACES
   pub body : due.stage ≡ GateSync → HasRecords due.flight (body_of before.seen due.extent due.gated)
 
 module _ {E P : Type 0} (k : Known E P) (l : IsLawful k) (r : Reading E P) (due : Log) (before now : Device) (bodies : List (List (Record E P))) (s : Logged E P)
-    (d : Due k r due before bodies s) (touches : Touches 8 4160 before now) where
+    (d : Due k r due before bodies s) (touches : Touches LOG_AT LOG_SECTORS before now) where
   flight_is : AreRecords r due.flight s.flight
   flight_is = let A : List ℕ → Type 0 = λ bytes. AreRecords r bytes s.flight in subst A (batch_flies due.stage due.flight d.flying) d.carries.told.flight
 
+  -- how many sectors of its body are written
+  abbrev sectors : ℕ
+  sectors = tail_of due.tails due.extent due.gated
+
   -- the batch is still in flight
-  goes_flying : (stage : Stage) → in_flight stage ≡ 1 → bodies_in now.seen due.extent due.gated ≡ bodies_in before.seen due.extent due.gated
-      → Carries k r (record due { stage = stage }) before.sectors now.seen now.pending bodies s
-  goes_flying stage flying same = record {
+  goes_flying : (stage : Stage) (tails : List ℕ) → in_flight stage ≡ 1 → bodies_in now.seen due.extent due.gated ≡ bodies_in before.seen due.extent due.gated
+      → Carries k r (record due { stage = stage; tails = tails }) before.sectors now.seen now.pending bodies s
+  goes_flying stage tails flying same = record {
     told = record {
       gated_bodies = (let B : List (List ℕ) → Type 0 = λ b. AreBodies r b bodies in subst B (sym same) d.carries.told.gated_bodies);
       gated = d.carries.told.gated;
@@ -90,9 +97,9 @@ module _ {E P : Type 0} (k : Known E P) (l : IsLawful k) (r : Reading E P) (due 
     healthy = d.carries.healthy;
     fit = d.carries.fit;
     has_pages = d.carries.has_pages;
-    head = touched_head k.head 8 4160 before now (omega arith) touches d.carries.head;
-    area = λ p. d.carries.area p ∙ sym (area_elsewhere r k.pages before.sectors d.carries.has_pages 8 4160 before now (omega arith) touches p);
-    settled = settled_elsewhere 8 4160 before.sectors before now (omega arith) touches (is_given s.gated) d.carries.settled;
+    head = touched_head k.head LOG_AT LOG_SECTORS before now (omega arith) touches d.carries.head;
+    area = λ p. d.carries.area p ∙ sym (area_elsewhere r k.pages before.sectors d.carries.has_pages LOG_AT LOG_SECTORS before now (omega arith) touches p);
+    settled = settled_elsewhere LOG_AT LOG_SECTORS before.sectors before now (omega arith) touches (is_given s.gated) d.carries.settled;
     turn = λ turns. absurd (omega (arith, d.still));
   }
 
@@ -115,55 +122,55 @@ module _ {E P : Type 0} (k : Known E P) (l : IsLawful k) (r : Reading E P) (due 
         healthy = synced_healthy k l s d.carries.healthy;
         fit = synced_fit k r s d.carries.fit;
         has_pages = d.carries.has_pages;
-        head = touched_head k.head 8 4160 before now (omega arith) touches d.carries.head;
-        area = λ p. d.carries.area p ∙ sym (area_elsewhere r k.pages before.sectors d.carries.has_pages 8 4160 before now (omega arith) touches p);
+        head = touched_head k.head LOG_AT LOG_SECTORS before now (omega arith) touches d.carries.head;
+        area = λ p. d.carries.area p ∙ sym (area_elsewhere r k.pages before.sectors d.carries.has_pages LOG_AT LOG_SECTORS before now (omega arith) touches p);
         settled = λ p t is unnamed within.
-            settled_elsewhere 8 4160 before.sectors before now (omega arith) touches (is_given s.gated) d.carries.settled p t is (given_fewer s.gated s.flight p unnamed) within;
+            settled_elsewhere LOG_AT LOG_SECTORS before.sectors before now (omega arith) touches (is_given s.gated) d.carries.settled p t is (given_fewer s.gated s.flight p unnamed) within;
         turn = λ turns. absurd (omega (arith, d.still));
       }
 
-  by_stage : (stage : Stage) → stage ≡ due.stage → Calls stage due.extent due.gated due.flight before now (Ok stage)
+  by_stage : (stage : Stage) → stage ≡ due.stage → CallFor stage due before now (Ok stage)
       → Carries k r (after stage due) before.sectors now.seen now.pending (bodies_stepped (Ok stage) bodies s) (stepped (Ok stage) s)
   by_stage Idle is calls = absurd (let none : in_flight Idle ≡ in_flight due.stage = ap in_flight is in omega (arith, d.flying))
   by_stage Body is calls =
-      goes_flying BodySync refl (bodies_same now.seen before.seen due.extent due.gated (call_bodies Body due.extent due.gated due.flight before now (Ok Body) refl d.few calls))
+      goes_flying BodySync due.tails refl (bodies_same now.seen before.seen due.extent due.gated (call_bodies Body due.extent due.gated sectors due.flight before now (Ok Body) refl d.few calls))
   by_stage BodySync is calls =
-      goes_flying Gate refl (bodies_same now.seen before.seen due.extent due.gated (call_bodies BodySync due.extent due.gated due.flight before now (Ok BodySync) refl d.few calls))
+      goes_flying Gate (after BodySync due).tails refl (bodies_same now.seen before.seen due.extent due.gated (call_bodies BodySync due.extent due.gated sectors due.flight before now (Ok BodySync) refl d.few calls))
   by_stage Gate is calls =
-      goes_flying GateSync refl (bodies_same now.seen before.seen due.extent due.gated (call_bodies Gate due.extent due.gated due.flight before now (Ok Gate) refl d.few calls))
+      goes_flying GateSync due.tails refl (bodies_same now.seen before.seen due.extent due.gated (call_bodies Gate due.extent due.gated sectors due.flight before now (Ok Gate) refl d.few calls))
   by_stage GateSync is calls =
-      goes_gated (bodies_same now.seen before.seen due.extent due.gated (call_bodies GateSync due.extent due.gated due.flight before now (Ok GateSync) refl d.few calls))
-      (ap records_in (synced_body GateSync due.extent due.gated due.flight before now (Ok GateSync) refl calls) ∙ (d.body (sym is)).bytes)
+      goes_gated (bodies_same now.seen before.seen due.extent due.gated (call_bodies GateSync due.extent due.gated sectors due.flight before now (Ok GateSync) refl d.few calls))
+      (ap records_in (synced_body GateSync due.extent due.gated sectors due.flight before now (Ok GateSync) refl calls) ∙ (d.body (sym is)).bytes)
 
   -- the call that was due was made, or failed
-  pub made_carries : (new : Log) (result : Result Stage Refusal) → Made due new result → Calls {T = Stage} due.stage due.extent due.gated due.flight before now result
+  pub made_carries : (new : Log) (result : Result Stage Refusal) → Made due new result → CallFor {T = Stage} due.stage due before now result
       → Carries k r new before.sectors now.seen now.pending (bodies_stepped result bodies s) (stepped result s)
   made_carries new (Ok stage) made calls =
       let L : Log → Type 0 = λ x. Carries k r x before.sectors now.seen now.pending (bodies_stepped (Ok stage) bodies s) (stepped (Ok stage) s) in
-      let M : Stage → Type 0 = λ t. Calls {T = Stage} t due.extent due.gated due.flight before now (Ok stage) in
+      let M : Stage → Type 0 = λ t. CallFor {T = Stage} t due before now (Ok stage) in
       let goes : new ≡ after stage due = made.1 ∙ ap (λ t. after t due) (sym made.0) in
       subst L (sym goes) (by_stage stage made.0 (subst M (sym made.0) calls))
   made_carries new (Err refusal) made calls =
       let L : Log → Type 0 = λ x. Carries k r x before.sectors now.seen now.pending bodies s in
       subst L (sym made.1)
-      (goes_flying due.stage d.flying (bodies_same now.seen before.seen due.extent due.gated (call_bodies due.stage due.extent due.gated due.flight before now (Err refusal) d.flying d.few calls)))
+      (goes_flying due.stage due.tails d.flying (bodies_same now.seen before.seen due.extent due.gated (call_bodies due.stage due.extent due.gated sectors due.flight before now (Err refusal) d.flying d.few calls)))
 
-calls_were : (stage : Stage) (due new : Log) (before now : Device) → new ≡ after stage due → Calls {T = Stage} stage new.extent new.gated new.flight before now (Ok stage)
-    → Calls {T = Stage} stage due.extent due.gated due.flight before now (Ok stage)
+calls_were : (stage : Stage) (due new : Log) (before now : Device) → new ≡ after stage due → CallFor {T = Stage} stage new before now (Ok stage)
+    → CallFor {T = Stage} stage due before now (Ok stage)
 calls_were Idle due new before now is calls = tt
-calls_were Body due new before now is calls = let C : Log → Type 0 = λ x. Calls {T = Stage} Body x.extent x.gated x.flight before now (Ok Body) in subst C is calls
+calls_were Body due new before now is calls = let C : Log → Type 0 = λ x. CallFor {T = Stage} Body x before now (Ok Body) in subst C is calls
 calls_were BodySync due new before now is calls = calls
-calls_were Gate due new before now is calls = let C : Log → Type 0 = λ x. Calls {T = Stage} Gate x.extent x.gated x.flight before now (Ok Gate) in subst C is calls
+calls_were Gate due new before now is calls = let C : Log → Type 0 = λ x. CallFor {T = Stage} Gate x before now (Ok Gate) in subst C is calls
 calls_were GateSync due new before now is calls = calls
 
 -- which call it was, told of the batch that was due
 call_was : (due new : Log) (before now : Device) (result : Result Stage Refusal) → Made due new result → CallOf new before now result
-    → Calls {T = Stage} due.stage due.extent due.gated due.flight before now result
+    → CallFor {T = Stage} due.stage due before now result
 call_was due new before now (Ok stage) made calls =
-    let M : Stage → Type 0 = λ t. Calls {T = Stage} t due.extent due.gated due.flight before now (Ok stage) in
+    let M : Stage → Type 0 = λ t. CallFor {T = Stage} t due before now (Ok stage) in
     subst M made.0 (calls_were stage due new before now (made.1 ∙ ap (λ t. after t due) (sym made.0)) calls)
 call_was due new before now (Err refusal) made calls =
-    let C : Log → Type 0 = λ x. Calls {T = Stage} x.stage x.extent x.gated x.flight before now (Err refusal) in subst C made.1 calls
+    let C : Log → Type 0 = λ x. CallFor {T = Stage} x.stage x before now (Err refusal) in subst C made.1 calls
 
 module _ {E P : Type 0} (k : Known E P) (l : IsLawful k) (r : Reading E P) (old new : Log) (before now : Device) (bodies : List (List (Record E P))) (s : Logged E P) where
   -- what the device carries where nothing was done
@@ -195,7 +202,7 @@ module _ {E P : Type 0} (k : Known E P) (l : IsLawful k) (r : Reading E P) (old 
     due_begun : old.stage ≡ Idle → 1 ≤ length old.filling → Due k r (begun old) before bodies (logged.begun s)
     due_begun idle some =
         let rests : in_flight old.stage ≡ 0 = ap in_flight idle in
-        let room : old.used < 32 = room_left old.used old.filling some up.on.sound.room in
+        let room : old.used < PLACES = room_left old.used old.filling some up.on.sound.room in
         record {
           carries = begun_carries idle;
           flying = refl;
@@ -216,7 +223,7 @@ module _ {E P : Type 0} (k : Known E P) (l : IsLawful k) (r : Reading E P) (old 
     }
 
     step_carries : (stage : Stage) (filling : List ℕ) (result : Result Stage Refusal) → stage ≡ old.stage → filling ≡ old.filling → GoesFrom stage old new result → CallOf new before now result
-        → (result ≡ Ok Idle → now ≡ before) → Touches 8 4160 before now
+        → (result ≡ Ok Idle → now ≡ before) → Touches LOG_AT LOG_SECTORS before now
         → Carries k r new before.sectors now.seen now.pending (bodies_stepped result bodies (with_batch stage filling s)) (stepped result (with_batch stage filling s))
     step_carries Idle [] result is fills (inl (none, idle, same)) call rests touches =
         let R : Result Stage Refusal → Type 0 = λ x. Carries k r new before.sectors now.seen now.pending (bodies_stepped x bodies s) (stepped x s) in

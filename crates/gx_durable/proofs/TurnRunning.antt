@@ -4,17 +4,17 @@ use Rattle.gx_geom.specs.declared.refusal.Refusal.{Refusal}
 use Rattle.gx_disk.specs.Device.{Device, Counts}
 use Rattle.gx_record.specs.Rec.{Rec}
 use Rattle.gx_record.specs.Format.{IsInRange, spelling}
+use Rattle.gx_glog.specs.declared.extent.TheConstants.{PLACES}
 use Rattle.gx_glog.specs.declared.filling.Appended.{Appended}
 use Rattle.gx_glog.specs.declared.filling.Appended.TheVariants.{At, NoRoom}
 use Rattle.gx_glog.specs.declared.stage.Stage.{Stage}
 use Rattle.gx_glog.specs.declared.stage.Stage.TheVariants.{Idle}
 use Rattle.gx_glog.specs.declared.stage.Turn.{Turn}
 use Rattle.gx_glog.specs.declared.stage.Turn.TheVariants as turn
-use Rattle.gx_glog.specs.Layout.{other_of}
 use Rattle.gx_glog.specs.State.{Log, turning, after_turn}
 use Rattle.gx_glog.specs.State as log_state
 use Rattle.gx_glog.specs.Standing.{On, MayTurn}
-use Rattle.gx_glog.specs.Turning.{PutsFirst, TurnCalls, KeepsTurning}
+use Rattle.gx_glog.specs.Turning.{PutsFirst, TurnCallFor, KeepsTurning}
 use Rattle.gx_pool.specs.State.{State, kept, stamp_of, NoneDirty}
 use Rattle.gx_recovery.specs.Known.{Known}
 use Rattle.gx_recovery.specs.Records.{Record}
@@ -121,13 +121,13 @@ told_call call frames frames' is = is
 module _ {E P : Type 0} (k : Known E P) (r : Reading E P) where
   -- a step of a turn, after which the pool is told
   pub turn_runs : (old new : Log) (frames frames' : State) (d e : Device) (result : Result Turn Refusal) → frames' ≡ told_result result frames → Counts 1 d e result → old.stage ≡ Idle → NoneDirty frames
-      → log_state.Turns old new result → (d.honest ≡ true → TurnCalls old.turn (other_of old.extent) old.flight d e result)
+      → log_state.Turns old new result → (d.honest ≡ true → TurnCallFor old.turn old d e result)
       → (d.honest ≡ true → On old d.seen d.pending → KeepsTurning old new d e result) → TurnKeepsRunning k r old new frames frames' d e result
   turn_runs old new frames frames' d e result tells counts idle clean turns call keeps bodies s l honest runs may =
       let kept_so = keeps honest runs.up.on in
       let f = front_of old.turn d e kept_so.touches in
       let t : Logged E P = steps.turned k may.next result s in
-      let few : old.gated ≤ 32 = omega (arith, runs.up.on.sound.places, runs.up.on.sound.few) in
+      let few : old.gated ≤ PLACES = omega (arith, runs.up.on.sound.places, runs.up.on.sound.few) in
       let C : ℕ → Type 0 = λ n. Up k r new n e.seen e.pending (bodies_turned k may.next result bodies s) t in
       let up = subst C (sym counts.sectors) (record { on = kept_so.on; carries = turn_carries k l r old d e bodies s runs.up.carries may idle f few new result turns (call honest) kept_so.gated }) in
       let goes = turn_goes k l r old d e bodies s runs.up.carries may idle f result in

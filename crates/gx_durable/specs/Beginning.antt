@@ -1,9 +1,8 @@
 -- A log that begins: on a device that it was laid down on, and the room that a head has.
 use Rattle.std.specs.Prelude.{ℕ, ◌≤◌, Bool, false, List, [], ◌∷◌, length}
+use Rattle.gx_glog.specs.declared.extent.TheConstants.{BODY_ROOM}
 use Rattle.gx_glog.specs.declared.extent.Extent.TheVariants.{A}
-use Rattle.gx_glog.specs.declared.stage.Stage.TheVariants.{Idle}
-use Rattle.gx_glog.specs.declared.stage.Turn.TheVariants.{Closed}
-use Rattle.gx_glog.specs.State.{Log}
+use Rattle.gx_glog.specs.State.{Log, starting}
 use Rattle.gx_glog.specs.First.{HasFirstLog, IsFirstSettled}
 use Rattle.gx_recovery.specs.Known.{Known}
 use Rattle.gx_recovery.specs.Records.{Record, Counters}
@@ -19,7 +18,7 @@ use Rattle.gx_durable.specs.Standing.{Up}
 
 -- a log that starts behind the one batch of a new device, and the one record of that
 abbrev pub first_glog : Log
-first_glog = record { extent = A; used = 1; gated = 1; stage = Idle; turn = Closed; flight = []; filling = [] }
+first_glog = starting A 1
 
 abbrev pub first_records : (E P : Type 0) → List (Record E P)
 first_records E P = Counters 0 0 2 1 ∷ []
@@ -33,4 +32,4 @@ FirstIsUp {E} {P} k r = (sectors : ℕ) (seen : List ℕ) (pending : ℕ → Boo
 -- A renewed log fits one body, with a note for each entry that open transactions may have touched, where keys have up to 41 bytes.
 abbrev pub HeadsFit : {E P : Type 0} → Known E P → Reading E P → Type 0
 HeadsFit {E} {P} k r = (bytes : List ℕ) (next : ℕ) (log : List (Record E P)) → r.key ≤ 41 → length (analysis k log).touched ≤ TOUCHED → AreRecords r bytes (renewed k next log)
-    → length bytes ≤ 32764
+    → length bytes ≤ BODY_ROOM

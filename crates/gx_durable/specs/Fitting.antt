@@ -1,5 +1,6 @@
 -- Bodies of a log and pages after it that can be read.
 use Rattle.std.specs.Prelude.{ℕ, ◌<◌, ◌≤◌, List, ◌++◌}
+use Rattle.gx_glog.specs.declared.extent.TheConstants.{PLACES}
 use Rattle.gx_glog.specs.Layout.{selected_of, body_of, size_in, open_run}
 use Rattle.gx_glog.specs.Reading.{IsSize}
 use Rattle.gx_recovery.specs.Known.{Known, Tree}
@@ -11,7 +12,7 @@ use Rattle.gx_durable.specs.Spelled.{Reading}
 
 -- what each open body of an image says its size is fits it
 abbrev pub HasSizes : List ℕ → Type 0
-HasSizes image = (j : ℕ) → j < open_run image (selected_of image) 0 32 → IsSize (size_in (body_of image (selected_of image) j))
+HasSizes image = (j : ℕ) → j < open_run image (selected_of image) 0 PLACES → IsSize (size_in (body_of image (selected_of image) j))
 
 -- each page in use can be read under its number
 abbrev pub PagesFit : {E P : Type 0} → Reading E P → Tree P → Type 0

@@ -1,9 +1,11 @@
 -- A log that was found goes on where it stands, once its later gates are closed.
-use Rattle.std.specs.Prelude.{◌≡◌, ℕ, ◌+◌, ◌<◌, ◌≤◌, Bool, true, false, List, length, None, Result, OnOk}
+use Rattle.std.specs.Prelude.{◌≡◌, ℕ, ◌+◌, ◌*◌, ◌<◌, ◌≤◌, Bool, true, false, List, length, None, Result, OnOk}
 use Rattle.gx_geom.specs.declared.refusal.Refusal.{Refusal}
+use Rattle.gx_disk.specs.declared.layout.TheConstants.{PAGES_AT}
 use Rattle.gx_disk.specs.Device.{Device}
 use Rattle.gx_disk.specs.Moments.{Leaves}
 use Rattle.gx_disk.specs.Sectors.{sector_of}
+use Rattle.gx_glog.specs.declared.extent.TheConstants.{PLACES}
 use Rattle.gx_glog.specs.Cuts.{open_bodies}
 use Rattle.gx_glog.specs.Later.{ClosesLaterOfRun}
 use Rattle.gx_glog.specs.Layout.{selected_of, body_of, size_in, open_run}
@@ -30,7 +32,7 @@ use Rattle.gx_durable.specs.Opening.{found_glog}
 
 -- how many gates in a row are open from the first of the selected extent on
 abbrev pub opened : List ℕ → ℕ
-opened seen = open_run seen (selected_of seen) 0 32
+opened seen = open_run seen (selected_of seen) 0 PLACES
 
 -- the state of a log that was found with these bodies
 abbrev pub found_state : {E P : Type 0} → Known E P → Reading E P → List ℕ → List (List (Record E P)) → Logged E P
@@ -41,7 +43,7 @@ found_state k r seen bodies = found (area_of r k.pages seen) (records_of bodies)
 pub record IsFoundGood {E P : Type 0} (k : Known E P) (r : Reading E P) (sectors : ℕ) (seen : List ℕ) (pending : ℕ → Bool) (bodies : List (List (Record E P))) : Type 0 where
   pub settled : (n : ℕ) → pending n ≡ false
   pub head : head_in seen ≡ k.head
-  pub size : 2134016 ≤ length seen
+  pub size : 512 * PAGES_AT ≤ length seen
   pub pages : HasPages k.pages sectors
   pub sizes : (j : ℕ) → j < opened seen → IsSize (size_in (body_of seen (selected_of seen) j))
   pub told : AreBodies r (open_bodies seen) bodies
@@ -77,7 +79,7 @@ FoundRuns {E} {P} k r d = (frames : State) (bodies : List (List (Record E P))) �
 -- kept set of that log.
 abbrev pub SameLogStands : {E P : Type 0} → Known E P → Reading E P → Type 0
 SameLogStands {E} {P} k r = IsLawful k → (sectors : ℕ) (seen : List ℕ) (pending : ℕ → Bool) (bodies : List (List (Record E P))) (image : List ℕ) → IsFoundGood k r sectors seen pending bodies
-    → head_in image ≡ head_in seen → open_bodies image ≡ open_bodies seen → HasSizes image → ((s : ℕ) → 4168 ≤ s → sector_of image s ≡ sector_of seen s) → Stands k r (found_state k r seen bodies) image
+    → head_in image ≡ head_in seen → open_bodies image ≡ open_bodies seen → HasSizes image → ((s : ℕ) → PAGES_AT ≤ s → sector_of image s ≡ sector_of seen s) → Stands k r (found_state k r seen bodies) image
 
 -- a device on which the same log stands, over the same pages, with no later gate open
 pub record IsClosedFound {E P : Type 0} (k : Known E P) (r : Reading E P) (d e : Device) (bodies : List (List (Record E P))) : Type 0 where

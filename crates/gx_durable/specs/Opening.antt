@@ -1,13 +1,15 @@
 -- A log that is found on an image: it is up to its turn, with later gates open too.
-use Rattle.std.specs.Prelude.{◌≡◌, ℕ, ◌<◌, ◌≤◌, Bool, true, false, List, [], length, Result, Ok, Err}
+use Rattle.std.specs.Prelude.{◌≡◌, ℕ, ◌*◌, ◌<◌, ◌≤◌, Bool, true, false, List, [], length, Result, Ok, Err}
 use Rattle.gx_geom.specs.declared.refusal.Refusal.{Refusal}
+use Rattle.gx_disk.specs.declared.layout.TheConstants.{PAGES_AT}
 use Rattle.gx_disk.specs.Device.{Device, IsImage}
+use Rattle.gx_glog.specs.declared.extent.TheConstants.{PLACES}
 use Rattle.gx_glog.specs.declared.stage.Stage.TheVariants.{Idle}
 use Rattle.gx_glog.specs.declared.stage.Turn.{Turn}
 use Rattle.gx_glog.specs.declared.stage.Turn.TheVariants as turn
 use Rattle.gx_glog.specs.Layout.{selected_of, body_of, size_in, open_run}
 use Rattle.gx_glog.specs.Reading.{IsSize}
-use Rattle.gx_glog.specs.State.{Log}
+use Rattle.gx_glog.specs.State.{Log, starting}
 use Rattle.gx_glog.specs.Standing.{MayTurn}
 use Rattle.gx_glog.specs.Cuts.{open_bodies}
 use Rattle.gx_recovery.specs.Known.{Known, IsLawful}
@@ -32,22 +34,13 @@ pub record UpToTurn {E P : Type 0} (k : Known E P) (r : Reading E P) (log : Log)
 
 -- the log that starts behind an image's leading open gates
 abbrev pub found_glog : List ℕ → Log
-found_glog seen =
-    record {
-      extent = selected_of seen;
-      used = open_run seen (selected_of seen) 0 32;
-      gated = open_run seen (selected_of seen) 0 32;
-      stage = Idle;
-      turn = turn.Closed;
-      flight = [];
-      filling = [];
-    }
+found_glog seen = starting (selected_of seen) (open_run seen (selected_of seen) 0 PLACES)
 
 -- Of a settled device that says what is known of it, whose open bodies are undamaged, over a page area that is good for them and can be read: the log that starts behind them is
 -- up to its turn, whatever the later gates are.
 abbrev pub FoundIsUpToTurn : {E P : Type 0} → Known E P → Reading E P → Type 0
-FoundIsUpToTurn {E} {P} k r = (sectors : ℕ) (seen : List ℕ) (pending : ℕ → Bool) (bodies : List (List (Record E P))) → ((n : ℕ) → pending n ≡ false) → 2134016 ≤ length seen
-    → HasPages k.pages sectors → ((j : ℕ) → j < open_run seen (selected_of seen) 0 32 → IsSize (size_in (body_of seen (selected_of seen) j)))
+FoundIsUpToTurn {E} {P} k r = (sectors : ℕ) (seen : List ℕ) (pending : ℕ → Bool) (bodies : List (List (Record E P))) → ((n : ℕ) → pending n ≡ false) → 512 * PAGES_AT ≤ length seen
+    → HasPages k.pages sectors → ((j : ℕ) → j < open_run seen (selected_of seen) 0 PLACES → IsSize (size_in (body_of seen (selected_of seen) j)))
     → AreBodies r (open_bodies seen) bodies → is_undamaged k bodies ≡ true → AreGood k r (area_of r k.pages seen) (records_of bodies) → head_in seen ≡ k.head
     → UpToTurn k r (found_glog seen) sectors seen pending bodies (found (area_of r k.pages seen) (records_of bodies))
 

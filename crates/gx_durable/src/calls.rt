@@ -1,8 +1,10 @@
 //! The calls of a log and a pool, each with what it makes of the state that the device carries.
 ghost use Rattle.std.specs.Prelude.{◌≡◌, ◌<◌, ◌≤◌, true, OnOk, IfErr};
+ghost use Rattle.gx_disk.specs.declared.layout.TheConstants.{PAGES_AT};
 ghost use Rattle.gx_disk.specs.Device.{Counts, IsSettled};
 ghost use Rattle.gx_record.specs.Format.{IsInRange, spelling};
 ghost use Rattle.gx_record.specs.Seen.{rec_of};
+ghost use Rattle.gx_glog.specs.declared.extent.TheConstants.{PLACES};
 ghost use Rattle.gx_glog.specs.Appending.{Appends};
 ghost use Rattle.gx_glog.specs.Standing.{On};
 ghost use Rattle.gx_glog.specs.State.{calls_of, Goes};
@@ -10,7 +12,8 @@ ghost use Rattle.gx_pool.specs.Elsewhere.{LeavesPages};
 ghost use Rattle.gx_recovery.specs.Known.{Limits};
 ghost use Rattle.gx_durable.specs.Steps.{told, told_frames};
 ghost use Rattle.gx_durable.specs.PoolLaws.{StaysUp};
-ghost use Rattle.gx_durable.specs.Calls.{AppendPlaces, AppendStaysUp, AppendStaysStamped, StaysPlaced, StepKeepsRunning};
+ghost use Rattle.gx_durable.specs.Calls.{AppendPlaces, AppendStaysUp, AppendStaysStamped};
+ghost use Rattle.gx_durable.specs.Calls.{StaysPlaced, StepKeepsRunning};
 
 use crate::Spelled;
 use gx_disk::SectorDisk;
@@ -19,11 +22,11 @@ use gx_glog::{Appended, Glog, Stage};
 use gx_pool::{PageTest, Pool};
 use gx_record::Record;
 
-/// Puts a record that may come into the log's filling buffer, and answers the place of its batch. Nothing is written to the
-/// device. `NoRoom` where the log has none for it; nothing then changes.
+/// Puts a record that may come into the log's filling buffer, and answers the place of its batch. Nothing is written to
+/// the device. `NoRoom` where the log has none for it; nothing then changes.
 pub fn append<M: Spelled>(log: &mut Glog, logged: &Record<'_>) -> Appended
     requires in_range { IsInRange (rec_of logged.now) }
-    requires place { log.old.used < 32 }
+    requires place { log.old.used < PLACES }
     ensures appends { Appends (spelling (rec_of logged.now)) log.old log.new result }
     ensures up { (d : Limits) → AppendStaysUp (M.known d) M.reading (rec_of logged.now) log.old log.new result }
     ensures stamped { AppendStaysStamped M.reading (rec_of logged.now) log.old log.new result }
@@ -43,25 +46,28 @@ fn tell<T: PageTest>(pool: &mut Pool<T>, stage: Stage, used: u8)
     }
 }
 
-/// Makes the log's next device call, and tells the pool of a batch whose gate is synced. Answers which call it was, and Idle
-/// where nothing is logged and none was made. Refused where the device call fails (`Device`); it is then still due.
+/// Makes the log's next device call, and tells the pool of a batch whose gate is synced. Answers which call it was, and
+/// Idle where nothing is logged and none was made.
+/// Refused where the device call fails (`Device`); it is then still due.
 ///
-/// Of an honest device: the batch that filled is in flight from its first call on, and its commits are durable from its gate's
-/// sync on, and not before. Whether it succeeds or not, each page is left as the device has it, no set changes, and at each moment
-/// what a crash may leave stands for a kept set of the state before.
+/// Of an honest device: the batch that filled is in flight from its first call on, and its commits are durable from its
+/// gate's sync on, and not before. Whether it succeeds or not, each page is left as the device has it, no set changes,
+/// and at each moment what a crash may leave stands for a kept set of the state before.
 pub fn log_step<M: Spelled, T: PageTest, D: SectorDisk>(
     log: &mut Glog,
     pool: &mut Pool<T>,
     disk: &mut D,
 ) -> Result<Stage, Refusal>
-    requires { 4168 ≤ (D.state disk.old).sectors }
+    requires { PAGES_AT ≤ (D.state disk.old).sectors }
     ensures counts { Counts (calls_of result) (D.state disk.old) (D.state disk.new) result }
     ensures goes { Goes log.old log.new result }
     ensures told { pool.new.frames ≡ told_frames result log.new pool.old.frames }
     ensures test { pool.new.test ≡ pool.old.test }
-    ensures pages { (D.state disk.old).honest ≡ true → On log.old (D.state disk.old).seen (D.state disk.old).pending → LeavesPages (D.state disk.old) (D.state disk.new) }
+    ensures pages { (D.state disk.old).honest ≡ true → On log.old (D.state disk.old).seen (D.state disk.old).pending
+        → LeavesPages (D.state disk.old) (D.state disk.new) }
     ensures placed { StaysPlaced log.old log.new pool.old.frames pool.new.frames }
-    ensures runs { (d : Limits) → StepKeepsRunning (M.known d) M.reading log.old log.new pool.old.frames pool.new.frames (D.state disk.old) (D.state disk.new) result }
+    ensures runs { (d : Limits) → StepKeepsRunning (M.known d) M.reading log.old log.new pool.old.frames pool.new.frames
+        (D.state disk.old) (D.state disk.new) result }
 {
     match log.log_step(disk) {
         Ok(stage) => {
@@ -72,8 +78,8 @@ pub fn log_step<M: Spelled, T: PageTest, D: SectorDisk>(
     }
 }
 
-/// Settles all that was written. Whether it succeeds or not, each page is left as the device has it, the log stays up, and at each moment what a crash may leave stands
-/// for a kept set. Refused where the device call fails (`Device`).
+/// Settles all that was written. Whether it succeeds or not, each page is left as the device has it, the log stays up,
+/// and at each moment what a crash may leave stands for a kept set. Refused where the device call fails (`Device`).
 pub fn sync<M: Spelled, D: SectorDisk>(disk: &mut D) -> Result<(), Refusal>
     ensures counts { Counts 1 (D.state disk.old) (D.state disk.new) result }
     ensures settled { (D.state disk.old).honest ≡ true → OnOk result (IsSettled (D.state disk.new)) }

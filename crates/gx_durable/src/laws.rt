@@ -4,10 +4,13 @@ ghost use Rattle.gx_durable.specs.Beginning.{FirstIsUp, HeadsFit};
 ghost use Rattle.gx_durable.specs.Opening.{FoundIsUpToTurn, ACrashBeforeTheTurn, UpMayTurn};
 ghost use Rattle.gx_durable.specs.GoingOn.{FoundIsUp, FoundRuns, SameLogStands, ClosingKeepsFound};
 ghost use Rattle.gx_durable.specs.Joining.{CallsJoin, EachMomentStands};
-ghost use Rattle.gx_durable.specs.PoolLaws.{LaterStampsStay, CleanIsStamped, NoneWritableIsClean, BringingIsClean, CreatingIsLater, ChangeIsLater, RecordSays, ReadsStayUp};
+ghost use Rattle.gx_durable.specs.PoolLaws.{LaterStampsStay, CleanIsStamped, NoneWritableIsClean, BringingIsClean};
+ghost use Rattle.gx_durable.specs.PoolLaws.{CreatingIsLater, ChangeIsLater, RecordSays, ReadsStayUp};
 ghost use Rattle.gx_durable.specs.Legal.{WhatStandsIsLegal};
-ghost use Rattle.gx_durable.specs.Stored.{NothingDirtyIsWritten, BringingStoresTheSame, ChangingStoresOne, CreatingStoresOne, RecordingStaysStored, WriteStaysStored, PagesStayStored};
-ghost use Rattle.gx_durable.specs.Laws.{OneWay, PartsJoin, SpellingAdds, NoneAreNone, OnlyNoneAreNone, BodiesOneWay, BodyAdds, BodiesJoin, ACrashLeavesAKeptSet, StandsOfBefore};
+ghost use Rattle.gx_durable.specs.Stored.{NothingDirtyIsWritten, BringingStoresTheSame, ChangingStoresOne};
+ghost use Rattle.gx_durable.specs.Stored.{CreatingStoresOne, RecordingStaysStored, WriteStaysStored, PagesStayStored};
+ghost use Rattle.gx_durable.specs.Laws.{OneWay, PartsJoin, SpellingAdds, NoneAreNone, OnlyNoneAreNone};
+ghost use Rattle.gx_durable.specs.Laws.{BodiesOneWay, BodyAdds, BodiesJoin, ACrashLeavesAKeptSet, StandsOfBefore};
 
 use crate::Spelled;
 use gx_disk::SectorDisk;
@@ -21,27 +24,28 @@ pub fn bytes_are_records<M: Spelled>()
     ensures only_none { OnlyNoneAreNone M.reading }
 {}
 
-/// Bodies are told one by one, in one way only, and their records in a row are those of their bytes in a row: so, of an image's
-/// open bodies, those of its log.
+/// Bodies are told one by one, in one way only, and their records in a row are those of their bytes in a row: so, of an
+/// image's open bodies, those of its log.
 pub fn bodies_are_told<M: Spelled>()
     ensures one_way { BodiesOneWay M.reading }
     ensures adds { BodyAdds M.reading }
     ensures records { BodiesJoin M.reading }
 {}
 
-/// Of a device that a log is up on, whatever a crash leaves is an undamaged log over a page area that is good for it, and stands
-/// for the kept set of its own last commit, which is none before the durable one. So it does for a state before that one which
-/// had the same sets. Where trees are read of the pages in use, that image is legal for the log that it has: the device has its
-/// pages, its tree is sound, and what is live in that, but for what open transactions wrote, is the set.
+/// Of a device that a log is up on, whatever a crash leaves is an undamaged log over a page area that is good for it,
+/// and stands for the kept set of its own last commit, which is none before the durable one. So it does for a state
+/// before that one which had the same sets. Where trees are read of the pages in use, that image is legal for the log
+/// that it has: the device has its pages, its tree is sound, and what is live in that,
+/// but for what open transactions wrote, is the set.
 pub fn a_crash_leaves_a_kept_set<M: Spelled>()
     ensures kept { (d : Limits) → ACrashLeavesAKeptSet (M.known d) M.reading }
     ensures before { (d : Limits) → StandsOfBefore (M.known d) M.reading }
     ensures legal { (d : Limits) → WhatStandsIsLegal (M.known d) M.reading }
 {}
 
-/// A pool's stamps stay places of batches where what is dirty was so before, or was changed as of the batch that fills. That is
-/// so of what is brought, made and changed. Once the record that gives what was changed is appended, each dirty page is given. Once each
-/// batch that began is gated and nothing fills, each dirty page may be written.
+/// A pool's stamps stay places of batches where what is dirty was so before, or was changed as of the batch that fills.
+/// That is so of what is brought, made and changed. Once the record that gives what was changed is appended, each dirty
+/// page is given. Once each batch that began is gated and nothing fills, each dirty page may be written.
 pub fn stamps_stay<M: Spelled>()
     ensures later { LaterStampsStay M.Entry M.Page }
     ensures clean { CleanIsStamped M.Entry M.Page }
@@ -62,15 +66,16 @@ pub fn a_new_device_is_up<M: Spelled>()
     ensures { (l : Limits) → FirstIsUp (M.known l) M.reading }
 {}
 
-/// A renewed log fits one body, where keys have up to 41 bytes: 29 bytes for its numbers, and up to 63 for each of 512 notes.
+/// A renewed log fits one body, where keys have up to 41 bytes:
+/// 29 bytes for its numbers, and up to 63 for each of 512 notes.
 pub fn heads_fit_a_body<M: Spelled>()
     ensures { (l : Limits) → HeadsFit (M.known l) M.reading }
 {}
 
-/// Pages are *stored* as all records leave them: in a frame, or else on the device. What is brought changes nothing of that. Where
-/// nothing is dirty, in flight or filling, each page is written: so a turn may begin, once they are settled. A page that is
-/// changed or made is stored so, and each other as before; where a record gives what was changed, in that order, and is appended,
-/// each page is stored as all records leave it again.
+/// Pages are *stored* as all records leave them: in a frame, or else on the device. What is brought changes nothing of
+/// that. Where nothing is dirty, in flight or filling, each page is written: so a turn may begin, once they are
+/// settled. A page that is changed or made is stored so, and each other as before; where a record gives what was
+/// changed, in that order, and is appended, each page is stored as all records leave it again.
 pub fn pages_are_stored<M: Spelled>()
     ensures written { NothingDirtyIsWritten M.reading }
     ensures brought { BringingStoresTheSame M.reading }
@@ -81,19 +86,20 @@ pub fn pages_are_stored<M: Spelled>()
     ensures pages { PagesStayStored M.reading }
 {}
 
-/// A log that starts behind an image's open bodies, where these are undamaged and the page area is good for them, is up to its
-/// turn, whatever the later gates are; and so is a log that is up, with nothing in flight. Whatever a crash leaves of its device
-/// stands for the kept set too. Its turn is `turn_step`, and after that it is up.
+/// A log that starts behind an image's open bodies, where these are undamaged and the page area is good for them, is up
+/// to its turn, whatever the later gates are; and so is a log that is up, with nothing in flight. Whatever a crash
+/// leaves of its device stands for the kept set too. Its turn is `turn_step`, and after that it is up.
 pub fn a_found_log_is_up_to_its_turn<M: Spelled>()
     ensures found { (l : Limits) → FoundIsUpToTurn (M.known l) M.reading }
     ensures up { (l : Limits) → UpMayTurn (M.known l) M.reading }
     ensures kept { (l : Limits) → ACrashBeforeTheTurn (M.known l) M.reading }
 {}
 
-/// A log that starts behind an image's open bodies, where these are undamaged and the page area is good for them, goes on there once no
-/// later gate is open: it is up, and with a pool that has kept nothing as yet, and was told of the last body, it runs; each page is stored as
-/// the records leave it where all are written. Closing the later gates leaves the log and the pages as they were found: at each moment
-/// what a crash may leave stands for the kept set that was found, as does each image with those bodies and pages.
+/// A log that starts behind an image's open bodies, where these are undamaged and the page area is good for them, goes
+/// on there once no later gate is open: it is up, and with a pool that has kept nothing as yet, and was told of the
+/// last body, it runs; each page is stored as the records leave it where all are written. Closing the later gates
+/// leaves the log and the pages as they were found: at each moment what a crash may leave stands for the kept set that
+/// was found, as does each image with those bodies and pages.
 pub fn a_found_log_goes_on<M: Spelled, D: SectorDisk>()
     ensures up { (l : Limits) → FoundIsUp (M.known l) M.reading }
     ensures runs { (l : Limits) (d : D) → FoundRuns (M.known l) M.reading (D.state d) }
@@ -101,8 +107,9 @@ pub fn a_found_log_goes_on<M: Spelled, D: SectorDisk>()
     ensures closing { (l : Limits) (d e : D) → ClosingKeepsFound (M.known l) M.reading (D.state d) (D.state e) }
 {}
 
-/// Calls in a row are one: no set changes, and at each moment what a crash may leave stands for a kept set of the state before the
-/// first. So whatever a crash may have left at a moment from before them on does, of a device that a log was up on.
+/// Calls in a row are one: no set changes, and at each moment what a crash may leave stands for a kept set of the state
+/// before the first. So whatever a crash may have left at a moment from before them on does,
+/// of a device that a log was up on.
 pub fn calls_in_a_row<M: Spelled, D: SectorDisk>()
     ensures join { (l : Limits) (a b c : D) → CallsJoin (M.known l) M.reading (D.state a) (D.state b) (D.state c) }
     ensures moments { (l : Limits) (a b : D) → EachMomentStands (M.known l) M.reading (D.state a) (D.state b) }

@@ -1,8 +1,8 @@
-//! From bytes to the committed set: what a crash leaves on a device that has a log and a pool of pages, said of its bytes and of
-//! the calls that write them.
+//! From bytes to the committed set: what a crash leaves on a device that has a log and a pool of pages, said of its
+//! bytes and of the calls that write them.
 //!
-//! What a log stands for and why a crash leaves a kept set is told of lists of records and of pages; log and pool are told of
-//! buffers and of sectors. Here they are tied.
+//! What a log stands for and why a crash leaves a kept set is told of lists of records and of pages; log and pool are
+//! told of buffers and of sectors. Here they are tied.
 #![tactic(auto)]
 
 ghost use Rattle.gx_durable.specs.Spelled.{Reading};

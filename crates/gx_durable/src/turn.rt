@@ -1,5 +1,6 @@
 //! The calls of a turn to the other extent, each with what it makes of the state that the device carries.
 ghost use Rattle.std.specs.Prelude.{◌≡◌, ◌≤◌, [], true, length, IfErr};
+ghost use Rattle.gx_disk.specs.declared.layout.TheConstants.{PAGES_AT};
 ghost use Rattle.gx_disk.specs.Device.{Counts};
 ghost use Rattle.gx_record.specs.Format.{IsInRange, spelling};
 ghost use Rattle.gx_record.specs.Seen.{rec_of};
@@ -19,9 +20,9 @@ use gx_glog::{Appended, Glog, Stage, Turn};
 use gx_pool::{PageTest, Pool};
 use gx_record::Record;
 
-/// Puts a record behind those of the head, which a turn makes the other extent's first batch: the counters first, and then a
-/// note for each entry that an open transaction wrote, in the order of the log that is renewed. `NoRoom` where the body has none
-/// for it; nothing then changes. A batch that begins drops the head.
+/// Puts a record behind those of the head, which a turn makes the other extent's first batch: the counters first, and
+/// then a note for each entry that an open transaction wrote, in the order of the log that is renewed. `NoRoom` where
+/// the body has none for it; nothing then changes. A batch that begins drops the head.
 pub fn put_first<M: Spelled>(log: &mut Glog, logged: &Record<'_>) -> Appended
     requires in_range { IsInRange (rec_of logged.now) }
     requires idle { log.old.stage ≡ Stage.Idle }
@@ -46,12 +47,12 @@ fn tell_turned<T: PageTest>(pool: &mut Pool<T>, call: Turn)
     }
 }
 
-/// Makes the next device call of the turn to the other extent, and tells the pool of a turn that has ended. Answers which call
-/// it was. Refused where the device call fails (`Device`); it is then still due.
+/// Makes the next device call of the turn to the other extent, and tells the pool of a turn that has ended. Answers
+/// which call it was. Refused where the device call fails (`Device`); it is then still due.
 ///
-/// Of an honest device, where the head is the renewed log and each page is written and settled: the log stays up, with the same
-/// records until the last call, and with the head alone after it. Whether it succeeds or not, each page is left as the device has
-/// it, no set changes, and at each moment what a crash may leave stands for a kept set.
+/// Of an honest device, where the head is the renewed log and each page is written and settled: the log stays up, with
+/// the same records until the last call, and with the head alone after it. Whether it succeeds or not, each page is
+/// left as the device has it, no set changes, and at each moment what a crash may leave stands for a kept set.
 pub fn turn_step<M: Spelled, T: PageTest, D: SectorDisk>(
     log: &mut Glog,
     pool: &mut Pool<T>,
@@ -61,14 +62,17 @@ pub fn turn_step<M: Spelled, T: PageTest, D: SectorDisk>(
     requires quiet { log.old.filling ≡ [] }
     requires head { 1 ≤ length log.old.flight }
     requires clean { NoneDirty pool.old.frames }
-    requires device { 4168 ≤ (D.state disk.old).sectors }
+    requires device { PAGES_AT ≤ (D.state disk.old).sectors }
     ensures counts { Counts 1 (D.state disk.old) (D.state disk.new) result }
     ensures turns { Turns log.old log.new result }
     ensures told { pool.new.frames ≡ told_result result pool.old.frames }
     ensures test { pool.new.test ≡ pool.old.test }
-    ensures pages { (D.state disk.old).honest ≡ true → On log.old (D.state disk.old).seen (D.state disk.old).pending → LeavesPages (D.state disk.old) (D.state disk.new) }
-    ensures found { (l : Limits) → FirstTurnKeeps (M.known l) M.reading log.old log.new (D.state disk.old) (D.state disk.new) result }
-    ensures runs { (l : Limits) → TurnKeepsRunning (M.known l) M.reading log.old log.new pool.old.frames pool.new.frames (D.state disk.old) (D.state disk.new) result }
+    ensures pages { (D.state disk.old).honest ≡ true → On log.old (D.state disk.old).seen (D.state disk.old).pending
+        → LeavesPages (D.state disk.old) (D.state disk.new) }
+    ensures found { (l : Limits) → FirstTurnKeeps (M.known l) M.reading log.old log.new
+        (D.state disk.old) (D.state disk.new) result }
+    ensures runs { (l : Limits) → TurnKeepsRunning (M.known l) M.reading log.old log.new pool.old.frames pool.new.frames
+        (D.state disk.old) (D.state disk.new) result }
 {
     match log.turn_step(disk) {
         Ok(call) => {

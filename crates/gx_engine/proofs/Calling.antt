@@ -1,5 +1,5 @@
 -- The calls that events make of the device, by what they come to.
-use Rattle.std.proofs.Common.{◌≡◌, ◌∙◌, ap, sym, refl, subst, inl, inr, ℕ, ◌+◌, ◌≤◌, Bool, true, false, Option, None, Some, Result, Ok, Err, IfOk, OnErr, List, arith}
+use Rattle.std.proofs.Common.{◌≡◌, ◌∙◌, ap, sym, refl, subst, inl, inr, ℕ, ◌≤◌, Bool, true, false, Option, None, Some, Result, Ok, Err, IfOk, OnErr, List, arith}
 use Rattle.gx_geom.specs.declared.refusal.Refusal.{Refusal}
 use Rattle.gx_geom.specs.declared.refusal.Refusal.TheVariants as refusal
 use Rattle.gx_machine.specs.declared.call.Call.{Call}
@@ -27,14 +27,15 @@ use Rattle.gx_events.specs.declared.outcome.Outcome.{Outcome}
 use Rattle.gx_events.specs.declared.outcome.Outcome.TheVariants.{Replied, More, Help, Nothing, Refused}
 use Rattle.gx_storage.specs.Changes.{IsLoggedIf, IsUnlogged, MarkIsLogged, begun}
 use Rattle.gx_record.specs.Rec.{Rec}
+use Rattle.gx_record.specs.Writing.{write_record}
 use Rattle.gx_storage.specs.State.{Volume}
 use Rattle.gx_engine.specs.declared.checkpoint.Checkpoint.{Checkpoint}
 use Rattle.gx_engine.specs.declared.checkpoint.Checkpoint.TheVariants.{Off, Running, Turning}
-use Rattle.gx_engine.specs.Asked.{AskComes}
+use Rattle.gx_engine.specs.Asks.{AskComes}
 use Rattle.gx_engine.specs.Calls.{IsRead, MakesOne}
 use Rattle.gx_engine.specs.Checkpoints.{CheckpointSteps, RunsOn, StepsFrom, StepsOff}
 use Rattle.gx_engine.specs.Flushing.{LogGoes, LogSteps, PageGoes, PageIsWritten}
-use Rattle.gx_engine.specs.Sealing.{AcknowledgeBy, AcknowledgeComes, SealComes}
+use Rattle.gx_engine.specs.Commits.{AcknowledgeBy, AcknowledgeComes, SealComes}
 use Rattle.gx_engine.specs.States.{Parts, is_due, runs}
 use Rattle.gx_engine.specs.Undoing.{EndComes, RestoreComes, UndoBy, UndoComes}
 
@@ -71,7 +72,7 @@ module _ {B D : Type 0} (known : Limits → Known (Entry B) (Page B)) (r : Readi
   mark_read spelling key transaction entry page marked (Right next) is = (is.since 0).goes_on.device
 
   pub marked_read : {E : Type 0} (spelling : B → List ℕ) (key transaction : ℕ) (entry : Entry B) (page : ℕ) (marked : Bool) (result : Result Sought E)
-      → IfOk result (MarkIsLogged known r f passes spelling key transaction entry page marked d e v w) → OnErr result (IsUnlogged known r f passes (begun v (key + 4119)) d e v w) → OnlyRead d e
+      → IfOk result (MarkIsLogged known r f passes spelling key transaction entry page marked d e v w) → OnErr result (IsUnlogged known r f passes (begun v (write_record key)) d e v w) → OnlyRead d e
   marked_read spelling key transaction entry page marked (Ok sought) logged unlogged = mark_read spelling key transaction entry page marked sought logged
   marked_read spelling key transaction entry page marked (Err fault) logged unlogged = (unlogged.since 0).goes_on.device
 

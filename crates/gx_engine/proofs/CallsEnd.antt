@@ -4,6 +4,7 @@ use Rattle.std.specs.Prelude.{◌-◌, ◌^◌}
 use Rattle.gx_class.specs.declared.class.KeyClass.{Ghosts}
 use Rattle.gx_geom.specs.declared.refusal.Refusal.{Refusal}
 use Rattle.gx_disk.specs.Device.{Device}
+use Rattle.gx_disk.specs.declared.layout.TheConstants.{MAX_PAGES}
 use Rattle.gx_machine.specs.declared.call.Call.{Call}
 use Rattle.gx_machine.specs.declared.entry.Entry.{Entry}
 use Rattle.gx_machine.specs.Keys.{Members, keys_of}
@@ -15,6 +16,8 @@ use Rattle.gx_index_laws.specs.Measures.{work_left}
 use Rattle.gx_index_laws.specs.States as index
 use Rattle.gx_index_laws.specs.Whole.{IsWhole}
 use Rattle.gx_readings.specs.Classes.{class_of, reading_of}
+use Rattle.gx_glog.specs.declared.extent.TheConstants.{BODY_ROOM}
+use Rattle.gx_record.specs.Writing.{write_record}
 use Rattle.gx_storage.specs.Changes.{known_at}
 use Rattle.gx_events.specs.declared.event.Event.{Event}
 use Rattle.gx_events.specs.declared.driver.Next.TheVariants.{Run}
@@ -61,7 +64,7 @@ write_keeps : {B D : Type 0} (d e : Device) (old new : Parts B D) (page : ℕ) (
 write_keeps d e old new page true given comes = keeps_all old new comes.1
 write_keeps d e old new page false given comes = page_keeps old new given comes.0 comes.2
 
-module _ {C B D : Type 0} (shape : Members B) (proper : B → Bool) (said : List ℕ → B) (class : Ghosts C B) (state : D → Device) (short : class.KEY + 4119 ≤ 32764) (l : Limits) (s : ℕ) where
+module _ {C B D : Type 0} (shape : Members B) (proper : B → Bool) (said : List ℕ → B) (class : Ghosts C B) (state : D → Device) (short : write_record class.KEY ≤ BODY_ROOM) (l : Limits) (s : ℕ) where
   abbrev c : Class B
   c = class_of shape proper l
 
@@ -149,14 +152,14 @@ module _ {C B D : Type 0} (shape : Members B) (proper : B → Bool) (said : List
   ]
 
 -- a session's call alone
-module _ {C B D : Type 0} (shape : Members B) (proper : B → Bool) (said : List ℕ → B) (class : Ghosts C B) (state : D → Device) (short : class.KEY + 4119 ≤ 32764) (l : Limits)
+module _ {C B D : Type 0} (shape : Members B) (proper : B → Bool) (said : List ℕ → B) (class : Ghosts C B) (state : D → Device) (short : write_record class.KEY ≤ BODY_ROOM) (l : Limits)
     (lawful : 4 ≤ l.most → IsLawful (class_of shape proper l))
-    (bounded : (c : Class B) → IsLawful c → (old : index.State B) → IsWhole c old → c.pages ≤ 65536 → c.rules.most ≤ 100 → (s : ℕ) → work_left c old s < 2 ^ 39) where
+    (bounded : (c : Class B) → IsLawful c → (old : index.State B) → IsWhole c old → c.pages ≤ MAX_PAGES → c.rules.most ≤ 100 → (s : ℕ) → work_left c old s < 2 ^ 39) where
   few_from : (old new : Parts B D) (s : ℕ) (due : Event B) (steps : List (Event B × Outcome B)) (bodies : List (List (Record (Entry B) (Page B)))) (i : index.State B)
       → HoldsIndex shape proper said class state l old bodies i → AreDriven s (Run (Move s)) steps (Run due)
       → AreMade (Makes shape proper said class state) old steps new → IsOrderly old → length steps < 2 ^ 55
   few_from old new s due steps bodies i holds driven made order =
-      let small : l.pages ≤ 65536 = subst (λ n. n ≤ 65536) (sym holds.keeps.pages) order.pages in
+      let small : l.pages ≤ MAX_PAGES = subst (λ n. n ≤ MAX_PAGES) (sym holds.keeps.pages) order.pages in
       let most : l.most ≤ 100 = subst (λ n. n ≤ 100) holds.most order.most in
       let work = bounded (class_of shape proper l) (lawful holds.some) i holds.whole small most s in
       let left_few = left_by_few (phase_at (s - 1) old.sessions.phases) (work_left (class_of shape proper l) i s) work in

@@ -31,11 +31,11 @@ use Rattle.gx_storage.specs.State.{Volume}
 use Rattle.gx_storage.proofs.Descending.{shown_descent}
 use Rattle.gx_storage.proofs.Stepping.{shown_legal}
 use Rattle.gx_engine.specs.declared.work.Work.TheVariants.{Descends}
-use Rattle.gx_engine.specs.Descending.{HasNone, HasStepped, HasSwept, LeafSweeping}
+use Rattle.gx_engine.specs.Descents.{HasNone, HasStepped, HasSwept, LeafSweeping}
 use Rattle.gx_engine.specs.Moves.{Moves}
 use Rattle.gx_engine.specs.States.{Parts}
 use Rattle.gx_engine.specs.Sweeping.{is_held, node_shown}
-use Rattle.gx_engine.proofs.Looking.{its_work, slot_now}
+use Rattle.gx_engine.proofs.LookMoves.{its_work, slot_now}
 
 -- what a step did, and whether a leaf was swept
 module _ {B D : Type 0} (known : Limits → Known (Entry B) (Page B)) (r : Reading (Entry B) (Page B)) (f : Format B) (passes : ℕ → Contents → Bool) (d e : Device) (v w : Volume D) where

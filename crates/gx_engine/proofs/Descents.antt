@@ -53,6 +53,7 @@ use Rattle.gx_store.specs.declared.fault.StoreFault.{StoreFault}
 use Rattle.gx_store.specs.Faults as faults
 use Rattle.gx_store.specs.Standing.{store_of}
 use Rattle.gx_store.specs.State.{IsInOrder, IsSteady}
+use Rattle.gx_record.specs.declared.sizes.TheConstants.{PAGE_RECORD, SPLIT_RECORD}
 use Rattle.gx_storage.specs.Changes.{IsLogged, IsLoggedIf, IsUnlogged, begun, page_given}
 use Rattle.gx_storage.specs.Giving.{pages_given, rising}
 use Rattle.gx_storage.specs.Keeps.{KeepsTheSame, KeepsWith, ShowsKeys}
@@ -63,22 +64,22 @@ use Rattle.gx_storage.proofs.Descending.{GoesTo, IsJoin, was_split, went_down_to
 use Rattle.gx_engine.specs.declared.checkpoint.Checkpoint.TheVariants.{Turning}
 use Rattle.gx_engine.specs.declared.work.Work.{Work}
 use Rattle.gx_engine.specs.declared.work.Work.TheVariants.{Descends}
-use Rattle.gx_engine.specs.Descending.{LeafSweeping, RootSplitting, Splitting, Stepping}
+use Rattle.gx_engine.specs.Descents.{LeafSweeping, RootSplitting, Splitting, Stepping}
 use Rattle.gx_engine.specs.Holds.{CallIsAt, Holds}
 use Rattle.gx_engine.specs.Moves.{Moved, Moves, calling, left, left_by}
 use Rattle.gx_engine.specs.Noted.{AreTold}
 use Rattle.gx_engine.specs.States.{Parts, is_due}
 use Rattle.gx_engine.proofs.Growing.{grown_led}
-use Rattle.gx_engine.proofs.Looking.{goes_on, its_work, left_now, of_working, put_there, slot_now, told_at}
+use Rattle.gx_engine.proofs.LookMoves.{goes_on, its_work, left_now, of_working, put_there, slot_now, told_at}
 use Rattle.gx_engine.proofs.Serving.{FliesOn, held_as_it_is, is_calm, not_due, of_reads, session_at}
 
 -- what storage tells of a step, as the engine has it
 pub stepping : {B D : Type 0} (known : Limits → Known (Entry B) (Page B)) (r : Reading (Entry B) (Page B)) (f : Format B) (passes : ℕ → Contents → Bool)
     (cost : B → B → ℕ × ℕ) (joined : B → B → B) (d e : Device) (v w : Volume D) (item : Item) (coming : B) (result : Result (Descended B) (StepFault StoreFault))
-    → IfOk result (λ did. IsLoggedIf known r f passes 4114 d e v w (page_given item.page e.seen w.shelf) (is_widened did))
-    → OnErr result (IsUnlogged known r f passes (begun v 4114) d e v w)
+    → IfOk result (λ did. IsLoggedIf known r f passes PAGE_RECORD d e v w (page_given item.page e.seen w.shelf) (is_widened did))
+    → OnErr result (IsUnlogged known r f passes (begun v PAGE_RECORD) d e v w)
     → (IsSteady d v.shelf.frames → IfOk result (StepsDown cost joined v.most (store_of f d.seen v.shelf) (store_of f e.seen w.shelf) item coming))
-    → IfOk result (λ did. is_widened did ≡ true → HasOwnNumber e.seen w.shelf item.page) → IfErr result (IsWhy (faults.IsWhy passes d e (begun v 4114) w.shelf))
+    → IfOk result (λ did. is_widened did ≡ true → HasOwnNumber e.seen w.shelf item.page) → IfErr result (IsWhy (faults.IsWhy passes d e (begun v PAGE_RECORD) w.shelf))
     → (IsSteady d v.shelf.frames → result ≡ Err step.Damaged → Used (tree_of (store_of f d.seen v.shelf)) item.page
     → (0 < ((tree_of (store_of f d.seen v.shelf)).node item.page).level) × (length ((tree_of (store_of f d.seen v.shelf)).node item.page).children ≡ 0))
     → result ≢ Err step.Memory → result ≢ Err step.PagesFull → Stepping known r f passes cost joined d e v w item coming result
@@ -238,9 +239,9 @@ module _ {B D : Type 0} (c : Class B) (lawful : 4 ≤ c.rules.most → IsLawful 
 -- What storage tells of a sweep and of a split, as the engine has it.
 module _ {B D : Type 0} (known : Limits → Known (Entry B) (Page B)) (r : Reading (Entry B) (Page B)) (f : Format B) (passes : ℕ → Contents → Bool) (d e : Device) (v w : Volume D) where
   pub leaf_sweeping : (claimed : Entry B → Bool) (page : ℕ) (result : Result Bool (StepFault StoreFault))
-      → IfOk result (λ any. IsLoggedIf known r f passes 4114 d e v w (page_given page e.seen w.shelf) any) → OnErr result (IsUnlogged known r f passes (begun v 4114) d e v w)
+      → IfOk result (λ any. IsLoggedIf known r f passes PAGE_RECORD d e v w (page_given page e.seen w.shelf) any) → OnErr result (IsUnlogged known r f passes (begun v PAGE_RECORD) d e v w)
       → (IsSteady d v.shelf.frames → IfOk result (Swept claimed (store_of f d.seen v.shelf) (store_of f e.seen w.shelf) page))
-      → IfOk result (λ any. any ≡ true → HasOwnNumber e.seen w.shelf page) → IfErr result (IsWhy (faults.IsWhy passes d e (begun v 4114) w.shelf))
+      → IfOk result (λ any. any ≡ true → HasOwnNumber e.seen w.shelf page) → IfErr result (IsWhy (faults.IsWhy passes d e (begun v PAGE_RECORD) w.shelf))
       → (IsSteady d v.shelf.frames → result ≡ Err step.Damaged → Used (tree_of (store_of f d.seen v.shelf)) page
       → ((tree_of (store_of f d.seen v.shelf)).node page).level ≡ 0 → MAX_ENTRIES < length ((tree_of (store_of f d.seen v.shelf)).node page).pairs)
       → result ≢ Err step.Memory → result ≢ Err step.PagesFull → LeafSweeping known r f passes claimed d e v w page result
@@ -257,11 +258,11 @@ module _ {B D : Type 0} (known : Limits → Known (Entry B) (Page B)) (r : Readi
 
   module _ (rules : ℕ → Rules B) (sides_of : List B → ℕ → List Bool) where
     pub splitting : (page parent : ℕ) (result : Result (Option (Split B)) (StepFault StoreFault))
-        → IfOk result (λ did. IsLoggedIf known r f passes 12314 d e v w (pages_given (rising page parent (suc v.shelf.used)) e.seen w.shelf) (has_split did))
-        → OnErr result (IsUnlogged known r f passes (begun v 12314) d e v w)
+        → IfOk result (λ did. IsLoggedIf known r f passes SPLIT_RECORD d e v w (pages_given (rising page parent (suc v.shelf.used)) e.seen w.shelf) (has_split did))
+        → OnErr result (IsUnlogged known r f passes (begun v SPLIT_RECORD) d e v w)
         → (IsSteady d v.shelf.frames → IfOk result (Splits (rules v.most) sides_of (store_of f d.seen v.shelf) (store_of f e.seen w.shelf) page parent))
         → IfOk result (λ did. IfSome did (λ some. Each (HasOwnNumber e.seen w.shelf) (rising page parent (suc v.shelf.used))))
-        → IfErr result (IsWhy (faults.IsWhy passes d e (begun v 12314) w.shelf))
+        → IfErr result (IsWhy (faults.IsWhy passes d e (begun v SPLIT_RECORD) w.shelf))
         → (IsSteady d v.shelf.frames → result ≡ Err step.PagesFull → v.shelf.pages ≤ v.shelf.used)
         → (IsSteady d v.shelf.frames → result ≡ Err step.Damaged → Legal (rules v.most) (tree_of (store_of f d.seen v.shelf)) → Used (tree_of (store_of f d.seen v.shelf)) page
         → Used (tree_of (store_of f d.seen v.shelf)) parent → page ≢ parent → 0 < ((tree_of (store_of f d.seen v.shelf)).node parent).level
@@ -278,11 +279,11 @@ module _ {B D : Type 0} (known : Limits → Known (Entry B) (Page B)) (r : Readi
         }
 
     pub root_splitting : (result : Result (RootSplit B) (StepFault StoreFault))
-        → OnOk result (IsLogged known r f passes 12314 d e v w (pages_given (1 ∷ suc v.shelf.used ∷ suc (suc v.shelf.used) ∷ []) e.seen w.shelf))
-        → OnErr result (IsUnlogged known r f passes (begun v 12314) d e v w)
+        → OnOk result (IsLogged known r f passes SPLIT_RECORD d e v w (pages_given (1 ∷ suc v.shelf.used ∷ suc (suc v.shelf.used) ∷ []) e.seen w.shelf))
+        → OnErr result (IsUnlogged known r f passes (begun v SPLIT_RECORD) d e v w)
         → (IsSteady d v.shelf.frames → IfOk result (DidSplitRoot (rules v.most) sides_of (store_of f d.seen v.shelf) (store_of f e.seen w.shelf)))
         → OnOk result (Each (HasOwnNumber e.seen w.shelf) (1 ∷ suc v.shelf.used ∷ suc (suc v.shelf.used) ∷ []))
-        → IfErr result (IsWhy (faults.IsWhy passes d e (begun v 12314) w.shelf))
+        → IfErr result (IsWhy (faults.IsWhy passes d e (begun v SPLIT_RECORD) w.shelf))
         → (IsSteady d v.shelf.frames → result ≡ Err step.PagesFull → v.shelf.pages < v.shelf.used + 2)
         → (IsSteady d v.shelf.frames → result ≡ Err step.Damaged → Legal (rules v.most) (tree_of (store_of f d.seen v.shelf))
         → v.most ≤ size ((tree_of (store_of f d.seen v.shelf)).node 1) → ((tree_of (store_of f d.seen v.shelf)).node 1).level + 1 < 2 ^ 16 → ⊥)

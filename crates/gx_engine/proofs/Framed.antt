@@ -1,5 +1,5 @@
 -- A change of pages leaves as many frames.
-use Rattle.std.proofs.Common.{◌≡◌, ℕ, ◌+◌, Bool, true, false, Result, Ok, Err, IfOk, OnErr, List, length}
+use Rattle.std.proofs.Common.{◌≡◌, ℕ, Bool, true, false, Result, Ok, Err, IfOk, OnErr, List, length}
 use Rattle.gx_machine.specs.declared.entry.Entry.{Entry}
 use Rattle.gx_disk.specs.Device.{Device}
 use Rattle.gx_page.specs.Contents.{Contents}
@@ -7,6 +7,7 @@ use Rattle.gx_node.specs.Reading.{Format}
 use Rattle.gx_tree.specs.declared.seek.Sought.{Sought}
 use Rattle.gx_tree.specs.declared.seek.Sought.TheVariants.{Here, Right}
 use Rattle.gx_record.specs.Rec.{Rec}
+use Rattle.gx_record.specs.Writing.{write_record}
 use Rattle.gx_recovery.specs.Known.{Known, Limits}
 use Rattle.gx_index_laws.specs.Classes.{Page}
 use Rattle.gx_durable.specs.Spelled.{Reading}
@@ -34,6 +35,6 @@ module _ {B D : Type 0} (known : Limits → Known (Entry B) (Page B)) (r : Readi
 
   -- a mark
   pub marked_frames : {E : Type 0} (spelling : B → List ℕ) (key transaction : ℕ) (entry : Entry B) (page : ℕ) (marked : Bool) (result : Result Sought E)
-      → IfOk result (MarkIsLogged known r f passes spelling key transaction entry page marked d e v w) → OnErr result (IsUnlogged known r f passes (begun v (key + 4119)) d e v w) → Same
+      → IfOk result (MarkIsLogged known r f passes spelling key transaction entry page marked d e v w) → OnErr result (IsUnlogged known r f passes (begun v (write_record key)) d e v w) → Same
   marked_frames spelling key transaction entry page marked (Ok sought) logged unlogged = mark_by spelling key transaction entry page marked sought logged
   marked_frames spelling key transaction entry page marked (Err fault) logged unlogged = (unlogged.since 0).goes_on.frames

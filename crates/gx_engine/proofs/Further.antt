@@ -8,6 +8,7 @@ use Rattle.gx_machine.specs.Machine.{is_session}
 use Rattle.gx_disk.specs.Device.{Device}
 use Rattle.gx_disk.proofs.Leaving.{leaves_joined}
 use Rattle.gx_disk.specs.Moments.{Leaves}
+use Rattle.gx_disk.specs.declared.layout.TheConstants.{MAX_PAGES}
 use Rattle.gx_page.specs.Contents.{Contents}
 use Rattle.gx_node.specs.Reading.{Format}
 use Rattle.gx_tree.specs.declared.look.Look.{Look}
@@ -32,11 +33,11 @@ use Rattle.gx_phases.specs.States.{State, IsKept, phase_at, with_phase_of}
 use Rattle.gx_engine.specs.declared.work.Work.{Work}
 use Rattle.gx_engine.specs.declared.work.Work.TheVariants.{Looks, Rests}
 use Rattle.gx_engine.specs.Holds.{Holds, MayHaveFound}
-use Rattle.gx_engine.specs.Looking.{IsFirst, IsFirstUnless, Reaches, work_before}
+use Rattle.gx_engine.specs.Looks.{IsFirst, IsFirstUnless, Reaches, work_before}
 use Rattle.gx_engine.specs.Moves.{Moved, Moves, MovesOn, MovesSo, calling}
 use Rattle.gx_engine.specs.States.{Parts}
-use Rattle.gx_engine.specs.Writing.{brought}
-use Rattle.gx_engine.proofs.Looking.{at_work, begins_moves, phase_again, put_kept}
+use Rattle.gx_engine.specs.Writes.{brought}
+use Rattle.gx_engine.proofs.LookMoves.{at_work, begins_moves, phase_again, put_kept}
 use Rattle.gx_engine.proofs.Taking.{again, put_moves, same_calling}
 
 -- work that decides nothing, twice, is such work
@@ -133,7 +134,7 @@ module _ {B D : Type 0} (c : Class B) (lawful : 4 ≤ c.rules.most → IsLawful 
 -- A look that is at hand, of a call that may not have begun.
 module _ {B D : Type 0} (c : Class B) (lawful : 4 ≤ c.rules.most → IsLawful c) (r : Reading (Entry B) (Page B)) (f : Format B) (passes : ℕ → Contents → Bool)
     (d : Device) (e : Parts B D) (kept : IsKept c.keys e.sessions) (s : ℕ) (is : is_session s ≡ true) (call : Call B) (rest : Work B)
-    (at : phase_at (s - 1) e.sessions.phases ≡ phase.Open call rest) (look : Look B) (may : MayHaveFound call []) (small : e.volume.shelf.pages ≤ 65536) (few : e.volume.most ≤ 100) where
+    (at : phase_at (s - 1) e.sessions.phases ≡ phase.Open call rest) (look : Look B) (may : MayHaveFound call []) (small : e.volume.shelf.pages ≤ MAX_PAGES) (few : e.volume.most ≤ 100) where
   abbrev rested : Parts B D
   rested = calling s call Rests e
 

@@ -14,6 +14,7 @@ use Rattle.gx_events.specs.declared.outcome.Need.{Need}
 use Rattle.gx_events.specs.declared.outcome.Need.TheVariants as need
 use Rattle.gx_events.specs.declared.outcome.Outcome.{Outcome}
 use Rattle.gx_events.specs.declared.outcome.Outcome.TheVariants.{More, Refused}
+use Rattle.gx_index_laws.specs.declared.TheConstants.{CHECKPOINT_AT}
 use Rattle.gx_engine.specs.declared.checkpoint.Checkpoint.{Checkpoint}
 use Rattle.gx_engine.specs.declared.checkpoint.Checkpoint.TheVariants.{Off, Running, Turning}
 use Rattle.gx_engine.specs.Checkpoints.{CheckpointSteps, HeadComes, IsQuiet, RunsOn, StepsFrom, StepsOff, SyncComes, TurnComes}
@@ -93,7 +94,7 @@ module _ {B D : Type 0} where
 
   from_did : (d e : Device) (old new : Parts B D) (at : Checkpoint) (given : Outcome B) → old.checkpoint ≡ at → is_due old ≡ true → StepsFrom d e old new at given → Did given
   from_did d e old new Off given is due comes =
-      off_did d e old new (nat_le 24 old.volume.log.used) given (sym (ap (λ c. runs c || nat_le 24 old.volume.log.used) is) ∙ due) comes
+      off_did d e old new (nat_le CHECKPOINT_AT old.volume.log.used) given (sym (ap (λ c. runs c || nat_le CHECKPOINT_AT old.volume.log.used) is) ∙ due) comes
   from_did d e old new Running given is due comes = runs_did d e old new given comes
   from_did d e old new Turning given is due comes = turn_did old new given comes.result comes.comes
 

@@ -53,9 +53,9 @@ use Rattle.gx_engine.specs.Holds.{Sits}
 use Rattle.gx_engine.specs.Moves.{Moves}
 use Rattle.gx_engine.specs.Noted.{has_transaction, touch_by, touched_by}
 use Rattle.gx_engine.specs.States.{Parts, is_due}
-use Rattle.gx_engine.specs.Writing.{WriteBy}
+use Rattle.gx_engine.specs.Writes.{WriteBy}
 use Rattle.gx_engine.proofs.Growing.{grown_led}
-use Rattle.gx_engine.proofs.Looking.{its_work, slot_now}
+use Rattle.gx_engine.proofs.LookMoves.{its_work, slot_now}
 use Rattle.gx_engine.proofs.Noting.{busy_slot, told_set}
 use Rattle.gx_engine.proofs.Serving.{FliesOn, is_calm, not_due, session_at, session_of, slot_is}
 use Rattle.gx_engine.proofs.Touching.{touching_notes, touching_other, touching_own}

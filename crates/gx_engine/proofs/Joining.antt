@@ -29,10 +29,10 @@ use Rattle.gx_phases.specs.declared.phase.Phase.TheVariants as phase
 use Rattle.gx_phases.specs.States.{State, phase_at}
 use Rattle.gx_engine.specs.declared.work.Work.{Work}
 use Rattle.gx_engine.specs.declared.work.Work.TheVariants.{Rests}
-use Rattle.gx_engine.specs.Asked.{told}
+use Rattle.gx_engine.specs.Asks.{told}
 use Rattle.gx_engine.specs.Flushing.{LogComes, LogSteps, PageComes, PageIsWritten, log_events, log_outcome, page_events, page_outcome}
-use Rattle.gx_engine.specs.Sealing as sealing
-use Rattle.gx_engine.specs.Sealing.{AcknowledgeBy, AcknowledgeComes, AreSealing, SealComes, acknowledge_events}
+use Rattle.gx_engine.specs.Commits as sealing
+use Rattle.gx_engine.specs.Commits.{AcknowledgeBy, AcknowledgeComes, AreSealing, SealComes, acknowledge_events}
 use Rattle.gx_engine.specs.States.{Parts, runs}
 
 -- An ask.

@@ -14,9 +14,11 @@ use Rattle.gx_glog.specs.State.{Log, GoesFrom, Made, after, after_turn, begun, T
 use Rattle.gx_pool.specs.Marks.{is_gated}
 use Rattle.gx_pool.specs.State.{Kept, State as Frames, dirty_count, kept, stamp_of}
 use Rattle.gx_pool.proofs.Numbers.{clean_dirty_apart}
+use Rattle.gx_pool.specs.declared.frames.TheConstants.{FRAMES}
 use Rattle.gx_durable.specs.Steps.{told_frames}
 use Rattle.gx_durable.specs.Turns.{told_result}
 use Rattle.gx_store.specs.declared.fault.StoreFault.{StoreFault}
+use Rattle.gx_index_laws.specs.declared.TheConstants.{CHECKPOINT_AT}
 use Rattle.gx_storage.specs.State.{Volume}
 use Rattle.gx_events.specs.declared.event.Event.{Event}
 use Rattle.gx_events.specs.declared.event.Event.TheVariants.{CheckpointStep, LogStep}
@@ -90,7 +92,7 @@ coming_few true = omega arith
 coming_few false = omega arith
 
 checkpoint_few : (at : Checkpoint) (log : Log) → checkpoint_left at log ≤ 9
-checkpoint_few Off log = coming_few (nat_le 24 (places log))
+checkpoint_few Off log = coming_few (nat_le CHECKPOINT_AT (places log))
 checkpoint_few Running log = omega arith
 checkpoint_few Turning log = let few = turn_few log.turn in omega (arith, few)
 
@@ -102,15 +104,15 @@ flight_few Gate = omega arith
 flight_few GateSync = omega arith
 
 -- behind a turn none is due: one place is taken
-none_coming : (bytes : List ℕ) → coming (nat_le 24 (1 + fillings bytes)) ≡ 0
+none_coming : (bytes : List ℕ) → coming (nat_le CHECKPOINT_AT (1 + fillings bytes)) ≡ 0
 none_coming [] = refl
 none_coming (byte ∷ bytes) = refl
 
-due_by : (used more : ℕ) → nat_le 24 used ≡ true → coming (nat_le 24 (used + more)) ≡ 9
-due_by used more due = let low = leb-true 24 used due in ap coming (le-leb 24 (used + more) (omega (arith, low)))
+due_by : (used more : ℕ) → nat_le CHECKPOINT_AT used ≡ true → coming (nat_le CHECKPOINT_AT (used + more)) ≡ 9
+due_by used more due = let low = leb-true CHECKPOINT_AT used due in ap coming (le-leb CHECKPOINT_AT (used + more) (omega (arith, low)))
 
 left_same : (at : Checkpoint) (old new : Log) → (at ≡ Turning → ⊥) → places new ≡ places old → checkpoint_left at new ≡ checkpoint_left at old
-left_same Off old new still same = ap (λ n. coming (nat_le 24 n)) same
+left_same Off old new still same = ap (λ n. coming (nat_le CHECKPOINT_AT n)) same
 left_same Running old new still same = refl
 left_same Turning old new still same = absurd (still refl)
 
@@ -145,7 +147,7 @@ module _ {B D : Type 0} where
   abbrev left : Parts B D → ℕ
   left e = checkpoint_left e.checkpoint e.volume.log
 
-  pub few_left : (e : Parts B D) → dirty e ≤ 4096 → backlog e < 8192
+  pub few_left : (e : Parts B D) → dirty e ≤ FRAMES → backlog e < 8192
   few_left e few =
       let flight = flight_few e.volume.log.stage in
       let fill = few_fill e.volume.log.filling in
@@ -255,17 +257,17 @@ module _ {B D : Type 0} where
       let clean : dirty new ≡ dirty old = ap dirty_count frames ∙ ap (λ r. dirty_count (told_result r old.volume.shelf.frames)) is ∙ turned_dirty call old.volume.shelf.frames in
       turned_less old.volume.log.turn old new refl from turns.1 (ap (λ x. x.checkpoint) comes.1 ∙ ap after_call turns.0) clean
 
-  off_less : (d e : Device) (old new : Parts B D) (due : Bool) (given : Outcome B) → old.checkpoint ≡ Off → nat_le 24 old.volume.log.used ≡ due → GoesOn given
+  off_less : (d e : Device) (old new : Parts B D) (due : Bool) (given : Outcome B) → old.checkpoint ≡ Off → nat_le CHECKPOINT_AT old.volume.log.used ≡ due → GoesOn given
       → StepsOff d e old new due given → backlog new < backlog old
   off_less d e old new false given is due on comes = absurd (subst GoesOn comes.0 on)
   off_less d e old new true given is due on comes =
       let less : backlog new < backlog (record old { checkpoint = Running }) = runs_less d e (record old { checkpoint = Running }) new given refl on comes in
-      let was : left old ≡ coming (nat_le 24 (places old.volume.log)) = ap (λ c. checkpoint_left c old.volume.log) is in
+      let was : left old ≡ coming (nat_le CHECKPOINT_AT (places old.volume.log)) = ap (λ c. checkpoint_left c old.volume.log) is in
       let nine = due_by old.volume.log.used (fillings old.volume.log.filling) due in
       omega (arith, less, was, nine)
 
   from_less : (d e : Device) (old new : Parts B D) (at : Checkpoint) (given : Outcome B) → old.checkpoint ≡ at → GoesOn given → StepsFrom d e old new at given → backlog new < backlog old
-  from_less d e old new Off given is on comes = off_less d e old new (nat_le 24 old.volume.log.used) given is refl on comes
+  from_less d e old new Off given is on comes = off_less d e old new (nat_le CHECKPOINT_AT old.volume.log.used) given is refl on comes
   from_less d e old new Running given is on comes = runs_less d e old new given is on comes
   from_less d e old new Turning given is on comes = turns_less d e old new given comes.result is on comes refl comes.comes
 
@@ -287,7 +289,7 @@ module _ {B D : Type 0} where
 -- ---- steps of the log, and of a checkpoint, come to an end
 
 -- no more pages have changes than there are frames
-pub few_orderly : {B D : Type 0} (e : Parts B D) → IsOrderly e → dirty_count e.volume.shelf.frames ≤ 4096
+pub few_orderly : {B D : Type 0} (e : Parts B D) → IsOrderly e → dirty_count e.volume.shelf.frames ≤ FRAMES
 few_orderly e order =
     let all = clean_dirty_apart e.volume.shelf.frames in
     let few = order.frames.sound.few in

@@ -1,11 +1,11 @@
 pub mod Serving
-pub mod Asking
+pub mod AskMoves
 pub mod Flushing
-pub mod Sealing
-pub mod Looking
+pub mod CommitMoves
+pub mod LookMoves
 pub mod Reading
 pub mod Taking
-pub mod Finding
+pub mod SearchMoves
 pub mod WriteLooks
 pub mod Touching
 pub mod Noting
@@ -21,10 +21,10 @@ pub mod Joining
 pub mod Machines
 pub mod Running
 pub mod Waiting
-pub mod Undone
+pub mod UndoMoves
 pub mod Claimed
-pub mod Seeking
-pub mod Setting
+pub mod WriteSeeks
+pub mod SeekMoves
 pub mod Stopping
 pub mod Inserted
 pub mod Descents
@@ -33,8 +33,8 @@ pub mod MakingRoom
 pub mod DescentMoves
 pub mod WriteMoves
 pub mod Further
-pub mod Checkpointing
-pub mod Putting
+pub mod CheckpointTurns
+pub mod HeadNotes
 pub mod TurnBegins
 pub mod Calling
 pub mod Steps
@@ -57,3 +57,4 @@ pub mod Waits
 pub mod Helping
 pub mod Measured
 pub mod CallsEnd
+pub mod Lacking

@@ -14,8 +14,8 @@ use Rattle.gx_machine.specs.declared.entry.Entry.{Entry}
 use Rattle.gx_machine.specs.Keys.{Keys, IsLawful, entry_cmp, same_entry}
 use Rattle.gx_machine.specs.Sets.{has, including}
 use Rattle.gx_machine.specs.Sessions.{Locks, conflicts, unless_busy, with_claim}
-use Rattle.gx_locks.specs.Least.{least_barring}
-use Rattle.gx_locks.proofs.Searched.{turned}
+use Rattle.gx_machine.specs.Least.{least_barring}
+use Rattle.gx_machine.proofs.Searched.{turned}
 use Rattle.gx_tree_laws.specs.Lists.{sum_over}
 use Rattle.gx_recovery.specs.Records.{Touch}
 use Rattle.gx_recovery.proofs.Tests.{true_or_false, clash}

@@ -10,6 +10,7 @@ use Rattle.gx_machine.specs.declared.reply.Reply.TheVariants.{Refused as Refused
 use Rattle.gx_machine.specs.Keys.{Keys, Members, keys_of}
 use Rattle.gx_machine.specs.Machine.{is_session}
 use Rattle.gx_disk.specs.Device.{Device}
+use Rattle.gx_disk.specs.declared.layout.TheConstants.{MAX_PAGES}
 use Rattle.gx_page.specs.Contents.{Contents}
 use Rattle.gx_pool.specs.Bringing.{OnlyRead}
 use Rattle.gx_node.specs.Reading.{Format}
@@ -47,6 +48,8 @@ use Rattle.gx_phases.specs.Moves.{answered_state}
 use Rattle.gx_phases.specs.States.{State, IsKept, held_at, note_of, phase_at, with_phase_of}
 use Rattle.gx_store.specs.Standing.{store_of}
 use Rattle.gx_store.specs.State.{IsSteady}
+use Rattle.gx_record.specs.declared.sizes.TheConstants.{PAGE_RECORD, SPLIT_RECORD}
+use Rattle.gx_record.specs.Writing.{write_record}
 use Rattle.gx_storage.specs.Changes.{known_at, page_given}
 use Rattle.gx_storage.specs.Giving.{pages_given, rising}
 use Rattle.gx_storage.specs.Keeps.{KeepsTheSame, KeepsWith}
@@ -58,16 +61,16 @@ use Rattle.gx_storage.proofs.SoundSplits.{no_place, root_split_to, root_split_wo
 use Rattle.gx_storage.proofs.Stepping.{shown_legal, stood, used_few}
 use Rattle.gx_engine.specs.declared.work.Work.{Work}
 use Rattle.gx_engine.specs.declared.work.Work.TheVariants.{Descends}
-use Rattle.gx_engine.specs.Descending.{HasSplitRoot, Splitting}
+use Rattle.gx_engine.specs.Descents.{HasSplitRoot, Splitting}
 use Rattle.gx_engine.specs.Holds.{Holds}
 use Rattle.gx_engine.specs.Moves.{Moves, calling}
 use Rattle.gx_engine.specs.States.{Parts, is_due}
 use Rattle.gx_engine.specs.Sweeping.{is_held}
-use Rattle.gx_engine.specs.Writing.{AsksRoom, HasPlace, IsFull, LacksPages, LeftFew, WriteBy, page_record, pages_split, split_record, write_record}
+use Rattle.gx_engine.specs.Writes.{AsksRoom, HasPlace, IsFull, LacksPages, LeftFew, WriteBy, pages_split}
 use Rattle.gx_engine.proofs.Brought.{as_brought}
 use Rattle.gx_engine.proofs.Claimed.{claimed_alike}
 use Rattle.gx_engine.proofs.Descents.{logged_on, logged_yet, quiet_moves}
-use Rattle.gx_engine.proofs.Looking.{answers, its_work, slot_now}
+use Rattle.gx_engine.proofs.LookMoves.{answers, its_work, slot_now}
 use Rattle.gx_engine.proofs.Serving.{FliesOn, flies_on, is_calm, not_due, of_reads}
 
 -- a session that is put in the phase that it is in
@@ -230,7 +233,7 @@ module _ {B D : Type 0} (c : Class B) (lawful : 4 ≤ c.rules.most → IsLawful 
         (Descends 0 (record { page = 1; seen = w.shelf.counter })) (index.Descends entry 0 (record { page = 1; seen = w.shelf.counter })) refl root.does root.lower
 
   -- a split isn't refused as damage
-  module _ (rules : ℕ → Rules B) (its_rules : rules c.rules.most ≡ c.rules) (small : v.shelf.pages ≤ 65536)
+  module _ (rules : ℕ → Rules B) (its_rules : rules c.rules.most ≡ c.rules) (small : v.shelf.pages ≤ MAX_PAGES)
       (full : IsSteady d v.shelf.frames → v.most ≤ size ((tree_of (store_of f d.seen v.shelf)).node item.page)) where
     pub never_split : item.page ≢ 1
         → (IsSteady d v.shelf.frames → Legal (rules v.most) (tree_of (store_of f d.seen v.shelf)) → Used (tree_of (store_of f d.seen v.shelf)) item.page
@@ -266,7 +269,7 @@ module _ {B D : Type 0} (c : Class B) (lawful : 4 ≤ c.rules.most → IsLawful 
         let before = stood c law said f passes d e v w bodies i h.whole h.keeps in
         let few = used_few c law said f passes d e v w bodies i h.whole h.keeps in
         let pages = h.keeps.pages in
-        let large : 65536 ≤ 2 ^ 16 = omega arith in
+        let large : MAX_PAGES ≤ 2 ^ 16 = omega arith in
         absurd (damaged steady (subst (λ (x : Rules B). Legal x t) same its_legal) its_full (omega (arith, below, before, few, pages, small, large)))
 
 -- A split below the root takes a page, and the root's takes two.
@@ -300,17 +303,17 @@ module _ {B D : Type 0} (k : Keys B) (passes : ℕ → Contents → Bool) (d e :
 -- A descent's parts ask for what the descent may ask for.
 module _ {B D : Type 0} (f : Format B) (key : ℕ) (d : Device) (s : ℕ) (entry : Entry B) (parent : ℕ) (item : Item) (old : Parts B D)
     (at : phase_at (s - 1) old.sessions.phases ≡ phase.Open (Insert entry) (Descends parent item)) where
-  pub asks_page : (size : ℕ) → size ≡ page_record → AsksRoom f key d s (Insert entry) old size
+  pub asks_page : (size : ℕ) → size ≡ PAGE_RECORD → AsksRoom f key d s (Insert entry) old size
   asks_page size is = record { work = Descends parent item; at = at; asks = inl is }
 
   pub asks_write : HasPlace f d old item.page → (size : ℕ) → size ≡ write_record key → AsksRoom f key d s (Insert entry) old size
   asks_write place size is = record { work = Descends parent item; at = at; asks = inr (inl (is, place)) }
 
   module _ (full : IsFull f d old item.page) where
-    pub asks_split : (size : ℕ) → size ≡ split_record → AsksRoom f key d s (Insert entry) old size
+    pub asks_split : (size : ℕ) → size ≡ SPLIT_RECORD → AsksRoom f key d s (Insert entry) old size
     asks_split size is = record { work = Descends parent item; at = at; asks = inr (inr (is, full)) }
 
-    pub asks_sweep : (size : ℕ) → (size ≡ page_record) ⊎ (size ≡ split_record) → AsksRoom f key d s (Insert entry) old size
+    pub asks_sweep : (size : ℕ) → (size ≡ PAGE_RECORD) ⊎ (size ≡ SPLIT_RECORD) → AsksRoom f key d s (Insert entry) old size
     asks_sweep size (inl is) = asks_page size is
     asks_sweep size (inr is) = asks_split size is
 

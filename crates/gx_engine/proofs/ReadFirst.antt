@@ -31,7 +31,7 @@ use Rattle.gx_storage.specs.Keeps.{KeepsTheSame}
 use Rattle.gx_storage.specs.State.{Volume}
 use Rattle.gx_engine.specs.Moves.{Lowers, Moves}
 use Rattle.gx_engine.specs.States.{Parts, is_due, runs}
-use Rattle.gx_engine.specs.Writing.{LeftFew, WriteBy}
+use Rattle.gx_engine.specs.Writes.{LeftFew, WriteBy}
 use Rattle.gx_engine.proofs.Brought.{as_brought, begun_on, brought_leads, help_early}
 
 module _ {B D : Type 0} (k : Keys B) (known : Limits → Known (Entry B) (Page B)) (r : Reading (Entry B) (Page B)) (f : Format B) (passes : ℕ → Contents → Bool) (size : ℕ)

@@ -58,10 +58,10 @@ use Rattle.gx_engine.specs.declared.work.Work.{Work}
 use Rattle.gx_engine.specs.declared.work.Work.TheVariants.{Looks}
 use Rattle.gx_engine.specs.States.{Parts, runs}
 use Rattle.gx_engine.specs.Holds.{Holds, MayHaveFound}
-use Rattle.gx_engine.specs.Looking.{StopComes, look_events}
+use Rattle.gx_engine.specs.Looks.{StopComes, look_events}
 use Rattle.gx_engine.specs.Moves.{Moves, MovesOn, calling}
 use Rattle.gx_engine.specs.Refusals.{IsRefused, need_of, StampsStay}
-use Rattle.gx_engine.proofs.Looking.{answered_again, at_work, closes, fails, its_slot, looks_at, moves_on, phase_again, put_kept, slot_now, waits}
+use Rattle.gx_engine.proofs.LookMoves.{answered_again, at_work, closes, fails, its_slot, looks_at, moves_on, phase_again, put_kept, slot_now, waits}
 use Rattle.gx_engine.proofs.Serving.{StaysSettled, of_reads}
 
 -- What a look wants, by a probe that says so of keys; and two trees that agree on their pages.

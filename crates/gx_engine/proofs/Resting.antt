@@ -8,6 +8,7 @@ use Rattle.gx_glog.specs.declared.stage.Stage.TheVariants.{Idle, Body, BodySync,
 use Rattle.gx_glog.specs.State.{Log, GoesFrom, Made, begun}
 use Rattle.gx_events.specs.declared.outcome.Outcome.{Outcome}
 use Rattle.gx_events.specs.declared.outcome.Outcome.TheVariants as outcome
+use Rattle.gx_index_laws.specs.declared.TheConstants.{CHECKPOINT_AT}
 use Rattle.gx_engine.specs.declared.checkpoint.Checkpoint.{Checkpoint}
 use Rattle.gx_engine.specs.declared.checkpoint.Checkpoint.TheVariants.{Off, Running, Turning}
 use Rattle.gx_engine.specs.Checkpoints.{CheckpointSteps, HeadComes, IsQuiet, RunsOn, StepsFrom, StepsOff, SyncComes, TurnComes}
@@ -76,7 +77,7 @@ module _ {B D : Type 0} where
   off_keeps d e old new true given comes = runs_keeps d e (record old { checkpoint = Running }) new given comes
 
   from_keeps : (d e : Device) (old new : Parts B D) (at : Checkpoint) (given : Outcome B) → StepsFrom d e old new at given → KeepsSessions old new
-  from_keeps d e old new Off given comes = off_keeps d e old new (nat_le 24 old.volume.log.used) given comes
+  from_keeps d e old new Off given comes = off_keeps d e old new (nat_le CHECKPOINT_AT old.volume.log.used) given comes
   from_keeps d e old new Running given comes = runs_keeps d e old new given comes
   from_keeps d e old new Turning given comes = turn_keeps old new given comes.result comes.comes
 
@@ -149,7 +150,7 @@ module _ {B D : Type 0} where
   off_rests d e old new true comes = absurd (runs_work d e (record old { checkpoint = Running }) new comes)
 
   from_rests : (d e : Device) (old new : Parts B D) (at : Checkpoint) → StepsFrom d e old new at outcome.Nothing → (at ≡ Off) × (new ≡ old)
-  from_rests d e old new Off comes = (refl, off_rests d e old new (nat_le 24 old.volume.log.used) comes)
+  from_rests d e old new Off comes = (refl, off_rests d e old new (nat_le CHECKPOINT_AT old.volume.log.used) comes)
   from_rests d e old new Running comes = absurd (runs_work d e old new comes)
   from_rests d e old new Turning comes = absurd (turn_works old new comes.result comes.comes)
 

@@ -25,6 +25,7 @@ use Rattle.gx_storage.specs.State.{Volume}
 use Rattle.gx_index_laws.specs.States as index
 use Rattle.gx_engine_laws.specs.Slots.{Slot, slot_at, with_slot}
 use Rattle.gx_index_laws.specs.Happening.{slotted}
+use Rattle.gx_index_laws.specs.declared.TheConstants.{CHECKPOINT_AT}
 use Rattle.gx_txn.specs.Tables.{Held, nothing_held, with_held}
 use Rattle.gx_phases.specs.Indexes.{AreOf}
 use Rattle.gx_phases.specs.declared.phase.Phase.{Phase}
@@ -144,10 +145,10 @@ writes_still Turning v page stands gated =
     absurd (let no : true ≡ false = sym gated ∙ ap (λ (x : Option ℕ). is_gated v.shelf.frames.gated x) (stands.clean page) in cc)
 
 -- an event that doesn't wait for a checkpoint: none runs, and fewer than 24 places are taken
-pub not_due : {B D : Type 0} (e : Parts B D) → is_due e ≡ false → (runs e.checkpoint ≡ false) × (e.volume.log.used < 24)
+pub not_due : {B D : Type 0} (e : Parts B D) → is_due e ≡ false → (runs e.checkpoint ≡ false) × (e.volume.log.used < CHECKPOINT_AT)
 not_due e early =
-    let both = or_parts (runs e.checkpoint) (nat_le 24 e.volume.log.used) early in
-    (both.0, leb-false 24 e.volume.log.used both.1)
+    let both = or_parts (runs e.checkpoint) (nat_le CHECKPOINT_AT e.volume.log.used) early in
+    (both.0, leb-false CHECKPOINT_AT e.volume.log.used both.1)
 
 -- pages that were only read stand in a checkpoint as they did
 pub reads_stand : {D : Type 0} (x : Checkpoint) (v w : Volume D) → w.log ≡ v.log → ((page : ℕ) → stamp_of (kept w.shelf.frames page) ≡ stamp_of (kept v.shelf.frames page))

@@ -1,12 +1,12 @@
 -- An engine that starts over what was found on its device holds the index that is opened over it.
-use Rattle.std.proofs.Common.{◌≡◌, ◌≢◌, ◌∙◌, sym, subst, ap, refl, ℕ, suc, ◌-◌, ◌+◌, ◌*◌, ◌<◌, ◌≤◌, Bool, true, false, None, Some, zero, List, [], ◌∷◌, ◌++◌, length, arith}
+use Rattle.std.proofs.Common.{◌⊎◌, inl, inr, ◌≡◌, ◌≢◌, ◌∙◌, sym, subst, ap, refl, ℕ, suc, ◌-◌, ◌+◌, ◌*◌, ◌<◌, ◌≤◌, Bool, true, false, None, Some, zero, List, [], ◌∷◌, ◌++◌, length, arith}
 use Rattle.std.proofs.lemmas.List.{append-nil}
 use Rattle.gx_machine.specs.declared.entry.Entry.{Entry}
 use Rattle.gx_machine.specs.Machine.{is_session}
 use Rattle.gx_disk.specs.Device.{Device}
+use Rattle.gx_disk.specs.declared.layout.TheConstants.{MAX_PAGES, PAGES_AT, PAGE_SECTORS}
 use Rattle.gx_page.specs.Contents.{Contents}
 use Rattle.gx_node.specs.Reading.{Format}
-use Rattle.gx_glog.specs.declared.stage.Stage.TheVariants.{Idle}
 use Rattle.gx_pool.specs.State.{State as Frames, IsEmpty, kept}
 use Rattle.gx_recovery.specs.Analysis.{analysis, number_of}
 use Rattle.gx_recovery.specs.Damage.{records_of}
@@ -34,17 +34,16 @@ use Rattle.gx_durable.specs.GoingOn.{RunsAfresh}
 use Rattle.gx_durable.specs.Opening.{found_glog}
 use Rattle.gx_durable.proofs.GoingOn.{found_runs}
 use Rattle.gx_glog.specs.Layout.{selected_of}
-use Rattle.gx_glog.specs.declared.stage.Turn.TheVariants.{Closed}
 use Rattle.gx_index_laws.proofs.Found.{found_whole}
 use Rattle.gx_index_laws.proofs.Listed.{log_listed}
 use Rattle.gx_recovery.specs.Damage.{IsLog}
 use Rattle.gx_recovery.proofs.DamageItems.{bodies_log}
 use Rattle.gx_engine.specs.Losing.{AllRest, AreCutOff, AreHeld, IsAtRest, OnlyHeld, touch_of}
 use Rattle.gx_engine.specs.declared.losers.Loser.{Loser}
-use Rattle.std.proofs.Common.{◌⊎◌, inl, inr, map}
+use Rattle.std.proofs.Common.{◌⊎◌, map}
 use Rattle.std.specs.List.{slice_index_or}
 use Rattle.gx_engine_laws.specs.Losers.{loser_slot}
-use Rattle.gx_glog.specs.State.{Log}
+use Rattle.gx_glog.specs.State.{Log, starting}
 use Rattle.gx_pool.specs.State.{Kept}
 use Rattle.gx_recovery.specs.Logged.{gate_synced, durable}
 use Rattle.gx_recovery.specs.Records.{Touch}
@@ -133,8 +132,7 @@ module _ {B D : Type 0} (c : Class B) (r : Reading (Entry B) (Page B)) (f : Form
   module _ (some : 1 ≤ start.bodies) where
     rests : rested start ≡ found_glog d.seen
     rests =
-        ap (λ x. record { extent = x; used = start.bodies; gated = start.bodies; stage = Idle; turn = Closed; flight = []; filling = [] }) so.extent
-        ∙ ap (λ (n : ℕ). record { extent = selected_of d.seen; used = n; gated = n; stage = Idle; turn = Closed; flight = []; filling = [] }) so.run
+        ap (λ x. starting x start.bodies) so.extent ∙ ap (λ (n : ℕ). starting (selected_of d.seen) n) so.run
 
     afresh : RunsAfresh k r (rested start) frames d bodies s
     afresh =
@@ -193,7 +191,7 @@ pub told_fresh : (count batch : ℕ) (x : Frames) → IsEmpty count x → AreFre
 told_fresh count batch x empty = record { count = empty.count; none = λ page. told_kept x batch page ∙ empty.none page; held = empty.held; gated = refl }
 
 -- they fit any device that has its pages
-pub fresh_in_order : (passes : Contents → Bool) (count batch sectors used pages : ℕ) (x : Frames) → AreFresh count batch x → pages ≤ 65536 → 4168 + 8 * pages ≤ sectors → used ≤ pages
+pub fresh_in_order : (passes : Contents → Bool) (count batch sectors used pages : ℕ) (x : Frames) → AreFresh count batch x → pages ≤ MAX_PAGES → PAGES_AT + PAGE_SECTORS * pages ≤ sectors → used ≤ pages
     → IsInOrder passes sectors x used pages
 fresh_in_order passes count batch sectors used pages x fresh few inside taken = record {
   few = few;

@@ -13,6 +13,7 @@ use Rattle.gx_machine.specs.Keys.{Keys}
 use Rattle.gx_machine.specs.Machine.{is_session}
 use Rattle.gx_disk.specs.Device.{Device}
 use Rattle.gx_disk.proofs.Leaving.{nothing_leaves}
+use Rattle.gx_disk.specs.declared.layout.TheConstants.{MAX_PAGES}
 use Rattle.gx_page.specs.Contents.{Contents}
 use Rattle.gx_node.specs.Reading.{Format}
 use Rattle.gx_recovery.specs.Known.{Known, Limits}
@@ -47,21 +48,21 @@ use Rattle.gx_phases.specs.States.{IsKept, State, held_at, phase_at, slot_of}
 use Rattle.gx_phases.specs.Moves.{failed_state}
 use Rattle.gx_engine.specs.declared.work.Work.{Work}
 use Rattle.gx_engine.specs.declared.work.Work.TheVariants.{Rests, Looks, Descends, Seeks}
-use Rattle.gx_engine.specs.Asked.{AskComes, ask_events}
+use Rattle.gx_engine.specs.Asks.{AskComes, ask_events}
 use Rattle.gx_engine.specs.Ending.{Spares, SparesSo}
 use Rattle.gx_engine.specs.Flushing.{IsEnded, LogSteps, PageIsWritten, log_events, page_events}
 use Rattle.gx_engine.specs.Holds.{CallIsAt, Holds, IsAt, Leads, LeadsSo, Led}
 use Rattle.gx_engine.specs.Moves.{Lowers, MovesSo, left, left_by}
-use Rattle.gx_engine.specs.Sealing.{AcknowledgeBy, AcknowledgeComes, AreSealing, SealComes, acknowledge_events}
-use Rattle.gx_engine.specs.Searching.{AreSearching, SearchComes}
+use Rattle.gx_engine.specs.Commits.{AcknowledgeBy, AcknowledgeComes, AreSealing, SealComes, acknowledge_events}
+use Rattle.gx_engine.specs.Searches.{AreSearching, SearchComes}
 use Rattle.gx_engine.specs.States.{Parts, is_due, runs}
 use Rattle.gx_engine.specs.Stepping.{LowersBy, Stepped, Steps, has_call}
 use Rattle.gx_engine.specs.Sweeping.{HasFailed, SweepComes, SweepsBy, SweepsPage, is_page, sweep_events}
 use Rattle.gx_engine.specs.Undoing.{AreUndoing, EndComes, RestoreComes, UndoBy, UndoComes}
-use Rattle.gx_engine.specs.Writing.{AreWriting, WriteComes}
+use Rattle.gx_engine.specs.Writes.{AreWriting, WriteComes}
 use Rattle.gx_engine.proofs.Flushing.{nothing_led}
 use Rattle.gx_engine.proofs.Joining as joining
-use Rattle.gx_engine.proofs.Looking.{put_there}
+use Rattle.gx_engine.proofs.LookMoves.{put_there}
 use Rattle.gx_engine.proofs.Serving.{slot_is}
 
 -- how far a session is tells whether it has a call
@@ -242,7 +243,7 @@ module _ {B D : Type 0} (c : Class B) (r : Reading (Entry B) (Page B)) (f : Form
 
   -- a commit is sealed
   module _ (lawful : 4 ≤ c.rules.most → IsLawful c) (kept : IsKept c.keys old.sessions) (s : ℕ) (is : is_session s ≡ true) (works : old.sessions.failed ≡ false)
-      (pages : old.volume.shelf.pages ≤ 65536) (most : old.volume.most ≤ 100) where
+      (pages : old.volume.shelf.pages ≤ MAX_PAGES) (most : old.volume.most ≤ 100) where
     -- a commit that is asked rests
     commit_rests : (work : Work B) (its : index.Work B) → CallIsAt Commit work its → work ≡ Rests
     commit_rests Rests its at = refl

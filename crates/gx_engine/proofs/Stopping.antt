@@ -24,6 +24,7 @@ use Rattle.gx_phases.specs.Moves.{failed_state}
 use Rattle.gx_phases.specs.States.{IsKept, phase_at}
 use Rattle.gx_store.specs.declared.fault.StoreFault.{StoreFault}
 use Rattle.gx_store.specs.Faults as faults
+use Rattle.gx_record.specs.declared.sizes.TheConstants.{SPLIT_RECORD}
 use Rattle.gx_storage.specs.Changes.{begun}
 use Rattle.gx_storage.specs.Keeps.{KeepsTheSame, StaysSame}
 use Rattle.gx_storage.specs.State.{Volume}
@@ -32,10 +33,10 @@ use Rattle.gx_engine.specs.Holds.{Holds}
 use Rattle.gx_engine.specs.Moves.{Moves}
 use Rattle.gx_engine.specs.Refusals.{IsRefused, StampsStay}
 use Rattle.gx_engine.specs.States.{Parts, is_due}
-use Rattle.gx_engine.specs.Writing.{WriteBy, write_events}
+use Rattle.gx_engine.specs.Writes.{WriteBy, write_events}
 use Rattle.gx_engine.proofs.Brought.{as_brought, by_refusal}
 use Rattle.gx_engine.proofs.Ending.{always_early}
-use Rattle.gx_engine.proofs.Looking.{fails, waits}
+use Rattle.gx_engine.proofs.LookMoves.{fails, waits}
 use Rattle.gx_engine.proofs.Serving.{StaysSettled, of_reads}
 
 -- What it comes to.
@@ -44,7 +45,7 @@ module _ {B D : Type 0} (Asks : ℕ → Type 0) (Lacks : Type 0) (k : Keys B) (p
   abbrev Comes : Parts B D → Outcome B → Type 0
   Comes new o = WriteBy Asks Lacks k passes (state old.volume.shelf.disk) (state new.volume.shelf.disk) s (Insert entry) old new o
 
-  pub stopped_comes : is_due old ≡ false → StampsStay old.volume.shelf w.shelf → (size : ℕ) → Asks size → size ≤ 12314 → (n : StoreFault) → faults.IsWhy passes (state old.volume.shelf.disk) (state w.shelf.disk) (begun old.volume size) w.shelf n
+  pub stopped_comes : is_due old ≡ false → StampsStay old.volume.shelf w.shelf → (size : ℕ) → Asks size → size ≤ SPLIT_RECORD → (n : StoreFault) → faults.IsWhy passes (state old.volume.shelf.disk) (state w.shelf.disk) (begun old.volume size) w.shelf n
       → (new : Parts B D) (o : Outcome B) → IsRefused n (record old { volume = w }) new o → Comes new o
   stopped_comes early stay size asks small n why new o is =
       by_refusal (λ x. Replied (RefusedCall x)) (record old { volume = w }) new o Comes n is

@@ -7,6 +7,7 @@ use Rattle.gx_machine.specs.Keys.{Keys}
 use Rattle.gx_disk.specs.Device.{Device}
 use Rattle.gx_page.specs.Contents.{Contents}
 use Rattle.gx_record.specs.Rec.{Rec}
+use Rattle.gx_record.specs.declared.sizes.TheConstants.{PAGE_RECORD}
 use Rattle.gx_node.specs.Edits.{entry_of}
 use Rattle.gx_node.specs.Reading.{Format}
 use Rattle.gx_node.specs.declared.items.TheConstants.{MAX_ENTRIES}
@@ -54,7 +55,7 @@ use Rattle.gx_engine.specs.Noted.{AreTold}
 use Rattle.gx_engine.specs.Refusals.{IsTurnedAway, StampsStay}
 use Rattle.gx_engine.specs.States.{Parts, is_due, runs}
 use Rattle.gx_engine.specs.Sweeping.{SweepsPage, is_held, node_shown, takes_any}
-use Rattle.gx_engine.specs.Writing.{brought}
+use Rattle.gx_engine.specs.Writes.{brought}
 use Rattle.gx_engine.proofs.Brought.{as_brought, begun_on, by_refusal, help_later, logged_later}
 use Rattle.gx_engine.proofs.Claimed.{claimed_alike}
 use Rattle.gx_engine.proofs.Growing.{grown_led}
@@ -93,7 +94,7 @@ module _ {B D : Type 0} (k : Keys B) (known : Limits → Known (Entry B) (Page B
   then_comes : (new : Parts B D) (outcome : Outcome B) → SweepsPage k known r f passes page m e mid new outcome → SweepsPage k known r f passes page d e old new outcome
   then_comes new More is = record {
     early = is.early;
-    logged = logged_later known r f passes 4114 d m e old.volume t new.volume (page_given page e.seen new.volume.shelf) first is.logged;
+    logged = logged_later known r f passes PAGE_RECORD d m e old.volume t new.volume (page_given page e.seen new.volume.shelf) first is.logged;
     swept = λ steady. subst (λ (s : Store B). Swept (is_held k old) s (store_of f e.seen new.volume.shelf) page true) (same_store steady) (is.swept (on.steady steady));
     only = is.only;
   }
@@ -107,7 +108,7 @@ module _ {B D : Type 0} (k : Keys B) (known : Limits → Known (Entry B) (Page B
               (λ due. inl due)
               (λ room. inr (
                 room.0,
-                help_later passes d m e (runs old.checkpoint) _ _ new.volume.shelf n (begun_on passes d m (bringing old.volume) t (has_room old.volume.log 4114) on) stay room.1,
+                help_later passes d m e (runs old.checkpoint) _ _ new.volume.shelf n (begun_on passes d m (bringing old.volume) t (has_room old.volume.log PAGE_RECORD) on) stay room.1,
               ))
               some.1,
         ))
@@ -227,7 +228,7 @@ pub turned_comes : {B D : Type 0} (k : Keys B) (known : Limits → Known (Entry 
     (old : Parts B D) (w : Volume D) → w.most ≡ old.volume.most → w.log ≡ old.volume.log → 1 ≤ page → page ≤ old.volume.shelf.used
     → has_removable (is_held k old) (node_shown f (state old.volume.shelf.disk) page old) ≡ true → is_due old ≡ false
     → StampsStay old.volume.shelf w.shelf
-    → (n : StoreFault) → faults.IsWhy passes (state old.volume.shelf.disk) (state w.shelf.disk) (begun old.volume 4114) w.shelf n → (new : Parts B D) (o : Outcome B)
+    → (n : StoreFault) → faults.IsWhy passes (state old.volume.shelf.disk) (state w.shelf.disk) (begun old.volume PAGE_RECORD) w.shelf n → (new : Parts B D) (o : Outcome B)
     → IsTurnedAway n (record old { volume = w }) new o → SweepsPage k known r f passes page (state old.volume.shelf.disk) (state new.volume.shelf.disk) old new o
 turned_comes {B} {D} k known r f passes page state old w most log low high some early stay n why new o is =
     let d = state old.volume.shelf.disk in
@@ -241,10 +242,10 @@ turned_comes {B} {D} k known r f passes page state old w most log low high some 
       as_brought old w old.sessions log most,
     ))
     (λ device. (
-      inl (refl, subst (λ (x : StoreFault). faults.IsWhy passes d (state w.shelf.disk) (begun old.volume 4114) w.shelf x) device why),
+      inl (refl, subst (λ (x : StoreFault). faults.IsWhy passes d (state w.shelf.disk) (begun old.volume PAGE_RECORD) w.shelf x) device why),
       as_brought old w (failed_state old.sessions) log most,
     ))
     (λ lies. (
-      inr (refl, λ steady readable. absurd (subst (λ (x : StoreFault). faults.IsWhy passes d (state w.shelf.disk) (begun old.volume 4114) w.shelf x) lies why steady readable)),
+      inr (refl, λ steady readable. absurd (subst (λ (x : StoreFault). faults.IsWhy passes d (state w.shelf.disk) (begun old.volume PAGE_RECORD) w.shelf x) lies why steady readable)),
       as_brought old w (failed_state old.sessions) log most,
     ))

@@ -16,8 +16,8 @@ use Rattle.gx_engine.specs.declared.work.Work.{Work}
 use Rattle.gx_engine.specs.declared.work.Work.TheVariants.{Descends, Looks, Rests, Seeks}
 use Rattle.gx_engine.specs.Moves.{calling}
 use Rattle.gx_engine.specs.States.{Parts}
-use Rattle.gx_engine.specs.Writing.{OnlyReads, brought, only_read}
-use Rattle.gx_engine.proofs.Looking.{phase_again, put_there, replaced}
+use Rattle.gx_engine.specs.Writes.{OnlyReads, brought, only_read}
+use Rattle.gx_engine.proofs.LookMoves.{phase_again, put_there, replaced}
 
 module _ {B D : Type 0} (e : Parts B D) (s : ℕ) (call : Call B) (was : Work B) (at : phase_at (s - 1) e.sessions.phases ≡ phase.Open call was)
     (now : State B (Work B)) (is : now ≡ with_phase_of s (moves.with_work Rests (phase_at (s - 1) e.sessions.phases)).1 e.sessions) where

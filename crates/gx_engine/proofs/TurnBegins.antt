@@ -14,6 +14,7 @@ use Rattle.gx_glog.specs.Layout.{other_of}
 use Rattle.gx_glog.specs.Standing.{Flies}
 use Rattle.gx_glog.specs.Standing as glog
 use Rattle.gx_glog.specs.State.{Log, in_flight, turning}
+use Rattle.gx_glog.specs.declared.extent.TheConstants.{BODY_ROOM}
 use Rattle.gx_pool.specs.State.{NoneDirty}
 use Rattle.gx_recovery.specs.Known.{Known}
 use Rattle.gx_recovery.specs.Records.{Record, Counters, Touch}
@@ -33,6 +34,7 @@ use Rattle.gx_events.specs.Engines.{IsSync}
 use Rattle.gx_durable.proofs.Spellings.{one_way, none_are}
 use Rattle.gx_durable.proofs.Storing.{nothing_dirty}
 use Rattle.gx_store.specs.declared.fault.StoreFault.{StoreFault}
+use Rattle.gx_record.specs.declared.sizes.TheConstants.{COUNTERS_RECORD}
 use Rattle.gx_storage.specs.Flushing.{KeepsOn}
 use Rattle.gx_storage.specs.Keeps.{Keeps}
 use Rattle.gx_storage.specs.State.{Volume}
@@ -44,9 +46,9 @@ use Rattle.gx_engine.specs.Checkpoints.{IsQuiet}
 use Rattle.gx_engine.specs.Ending.{SparesSo}
 use Rattle.gx_engine.specs.Holds.{Holds, MayRenewBy}
 use Rattle.gx_engine.specs.Noted.{AreNoted}
-use Rattle.gx_engine.specs.Putting.{OnlyHead, Puts, PutsHead}
+use Rattle.gx_engine.specs.Heads.{OnlyHead, Puts, PutsHead, note_record}
 use Rattle.gx_engine.specs.States.{Parts}
-use Rattle.gx_engine.proofs.Checkpointing.{fault_led, turns_led}
+use Rattle.gx_engine.proofs.CheckpointTurns.{fault_led, turns_led}
 use Rattle.gx_engine.proofs.Noted.{are_noted}
 
 -- A turn begins: what was written is settled, and the head is the renewed log.
@@ -85,14 +87,14 @@ module _ {B D : Type 0} (c : Class B) (l : IsLawful c) (r : Reading (Entry B) (P
       omega (arith, full, few, none)
 
   pub has_room : (result : Result (Unit {0}) StoreFault) → PutsHead r old.sessions u w result → u.log.turn ≡ Closed
-      → Puts r (Counters old.sessions.latest u.shelf.counter u.shelf.used old.sessions.next ∷ notes_of touches) (29 + 46 * length touches) u.log w.log
+      → Puts r (Counters old.sessions.latest u.shelf.counter u.shelf.used old.sessions.next ∷ notes_of touches) (COUNTERS_RECORD + note_record * length touches) u.log w.log
   has_room (Ok done) puts closed = puts touches noted
   has_room (Err fault) puts closed = absurd (is_full fault puts closed)
 
   abbrev head_at : ℕ → ℕ → ℕ → ℕ → List (Record (Entry B) (Page B)) → List (Record (Entry B) (Page B))
   head_at n counter used next log = Counters n counter used next ∷ notes_of (analysis kn log).touched
 
-  head_is : Puts r (Counters old.sessions.latest u.shelf.counter u.shelf.used old.sessions.next ∷ notes_of touches) (29 + 46 * length touches) u.log w.log → AreRecords r w.log.flight (renewed kn i.next i.log.gated)
+  head_is : Puts r (Counters old.sessions.latest u.shelf.counter u.shelf.used old.sessions.next ∷ notes_of touches) (COUNTERS_RECORD + note_record * length touches) u.log w.log → AreRecords r w.log.flight (renewed kn i.next i.log.gated)
   head_is puts =
       let A : List (Record (Entry B) (Page B)) → Type 0 = λ xs. AreRecords r w.log.flight xs in
       let empty : AreRecords r u.log.flight [] = subst (λ (bytes : List ℕ). AreRecords r bytes []) (sym (ap (λ (g : Log). g.flight) same_log ∙ bare)) (none_are r) in
@@ -104,7 +106,7 @@ module _ {B D : Type 0} (c : Class B) (l : IsLawful c) (r : Reading (Entry B) (P
       (subst (λ n. A (head_at (analysis kn log).number n u.shelf.used old.sessions.next log)) (counter ∙ sym h.keeps.counter)
       (subst (λ n. A (head_at n u.shelf.counter u.shelf.used old.sessions.next log)) h.latest now))))
 
-  pub may_renew : IsSettledBut (λ p. false) e.sectors e.pending → Puts r (Counters old.sessions.latest u.shelf.counter u.shelf.used old.sessions.next ∷ notes_of touches) (29 + 46 * length touches) u.log w.log
+  pub may_renew : IsSettledBut (λ p. false) e.sectors e.pending → Puts r (Counters old.sessions.latest u.shelf.counter u.shelf.used old.sessions.next ∷ notes_of touches) (COUNTERS_RECORD + note_record * length touches) u.log w.log
       → MayRenewBy kn r i.next w.log.flight e.sectors e.pending i.log
   may_renew settled puts = record {
     may = record {
@@ -121,7 +123,7 @@ module _ {B D : Type 0} (c : Class B) (l : IsLawful c) (r : Reading (Entry B) (P
 
 -- a head that changes while the log rests leaves the state that is kept
 module _ {B D : Type 0} (k : Known (Entry B) (Page B)) (r : Reading (Entry B) (Page B)) (f : Format B) (passes : ℕ → Contents → Bool) (e : Device) (u w : Volume D)
-    (bodies : List (List (Record (Entry B) (Page B)))) (s : Logged (Entry B) (Page B)) (idle : u.log.stage ≡ Idle) (closed : u.log.turn ≡ Closed) (few : length w.log.flight ≤ 32764) where
+    (bodies : List (List (Record (Entry B) (Page B)))) (s : Logged (Entry B) (Page B)) (idle : u.log.stage ≡ Idle) (closed : u.log.turn ≡ Closed) (few : length w.log.flight ≤ BODY_ROOM) where
   abbrev head : List ℕ
   head = w.log.flight
 
@@ -143,6 +145,9 @@ module _ {B D : Type 0} (k : Known (Entry B) (Page B)) (r : Reading (Entry B) (P
                 fits = few;
                 filled = on.sound.filled;
                 room = on.sound.room;
+                tails = on.sound.tails;
+                batch = λ flies. absurd (omega (arith, flies, none));
+                head = λ turns. absurd (omega (arith, turns, still));
               };
               batches = on.batches;
               flight = subst (λ (x : Stage). Flies x u.log.extent u.log.gated head e.seen e.pending) (sym idle) tt;
@@ -150,6 +155,7 @@ module _ {B D : Type 0} (k : Known (Entry B) (Page B)) (r : Reading (Entry B) (P
                   subst (λ (x : Turn). glog.Leads x u.log.extent (other_of u.log.extent) head e.seen e.pending) (sym closed)
                   (subst (λ (x : Turn). glog.Leads x u.log.extent (other_of u.log.extent) u.log.flight e.seen e.pending) closed on.turn);
               quiet = on.quiet;
+              tails = on.tails;
             };
             carries = record {
               told = record {

@@ -8,6 +8,7 @@ use Rattle.gx_disk.specs.Device.{Device}
 use Rattle.gx_glog.specs.declared.stage.Stage.{Stage}
 use Rattle.gx_glog.specs.declared.stage.Stage.TheVariants.{Body, BodySync, Gate, GateSync, Idle}
 use Rattle.gx_glog.specs.State.{Log, in_flight, turning}
+use Rattle.gx_glog.specs.declared.extent.TheConstants.{BODY_ROOM, PLACES}
 use Rattle.gx_machine.specs.declared.call.Call.{Call}
 use Rattle.gx_machine.specs.declared.call.Call.TheVariants.{Abort, Begin, Commit, Delete, Insert, Search}
 use Rattle.gx_machine.specs.declared.entry.Entry.{Entry}
@@ -23,6 +24,7 @@ use Rattle.gx_record.specs.Format.{spelling}
 use Rattle.gx_record.specs.Rec.{Rec}
 use Rattle.gx_record.specs.Rec as rec
 use Rattle.gx_record.proofs.Numbers.{length-u64_bytes}
+use Rattle.gx_record.specs.Writing.{write_record}
 use Rattle.gx_recovery.specs.Analysis.{number_of}
 use Rattle.gx_recovery.specs.Known.{Known, Limits}
 use Rattle.gx_recovery.specs.Logged.{Logged, durable, latest}
@@ -34,6 +36,7 @@ use Rattle.gx_index_laws.specs.Classes.{Class, Page, known_of}
 use Rattle.gx_index_laws.specs.Happening.{AreHappening}
 use Rattle.gx_index_laws.specs.States as index
 use Rattle.gx_index_laws.specs.Measures.{work_left}
+use Rattle.gx_index_laws.specs.declared.TheConstants.{CHECKPOINT_AT}
 use Rattle.gx_readings.specs.Classes.{class_of, reading_of}
 use Rattle.gx_store.specs.declared.fault.StoreFault.{StoreFault}
 use Rattle.gx_store.specs.declared.fault.StoreFault.TheVariants as fault
@@ -61,11 +64,11 @@ use Rattle.gx_engine.specs.Comes.{CallMoves, MovesAt, MovesBy, MoveComes}
 use Rattle.gx_engine.specs.Holds.{Holds}
 use Rattle.gx_engine.specs.Moves.{left_by}
 use Rattle.gx_engine.specs.Refusals.{CanBeHelped, IsEarly, IsHelp, StampsStay, log_need, need_of}
-use Rattle.gx_engine.specs.Sealing.{AcknowledgeBy, SealComes, commit_of}
+use Rattle.gx_engine.specs.Commits.{AcknowledgeBy, SealComes, commit_of}
 use Rattle.gx_engine.specs.States.{AreFrames, IsOrderly, Parts, StandsIn, is_due, runs}
 use Rattle.gx_engine.specs.Stepping.{has_call}
 use Rattle.gx_engine.specs.Undoing.{EndComes, UndoBy, end_of}
-use Rattle.gx_engine.specs.Writing.{IsDelayed, brought}
+use Rattle.gx_engine.specs.Writes.{IsDelayed, brought}
 use Rattle.gx_engine.specs.Backlog.{backlog, checkpoint_left, fillings, flight_left, log_left}
 use Rattle.gx_engine.specs.Helping.{HasWork, NamesWork, PageNamesWork, WaitingLeavesAll}
 use Rattle.gx_engine.specs.Made.{Makes}
@@ -74,27 +77,27 @@ use Rattle.gx_engine.proofs.Lessening.{one_fills}
 -- ---- why a move waits
 
 -- where a record has no room, something fills
-fills_by : (n used size : ℕ) → (nat_lt used 32 && nat_le (n + size) 32764) ≡ false → used < 32 → size ≤ 32764 → 1 ≤ n
+fills_by : (n used size : ℕ) → (nat_lt used PLACES && nat_le (n + size) BODY_ROOM) ≡ false → used < PLACES → size ≤ BODY_ROOM → 1 ≤ n
 fills_by zero used size none place small =
-    let a : nat_lt used 32 ≡ true = lt-ltb used 32 place in
-    let b : nat_le (zero + size) 32764 ≡ true = le-leb (zero + size) 32764 (omega (arith, small)) in
-    let both : (nat_lt used 32 && nat_le (zero + size) 32764) ≡ true = ap (λ x. x && nat_le (zero + size) 32764) a ∙ b in
+    let a : nat_lt used PLACES ≡ true = lt-ltb used PLACES place in
+    let b : nat_le (zero + size) BODY_ROOM ≡ true = le-leb (zero + size) BODY_ROOM (omega (arith, small)) in
+    let both : (nat_lt used PLACES && nat_le (zero + size) BODY_ROOM) ≡ true = ap (λ x. x && nat_le (zero + size) BODY_ROOM) a ∙ b in
     let clash : true ≡ false = sym both ∙ none in
     let no : ⊥ = cc in absurd no
 fills_by (suc n) used size none place small = omega arith
 
-not_due : (run : Bool) (used : ℕ) → (run || nat_le 24 used) ≡ false → (run ≡ false) × (used < 24)
+not_due : (run : Bool) (used : ℕ) → (run || nat_le CHECKPOINT_AT used) ≡ false → (run ≡ false) × (used < CHECKPOINT_AT)
 not_due true used is = let no : ⊥ = cc in absurd no
-not_due false used is = (refl, leb-false 24 used is)
+not_due false used is = (refl, leb-false CHECKPOINT_AT used is)
 
-commit_short : (transaction number : ℕ) → length (spelling (rec.Commit transaction number)) ≤ 32764
+commit_short : (transaction number : ℕ) → length (spelling (rec.Commit transaction number)) ≤ BODY_ROOM
 commit_short transaction number =
     let a = length-u64_bytes transaction in
     let b = length-u64_bytes number in
     let both = length-append (u64_bytes transaction) (u64_bytes number) in
     omega (arith, a, b, both)
 
-end_short : (transaction : ℕ) → length (spelling (rec.End transaction)) ≤ 32764
+end_short : (transaction : ℕ) → length (spelling (rec.End transaction)) ≤ BODY_ROOM
 end_short transaction = let a = length-u64_bytes transaction in omega (arith, a)
 
 module _ {B D : Type 0} where
@@ -146,7 +149,7 @@ module _ {B D : Type 0} where
   }
 
   -- what fills where a record finds no room, and no checkpoint is due
-  fills : (e : Parts B D) (size : ℕ) → size ≤ 32764 → is_due e ≡ false → has_room e.volume.log size ≡ false → 1 ≤ length e.volume.log.filling
+  fills : (e : Parts B D) (size : ℕ) → size ≤ BODY_ROOM → is_due e ≡ false → has_room e.volume.log size ≡ false → 1 ≤ length e.volume.log.filling
   fills e size small early none =
       let due = (not_due (runs e.checkpoint) e.volume.log.used early).1 in
       fills_by (length e.volume.log.filling) e.volume.log.used size none (omega (arith, due)) small
@@ -179,7 +182,7 @@ module _ {B D : Type 0} where
   why_brought passes d e s old new n h = why_helped s old new n (brought_waits passes d e old new n h)
 
   -- one that would log a change does, of so many bytes
-  why_begun : (passes : ℕ → Contents → Bool) (d e : Device) (s : ℕ) (old new : Parts B D) (n : Need) (size : ℕ) → size ≤ 32764
+  why_begun : (passes : ℕ → Contents → Bool) (d e : Device) (s : ℕ) (old new : Parts B D) (n : Need) (size : ℕ) → size ≤ BODY_ROOM
       → (h : IsHelp passes d e (runs old.checkpoint) (begun old.volume size) new.volume.shelf n) → IsEarly h.fault (is_due old) → Why s old new n
   why_begun passes d e s old new n size small h early =
       why_helped s old new n
@@ -199,12 +202,12 @@ module _ {B D : Type 0} where
   no_turn Turning e off stands turns = cc
 
   -- a short record found no room, and no turn is under way
-  short_fills : (x : Rec) (e : Parts B D) → length (spelling x) ≤ 32764 → runs e.checkpoint ≡ false → StandsIn e.checkpoint e.volume → HasNoRoom x e.volume.log
+  short_fills : (x : Rec) (e : Parts B D) → length (spelling x) ≤ BODY_ROOM → runs e.checkpoint ≡ false → StandsIn e.checkpoint e.volume → HasNoRoom x e.volume.log
       → 1 ≤ length e.volume.log.filling
   short_fills x e short off stands (inl full) = omega (arith, short, full)
   short_fills x e short off stands (inr turns) = absurd (no_turn e.checkpoint e off stands turns)
 
-  why_short : (x : Rec) (s : ℕ) (old new : Parts B D) → length (spelling x) ≤ 32764 → is_due old ≡ false → StandsIn old.checkpoint old.volume → HasNoRoom x old.volume.log
+  why_short : (x : Rec) (s : ℕ) (old new : Parts B D) → length (spelling x) ≤ BODY_ROOM → is_due old ≡ false → StandsIn old.checkpoint old.volume → HasNoRoom x old.volume.log
       → Why s old new need.Log
   why_short x s old new short early stands none =
       let off = (not_due (runs old.checkpoint) old.volume.log.used early).0 in
@@ -231,7 +234,7 @@ module _ {B D : Type 0} where
 -- ---- what a move comes to that waits
 
 module _ {B : Type 0} (k : Keys B) (known : Limits → Known (Entry B) (Page B)) (r : Reading (Entry B) (Page B)) (f : Format B) (passes : ℕ → Contents → Bool) (IsKey : B → Type 0)
-    (spells : B → List ℕ) (key : ℕ) (short : key + 4119 ≤ 32764) {D : Type 0} (d e : Device) where
+    (spells : B → List ℕ) (key : ℕ) (short : write_record key ≤ BODY_ROOM) {D : Type 0} (d e : Device) where
   undo_waits : (s : ℕ) (old new : Parts B D) (n : Need) (due : Bool) (next : Option ℕ) → is_due old ≡ due → StandsIn old.checkpoint old.volume
       → UndoBy known r f passes IsKey k spells key due next d e s old new (Help n) → Waits s old new n
   undo_waits s old new n true next is stands comes =
@@ -248,7 +251,7 @@ module _ {B : Type 0} (k : Keys B) (known : Limits → Known (Entry B) (Page B))
         stamps = h.stamps;
         why =
             why_helped s old new n
-            (helped passes d e old new n (begun old.volume (key + 4119)) (λ any. Unit {0}) h.fault h.help (λ any none. fills old (key + 4119) short is none) h.can h.why tt h.helps h.is);
+            (helped passes d e old new n (begun old.volume (write_record key)) (λ any. Unit {0}) h.fault h.help (λ any none. fills old (write_record key) short is none) h.can h.why tt h.helps h.is);
       }
 
   call_waits : (s : ℕ) (old new : Parts B D) (n : Need) (call : Call B) → StandsIn old.checkpoint old.volume
@@ -359,7 +362,7 @@ module _ {B : Type 0} (c : Class B) (r : Reading (Entry B) (Page B)) (f : Format
 
   -- the log's next call is named
   log_works : (running : Bool) (e : Parts B D) → runs e.checkpoint ≡ running → (running ≡ false → 1 ≤ log_left e.volume.log) → HasWork (log_need running) e
-  log_works true e is some = ap (λ b. b || nat_le 24 e.volume.log.used) is
+  log_works true e is some = ap (λ b. b || nat_le CHECKPOINT_AT e.volume.log.used) is
   log_works false e is some = (is, some refl)
 
   frames_work : (least : Option ℕ) (running : Bool) (e : Parts B D) (bodies : List (List (Record (Entry B) (Page B)))) (i : index.State B) → runs e.checkpoint ≡ running
@@ -385,7 +388,7 @@ module _ {B : Type 0} (c : Class B) (r : Reading (Entry B) (Page B)) (f : Format
       let named : (m : Need) → n ≡ m → HasWork m new → HasWork n new = λ m is has. subst (λ (x : Need). HasWork x new) (sym is) has in
       elim waits.why [
         | inl due ↦ named need.Checkpoint due.0
-            (ap (λ b. b || nat_le 24 new.volume.log.used) running ∙ ap (λ (l : Log). runs old.checkpoint || nat_le 24 l.used) waits.log ∙ due.1)
+            (ap (λ b. b || nat_le CHECKPOINT_AT new.volume.log.used) running ∙ ap (λ (l : Log). runs old.checkpoint || nat_le CHECKPOINT_AT l.used) waits.log ∙ due.1)
         | inr rest ↦ elim rest [
           | inl room ↦ helped_work old new n waits.checkpoint waits.log (inl room) are bodies j holds
           | inr other ↦ elim other [
@@ -410,7 +413,7 @@ no_more old new checkpoint log stamps was are =
 
 -- ---- the laws
 
-module _ {C B D : Type 0} (shape : Members B) (proper : B → Bool) (said : List ℕ → B) (class : Ghosts C B) (state : D → Device) (short : class.KEY + 4119 ≤ 32764) (l : Limits) where
+module _ {C B D : Type 0} (shape : Members B) (proper : B → Bool) (said : List ℕ → B) (class : Ghosts C B) (state : D → Device) (short : write_record class.KEY ≤ BODY_ROOM) (l : Limits) where
   pub waits_made : (old new : Parts B D) (s : ℕ) (n : Need) → StandsIn old.checkpoint old.volume → Makes shape proper said class state old (Move s) (Help n) new → Waits s old new n
   waits_made old new s n stands made =
       move_waits (keys_of shape) (known_at shape proper) (reading_of said (format_of class)) (format_of class) (is_node (format_of class)) class.is_key class.spelling class.KEY short

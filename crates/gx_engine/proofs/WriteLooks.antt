@@ -60,12 +60,12 @@ use Rattle.gx_storage.specs.State.{Volume}
 use Rattle.gx_engine.specs.declared.work.Work.{Work}
 use Rattle.gx_engine.specs.declared.work.Work.TheVariants.{Descends, Looks, Rests, Seeks}
 use Rattle.gx_engine.specs.Holds.{CallDescends, CallSeeks, Holds, MayHaveFound}
-use Rattle.gx_engine.specs.Looking.{StopComes, look_events, turned_by, work_before}
+use Rattle.gx_engine.specs.Looks.{StopComes, look_events, turned_by, work_before}
 use Rattle.gx_engine.specs.Moves.{Moves, MovesOn, MovesSo, calling}
 use Rattle.gx_engine.specs.Refusals.{CanBeHelped, IsEarly, IsHelp}
 use Rattle.gx_engine.specs.States.{Parts, is_due, runs}
-use Rattle.gx_engine.specs.Writing.{AreWriting, AsksAt, AsksRoom, IsAtLook, IsDelayed, OnlyReads, WriteBy, WriteComes, brought, is_looking, write_events}
-use Rattle.gx_engine.proofs.Looking.{answered_again, answers, as_it_stays, at_work, goes_on, held, looks_at, may_have_found, moves_on, phase_again, put_kept, slot_now}
+use Rattle.gx_engine.specs.Writes.{AreWriting, AsksAt, AsksRoom, IsAtLook, IsDelayed, OnlyReads, WriteBy, WriteComes, brought, is_looking, write_events}
+use Rattle.gx_engine.proofs.LookMoves.{answered_again, answers, as_it_stays, at_work, goes_on, held, looks_at, may_have_found, moves_on, phase_again, put_kept, slot_now}
 use Rattle.gx_engine.proofs.Reading.{its_phase, read_at_hand, settled, stays, step_here, look_wants, was_kept}
 use Rattle.gx_engine.proofs.Serving.{same_device}
 use Rattle.gx_engine.proofs.Taking.{reads_of, worked_so}

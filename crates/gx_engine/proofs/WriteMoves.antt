@@ -19,7 +19,7 @@ use Rattle.gx_events.specs.declared.outcome.Outcome.TheVariants.{Replied, More, 
 use Rattle.gx_engine.specs.Holds.{Holds}
 use Rattle.gx_engine.specs.Moves.{Moves, MovesSo}
 use Rattle.gx_engine.specs.States.{Parts}
-use Rattle.gx_engine.specs.Writing.{AreWriting, write_events}
+use Rattle.gx_engine.specs.Writes.{AreWriting, write_events}
 
 -- which events a move is depends on no index
 pub so_moves : {B D : Type 0} (c : Class B) (r : Reading (Entry B) (Page B)) (f : Format B) (passes : ℕ → Contents → Bool) (d e : Device) (s : ℕ) (old new : Parts B D) (outcome : Outcome B)

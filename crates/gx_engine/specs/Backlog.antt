@@ -6,6 +6,7 @@ use Rattle.gx_glog.specs.declared.stage.Turn.{Turn}
 use Rattle.gx_glog.specs.declared.stage.Turn.TheVariants as turn
 use Rattle.gx_glog.specs.State.{Log}
 use Rattle.gx_pool.specs.State.{dirty_count}
+use Rattle.gx_index_laws.specs.declared.TheConstants.{CHECKPOINT_AT}
 use Rattle.gx_engine.specs.declared.checkpoint.Checkpoint.{Checkpoint}
 use Rattle.gx_engine.specs.declared.checkpoint.Checkpoint.TheVariants.{Off, Running, Turning}
 use Rattle.gx_engine.specs.States.{Parts}
@@ -48,7 +49,7 @@ coming false = 0
 
 -- what a checkpoint has left beside the calls of batches and the dirty pages
 abbrev pub checkpoint_left : Checkpoint → Log → ℕ
-checkpoint_left Off log = coming (nat_le 24 (places log))
+checkpoint_left Off log = coming (nat_le CHECKPOINT_AT (places log))
 checkpoint_left Running log = 8
 checkpoint_left Turning log = turn_left log.turn
 

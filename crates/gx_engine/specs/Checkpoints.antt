@@ -11,6 +11,7 @@ use Rattle.gx_glog.specs.State.{Turns}
 use Rattle.gx_pool.specs.State.{NoneDirty}
 use Rattle.gx_durable.specs.Turns.{told_result}
 use Rattle.gx_store.specs.declared.fault.StoreFault.{StoreFault}
+use Rattle.gx_index_laws.specs.declared.TheConstants.{CHECKPOINT_AT}
 use Rattle.gx_storage.specs.Flushing.{IsLeastWritable}
 use Rattle.gx_storage.specs.State.{Volume}
 use Rattle.gx_events.specs.declared.outcome.Outcome.{Outcome}
@@ -112,7 +113,7 @@ StepsOff d e old new true outcome = RunsOn d e (record old { checkpoint = Runnin
 
 -- by how far the checkpoint is
 abbrev pub StepsFrom : {B D : Type 0} → Device → Device → Parts B D → Parts B D → Checkpoint → Outcome B → Type 0
-StepsFrom d e old new Off outcome = StepsOff d e old new (nat_le 24 old.volume.log.used) outcome
+StepsFrom d e old new Off outcome = StepsOff d e old new (nat_le CHECKPOINT_AT old.volume.log.used) outcome
 StepsFrom d e old new Running outcome = RunsOn d e old new outcome
 StepsFrom d e old new Turning outcome = TurnsNext d e old new outcome
 

@@ -21,16 +21,16 @@ use Rattle.gx_phases.specs.declared.phase.Phase.{Phase}
 use Rattle.gx_phases.specs.declared.phase.Phase.TheVariants as phase
 use Rattle.gx_phases.specs.States.{phase_at}
 use Rattle.gx_engine.specs.declared.work.Work.{Work}
-use Rattle.gx_engine.specs.Asked.{AskComes}
+use Rattle.gx_engine.specs.Asks.{AskComes}
 use Rattle.gx_engine.specs.Checkpoints.{CheckpointSteps}
 use Rattle.gx_engine.specs.Flushing.{LogSteps, PageIsWritten}
-use Rattle.gx_engine.specs.Sealing.{AcknowledgeComes, SealComes}
-use Rattle.gx_engine.specs.Searching.{SearchComes}
+use Rattle.gx_engine.specs.Commits.{AcknowledgeComes, SealComes}
+use Rattle.gx_engine.specs.Searches.{SearchComes}
 use Rattle.gx_engine.specs.States.{Parts, runs}
 use Rattle.gx_engine.specs.Stepping.{has_call}
 use Rattle.gx_engine.specs.Sweeping.{SweepComes}
 use Rattle.gx_engine.specs.Undoing.{UndoComes}
-use Rattle.gx_engine.specs.Writing.{WriteComes}
+use Rattle.gx_engine.specs.Writes.{WriteComes}
 
 -- an event that was refused, or answered, with no more
 abbrev pub IsOnly : {B D : Type 0} → Outcome B → Parts B D → Parts B D → Outcome B → Type 0

@@ -6,6 +6,7 @@ use Rattle.gx_events.specs.declared.outcome.Outcome.{Outcome}
 use Rattle.gx_events.specs.declared.driver.Next.{Next}
 use Rattle.gx_events.specs.declared.driver.Next.TheVariants.{Run, Done}
 use Rattle.gx_events.specs.Driven.{next_of}
+use Rattle.gx_engine.specs.declared.driven.TheConstants.{EVENTS}
 use Rattle.gx_engine.specs.States.{Parts}
 use Rattle.gx_engine.specs.Made.{AreMade}
 
@@ -28,8 +29,8 @@ module _ {B D : Type 0} (makes : Parts B D → Event B → Outcome B → Parts B
     pub steps : List (Event B × Outcome B)
     pub driven : AreDriven s (Run first) steps (Done reply)
     pub made : AreMade makes old steps new
-    pub few : length steps ≤ 72057594037927936
+    pub few : length steps ≤ EVENTS
 
   -- From it on, 2^56 were made; and one more is due.
   abbrev pub IsGivenUp : ℕ → Event B → Parts B D → Parts B D → Type 0
-  IsGivenUp s first old new = (due : Event B) × IsUnderWay s first old 72057594037927936 due new
+  IsGivenUp s first old new = (due : Event B) × IsUnderWay s first old EVENTS due new

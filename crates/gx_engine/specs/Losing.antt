@@ -7,6 +7,7 @@ use Rattle.gx_geom.specs.declared.refusal.Refusal.TheVariants.{Damaged}
 use Rattle.gx_machine.specs.declared.entry.Entry.{Entry}
 use Rattle.gx_machine.specs.Keys.{Keys, entry_cmp, same_entry}
 use Rattle.gx_machine.specs.Machine.{is_session}
+use Rattle.gx_machine.specs.declared.limits.TheConstants.{MAX_CLAIMS, SESSIONS}
 use Rattle.gx_engine_laws.specs.Losers.{loser_slot}
 use Rattle.gx_recovery.specs.Records.{Touch}
 use Rattle.gx_index_laws.specs.Openings.{losers_of, numbers_of}
@@ -38,8 +39,8 @@ ComeInOrder k (x ∷ xs) = AllByRecursion (ComesBefore k x) xs × ComeInOrder k 
 -- transactions.
 pub record AreCutOff {B : Type 0} (k : Keys B) (xs : List (Touch (Entry B))) : Type 0 where
   pub in_order : ComeInOrder k xs
-  pub eight : length (numbers_of xs) ≤ 8
-  pub few : length xs ≤ 512
+  pub eight : length (numbers_of xs) ≤ SESSIONS
+  pub few : length xs ≤ MAX_CLAIMS
 
 -- a session has nothing to do, or undoes its transaction from its first note on, with no work begun
 abbrev pub HasNoWork : {B : Type 0} → Work B → Type 0

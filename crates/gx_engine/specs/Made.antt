@@ -2,26 +2,19 @@
 use Rattle.std.specs.Prelude.{ℕ, ◌≡◌, Bool, List, [], ◌∷◌}
 use Rattle.gx_class.specs.declared.class.KeyClass.{Ghosts}
 use Rattle.gx_disk.specs.Device.{Device}
-use Rattle.gx_machine.specs.Keys.{Members, keys_of}
-use Rattle.gx_node.specs.Reading.{format_of, is_node}
-use Rattle.gx_recovery.specs.Known.{Limits}
-use Rattle.gx_readings.specs.Classes.{class_of, reading_of}
-use Rattle.gx_storage.specs.Changes.{known_at}
+use Rattle.gx_machine.specs.Keys.{Members}
 use Rattle.gx_events.specs.declared.event.Event.{Event}
 use Rattle.gx_events.specs.declared.outcome.Outcome.{Outcome}
 use Rattle.gx_engine.specs.Calls.{MakesCalls}
-use Rattle.gx_engine.specs.Comes.{StepComes}
 use Rattle.gx_engine.specs.States.{IsOrderly, Parts}
-use Rattle.gx_engine.specs.Stepping.{Steps}
+use Rattle.gx_engine.specs.Setting.{StepComesAs, StepsAs}
 
 -- An event with its outcome, as the contract of an engine's step has them, over a class of keys and devices that are seen so. The engine
 -- stands in order before and after it.
 pub record Makes {C B D : Type 0} (shape : Members B) (proper : B → Bool) (said : List ℕ → B) (class : Ghosts C B) (state : D → Device)
     (old : Parts B D) (event : Event B) (outcome : Outcome B) (new : Parts B D) : Type 0 where
-  pub comes : StepComes (keys_of shape) (known_at shape proper) (reading_of said (format_of class)) (format_of class) (is_node (format_of class)) class.is_key
-      class.spelling class.KEY (state old.volume.shelf.disk) (state new.volume.shelf.disk) event old new outcome
-  pub steps : (l : Limits) → Steps (class_of shape proper l) (reading_of said (format_of class)) (format_of class) (is_node (format_of class))
-      (state old.volume.shelf.disk) (state new.volume.shelf.disk) event old new outcome
+  pub comes : StepComesAs shape proper said class state event old new outcome
+  pub steps : StepsAs shape proper said class state event old new outcome
   pub calls : MakesCalls state event old new
   pub order : IsOrderly old × IsOrderly new
 

@@ -3,6 +3,7 @@ use Rattle.std.specs.Prelude.{ℕ, ◌≡◌, ◌≤◌, ◌-◌, ◌==◌, nat_
 use Rattle.std.specs.List.{AllByRecursion}
 use Rattle.gx_machine.specs.declared.entry.Entry.{Entry}
 use Rattle.gx_machine.specs.Machine.{is_session}
+use Rattle.gx_machine.specs.declared.limits.TheConstants.{MAX_CLAIMS}
 use Rattle.gx_recovery.specs.Records.{Touch}
 use Rattle.gx_txn.specs.declared.note.Note.{Note}
 use Rattle.gx_phases.specs.declared.phase.Phase.{Phase}
@@ -55,4 +56,4 @@ pub record AreNoted {B : Type 0} {W : Type 0} (sessions : State B W) (xs : List 
   pub in_turn : AreInTurn xs
   pub had : AllByRecursion (λ x. (session : ℕ) × HasIt sessions x.transaction session) xs
   pub notes : AreTold sessions xs
-  pub few : length xs ≤ 512
+  pub few : length xs ≤ MAX_CLAIMS

@@ -5,6 +5,7 @@ use Rattle.gx_events.specs.declared.event.Event.{Event}
 use Rattle.gx_events.specs.declared.event.Event.TheVariants.{CheckpointStep, LogStep}
 use Rattle.gx_events.specs.declared.outcome.Outcome.{Outcome}
 use Rattle.gx_events.specs.declared.outcome.Outcome.TheVariants as outcome
+use Rattle.gx_engine.specs.declared.driven.TheConstants.{EVENTS}
 use Rattle.gx_engine.specs.States.{Parts}
 use Rattle.gx_engine.specs.Made.{AreMade}
 
@@ -46,4 +47,4 @@ module _ {B D : Type 0} (makes : Parts B D → Event B → Outcome B → Parts B
     pub middle : Parts B D
     pub before : IsGoingOn event old count middle
     pub last_made : makes middle event last new
-    pub few : count < 72057594037927936
+    pub few : count < EVENTS

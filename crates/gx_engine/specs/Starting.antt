@@ -7,10 +7,8 @@ use Rattle.gx_machine.specs.Keys.{Keys}
 use Rattle.gx_disk.specs.Device.{Device}
 use Rattle.gx_page.specs.Contents.{Contents}
 use Rattle.gx_node.specs.Reading.{Format}
-use Rattle.gx_glog.specs.declared.stage.Stage.TheVariants.{Idle}
-use Rattle.gx_glog.specs.declared.stage.Turn.TheVariants.{Closed}
 use Rattle.gx_glog.specs.Layout.{selected_of}
-use Rattle.gx_glog.specs.State.{Log}
+use Rattle.gx_glog.specs.State.{Log, starting}
 use Rattle.gx_pool.specs.Readable.{IsReadable}
 use Rattle.gx_pool.specs.State.{State as Frames, kept}
 use Rattle.gx_recovery.specs.Analysis.{analysis, number_of}
@@ -42,7 +40,7 @@ pub record AreFresh (frames batch : ℕ) (s : Frames) : Type 0 where
 
 -- the log with nothing logged, behind the bodies that were found
 abbrev pub rested : {B : Type 0} → Start B → Log
-rested start = record { extent = start.extent; used = start.bodies; gated = start.bodies; stage = Idle; turn = Closed; flight = []; filling = [] }
+rested start = starting start.extent start.bodies
 
 -- what was cut off, as touches of a log
 abbrev pub cut_off : {B : Type 0} → Start B → List (Touch (Entry B))

@@ -4,6 +4,8 @@ use Rattle.gx_glog.specs.declared.stage.Turn.TheVariants.{Closed}
 use Rattle.gx_node.specs.declared.items.TheConstants.{MAX_ENTRIES}
 use Rattle.gx_phases.specs.States.{State, WaitsForSealed, phase_at}
 use Rattle.gx_pool.specs.State.{State as Frames, IsSound}
+use Rattle.gx_disk.specs.declared.layout.TheConstants.{MAX_PAGES}
+use Rattle.gx_index_laws.specs.declared.TheConstants.{CHECKPOINT_AT}
 use Rattle.gx_storage.specs.Flushing.{ReadyToTurn}
 use Rattle.gx_storage.specs.State.{Volume}
 use Rattle.gx_engine.specs.declared.checkpoint.Checkpoint.{Checkpoint}
@@ -26,7 +28,7 @@ runs Turning = true
 
 -- an event that would append a record has to wait: a checkpoint runs, or 24 places of the extent are taken
 abbrev pub is_due : {B D : Type 0} → Parts B D → Bool
-is_due e = runs e.checkpoint || nat_le 24 e.volume.log.used
+is_due e = runs e.checkpoint || nat_le CHECKPOINT_AT e.volume.log.used
 
 -- The log turns to the other extent only in a checkpoint that turns: then nothing is logged, and no page is dirty.
 abbrev pub StandsIn : {D : Type 0} → Checkpoint → Volume D → Type 0
@@ -55,6 +57,6 @@ pub record AreFrames (s : Frames) : Type 0 where
 pub record IsOrderly {B D : Type 0} (e : Parts B D) : Type 0 where
   pub stands : StandsIn e.checkpoint e.volume
   pub frames : AreFrames e.volume.shelf.frames
-  pub pages : e.volume.shelf.pages ≤ 65536
+  pub pages : e.volume.shelf.pages ≤ MAX_PAGES
   pub most : e.volume.most ≤ 100
   pub sealed : (i : ℕ) → WaitsForSealed e.sessions.latest (phase_at i e.sessions.phases)

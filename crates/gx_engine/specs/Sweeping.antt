@@ -24,12 +24,13 @@ use Rattle.gx_phases.specs.Moves.{failed_state}
 use Rattle.gx_store.specs.Faults.{CanBeRead}
 use Rattle.gx_store.specs.Standing.{store_of}
 use Rattle.gx_store.specs.State.{IsSteady}
+use Rattle.gx_record.specs.declared.sizes.TheConstants.{PAGE_RECORD}
 use Rattle.gx_storage.specs.Bringing.{bringing, has_removable}
 use Rattle.gx_storage.specs.Changes.{IsLogged, begun, page_given}
 use Rattle.gx_engine.specs.Flushing.{IsEnded}
 use Rattle.gx_engine.specs.Refusals.{IsHelp}
 use Rattle.gx_engine.specs.States.{Parts, is_due, runs}
-use Rattle.gx_engine.specs.Writing.{brought}
+use Rattle.gx_engine.specs.Writes.{brought}
 
 -- The engine has failed: the device failed meanwhile; or it holds that it lies, or hasn't what it should have. Pages may have been
 -- brought, and nothing else has changed.
@@ -74,7 +75,7 @@ module _ {B : Type 0} (k : Keys B) (known : Limits → Known (Entry B) (Page B))
   -- The leaf's marked pairs that no session claims are gone, and the record of its page is logged.
   pub record IsSwept {D : Type 0} (page : ℕ) (d e : Device) (old new : Parts B D) : Type 0 where
     pub early : is_due old ≡ false
-    pub logged : IsLogged known r f passes 4114 d e old.volume new.volume (page_given page e.seen new.volume.shelf)
+    pub logged : IsLogged known r f passes PAGE_RECORD d e old.volume new.volume (page_given page e.seen new.volume.shelf)
     pub swept : IsSteady d old.volume.shelf.frames → Swept (is_held k old) (store_of f d.seen old.volume.shelf) (store_of f e.seen new.volume.shelf) page true
     pub only : new ≡ record old { volume = new.volume }
 
@@ -84,7 +85,7 @@ module _ {B : Type 0} (k : Keys B) (known : Limits → Known (Entry B) (Page B))
   SweepWaits page d e old new n =
       IsHelp passes d e (runs old.checkpoint) (bringing old.volume) new.volume.shelf n
       ⊎ ((IsSteady d old.volume.shelf.frames → takes_any k f d page old ≡ true)
-      × (((n ≡ need.Checkpoint) × (is_due old ≡ true)) ⊎ ((is_due old ≡ false) × IsHelp passes d e (runs old.checkpoint) (begun old.volume 4114) new.volume.shelf n)))
+      × (((n ≡ need.Checkpoint) × (is_due old ≡ true)) ⊎ ((is_due old ≡ false) × IsHelp passes d e (runs old.checkpoint) (begun old.volume PAGE_RECORD) new.volume.shelf n)))
 
   -- What the sweep of a page in use comes to. Something was taken; or there was nothing to take; or it waits; or the engine has failed: the device failed, or it lies, or had no
   -- right page there, or one with more pairs than fit. But for what was taken pages may have been brought, and nothing else has changed.

@@ -1,5 +1,5 @@
 -- What an undo's moves come to.
-use Rattle.std.specs.Prelude.{ℕ, ◌≡◌, ◌≢◌, ◌+◌, ◌-◌, ◌<◌, ◌⊎◌, ◌&&◌, ◌==◌, Bool, true, false, Option, None, Some, Result, Ok, Err, List, [], ◌∷◌, slice_get}
+use Rattle.std.specs.Prelude.{ℕ, ◌≡◌, ◌≢◌, ◌-◌, ◌<◌, ◌⊎◌, ◌&&◌, ◌==◌, Bool, true, false, Option, None, Some, Result, Ok, Err, List, [], ◌∷◌, slice_get}
 use Rattle.std.specs.Ordering.{is_eq}
 use Rattle.gx_geom.specs.declared.refusal.Refusal.TheVariants.{Damaged as DamagedRefusal, Device as DeviceRefusal}
 use Rattle.gx_machine.specs.declared.entry.Entry.{Entry}
@@ -8,6 +8,7 @@ use Rattle.gx_machine.specs.Keys.{Keys}
 use Rattle.gx_disk.specs.Device.{Device}
 use Rattle.gx_page.specs.Contents.{Contents}
 use Rattle.gx_record.specs.Rec as rec
+use Rattle.gx_record.specs.Writing.{write_record}
 use Rattle.gx_node.specs.Reading.{Format}
 use Rattle.gx_tree_laws.specs.Trees.{Pair, Used}
 use Rattle.gx_node.specs.declared.fault.StepFault.{StepFault}
@@ -107,8 +108,8 @@ module _ {B : Type 0} (known : Limits → Known (Entry B) (Page B)) (r : Reading
 
   -- The pair wasn't sought: nothing is logged. It takes no memory and no pages.
   pub record IsNotSought {D : Type 0} (d e : Device) (v w : Volume D) (leaf : ℕ) (fault : StepFault StoreFault) : Type 0 where
-    pub unlogged : IsUnlogged known r f passes (begun v (key + 4119)) d e v w
-    pub why : IsWhy (faults.IsWhy passes d e (begun v (key + 4119)) w.shelf) fault
+    pub unlogged : IsUnlogged known r f passes (begun v (write_record key)) d e v w
+    pub why : IsWhy (faults.IsWhy passes d e (begun v (write_record key)) w.shelf) fault
     pub damaged : IsSteady d v.shelf.frames → fault ≡ step.Damaged → IsNoLeaf d v leaf
     pub memory : fault ≢ step.Memory
     pub full : fault ≢ step.PagesFull
@@ -124,13 +125,13 @@ module _ {B : Type 0} (known : Limits → Known (Entry B) (Page B)) (r : Reading
       (sought : Sought) × PairIsSought d e old.volume new.volume (transaction_of s old.sessions) n leaf sought
       × (new ≡ record old { volume = new.volume; sessions = sought_state s restored n leaf sought old.sessions })
   RestoreComes d e s restored n leaf old new (Help n_) =
-      IsUnlogged known r f passes (begun old.volume (key + 4119)) d e old.volume new.volume × IsHelp passes d e (runs old.checkpoint) (begun old.volume (key + 4119)) new.volume.shelf n_
+      IsUnlogged known r f passes (begun old.volume (write_record key)) d e old.volume new.volume × IsHelp passes d e (runs old.checkpoint) (begun old.volume (write_record key)) new.volume.shelf n_
       × (new ≡ record old { volume = new.volume })
   RestoreComes d e s restored n leaf old new (Replied (RefusedCall DeviceRefusal)) =
-      IsUnlogged known r f passes (begun old.volume (key + 4119)) d e old.volume new.volume × (d.faults < e.faults)
+      IsUnlogged known r f passes (begun old.volume (write_record key)) d e old.volume new.volume × (d.faults < e.faults)
       × (new ≡ record old { volume = new.volume; sessions = failed_state old.sessions })
   RestoreComes d e s restored n leaf old new (Replied (RefusedCall DamagedRefusal)) =
-      IsUnlogged known r f passes (begun old.volume (key + 4119)) d e old.volume new.volume
+      IsUnlogged known r f passes (begun old.volume (write_record key)) d e old.volume new.volume
       × (IsSteady d old.volume.shelf.frames → faults.CanBeRead passes d old.volume.shelf → IsNoLeaf d old.volume leaf)
       × (new ≡ record old { volume = new.volume; sessions = failed_state old.sessions })
   RestoreComes d e s restored n leaf old new other = ⊥

@@ -7,19 +7,13 @@ use Rattle.gx_class.specs.declared.class.KeyClass.{Ghosts}
 use Rattle.gx_disk.specs.Device.{Device}
 use Rattle.gx_disk.specs.declared.device.SectorDisk as disks
 use Rattle.gx_page.specs.Contents.{Contents}
-use Rattle.gx_node.specs.Reading.{format_of, is_node}
-use Rattle.gx_recovery.specs.Known.{Limits}
-use Rattle.gx_readings.specs.Classes.{class_of, reading_of}
-use Rattle.gx_node.specs.Store.{Stays}
-use Rattle.gx_store.specs.Standing.{store_of}
-use Rattle.gx_store.specs.State.{IsSteady}
+use Rattle.gx_storage.specs.Setting.{StaysAs}
 use Rattle.gx_events.specs.declared.outcome.Outcome.{Outcome}
 use Rattle.gx_events.specs.declared.outcome.Outcome.TheVariants.{Help, Refused}
 use Rattle.gx_engine.specs.declared.pages.NotLent.{NotLent}
 use Rattle.gx_engine.specs.declared.pages.NotLent.TheVariants as not_lent
 use Rattle.gx_engine.specs.contracts.engine.Engine as engine
-use Rattle.gx_engine.specs.Holds.{Leads}
-use Rattle.gx_engine.specs.Lending.{BringPageComes, StandsAs}
+use Rattle.gx_engine.specs.Setting.{BringPageComesAs, IsLentAs, LeadsAs}
 use Rattle.gx_engine.specs.States.{IsOrderly, Parts}
 use Rattle.gx_engine.specs.Sweeping.{bring_events}
 
@@ -32,13 +26,11 @@ brought_as (Err (not_lent.Refused why)) = Err (Refused why)
 -- a page was brought, with this result, and is lent as it stands
 pub record Views {C B D : Type 0} (shape : Members B) (proper : B → Bool) (said : List ℕ → B) (class : Ghosts C B) (state : D → Device) (page : ℕ) (old new : Parts B D)
     (result : Result (Bor Contents) NotLent) : Type 0 where
-  pub comes : BringPageComes (is_node (format_of class)) (state old.volume.shelf.disk) (state new.volume.shelf.disk) old new old.sessions.failed (brought_as result)
-  pub stays : Stays (IsSteady (state old.volume.shelf.disk) old.volume.shelf.frames) (store_of (format_of class) (state old.volume.shelf.disk).seen old.volume.shelf)
-      (store_of (format_of class) (state new.volume.shelf.disk).seen new.volume.shelf)
-  pub leads : (l : Limits) → Leads (class_of shape proper l) (reading_of said (format_of class)) (format_of class) (is_node (format_of class))
-      (state old.volume.shelf.disk) (state new.volume.shelf.disk) old new (bring_events (brought_as result))
+  pub comes : BringPageComesAs class state old new old.sessions.failed (brought_as result)
+  pub stays : StaysAs class state old.volume.shelf new.volume.shelf
+  pub leads : LeadsAs shape proper said class state old new (bring_events (brought_as result))
   pub order : IsOrderly old × IsOrderly new
-  pub lent : IfOk result (λ r. StandsAs (format_of class) (is_node (format_of class)) (state new.volume.shelf.disk) page new r.now)
+  pub lent : IfOk result (λ r. IsLentAs class state page new r.now)
 
 module _ (D C B : RattleType) (disk : disks.Ghosts D.Denot) (class : Ghosts C.Denot B.Denot) (said : List ℕ → B.Denot) (proper : B.Denot → Bool) (shape : Members B.Denot)
     (e : MutBor (Parts B.Denot D.Denot)) (page : ℕ) where

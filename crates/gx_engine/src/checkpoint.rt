@@ -4,6 +4,7 @@ ghost use Rattle.gx_engine.specs.States.{is_due, runs};
 
 use crate::Engine;
 use gx_disk::SectorDisk;
+use gx_index_laws::CHECKPOINT_AT;
 use gx_readings::ReadKeys;
 
 /// How far a checkpoint is.
@@ -28,10 +29,11 @@ impl<D: SectorDisk, K: ReadKeys> Engine<D, K> {
         }
     }
 
-    // Whether an event that would append a record has to wait for a checkpoint: one runs, or 24 places of the extent are taken.
+    // Whether an event that would append a record has to wait for a checkpoint: one runs, or 24 places of the extent
+    // are taken.
     pub(crate) fn is_due(&self) -> bool
         ensures { result ≡ is_due self.now }
     {
-        self.is_checkpointing() || self.storage.places() >= 24
+        self.is_checkpointing() || self.storage.places() >= CHECKPOINT_AT
     }
 }

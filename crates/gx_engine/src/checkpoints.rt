@@ -1,13 +1,13 @@
-//! A checkpoint's events: what is logged is gated, the dirty pages are written and settled, and the log turns to the other extent.
+//! A checkpoint's events: what is logged is gated, the dirty pages are written and settled, and the log turns to the
+//! other extent.
 ghost use Rattle.std.specs.Prelude.{◌≡◌, nat_le, false};
 ghost use Rattle.gx_events.specs.Engines.{IsSync};
-ghost use Rattle.gx_node.specs.Reading.{format_of, is_node};
 ghost use Rattle.gx_pool.specs.State.{NoneDirty};
-ghost use Rattle.gx_recovery.specs.Known.{Limits};
-ghost use Rattle.gx_readings.specs.Classes.{class_of, reading_of};
+ghost use Rattle.gx_index_laws.specs.declared.TheConstants.{CHECKPOINT_AT};
 ghost use Rattle.gx_engine.specs.declared.checkpoint.Checkpoint.TheVariants.{Off, Running, Turning};
-ghost use Rattle.gx_engine.specs.Checkpoints.{BeginsTurn, CheckpointSteps, GatesNext, IsQuiet, RunsOn, StepsOff, TurnsNext, WritesDirty, after_call};
-ghost use Rattle.gx_engine.specs.Ending.{SparesSo};
+ghost use Rattle.gx_engine.specs.Checkpoints.{BeginsTurn, CheckpointSteps, GatesNext, IsQuiet, RunsOn, StepsOff};
+ghost use Rattle.gx_engine.specs.Checkpoints.{TurnsNext, WritesDirty, after_call};
+ghost use Rattle.gx_engine.specs.Setting.{Between, SparesSoAs};
 
 use crate::Engine;
 use crate::checkpoint::Checkpoint;
@@ -17,6 +17,7 @@ use gx_disk::SectorDisk;
 use gx_events::Outcome;
 use gx_geom::Refusal;
 use gx_glog::Turn;
+use gx_index_laws::CHECKPOINT_AT;
 use gx_readings::ReadKeys;
 
 /// How far a checkpoint is after this call of its turn: over after the last one.
@@ -36,9 +37,9 @@ impl<D: SectorDisk, K: ReadKeys> Engine<D, K> {
         requires works { self.old.sessions.failed ≡ false }
         requires running { self.old.checkpoint ≡ Running }
         requires busy { IsQuiet self.old.volume → ⊥ }
-        ensures gates { GatesNext (D.state self.old.volume.shelf.disk) (D.state self.new.volume.shelf.disk) self.old self.new result }
-        ensures leads { (l : Limits) → SparesSo (class_of K.Key.Shape K.is_proper l) (reading_of K.said (format_of K.KeyClass)) (format_of K.KeyClass) (is_node (format_of K.KeyClass))
-            (D.state self.old.volume.shelf.disk) (D.state self.new.volume.shelf.disk) self.old self.new (IsSync false result) }
+        ensures gates { Between D.state GatesNext self.old self.new result }
+        ensures leads { SparesSoAs K.Key.Shape K.is_proper K.said K.KeyClass D.state self.old self.new
+            (IsSync false result) }
     {
         a_class_is_lawful::<K>();
         self.sessions.has_failed();
@@ -53,9 +54,9 @@ impl<D: SectorDisk, K: ReadKeys> Engine<D, K> {
         requires works { self.old.sessions.failed ≡ false }
         requires quiet { IsQuiet self.old.volume }
         requires dirty { NoneDirty self.old.volume.shelf.frames → ⊥ }
-        ensures writes { WritesDirty (D.state self.old.volume.shelf.disk) (D.state self.new.volume.shelf.disk) self.old self.new result }
-        ensures leads { (l : Limits) → SparesSo (class_of K.Key.Shape K.is_proper l) (reading_of K.said (format_of K.KeyClass)) (format_of K.KeyClass) (is_node (format_of K.KeyClass))
-            (D.state self.old.volume.shelf.disk) (D.state self.new.volume.shelf.disk) self.old self.new (IsSync false result) }
+        ensures writes { Between D.state WritesDirty self.old self.new result }
+        ensures leads { SparesSoAs K.Key.Shape K.is_proper K.said K.KeyClass D.state self.old self.new
+            (IsSync false result) }
     {
         match self.storage.dirty() {
             Some(page) => self.write_page(page),
@@ -67,9 +68,9 @@ impl<D: SectorDisk, K: ReadKeys> Engine<D, K> {
     fn turn_next(&mut self) -> Outcome<K::Key>
         requires works { self.old.sessions.failed ≡ false }
         requires turning { self.old.checkpoint ≡ Turning }
-        ensures turns { TurnsNext (D.state self.old.volume.shelf.disk) (D.state self.new.volume.shelf.disk) self.old self.new result }
-        ensures leads { (l : Limits) → SparesSo (class_of K.Key.Shape K.is_proper l) (reading_of K.said (format_of K.KeyClass)) (format_of K.KeyClass) (is_node (format_of K.KeyClass))
-            (D.state self.old.volume.shelf.disk) (D.state self.new.volume.shelf.disk) self.old self.new (IsSync false result) }
+        ensures turns { Between D.state TurnsNext self.old self.new result }
+        ensures leads { SparesSoAs K.Key.Shape K.is_proper K.said K.KeyClass D.state self.old self.new
+            (IsSync false result) }
     {
         a_class_is_lawful::<K>();
         match self.storage.turn_step() {
@@ -87,9 +88,9 @@ impl<D: SectorDisk, K: ReadKeys> Engine<D, K> {
         requires running { self.old.checkpoint ≡ Running }
         requires quiet { IsQuiet self.old.volume }
         requires clean { NoneDirty self.old.volume.shelf.frames }
-        ensures begins { BeginsTurn (D.state self.old.volume.shelf.disk) (D.state self.new.volume.shelf.disk) self.old self.new result }
-        ensures leads { (l : Limits) → SparesSo (class_of K.Key.Shape K.is_proper l) (reading_of K.said (format_of K.KeyClass)) (format_of K.KeyClass) (is_node (format_of K.KeyClass))
-            (D.state self.old.volume.shelf.disk) (D.state self.new.volume.shelf.disk) self.old self.new (IsSync false result) }
+        ensures begins { Between D.state BeginsTurn self.old self.new result }
+        ensures leads { SparesSoAs K.Key.Shape K.is_proper K.said K.KeyClass D.state self.old self.new
+            (IsSync false result) }
     {
         a_class_is_lawful::<K>();
         self.sessions.has_failed();
@@ -109,9 +110,9 @@ impl<D: SectorDisk, K: ReadKeys> Engine<D, K> {
     fn run_on(&mut self) -> Outcome<K::Key>
         requires works { self.old.sessions.failed ≡ false }
         requires running { self.old.checkpoint ≡ Running }
-        ensures runs { RunsOn (D.state self.old.volume.shelf.disk) (D.state self.new.volume.shelf.disk) self.old self.new result }
-        ensures leads { (l : Limits) → SparesSo (class_of K.Key.Shape K.is_proper l) (reading_of K.said (format_of K.KeyClass)) (format_of K.KeyClass) (is_node (format_of K.KeyClass))
-            (D.state self.old.volume.shelf.disk) (D.state self.new.volume.shelf.disk) self.old self.new (IsSync false result) }
+        ensures runs { Between D.state RunsOn self.old self.new result }
+        ensures leads { SparesSoAs K.Key.Shape K.is_proper K.said K.KeyClass D.state self.old self.new
+            (IsSync false result) }
     {
         if !self.storage.is_idle() {
             return self.gate_next();
@@ -126,28 +127,31 @@ impl<D: SectorDisk, K: ReadKeys> Engine<D, K> {
     fn begin(&mut self) -> Outcome<K::Key>
         requires works { self.old.sessions.failed ≡ false }
         requires off { self.old.checkpoint ≡ Off }
-        ensures steps { StepsOff (D.state self.old.volume.shelf.disk) (D.state self.new.volume.shelf.disk) self.old self.new (nat_le 24 self.old.volume.log.used) result }
-        ensures leads { (l : Limits) → SparesSo (class_of K.Key.Shape K.is_proper l) (reading_of K.said (format_of K.KeyClass)) (format_of K.KeyClass) (is_node (format_of K.KeyClass))
-            (D.state self.old.volume.shelf.disk) (D.state self.new.volume.shelf.disk) self.old self.new (IsSync false result) }
+        ensures steps { Between D.state StepsOff self.old self.new (nat_le CHECKPOINT_AT self.old.volume.log.used)
+            result }
+        ensures leads { SparesSoAs K.Key.Shape K.is_proper K.said K.KeyClass D.state self.old self.new
+            (IsSync false result) }
     {
-        if self.storage.places() < 24 {
+        if self.storage.places() < CHECKPOINT_AT {
             return Outcome::Nothing;
         }
         self.checkpoint = Checkpoint::Running;
         self.run_on()
     }
 
-    /// The next step of a checkpoint, with at most one write or sync of the device. Off, with fewer than 24 places of the extent taken:
-    /// `Nothing`; with 24 or more it is begun, and goes on at once. While it runs: the log's next call, until nothing is in flight
-    /// or fills; then the write of the least page that may be written, until none is dirty; then a sync of the pages, after which the head
-    /// of the renewed log is in memory. Then each of the turn's calls, and with the last one the checkpoint is over: `More`.
+    /// The next step of a checkpoint, with at most one write or sync of the device. Off, with fewer than 24 places of
+    /// the extent taken: `Nothing`; with 24 or more it is begun, and goes on at once. While it runs: the log's next
+    /// call, until nothing is in flight or fills; then the write of the least page that may be written, until none is
+    /// dirty; then a sync of the pages, after which the head of the renewed log is in memory. Then each of the turn's
+    /// calls, and with the last one the checkpoint is over: `More`.
     ///
-    /// Refused with `Failed` by an engine that has failed, with `Device` exactly where the device failed, and with `Damaged` where no
-    /// dirty page may be written or the head has no room, both only over a device that lied; the engine has failed then. It takes no memory.
+    /// Refused with `Failed` by an engine that has failed, with `Device` exactly where the device failed, and with
+    /// `Damaged` where no dirty page may be written or the head has no room, both only over a device that lied; the
+    /// engine has failed then. It takes no memory.
     pub fn checkpoint_step(&mut self) -> Outcome<K::Key>
-        ensures steps { CheckpointSteps (D.state self.old.volume.shelf.disk) (D.state self.new.volume.shelf.disk) self.old self.new self.old.sessions.failed result }
-        ensures leads { (l : Limits) → SparesSo (class_of K.Key.Shape K.is_proper l) (reading_of K.said (format_of K.KeyClass)) (format_of K.KeyClass) (is_node (format_of K.KeyClass))
-            (D.state self.old.volume.shelf.disk) (D.state self.new.volume.shelf.disk) self.old self.new (IsSync self.old.sessions.failed result) }
+        ensures steps { Between D.state CheckpointSteps self.old self.new self.old.sessions.failed result }
+        ensures leads { SparesSoAs K.Key.Shape K.is_proper K.said K.KeyClass D.state self.old self.new
+            (IsSync self.old.sessions.failed result) }
     {
         if self.sessions.has_failed() {
             return Outcome::Refused(Refusal::Failed);

@@ -1,14 +1,10 @@
 //! A commit goes its way: it is sealed, and acknowledged once it is durable.
 ghost use Rattle.std.specs.Prelude.{◌≡◌, ◌-◌, ◌+◌, ℕ, true, false};
 ghost use Rattle.gx_machine.specs.Machine.{is_session};
-ghost use Rattle.gx_node.specs.Reading.{format_of, is_node};
-ghost use Rattle.gx_recovery.specs.Known.{Limits};
-ghost use Rattle.gx_readings.specs.Classes.{class_of, reading_of};
 ghost use Rattle.gx_phases.specs.declared.phase.Phase.TheVariants.{Waiting};
 ghost use Rattle.gx_phases.specs.Moves.{asks_commit};
-ghost use Rattle.gx_phases.specs.States.{phase_at};
-ghost use Rattle.gx_engine.specs.Sealing.{AcknowledgeComes, SealComes, acknowledge_events, AreSealing, told};
-ghost use Rattle.gx_engine.specs.Holds.{Leads, LeadsSo};
+ghost use Rattle.gx_engine.specs.Commits.{AcknowledgeComes, SealComes, acknowledge_events, AreSealing, told};
+ghost use Rattle.gx_engine.specs.Setting.{LeadsAs, LeadsSoAs, phase_in};
 
 use crate::Engine;
 use crate::laws::a_class_is_lawful;
@@ -29,19 +25,19 @@ fn told<B>(running: bool, number: Option<u64>) -> Outcome<B>
 }
 
 impl<D: SectorDisk, K: ReadKeys> Engine<D, K> {
-    /// Seals the commit that a session has asked: its record is appended to the batch that fills, and it gets the next number. The
-    /// session then waits for that to be durable, and what it claimed and watched is free: `More`. It makes no call of the device
-    /// and takes no memory.
+    /// Seals the commit that a session has asked: its record is appended to the batch that fills, and it gets the
+    /// next number. The session then waits for that to be durable, and what it claimed and watched is free: `More`.
+    /// It makes no call of the device and takes no memory.
     ///
-    /// `Help(Checkpoint)` exactly where a checkpoint runs or 24 places of the extent are taken, `Help(Log)` where the record doesn't fit
-    /// the batch that fills; nothing has changed then.
+    /// `Help(Checkpoint)` exactly where a checkpoint runs or 24 places of the extent are taken, `Help(Log)` where the
+    /// record doesn't fit the batch that fills; nothing has changed then.
     pub(crate) fn seal(&mut self, session: u8) -> Outcome<K::Key>
         requires session { is_session session ≡ true }
-        requires commit { asks_commit (phase_at (session - 1) self.old.sessions.phases) ≡ true }
+        requires commit { asks_commit (phase_in session self.old) ≡ true }
         requires works { self.old.sessions.failed ≡ false }
         ensures comes { SealComes session self.old self.new result }
-        ensures leads { (l : Limits) → LeadsSo (class_of K.Key.Shape K.is_proper l) (reading_of K.said (format_of K.KeyClass)) (format_of K.KeyClass) (is_node (format_of K.KeyClass))
-            (D.state self.old.volume.shelf.disk) (D.state self.new.volume.shelf.disk) self.old self.new (AreSealing session (self.old.sessions.latest + 1) result) }
+        ensures leads { LeadsSoAs K.Key.Shape K.is_proper K.said K.KeyClass D.state self.old self.new
+            (AreSealing session (self.old.sessions.latest + 1) result) }
     {
         a_class_is_lawful::<K>();
         self.sessions.has_failed();
@@ -59,16 +55,17 @@ impl<D: SectorDisk, K: ReadKeys> Engine<D, K> {
         }
     }
 
-    /// Acknowledges a session's commit where its number is durable, and the session is free: `Replied` with `Committed` and that number.
-    /// Else `Help(Log)`, or `Help(Checkpoint)` while a checkpoint runs, and nothing has changed. It makes no call of the device and
-    /// takes no memory.
+    /// Acknowledges a session's commit where its number is durable, and the session is free: `Replied` with
+    /// `Committed` and that number. Else `Help(Log)`, or `Help(Checkpoint)` while a checkpoint runs, and nothing has
+    /// changed. It makes no call of the device and takes no memory.
     pub(crate) fn acknowledge(&mut self, session: u8) -> Outcome<K::Key>
         requires session { is_session session ≡ true }
         requires works { self.old.sessions.failed ≡ false }
-        ensures comes { (number : ℕ) → phase_at (session - 1) self.old.sessions.phases ≡ Waiting number → AcknowledgeComes session number self.old self.new result }
-        ensures leads { (number : ℕ) → phase_at (session - 1) self.old.sessions.phases ≡ Waiting number → (l : Limits)
-            → Leads (class_of K.Key.Shape K.is_proper l) (reading_of K.said (format_of K.KeyClass)) (format_of K.KeyClass) (is_node (format_of K.KeyClass))
-            (D.state self.old.volume.shelf.disk) (D.state self.new.volume.shelf.disk) self.old self.new (acknowledge_events session result) }
+        ensures comes { (number : ℕ) → phase_in session self.old ≡ Waiting number
+            → AcknowledgeComes session number self.old self.new result }
+        ensures leads { (number : ℕ) → phase_in session self.old ≡ Waiting number
+            → LeadsAs K.Key.Shape K.is_proper K.said K.KeyClass D.state self.old self.new
+            (acknowledge_events session result) }
     {
         a_class_is_lawful::<K>();
         self.sessions.has_failed();

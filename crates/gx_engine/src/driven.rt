@@ -17,11 +17,12 @@ use gx_readings::ReadKeys;
 /// How many events are made in a row at most, for one call or of one kind: 2^56.
 pub const EVENTS: u64 = 1 << 56;
 
-/// Makes a session's first event, an ask or a move, and then the events that its driver names, to the end of its call: its moves, and the
-/// steps of the log and of a checkpoint and the writes of pages that help them.
+/// Makes a session's first event, an ask or a move, and then the events that its driver names, to the end of its
+/// call: its moves, and the steps of the log and of a checkpoint and the writes of pages that help them.
 ///
-/// The reply is the one with which the call ended, also where an event was refused. None where the call hasn't ended within `EVENTS`
-/// events: it stands open then. That never comes over a device that doesn't lie. It takes no memory but what the events take.
+/// The reply is the one with which the call ended, also where an event was refused. None where the call hasn't ended
+/// within `EVENTS` events: it stands open then. That never comes over a device that doesn't lie. It takes no memory
+/// but what the events take.
 pub fn drive<D: SectorDisk, K: ReadKeys + Probing>(
     engine: &mut Engine<D, K>,
     session: u8,
@@ -29,9 +30,12 @@ pub fn drive<D: SectorDisk, K: ReadKeys + Probing>(
 ) -> Option<Reply<K::Key>>
 where
     K::Probe: Drop,
-    ensures made { MatchOption result (IsGivenUp (Makes K.Key.Shape K.is_proper K.said K.KeyClass D.state) session first engine.old engine.new)
-        (λ reply. IsDriven (Makes K.Key.Shape K.is_proper K.said K.KeyClass D.state) session first engine.old reply engine.new) }
-    ensures ends { (l : Limits) → WhereHeld K.Key.Shape K.is_proper K.said K.KeyClass D.state l engine.old session first (IsSome result) }
+    ensures made { MatchOption result
+        (IsGivenUp (Makes K.Key.Shape K.is_proper K.said K.KeyClass D.state) session first engine.old engine.new)
+        (λ reply. IsDriven (Makes K.Key.Shape K.is_proper K.said K.KeyClass D.state) session first engine.old reply
+        engine.new) }
+    ensures ends { (l : Limits)
+        → WhereHeld K.Key.Shape K.is_proper K.said K.KeyClass D.state l engine.old session first (IsSome result) }
 {
     a_class_is_lawful::<K>();
     what_a_call_has_left_is_bounded::<K::Key>();

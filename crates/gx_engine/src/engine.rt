@@ -16,8 +16,8 @@ use std::marker::Model;
 
 /// An index at work over a device: pages with their log, and up to eight sessions.
 ///
-/// It works in events, each of which makes at most one write or sync of the device. Once a call of the device has failed, or a
-/// page didn't read, it has failed: from then on it only refuses.
+/// It works in events, each of which makes at most one write or sync of the device. Once a call of the device has
+/// failed, or a page didn't read, it has failed: from then on it only refuses.
 #[derive(Drop)]
 pub struct Engine<D: SectorDisk, K: ReadKeys> {
     pub(crate) storage: Storage<D, K>,
@@ -36,9 +36,16 @@ impl<D: SectorDisk, K: ReadKeys> Model for Engine<D, K> {
 
     ghost Value = { Parts K.Key D };
 
-    ghost view = { λ m. record { volume = m.storage; sessions = m.sessions; in_flight = m.in_flight; checkpoint = m.checkpoint } };
+    ghost view = { λ m. record {
+      volume = m.storage;
+      sessions = m.sessions;
+      in_flight = m.in_flight;
+      checkpoint = m.checkpoint;
+    } };
 
-    ghost invariant = { λ m. IsInOrder (record { volume = m.storage; sessions = m.sessions; in_flight = m.in_flight; checkpoint = m.checkpoint }) m.keys.items };
+    ghost invariant = { λ m. IsInOrder
+        (record { volume = m.storage; sessions = m.sessions; in_flight = m.in_flight; checkpoint = m.checkpoint })
+        m.keys.items };
 }
 
 impl<D: SectorDisk, K: ReadKeys> Engine<D, K> {
@@ -48,8 +55,9 @@ impl<D: SectorDisk, K: ReadKeys> Engine<D, K> {
     ghost use Rattle.gx_storage.specs.Flushing.{IsLeastWritable};
     ghost use Rattle.gx_engine.specs.States.{IsOrderly};
 
-    /// An engine over pages in 16 frames or more with their log, of which no batch is in flight and no turn is under way, and over sessions. No
-    /// checkpoint runs. A node that is split has its keys written over `keys`; looks and answers take memory of `alloc`.
+    /// An engine over pages in 16 frames or more with their log, of which no batch is in flight and no turn is under
+    /// way, and over sessions. No checkpoint runs. A node that is split has its keys written over `keys`; looks and
+    /// answers take memory of `alloc`.
     pub fn new(
         storage: Storage<D, K>,
         sessions: Sessions<K::Key, Work<K::Key>>,
@@ -60,7 +68,12 @@ impl<D: SectorDisk, K: ReadKeys> Engine<D, K> {
         requires most { 4 ≤ storage.most }
         requires frames { 16 ≤ length storage.shelf.frames.marks }
         requires space { MAX_ENTRIES ≤ length keys.items }
-        ensures { result ≡ record { volume = storage; sessions = sessions; in_flight = sessions.durable; checkpoint = Checkpoint.Off } }
+        ensures { result ≡ record {
+          volume = storage;
+          sessions = sessions;
+          in_flight = sessions.durable;
+          checkpoint = Checkpoint.Off;
+        } }
     {
         sessions.has_failed();
         let in_flight = sessions.durable();
@@ -74,8 +87,9 @@ impl<D: SectorDisk, K: ReadKeys> Engine<D, K> {
         }
     }
 
-    /// How an engine stands on any device: its log turns only as its checkpoint has it; its frames are 16 or more, of which an event holds four
-    /// at most; it has 65,536 pages at most, and a node 100 entries; a session that waits for its commit, waits for one that is sealed.
+    /// How an engine stands on any device: its log turns only as its checkpoint has it; its frames are 16 or more, of
+    /// which an event holds four at most; it has 65,536 pages at most, and a node 100 entries; a session that waits
+    /// for its commit, waits for one that is sealed.
     pub(crate) fn in_order(&self)
         ensures { IsOrderly self.now }
     {

@@ -1,11 +1,8 @@
 //! The flusher's events.
-ghost use Rattle.std.specs.Prelude.{◌≡◌, ◌≤◌, ℕ};
-ghost use Rattle.gx_node.specs.Reading.{format_of, is_node};
-ghost use Rattle.gx_recovery.specs.Known.{Limits};
-ghost use Rattle.gx_readings.specs.Classes.{class_of, reading_of};
-ghost use Rattle.gx_engine.specs.Ending.{Spares};
+ghost use Rattle.std.specs.Prelude.{◌≡◌, ◌≤◌};
 ghost use Rattle.gx_engine.specs.Flushing.{LogSteps, PageIsWritten, log_events, log_outcome, page_events, noted};
 ghost use Rattle.gx_engine.specs.States.{runs};
+ghost use Rattle.gx_engine.specs.Setting.{Between, SparesAs};
 
 use crate::Engine;
 use crate::laws::a_class_is_lawful;
@@ -16,8 +13,8 @@ use gx_glog::Stage;
 use gx_readings::ReadKeys;
 
 impl<D: SectorDisk, K: ReadKeys> Engine<D, K> {
-    // What is noted of a log's call: with a batch's first one, the last commit that is in it; with its gate's sync, that commits
-    // are durable up to that one.
+    // What is noted of a log's call: with a batch's first one, the last commit that is in it; with its gate's sync,
+    // that commits are durable up to that one.
     pub(crate) fn note(&mut self, stage: Stage) -> Outcome<K::Key>
         requires { self.old.sessions.durable ≤ self.old.sessions.latest }
         ensures outcome { result ≡ log_outcome stage }
@@ -37,15 +34,17 @@ impl<D: SectorDisk, K: ReadKeys> Engine<D, K> {
         }
     }
 
-    /// Makes the log's next write or sync: `More`. `Nothing` exactly where nothing is logged or a checkpoint runs; no call was made
-    /// then. Refused with `Failed` by an engine that has failed, and with `Device` exactly where the device failed; the engine has
-    /// failed then.
+    /// Makes the log's next write or sync: `More`. `Nothing` exactly where nothing is logged or a checkpoint runs; no
+    /// call was made then. Refused with `Failed` by an engine that has failed, and with `Device` exactly where the
+    /// device failed; the engine has failed then.
     ///
-    /// It takes no memory. What filled is in flight from its first call on, and its commits are durable from its gate's sync on.
+    /// It takes no memory. What filled is in flight from its first call on, and its commits are durable from its
+    /// gate's sync on.
     pub fn log_step(&mut self) -> Outcome<K::Key>
-        ensures steps { LogSteps (D.state self.old.volume.shelf.disk) (D.state self.new.volume.shelf.disk) self.old self.new self.old.sessions.failed (runs self.old.checkpoint) result }
-        ensures leads { (l : Limits) → Spares (class_of K.Key.Shape K.is_proper l) (reading_of K.said (format_of K.KeyClass)) (format_of K.KeyClass) (is_node (format_of K.KeyClass))
-            (D.state self.old.volume.shelf.disk) (D.state self.new.volume.shelf.disk) self.old self.new (log_events self.old.volume.log.stage self.old.in_flight result) }
+        ensures steps { Between D.state LogSteps self.old self.new self.old.sessions.failed (runs self.old.checkpoint)
+            result }
+        ensures leads { SparesAs K.Key.Shape K.is_proper K.said K.KeyClass D.state self.old self.new
+            (log_events self.old.volume.log.stage self.old.in_flight result) }
     {
         a_class_is_lawful::<K>();
         if self.sessions.has_failed() {
@@ -60,13 +59,13 @@ impl<D: SectorDisk, K: ReadKeys> Engine<D, K> {
         }
     }
 
-    /// Writes a page to its place, where it has changes and all of them are in gated batches: `More`; else `Nothing`, and no call was
-    /// made. Refused with `Failed` by an engine that has failed, and with `Device` exactly where the device failed; the engine has
-    /// failed then. It takes no memory.
+    /// Writes a page to its place, where it has changes and all of them are in gated batches: `More`; else `Nothing`,
+    /// and no call was made. Refused with `Failed` by an engine that has failed, and with `Device` exactly where the
+    /// device failed; the engine has failed then. It takes no memory.
     pub fn write_page(&mut self, page: u32) -> Outcome<K::Key>
-        ensures writes { PageIsWritten page (D.state self.old.volume.shelf.disk) (D.state self.new.volume.shelf.disk) self.old self.new self.old.sessions.failed result }
-        ensures leads { (l : Limits) → Spares (class_of K.Key.Shape K.is_proper l) (reading_of K.said (format_of K.KeyClass)) (format_of K.KeyClass) (is_node (format_of K.KeyClass))
-            (D.state self.old.volume.shelf.disk) (D.state self.new.volume.shelf.disk) self.old self.new (page_events result) }
+        ensures writes { Between D.state (PageIsWritten page) self.old self.new self.old.sessions.failed result }
+        ensures leads { SparesAs K.Key.Shape K.is_proper K.said K.KeyClass D.state self.old self.new
+            (page_events result) }
     {
         a_class_is_lawful::<K>();
         if self.sessions.has_failed() {

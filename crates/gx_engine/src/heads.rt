@@ -2,10 +2,12 @@
 ghost use Rattle.std.specs.Prelude.{◌≡◌, ◌≤◌, ◌*◌, nat_le, true, length, map, IfSome, OnOk};
 ghost use Rattle.gx_glog.specs.declared.stage.Stage.TheVariants.{Idle};
 ghost use Rattle.gx_machine.specs.Machine.{is_session};
+ghost use Rattle.gx_machine.specs.declared.limits.TheConstants.{SESSIONS};
 ghost use Rattle.gx_node.specs.Reading.{format_of};
 ghost use Rattle.gx_readings.specs.Classes.{reading_of};
 ghost use Rattle.gx_recovery.specs.Renewal.{notes_of};
-ghost use Rattle.gx_engine.specs.Putting.{IsNextOf, OnlyHead, PutsAll, PutsHead, PutsTouches, comes_before, from_of, is_less};
+ghost use Rattle.gx_engine.specs.Heads.{IsNextOf, OnlyHead, PutsAll, PutsHead, PutsTouches, comes_before, from_of};
+ghost use Rattle.gx_engine.specs.Heads.{is_less, note_record};
 ghost use Rattle.gx_engine.specs.Noted.{has_transaction, touch_by};
 
 use crate::work::Work;
@@ -27,7 +29,8 @@ fn put_notes<D: SectorDisk, K: ReadKeys>(
 ) -> Result<(), StoreFault>
     requires idle { storage.old.log.stage ≡ Idle }
     ensures only { OnlyHead storage.old storage.new }
-    ensures puts { PutsAll (reading_of K.said (format_of K.KeyClass)) (notes_of (map (touch_by transaction) notes.now)) (46 * length notes.now) storage.old storage.new result }
+    ensures puts { PutsAll (reading_of K.said (format_of K.KeyClass)) (notes_of (map (touch_by transaction) notes.now))
+        (note_record * length notes.now) storage.old storage.new result }
 {
     for note in notes {
         K::known(&note.entry.key);
@@ -96,7 +99,7 @@ fn comes_before<B: Shape, W: Drop>(
 
 /// The session whose transaction is the next one after this one.
 fn next_noted<B: Shape, W: Drop>(sessions: &Sessions<B, W>, after: Option<u64>) -> Option<u8>
-    ensures { IsNextOf sessions.now (from_of after) 8 result }
+    ensures { IsNextOf sessions.now (from_of after) SESSIONS result }
 {
     let mut next: Option<u8> = None;
     for place in 0..8_u8 {

@@ -31,23 +31,30 @@ pub fn a_class_is_lawful<K: ReadKeys>()
     ensures { (l : Limits) → 4 ≤ l.most → IsLawful (class_of K.Key.Shape K.is_proper l) }
 {}
 
-/// What happens to a whole index in an event does to the set machine that it is seen as what that event with its outcome may do.
+/// What happens to a whole index in an event does to the set machine that it is seen as what that event with its
+/// outcome may do.
 pub fn an_event_is_the_machines<B>()
-    ensures { (c : Class B) → IsLawful c → (i j : State B) → IsWhole c i → (event : Event B) (outcome : Outcome B) (events : List (laws.Event B))
-        → AreOf (engine_of c i) event outcome events → AreHappening c i events j → Leads c.keys (engine_of c i) event outcome (engine_of c j) }
+    ensures { (c : Class B) → IsLawful c → (i j : State B) → IsWhole c i
+        → (event : Event B) (outcome : Outcome B) (events : List (laws.Event B))
+        → AreOf (engine_of c i) event outcome events → AreHappening c i events j
+        → Leads c.keys (engine_of c i) event outcome (engine_of c j) }
 {}
 
-/// Any events, each as the contract of a step has it, lead from an engine that holds an index to one that holds what happened to it, in
-/// the order of the events; and at each moment of them, whatever a crash may leave stands for a kept set of an index that was passed.
+/// Any events, each as the contract of a step has it, lead from an engine that holds an index to one that holds what
+/// happened to it, in the order of the events; and at each moment of them, whatever a crash may leave stands for a
+/// kept set of an index that was passed.
 pub fn any_events_lead_on<D: SectorDisk, B>()
-    ensures { (c : Class B) (said : List ℕ → B) (f : Format B) (passes : ℕ → Contents → Bool) (steps : List (Event B × Outcome B)) (old new : Parts B D)
-        → AreSteps c (reading_of said f) f passes D.state old steps new → (bodies : List (List (Record (Entry B) (Page B)))) (i : State B)
+    ensures { (c : Class B) (said : List ℕ → B) (f : Format B) (passes : ℕ → Contents → Bool)
+        (steps : List (Event B × Outcome B)) (old new : Parts B D)
+        → AreSteps c (reading_of said f) f passes D.state old steps new
+        → (bodies : List (List (Record (Entry B) (Page B)))) (i : State B)
         → Holds c (reading_of said f) f passes (D.state old.volume.shelf.disk) old bodies i
         → Ran c (reading_of said f) f passes (D.state old.volume.shelf.disk) (D.state new.volume.shelf.disk) new i }
 {}
 
-/// What the analysis of an undamaged log tells of touches, an opening can give sessions: they come by transaction and then entry, no entry
-/// twice, and are no more than eight transactions' and no more than 512.
+/// What the analysis of an undamaged log tells of touches, an opening can give sessions: they come by transaction and
+/// then entry, no entry twice, and are no more than eight transactions' and no more than 512.
 pub fn a_log_tells_who_was_cut_off<B>()
-    ensures { (c : Class B) → IsLawful c → (log : List (Record (Entry B) (Page B))) → IsLog (known_of c) log → AreCutOff c.keys (analysis (known_of c) log).touched }
+    ensures { (c : Class B) → IsLawful c → (log : List (Record (Entry B) (Page B))) → IsLog (known_of c) log
+        → AreCutOff c.keys (analysis (known_of c) log).touched }
 {}

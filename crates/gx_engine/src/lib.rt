@@ -1,5 +1,5 @@
-//! An index at work: the calls of up to eight sessions over pages with their log, an event at a time; and events one after another, a
-//! session's call to its end, or an event until nothing is left to do.
+//! An index at work: the calls of up to eight sessions over pages with their log, an event at a time; and events one
+//! after another, a session's call to its end, or an event until nothing is left to do.
 #![tactic(auto)]
 
 mod asks;

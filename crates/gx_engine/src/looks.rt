@@ -2,24 +2,19 @@
 ghost use Rattle.std.specs.Prelude.{◌≡◌, ◌-◌, ◌<◌, [], true, false, length, OnOk, IfOk, IfErr};
 ghost use Rattle.gx_machine.specs.declared.call.Call.{Call};
 ghost use Rattle.gx_machine.specs.Machine.{is_session};
-ghost use Rattle.gx_node.specs.Reading.{format_of, is_node};
-ghost use Rattle.gx_recovery.specs.Known.{Limits};
-ghost use Rattle.gx_readings.specs.Classes.{class_of, reading_of};
-ghost use Rattle.gx_store.specs.Standing.{store_of};
 ghost use Rattle.gx_storage.specs.Bringing.{bringing};
-ghost use Rattle.gx_storage.specs.Changes.{IsUnlogged, known_at};
 ghost use Rattle.gx_tree.specs.Looking.{LookStep};
-ghost use Rattle.gx_node.specs.Store.{tree_of};
 ghost use Rattle.gx_tree.specs.Wants.{wants};
 ghost use Rattle.gx_phases.specs.declared.phase.Phase.TheVariants.{Open};
 ghost use Rattle.gx_phases.specs.Moves.{is_open};
-ghost use Rattle.gx_phases.specs.States.{phase_at};
 ghost use Rattle.gx_engine.specs.Calls.{IsRead};
 ghost use Rattle.gx_engine.specs.declared.work.Work.TheVariants.{Rests};
 ghost use Rattle.gx_engine.specs.Holds.{MayHaveFound};
-ghost use Rattle.gx_engine.specs.Looking.{IsFirst, IsFirstUnless, StopComes, look_events, work_before};
-ghost use Rattle.gx_engine.specs.Moves.{Moves, calling};
-ghost use Rattle.gx_engine.specs.Writing.{brought};
+ghost use Rattle.gx_engine.specs.Looks.{IsFirst, IsFirstUnless, look_events, work_before};
+ghost use Rattle.gx_engine.specs.Moves.{calling};
+ghost use Rattle.gx_engine.specs.Writes.{brought};
+ghost use Rattle.gx_storage.specs.Setting.{UnloggedAs, tree_at};
+ghost use Rattle.gx_engine.specs.Setting.{MovesAs, StopComesAs, phase_in};
 
 use crate::Engine;
 use crate::laws::a_class_is_lawful;
@@ -52,8 +47,8 @@ impl<D: SectorDisk, K: ReadKeys + Probing> Engine<D, K> {
         Look::new(self.alloc, Item::new(1, self.storage.counter()))
     }
 
-    // A look reads its next page; one that hasn't begun reads the root. `Err` is what came of it where that was refused: then the call
-    // is at what it was, or is closed, or the engine has failed.
+    // A look reads its next page; one that hasn't begun reads the root. `Err` is what came of it where that was
+    // refused: then the call is at what it was, or is closed, or the engine has failed.
     pub(crate) fn read_look(
         &mut self,
         session: u8,
@@ -62,21 +57,23 @@ impl<D: SectorDisk, K: ReadKeys + Probing> Engine<D, K> {
         begun: bool,
     ) -> Result<Look<K::Key>, Outcome<K::Key>>
         requires session { is_session session ≡ true }
-        requires open { is_open (phase_at (session - 1) self.old.sessions.phases) ≡ true }
+        requires open { is_open (phase_in session self.old) ≡ true }
         requires works { self.old.sessions.failed ≡ false }
         requires more { 0 < length look.stack.items }
         requires first { IsFirstUnless begun self.old look }
-        ensures unlogged { OnOk result (IsUnlogged (known_at K.Key.Shape K.is_proper) (reading_of K.said (format_of K.KeyClass)) (format_of K.KeyClass) (is_node (format_of K.KeyClass))
-            (bringing self.old.volume) (D.state self.old.volume.shelf.disk) (D.state self.new.volume.shelf.disk) self.old.volume self.new.volume) }
+        ensures unlogged { OnOk result (UnloggedAs K.Key.Shape K.is_proper K.said K.KeyClass D.state
+            (bringing self.old.volume) self.old.volume self.new.volume) }
         ensures rest { OnOk result (self.new ≡ brought self.old self.new) }
-        ensures step { IfOk result (λ after. LookStep (tree_of (store_of (format_of K.KeyClass) (D.state self.new.volume.shelf.disk).seen self.new.volume.shelf))
-            (wants K.passes wanted.now.keys wanted.now.row) (K.passes wanted.now.bounds) look.stack.items after.stack.items look.found.items after.found.items) }
-        ensures stops { IfErr result (λ outcome. (call : Call K.Key) → phase_at (session - 1) self.old.sessions.phases ≡ Open call Rests
-            → StopComes (is_node (format_of K.KeyClass)) (D.state self.old.volume.shelf.disk) (D.state self.new.volume.shelf.disk) session
-            (calling session call (work_before begun look) self.old) self.new outcome) }
-        ensures moves { IfErr result (λ outcome. (call : Call K.Key) → phase_at (session - 1) self.old.sessions.phases ≡ Open call Rests → MayHaveFound call [] → (l : Limits)
-            → Moves (class_of K.Key.Shape K.is_proper l) (reading_of K.said (format_of K.KeyClass)) (format_of K.KeyClass) (is_node (format_of K.KeyClass))
-            (D.state self.old.volume.shelf.disk) (D.state self.new.volume.shelf.disk) session (calling session call (work_before begun look) self.old) self.new outcome
+        ensures step { IfOk result (λ after. LookStep (tree_at K.KeyClass D.state self.new.volume.shelf)
+            (wants K.passes wanted.now.keys wanted.now.row) (K.passes wanted.now.bounds) look.stack.items
+            after.stack.items look.found.items after.found.items) }
+        ensures stops { IfErr result (λ outcome. (call : Call K.Key) → phase_in session self.old ≡ Open call Rests
+            → StopComesAs K.KeyClass D.state session (calling session call (work_before begun look) self.old) self.new
+            outcome) }
+        ensures moves { IfErr result (λ outcome. (call : Call K.Key) → phase_in session self.old ≡ Open call Rests
+            → MayHaveFound call []
+            → MovesAs K.Key.Shape K.is_proper K.said K.KeyClass D.state session
+            (calling session call (work_before begun look) self.old) self.new outcome
             (look_events session call outcome)) }
         ensures device { IsRead D.state self.old self.new }
     {

@@ -1,6 +1,7 @@
 //! Transactions that a crash cut off: a session holds each, to undo it.
 ghost use Rattle.std.specs.Prelude.{◌≡◌, ◌≤◌, map};
 ghost use Rattle.gx_machine.specs.Keys.{keys_of};
+ghost use Rattle.gx_machine.specs.declared.limits.TheConstants.{SESSIONS};
 ghost use Rattle.gx_phases.specs.States.{fresh_state};
 ghost use Rattle.gx_engine.specs.declared.work.Work.{Work};
 ghost use Rattle.gx_engine.specs.Losing.{AllRest, HoldsAll, OnlyHeld, session_after, touch_of};
@@ -21,7 +22,7 @@ pub struct Loser<B> {
 
 /// The session of a note's transaction, where the note before it, if any, has this session and is of that transaction.
 fn session_after(session: u8, last: Option<u64>, transaction: u64) -> u8
-    requires { session ≤ 8 }
+    requires { session ≤ SESSIONS }
     ensures { result ≡ session_after session last transaction }
 {
     match last {
@@ -34,11 +35,11 @@ fn session_after(session: u8, last: Option<u64>, transaction: u64) -> u8
     }
 }
 
-/// Gives each transaction that a crash cut off a session, from 1 on in the order of their numbers, which claims the entries of its
-/// notes and undoes it from its first note on. The notes come by transaction, then by entry.
+/// Gives each transaction that a crash cut off a session, from 1 on in the order of their numbers, which claims the
+/// entries of its notes and undoes it from its first note on. The notes come by transaction, then by entry.
 ///
-/// `Damaged` where they are of more than eight transactions, where two transactions have touched one entry, or where they are of more
-/// than 512 entries: an undamaged log tells none such. The first sessions are given then.
+/// `Damaged` where they are of more than eight transactions, where two transactions have touched one entry, or where
+/// they are of more than 512 entries: an undamaged log tells none such. The first sessions are given then.
 pub(crate) fn hold_losers<B: Shape>(
     sessions: &mut Sessions<B, Work<B>>,
     losers: &[Loser<B>],

@@ -1,20 +1,14 @@
 //! A page that is brought in an event of no session, and lent as it stands.
 ghost use Rattle.std.specs.Borrow.{sem};
-ghost use Rattle.std.specs.Prelude.{◌≡◌, ◌≤◌, true, false, OnOk};
-ghost use Rattle.gx_node.specs.Reading.{format_of, is_node};
-ghost use Rattle.gx_recovery.specs.Known.{Limits};
-ghost use Rattle.gx_readings.specs.Classes.{class_of, reading_of};
-ghost use Rattle.gx_store.specs.Standing.{store_of};
-ghost use Rattle.gx_store.specs.State.{IsHeld, IsSteady};
+ghost use Rattle.std.specs.Prelude.{◌≡◌, ◌≤◌, false, OnOk};
+ghost use Rattle.gx_store.specs.State.{IsHeld};
 ghost use Rattle.gx_storage.specs.Bringing.{bringing};
-ghost use Rattle.gx_storage.specs.Changes.{IsUnlogged, known_at};
-ghost use Rattle.gx_node.specs.Store.{Stays};
 ghost use Rattle.gx_engine.specs.Calls.{IsRead};
-ghost use Rattle.gx_engine.specs.Holds.{Leads};
-ghost use Rattle.gx_engine.specs.Lending.{BringPageComes, StandsAs};
 ghost use Rattle.gx_engine.specs.States.{IsOrderly};
-ghost use Rattle.gx_engine.specs.Sweeping.{BringComes, bring_events};
+ghost use Rattle.gx_engine.specs.Sweeping.{bring_events};
 ghost use Rattle.gx_engine.specs.Viewing.{lends_page};
+ghost use Rattle.gx_storage.specs.Setting.{StaysAs, UnloggedAs};
+ghost use Rattle.gx_engine.specs.Setting.{BringComesAs, BringPageComesAs, IsLentAs, LeadsAs};
 
 use crate::Engine;
 use crate::laws::a_class_is_lawful;
@@ -34,20 +28,19 @@ pub enum NotLent {
 }
 
 impl<D: SectorDisk, K: ReadKeys> Engine<D, K> {
-    // Brings a page that is taken into a frame, where it is held until pages are brought again; or what comes of it that it was
-    // refused. No node has changed, and nothing is logged.
+    // Brings a page that is taken into a frame, where it is held until pages are brought again; or what comes of it
+    // that it was refused. No node has changed, and nothing is logged.
     pub(crate) fn bring(&mut self, page: u32) -> Result<(), Outcome<K::Key>>
         requires from { 1 ≤ page }
         requires to { page ≤ self.old.volume.shelf.used }
         requires works { self.old.sessions.failed ≡ false }
-        ensures unlogged { IsUnlogged (known_at K.Key.Shape K.is_proper) (reading_of K.said (format_of K.KeyClass)) (format_of K.KeyClass) (is_node (format_of K.KeyClass))
-            (bringing self.old.volume) (D.state self.old.volume.shelf.disk) (D.state self.new.volume.shelf.disk) self.old.volume self.new.volume }
-        ensures stays { Stays (IsSteady (D.state self.old.volume.shelf.disk) self.old.volume.shelf.frames) (store_of (format_of K.KeyClass) (D.state self.old.volume.shelf.disk).seen self.old.volume.shelf)
-            (store_of (format_of K.KeyClass) (D.state self.new.volume.shelf.disk).seen self.new.volume.shelf) }
+        ensures unlogged { UnloggedAs K.Key.Shape K.is_proper K.said K.KeyClass D.state (bringing self.old.volume)
+            self.old.volume self.new.volume }
+        ensures stays { StaysAs K.KeyClass D.state self.old.volume.shelf self.new.volume.shelf }
         ensures held { OnOk result (IsHeld self.new.volume.shelf page) }
-        ensures comes { BringComes (is_node (format_of K.KeyClass)) (D.state self.old.volume.shelf.disk) (D.state self.new.volume.shelf.disk) self.old self.new result }
-        ensures leads { (l : Limits) → Leads (class_of K.Key.Shape K.is_proper l) (reading_of K.said (format_of K.KeyClass)) (format_of K.KeyClass) (is_node (format_of K.KeyClass))
-            (D.state self.old.volume.shelf.disk) (D.state self.new.volume.shelf.disk) self.old self.new (bring_events result) }
+        ensures comes { BringComesAs K.KeyClass D.state self.old self.new result }
+        ensures leads { LeadsAs K.Key.Shape K.is_proper K.said K.KeyClass D.state self.old self.new
+            (bring_events result) }
         ensures device { IsRead D.state self.old self.new }
     {
         a_class_is_lawful::<K>();
@@ -57,21 +50,20 @@ impl<D: SectorDisk, K: ReadKeys> Engine<D, K> {
         }
     }
 
-    /// Brings a page that is taken into a frame, where it is held until pages are brought again, so that `held_page` lends it. No node has
-    /// changed, and nothing is logged.
+    /// Brings a page that is taken into a frame, where it is held until pages are brought again, so that `held_page`
+    /// lends it. No node has changed, and nothing is logged.
     ///
-    /// `Help` where no frame is clean, with what gives one. Refused with `Failed` by an engine that has failed, with `Device` where the
-    /// device failed, and with `Damaged` where what it has there is no right page; the engine has failed then. It makes no write and
-    /// no sync of the device, and takes no memory.
+    /// `Help` where no frame is clean, with what gives one. Refused with `Failed` by an engine that has failed, with
+    /// `Device` where the device failed, and with `Damaged` where what it has there is no right page; the engine has
+    /// failed then. It makes no write and no sync of the device, and takes no memory.
     pub fn bring_page(&mut self, page: u32) -> Result<(), Outcome<K::Key>>
         requires from { 1 ≤ page }
         requires to { page ≤ self.old.volume.shelf.used }
-        ensures stays { Stays (IsSteady (D.state self.old.volume.shelf.disk) self.old.volume.shelf.frames) (store_of (format_of K.KeyClass) (D.state self.old.volume.shelf.disk).seen self.old.volume.shelf)
-            (store_of (format_of K.KeyClass) (D.state self.new.volume.shelf.disk).seen self.new.volume.shelf) }
+        ensures stays { StaysAs K.KeyClass D.state self.old.volume.shelf self.new.volume.shelf }
         ensures held { OnOk result (IsHeld self.new.volume.shelf page) }
-        ensures comes { BringPageComes (is_node (format_of K.KeyClass)) (D.state self.old.volume.shelf.disk) (D.state self.new.volume.shelf.disk) self.old self.new self.old.sessions.failed result }
-        ensures leads { (l : Limits) → Leads (class_of K.Key.Shape K.is_proper l) (reading_of K.said (format_of K.KeyClass)) (format_of K.KeyClass) (is_node (format_of K.KeyClass))
-            (D.state self.old.volume.shelf.disk) (D.state self.new.volume.shelf.disk) self.old self.new (bring_events result) }
+        ensures comes { BringPageComesAs K.KeyClass D.state self.old self.new self.old.sessions.failed result }
+        ensures leads { LeadsAs K.Key.Shape K.is_proper K.said K.KeyClass D.state self.old self.new
+            (bring_events result) }
         ensures order { IsOrderly self.old × IsOrderly self.new }
         ensures device { IsRead D.state self.old self.new }
     {
@@ -87,17 +79,18 @@ impl<D: SectorDisk, K: ReadKeys> Engine<D, K> {
     /// A page that is held, as it stands.
     pub fn held_page(&self, page: u32) -> &Page
         requires held { IsHeld self.now.volume.shelf page }
-        ensures { StandsAs (format_of K.KeyClass) (is_node (format_of K.KeyClass)) (D.state self.now.volume.shelf.disk) page self.now result.now }
+        ensures { IsLentAs K.KeyClass D.state page self.now result.now }
     {
         self.storage.held_page(page)
     }
 
-    /// Lends a page that is taken, as it stands. Brings it first, as `bring_page` does, and answers in its place what that says of a page
-    /// that isn't brought.
+    /// Lends a page that is taken, as it stands. Brings it first, as `bring_page` does, and answers in its place what
+    /// that says of a page that isn't brought.
     pub fn page(&mut self, page: u32) -> Result<&Page, NotLent>
         requires from { 1 ≤ page }
         requires to { page ≤ self.old.volume.shelf.used }
-        ensures* lends { sem 𝓛 (lends_page D.row K.row K.Key.row D.SectorDisk K.KeyClass K.said K.is_proper K.Key.Shape self.entry page result) }
+        ensures* lends { sem 𝓛 (lends_page D.row K.row K.Key.row D.SectorDisk K.KeyClass K.said K.is_proper K.Key.Shape
+            self.entry page result) }
     {
         match self.bring_page(page) {
             Ok(()) => Ok(self.held_page(page)),

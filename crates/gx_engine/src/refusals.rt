@@ -2,9 +2,9 @@
 ghost use Rattle.std.specs.Prelude.{◌≡◌, ◌-◌, true};
 ghost use Rattle.gx_machine.specs.Machine.{is_session};
 ghost use Rattle.gx_phases.specs.Moves.{answered_state, failed_state, is_open};
-ghost use Rattle.gx_phases.specs.States.{phase_at};
 ghost use Rattle.gx_engine.specs.Calls.{IsRead};
 ghost use Rattle.gx_engine.specs.Refusals.{IsRefused, IsTurnedAway, log_need, need_of};
+ghost use Rattle.gx_engine.specs.Setting.{phase_in};
 
 use crate::Engine;
 use gx_disk::SectorDisk;
@@ -36,7 +36,7 @@ impl<D: SectorDisk, K: ReadKeys> Engine<D, K> {
     // A session's call is closed for want of memory or of pages.
     pub(crate) fn close(&mut self, session: u8, why: Refusal) -> Outcome<K::Key>
         requires session { is_session session ≡ true }
-        requires open { is_open (phase_at (session - 1) self.old.sessions.phases) ≡ true }
+        requires open { is_open (phase_in session self.old) ≡ true }
         ensures outcome { result ≡ Outcome.Replied (Reply.Refused why) }
         ensures closed { self.new ≡ record self.old { sessions = answered_state session self.old.sessions } }
         ensures device { IsRead D.state self.old self.new }

@@ -1,5 +1,6 @@
 //! An event over and over, until nothing is left to do.
-ghost use Rattle.std.specs.Prelude.{IsSome, MatchOption};
+ghost use Rattle.std.specs.Prelude.{◌≢◌, Err, IfSome, IsSome, MatchOption};
+ghost use Rattle.gx_engine.specs.declared.driven.TheConstants.{EVENTS};
 ghost use Rattle.gx_engine.specs.Made.{Makes};
 ghost use Rattle.gx_engine.specs.Repeated.{IsFlushing, IsGoingOn, IsRepeated, last_of};
 
@@ -11,17 +12,22 @@ use gx_events::{Event, Outcome};
 use gx_geom::Refusal;
 use gx_readings::ReadKeys;
 
-/// Makes an event over and over, until there is nothing to do (`Ok`) or it is refused (`Err`, with why). None where there was still more to
-/// do after `EVENTS` events, which of steps of the log or of a checkpoint never comes. It takes no memory but what the events take.
+/// Makes an event over and over, until there is nothing to do (`Ok`) or it is refused (`Err`, with why). None where
+/// there was still more to do after `EVENTS` events, which of steps of the log or of a checkpoint never comes. It
+/// takes no memory but what the events take, which of steps of the log or of a checkpoint is none.
+#[tactic(auto, using(crate::proofs::Lacking::flushing_never))]
 pub fn repeat<D: SectorDisk, K: ReadKeys + Probing>(
     engine: &mut Engine<D, K>,
     event: Event<K::Key>,
 ) -> Option<Result<(), Refusal>>
 where
     K::Probe: Drop,
-    ensures made { MatchOption result (IsGoingOn (Makes K.Key.Shape K.is_proper K.said K.KeyClass D.state) event engine.old 72057594037927936 engine.new)
-        (λ ends. IsRepeated (Makes K.Key.Shape K.is_proper K.said K.KeyClass D.state) event engine.old (last_of ends) engine.new) }
+    ensures made { MatchOption result
+        (IsGoingOn (Makes K.Key.Shape K.is_proper K.said K.KeyClass D.state) event engine.old EVENTS engine.new)
+        (λ ends. IsRepeated (Makes K.Key.Shape K.is_proper K.said K.KeyClass D.state) event engine.old (last_of ends)
+        engine.new) }
     ensures ends { IsFlushing event → IsSome result }
+    ensures memory { IsFlushing event → IfSome result (λ ends. ends ≢ Err Refusal.Memory) }
 {
     for _turn in 0..EVENTS {
         match engine.step(event) {

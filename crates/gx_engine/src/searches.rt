@@ -3,21 +3,18 @@ ghost use Rattle.std.specs.Prelude.{◌≡◌, ◌-◌, ◌<◌, true, false, ma
 ghost use Rattle.gx_machine.specs.declared.call.Call.TheVariants.{Search};
 ghost use Rattle.gx_machine.specs.Keys.{keys_of};
 ghost use Rattle.gx_machine.specs.Machine.{is_session};
-ghost use Rattle.gx_node.specs.Reading.{format_of, is_node};
-ghost use Rattle.gx_recovery.specs.Known.{Limits};
 ghost use Rattle.gx_engine_laws.specs.Engines as laws;
 ghost use Rattle.gx_index_laws.specs.Classes.{entry_of};
 ghost use Rattle.gx_tree.specs.Found.{pairs_found};
-ghost use Rattle.gx_readings.specs.Classes.{class_of, reading_of};
 ghost use Rattle.gx_phases.specs.declared.phase.Phase.TheVariants.{Open};
-ghost use Rattle.gx_phases.specs.States.{phase_at};
 ghost use Rattle.gx_engine.specs.Calls.{IsRead};
 ghost use Rattle.gx_engine.specs.declared.work.Work as declared;
 ghost use Rattle.gx_engine.specs.declared.work.Work.TheVariants.{Looks, Rests};
-ghost use Rattle.gx_engine.specs.Looking.{IsFirstUnless, Reaches, work_before};
-ghost use Rattle.gx_engine.specs.Moves.{Moves, MovesOn, MovesSo, calling};
-ghost use Rattle.gx_engine.specs.Searching.{AreSearching, FindComes, SearchComes, search_events};
-ghost use Rattle.gx_engine.specs.Writing.{OnlyReads, brought};
+ghost use Rattle.gx_engine.specs.Looks.{IsFirstUnless, work_before};
+ghost use Rattle.gx_engine.specs.Moves.{calling};
+ghost use Rattle.gx_engine.specs.Searches.{AreSearching, FindComes, search_events};
+ghost use Rattle.gx_engine.specs.Writes.{OnlyReads, brought};
+ghost use Rattle.gx_engine.specs.Setting.{MovesAs, MovesOnAs, MovesSoAs, ReachesAs, SearchComesAs, phase_in};
 
 use crate::Engine;
 use crate::laws::a_class_is_lawful;
@@ -44,7 +41,7 @@ fn gathered<B: Shape>(alloc: Global, found: &[Found<B>]) -> Result<Vec<Entry<B>>
     ensures { IfOk result (λ set. set.items ≡ laws.gathered (keys_of B.Shape) (map entry_of (pairs_found found.now))) }
 {
     let mut set = entries_found(alloc, found)?;
-    gx_locks::put_in_order(&mut set);
+    gx_machine::put_in_order(&mut set);
     Ok(set)
 }
 
@@ -55,12 +52,12 @@ where
     // A look that has ended is the search's answer.
     fn find(&mut self, session: u8, query: Query<K::Key>, look: Look<K::Key>) -> Outcome<K::Key>
         requires session { is_session session ≡ true }
-        requires phase { phase_at (session - 1) self.old.sessions.phases ≡ Open (Search query) Rests }
+        requires phase { phase_in session self.old ≡ Open (Search query) Rests }
         requires works { self.old.sessions.failed ≡ false }
         requires done { length look.stack.items ≡ 0 }
         ensures comes { FindComes session self.old self.new result }
-        ensures moves { (l : Limits) → Moves (class_of K.Key.Shape K.is_proper l) (reading_of K.said (format_of K.KeyClass)) (format_of K.KeyClass) (is_node (format_of K.KeyClass))
-            (D.state self.old.volume.shelf.disk) (D.state self.new.volume.shelf.disk) session (calling session (Search query) (Looks look) self.old) self.new result
+        ensures moves { MovesAs K.Key.Shape K.is_proper K.said K.KeyClass D.state session
+            (calling session (Search query) (Looks look) self.old) self.new result
             (search_events session query result) }
         ensures device { IsRead D.state self.old self.new }
     {
@@ -75,8 +72,8 @@ where
         }
     }
 
-    // A search's look reads its next page; one that hasn't begun reads the root. `Ok` gives the look where nothing is left to read, and
-    // `Err` is what else came of it.
+    // A search's look reads its next page; one that hasn't begun reads the root. `Ok` gives the look where nothing is
+    // left to read, and `Err` is what else came of it.
     fn read_on(
         &mut self,
         session: u8,
@@ -85,19 +82,19 @@ where
         begun: bool,
     ) -> Result<Look<K::Key>, Outcome<K::Key>>
         requires session { is_session session ≡ true }
-        requires phase { phase_at (session - 1) self.old.sessions.phases ≡ Open (Search query.now) Rests }
+        requires phase { phase_in session self.old ≡ Open (Search query.now) Rests }
         requires works { self.old.sessions.failed ≡ false }
         requires more { 0 < length look.stack.items }
         requires first { IsFirstUnless begun self.old look }
         ensures done { IfOk result (λ after. length after.stack.items ≡ 0) }
         ensures rest { OnOk result (self.new ≡ brought self.old self.new) }
-        ensures goes_on { IfOk result (λ after. (l : Limits) → MovesOn (class_of K.Key.Shape K.is_proper l) (reading_of K.said (format_of K.KeyClass)) (format_of K.KeyClass) (is_node (format_of K.KeyClass))
-            (D.state self.old.volume.shelf.disk) (D.state self.new.volume.shelf.disk) session (calling session (Search query.now) (work_before begun look) self.old)
+        ensures goes_on { IfOk result (λ after. MovesOnAs K.Key.Shape K.is_proper K.said K.KeyClass D.state session
+            (calling session (Search query.now) (work_before begun look) self.old)
             (calling session (Search query.now) (Looks after) self.new)) }
-        ensures comes { IfErr result (SearchComes (is_node (format_of K.KeyClass)) (D.state self.old.volume.shelf.disk) (D.state self.new.volume.shelf.disk) session query.now
+        ensures comes { IfErr result (SearchComesAs K.KeyClass D.state session query.now
             (calling session (Search query.now) (work_before begun look) self.old) self.new) }
-        ensures moves { IfErr result (λ outcome. (l : Limits) → Moves (class_of K.Key.Shape K.is_proper l) (reading_of K.said (format_of K.KeyClass)) (format_of K.KeyClass) (is_node (format_of K.KeyClass))
-            (D.state self.old.volume.shelf.disk) (D.state self.new.volume.shelf.disk) session (calling session (Search query.now) (work_before begun look) self.old) self.new outcome
+        ensures moves { IfErr result (λ outcome. MovesAs K.Key.Shape K.is_proper K.said K.KeyClass D.state session
+            (calling session (Search query.now) (work_before begun look) self.old) self.new outcome
             (search_events session query.now outcome)) }
         ensures device { IsRead D.state self.old self.new }
     {
@@ -120,24 +117,24 @@ where
         }
     }
 
-    // A search's look begins at the root, or goes on, and reads a page. `Ok` gives the look where nothing is left to read, and `Err` is
-    // what else came of it.
+    // A search's look begins at the root, or goes on, and reads a page. `Ok` gives the look where nothing is left to
+    // read, and `Err` is what else came of it.
     fn search_look(
         &mut self,
         session: u8,
         query: &Query<K::Key>,
     ) -> Result<Look<K::Key>, Outcome<K::Key>>
         requires session { is_session session ≡ true }
-        requires searches { (work : declared.Work K.Key) × (phase_at (session - 1) self.old.sessions.phases ≡ Open (Search query.now) work) }
+        requires searches { (work : declared.Work K.Key) × (phase_in session self.old ≡ Open (Search query.now) work) }
         requires works { self.old.sessions.failed ≡ false }
         ensures done { IfOk result (λ look. length look.stack.items ≡ 0) }
-        ensures phase { OnOk result (phase_at (session - 1) self.new.sessions.phases ≡ Open (Search query.now) Rests) }
+        ensures phase { OnOk result (phase_in session self.new ≡ Open (Search query.now) Rests) }
         ensures rest { OnOk result (self.new ≡ calling session (Search query.now) Rests (brought self.old self.new)) }
-        ensures reaches { IfOk result (λ look. (l : Limits) → Reaches (class_of K.Key.Shape K.is_proper l) (reading_of K.said (format_of K.KeyClass)) (format_of K.KeyClass) (is_node (format_of K.KeyClass))
-            D.state session self.old (calling session (Search query.now) (Looks look) self.new)) }
-        ensures comes { IfErr result (SearchComes (is_node (format_of K.KeyClass)) (D.state self.old.volume.shelf.disk) (D.state self.new.volume.shelf.disk) session query.now self.old self.new) }
-        ensures moves { IfErr result (λ outcome. (l : Limits) → Moves (class_of K.Key.Shape K.is_proper l) (reading_of K.said (format_of K.KeyClass)) (format_of K.KeyClass) (is_node (format_of K.KeyClass))
-            (D.state self.old.volume.shelf.disk) (D.state self.new.volume.shelf.disk) session self.old self.new outcome (search_events session query.now outcome)) }
+        ensures reaches { IfOk result (λ look. ReachesAs K.Key.Shape K.is_proper K.said K.KeyClass D.state session
+            self.old (calling session (Search query.now) (Looks look) self.new)) }
+        ensures comes { IfErr result (SearchComesAs K.KeyClass D.state session query.now self.old self.new) }
+        ensures moves { IfErr result (λ outcome. MovesAs K.Key.Shape K.is_proper K.said K.KeyClass D.state session
+            self.old self.new outcome (search_events session query.now outcome)) }
         ensures device { IsRead D.state self.old self.new }
     {
         a_class_is_lawful::<K>();
@@ -160,21 +157,22 @@ where
         }
     }
 
-    /// A move of a session's search, which is open. Each reads one page, the first one the root. The move that reads the last page
-    /// answers: `Replied(Found)` with the live pairs that match and stood while it looked, in order. Until then `More`, and each such
-    /// move leaves less to do. It makes no write and no sync of the device, and takes memory for what it stacks and finds.
+    /// A move of a session's search, which is open. Each reads one page, the first one the root. The move that reads
+    /// the last page answers: `Replied(Found)` with the live pairs that match and stood while it looked, in order.
+    /// Until then `More`, and each such move leaves less to do. It makes no write and no sync of the device, and
+    /// takes memory for what it stacks and finds.
     ///
-    /// `Help` where a page couldn't be brought, with what has to happen first; the search is then at what it was. Refused memory closes
-    /// the call: `Replied(Refused(Memory))`. Where the device failed, or a page didn't read, the engine has failed, and the reply is
-    /// `Device` or `Damaged`.
+    /// `Help` where a page couldn't be brought, with what has to happen first; the search is then at what it was.
+    /// Refused memory closes the call: `Replied(Refused(Memory))`. Where the device failed, or a page didn't read,
+    /// the engine has failed, and the reply is `Device` or `Damaged`.
     pub(crate) fn search(&mut self, session: u8, query: Query<K::Key>) -> Outcome<K::Key>
         requires session { is_session session ≡ true }
-        requires searches { (work : declared.Work K.Key) × (phase_at (session - 1) self.old.sessions.phases ≡ Open (Search query) work) }
+        requires searches { (work : declared.Work K.Key) × (phase_in session self.old ≡ Open (Search query) work) }
         requires works { self.old.sessions.failed ≡ false }
-        ensures comes { SearchComes (is_node (format_of K.KeyClass)) (D.state self.old.volume.shelf.disk) (D.state self.new.volume.shelf.disk) session query self.old self.new result }
+        ensures comes { SearchComesAs K.KeyClass D.state session query self.old self.new result }
         ensures reads { OnlyReads self.old self.new }
-        ensures moves { (l : Limits) → MovesSo (class_of K.Key.Shape K.is_proper l) (reading_of K.said (format_of K.KeyClass)) (format_of K.KeyClass) (is_node (format_of K.KeyClass))
-            (D.state self.old.volume.shelf.disk) (D.state self.new.volume.shelf.disk) session self.old self.new result (AreSearching session query result) }
+        ensures moves { MovesSoAs K.Key.Shape K.is_proper K.said K.KeyClass D.state session self.old self.new result
+            (AreSearching session query result) }
         ensures device { IsRead D.state self.old self.new }
     {
         a_class_is_lawful::<K>();

@@ -3,11 +3,10 @@ ghost use Rattle.std.specs.Prelude.{◌≡◌, ◌≤◌, ◌<◌, ◌+◌, ◌*
 ghost use Rattle.gx_node.specs.declared.items.TheConstants.{MAX_ENTRIES};
 ghost use Rattle.gx_pool.specs.declared.frames.TheConstants.{FRAMES};
 ghost use Rattle.gx_machine.specs.Keys.{keys_of};
-ghost use Rattle.gx_node.specs.Reading.{format_of, is_node};
 ghost use Rattle.gx_recovery.specs.Known.{Limits};
-ghost use Rattle.gx_readings.specs.Classes.{class_of, reading_of};
-ghost use Rattle.gx_store.specs.State.{IsInOrder};
-ghost use Rattle.gx_engine.specs.Starting.{AreFresh, HoldsFrom, Started, TakenUp, WhyNot, rested};
+ghost use Rattle.gx_disk.specs.declared.layout.TheConstants.{MAX_PAGES, PAGES_AT, PAGE_SECTORS};
+ghost use Rattle.gx_engine.specs.Starting.{AreFresh, Started, TakenUp, WhyNot, rested};
+ghost use Rattle.gx_engine.specs.Setting.{HoldsFromAs};
 
 use crate::Engine;
 use crate::checkpoint::Checkpoint;
@@ -140,11 +139,13 @@ impl<D: SectorDisk, K: ReadKeys> Engine<D, K> {
         sessions: Sessions<K::Key, Work<K::Key>>,
         alloc: Global,
     ) -> Self
-        requires inside { (start.now.pages ≤ 65536) × (4168 + 8 * start.now.pages ≤ (D.state disk).sectors) × (start.now.used ≤ start.now.pages) }
+        requires inside { (start.now.pages ≤ MAX_PAGES) × (PAGES_AT + PAGE_SECTORS * start.now.pages
+            ≤ (D.state disk).sectors) × (start.now.used ≤ start.now.pages) }
         requires fanout { (4 ≤ start.now.fanout) × (start.now.fanout ≤ MAX_ENTRIES) }
         requires frames { 16 ≤ start.now.frames }
         requires log { log ≡ rested start.now }
-        requires pool { AreFresh start.now.frames (start.now.bodies - 1) room.pool.frames × (room.pool.test.pages ≡ start.now.pages) }
+        requires pool { AreFresh start.now.frames (start.now.bodies - 1) room.pool.frames
+            × (room.pool.test.pages ≡ start.now.pages) }
         requires key { length room.key.items ≡ K.KEY }
         requires keys { MAX_ENTRIES ≤ length room.keys.items }
         requires sessions { TakenUp (keys_of K.Key.Shape) start.now sessions }
@@ -162,24 +163,25 @@ impl<D: SectorDisk, K: ReadKeys> Engine<D, K> {
         engine
     }
 
-    /// An engine over a device on which this stands, with a checkpoint running. Each transaction that has neither a commit nor an end is held
-    /// by a session, from 1 on, which undoes it; all other sessions are free. It makes no call of the device, and takes all the
-    /// memory that the engine ever takes but for searches' stacks and answers.
+    /// An engine over a device on which this stands, with a checkpoint running. Each transaction that has neither a
+    /// commit nor an end is held by a session, from 1 on, which undoes it; all other sessions are free. It makes no
+    /// call of the device, and takes all the memory that the engine ever takes but for searches' stacks and answers.
     ///
-    /// Refused with `Memory`, and with `Damaged` where what was cut off isn't what a log tells: more than eight transactions, more than
-    /// 512 entries, or an entry twice. The device is handed back.
+    /// Refused with `Memory`, and with `Damaged` where what was cut off isn't what a log tells: more than eight
+    /// transactions, more than 512 entries, or an entry twice. The device is handed back.
     ///
-    /// Where a log that is undamaged, with its pages laid and good for it, stands on an honest device that is settled, the engine
-    /// holds the index that is opened over them.
+    /// Where a log that is undamaged, with its pages laid and good for it, stands on an honest device that is
+    /// settled, the engine holds the index that is opened over them.
     pub fn start(alloc: Global, disk: D, start: Start<K::Key>) -> Result<Self, NotOpened<D>>
         requires bodies { (1 ≤ start.bodies) × (start.bodies ≤ 32) }
-        requires inside { (start.pages ≤ 65536) × (4168 + 8 * start.pages ≤ (D.state disk).sectors) × (start.used ≤ start.pages) }
+        requires inside { (start.pages ≤ MAX_PAGES) × (PAGES_AT + PAGE_SECTORS * start.pages ≤ (D.state disk).sectors)
+            × (start.used ≤ start.pages) }
         requires fanout { (4 ≤ start.fanout) × (start.fanout ≤ MAX_ENTRIES) }
         requires frames { (16 ≤ start.frames) × (start.frames ≤ FRAMES) }
         ensures started { IfOk result (Started (keys_of K.Key.Shape) start disk) }
         ensures refused { IfErr result (λ n. (n.disk ≡ disk) × WhyNot (keys_of K.Key.Shape) start n.why) }
-        ensures holds { (l : Limits) → IfOk result (HoldsFrom (class_of K.Key.Shape K.is_proper l) (reading_of K.said (format_of K.KeyClass)) (format_of K.KeyClass)
-            (is_node (format_of K.KeyClass)) (D.state disk) start) }
+        ensures holds { (l : Limits)
+            → IfOk result (HoldsFromAs K.Key.Shape K.is_proper K.said K.KeyClass D.state l disk start) }
     {
         a_class_is_lawful::<K>();
         let log = match Glog::start(alloc, start.extent, start.bodies) {

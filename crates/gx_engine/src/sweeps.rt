@@ -1,16 +1,11 @@
 //! The sweep of a leaf.
 ghost use Rattle.std.specs.Prelude.{◌≡◌, ◌≤◌, ◌<◌, true, false};
-ghost use Rattle.gx_machine.specs.Keys.{keys_of};
-ghost use Rattle.gx_node.specs.Reading.{format_of, is_node};
-ghost use Rattle.gx_recovery.specs.Known.{Limits};
-ghost use Rattle.gx_readings.specs.Classes.{class_of, reading_of};
-ghost use Rattle.gx_store.specs.State.{IsHeld, IsSteady};
+ghost use Rattle.gx_store.specs.State.{IsHeld};
 ghost use Rattle.gx_storage.specs.Bringing.{has_removable};
-ghost use Rattle.gx_storage.specs.Changes.{known_at};
 ghost use Rattle.gx_engine.specs.Calls.{IsRead};
-ghost use Rattle.gx_engine.specs.Holds.{Leads};
 ghost use Rattle.gx_engine.specs.States.{is_due};
-ghost use Rattle.gx_engine.specs.Sweeping.{SweepComes, SweepsPage, is_held, is_page, node_shown, sweep_events};
+ghost use Rattle.gx_engine.specs.Sweeping.{is_page, sweep_events};
+ghost use Rattle.gx_engine.specs.Setting.{LeadsAs, SweepComesAs, SweepsPageAs, may_sweep};
 
 use crate::Engine;
 use crate::laws::a_class_is_lawful;
@@ -24,7 +19,7 @@ impl<D: SectorDisk, K: ReadKeys> Engine<D, K> {
     // Whether a page that is held is a leaf that has a marked pair that no session claims.
     fn has_removable(&self, page: u32) -> bool
         requires held { IsHeld self.now.volume.shelf page }
-        ensures { result ≡ has_removable (is_held (keys_of K.Key.Shape) self.now) (node_shown (format_of K.KeyClass) (D.state self.now.volume.shelf.disk) page self.now) }
+        ensures { result ≡ may_sweep K.Key.Shape K.KeyClass D.state page self.now }
     {
         let sessions = &self.sessions;
         self.storage
@@ -42,13 +37,12 @@ impl<D: SectorDisk, K: ReadKeys> Engine<D, K> {
     fn take_out(&mut self, page: u32) -> Outcome<K::Key>
         requires from { 1 ≤ page }
         requires to { page ≤ self.old.volume.shelf.used }
-        requires some { has_removable (is_held (keys_of K.Key.Shape) self.old) (node_shown (format_of K.KeyClass) (D.state self.old.volume.shelf.disk) page self.old) ≡ true }
+        requires some { may_sweep K.Key.Shape K.KeyClass D.state page self.old ≡ true }
         requires early { is_due self.old ≡ false }
         requires works { self.old.sessions.failed ≡ false }
-        ensures sweeps { SweepsPage (keys_of K.Key.Shape) (known_at K.Key.Shape K.is_proper) (reading_of K.said (format_of K.KeyClass)) (format_of K.KeyClass) (is_node (format_of K.KeyClass))
-            page (D.state self.old.volume.shelf.disk) (D.state self.new.volume.shelf.disk) self.old self.new result }
-        ensures leads { (l : Limits) → Leads (class_of K.Key.Shape K.is_proper l) (reading_of K.said (format_of K.KeyClass)) (format_of K.KeyClass) (is_node (format_of K.KeyClass))
-            (D.state self.old.volume.shelf.disk) (D.state self.new.volume.shelf.disk) self.old self.new (sweep_events result) }
+        ensures sweeps { SweepsPageAs K.Key.Shape K.is_proper K.said K.KeyClass D.state page self.old self.new result }
+        ensures leads { LeadsAs K.Key.Shape K.is_proper K.said K.KeyClass D.state self.old self.new
+            (sweep_events result) }
         ensures device { IsRead D.state self.old self.new }
     {
         a_class_is_lawful::<K>();
@@ -72,10 +66,9 @@ impl<D: SectorDisk, K: ReadKeys> Engine<D, K> {
     fn sweep_held(&mut self, page: u32) -> Outcome<K::Key>
         requires held { IsHeld self.old.volume.shelf page }
         requires works { self.old.sessions.failed ≡ false }
-        ensures sweeps { SweepsPage (keys_of K.Key.Shape) (known_at K.Key.Shape K.is_proper) (reading_of K.said (format_of K.KeyClass)) (format_of K.KeyClass) (is_node (format_of K.KeyClass))
-            page (D.state self.old.volume.shelf.disk) (D.state self.new.volume.shelf.disk) self.old self.new result }
-        ensures leads { (l : Limits) → Leads (class_of K.Key.Shape K.is_proper l) (reading_of K.said (format_of K.KeyClass)) (format_of K.KeyClass) (is_node (format_of K.KeyClass))
-            (D.state self.old.volume.shelf.disk) (D.state self.new.volume.shelf.disk) self.old self.new (sweep_events result) }
+        ensures sweeps { SweepsPageAs K.Key.Shape K.is_proper K.said K.KeyClass D.state page self.old self.new result }
+        ensures leads { LeadsAs K.Key.Shape K.is_proper K.said K.KeyClass D.state self.old self.new
+            (sweep_events result) }
         ensures device { IsRead D.state self.old self.new }
     {
         if !self.has_removable(page) {
@@ -87,18 +80,19 @@ impl<D: SectorDisk, K: ReadKeys> Engine<D, K> {
         self.take_out(page)
     }
 
-    /// Takes the marked pairs that no session claims out of the leaf on a page, and logs the page: `More`. `Nothing` where no such page
-    /// is in use, before any is brought; or it isn't a leaf, or has no such pair.
+    /// Takes the marked pairs that no session claims out of the leaf on a page, and logs the page: `More`. `Nothing`
+    /// where no such page is in use, before any is brought; or it isn't a leaf, or has no such pair.
     ///
-    /// `Help` where the page couldn't be brought, or something is to be taken and a checkpoint is due, or the log has no room for the
-    /// record, with what has to happen first. Refused with `Failed` by an engine that has failed, with `Device` where the device
-    /// failed, and with `Damaged` where what it has there is no right page; the engine has failed then. Whatever else comes of it,
-    /// pages may have been brought and nothing else has changed. It takes no memory.
+    /// `Help` where the page couldn't be brought, or something is to be taken and a checkpoint is due, or the log has
+    /// no room for the record, with what has to happen first. Refused with `Failed` by an engine that has failed,
+    /// with `Device` where the device failed, and with `Damaged` where what it has there is no right page; the engine
+    /// has failed then. Whatever else comes of it, pages may have been brought and nothing else has changed. It takes
+    /// no memory.
     pub(crate) fn sweep(&mut self, page: u32) -> Outcome<K::Key>
-        ensures sweeps { SweepComes (keys_of K.Key.Shape) (known_at K.Key.Shape K.is_proper) (reading_of K.said (format_of K.KeyClass)) (format_of K.KeyClass) (is_node (format_of K.KeyClass))
-            page (D.state self.old.volume.shelf.disk) (D.state self.new.volume.shelf.disk) self.old self.new self.old.sessions.failed result }
-        ensures leads { (l : Limits) → Leads (class_of K.Key.Shape K.is_proper l) (reading_of K.said (format_of K.KeyClass)) (format_of K.KeyClass) (is_node (format_of K.KeyClass))
-            (D.state self.old.volume.shelf.disk) (D.state self.new.volume.shelf.disk) self.old self.new (sweep_events result) }
+        ensures sweeps { SweepComesAs K.Key.Shape K.is_proper K.said K.KeyClass D.state page self.old self.new
+            self.old.sessions.failed result }
+        ensures leads { LeadsAs K.Key.Shape K.is_proper K.said K.KeyClass D.state self.old self.new
+            (sweep_events result) }
         ensures device { IsRead D.state self.old self.new }
     {
         if self.sessions.has_failed() {

@@ -1,17 +1,11 @@
 //! An abort's moves.
 ghost use Rattle.std.specs.Prelude.{◌≡◌, ◌-◌, ℕ, true, false, None, Some};
-ghost use Rattle.gx_machine.specs.Keys.{keys_of};
 ghost use Rattle.gx_machine.specs.Machine.{is_session};
-ghost use Rattle.gx_node.specs.Reading.{format_of, is_node};
-ghost use Rattle.gx_recovery.specs.Known.{Limits};
-ghost use Rattle.gx_readings.specs.Classes.{class_of, reading_of};
 ghost use Rattle.gx_txn.specs.declared.note.Note as declared;
 ghost use Rattle.gx_phases.specs.Moves.{is_undoing, next_of, transaction_of};
-ghost use Rattle.gx_phases.specs.States.{phase_at};
-ghost use Rattle.gx_storage.specs.Changes.{known_at};
-ghost use Rattle.gx_engine.specs.Moves.{MovesSo};
 ghost use Rattle.gx_engine.specs.States.{is_due};
-ghost use Rattle.gx_engine.specs.Undoing.{AreUndoing, EndComes, IsNext, RestoreComes, Seeking, UndoComes, leaf_of, next_leaf, sought_state, undo_work};
+ghost use Rattle.gx_engine.specs.Undoing.{AreUndoing, EndComes, IsNext, leaf_of, next_leaf, sought_state, undo_work};
+ghost use Rattle.gx_engine.specs.Setting.{MovesSoAs, RestoreComesAs, SeekingAs, UndoComesAs, phase_in};
 
 use crate::Engine;
 use crate::laws::a_class_is_lawful;
@@ -28,7 +22,8 @@ use gx_store::StoreFault;
 use gx_tree::{Sought, StepFault, Wanted};
 use gx_txn::Note;
 
-/// The leaf that an undo seeks its next note's pair in: where that hasn't begun, the one where the transaction last wrote it.
+/// The leaf that an undo seeks its next note's pair in: where that hasn't begun, the one where the transaction last
+/// wrote it.
 fn leaf_of<B: Shape>(note: &Note<B>, phase: &Phase<B, Work<B>>) -> u32
     ensures { result ≡ leaf_of note.now (undo_work phase.now) }
 {
@@ -42,13 +37,13 @@ impl<D: SectorDisk, K: ReadKeys> Engine<D, K> {
     // No note is left: the end of the transaction is logged, and the session is free.
     fn end_undo(&mut self, session: u8) -> Outcome<K::Key>
         requires session { is_session session ≡ true }
-        requires undoes { is_undoing (phase_at (session - 1) self.old.sessions.phases) ≡ true }
+        requires undoes { is_undoing (phase_in session self.old) ≡ true }
         requires works { self.old.sessions.failed ≡ false }
         requires early { is_due self.old ≡ false }
         requires none { next_of session self.old.sessions ≡ None }
         ensures comes { EndComes session self.old self.new result }
-        ensures moves { (l : Limits) → MovesSo (class_of K.Key.Shape K.is_proper l) (reading_of K.said (format_of K.KeyClass)) (format_of K.KeyClass) (is_node (format_of K.KeyClass))
-            (D.state self.old.volume.shelf.disk) (D.state self.new.volume.shelf.disk) session self.old self.new result (AreUndoing session self.old.sessions result) }
+        ensures moves { MovesSoAs K.Key.Shape K.is_proper K.said K.KeyClass D.state session self.old self.new result
+            (AreUndoing session self.old.sessions result) }
     {
         a_class_is_lawful::<K>();
         self.sessions.has_failed();
@@ -67,7 +62,8 @@ impl<D: SectorDisk, K: ReadKeys + Probing> Engine<D, K>
 where
     K::Probe: Drop,
 {
-    // Gives a note's pair, where it is in this leaf, the mark that it had before the session's transaction first wrote it.
+    // Gives a note's pair, where it is in this leaf, the mark that it had before the session's transaction first
+    // wrote it.
     fn set_noted(
         &mut self,
         session: u8,
@@ -76,8 +72,8 @@ where
     ) -> Result<Sought, StepFault<StoreFault>>
         requires session { is_session session ≡ true }
         requires early { is_due self.old ≡ false }
-        ensures sought { Seeking (known_at K.Key.Shape K.is_proper) (reading_of K.said (format_of K.KeyClass)) (format_of K.KeyClass) (is_node (format_of K.KeyClass)) K.is_key (keys_of K.Key.Shape)
-            K.spelling K.KEY (D.state self.old.volume.shelf.disk) (D.state self.new.volume.shelf.disk) self.old.volume self.new.volume (transaction_of session self.old.sessions) note.now leaf result }
+        ensures sought { SeekingAs K.Key.Shape K.is_proper K.said K.KeyClass D.state self.old.volume self.new.volume
+            (transaction_of session self.old.sessions) note.now leaf result }
         ensures only { self.new ≡ record self.old { volume = self.new.volume } }
     {
         let wanted = Wanted::<K>::entry(&note.entry);
@@ -86,12 +82,16 @@ where
             .set_mark(transaction, &wanted, leaf, &note.entry, note.before)
     }
 
-    // What is noted of a seek of the next note's pair: it was in this leaf, and the note is restored; or it is sought further to the right.
+    // What is noted of a seek of the next note's pair: it was in this leaf, and the note is restored; or it is sought
+    // further to the right.
     fn note_sought(&mut self, session: u8, leaf: u32, sought: Sought) -> Outcome<K::Key>
         requires session { is_session session ≡ true }
         ensures outcome { result ≡ Outcome.More }
         ensures noted { (n : declared.Note K.Key) (next : IsNext session self.old.sessions n)
-            → self.new ≡ record self.old { sessions = sought_state session next.restored n leaf sought self.old.sessions } }
+            → self.new ≡ record self.old {
+              sessions = sought_state session next.restored n leaf sought
+                  self.old.sessions;
+            } }
     {
         match sought {
             Sought::Here(_, _) => self.sessions.restored(session, leaf, Work::Rests),
@@ -110,10 +110,10 @@ where
         requires next { IsNext session self.old.sessions note }
         requires leaf { leaf ≡ next_leaf session self.old.sessions note }
         ensures comes { (restored : ℕ) → next_of session self.old.sessions ≡ Some restored
-            → RestoreComes (known_at K.Key.Shape K.is_proper) (reading_of K.said (format_of K.KeyClass)) (format_of K.KeyClass) (is_node (format_of K.KeyClass)) K.is_key (keys_of K.Key.Shape)
-            K.spelling K.KEY (D.state self.old.volume.shelf.disk) (D.state self.new.volume.shelf.disk) session restored note leaf self.old self.new result }
-        ensures moves { (l : Limits) → MovesSo (class_of K.Key.Shape K.is_proper l) (reading_of K.said (format_of K.KeyClass)) (format_of K.KeyClass) (is_node (format_of K.KeyClass))
-            (D.state self.old.volume.shelf.disk) (D.state self.new.volume.shelf.disk) session self.old self.new result (AreUndoing session self.old.sessions result) }
+            → RestoreComesAs K.Key.Shape K.is_proper K.said K.KeyClass D.state session restored note leaf self.old
+            self.new result }
+        ensures moves { MovesSoAs K.Key.Shape K.is_proper K.said K.KeyClass D.state session self.old self.new result
+            (AreUndoing session self.old.sessions result) }
     {
         a_class_is_lawful::<K>();
         a_volume_shows_the_logs_tree::<D, K>();
@@ -130,22 +130,22 @@ where
         }
     }
 
-    /// A move of a session's undo: the next note's entry is given the mark that it had before the transaction first wrote it, and that is
-    /// logged; or its pair is not in its leaf, and is sought further to the right: `More`. Where no note is left the end of the
-    /// transaction is logged and the session is free: `Replied(Aborted)`. It makes no write and no sync of the device and takes no
-    /// memory.
+    /// A move of a session's undo: the next note's entry is given the mark that it had before the transaction first
+    /// wrote it, and that is logged; or its pair is not in its leaf, and is sought further to the right: `More`.
+    /// Where no note is left the end of the transaction is logged and the session is free: `Replied(Aborted)`. It
+    /// makes no write and no sync of the device and takes no memory.
     ///
-    /// `Help(Checkpoint)` exactly where a checkpoint runs or 24 places of the extent are taken, and nothing has changed. `Help` where
-    /// the record doesn't fit the batch that fills or a page couldn't be brought, with what has to happen first; the undo is then at
-    /// what it was. Where the device failed, or a page didn't read, the engine has failed, and the reply is `Device` or `Damaged`.
+    /// `Help(Checkpoint)` exactly where a checkpoint runs or 24 places of the extent are taken, and nothing has
+    /// changed. `Help` where the record doesn't fit the batch that fills or a page couldn't be brought, with what has
+    /// to happen first; the undo is then at what it was. Where the device failed, or a page didn't read, the engine
+    /// has failed, and the reply is `Device` or `Damaged`.
     pub(crate) fn undo(&mut self, session: u8) -> Outcome<K::Key>
         requires session { is_session session ≡ true }
-        requires undoes { is_undoing (phase_at (session - 1) self.old.sessions.phases) ≡ true }
+        requires undoes { is_undoing (phase_in session self.old) ≡ true }
         requires works { self.old.sessions.failed ≡ false }
-        ensures comes { UndoComes (known_at K.Key.Shape K.is_proper) (reading_of K.said (format_of K.KeyClass)) (format_of K.KeyClass) (is_node (format_of K.KeyClass)) K.is_key (keys_of K.Key.Shape)
-            K.spelling K.KEY (D.state self.old.volume.shelf.disk) (D.state self.new.volume.shelf.disk) session self.old self.new result }
-        ensures moves { (l : Limits) → MovesSo (class_of K.Key.Shape K.is_proper l) (reading_of K.said (format_of K.KeyClass)) (format_of K.KeyClass) (is_node (format_of K.KeyClass))
-            (D.state self.old.volume.shelf.disk) (D.state self.new.volume.shelf.disk) session self.old self.new result (AreUndoing session self.old.sessions result) }
+        ensures comes { UndoComesAs K.Key.Shape K.is_proper K.said K.KeyClass D.state session self.old self.new result }
+        ensures moves { MovesSoAs K.Key.Shape K.is_proper K.said K.KeyClass D.state session self.old self.new result
+            (AreUndoing session self.old.sessions result) }
     {
         if self.is_due() {
             return Outcome::Help(Need::Checkpoint);

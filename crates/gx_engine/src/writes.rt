@@ -1,17 +1,12 @@
 //! An insert's and a delete's moves.
 ghost use Rattle.std.specs.Prelude.{◌≡◌, ◌-◌, true, false};
 ghost use Rattle.gx_machine.specs.declared.call.Call.TheVariants.{Delete, Insert};
-ghost use Rattle.gx_machine.specs.Keys.{keys_of};
 ghost use Rattle.gx_machine.specs.Machine.{is_session};
-ghost use Rattle.gx_node.specs.Reading.{format_of, is_node};
-ghost use Rattle.gx_recovery.specs.Known.{Limits};
-ghost use Rattle.gx_readings.specs.Classes.{class_of, reading_of};
 ghost use Rattle.gx_phases.specs.declared.phase.Phase.TheVariants.{Open};
-ghost use Rattle.gx_phases.specs.States.{phase_at};
 ghost use Rattle.gx_engine.specs.Calls.{IsRead};
 ghost use Rattle.gx_engine.specs.declared.work.Work as declared;
-ghost use Rattle.gx_engine.specs.Moves.{MovesSo};
-ghost use Rattle.gx_engine.specs.Writing.{AreWriting, WritesAs};
+ghost use Rattle.gx_engine.specs.Writes.{AreWriting, WritesAs};
+ghost use Rattle.gx_engine.specs.Setting.{MovesSoAs, phase_in};
 
 mod descents;
 mod looks;
@@ -31,23 +26,24 @@ impl<D: SectorDisk, K: ReadKeys + Probing> Engine<D, K>
 where
     K::Probe: Drop,
 {
-    /// A move of a session's insert, which is open. It looks for its pair, a page a move; where that stands, it seeks it and clears its
-    /// mark; and where it stands nowhere, it descends and adds it to a leaf, with as many moves as bounds are widened, full leaves swept
-    /// and full nodes split on the way. Until it is answered `More`, and each such move leaves less to do. `Replied(Inserted)` once the
-    /// pair is there, noted, and its record is logged; `Replied(Refused(Present))` where it is live already. It makes no write and no
-    /// sync of the device.
+    /// A move of a session's insert, which is open. It looks for its pair, a page a move; where that stands, it seeks
+    /// it and clears its mark; and where it stands nowhere, it descends and adds it to a leaf, with as many moves as
+    /// bounds are widened, full leaves swept and full nodes split on the way. Until it is answered `More`, and each
+    /// such move leaves less to do. `Replied(Inserted)` once the pair is there, noted, and its record is logged;
+    /// `Replied(Refused(Present))` where it is live already. It makes no write and no sync of the device.
     ///
-    /// `Help(Checkpoint)` where a move would log while a checkpoint runs or 24 places of the extent are taken; `Help` where its record finds
-    /// no room in the batch that fills, or a page no frame, with what has to happen first. The insert is then at what it was. Refused
-    /// memory, in its look alone, closes the call with `Memory`, and want of pages with `PagesFull`. Where the device failed, or a page
-    /// didn't read, the engine has failed, and the reply is `Device` or `Damaged`.
+    /// `Help(Checkpoint)` where a move would log while a checkpoint runs or 24 places of the extent are taken; `Help`
+    /// where its record finds no room in the batch that fills, or a page no frame, with what has to happen first. The
+    /// insert is then at what it was. Refused memory, in its look alone, closes the call with `Memory`, and want of
+    /// pages with `PagesFull`. Where the device failed, or a page didn't read, the engine has failed, and the reply
+    /// is `Device` or `Damaged`.
     pub(crate) fn insert(&mut self, session: u8, entry: Entry<K::Key>) -> Outcome<K::Key>
         requires session { is_session session ≡ true }
-        requires inserts { (work : declared.Work K.Key) × (phase_at (session - 1) self.old.sessions.phases ≡ Open (Insert entry) work) }
+        requires inserts { (work : declared.Work K.Key) × (phase_in session self.old ≡ Open (Insert entry) work) }
         requires works { self.old.sessions.failed ≡ false }
         ensures comes { WritesAs K.Key.Shape K.KeyClass D.state session (Insert entry) self.old self.new result }
-        ensures moves { (l : Limits) → MovesSo (class_of K.Key.Shape K.is_proper l) (reading_of K.said (format_of K.KeyClass)) (format_of K.KeyClass) (is_node (format_of K.KeyClass))
-            (D.state self.old.volume.shelf.disk) (D.state self.new.volume.shelf.disk) session self.old self.new result (AreWriting session (Insert entry) result) }
+        ensures moves { MovesSoAs K.Key.Shape K.is_proper K.said K.KeyClass D.state session self.old self.new result
+            (AreWriting session (Insert entry) result) }
         ensures device { IsRead D.state self.old self.new }
     {
         self.sessions.has_failed();
@@ -69,15 +65,16 @@ where
         }
     }
 
-    /// A move of a session's delete, which is open: it looks for its pair, seeks it where it stands, and marks it: `Replied(Deleted)`. Where
-    /// it stands nowhere, or is marked, the reply is `Refused(Absent)`. All else is as for an insert; a delete takes no pages.
+    /// A move of a session's delete, which is open: it looks for its pair, seeks it where it stands, and marks it:
+    /// `Replied(Deleted)`. Where it stands nowhere, or is marked, the reply is `Refused(Absent)`. All else is as for
+    /// an insert; a delete takes no pages.
     pub(crate) fn delete(&mut self, session: u8, entry: Entry<K::Key>) -> Outcome<K::Key>
         requires session { is_session session ≡ true }
-        requires deletes { (work : declared.Work K.Key) × (phase_at (session - 1) self.old.sessions.phases ≡ Open (Delete entry) work) }
+        requires deletes { (work : declared.Work K.Key) × (phase_in session self.old ≡ Open (Delete entry) work) }
         requires works { self.old.sessions.failed ≡ false }
         ensures comes { WritesAs K.Key.Shape K.KeyClass D.state session (Delete entry) self.old self.new result }
-        ensures moves { (l : Limits) → MovesSo (class_of K.Key.Shape K.is_proper l) (reading_of K.said (format_of K.KeyClass)) (format_of K.KeyClass) (is_node (format_of K.KeyClass))
-            (D.state self.old.volume.shelf.disk) (D.state self.new.volume.shelf.disk) session self.old self.new result (AreWriting session (Delete entry) result) }
+        ensures moves { MovesSoAs K.Key.Shape K.is_proper K.said K.KeyClass D.state session self.old self.new result
+            (AreWriting session (Delete entry) result) }
         ensures device { IsRead D.state self.old self.new }
     {
         self.sessions.has_failed();

@@ -7,6 +7,7 @@ use Rattle.gx_disk.specs.Device.{Device}
 use Rattle.gx_durable.specs.Beginning.{first_glog}
 use Rattle.gx_format.specs.Formatting.{Formats}
 use Rattle.gx_glog.specs.declared.parameters.Parameters.{Parameters}
+use Rattle.gx_pool.specs.declared.frames.TheConstants.{FRAMES}
 use Rattle.gx_pool.specs.State.{State, IsEmpty}
 use Rattle.gx_phases.specs.States.{fresh_state}
 use Rattle.gx_engine.specs.declared.checkpoint.Checkpoint.TheVariants.{Off}
@@ -35,7 +36,7 @@ pub record IsNew {B D : Type 0} (pages most count : ℕ) (e : Parts B D) : Type 
 -- how many frames an engine may have
 pub record IsFrames (count : ℕ) : Type 0 where
   pub least : 16 ≤ count
-  pub most : count ≤ 4096
+  pub most : count ≤ FRAMES
 
 -- Why there is none: too few frames or too many, which is tested first; or as a format was refused; or memory lacks.
 abbrev pub WhyNone : {D : Type 0} → (D → Device) → Parameters → Contents → ℕ → D → D → Refusal → Type 0

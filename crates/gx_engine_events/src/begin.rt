@@ -25,7 +25,7 @@ use gx_glog::{Extent, Glog};
 use gx_node::MAX_ENTRIES;
 use gx_node::laws::{inners, leaves};
 use gx_phases::Sessions;
-use gx_pool::Pool;
+use gx_pool::{FRAMES, Pool};
 use gx_readings::ReadKeys;
 use gx_storage::Storage;
 use gx_store::laws::a_store_starts;
@@ -36,7 +36,7 @@ use std::alloc::{AllocError, Global};
 fn is_frames(frames: usize) -> bool
     ensures { IsTrue result ↔ IsFrames frames }
 {
-    (16..=4096).contains(&frames)
+    (16..=FRAMES).contains(&frames)
 }
 
 // So many bytes for a key.
@@ -126,12 +126,12 @@ fn begin<D: SectorDisk, K: ReadKeys>(
     }
 }
 
-/// Formats a device for so many pages, with so many entries in a node at most, and begins an engine on it with so many frames: nothing is
-/// committed, no session has a transaction, and no checkpoint runs. What the device held is gone. On an honest device the engine is
-/// seen as the machine with nothing committed.
+/// Formats a device for so many pages, with so many entries in a node at most, and begins an engine on it with so
+/// many frames: nothing is committed, no session has a transaction, and no checkpoint runs. What the device held is
+/// gone. On an honest device the engine is seen as the machine with nothing committed.
 ///
-/// Refused with `BadParameter` where the frames aren't 16 to 4,096, and then no call is made; as `gx_format::format` is refused; and with
-/// `Memory`. The device comes back.
+/// Refused with `BadParameter` where the frames aren't 16 to 4,096, and then no call is made; as `gx_format::format`
+/// is refused; and with `Memory`. The device comes back.
 pub fn new_index<D: SectorDisk, K: ReadKeys>(
     alloc: Global,
     disk: D,
@@ -140,8 +140,10 @@ pub fn new_index<D: SectorDisk, K: ReadKeys>(
     frames: usize,
 ) -> Result<EngineEvents<D, K>, NotOpened<D>>
     ensures new { IfOk result (λ e. IsFrames frames × AreInRange pages most × IsNew pages most frames e) }
-    ensures seen { (D.state disk).honest ≡ true → IfOk result (λ e. Sees K.Key.Shape K.is_proper K.said (format_of K.KeyClass) D.state e fresh_machine) }
-    ensures refused { IfErr result (λ n. WhyNone D.state (record { pages = pages; most = most; class = K.CLASS }) (fresh_root K.spelling K.start_key) frames disk n.disk n.why) }
+    ensures seen { (D.state disk).honest ≡ true
+        → IfOk result (λ e. Sees K.Key.Shape K.is_proper K.said (format_of K.KeyClass) D.state e fresh_machine) }
+    ensures refused { IfErr result (λ n. WhyNone D.state (record { pages = pages; most = most; class = K.CLASS })
+        (fresh_root K.spelling K.start_key) frames disk n.disk n.why) }
 {
     a_class_is_lawful::<K>();
     leaves::<K>();

@@ -28,23 +28,25 @@ impl<D: SectorDisk, K: ReadKeys> EngineEvents<D, K> {
     ghost use Rattle.gx_machine.specs.declared.entry.Entry.{Entry};
     ghost use Rattle.gx_machine.specs.Keys.{keys_of};
     ghost use Rattle.gx_machine.specs.Machine.{Machine};
-    ghost use Rattle.gx_node.specs.Reading.{format_of, is_node};
+    ghost use Rattle.gx_node.specs.Reading.{format_of};
     ghost use Rattle.gx_engine_laws.specs.Engines.{SeenAs};
     ghost use Rattle.gx_recovery.specs.Known.{Limits};
     ghost use Rattle.gx_recovery.specs.Records.{Record};
     ghost use Rattle.gx_index_laws.specs.Classes.{Page};
     ghost use Rattle.gx_index_laws.specs.States as index;
     ghost use Rattle.gx_index_laws.specs.States.{engine_of};
-    ghost use Rattle.gx_readings.specs.Classes.{class_of, reading_of};
-    ghost use Rattle.gx_engine.specs.Holds.{Holds};
+    ghost use Rattle.gx_readings.specs.Classes.{class_of};
+    ghost use Rattle.gx_engine.specs.Helping.{HoldsIndex};
     ghost use Rattle.gx_engine_events.specs.Seen.{Sees};
 
     /// An engine, to be run by events. Where it holds an index that is seen as a machine, it is seen as that machine.
     pub fn new(engine: Engine<D, K>) -> Self
         ensures same { result ≡ engine }
-        ensures seen { (l : Limits) (bodies : List (List (Record (Entry K.Key) (Page K.Key)))) (i : index.State K.Key) (m : Machine K.Key)
-            → Holds (class_of K.Key.Shape K.is_proper l) (reading_of K.said (format_of K.KeyClass)) (format_of K.KeyClass) (is_node (format_of K.KeyClass)) (D.state engine.volume.shelf.disk) engine bodies i
-            → SeenAs (keys_of K.Key.Shape) (engine_of (class_of K.Key.Shape K.is_proper l) i) m → Sees K.Key.Shape K.is_proper K.said (format_of K.KeyClass) D.state result m }
+        ensures seen { (l : Limits) (bodies : List (List (Record (Entry K.Key) (Page K.Key)))) (i : index.State K.Key)
+            (m : Machine K.Key)
+            → HoldsIndex K.Key.Shape K.is_proper K.said K.KeyClass D.state l engine bodies i
+            → SeenAs (keys_of K.Key.Shape) (engine_of (class_of K.Key.Shape K.is_proper l) i) m
+            → Sees K.Key.Shape K.is_proper K.said (format_of K.KeyClass) D.state result m }
     {
         EngineEvents { engine }
     }
@@ -78,20 +80,24 @@ where
 
     ghost sees = { λ e m. Sees K.Key.Shape K.is_proper K.said (format_of K.KeyClass) D.state e m };
 
-    ghost makes = { λ old event outcome new. Makes K.Key.Shape K.is_proper K.said K.KeyClass D.state old event outcome new };
+    ghost makes = { λ old event outcome new.
+        Makes K.Key.Shape K.is_proper K.said K.KeyClass D.state old event outcome new };
 
     ghost uses = { λ e. max 1 e.volume.shelf.used };
 
     ghost dirties = { λ e page. IsLeastWritable e.volume.shelf.frames page };
 
-    /// As the trait says. And at each moment within the event, whatever a crash may leave stands for a set that the machine of before it
-    /// keeps: one from the last durable commit's to the last one's.
+    /// As the trait says. And at each moment within the event, whatever a crash may leave stands for a set that the
+    /// machine of before it keeps: one from the last durable commit's to the last one's.
     fn step(&mut self, event: Event<K::Key>) -> Outcome<K::Key>
-        ensures happens { (m : Machine K.Key) → Sees K.Key.Shape K.is_proper K.said (format_of K.KeyClass) D.state self.old m
-            → (n : Machine K.Key) × Happens (keys_of K.Key.Shape) m event result n × Sees K.Key.Shape K.is_proper K.said (format_of K.KeyClass) D.state self.new n }
+        ensures happens { (m : Machine K.Key)
+            → Sees K.Key.Shape K.is_proper K.said (format_of K.KeyClass) D.state self.old m
+            → (n : Machine K.Key) × Happens (keys_of K.Key.Shape) m event result n
+            × Sees K.Key.Shape K.is_proper K.said (format_of K.KeyClass) D.state self.new n }
         ensures made { Makes K.Key.Shape K.is_proper K.said K.KeyClass D.state self.old event result self.new }
         ensures quiet { is_work event ≡ true → replied result ≡ 0 }
-        ensures leaves { (m : Machine K.Key) → Sees K.Key.Shape K.is_proper K.said (format_of K.KeyClass) D.state self.old m
+        ensures leaves { (m : Machine K.Key)
+            → Sees K.Key.Shape K.is_proper K.said (format_of K.KeyClass) D.state self.old m
             → LeavesSets K.Key.Shape K.is_proper K.said (format_of K.KeyClass) D.state m self.old self.new }
     {
         a_class_is_lawful::<K>();
@@ -100,7 +106,8 @@ where
 
     fn commits(&self) -> u64
         ensures number { result ≡ self.now.sessions.latest }
-        ensures seen { (m : Machine K.Key) → Sees K.Key.Shape K.is_proper K.said (format_of K.KeyClass) D.state self.now m → result ≡ newest m }
+        ensures seen { (m : Machine K.Key)
+            → Sees K.Key.Shape K.is_proper K.said (format_of K.KeyClass) D.state self.now m → result ≡ newest m }
     {
         a_class_is_lawful::<K>();
         self.engine.commits()
@@ -118,5 +125,6 @@ where
         self.engine.dirty()
     }
 
-    ghost one = { λ e m n a b. one_seen _ _ _ _ _ (record { total = K.Key.Ord.total; exact = K.Key.Shape.same }) e m n a b };
+    ghost one = { λ e m n a b.
+        one_seen _ _ _ _ _ (record { total = K.Key.Ord.total; exact = K.Key.Shape.same }) e m n a b };
 }

@@ -22,24 +22,28 @@ use gx_events::Events;
 use gx_readings::ReadKeys;
 use gx_shared::{Book, Run};
 
-/// Whatever a crash may leave of the device of an engine that is seen as a machine stands for a set that this machine keeps: an undamaged
-/// log and its pages, for one set from the last durable commit's to the last one's. So it is whenever the engine is looked at.
+/// Whatever a crash may leave of the device of an engine that is seen as a machine stands for a set that this machine
+/// keeps: an undamaged log and its pages, for one set from the last durable commit's to the last one's. So it is
+/// whenever the engine is looked at.
 pub fn a_crash_leaves_a_set_of_the_machine<D: SectorDisk, K: ReadKeys>()
-    ensures { (e : Parts K.Key D) (m : Machine K.Key) → Sees K.Key.Shape K.is_proper K.said (format_of K.KeyClass) D.state e m
-        → (image : List ℕ) → MayLeave (D.state e.volume.shelf.disk) image
+    ensures { (e : Parts K.Key D) (m : Machine K.Key)
+        → Sees K.Key.Shape K.is_proper K.said (format_of K.KeyClass) D.state e m → (image : List ℕ)
+        → MayLeave (D.state e.volume.shelf.disk) image
         → StandsForSet (class_in K.Key.Shape K.is_proper D.state e) (reading_of K.said (format_of K.KeyClass)) m image }
 {
     a_class_is_lawful::<K>();
 }
 
-/// Within an event, whatever it is, and within a hold of a session's event: at each moment of it, whatever a crash may leave of the device of an engine
-/// that was seen as a machine stands for a set that this machine keeps, one from the last durable commit's to the last one's.
+/// Within an event, whatever it is, and within a hold of a session's event: at each moment of it, whatever a crash
+/// may leave of the device of an engine that was seen as a machine stands for a set that this machine keeps, one from
+/// the last durable commit's to the last one's.
 pub fn a_hold_leaves_sets_of_the_machine<D: SectorDisk, K: ReadKeys>()
     ensures event { (old new : Parts K.Key D) (e : event.Event K.Key) (o : outcome.Outcome K.Key) (m : Machine K.Key)
-        → Sees K.Key.Shape K.is_proper K.said (format_of K.KeyClass) D.state old m → Makes K.Key.Shape K.is_proper K.said K.KeyClass D.state old e o new
+        → Sees K.Key.Shape K.is_proper K.said (format_of K.KeyClass) D.state old m
+        → Makes K.Key.Shape K.is_proper K.said K.KeyClass D.state old e o new
         → LeavesSets K.Key.Shape K.is_proper K.said (format_of K.KeyClass) D.state m old new }
-    ensures hold { (old new : Parts K.Key D × List (Item K.Key)) (e : event.Event K.Key) (o : outcome.Outcome K.Key) (m : Machine K.Key)
-        → Sees K.Key.Shape K.is_proper K.said (format_of K.KeyClass) D.state old.0 m
+    ensures hold { (old new : Parts K.Key D × List (Item K.Key)) (e : event.Event K.Key) (o : outcome.Outcome K.Key)
+        (m : Machine K.Key) → Sees K.Key.Shape K.is_proper K.said (format_of K.KeyClass) D.state old.0 m
         → IsMade (Makes K.Key.Shape K.is_proper K.said K.KeyClass D.state) old e o new
         → LeavesSets K.Key.Shape K.is_proper K.said (format_of K.KeyClass) D.state m old.0 new.0 }
 {
@@ -59,7 +63,8 @@ pub fn in_memory_a_book_stands<K: ReadKeys + Probing, R: Run<K::Key>>(
 )
 where
     K::Probe: Drop,
-    ensures { Stands (keys_of K.Key.Shape) ⟦<EngineEvents<MemDisk, K> as Events<K::Key>>⟧.sees R.starts book.now.0 book.now.1 }
+    ensures { Stands (keys_of K.Key.Shape) ⟦<EngineEvents<MemDisk, K> as Events<K::Key>>⟧.sees R.starts book.now.0
+        book.now.1 }
 {
     in_memory_all_is_granted::<K>();
     book.stands();

@@ -1,8 +1,9 @@
-//! The engine over pages and a log, as an engine of events that sessions in threads can share; and a new one, over a device that is
-//! formatted.
+//! The engine over pages and a log, as an engine of events that sessions in threads can share; and a new one, over a
+//! device that is formatted.
 //!
-//! It is seen as a set machine where it holds an index over its device that is seen as that machine. Which index that is, and how its
-//! log and its pages stand on the device, isn't stored: the indexes that one engine may hold are all seen as one machine.
+//! It is seen as a set machine where it holds an index over its device that is seen as that machine. Which index that
+//! is, and how its log and its pages stand on the device, isn't stored: the indexes that one engine may hold are all
+//! seen as one machine.
 #![tactic(auto)]
 
 mod begin;

@@ -10,7 +10,7 @@ use Rattle.std.proofs.lemmas.List.{length-map}
 use Rattle.std.proofs.lemmas.List.Sums.{sum_by-cons, sum_by-set}
 use Rattle.gx_geom.specs.declared.refusal.Refusal.{Refusal}
 use Rattle.gx_geom.specs.declared.refusal.Refusal.TheVariants as refusal
-use Rattle.gx_machine.specs.declared.limits.TheConstants.{MAX_CLAIMS, MAX_PREDICATES}
+use Rattle.gx_machine.specs.declared.limits.TheConstants.{MAX_CLAIMS, MAX_PREDICATES, SESSIONS}
 use Rattle.gx_machine.specs.declared.entry.Entry.{Entry}
 use Rattle.gx_machine.specs.declared.query.Query.{Query}
 use Rattle.gx_machine.specs.declared.call.Call.{Call}
@@ -278,7 +278,7 @@ module _ {B : Type 0} (k : Keys B) where
     claims_stay_few new (events.EndsUndo s) h few = freed_few s Free new (undoing_there k l old i s h.locks h.notes h.aborts) refl h.is.slots few
     claims_stay_few new (events.RefusesCall s why) h few = fault_few why new h.1 few
     claims_stay_few new events.Fails h few = by_slots new old.slots h.slots few
-    claims_stay_few new (events.Opens number) h few = by_slots new (replicate 8 Free) h.slots (omega arith)
+    claims_stay_few new (events.Opens number) h few = by_slots new (replicate SESSIONS Free) h.slots (omega arith)
     claims_stay_few new events.Works h few = by_slots new old.slots h.slots few
 
 module _ {B : Type 0} (k : Keys B) (l : IsLawful k) where

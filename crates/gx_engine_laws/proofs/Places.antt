@@ -4,6 +4,7 @@ use Rattle.std.specs.Prelude.{if◌then◌else◌, nat_lt, nat_le, slice_set}
 use Rattle.std.specs.List.{slice_index_or}
 use Rattle.std.proofs.lemmas.List.{get_or-replicate, set-get_or}
 use Rattle.std.proofs.Math.Decide.{ℕ_discrete}
+use Rattle.gx_machine.specs.declared.limits.TheConstants.{SESSIONS}
 use Rattle.gx_machine.specs.Machine.{is_session, session_at}
 use Rattle.gx_machine.specs.declared.entry.Entry.{Entry}
 use Rattle.gx_machine.specs.Keys.{Keys}
@@ -68,12 +69,12 @@ module _ {B : Type 0} where
   pub set_itself : (s : ℕ) (slots : List (Slot B)) → is_session s ≡ true → with_slot s (slot_at s slots) slots ≡ slots
   set_itself s slots is = ap (λ (x : Slot B). slice_set slots (s - 1) x) (at_place s slots is) ∙ set-get_or slots (s - 1) Free
 
-  free_by : (a : ℕ) (there : Bool) → is_session a ≡ there → place there a (replicate 8 Free) ≡ Free
-  free_by a true is = let bounds : (0 < a) × (a < 9) = session_bounds a is in get_or-replicate 8 (a - 1) Free Free (omega arith)
+  free_by : (a : ℕ) (there : Bool) → is_session a ≡ there → place there a (replicate SESSIONS Free) ≡ Free
+  free_by a true is = let bounds : (0 < a) × (a < 9) = session_bounds a is in get_or-replicate SESSIONS (a - 1) Free Free (omega arith)
   free_by a false is = refl
 
   -- where all are free, each is
-  pub slot_free : (a : ℕ) → ◌≡◌ {A = Slot B} (slot_at a (replicate 8 Free)) Free
+  pub slot_free : (a : ℕ) → ◌≡◌ {A = Slot B} (slot_at a (replicate SESSIONS Free)) Free
   slot_free a = free_by a (is_session a) refl
 
   pub place_below : (s : ℕ) (slots : List (Slot B)) → is_session s ≡ true → length slots ≡ 8 → s - 1 < length slots

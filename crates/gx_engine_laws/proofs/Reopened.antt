@@ -5,6 +5,7 @@ use Rattle.std.specs.Prelude.{if◌then◌else◌, unwrap_or}
 use Rattle.std.specs.List.{slice_index_or}
 use Rattle.std.proofs.lemmas.List.{length-map}
 use Rattle.std.proofs.lemmas.List.Elements.{All-nil, All-head, All-tail}
+use Rattle.gx_machine.specs.declared.limits.TheConstants.{SESSIONS}
 use Rattle.gx_machine.specs.declared.entry.Entry.{Entry}
 use Rattle.gx_machine.specs.Keys.{Keys, IsLawful}
 use Rattle.gx_machine.specs.Sets.{InOrder, IsSetOf}
@@ -144,7 +145,7 @@ module _ {B : Type 0} (k : Keys B) (l : IsLawful k) where
     pub reopened_as : SeenAs k middle (losing_machine number (machine.set_of number m) losers)
     reopened_as = reopened_seen k number losers (machine.set_of number m) old middle left r
 
-    module _ (new : Engine B) (are : AreLosers k losers) (list : List (Event B)) (run : AreEvents k middle list new) (all : All OfOpening list) (free : new.slots ≡ replicate 8 Free) where
+    module _ (new : Engine B) (are : AreLosers k losers) (list : List (Event B)) (run : AreEvents k middle list new) (all : All OfOpening list) (free : new.slots ≡ replicate SESSIONS Free) where
       -- undone and ended, it is opened
       pub reopened_opens : IsOpened k number old new
       reopened_opens =

@@ -1,6 +1,7 @@
 -- What decides an engine's answers, and the set machine that it is seen as.
 use Rattle.std.specs.Prelude.{ℕ, ◌≡◌, ◌≢◌, ◌+◌, ◌-◌, Bool, false, not, nat_lt, if◌then◌else◌, None, Some, length, map, filter, unwrap_or, replicate, All, List, []}
 use Rattle.std.specs.List.{slice_index_or}
+use Rattle.gx_machine.specs.declared.limits.TheConstants.{SESSIONS}
 use Rattle.gx_machine.specs.declared.entry.Entry.{Entry}
 use Rattle.gx_machine.specs.Keys.{Keys}
 use Rattle.gx_machine.specs.Sets.{has, including_all, InOrder, IsSetOf}
@@ -22,7 +23,7 @@ pub record Engine (B : Type 0) : Type 0 where
 abbrev pub opened_engine : {B : Type 0} → Keys B → ℕ → List (Entry B) → Engine B
 opened_engine k number set = record {
   live = λ e. has k e set;
-  slots = replicate 8 Free;
+  slots = replicate SESSIONS Free;
   older = [];
   oldest = number;
   failed = false;
@@ -30,7 +31,7 @@ opened_engine k number set = record {
 
 -- the machine with this one set and idle sessions
 abbrev pub opened_machine : {B : Type 0} → ℕ → List (Entry B) → Machine B
-opened_machine number set = record { older = []; latest = set; oldest = number; sessions = replicate 8 Idle; failed = false }
+opened_machine number set = record { older = []; latest = set; oldest = number; sessions = replicate SESSIONS Idle; failed = false }
 
 -- the number of the last committed set
 abbrev pub last_number : {B : Type 0} → Engine B → ℕ

@@ -2,6 +2,7 @@
 use Rattle.std.specs.Prelude.{ℕ, ◌≡◌, ◌+◌, ◌-◌, ◌≤◌, Bool, true, false, not, ◌&&◌, if◌then◌else◌, None, Some, replicate, drop, List, [], ◌∷◌, ◌++◌}
 use Rattle.gx_geom.specs.declared.refusal.Refusal.{Refusal}
 use Rattle.gx_geom.specs.declared.refusal.Refusal.TheVariants as refusal
+use Rattle.gx_machine.specs.declared.limits.TheConstants.{SESSIONS}
 use Rattle.gx_machine.specs.declared.entry.Entry.{Entry}
 use Rattle.gx_machine.specs.declared.query.Query.{Query}
 use Rattle.gx_machine.specs.declared.call.Call.{Call}
@@ -121,7 +122,7 @@ pub record IsOpened {B : Type 0} (k : Keys B) (number : ℕ) (old new : Engine B
   pub rises : old.oldest ≤ number
   pub sealed : number ≤ last_number old
   pub live : (e : Entry B) → new.live e ≡ kept k number old e
-  pub slots : new.slots ≡ replicate 8 Free
+  pub slots : new.slots ≡ replicate SESSIONS Free
   pub older : new.older ≡ []
   pub oldest : new.oldest ≡ number
   pub failed : new.failed ≡ false

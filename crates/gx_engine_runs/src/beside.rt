@@ -54,7 +54,8 @@ where
     counts: Counts,
 }
 
-/// What is left of a run: the device, what is to be committed, and the numbers of the last commits that were sealed and acknowledged.
+/// What is left of a run: the device, what is to be committed, and the numbers of the last commits that were sealed and
+/// acknowledged.
 #[derive(Drop)]
 pub(crate) struct Ended {
     pub(crate) disk: MemDisk,

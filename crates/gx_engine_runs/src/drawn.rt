@@ -111,7 +111,8 @@ where
     }
 }
 
-/// A session's open call goes on to its end, with the events that help it. Answers whether no call of the device failed.
+/// A session's open call goes on to its end, with the events that help it. Answers whether no call of the device
+/// failed.
 pub(crate) fn finish<K: Drawn>(beside: &mut Beside<K>, session: u8) -> Result<bool, RunFault>
 where
     K::Probe: Drop,

@@ -146,7 +146,8 @@ where
     matches!(beside.engine.step(event), Outcome::Refused(Refusal::Failed))
 }
 
-/// Whether a session's ask is answered with `Failed`, and so is its move where a call is open, which is else refused with `NoCall`.
+/// Whether a session's ask is answered with `Failed`, and so is its move where a call is open, which is else refused
+/// with `NoCall`.
 fn is_refused_to<K: Drawn>(beside: &mut Beside<K>, session: u8) -> bool
 where
     K::Probe: Drop,

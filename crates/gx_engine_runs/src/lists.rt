@@ -160,8 +160,8 @@ fn print_page<R: Print>(rt: &R, engine: &mut Listed, page: u32) -> Result<(), Ru
     Ok(())
 }
 
-/// Makes what a line says: an event; behind `call`, a call from its ask to its reply, and behind `rest`, the rest of an open one, both
-/// with the number of events; or a page is printed.
+/// Makes what a line says: an event; behind `call`, a call from its ask to its reply, and behind `rest`, the rest of an
+/// open one, both with the number of events; or a page is printed.
 pub(crate) fn take<R: Print>(rt: &R, engine: &mut Listed, line: &str) -> Result<(), RunFault> {
     if let Some(call) = line.strip_prefix("call ") {
         let (session, first) = asked(call)?;

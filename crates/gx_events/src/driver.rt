@@ -37,8 +37,9 @@ impl Driver {
         Driver { session }
     }
 
-    /// What comes next after the last outcome: where the call or the event was given a reply or a refusal, the call ends with
-    /// exactly that; where help is asked for, the event that was named; else the session's call goes on. Takes no memory.
+    /// What comes next after the last outcome: where the call or the event was given a reply or a refusal, the call
+    /// ends with exactly that; where help is asked for, the event that was named;
+    /// else the session's call goes on. Takes no memory.
     pub fn next<B>(&mut self, last: Outcome<B>) -> Next<B>
         ensures next { result ≡ next_of self.old last }
         ensures same { self.new ≡ self.old }

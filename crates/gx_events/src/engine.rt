@@ -12,12 +12,13 @@ use gx_geom::Shape;
 
 /// An engine that works in events.
 ///
-/// Contracts see it as set machines: whatever machine it is seen as before an event, it is seen afterwards as the machine
-/// that the event and its outcome lead to. That machine says what was committed, under which numbers, up to which number
-/// commits are durable, what each session has open, and whether a fault has ended the engine.
+/// Contracts see it as set machines: whatever machine it is seen as before an event, it is seen afterwards as the
+/// machine that the event and its outcome lead to. That machine says what was committed, under which numbers, up to
+/// which number commits are durable, what each session has open, and whether a fault has ended the engine.
 pub trait Events<B: Shape> {
-    /// What has to be granted before anything follows from the machine that an engine is seen as: what no program can find out, as
-    /// that the devices of an engine over pages keep what they are told. An engine in memory needs nothing.
+    /// What has to be granted before anything follows from the machine that an engine is seen as: what no program can
+    /// find out, as that the devices of an engine over pages keep what they are told.
+    /// An engine in memory needs nothing.
     ghost granted: { Type 0 };
 
     /// The machine that the engine is seen as.
@@ -32,18 +33,21 @@ pub trait Events<B: Shape> {
     /// Which page may be written now, if there is one.
     ghost dirties: { Self → Option ℕ → Type 0 };
 
-    /// Runs one event. Which outcomes may come of it, and what each leaves, is `Happens`: a reply at once of an ask is the
-    /// machine's, or the ask is refused with `Failed` by an engine that a fault has ended, or a Begin with `HistoryFull`. A
-    /// move of a number that is no session, and then of one with no call open, is refused with `BadSession` and `NoCall`; else
-    /// it answers as the machine does, closes the call with `PagesFull` or `Memory`, is refused for a fault, seals the
-    /// session's commit, or changes nothing that the machine shows. The other events change nothing that it shows, but
-    /// commits may become durable by a step of the log or of a checkpoint, and a fault may end the engine; they never reply.
+    /// Runs one event. Which outcomes may come of it, and what each leaves, is `Happens`: a reply at once of an ask is
+    /// the machine's, or the ask is refused with `Failed` by an engine that a fault has ended, or a Begin with
+    /// `HistoryFull`. A move of a number that is no session, and then of one with no call open, is refused with
+    /// `BadSession` and `NoCall`; else it answers as the machine does, closes the call with `PagesFull` or `Memory`, is
+    /// refused for a fault, seals the session's commit, or changes nothing that the machine shows. The other events
+    /// change nothing that it shows, but commits may become durable by a step of the log or of a checkpoint, and a
+    /// fault may end the engine; they never reply.
     fn step(&mut self, event: Event<B>) -> Outcome<B>
-        ensures happens { (m : Machine B) → sees self.old m → (n : Machine B) × Happens (keys_of B.Shape) m event result n × sees self.new n }
+        ensures happens { (m : Machine B) → sees self.old m → (n : Machine B)
+            × Happens (keys_of B.Shape) m event result n × sees self.new n }
         ensures made { makes self.old event result self.new }
         ensures quiet { is_work event ≡ true → replied result ≡ 0 };
 
-    /// The number of the last commit that was sealed. Where it rises in a move, that move has sealed the session's commit.
+    /// The number of the last commit that was sealed.
+    /// Where it rises in a move, that move has sealed the session's commit.
     fn commits(&self) -> u64
         ensures { (m : Machine B) → sees self.now m → result ≡ newest m };
 

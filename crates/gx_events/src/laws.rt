@@ -18,10 +18,11 @@ ghost use Rattle.gx_events.specs.Happens.{Happens};
 ghost use Rattle.gx_events.specs.Items.{items_of};
 ghost use Rattle.gx_events.specs.Replay.{ReplaysAs};
 
-/// A record that replays as the engine's machine still does so after any event, with what that event adds: so a list of events
-/// in any order leaves a record that replays. The empty record replays as the machine that it begins at.
+/// A record that replays as the engine's machine still does so after any event, with what that event adds: so a list of
+/// events in any order leaves a record that replays. The empty record replays as the machine that it begins at.
 pub fn records_replay<B>()
-    ensures event { (k : Keys B) (start old new : Machine B) (items : List (Item B)) (event : Event B) (outcome : Outcome B)
+    ensures event { (k : Keys B) (start old new : Machine B) (items : List (Item B))
+        (event : Event B) (outcome : Outcome B)
         → ReplaysAs k start items old → Happens k old event outcome new
         → ReplaysAs k start (items ++ items_of (newest old) (newest new) event outcome) new }
     ensures empty { (k : Keys B) (start : Machine B) → ReplaysAs k start [] start }
@@ -33,9 +34,10 @@ pub fn what_is_found_may_be_given_up<B>()
         → Happens k old (Move s) (Replied (Found entries)) new → Happens k old (Move s) (Replied (Refused Memory)) new }
 {}
 
-/// What an event of an engine with its outcome is, by the events that the engine's laws know, it does to the machine that the engine is
-/// seen as.
+/// What an event of an engine with its outcome is, by the events that the engine's laws know,
+/// it does to the machine that the engine is seen as.
 pub fn an_engines_events_happen<B>()
-    ensures { (k : Keys B) → IsLawful k → (old new : Engine B) → IsSound k old → (event : Event B) (outcome : Outcome B) (events : List (laws.Event B))
+    ensures { (k : Keys B) → IsLawful k → (old new : Engine B) → IsSound k old
+        → (event : Event B) (outcome : Outcome B) (events : List (laws.Event B))
         → AreOf old event outcome events → AreEvents k old events new → Leads k old event outcome new }
 {}

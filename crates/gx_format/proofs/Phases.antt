@@ -5,6 +5,7 @@ use Rattle.std.proofs.lemmas.Bool.{true≢false}
 use Rattle.std.proofs.lemmas.Bool.Decides.{nat_tests}
 use Rattle.std.proofs.lemmas.List.{take-replicate, drop-replicate}
 use Rattle.gx_geom.specs.declared.refusal.Refusal.{Refusal}
+use Rattle.gx_disk.specs.declared.layout.TheConstants.{MIN_SECTORS, PAGES_AT, PAGE_SECTORS}
 use Rattle.gx_disk.specs.Device.{Device, MayLeave, IsImage, IsSettled}
 use Rattle.gx_disk.specs.Moments.{Leaves}
 use Rattle.gx_disk.specs.Sectors.{sector_of, span_of, IsOutside}
@@ -13,10 +14,13 @@ use Rattle.gx_disk.proofs.Spans.{image_span}
 use Rattle.gx_page.specs.Contents.{Contents}
 use Rattle.gx_page.specs.Edits.{blank}
 use Rattle.gx_page.specs.Format.{image_of}
+use Rattle.gx_glog.specs.declared.extent.TheConstants.{BODIES_A, BODY_SECTORS, GATES_B, PLACES}
+use Rattle.gx_glog.specs.declared.turn.TheConstants.{GATES_SIZE}
 use Rattle.gx_glog.specs.First.{open_gate_bytes, closed_gates_bytes, selector_bytes, first_body_bytes}
 use Rattle.gx_glog.specs.Parameters.{parameters_bytes}
 use Rattle.gx_glog.specs.declared.parameters.Parameters.{Parameters}
 use Rattle.gx_glog.specs.declared.extent.Extent.TheVariants.{A}
+use Rattle.gx_format.specs.declared.fresh.TheConstants.{PAGE_2}
 use Rattle.gx_format.specs.Calls.{Call, Write, Sync, Makes, HasRun, Runs}
 use Rattle.gx_format.specs.Fresh.{magic_bytes, IsLaid, IsFresh}
 use Rattle.gx_format.specs.Formatting.{clearing, laying, naming, formatting, IsOldBeside, IsUnnamed, IsUnnamedOrFresh, IsOldOrFresh, IsLaidDown, IsCleared}
@@ -93,7 +97,7 @@ cleared_shows : (d : Device) → IsCleared d → (image : List ℕ) → MayLeave
 cleared_shows d was image may = no_magic image (may.settled 0 was.settled ∙ was.zeros)
 
 -- the bytes that are read are those of a fresh index
-laid_of : (parameters : Parameters) (root : Contents) (seen : List ℕ) → 2134016 ≤ length seen
+laid_of : (parameters : Parameters) (root : Contents) (seen : List ℕ) → 512 * PAGES_AT ≤ length seen
     → AreRead (parameters_bytes parameters ++ replicate 504 0) (selector_bytes A) closed_gates_bytes (image_of root) (image_of (blank 0 2)) first_body_bytes open_gate_bytes seen
     → IsLaid parameters root seen
 unfolding span_of sector_of
@@ -103,10 +107,10 @@ laid_of parameters root seen size read = record {
     size = size;
     selector = read.selector_is;
     opened = read.opened;
-    closed = λ s from below. zero_sector seen 9 31 s (read.later ∙ ap (take 15872) (drop-replicate 512 16384 0) ∙ take-replicate 15872 15872 0 (omega arith)) from (omega (arith, below));
+    closed = λ s from below. zero_sector seen 9 31 s (read.later ∙ ap (take 15872) (drop-replicate 512 GATES_SIZE 0) ∙ take-replicate 15872 15872 0 (omega arith)) from (omega (arith, below));
     body = read.body_is;
   };
-  closed = λ s from below. zero_sector seen 2088 32 s read.others from (omega (arith, below));
+  closed = λ s from below. zero_sector seen GATES_B PLACES s read.others from (omega (arith, below));
   page_1 = read.page_1;
   page_2 = read.page_2;
 }
@@ -123,11 +127,11 @@ laid_image parameters root seen pending image settled may laid = record {
     selector = may.settled 2 (settled 2 (omega arith)) ∙ laid.log.selector;
     opened = may.settled 8 (settled 8 (omega arith)) ∙ laid.log.opened;
     closed = λ s from below. may.settled s (settled s (omega (arith, from))) ∙ laid.log.closed s from below;
-    body = image_span 64 40 seen pending image may (λ s within. settled s (omega (arith, within.from))) ∙ laid.log.body;
+    body = image_span BODY_SECTORS BODIES_A seen pending image may (λ s within. settled s (omega (arith, within.from))) ∙ laid.log.body;
   };
   closed = λ s from below. may.settled s (settled s (omega (arith, from))) ∙ laid.closed s from below;
-  page_1 = image_span 8 4168 seen pending image may (λ s within. settled s (omega (arith, within.from))) ∙ laid.page_1;
-  page_2 = image_span 8 4176 seen pending image may (λ s within. settled s (omega (arith, within.from))) ∙ laid.page_2;
+  page_1 = image_span PAGE_SECTORS PAGES_AT seen pending image may (λ s within. settled s (omega (arith, within.from))) ∙ laid.page_1;
+  page_2 = image_span PAGE_SECTORS PAGE_2 seen pending image may (λ s within. settled s (omega (arith, within.from))) ∙ laid.page_2;
 }
 
 laid_kept : (parameters : Parameters) (root : Contents) (call : Call) (d e : Device) (result : Result (Unit {0}) Refusal) → is_first call ≡ true → d.honest ≡ true
@@ -144,7 +148,7 @@ laid_shows : (parameters : Parameters) (root : Contents) (d : Device) → IsLaid
 laid_shows parameters root d was image may magic = record { magic = magic; laid = laid_image parameters root d.seen d.pending image was.settled may was.laid }
 
 module _ {D : Type 0} (state : D → Device) (whole : (d : D) → (state d).honest ≡ true → length (state d).seen ≡ 512 * (state d).sectors) where
-  laid_down : (parameters : Parameters) (root : Contents) (old new : D) → (state old).honest ≡ true → 4232 ≤ (state old).sectors → HasRun state (laying parameters root) old new
+  laid_down : (parameters : Parameters) (root : Contents) (old new : D) → (state old).honest ≡ true → MIN_SECTORS ≤ (state old).sectors → HasRun state (laying parameters root) old new
       → IsLaidDown parameters root (state new)
   laid_down parameters root old new honest room run =
       let on = run_honest state whole (laying parameters root) old new run in
@@ -156,7 +160,7 @@ module _ {D : Type 0} (state : D → Device) (whole : (d : D) → (state d).hone
             are_settled state whole (parameters_bytes parameters ++ replicate 504 0) (selector_bytes A) closed_gates_bytes (image_of root) (image_of (blank 0 2)) first_body_bytes open_gate_bytes old new honest room run s;
       }
 
-  pub laying_leaves : (parameters : Parameters) (root : Contents) (old new : D) (result : Result (Unit {0}) Refusal) → (state old).honest ≡ true → 4232 ≤ (state old).sectors
+  pub laying_leaves : (parameters : Parameters) (root : Contents) (old new : D) (result : Result (Unit {0}) Refusal) → (state old).honest ≡ true → MIN_SECTORS ≤ (state old).sectors
       → IsCleared (state old) → Runs state (laying parameters root) old new result → Leaves IsUnnamed (state old) (state new) × (result ≡ Ok tt → IsLaidDown parameters root (state new))
   laying_leaves parameters root old new result honest room was runs = (
     (keeps state (spares_one 0 1) IsCleared IsUnnamed cleared_kept cleared_shows (laying parameters root) old new result refl honest was runs).0,
@@ -193,7 +197,7 @@ module _ {D : Type 0} (state : D → Device) (whole : (d : D) → (state d).hone
   weaker_last parameters root old a b = leaves_weaker (IsUnnamedOrFresh parameters root) (IsOldOrFresh (state old) parameters root) (state a) (state b) (λ image is magic. inr (is magic))
 
   -- all is laid down, and then the magic written
-  named : (parameters : Parameters) (root : Contents) (old a b new : D) (result : Result (Unit {0}) Refusal) → (state a).honest ≡ true → 4232 ≤ (state a).sectors → IsCleared (state a)
+  named : (parameters : Parameters) (root : Contents) (old a b new : D) (result : Result (Unit {0}) Refusal) → (state a).honest ≡ true → MIN_SECTORS ≤ (state a).sectors → IsCleared (state a)
       → HasRun state (laying parameters root) a b → Runs state naming b new result
       → Leaves (IsOldOrFresh (state old) parameters root) (state a) (state new) × (result ≡ Ok tt → IsFresh parameters root (state new).seen × IsSettled (state new))
   named parameters root old a b new result honest room was laid runs =
@@ -205,7 +209,7 @@ module _ {D : Type 0} (state : D → Device) (whole : (d : D) → (state d).hone
       )
 
   -- what comes behind the first phase
-  behind : (parameters : Parameters) (root : Contents) (old a new : D) (result : Result (Unit {0}) Refusal) → (state a).honest ≡ true → 4232 ≤ (state a).sectors → IsCleared (state a)
+  behind : (parameters : Parameters) (root : Contents) (old a new : D) (result : Result (Unit {0}) Refusal) → (state a).honest ≡ true → MIN_SECTORS ≤ (state a).sectors → IsCleared (state a)
       → Runs state (laying parameters root ++ naming) a new result
       → Leaves (IsOldOrFresh (state old) parameters root) (state a) (state new) × (result ≡ Ok tt → IsFresh parameters root (state new).seen × IsSettled (state new))
   behind parameters root old a new (Ok x) honest room was run =
@@ -217,7 +221,7 @@ module _ {D : Type 0} (state : D → Device) (whole : (d : D) → (state d).hone
       (failed_split state (laying parameters root) naming a new fails.1)
 
   -- the first phase succeeded, and the others went on
-  ended : (parameters : Parameters) (root : Contents) (old a new : D) (result : Result (Unit {0}) Refusal) → (state old).honest ≡ true → 4232 ≤ (state old).sectors
+  ended : (parameters : Parameters) (root : Contents) (old a new : D) (result : Result (Unit {0}) Refusal) → (state old).honest ≡ true → MIN_SECTORS ≤ (state old).sectors
       → HasRun state clearing old a → Runs state (laying parameters root ++ naming) a new result
       → Leaves (IsOldOrFresh (state old) parameters root) (state old) (state new) × (result ≡ Ok tt → IsFresh parameters root (state new).seen × IsSettled (state new))
   ended parameters root old a new result honest room run runs =
@@ -226,7 +230,7 @@ module _ {D : Type 0} (state : D → Device) (whole : (d : D) → (state d).hone
       let rest = behind parameters root old a new result (on.0 ∙ honest) (omega (arith, on.1, room)) (one.1 refl) runs in
       (leaves_joined (IsOldOrFresh (state old) parameters root) (state old) (state a) (state new) (weaker_first parameters root old a one.0) rest.0, rest.1)
 
-  pub formatting_leaves : (parameters : Parameters) (root : Contents) (old new : D) (result : Result (Unit {0}) Refusal) → (state old).honest ≡ true → 4232 ≤ (state old).sectors
+  pub formatting_leaves : (parameters : Parameters) (root : Contents) (old new : D) (result : Result (Unit {0}) Refusal) → (state old).honest ≡ true → MIN_SECTORS ≤ (state old).sectors
       → Runs state (formatting parameters root) old new result
       → Leaves (IsOldOrFresh (state old) parameters root) (state old) (state new) × (result ≡ Ok tt → IsFresh parameters root (state new).seen × IsSettled (state new))
   formatting_leaves parameters root old new (Ok x) honest room run =

@@ -1,16 +1,21 @@
 -- The calls that lay an index down, in three phases, and what a crash within each may leave.
 use Rattle.std.specs.Prelude.{◌≡◌, ◌⊎◌, ℕ, ◌+◌, ◌*◌, ◌≤◌, ◌<◌, false, List, [], ◌∷◌, ◌++◌, length, replicate, Result, Ok, Err}
+use Rattle.gx_node.specs.declared.items.TheConstants.{MAX_ENTRIES}
 use Rattle.gx_geom.specs.declared.refusal.Refusal.{Refusal}
 use Rattle.gx_geom.specs.declared.refusal.Refusal.TheVariants.{BadParameter, TooSmall, Memory, Device}
+use Rattle.gx_disk.specs.declared.layout.TheConstants.{MAX_PAGES, PAGES_AT, PAGE_SECTORS, MIN_PAGES}
 use Rattle.gx_disk.specs.Device as disk
 use Rattle.gx_disk.specs.Sectors.{sector_of}
 use Rattle.gx_page.specs.Contents.{Contents}
 use Rattle.gx_page.specs.Edits.{blank}
 use Rattle.gx_page.specs.Format.{image_of}
+use Rattle.gx_glog.specs.declared.parameters.TheConstants.{PARAMETERS}
+use Rattle.gx_glog.specs.declared.extent.TheConstants.{BODIES_A, BODY_SECTORS, GATES_A, GATES_B, PLACES, SELECTOR}
 use Rattle.gx_glog.specs.First.{open_gate_bytes, closed_gates_bytes, selector_bytes, first_body_bytes}
 use Rattle.gx_glog.specs.Parameters.{parameters_bytes}
 use Rattle.gx_glog.specs.declared.parameters.Parameters.{Parameters}
 use Rattle.gx_glog.specs.declared.extent.Extent.TheVariants.{A}
+use Rattle.gx_format.specs.declared.fresh.TheConstants.{MIN_FANOUT, PAGE_2}
 use Rattle.gx_format.specs.Calls.{Call, Write, Sync, HasRun, HasFailed}
 use Rattle.gx_format.specs.Fresh.{magic_bytes, HasMagic, IsLaid, IsFresh}
 
@@ -21,9 +26,9 @@ clearing = Write 0 1 (replicate 512 0) ∷ Sync ∷ []
 -- all but the magic is written, and settled before the first gate opens
 abbrev pub laying : Parameters → Contents → List Call
 laying parameters root =
-    Write 1 1 (parameters_bytes parameters ++ replicate 504 0) ∷ Write 2 1 (selector_bytes A) ∷ Write 8 32 closed_gates_bytes ∷ Write 2088 32 closed_gates_bytes
-    ∷ Write 4168 8 (image_of root) ∷ Write 4176 8 (image_of (blank 0 2)) ∷ Write 40 64 first_body_bytes ∷ Sync
-    ∷ Write 8 1 open_gate_bytes ∷ Sync ∷ []
+    Write PARAMETERS 1 (parameters_bytes parameters ++ replicate 504 0) ∷ Write SELECTOR 1 (selector_bytes A) ∷ Write GATES_A PLACES closed_gates_bytes ∷ Write GATES_B PLACES closed_gates_bytes
+    ∷ Write PAGES_AT PAGE_SECTORS (image_of root) ∷ Write PAGE_2 PAGE_SECTORS (image_of (blank 0 2)) ∷ Write BODIES_A BODY_SECTORS first_body_bytes ∷ Sync
+    ∷ Write GATES_A 1 open_gate_bytes ∷ Sync ∷ []
 
 -- the magic is written last
 abbrev pub naming : List Call
@@ -62,14 +67,14 @@ pub record IsCleared (d : disk.Device) : Type 0 where
 
 -- what an index may be formatted for
 pub record AreInRange (pages most : ℕ) : Type 0 where
-  pub least_pages : 8 ≤ pages
-  pub most_pages : pages ≤ 65536
-  pub least_entries : 4 ≤ most
-  pub most_entries : most ≤ 100
+  pub least_pages : MIN_PAGES ≤ pages
+  pub most_pages : pages ≤ MAX_PAGES
+  pub least_entries : MIN_FANOUT ≤ most
+  pub most_entries : most ≤ MAX_ENTRIES
 
 -- how many sectors an index of so many pages takes
 abbrev pub sectors_of : ℕ → ℕ
-sectors_of pages = 4168 + 8 * pages
+sectors_of pages = PAGES_AT + PAGE_SECTORS * pages
 
 -- What a format comes to. Each refusal has its one cause, tested in this order, and only the device's own refuses what was begun.
 abbrev pub Formats : {D : Type 0} → (D → disk.Device) → Parameters → Contents → D → D → Result (Unit {0}) Refusal → Type 0

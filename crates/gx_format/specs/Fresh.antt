@@ -1,9 +1,13 @@
 -- The bytes of a fresh index on a device.
 use Rattle.std.specs.Prelude.{◌≡◌, ℕ, ◌≤◌, ◌<◌, List, [], ◌∷◌, ◌++◌, take, replicate}
+use Rattle.gx_format.specs.declared.fresh.TheConstants.{PAGE_2}
+use Rattle.gx_disk.specs.declared.layout.TheConstants.{PAGES_AT}
 use Rattle.gx_disk.specs.Sectors.{sector_of, span_of}
+use Rattle.gx_page.specs.declared.block.TheConstants.{PAGE_SIZE}
 use Rattle.gx_page.specs.Contents.{Contents}
 use Rattle.gx_page.specs.Edits.{blank}
 use Rattle.gx_page.specs.Format.{image_of}
+use Rattle.gx_glog.specs.declared.extent.TheConstants.{BODIES_B, GATES_B}
 use Rattle.gx_glog.specs.First.{HasFirstLog}
 use Rattle.gx_glog.specs.Parameters.{parameters_bytes}
 use Rattle.gx_glog.specs.declared.parameters.Parameters.{Parameters}
@@ -27,9 +31,9 @@ fresh_root {B} spelling start =
 pub record IsLaid (parameters : Parameters) (root : Contents) (seen : List ℕ) : Type 0 where
   pub told : sector_of seen 1 ≡ parameters_bytes parameters ++ replicate 504 0
   pub log : HasFirstLog seen
-  pub closed : (s : ℕ) → 2088 ≤ s → s < 2120 → sector_of seen s ≡ replicate 512 0
-  pub page_1 : span_of seen 4168 4096 ≡ image_of root
-  pub page_2 : span_of seen 4176 4096 ≡ image_of (blank 0 2)
+  pub closed : (s : ℕ) → GATES_B ≤ s → s < BODIES_B → sector_of seen s ≡ replicate 512 0
+  pub page_1 : span_of seen PAGES_AT PAGE_SIZE ≡ image_of root
+  pub page_2 : span_of seen PAGE_2 PAGE_SIZE ≡ image_of (blank 0 2)
 
 -- the bytes are a fresh index
 pub record IsFresh (parameters : Parameters) (root : Contents) (seen : List ℕ) : Type 0 where

@@ -1,6 +1,7 @@
 -- The laws of a format.
 use Rattle.std.specs.Prelude.{◌≡◌, ◌≤◌, true, Result, Ok}
 use Rattle.gx_geom.specs.declared.refusal.Refusal.{Refusal}
+use Rattle.gx_disk.specs.declared.layout.TheConstants.{MIN_SECTORS}
 use Rattle.gx_disk.specs.Device as disk
 use Rattle.gx_disk.specs.Device.{IsSettled}
 use Rattle.gx_disk.specs.Moments.{Leaves}
@@ -18,7 +19,7 @@ ClearingLeavesOld D state = (old new : D) (result : Result (Unit {0}) Refusal) �
 -- from then on until all is laid down no image is an index
 abbrev pub LayingLeavesNone : (D : Type 0) → (D → disk.Device) → Type 0
 LayingLeavesNone D state = (parameters : Parameters) (root : Contents) (old new : D) (result : Result (Unit {0}) Refusal) → (state old).honest ≡ true
-    → 4232 ≤ (state old).sectors → IsCleared (state old) → Runs state (laying parameters root) old new result
+    → MIN_SECTORS ≤ (state old).sectors → IsCleared (state old) → Runs state (laying parameters root) old new result
     → Leaves IsUnnamed (state old) (state new) × (result ≡ Ok tt → IsLaidDown parameters root (state new))
 
 -- in the last write and its sync each image is no index, or the fresh one
@@ -30,5 +31,5 @@ NamingLeavesFresh D state = (parameters : Parameters) (root : Contents) (old new
 -- so at each moment of a format, and where a call of it fails, each image is one of before but for sector 0, no index, or the fresh one
 abbrev pub FormattingLeavesOldOrFresh : (D : Type 0) → (D → disk.Device) → Type 0
 FormattingLeavesOldOrFresh D state = (parameters : Parameters) (root : Contents) (old new : D) (result : Result (Unit {0}) Refusal) → (state old).honest ≡ true
-    → 4232 ≤ (state old).sectors → Runs state (formatting parameters root) old new result
+    → MIN_SECTORS ≤ (state old).sectors → Runs state (formatting parameters root) old new result
     → Leaves (IsOldOrFresh (state old) parameters root) (state old) (state new) × (result ≡ Ok tt → IsFresh parameters root (state new).seen × IsSettled (state new))

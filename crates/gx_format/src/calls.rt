@@ -10,7 +10,8 @@ use gx_geom::Refusal;
 pub(crate) fn write<D: SectorDisk>(disk: &mut D, first: u64, bytes: &[u8]) -> Result<(), Refusal>
     requires { IsSpan (D.state disk.old).sectors first (length bytes.now) }
     ensures sectors { (D.state disk.new).sectors ≡ (D.state disk.old).sectors }
-    ensures runs { (n : ℕ) → length bytes.now ≡ 512 * n → Runs D.state (Write first n bytes.now ∷ []) disk.old disk.new result }
+    ensures runs { (n : ℕ) → length bytes.now ≡ 512 * n
+        → Runs D.state (Write first n bytes.now ∷ []) disk.old disk.new result }
 {
     match disk.write(first, bytes) {
         Ok(()) => Ok(()),

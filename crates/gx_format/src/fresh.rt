@@ -1,54 +1,55 @@
-//! The format of a device, in three phases: the magic is taken away, all else is laid down, and the magic is written last.
+//! The format of a device, in three phases:
+//! the magic is taken away, all else is laid down, and the magic is written last.
 ghost use Rattle.std.specs.Prelude.{◌≡◌, ◌≤◌, ◌∷◌, ◌++◌, ◌↔◌, IsTrue, replicate, true, OnOk, []};
+ghost use Rattle.gx_disk.specs.declared.layout.TheConstants.{MIN_SECTORS};
 ghost use Rattle.gx_disk.specs.Device.{IsSettled};
 ghost use Rattle.gx_disk.specs.Moments.{Leaves};
 ghost use Rattle.gx_page.specs.Edits.{blank};
 ghost use Rattle.gx_page.specs.Format.{image_of, IsWellFormed};
+ghost use Rattle.gx_glog.specs.declared.extent.TheConstants.{BODY_SECTORS, PLACES};
 ghost use Rattle.gx_glog.specs.First.{closed_gates_bytes, first_body_bytes, open_gate_bytes, selector_bytes};
 ghost use Rattle.gx_glog.specs.Parameters.{parameters_bytes};
 ghost use Rattle.gx_format.specs.Calls.{Runs, Write, Sync};
 ghost use Rattle.gx_format.specs.Fresh.{fresh_root, IsFresh};
-ghost use Rattle.gx_format.specs.Formatting.{AreInRange, Formats, IsOldOrFresh, clearing, formatting, laying, naming, sectors_of};
+ghost use Rattle.gx_format.specs.Formatting.{AreInRange, Formats, IsOldOrFresh, clearing};
+ghost use Rattle.gx_format.specs.Formatting.{formatting, laying, naming, sectors_of};
 
 use crate::calls::{settle, write};
 use crate::laws;
 use crate::root::fresh_root;
 use gx_class::KeyClass;
-use gx_disk::{SECTOR_SIZE, SectorDisk};
+use gx_disk::{MAX_PAGES, MIN_PAGES, PAGE_SECTORS, PAGES_AT, SECTOR_SIZE, SectorDisk};
 use gx_geom::Refusal;
 use gx_glog::{
-    Extent, PARAMETERS, Parameters, SELECTOR, closed_gates, first_body, open_gate, selecting,
+    BODIES_A, Extent, GATES_A, GATES_B, PARAMETERS, Parameters, SELECTOR, closed_gates, first_body,
+    open_gate, selecting,
 };
+use gx_node::MAX_ENTRIES;
 use gx_page::Page;
 use std::alloc::Global;
 
 /// The first eight bytes of a device that has an index.
 pub const MAGIC: [u8; 8] = *b"GISTRT01";
 
-/// The sectors at which pages 1 and 2 begin.
-const PAGE_1: u64 = 4168;
+/// The sector at which page 2 begins.
+pub const PAGE_2: u64 = PAGES_AT + PAGE_SECTORS;
 
-const PAGE_2: u64 = 4176;
-
-/// The sectors of the gates of either extent, and of the first body of extent A.
-const GATES_A: u64 = 8;
-
-const GATES_B: u64 = 2088;
-
-const BODY_A: u64 = 40;
+/// The least number that may be the most of entries in a node.
+pub const MIN_FANOUT: u16 = 4;
 
 /// How many sectors an index of so many pages takes: 4,168 for parameters and log, and eight for each page.
 pub fn sectors_for(pages: u32) -> u64
     ensures { result ≡ sectors_of pages }
 {
-    4168 + 8 * u64::from(pages)
+    PAGES_AT + PAGE_SECTORS * u64::from(pages)
 }
 
-// Whether an index may have so many pages, and so many entries in a node.
-fn is_in_range(pages: u32, most: u16) -> bool
+/// Whether an index may have so many pages, 8 to 65,536, and so many entries in a node at most, 4 to 100.
+pub fn is_in_range(pages: u32, most: u16) -> bool
     ensures { IsTrue result ↔ AreInRange pages most }
 {
-    (8..=65_536).contains(&pages) && (4..=100).contains(&most)
+    (MIN_PAGES..=MAX_PAGES).contains(&(pages as usize))
+        && (MIN_FANOUT..=MAX_ENTRIES as u16).contains(&most)
 }
 
 // The sector of the magic.
@@ -62,7 +63,7 @@ fn named() -> [u8; SECTOR_SIZE]
 
 // Takes the magic away.
 fn clear<D: SectorDisk>(disk: &mut D) -> Result<(), Refusal>
-    requires { 4232 ≤ (D.state disk.old).sectors }
+    requires { MIN_SECTORS ≤ (D.state disk.old).sectors }
     ensures sectors { (D.state disk.new).sectors ≡ (D.state disk.old).sectors }
     ensures runs { Runs D.state clearing disk.old disk.new result }
 {
@@ -72,9 +73,10 @@ fn clear<D: SectorDisk>(disk: &mut D) -> Result<(), Refusal>
 
 // Writes the parameters, and the selector of extent A.
 fn lay_parameters<D: SectorDisk>(disk: &mut D, parameters: &Parameters) -> Result<(), Refusal>
-    requires { 4232 ≤ (D.state disk.old).sectors }
+    requires { MIN_SECTORS ≤ (D.state disk.old).sectors }
     ensures sectors { (D.state disk.new).sectors ≡ (D.state disk.old).sectors }
-    ensures runs { Runs D.state (Write 1 1 (parameters_bytes parameters.now ++ replicate 504 0) ∷ Write 2 1 (selector_bytes Extent.A) ∷ []) disk.old disk.new result }
+    ensures runs { Runs D.state (Write PARAMETERS 1 (parameters_bytes parameters.now ++ replicate 504 0)
+        ∷ Write SELECTOR 1 (selector_bytes Extent.A) ∷ []) disk.old disk.new result }
 {
     write(disk, PARAMETERS, &parameters.encode())?;
     write(disk, SELECTOR, &selecting(Extent::A))
@@ -82,9 +84,10 @@ fn lay_parameters<D: SectorDisk>(disk: &mut D, parameters: &Parameters) -> Resul
 
 // Closes all gates.
 fn close_gates<D: SectorDisk>(disk: &mut D) -> Result<(), Refusal>
-    requires { 4232 ≤ (D.state disk.old).sectors }
+    requires { MIN_SECTORS ≤ (D.state disk.old).sectors }
     ensures sectors { (D.state disk.new).sectors ≡ (D.state disk.old).sectors }
-    ensures runs { Runs D.state (Write 8 32 closed_gates_bytes ∷ Write 2088 32 closed_gates_bytes ∷ []) disk.old disk.new result }
+    ensures runs { Runs D.state (Write GATES_A PLACES closed_gates_bytes
+        ∷ Write GATES_B PLACES closed_gates_bytes ∷ []) disk.old disk.new result }
 {
     let gates = closed_gates();
     write(disk, GATES_A, &gates)?;
@@ -93,30 +96,31 @@ fn close_gates<D: SectorDisk>(disk: &mut D) -> Result<(), Refusal>
 
 // Writes the two pages of a fresh tree, of which the first is given; the second is made in its place.
 fn lay_pages<D: SectorDisk>(disk: &mut D, page: &mut Page) -> Result<(), Refusal>
-    requires { 4232 ≤ (D.state disk.old).sectors }
+    requires { MIN_SECTORS ≤ (D.state disk.old).sectors }
     ensures sectors { (D.state disk.new).sectors ≡ (D.state disk.old).sectors }
-    ensures runs { Runs D.state (Write 4168 8 (image_of page.old) ∷ Write 4176 8 (image_of (blank 0 2)) ∷ []) disk.old disk.new result }
+    ensures runs { Runs D.state (Write PAGES_AT PAGE_SECTORS (image_of page.old)
+        ∷ Write PAGE_2 PAGE_SECTORS (image_of (blank 0 2)) ∷ []) disk.old disk.new result }
 {
-    write(disk, PAGE_1, page.image())?;
+    write(disk, PAGES_AT, page.image())?;
     page.reset(0, 2);
     write(disk, PAGE_2, page.image())
 }
 
 // Writes the first body, and settles all that was laid down by then.
 fn lay_body<D: SectorDisk>(disk: &mut D) -> Result<(), Refusal>
-    requires { 4232 ≤ (D.state disk.old).sectors }
+    requires { MIN_SECTORS ≤ (D.state disk.old).sectors }
     ensures sectors { (D.state disk.new).sectors ≡ (D.state disk.old).sectors }
-    ensures runs { Runs D.state (Write 40 64 first_body_bytes ∷ Sync ∷ []) disk.old disk.new result }
+    ensures runs { Runs D.state (Write BODIES_A BODY_SECTORS first_body_bytes ∷ Sync ∷ []) disk.old disk.new result }
 {
-    write(disk, BODY_A, &first_body())?;
+    write(disk, BODIES_A, &first_body())?;
     settle(disk)
 }
 
 // Opens the first gate.
 fn open<D: SectorDisk>(disk: &mut D) -> Result<(), Refusal>
-    requires { 4232 ≤ (D.state disk.old).sectors }
+    requires { MIN_SECTORS ≤ (D.state disk.old).sectors }
     ensures sectors { (D.state disk.new).sectors ≡ (D.state disk.old).sectors }
-    ensures runs { Runs D.state (Write 8 1 open_gate_bytes ∷ Sync ∷ []) disk.old disk.new result }
+    ensures runs { Runs D.state (Write GATES_A 1 open_gate_bytes ∷ Sync ∷ []) disk.old disk.new result }
 {
     write(disk, GATES_A, &open_gate())?;
     settle(disk)
@@ -124,7 +128,7 @@ fn open<D: SectorDisk>(disk: &mut D) -> Result<(), Refusal>
 
 // Writes the magic.
 fn name<D: SectorDisk>(disk: &mut D) -> Result<(), Refusal>
-    requires { 4232 ≤ (D.state disk.old).sectors }
+    requires { MIN_SECTORS ≤ (D.state disk.old).sectors }
     ensures sectors { (D.state disk.new).sectors ≡ (D.state disk.old).sectors }
     ensures runs { Runs D.state naming disk.old disk.new result }
 {
@@ -134,7 +138,7 @@ fn name<D: SectorDisk>(disk: &mut D) -> Result<(), Refusal>
 
 // Lays down all but the magic.
 fn lay<D: SectorDisk>(disk: &mut D, parameters: &Parameters, page: &mut Page) -> Result<(), Refusal>
-    requires { 4232 ≤ (D.state disk.old).sectors }
+    requires { MIN_SECTORS ≤ (D.state disk.old).sectors }
     ensures sectors { (D.state disk.new).sectors ≡ (D.state disk.old).sectors }
     ensures runs { Runs D.state (laying parameters.now page.old) disk.old disk.new result }
 {
@@ -151,7 +155,7 @@ fn make<D: SectorDisk>(
     parameters: &Parameters,
     page: &mut Page,
 ) -> Result<(), Refusal>
-    requires { 4232 ≤ (D.state disk.old).sectors }
+    requires { MIN_SECTORS ≤ (D.state disk.old).sectors }
     ensures { Runs D.state (formatting parameters.now page.old) disk.old disk.new result }
 {
     clear(disk)?;
@@ -159,27 +163,30 @@ fn make<D: SectorDisk>(
     name(disk)
 }
 
-/// Lays a new, empty index of a class of keys down on a device: for so many pages, 8 to 65,536, and so many entries in a node
-/// at most, 4 to 100. What the device held is gone.
+/// Lays a new, empty index of a class of keys down on a device: for so many pages, 8 to 65,536, and so many entries in
+/// a node at most, 4 to 100. What the device held is gone.
 ///
-/// It makes fourteen calls of the device, in the order of `formatting`. On an honest device, at each moment of them, also where
-/// one fails, each image is one of before but for its first sector, or isn't told to be an index, or is the fresh one; at `Ok`
-/// the device reads as the fresh one, and all of it is settled.
+/// It makes fourteen calls of the device, in the order of `formatting`. On an honest device, at each moment of them,
+/// also where one fails, each image is one of before but for its first sector, or isn't told to be an index, or is the
+/// fresh one; at `Ok` the device reads as the fresh one, and all of it is settled.
 ///
-/// Refused, in this order: with `BadParameter` where a number is out of range; with `TooSmall` where the device has fewer sectors
-/// than [`sectors_for`] says; with `Memory` where there is none for a page; until here no call was made. With `Device` where a
-/// call fails.
+/// Refused, in this order: with `BadParameter` where a number is out of range; with `TooSmall` where the device has
+/// fewer sectors than [`sectors_for`] says; with `Memory` where there is none for a page; until here no call was made.
+/// With `Device` where a call fails.
 pub fn format<D: SectorDisk, K: KeyClass>(
     alloc: Global,
     disk: &mut D,
     pages: u32,
     most: u16,
 ) -> Result<(), Refusal>
-    ensures formats { Formats D.state (record { pages = pages; most = most; class = K.CLASS }) (fresh_root K.spelling K.start_key) disk.old disk.new result }
+    ensures formats { Formats D.state (record { pages = pages; most = most; class = K.CLASS })
+        (fresh_root K.spelling K.start_key) disk.old disk.new result }
     ensures moments { (D.state disk.old).honest ≡ true
-        → Leaves (IsOldOrFresh (D.state disk.old) (record { pages = pages; most = most; class = K.CLASS }) (fresh_root K.spelling K.start_key)) (D.state disk.old) (D.state disk.new) }
+        → Leaves (IsOldOrFresh (D.state disk.old) (record { pages = pages; most = most; class = K.CLASS })
+        (fresh_root K.spelling K.start_key)) (D.state disk.old) (D.state disk.new) }
     ensures fresh { (D.state disk.old).honest ≡ true
-        → OnOk result (IsFresh (record { pages = pages; most = most; class = K.CLASS }) (fresh_root K.spelling K.start_key) (D.state disk.new).seen × IsSettled (D.state disk.new)) }
+        → OnOk result (IsFresh (record { pages = pages; most = most; class = K.CLASS })
+        (fresh_root K.spelling K.start_key) (D.state disk.new).seen × IsSettled (D.state disk.new)) }
     ensures root { OnOk result (IsWellFormed (fresh_root K.spelling K.start_key)) }
 {
     if !is_in_range(pages, most) {

@@ -5,6 +5,7 @@ use Rattle.std.proofs.lemmas.Bool.{cases_lt}
 use Rattle.std.proofs.lemmas.List.{append-nil}
 use Rattle.gx_geom.specs.declared.refusal.Refusal.{Refusal}
 use Rattle.gx_geom.specs.declared.refusal.Refusal.TheVariants.{Damaged}
+use Rattle.gx_glog.specs.declared.extent.TheConstants.{BODY_ROOM, PLACES}
 use Rattle.gx_glog.specs.declared.extent.Extent.{Extent}
 use Rattle.gx_glog.specs.Layout.{selected_of, is_open, body_of, size_in, records_in, open_run}
 use Rattle.gx_glog.proofs.Gates.{run_is}
@@ -38,15 +39,15 @@ at_least bytes extent (suc places) k (suc n) few opened =
     rw here (omega (arith, rest))
 
 -- so a place behind an open one at the run's end lies in the run
-pub lies_in_run : (seen : List ℕ) (extent : Extent) (i : ℕ) → i < 32 → ((j : ℕ) → j < i → is_open seen extent j ≡ true) → is_open seen extent i ≡ true → i < open_run seen extent 0 32
+pub lies_in_run : (seen : List ℕ) (extent : Extent) (i : ℕ) → i < PLACES → ((j : ℕ) → j < i → is_open seen extent j ≡ true) → is_open seen extent i ≡ true → i < open_run seen extent 0 PLACES
 lies_in_run seen extent i few before here =
-    let run : i + 1 ≤ open_run seen extent 0 32 =
-    at_least seen extent 32 0 (i + 1) (omega (arith, few)) (λ j from below. ⊎_elim (λ (less : j < i). before j less)
+    let run : i + 1 ≤ open_run seen extent 0 PLACES =
+    at_least seen extent PLACES 0 (i + 1) (omega (arith, few)) (λ j from below. ⊎_elim (λ (less : j < i). before j less)
     (λ (last : i ≤ j). (let same : i ≡ j = omega (arith, last, below) in ap (λ n. is_open seen extent n) (sym same) ∙ here)) (cases_lt j i)) in
     omega (arith, run)
 
 -- the bytes that are cut out of a body are its records'
-pub read_as : (seen : List ℕ) (extent : Extent) (i : ℕ) (bytes body : List ℕ) (size : ℕ) → (size ≤ 32764 → bytes ≡ take size (drop 4 body)) → body ≡ body_of seen extent i → size ≡ size_in body
+pub read_as : (seen : List ℕ) (extent : Extent) (i : ℕ) (bytes body : List ℕ) (size : ℕ) → (size ≤ BODY_ROOM → bytes ≡ take size (drop 4 body)) → body ≡ body_of seen extent i → size ≡ size_in body
     → IsSize size → bytes ≡ records_in (body_of seen extent i)
 unfolding records_in
 read_as seen extent i bytes body size cut_to read said fits = cut_to fits.1 ∙ ap (λ n. take n (drop 4 body)) said ∙ ap (λ (b : List ℕ). take (size_in b) (drop 4 b)) read
@@ -225,7 +226,7 @@ module _ {E P : Type 0} (k : Known E P) (r : Reading E P) (l : IsLawful k) where
       cc
 
   pub place_read : (seen : List ℕ) (extent : Extent) (i : ℕ) (old new : Kept E) (bytes body : List ℕ) (size : ℕ) (part : Part) → part ≡ part_at i
-      → (size ≤ 32764 → bytes ≡ take size (drop 4 body)) → is_open seen extent i ≡ true → body ≡ body_of seen extent i → size ≡ size_in body → IsSize size
+      → (size ≤ BODY_ROOM → bytes ≡ take size (drop 4 body)) → is_open seen extent i ≡ true → body ≡ body_of seen extent i → size ≡ size_in body → IsSize size
       → BytesTold part k r bytes old (Ok tt) new → PlaceRead k r seen extent i old (Ok true) new
   place_read seen extent i old new bytes body size part at cut_to gate read said fits told = (
     gate,
@@ -234,7 +235,7 @@ module _ {E P : Type 0} (k : Known E P) (r : Reading E P) (l : IsLawful k) where
   )
 
   pub place_refused : (seen : List ℕ) (extent : Extent) (i : ℕ) (old new : Kept E) (bytes body : List ℕ) (size : ℕ) (part : Part) (refusal : Refusal) → part ≡ part_at i
-      → (size ≤ 32764 → bytes ≡ take size (drop 4 body)) → is_open seen extent i ≡ true → body ≡ body_of seen extent i → size ≡ size_in body → IsSize size
+      → (size ≤ BODY_ROOM → bytes ≡ take size (drop 4 body)) → is_open seen extent i ≡ true → body ≡ body_of seen extent i → size ≡ size_in body → IsSize size
       → refusal ≡ Damaged → BytesTold part k r bytes old (Err refusal) new → PlaceRead k r seen extent i old (Err refusal) new
   place_refused seen extent i old new bytes body size part refusal at cut_to gate read said fits damaged told =
       subst (λ (why : Refusal). PlaceRead k r seen extent i old (Err why) new) (sym damaged) (
@@ -244,10 +245,10 @@ module _ {E P : Type 0} (k : Known E P) (r : Reading E P) (l : IsLawful k) where
       )
 
   -- no gate is open in a row where the first is closed
-  none_open : (seen : List ℕ) (extent : Extent) → is_open seen extent 0 ≡ false → open_run seen extent 0 32 ≡ 0
-  none_open seen extent shut = run_is extent 32 0 0 seen (omega arith) (λ j from below. absurd (omega arith)) (λ less. shut)
+  none_open : (seen : List ℕ) (extent : Extent) → is_open seen extent 0 ≡ false → open_run seen extent 0 PLACES ≡ 0
+  none_open seen extent shut = run_is extent PLACES 0 0 seen (omega arith) (λ j from below. absurd (omega arith)) (λ less. shut)
 
-  extent_ended_at : (seen : List ℕ) (extent : Extent) (i : ℕ) (old mid new : Kept E) (result : Result ℕ Refusal) → i < 32
+  extent_ended_at : (seen : List ℕ) (extent : Extent) (i : ℕ) (old mid new : Kept E) (result : Result ℕ Refusal) → i < PLACES
       → IfOk result (λ n. (1 ≤ n) × (n ≡ i)) → IfErr result (λ refusal. (refusal ≡ Damaged) × (i ≡ 0)) → is_open seen extent i ≡ false → new ≡ mid
       → (ReadSoFar k r seen extent 0 old → ReadSoFar k r seen extent i mid) → ExtentRead k r seen extent old result new
   extent_ended_at seen extent i old mid new (Ok n) few ok err shut same on =
@@ -256,24 +257,24 @@ module _ {E P : Type 0} (k : Known E P) (r : Reading E P) (l : IsLawful k) where
       record { some = ok.0; few = omega (arith, few, ok.1); closed = λ less. ap (λ m. is_open seen extent m) ok.1 ∙ shut; read = so })
   extent_ended_at seen extent i old mid new (Err refusal) few ok err shut same on =
       subst (λ (why : Refusal). ExtentRead k r seen extent old (Err why) new) (sym err.0)
-      (λ start whole. none_undamaged seen extent (open_run seen extent 0 32) (none_open seen extent (ap (λ m. is_open seen extent m) (sym err.1) ∙ shut)) whole)
+      (λ start whole. none_undamaged seen extent (open_run seen extent 0 PLACES) (none_open seen extent (ap (λ m. is_open seen extent m) (sym err.1) ∙ shut)) whole)
 
-  pub extent_ended : (seen now_seen : List ℕ) (extent : Extent) (i : ℕ) (old mid new : Kept E) (result : Result ℕ Refusal) → now_seen ≡ seen → i < 32
+  pub extent_ended : (seen now_seen : List ℕ) (extent : Extent) (i : ℕ) (old mid new : Kept E) (result : Result ℕ Refusal) → now_seen ≡ seen → i < PLACES
       → IfOk result (λ n. (1 ≤ n) × (n ≡ i)) → IfErr result (λ refusal. (refusal ≡ Damaged) × (i ≡ 0)) → (answer : Bool) → answer ≡ false → PlaceRead k r now_seen extent i mid (Ok answer) new
       → (ReadSoFar k r seen extent 0 old → ReadSoFar k r seen extent i mid) → ExtentRead k r seen extent old result new
   extent_ended seen now_seen extent i old mid new result read few ok err answer shut told on =
       let place : PlaceRead k r now_seen extent i mid (Ok false) new = subst (λ (b : Bool). PlaceRead k r now_seen extent i mid (Ok b) new) shut told in
       extent_ended_at seen extent i old mid new result few ok err (ap (λ (s : List ℕ). is_open s extent i) (sym read) ∙ place.0) place.1 on
 
-  extent_refused_at : (seen : List ℕ) (extent : Extent) (i : ℕ) (old mid new : Kept E) (refusal : Refusal) → i < 32 → PlaceRead k r seen extent i mid (Err refusal) new
+  extent_refused_at : (seen : List ℕ) (extent : Extent) (i : ℕ) (old mid new : Kept E) (refusal : Refusal) → i < PLACES → PlaceRead k r seen extent i mid (Err refusal) new
       → (ReadSoFar k r seen extent 0 old → ReadSoFar k r seen extent i mid) → ExtentRead k r seen extent old (Err refusal) new
   extent_refused_at seen extent i old mid new Damaged few place on =
       λ start whole. (
       let so : ReadSoFar k r seen extent i mid = on start in
-      place.1 so (open_run seen extent 0 32) (lies_in_run seen extent i few so.gates place.0) whole)
+      place.1 so (open_run seen extent 0 PLACES) (lies_in_run seen extent i few so.gates place.0) whole)
   extent_refused_at seen extent i old mid new refusal few place on = tt
 
-  pub extent_refused : (seen now_seen : List ℕ) (extent : Extent) (i : ℕ) (old mid new : Kept E) (refusal : Refusal) → now_seen ≡ seen → i < 32
+  pub extent_refused : (seen now_seen : List ℕ) (extent : Extent) (i : ℕ) (old mid new : Kept E) (refusal : Refusal) → now_seen ≡ seen → i < PLACES
       → PlaceRead k r now_seen extent i mid (Err refusal) new → (ReadSoFar k r seen extent 0 old → ReadSoFar k r seen extent i mid) → ExtentRead k r seen extent old (Err refusal) new
   extent_refused seen now_seen extent i old mid new refusal read few place on =
       extent_refused_at seen extent i old mid new refusal few (subst (λ (s : List ℕ). PlaceRead k r s extent i mid (Err refusal) new) read place) on
@@ -283,9 +284,9 @@ module _ {E P : Type 0} (k : Known E P) (r : Reading E P) (l : IsLawful k) where
   found_at seen extent n new selects whole =
       let so : ReadSoFar k r seen extent n new = whole.read in
       let there : 0 + n ≡ n = omega arith in
-      let run : open_run seen extent 0 32 ≡ n =
-      run_is extent 32 0 n seen whole.few (λ j from below. so.gates j (omega (arith, below))) (λ less. ap (λ m. is_open seen extent m) there ∙ whole.closed less) in
-      let count : n ≡ opened seen = sym run ∙ ap (λ (e : Extent). open_run seen e 0 32) selects in
+      let run : open_run seen extent 0 PLACES ≡ n =
+      run_is extent PLACES 0 n seen whole.few (λ j from below. so.gates j (omega (arith, below))) (λ less. ap (λ m. is_open seen extent m) there ∙ whole.closed less) in
+      let count : n ≡ opened seen = sym run ∙ ap (λ (e : Extent). open_run seen e 0 PLACES) selects in
       let here : AreUndamaged k r seen extent n = record { sizes = so.sizes; bodies = so.bodies; told = so.told; undamaged = so.undamaged whole.some } in
       record {
         extent = selects;
@@ -308,7 +309,7 @@ module _ {E P : Type 0} (k : Known E P) (r : Reading E P) (l : IsLawful k) where
   not_found_at : (seen : List ℕ) (extent : Extent) (old new : Kept E) (refusal : Refusal) → extent ≡ selected_of seen → ReadSoFar k r seen extent 0 old
       → ExtentRead k r seen extent old (Err refusal) new → LogRead k r seen (Err refusal)
   not_found_at seen extent old new Damaged selects start all =
-      λ whole. all start (subst (λ (e : Extent). AreUndamaged k r seen e (open_run seen e 0 32)) (sym selects) whole)
+      λ whole. all start (subst (λ (e : Extent). AreUndamaged k r seen e (open_run seen e 0 PLACES)) (sym selects) whole)
   not_found_at seen extent old new refusal selects start all = tt
 
   pub not_found : (seen now_seen : List ℕ) (extent : Extent) (old new : Kept E) (refusal : Refusal) → now_seen ≡ seen → extent ≡ selected_of seen → IsUnread old → k.pages ≡ old.pages

@@ -4,6 +4,7 @@ use Rattle.std.specs.Prelude.{Result, Ok, Err, IfOk, IfErr, take, drop}
 use Rattle.gx_geom.specs.declared.refusal.Refusal.{Refusal}
 use Rattle.gx_geom.specs.declared.refusal.Refusal.TheVariants as refusals
 use Rattle.gx_disk.specs.Device as disk
+use Rattle.gx_glog.specs.declared.extent.TheConstants.{BODY_ROOM}
 use Rattle.gx_glog.specs.declared.extent.Extent.{Extent}
 use Rattle.gx_glog.specs.Layout.{selected_of, is_open, body_of, size_in, records_in}
 use Rattle.gx_glog.specs.Reading.{IsSize, ReadsBody, CountsReads}
@@ -69,7 +70,7 @@ module _ {E P : Type 0} (k : Known E P) (r : Reading E P) (l : IsLawful k) where
 
   -- what is told of a body whose records are refused
   pub misfit_shown : (seen : List ℕ) (extent : Extent) (i : ℕ) (old : Kept E) (bytes body : List ℕ) (size : ℕ) (part : Part) (at : ℕ) (rule : LogRule) → part ≡ part_at i
-      → (size ≤ 32764 → bytes ≡ take size (drop 4 body)) → is_open seen extent i ≡ true → body ≡ body_of seen extent i → size ≡ size_in body → IsSize size
+      → (size ≤ BODY_ROOM → bytes ≡ take size (drop 4 body)) → is_open seen extent i ≡ true → body ≡ body_of seen extent i → size ≡ size_in body → IsSize size
       → BytesBroken part k r bytes old at rule → PlaceShows k r seen extent i old (Damaged (record { extent = extent; body = i; at = at; rule = rule }))
   misfit_shown seen extent i old bytes body size part at rule is cut_to gate read said fits broken = (
     refl,

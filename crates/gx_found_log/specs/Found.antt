@@ -3,6 +3,7 @@ use Rattle.std.specs.Prelude.{◌≡◌, ℕ, zero, suc, ◌+◌, ◌<◌, ◌�
 use Rattle.gx_geom.specs.declared.refusal.Refusal.{Refusal}
 use Rattle.gx_geom.specs.declared.refusal.Refusal.TheVariants.{Device, Damaged, Memory}
 use Rattle.gx_disk.specs.Device as disk
+use Rattle.gx_glog.specs.declared.extent.TheConstants.{PLACES}
 use Rattle.gx_glog.specs.declared.extent.Extent.{Extent}
 use Rattle.gx_glog.specs.Layout.{selected_of, is_open, body_of, size_in, open_run}
 use Rattle.gx_glog.specs.Reading.{IsSize}
@@ -27,7 +28,7 @@ pub record AreUndamaged {E P : Type 0} (k : Known E P) (r : Reading E P) (seen :
 
 -- how many gates in a row are open from the first of the selected extent on
 abbrev pub opened : List ℕ → ℕ
-opened image = open_run image (selected_of image) 0 32
+opened image = open_run image (selected_of image) 0 PLACES
 
 -- The log of an image is undamaged: of the bodies behind its leading open gates.
 abbrev pub HasUndamaged : {E P : Type 0} → Known E P → Reading E P → List ℕ → Type 0
@@ -60,13 +61,13 @@ PlaceRead k r seen extent i old (Err refusal) new = Unit {0}
 -- The bodies behind an extent's leading open gates are read; there is one at least, and behind the last the gate is closed.
 pub record ReadWhole {E P : Type 0} (k : Known E P) (r : Reading E P) (seen : List ℕ) (extent : Extent) (n : ℕ) (s : Kept E) : Type 0 where
   pub some : 1 ≤ n
-  pub few : n ≤ 32
-  pub closed : n < 32 → is_open seen extent n ≡ false
+  pub few : n ≤ PLACES
+  pub closed : n < PLACES → is_open seen extent n ≡ false
   pub read : ReadSoFar k r seen extent n s
 
 abbrev pub ExtentRead : {E P : Type 0} → Known E P → Reading E P → List ℕ → Extent → Kept E → Result ℕ Refusal → Kept E → Type 0
 ExtentRead k r seen extent old (Ok n) new = ReadSoFar k r seen extent 0 old → ReadWhole k r seen extent n new
-ExtentRead k r seen extent old (Err Damaged) new = ReadSoFar k r seen extent 0 old → AreUndamaged k r seen extent (open_run seen extent 0 32) → ⊥
+ExtentRead k r seen extent old (Err Damaged) new = ReadSoFar k r seen extent 0 old → AreUndamaged k r seen extent (open_run seen extent 0 PLACES) → ⊥
 ExtentRead k r seen extent old (Err refusal) new = Unit {0}
 
 -- The log of an image is found: it is undamaged, and what is kept is what its records tell.

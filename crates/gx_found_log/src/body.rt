@@ -1,5 +1,7 @@
 //! The bytes of a log's bodies, told to an analysis.
 ghost use Rattle.std.specs.Prelude.{◌≡◌, ◌+◌, ◌*◌, ◌<◌, ◌≤◌, length, drop, IfOk, OnOk, IfErr};
+ghost use Rattle.gx_record.specs.declared.sizes.TheConstants.{END_RECORD};
+ghost use Rattle.gx_glog.specs.declared.extent.TheConstants.{BODY_ROOM, PLACES};
 ghost use Rattle.gx_recovery.specs.Known.{Limits};
 ghost use Rattle.gx_analysis.specs.Broken.{refused};
 ghost use Rattle.gx_found_log.specs.Parts.{part_behind};
@@ -20,14 +22,17 @@ fn on_first<M: Readable>(
 where
     M::Entry: Copy + Ord,
     requires some { 0 < length bytes.now }
-    requires room { 9 * length analysis.old.closed + length bytes.now ≤ 1048448 }
+    requires room { END_RECORD * length analysis.old.closed + length bytes.now ≤ PLACES * BODY_ROOM }
     ensures size { IfOk result (λ n. 9 ≤ n) }
     ensures within { IfOk result (λ n. n ≤ length bytes.now) }
     ensures count { length analysis.new.closed ≤ length analysis.old.closed + 1 }
-    ensures told { (d : Limits) → (M.known d).cmp ≡ M.Entry.Ord.cmp → FirstTold part (M.known d) M.reading bytes.now analysis.old (refused result) analysis.new }
-    ensures broken { (d : Limits) → (M.known d).cmp ≡ M.Entry.Ord.cmp → IfErr result (λ rule. BytesBroken part (M.known d) M.reading bytes.now analysis.old 0 rule) }
+    ensures told { (d : Limits) → (M.known d).cmp ≡ M.Entry.Ord.cmp
+        → FirstTold part (M.known d) M.reading bytes.now analysis.old (refused result) analysis.new }
+    ensures broken { (d : Limits) → (M.known d).cmp ≡ M.Entry.Ord.cmp
+        → IfErr result (λ rule. BytesBroken part (M.known d) M.reading bytes.now analysis.old 0 rule) }
     ensures goes { (d : Limits) → (M.known d).cmp ≡ M.Entry.Ord.cmp
-        → IfOk result (λ n. BrokenOn part (part_behind part) (M.known d) M.reading bytes.now (drop n bytes.now) n analysis.old analysis.new) }
+        → IfOk result (λ n. BrokenOn part (part_behind part) (M.known d) M.reading bytes.now
+        (drop n bytes.now) n analysis.old analysis.new) }
 {
     match Record::decode(bytes, M::key_size()) {
         Some(found) => match on_record::<M>(part, analysis, &found.0) {
@@ -38,11 +43,12 @@ where
     }
 }
 
-/// Reads the bytes of a body from its start, record by record, and tells them to the analysis: of a log's first body at `Start`, of
-/// others at `Later`. Refused where the bytes aren't whole records, where one may not come, and where a first body has no
-/// counters, with the place and the rule; what is kept is then of no use.
+/// Reads the bytes of a body from its start, record by record, and tells them to the analysis: of a log's first body at
+/// `Start`, of others at `Later`. Refused where the bytes aren't whole records, where one may not come, and where a
+/// first body has no counters, with the place and the rule; what is kept is then of no use.
 ///
-/// An extent has 1,048,448 bytes of records at most: what was closed before, at nine bytes each, and these bytes are no more.
+/// An extent has 1,048,448 bytes of records at most:
+/// what was closed before, at nine bytes each, and these bytes are no more.
 pub fn on_body<M: Readable>(
     part: Part,
     analysis: &mut Analysis<M::Entry>,
@@ -50,9 +56,11 @@ pub fn on_body<M: Readable>(
 ) -> Result<(), Misfit>
 where
     M::Entry: Copy + Ord,
-    requires { 9 * length analysis.old.closed + length bytes.now ≤ 1048448 }
-    ensures closed { OnOk result (9 * length analysis.new.closed ≤ 9 * length analysis.old.closed + length bytes.now) }
-    ensures told { (d : Limits) → (M.known d).cmp ≡ M.Entry.Ord.cmp → BytesTold part (M.known d) M.reading bytes.now analysis.old (refused result) analysis.new }
+    requires { END_RECORD * length analysis.old.closed + length bytes.now ≤ PLACES * BODY_ROOM }
+    ensures closed { OnOk result (END_RECORD * length analysis.new.closed
+        ≤ END_RECORD * length analysis.old.closed + length bytes.now) }
+    ensures told { (d : Limits) → (M.known d).cmp ≡ M.Entry.Ord.cmp
+        → BytesTold part (M.known d) M.reading bytes.now analysis.old (refused result) analysis.new }
     ensures broken { (d : Limits) → (M.known d).cmp ≡ M.Entry.Ord.cmp
         → IfErr result (λ misfit. BytesBroken part (M.known d) M.reading bytes.now analysis.old misfit.at misfit.rule) }
 {

@@ -1,10 +1,9 @@
 //! The key classes, read of bytes.
 ghost use Rattle.std.specs.Prelude.{◌≡◌, ◌≤◌, true, IfErr};
+ghost use Rattle.gx_disk.specs.declared.layout.TheConstants.{PAGES_AT};
 ghost use Rattle.gx_disk.specs.Looks.{Looks};
-ghost use Rattle.gx_node.specs.Reading.{format_of};
 ghost use Rattle.gx_recovery.specs.Known.{Limits};
-ghost use Rattle.gx_index_laws.specs.Classes.{known_of};
-ghost use Rattle.gx_readings.specs.Classes.{class_of, reading_of};
+ghost use Rattle.gx_readings.specs.Classes.{known_at, reading_by};
 ghost use Rattle.gx_found_log.specs.Found.{LogRead, ReadsAlone};
 ghost use Rattle.gx_found_log.specs.Faults.{refusing};
 ghost use Rattle.gx_found_log.specs.Shown.{LogShows};
@@ -42,11 +41,11 @@ pub fn read_class_log<K: ReadKeys, D: SectorDisk>(
     disk: &mut D,
     pages: u32,
 ) -> Result<FoundLog<Entry<K::Key>>, Refusal>
-    requires { 4168 ≤ (D.state disk.old).sectors }
+    requires { PAGES_AT ≤ (D.state disk.old).sectors }
     ensures reads { ReadsAlone (D.state disk.old) (D.state disk.new) result }
     ensures looks { (D.state disk.old).honest ≡ true → Looks (D.state disk.old) (D.state disk.new) }
     ensures log { (D.state disk.old).honest ≡ true → (d : Limits) → d.pages ≡ pages
-        → LogRead (known_of (class_of K.Key.Shape K.is_proper d)) (reading_of K.said (format_of K.KeyClass)) (D.state disk.old).seen result }
+        → LogRead (known_at K.Key.Shape K.is_proper d) (reading_by K.said K.KeyClass) (D.state disk.old).seen result }
 {
     read_log::<OfClass<K>, D>(alloc, disk, pages)
 }
@@ -57,13 +56,15 @@ pub fn examine_class_log<K: ReadKeys, D: SectorDisk>(
     disk: &mut D,
     pages: u32,
 ) -> Result<FoundLog<Entry<K::Key>>, LogFault>
-    requires { 4168 ≤ (D.state disk.old).sectors }
+    requires { PAGES_AT ≤ (D.state disk.old).sectors }
     ensures reads { ReadsAlone (D.state disk.old) (D.state disk.new) (refusing result) }
     ensures looks { (D.state disk.old).honest ≡ true → Looks (D.state disk.old) (D.state disk.new) }
     ensures log { (D.state disk.old).honest ≡ true → (d : Limits) → d.pages ≡ pages
-        → LogRead (known_of (class_of K.Key.Shape K.is_proper d)) (reading_of K.said (format_of K.KeyClass)) (D.state disk.old).seen (refusing result) }
+        → LogRead (known_at K.Key.Shape K.is_proper d) (reading_by K.said K.KeyClass)
+        (D.state disk.old).seen (refusing result) }
     ensures shows { (D.state disk.old).honest ≡ true → (d : Limits) → d.pages ≡ pages
-        → IfErr result (λ fault. LogShows (known_of (class_of K.Key.Shape K.is_proper d)) (reading_of K.said (format_of K.KeyClass)) (D.state disk.old).seen fault) }
+        → IfErr result (λ fault. LogShows (known_at K.Key.Shape K.is_proper d) (reading_by K.said K.KeyClass)
+        (D.state disk.old).seen fault) }
 {
     examine_log::<OfClass<K>, D>(alloc, disk, pages)
 }

@@ -1,5 +1,8 @@
 //! The log of a device, read back from the bodies behind its leading open gates.
-ghost use Rattle.std.specs.Prelude.{◌≡◌, ◌+◌, ◌*◌, ◌<◌, ◌≤◌, ◌⊎◌, true, false, length, take, drop, IfOk, IfErr, [], Err};
+ghost use Rattle.std.specs.Prelude.{◌≡◌, ◌+◌, ◌*◌, ◌<◌, ◌≤◌, ◌⊎◌, true, false};
+ghost use Rattle.std.specs.Prelude.{length, take, drop, IfOk, IfErr, [], Err};
+ghost use Rattle.gx_record.specs.declared.sizes.TheConstants.{END_RECORD};
+ghost use Rattle.gx_disk.specs.declared.layout.TheConstants.{PAGES_AT};
 ghost use Rattle.gx_disk.specs.Looks.{Looks};
 ghost use Rattle.gx_recovery.specs.Known.{Limits};
 ghost use Rattle.gx_recovery.specs.Analysis.{unread};
@@ -12,7 +15,7 @@ use crate::{LogDamage, LogFault, Part, Readable, on_body};
 use gx_analysis::{Analysis, LogRule};
 use gx_disk::SectorDisk;
 use gx_geom::Refusal;
-use gx_glog::{BODY_SIZE, Extent, PLACES, read_extent, selected};
+use gx_glog::{BODY_ROOM, BODY_SIZE, Extent, PLACES, read_extent, selected};
 use std::alloc::{AllocError, Global};
 
 /// A log as it is found on a device, undamaged.
@@ -39,18 +42,19 @@ fn part_at(i: u8) -> Part
 /// The bytes of a body's records, of so many bytes; what a device that lies says beyond the body's end is cut off.
 fn records(body: &[u8], size: usize) -> &[u8]
     requires { length body.now ≡ BODY_SIZE }
-    ensures few { length result.now ≤ 32764 }
-    ensures bytes { size ≤ 32764 → result.now ≡ take size (drop 4 body.now) }
+    ensures few { length result.now ≤ BODY_ROOM }
+    ensures bytes { size ≤ BODY_ROOM → result.now ≡ take size (drop 4 body.now) }
 {
     let behind = body.split_at(4).1;
-    behind.split_at(size.min(BODY_SIZE - 4)).0
+    behind.split_at(size.min(BODY_ROOM)).0
 }
 
 /// Why a body wasn't read: the device failed, or its size is out of range.
 fn body_fault(refusal: Refusal, extent: Extent, i: u8) -> LogFault
     requires { (refusal ≡ Refusal.Device) ⊎ (refusal ≡ Refusal.Damaged) }
     ensures refusal { refusal_of result ≡ refusal }
-    ensures damage { refusal ≡ Refusal.Damaged → result ≡ LogFault.Damaged (record { extent = extent; body = i; at = 0; rule = LogRule.BodySize }) }
+    ensures damage { refusal ≡ Refusal.Damaged
+        → result ≡ LogFault.Damaged (record { extent = extent; body = i; at = 0; rule = LogRule.BodySize }) }
     ensures device { refusal ≡ Refusal.Device → result ≡ LogFault.Device }
 {
     match refusal {
@@ -74,14 +78,14 @@ fn on_place<M: Readable, D: SectorDisk>(
 ) -> Result<bool, LogFault>
 where
     M::Entry: Copy + Ord,
-    requires place { i < 32 }
+    requires place { i < PLACES }
     requires room { length body.old ≡ BODY_SIZE }
-    requires device { 4168 ≤ (D.state disk.old).sectors }
-    requires closed { 9 * length analysis.old.closed ≤ 32764 * i }
+    requires device { PAGES_AT ≤ (D.state disk.old).sectors }
+    requires closed { END_RECORD * length analysis.old.closed ≤ BODY_ROOM * i }
     ensures room { length body.new ≡ length body.old }
     ensures reads { ReadsAlone (D.state disk.old) (D.state disk.new) (refusing result) }
     ensures looks { (D.state disk.old).honest ≡ true → Looks (D.state disk.old) (D.state disk.new) }
-    ensures closed { IfOk result (λ is. 9 * length analysis.new.closed ≤ 32764 * (i + 1)) }
+    ensures closed { IfOk result (λ is. END_RECORD * length analysis.new.closed ≤ BODY_ROOM * (i + 1)) }
     ensures place { (D.state disk.old).honest ≡ true → (d : Limits) → (M.known d).cmp ≡ M.Entry.Ord.cmp
         → PlaceRead (M.known d) M.reading (D.state disk.old).seen extent i analysis.old (refusing result) analysis.new }
     ensures shows { (D.state disk.old).honest ≡ true → (d : Limits) → (M.known d).cmp ≡ M.Entry.Ord.cmp
@@ -105,7 +109,13 @@ where
 /// How many bodies a log has. Refused where it has none.
 fn some_bodies(extent: Extent, i: u8) -> Result<u8, LogFault>
     ensures ok { IfOk result (λ n. (1 ≤ n) × (n ≡ i)) }
-    ensures err { IfErr result (λ fault. (fault ≡ LogFault.Damaged (record { extent = extent; body = 0; at = 0; rule = LogRule.FirstGate })) × (i ≡ 0)) }
+    ensures err { IfErr result
+        (λ fault. (fault ≡ LogFault.Damaged (record {
+          extent = extent;
+          body = 0;
+          at = 0;
+          rule = LogRule.FirstGate;
+        })) × (i ≡ 0)) }
 {
     if i == 0 {
         Err(LogFault::Damaged(LogDamage {
@@ -129,7 +139,7 @@ fn on_extent<M: Readable, D: SectorDisk>(
 where
     M::Entry: Copy + Ord,
     requires room { length body.old ≡ BODY_SIZE }
-    requires device { 4168 ≤ (D.state disk.old).sectors }
+    requires device { PAGES_AT ≤ (D.state disk.old).sectors }
     requires closed { length analysis.old.closed ≡ 0 }
     ensures reads { ReadsAlone (D.state disk.old) (D.state disk.new) (refusing result) }
     ensures looks { (D.state disk.old).honest ≡ true → Looks (D.state disk.old) (D.state disk.new) }
@@ -159,13 +169,15 @@ fn read_selected<M: Readable, D: SectorDisk>(
 where
     M::Entry: Copy + Ord,
     requires room { length body.old ≡ BODY_SIZE }
-    requires device { 4168 ≤ (D.state disk.old).sectors }
+    requires device { PAGES_AT ≤ (D.state disk.old).sectors }
     requires unread { (analysis.told ≡ unread) × (analysis.closed ≡ []) }
     ensures reads { ReadsAlone (D.state disk.old) (D.state disk.new) (refusing result) }
     ensures looks { (D.state disk.old).honest ≡ true → Looks (D.state disk.old) (D.state disk.new) }
-    ensures log { (D.state disk.old).honest ≡ true → (d : Limits) → (M.known d).cmp ≡ M.Entry.Ord.cmp → (M.known d).pages ≡ analysis.pages
+    ensures log { (D.state disk.old).honest ≡ true → (d : Limits) → (M.known d).cmp ≡ M.Entry.Ord.cmp
+        → (M.known d).pages ≡ analysis.pages
         → LogRead (M.known d) M.reading (D.state disk.old).seen (refusing result) }
-    ensures shows { (D.state disk.old).honest ≡ true → (d : Limits) → (M.known d).cmp ≡ M.Entry.Ord.cmp → (M.known d).pages ≡ analysis.pages
+    ensures shows { (D.state disk.old).honest ≡ true → (d : Limits) → (M.known d).cmp ≡ M.Entry.Ord.cmp
+        → (M.known d).pages ≡ analysis.pages
         → IfErr result (λ fault. LogShows (M.known d) M.reading (D.state disk.old).seen fault) }
 {
     match selected(disk) {
@@ -188,8 +200,8 @@ fn room(alloc: Global) -> Result<Vec<u8>, AllocError>
     vec![in alloc; 0; BODY_SIZE]
 }
 
-/// Reads the log of a device of so many pages, as [`read_log`] does. Of a log that is damaged it tells where, and which rule is
-/// broken there: what it tells is true of the device's bytes.
+/// Reads the log of a device of so many pages, as [`read_log`] does. Of a log that is damaged it tells where, and which
+/// rule is broken there: what it tells is true of the device's bytes.
 pub fn examine_log<M: Readable, D: SectorDisk>(
     alloc: Global,
     disk: &mut D,
@@ -197,12 +209,14 @@ pub fn examine_log<M: Readable, D: SectorDisk>(
 ) -> Result<FoundLog<M::Entry>, LogFault>
 where
     M::Entry: Copy + Ord,
-    requires { 4168 ≤ (D.state disk.old).sectors }
+    requires { PAGES_AT ≤ (D.state disk.old).sectors }
     ensures reads { ReadsAlone (D.state disk.old) (D.state disk.new) (refusing result) }
     ensures looks { (D.state disk.old).honest ≡ true → Looks (D.state disk.old) (D.state disk.new) }
-    ensures log { (D.state disk.old).honest ≡ true → (d : Limits) → (M.known d).cmp ≡ M.Entry.Ord.cmp → (M.known d).pages ≡ pages
+    ensures log { (D.state disk.old).honest ≡ true → (d : Limits) → (M.known d).cmp ≡ M.Entry.Ord.cmp
+        → (M.known d).pages ≡ pages
         → LogRead (M.known d) M.reading (D.state disk.old).seen (refusing result) }
-    ensures shows { (D.state disk.old).honest ≡ true → (d : Limits) → (M.known d).cmp ≡ M.Entry.Ord.cmp → (M.known d).pages ≡ pages
+    ensures shows { (D.state disk.old).honest ≡ true → (d : Limits) → (M.known d).cmp ≡ M.Entry.Ord.cmp
+        → (M.known d).pages ≡ pages
         → IfErr result (λ fault. LogShows (M.known d) M.reading (D.state disk.old).seen fault) }
 {
     match room(alloc) {
@@ -214,10 +228,10 @@ where
     }
 }
 
-/// Reads the log of a device of so many pages, the bodies behind the leading open gates of the selected extent; no gate behind the
-/// first closed one is read. `Damaged` exactly where these bodies aren't whole ones whose records are an undamaged log, of
-/// entries of the class. Refused too by the device's fault (`Device`) and for want of memory (`Memory`, before the first read).
-/// It makes no write. [`examine_log`] tells of a damaged log what is wrong with it.
+/// Reads the log of a device of so many pages, the bodies behind the leading open gates of the selected extent; no gate
+/// behind the first closed one is read. `Damaged` exactly where these bodies aren't whole ones whose records are an
+/// undamaged log, of entries of the class. Refused too by the device's fault (`Device`) and for want of memory
+/// (`Memory`, before the first read). It makes no write. [`examine_log`] tells of a damaged log what is wrong with it.
 pub fn read_log<M: Readable, D: SectorDisk>(
     alloc: Global,
     disk: &mut D,
@@ -225,10 +239,11 @@ pub fn read_log<M: Readable, D: SectorDisk>(
 ) -> Result<FoundLog<M::Entry>, Refusal>
 where
     M::Entry: Copy + Ord,
-    requires { 4168 ≤ (D.state disk.old).sectors }
+    requires { PAGES_AT ≤ (D.state disk.old).sectors }
     ensures reads { ReadsAlone (D.state disk.old) (D.state disk.new) result }
     ensures looks { (D.state disk.old).honest ≡ true → Looks (D.state disk.old) (D.state disk.new) }
-    ensures log { (D.state disk.old).honest ≡ true → (d : Limits) → (M.known d).cmp ≡ M.Entry.Ord.cmp → (M.known d).pages ≡ pages
+    ensures log { (D.state disk.old).honest ≡ true → (d : Limits) → (M.known d).cmp ≡ M.Entry.Ord.cmp
+        → (M.known d).pages ≡ pages
         → LogRead (M.known d) M.reading (D.state disk.old).seen result }
 {
     match examine_log::<M, D>(alloc, disk, pages) {

@@ -20,8 +20,10 @@ pub(crate) fn on_counters<M: Readable>(
 where
     M::Entry: Copy + Ord,
     ensures closed { analysis.new.closed ≡ analysis.old.closed }
-    ensures told { (d : Limits) → RecordTold Part.Start (M.known d) M.reading (rec_of logged.now) analysis.old (refused result) analysis.new }
-    ensures broken { (d : Limits) → IfErr result (λ rule. RecordBreaks Part.Start (M.known d) M.reading (rec_of logged.now) analysis.old rule) }
+    ensures told { (d : Limits) → RecordTold Part.Start (M.known d) M.reading (rec_of logged.now) analysis.old
+        (refused result) analysis.new }
+    ensures broken { (d : Limits)
+        → IfErr result (λ rule. RecordBreaks Part.Start (M.known d) M.reading (rec_of logged.now) analysis.old rule) }
 {
     match logged {
         Record::Counters {
@@ -47,7 +49,8 @@ where
     M::Entry: Copy + Ord,
     requires is_record { IsRecord M.reading.key (rec_of logged.now) }
     ensures closed { analysis.new.closed ≡ analysis.old.closed }
-    ensures told { (d : Limits) → (M.known d).cmp ≡ M.Entry.Ord.cmp → RecordTold Part.Head (M.known d) M.reading (rec_of logged.now) analysis.old (refused result) analysis.new }
+    ensures told { (d : Limits) → (M.known d).cmp ≡ M.Entry.Ord.cmp
+        → RecordTold Part.Head (M.known d) M.reading (rec_of logged.now) analysis.old (refused result) analysis.new }
     ensures broken { (d : Limits) → (M.known d).cmp ≡ M.Entry.Ord.cmp
         → IfErr result (λ rule. RecordBreaks Part.Head (M.known d) M.reading (rec_of logged.now) analysis.old rule) }
 {

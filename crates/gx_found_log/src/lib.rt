@@ -1,4 +1,5 @@
-//! The log that is found on a device, read back: from its bytes to what its records tell. A log that is damaged is refused.
+//! The log that is found on a device, read back: from its bytes to what its records tell.
+//! A log that is damaged is refused.
 #![tactic(auto)]
 
 mod body;

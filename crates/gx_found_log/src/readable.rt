@@ -21,5 +21,6 @@ pub trait Readable: Spelled {
     ghost lawful: { (d : Limits) → IsLawful (Self.known d) };
 
     /// An image has as its own number the one that stands in it.
-    ghost own: { (d : Limits) (page : ℕ) (image : List ℕ) → IsImageOf page image → (Self.known d).own (Self.reading.content image) ≡ page };
+    ghost own: { (d : Limits) (page : ℕ) (image : List ℕ) → IsImageOf page image
+        → (Self.known d).own (Self.reading.content image) ≡ page };
 }

@@ -21,8 +21,10 @@ fn on_pages<E: Copy + Ord>(
     used: u32,
     pages: &PageImages<'_>,
 ) -> Result<(), LogRule>
-    ensures takes { Takes (may_give counter used (page_numbers (images pages.now)) analysis.old) (with_pages counter used analysis.old) analysis.old (refused result) analysis.new }
-    ensures rule { IfErr result (λ rule. breaks_pages counter used (page_numbers (images pages.now)) analysis.old rule ≡ true) }
+    ensures takes { Takes (may_give counter used (page_numbers (images pages.now)) analysis.old)
+        (with_pages counter used analysis.old) analysis.old (refused result) analysis.new }
+    ensures rule { IfErr result (λ rule. breaks_pages counter used
+        (page_numbers (images pages.now)) analysis.old rule ≡ true) }
 {
     match pages {
         PageImages::One(a) => analysis.on_pages(counter, used, &[a.page]),
@@ -52,7 +54,12 @@ pub(crate) fn touch_of<M: Readable>(
 where
     M::Entry: Copy,
     requires { length key.now ≡ M.reading.key }
-    ensures touch { IfSome result (λ touch. touch ≡ record { transaction = tx; entry = M.reading.entry row key.now; before = is_marked before.now; leaf = leaf }) }
+    ensures touch { IfSome result (λ touch. touch ≡ record {
+      transaction = tx;
+      entry = M.reading.entry row key.now;
+      before = is_marked before.now;
+      leaf = leaf;
+    }) }
     ensures of_class { (d : Limits) → (M.known d).is_entry (M.reading.entry row key.now) ≡ is_some result }
 {
     let entry = M::entry(row, key)?;
@@ -69,7 +76,8 @@ where
     requires is_record { IsRecord M.reading.key (rec_of logged.now) }
     requires room { length analysis.old.closed < CLOSINGS }
     ensures count { length analysis.new.closed ≤ length analysis.old.closed + 1 }
-    ensures told { (d : Limits) → (M.known d).cmp ≡ M.Entry.Ord.cmp → RecordTold Part.Later (M.known d) M.reading (rec_of logged.now) analysis.old (refused result) analysis.new }
+    ensures told { (d : Limits) → (M.known d).cmp ≡ M.Entry.Ord.cmp
+        → RecordTold Part.Later (M.known d) M.reading (rec_of logged.now) analysis.old (refused result) analysis.new }
     ensures broken { (d : Limits) → (M.known d).cmp ≡ M.Entry.Ord.cmp
         → IfErr result (λ rule. RecordBreaks Part.Later (M.known d) M.reading (rec_of logged.now) analysis.old rule) }
 {
@@ -107,7 +115,8 @@ where
     requires is_record { IsRecord M.reading.key (rec_of logged.now) }
     requires room { length analysis.old.closed < CLOSINGS }
     ensures count { length analysis.new.closed ≤ length analysis.old.closed + 1 }
-    ensures told { (d : Limits) → (M.known d).cmp ≡ M.Entry.Ord.cmp → RecordTold part (M.known d) M.reading (rec_of logged.now) analysis.old (refused result) analysis.new }
+    ensures told { (d : Limits) → (M.known d).cmp ≡ M.Entry.Ord.cmp
+        → RecordTold part (M.known d) M.reading (rec_of logged.now) analysis.old (refused result) analysis.new }
     ensures broken { (d : Limits) → (M.known d).cmp ≡ M.Entry.Ord.cmp
         → IfErr result (λ rule. RecordBreaks part (M.known d) M.reading (rec_of logged.now) analysis.old rule) }
 {

@@ -1,1 +1,2 @@
 mod Wrong
+mod Storming

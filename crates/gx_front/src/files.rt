@@ -1,11 +1,12 @@
 //! The commands over a file.
 ghost use Rattle.std.specs.Prelude.{◌≡◌, ◌≤◌, ◌++◌, IfSome, codes, length, string_bytes};
-ghost use Rattle.gx_command.specs.Streams.{outputs_of, stream_of};
-ghost use Rattle.gx_front.specs.Endings.{EndsDump, EndsFormat, EndsRun, HasNoDevice, TellsOf};
+ghost use Rattle.gx_commands.specs.Streams.{outputs_of, stream_of};
+ghost use Rattle.gx_front.specs.Endings.{EndsDump, EndsFormat, EndsRun, EndsVerify, HasNoDevice, TellsOf};
 
 use gx_class::{Box2Class, KeyClass};
-use gx_command::{Noted, SENTENCE, tell_person};
-use gx_device_commands::{dump_over, format_over, print_refusal, run_over};
+use gx_commands::{
+    Noted, SENTENCE, dump_over, format_over, print_refusal, run_over, tell_person, verify_over,
+};
 use gx_disk::{DiskFault, FileDisk, SectorDisk};
 use gx_format::sectors_for;
 use gx_geom::{Box2, Refusal, Shape};
@@ -13,8 +14,8 @@ use std::alloc::Global;
 use std::fs::{File, Files};
 use std::io::{Read, Write};
 
-/// How many pages a dump holds in memory.
-const DUMP_FRAMES: usize = 64;
+/// How many pages a dump holds in memory, and verifying.
+const FRAMES: usize = 64;
 
 /// Status: a file that is no device.
 const REFUSED: u8 = 1;
@@ -24,7 +25,7 @@ const NOT_OPENED: &str = "it isn't there, or can't be opened";
 
 /// Opens or makes a file, extends a shorter one, and lays a new index down in it.
 ///
-/// The status is that of `gx_device_commands::format_over`. It is 1 too where the file can't be opened, made or
+/// The status is that of `gx_commands::format_over`. It is 1 too where the file can't be opened, made or
 /// extended, or another process has it, which writes `refused 11 device`, and tells a person why.
 pub(crate) fn format_file<T: Files<File = File>, W: Write, E: Write>(
     rt: &T,
@@ -56,7 +57,7 @@ pub(crate) fn format_file<T: Files<File = File>, W: Write, E: Write>(
 
 /// Opens a file that is there, and runs a script on the index that it holds.
 ///
-/// The status is that of `gx_device_commands::run_over`. It is 1 too where the file isn't there or can't be opened, or
+/// The status is that of `gx_commands::run_over`. It is 1 too where the file isn't there or can't be opened, or
 /// another process has it, which writes `refused 11 device`, and tells a person why; nothing is read then.
 pub(crate) fn run_file<T: Files<File = File>, R: Read, W: Write, E: Write>(
     rt: &T,
@@ -85,7 +86,7 @@ pub(crate) fn run_file<T: Files<File = File>, R: Read, W: Write, E: Write>(
 
 /// Opens a file that is there, and writes the text of the tree of the index that it holds.
 ///
-/// The status is that of `gx_device_commands::dump_over`, with 64 frames. It is 1 too where the file isn't there or
+/// The status is that of `gx_commands::dump_over`, with 64 frames. It is 1 too where the file isn't there or
 /// can't be opened, or another process has it, which writes `refused 11 device`, and tells a person why.
 pub(crate) fn dump_file<T: Files<File = File>, W: Write, E: Write>(
     rt: &T,
@@ -101,13 +102,32 @@ pub(crate) fn dump_file<T: Files<File = File>, W: Write, E: Write>(
     match FileDisk::open(rt, file) {
         Ok(disk) => {
             let (_disk, status) = dump_over::<FileDisk, Box2Class, W, E>(
-                alloc,
-                disk,
-                DUMP_FRAMES,
-                writer,
-                faults,
+                alloc, disk, FRAMES, writer, faults,
             );
             status
+        }
+        Err(fault) => refuse_file(alloc, writer, faults, file, fault, NOT_OPENED),
+    }
+}
+
+/// Opens a file that is there, and verifies the index that it holds: the file stays as it is.
+///
+/// The status is that of `gx_commands::verify_over`, with 64 frames. It is 1 too where the file isn't there or
+/// can't be opened, or another process has it, which writes `refused 11 device`, and tells a person why.
+pub(crate) fn verify_file<T: Files<File = File>, W: Write, E: Write>(
+    rt: &T,
+    alloc: Global,
+    file: &str,
+    writer: &mut Noted<W>,
+    faults: &mut Noted<E>,
+) -> u8
+    ensures { EndsVerify ⟦<Box2 as Shape>⟧ ⟦<Box2Class as KeyClass>⟧ ⟦<FileDisk as SectorDisk>⟧.state
+        (outputs_of W.contents E.contents writer.old faults.old)
+        (outputs_of W.contents E.contents writer.new faults.new) result }
+{
+    match FileDisk::open(rt, file) {
+        Ok(mut disk) => {
+            verify_over::<FileDisk, Box2Class, W, E>(alloc, &mut disk, FRAMES, writer, faults)
         }
         Err(fault) => refuse_file(alloc, writer, faults, file, fault, NOT_OPENED),
     }

@@ -3,10 +3,11 @@
 
 mod files;
 mod program;
+mod storms;
 #[cfg(test)]
 mod tests;
 
-use gx_command::Noted;
+use gx_commands::Noted;
 pub use program::gist;
 use std::process::ExitCode;
 

@@ -7,9 +7,11 @@ use std::env::FillError;
 use std::fs::{self, File, Files};
 use std::process::Abort;
 use std::rt::Env;
+use std::sync::Wait;
+use std::thread::Threads;
 
 // What asks for nothing the program knows, and calls for help.
-const WRONG: [&[&str]; 23] = [
+const WRONG: [&[&str]; 28] = [
     &["gist"],
     &["gist", "plane"],
     &["gist", "PLAIN"],
@@ -28,6 +30,11 @@ const WRONG: [&[&str]; 23] = [
     &["gist", "dump"],
     &["gist", "dump", "f", "g"],
     &["gist", "dump", "f", "--frames", "64"],
+    &["gist", "verify"],
+    &["gist", "verify", "f", "--frames", "64"],
+    &["gist", "storm", "1", "9", "200"],
+    &["gist", "storm", "1", "4", "2001"],
+    &["gist", "storm", "4294967296", "4", "200"],
     &["gist", "--help"],
     &["gist", "help"],
     &["gist", "plain", "-h"],
@@ -36,7 +43,7 @@ const WRONG: [&[&str]; 23] = [
 ];
 
 // What asks for something, and what it asks for.
-const RIGHT: [(&[&str], Asked); 7] = [
+const RIGHT: [(&[&str], Asked); 9] = [
     (&["gist", "plain"], Asked::Plain),
     (
         &["gist", "format", "f", "8", "100"],
@@ -76,10 +83,19 @@ const RIGHT: [(&[&str], Asked); 7] = [
         },
     ),
     (&["gist", "dump", "f"], Asked::Dump { file: "f" }),
+    (&["gist", "verify", "f"], Asked::Verify { file: "f" }),
+    (
+        &["gist", "storm", "4294967295", "8", "2000"],
+        Asked::Storm {
+            seed: 4294967295,
+            sessions: 8,
+            calls: 2000,
+        },
+    ),
 ];
 
 // With these words a script of one line ends with this status, writes this, and a text about the words or none.
-fn ends<T: Abort + AllocGlobal + Files<File = File>>(
+fn ends<T: Abort + AllocGlobal + Files<File = File> + Threads + Wait + Sync>(
     rt: &T,
     words: Result<&[&str], WordsFault>,
     status: u8,
@@ -116,6 +132,17 @@ fn what_words_ask_for(rt: HostRuntime) {
     for (words, wanted) in RIGHT {
         assert!(rt; matches!(read(rt.alloc(), words), Ok(asked) if asked == wanted));
     }
+}
+
+#[test]
+fn a_storm_is_sound(rt: HostRuntime) {
+    ends(
+        &rt,
+        Ok(["gist", "storm", "1", "2", "20"].as_slice()),
+        0,
+        b"storm ok calls 40\n\0",
+        false,
+    );
 }
 
 // A file that can't be opened is told, and the script isn't read.
@@ -179,7 +206,8 @@ const STARTS: [&[&str]; 3] = [
     &["gist", LONGER],
 ];
 
-// Each word is given, whole and in its place: none, an empty one, one as long as the first room for it, and longer ones.
+// Each word is given, whole and in its place: none, an empty one, one as long as the first room for it, and longer
+// ones.
 #[test]
 fn words_are_given_whole(rt: HostRuntime) {
     for words in STARTS {
@@ -237,7 +265,10 @@ const fn refused(
 
 const ALL: &[u8] = b"1 BEGIN\n1 OVERLAP -2147483648 -2147483648 2147483647 2147483647\n";
 
-fn carries_out<T: Abort + AllocGlobal + Files<File = File>>(rt: &T, case: &Case) {
+fn carries_out<T: Abort + AllocGlobal + Files<File = File> + Threads + Wait + Sync>(
+    rt: &T,
+    case: &Case,
+) {
     let mut reader = Noted::new(case.script);
     let mut writer = Noted::new(Vec::new(rt.alloc()));
     let mut faults = Noted::new(Vec::new(rt.alloc()));
@@ -257,8 +288,8 @@ fn length_of<T: Abort + Files<File = File>>(rt: &T, file: &str) -> u64 {
 
 const NO_DEVICE: &[u8] = b"refused 11 device\n";
 
-// Two files with an index each: what was committed is found by later runs and dumps of that file, and of no other. Runs and
-// dumps leave a file as long as it is.
+// Two files with an index each: what was committed is found by later runs and dumps of that file, and of no other. Runs
+// and dumps leave a file as long as it is.
 #[test]
 fn what_is_committed_is_in_the_file(rt: HostRuntime) {
     let steps = [
@@ -289,6 +320,16 @@ fn what_is_committed_is_in_the_file(rt: HostRuntime) {
             b"commits 1 used 2 counter 0\npage 1 level 1 nsn 0 right 0 count 1\nchild 2 0 0 10 10\npage 2 level 0 nsn 0 right 0 count 2\nentry 7 0 0 10 10 live\nentry 8 5 5 6 6 marked\n",
         ),
         done(
+            &["gist", "verify", "north"],
+            b"",
+            b"ok commits 1 entries 1 used 2\n",
+        ),
+        done(
+            &["gist", "verify", "south"],
+            b"",
+            b"ok commits 0 entries 0 used 2\n",
+        ),
+        done(
             &["gist", "dump", "south"],
             b"",
             b"commits 0 used 2 counter 0\npage 1 level 1 nsn 0 right 0 count 1\nchild 2 0 0 0 0\npage 2 level 0 nsn 0 right 0 count 0\n",
@@ -303,7 +344,8 @@ fn what_is_committed_is_in_the_file(rt: HostRuntime) {
     let _ = fs::remove_file(&rt, "south");
 }
 
-// A file that another has, one that isn't there, and three that hold no index: each is told, and none is made, extended or changed.
+// A file that another has, one that isn't there, and three that hold no index: each is told, and none is made, extended
+// or changed.
 #[test]
 fn files_that_hold_no_index(rt: HostRuntime) {
     carries_out(
@@ -318,6 +360,10 @@ fn files_that_hold_no_index(rt: HostRuntime) {
     let in_use: &[u8] = b"gist: used: another process has it in use\n";
     carries_out(&rt, &refused(&["gist", "run", "used"], NO_DEVICE, in_use));
     carries_out(&rt, &refused(&["gist", "dump", "used"], NO_DEVICE, in_use));
+    carries_out(
+        &rt,
+        &refused(&["gist", "verify", "used"], NO_DEVICE, in_use),
+    );
     carries_out(
         &rt,
         &refused(&["gist", "format", "used", "8", "4"], NO_DEVICE, in_use),
@@ -348,6 +394,14 @@ fn files_that_hold_no_index(rt: HostRuntime) {
         &rt,
         &refused(&["gist", "dump", "short"], b"refused 17 too small\n", small),
     );
+    carries_out(
+        &rt,
+        &refused(
+            &["gist", "verify", "short"],
+            b"refused 17 too small\n",
+            small,
+        ),
+    );
     assert!(rt; length_of(&rt, "short") == 1000);
     let _ = fs::remove_file(&rt, "short");
 
@@ -357,6 +411,14 @@ fn files_that_hold_no_index(rt: HostRuntime) {
         &rt,
         &refused(
             &["gist", "run", "zeros"],
+            b"refused 14 not formatted\n",
+            blank,
+        ),
+    );
+    carries_out(
+        &rt,
+        &refused(
+            &["gist", "verify", "zeros"],
             b"refused 14 not formatted\n",
             blank,
         ),

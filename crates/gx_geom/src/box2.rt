@@ -1,5 +1,6 @@
 //! Closed boxes of the plane.
-ghost use Rattle.std.specs.Prelude.{◌≡◌, ◌&&◌, ◌↔◌, ◌≤◌, ◌≤ℤ◌, ◌-ℤ◌, unsigned_abs, int_le, IsTrue, IsOk, IfOk, OnErr, Some};
+ghost use Rattle.std.specs.Prelude.{◌≡◌, ◌&&◌, ◌↔◌, ◌≤◌, ◌≤ℤ◌, ◌-ℤ◌, unsigned_abs};
+ghost use Rattle.std.specs.Prelude.{int_le, IsTrue, IsOk, IfOk, OnErr, Some};
 
 use crate::{Refusal, Shape};
 use std::fmt;

@@ -25,7 +25,8 @@ pub fn union_is_least()
 /// No box has a greater area than the greatest box, whose area fits in 64 bits.
 pub fn area_is_bounded()
     ensures bound { (a : Rectangle) → IsBox a → area a ≤ 18446744065119617025 }
-    ensures reached { area (rectangle_of (negsuc 2147483647) (negsuc 2147483647) (pos 2147483647) (pos 2147483647)) ≡ 18446744065119617025 }
+    ensures reached { area (rectangle_of (negsuc 2147483647) (negsuc 2147483647) (pos 2147483647) (pos 2147483647))
+        ≡ 18446744065119617025 }
 {}
 
 /// Two intervals overlap exactly where some number lies in both, and one lies within another exactly where each of its

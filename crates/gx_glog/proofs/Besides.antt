@@ -2,11 +2,12 @@
 use Rattle.std.proofs.Common.{inl, inr, ℕ, ◌≤◌, length, arith}
 use Rattle.gx_record.specs.Format.{spelling}
 use Rattle.gx_record.specs.Rec.{Rec, Pages, Write, Commit, End, Counters, Note}
+use Rattle.gx_disk.specs.declared.layout.TheConstants.{PAGES_AT}
 use Rattle.gx_disk.specs.Sectors.{IsOutside}
 use Rattle.gx_glog.specs.Standing.{IsOfLog}
 
 -- a page lies behind the log's sectors
-pub page_is_apart : (first n s : ℕ) → 4168 ≤ first → IsOfLog s → IsOutside first n s
+pub page_is_apart : (first n s : ℕ) → PAGES_AT ≤ first → IsOfLog s → IsOutside first n s
 page_is_apart first n s from (inl selector) = inl (omega arith)
 page_is_apart first n s from (inr log) = inl (omega (arith, log.1))
 

@@ -3,11 +3,14 @@ use Rattle.std.proofs.Common.{◌≡◌, ◌∙◌, sym, ap, refl, subst, inl, i
 use Rattle.std.specs.Prelude.{OnOk}
 use Rattle.std.proofs.lemmas.Bool.{cases_lt, false≢true}
 use Rattle.std.proofs.lemmas.List.{take-replicate, length-replicate}
+use Rattle.gx_disk.specs.declared.layout.TheConstants.{PAGES_AT}
 use Rattle.gx_disk.specs.Device.{Device, MayLeave, IsSettled, Touches, Rests, Writes, Syncs, IsWritten}
 use Rattle.gx_disk.specs.Looks.{Looks}
 use Rattle.gx_disk.specs.Moments.{Leaves}
 use Rattle.gx_disk.specs.Sectors.{span_of, sector_of, IsOutside}
 use Rattle.gx_disk.proofs.Leaving.{call_leaves, leaves_joined, leaves_weaker}
+use Rattle.gx_glog.specs.declared.turn.TheConstants.{GATES_SIZE}
+use Rattle.gx_glog.specs.declared.extent.TheConstants.{PLACES}
 use Rattle.gx_glog.specs.declared.extent.Extent.{Extent}
 use Rattle.gx_glog.specs.Cuts.{bodies_in, open_bodies}
 use Rattle.gx_glog.specs.First.{closed_gates_bytes}
@@ -21,30 +24,30 @@ use Rattle.gx_glog.proofs.Turning.{written_back, first_read}
 
 -- the write of the first sectors of closed gates
 closes_gates : {T E : Type 0} (from : ℕ) (extent : Extent) (at size : ℕ) (gates : List ℕ) (old new : Device) (result : Result T E) → gates ≡ closed_gates_bytes → at ≡ gates_of extent + from
-    → size ≡ 512 * (32 - from) → Writes at (length (take size gates) / 512) (take size gates) old new result → ClosesGatesFrom from extent old new result
+    → size ≡ 512 * (PLACES - from) → Writes at (length (take size gates) / 512) (take size gates) old new result → ClosesGatesFrom from extent old new result
 closes_gates {T = T} {E = E} from extent at size gates old new result are place whole writes =
-    let bytes : take size gates ≡ replicate (512 * (32 - from)) 0 = rw (are, whole) (take-replicate (512 * (32 - from)) 16384 0 (omega arith)) in
-    let count : length (take size gates) / 512 ≡ 32 - from = omega (arith, ap length bytes, length-replicate {A = ℕ} (512 * (32 - from)) 0) in
-    let A : ℕ → Type 0 = λ first. Writes {T = T} {E = E} first (32 - from) (replicate (512 * (32 - from)) 0) old new result in
-    let B : List ℕ → Type 0 = λ written. Writes {T = T} {E = E} at (32 - from) written old new result in
+    let bytes : take size gates ≡ replicate (512 * (PLACES - from)) 0 = rw (are, whole) (take-replicate (512 * (PLACES - from)) GATES_SIZE 0 (omega arith)) in
+    let count : length (take size gates) / 512 ≡ PLACES - from = omega (arith, ap length bytes, length-replicate {A = ℕ} (512 * (PLACES - from)) 0) in
+    let A : ℕ → Type 0 = λ first. Writes {T = T} {E = E} first (PLACES - from) (replicate (512 * (PLACES - from)) 0) old new result in
+    let B : List ℕ → Type 0 = λ written. Writes {T = T} {E = E} at (PLACES - from) written old new result in
     let C : ℕ → Type 0 = λ n. Writes {T = T} {E = E} at n (take size gates) old new result in
     subst A place (subst B bytes (subst C count writes))
 
 module _ {T E T' E' : Type 0} (from : ℕ) (extent : Extent) (at size : ℕ) (gates : List ℕ) (old new : Device) where
-  pub closes_made : (x : T) (y : T') → gates ≡ closed_gates_bytes → at ≡ gates_of extent + from → size ≡ 512 * (32 - from)
+  pub closes_made : (x : T) (y : T') → gates ≡ closed_gates_bytes → at ≡ gates_of extent + from → size ≡ 512 * (PLACES - from)
       → Writes {T = T} {E = E} at (length (take size gates) / 512) (take size gates) old new (Ok x) → ClosesGatesFrom {T = T'} {E = E'} from extent old new (Ok y)
   closes_made x y are place whole writes =
       let closes = closes_gates {T = T} {E = E} from extent at size gates old new (Ok x) are place whole writes in
       record { touches = closes.touches; written = closes.written; torn = closes.torn; pending = closes.pending; time = closes.time }
 
-  pub closes_failed : (x : E) (y : E') → gates ≡ closed_gates_bytes → at ≡ gates_of extent + from → size ≡ 512 * (32 - from)
+  pub closes_failed : (x : E) (y : E') → gates ≡ closed_gates_bytes → at ≡ gates_of extent + from → size ≡ 512 * (PLACES - from)
       → Writes {T = T} {E = E} at (length (take size gates) / 512) (take size gates) old new (Err x) → ClosesGatesFrom {T = T'} {E = E'} from extent old new (Err y)
   closes_failed x y are place whole writes =
       let closes = closes_gates {T = T} {E = E} from extent at size gates old new (Err x) are place whole writes in
       record { touches = closes.touches; written = tt; torn = closes.torn; pending = closes.pending; time = closes.time }
 
 -- where the first n gates of an extent that is selected are open and the next one is closed, of which no other sector is known
-module _ (extent : Extent) (n : ℕ) (seen : List ℕ) (pending : ℕ → Bool) (few : n ≤ 32) (has : HasRun extent n seen pending) (selects : IsSelected extent seen pending) where
+module _ (extent : Extent) (n : ℕ) (seen : List ℕ) (pending : ℕ → Bool) (few : n ≤ PLACES) (has : HasRun extent n seen pending) (selects : IsSelected extent seen pending) where
   -- bytes with each sector but those of later gates have the same log
   module _ (image : List ℕ) (others : (s : ℕ) → IsBesideLater extent n s → sector_of image s ≡ sector_of seen s) where
     pub beside_selected : selected_of image ≡ extent
@@ -56,17 +59,17 @@ module _ (extent : Extent) (n : ℕ) (seen : List ℕ) (pending : ℕ → Bool) 
     pub beside_opened : (k : ℕ) → k < n → is_open image extent k ≡ true
     beside_opened k less = beside_gate k (omega (arith, less)) ∙ (has.opened k less).reads
 
-    pub beside_ended : n < 32 → is_open image extent n ≡ false
+    pub beside_ended : n < PLACES → is_open image extent n ≡ false
     beside_ended less = beside_gate n (omega arith) ∙ (has.ends less).reads
 
     pub beside_body : (k : ℕ) → body_of image extent k ≡ body_of seen extent k
     beside_body k = let at = placed extent in body_same extent k image seen (λ s within. others s (inr (omega (arith, at.bodies, within.from))))
 
-    beside_run : open_run image (selected_of image) 0 32 ≡ n
+    beside_run : open_run image (selected_of image) 0 PLACES ≡ n
     beside_run =
         let start : 0 + n ≡ n = omega arith in
-        ap (λ x. open_run image x 0 32) beside_selected
-        ∙ run_is extent 32 0 n image few (λ j from below. beside_opened j (omega (arith, below))) (λ less. ap (λ j. is_open image extent j) start ∙ beside_ended less)
+        ap (λ x. open_run image x 0 PLACES) beside_selected
+        ∙ run_is extent PLACES 0 n image few (λ j from below. beside_opened j (omega (arith, below))) (λ less. ap (λ j. is_open image extent j) start ∙ beside_ended less)
 
     beside_bodies : open_bodies image ≡ bodies_in seen extent n
     beside_bodies = bodies_are extent n image beside_selected few beside_opened beside_ended ∙ bodies_same extent n image seen (λ k less. beside_body k)
@@ -93,11 +96,11 @@ looked_beside extent n old new settled looks = record {
   settled = λ s is. looks.pending s ∙ settled s;
 }
 
-beside_outside : (extent : Extent) (n s : ℕ) → n + 1 < 32 → IsBesideLater extent n s → IsOutside (gates_of extent + (n + 1)) (32 - (n + 1)) s
+beside_outside : (extent : Extent) (n s : ℕ) → n + 1 < PLACES → IsBesideLater extent n s → IsOutside (gates_of extent + (n + 1)) (PLACES - (n + 1)) s
 beside_outside extent n s less (inl before) = inl (omega (arith, before))
 beside_outside extent n s less (inr behind) = inr (omega (arith, behind, less))
 
-wrote_beside : {T E : Type 0} (extent : Extent) (n : ℕ) (old at new : Device) (result : Result T E) → n + 1 < 32 → Beside extent n old at → ClosesGatesFrom (n + 1) extent at new result → Beside extent n old new
+wrote_beside : {T E : Type 0} (extent : Extent) (n : ℕ) (old at new : Device) (result : Result T E) → n + 1 < PLACES → Beside extent n old at → ClosesGatesFrom (n + 1) extent at new result → Beside extent n old new
 wrote_beside extent n old at new result less was closes = record {
   size = closes.touches.size ∙ was.size;
   others = λ s is. closes.touches.bytes s (beside_outside extent n s less is) ∙ was.others s is;
@@ -112,20 +115,20 @@ rested_beside extent n old at new was rests = record {
 }
 
 -- the gates that were written closed read closed
-later_closed : (extent : Extent) (n : ℕ) (before now : Device) → n + 1 < 32 → 2134016 ≤ length before.seen
-    → IsWritten (gates_of extent + (n + 1)) (32 - (n + 1)) (replicate (512 * (32 - (n + 1))) 0) before now → ReadsClosedFrom (n + 1) extent now.seen
+later_closed : (extent : Extent) (n : ℕ) (before now : Device) → n + 1 < PLACES → 512 * PAGES_AT ≤ length before.seen
+    → IsWritten (gates_of extent + (n + 1)) (PLACES - (n + 1)) (replicate (512 * (PLACES - (n + 1))) 0) before now → ReadsClosedFrom (n + 1) extent now.seen
 unfolding is_open span_of
 later_closed extent n before now less size written k from below =
     let at = placed extent in
     let first = gates_of extent + (n + 1) in
-    let bytes = replicate {A = ℕ} (512 * (32 - (n + 1))) 0 in
-    let long : length bytes ≡ 512 * (32 - (n + 1)) = length-replicate {A = ℕ} (512 * (32 - (n + 1))) 0 in
-    let reads = written_back first (32 - (n + 1)) bytes before now written (omega (arith, long, at.bodies, at.to, size, less)) in
+    let bytes = replicate {A = ℕ} (512 * (PLACES - (n + 1))) 0 in
+    let long : length bytes ≡ 512 * (PLACES - (n + 1)) = length-replicate {A = ℕ} (512 * (PLACES - (n + 1))) 0 in
+    let reads = written_back first (PLACES - (n + 1)) bytes before now written (omega (arith, long, at.bodies, at.to, size, less)) in
     let place : gates_of extent + k ≡ first + (k - (n + 1)) = omega (arith, from) in
     ap (λ s. get_or (take 512 (drop (512 * s) now.seen)) 0 0 == 0xA7) place
-    ∙ ap (λ byte. byte == 0xA7) (first_read first (k - (n + 1)) (512 * (32 - (n + 1))) bytes now.seen long (omega (arith, from, below)) reads ∙ replicated_zero (512 * (32 - (n + 1))) (512 * (k - (n + 1))))
+    ∙ ap (λ byte. byte == 0xA7) (first_read first (k - (n + 1)) (512 * (PLACES - (n + 1))) bytes now.seen long (omega (arith, from, below)) reads ∙ replicated_zero (512 * (PLACES - (n + 1))) (512 * (k - (n + 1))))
 
-module _ (extent : Extent) (n : ℕ) (old : Device) (few : n ≤ 32) (settled : IsSettled old) (has : HasRun extent n old.seen old.pending) (selects : IsSelected extent old.seen old.pending) where
+module _ (extent : Extent) (n : ℕ) (old : Device) (few : n ≤ PLACES) (settled : IsSettled old) (has : HasRun extent n old.seen old.pending) (selects : IsSelected extent old.seen old.pending) where
   beside_keeps : (new : Device) → Beside extent n old new → KeepsRun extent n old.seen new.seen
   beside_keeps new beside = keeps_run extent n old.seen old.pending few has selects new.seen beside.size beside.others
 
@@ -176,7 +179,7 @@ module _ (extent : Extent) (n : ℕ) (old : Device) (few : n ≤ 32) (settled : 
         }
 
     -- and then the gates were written
-    module _ (less : n + 1 < 32) (wrote : Device) where
+    module _ (less : n + 1 < PLACES) (wrote : Device) where
       wrote_leaves : {T E : Type 0} (result : Result T E) → ClosesGatesFrom (n + 1) extent read wrote result → Leaves (KeepsRun extent n old.seen) old wrote
       wrote_leaves result closes =
           leaves_joined (KeepsRun extent n old.seen) old read wrote looked_leaves
@@ -211,11 +214,11 @@ module _ (extent : Extent) (n : ℕ) (old : Device) where
   not_both : (seen : List ℕ) → ReadsOpenFrom (n + 1) extent seen → ReadsClosedFrom (n + 1) extent seen → ⊥
   not_both seen one all = false≢true (sym (all one.place one.later one.below) ∙ one.reads)
 
-  later_outside : (s : ℕ) → n + 1 < 32 → IsOutside (gates_of extent + (n + 1)) (31 - n) s → IsOutside (gates_of extent + (n + 1)) (32 - (n + 1)) s
+  later_outside : (s : ℕ) → n + 1 < PLACES → IsOutside (gates_of extent + (n + 1)) (PLACES - (n + 1)) s → IsOutside (gates_of extent + (n + 1)) (PLACES - (n + 1)) s
   later_outside s less (inl before) = inl before
   later_outside s less (inr behind) = inr (omega (arith, behind, less))
 
-  looked_touches : (read : Device) → Looks old read → Touches (gates_of extent + (n + 1)) (31 - n) old read
+  looked_touches : (read : Device) → Looks old read → Touches (gates_of extent + (n + 1)) (PLACES - (n + 1)) old read
   looked_touches read looks = record {
     size = ap length looks.rests.seen;
     bytes = λ s out. ap (λ (bytes : List ℕ). sector_of bytes s) looks.rests.seen;
@@ -229,9 +232,9 @@ module _ (extent : Extent) (n : ℕ) (old : Device) where
   calls_closed x read calls looks closed = record { none = λ again. (calls, looks); two = λ is. absurd (not_both old.seen is closed); touches = looked_touches read looks }
 
   module _ (read wrote : Device) (looks : Looks old read) (is : ReadsOpenFrom (n + 1) extent old.seen) where
-    wrote_touches : {T E : Type 0} (result : Result T E) → ClosesGatesFrom (n + 1) extent read wrote result → Touches (gates_of extent + (n + 1)) (31 - n) old wrote
+    wrote_touches : {T E : Type 0} (result : Result T E) → ClosesGatesFrom (n + 1) extent read wrote result → Touches (gates_of extent + (n + 1)) (PLACES - (n + 1)) old wrote
     wrote_touches result closes =
-        let less : n + 1 < 32 = omega (arith, is.later, is.below) in
+        let less : n + 1 < PLACES = omega (arith, is.later, is.below) in
         record {
           size = closes.touches.size ∙ ap length looks.rests.seen;
           bytes = λ s out. closes.touches.bytes s (later_outside s less out) ∙ ap (λ (bytes : List ℕ). sector_of bytes s) looks.rests.seen;

@@ -1,6 +1,7 @@
 -- The bodies of a log one by one, and their bytes in a row.
 use Rattle.std.proofs.Common.{◌≡◌, ◌∙◌, sym, ap, refl, ◌⊎◌, inl, inr, ℕ, zero, suc, List, [], ◌∷◌, ◌++◌, append-nil, append_assoc, Result, Ok, Err}
 use Rattle.gx_geom.specs.declared.refusal.Refusal.{Refusal}
+use Rattle.gx_glog.specs.declared.extent.TheConstants.{PLACES}
 use Rattle.gx_glog.specs.declared.extent.Extent.{Extent}
 use Rattle.gx_glog.specs.declared.stage.Stage.{Stage}
 use Rattle.gx_glog.specs.declared.stage.Stage.TheVariants.{Body, BodySync, Gate, GateSync, Idle}
@@ -26,7 +27,7 @@ joined_bodies bytes extent (suc n) = joined_more (bodies_in bytes extent n) (rec
 -- the log of an image is its bodies in a row
 pub joined_log : (image : List ℕ) → joined (open_bodies image) ≡ log_of image
 unfolding open_bodies log_of
-joined_log image = joined_bodies image (selected_of image) (open_run image (selected_of image) 0 32)
+joined_log image = joined_bodies image (selected_of image) (open_run image (selected_of image) 0 PLACES)
 
 log_is_joined : (bodies : List (List ℕ)) (image : List ℕ) → open_bodies image ≡ bodies → log_of image ≡ joined bodies
 log_is_joined bodies image is = sym (joined_log image) ∙ ap joined is

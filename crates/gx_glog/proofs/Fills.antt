@@ -6,6 +6,7 @@ use Rattle.gx_disk.specs.Sectors.{put}
 use Rattle.gx_disk.proofs.Spans.{length-put, put_back, put_behind}
 use Rattle.gx_record.specs.Bytes.{u32_bytes, u32_of}
 use Rattle.gx_record.proofs.Numbers.{length-u32_bytes, u32_again}
+use Rattle.gx_glog.specs.declared.extent.TheConstants.{BODY_SIZE}
 use Rattle.gx_glog.specs.declared.extent.Extent.{Extent}
 use Rattle.gx_glog.specs.declared.extent.Extent.TheVariants.{A, B}
 use Rattle.gx_glog.specs.First.{selector_bytes}
@@ -53,7 +54,7 @@ pub pushed : (end size : ℕ) (new bytes put_there after : List ℕ) → IsFille
     → put_there ≡ put end new bytes → after ≡ put 0 (u32_bytes (end + size - 4)) put_there
     → IsFilled (end + size) after × (take (end + size - 4) (drop 4 after) ≡ take (end - 4) (drop 4 bytes) ++ new)
 pushed end size new bytes put_there after filled is fits there behind =
-    let long : length put_there ≡ 32768 = ap length there ∙ length-put end new bytes fits ∙ filled.whole in
+    let long : length put_there ≡ BODY_SIZE = ap length there ∙ length-put end new bytes fits ∙ filled.whole in
     let size_put = sized 0 (end + size - 4) put_there refl (omega (arith, filled.whole)) (omega arith) in
     let tail : (k : ℕ) → 4 ≤ k → drop k after ≡ drop k put_there = λ k from. ap (drop k) behind ∙ size_put.2 k from in
     let rest : drop (end + size) put_there ≡ drop (end + size) bytes =
@@ -73,7 +74,7 @@ pushed end size new bytes put_there after filled is fits there behind =
     )
 
 -- a buffer of zeros has no records
-pub zero_filled : (bytes : List ℕ) → length bytes ≡ 32768 → IsZero bytes → IsFilled 4 bytes
+pub zero_filled : (bytes : List ℕ) → length bytes ≡ BODY_SIZE → IsZero bytes → IsFilled 4 bytes
 unfolding size_in
 zero_filled bytes whole zeros =
     let byte : (i : ℕ) → i < 4 → get_or (take 4 bytes) i 0 ≡ 0 = λ i less. get_or-take 4 bytes i 0 less ∙ zeros i in

@@ -4,14 +4,14 @@ use Rattle.gx_disk.specs.Sectors.{span_of, sector_of}
 use Rattle.gx_disk.specs.Device.{IsImage}
 use Rattle.gx_disk.proofs.Spans.{image_span}
 use Rattle.gx_record.specs.Bytes.{u64_bytes, u32_bytes}
+use Rattle.gx_glog.specs.declared.extent.TheConstants.{PLACES}
 use Rattle.gx_glog.specs.declared.extent.Extent.TheVariants.{A, B}
-use Rattle.gx_glog.specs.declared.stage.Stage.TheVariants.{Idle}
-use Rattle.gx_glog.specs.declared.stage.Turn.TheVariants.{Closed}
 use Rattle.gx_glog.specs.Bodies.{HasRecords}
 use Rattle.gx_glog.specs.Cuts.{open_bodies, joined}
 use Rattle.gx_glog.specs.First.{first_record, first_body_bytes, FirstIsSpelled, HasFirstLog, IsFirstSettled}
 use Rattle.gx_glog.specs.Layout.{selected_of, is_open, body_of, size_in, records_in, log_of}
 use Rattle.gx_glog.specs.Standing.{IsSelected, HasHead, On}
+use Rattle.gx_glog.specs.State.{starting}
 use Rattle.gx_glog.proofs.Images.{head_shows_bodies}
 use Rattle.gx_glog.proofs.Cuts.{joined_more, joined_log}
 use Rattle.gx_glog.proofs.Keeping.{start_on}
@@ -30,7 +30,7 @@ first_open : (seen : List ℕ) → HasFirstLog seen → is_open seen A 0 ≡ tru
 unfolding is_open span_of sector_of
 first_open seen has = ap (λ (sector : List ℕ). get_or sector 0 0 == 0xA7) has.opened
 
-later_closed : (seen : List ℕ) (k : ℕ) → HasFirstLog seen → 1 ≤ k → k < 32 → is_open seen A k ≡ false
+later_closed : (seen : List ℕ) (k : ℕ) → HasFirstLog seen → 1 ≤ k → k < PLACES → is_open seen A k ≡ false
 unfolding is_open span_of sector_of
 later_closed seen k has from below = ap (λ (sector : List ℕ). get_or sector 0 0 == 0xA7) (has.closed (8 + k) (omega arith) (omega arith))
 
@@ -55,7 +55,7 @@ module _ (seen : List ℕ) (pending : ℕ → Bool) (has : HasFirstLog seen) (se
       })
       (record { reads = first_open seen has; settled = settled (8 + 0) (inr (omega arith, omega arith)) })
 
-  pub first_on : On (record { extent = A; used = 1; gated = 1; stage = Idle; turn = Closed; flight = []; filling = [] }) seen pending
+  pub first_on : On (starting A 1) seen pending
   first_on = start_on A 1 seen pending (omega arith) selected head.batches
 
   -- each image holds it too

@@ -1,8 +1,10 @@
 -- What gates, bodies and the selector read as: it hangs on their own sectors alone.
 use Rattle.std.proofs.Common.{◌≡◌, ◌∙◌, ap, refl, ◌⊎◌, inl, inr, ℕ, zero, suc, ◌+◌, ◌*◌, ◌<◌, ◌≤◌, ◌==◌, List, [], ◌∷◌, ◌++◌, true, false, if◌then◌else◌, arith}
 use Rattle.std.specs.Prelude.{slice_index}
+use Rattle.gx_disk.specs.declared.layout.TheConstants.{PAGES_AT}
 use Rattle.gx_disk.specs.Sectors.{span_of, sector_of, IsWithin, IsOutside}
 use Rattle.gx_disk.proofs.Spans.{spans_same}
+use Rattle.gx_glog.specs.declared.extent.TheConstants.{BODY_SECTORS, EXTENT_SECTORS, PLACES}
 use Rattle.gx_glog.specs.declared.extent.Extent.{Extent}
 use Rattle.gx_glog.specs.declared.extent.Extent.TheVariants.{A, B}
 use Rattle.gx_glog.specs.Layout.{gates_of, bodies_of, other_of, selected_of, is_open, body_of, records_in, open_run}
@@ -12,7 +14,7 @@ use Rattle.gx_glog.specs.Cuts.{bodies_in, open_bodies}
 pub record IsPlaced (extent : Extent) : Type 0 where
   pub bodies : bodies_of extent ≡ gates_of extent + 32
   pub from : 8 ≤ gates_of extent
-  pub to : bodies_of extent + 2048 ≤ 4168
+  pub to : bodies_of extent + 2048 ≤ PAGES_AT
 
 pub placed : (extent : Extent) → IsPlaced extent
 placed A = record { bodies = refl; from = omega arith; to = omega arith }
@@ -26,7 +28,7 @@ either_extent B A = inr refl
 either_extent B B = inl refl
 
 -- a span within one extent leaves the sectors of the other
-pub other_outside : (extent : Extent) (first n s : ℕ) → gates_of (other_of extent) ≤ first → first + n ≤ gates_of (other_of extent) + 2080 → IsWithin (gates_of extent) 2080 s → IsOutside first n s
+pub other_outside : (extent : Extent) (first n s : ℕ) → gates_of (other_of extent) ≤ first → first + n ≤ gates_of (other_of extent) + EXTENT_SECTORS → IsWithin (gates_of extent) EXTENT_SECTORS s → IsOutside first n s
 other_outside A first n s from to within = inl (omega (arith, within.below))
 other_outside B first n s from to within = inr (omega (arith, within.from))
 
@@ -38,9 +40,9 @@ pub selector_same : (xs ys : List ℕ) → sector_of xs 2 ≡ sector_of ys 2 →
 unfolding selected_of span_of sector_of
 selector_same xs ys same = ap (λ (sector : List ℕ). if slice_index sector 0 == 0x5A then B else A) same
 
-pub body_same : (extent : Extent) (k : ℕ) (xs ys : List ℕ) → ((s : ℕ) → IsWithin (bodies_of extent + 64 * k) 64 s → sector_of xs s ≡ sector_of ys s) → body_of xs extent k ≡ body_of ys extent k
+pub body_same : (extent : Extent) (k : ℕ) (xs ys : List ℕ) → ((s : ℕ) → IsWithin (bodies_of extent + BODY_SECTORS * k) BODY_SECTORS s → sector_of xs s ≡ sector_of ys s) → body_of xs extent k ≡ body_of ys extent k
 unfolding body_of
-body_same extent k xs ys same = spans_same 64 (bodies_of extent + 64 * k) xs ys same
+body_same extent k xs ys same = spans_same 64 (bodies_of extent + BODY_SECTORS * k) xs ys same
 
 -- bodies are the same where their sectors are
 pub bodies_same : (extent : Extent) (n : ℕ) (xs ys : List ℕ) → ((k : ℕ) → k < n → body_of xs extent k ≡ body_of ys extent k) → bodies_in xs extent n ≡ bodies_in ys extent n
@@ -74,10 +76,10 @@ run_is extent (suc places) k (suc n) bytes few opened closed =
     rw open_here (ap suc rest)
 
 -- the bodies of an image with n open gates in a row
-pub bodies_are : (extent : Extent) (n : ℕ) (image : List ℕ) → selected_of image ≡ extent → n ≤ 32 → ((k : ℕ) → k < n → is_open image extent k ≡ true) → (n < 32 → is_open image extent n ≡ false)
+pub bodies_are : (extent : Extent) (n : ℕ) (image : List ℕ) → selected_of image ≡ extent → n ≤ PLACES → ((k : ℕ) → k < n → is_open image extent k ≡ true) → (n < PLACES → is_open image extent n ≡ false)
     → open_bodies image ≡ bodies_in image extent n
 unfolding open_bodies
 bodies_are extent n image selects few opened closed =
     let there : 0 + n ≡ n = omega arith in
-    let run : open_run image extent 0 32 ≡ n = run_is extent 32 0 n image few (λ j from below. opened j (omega arith)) (λ less. ap (λ j. is_open image extent j) there ∙ closed less) in
+    let run : open_run image extent 0 PLACES ≡ n = run_is extent PLACES 0 n image few (λ j from below. opened j (omega arith)) (λ less. ap (λ j. is_open image extent j) there ∙ closed less) in
     rw selects (ap (λ m. bodies_in image extent m) run)

@@ -1,6 +1,7 @@
 -- Which bodies and which log an image has, of a device that a log is on.
 use Rattle.std.proofs.Common.{◌≡◌, ◌∙◌, sym, subst, ap, refl, ◌⊎◌, inl, inr, ⊎_elim, ℕ, ◌+◌, ◌<◌, ◌≤◌, List, [], ◌∷◌, ◌++◌, true, false, Bool, below_more, arith}
 use Rattle.gx_disk.specs.Device.{IsImage}
+use Rattle.gx_glog.specs.declared.extent.TheConstants.{PLACES}
 use Rattle.gx_glog.specs.declared.extent.Extent.{Extent}
 use Rattle.gx_glog.specs.declared.stage.Stage.{Stage}
 use Rattle.gx_glog.specs.declared.stage.Stage.TheVariants.{Body, BodySync, Gate, GateSync, Idle}
@@ -26,7 +27,7 @@ pub image_bodies : (seen : List ℕ) (pending : ℕ → Bool) (extent : Extent) 
 image_bodies seen pending extent n image settled may = bodies_same extent n image seen (λ k less. image_body seen pending extent k image (settled k less) may)
 
 -- the bodies of an image where so many gates in a row are open
-pub run_log : (extent : Extent) (run : ℕ) (seen : List ℕ) (pending : ℕ → Bool) (image : List ℕ) → run ≤ 32 → HasRun extent run seen pending → IsImage seen pending image → selected_of image ≡ extent
+pub run_log : (extent : Extent) (run : ℕ) (seen : List ℕ) (pending : ℕ → Bool) (image : List ℕ) → run ≤ PLACES → HasRun extent run seen pending → IsImage seen pending image → selected_of image ≡ extent
     → open_bodies image ≡ bodies_in seen extent run
 run_log extent run seen pending image few has may selects =
     bodies_are extent run image selects few (λ k less. image_gate true seen pending extent k image (has.opened k less) may) (λ less. image_gate false seen pending extent run image (has.ends less) may)
@@ -38,31 +39,31 @@ module _ (seen : List ℕ) (pending : ℕ → Bool) (extent : Extent) (gated use
   image_opened k less = image_gate true seen pending extent k image (has.opened k less) may
 
   -- the bodies of an image whose gate behind the gated ones is closed
-  pub closed_log : gated ≤ 32 → (gated < 32 → is_open image extent gated ≡ false) → open_bodies image ≡ bodies_in seen extent gated
+  pub closed_log : gated ≤ PLACES → (gated < PLACES → is_open image extent gated ≡ false) → open_bodies image ≡ bodies_in seen extent gated
   closed_log few closed = bodies_are extent gated image selects few image_opened closed ∙ image_bodies seen pending extent gated image has.bodies may
 
   -- the bodies of an image whose gate behind the gated ones is open, over a body that has these records
-  open_log : (flight : List ℕ) → gated < 32 → used ≡ gated + 1 → HasRecords flight (body_of seen extent gated) → IsBodySettled pending extent gated → is_open image extent gated ≡ true
+  open_log : (flight : List ℕ) → gated < PLACES → used ≡ gated + 1 → HasRecords flight (body_of seen extent gated) → IsBodySettled pending extent gated → is_open image extent gated ≡ true
       → open_bodies image ≡ bodies_in seen extent gated ++ (flight ∷ [])
   open_log flight few places body settled is_opened =
       let opened : (k : ℕ) → k < gated + 1 → is_open image extent k ≡ true = below_more (λ k. is_open image extent k ≡ true) gated image_opened is_opened in
-      let closed : gated + 1 < 32 → is_open image extent (gated + 1) ≡ false = λ less. image_gate false seen pending extent (gated + 1) image (has.closed (gated + 1) (omega arith) less) may in
+      let closed : gated + 1 < PLACES → is_open image extent (gated + 1) ≡ false = λ less. image_gate false seen pending extent (gated + 1) image (has.closed (gated + 1) (omega arith) less) may in
       let whole : open_bodies image ≡ bodies_in image extent (gated + 1) = bodies_are extent (gated + 1) image selects (omega arith) opened closed in
       let last : records_in (body_of image extent gated) ≡ flight = ap records_in (image_body seen pending extent gated image settled may) ∙ body.bytes in
       let before : bodies_in image extent gated ≡ bodies_in seen extent gated = image_bodies seen pending extent gated image has.bodies may in
       whole ∙ bodies_more extent gated image ∙ rw (before, last) refl
 
-  by_gate : (flight : List ℕ) (b : Bool) → is_open image extent gated ≡ b → gated < 32 → used ≡ gated + 1 → HasRecords flight (body_of seen extent gated) → IsBodySettled pending extent gated
+  by_gate : (flight : List ℕ) (b : Bool) → is_open image extent gated ≡ b → gated < PLACES → used ≡ gated + 1 → HasRecords flight (body_of seen extent gated) → IsBodySettled pending extent gated
       → AreBodiesOf (bodies_in seen extent gated) flight image
   by_gate flight false gate few places body settled = inl (closed_log (omega arith) (λ less. gate))
   by_gate flight true gate few places body settled = inr (open_log flight few places body settled gate)
 
   -- the bodies of an image where the one behind the gated ones is settled: its gate decides
-  pub either_log : (flight : List ℕ) → gated < 32 → used ≡ gated + 1 → HasRecords flight (body_of seen extent gated) → IsBodySettled pending extent gated
+  pub either_log : (flight : List ℕ) → gated < PLACES → used ≡ gated + 1 → HasRecords flight (body_of seen extent gated) → IsBodySettled pending extent gated
       → AreBodiesOf (bodies_in seen extent gated) flight image
   either_log flight few places body settled = by_gate flight (is_open image extent gated) refl few places body settled
 
-shows : (stage : Stage) (extent : Extent) (used gated : ℕ) (flight : List ℕ) (seen : List ℕ) (pending : ℕ → Bool) (image : List ℕ) → used ≡ gated + in_flight stage → used ≤ 32
+shows : (stage : Stage) (extent : Extent) (used gated : ℕ) (flight : List ℕ) (seen : List ℕ) (pending : ℕ → Bool) (image : List ℕ) → used ≡ gated + in_flight stage → used ≤ PLACES
     → HasBatches extent gated used seen pending → Flies stage extent gated flight seen pending → IsImage seen pending image → selected_of image ≡ extent
     → ShowsBodies stage (bodies_in seen extent gated) flight image
 shows Idle extent used gated flight seen pending image places few has flies may selects =
@@ -133,7 +134,7 @@ image_shows_bodies log seen pending image on may =
 pub turn_shows_bodies : (log : Log) (seen : List ℕ) (pending : ℕ → Bool) (image : List ℕ) → MayTurn log seen pending → IsImage seen pending image → ShowsBodiesIn log.turn log.stage (gated_bodies log seen) log.flight image
 turn_shows_bodies log seen pending image turns may =
     let P : Stage → Type 0 = λ stage. ShowsBodies stage (gated_bodies log seen) log.flight image in
-    let few : log.gated ≤ 32 = omega (arith, turns.sound.places, turns.sound.few) in
+    let few : log.gated ≤ PLACES = omega (arith, turns.sound.places, turns.sound.few) in
     shows_in log.turn log.stage log.extent (gated_bodies log seen) log.flight seen pending image turns.sound.one
     (λ selects. subst P (sym turns.idle) (run_log log.extent log.gated seen pending image few turns.run may selects)) turns.turn may
 

@@ -7,5 +7,6 @@ pub mod Gates
 pub mod Images
 pub mod Keeping
 pub mod Stepping
+pub mod Tails
 pub mod Told
 pub mod Turning

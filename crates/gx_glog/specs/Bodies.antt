@@ -1,5 +1,6 @@
 -- What a body has.
 use Rattle.std.specs.Prelude.{◌≡◌, ℕ, ◌+◌, ◌-◌, ◌≤◌, ◌<◌, List, length, drop, slice_index}
+use Rattle.gx_glog.specs.declared.extent.TheConstants.{BODY_SIZE}
 use Rattle.gx_glog.specs.Layout.{size_in, records_in}
 
 -- no byte is other than 0
@@ -13,15 +14,15 @@ pub record HasRecords (records body : List ℕ) : Type 0 where
 
 -- the one body of these records: their size, their bytes, and zeros
 pub record IsBody (records bytes : List ℕ) : Type 0 where
-  pub whole : length bytes ≡ 32768
+  pub whole : length bytes ≡ BODY_SIZE
   pub has : HasRecords records bytes
   pub zeros : IsZero (drop (4 + length records) bytes)
 
 -- a buffer is a body whose records end there
 pub record IsFilled (end : ℕ) (bytes : List ℕ) : Type 0 where
   pub from : 4 ≤ end
-  pub to : end ≤ 32768
-  pub whole : length bytes ≡ 32768
+  pub to : end ≤ BODY_SIZE
+  pub whole : length bytes ≡ BODY_SIZE
   pub size : size_in bytes ≡ end - 4
   pub zeros : IsZero (drop end bytes)
 

@@ -3,6 +3,7 @@ use Rattle.std.specs.Prelude.{◌≡◌, ◌⊎◌, ℕ, zero, suc, List, [], �
 use Rattle.gx_geom.specs.declared.refusal.Refusal.{Refusal}
 use Rattle.gx_disk.specs.Device as disk
 use Rattle.gx_disk.specs.Moments.{Leaves}
+use Rattle.gx_glog.specs.declared.extent.TheConstants.{PLACES}
 use Rattle.gx_glog.specs.declared.extent.Extent.{Extent}
 use Rattle.gx_glog.specs.declared.stage.Stage.{Stage}
 use Rattle.gx_glog.specs.declared.stage.Stage.TheVariants.{Body, BodySync, Gate, GateSync, Idle}
@@ -18,7 +19,7 @@ bodies_in bytes extent (suc n) = bodies_in bytes extent n ++ (records_in (body_o
 
 -- the bytes of the records in each body of an image's log: those behind the leading open gates of the selected extent
 unfoldable pub open_bodies : List ℕ → List (List ℕ)
-open_bodies image = bodies_in image (selected_of image) (open_run image (selected_of image) 0 32)
+open_bodies image = bodies_in image (selected_of image) (open_run image (selected_of image) 0 PLACES)
 
 -- the bytes of bodies in a row
 abbrev pub joined : List (List ℕ) → List ℕ

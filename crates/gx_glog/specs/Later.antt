@@ -4,6 +4,7 @@ use Rattle.gx_disk.specs.Device.{Device, IsSettled, Touches, Writes}
 use Rattle.gx_disk.specs.Looks.{Looks}
 use Rattle.gx_disk.specs.Moments.{Leaves}
 use Rattle.gx_disk.specs.Sectors.{sector_of}
+use Rattle.gx_glog.specs.declared.extent.TheConstants.{PLACES}
 use Rattle.gx_glog.specs.declared.extent.Extent.{Extent}
 use Rattle.gx_glog.specs.Cuts.{open_bodies}
 use Rattle.gx_glog.specs.Layout.{gates_of, selected_of, is_open, open_run}
@@ -11,13 +12,13 @@ use Rattle.gx_glog.specs.Standing.{IsSelected, HasBatches, HasRun}
 
 -- each gate of an extent from a place on reads closed
 abbrev pub ReadsClosedFrom : ℕ → Extent → List ℕ → Type 0
-ReadsClosedFrom from extent seen = (k : ℕ) → from ≤ k → k < 32 → is_open seen extent k ≡ false
+ReadsClosedFrom from extent seen = (k : ℕ) → from ≤ k → k < PLACES → is_open seen extent k ≡ false
 
 -- one of them reads open
 pub record ReadsOpenFrom (from : ℕ) (extent : Extent) (seen : List ℕ) : Type 0 where
   pub place : ℕ
   pub later : from ≤ place
-  pub below : place < 32
+  pub below : place < PLACES
   pub reads : is_open seen extent place ≡ true
 
 -- a gate from a place on is open, or all of them are closed
@@ -27,11 +28,11 @@ TellsOpenFrom from extent seen false = ReadsClosedFrom from extent seen
 
 -- one write that closes an extent's gates from a place on
 abbrev pub ClosesGatesFrom : {T E : Type 0} → ℕ → Extent → Device → Device → Result T E → Type 0
-ClosesGatesFrom from extent old new result = Writes (gates_of extent + from) (32 - from) (replicate (512 * (32 - from)) 0) old new result
+ClosesGatesFrom from extent old new result = Writes (gates_of extent + from) (PLACES - from) (replicate (512 * (PLACES - from)) 0) old new result
 
 -- the sector is none of an extent's gates behind place n
 abbrev pub IsBesideLater : Extent → ℕ → ℕ → Type 0
-IsBesideLater extent n s = (s ≤ gates_of extent + n) ⊎ (gates_of extent + 32 ≤ s)
+IsBesideLater extent n s = (s ≤ gates_of extent + n) ⊎ (gates_of extent + PLACES ≤ s)
 
 -- An image has the log that is seen: the same extent is selected, as many gates in a row are open, over the same bodies. Only gates behind
 -- place n of an extent may differ; so the selector, all bodies and all pages are as they are seen.
@@ -39,7 +40,7 @@ pub record KeepsRun (extent : Extent) (n : ℕ) (seen image : List ℕ) : Type 0
   pub size : length image ≡ length seen
   pub others : (s : ℕ) → IsBesideLater extent n s → sector_of image s ≡ sector_of seen s
   pub selected : selected_of image ≡ selected_of seen
-  pub run : open_run image (selected_of image) 0 32 ≡ open_run seen (selected_of seen) 0 32
+  pub run : open_run image (selected_of image) 0 PLACES ≡ open_run seen (selected_of seen) 0 PLACES
   pub bodies : open_bodies image ≡ open_bodies seen
 
 -- The first n batches of an extent that is selected are gated and each later gate is closed, all of it settled: a log that starts behind
@@ -67,4 +68,4 @@ ClosesLaterOfRun extent n old new result = old.honest ≡ true → IsSettled old
 pub record CallsForLater {T E : Type 0} (extent : Extent) (n : ℕ) (old new : Device) (result : Result T E) : Type 0 where
   pub none : ReadsClosedFrom (n + 1) extent old.seen → (new.calls ≡ old.calls) × Looks old new
   pub two : ReadsOpenFrom (n + 1) extent old.seen → OnOk result (new.calls ≡ old.calls + 2)
-  pub touches : Touches (gates_of extent + (n + 1)) (31 - n) old new
+  pub touches : Touches (gates_of extent + (n + 1)) (PLACES - (n + 1)) old new

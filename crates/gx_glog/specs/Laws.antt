@@ -1,6 +1,7 @@
 -- The laws of a log on a device.
 use Rattle.std.specs.Prelude.{◌≡◌, ℕ, ◌+◌, ◌<◌, ◌≤◌, Bool, List, [], ◌∷◌, ◌++◌, length}
 use Rattle.gx_disk.specs.Device.{IsImage}
+use Rattle.gx_glog.specs.declared.extent.TheConstants.{BODY_ROOM, PLACES}
 use Rattle.gx_glog.specs.declared.extent.Extent.{Extent}
 use Rattle.gx_glog.specs.declared.extent.Extent.TheVariants.{A}
 use Rattle.gx_glog.specs.declared.stage.Stage.TheVariants.{Idle}
@@ -8,7 +9,7 @@ use Rattle.gx_glog.specs.declared.stage.Turn.TheVariants.{Closed}
 use Rattle.gx_glog.specs.Cuts.{open_bodies, joined, gated_bodies, ShowsBodiesIn}
 use Rattle.gx_glog.specs.First.{first_record, HasFirstLog, IsFirstSettled}
 use Rattle.gx_glog.specs.Layout.{selected_of, log_of}
-use Rattle.gx_glog.specs.State.{Log}
+use Rattle.gx_glog.specs.State.{Log, starting}
 use Rattle.gx_glog.specs.Standing.{IsSelected, HasBatches, On, HasRun, MayTurn, gated_of, Shows, ShowsIn, LeavesLog}
 
 -- each image's log is what is gated, with what is in flight or without, without as long as its gate isn't written; or, from a turn's write
@@ -32,8 +33,8 @@ SelectorDecides = (log : Log) (seen : List ℕ) (pending : ℕ → Bool) (image 
 
 -- a log with nothing logged is on a device that has its batches
 abbrev pub StartIsOn : Type 0
-StartIsOn = (extent : Extent) (used : ℕ) (seen : List ℕ) (pending : ℕ → Bool) → used ≤ 32 → IsSelected extent seen pending → HasBatches extent used used seen pending
-    → On (record { extent = extent; used = used; gated = used; stage = Idle; turn = Closed; flight = []; filling = [] }) seen pending
+StartIsOn = (extent : Extent) (used : ℕ) (seen : List ℕ) (pending : ℕ → Bool) → used ≤ PLACES → IsSelected extent seen pending → HasBatches extent used used seen pending
+    → On (starting extent used) seen pending
 
 -- the first log of a device that it was laid down on
 abbrev pub FirstLogIs : Type 0
@@ -45,19 +46,19 @@ FirstLogHasOneBody = (seen : List ℕ) → HasFirstLog seen → open_bodies seen
 -- a log with one place taken is on that device, and each image has the first log
 abbrev pub FirstLogIsOn : Type 0
 FirstLogIsOn = (seen : List ℕ) (pending : ℕ → Bool) → HasFirstLog seen → IsFirstSettled pending
-    → On (record { extent = A; used = 1; gated = 1; stage = Idle; turn = Closed; flight = []; filling = [] }) seen pending
+    → On (starting A 1) seen pending
 
 abbrev pub ImagesHaveTheFirstLog : Type 0
 ImagesHaveTheFirstLog = (seen : List ℕ) (pending : ℕ → Bool) (image : List ℕ) → HasFirstLog seen → IsFirstSettled pending → IsImage seen pending image → HasFirstLog image
 
 -- a record more that fills changes nothing of it, where no turn is under way
 abbrev pub AppendStaysOn : Type 0
-AppendStaysOn = (log : Log) (bytes seen : List ℕ) (pending : ℕ → Bool) → log.turn ≡ Closed → log.used < 32 → length log.filling + length bytes ≤ 32764 → On log seen pending
+AppendStaysOn = (log : Log) (bytes seen : List ℕ) (pending : ℕ → Bool) → log.turn ≡ Closed → log.used < PLACES → length log.filling + length bytes ≤ BODY_ROOM → On log seen pending
     → On (record log { filling = log.filling ++ bytes }) seen pending
 
 -- nor does one more of the head
 abbrev pub PutFirstStaysOn : Type 0
-PutFirstStaysOn = (log : Log) (bytes seen : List ℕ) (pending : ℕ → Bool) → log.stage ≡ Idle → log.turn ≡ Closed → length log.flight + length bytes ≤ 32764 → On log seen pending
+PutFirstStaysOn = (log : Log) (bytes seen : List ℕ) (pending : ℕ → Bool) → log.stage ≡ Idle → log.turn ≡ Closed → length log.flight + length bytes ≤ BODY_ROOM → On log seen pending
     → On (record log { flight = log.flight ++ bytes }) seen pending
 
 -- nor does a call that leaves the log's sectors
@@ -69,8 +70,8 @@ ElsewhereKeepsBatches = (log : Log) (seen seen' : List ℕ) (pending pending' : 
 
 -- a log with nothing logged may turn on a device that has its batches and closes the next gate
 abbrev pub StartMayTurn : Type 0
-StartMayTurn = (extent : Extent) (used : ℕ) (seen : List ℕ) (pending : ℕ → Bool) → used ≤ 32 → IsSelected extent seen pending → HasRun extent used seen pending
-    → MayTurn (record { extent = extent; used = used; gated = used; stage = Idle; turn = Closed; flight = []; filling = [] }) seen pending
+StartMayTurn = (extent : Extent) (used : ℕ) (seen : List ℕ) (pending : ℕ → Bool) → used ≤ PLACES → IsSelected extent seen pending → HasRun extent used seen pending
+    → MayTurn (starting extent used) seen pending
 
 -- a log that is on a device, with nothing in flight, may turn there
 abbrev pub OnMayTurn : Type 0

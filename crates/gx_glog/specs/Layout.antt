@@ -3,18 +3,19 @@ use Rattle.std.specs.Prelude.{ℕ, zero, suc, ◌+◌, ◌*◌, ◌==◌, Bool, 
 use Rattle.std.specs.Int.{from_be_bytes}
 use mir.Syntax.{w32}
 use Rattle.gx_disk.specs.Sectors.{span_of}
+use Rattle.gx_glog.specs.declared.extent.TheConstants.{BODIES_A, BODIES_B, BODY_SECTORS, BODY_SIZE, GATES_A, GATES_B, PLACES}
 use Rattle.gx_glog.specs.declared.extent.Extent.{Extent}
 use Rattle.gx_glog.specs.declared.extent.Extent.TheVariants.{A, B}
 
 -- an extent's first gate
 abbrev pub gates_of : Extent → ℕ
-gates_of A = 8
-gates_of B = 2088
+gates_of A = GATES_A
+gates_of B = GATES_B
 
 -- the first sector of an extent's first body
 abbrev pub bodies_of : Extent → ℕ
-bodies_of A = 40
-bodies_of B = 2120
+bodies_of A = BODIES_A
+bodies_of B = BODIES_B
 
 -- the extent that a turn leads to
 abbrev pub other_of : Extent → Extent
@@ -31,7 +32,7 @@ is_open bytes extent k = slice_index (span_of bytes (gates_of extent + k) 512) 0
 
 -- the body of place k
 unfoldable pub body_of : List ℕ → Extent → ℕ → List ℕ
-body_of bytes extent k = span_of bytes (bodies_of extent + 64 * k) 32768
+body_of bytes extent k = span_of bytes (bodies_of extent + BODY_SECTORS * k) BODY_SIZE
 
 -- how many bytes of records a body says it has
 unfoldable pub size_in : List ℕ → ℕ
@@ -54,4 +55,4 @@ batches_of bytes extent (suc n) = batches_of bytes extent n ++ records_in (body_
 -- The log of an image: the bytes of the records behind the leading open gates of the selected extent. Each list of records has
 -- its own bytes, so these say which records they are.
 unfoldable pub log_of : List ℕ → List ℕ
-log_of bytes = batches_of bytes (selected_of bytes) (open_run bytes (selected_of bytes) 0 32)
+log_of bytes = batches_of bytes (selected_of bytes) (open_run bytes (selected_of bytes) 0 PLACES)

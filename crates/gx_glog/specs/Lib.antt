@@ -10,4 +10,5 @@ pub mod Reading
 pub mod Standing
 pub mod State
 pub mod Steps
+pub mod Tails
 pub mod Turning

@@ -3,12 +3,13 @@ use Rattle.std.specs.Prelude.{◌≡◌, ℕ, ◌+◌, ◌≤◌, List, true, fa
 use Rattle.gx_geom.specs.declared.refusal.Refusal.{Refusal}
 use Rattle.gx_geom.specs.declared.refusal.Refusal.TheVariants.{Device, Damaged}
 use Rattle.gx_disk.specs.Device as disk
+use Rattle.gx_glog.specs.declared.extent.TheConstants.{BODY_ROOM}
 use Rattle.gx_glog.specs.Layout.{is_open, body_of, size_in}
 use Rattle.gx_glog.specs.declared.extent.Extent.{Extent}
 
 -- so many bytes of records fit a body, and there are some
 abbrev pub IsSize : ℕ → Type 0
-IsSize t = (1 ≤ t) × (t ≤ 32764)
+IsSize t = (1 ≤ t) × (t ≤ BODY_ROOM)
 
 -- the gate is closed; or it is open, and the body is read with its size; or its size is out of range
 abbrev pub ReadsBody : List ℕ → Extent → ℕ → List ℕ → Result (Option ℕ) Refusal → Type 0

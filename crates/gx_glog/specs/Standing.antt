@@ -1,6 +1,8 @@
 -- A log on a device: what its sectors read as, and which of them a crash leaves.
 use Rattle.std.specs.Prelude.{◌≡◌, ◌⊎◌, ℕ, ◌+◌, ◌*◌, ◌<◌, ◌≤◌, List, [], ◌++◌, length, Bool, true, false}
+use Rattle.gx_disk.specs.declared.layout.TheConstants.{LOG_AT, PAGES_AT}
 use Rattle.gx_disk.specs.Sectors.{sector_of, IsWithin}
+use Rattle.gx_glog.specs.declared.extent.TheConstants.{BODY_SECTORS, PLACES}
 use Rattle.gx_glog.specs.declared.extent.Extent.{Extent}
 use Rattle.gx_glog.specs.declared.stage.Stage.{Stage}
 use Rattle.gx_glog.specs.declared.stage.Stage.TheVariants.{Body, BodySync, Gate, GateSync, Idle}
@@ -8,8 +10,9 @@ use Rattle.gx_glog.specs.declared.stage.Turn.{Turn}
 use Rattle.gx_glog.specs.declared.stage.Turn.TheVariants as turn
 use Rattle.gx_glog.specs.Layout.{gates_of, bodies_of, other_of, selected_of, is_open, body_of, size_in, batches_of, log_of}
 use Rattle.gx_glog.specs.Reading.{IsSize}
-use Rattle.gx_glog.specs.Bodies.{HasRecords}
+use Rattle.gx_glog.specs.Bodies.{HasRecords, IsBody}
 use Rattle.gx_glog.specs.State.{Log, IsSound, turning}
+use Rattle.gx_glog.specs.Tails.{HaveTails}
 
 -- the gate of place k reads open or closed, and a crash leaves it so
 pub record IsGate (state : Bool) (seen : List ℕ) (pending : ℕ → Bool) (extent : Extent) (k : ℕ) : Type 0 where
@@ -18,7 +21,7 @@ pub record IsGate (state : Bool) (seen : List ℕ) (pending : ℕ → Bool) (ext
 
 -- a crash leaves the body of place k as it reads
 abbrev pub IsBodySettled : (ℕ → Bool) → Extent → ℕ → Type 0
-IsBodySettled pending extent k = (s : ℕ) → IsWithin (bodies_of extent + 64 * k) 64 s → pending s ≡ false
+IsBodySettled pending extent k = (s : ℕ) → IsWithin (bodies_of extent + BODY_SECTORS * k) BODY_SECTORS s → pending s ≡ false
 
 -- the selector selects this extent, and a crash leaves it so
 pub record IsSelected (extent : Extent) (seen : List ℕ) (pending : ℕ → Bool) : Type 0 where
@@ -27,30 +30,31 @@ pub record IsSelected (extent : Extent) (seen : List ℕ) (pending : ℕ → Boo
 
 -- an extent's first batches are gated, with bodies of a size in range; the gates of the places that aren't taken are closed
 pub record HasBatches (extent : Extent) (gated used : ℕ) (seen : List ℕ) (pending : ℕ → Bool) : Type 0 where
-  pub size : 2134016 ≤ length seen
+  pub size : 512 * PAGES_AT ≤ length seen
   pub opened : (k : ℕ) → k < gated → IsGate true seen pending extent k
   pub bodies : (k : ℕ) → k < gated → IsBodySettled pending extent k
   pub sizes : (k : ℕ) → k < gated → IsSize (size_in (body_of seen extent k))
-  pub closed : (k : ℕ) → used ≤ k → k < 32 → IsGate false seen pending extent k
+  pub closed : (k : ℕ) → used ≤ k → k < PLACES → IsGate false seen pending extent k
 
--- What is known of the place in flight while a call is due. Until its gate is written it is closed; from the gate's write on, which
--- may fail and leave it in any state, the body is settled.
+-- What is known of the place in flight while a call is due. Until its gate is written it is closed; once the body is
+-- written, the place reads as that body to its end, with zeros behind the records; from the gate's write on, which may
+-- fail and leave it in any state, the body is settled.
 abbrev pub Flies : Stage → Extent → ℕ → List ℕ → List ℕ → (ℕ → Bool) → Type 0
 Flies Idle extent k flight seen pending = Unit {0}
 Flies Body extent k flight seen pending = IsGate false seen pending extent k
-Flies BodySync extent k flight seen pending = IsGate false seen pending extent k × HasRecords flight (body_of seen extent k)
+Flies BodySync extent k flight seen pending = IsGate false seen pending extent k × IsBody flight (body_of seen extent k)
 Flies Gate extent k flight seen pending = HasRecords flight (body_of seen extent k) × IsBodySettled pending extent k
 Flies GateSync extent k flight seen pending = HasRecords flight (body_of seen extent k) × IsBodySettled pending extent k × (is_open seen extent k ≡ true)
 
 -- each gate of an extent reads closed
 abbrev pub ReadsClosed : Extent → List ℕ → Type 0
-ReadsClosed extent seen = (k : ℕ) → k < 32 → is_open seen extent k ≡ false
+ReadsClosed extent seen = (k : ℕ) → k < PLACES → is_open seen extent k ≡ false
 
 -- body 0 of an extent has these records, and all gates but the first are closed, as a crash leaves it
 pub record HasFirst (extent : Extent) (head seen : List ℕ) (pending : ℕ → Bool) : Type 0 where
   pub records : HasRecords head (body_of seen extent 0)
   pub body : IsBodySettled pending extent 0
-  pub closed : (k : ℕ) → 1 ≤ k → k < 32 → IsGate false seen pending extent k
+  pub closed : (k : ℕ) → 1 ≤ k → k < PLACES → IsGate false seen pending extent k
 
 -- the first batch of an extent is gated, and has these records
 pub record HasHead (extent : Extent) (head seen : List ℕ) (pending : ℕ → Bool) : Type 0 where
@@ -62,27 +66,29 @@ pub record HasHead (extent : Extent) (head seen : List ℕ) (pending : ℕ → B
 abbrev pub Leads : Turn → Extent → Extent → List ℕ → List ℕ → (ℕ → Bool) → Type 0
 Leads turn.Closed from to head seen pending = IsSelected from seen pending
 Leads turn.Body from to head seen pending = IsSelected from seen pending × ReadsClosed to seen
-Leads turn.BodySync from to head seen pending = IsSelected from seen pending × ReadsClosed to seen × HasRecords head (body_of seen to 0)
+Leads turn.BodySync from to head seen pending = IsSelected from seen pending × ReadsClosed to seen × IsBody head (body_of seen to 0)
 Leads turn.Gate from to head seen pending = IsSelected from seen pending × HasFirst to head seen pending
 Leads turn.GateSync from to head seen pending = IsSelected from seen pending × HasFirst to head seen pending × (is_open seen to 0 ≡ true)
 Leads turn.Selector from to head seen pending = HasHead to head seen pending
 Leads turn.Done from to head seen pending = HasHead to head seen pending × (selected_of seen ≡ to)
 
--- A log's value fits what is seen of a device, and what is pending on it. While a turn is under way, nothing fills.
+-- A log's value fits what is seen of a device, and what is pending on it: each place has its tail, and while a turn is
+-- under way, nothing fills.
 pub record On (log : Log) (seen : List ℕ) (pending : ℕ → Bool) : Type 0 where
   pub sound : IsSound log
   pub batches : HasBatches log.extent log.gated log.used seen pending
   pub flight : Flies log.stage log.extent log.gated log.flight seen pending
   pub turn : Leads log.turn log.extent (other_of log.extent) log.flight seen pending
   pub quiet : 1 ≤ turning log.turn → log.filling ≡ []
+  pub tails : HaveTails log.tails seen pending
 
 -- So many gates in a row are open, with bodies of a size in range, and the next one is closed. Of later gates nothing is said: none is read.
 pub record HasRun (extent : Extent) (run : ℕ) (seen : List ℕ) (pending : ℕ → Bool) : Type 0 where
-  pub size : 2134016 ≤ length seen
+  pub size : 512 * PAGES_AT ≤ length seen
   pub opened : (k : ℕ) → k < run → IsGate true seen pending extent k
   pub bodies : (k : ℕ) → k < run → IsBodySettled pending extent k
   pub sizes : (k : ℕ) → k < run → IsSize (size_in (body_of seen extent k))
-  pub ends : run < 32 → IsGate false seen pending extent run
+  pub ends : run < PLACES → IsGate false seen pending extent run
 
 -- A log with nothing in flight may turn on what is seen of a device, or is turning on it. Later gates of its extent may be open, so it may
 -- not go on there: a batch more might let them count.
@@ -92,6 +98,7 @@ pub record MayTurn (log : Log) (seen : List ℕ) (pending : ℕ → Bool) : Type
   pub run : HasRun log.extent log.gated seen pending
   pub turn : Leads log.turn log.extent (other_of log.extent) log.flight seen pending
   pub quiet : 1 ≤ turning log.turn → log.filling ≡ []
+  pub tails : HaveTails log.tails seen pending
 
 -- the records of the batches that are gated, as they read
 abbrev pub gated_of : Log → List ℕ → List ℕ
@@ -126,7 +133,7 @@ pub record IsKept (seen seen' : List ℕ) (pending pending' : ℕ → Bool) (s :
 
 -- the sectors of the log: the selector, the gates and the bodies
 abbrev pub IsOfLog : ℕ → Type 0
-IsOfLog s = (s ≡ 2) ⊎ ((8 ≤ s) × (s < 4168))
+IsOfLog s = (s ≡ 2) ⊎ ((LOG_AT ≤ s) × (s < PAGES_AT))
 
 -- no sector of the log reads otherwise, or is pending where it was settled
 pub record LeavesLog (seen seen' : List ℕ) (pending pending' : ℕ → Bool) : Type 0 where

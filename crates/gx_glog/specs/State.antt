@@ -2,12 +2,14 @@
 use Rattle.std.specs.Prelude.{◌≡◌, ◌⊎◌, ℕ, ◌+◌, ◌≤◌, List, [], length, Result, Ok, Err}
 use Rattle.gx_geom.specs.declared.refusal.Refusal.{Refusal}
 use Rattle.gx_geom.specs.declared.refusal.Refusal.TheVariants.{Device}
+use Rattle.gx_glog.specs.declared.extent.TheConstants.{BODY_ROOM, PLACES}
 use Rattle.gx_glog.specs.declared.extent.Extent.{Extent}
 use Rattle.gx_glog.specs.declared.stage.Stage.{Stage}
 use Rattle.gx_glog.specs.declared.stage.Stage.TheVariants.{Body, BodySync, Gate, GateSync, Idle}
 use Rattle.gx_glog.specs.declared.stage.Turn.{Turn}
 use Rattle.gx_glog.specs.declared.stage.Turn.TheVariants as turn
 use Rattle.gx_glog.specs.Layout.{other_of}
+use Rattle.gx_glog.specs.Tails.{sectors_of, tail_of, unknown_tails, widened, trimmed, AreTails}
 
 -- Lists of records are told as the bytes of their spellings.
 pub record Log : Type 0 where
@@ -25,6 +27,23 @@ pub record Log : Type 0 where
   pub flight : List ℕ
   -- the records that wait for the next batch
   pub filling : List ℕ
+  -- for each place of both extents, the sector of it from which on it reads zero
+  pub tails : List ℕ
+
+-- a log that starts behind so many batches of an extent: what stands behind their records isn't known, nor what the
+-- other places have
+abbrev pub starting : Extent → ℕ → Log
+starting extent n =
+    record {
+      extent = extent;
+      used = n;
+      gated = n;
+      stage = Idle;
+      turn = turn.Closed;
+      flight = [];
+      filling = [];
+      tails = unknown_tails;
+    }
 
 -- how many batches are in flight
 abbrev pub in_flight : Stage → ℕ
@@ -44,24 +63,39 @@ turning turn.GateSync = 1
 turning turn.Selector = 1
 turning turn.Done = 1
 
--- Places are taken by gated batches and the one in flight; a batch or a head on its way has records and fits its body; a turn and a batch
--- aren't on their way together; where each place is taken, nothing waits for one.
+-- Places are taken by gated batches and the one in flight; a batch or a head on its way has records and fits its body; a
+-- turn and a batch aren't on their way together; where each place is taken, nothing waits for one. No tail begins within
+-- the records of a batch or a head on its way.
 pub record IsSound (log : Log) : Type 0 where
   pub places : log.used ≡ log.gated + in_flight log.stage
-  pub few : log.used ≤ 32
+  pub few : log.used ≤ PLACES
   pub one : in_flight log.stage + turning log.turn ≤ 1
   pub some : in_flight log.stage + turning log.turn ≤ length log.flight
-  pub fits : length log.flight ≤ 32764
-  pub filled : length log.filling ≤ 32764
-  pub room : 32 ≤ log.used → log.filling ≡ []
+  pub fits : length log.flight ≤ BODY_ROOM
+  pub filled : length log.filling ≤ BODY_ROOM
+  pub room : PLACES ≤ log.used → log.filling ≡ []
+  pub tails : AreTails log.tails
+  pub batch : 1 ≤ in_flight log.stage → sectors_of log.flight ≤ tail_of log.tails log.extent log.gated
+  pub head : 1 ≤ turning log.turn → sectors_of log.flight ≤ tail_of log.tails (other_of log.extent) 0
 
--- What fills is in flight, at the next place. A head that was there is dropped, and a turn given up.
+-- What fills is in flight, at the next place, whose tail begins behind it. A head that was there is dropped, and a turn
+-- given up.
 abbrev pub begun : Log → Log
-begun log = record log { used = log.used + 1; stage = Body; turn = turn.Closed; flight = log.filling; filling = [] }
+begun log =
+    record log {
+      used = log.used + 1;
+      stage = Body;
+      turn = turn.Closed;
+      flight = log.filling;
+      filling = [];
+      tails = widened log.extent log.gated (sectors_of log.filling) log.tails;
+    }
 
+-- once the body is synced, its place's tail begins right behind its records
 abbrev pub after : Stage → Log → Log
 after Body log = record log { stage = BodySync }
-after BodySync log = record log { stage = Gate }
+after BodySync log =
+    record log { stage = Gate; tails = trimmed log.extent log.gated (sectors_of log.flight) log.tails }
 after Gate log = record log { stage = GateSync }
 after GateSync log = record log { gated = log.used; stage = Idle; flight = [] }
 after Idle log = log
@@ -95,10 +129,13 @@ calls_of (Ok Gate) = 1
 calls_of (Ok GateSync) = 1
 calls_of (Err refusal) = 1
 
+-- the tail of the head's place goes as that of a batch
 abbrev pub after_turn : Turn → Log → Log
-after_turn turn.Closed log = record log { turn = turn.Body }
+after_turn turn.Closed log =
+    record log { turn = turn.Body; tails = widened (other_of log.extent) 0 (sectors_of log.flight) log.tails }
 after_turn turn.Body log = record log { turn = turn.BodySync }
-after_turn turn.BodySync log = record log { turn = turn.Gate }
+after_turn turn.BodySync log =
+    record log { turn = turn.Gate; tails = trimmed (other_of log.extent) 0 (sectors_of log.flight) log.tails }
 after_turn turn.Gate log = record log { turn = turn.GateSync }
 after_turn turn.GateSync log = record log { turn = turn.Selector }
 after_turn turn.Selector log = record log { turn = turn.Done }

@@ -1,14 +1,17 @@
 //! A batch's four device calls, one a step.
-ghost use Rattle.std.specs.Prelude.{◌≡◌, ◌≢◌, ◌+◌, ◌*◌, ◌≤◌, ◌<◌, ℕ, [], true, length, slice_index, ◌↔◌, IsTrue, IfErr, IfOk};
+ghost use Rattle.std.specs.Prelude.{◌≡◌, ◌≢◌, ◌+◌, ◌*◌, ◌≤◌, ◌<◌, ℕ, [], true, length};
+ghost use Rattle.std.specs.Prelude.{take, slice_index, ◌↔◌, IsTrue, IfErr, IfOk};
+ghost use Rattle.gx_disk.specs.declared.layout.TheConstants.{PAGES_AT};
 ghost use Rattle.gx_disk.specs.Device.{Counts, Writes, Syncs};
+ghost use Rattle.gx_glog.specs.declared.extent.TheConstants.{BODY_SIZE, PLACES};
 ghost use Rattle.gx_glog.specs.Layout.{gates_of, bodies_of};
 ghost use Rattle.gx_glog.specs.Bodies.{IsBody, IsOpenGate};
 ghost use Rattle.gx_glog.specs.First.{open_gate_bytes};
 ghost use Rattle.gx_glog.specs.State.{begun, done, in_flight, calls_of, Made, Goes};
 ghost use Rattle.gx_glog.specs.Standing.{On};
-ghost use Rattle.gx_glog.specs.Steps.{Calls, CallOf, Keeps};
+ghost use Rattle.gx_glog.specs.Steps.{CallFor, CallOf, Calls, Keeps};
 
-use crate::extent::{Extent, OPEN};
+use crate::extent::{BODY_SECTORS, Extent, OPEN};
 use crate::filling::Glog;
 use crate::stage::{Stage, Turn};
 use gx_disk::{SECTOR_SIZE, SectorDisk};
@@ -25,23 +28,29 @@ pub fn open_gate() -> [u8; SECTOR_SIZE]
     bytes
 }
 
-// Writes the body of place k, and answers which call it was.
+// Writes the first so many sectors of the body of place k, and answers which call it was.
 pub(crate) fn write_body<D: SectorDisk, S: Copy>(
     disk: &mut D,
     extent: Extent,
     k: u8,
+    sectors: u8,
     body: &[u8],
     answer: S,
 ) -> Result<S, Refusal>
-    requires place { k < 32 }
-    requires whole { length body.now ≡ 32768 }
-    requires device { 4168 ≤ (D.state disk.old).sectors }
+    requires place { k < PLACES }
+    requires some { 1 ≤ sectors }
+    requires bound { sectors ≤ BODY_SECTORS }
+    requires whole { length body.now ≡ BODY_SIZE }
+    requires device { PAGES_AT ≤ (D.state disk.old).sectors }
     ensures counts { Counts 1 (D.state disk.old) (D.state disk.new) result }
-    ensures call { (D.state disk.old).honest ≡ true → Writes (bodies_of extent + 64 * k) 64 body.now (D.state disk.old) (D.state disk.new) result }
+    ensures call { (D.state disk.old).honest ≡ true
+        → Writes (bodies_of extent + BODY_SECTORS * k) sectors (take (512 * sectors) body.now)
+        (D.state disk.old) (D.state disk.new) result }
     ensures stage { IfOk result (λ made. made ≡ answer) }
     ensures refusal { IfErr result (λ refusal. refusal ≡ Refusal.Device) }
 {
-    match disk.write(extent.bodies() + 64 * u64::from(k), body) {
+    let size = SECTOR_SIZE * usize::from(sectors);
+    match disk.write(extent.bodies() + BODY_SECTORS * u64::from(k), &body[..size]) {
         Ok(()) => Ok(answer),
         Err(_) => Err(Refusal::Device),
     }
@@ -54,10 +63,11 @@ pub(crate) fn write_gate<D: SectorDisk, S: Copy>(
     k: u8,
     answer: S,
 ) -> Result<S, Refusal>
-    requires place { k < 32 }
-    requires device { 4168 ≤ (D.state disk.old).sectors }
+    requires place { k < PLACES }
+    requires device { PAGES_AT ≤ (D.state disk.old).sectors }
     ensures counts { Counts 1 (D.state disk.old) (D.state disk.new) result }
-    ensures call { (D.state disk.old).honest ≡ true → Calls Stage.Gate extent k [] (D.state disk.old) (D.state disk.new) result }
+    ensures call { (D.state disk.old).honest ≡ true
+        → Calls Stage.Gate extent k 0 [] (D.state disk.old) (D.state disk.new) result }
     ensures stage { IfOk result (λ made. made ≡ answer) }
     ensures refusal { IfErr result (λ refusal. refusal ≡ Refusal.Device) }
 {
@@ -82,7 +92,8 @@ pub(crate) fn settle<D: SectorDisk, S: Copy>(disk: &mut D, stage: S) -> Result<S
 }
 
 impl Glog {
-    // Puts what fills into flight, at the next place. A head that was put there is dropped.
+    // Puts what fills into flight, at the next place, whose tail begins behind it. A head that was put there is
+    // dropped.
     fn begin(&mut self)
         requires idle { self.old.stage ≡ Stage.Idle }
         requires some { 1 ≤ length self.old.filling }
@@ -90,18 +101,24 @@ impl Glog {
     {
         self.flight.clear();
         mem::swap(&mut self.filling, &mut self.flight);
+        self.tails
+            .widen(self.extent, self.gated, self.flight.sectors());
         self.used += 1;
         self.stage = Stage::Body;
         self.turn = Turn::Closed;
     }
 
-    // The call that was due is made.
+    // The call that was due is made. Once the body is settled, its place's tail begins behind its records.
     fn advance(&mut self)
         ensures { self.new ≡ done self.old }
     {
         match self.stage {
             Stage::Body => self.stage = Stage::BodySync,
-            Stage::BodySync => self.stage = Stage::Gate,
+            Stage::BodySync => {
+                self.tails
+                    .trim(self.extent, self.gated, self.flight.sectors());
+                self.stage = Stage::Gate;
+            }
             Stage::Gate => self.stage = Stage::GateSync,
             Stage::GateSync => {
                 self.gated = self.used;
@@ -112,12 +129,13 @@ impl Glog {
         }
     }
 
-    // Makes the device call that is due, and answers which one it was.
+    // Makes the device call that is due, and answers which one it was. The body is written up to its place's tail.
     fn call<D: SectorDisk>(&self, disk: &mut D) -> Result<Stage, Refusal>
         requires flying { in_flight self.now.stage ≡ 1 }
-        requires device { 4168 ≤ (D.state disk.old).sectors }
+        requires device { PAGES_AT ≤ (D.state disk.old).sectors }
         ensures counts { Counts 1 (D.state disk.old) (D.state disk.new) result }
-        ensures call { (D.state disk.old).honest ≡ true → Calls self.now.stage self.now.extent self.now.gated self.now.flight (D.state disk.old) (D.state disk.new) result }
+        ensures call { (D.state disk.old).honest ≡ true
+            → CallFor self.now.stage self.now (D.state disk.old) (D.state disk.new) result }
         ensures stage { IfOk result (λ stage. stage ≡ self.now.stage) }
         ensures refusal { IfErr result (λ refusal. refusal ≡ Refusal.Device) }
     {
@@ -126,6 +144,7 @@ impl Glog {
                 disk,
                 self.extent,
                 self.gated,
+                self.tails.of(self.extent, self.gated),
                 self.flight.body(),
                 Stage::Body,
             ),
@@ -137,11 +156,13 @@ impl Glog {
     // Makes the device call that is due. Where it fails it is still due.
     fn make<D: SectorDisk>(&mut self, disk: &mut D) -> Result<Stage, Refusal>
         requires flying { in_flight self.old.stage ≡ 1 }
-        requires device { 4168 ≤ (D.state disk.old).sectors }
+        requires device { PAGES_AT ≤ (D.state disk.old).sectors }
         ensures counts { Counts 1 (D.state disk.old) (D.state disk.new) result }
         ensures made { Made self.old self.new result }
         ensures call { (D.state disk.old).honest ≡ true → CallOf self.new (D.state disk.old) (D.state disk.new) result }
-        ensures keeps { (D.state disk.old).honest ≡ true → On self.old (D.state disk.old).seen (D.state disk.old).pending → Keeps self.old self.new (D.state disk.old) (D.state disk.new) result }
+        ensures keeps { (D.state disk.old).honest ≡ true
+            → On self.old (D.state disk.old).seen (D.state disk.old).pending
+            → Keeps self.old self.new (D.state disk.old) (D.state disk.new) result }
     {
         match self.call(disk) {
             Ok(stage) => {
@@ -152,17 +173,21 @@ impl Glog {
         }
     }
 
-    /// Makes the next device call of the batch in flight, or of a new one with all that fills: body, sync, gate, sync. Answers which call it was,
-    /// and Idle where nothing is logged and none was made. Refused where the device call fails (`Device`); it is then still due.
+    /// Makes the next device call of the batch in flight, or of a new one with all that fills: body, sync, gate, sync.
+    /// Of the body it writes as many sectors as its records take, or as may be other than zero there, if these are
+    /// more; so the place reads as the whole body. Answers which call it was, and Idle where nothing is logged and none
+    /// was made. Refused where the device call fails (`Device`); it is then still due.
     pub fn log_step<D: SectorDisk>(&mut self, disk: &mut D) -> Result<Stage, Refusal>
-        requires { 4168 ≤ (D.state disk.old).sectors }
+        requires { PAGES_AT ≤ (D.state disk.old).sectors }
         ensures counts { Counts (calls_of result) (D.state disk.old) (D.state disk.new) result }
         ensures goes { Goes self.old self.new result }
         // Which call of the device it was, with its bytes.
         ensures call { (D.state disk.old).honest ≡ true → CallOf self.new (D.state disk.old) (D.state disk.new) result }
         ensures idle { result ≡ Ok Stage.Idle → disk.new ≡ disk.old }
         // Where the log was on the device it still is, and no image at any moment has another log.
-        ensures keeps { (D.state disk.old).honest ≡ true → On self.old (D.state disk.old).seen (D.state disk.old).pending → Keeps self.old self.new (D.state disk.old) (D.state disk.new) result }
+        ensures keeps { (D.state disk.old).honest ≡ true
+            → On self.old (D.state disk.old).seen (D.state disk.old).pending
+            → Keeps self.old self.new (D.state disk.old) (D.state disk.new) result }
     {
         if self.stage.is_flying() {
             return self.make(disk);

@@ -1,13 +1,17 @@
 //! A buffer with the records of one batch, as the body that is written of them.
-ghost use Rattle.std.specs.Prelude.{◌≡◌, ◌+◌, ◌-◌, ◌^◌, ◌≤◌, ◌<◌, ◌++◌, ℕ, List, [], length, ◌↔◌, IsTrue, IsSome, OnSome, IfSome, IfNone, IfOk, drop, replicate};
+ghost use Rattle.std.specs.Prelude.{◌≡◌, ◌+◌, ◌-◌, ◌^◌, ◌≤◌, ◌<◌, ◌++◌, ℕ, List, [], length, ◌↔◌};
+ghost use Rattle.std.specs.Prelude.{IsTrue, IsSome, OnSome, IfSome, IfNone, IfOk, drop, replicate};
 ghost use Rattle.std.specs.Bool.{OnTrue, OnFalse};
 ghost use Rattle.gx_disk.specs.Sectors.{put};
 ghost use Rattle.gx_record.specs.Bytes.{u32_bytes};
 ghost use Rattle.gx_record.specs.Format.{IsInRange, spelling};
 ghost use Rattle.gx_record.specs.Seen.{rec_of};
+ghost use Rattle.gx_glog.specs.declared.extent.TheConstants.{BODY_ROOM, BODY_SECTORS};
 ghost use Rattle.gx_glog.specs.Bodies.{IsBody, IsZero};
+ghost use Rattle.gx_glog.specs.Tails.{sectors_of};
 
 use crate::extent::BODY_SIZE;
+use gx_disk::SECTOR_SIZE;
 use gx_record::Record;
 use std::alloc::{AllocError, Global};
 use std::marker::Model;
@@ -104,7 +108,7 @@ impl Buffer {
 
     /// How many bytes of records there is still room for.
     pub(crate) fn free(&self) -> usize
-        ensures { result + length self.now ≡ 32764 }
+        ensures { result + length self.now ≡ BODY_ROOM }
     {
         BODY_SIZE - self.end
     }
@@ -119,8 +123,10 @@ impl Buffer {
     /// Puts a record behind those that are there. False where there is no room for it, and nothing then changes.
     pub(crate) fn push(&mut self, logged: &Record<'_>) -> bool
         requires { IsInRange (rec_of logged.now) }
-        ensures put { OnTrue result ((length self.old + length (spelling (rec_of logged.now)) ≤ 32764) × (self.new ≡ self.old ++ spelling (rec_of logged.now))) }
-        ensures full { OnFalse result ((32764 < length self.old + length (spelling (rec_of logged.now))) × (self.new ≡ self.old)) }
+        ensures put { OnTrue result ((length self.old + length (spelling (rec_of logged.now)) ≤ BODY_ROOM)
+            × (self.new ≡ self.old ++ spelling (rec_of logged.now))) }
+        ensures full { OnFalse result ((BODY_ROOM < length self.old + length (spelling (rec_of logged.now)))
+            × (self.new ≡ self.old)) }
     {
         match put_at(&mut self.bytes, self.end, logged) {
             Some(size) => {
@@ -130,6 +136,14 @@ impl Buffer {
             }
             None => false,
         }
+    }
+
+    /// How many sectors of the body its records take, with their size before them.
+    pub(crate) fn sectors(&self) -> u8
+        ensures sectors { result ≡ sectors_of self.now }
+        ensures bound { result ≤ BODY_SECTORS }
+    {
+        self.end.div_ceil(SECTOR_SIZE) as u8
     }
 
     /// Drops the records.

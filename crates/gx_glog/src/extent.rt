@@ -1,5 +1,6 @@
 //! Reading an extent of the log.
-ghost use Rattle.std.specs.Prelude.{◌≡◌, ◌==◌, ◌+◌, ◌≤◌, ◌<◌, ℕ, true, false, length, OnOk, IfOk, IfErr, slice_index, if◌then◌else◌};
+ghost use Rattle.std.specs.Prelude.{◌≡◌, ◌==◌, ◌+◌, ◌≤◌, ◌<◌, ℕ, true, false, length};
+ghost use Rattle.std.specs.Prelude.{OnOk, IfOk, IfErr, slice_index, if◌then◌else◌};
 ghost use Rattle.gx_disk.specs.Device.{Counts};
 ghost use Rattle.gx_disk.specs.Looks.{Looks};
 ghost use Rattle.gx_disk.specs.Sectors.{span_of};
@@ -7,14 +8,38 @@ ghost use Rattle.gx_glog.specs.Layout.{gates_of, bodies_of, other_of, selected_o
 ghost use Rattle.gx_glog.specs.Reading.{ReadsBody, CountsReads};
 ghost use Rattle.gx_glog.specs.Turning.{selector_of};
 
-use gx_disk::{SECTOR_SIZE, SectorDisk};
+use gx_disk::{LOG_AT, PAGES_AT, SECTOR_SIZE, SectorDisk};
 use gx_geom::Refusal;
+
+/// How many batches an extent has places for: each has a gate, of one sector, and a body.
+pub const PLACES: u8 = 32;
+
+/// How many sectors a body has.
+pub const BODY_SECTORS: u64 = 64;
 
 /// How many bytes a body has.
 pub const BODY_SIZE: usize = 32768;
 
-/// How many batches an extent has places for.
-pub const PLACES: u8 = 32;
+/// How many bytes of a body's records there are at most. The body's first four bytes say how many there are.
+pub const BODY_ROOM: usize = BODY_SIZE - 4;
+
+/// How many sectors an extent has: the gates, and behind them the bodies.
+pub const EXTENT_SECTORS: u64 = PLACES as u64 * (1 + BODY_SECTORS);
+
+/// The sector at which the gates of extent A begin.
+pub const GATES_A: u64 = LOG_AT;
+
+/// The sector at which the bodies of extent A begin.
+pub const BODIES_A: u64 = GATES_A + PLACES as u64;
+
+/// The sector at which the gates of extent B begin.
+pub const GATES_B: u64 = GATES_A + EXTENT_SECTORS;
+
+/// The sector at which the bodies of extent B begin.
+pub const BODIES_B: u64 = GATES_B + PLACES as u64;
+
+// The log ends where pages begin.
+const _: () = prove!(BODIES_B + PLACES as u64 * BODY_SECTORS == PAGES_AT);
 
 /// The sector of the selector.
 pub const SELECTOR: u64 = 2;
@@ -34,7 +59,8 @@ pub enum Extent {
 fn first_byte<D: SectorDisk>(disk: &mut D, sector: u64) -> Result<u8, Refusal>
     requires { sector < (D.state disk.old).sectors }
     ensures counts { Counts 0 (D.state disk.old) (D.state disk.new) result }
-    ensures byte { (D.state disk.old).honest ≡ true → IfOk result (λ byte. byte ≡ slice_index (span_of (D.state disk.old).seen sector 512) 0) }
+    ensures byte { (D.state disk.old).honest ≡ true
+        → IfOk result (λ byte. byte ≡ slice_index (span_of (D.state disk.old).seen sector 512) 0) }
     ensures looks { (D.state disk.old).honest ≡ true → Looks (D.state disk.old) (D.state disk.new) }
     ensures refusal { IfErr result (λ refusal. refusal ≡ Refusal.Device) }
 {
@@ -48,9 +74,10 @@ fn first_byte<D: SectorDisk>(disk: &mut D, sector: u64) -> Result<u8, Refusal>
 #[tactic(auto, unfolding(crate::specs::Layout::selected_of))]
 /// The extent that the device selects. Refused where the read fails.
 pub fn selected<D: SectorDisk>(disk: &mut D) -> Result<Extent, Refusal>
-    requires { 4168 ≤ (D.state disk.old).sectors }
+    requires { PAGES_AT ≤ (D.state disk.old).sectors }
     ensures counts { Counts 0 (D.state disk.old) (D.state disk.new) result }
-    ensures extent { (D.state disk.old).honest ≡ true → IfOk result (λ extent. extent ≡ selected_of (D.state disk.old).seen) }
+    ensures extent { (D.state disk.old).honest ≡ true
+        → IfOk result (λ extent. extent ≡ selected_of (D.state disk.old).seen) }
     ensures looks { (D.state disk.old).honest ≡ true → Looks (D.state disk.old) (D.state disk.new) }
     ensures refusal { IfErr result (λ refusal. refusal ≡ Refusal.Device) }
 {
@@ -66,8 +93,8 @@ impl Extent {
         ensures { result ≡ gates_of self }
     {
         match self {
-            Extent::A => 8,
-            Extent::B => 2088,
+            Extent::A => GATES_A,
+            Extent::B => GATES_B,
         }
     }
 
@@ -107,8 +134,8 @@ impl Extent {
         ensures { result ≡ bodies_of self }
     {
         match self {
-            Extent::A => 40,
-            Extent::B => 2120,
+            Extent::A => BODIES_A,
+            Extent::B => BODIES_B,
         }
     }
 }
@@ -129,10 +156,11 @@ pub(crate) fn is_open_gate<D: SectorDisk>(
     extent: Extent,
     i: u8,
 ) -> Result<bool, Refusal>
-    requires place { i < 32 }
-    requires device { 4168 ≤ (D.state disk.old).sectors }
+    requires place { i < PLACES }
+    requires device { PAGES_AT ≤ (D.state disk.old).sectors }
     ensures counts { Counts 0 (D.state disk.old) (D.state disk.new) result }
-    ensures state { (D.state disk.old).honest ≡ true → IfOk result (λ is. is ≡ is_open (D.state disk.old).seen extent i) }
+    ensures state { (D.state disk.old).honest ≡ true
+        → IfOk result (λ is. is ≡ is_open (D.state disk.old).seen extent i) }
     ensures looks { (D.state disk.old).honest ≡ true → Looks (D.state disk.old) (D.state disk.new) }
     ensures refusal { IfErr result (λ refusal. refusal ≡ Refusal.Device) }
 {
@@ -150,22 +178,24 @@ fn read_body<D: SectorDisk>(
     i: u8,
     body: &mut [u8],
 ) -> Result<(), Refusal>
-    requires place { i < 32 }
+    requires place { i < PLACES }
     requires room { length body.old ≡ BODY_SIZE }
-    requires device { 4168 ≤ (D.state disk.old).sectors }
+    requires device { PAGES_AT ≤ (D.state disk.old).sectors }
     ensures counts { Counts 0 (D.state disk.old) (D.state disk.new) result }
-    ensures body { (D.state disk.old).honest ≡ true → OnOk result (body.new ≡ body_of (D.state disk.old).seen extent i) }
+    ensures body { (D.state disk.old).honest ≡ true
+        → OnOk result (body.new ≡ body_of (D.state disk.old).seen extent i) }
     ensures looks { (D.state disk.old).honest ≡ true → Looks (D.state disk.old) (D.state disk.new) }
     ensures refusal { IfErr result (λ refusal. refusal ≡ Refusal.Device) }
 {
-    match disk.read(extent.bodies() + 64 * u64::from(i), body) {
+    match disk.read(extent.bodies() + BODY_SECTORS * u64::from(i), body) {
         Ok(()) => Ok(()),
         Err(_) => Err(Refusal::Device),
     }
 }
 
 /// Reads the body of place i of an extent, and answers how many bytes of records it has, from 1 to 32,764.
-/// None where the gate is closed. Refused where a read fails (`Device`), and where the number is out of range (`Damaged`).
+/// None where the gate is closed.
+/// Refused where a read fails (`Device`), and where the number is out of range (`Damaged`).
 #[tactic(auto, using(gx_disk::proofs::Looking::looks_joined))]
 pub fn read_extent<D: SectorDisk>(
     disk: &mut D,
@@ -173,9 +203,9 @@ pub fn read_extent<D: SectorDisk>(
     i: u8,
     body: &mut [u8],
 ) -> Result<Option<usize>, Refusal>
-    requires place { i < 32 }
+    requires place { i < PLACES }
     requires room { length body.old ≡ BODY_SIZE }
-    requires device { 4168 ≤ (D.state disk.old).sectors }
+    requires device { PAGES_AT ≤ (D.state disk.old).sectors }
     ensures counts { CountsReads (D.state disk.old) (D.state disk.new) result }
     ensures body { (D.state disk.old).honest ≡ true → ReadsBody (D.state disk.old).seen extent i body.new result }
     ensures looks { (D.state disk.old).honest ≡ true → Looks (D.state disk.old) (D.state disk.new) }
@@ -185,7 +215,7 @@ pub fn read_extent<D: SectorDisk>(
     }
     read_body(disk, extent, i, body)?;
     let size = size_of_records(body) as usize;
-    if size == 0 || size > BODY_SIZE - 4 {
+    if size == 0 || size > BODY_ROOM {
         return Err(Refusal::Damaged);
     }
     Ok(Some(size))

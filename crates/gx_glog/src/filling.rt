@@ -3,13 +3,15 @@ ghost use Rattle.std.specs.Prelude.{◌≡◌, ◌⊎◌, ◌+◌, ◌≤◌, �
 ghost use Rattle.std.specs.Bool.{OnTrue, OnFalse};
 ghost use Rattle.gx_record.specs.Format.{IsInRange, spelling};
 ghost use Rattle.gx_record.specs.Seen.{rec_of};
+ghost use Rattle.gx_glog.specs.declared.extent.TheConstants.{BODY_ROOM, PLACES};
 ghost use Rattle.gx_glog.specs.Appending.{Appends};
-ghost use Rattle.gx_glog.specs.State.{begun, done, in_flight};
+ghost use Rattle.gx_glog.specs.State.{begun, done, in_flight, starting};
 ghost use Rattle.gx_glog.specs.Standing.{On, MayTurn};
 
 use crate::buffer::Buffer;
 use crate::extent::Extent;
 use crate::stage::{Stage, Turn};
+use crate::tail::Tails;
 use gx_geom::Refusal;
 use gx_record::Record;
 use std::alloc::{AllocError, Global};
@@ -24,8 +26,9 @@ pub enum Appended {
     NoRoom,
 }
 
-/// A running log. Its two buffers are taken at the start: records are put into one, while the other has the batch that is being written,
-/// or the first records of the other extent, which `put_first` puts there.
+/// A running log. Its two buffers are taken at the start: records are put into one, while the other has the batch that
+/// is being written, or the first records of the other extent, which `put_first` puts there. It knows of each place
+/// how far it wrote there, so that it writes no zeros over zeros.
 #[derive(Drop)]
 pub struct Glog {
     pub(crate) extent: Extent,
@@ -38,6 +41,8 @@ pub struct Glog {
     // the batch in flight, or while there is none the head of the other extent
     pub(crate) flight: Buffer,
     pub(crate) filling: Buffer,
+    // how far each place was written
+    pub(crate) tails: Tails,
 }
 
 impl Model for Glog {
@@ -45,15 +50,35 @@ impl Model for Glog {
 
     ghost Value = { Log };
 
-    ghost view = { λ g. record { extent = g.extent; used = g.used; gated = g.gated; stage = g.stage; turn = g.turn; flight = g.flight; filling = g.filling } };
+    ghost view = { λ g.
+        record {
+          extent = g.extent;
+          used = g.used;
+          gated = g.gated;
+          stage = g.stage;
+          turn = g.turn;
+          flight = g.flight;
+          filling = g.filling;
+          tails = g.tails;
+        } };
 
-    ghost invariant = { λ g. IsSound (record { extent = g.extent; used = g.used; gated = g.gated; stage = g.stage; turn = g.turn; flight = g.flight; filling = g.filling }) };
+    ghost invariant = { λ g.
+        IsSound (record {
+          extent = g.extent;
+          used = g.used;
+          gated = g.gated;
+          stage = g.stage;
+          turn = g.turn;
+          flight = g.flight;
+          filling = g.filling;
+          tails = g.tails;
+        }) };
 }
 
 // A log at rest with empty buffers.
 fn at_rest(alloc: Global, extent: Extent, used: u8) -> Result<Glog, AllocError>
-    requires { used ≤ 32 }
-    ensures { IfOk result (λ log. log ≡ record { extent = extent; used = used; gated = used; stage = Stage.Idle; turn = Turn.Closed; flight = []; filling = [] }) }
+    requires { used ≤ PLACES }
+    ensures { IfOk result (λ log. log ≡ starting extent used) }
 {
     Ok(Glog {
         extent,
@@ -63,15 +88,17 @@ fn at_rest(alloc: Global, extent: Extent, used: u8) -> Result<Glog, AllocError>
         turn: Turn::Closed,
         flight: Buffer::new(alloc)?,
         filling: Buffer::new(alloc)?,
+        tails: Tails::unknown(),
     })
 }
 
 impl Glog {
-    /// A log that goes on in an extent of which so many places are taken, 32 at most, all of them by gated batches. Where a later gate may be
-    /// open, it may only turn to the other extent. Refused where there is no memory for its buffers.
+    /// A log that goes on in an extent of which so many places are taken, 32 at most, all of them by gated batches.
+    /// Where a later gate may be open, it may only turn to the other extent.
+    /// Refused where there is no memory for its buffers.
     pub fn start(alloc: Global, extent: Extent, used: u8) -> Result<Glog, Refusal>
-        requires { used ≤ 32 }
-        ensures log { IfOk result (λ log. log ≡ record { extent = extent; used = used; gated = used; stage = Stage.Idle; turn = Turn.Closed; flight = []; filling = [] }) }
+        requires { used ≤ PLACES }
+        ensures log { IfOk result (λ log. log ≡ starting extent used) }
         ensures refusal { IfErr result (λ refusal. refusal ≡ Refusal.Memory) }
     {
         match at_rest(alloc, extent, used) {
@@ -83,7 +110,7 @@ impl Glog {
     /// How many places of the selected extent are taken, the one in flight too.
     pub fn used(&self) -> u8
         ensures used { result ≡ self.now.used }
-        ensures bound { result ≤ 32 }
+        ensures bound { result ≤ PLACES }
     {
         self.used
     }
@@ -106,20 +133,21 @@ impl Glog {
 
     /// How many bytes of records the filling buffer still has room for.
     pub fn free(&self) -> usize
-        ensures { result + length self.now.filling ≡ 32764 }
+        ensures { result + length self.now.filling ≡ BODY_ROOM }
     {
         self.filling.free()
     }
 
-    /// Puts a record into the filling buffer, whose batch takes the next place; a place has to be left. `NoRoom` where it doesn't fit, and while
-    /// a turn is under way. Nothing is written to the device.
+    /// Puts a record into the filling buffer, whose batch takes the next place; a place has to be left. `NoRoom` where
+    /// it doesn't fit, and while a turn is under way. Nothing is written to the device.
     pub fn append(&mut self, logged: &Record<'_>) -> Appended
         requires in_range { IsInRange (rec_of logged.now) }
-        requires place { self.old.used < 32 }
+        requires place { self.old.used < PLACES }
         ensures appends { Appends (spelling (rec_of logged.now)) self.old self.new result }
         // Where the log was on a device it still is, and where it may turn it still may.
         ensures on { (seen : List ℕ) (pending : ℕ → Bool) → On self.old seen pending → On self.new seen pending }
-        ensures may_turn { (seen : List ℕ) (pending : ℕ → Bool) → MayTurn self.old seen pending → MayTurn self.new seen pending }
+        ensures may_turn { (seen : List ℕ) (pending : ℕ → Bool) → MayTurn self.old seen pending
+            → MayTurn self.new seen pending }
     {
         if self.turn.is_under_way() {
             return Appended::NoRoom;

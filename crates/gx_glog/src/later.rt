@@ -1,6 +1,7 @@
 //! Gates behind a log that was found, which are closed before it goes on.
-ghost use Rattle.std.specs.Prelude.{◌≡◌, ◌+◌, ◌≤◌, ◌<◌, true, IfErr, IfOk, MatchResult};
-ghost use Rattle.gx_disk.specs.Device.{Counts};
+ghost use Rattle.std.specs.Prelude.{◌≡◌, ◌+◌, ◌≤◌, ◌<◌, true, IfErr, IfOk};
+ghost use Rattle.gx_disk.specs.declared.layout.TheConstants.{PAGES_AT};
+ghost use Rattle.gx_disk.specs.Device.{Counts, SameDevice, CountsFault};
 ghost use Rattle.gx_disk.specs.Looks.{Looks};
 ghost use Rattle.gx_glog.specs.Later.{TellsOpenFrom, CallsForLater, ClosesLaterOfRun, ClosesGatesFrom};
 
@@ -12,11 +13,12 @@ use gx_geom::Refusal;
 
 // Whether a gate of an extent is open, from a place on.
 fn has_open_gate<D: SectorDisk>(disk: &mut D, extent: Extent, from: u8) -> Result<bool, Refusal>
-    requires place { from ≤ 33 }
-    requires device { 4168 ≤ (D.state disk.old).sectors }
+    requires place { from ≤ PLACES + 1 }
+    requires device { PAGES_AT ≤ (D.state disk.old).sectors }
     ensures counts { Counts 0 (D.state disk.old) (D.state disk.new) result }
-    ensures below { IfOk result (λ is. is ≡ true → from < 32) }
-    ensures gates { (D.state disk.old).honest ≡ true → IfOk result (λ is. TellsOpenFrom from extent (D.state disk.old).seen is) }
+    ensures below { IfOk result (λ is. is ≡ true → from < PLACES) }
+    ensures gates { (D.state disk.old).honest ≡ true
+        → IfOk result (λ is. TellsOpenFrom from extent (D.state disk.old).seen is) }
     ensures looks { (D.state disk.old).honest ≡ true → Looks (D.state disk.old) (D.state disk.new) }
     ensures refusal { IfErr result (λ refusal. refusal ≡ Refusal.Device) }
 {
@@ -32,10 +34,11 @@ fn has_open_gate<D: SectorDisk>(disk: &mut D, extent: Extent, from: u8) -> Resul
 
 // Writes an extent's gates closed from a place on, in one write.
 fn close_from<D: SectorDisk>(disk: &mut D, extent: Extent, from: u8) -> Result<(), Refusal>
-    requires place { from < 32 }
-    requires device { 4168 ≤ (D.state disk.old).sectors }
+    requires place { from < PLACES }
+    requires device { PAGES_AT ≤ (D.state disk.old).sectors }
     ensures counts { Counts 1 (D.state disk.old) (D.state disk.new) result }
-    ensures call { (D.state disk.old).honest ≡ true → ClosesGatesFrom from extent (D.state disk.old) (D.state disk.new) result }
+    ensures call { (D.state disk.old).honest ≡ true
+        → ClosesGatesFrom from extent (D.state disk.old) (D.state disk.new) result }
     ensures refusal { IfErr result (λ refusal. refusal ≡ Refusal.Device) }
 {
     let gates = closed_gates();
@@ -46,21 +49,24 @@ fn close_from<D: SectorDisk>(disk: &mut D, extent: Extent, from: u8) -> Result<(
     }
 }
 
-/// Closes the gates of an extent behind the first one that is closed, which is that of place `bodies`: where one of the places `bodies` + 1
-/// to 31 has an open gate, all of these gates are written closed, in one write, and synced; where none has, nothing is written. So it is made
-/// before a log goes on behind `bodies` batches that were found on a device, 0 to 32 of them: an image that no life of a log left may have such
-/// a gate, and a batch more would let the body behind it count. Refused with `Device` where a call fails, and only then.
+/// Closes the gates of an extent behind the first one that is closed, which is that of place `bodies`: where one of the
+/// places `bodies` + 1 to 31 has an open gate, all of these gates are written closed, in one write, and synced; where
+/// none has, nothing is written. So it is made before a log goes on behind `bodies` batches that were found on a
+/// device, 0 to 32 of them: an image that no life of a log left may have such a gate, and a batch more would let the
+/// body behind it count. Refused with `Device` where a call fails, and only then.
 ///
-/// On an honest device, with all of it settled and this extent selected, each image at each moment has the same log and the same pages, also
-/// where a call fails. At Ok a log that starts there is on the device.
+/// On an honest device, with all of it settled and this extent selected, each image at each moment has the same log and
+/// the same pages, also where a call fails. At Ok a log that starts there is on the device.
 pub fn close_later<D: SectorDisk>(disk: &mut D, extent: Extent, bodies: u8) -> Result<(), Refusal>
-    requires bodies { bodies ≤ 32 }
-    requires device { 4168 ≤ (D.state disk.old).sectors }
-    ensures device { ((D.state disk.new).sectors ≡ (D.state disk.old).sectors) × ((D.state disk.new).honest ≡ (D.state disk.old).honest) }
-    ensures faults { MatchResult result (λ _. (D.state disk.new).faults ≡ (D.state disk.old).faults) (λ _. (D.state disk.new).faults ≡ (D.state disk.old).faults + 1) }
-    ensures calls { ((D.state disk.old).calls ≤ (D.state disk.new).calls) × ((D.state disk.new).calls ≤ (D.state disk.old).calls + 2) }
+    requires bodies { bodies ≤ PLACES }
+    requires device { PAGES_AT ≤ (D.state disk.old).sectors }
+    ensures device { SameDevice (D.state disk.old) (D.state disk.new) }
+    ensures faults { CountsFault (D.state disk.old) (D.state disk.new) result }
+    ensures calls { ((D.state disk.old).calls ≤ (D.state disk.new).calls)
+        × ((D.state disk.new).calls ≤ (D.state disk.old).calls + 2) }
     ensures refusal { IfErr result (λ refusal. refusal ≡ Refusal.Device) }
-    ensures writes { (D.state disk.old).honest ≡ true → CallsForLater extent bodies (D.state disk.old) (D.state disk.new) result }
+    ensures writes { (D.state disk.old).honest ≡ true
+        → CallsForLater extent bodies (D.state disk.old) (D.state disk.new) result }
     ensures closes { ClosesLaterOfRun extent bodies (D.state disk.old) (D.state disk.new) result }
 {
     let later = bodies + 1;

@@ -4,11 +4,15 @@ ghost use Rattle.gx_glog.specs.declared.extent.TheConstants.{SELECTOR};
 ghost use Rattle.gx_glog.specs.declared.parameters.TheConstants.{PARAMETERS};
 ghost use Rattle.gx_glog.specs.Parameters.{BytesTellParameters};
 ghost use Rattle.gx_glog.specs.First.{FirstIsSpelled};
-ghost use Rattle.gx_glog.specs.Laws.{FirstLogIs, FirstLogIsOn, ImagesHaveTheFirstLog, ImagesHaveTheLog, SelectorDecides, StartIsOn, AppendStaysOn, PutFirstStaysOn, ElsewhereStaysOn, ElsewhereKeepsBatches, StartMayTurn, OnMayTurn, ImagesOfTurn, ElsewhereMayTurn, ElsewhereKeepsRun, ImagesHaveTheBodies, LogIsItsBodies, ElsewhereKeepsBodies, ElsewhereKeepsRunsBodies, BodiesOfTurn, FirstLogHasOneBody};
+ghost use Rattle.gx_glog.specs.Laws.{FirstLogIs, FirstLogIsOn, ImagesHaveTheFirstLog, ImagesHaveTheLog};
+ghost use Rattle.gx_glog.specs.Laws.{SelectorDecides, StartIsOn, AppendStaysOn, PutFirstStaysOn, ElsewhereStaysOn};
+ghost use Rattle.gx_glog.specs.Laws.{ElsewhereKeepsBatches, StartMayTurn, OnMayTurn, ImagesOfTurn, ElsewhereMayTurn};
+ghost use Rattle.gx_glog.specs.Laws.{ElsewhereKeepsRun, ImagesHaveTheBodies, LogIsItsBodies, ElsewhereKeepsBodies};
+ghost use Rattle.gx_glog.specs.Laws.{ElsewhereKeepsRunsBodies, BodiesOfTurn, FirstLogHasOneBody};
 
-/// Of a device that a log is on, the log of each image is what is gated, with what is in flight or without: without as long as
-/// its gate isn't written. From a turn's write of the selector on it is what is gated or the head, as the image's selector says.
-/// The same holds body by body: two cuts of the same bytes are two logs.
+/// Of a device that a log is on, the log of each image is what is gated, with what is in flight or without: without as
+/// long as its gate isn't written. From a turn's write of the selector on it is what is gated or the head, as the
+/// image's selector says. The same holds body by body: two cuts of the same bytes are two logs.
 pub fn images()
     ensures log { ImagesHaveTheLog }
     ensures selector { SelectorDecides }
@@ -16,23 +20,25 @@ pub fn images()
     ensures joined { LogIsItsBodies }
 {}
 
-/// A log is on a device from its start on, where the device has its batches, and an append or a record put first keeps it there
-/// as long as no turn is under way.
+/// A log is on a device from its start on, where the device has its batches, and an append or a record put first keeps
+/// it there as long as no turn is under way.
 pub fn appends()
     ensures start { StartIsOn }
     ensures append { AppendStaysOn }
     ensures put_first { PutFirstStaysOn }
 {}
 
-/// A log stays on a device, with the same batches, where a call changes no sector of the log: a read, a sync, a page's write.
+/// A log stays on a device, with the same batches, where a call changes no sector of the log:
+/// a read, a sync, a page's write.
 pub fn calls_elsewhere()
     ensures on { ElsewhereStaysOn }
     ensures batches { ElsewhereKeepsBatches }
     ensures bodies { ElsewhereKeepsBodies }
 {}
 
-/// A log begins over an image whose later gates may be open, and may turn there: so may any log that is on a device with nothing in flight.
-/// Each image has what is gated, or from the selector's write on that or the head, and a call elsewhere changes nothing of it.
+/// A log begins over an image whose later gates may be open, and may turn there: so may any log that is on a device
+/// with nothing in flight. Each image has what is gated, or from the selector's write on that or the head, and a call
+/// elsewhere changes nothing of it.
 pub fn turns()
     ensures start { StartMayTurn }
     ensures on { OnMayTurn }
@@ -43,8 +49,8 @@ pub fn turns()
     ensures images_bodies { BodiesOfTurn }
 {}
 
-/// The first log of a device that holds what is laid down of it: its one record, spelled; a running log with one place taken is on
-/// that device; and each image of it holds the same.
+/// The first log of a device that holds what is laid down of it: its one record, spelled; a running log with one place
+/// taken is on that device; and each image of it holds the same.
 pub fn first_log()
     ensures spelled { FirstIsSpelled }
     ensures selector { SELECTOR ≡ 2 }

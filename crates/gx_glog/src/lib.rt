@@ -10,10 +10,14 @@ mod later;
 pub mod laws;
 mod parameters;
 mod stage;
+mod tail;
 mod turn;
 
 pub use batch::open_gate;
-pub use extent::{BODY_SIZE, Extent, PLACES, SELECTOR, read_extent, selected};
+pub use extent::{
+    BODIES_A, BODIES_B, BODY_ROOM, BODY_SECTORS, BODY_SIZE, EXTENT_SECTORS, Extent, GATES_A,
+    GATES_B, PLACES, SELECTOR, read_extent, selected,
+};
 pub use filling::{Appended, Glog};
 pub use first::first_body;
 pub use later::close_later;

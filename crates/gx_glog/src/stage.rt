@@ -5,7 +5,7 @@ ghost use Rattle.std.specs.Bool.{OnTrue, OnFalse};
 /// A device call of a batch, in their order, or none.
 #[derive(Clone, Copy, Debug, PartialEq, Eq)]
 pub enum Stage {
-    /// The 32,768 bytes of the body are written.
+    /// The body is written, up to its place's tail.
     Body,
     /// The body is synced.
     BodySync,
@@ -22,7 +22,7 @@ pub enum Stage {
 pub enum Turn {
     /// The 32 gates of the other extent are written closed, in one write.
     Closed,
-    /// The 32,768 bytes of its body 0 are written.
+    /// Its body 0 is written, up to its place's tail.
     Body,
     /// The body is synced.
     BodySync,

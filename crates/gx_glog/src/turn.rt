@@ -1,17 +1,18 @@
 //! The turn to the other extent, one device call a step.
 ghost use Rattle.std.specs.Prelude.{◌≡◌, ◌≤◌, ◌<◌, ℕ, List, Bool, [], true, length, replicate, IfErr, IfOk};
+ghost use Rattle.gx_disk.specs.declared.layout.TheConstants.{PAGES_AT};
 ghost use Rattle.gx_disk.specs.Device.{Counts, Writes};
 ghost use Rattle.gx_record.specs.Format.{IsInRange, spelling};
 ghost use Rattle.gx_record.specs.Seen.{rec_of};
-ghost use Rattle.gx_glog.specs.Layout.{other_of};
 ghost use Rattle.gx_glog.specs.Bodies.{IsZero};
 ghost use Rattle.gx_glog.specs.First.{closed_gates_bytes, selector_bytes};
 ghost use Rattle.gx_glog.specs.State.{turned, Turns};
 ghost use Rattle.gx_glog.specs.Standing.{On, MayTurn};
-ghost use Rattle.gx_glog.specs.Turning.{PutsFirst, AreClosedGates, IsSelector, TurnCalls, KeepsTurning, KeepsMayTurn};
+ghost use Rattle.gx_glog.specs.Turning.{PutsFirst, AreClosedGates, IsSelector, TurnCallFor};
+ghost use Rattle.gx_glog.specs.Turning.{TurnCalls, KeepsTurning, KeepsMayTurn};
 
 use crate::batch::{settle, write_body, write_gate};
-use crate::extent::{Extent, SELECTOR};
+use crate::extent::{Extent, PLACES, SELECTOR};
 use crate::filling::{Appended, Glog};
 use crate::stage::{Stage, Turn};
 use gx_disk::{SECTOR_SIZE, SectorDisk};
@@ -19,7 +20,7 @@ use gx_geom::Refusal;
 use gx_record::Record;
 
 /// How many bytes the gates of an extent have.
-pub const GATES_SIZE: usize = 16384;
+pub const GATES_SIZE: usize = SECTOR_SIZE * PLACES as usize;
 
 // So many zeros.
 fn zeroed<const N: usize>() -> [u8; N]
@@ -50,9 +51,10 @@ pub fn selecting(extent: Extent) -> [u8; SECTOR_SIZE]
 
 // Closes the gates of an extent.
 fn write_closed<D: SectorDisk>(disk: &mut D, extent: Extent) -> Result<Turn, Refusal>
-    requires device { 4168 ≤ (D.state disk.old).sectors }
+    requires device { PAGES_AT ≤ (D.state disk.old).sectors }
     ensures counts { Counts 1 (D.state disk.old) (D.state disk.new) result }
-    ensures call { (D.state disk.old).honest ≡ true → TurnCalls Turn.Closed extent [] (D.state disk.old) (D.state disk.new) result }
+    ensures call { (D.state disk.old).honest ≡ true
+        → TurnCalls Turn.Closed extent 0 [] (D.state disk.old) (D.state disk.new) result }
     ensures call_is { IfOk result (λ call. call ≡ Turn.Closed) }
     ensures refusal { IfErr result (λ refusal. refusal ≡ Refusal.Device) }
 {
@@ -65,9 +67,10 @@ fn write_closed<D: SectorDisk>(disk: &mut D, extent: Extent) -> Result<Turn, Ref
 
 // Selects an extent.
 fn write_selector<D: SectorDisk>(disk: &mut D, extent: Extent) -> Result<Turn, Refusal>
-    requires device { 4168 ≤ (D.state disk.old).sectors }
+    requires device { PAGES_AT ≤ (D.state disk.old).sectors }
     ensures counts { Counts 1 (D.state disk.old) (D.state disk.new) result }
-    ensures call { (D.state disk.old).honest ≡ true → TurnCalls Turn.Selector extent [] (D.state disk.old) (D.state disk.new) result }
+    ensures call { (D.state disk.old).honest ≡ true
+        → TurnCalls Turn.Selector extent 0 [] (D.state disk.old) (D.state disk.new) result }
     ensures call_is { IfOk result (λ call. call ≡ Turn.Selector) }
     ensures refusal { IfErr result (λ refusal. refusal ≡ Refusal.Device) }
 {
@@ -79,16 +82,17 @@ fn write_selector<D: SectorDisk>(disk: &mut D, extent: Extent) -> Result<Turn, R
 }
 
 impl Glog {
-    /// Puts a record into body 0 of the other extent, behind those that were put there before; the place is 0. A turn makes it the log's
-    /// first batch there, and a batch that begins before drops it. `NoRoom` where it doesn't fit, and while a turn is under way. Nothing is
-    /// written to the device.
+    /// Puts a record into body 0 of the other extent, behind those that were put there before; the place is 0. A turn
+    /// makes it the log's first batch there, and a batch that begins before drops it. `NoRoom` where it doesn't fit,
+    /// and while a turn is under way. Nothing is written to the device.
     pub fn put_first(&mut self, logged: &Record<'_>) -> Appended
         requires in_range { IsInRange (rec_of logged.now) }
         requires idle { self.old.stage ≡ Stage.Idle }
         ensures puts { PutsFirst (spelling (rec_of logged.now)) self.old self.new result }
         // Where the log was on a device it still is, and where it may turn it still may.
         ensures on { (seen : List ℕ) (pending : ℕ → Bool) → On self.old seen pending → On self.new seen pending }
-        ensures may_turn { (seen : List ℕ) (pending : ℕ → Bool) → MayTurn self.old seen pending → MayTurn self.new seen pending }
+        ensures may_turn { (seen : List ℕ) (pending : ℕ → Bool) → MayTurn self.old seen pending
+            → MayTurn self.new seen pending }
     {
         if self.turn.is_under_way() {
             return Appended::NoRoom;
@@ -100,21 +104,28 @@ impl Glog {
         }
     }
 
-    // The turn's call that was due is made.
+    // The turn's call that was due is made. The tail of the head's place goes as that of a batch.
     fn advance_turn(&mut self)
         requires idle { self.old.stage ≡ Stage.Idle }
         requires head { 1 ≤ length self.old.flight }
         ensures { self.new ≡ turned self.old }
     {
+        let to = self.extent.other();
         match self.turn {
-            Turn::Closed => self.turn = Turn::Body,
+            Turn::Closed => {
+                self.tails.widen(to, 0, self.flight.sectors());
+                self.turn = Turn::Body;
+            }
             Turn::Body => self.turn = Turn::BodySync,
-            Turn::BodySync => self.turn = Turn::Gate,
+            Turn::BodySync => {
+                self.tails.trim(to, 0, self.flight.sectors());
+                self.turn = Turn::Gate;
+            }
             Turn::Gate => self.turn = Turn::GateSync,
             Turn::GateSync => self.turn = Turn::Selector,
             Turn::Selector => self.turn = Turn::Done,
             Turn::Done => {
-                self.extent = self.extent.other();
+                self.extent = to;
                 self.used = 1;
                 self.gated = 1;
                 self.turn = Turn::Closed;
@@ -125,39 +136,49 @@ impl Glog {
 
     // Makes the turn's device call that is due, and answers which one it was.
     fn call_turn<D: SectorDisk>(&self, disk: &mut D) -> Result<Turn, Refusal>
-        requires device { 4168 ≤ (D.state disk.old).sectors }
+        requires device { PAGES_AT ≤ (D.state disk.old).sectors }
         ensures counts { Counts 1 (D.state disk.old) (D.state disk.new) result }
-        ensures call { (D.state disk.old).honest ≡ true → TurnCalls self.now.turn (other_of self.now.extent) self.now.flight (D.state disk.old) (D.state disk.new) result }
+        ensures call { (D.state disk.old).honest ≡ true
+            → TurnCallFor self.now.turn self.now (D.state disk.old) (D.state disk.new) result }
         ensures call_is { IfOk result (λ call. call ≡ self.now.turn) }
         ensures refusal { IfErr result (λ refusal. refusal ≡ Refusal.Device) }
     {
         let to = self.extent.other();
         match self.turn {
             Turn::Closed => write_closed(disk, to),
-            Turn::Body => write_body(disk, to, 0, self.flight.body(), Turn::Body),
+            Turn::Body => {
+                let sectors = self.tails.of(to, 0);
+                write_body(disk, to, 0, sectors, self.flight.body(), Turn::Body)
+            }
             Turn::Gate => write_gate(disk, to, 0, Turn::Gate),
             Turn::Selector => write_selector(disk, to),
             Turn::BodySync | Turn::GateSync | Turn::Done => settle(disk, self.turn),
         }
     }
 
-    /// Makes the next device call of the turn to the other extent, whose body 0 gets what was put first: its gates closed, its body,
-    /// sync, its gate, sync, the selector, sync. Answers which call it was; after `Done` the other extent is selected, and one place of
-    /// it is used. Refused where the device call fails (`Device`); it is then still due.
+    /// Makes the next device call of the turn to the other extent, whose body 0 gets what was put first: its gates
+    /// closed, its body, sync, its gate, sync, the selector, sync. Answers which call it was; after `Done` the other
+    /// extent is selected, and one place of it is used.
+    /// Refused where the device call fails (`Device`); it is then still due.
     pub fn turn_step<D: SectorDisk>(&mut self, disk: &mut D) -> Result<Turn, Refusal>
         requires idle { self.old.stage ≡ Stage.Idle }
         requires quiet { self.old.filling ≡ [] }
         requires head { 1 ≤ length self.old.flight }
-        requires device { 4168 ≤ (D.state disk.old).sectors }
+        requires device { PAGES_AT ≤ (D.state disk.old).sectors }
         ensures counts { Counts 1 (D.state disk.old) (D.state disk.new) result }
         ensures turns { Turns self.old self.new result }
         // Which call of the device it was, with its bytes.
-        ensures call { (D.state disk.old).honest ≡ true → TurnCalls self.old.turn (other_of self.old.extent) self.old.flight (D.state disk.old) (D.state disk.new) result }
-        // Where the log was on the device it still is; no image at any moment has another log than the old one and, from the selector's
-        // write on, the new one.
-        ensures keeps { (D.state disk.old).honest ≡ true → On self.old (D.state disk.old).seen (D.state disk.old).pending → KeepsTurning self.old self.new (D.state disk.old) (D.state disk.new) result }
+        ensures call { (D.state disk.old).honest ≡ true
+            → TurnCallFor self.old.turn self.old (D.state disk.old) (D.state disk.new) result }
+        // Where the log was on the device it still is; no image at any moment has another log than the old one and,
+        // from the selector's write on, the new one.
+        ensures keeps { (D.state disk.old).honest ≡ true
+            → On self.old (D.state disk.old).seen (D.state disk.old).pending
+            → KeepsTurning self.old self.new (D.state disk.old) (D.state disk.new) result }
         // The same where later gates of the old extent may be open.
-        ensures may_turn { (D.state disk.old).honest ≡ true → MayTurn self.old (D.state disk.old).seen (D.state disk.old).pending → KeepsMayTurn self.old self.new (D.state disk.old) (D.state disk.new) result }
+        ensures may_turn { (D.state disk.old).honest ≡ true
+            → MayTurn self.old (D.state disk.old).seen (D.state disk.old).pending
+            → KeepsMayTurn self.old self.new (D.state disk.old) (D.state disk.new) result }
     {
         match self.call_turn(disk) {
             Ok(call) => {

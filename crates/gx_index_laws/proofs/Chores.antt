@@ -2,6 +2,7 @@
 use Rattle.std.proofs.Common.{◌≡◌, ℕ, suc, ◌+◌, ◌^◌, ◌<◌, ◌≤◌, Bool, true, false, inl, inr, ap, sym, ◌∙◌, subst, arith}
 use Rattle.std.proofs.lemmas.Bool.{le-leb}
 use Rattle.std.specs.Prelude.{nat_le}
+use Rattle.gx_index_laws.specs.declared.TheConstants.{CHECKPOINT_AT}
 use Rattle.gx_index_laws.specs.Upkeep.{Checkpoint, Off, Running, Turning, Upkeep, calls_to_go, IsWithin, where_so, used_then, checkpoint_left, upkeep_left, TakesBatch, GoesOn, WritesPage, SyncsPages, TurnsOn, Turned, MustRun, running, Chore, LogStep, WritePage, CheckpointStep, IsChore}
 
 takes_falls : (old new : Upkeep) → TakesBatch old new → upkeep_left new < upkeep_left old
@@ -41,7 +42,7 @@ runs_as_much u must =
       | inl runs ↦ ap (λ (x : Checkpoint). checkpoint_left x (used_then u)) runs
       | inr has_to ↦
           ap (λ (x : Checkpoint). checkpoint_left x (used_then u)) has_to.0
-          ∙ ap (λ b. where_so b 8) (le-leb 24 (used_then u) (let low = has_to.1 in omega (arith, low)))
+          ∙ ap (λ b. where_so b 8) (le-leb CHECKPOINT_AT (used_then u) (let low = has_to.1 in omega (arith, low)))
     ] in
     omega (arith, same)
 
@@ -66,7 +67,7 @@ so_most true n = omega arith
 so_most false n = omega arith
 
 eight_most : (x : Checkpoint) (used : ℕ) → calls_to_go x ≤ 7 → checkpoint_left x used ≤ 8
-eight_most Off used few = so_most (nat_le 24 used) 8
+eight_most Off used few = so_most (nat_le CHECKPOINT_AT used) 8
 eight_most Running used few = omega arith
 eight_most (Turning calls) used few = omega (arith, few)
 

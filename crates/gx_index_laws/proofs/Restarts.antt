@@ -3,6 +3,7 @@ use Rattle.std.proofs.Common.{◌≡◌, ℕ, ◌+◌, ◌-◌, ◌<◌, ◌≤�
 use Rattle.std.specs.Prelude.{nat_lt, if◌then◌else◌, unwrap_or}
 use Rattle.std.specs.List.{slice_index_or, list_any}
 use Rattle.std.proofs.Math.Bool.{or-false}
+use Rattle.gx_machine.specs.declared.limits.TheConstants.{SESSIONS}
 use Rattle.gx_machine.specs.declared.entry.Entry.{Entry}
 use Rattle.gx_machine.specs.Sets.{has, IsSetOf}
 use Rattle.gx_machine.proofs.SetLaws.{entry_total, entry_exact}
@@ -98,7 +99,7 @@ module _ {B : Type 0} (c : Class B) where
   whole_on (event ∷ events) old new w are = whole_on events are.0 new are.1.whole are.2
 
   -- where all slots are free, what stood is what is live
-  all_live : (s : State B) → s.slots ≡ replicate 8 Free → (e : Entry B) → (engine_of c s).live e ≡ stood c.keys (engine_of c s) e
+  all_live : (s : State B) → s.slots ≡ replicate SESSIONS Free → (e : Entry B) → (engine_of c s).live e ≡ stood c.keys (engine_of c s) e
   all_live s free e = sym (ap (λ (slots : List (Slot B)). unwrap_or (noted_in c.keys e slots) ((engine_of c s).live e)) free)
 
   module _ (l : IsLawful c) where
@@ -126,7 +127,7 @@ module _ {B : Type 0} (c : Class B) where
           (found_state c one.next one.area one.log) s at_first o.happening o.of_opening ∙ or-false (list_any is_fault one.events)
 
       -- at its end it is seen as the machine with that one set
-      pub opening_seen : (set : List (Entry B)) → IsSetOf c.keys (stands_for (known_of c) one.area one.log) set → s.slots ≡ replicate 8 Free
+      pub opening_seen : (set : List (Entry B)) → IsSetOf c.keys (stands_for (known_of c) one.area one.log) set → s.slots ≡ replicate SESSIONS Free
           → SeenAs c.keys (engine_of c s) (record (opened_machine (number_of (known_of c) one.log) set) { failed = list_any is_fault one.events })
       opening_seen set is free = record {
         sessions = sym (ap (sessions_of c.keys (engine_of c s).live) free);
@@ -184,7 +185,7 @@ module _ {B : Type 0} (c : Class B) where
           → (number_of (known_of c) log ≡ number) × ((e : Entry B) → stands_for (known_of c) area log e ≡ stands_for (known_of c) one.area one.log e)
       restarts_stand area log again = one_left c l number (stands_for (known_of c) one.area one.log) new keeps area log again
 
-      module _ (free : new.slots ≡ replicate 8 Free) where
+      module _ (free : new.slots ≡ replicate SESSIONS Free) where
         is_opened : IsEvent c.keys (engine_of c old) (Opens number) (engine_of c new)
         is_opened = record {
           rises = rises c l old w one.area one.log left;

@@ -1,5 +1,6 @@
 -- The state of an index.
 use Rattle.std.specs.Prelude.{ℕ, Bool, false, replicate, List, [], ◌∷◌}
+use Rattle.gx_machine.specs.declared.limits.TheConstants.{SESSIONS}
 use Rattle.gx_machine.specs.declared.entry.Entry.{Entry}
 use Rattle.gx_tree_laws.specs.Trees.{Pair, Tree, fresh_node}
 use Rattle.gx_tree_laws.specs.Reach.{Item}
@@ -51,7 +52,7 @@ abbrev pub fresh_state : {B : Type 0} → B → State B
 fresh_state start = record {
   log = record { area = fresh_page start; gated = Counters 0 0 2 1 ∷ []; flight = []; filling = [] };
   next = 1;
-  slots = replicate 8 Free;
+  slots = replicate SESSIONS Free;
   transaction = λ a. 0;
   work = λ a. Rests;
   restored = λ a. [];

@@ -1,5 +1,6 @@
 -- What is to be done for the log and for frames before a call that waits for it can go on, and the number that falls with it.
 use Rattle.std.specs.Prelude.{ℕ, suc, ◌≡◌, ◌+◌, ◌≤◌, Bool, true, false, nat_le, ◌⊎◌}
+use Rattle.gx_index_laws.specs.declared.TheConstants.{CHECKPOINT_AT}
 
 -- A checkpoint: none runs; one runs, gates what is logged and writes dirty pages; or it turns to the other extent, with so
 -- many device calls to go.
@@ -40,7 +41,7 @@ used_then u = u.used + where_so u.filling 1
 -- The number: a page's write for each dirty frame; what is left of the batch in flight, and the four calls of the next one; and
 -- a checkpoint's sync of pages and its turn, where one runs or has to, since 24 bodies are used or will be.
 abbrev pub checkpoint_left : Checkpoint → ℕ → ℕ
-checkpoint_left Off used = where_so (nat_le 24 used) 8
+checkpoint_left Off used = where_so (nat_le CHECKPOINT_AT used) 8
 checkpoint_left Running used = 8
 checkpoint_left (Turning calls) used = calls
 
@@ -84,7 +85,7 @@ pub record Turned (old new : Upkeep) : Type 0 where
 
 -- a checkpoint runs, or has to
 abbrev pub MustRun : Upkeep → Type 0
-MustRun u = (u.checkpoint ≡ Running) ⊎ ((u.checkpoint ≡ Off) × (24 ≤ u.used))
+MustRun u = (u.checkpoint ≡ Running) ⊎ ((u.checkpoint ≡ Off) × (CHECKPOINT_AT ≤ u.used))
 
 abbrev pub running : Upkeep → Upkeep
 running u = record u { checkpoint = Running }

@@ -1,6 +1,7 @@
 -- What every index keeps.
 use Rattle.std.specs.Prelude.{ℕ, ◌≡◌, ◌+◌, ◌<◌, ◌≤◌, Bool, true, false, not, option_map, is_some, length, []}
 use Rattle.std.specs.List.{slice_index_or}
+use Rattle.gx_machine.specs.declared.limits.TheConstants.{MAX_CLAIMS}
 use Rattle.gx_machine.specs.declared.entry.Entry.{Entry}
 use Rattle.gx_machine.specs.Sets.{IsSetOf}
 use Rattle.gx_machine.specs.Machine.{Machine}
@@ -57,7 +58,7 @@ pub record IsWhole {B : Type 0} (c : Class B) (s : State B) : Type 0 where
   pub healthy : IsHealthy (known_of c) s.log
   -- slots hold their locks, which keep apart; and there are so many claims in all
   pub sound : IsSound c.keys (engine_of c s)
-  pub few : claims_held s.slots ≤ 512
+  pub few : claims_held s.slots ≤ MAX_CLAIMS
   -- each session's work is right, and so is what aborts have restored
   pub works : (a : ℕ) → DoesWork c (tree_now c s) (slot_at a s.slots) (s.work a)
   pub restored : (a : ℕ) → AreRestored c.keys (engine_of c s).live (slot_at a s.slots) (s.restored a)

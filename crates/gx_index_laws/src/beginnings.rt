@@ -23,25 +23,33 @@ pub fn a_fresh_index_is_whole<B>()
     ensures seen { (c : Class B) (start : B) → SeenAs c.keys (engine_of c (fresh_state start)) fresh_machine }
 {}
 
-/// A session without a transaction begins one. It gets the next number, which the log doesn't name, and has noted nothing.
+/// A session without a transaction begins one.
+/// It gets the next number, which the log doesn't name, and has noted nothing.
 pub fn a_transaction_begins<B>()
-    ensures { (c : Class B) → IsLawful c → (old : State B) → IsWhole c old → old.failed ≡ false → (s : ℕ) → is_session s ≡ true
-        → slot_at s old.slots ≡ Free → is_transaction old.next ≡ true → Happens c old (Asks s Begin (Now Ok)) (with_transaction s old) }
+    ensures { (c : Class B) → IsLawful c → (old : State B) → IsWhole c old → old.failed ≡ false → (s : ℕ)
+        → is_session s ≡ true
+        → slot_at s old.slots ≡ Free → is_transaction old.next ≡ true
+        → Happens c old (Asks s Begin (Now Ok)) (with_transaction s old) }
 {}
 
-/// A call opens, with its lock: an insert, a delete or a search looks from the root, a commit waits to be sealed, an abort has
-/// restored nothing yet.
+/// A call opens, with its lock: an insert, a delete or a search looks from the root, a commit waits to be sealed, an
+/// abort has restored nothing yet.
 pub fn a_call_opens<B>()
-    ensures { (c : Class B) → IsLawful c → (old : State B) → IsWhole c old → old.failed ≡ false → (s : ℕ) → is_session s ≡ true → (call : Call B)
+    ensures { (c : Class B) → IsLawful c → (old : State B) → IsWhole c old → old.failed ≡ false → (s : ℕ)
+        → is_session s ≡ true → (call : Call B)
         → (ask_in c.keys s call old.slots).0 ≡ Open
-        → Happens c old (Asks s call Open) (slotted s (ask_in c.keys s call old.slots).1 (first_work (tree_now c old) call) old) }
+        → Happens c old (Asks s call Open) (slotted s (ask_in c.keys s call old.slots).1
+        (first_work (tree_now c old) call) old) }
 {}
 
-/// An ask that is refused leaves an index as it is: for want of a lock, of a transaction or of a session, or since no number is
-/// left for a transaction that would begin.
+/// An ask that is refused leaves an index as it is: for want of a lock, of a transaction or of a session, or since no
+/// number is left for a transaction that would begin.
 pub fn a_refused_ask_changes_nothing<B>()
-    ensures refused { (c : Class B) → IsLawful c → (old : State B) → IsWhole c old → old.failed ≡ false → (s : ℕ) (call : Call B) (why : Refusal)
-        → (ask c.keys s call (engine_of c old)).0 ≡ Now (Refused why) → Happens c old (Asks s call (Now (Refused why))) old }
-    ensures history { (c : Class B) → IsLawful c → (old : State B) → IsWhole c old → old.failed ≡ false → (s : ℕ) (call : Call B)
+    ensures refused { (c : Class B) → IsLawful c → (old : State B) → IsWhole c old → old.failed ≡ false
+        → (s : ℕ) (call : Call B) (why : Refusal)
+        → (ask c.keys s call (engine_of c old)).0 ≡ Now (Refused why)
+        → Happens c old (Asks s call (Now (Refused why))) old }
+    ensures history { (c : Class B) → IsLawful c → (old : State B) → IsWhole c old → old.failed ≡ false
+        → (s : ℕ) (call : Call B)
         → (ask c.keys s call (engine_of c old)).0 ≡ Now Ok → Happens c old (RefusesAsk s call HistoryFull) old }
 {}

@@ -26,8 +26,10 @@ ghost use Rattle.gx_index_laws.specs.Happening.{Happens, with_work, slotted};
 
 /// A page of a look is read: what it found there and what it stacks is what the session then looks with.
 pub fn a_look_goes_on<B>()
-    ensures { (c : Class B) → IsLawful c → (old : State B) → IsWhole c old → (s : ℕ) (item : Item) (stack : List Item) (found : List (Pair B))
-        → old.work s ≡ Looks (item ∷ stack) found → (leads : B → Bool) → LeadsTo c.rules (tree_now c old) (wants_pair c (slot_at s old.slots)) leads
+    ensures { (c : Class B) → IsLawful c → (old : State B) → IsWhole c old
+        → (s : ℕ) (item : Item) (stack : List Item) (found : List (Pair B))
+        → old.work s ≡ Looks (item ∷ stack) found → (leads : B → Bool)
+        → LeadsTo c.rules (tree_now c old) (wants_pair c (slot_at s old.slots)) leads
         → Happens c old Works (with_work s (Looks (stacked (tree_now c old) leads item stack)
         (found_with (tree_now c old) (wants_pair c (slot_at s old.slots)) item found)) old) }
 {}
@@ -39,75 +41,94 @@ pub fn work_turns<B>()
         → DoesWork c (tree_now c old) (slot_at s old.slots) work → Happens c old Works (with_work s work old) }
 {}
 
-/// What a look turns into, so that `work_turns` may take it. Where an insert's look has ended with nothing found, it is a
-/// descent from the root; no pair of the entry stands then, and none comes to stand while the descent is at work. Where a
-/// wanted pair stands in a leaf, it is a seek of that pair; and a seek whose pair isn't in its leaf goes to the right.
+/// What a look turns into, so that `work_turns` may take it. Where an insert's look has ended with nothing found, it is
+/// a descent from the root; no pair of the entry stands then, and none comes to stand while the descent is at work.
+/// Where a wanted pair stands in a leaf, it is a seek of that pair;
+/// and a seek whose pair isn't in its leaf goes to the right.
 pub fn a_look_turns_into_a_descent_or_a_seek<B>()
     ensures descends { (c : Class B) → IsLawful c → (old : State B) → IsWhole c old → (s : ℕ) (e : Entry B)
         → old.work s ≡ Looks [] [] → open_call (slot_at s old.slots) ≡ Some (Insert e)
         → DoesWork c (tree_now c old) (slot_at s old.slots) (Descends e 0 (from_root (tree_now c old))) }
-    ensures absent { (c : Class B) → IsLawful c → (old : State B) → IsWhole c old → (s : ℕ) (e : Entry B) (parent : ℕ) (item : Item)
+    ensures absent { (c : Class B) → IsLawful c → (old : State B) → IsWhole c old
+        → (s : ℕ) (e : Entry B) (parent : ℕ) (item : Item)
         → old.work s ≡ Descends e parent item → standing (is_of c e) (tree_now c old) ≡ 0 }
     ensures seeks { (c : Class B) → IsLawful c → (old : State B) → IsWhole c old → (s : ℕ) (e : Entry B) (leaf : ℕ)
         → ((live : Bool) → slot_wants c.keys (slot_at s old.slots) (record { entry = e; live = live }) ≡ true)
-        → Used (tree_now c old) leaf → ((tree_now c old).node leaf).level ≡ 0 → 0 < how_many (is_of c e) ((tree_now c old).node leaf).pairs
+        → Used (tree_now c old) leaf → ((tree_now c old).node leaf).level ≡ 0
+        → 0 < how_many (is_of c e) ((tree_now c old).node leaf).pairs
         → DoesWork c (tree_now c old) (slot_at s old.slots) (Seeks e leaf) }
     ensures right { (c : Class B) → IsLawful c → (old : State B) → IsWhole c old → (s : ℕ) (e : Entry B) (leaf : ℕ)
         → old.work s ≡ Seeks e leaf → how_many (is_of c e) ((tree_now c old).node leaf).pairs ≡ 0
         → DoesWork c (tree_now c old) (slot_at s old.slots) (Seeks e ((tree_now c old).node leaf).right) }
 {}
 
-/// How a descent goes on, so that `work_turns` may take it: it begins again at the root, or goes down to a page that its page
-/// names by an entry that covers the coming key.
+/// How a descent goes on, so that `work_turns` may take it: it begins again at the root, or goes down to a page that
+/// its page names by an entry that covers the coming key.
 pub fn a_descent_goes_on<B>()
-    ensures again { (c : Class B) → IsLawful c → (old : State B) → IsWhole c old → (s : ℕ) (e : Entry B) (parent : ℕ) (item : Item)
-        → old.work s ≡ Descends e parent item → DoesWork c (tree_now c old) (slot_at s old.slots) (Descends e 0 (from_root (tree_now c old))) }
-    ensures down { (c : Class B) → IsLawful c → (old : State B) → IsWhole c old → (s : ℕ) (e : Entry B) (parent : ℕ) (item : Item) (x : ℕ)
+    ensures again { (c : Class B) → IsLawful c → (old : State B) → IsWhole c old
+        → (s : ℕ) (e : Entry B) (parent : ℕ) (item : Item)
+        → old.work s ≡ Descends e parent item
+        → DoesWork c (tree_now c old) (slot_at s old.slots) (Descends e 0 (from_root (tree_now c old))) }
+    ensures down { (c : Class B) → IsLawful c → (old : State B) → IsWhole c old
+        → (s : ℕ) (e : Entry B) (parent : ℕ) (item : Item) (x : ℕ)
         → old.work s ≡ Descends e parent item → 0 < times x (child_pages ((tree_now c old).node item.page))
         → Each (λ d. d.page ≡ x → c.rules.covers d.key e.key ≡ true) ((tree_now c old).node item.page).children
-        → DoesWork c (tree_now c old) (slot_at s old.slots) (Descends e item.page (record { page = x; seen = (tree_now c old).counter })) }
+        → DoesWork c (tree_now c old) (slot_at s old.slots)
+        (Descends e item.page (record { page = x; seen = (tree_now c old).counter })) }
 {}
 
-/// An undo's seek of an entry that it has noted begins with its note's leaf, as the log tells it: each noted entry is among what
-/// the transaction has touched, and stands on that touch's leaf or to the right of it.
+/// An undo's seek of an entry that it has noted begins with its note's leaf, as the log tells it: each noted entry is
+/// among what the transaction has touched, and stands on that touch's leaf or to the right of it.
 pub fn an_undo_seeks_from_its_notes_leaf<B>()
-    ensures touched { (c : Class B) → IsLawful c → (old : State B) → IsWhole c old → (s : ℕ) (locks : Locks B) (notes : List (Note B))
+    ensures touched { (c : Class B) → IsLawful c → (old : State B) → IsWhole c old
+        → (s : ℕ) (locks : Locks B) (notes : List (Note B))
         → slot_at s old.slots ≡ Undoing locks notes → (e : Entry B) (was : Bool) → noted c.keys e notes ≡ Some was
         → lists (known_of c) (old.transaction s) e (analysis (known_of c) (all_records old.log)).touched ≡ true }
-    ensures seeks { (c : Class B) → IsLawful c → (old : State B) → IsWhole c old → (s : ℕ) (locks : Locks B) (notes : List (Note B))
+    ensures seeks { (c : Class B) → IsLawful c → (old : State B) → IsWhole c old
+        → (s : ℕ) (locks : Locks B) (notes : List (Note B))
         → slot_at s old.slots ≡ Undoing locks notes → (before after : List (Touch (Entry B))) (x : Touch (Entry B))
-        → (analysis (known_of c) (all_records old.log)).touched ≡ before ++ x ∷ after → x.transaction ≡ old.transaction s
+        → (analysis (known_of c) (all_records old.log)).touched ≡ before ++ x ∷ after
+        → x.transaction ≡ old.transaction s
         → DoesWork c (tree_now c old) (slot_at s old.slots) (Seeks x.entry x.leaf) }
 {}
 
 /// What a session seeks stands in the tree, one pair of it: no seek is in vain, an undo's neither.
 pub fn what_is_sought_stands<B>()
-    ensures { (c : Class B) → IsLawful c → (old : State B) → IsWhole c old → (s : ℕ) (e : Entry B) (leaf : ℕ) → old.work s ≡ Seeks e leaf
+    ensures { (c : Class B) → IsLawful c → (old : State B) → IsWhole c old → (s : ℕ) (e : Entry B) (leaf : ℕ)
+        → old.work s ≡ Seeks e leaf
         → standing (is_of c e) (tree_now c old) ≡ 1 }
 {}
 
-/// A search's look that has ended is the answer: what it found, in order and without repeats, is what the machine finds.
+/// A search's look that has ended is the answer:
+/// what it found, in order and without repeats, is what the machine finds.
 pub fn an_ended_look_is_the_answer<B>()
-    ensures { (c : Class B) → IsLawful c → (old : State B) → IsWhole c old → old.failed ≡ false → (s : ℕ) (locks : Locks B) (notes : List (Note B))
-        (query : Query B) (found : List (Pair B)) → slot_at s old.slots ≡ Working locks notes (Some (Search query)) → old.work s ≡ Looks [] found
-        → Happens c old (Finds s query (gathered c.keys (map entry_of found))) (slotted s (Working locks notes None) Rests old) }
+    ensures { (c : Class B) → IsLawful c → (old : State B) → IsWhole c old → old.failed ≡ false
+        → (s : ℕ) (locks : Locks B) (notes : List (Note B))
+        (query : Query B) (found : List (Pair B)) → slot_at s old.slots ≡ Working locks notes (Some (Search query))
+        → old.work s ≡ Looks [] found
+        → Happens c old (Finds s query (gathered c.keys (map entry_of found)))
+        (slotted s (Working locks notes None) Rests old) }
 {}
 
 /// An insert that comes to a leaf with a live pair of its entry finds it present.
 pub fn a_live_pair_is_present<B>()
-    ensures { (c : Class B) → IsLawful c → (old : State B) → IsWhole c old → old.failed ≡ false → (s : ℕ) (locks : Locks B) (notes : List (Note B))
+    ensures { (c : Class B) → IsLawful c → (old : State B) → IsWhole c old → old.failed ≡ false
+        → (s : ℕ) (locks : Locks B) (notes : List (Note B))
         (e : Entry B) (leaf : ℕ) → slot_at s old.slots ≡ Working locks notes (Some (Insert e))
         → Used (tree_now c old) leaf → ((tree_now c old).node leaf).level ≡ 0
         → 0 < how_many (λ x. is_of c e x && not x.marked) ((tree_now c old).node leaf).pairs
         → Happens c old (FindsPresent s e) (slotted s (Working locks notes None) Rests old) }
 {}
 
-/// A delete whose look has ended with nothing found, or that comes to a leaf with a marked pair of its entry, finds it absent.
+/// A delete whose look has ended with nothing found,
+/// or that comes to a leaf with a marked pair of its entry, finds it absent.
 pub fn nothing_live_is_absent<B>()
-    ensures none { (c : Class B) → IsLawful c → (old : State B) → IsWhole c old → old.failed ≡ false → (s : ℕ) (locks : Locks B) (notes : List (Note B))
+    ensures none { (c : Class B) → IsLawful c → (old : State B) → IsWhole c old → old.failed ≡ false
+        → (s : ℕ) (locks : Locks B) (notes : List (Note B))
         (e : Entry B) → slot_at s old.slots ≡ Working locks notes (Some (Delete e)) → old.work s ≡ Looks [] []
         → Happens c old (FindsAbsent s e) (slotted s (Working locks notes None) Rests old) }
-    ensures marked { (c : Class B) → IsLawful c → (old : State B) → IsWhole c old → old.failed ≡ false → (s : ℕ) (locks : Locks B) (notes : List (Note B))
+    ensures marked { (c : Class B) → IsLawful c → (old : State B) → IsWhole c old → old.failed ≡ false
+        → (s : ℕ) (locks : Locks B) (notes : List (Note B))
         (e : Entry B) (leaf : ℕ) → slot_at s old.slots ≡ Working locks notes (Some (Delete e))
         → Used (tree_now c old) leaf → ((tree_now c old).node leaf).level ≡ 0
         → 0 < how_many (λ x. is_of c e x && x.marked) ((tree_now c old).node leaf).pairs
@@ -116,7 +137,8 @@ pub fn nothing_live_is_absent<B>()
 
 /// An open call may be closed unanswered where pages or memory lack, whatever its session is at.
 pub fn calls_are_closed<B>()
-    ensures { (c : Class B) → IsLawful c → (old : State B) → IsWhole c old → old.failed ≡ false → (s : ℕ) (locks : Locks B) (notes : List (Note B))
+    ensures { (c : Class B) → IsLawful c → (old : State B) → IsWhole c old → old.failed ≡ false
+        → (s : ℕ) (locks : Locks B) (notes : List (Note B))
         (call : Call B) (why : Refusal) → slot_at s old.slots ≡ Working locks notes (Some call) → may_close why ≡ true
         → Happens c old (Closes s call why) (slotted s (Working locks notes None) Rests old) }
 {}

@@ -1,5 +1,6 @@
 //! How far an unanswered call still is from its end: a number below 2^39, which each of its own moves lowers.
-ghost use Rattle.std.specs.Prelude.{◌≡◌, ◌≢◌, ◌≤◌, ◌<◌, ◌+◌, ◌^◌, ℕ, Bool, true, false, Some, None, List, [], ◌∷◌, length};
+ghost use Rattle.std.specs.Prelude.{◌≡◌, ◌≢◌, ◌≤◌, ◌<◌, ◌+◌, ◌^◌, ℕ, Bool, true};
+ghost use Rattle.std.specs.Prelude.{false, Some, None, List, [], ◌∷◌, length};
 ghost use Rattle.gx_machine.specs.declared.entry.Entry.{Entry};
 ghost use Rattle.gx_machine.specs.declared.call.Call.{Call};
 ghost use Rattle.gx_machine.specs.declared.call.Call.TheVariants.{Commit as CommitCall};
@@ -8,7 +9,8 @@ ghost use Rattle.gx_machine.specs.Sets.{has};
 ghost use Rattle.gx_machine.specs.Machine.{is_session};
 ghost use Rattle.gx_tree_laws.specs.Lists.{how_many};
 ghost use Rattle.gx_tree_laws.specs.Trees.{Pair, Used, size, child_pages, times};
-ghost use Rattle.gx_tree_laws.specs.Steps.{IsSplit, IsRootSplit, IsWidening, IsAdding, IsMarking, IsSweep, Step, IsStep};
+ghost use Rattle.gx_tree_laws.specs.Steps.{IsSplit, IsRootSplit, IsWidening, IsAdding};
+ghost use Rattle.gx_tree_laws.specs.Steps.{IsMarking, IsSweep, Step, IsStep};
 ghost use Rattle.gx_tree_laws.specs.Reach.{Item};
 ghost use Rattle.gx_tree_laws.specs.Looks.{from_root, stacked};
 ghost use Rattle.gx_tree_laws.specs.Writes.{is_sweepable, must_restart};
@@ -33,134 +35,190 @@ pub fn what_a_call_has_left_is_bounded<B>()
 
 /// A look has less left with each page that it reads, and where it turns into a descent or a seek.
 pub fn a_look_comes_to_an_end<B>()
-    ensures reads { (c : Class B) → IsLawful c → (old : State B) → IsWhole c old → (s : ℕ) (locks : Locks B) (notes : List (Note B)) (call : Call B)
-        → slot_at s old.slots ≡ Working locks notes (Some call) → (item : Item) (stack : List Item) (found then_found : List (Pair B)) (leads : B → Bool)
+    ensures reads { (c : Class B) → IsLawful c → (old : State B) → IsWhole c old
+        → (s : ℕ) (locks : Locks B) (notes : List (Note B)) (call : Call B)
+        → slot_at s old.slots ≡ Working locks notes (Some call)
+        → (item : Item) (stack : List Item) (found then_found : List (Pair B)) (leads : B → Bool)
         → old.work s ≡ Looks (item ∷ stack) found
-        → work_left c (with_work s (Looks (stacked (tree_now c old) leads item stack) then_found) old) s < work_left c old s }
-    ensures descends { (c : Class B) → IsLawful c → (old : State B) → IsWhole c old → (s : ℕ) (locks : Locks B) (notes : List (Note B)) (call : Call B)
-        → slot_at s old.slots ≡ Working locks notes (Some call) → (stack : List Item) (found : List (Pair B)) (e : Entry B) (parent : ℕ) (item : Item)
-        → old.work s ≡ Looks stack found → Used (tree_now c old) item.page → work_left c (with_work s (Descends e parent item) old) s < work_left c old s }
-    ensures seeks { (c : Class B) → IsLawful c → (old : State B) → IsWhole c old → (s : ℕ) (locks : Locks B) (notes : List (Note B)) (call : Call B)
-        → slot_at s old.slots ≡ Working locks notes (Some call) → (stack : List Item) (found : List (Pair B)) (e : Entry B) (leaf : ℕ)
+        → work_left c (with_work s (Looks (stacked (tree_now c old) leads item stack) then_found) old) s
+        < work_left c old s }
+    ensures descends { (c : Class B) → IsLawful c → (old : State B) → IsWhole c old
+        → (s : ℕ) (locks : Locks B) (notes : List (Note B)) (call : Call B)
+        → slot_at s old.slots ≡ Working locks notes (Some call)
+        → (stack : List Item) (found : List (Pair B)) (e : Entry B) (parent : ℕ) (item : Item)
+        → old.work s ≡ Looks stack found → Used (tree_now c old) item.page
+        → work_left c (with_work s (Descends e parent item) old) s < work_left c old s }
+    ensures seeks { (c : Class B) → IsLawful c → (old : State B) → IsWhole c old
+        → (s : ℕ) (locks : Locks B) (notes : List (Note B)) (call : Call B)
+        → slot_at s old.slots ≡ Working locks notes (Some call)
+        → (stack : List Item) (found : List (Pair B)) (e : Entry B) (leaf : ℕ)
         → old.work s ≡ Looks stack found → work_left c (with_work s (Seeks e leaf) old) s < work_left c old s }
 {}
 
-/// A descent has less left where it begins again because it must, where it goes down from a page that isn't full, and with
-/// each of its records: a widening as it goes down, a sweep of its page that takes something, a split after which it begins
-/// again.
+/// A descent has less left where it begins again because it must, where it goes down from a page that isn't full, and
+/// with each of its records: a widening as it goes down, a sweep of its page that takes something,
+/// a split after which it begins again.
 pub fn a_descent_comes_to_an_end<B>()
-    ensures restarts { (c : Class B) → IsLawful c → (old : State B) → IsWhole c old → (s : ℕ) (locks : Locks B) (notes : List (Note B)) (call : Call B)
-        → slot_at s old.slots ≡ Working locks notes (Some call) → (e : Entry B) (parent : ℕ) (item : Item) → old.work s ≡ Descends e parent item
+    ensures restarts { (c : Class B) → IsLawful c → (old : State B) → IsWhole c old
+        → (s : ℕ) (locks : Locks B) (notes : List (Note B)) (call : Call B)
+        → slot_at s old.slots ≡ Working locks notes (Some call) → (e : Entry B) (parent : ℕ) (item : Item)
+        → old.work s ≡ Descends e parent item
         → must_restart c.rules (tree_now c old) parent item ≡ true
         → work_left c (with_work s (Descends e 0 (from_root (tree_now c old))) old) s < work_left c old s }
-    ensures goes_down { (c : Class B) → IsLawful c → (old : State B) → IsWhole c old → (s : ℕ) (locks : Locks B) (notes : List (Note B)) (call : Call B)
-        → slot_at s old.slots ≡ Working locks notes (Some call) → (e : Entry B) (parent : ℕ) (item : Item) → old.work s ≡ Descends e parent item
-        → (x : ℕ) → size ((tree_now c old).node item.page) < c.rules.most → 0 < times x (child_pages ((tree_now c old).node item.page))
-        → work_left c (with_work s (Descends e item.page (record { page = x; seen = (tree_now c old).counter })) old) s < work_left c old s }
-    ensures widens { (c : Class B) → IsLawful c → (old : State B) → IsWhole c old → (s : ℕ) (locks : Locks B) (notes : List (Note B)) (call : Call B)
-        → slot_at s old.slots ≡ Working locks notes (Some call) → (e : Entry B) (parent : ℕ) (item : Item) → old.work s ≡ Descends e parent item
-        → (r : Record (Entry B) (Page B)) (x : ℕ) (coming key : B) → IsWidening c.rules (tree_now c old) (tree_now c (with_record r old)) item.page x coming key
-        → size ((tree_now c old).node item.page) < c.rules.most → 0 < times x (child_pages ((tree_now c old).node item.page))
-        → work_left c (with_work s (Descends e item.page (record { page = x; seen = (tree_now c (with_record r old)).counter })) (with_record r old)) s
+    ensures goes_down { (c : Class B) → IsLawful c → (old : State B) → IsWhole c old
+        → (s : ℕ) (locks : Locks B) (notes : List (Note B)) (call : Call B)
+        → slot_at s old.slots ≡ Working locks notes (Some call) → (e : Entry B) (parent : ℕ) (item : Item)
+        → old.work s ≡ Descends e parent item
+        → (x : ℕ) → size ((tree_now c old).node item.page) < c.rules.most
+        → 0 < times x (child_pages ((tree_now c old).node item.page))
+        → work_left c (with_work s (Descends e item.page (record { page = x; seen = (tree_now c old).counter })) old) s
         < work_left c old s }
-    ensures sweeps { (c : Class B) → IsLawful c → (old : State B) → IsWhole c old → (s : ℕ) (locks : Locks B) (notes : List (Note B)) (call : Call B)
-        → slot_at s old.slots ≡ Working locks notes (Some call) → (e : Entry B) (parent : ℕ) (item : Item) → old.work s ≡ Descends e parent item
-        → (r : Record (Entry B) (Page B)) → IsSweep (tree_now c old) (tree_now c (with_record r old)) item.page (claims_pair c old.slots)
+    ensures widens { (c : Class B) → IsLawful c → (old : State B) → IsWhole c old
+        → (s : ℕ) (locks : Locks B) (notes : List (Note B)) (call : Call B)
+        → slot_at s old.slots ≡ Working locks notes (Some call) → (e : Entry B) (parent : ℕ) (item : Item)
+        → old.work s ≡ Descends e parent item
+        → (r : Record (Entry B) (Page B)) (x : ℕ) (coming key : B)
+        → IsWidening c.rules (tree_now c old) (tree_now c (with_record r old)) item.page x coming key
+        → size ((tree_now c old).node item.page) < c.rules.most
+        → 0 < times x (child_pages ((tree_now c old).node item.page))
+        → work_left c (with_work s (Descends e item.page (record {
+          page = x;
+          seen = (tree_now c (with_record r old)).counter;
+        })) (with_record r old)) s
+        < work_left c old s }
+    ensures sweeps { (c : Class B) → IsLawful c → (old : State B) → IsWhole c old
+        → (s : ℕ) (locks : Locks B) (notes : List (Note B)) (call : Call B)
+        → slot_at s old.slots ≡ Working locks notes (Some call) → (e : Entry B) (parent : ℕ) (item : Item)
+        → old.work s ≡ Descends e parent item
+        → (r : Record (Entry B) (Page B))
+        → IsSweep (tree_now c old) (tree_now c (with_record r old)) item.page (claims_pair c old.slots)
         → 0 < how_many (is_sweepable (claims_pair c old.slots)) ((tree_now c old).node item.page).pairs
         → work_left c (with_record r old) s < work_left c old s }
-    ensures splits { (c : Class B) → IsLawful c → (old : State B) → IsWhole c old → (s : ℕ) (locks : Locks B) (notes : List (Note B)) (call : Call B)
-        → slot_at s old.slots ≡ Working locks notes (Some call) → (e : Entry B) (parent : ℕ) (item : Item) → old.work s ≡ Descends e parent item
+    ensures splits { (c : Class B) → IsLawful c → (old : State B) → IsWhole c old
+        → (s : ℕ) (locks : Locks B) (notes : List (Note B)) (call : Call B)
+        → slot_at s old.slots ≡ Working locks notes (Some call) → (e : Entry B) (parent : ℕ) (item : Item)
+        → old.work s ≡ Descends e parent item
         → (r : Record (Entry B) (Page B)) (n p : ℕ) (sides : List Bool) (left right : B)
-        → IsSplit c.rules (tree_now c old) (tree_now c (with_record r old)) n p sides left right → (tree_now c (with_record r old)).used ≤ c.pages
-        → work_left c (with_work s (Descends e 0 (from_root (tree_now c (with_record r old)))) (with_record r old)) s < work_left c old s }
-    ensures splits_root { (c : Class B) → IsLawful c → (old : State B) → IsWhole c old → (s : ℕ) (locks : Locks B) (notes : List (Note B)) (call : Call B)
-        → slot_at s old.slots ≡ Working locks notes (Some call) → (e : Entry B) (parent : ℕ) (item : Item) → old.work s ≡ Descends e parent item
+        → IsSplit c.rules (tree_now c old) (tree_now c (with_record r old)) n p sides left right
+        → (tree_now c (with_record r old)).used ≤ c.pages
+        → work_left c (with_work s (Descends e 0 (from_root (tree_now c (with_record r old)))) (with_record r old)) s
+        < work_left c old s }
+    ensures splits_root { (c : Class B) → IsLawful c → (old : State B) → IsWhole c old
+        → (s : ℕ) (locks : Locks B) (notes : List (Note B)) (call : Call B)
+        → slot_at s old.slots ≡ Working locks notes (Some call) → (e : Entry B) (parent : ℕ) (item : Item)
+        → old.work s ≡ Descends e parent item
         → (r : Record (Entry B) (Page B)) (sides : List Bool) (left right : B)
-        → IsRootSplit c.rules (tree_now c old) (tree_now c (with_record r old)) sides left right → (tree_now c (with_record r old)).used ≤ c.pages
-        → work_left c (with_work s (Descends e 0 (from_root (tree_now c (with_record r old)))) (with_record r old)) s < work_left c old s }
+        → IsRootSplit c.rules (tree_now c old) (tree_now c (with_record r old)) sides left right
+        → (tree_now c (with_record r old)).used ≤ c.pages
+        → work_left c (with_work s (Descends e 0 (from_root (tree_now c (with_record r old)))) (with_record r old)) s
+        < work_left c old s }
 {}
 
 /// A seek of an open call has less left where its pair isn't in its leaf, and it goes to the right.
 pub fn a_seek_comes_to_an_end<B>()
-    ensures { (c : Class B) → IsLawful c → (old : State B) → IsWhole c old → (s : ℕ) (locks : Locks B) (notes : List (Note B)) (call : Call B)
+    ensures { (c : Class B) → IsLawful c → (old : State B) → IsWhole c old
+        → (s : ℕ) (locks : Locks B) (notes : List (Note B)) (call : Call B)
         → slot_at s old.slots ≡ Working locks notes (Some call) → (e : Entry B) (leaf : ℕ) → old.work s ≡ Seeks e leaf
         → how_many (is_of c e) ((tree_now c old).node leaf).pairs ≡ 0
         → work_left c (with_work s (Seeks e ((tree_now c old).node leaf).right) old) s < work_left c old s }
 {}
 
-/// An abort has less left where a seek begins, where it goes to the right, and with each entry that is restored for the first
-/// time. A commit has something left until it is sealed, and nothing then.
+/// An abort has less left where a seek begins, where it goes to the right, and with each entry that is restored for the
+/// first time. A commit has something left until it is sealed, and nothing then.
 pub fn transactions_come_to_an_end<B>()
-    ensures begins { (c : Class B) → IsLawful c → (old : State B) → IsWhole c old → (s : ℕ) (locks : Locks B) (notes : List (Note B))
+    ensures begins { (c : Class B) → IsLawful c → (old : State B) → IsWhole c old
+        → (s : ℕ) (locks : Locks B) (notes : List (Note B))
         → slot_at s old.slots ≡ Undoing locks notes → (e : Entry B) (leaf : ℕ) → old.work s ≡ Rests
         → work_left c (with_work s (Seeks e leaf) old) s < work_left c old s }
-    ensures right { (c : Class B) → IsLawful c → (old : State B) → IsWhole c old → (s : ℕ) (locks : Locks B) (notes : List (Note B))
+    ensures right { (c : Class B) → IsLawful c → (old : State B) → IsWhole c old
+        → (s : ℕ) (locks : Locks B) (notes : List (Note B))
         → slot_at s old.slots ≡ Undoing locks notes → (e : Entry B) (leaf : ℕ) → old.work s ≡ Seeks e leaf
         → how_many (is_of c e) ((tree_now c old).node leaf).pairs ≡ 0
         → work_left c (with_work s (Seeks e ((tree_now c old).node leaf).right) old) s < work_left c old s }
-    ensures restores { (c : Class B) → IsLawful c → (old : State B) → IsWhole c old → (s : ℕ) (locks : Locks B) (notes : List (Note B))
-        → slot_at s old.slots ≡ Undoing locks notes → (r : Record (Entry B) (Page B)) (e : Entry B) (was : Bool) → noted c.keys e notes ≡ Some was
-        → has c.keys e (old.restored s) ≡ false → work_left c (with_restored s e (with_record r old)) s < work_left c old s }
-    ensures unsealed { (c : Class B) → IsLawful c → (old : State B) → IsWhole c old → (s : ℕ) (locks : Locks B) (notes : List (Note B))
+    ensures restores { (c : Class B) → IsLawful c → (old : State B) → IsWhole c old
+        → (s : ℕ) (locks : Locks B) (notes : List (Note B))
+        → slot_at s old.slots ≡ Undoing locks notes → (r : Record (Entry B) (Page B)) (e : Entry B) (was : Bool)
+        → noted c.keys e notes ≡ Some was
+        → has c.keys e (old.restored s) ≡ false
+        → work_left c (with_restored s e (with_record r old)) s < work_left c old s }
+    ensures unsealed { (c : Class B) → IsLawful c → (old : State B) → IsWhole c old
+        → (s : ℕ) (locks : Locks B) (notes : List (Note B))
         → slot_at s old.slots ≡ Working locks notes (Some CommitCall) → 0 < work_left c old s }
-    ensures sealed { (c : Class B) (old : State B) (s number : ℕ) → slot_at s old.slots ≡ Waiting number → work_left c old s ≡ 0 }
+    ensures sealed { (c : Class B) (old : State B) (s number : ℕ) → slot_at s old.slots ≡ Waiting number
+        → work_left c old s ≡ 0 }
 {}
 
-/// What is no session's leaves each session's call no more to do. The log leaves as much: a batch that begins, pages that are
-/// written, a gate that is synced, a checkpoint's new log. A split, a root split, a widening or a sweep leaves no more: what a
-/// split puts ahead of a look, or to the right of a seek, it takes from the pages that aren't taken.
+/// What is no session's leaves each session's call no more to do. The log leaves as much: a batch that begins, pages
+/// that are written, a gate that is synced, a checkpoint's new log. A split, a root split, a widening or a sweep leaves
+/// no more: what a split puts ahead of a look, or to the right of a seek, it takes from the pages that aren't taken.
 pub fn what_is_no_sessions_leaves_no_more<B>()
-    ensures begins { (c : Class B) (old : State B) → old.log.flight ≡ [] → (s : ℕ) → work_left c (record old { log = begun old.log }) s ≡ work_left c old s }
-    ensures pages { (c : Class B) → IsLawful c → (old : State B) → (area : ℕ → Page B) → AgreesBeside old.log.gated old.log.area area → (s : ℕ)
+    ensures begins { (c : Class B) (old : State B) → old.log.flight ≡ [] → (s : ℕ)
+        → work_left c (record old { log = begun old.log }) s ≡ work_left c old s }
+    ensures pages { (c : Class B) → IsLawful c → (old : State B) → (area : ℕ → Page B)
+        → AgreesBeside old.log.gated old.log.area area → (s : ℕ)
         → work_left c (record old { log = record old.log { area = area } }) s ≡ work_left c old s }
     ensures synced { (c : Class B) (old : State B) (older : List (List (Entry B))) (oldest s : ℕ)
         → work_left c (record old { log = gate_synced old.log; older = older; oldest = oldest }) s ≡ work_left c old s }
-    ensures renewed { (c : Class B) → IsLawful c → (old : State B) → IsWhole c old → old.log.flight ≡ [] → old.log.filling ≡ [] → AllWritten old.log → (next s : ℕ)
-        → work_left c (record old { log = record old.log { gated = renewed (known_of c) next old.log.gated } }) s ≡ work_left c old s }
-    ensures steps { (c : Class B) → IsLawful c → (old : State B) → IsWhole c old → (r : Record (Entry B) (Page B)) (step : Step B) → IsPageStep step
-        → IsStep c.rules (tree_now c old) step (tree_now c (with_record r old)) → (tree_now c (with_record r old)).used ≤ c.pages
+    ensures renewed { (c : Class B) → IsLawful c → (old : State B) → IsWhole c old → old.log.flight ≡ []
+        → old.log.filling ≡ [] → AllWritten old.log → (next s : ℕ)
+        → work_left c (record old { log = record old.log { gated = renewed (known_of c) next old.log.gated } }) s
+        ≡ work_left c old s }
+    ensures steps { (c : Class B) → IsLawful c → (old : State B) → IsWhole c old
+        → (r : Record (Entry B) (Page B)) (step : Step B) → IsPageStep step
+        → IsStep c.rules (tree_now c old) step (tree_now c (with_record r old))
+        → (tree_now c (with_record r old)).used ≤ c.pages
         → (s : ℕ) → work_left c (with_record r old) s ≤ work_left c old s }
 {}
 
-/// Another session's slot and work may change in any way that frees no claim, as it asks, is answered or begins an undo: a
-/// session's call has no more to do for it.
+/// Another session's slot and work may change in any way that frees no claim, as it asks, is answered or begins an
+/// undo: a session's call has no more to do for it.
 pub fn what_frees_no_claim_leaves_no_more<B>()
-    ensures { (c : Class B) → IsLawful c → (old : State B) (s a : ℕ) → a ≢ s → is_session s ≡ true → (slot : Slot B) (work : Work B)
-        → ((e : Entry B) → has c.keys e (locks_held (slot_at s old.slots)).claims ≡ true → has c.keys e (locks_held slot).claims ≡ true)
+    ensures { (c : Class B) → IsLawful c → (old : State B) (s a : ℕ) → a ≢ s → is_session s ≡ true
+        → (slot : Slot B) (work : Work B)
+        → ((e : Entry B) → has c.keys e (locks_held (slot_at s old.slots)).claims ≡ true
+        → has c.keys e (locks_held slot).claims ≡ true)
         → work_left c (slotted s slot work old) a ≤ work_left c old a }
 {}
 
-/// A commit or an end of another session raises what a session's call has left by so many at most as it frees claims: of each
-/// entry that was claimed one pair stands, which may be swept then.
+/// A commit or an end of another session raises what a session's call has left by so many at most as it frees claims:
+/// of each entry that was claimed one pair stands, which may be swept then.
 pub fn what_is_freed_is_all_that_comes<B>()
-    ensures commits { (c : Class B) → IsLawful c → (old : State B) → IsWhole c old → (s a : ℕ) → a ≢ s → is_session s ≡ true → (slot : Slot B) (work : Work B)
+    ensures commits { (c : Class B) → IsLawful c → (old : State B) → IsWhole c old → (s a : ℕ) → a ≢ s
+        → is_session s ≡ true → (slot : Slot B) (work : Work B)
         (transaction number : ℕ) → work_left c (slotted s slot work (with_record (Commit transaction number) old)) a
         ≤ work_left c old a + length (locks_held (slot_at s old.slots)).claims }
-    ensures ends { (c : Class B) → IsLawful c → (old : State B) → IsWhole c old → (s a : ℕ) → a ≢ s → is_session s ≡ true → (slot : Slot B) (work : Work B)
+    ensures ends { (c : Class B) → IsLawful c → (old : State B) → IsWhole c old → (s a : ℕ) → a ≢ s
+        → is_session s ≡ true → (slot : Slot B) (work : Work B)
         (transaction : ℕ) → work_left c (slotted s slot work (with_record (End transaction) old)) a
         ≤ work_left c old a + length (locks_held (slot_at s old.slots)).claims }
 {}
 
-/// What is to be done for the log and for frames, before a call that waits for it can go on, is below 2^13, with at most 4,096
-/// frames. Each chore that does its work lowers it: a step of the log, a page's write, a step of a checkpoint.
+/// What is to be done for the log and for frames, before a call that waits for it can go on, is below 2^13, with at
+/// most 4,096 frames. Each chore that does its work lowers it:
+/// a step of the log, a page's write, a step of a checkpoint.
 pub fn chores_come_to_an_end()
     ensures most { (u : Upkeep) → IsWithin u → upkeep_left u < 2 ^ 13 }
     ensures falls { (old new : Upkeep) (chore : Chore) → IsChore old chore new → upkeep_left new < upkeep_left old }
 {}
 
-/// What another session writes leaves a session's call no more to do: a pair that it adds, a mark that it sets or clears, an entry
-/// that it restores. What it marks it claims, so that no sweep would take it yet.
+/// What another session writes leaves a session's call no more to do: a pair that it adds, a mark that it sets or
+/// clears, an entry that it restores. What it marks it claims, so that no sweep would take it yet.
 pub fn what_others_write_leaves_no_more<B>()
-    ensures adds { (c : Class B) → IsLawful c → (old : State B) → IsWhole c old → (r : Record (Entry B) (Page B)) (s a : ℕ) → a ≢ s → (locks : Locks B)
-        (notes then_notes : List (Note B)) (call : Call B) → slot_at s old.slots ≡ Working locks notes (Some call) → (leaf : ℕ) (x : Pair B) → x.marked ≡ false
+    ensures adds { (c : Class B) → IsLawful c → (old : State B) → IsWhole c old
+        → (r : Record (Entry B) (Page B)) (s a : ℕ) → a ≢ s → (locks : Locks B)
+        (notes then_notes : List (Note B)) (call : Call B) → slot_at s old.slots ≡ Working locks notes (Some call)
+        → (leaf : ℕ) (x : Pair B) → x.marked ≡ false
         → IsAdding c.rules (tree_now c old) (tree_now c (with_record r old)) leaf x
         → work_left c (slotted s (Working locks then_notes None) Rests (with_record r old)) a ≤ work_left c old a }
-    ensures marks { (c : Class B) → IsLawful c → (old : State B) → IsWhole c old → (r : Record (Entry B) (Page B)) (s a : ℕ) → a ≢ s → (locks : Locks B)
-        (notes then_notes : List (Note B)) (call : Call B) → slot_at s old.slots ≡ Working locks notes (Some call) → (leaf : ℕ) (e : Entry B) (mark : Bool)
+    ensures marks { (c : Class B) → IsLawful c → (old : State B) → IsWhole c old
+        → (r : Record (Entry B) (Page B)) (s a : ℕ) → a ≢ s → (locks : Locks B)
+        (notes then_notes : List (Note B)) (call : Call B) → slot_at s old.slots ≡ Working locks notes (Some call)
+        → (leaf : ℕ) (e : Entry B) (mark : Bool)
         → has c.keys e locks.claims ≡ true → 0 < how_many (is_of c e) ((tree_now c old).node leaf).pairs
         → IsMarking c.rules (tree_now c old) (tree_now c (with_record r old)) leaf e.row e.key mark
         → work_left c (slotted s (Working locks then_notes None) Rests (with_record r old)) a ≤ work_left c old a }
-    ensures undoes { (c : Class B) → IsLawful c → (old : State B) → IsWhole c old → (r : Record (Entry B) (Page B)) (s a : ℕ) → a ≢ s → (locks : Locks B)
+    ensures undoes { (c : Class B) → IsLawful c → (old : State B) → IsWhole c old
+        → (r : Record (Entry B) (Page B)) (s a : ℕ) → a ≢ s → (locks : Locks B)
         (notes : List (Note B)) → slot_at s old.slots ≡ Undoing locks notes → (leaf : ℕ) (e : Entry B) (mark : Bool)
         → has c.keys e locks.claims ≡ true → 0 < how_many (is_of c e) ((tree_now c old).node leaf).pairs
         → IsMarking c.rules (tree_now c old) (tree_now c (with_record r old)) leaf e.row e.key mark

@@ -1,8 +1,7 @@
 //! Commands over devices in memory: the status, what is written, what is read, and whether a person is told.
 
 use gx_class::Box2Class;
-use gx_command::Noted;
-use gx_device_commands::{dump_over, format_over, run_over};
+use gx_commands::{Noted, dump_over, format_over, run_over};
 use gx_disk::{DiskFault, Fuse, FuseDisk, MemDisk, SectorDisk};
 use std::alloc::Global;
 use std::io::{self, Write};
@@ -190,7 +189,8 @@ fn reads<T: Abort + AllocGlobal>(
     (counted.disk, counted.reads)
 }
 
-// There are as many frames as were asked for: 64 hold all leaves, so that a second search of them reads nothing; 16 don't.
+// There are as many frames as were asked for: 64 hold all leaves, so that a second search of them reads nothing; 16
+// don't.
 #[test]
 fn frames_are_as_many_as_asked_for(rt: HostRuntime) {
     let (Ok(mut disk), Ok(rows)) = (MemDisk::new(rt.alloc(), 4168 + 8 * 64), rows(rt.alloc()))
@@ -283,7 +283,8 @@ fn dumps_that_end_early(rt: HostRuntime) {
     assert!(rt; status == 1 && &room == b"commits 0 used 2 cou" && told != [0]);
 }
 
-// How a script over a device that fails may end, by where it first fails: in the opening, the insert, the commit, and the settling behind it.
+// How a script over a device that fails may end, by where it first fails: in the opening, the insert, the commit, and
+// the settling behind it.
 const ENDS: [&[u8]; 4] = [
     b"refused 11 device\n",
     b"1 ok\n1 refused 11 device\n1 refused 12 failed\n1 refused 12 failed\n1 refused 12 failed\n",
@@ -291,7 +292,8 @@ const ENDS: [&[u8]; 4] = [
     b"1 ok\n1 inserted\n1 committed 1\n1 ok\n1 inserted\nrefused 11 device\n",
 ];
 
-// A device fails at one of its calls and all later ones: at the first, at the second, and so on until none is left. Each place comes in turn.
+// A device fails at one of its calls and all later ones: at the first, at the second, and so on until none is left.
+// Each place comes in turn.
 #[test]
 fn devices_that_fail(rt: HostRuntime) {
     let script = b"1 BEGIN\n1 INSERT 7 0 0 9 9\n1 COMMIT\n1 BEGIN\n1 INSERT 8 0 0 9 9\n".as_slice();

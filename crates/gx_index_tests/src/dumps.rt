@@ -5,8 +5,8 @@ use gx_restart::{DumpFault, Noted, run_script};
 use std::alloc::Global;
 use std::process::Abort;
 
-// A device on which a script ran to its end over a new index, and all was gated.
-fn written(alloc: Global, script: &[u8]) -> Option<MemDisk> {
+/// A device on which a script ran to its end over a new index, and all was gated.
+pub(crate) fn written(alloc: Global, script: &[u8]) -> Option<MemDisk> {
     let mut index = fresh(alloc)?;
     let mut replies = [0u8; 1024];
     run_script(
@@ -34,7 +34,8 @@ fn leaves<T: Abort + AllocGlobal>(rt: &T, script: &[u8], expected: &[u8]) {
     assert!(rt; text.starts_with(expected) && text.get(expected.len()) == Some(&0));
 }
 
-const ABORTED: &[u8] =
+/// A transaction that splits a leaf, and is aborted.
+pub(crate) const ABORTED: &[u8] =
     b"1 BEGIN\n1 INSERT 1 0 0 1 1\n1 INSERT 2 0 2 1 3\n1 INSERT 3 10 0 11 1\n1 INSERT 4 10 2 11 3\n1 INSERT 5 0 4 1 5\n1 ABORT\n";
 
 // A split outlives its transaction, and what that inserted is marked.
@@ -47,12 +48,16 @@ fn aborted(rt: HostRuntime) {
     );
 }
 
-// A full leaf of pairs that nobody claims is swept for one more.
+/// A full leaf of pairs that nobody claims is swept for one more.
+pub(crate) const SWEPT: &[u8] =
+    b"1 BEGIN\n1 INSERT 1 0 0 1 1\n1 INSERT 2 0 2 1 3\n1 INSERT 3 10 0 11 1\n1 INSERT 4 10 2 11 3\n1 COMMIT\n1 BEGIN\n1 DELETE 1 0 0 1 1\n1 DELETE 2 0 2 1 3\n1 DELETE 3 10 0 11 1\n1 DELETE 4 10 2 11 3\n1 COMMIT\n1 BEGIN\n1 INSERT 5 0 4 1 5\n1 COMMIT\n";
+
+// So its dump has the one.
 #[test]
 fn swept(rt: HostRuntime) {
     leaves(
         &rt,
-        b"1 BEGIN\n1 INSERT 1 0 0 1 1\n1 INSERT 2 0 2 1 3\n1 INSERT 3 10 0 11 1\n1 INSERT 4 10 2 11 3\n1 COMMIT\n1 BEGIN\n1 DELETE 1 0 0 1 1\n1 DELETE 2 0 2 1 3\n1 DELETE 3 10 0 11 1\n1 DELETE 4 10 2 11 3\n1 COMMIT\n1 BEGIN\n1 INSERT 5 0 4 1 5\n1 COMMIT\n",
+        SWEPT,
         b"commits 3 used 2 counter 0\npage 1 level 1 nsn 0 right 0 count 1\nchild 2 0 0 11 5\npage 2 level 0 nsn 0 right 0 count 1\nentry 5 0 4 1 5 live\n",
     );
 }

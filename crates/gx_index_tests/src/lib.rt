@@ -1,5 +1,5 @@
-//! Tests by public calls of what an index in a file stands on: a store of pages, the test of a tree, an engine's sessions, openings,
-//! scripts and dumps over a device, and the program's commands.
+//! Tests by public calls of what an index in a file stands on: a store of pages, the test of a tree, an engine's
+//! sessions, openings, scripts and dumps over a device, and the program's commands.
 #![tactic(auto)]
 
 #[cfg(test)]
@@ -28,3 +28,5 @@ mod scripts;
 mod sessions;
 #[cfg(test)]
 mod stores;
+#[cfg(test)]
+mod verified;

@@ -1,7 +1,8 @@
-//! A worked life of the headline (`gx_lives::laws::an_index_lives_as_one_run`), event by event beside the plain index: a format;
-//! two sessions in turn, a split, commits, a transaction that is left open; a crash at the write of a checkpoint's selector; an opening
-//! that is cut twice; openings that end well. One device of one type lives through all of it, so its turns are those of `gx_lives`:
-//! each is a call whose contract is that turn, or a crash of a `MemDisk`, which comes up under a new fuse.
+//! A worked life of the headline (`gx_lives::laws::an_index_lives_as_one_run`), event by event beside the plain index:
+//! a format; two sessions in turn, a split, commits, a transaction that is left open; a crash at the write of a
+//! checkpoint's selector; an opening that is cut twice; openings that end well. One device of one type lives through
+//! all of it, so its turns are those of `gx_lives`: each is a call whose contract is that turn, or a crash of a
+//! `MemDisk`, which comes up under a new fuse.
 mod beside;
 
 use beside::{Device, EVENTS, Plain, Working, call, interleave, make, work};
@@ -99,8 +100,8 @@ fn flush(engine: &mut Working, plain: &mut Plain) -> Option<()> {
     None
 }
 
-// Commits one row in place of another, the first under the number 4, until a checkpoint begins with the write of a page. Answers the
-// last number.
+// Commits one row in place of another, the first under the number 4, until a checkpoint begins with the write of a
+// page. Answers the last number.
 fn commit_on(engine: &mut Working, plain: &mut Plain) -> Option<u64> {
     for row in 7..31u8 {
         replace(engine, plain, row)?;
@@ -113,8 +114,8 @@ fn commit_on(engine: &mut Working, plain: &mut Plain) -> Option<u64> {
     None
 }
 
-// Makes a checkpoint's steps up to the selector's write: the other pages' writes, their sync, and of the turn the closed gates, the body,
-// its sync, the gate, its sync and the selector.
+// Makes a checkpoint's steps up to the selector's write: the other pages' writes, their sync, and of the turn the
+// closed gates, the body, its sync, the gate, its sync and the selector.
 fn turn_log(engine: &mut Working, plain: &mut Plain) -> Option<()> {
     for _page in 1..PAGES {
         if engine.dirty().is_some() {
@@ -175,7 +176,8 @@ fn begin(engine: &mut Working, plain: &mut Plain) -> Option<u64> {
     }
 }
 
-// What a crash leaves at the write of the selector, which is all that isn't synced. The machine has no session with a transaction then.
+// What a crash leaves at the write of the selector, which is all that isn't synced. The machine has no session with a
+// transaction then.
 fn stopped(alloc: Global, plain: &mut Plain, torn: Torn) -> Option<(MemDisk, u64)> {
     let mut engine = open::<Device, Box2Class>(alloc, formatted(alloc)?, FRAMES).ok()?;
     let number = begin(&mut engine, plain);
@@ -260,8 +262,8 @@ fn lives(alloc: Global, torn: Torn, first: u8, cuts: [u64; 2]) -> Option<()> {
     Some(())
 }
 
-// A format selects extent A, the first opening's checkpoint extent B (`5a`), and the life's checkpoint extent A again. So a crash that
-// takes the selector's write back leaves a log of many batches, and one that leaves it just their head.
+// A format selects extent A, the first opening's checkpoint extent B (`5a`), and the life's checkpoint extent A again.
+// So a crash that takes the selector's write back leaves a log of many batches, and one that leaves it just their head.
 #[test]
 fn a_life_is_one_run(rt: HostRuntime) {
     assert!(rt; lives(rt.alloc(), Torn::Old, 0x5A, [60, 100]).is_some());

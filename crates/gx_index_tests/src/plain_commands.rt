@@ -1,6 +1,6 @@
 //! The plain command: scripts from a reader to a writer: the status, the replies, and what is told.
 
-use gx_command::{Noted, run_script};
+use gx_commands::{Noted, run_script};
 use std::alloc::Global;
 use std::io::{self, ErrorKind, Read, Write};
 use std::process::Abort;

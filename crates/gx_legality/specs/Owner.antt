@@ -1,7 +1,9 @@
 -- What a test leaves of its pages' owner, and why it was refused.
-use Rattle.std.specs.Prelude.{ℕ}
+use Rattle.std.specs.Prelude.{ℕ, IfErr, Result}
 use Rattle.gx_node.specs.Owner.{KeepsSince}
-use Rattle.gx_node.specs.Store.{Store, Stays}
+use Rattle.gx_node.specs.Store.{Store, Stays, tree_of}
+use Rattle.gx_tree_laws.specs.Trees.{Rules, Tree, Used}
+use Rattle.gx_legality.specs.Breaks.{Breaks}
 use Rattle.gx_legality.specs.declared.fault.LegalityFault.{LegalityFault}
 use Rattle.gx_legality.specs.declared.fault.LegalityFault.TheVariants.{Memory, Pages, Broken, Unsteady}
 use Rattle.gx_legality.specs.declared.fault.Rule.{Rule}
@@ -31,3 +33,11 @@ IsFound breaks (Broken page rule) = breaks page rule
 IsFound breaks Unsteady = ⊥
 IsFound breaks Memory = Unit {0}
 IsFound breaks (Pages fault) = Unit {0}
+
+-- a test that is refused names a rule that the tree breaks
+abbrev pub TellsBreak : {T F K : Type 0} → Rules K → Tree K → Result T (LegalityFault F) → Type 0
+TellsBreak r t result = IfErr result (IsFound (Breaks r t))
+
+-- each page in use was held, up to which pages were only read
+abbrev pub WereHeld : {P B : Type 0} → (P → Type 0) → (P → Store B) → (P → P → ℕ → Type 0) → (P → ℕ → Type 0) → P → Type 0
+WereHeld steady store since held old = (page : ℕ) → Used (tree_of (store old)) page → WasHeld steady store since held old page

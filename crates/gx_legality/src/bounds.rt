@@ -75,7 +75,8 @@ fn covers_children<K: KeyClass>(bound: &K::Key, inner: &Inner<K>) -> bool
 /// Whether a bound covers each key of a node.
 fn covers_node<K: KeyClass>(bound: &K::Key, page: &Page, room: u32) -> bool
     requires { is_node (format_of K.KeyClass) room page.now ≡ true }
-    ensures { (most : ℕ) → IsTrue result ↔ Bounds (rules_of K.Key.Shape most) bound.now (node_of (format_of K.KeyClass) page.now) }
+    ensures { (most : ℕ) → IsTrue result ↔ Bounds (rules_of K.Key.Shape most) bound.now
+        (node_of (format_of K.KeyClass) page.now) }
 {
     if page.level() == 0 {
         covers_pairs(bound, &Leaf::<K>::of(page))
@@ -93,8 +94,12 @@ pub(crate) fn test_below<K: KeyClass>(
     bound: &K::Key,
 ) -> Result<(), Rule>
     requires { is_node (format_of K.KeyClass) room page.now ≡ true }
-    ensures fits { (most : ℕ) → OnOk result (FitsBelow (rules_of K.Key.Shape most) level bound.now (node_of (format_of K.KeyClass) page.now)) }
-    ensures fails { (most : ℕ) → IfErr result (FailsBelow (rules_of K.Key.Shape most) level bound.now slot (node_of (format_of K.KeyClass) page.now)) }
+    ensures fits { (most : ℕ)
+        → OnOk result (FitsBelow (rules_of K.Key.Shape most) level bound.now
+        (node_of (format_of K.KeyClass) page.now)) }
+    ensures fails { (most : ℕ)
+        → IfErr result (FailsBelow (rules_of K.Key.Shape most) level bound.now slot
+        (node_of (format_of K.KeyClass) page.now)) }
 {
     if u32::from(page.level()) + 1 != u32::from(level) {
         return Err(Rule::ChildLevel(slot));

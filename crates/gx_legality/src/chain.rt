@@ -1,5 +1,6 @@
 //! The leaves stand on the chain of rightlinks, each once.
-ghost use Rattle.std.specs.Prelude.{◌≡◌, ℕ, ◌+◌, ◌^◌, ◌<◌, ◌≤◌, ◌⊎◌, ◌==◌, List, None, Some, OnOk, IfErr, MatchOption, length, slice_index_or};
+ghost use Rattle.std.specs.Prelude.{◌≡◌, ℕ, ◌+◌, ◌^◌, ◌<◌, ◌≤◌, ◌⊎◌, ◌==◌, List, None};
+ghost use Rattle.std.specs.Prelude.{Some, OnOk, IfErr, MatchOption, length, slice_index_or};
 ghost use Rattle.gx_tree_laws.specs.Legal.{Linked};
 ghost use Rattle.gx_tree_laws.specs.Lists.{one_if};
 ghost use Rattle.gx_tree_laws.specs.Trees.{Tree, Rules, Used, leaves, times};
@@ -34,7 +35,8 @@ fn walk_chain<K: KeyClass>(links: &[Option<u32>], passed: &mut [bool]) -> Result
     ensures walked { (t : Tree K.Key) → AreLinks t links.now
         → OnOk result (Linked t 2 (leaves t) × ((q : ℕ) → times q (leaves t) ≡ marked passed.new q)) }
     ensures refused { (t : Tree K.Key) → AreLinks t links.now
-        → IfErr result (λ p. (0 < p) × (pages : List ℕ) × Leads t 2 pages p × ((Used t p → (t.node p).level ≡ 0 → ⊥) ⊎ (0 < times p pages))) }
+        → IfErr result (λ p. (0 < p) × (pages : List ℕ) × Leads t 2 pages p
+        × ((Used t p → (t.node p).level ≡ 0 → ⊥) ⊎ (0 < times p pages))) }
 {
     let mut page = 2;
     for _step in 1..links.len() {
@@ -53,8 +55,10 @@ fn walk_chain<K: KeyClass>(links: &[Option<u32>], passed: &mut [bool]) -> Result
 fn test_passed(links: &[Option<u32>], passed: &[bool]) -> Result<(), u32>
     requires few { length links.now ≤ 2 ^ 32 }
     requires as_many { length passed.now ≡ length links.now }
-    ensures passed { OnOk result ((q right : ℕ) → slice_index_or links.now q None ≡ Some right → 1 ≤ marked passed.now q) }
-    ensures refused { IfErr result (λ q. (marked passed.now q ≡ 0) × ((right : ℕ) × (slice_index_or links.now q None ≡ Some right))) }
+    ensures passed { OnOk result ((q right : ℕ) → slice_index_or links.now q None ≡ Some right
+        → 1 ≤ marked passed.now q) }
+    ensures refused { IfErr result (λ q. (marked passed.now q ≡ 0)
+        × ((right : ℕ) × (slice_index_or links.now q None ≡ Some right))) }
 {
     for page in 0..links.len() {
         if links[page].is_some() && !passed[page] {
@@ -64,9 +68,9 @@ fn test_passed(links: &[Option<u32>], passed: &[bool]) -> Result<(), u32>
     Ok(())
 }
 
-/// Tests that the rightlinks from page 2 lead over all leaves, over each once, and over no other page, and end. `links` has
-/// the rightlink of each leaf by page, and `None` for other pages and for page 0; `passed` has a mark for each, none of them
-/// set.
+/// Tests that the rightlinks from page 2 lead over all leaves, over each once, and over no other page, and end. `links`
+/// has the rightlink of each leaf by page, and `None` for other pages and for page 0;
+/// `passed` has a mark for each, none of them set.
 ///
 /// Refused, with the page, by `Chain` or `OffTheChain`.
 pub fn test_chain<K: KeyClass>(
@@ -79,7 +83,8 @@ pub fn test_chain<K: KeyClass>(
     ensures chain { (t : Tree K.Key) → AreLinks t links.now → OnOk result (Linked t 2 (leaves t)) }
     ensures once { (t : Tree K.Key) → AreLinks t links.now
         → OnOk result ((q : ℕ) → Used t q → (t.node q).level ≡ 0 → times q (leaves t) ≡ 1) }
-    ensures breaks { (r : Rules K.Key) (t : Tree K.Key) → AreLinks t links.now → IfErr result (λ why. Breaks r t why.0 why.1) }
+    ensures breaks { (r : Rules K.Key) (t : Tree K.Key) → AreLinks t links.now
+        → IfErr result (λ why. Breaks r t why.0 why.1) }
 {
     if let Err(page) = walk_chain::<K>(links, passed) {
         return Err((page, Rule::Chain));

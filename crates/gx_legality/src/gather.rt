@@ -1,7 +1,9 @@
 //! The least of what comes, in passes of rising bounds.
-ghost use Rattle.std.specs.Prelude.{◌≡◌, ◌≢◌, ℕ, suc, ◌^◌, ◌++◌, ◌<◌, ◌≤◌, List, [], ◌∷◌, length, slice_index_or, vec_len, vec_capacity, None, IfOk, MatchBool, MatchOption};
+ghost use Rattle.std.specs.Prelude.{◌≡◌, ◌≢◌, ℕ, suc, ◌^◌, ◌++◌, ◌<◌, ◌≤◌, List, [], ◌∷◌, length};
+ghost use Rattle.std.specs.Prelude.{slice_index_or, vec_len, vec_capacity, None, IfOk, MatchBool, MatchOption};
 ghost use Rattle.std.specs.declared.cmp.Ordering.TheVariants.{Less};
-ghost use Rattle.gx_legality.specs.Gathered.{count, IsAfter, IsUpTo, Ascends, StandsTwice, Gathers, Halves, Finishes, gathered_above};
+ghost use Rattle.gx_legality.specs.Gathered.{count, IsAfter, IsUpTo, Ascends, StandsTwice};
+ghost use Rattle.gx_legality.specs.Gathered.{Gathers, Halves, Finishes, gathered_above};
 
 use std::alloc::{AllocError, Global};
 use std::cmp::Ordering;
@@ -24,7 +26,8 @@ impl<E: Ord + Copy> Model for Gather<E> {
 
     ghost view = { λ g. record { kept = g.kept.items; above = g.above; top = g.top; half = g.half } };
 
-    ghost invariant = { λ g. (0 < g.half) × (length g.kept.items < g.half + g.half) × (g.half + g.half ≤ vec_capacity g.kept) };
+    ghost invariant = { λ g. (0 < g.half) × (length g.kept.items < g.half + g.half)
+        × (g.half + g.half ≤ vec_capacity g.kept) };
 }
 
 /// What a pass comes to.
@@ -40,8 +43,10 @@ pub(crate) enum Pass {
 /// Whether each comes after the one before.
 fn ascends<E: Ord + Copy>(items: &[E]) -> bool
     ensures { MatchBool result
-        ((j k : ℕ) (d : E) → suc j ≡ k → k < length items.now → E.cmp (slice_index_or items.now j d) (slice_index_or items.now k d) ≡ Less)
-        ((j : ℕ) × (suc j < length items.now) × ((d : E) → E.cmp (slice_index_or items.now j d) (slice_index_or items.now (suc j) d) ≢ Less)) }
+        ((j k : ℕ) (d : E) → suc j ≡ k → k < length items.now
+        → E.cmp (slice_index_or items.now j d) (slice_index_or items.now k d) ≡ Less)
+        ((j : ℕ) × (suc j < length items.now) × ((d : E)
+        → E.cmp (slice_index_or items.now j d) (slice_index_or items.now (suc j) d) ≢ Less)) }
 {
     for at in 1..items.len() {
         if items[at - 1].cmp(&items[at]) != Ordering::Less {
@@ -68,7 +73,8 @@ fn halve<E: Ord + Copy>(items: &mut Vec<E>, half: usize) -> Option<E>
     requires enough { half ≤ length items.old.items }
     ensures len { length items.new.items ≡ half }
     ensures capacity { vec_capacity items.new ≡ vec_capacity items.old }
-    ensures halves { MatchOption result (StandsTwice E.cmp items.old.items) (Halves E.cmp items.old.items items.new.items) }
+    ensures halves { MatchOption result (StandsTwice E.cmp items.old.items)
+        (Halves E.cmp items.old.items items.new.items) }
 {
     let rises = put_in_order(items);
     items.truncate(half);

@@ -1,5 +1,6 @@
 //! A pass over the leaves, along the chain.
-ghost use Rattle.std.specs.Prelude.{◌≡◌, ℕ, List, [], ◌++◌, length, map, true, None, Some, slice_get, OnOk, IfOk, IfErr, MatchBool, MatchOption, MatchResult};
+ghost use Rattle.std.specs.Prelude.{◌≡◌, ℕ, List, [], ◌++◌, length, map, true, None, Some, slice_get};
+ghost use Rattle.std.specs.Prelude.{OnOk, IfOk, IfErr, MatchBool, MatchOption, MatchResult};
 ghost use Rattle.gx_machine.specs.Keys.{keys_of, entry_cmp};
 ghost use Rattle.gx_machine.specs.declared.entry.Entry.{Entry};
 ghost use Rattle.gx_node.specs.Edits.{entry_of};
@@ -26,7 +27,8 @@ use gx_page::Page;
 fn entry_at<K: KeyClass>(page: &Page, room: u32, slot: usize) -> Option<Entry<K::Key>>
     requires { is_node (format_of K.KeyClass) room page.now ≡ true }
     ensures { MatchOption result (slice_get (node_of (format_of K.KeyClass) page.now).pairs slot ≡ None)
-        (λ e. (pair : Pair K.Key) × (slice_get (node_of (format_of K.KeyClass) page.now).pairs slot ≡ Some pair) × (entry_of pair ≡ e)) }
+        (λ e. (pair : Pair K.Key) × (slice_get (node_of (format_of K.KeyClass) page.now).pairs slot ≡ Some pair)
+        × (entry_of pair ≡ e)) }
 {
     if page.level() != 0 {
         return None;
@@ -44,8 +46,10 @@ fn gather_page<K: KeyClass>(page: &Page, room: u32, gather: &mut Gather<Entry<K:
     requires { is_node (format_of K.KeyClass) room page.now ≡ true }
     ensures above { gather.new.above ≡ gather.old.above }
     ensures gathers { (all rest : List (Entry K.Key))
-        → Gathers (entry_cmp (keys_of K.Key.Shape)) gather.old all (map entry_of (node_of (format_of K.KeyClass) page.now).pairs ++ rest)
-        → MatchBool result (Gathers (entry_cmp (keys_of K.Key.Shape)) gather.new all rest) (StandsTwice (entry_cmp (keys_of K.Key.Shape)) all) }
+        → Gathers (entry_cmp (keys_of K.Key.Shape)) gather.old all
+        (map entry_of (node_of (format_of K.KeyClass) page.now).pairs ++ rest)
+        → MatchBool result (Gathers (entry_cmp (keys_of K.Key.Shape)) gather.new all rest)
+        (StandsTwice (entry_cmp (keys_of K.Key.Shape)) all) }
 {
     for slot in 0..page.count() {
         let Some(entry) = entry_at::<K>(page, room, slot) else {
@@ -68,7 +72,8 @@ fn meet_page<K: KeyClass>(
     requires node { is_node (format_of K.KeyClass) room page.now ≡ true }
     requires as_many { length stages.old ≡ length notes.now }
     requires in_order { Ascends (entry_cmp (keys_of K.Key.Shape)) (noted notes.now) }
-    ensures { Moves (λ n s. met (is_noted (entry_cmp (keys_of K.Key.Shape)) n) (map entry_of (node_of (format_of K.KeyClass) page.now).pairs) s)
+    ensures { Moves (λ n s. met (is_noted (entry_cmp (keys_of K.Key.Shape)) n)
+        (map entry_of (node_of (format_of K.KeyClass) page.now).pairs) s)
         notes.now stages.old stages.new }
 {
     for slot in 0..page.count() {
@@ -95,11 +100,13 @@ fn take_leaf<K: KeyClass, P: Pages<K>>(
     ensures above { gather.new.above ≡ gather.old.above }
     ensures right { P.steady pages.old → IfOk result (λ right. right ≡ (node_at (P.store pages.old).nodes page).right) }
     ensures gathers { P.steady pages.old → Used (tree_of (P.store pages.old)) page → (all rest : List (Entry K.Key))
-        → Gathers (entry_cmp (keys_of K.Key.Shape)) gather.old all (map entry_of (node_at (P.store pages.old).nodes page).pairs ++ rest)
+        → Gathers (entry_cmp (keys_of K.Key.Shape)) gather.old all
+        (map entry_of (node_at (P.store pages.old).nodes page).pairs ++ rest)
         → MatchResult result (λ _. Gathers (entry_cmp (keys_of K.Key.Shape)) gather.new all rest)
         (IsFound (IsPairTwice (entry_cmp (keys_of K.Key.Shape)) all)) }
     ensures moves { P.steady pages.old → OnOk result (Moves (λ n s. met (is_noted (entry_cmp (keys_of K.Key.Shape)) n)
-        (map entry_of (node_at (P.store pages.old).nodes page).pairs) (come_to page n.leaf s)) notes.now stages.old stages.new) }
+        (map entry_of (node_at (P.store pages.old).nodes page).pairs) (come_to page n.leaf s))
+        notes.now stages.old stages.new) }
 {
     if page == 0 || pages.used() < page {
         return Err(LegalityFault::Unsteady);
@@ -129,11 +136,13 @@ pub(crate) fn take_leaves<K: KeyClass, P: Pages<K>>(
     ensures above { gather.new.above ≡ gather.old.above }
     ensures gathers { P.steady pages.old → Linked (tree_of (P.store pages.old)) 2 (leaves (tree_of (P.store pages.old)))
         → (all : List (Entry K.Key))
-        → Gathers (entry_cmp (keys_of K.Key.Shape)) gather.old all (entries_on (tree_of (P.store pages.old)) (leaves (tree_of (P.store pages.old))))
+        → Gathers (entry_cmp (keys_of K.Key.Shape)) gather.old all
+        (entries_on (tree_of (P.store pages.old)) (leaves (tree_of (P.store pages.old))))
         → MatchResult result (λ done. Gathers (entry_cmp (keys_of K.Key.Shape)) gather.new all [])
         (IsFound (IsPairTwice (entry_cmp (keys_of K.Key.Shape)) all)) }
     ensures moves { P.steady pages.old → Linked (tree_of (P.store pages.old)) 2 (leaves (tree_of (P.store pages.old)))
-        → OnOk result (Moves (λ n s. passed (tree_of (P.store pages.old)) (is_noted (entry_cmp (keys_of K.Key.Shape)) n) n.leaf
+        → OnOk result (Moves (λ n s. passed (tree_of (P.store pages.old))
+        (is_noted (entry_cmp (keys_of K.Key.Shape)) n) n.leaf
         (leaves (tree_of (P.store pages.old))) s) notes.now stages.old stages.new) }
 {
     let mut page = 2;

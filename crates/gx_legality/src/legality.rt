@@ -1,5 +1,6 @@
 //! The whole test.
-ghost use Rattle.std.specs.Prelude.{◌≡◌, ◌↔◌, ℕ, suc, ◌+◌, ◌^◌, ◌<◌, ◌≤◌, None, length, slice_index_or, OnOk, IfOk, IfErr, IsTrue};
+ghost use Rattle.std.specs.Prelude.{◌≡◌, ◌↔◌, ℕ, suc, ◌+◌, ◌^◌, ◌<◌, ◌≤◌, None};
+ghost use Rattle.std.specs.Prelude.{length, slice_index_or, OnOk, IfOk, IfErr, IsTrue};
 ghost use Rattle.gx_tree_laws.specs.Legal.{Legal, NodeFits};
 ghost use Rattle.gx_tree_laws.specs.Trees.{Tree, Rules, Used, parents};
 ghost use Rattle.gx_node.specs.Keyed.{rules_of};
@@ -12,7 +13,7 @@ ghost use Rattle.gx_legality.specs.Gathered.{Ascends, gathered_above};
 ghost use Rattle.gx_legality.specs.Placing.{BreaksOrLeavesOut, IsPlaced, noted, stage_at};
 ghost use Rattle.gx_legality.specs.declared.notes.Stage.TheVariants.{Ahead};
 ghost use Rattle.gx_legality.specs.Marks.{AreLinks, HasShape, IsLegalButPairs, marked};
-ghost use Rattle.gx_legality.specs.Owner.{OnlyReads, WasHeld, IsWhy, IsFound};
+ghost use Rattle.gx_legality.specs.Owner.{OnlyReads, IsWhy, IsFound, TellsBreak, WereHeld};
 
 use crate::chain::test_chain;
 use crate::fault::{LegalityFault, Rule};
@@ -53,10 +54,12 @@ fn test_links<K: KeyClass>(
     requires marks { length marks.now ≡ length links.now }
     requires as_many { length passed.old ≡ length links.now }
     requires none { (q : ℕ) → marked passed.old q ≡ 0 }
-    ensures shape { (t : Tree K.Key) → AreLinks t links.now → ((q : ℕ) → q < length marks.now → marked marks.now q ≡ parents t q)
+    ensures shape { (t : Tree K.Key) → AreLinks t links.now
+        → ((q : ℕ) → q < length marks.now → marked marks.now q ≡ parents t q)
         → OnOk result (HasShape t) }
     ensures breaks { (r : Rules K.Key) (t : Tree K.Key) → AreLinks t links.now
-        → ((q : ℕ) → q < length marks.now → marked marks.now q ≡ parents t q) → IfErr result (λ why. Breaks r t why.0 why.1) }
+        → ((q : ℕ) → q < length marks.now → marked marks.now q ≡ parents t q)
+        → IfErr result (λ why. Breaks r t why.0 why.1) }
 {
     if let Err(page) = test_named(marks) {
         return Err((page as u32, Rule::NotNamed));
@@ -82,7 +85,7 @@ fn test_root<K: KeyClass, P: Pages<K>>(
     ensures later { OnOk result (IsWhyLater P.why pages.old pages.new) }
     ensures counter { OnOk result ((P.store pages.old).counter + 2 ≤ length (P.store pages.old).nodes) }
     ensures root { P.steady pages.old → OnOk result (0 < (node_at (P.store pages.old).nodes 1).level) }
-    ensures found { P.steady pages.old → IfErr result (IsFound (Breaks (rules_of K.Key.Shape _most) (tree_of (P.store pages.old)))) }
+    ensures found { P.steady pages.old → TellsBreak (rules_of K.Key.Shape _most) (tree_of (P.store pages.old)) result }
 {
     if !is_counted(pages.used(), pages.counter()) {
         return Err(LegalityFault::Broken(1, Rule::SplitsOutnumberPages));
@@ -94,7 +97,8 @@ fn test_root<K: KeyClass, P: Pages<K>>(
     Ok(())
 }
 
-/// Tests all but that no pair stands twice. There are two marks and a rightlink for each page and for page 0, none of them set.
+/// Tests all but that no pair stands twice.
+/// There are two marks and a rightlink for each page and for page 0, none of them set.
 fn test_shape<K: KeyClass, P: Pages<K>>(
     pages: &mut P,
     most: u16,
@@ -114,11 +118,11 @@ fn test_shape<K: KeyClass, P: Pages<K>>(
     ensures later { OnOk result (IsWhyLater P.why pages.old pages.new) }
     ensures counter { OnOk result ((P.store pages.old).counter + 2 ≤ length (P.store pages.old).nodes) }
     ensures root { P.steady pages.old → OnOk result (0 < (node_at (P.store pages.old).nodes 1).level) }
-    ensures held { OnOk result ((p : ℕ) → Used (tree_of (P.store pages.old)) p → WasHeld P.steady P.store P.since P.held pages.old p) }
+    ensures held { OnOk result (WereHeld P.steady P.store P.since P.held pages.old) }
     ensures fits { P.steady pages.old → OnOk result ((p : ℕ) → Used (tree_of (P.store pages.old)) p
         → NodeFits (rules_of K.Key.Shape most) (tree_of (P.store pages.old)) (node_at (P.store pages.old).nodes p)) }
     ensures shape { P.steady pages.old → OnOk result (HasShape (tree_of (P.store pages.old))) }
-    ensures found { P.steady pages.old → IfErr result (IsFound (Breaks (rules_of K.Key.Shape most) (tree_of (P.store pages.old)))) }
+    ensures found { P.steady pages.old → TellsBreak (rules_of K.Key.Shape most) (tree_of (P.store pages.old)) result }
 {
     test_root(pages, most)?;
     test_nodes(pages, most, marks, links)?;
@@ -128,8 +132,8 @@ fn test_shape<K: KeyClass, P: Pages<K>>(
     }
 }
 
-/// Tests that no pair stands twice, and that each note's pair is in its place, in a tree that is legal otherwise. No stage
-/// has come to its leaf before.
+/// Tests that no pair stands twice, and that each note's pair is in its place, in a tree that is legal otherwise. No
+/// stage has come to its leaf before.
 fn test_leaves<K: KeyClass, P: Pages<K>>(
     pages: &mut P,
     most: u16,
@@ -149,7 +153,8 @@ fn test_leaves<K: KeyClass, P: Pages<K>>(
     ensures placed { P.steady pages.old → IsLegalButPairs (rules_of K.Key.Shape most) (tree_of (P.store pages.old))
         → OnOk result (Each (IsPlaced (rules_of K.Key.Shape most) (tree_of (P.store pages.old))) notes.now) }
     ensures found { P.steady pages.old → IsLegalButPairs (rules_of K.Key.Shape most) (tree_of (P.store pages.old))
-        → IfErr result (IsFound (BreaksOrLeavesOut (rules_of K.Key.Shape most) (tree_of (P.store pages.old)) notes.now)) }
+        → IfErr result (IsFound (BreaksOrLeavesOut (rules_of K.Key.Shape most)
+        (tree_of (P.store pages.old)) notes.now)) }
 {
     test_pairs(pages, most, gather, notes, stages)?;
     match test_found(notes, stages) {
@@ -159,13 +164,15 @@ fn test_leaves<K: KeyClass, P: Pages<K>>(
 }
 
 /// Tests that the tree is legal, where a node has at most `most` entries: the number of splits and the root, then
-/// `test_nodes`, `test_named`, `test_chain` and `test_pairs`, whose buffer has room for twice `half` pairs. And tests that
-/// the pair of each note stands in the note's leaf or to the right of it on the chain: the first pass over the leaves comes
-/// to the notes too, and looks each pair up among them by halves. Notes are of pairs that open transactions touched, in order
-/// by row and key, and no pair has two (`are_in_order`). Two pages at most are held at a time, and each page was held once.
+/// `test_nodes`, `test_named`, `test_chain` and `test_pairs`, whose buffer has room for twice `half` pairs. And tests
+/// that the pair of each note stands in the note's leaf or to the right of it on the chain: the first pass over the
+/// leaves comes to the notes too, and looks each pair up among them by halves. Notes are of pairs that open
+/// transactions touched, in order by row and key, and no pair has two (`are_in_order`). Two pages at most are held at a
+/// time, and each page was held once.
 ///
-/// Refused with `Memory` before any page is brought, with `Pages`, and with `Broken`: with `PairOutOfPlace` only in a legal
-/// tree, at the leaf of a note whose pair stands elsewhere or nowhere. With `Unsteady` only on a device that lies.
+/// Refused with `Memory` before any page is brought, with `Pages`, and with `Broken`: with `PairOutOfPlace` only in a
+/// legal tree, at the leaf of a note whose pair stands elsewhere or nowhere.
+/// With `Unsteady` only on a device that lies.
 pub fn test_tree<K: KeyClass, P: Pages<K>>(
     alloc: Global,
     pages: &mut P,
@@ -179,12 +186,13 @@ pub fn test_tree<K: KeyClass, P: Pages<K>>(
     ensures reads { OnlyReads P.steady P.store P.since pages.old pages.new }
     ensures why { IfErr result (IsWhy (P.why pages.old pages.new)) }
     ensures later { OnOk result (IsWhyLater P.why pages.old pages.new) }
-    ensures held { OnOk result ((p : ℕ) → Used (tree_of (P.store pages.old)) p → WasHeld P.steady P.store P.since P.held pages.old p) }
+    ensures held { OnOk result (WereHeld P.steady P.store P.since P.held pages.old) }
     ensures legal { P.steady pages.old → OnOk result (Legal (rules_of K.Key.Shape most) (tree_of (P.store pages.old))) }
     ensures placed { P.steady pages.old
         → OnOk result (Each (IsPlaced (rules_of K.Key.Shape most) (tree_of (P.store pages.old))) notes.now) }
     ensures found { P.steady pages.old
-        → IfErr result (IsFound (BreaksOrLeavesOut (rules_of K.Key.Shape most) (tree_of (P.store pages.old)) notes.now)) }
+        → IfErr result (IsFound (BreaksOrLeavesOut (rules_of K.Key.Shape most)
+        (tree_of (P.store pages.old)) notes.now)) }
 {
     let used = pages.used();
     let Ok(mut marks) = blank_marks(alloc, used) else {

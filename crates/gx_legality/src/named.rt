@@ -32,7 +32,8 @@ pub fn mark_children<K: KeyClass>(page: &Page, room: u32, marks: &mut [bool]) ->
 
 /// Marks a page. Refused, with the page, where it is marked already or has no mark.
 fn mark(marks: &mut [bool], page: u32) -> Result<(), u32>
-    ensures marked { OnOk result (page < length marks.old × ((q : ℕ) → marked marks.new q ≡ marked marks.old q + one_if (page == q))) }
+    ensures marked { OnOk result (page < length marks.old
+        × ((q : ℕ) → marked marks.new q ≡ marked marks.old q + one_if (page == q))) }
     ensures refused { IfErr result (λ q. (q ≡ page) × ((length marks.old ≤ q) ⊎ (1 ≤ marked marks.old q))) }
 {
     let at = page as usize;

@@ -6,9 +6,8 @@ ghost use Rattle.gx_tree_laws.specs.Trees.{Child, Used, size};
 ghost use Rattle.gx_node.specs.Keyed.{rules_of};
 ghost use Rattle.gx_node.specs.Owner.{IsWhyLater};
 ghost use Rattle.gx_node.specs.Store.{node_at, tree_of};
-ghost use Rattle.gx_legality.specs.Breaks.{Breaks};
 ghost use Rattle.gx_legality.specs.Nodes.{FitsAlone};
-ghost use Rattle.gx_legality.specs.Owner.{OnlyReads, IsWhy, IsFound};
+ghost use Rattle.gx_legality.specs.Owner.{OnlyReads, IsWhy, IsFound, TellsBreak};
 
 use crate::bounds::{child_at, test_alone, test_below};
 use crate::fault::{LegalityFault, Rule};
@@ -47,9 +46,11 @@ fn test_child<K: KeyClass, P: Pages<K>>(
     ensures reads { OnlyReads P.steady P.store P.since pages.old pages.new }
     ensures why { IfErr result (IsWhy (P.why pages.old pages.new)) }
     ensures later { OnOk result (IsWhyLater P.why pages.old pages.new) }
-    ensures fits { P.steady pages.old → OnOk result ((c : Child K.Key) → slice_get (node_at (P.store pages.old).nodes page).children slot ≡ Some c
-        → ChildFits (rules_of K.Key.Shape _most) (tree_of (P.store pages.old)) (node_at (P.store pages.old).nodes page).level c) }
-    ensures found { P.steady pages.old → IfErr result (IsFound (Breaks (rules_of K.Key.Shape _most) (tree_of (P.store pages.old)))) }
+    ensures fits { P.steady pages.old → OnOk result ((c : Child K.Key)
+        → slice_get (node_at (P.store pages.old).nodes page).children slot ≡ Some c
+        → ChildFits (rules_of K.Key.Shape _most) (tree_of (P.store pages.old))
+        (node_at (P.store pages.old).nodes page).level c) }
+    ensures found { P.steady pages.old → TellsBreak (rules_of K.Key.Shape _most) (tree_of (P.store pages.old)) result }
 {
     let room = pages.room();
     let node = pages.page(page);
@@ -80,10 +81,13 @@ fn test_first<K: KeyClass, P: Pages<K>>(
     ensures why { IfErr result (IsWhy (P.why pages.old pages.new)) }
     ensures later { OnOk result (IsWhyLater P.why pages.old pages.new) }
     ensures count { P.steady pages.old → IfOk result (λ count. count ≡ size (node_at (P.store pages.old).nodes page)) }
-    ensures leaf { P.steady pages.old → OnOk result ((node_at (P.store pages.old).nodes page).level ≡ 0 → (node_at (P.store pages.old).nodes page).children ≡ []) }
-    ensures inner { P.steady pages.old → OnOk result (0 < (node_at (P.store pages.old).nodes page).level → (node_at (P.store pages.old).nodes page).pairs ≡ []) }
-    ensures fits { P.steady pages.old → OnOk result (FitsAlone most (P.store pages.old).counter (node_at (P.store pages.old).nodes page)) }
-    ensures found { P.steady pages.old → IfErr result (IsFound (Breaks (rules_of K.Key.Shape most) (tree_of (P.store pages.old)))) }
+    ensures leaf { P.steady pages.old → OnOk result ((node_at (P.store pages.old).nodes page).level ≡ 0
+        → (node_at (P.store pages.old).nodes page).children ≡ []) }
+    ensures inner { P.steady pages.old → OnOk result (0 < (node_at (P.store pages.old).nodes page).level
+        → (node_at (P.store pages.old).nodes page).pairs ≡ []) }
+    ensures fits { P.steady pages.old
+        → OnOk result (FitsAlone most (P.store pages.old).counter (node_at (P.store pages.old).nodes page)) }
+    ensures found { P.steady pages.old → TellsBreak (rules_of K.Key.Shape most) (tree_of (P.store pages.old)) result }
 {
     bring_pages(pages, &[page])?;
     let node = pages.page(page);
@@ -96,8 +100,8 @@ fn test_first<K: KeyClass, P: Pages<K>>(
 /// Tests a page that is taken as a node of the tree, where a node has at most `most` entries: its entries, its sequence
 /// number, and each of its children beside it, so that two pages are held at a time. The page is held then.
 ///
-/// Refused with `Pages` where a page could not be brought, and with `Broken` where the page doesn't keep a rule, which is
-/// one of those from `TooManyEntries` to `Bound`.
+/// Refused with `Pages` where a page could not be brought, and with `Broken` where the page doesn't keep a rule, which
+/// is one of those from `TooManyEntries` to `Bound`.
 pub fn test_node<K: KeyClass, P: Pages<K>>(
     pages: &mut P,
     page: u32,
@@ -108,8 +112,10 @@ pub fn test_node<K: KeyClass, P: Pages<K>>(
     ensures reads { OnlyReads P.steady P.store P.since pages.old pages.new }
     ensures why { IfErr result (IsWhy (P.why pages.old pages.new)) }
     ensures later { OnOk result (IsWhyLater P.why pages.old pages.new) }
-    ensures fits { P.steady pages.old → OnOk result (NodeFits (rules_of K.Key.Shape most) (tree_of (P.store pages.old)) (node_at (P.store pages.old).nodes page)) }
-    ensures found { P.steady pages.old → IfErr result (IsFound (Breaks (rules_of K.Key.Shape most) (tree_of (P.store pages.old)))) }
+    ensures fits { P.steady pages.old
+        → OnOk result (NodeFits (rules_of K.Key.Shape most) (tree_of (P.store pages.old))
+        (node_at (P.store pages.old).nodes page)) }
+    ensures found { P.steady pages.old → TellsBreak (rules_of K.Key.Shape most) (tree_of (P.store pages.old)) result }
 {
     let count = test_first(pages, page, most)?;
     for slot in 0..count {

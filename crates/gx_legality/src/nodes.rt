@@ -1,5 +1,6 @@
 //! The test of every page, in the order of their numbers.
-ghost use Rattle.std.specs.Prelude.{◌≡◌, ℕ, suc, ◌+◌, ◌<◌, ◌≤◌, ◌⊎◌, None, length, slice_index_or, slice_set, OnOk, IfErr};
+ghost use Rattle.std.specs.Prelude.{◌≡◌, ℕ, suc, ◌+◌, ◌<◌, ◌≤◌, ◌⊎◌, None, length};
+ghost use Rattle.std.specs.Prelude.{slice_index_or, slice_set, OnOk, IfErr};
 ghost use Rattle.gx_tree_laws.specs.Legal.{NodeFits};
 ghost use Rattle.gx_tree_laws.specs.Trees.{Used, times, child_pages, parents};
 ghost use Rattle.gx_node.specs.Keyed.{rules_of};
@@ -8,7 +9,7 @@ ghost use Rattle.gx_node.specs.Store.{node_at, node_of, tree_of};
 ghost use Rattle.gx_node.specs.Reading.{format_of};
 ghost use Rattle.gx_legality.specs.Breaks.{Breaks};
 ghost use Rattle.gx_legality.specs.Marks.{AreLinks, IsTwice, link_of, marked};
-ghost use Rattle.gx_legality.specs.Owner.{OnlyReads, WasHeld, IsWhy, IsFound};
+ghost use Rattle.gx_legality.specs.Owner.{OnlyReads, IsWhy, IsFound, TellsBreak, WereHeld};
 
 use crate::fault::{LegalityFault, Rule};
 use crate::named::mark_children;
@@ -43,11 +44,15 @@ fn test_page<K: KeyClass, P: Pages<K>>(
     ensures reads { OnlyReads P.steady P.store P.since pages.old pages.new }
     ensures why { IfErr result (IsWhy (P.why pages.old pages.new)) }
     ensures later { OnOk result (IsWhyLater P.why pages.old pages.new) }
-    ensures fits { P.steady pages.old → OnOk result (NodeFits (rules_of K.Key.Shape most) (tree_of (P.store pages.old)) (node_at (P.store pages.old).nodes page)) }
+    ensures fits { P.steady pages.old
+        → OnOk result (NodeFits (rules_of K.Key.Shape most) (tree_of (P.store pages.old))
+        (node_at (P.store pages.old).nodes page)) }
     ensures marked { P.steady pages.old → OnOk result ((q : ℕ) → q < length marks.old
         → marked marks.new q ≡ marked marks.old q + times q (child_pages (node_at (P.store pages.old).nodes page))) }
-    ensures linked { P.steady pages.old → OnOk result (links.new ≡ slice_set links.old page (link_of (node_at (P.store pages.old).nodes page))) }
-    ensures found { P.steady pages.old → IfErr result (IsFound (λ p rule. Breaks (rules_of K.Key.Shape most) (tree_of (P.store pages.old)) p rule
+    ensures linked { P.steady pages.old
+        → OnOk result (links.new ≡ slice_set links.old page (link_of (node_at (P.store pages.old).nodes page))) }
+    ensures found { P.steady pages.old
+        → IfErr result (IsFound (λ p rule. Breaks (rules_of K.Key.Shape most) (tree_of (P.store pages.old)) p rule
         ⊎ IsTwice (tree_of (P.store pages.old)) marks.old (node_at (P.store pages.old).nodes page) p rule)) }
 {
     test_node(pages, page, most)?;
@@ -59,8 +64,8 @@ fn test_page<K: KeyClass, P: Pages<K>>(
     }
 }
 
-/// Tests all pages that are taken, in the order of their numbers, each as `test_node` does: a page is brought beside its
-/// parent too. Marks each page that an entry names, by page, and keeps each leaf's rightlink. There is a mark and a
+/// Tests all pages that are taken, in the order of their numbers, each as `test_node` does: a page is brought beside
+/// its parent too. Marks each page that an entry names, by page, and keeps each leaf's rightlink. There is a mark and a
 /// rightlink for each page and for page 0, none of them set.
 ///
 /// Refused with `Pages`, and with `Broken` by a rule from `TooManyEntries` to `NamedTwice`.
@@ -77,12 +82,13 @@ pub fn test_nodes<K: KeyClass, P: Pages<K>>(
     ensures reads { OnlyReads P.steady P.store P.since pages.old pages.new }
     ensures why { IfErr result (IsWhy (P.why pages.old pages.new)) }
     ensures later { OnOk result (IsWhyLater P.why pages.old pages.new) }
-    ensures held { OnOk result ((p : ℕ) → Used (tree_of (P.store pages.old)) p → WasHeld P.steady P.store P.since P.held pages.old p) }
+    ensures held { OnOk result (WereHeld P.steady P.store P.since P.held pages.old) }
     ensures fits { P.steady pages.old → OnOk result ((p : ℕ) → Used (tree_of (P.store pages.old)) p
         → NodeFits (rules_of K.Key.Shape most) (tree_of (P.store pages.old)) (node_at (P.store pages.old).nodes p)) }
-    ensures parents { P.steady pages.old → OnOk result ((q : ℕ) → q < length marks.old → marked marks.new q ≡ parents (tree_of (P.store pages.old)) q) }
+    ensures parents { P.steady pages.old → OnOk result ((q : ℕ) → q < length marks.old
+        → marked marks.new q ≡ parents (tree_of (P.store pages.old)) q) }
     ensures linked { P.steady pages.old → OnOk result (AreLinks (tree_of (P.store pages.old)) links.new) }
-    ensures found { P.steady pages.old → IfErr result (IsFound (Breaks (rules_of K.Key.Shape most) (tree_of (P.store pages.old)))) }
+    ensures found { P.steady pages.old → TellsBreak (rules_of K.Key.Shape most) (tree_of (P.store pages.old)) result }
 {
     for before in 0..pages.used() {
         test_page(pages, before + 1, most, marks, links)?;

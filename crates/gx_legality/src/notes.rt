@@ -1,5 +1,6 @@
 //! Notes of pairs that are sought, and how far a pass has come with each.
-ghost use Rattle.std.specs.Prelude.{◌≡◌, ◌≢◌, ◌↔◌, ◌==◌, ℕ, ◌<◌, true, false, IsTrue, Some, length, slice_get, MatchOption, OnOk, IfOk, IfErr};
+ghost use Rattle.std.specs.Prelude.{◌≡◌, ◌≢◌, ◌↔◌, ◌==◌, ℕ, ◌<◌, true, false, IsTrue, Some};
+ghost use Rattle.std.specs.Prelude.{length, slice_get, MatchOption, OnOk, IfOk, IfErr};
 ghost use Rattle.std.specs.Ordering.{is_eq};
 ghost use Rattle.gx_legality.specs.Gathered.{Ascends};
 ghost use Rattle.gx_legality.specs.Placing.{Moves, come_to, is_noted, meets, noted, stage_at};
@@ -45,7 +46,8 @@ fn find<E: Ord + Copy>(notes: &[Note<E>], entry: &E) -> Option<usize>
     requires { Ascends E.cmp (noted notes.now) }
     ensures { MatchOption result
         ((i : ℕ) (n : Note E) → slice_get notes.now i ≡ Some n → is_noted E.cmp n entry.now ≡ false)
-        (λ at. (at < length notes.now) × ((i : ℕ) (n : Note E) → slice_get notes.now i ≡ Some n → is_noted E.cmp n entry.now ≡ (i == at))) }
+        (λ at. (at < length notes.now) × ((i : ℕ) (n : Note E) → slice_get notes.now i ≡ Some n
+        → is_noted E.cmp n entry.now ≡ (i == at))) }
 {
     let mut low = 0;
     let mut high = notes.len();
@@ -124,8 +126,10 @@ fn is_found(stage: Stage) -> bool
 /// Tests that the pass has come to each note's pair. Refused, with the leaf, where it hasn't.
 pub(crate) fn test_found<E: Copy>(notes: &[Note<E>], stages: &[Stage]) -> Result<(), u32>
     requires { length stages.now ≡ length notes.now }
-    ensures found { OnOk result ((i : ℕ) (n : Note E) → slice_get notes.now i ≡ Some n → stage_at stages.now i ≡ Found) }
-    ensures refused { IfErr result (λ leaf. (i : ℕ) × (n : Note E) × (slice_get notes.now i ≡ Some n) × (n.leaf ≡ leaf) × (stage_at stages.now i ≢ Found)) }
+    ensures found { OnOk result ((i : ℕ) (n : Note E) → slice_get notes.now i ≡ Some n
+        → stage_at stages.now i ≡ Found) }
+    ensures refused { IfErr result (λ leaf. (i : ℕ) × (n : Note E) × (slice_get notes.now i ≡ Some n) × (n.leaf ≡ leaf)
+        × (stage_at stages.now i ≢ Found)) }
 {
     for at in 0..notes.len() {
         if !is_found(stages[at]) {

@@ -6,10 +6,9 @@ ghost use Rattle.gx_tree_laws.specs.Trees.{Used, leaves, size, standing, is_entr
 ghost use Rattle.gx_node.specs.Keyed.{rules_of};
 ghost use Rattle.gx_node.specs.Owner.{IsWhyLater};
 ghost use Rattle.gx_node.specs.Store.{node_at, tree_of};
-ghost use Rattle.gx_legality.specs.Breaks.{Breaks};
 ghost use Rattle.gx_legality.specs.Entries.{entries_on};
 ghost use Rattle.gx_legality.specs.Gathered.{Ascends, Gathers, gathered_above};
-ghost use Rattle.gx_legality.specs.Owner.{OnlyReads, IsWhy, IsFound};
+ghost use Rattle.gx_legality.specs.Owner.{OnlyReads, IsWhy, TellsBreak};
 ghost use Rattle.gx_legality.specs.Placing.{Moves, is_noted, noted, passed};
 
 use crate::fault::{LegalityFault, Rule};
@@ -40,12 +39,15 @@ fn finish_passes<K: KeyClass, P: Pages<K>>(
     ensures later { OnOk result (IsWhyLater P.why pages.old pages.new) }
     ensures single { P.steady pages.old → Linked (tree_of (P.store pages.old)) 2 (leaves (tree_of (P.store pages.old)))
         → ((p : ℕ) → Used (tree_of (P.store pages.old)) p → size (node_at (P.store pages.old).nodes p) ≤ most)
-        → Gathers (entry_cmp (keys_of K.Key.Shape)) gather.old (entries_on (tree_of (P.store pages.old)) (leaves (tree_of (P.store pages.old)))) []
-        → OnOk result ((row : ℕ) (key : K.Key) → standing (is_entry (rules_of K.Key.Shape most) row key) (tree_of (P.store pages.old)) ≤ 1) }
+        → Gathers (entry_cmp (keys_of K.Key.Shape)) gather.old
+        (entries_on (tree_of (P.store pages.old)) (leaves (tree_of (P.store pages.old)))) []
+        → OnOk result ((row : ℕ) (key : K.Key)
+        → standing (is_entry (rules_of K.Key.Shape most) row key) (tree_of (P.store pages.old)) ≤ 1) }
     ensures found { P.steady pages.old → Linked (tree_of (P.store pages.old)) 2 (leaves (tree_of (P.store pages.old)))
         → ((p : ℕ) → Used (tree_of (P.store pages.old)) p → size (node_at (P.store pages.old).nodes p) ≤ most)
-        → Gathers (entry_cmp (keys_of K.Key.Shape)) gather.old (entries_on (tree_of (P.store pages.old)) (leaves (tree_of (P.store pages.old)))) []
-        → IfErr result (IsFound (Breaks (rules_of K.Key.Shape most) (tree_of (P.store pages.old)))) }
+        → Gathers (entry_cmp (keys_of K.Key.Shape)) gather.old
+        (entries_on (tree_of (P.store pages.old)) (leaves (tree_of (P.store pages.old)))) []
+        → TellsBreak (rules_of K.Key.Shape most) (tree_of (P.store pages.old)) result }
 {
     let no_notes: [Note<Entry<K::Key>>; 0] = [];
     let mut no_stages: [Stage; 0] = [];
@@ -60,9 +62,9 @@ fn finish_passes<K: KeyClass, P: Pages<K>>(
     Err(LegalityFault::Unsteady)
 }
 
-/// Tests that no pair stands twice on the chain of leaves from page 2, where a node has at most `most` entries and the chain
-/// is sound. It goes over the leaves in passes, a page at a time: each pass gathers the least pairs above those of the pass
-/// before, in a buffer which it sorts when it is full. The first comes to each leaf with the notes too.
+/// Tests that no pair stands twice on the chain of leaves from page 2, where a node has at most `most` entries and the
+/// chain is sound. It goes over the leaves in passes, a page at a time: each pass gathers the least pairs above those
+/// of the pass before, in a buffer which it sorts when it is full. The first comes to each leaf with the notes too.
 ///
 /// Refused with `Pages`, and with `Broken` by `PairTwice`, at page 2, where the chain begins.
 pub(crate) fn test_pairs<K: KeyClass, P: Pages<K>>(
@@ -80,12 +82,14 @@ pub(crate) fn test_pairs<K: KeyClass, P: Pages<K>>(
     ensures later { OnOk result (IsWhyLater P.why pages.old pages.new) }
     ensures single { P.steady pages.old → Linked (tree_of (P.store pages.old)) 2 (leaves (tree_of (P.store pages.old)))
         → ((p : ℕ) → Used (tree_of (P.store pages.old)) p → size (node_at (P.store pages.old).nodes p) ≤ most)
-        → OnOk result ((row : ℕ) (key : K.Key) → standing (is_entry (rules_of K.Key.Shape most) row key) (tree_of (P.store pages.old)) ≤ 1) }
+        → OnOk result ((row : ℕ) (key : K.Key)
+        → standing (is_entry (rules_of K.Key.Shape most) row key) (tree_of (P.store pages.old)) ≤ 1) }
     ensures found { P.steady pages.old → Linked (tree_of (P.store pages.old)) 2 (leaves (tree_of (P.store pages.old)))
         → ((p : ℕ) → Used (tree_of (P.store pages.old)) p → size (node_at (P.store pages.old).nodes p) ≤ most)
-        → IfErr result (IsFound (Breaks (rules_of K.Key.Shape most) (tree_of (P.store pages.old)))) }
+        → TellsBreak (rules_of K.Key.Shape most) (tree_of (P.store pages.old)) result }
     ensures moves { P.steady pages.old → Linked (tree_of (P.store pages.old)) 2 (leaves (tree_of (P.store pages.old)))
-        → OnOk result (Moves (λ n s. passed (tree_of (P.store pages.old)) (is_noted (entry_cmp (keys_of K.Key.Shape)) n) n.leaf
+        → OnOk result (Moves (λ n s. passed (tree_of (P.store pages.old))
+        (is_noted (entry_cmp (keys_of K.Key.Shape)) n) n.leaf
         (leaves (tree_of (P.store pages.old))) s) notes.now stages.old stages.new) }
 {
     take_leaves(pages, gather, notes, stages)?;

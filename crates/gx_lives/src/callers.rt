@@ -48,11 +48,11 @@ pub fn settlings_are_turns<D: SectorDisk, K: ReadKeys>()
 /// writer.
 pub fn scripts_are_turns<D: SectorDisk, K: ReadKeys + KeyClass<Key = Box2>>()
     ensures done { (had left held holds : Option (List ℕ)) (old new : State Rectangle D)
-        → IsDone (CallsIndex (Makes ⟦<Box2 as Shape>⟧ K.is_proper K.said K.KeyClass D.state))
-        had left held holds old new → LivesOn ⟦<Box2 as Shape>⟧ K.is_proper K.said K.KeyClass K.CLASS D.state old.engine new.engine }
+        → IsDone (CallsIndex (Makes ⟦<Box2 as Shape>⟧ K.is_proper K.said K.KeyClass D.state)) had left held holds old
+        new → LivesOn ⟦<Box2 as Shape>⟧ K.is_proper K.said K.KeyClass K.CLASS D.state old.engine new.engine }
     ensures stopped { (had left held holds : Option (List ℕ)) (old new : State Rectangle D) (fault : ScriptFault)
-        → IsStopped (CallsIndex (Makes ⟦<Box2 as Shape>⟧ K.is_proper K.said K.KeyClass D.state))
-        had left held holds old new fault → LivesOn ⟦<Box2 as Shape>⟧ K.is_proper K.said K.KeyClass K.CLASS D.state old.engine new.engine }
+        → IsStopped (CallsIndex (Makes ⟦<Box2 as Shape>⟧ K.is_proper K.said K.KeyClass D.state)) had left held holds old
+        new fault → LivesOn ⟦<Box2 as Shape>⟧ K.is_proper K.said K.KeyClass K.CLASS D.state old.engine new.engine }
 {}
 
 /// A hold of a book over an engine (`gx_shared::Book::apply_for`) is one turn of its life, or none where an ask is

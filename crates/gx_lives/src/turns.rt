@@ -1,5 +1,6 @@
 //! The calls whose contracts are the turns of a life: each is the call of its name, with what it is of a life.
 ghost use Rattle.std.specs.Prelude.{◌≡◌, ◌≤◌, ◌<◌, true, Err, OnOk, IfErr, MatchResult};
+ghost use Rattle.gx_disk.specs.declared.layout.TheConstants.{MIN_SECTORS};
 ghost use Rattle.gx_engine.specs.Made.{Makes};
 ghost use Rattle.gx_format.specs.Formatting.{Formats};
 ghost use Rattle.gx_format.specs.Fresh.{fresh_root};
@@ -7,6 +8,7 @@ ghost use Rattle.gx_glog.specs.Parameters.{Fit};
 ghost use Rattle.gx_glog.specs.declared.parameters.Parameters.{Parameters};
 ghost use Rattle.gx_machine.specs.Machine.{Machine, fresh_machine};
 ghost use Rattle.gx_node.specs.Reading.{format_of};
+ghost use Rattle.gx_pool.specs.declared.frames.TheConstants.{FRAMES};
 ghost use Rattle.gx_restart.specs.Beginning.{HasFailed};
 ghost use Rattle.gx_restart.specs.Opened.{IsRefused};
 ghost use Rattle.gx_opening.specs.Formatted.{IsAllowed};
@@ -32,22 +34,26 @@ fn fits(_pages: u32, _most: u16, _class: u16)
     ensures { Fit (record { pages = _pages; most = _most; class = _class }) }
 {}
 
-/// Formats a device (`gx_format::format`, with its refusals). On an honest one a life may begin then: whatever a crash may leave stands for the set
-/// of the machine with nothing committed, and the device is formatted for what was asked.
+/// Formats a device (`gx_format::format`, with its refusals). On an honest one a life may begin then: whatever a
+/// crash may leave stands for the set of the machine with nothing committed, and the device is formatted for what was
+/// asked.
 pub fn format<D: SectorDisk, K: ReadKeys>(
     alloc: Global,
     disk: &mut D,
     pages: u32,
     most: u16,
 ) -> Result<(), Refusal>
-    ensures formats { Formats D.state (record { pages = pages; most = most; class = K.CLASS }) (fresh_root K.spelling K.start_key) disk.old disk.new result }
+    ensures formats { Formats D.state (record { pages = pages; most = most; class = K.CLASS })
+        (fresh_root K.spelling K.start_key) disk.old disk.new result }
     ensures begins { (D.state disk.old).honest ≡ true
-        → OnOk result (Bears K.Key.Shape K.is_proper K.said K.KeyClass D.state (record { pages = pages; most = most; class = K.CLASS }) fresh_machine (Lies disk.new)) }
+        → OnOk result (Bears K.Key.Shape K.is_proper K.said K.KeyClass D.state
+        (record { pages = pages; most = most; class = K.CLASS }) fresh_machine (Lies disk.new)) }
     ensures new { (D.state disk.old).honest ≡ true
         → OnOk result (IsNew K.KeyClass K.start_key D.state
         (record { pages = pages; most = most; class = K.CLASS }) disk.new) }
     ensures formatted { (D.state disk.old).honest ≡ true
-        → OnOk result (IsFormatted K.Key.Shape K.is_proper K.said (format_of K.KeyClass) K.CLASS (D.state disk.new) (record { pages = pages; most = most; class = K.CLASS })) }
+        → OnOk result (IsFormatted K.Key.Shape K.is_proper K.said (format_of K.KeyClass) K.CLASS (D.state disk.new)
+        (record { pages = pages; most = most; class = K.CLASS })) }
 {
     a_class_is_lawful::<K>();
     leaves::<K>();
@@ -69,8 +75,9 @@ where
     engine.step(event)
 }
 
-/// Opens a device (`gx_restart::open`, with its refusals). On an honest one that is a turn of its life, an opening or one that is refused. In a life it is refused, with frames in range, only where a call of the device failed (`Device`) or memory was refused
-/// (`Memory`): never because of what a crash left.
+/// Opens a device (`gx_restart::open`, with its refusals). On an honest one that is a turn of its life, an opening or
+/// one that is refused. In a life it is refused, with frames in range, only where a call of the device failed
+/// (`Device`) or memory was refused (`Memory`): never because of what a crash left.
 pub fn open<D: SectorDisk, K: ReadKeys + Probing>(
     alloc: Global,
     disk: D,
@@ -78,14 +85,17 @@ pub fn open<D: SectorDisk, K: ReadKeys + Probing>(
 ) -> Result<Engine<D, K>, NotOpened<D>>
 where
     K::Probe: Drop,
-    ensures frames { ((16 ≤ frames) × (frames ≤ 4096) → ⊥) → result ≡ Err (record { why = Refusal.BadParameter; disk = disk }) }
-    ensures small { 16 ≤ frames → frames ≤ 4096 → (D.state disk).sectors < 4232 → result ≡ Err (record { why = Refusal.TooSmall; disk = disk }) }
+    ensures frames { ((16 ≤ frames) × (frames ≤ FRAMES) → ⊥)
+        → result ≡ Err (record { why = Refusal.BadParameter; disk = disk }) }
+    ensures small { 16 ≤ frames → frames ≤ FRAMES → (D.state disk).sectors < MIN_SECTORS
+        → result ≡ Err (record { why = Refusal.TooSmall; disk = disk }) }
     ensures faults { IfErr result (λ n. n.why ≡ Refusal.Device → (D.state disk).faults < (D.state n.disk).faults) }
-    ensures refused { (D.state disk).honest ≡ true → 16 ≤ frames → frames ≤ 4096 → 4232 ≤ (D.state disk).sectors
+    ensures refused { (D.state disk).honest ≡ true → 16 ≤ frames → frames ≤ FRAMES
+        → MIN_SECTORS ≤ (D.state disk).sectors
         → IfErr result (λ n. IsRefused K.Key.Shape K.is_proper K.said (format_of K.KeyClass) D.state K.CLASS
         (D.state disk) (D.state n.disk) n.why) }
     ensures undamaged { (p : Parameters) → IsAllowed K.CLASS p → (m : Machine K.Key)
-        → Bears K.Key.Shape K.is_proper K.said K.KeyClass D.state p m (Lies disk) → 16 ≤ frames → frames ≤ 4096
+        → Bears K.Key.Shape K.is_proper K.said K.KeyClass D.state p m (Lies disk) → 16 ≤ frames → frames ≤ FRAMES
         → IfErr result (λ n. HasFailed n.why) }
     ensures turn { (D.state disk).honest ≡ true → MatchResult result
         (λ engine. GoesOn K.Key.Shape K.is_proper K.said K.KeyClass K.CLASS D.state

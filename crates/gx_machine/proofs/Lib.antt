@@ -13,3 +13,6 @@ pub mod Survival
 pub mod Transactions
 pub mod SetsByTests
 pub mod WorkedRun
+pub mod Searched
+pub mod SetLemmas
+pub mod Sorting

@@ -5,6 +5,7 @@ use Rattle.std.specs.List.{slice_index_or}
 use Rattle.std.proofs.lemmas.Bool.{ltb-true, leb-true, ne_eqb}
 use Rattle.std.proofs.lemmas.List.{get_or-replicate}
 use Rattle.std.proofs.Math.Decide.{ℕ_discrete}
+use Rattle.gx_machine.specs.declared.limits.TheConstants.{SESSIONS}
 use Rattle.gx_machine.specs.declared.call.Call.{Call}
 use Rattle.gx_machine.specs.declared.call.Call.TheVariants.{Begin, Insert, Delete, Search, Commit, Abort}
 use Rattle.gx_machine.specs.Keys.{Keys}
@@ -81,12 +82,12 @@ module _ {B : Type 0} where
         | no ne ↦ inr (ne, at_other a s sessions x is ne)
       ]
 
-  idle_place : (a : ℕ) (there : Bool) → is_session a ≡ there → place there a (replicate 8 Idle) ≡ Idle
-  idle_place a true is = let bounds : (0 < a) × (a < 9) = session_bounds a is in get_or-replicate 8 (a - 1) Idle Idle (omega arith)
+  idle_place : (a : ℕ) (there : Bool) → is_session a ≡ there → place there a (replicate SESSIONS Idle) ≡ Idle
+  idle_place a true is = let bounds : (0 < a) × (a < 9) = session_bounds a is in get_or-replicate SESSIONS (a - 1) Idle Idle (omega arith)
   idle_place a false is = refl
 
   -- where all are idle, each is
-  pub at_idle : (a : ℕ) → ◌≡◌ {A = Session B} (session_at a (replicate 8 Idle)) Idle
+  pub at_idle : (a : ℕ) → ◌≡◌ {A = Session B} (session_at a (replicate SESSIONS Idle)) Idle
   at_idle a = idle_place a (is_session a) refl
 
   module _ (k : Keys B) (call : Call B) (s : ℕ) where

@@ -4,6 +4,7 @@ use Rattle.std.specs.Prelude.{slice_set, All}
 use Rattle.std.specs.List.{slice_index_or}
 use Rattle.std.proofs.lemmas.List.{length-set}
 use Rattle.std.proofs.lemmas.List.Elements.{All-drop, All-nil, All-head, All-tail, All-push}
+use Rattle.gx_machine.specs.declared.limits.TheConstants.{SESSIONS}
 use Rattle.gx_machine.specs.declared.entry.Entry.{Entry}
 use Rattle.gx_machine.specs.Keys.{Keys, IsLawful}
 use Rattle.gx_machine.specs.Sets.{has, excluding_all, InOrder}
@@ -27,10 +28,10 @@ module _ {B : Type 0} (k : Keys B) (l : IsLawful k) where
   carry {x} {y} {z} {w} p q a =
       subst (λ (v : Session B). Apart k (locks_of x) (locks_of v)) (sym q) (subst (λ (u : Session B). Apart k (locks_of u) (locks_of w)) (sym p) a)
 
-  pub idle_apart : LocksApart k (replicate 8 Idle)
+  pub idle_apart : LocksApart k (replicate SESSIONS Idle)
   idle_apart = record { eight = refl; apart = λ a b ne. carry {z = Idle} {w = Idle} (at_idle a) (at_idle b) (λ e h. refl) }
 
-  pub idle_hold : SessionsHold k (replicate 8 Idle)
+  pub idle_hold : SessionsHold k (replicate SESSIONS Idle)
   idle_hold = record { locks = idle_apart; sound = λ a. subst (IsSound k) (sym (at_idle a)) tt }
 
   -- the locks once one session is changed

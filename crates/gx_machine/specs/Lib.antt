@@ -9,3 +9,5 @@ pub mod Serial
 pub mod Alone
 pub mod Outcomes
 pub mod Worked
+pub mod Least
+pub mod Orders

@@ -12,7 +12,8 @@ ghost use Rattle.gx_machine.specs.Keys.{Keys, IsLawful, keys_of};
 ghost use Rattle.gx_machine.specs.Sets.{has, InOrder};
 ghost use Rattle.gx_machine.specs.Sessions.{Changes, no_changes, view};
 ghost use Rattle.gx_machine.specs.Machine.{Machine, ask, fresh_machine, newest, session_at, set_of};
-ghost use Rattle.gx_machine.specs.Runs.{Step, Answers, Closes, Seals, RefusesAsk, RefusesCall, Fails, Durable, Crashes, IsStep, IsRun};
+ghost use Rattle.gx_machine.specs.Runs.{Step, Answers, Closes, Seals, RefusesAsk};
+ghost use Rattle.gx_machine.specs.Runs.{RefusesCall, Fails, Durable, Crashes, IsStep, IsRun};
 ghost use Rattle.gx_machine.specs.Records.{RunsUnseen};
 ghost use Rattle.gx_machine.specs.Invariants.{KeptInOrder, AllIdle, LocksApart, SessionsHold, changes_sets, SameSets};
 ghost use Rattle.gx_machine.specs.Outcomes.{IsLeastConflict, NoneConflicts, IsAnswered, KeepsTransaction, IsSealed};
@@ -53,8 +54,8 @@ pub fn refusals_keep_transactions<B>()
         → (a : ℕ) → KeepsTransaction (session_at a old.sessions) (session_at a new.sessions) }
 {}
 
-/// A fault changes no session, and no refusal that comes from outside of the machine does: what was open stays open, with
-/// its locks and changes, until a crash.
+/// A fault changes no session, and no refusal that comes from outside of the machine does: what was open stays open,
+/// with its locks and changes, until a crash.
 pub fn faults_change_no_session<B>()
     ensures asked { (k : Keys B) (old new : Machine B) (s : ℕ) (call : Call B) (why : Refusal)
         → IsStep k old (RefusesAsk s call why) new → new.sessions ≡ old.sessions }
@@ -63,8 +64,8 @@ pub fn faults_change_no_session<B>()
     ensures unseen { (k : Keys B) (old new : Machine B) → IsStep k old Fails new → new.sessions ≡ old.sessions }
 {}
 
-/// Only a session whose commit is open is sealed: its view becomes the last committed set, under the next number, and no
-/// other session changes.
+/// Only a session whose commit is open is sealed: its view becomes the last committed set, under the next number,
+/// and no other session changes.
 pub fn only_open_commits_are_sealed<B>()
     ensures { (k : Keys B) (old new : Machine B) (s number : ℕ) → length old.sessions ≡ SESSIONS
         → IsStep k old (Seals s number) new → IsSealed k s number old new }
@@ -159,7 +160,8 @@ pub fn acknowledged_commits_survive<B>()
 /// Faults that no session sees permit no calls and replies that there weren't before: each run without them is a run,
 /// with the same record.
 pub fn unseen_faults_permit_nothing_new<B>()
-    ensures { (k : Keys B) (old new : Machine B) (steps : List (Step B)) → IsRun k old steps new → RunsUnseen k old steps new }
+    ensures { (k : Keys B) (old new : Machine B) (steps : List (Step B)) → IsRun k old steps new
+        → RunsUnseen k old steps new }
 {}
 
 /// Two runs, of which the second begins where the first ends, are one run.
@@ -182,5 +184,7 @@ pub fn a_run_worked_out()
     ensures lawful { IsLawful number_keys }
     ensures idle { AllIdle {B = ℕ} fresh_machine }
     ensures in_order { KeptInOrder number_keys fresh_machine }
-    ensures answered_then_sealed { (sealing : Machine ℕ) × AnsweredThenSealed number_keys fresh_machine 1 (Insert first_entry) no_changes Inserted first_added sealing }
+    ensures answered_then_sealed { (sealing : Machine ℕ)
+        × AnsweredThenSealed number_keys fresh_machine 1 (Insert first_entry)
+        no_changes Inserted first_added sealing }
 {}

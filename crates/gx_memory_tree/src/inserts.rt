@@ -1,10 +1,12 @@
 //! A whole insert by the steps of a descent.
-ghost use Rattle.std.specs.Prelude.{◌≡◌, ◌≢◌, ◌<◌, ◌≤◌, ◌+◌, ◌^◌, Bool, length, Err, IfOk, IfErr, IfSome, IfNone, OnOk, OnErr};
+ghost use Rattle.std.specs.Prelude.{◌≡◌, ◌≢◌, ◌<◌, ◌≤◌, ◌+◌, ◌^◌, Bool, length, Err, IfOk, IfErr, IfSome, IfNone, OnOk};
+ghost use Rattle.std.specs.Prelude.{OnErr};
 ghost use Rattle.gx_node.specs.declared.items.TheConstants.{MAX_ENTRIES};
 ghost use Rattle.gx_tree_laws.specs.Legal.{Legal};
 ghost use Rattle.gx_tree_laws.specs.Lists.{one_if};
 ghost use Rattle.gx_tree_laws.specs.Trees.{Pair, standing, is_entry};
-ghost use Rattle.gx_memory_tree.specs.Inserting.{GoesOn, HasAdded, IsFullAt, IsInsert, MakesRoom, MakesWay, SplitsOrNot, from_top, live_and};
+ghost use Rattle.gx_memory_tree.specs.Inserting.{GoesOn, HasAdded, IsFullAt, IsInsert, MakesRoom, MakesWay};
+ghost use Rattle.gx_memory_tree.specs.Inserting.{SplitsOrNot, from_top, live_and};
 ghost use Rattle.gx_node.specs.Keyed.{rules_of, AreKeys};
 ghost use Rattle.gx_node.specs.Owner.{IsWhy};
 ghost use Rattle.gx_node.specs.Store.{node_at, tree_of};
@@ -55,9 +57,11 @@ fn split_place<K: KeyClass, P: PagesMut<K>>(
     requires space { MAX_ENTRIES ≤ length keys.old }
     ensures steady { P.steady pages.old → P.steady pages.new }
     ensures split { P.steady pages.old → IsFullAt (rules_of K.Key.Shape most) (tree_of (P.store pages.old)) place
-        → OnOk result (SplitsOrNot (rules_of K.Key.Shape most) K.is_key (tree_of (P.store pages.old)) (tree_of (P.store pages.new)) place) }
+        → OnOk result (SplitsOrNot (rules_of K.Key.Shape most) K.is_key (tree_of (P.store pages.old))
+        (tree_of (P.store pages.new)) place) }
     ensures refused { P.steady pages.old → OnErr result (P.store pages.new ≡ P.store pages.old) }
-    ensures full { P.steady pages.old → result ≡ Err StepFault.PagesFull → (P.store pages.new).room < length (P.store pages.new).nodes + 2 }
+    ensures full { P.steady pages.old → result ≡ Err StepFault.PagesFull
+        → (P.store pages.new).room < length (P.store pages.new).nodes + 2 }
     ensures damaged { P.steady pages.old → IsFullAt (rules_of K.Key.Shape most) (tree_of (P.store pages.old)) place
         → result ≡ Err StepFault.Damaged → 2 ^ 16 ≤ (node_at (P.store pages.new).nodes 1).level + 1 }
     ensures memory { result ≢ Err StepFault.Memory }
@@ -74,7 +78,8 @@ fn split_place<K: KeyClass, P: PagesMut<K>>(
     Ok(())
 }
 
-/// Makes room at a full leaf: takes its marked pairs out, where it has some, or else splits it. Where the insert goes on.
+/// Makes room at a full leaf: takes its marked pairs out, where it has some, or else splits it. Where the insert goes
+/// on.
 ///
 /// Refused as the splits are; nothing has changed then.
 fn make_room<K: KeyClass, P: PagesMut<K>>(
@@ -88,9 +93,11 @@ fn make_room<K: KeyClass, P: PagesMut<K>>(
     ensures steady { P.steady pages.old → P.steady pages.new }
     ensures room { P.steady pages.old → IsFullAt (rules_of K.Key.Shape most) (tree_of (P.store pages.old)) place
         → ((tree_of (P.store pages.old)).node place.item.page).level ≡ 0
-        → IfOk result (MakesRoom (rules_of K.Key.Shape most) K.is_key (tree_of (P.store pages.old)) (tree_of (P.store pages.new)) place) }
+        → IfOk result (MakesRoom (rules_of K.Key.Shape most) K.is_key (tree_of (P.store pages.old))
+        (tree_of (P.store pages.new)) place) }
     ensures refused { P.steady pages.old → OnErr result (P.store pages.new ≡ P.store pages.old) }
-    ensures full { P.steady pages.old → result ≡ Err StepFault.PagesFull → (P.store pages.new).room < length (P.store pages.new).nodes + 2 }
+    ensures full { P.steady pages.old → result ≡ Err StepFault.PagesFull
+        → (P.store pages.new).room < length (P.store pages.new).nodes + 2 }
     ensures damaged { P.steady pages.old → IsFullAt (rules_of K.Key.Shape most) (tree_of (P.store pages.old)) place
         → ((tree_of (P.store pages.old)).node place.item.page).level ≡ 0
         → result ≡ Err StepFault.Damaged → 2 ^ 16 ≤ (node_at (P.store pages.new).nodes 1).level + 1 }
@@ -104,13 +111,13 @@ fn make_room<K: KeyClass, P: PagesMut<K>>(
     Ok(Place::top(pages))
 }
 
-/// Makes a step of an insert of a live pair that stands nowhere: goes down by the child of least penalty, whose bound it
-/// widens first where that is needed; makes room where a node is full; adds the pair at a leaf that has room. The place
-/// where the insert goes on, or `None` once the pair was added.
+/// Makes a step of an insert of a live pair that stands nowhere: goes down by the child of least penalty, whose bound
+/// it widens first where that is needed; makes room where a node is full; adds the pair at a leaf that has room. The
+/// place where the insert goes on, or `None` once the pair was added.
 ///
-/// Refused with `Pages` where a page could not be brought or made ready, with `PagesFull` only where fewer than two pages
-/// are left, and with `Damaged` only where the root has the level 65535. Nothing has changed then. Keys of a node that is
-/// split are written over the first of `keys`.
+/// Refused with `Pages` where a page could not be brought or made ready, with `PagesFull` only where fewer than two
+/// pages are left, and with `Damaged` only where the root has the level 65535. Nothing has changed then. Keys of a
+/// node that is split are written over the first of `keys`.
 pub fn insert_step<K: KeyClass, P: PagesMut<K>>(
     pages: &mut P,
     place: Place,
@@ -121,13 +128,19 @@ pub fn insert_step<K: KeyClass, P: PagesMut<K>>(
     requires most { (4 ≤ most) × (most ≤ MAX_ENTRIES) }
     requires space { MAX_ENTRIES ≤ length keys.old }
     ensures steady { P.steady pages.old → P.steady pages.new }
-    ensures goes_on { P.steady pages.old → IsInsert (rules_of K.Key.Shape most) K.is_key (tree_of (P.store pages.old)) entry.now place
-        → IfOk result (λ next. IfSome next (GoesOn (rules_of K.Key.Shape most) K.is_key (tree_of (P.store pages.old)) (tree_of (P.store pages.new)) entry.now place)) }
-    ensures added { P.steady pages.old → IsInsert (rules_of K.Key.Shape most) K.is_key (tree_of (P.store pages.old)) entry.now place
-        → IfOk result (λ next. IfNone next (HasAdded (rules_of K.Key.Shape most) K.is_key (tree_of (P.store pages.old)) (tree_of (P.store pages.new)) entry.now)) }
+    ensures goes_on { P.steady pages.old
+        → IsInsert (rules_of K.Key.Shape most) K.is_key (tree_of (P.store pages.old)) entry.now place
+        → IfOk result (λ next. IfSome next (GoesOn (rules_of K.Key.Shape most) K.is_key (tree_of (P.store pages.old))
+        (tree_of (P.store pages.new)) entry.now place)) }
+    ensures added { P.steady pages.old
+        → IsInsert (rules_of K.Key.Shape most) K.is_key (tree_of (P.store pages.old)) entry.now place
+        → IfOk result (λ next. IfNone next (HasAdded (rules_of K.Key.Shape most) K.is_key (tree_of (P.store pages.old))
+        (tree_of (P.store pages.new)) entry.now)) }
     ensures refused { P.steady pages.old → OnErr result (P.store pages.new ≡ P.store pages.old) }
-    ensures full { P.steady pages.old → result ≡ Err StepFault.PagesFull → (P.store pages.new).room < length (P.store pages.new).nodes + 2 }
-    ensures damaged { P.steady pages.old → IsInsert (rules_of K.Key.Shape most) K.is_key (tree_of (P.store pages.old)) entry.now place
+    ensures full { P.steady pages.old → result ≡ Err StepFault.PagesFull
+        → (P.store pages.new).room < length (P.store pages.new).nodes + 2 }
+    ensures damaged { P.steady pages.old
+        → IsInsert (rules_of K.Key.Shape most) K.is_key (tree_of (P.store pages.old)) entry.now place
         → result ≡ Err StepFault.Damaged → 2 ^ 16 ≤ (node_at (P.store pages.new).nodes 1).level + 1 }
     ensures memory { result ≢ Err StepFault.Memory }
     ensures why { IfErr result (IsWhy (λ fault. (was : P) × P.why was pages.new fault)) }
@@ -151,14 +164,14 @@ pub fn insert_step<K: KeyClass, P: PagesMut<K>>(
     }
 }
 
-/// Inserts a live pair that stands nowhere in the tree, marked or not, with no steps of others in between, where a node has
-/// at most `most` entries: goes down to a leaf (Guttman 1984), and splits full nodes on the way (Kornacker, Mohan,
-/// Hellerstein 1997). Where a leaf is full its marked pairs go first, since nobody claims them.
+/// Inserts a live pair that stands nowhere in the tree, marked or not, with no steps of others in between, where a
+/// node has at most `most` entries: goes down to a leaf (Guttman 1984), and splits full nodes on the way (Kornacker,
+/// Mohan, Hellerstein 1997). Where a leaf is full its marked pairs go first, since nobody claims them.
 ///
-/// Refused with `Pages` where a page could not be brought or made ready, with `PagesFull` only where fewer than two pages
-/// are left, and with `Damaged` only where the root has the level 65535. The pair isn't there then, and the tree is as the
-/// steps so far have left it: legal, with the live pairs that it had. Keys of nodes that are split are written over the
-/// first of `keys`.
+/// Refused with `Pages` where a page could not be brought or made ready, with `PagesFull` only where fewer than two
+/// pages are left, and with `Damaged` only where the root has the level 65535. The pair isn't there then, and the
+/// tree is as the steps so far have left it: legal, with the live pairs that it had. Keys of nodes that are split are
+/// written over the first of `keys`.
 pub fn insert<K: KeyClass, P: PagesMut<K>>(
     pages: &mut P,
     entry: &Entry<K::Key>,
@@ -170,15 +183,22 @@ pub fn insert<K: KeyClass, P: PagesMut<K>>(
     requires space { MAX_ENTRIES ≤ length keys.old }
     requires legal { Legal (rules_of K.Key.Shape most) (tree_of (P.store pages.old)) }
     requires keys { AreKeys K.is_key (tree_of (P.store pages.old)) }
-    requires absent { standing (is_entry (rules_of K.Key.Shape most) entry.now.row entry.now.key) (tree_of (P.store pages.old)) ≡ 0 }
+    requires absent { standing (is_entry (rules_of K.Key.Shape most) entry.now.row entry.now.key)
+        (tree_of (P.store pages.old)) ≡ 0 }
     ensures steady { P.steady pages.new }
     ensures legal { Legal (rules_of K.Key.Shape most) (tree_of (P.store pages.new)) }
     ensures keys { AreKeys K.is_key (tree_of (P.store pages.new)) }
-    ensures added { OnOk result (HasAdded (rules_of K.Key.Shape most) K.is_key (tree_of (P.store pages.old)) (tree_of (P.store pages.new)) entry.now) }
-    ensures live { OnOk result ((test : Pair K.Key → Bool) → standing (live_and test) (tree_of (P.store pages.new)) ≡ standing (live_and test) (tree_of (P.store pages.old)) + one_if (test (live entry.now))) }
-    ensures once { OnOk result (standing (is_entry (rules_of K.Key.Shape most) entry.now.row entry.now.key) (tree_of (P.store pages.new)) ≡ 1) }
-    ensures refused { OnErr result (MakesWay (rules_of K.Key.Shape most) (tree_of (P.store pages.old)) (tree_of (P.store pages.new))) }
-    ensures absent { OnErr result (standing (is_entry (rules_of K.Key.Shape most) entry.now.row entry.now.key) (tree_of (P.store pages.new)) ≡ 0) }
+    ensures added { OnOk result (HasAdded (rules_of K.Key.Shape most) K.is_key (tree_of (P.store pages.old))
+        (tree_of (P.store pages.new)) entry.now) }
+    ensures live { OnOk result ((test : Pair K.Key → Bool)
+        → standing (live_and test) (tree_of (P.store pages.new))
+        ≡ standing (live_and test) (tree_of (P.store pages.old)) + one_if (test (live entry.now))) }
+    ensures once { OnOk result (standing (is_entry (rules_of K.Key.Shape most) entry.now.row entry.now.key)
+        (tree_of (P.store pages.new)) ≡ 1) }
+    ensures refused { OnErr result (MakesWay (rules_of K.Key.Shape most) (tree_of (P.store pages.old))
+        (tree_of (P.store pages.new))) }
+    ensures absent { OnErr result (standing (is_entry (rules_of K.Key.Shape most) entry.now.row entry.now.key)
+        (tree_of (P.store pages.new)) ≡ 0) }
     ensures full { result ≡ Err StepFault.PagesFull → (P.store pages.new).room < length (P.store pages.new).nodes + 2 }
     ensures damaged { result ≡ Err StepFault.Damaged → 2 ^ 16 ≤ (node_at (P.store pages.new).nodes 1).level + 1 }
     ensures memory { result ≢ Err StepFault.Memory }

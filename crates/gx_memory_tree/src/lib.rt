@@ -1,4 +1,5 @@
-//! A tree in memory, for one session: whole inserts and searches by the steps of the tree, and pages that lie in memory.
+//! A tree in memory, for one session: whole inserts and searches by the steps of the tree, and pages that lie in
+//! memory.
 #![tactic(auto)]
 
 mod inserts;

@@ -1,5 +1,6 @@
 //! Pages in memory alone.
-ghost use Rattle.std.specs.Prelude.{◌≡◌, ◌<◌, ◌+◌, ◌-◌, ◌^◌, ◌⊎◌, ◌&&◌, true, false, map, length, ◌≤◌, ◌++◌, ◌∷◌, [], vec_len, vec_capacity, Err, IfOk, IfErr};
+ghost use Rattle.std.specs.Prelude.{◌≡◌, ◌<◌, ◌+◌, ◌-◌, ◌^◌, ◌⊎◌, ◌&&◌, true, false, map, length, ◌≤◌, ◌++◌, ◌∷◌, []};
+ghost use Rattle.std.specs.Prelude.{vec_len, vec_capacity, Err, IfOk, IfErr};
 ghost use Rattle.std.specs.List.{list_all};
 ghost use Rattle.gx_node.specs.Reading.{format_of, is_node};
 ghost use Rattle.gx_tree_laws.specs.Trees.{Used};
@@ -13,8 +14,8 @@ use gx_tree::{Edit, Pages, PagesMut};
 use std::convert::Infallible;
 use std::marker::{Model, PhantomData};
 
-/// The pages of a tree in memory, page 1 first, and the pages that aren't taken yet. Bringing a page can't fail, and a page is
-/// taken without memory.
+/// The pages of a tree in memory, page 1 first, and the pages that aren't taken yet. Bringing a page can't fail, and
+/// a page is taken without memory.
 #[derive(Drop)]
 pub struct MemoryPages<K: KeyClass> {
     pages: Vec<Page>,
@@ -32,9 +33,14 @@ impl<K: KeyClass> Model for MemoryPages<K> {
 
     ghost Value = { Store K.Key };
 
-    ghost view = { λ m. record { nodes = map (node_of (format_of K.KeyClass)) m.pages.items; counter = m.counter; room = m.room } };
+    ghost view = { λ m. record {
+      nodes = map (node_of (format_of K.KeyClass)) m.pages.items;
+      counter = m.counter;
+      room = m.room;
+    } };
 
-    ghost invariant = { λ m. (length m.pages.items + length m.spare.items ≡ m.room) × (m.room < 2 ^ 32) × (m.room ≤ vec_capacity m.pages)
+    ghost invariant = { λ m. (length m.pages.items + length m.spare.items ≡ m.room) × (m.room < 2 ^ 32)
+        × (m.room ≤ vec_capacity m.pages)
         × (list_all (λ page. is_node (format_of K.KeyClass) m.room page) m.pages.items ≡ true)
         × (numbered 1 m.pages.items ≡ true) };
 }
@@ -77,8 +83,8 @@ fn append(pages: &mut Vec<Page>, page: Page)
 impl<K: KeyClass> MemoryPages<K> {
     /// These pages, page 1 first, with so many splits made, and others that can be taken, whatever they hold.
     ///
-    /// Refused with `Damaged` where one of the first isn't a node of the class or has another number than its own, or there
-    /// are more than 2^32 - 1 in all, and with `Memory`.
+    /// Refused with `Damaged` where one of the first isn't a node of the class or has another number than its own, or
+    /// there are more than 2^32 - 1 in all, and with `Memory`.
     pub fn new(mut pages: Vec<Page>, spare: Vec<Page>, counter: u64) -> Result<Self, Refusal>
         ensures pages { IfOk result (λ memory. memory ≡ record {
           nodes = map (node_of (format_of K.KeyClass)) pages.items;
@@ -87,7 +93,8 @@ impl<K: KeyClass> MemoryPages<K> {
         }) }
         ensures refused { IfErr result (λ why. (why ≡ Refusal.Memory) ⊎ (why ≡ Refusal.Damaged)) }
         ensures damaged { result ≡ Err Refusal.Damaged → length pages.items + length spare.items < 2 ^ 32
-            → (list_all (λ page. is_node (format_of K.KeyClass) (length pages.items + length spare.items) page) pages.items && numbered 1 pages.items) ≡ false }
+            → (list_all (λ page. is_node (format_of K.KeyClass) (length pages.items + length spare.items) page)
+            pages.items && numbered 1 pages.items) ≡ false }
     {
         let Ok(room) = u32::try_from(pages.len() + spare.len()) else {
             return Err(Refusal::Damaged);

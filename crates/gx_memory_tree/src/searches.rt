@@ -28,8 +28,10 @@ where
     requires steady { P.steady pages.old }
     requires most { (most : ℕ) × (2 ≤ most) × Legal (rules_of K.Key.Shape most) (tree_of (P.store pages.old)) }
     requires keys { AreKeys K.is_key (tree_of (P.store pages.old)) }
-    ensures all { IfOk result (λ found. (test : Pair K.Key → Bool) → how_many test (pairs_found found.items)
-        ≡ standing (λ x. (not x.marked && key_matches (keys_of K.Key.Shape) query.now x.key) && test x) (tree_of (P.store pages.old))) }
+    ensures all { IfOk result (λ found. (test : Pair K.Key → Bool)
+        → how_many test (pairs_found found.items)
+        ≡ standing (λ x. (not x.marked && key_matches (keys_of K.Key.Shape) query.now x.key) && test x)
+        (tree_of (P.store pages.old))) }
     ensures same { P.store pages.new ≡ P.store pages.old }
     ensures steady { P.steady pages.new }
     ensures since { KeepsSince P.since pages.old pages.new }

@@ -5,6 +5,7 @@ use Rattle.std.specs.List.{All, filter_map, cons_option}
 use Rattle.std.proofs.lemmas.Bool.{cases_lt}
 use Rattle.std.proofs.lemmas.List.{take_all, take_more}
 use Rattle.std.proofs.lemmas.List.Elements.{filter_map-append}
+use Rattle.gx_node.specs.declared.passing.TheConstants.{BLOCK}
 use Rattle.gx_node.specs.Hits.{hits_among, passing_of}
 use Rattle.gx_node.proofs.Gathering.{block_gathers, hits_within}
 
@@ -12,9 +13,9 @@ use Rattle.gx_node.proofs.Gathering.{block_gathers, hits_within}
 
 -- each slot of a block's hits is one of the list's
 pub block_within : {X : Type 0} (p : X → Bool) (xs : List X) (from : ℕ) (slots : List ℕ) (k : ℕ) → from ≤ length xs
-    → slots ≡ hits_among (map p xs) from (min 64 (length xs - from)) → k < length slots → get_or slots k 0 < length xs
+    → slots ≡ hits_among (map p xs) from (min BLOCK (length xs - from)) → k < length slots → get_or slots k 0 < length xs
 block_within p xs from slots k h is inside =
-    let all = subst (All (λ s. s < from + min 64 (length xs - from))) (sym is) (hits_within (map p xs) from (min 64 (length xs - from))) k 0 inside in
+    let all = subst (All (λ s. s < from + min BLOCK (length xs - from))) (sym is) (hits_within (map p xs) from (min BLOCK (length xs - from))) k 0 inside in
     omega arith
 
 -- a slot more of a block's hits
@@ -27,14 +28,14 @@ slot_more xs slots k slot x inside is at =
 -- ---- blocks
 
 -- what passes up to behind a block
-pub block_more : {X : Type 0} (p : X → Bool) (xs : List X) (from : ℕ) → from ≤ length xs → filter p (take (from + 64) xs) ≡ filter p (take from xs) ++ passing_of p xs from
+pub block_more : {X : Type 0} (p : X → Bool) (xs : List X) (from : ℕ) → from ≤ length xs → filter p (take (from + BLOCK) xs) ≡ filter p (take from xs) ++ passing_of p xs from
 block_more p xs from h =
-    let n = min 64 (length xs - from) in
+    let n = min BLOCK (length xs - from) in
     let gathered = block_gathers p xs from n (omega arith) in
-    let same : take (from + 64) xs ≡ take (from + n) xs =
-    elim (cases_lt (from + 64) (length xs)) [
-      | inl more ↦ let whole : from + 64 ≡ from + n = omega arith in ap (λ k. take k xs) whole
-      | inr last ↦ take_all (from + 64) xs last ∙ sym (take_all (from + n) xs (omega arith))
+    let same : take (from + BLOCK) xs ≡ take (from + n) xs =
+    elim (cases_lt (from + BLOCK) (length xs)) [
+      | inl more ↦ let whole : from + BLOCK ≡ from + n = omega arith in ap (λ k. take k xs) whole
+      | inr last ↦ take_all (from + BLOCK) xs last ∙ sym (take_all (from + n) xs (omega arith))
     ]
     in
     ap (filter p) same ∙ gathered

@@ -22,6 +22,24 @@ one_fails test [] k h e = absurd (omega arith)
 one_fails test (item ∷ items) zero h e = and_left (test item) (list_all test items) e
 one_fails test (item ∷ items) (suc k) h e = and_right (test item) (list_all test items) (one_fails test items k (omega arith) e)
 
+pub all_are_pairs : {B : Type 0} (f : Format B) (items : List (List ℕ)) → ((k : ℕ) → k < length items → is_pair f (get_or items k []) ≡ true) → are_pairs f items ≡ true
+unfolding are_pairs
+all_are_pairs f items each = all_pass (is_pair f) items each
+
+pub one_is_no_pair : {B : Type 0} (f : Format B) (items : List (List ℕ)) (k : ℕ) → k < length items → is_pair f (get_or items k []) ≡ false → are_pairs f items ≡ false
+unfolding are_pairs
+one_is_no_pair f items k h e = one_fails (is_pair f) items k h e
+
+pub all_are_children : {B : Type 0} (f : Format B) (used : ℕ) (items : List (List ℕ)) → ((k : ℕ) → k < length items → is_child f used (get_or items k []) ≡ true)
+    → are_children f used items ≡ true
+unfolding are_children
+all_are_children f used items each = all_pass (is_child f used) items each
+
+pub one_is_no_child : {B : Type 0} (f : Format B) (used : ℕ) (items : List (List ℕ)) (k : ℕ) → k < length items → is_child f used (get_or items k []) ≡ false
+    → are_children f used items ≡ false
+unfolding are_children
+one_is_no_child f used items k h e = one_fails (is_child f used) items k h e
+
 -- ---- what passed is keyed
 
 keyed : {B : Type 0} (f : Format B) (size : ℕ) (test : List ℕ → Bool) → ((item : List ℕ) → test item ≡ true → IsKeyed f size item)

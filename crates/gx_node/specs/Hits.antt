@@ -1,6 +1,7 @@
 -- Which slots a scan finds.
 use Rattle.std.specs.Prelude.{◌≡◌, ℕ, zero, suc, if◌then◌else◌, ◌<◌, ◌≤◌, Bool, true, false, ◌==◌, ◌&&◌, ◌||◌, nat_lt, List, [], ◌∷◌, ◌++◌, ◌+◌, ◌-◌, length, map, min, take, filter, slice_get, slice_index_or, Option, Some, None}
 use Rattle.std.specs.List.{filter_map}
+use Rattle.gx_node.specs.declared.passing.TheConstants.{BLOCK}
 
 -- the first slot from a slot on that is a hit
 abbrev pub IsNextHit : List Bool → ℕ → Option ℕ → Type 0
@@ -15,12 +16,12 @@ hits_among hits from (suc n) =
 
 -- of a block's elements, the 64 from one on or as many as there are, those that pass a test
 abbrev pub passing_of : {X : Type 0} → (X → Bool) → List X → ℕ → List X
-passing_of test xs from = filter_map (slice_get xs) (hits_among (map test xs) from (min 64 (length xs - from)))
+passing_of test xs from = filter_map (slice_get xs) (hits_among (map test xs) from (min BLOCK (length xs - from)))
 
 -- block by block, what is found is what passes the test, in order
 abbrev pub BlocksAreAFilter : Type 0 → Type 0
 BlocksAreAFilter X = (test : X → Bool) (xs : List X) (from : ℕ) → from ≤ length xs
-    → filter test (take (from + 64) xs) ≡ filter test (take from xs) ++ passing_of test xs from
+    → filter test (take (from + BLOCK) xs) ≡ filter test (take from xs) ++ passing_of test xs from
 
 -- the first penalty is less: it grows less, or as much from a smaller bound
 abbrev pub costs_less : ℕ × ℕ → ℕ × ℕ → Bool

@@ -24,7 +24,8 @@ pub trait Edit<K: KeyClass> {
         requires fits { fits self _room (node_of (format_of K.KeyClass) page.old) }
         ensures node { is_node (format_of K.KeyClass) _room page.new ≡ true }
         ensures number { page.new.number ≡ page.old.number }
-        ensures edits { edits self (node_of (format_of K.KeyClass) page.old) (node_of (format_of K.KeyClass) page.new) };
+        ensures edits { edits self (node_of (format_of K.KeyClass) page.old)
+            (node_of (format_of K.KeyClass) page.new) };
 }
 
 /// Pages that can be changed. A step first makes ready for all its changes, which may fail; from then on none fails.
@@ -35,9 +36,9 @@ pub trait PagesMut<K: KeyClass>: Pages<K> {
     /// Whether a page may be changed: a step has made ready for it.
     ghost changing: { Self → ℕ → Type 0 };
 
-    /// Makes ready to change these pages, which are held, and to take so many: whatever that needs is had from here on, or
-    /// the step is refused here, before it has changed anything. A step takes two pages at most. On a device that lies too no node is
-    /// shown otherwise: a page that is let go for this has the node that was last shown of it.
+    /// Makes ready to change these pages, which are held, and to take so many: whatever that needs is had from here on,
+    /// or the step is refused here, before it has changed anything. A step takes two pages at most. On a device that
+    /// lies too no node is shown otherwise: a page that is let go for this has the node that was last shown of it.
     fn prepare(&mut self, changes: &[u32], taken: u32) -> Result<(), Self::Fault>
         requires held { Each (Self.held self.old) changes.now }
         requires few { taken ≤ 2 }
@@ -57,8 +58,10 @@ pub trait PagesMut<K: KeyClass>: Pages<K> {
         requires held { Self.held self.old page }
         requires changing { changing self.old page }
         requires fits { E.fits edit (Self.store self.old).room (node_at (Self.store self.old).nodes page) }
-        ensures edited { E.edits edit (node_at (Self.store self.old).nodes page) (node_at (Self.store self.new).nodes page) }
-        ensures others { Self.store self.new ≡ with_node (Self.store self.old) page (node_at (Self.store self.new).nodes page) }
+        ensures edited { E.edits edit (node_at (Self.store self.old).nodes page)
+            (node_at (Self.store self.new).nodes page) }
+        ensures others { Self.store self.new ≡ with_node (Self.store self.old) page
+            (node_at (Self.store self.new).nodes page) }
         ensures held { (q : ℕ) → Self.held self.old q → Self.held self.new q }
         ensures changing { (q : ℕ) → changing self.old q → changing self.new q }
         ensures ready { ready self.new ≡ ready self.old }
@@ -66,13 +69,15 @@ pub trait PagesMut<K: KeyClass>: Pages<K> {
         ensures since { KeepsSinceBut Self.since page self.old self.new }
         ensures asked { Asks Self.asked [] self.old self.new };
 
-    /// Takes the next page: a copy of one that is held, but for the page's own number. It is held and may be changed. No other
-    /// page changes, on a device that lies too.
+    /// Takes the next page: a copy of one that is held, but for the page's own number. It is held and may be changed.
+    /// No other page changes, on a device that lies too.
     fn take(&mut self, from: u32)
         requires held { Self.held self.old from }
         requires ready { 0 < ready self.old }
-        ensures taken { Self.store self.new ≡ with_page (Self.store self.old) (node_at (Self.store self.old).nodes from) }
-        ensures next { Self.held self.new (suc (length (Self.store self.old).nodes)) × changing self.new (suc (length (Self.store self.old).nodes)) }
+        ensures taken { Self.store self.new ≡ with_page (Self.store self.old)
+            (node_at (Self.store self.old).nodes from) }
+        ensures next { Self.held self.new (suc (length (Self.store self.old).nodes))
+            × changing self.new (suc (length (Self.store self.old).nodes)) }
         ensures held { (q : ℕ) → Self.held self.old q → Self.held self.new q }
         ensures changing { (q : ℕ) → changing self.old q → changing self.new q }
         ensures ready { ready self.old ≡ suc (ready self.new) }

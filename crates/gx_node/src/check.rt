@@ -10,7 +10,7 @@ use gx_class::KeyClass;
 use gx_page::Page;
 
 /// Whether each item is a leaf's entry.
-#[tactic(auto, using(crate::proofs::Slots::all_pass, crate::proofs::Slots::one_fails), unfolding(crate::specs::Reading::are_pairs))]
+#[tactic(auto, using(crate::proofs::Slots::all_are_pairs))]
 pub(crate) fn are_pairs<K: KeyClass>(page: &Page) -> bool
     ensures well_formed { IsWellFormed page.now }
     ensures test { result ≡ are_pairs (format_of K.KeyClass) page.now.items }
@@ -24,7 +24,7 @@ pub(crate) fn are_pairs<K: KeyClass>(page: &Page) -> bool
 }
 
 /// Whether each item is an inner node's entry, where `used` is the greatest page taken.
-#[tactic(auto, using(crate::proofs::Slots::all_pass, crate::proofs::Slots::one_fails), unfolding(crate::specs::Reading::are_children))]
+#[tactic(auto, using(crate::proofs::Slots::all_are_children))]
 pub(crate) fn are_children<K: KeyClass>(page: &Page, used: u32) -> bool
     ensures well_formed { IsWellFormed page.now }
     ensures test { result ≡ are_children (format_of K.KeyClass) used page.now.items }

@@ -5,8 +5,8 @@
 pub enum StepFault<F> {
     /// Memory was refused.
     Memory,
-    /// What is on the pages isn't a tree: a page is named that isn't taken, or has another level. It never is so in a legal
-    /// tree.
+    /// What is on the pages isn't a tree: a page is named that isn't taken, or has another level.
+    /// It never is so in a legal tree.
     Damaged,
     /// A split needs more pages than are unused.
     PagesFull,

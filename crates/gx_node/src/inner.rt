@@ -1,7 +1,9 @@
 //! Inner nodes in place.
-ghost use Rattle.std.specs.Prelude.{◌≡◌, ◌↔◌, ℕ, ◌<◌, ◌≤◌, ◌-◌, true, map, min, length, IsOk, IfOk, IfErr, Some, slice_get};
+ghost use Rattle.std.specs.Prelude.{◌≡◌, ◌↔◌, ℕ, ◌<◌, ◌≤◌, ◌-◌, true, map, min};
+ghost use Rattle.std.specs.Prelude.{length, IsOk, IfOk, IfErr, Some, slice_get};
 ghost use Rattle.std.specs.List.{IsFirstBest};
 ghost use Rattle.gx_tree_laws.specs.Trees.{Child};
+ghost use Rattle.gx_node.specs.declared.passing.TheConstants.{BLOCK};
 ghost use Rattle.gx_node.specs.Entries.{HoldsChildren};
 ghost use Rattle.gx_node.specs.Hits.{IsNextHit, costs_less, hits_among};
 ghost use Rattle.gx_node.specs.Reading.{format_of, is_inner, inner_of};
@@ -35,8 +37,8 @@ impl<'a, K: KeyClass> Model for Inner<'a, K> {
 }
 
 impl<'a, K: KeyClass> Inner<'a, K> {
-    /// The inner node on a page that is known to be one, where `used` is the greatest page taken. That number isn't read:
-    /// it says which test the page passed.
+    /// The inner node on a page that is known to be one, where `used` is the greatest page taken. That number isn't
+    /// read: it says which test the page passed.
     #[tactic(auto, using(crate::proofs::Slots::inner_is_keyed))]
     pub fn of(page: &'a Page, _used: u32) -> Self
         requires { is_inner (format_of K.KeyClass) _used page.now ≡ true }
@@ -48,8 +50,8 @@ impl<'a, K: KeyClass> Inner<'a, K> {
         }
     }
 
-    /// The inner node on a page, which is tested here, where `used` is the greatest page taken. `Damaged` where the page
-    /// isn't one.
+    /// The inner node on a page, which is tested here, where `used` is the greatest page taken.
+    /// `Damaged` where the page isn't one.
     pub fn read(page: &'a Page, used: u32) -> Result<Self, Refusal>
         ensures exact { IsOk result ↔ (is_inner (format_of K.KeyClass) used page.now ≡ true) }
         ensures inner { IfOk result (λ inner. inner ≡ inner_of (format_of K.KeyClass) page.now) }
@@ -112,7 +114,8 @@ impl<'a, K: KeyClass> Inner<'a, K> {
     /// The slot of the bound for which the penalty of a key is least, and of such bounds the first.
     pub fn least_penalty(&self, key: &K::Key) -> usize
         requires { 1 ≤ length self.now.children }
-        ensures { IsFirstBest costs_less (map (λ child. K.cost child.key key.now) self.now.children) (length self.now.children) result }
+        ensures { IsFirstBest costs_less (map (λ child. K.cost child.key key.now) self.now.children)
+            (length self.now.children) result }
     {
         least_penalty::<K>(self.page, K::KEY + CHILD_TAIL, key)
     }
@@ -122,7 +125,8 @@ impl<'a, K: Probing> Inner<'a, K> {
     /// The slots of a block from a slot on whose bounds pass: of 64 slots, or of as many as there are.
     pub fn passing(&self, probe: &K::Probe, from: usize) -> Passing
         requires { from ≤ length self.now.children }
-        ensures { result ≡ hits_among (map (λ child. K.passes probe.now child.key) self.now.children) from (min 64 (length self.now.children - from)) }
+        ensures { result ≡ hits_among (map (λ child. K.passes probe.now child.key) self.now.children) from
+            (min BLOCK (length self.now.children - from)) }
     {
         passing::<K>(self.page, K::KEY + CHILD_TAIL, probe, from)
     }

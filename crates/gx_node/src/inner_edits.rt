@@ -1,5 +1,5 @@
-//! Edits of an inner node in place. None takes memory, and each leaves an inner node of the same page number, level, sequence
-//! number and rightlink. The greatest page taken, `used`, isn't read: it says which test the page passed.
+//! Edits of an inner node in place. None takes memory, and each leaves an inner node of the same page number, level,
+//! sequence number and rightlink. The greatest page taken, `used`, isn't read: it says which test the page passed.
 ghost use Rattle.std.specs.Prelude.{◌≡◌, ◌<◌, ◌≤◌, ◌∷◌, ◌++◌, [], true, length, Some, slice_get, slice_set};
 ghost use Rattle.gx_tree_laws.specs.Lists.{staying};
 ghost use Rattle.gx_tree_laws.specs.Trees.{Child};
@@ -35,7 +35,8 @@ pub fn set_bound<K: KeyClass>(page: &mut Page, slot: usize, bound: K::Key, _used
     requires inner { is_inner (format_of K.KeyClass) _used page.old ≡ true }
     requires slot { slot < length (inner_of (format_of K.KeyClass) page.old).children }
     ensures inner { is_inner (format_of K.KeyClass) _used page.new ≡ true }
-    ensures node { (child : Child K.Key) → slice_get (inner_of (format_of K.KeyClass) page.old).children slot ≡ Some child
+    ensures node { (child : Child K.Key)
+        → slice_get (inner_of (format_of K.KeyClass) page.old).children slot ≡ Some child
         → inner_of (format_of K.KeyClass) page.new ≡ with_children (inner_of (format_of K.KeyClass) page.old)
         (slice_set (inner_of (format_of K.KeyClass) page.old).children slot (bounded_by bound child)) }
     ensures number { page.new.number ≡ page.old.number }
@@ -48,8 +49,8 @@ pub fn set_bound<K: KeyClass>(page: &mut Page, slot: usize, bound: K::Key, _used
     page.replace(slot, &bytes[..size]);
 }
 
-/// Takes the children out whose side is `true`. A split keeps the one side on the node's page so, and the other on a copy of
-/// it.
+/// Takes the children out whose side is `true`.
+/// A split keeps the one side on the node's page so, and the other on a copy of it.
 pub fn keep<K: KeyClass>(page: &mut Page, sides: &[bool], _used: u32)
     requires inner { is_inner (format_of K.KeyClass) _used page.old ≡ true }
     requires sides { length sides.now ≡ length (inner_of (format_of K.KeyClass) page.old).children }

@@ -2,7 +2,8 @@
 ghost use Rattle.gx_tree_laws.specs.Trees.{Pair, Child};
 ghost use Rattle.gx_node.specs.Hits.{BlocksAreAFilter, HitsAreAFilter};
 ghost use Rattle.gx_node.specs.Reading.{format_of};
-ghost use Rattle.gx_node.specs.Laws.{LeavesHold, HeldPairsAreRead, InnersHold, HeldChildrenAreRead, BlanksAreNodes, NodesFollowLinks, MoreAreTaken, OneMark, OneBound};
+ghost use Rattle.gx_node.specs.Laws.{LeavesHold, HeldPairsAreRead, InnersHold, HeldChildrenAreRead};
+ghost use Rattle.gx_node.specs.Laws.{BlanksAreNodes, NodesFollowLinks, MoreAreTaken, OneMark, OneBound};
 
 use gx_class::KeyClass;
 

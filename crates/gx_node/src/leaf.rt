@@ -1,6 +1,8 @@
 //! Leaves in place.
-ghost use Rattle.std.specs.Prelude.{◌≡◌, ◌↔◌, ◌<◌, ◌≤◌, ◌-◌, true, map, min, length, IsOk, IfOk, IfErr, Some, slice_get};
+ghost use Rattle.std.specs.Prelude.{◌≡◌, ◌↔◌, ◌<◌, ◌≤◌, ◌-◌, true, map, min};
+ghost use Rattle.std.specs.Prelude.{length, IsOk, IfOk, IfErr, Some, slice_get};
 ghost use Rattle.gx_tree_laws.specs.Trees.{Pair};
+ghost use Rattle.gx_node.specs.declared.passing.TheConstants.{BLOCK};
 ghost use Rattle.gx_node.specs.Entries.{HoldsPairs};
 ghost use Rattle.gx_node.specs.Hits.{IsNextHit, hits_among};
 ghost use Rattle.gx_node.specs.Reading.{format_of, is_leaf, leaf_of};
@@ -102,10 +104,12 @@ impl<'a, K: KeyClass> Leaf<'a, K> {
 }
 
 impl<'a, K: Probing> Leaf<'a, K> {
-    /// The slots of a block from a slot on whose keys pass, be the pair live or marked: of 64 slots, or of as many as there are.
+    /// The slots of a block from a slot on whose keys pass, be the pair live or marked:
+    /// of 64 slots, or of as many as there are.
     pub fn passing(&self, probe: &K::Probe, from: usize) -> Passing
         requires { from ≤ length self.now.pairs }
-        ensures { result ≡ hits_among (map (λ pair. K.passes probe.now pair.key) self.now.pairs) from (min 64 (length self.now.pairs - from)) }
+        ensures { result ≡ hits_among (map (λ pair. K.passes probe.now pair.key) self.now.pairs) from
+            (min BLOCK (length self.now.pairs - from)) }
     {
         passing::<K>(self.page, K::KEY + PAIR_TAIL, probe, from)
     }

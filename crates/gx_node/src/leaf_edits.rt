@@ -1,5 +1,5 @@
-//! Edits of a leaf in place. None takes memory, and each leaves a leaf of the same page number, level, sequence number and
-//! rightlink.
+//! Edits of a leaf in place. None takes memory, and each leaves a leaf of the same page number, level,
+//! sequence number and rightlink.
 ghost use Rattle.std.specs.Prelude.{◌≡◌, ◌<◌, ◌≤◌, ◌∷◌, ◌++◌, [], true, length, Some, slice_get, slice_set};
 ghost use Rattle.gx_tree_laws.specs.Lists.{staying};
 ghost use Rattle.gx_tree_laws.specs.Trees.{Pair};
@@ -42,7 +42,8 @@ pub fn set_mark<K: KeyClass>(page: &mut Page, slot: usize, marked: bool)
     page.set_byte(slot, K::KEY + 8, u8::from(marked));
 }
 
-/// Takes the pairs out whose side is `true`. A split keeps the one side on the leaf's page so, and the other on a copy of it.
+/// Takes the pairs out whose side is `true`.
+/// A split keeps the one side on the leaf's page so, and the other on a copy of it.
 pub fn keep<K: KeyClass>(page: &mut Page, sides: &[bool])
     requires leaf { is_leaf (format_of K.KeyClass) page.old ≡ true }
     requires sides { length sides.now ≡ length (leaf_of (format_of K.KeyClass) page.old).pairs }

@@ -1,5 +1,5 @@
-//! Nodes of the tree, read and written in place on their pages, and the scan of their keys; and what the steps of the tree ask of whoever
-//! keeps its pages.
+//! Nodes of the tree, read and written in place on their pages, and the scan of their keys; and what the steps of the
+//! tree ask of whoever keeps its pages.
 #![tactic(auto)]
 
 mod changing;

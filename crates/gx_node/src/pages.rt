@@ -15,7 +15,8 @@ pub trait Pages<K: KeyClass> {
     /// Why pages could not be brought.
     type Fault;
 
-    /// The nodes of all pages that are taken, as each was last shown, the counter of splits, and how many pages there are.
+    /// The nodes of all pages that are taken, as each was last shown, the counter of splits,
+    /// and how many pages there are.
     ghost store: { Self → Store K.Key };
 
     /// Whether a page is held.
@@ -24,8 +25,8 @@ pub trait Pages<K: KeyClass> {
     /// What is read of a page is what stands there, so that bringing it changes nothing.
     ghost steady: { Self → Type 0 };
 
-    /// Since a moment a page, and all that is no page, has only gone on: a step keeps it for each page that it doesn't change,
-    /// so whoever keeps pages learns here what a step leaves of all else.
+    /// Since a moment a page, and all that is no page, has only gone on: a step keeps it for each page that it doesn't
+    /// change, so whoever keeps pages learns here what a step leaves of all else.
     ghost since: { Self → Self → ℕ → Type 0 };
 
     /// What was asked since a moment, the last first.
@@ -46,8 +47,8 @@ pub trait Pages<K: KeyClass> {
     fn counter(&self) -> u64
         ensures { result ≡ (store self.now).counter };
 
-    /// Holds these pages, four at most, and lets go what was held. On a device that lies this call, and no other, may show
-    /// other nodes than before, of as many pages.
+    /// Holds these pages, four at most, and lets go what was held. On a device that lies this call, and no other, may
+    /// show other nodes than before, of as many pages.
     fn bring(&mut self, pages: &[u32]) -> Result<(), Self::Fault>
         requires few { length pages.now ≤ 4 }
         requires used { Each (Used (tree_of (store self.old))) pages.now }

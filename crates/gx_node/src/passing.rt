@@ -15,18 +15,19 @@ pub struct Passing {
 
 impl Model for Passing {
     ghost use Rattle.std.specs.Prelude.{List, ℕ, take, ◌≤◌};
+    ghost use Rattle.gx_node.specs.declared.passing.TheConstants.{BLOCK};
 
     ghost Value = { List ℕ };
 
     ghost view = { λ p. take p.count p.slots };
 
-    ghost invariant = { λ p. p.count ≤ 64 };
+    ghost invariant = { λ p. p.count ≤ BLOCK };
 }
 
-/// Writes a slot at a place, and answers the next place where it passes, or else this one again. The place is a value of the
-/// caller's, so that it stays in a register.
+/// Writes a slot at a place, and answers the next place where it passes, or else this one again. The place is a value
+/// of the caller's, so that it stays in a register.
 pub(crate) fn offer(slots: &mut [u16; BLOCK], place: usize, slot: u16, passes: bool) -> usize
-    requires { place < 64 }
+    requires { place < BLOCK }
     ensures kept { take result slots.new ≡ if passes then take place slots.old ++ slot ∷ [] else take place slots.old }
     ensures next { result ≤ place + 1 }
 {
@@ -37,7 +38,7 @@ pub(crate) fn offer(slots: &mut [u16; BLOCK], place: usize, slot: u16, passes: b
 impl Passing {
     /// The first so many of some slots.
     pub(crate) fn of(slots: [u16; BLOCK], count: usize) -> Self
-        requires { count ≤ 64 }
+        requires { count ≤ BLOCK }
         ensures { result ≡ take count slots }
     {
         Passing { slots, count }

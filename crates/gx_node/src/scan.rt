@@ -17,8 +17,8 @@ fn item_passes<K: Probing>(item: &[u8], probe: &K::Probe) -> bool
     K::test(probe, item.split_at(K::KEY).0)
 }
 
-/// A slot's item, on a page whose items begin with a key and are `size` bytes each: by its place in the heap, so that the
-/// directory isn't read.
+/// A slot's item, on a page whose items begin with a key and are `size` bytes each:
+/// by its place in the heap, so that the directory isn't read.
 pub(crate) fn item_in<K: KeyClass>(page: &Page, size: usize, slot: usize) -> &[u8]
     requires slot { slot < length page.now.items }
     requires keyed { AreKeyed (format_of K.KeyClass) size page.now.items }
@@ -41,7 +41,8 @@ pub(crate) fn next_passing<K: Probing>(
     requires from { from ≤ length page.now.items }
     requires long { K.KEY ≤ size }
     requires keyed { AreKeyed (format_of K.KeyClass) size page.now.items }
-    ensures { IsNextHit (map (λ item. K.passes probe.now (key_of (format_of K.KeyClass) item)) page.now.items) from result }
+    ensures { IsNextHit (map (λ item. K.passes probe.now (key_of (format_of K.KeyClass) item)) page.now.items) from
+        result }
 {
     let count = page.count();
     let heap = page.heap();
@@ -56,7 +57,8 @@ pub(crate) fn next_passing<K: Probing>(
     None
 }
 
-/// The slots of a block whose keys pass: of the 64 from a slot on, or of as many as there are. For the rest as `next_passing`.
+/// The slots of a block whose keys pass: of the 64 from a slot on, or of as many as there are.
+/// For the rest as `next_passing`.
 pub(crate) fn passing<K: Probing>(
     page: &Page,
     size: usize,
@@ -67,7 +69,7 @@ pub(crate) fn passing<K: Probing>(
     requires long { K.KEY ≤ size }
     requires keyed { AreKeyed (format_of K.KeyClass) size page.now.items }
     ensures { result ≡ hits_among (map (λ item. K.passes probe.now (key_of (format_of K.KeyClass) item)) page.now.items)
-        from (min 64 (length page.now.items - from)) }
+        from (min BLOCK (length page.now.items - from)) }
 {
     let count = (page.count() - from).min(BLOCK);
     let heap = page.heap();
@@ -99,13 +101,14 @@ fn item_penalty<K: KeyClass>(item: &[u8], key: &K::Key) -> (u128, u128)
     K::penalty_in(item.split_at(K::KEY).0, key)
 }
 
-/// The slot of the bound for which the penalty of a key is least, and of such bounds the first, on a page whose items begin with
-/// a bound and are `size` bytes each. The items are taken from the end of the page's heap, slot by slot.
+/// The slot of the bound for which the penalty of a key is least, and of such bounds the first, on a page whose items
+/// begin with a bound and are `size` bytes each. The items are taken from the end of the page's heap, slot by slot.
 pub(crate) fn least_penalty<K: KeyClass>(page: &Page, size: usize, key: &K::Key) -> usize
     requires some { 1 ≤ length page.now.items }
     requires long { K.KEY ≤ size }
     requires keyed { AreKeyed (format_of K.KeyClass) size page.now.items }
-    ensures { IsFirstBest costs_less (map (λ item. K.cost (key_of (format_of K.KeyClass) item) key.now) page.now.items) (length page.now.items) result }
+    ensures { IsFirstBest costs_less (map (λ item. K.cost (key_of (format_of K.KeyClass) item) key.now) page.now.items)
+        (length page.now.items) result }
 {
     let heap = page.heap();
     let (mut rest, first) = heap.split_at(heap.len() - size);

@@ -135,8 +135,8 @@ fn calls_of_line(
     Ok((passed, calls_of_lines(alloc, setting, line)?))
 }
 
-/// Prints, for each call of the device that a line makes, from 1 on, which it is, and the number that an opening finds where the device stops
-/// there, by what the crash leaves.
+/// Prints, for each call of the device that a line makes, from 1 on, which it is, and the number that an opening finds
+/// where the device stops there, by what the crash leaves.
 pub(crate) fn print_line<R: Print>(
     rt: &R,
     alloc: Global,

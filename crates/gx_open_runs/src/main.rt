@@ -1,20 +1,27 @@
-//! Scripts on a device in memory that fails at one of its calls. It is then opened again, and is to have the set and the number of as many
-//! commits as the plain index has behind one of the script's, none before the last that was acknowledged. Up to the call that fails the
-//! script is answered as by the plain index; that call is told once, and all that is asked behind it is refused.
+//! Scripts on a device in memory that fails at one of its calls. It is then opened again, and is to have the set and
+//! the number of as many commits as the plain index has behind one of the script's, none before the last that was
+//! acknowledged. Up to the call that fails the script is answered as by the plain index; that call is told once, and
+//! all that is asked behind it is refused.
 //!
 //! A line of `stdin` that begins with a digit is one of the script. `new` begins another script. The others make runs:
 //!
-//! - `stops FRAMES FIRST STRIDE`: the device stops for good at each call, from a first one on by a stride up to a run that meets no stop; each
-//!   with the call made and not, and with four crashes: all that wasn't synced is old, is new, old and new in turn, or torn.
-//! - `again FRAMES CALL DONE LEFT FIRST STRIDE`: the script stops at this call, made where DONE is 1, with this crash (`old`, `new`, `mixed`,
-//!   `torn`), and then so does the opening behind it, at each call. The number that is found stays.
-//! - `fails FRAMES`, `fails_again FRAMES CALL DONE LEFT`: likewise each call fails, once or for ever, made and not, and no crash comes.
-//! - `twice FRAMES`: the script is run to its end, and the opening behind it stops at each write and sync, and the next one too.
-//! - `line FRAMES LINE`: the device stops at each call that this line of the script makes, from 1 on. The numbers are printed.
+//! - `stops FRAMES FIRST STRIDE`: the device stops for good at each call, from a first one on by a stride up to a run
+//! that meets no stop; each with the call made and not, and with four crashes: all that wasn't synced is old, is new,
+//! old and new in turn, or torn.
+//! - `again FRAMES CALL DONE LEFT FIRST STRIDE`: the script stops at this call, made where DONE is 1, with this crash
+//! (`old`, `new`, `mixed`, `torn`), and then so does the opening behind it, at each call. The number that is found
+//! stays.
+//! - `fails FRAMES`, `fails_again FRAMES CALL DONE LEFT`: likewise each call fails, once or for ever, made and not, and
+//! no crash comes.
+//! - `twice FRAMES`: the script is run to its end, and the opening behind it stops at each write and sync, and the next
+//! one too.
+//! - `line FRAMES LINE`: the device stops at each call that this line of the script makes, from 1 on. The numbers are
+//! printed.
 //! - `replies FRAMES LINE`: it stops at the first of these calls. What the script is answered is printed.
 //!
-//! Runs are counted: all, those of which no call failed, and those behind which the last commit that was acknowledged was found, and a
-//! later one. An empty line, and one that begins with `#`, is printed as it stands. The program ends at the first difference, with status 1.
+//! Runs are counted: all, those of which no call failed, and those behind which the last commit that was acknowledged
+//! was found, and a later one. An empty line, and one that begins with `#`, is printed as it stands. The program ends
+//! at the first difference, with status 1.
 #![tactic(auto)]
 
 mod again;

@@ -25,7 +25,8 @@ impl Left {
     }
 }
 
-/// How a call fails: whether those behind it fail too, whether it is made if it is a write, and the crash that comes then, if one does.
+/// How a call fails: whether those behind it fail too, whether it is made if it is a write, and the crash that comes
+/// then, if one does.
 #[derive(Clone, Copy)]
 pub(crate) struct Way {
     pub(crate) fuse: Fuse,

@@ -18,7 +18,8 @@ use Rattle.gx_index_laws.specs.Classes.{Class, known_of, tree_in}
 use Rattle.gx_geom.specs.declared.refusal.Refusal.{Refusal}
 use Rattle.gx_machine.specs.Keys.{Members}
 use Rattle.gx_recovery.specs.Known.{Limits}
-use Rattle.gx_readings.specs.Classes.{class_of, node_of, reading_of, rules_of}
+use Rattle.gx_readings.specs.Classes.{class_of, node_of, reading_of}
+use Rattle.gx_node.specs.Keyed.{rules_of}
 use Rattle.gx_store.specs.Standing.{standing, standing_node}
 use Rattle.gx_store.specs.State.{IsSteady, Shelf}
 use Rattle.gx_store.proofs.Listed.{node_there, nodes_long}

@@ -2,6 +2,7 @@
 use Rattle.std.proofs.Common.{◌≡◌, inl, ℕ, ◌≤◌, Bool, List, [], ◌∷◌, refl, sym, ap, subst, ◌∙◌, arith}
 use Rattle.gx_disk.specs.Device.{Device}
 use Rattle.gx_page.specs.Contents.{Contents}
+use Rattle.gx_glog.specs.declared.extent.TheConstants.{PLACES}
 use Rattle.gx_glog.specs.Cuts.{bodies_in, open_bodies}
 use Rattle.gx_glog.specs.Layout.{open_run, selected_of}
 use Rattle.gx_pool.specs.Area.{IsPassing, bytes_of}
@@ -30,7 +31,7 @@ use Rattle.gx_found_log.specs.declared.found.FoundLog.{FoundLog}
 use Rattle.gx_opening.specs.Laid.{HasFoundLog, IsLaid}
 use Rattle.gx_opening.specs.Sound.{AreSound, tree_read}
 
-bodies_are : (seen : List ℕ) → open_bodies seen ≡ bodies_in seen (selected_of seen) (open_run seen (selected_of seen) 0 32)
+bodies_are : (seen : List ℕ) → open_bodies seen ≡ bodies_in seen (selected_of seen) (open_run seen (selected_of seen) 0 PLACES)
 unfolding open_bodies
 bodies_are seen = refl
 

@@ -6,6 +6,7 @@ use Rattle.gx_disk.specs.Moments.{Leaves}
 use Rattle.gx_disk.proofs.Leaving.{leaves_joined, leaves_weaker, rested_image}
 use Rattle.gx_geom.specs.declared.refusal.Refusal.{Refusal}
 use Rattle.gx_geom.specs.declared.refusal.Refusal.TheVariants.{Damaged}
+use Rattle.gx_glog.specs.declared.extent.TheConstants.{PLACES}
 use Rattle.gx_glog.specs.declared.extent.Extent.{Extent}
 use Rattle.gx_glog.specs.Cuts.{bodies_in}
 use Rattle.gx_glog.specs.Layout.{is_open, open_run, selected_of}
@@ -32,8 +33,8 @@ run_few xs extent (suc places) k true at =
     let rest : open_run xs extent (k + 1) places ≤ places = run_few xs extent places (k + 1) (is_open xs extent (k + 1)) refl in
     rw at (omega (arith, rest))
 
-pub opened_few : (seen : List ℕ) → opened seen ≤ 32
-opened_few seen = run_few seen (selected_of seen) 32 0 (is_open seen (selected_of seen) 0) refl
+pub opened_few : (seen : List ℕ) → opened seen ≤ PLACES
+opened_few seen = run_few seen (selected_of seen) PLACES 0 (is_open seen (selected_of seen) 0) refl
 
 module _ {E P : Type 0} (k : Known E P) (r : Reading E P) where
   -- no bodies are no log
@@ -49,7 +50,7 @@ module _ {E P : Type 0} (k : Known E P) (r : Reading E P) where
   pub some_bodies : (seen : List ℕ) (found : FoundLog E) → IsFound k r seen found → found.bodies ≡ 0 → ⊥
   some_bodies seen found is none = no_bodies seen (selected_of seen) (opened seen) (sym is.bodies ∙ none) is.log
 
-  pub few_bodies : (seen : List ℕ) (found : FoundLog E) → IsFound k r seen found → found.bodies ≤ 32
+  pub few_bodies : (seen : List ℕ) (found : FoundLog E) → IsFound k r seen found → found.bodies ≤ PLACES
   few_bodies seen found is = let few = opened_few seen in omega (arith, few, is.bodies)
 
   -- ---- moments
@@ -84,7 +85,7 @@ module _ {E P : Type 0} (k : Known E P) (r : Reading E P) where
   }
 
   -- nothing was done
-  pub none_laid : (a : Device) (found : FoundLog E) → IsFound k r a.seen found → (found.bodies ≡ 0) ⊎ (32 < found.bodies) → LaysLog k r a a (Err Damaged)
+  pub none_laid : (a : Device) (found : FoundLog E) → IsFound k r a.seen found → (found.bodies ≡ 0) ⊎ (PLACES < found.bodies) → LaysLog k r a a (Err Damaged)
   none_laid a found is (inl none) = absurd (some_bodies a.seen found is none)
   none_laid a found is (inr many) = absurd (let few = few_bodies a.seen found is in omega (arith, few, many))
 

@@ -1,9 +1,11 @@
 -- An index that stands on a device, from its calls.
 use Rattle.std.proofs.Common.{◌≡◌, inl, inr, ℕ, Bool, true, List, Result, Ok, Err, ◌≤◌, refl, sym, subst, ◌∙◌, ⊎_elim, arith}
+use Rattle.gx_disk.specs.declared.layout.TheConstants.{MIN_SECTORS}
 use Rattle.gx_disk.specs.Device.{Device, MayLeave, Rests, SamePending}
 use Rattle.gx_disk.specs.Moments.{Leaves}
 use Rattle.gx_disk.proofs.Leaving.{call_leaves, leaves_joined, leaves_weaker, rested_image}
 use Rattle.gx_pool.specs.Bringing.{OnlyRead}
+use Rattle.gx_glog.specs.declared.extent.TheConstants.{PLACES}
 use Rattle.gx_glog.specs.declared.parameters.Parameters.{Parameters}
 use Rattle.gx_glog.proofs.Told.{told}
 use Rattle.gx_geom.specs.declared.refusal.Refusal.{Refusal}
@@ -93,7 +95,7 @@ told_cause T before now refusal.HistoryFull is = absurd is
 
 module _ {B : Type 0} (shape : Members B) (is_key : B → Bool) (said : List ℕ → B) (f : Format B) (class : ℕ) (a b : Device) where
   -- what was read behind a settling
-  pub formatted_so : (p : Parameters) → 4232 ≤ a.sectors → Settles class a b (Ok p) → IsFormatted shape is_key said f class a p
+  pub formatted_so : (p : Parameters) → MIN_SECTORS ≤ a.sectors → Settles class a b (Ok p) → IsFormatted shape is_key said f class a p
   formatted_so p large settles =
       let t = settles.told large in
       record { magic = t.0; says = t.1.0; allowed = t.1.1.0; large = t.1.1.1 }
@@ -184,9 +186,9 @@ module _ {T : Type 0} where
   with_known P (Err why) x known = tt
 
 module _ {B : Type 0} where
-  pub may_start : (tested : Result (Standing B) Refusal) (x : Standing B) → IfOk tested (λ y. y ≡ x) → (1 ≤ x.log.bodies) × (x.log.bodies ≤ 32)
+  pub may_start : (tested : Result (Standing B) Refusal) (x : Standing B) → IfOk tested (λ y. y ≡ x) → (1 ≤ x.log.bodies) × (x.log.bodies ≤ PLACES)
       → IfOk tested (λ y. y.log.analysis.told.used ≤ y.parameters.pages) → IfOk tested MayStart
   may_start (Ok y) x same bodies fits =
-      let there = subst (λ (z : Standing B). (1 ≤ z.log.bodies) × (z.log.bodies ≤ 32)) (sym same) bodies in
+      let there = subst (λ (z : Standing B). (1 ≤ z.log.bodies) × (z.log.bodies ≤ PLACES)) (sym same) bodies in
       record { some = there.0; few = there.1; fits = fits }
   may_start (Err why) x same bodies fits = tt

@@ -2,6 +2,7 @@
 use Rattle.std.specs.Prelude.{◌≡◌, ℕ, ◌+◌, ◌<◌, ◌≤◌, List, ◌++◌, take, Result, Ok, Err, OnOk}
 use Rattle.gx_geom.specs.declared.refusal.Refusal.{Refusal}
 use Rattle.gx_geom.specs.declared.refusal.Refusal.TheVariants.{BadParameter, TooSmall, NotFormatted, Device}
+use Rattle.gx_disk.specs.declared.layout.TheConstants.{MIN_SECTORS}
 use Rattle.gx_disk.specs.Device as disk
 use Rattle.gx_disk.specs.Device.{MayLeave, IsSettled, Rests}
 use Rattle.gx_disk.specs.Moments.{Leaves}
@@ -81,5 +82,5 @@ MaySettle class sectors seen (Err refusal) = ⊥
 -- What an honest device is read to be formatted for: once it is settled nothing reads otherwise.
 pub record Settles (class : ℕ) (old new : disk.Device) (result : Result Parameters Refusal) : Type 0 where
   pub only : OnlyRests old new
-  pub told : 4232 ≤ old.sectors → MaySettle class old.sectors old.seen result
+  pub told : MIN_SECTORS ≤ old.sectors → MaySettle class old.sectors old.seen result
   pub settled : OnOk result (IsSettled new)

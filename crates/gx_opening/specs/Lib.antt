@@ -1,6 +1,7 @@
 pub mod Formatted
 pub mod Laid
 pub mod Noting
+pub mod Setting
 pub mod Sound
 pub mod Standing
 pub mod Texts

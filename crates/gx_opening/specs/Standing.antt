@@ -5,6 +5,7 @@ use Rattle.gx_geom.specs.declared.refusal.Refusal.TheVariants.{Damaged}
 use Rattle.gx_disk.specs.Device.{Device}
 use Rattle.gx_disk.specs.Moments.{Leaves}
 use Rattle.gx_format.specs.Fresh.{HasMagic}
+use Rattle.gx_glog.specs.declared.extent.TheConstants.{PLACES}
 use Rattle.gx_glog.specs.declared.parameters.Parameters.{Parameters}
 use Rattle.gx_machine.specs.declared.entry.Entry.{Entry}
 use Rattle.gx_machine.specs.Keys.{Members}
@@ -40,7 +41,7 @@ limits_of p = record { most = p.most; pages = p.pages; head = head_of p }
 -- An engine may start with these numbers: the log has a body and no more than an extent has, and no more pages are in use than there are.
 pub record MayStart {B : Type 0} (s : Standing B) : Type 0 where
   pub some : 1 ≤ s.log.bodies
-  pub few : s.log.bodies ≤ 32
+  pub few : s.log.bodies ≤ PLACES
   pub fits : s.log.analysis.told.used ≤ s.parameters.pages
 
 module _ {B : Type 0} (shape : Members B) (is_key : B → Bool) (said : List ℕ → B) (f : Format B) where

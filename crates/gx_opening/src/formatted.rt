@@ -3,18 +3,14 @@ ghost use Rattle.std.specs.Prelude.{◌≡◌, ◌⊎◌, ◌↔◌, ◌+◌, �
 ghost use Rattle.gx_disk.specs.Device.{Counts, Syncs};
 ghost use Rattle.gx_disk.specs.Looks.{Looks};
 ghost use Rattle.gx_disk.specs.Sectors.{sector_of};
-ghost use Rattle.gx_format.specs.Formatting.{AreInRange};
 ghost use Rattle.gx_format.specs.Fresh.{magic_bytes};
 ghost use Rattle.gx_opening.specs.Formatted.{AreRead, Counted, IsAllowed, IsLarge, Settles, WhyNotAllowed};
 
 use gx_class::KeyClass;
-use gx_disk::{SECTOR_SIZE, SectorDisk};
-use gx_format::{MAGIC, sectors_for};
+use gx_disk::{MIN_SECTORS, SECTOR_SIZE, SectorDisk};
+use gx_format::{MAGIC, is_in_range, sectors_for};
 use gx_geom::Refusal;
 use gx_glog::{PARAMETERS, Parameters};
-
-/// How many sectors the smallest index takes, of eight pages.
-const LEAST_SECTORS: u64 = 4232;
 
 // Settles what was written.
 fn settle<D: SectorDisk>(disk: &mut D) -> Result<(), Refusal>
@@ -32,7 +28,8 @@ fn settle<D: SectorDisk>(disk: &mut D) -> Result<(), Refusal>
 fn sector<D: SectorDisk>(disk: &mut D, number: u64) -> Result<[u8; SECTOR_SIZE], Refusal>
     requires { number < (D.state disk.old).sectors }
     ensures counts { Counts 0 (D.state disk.old) (D.state disk.new) result }
-    ensures bytes { (D.state disk.old).honest ≡ true → IfOk result (λ bytes. bytes ≡ sector_of (D.state disk.old).seen number) }
+    ensures bytes { (D.state disk.old).honest ≡ true
+        → IfOk result (λ bytes. bytes ≡ sector_of (D.state disk.old).seen number) }
     ensures looks { (D.state disk.old).honest ≡ true → Looks (D.state disk.old) (D.state disk.new) }
     ensures refusal { IfErr result (λ refusal. refusal ≡ Refusal.Device) }
 {
@@ -52,7 +49,7 @@ fn has_magic(sector: &[u8; SECTOR_SIZE]) -> bool
 
 // Reads what a device is formatted for, where it has the magic.
 fn told_parameters<D: SectorDisk>(disk: &mut D) -> Result<Parameters, Refusal>
-    requires { 4232 ≤ (D.state disk.old).sectors }
+    requires { MIN_SECTORS ≤ (D.state disk.old).sectors }
     ensures counted { Counted 0 (D.state disk.old) (D.state disk.new) result }
     ensures looks { (D.state disk.old).honest ≡ true → Looks (D.state disk.old) (D.state disk.new) }
     ensures told { (D.state disk.old).honest ≡ true → AreRead (D.state disk.old).seen result }
@@ -64,13 +61,6 @@ fn told_parameters<D: SectorDisk>(disk: &mut D) -> Result<Parameters, Refusal>
     }
     let second = sector(disk, PARAMETERS)?;
     Ok(Parameters::decode(&second))
-}
-
-// Whether a number of pages and of entries is in range.
-fn is_in_range(pages: u32, most: u16) -> bool
-    ensures { IsTrue result ↔ AreInRange pages most }
-{
-    (8..=65_536).contains(&pages) && (4..=100).contains(&most)
 }
 
 // Tests that an index of a class may be so on a device of so many sectors.
@@ -87,19 +77,22 @@ fn test_parameters(parameters: &Parameters, class: u16, sectors: u64) -> Result<
     Ok(())
 }
 
-/// Settles a device, and reads what it is formatted for: an index of this class, with numbers in range, for which it has the sectors.
+/// Settles a device, and reads what it is formatted for:
+/// an index of this class, with numbers in range, for which it has the sectors.
 ///
-/// Refused, by the first that holds, where it has fewer sectors than the smallest index takes (`TooSmall`), where a call fails (`Device`), where its
-/// first eight bytes aren't the magic (`NotFormatted`), where the numbers are out of range or of another class (`BadParameter`), and
-/// where it has fewer sectors than that index takes (`TooSmall`). At Ok one sync was made, and all is settled. Nothing reads otherwise than before.
+/// Refused, by the first that holds, where it has fewer sectors than the smallest index takes (`TooSmall`), where a
+/// call fails (`Device`), where its first eight bytes aren't the magic (`NotFormatted`), where the numbers are out of
+/// range or of another class (`BadParameter`), and where it has fewer sectors than that index takes (`TooSmall`). At Ok
+/// one sync was made, and all is settled. Nothing reads otherwise than before.
 pub fn formatted_for<D: SectorDisk, K: KeyClass>(disk: &mut D) -> Result<Parameters, Refusal>
     ensures counted { Counted 1 (D.state disk.old) (D.state disk.new) result }
     ensures synced { OnOk result ((D.state disk.new).calls ≡ (D.state disk.old).calls + 1) }
-    ensures allowed { IfOk result (λ parameters. IsAllowed K.CLASS parameters × IsLarge (D.state disk.old).sectors parameters) }
-    ensures small { (D.state disk.old).sectors < 4232 → (result ≡ Err Refusal.TooSmall) × (disk.new ≡ disk.old) }
+    ensures allowed { IfOk result (λ parameters. IsAllowed K.CLASS parameters
+        × IsLarge (D.state disk.old).sectors parameters) }
+    ensures small { (D.state disk.old).sectors < MIN_SECTORS → (result ≡ Err Refusal.TooSmall) × (disk.new ≡ disk.old) }
     ensures settles { (D.state disk.old).honest ≡ true → Settles K.CLASS (D.state disk.old) (D.state disk.new) result }
 {
-    if disk.sectors() < LEAST_SECTORS {
+    if disk.sectors() < MIN_SECTORS {
         return Err(Refusal::TooSmall);
     }
     settle(disk)?;

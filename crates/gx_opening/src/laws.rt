@@ -7,8 +7,8 @@ use gx_disk::SectorDisk;
 use gx_readings::ReadKeys;
 use gx_readings::laws::what_stands_is_legal;
 
-/// Pages that are found sound are good for the log that was laid on them. So at each moment of that, whatever a crash may leave that wasn't there
-/// before stands for what the log keeps, as it was found.
+/// Pages that are found sound are good for the log that was laid on them. So at each moment of that, whatever a crash
+/// may leave that wasn't there before stands for what the log keeps, as it was found.
 pub fn what_is_found_stands<D: SectorDisk, K: ReadKeys>()
     ensures stands { (p : Parameters) → FoundStands K.Key.Shape K.is_proper K.said (format_of K.KeyClass) p }
     ensures good { (p : Parameters) → SoundIsGood K.Key.Shape K.is_proper K.said (format_of K.KeyClass) D.state p }

@@ -1,16 +1,17 @@
-//! The pages of a device whose log is laid are tested: that each can be read, that they are a legal tree, and that what open transactions have
-//! touched is in its place.
+//! The pages of a device whose log is laid are tested: that each can be read, that they are a legal tree, and that what
+//! open transactions have touched is in its place.
 ghost use Rattle.std.specs.Prelude.{◌≡◌, ◌≤◌, ◌<◌, ◌+◌, ◌*◌, true, OnOk, IfErr, IfOk, Err};
+ghost use Rattle.gx_store.specs.State.{IsSteady};
+ghost use Rattle.gx_disk.specs.declared.layout.TheConstants.{MAX_PAGES, PAGES_AT, PAGE_SECTORS};
 ghost use Rattle.gx_machine.specs.Keys.{keys_of, entry_cmp};
 ghost use Rattle.gx_node.specs.Reading.{format_of, is_node};
 ghost use Rattle.gx_pool.specs.Bringing.{OnlyRead};
 ghost use Rattle.gx_recovery.specs.Known.{Limits};
-ghost use Rattle.gx_index_laws.specs.Classes.{known_of};
-ghost use Rattle.gx_readings.specs.Classes.{class_of, reading_of};
-ghost use Rattle.gx_node.specs.Keyed.{rules_of};
 ghost use Rattle.gx_opening.specs.Formatted.{TellsFaults};
 ghost use Rattle.gx_opening.specs.Noting.{AreOfOthers};
-ghost use Rattle.gx_opening.specs.Sound.{AreClean, AreSound, IsCause, IsDamage, IsSoundStore, IsSteadyStore, OnlyReadsStore, Tells, refusal_of, store_refusal_of};
+ghost use Rattle.gx_opening.specs.Sound.{AreClean, IsCause, IsDamage, OnlyReadsStore};
+ghost use Rattle.gx_opening.specs.Sound.{Tells, refusal_of, store_refusal_of};
+ghost use Rattle.gx_opening.specs.Setting.{IsSoundStoreAs, AreSoundAs};
 
 use crate::notes::notes_of;
 use crate::reader::StoreReader;
@@ -70,8 +71,8 @@ fn test_refusal(fault: LegalityFault<StoreFault>) -> Refusal
     }
 }
 
-// Tests pages over a store that starts: that each in use can be read, that they are a legal tree, and that what was touched is in its
-// place.
+// Tests pages over a store that starts: that each in use can be read, that they are a legal tree,
+// and that what was touched is in its place.
 fn test_store<D: SectorDisk, K: ReadKeys>(
     alloc: Global,
     store: &mut StoreReader<D, K>,
@@ -82,8 +83,9 @@ fn test_store<D: SectorDisk, K: ReadKeys>(
     ensures others { OnOk result (AreOfOthers (entry_cmp (keys_of K.Key.Shape)) touched.now) }
     ensures reads { OnlyReadsStore (format_of K.KeyClass) (is_node (format_of K.KeyClass)) D.state store.old store.new }
     ensures faults { result ≡ Err Refusal.Device → (D.state store.old.disk).faults < (D.state store.new.disk).faults }
-    ensures tested { IsSteadyStore (format_of K.KeyClass) (is_node (format_of K.KeyClass)) D.state store.old → AreClean store.old.frames → AreOfOthers (entry_cmp (keys_of K.Key.Shape)) touched.now
-        → Tells (IsSoundStore (format_of K.KeyClass) (is_node (format_of K.KeyClass)) D.state (rules_of K.Key.Shape most) touched.now store.old) result }
+    ensures tested { IsSteady (D.state store.old.disk) store.old.frames → AreClean store.old.frames
+        → AreOfOthers (entry_cmp (keys_of K.Key.Shape)) touched.now
+        → Tells (IsSoundStoreAs K.Key.Shape K.KeyClass D.state most touched.now store.old) result }
 {
     going_on::<D, K>();
     what_breaks_a_rule_is_not_legal::<K::Key>();
@@ -111,8 +113,9 @@ fn test_over<D: SectorDisk, K: ReadKeys>(
     ensures others { OnOk result.1 (AreOfOthers (entry_cmp (keys_of K.Key.Shape)) touched.now) }
     ensures read { OnlyRead (D.state store.disk) (D.state result.0) }
     ensures faults { TellsFaults (D.state store.disk).faults (D.state result.0).faults result.1 }
-    ensures tested { IsSteadyStore (format_of K.KeyClass) (is_node (format_of K.KeyClass)) D.state store → AreClean store.frames → AreOfOthers (entry_cmp (keys_of K.Key.Shape)) touched.now
-        → Tells (IsSoundStore (format_of K.KeyClass) (is_node (format_of K.KeyClass)) D.state (rules_of K.Key.Shape most) touched.now store) result.1 }
+    ensures tested { IsSteady (D.state store.disk) store.frames → AreClean store.frames
+        → AreOfOthers (entry_cmp (keys_of K.Key.Shape)) touched.now
+        → Tells (IsSoundStoreAs K.Key.Shape K.KeyClass D.state most touched.now store) result.1 }
 {
     going_on::<D, K>();
     let mut store = store;
@@ -120,11 +123,12 @@ fn test_over<D: SectorDisk, K: ReadKeys>(
     (store.into_disk(), tested)
 }
 
-/// Tests the pages of a device of so many, with so many entries a node at most, by what its log tells. The device is handed back.
+/// Tests the pages of a device of so many, with so many entries a node at most,
+/// by what its log tells. The device is handed back.
 ///
-/// Refused as `Damaged` where more pages are in use than there are, where one of them can't be read, where they aren't a legal tree, or where an
-/// entry that an open transaction touched is neither in its leaf nor to the right of it; by the device's fault (`Device`), and for want
-/// of memory (`Memory`). The device is only read.
+/// Refused as `Damaged` where more pages are in use than there are, where one of them can't be read, where they aren't
+/// a legal tree, or where an entry that an open transaction touched is neither in its leaf nor to the right of it; by
+/// the device's fault (`Device`), and for want of memory (`Memory`). The device is only read.
 pub(crate) fn test_pages<D: SectorDisk, K: ReadKeys>(
     alloc: Global,
     disk: D,
@@ -132,14 +136,16 @@ pub(crate) fn test_pages<D: SectorDisk, K: ReadKeys>(
     pages: u32,
     most: u16,
 ) -> (D, Result<(), Refusal>)
-    requires inside { (pages ≤ 65536) × (4168 + 8 * pages ≤ (D.state disk).sectors) }
+    requires inside { (pages ≤ MAX_PAGES) × (PAGES_AT + PAGE_SECTORS * pages ≤ (D.state disk).sectors) }
     ensures fits { IfOk result.1 (λ _. analysis.now.told.used ≤ pages) }
     ensures cause { IfErr result.1 IsCause }
     ensures others { OnOk result.1 (AreOfOthers (entry_cmp (keys_of K.Key.Shape)) analysis.now.told.touched) }
     ensures read { OnlyRead (D.state disk) (D.state result.0) }
     ensures faults { TellsFaults (D.state disk).faults (D.state result.0).faults result.1 }
-    ensures tested { (l : Limits) → l.pages ≡ pages → l.most ≡ most → (D.state disk).honest ≡ true → AreOfOthers (entry_cmp (keys_of K.Key.Shape)) analysis.now.told.touched
-        → Tells (AreSound (known_of (class_of K.Key.Shape K.is_proper l)) (reading_of K.said (format_of K.KeyClass)) (is_node (format_of K.KeyClass) pages) analysis.now.told (D.state disk).seen) result.1 }
+    ensures tested { (l : Limits) → l.pages ≡ pages → l.most ≡ most → (D.state disk).honest ≡ true
+        → AreOfOthers (entry_cmp (keys_of K.Key.Shape)) analysis.now.told.touched
+        → Tells (AreSoundAs K.Key.Shape K.is_proper K.said K.KeyClass l pages analysis.now.told
+        (D.state disk).seen) result.1 }
 {
     a_store_starts::<D, K>();
     let used = analysis.used();

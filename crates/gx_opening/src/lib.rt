@@ -1,5 +1,5 @@
-//! What an opening finds on a device: it is settled and read for what it is formatted for, its log is read and laid, and its pages are
-//! tested; and where it is refused, what is damaged there.
+//! What an opening finds on a device: it is settled and read for what it is formatted for, its log is read and laid,
+//! and its pages are tested; and where it is refused, what is damaged there.
 #![tactic(auto)]
 
 mod damage;

@@ -1,16 +1,16 @@
 //! The log of a device is read, and its pages are laid.
 ghost use Rattle.std.specs.Prelude.{◌≡◌, ◌≤◌, IfOk};
+ghost use Rattle.gx_disk.specs.Device.{SameDevice};
 ghost use Rattle.gx_durable.specs.Area.{HasPages};
 ghost use Rattle.gx_found_log.specs.Found.{FaultsTold};
-ghost use Rattle.gx_node.specs.Reading.{format_of};
 ghost use Rattle.gx_recovery.specs.Known.{Limits};
-ghost use Rattle.gx_index_laws.specs.Classes.{known_of};
-ghost use Rattle.gx_readings.specs.Classes.{class_of, reading_of};
+ghost use Rattle.gx_readings.specs.Classes.{known_at, reading_by};
 ghost use Rattle.gx_opening.specs.Laid.{LaysFound, LaysLogOf};
 
 use gx_disk::SectorDisk;
 use gx_found_log::{FoundLog, read_class_log};
 use gx_geom::Refusal;
+use gx_glog::PLACES;
 use gx_machine::Entry;
 use gx_readings::{OfClass, ReadKeys};
 use gx_redo::redo_log;
@@ -24,13 +24,14 @@ fn lay_found<D: SectorDisk, K: ReadKeys>(
     pages: u32,
 ) -> Result<FoundLog<Entry<K::Key>>, Refusal>
     requires { HasPages pages (D.state disk.old).sectors }
-    ensures device { ((D.state disk.new).sectors ≡ (D.state disk.old).sectors) × ((D.state disk.new).honest ≡ (D.state disk.old).honest) }
+    ensures device { SameDevice (D.state disk.old) (D.state disk.new) }
     ensures faults { FaultsTold (D.state disk.old).faults (D.state disk.new).faults result }
-    ensures bodies { IfOk result (λ found. (1 ≤ found.bodies) × (found.bodies ≤ 32)) }
-    ensures lays { (l : Limits) → l.pages ≡ pages → LaysFound (known_of (class_of K.Key.Shape K.is_proper l)) (reading_of K.said (format_of K.KeyClass)) found
+    ensures bodies { IfOk result (λ found. (1 ≤ found.bodies) × (found.bodies ≤ PLACES)) }
+    ensures lays { (l : Limits) → l.pages ≡ pages
+        → LaysFound (known_at K.Key.Shape K.is_proper l) (reading_by K.said K.KeyClass) found
         (D.state disk.old) (D.state disk.new) result }
 {
-    if found.bodies == 0 || found.bodies > 32 {
+    if found.bodies == 0 || found.bodies > PLACES {
         return Err(Refusal::Damaged);
     }
     match redo_log::<OfClass<K>, D>(alloc, disk, &found, pages) {
@@ -39,22 +40,24 @@ fn lay_found<D: SectorDisk, K: ReadKeys>(
     }
 }
 
-/// Reads the log of a device of so many pages, which is settled, and lays its pages: each is as the log leaves it then, and all is settled
-/// again.
+/// Reads the log of a device of so many pages, which is settled, and lays its pages:
+/// each is as the log leaves it then, and all is settled again.
 ///
-/// Refused as `Damaged` exactly where the log is, before anything is written; by the device's fault (`Device`), and for want of memory
-/// (`Memory`). At each moment, also where it is refused, what a crash may leave is as at the start, or has the log that was found and
-/// after it the same pages.
+/// Refused as `Damaged` exactly where the log is, before anything is written; by the device's fault (`Device`), and for
+/// want of memory (`Memory`). At each moment, also where it is refused, what a crash may leave is as at the start, or
+/// has the log that was found and after it the same pages.
 pub(crate) fn lay_log<D: SectorDisk, K: ReadKeys>(
     alloc: Global,
     disk: &mut D,
     pages: u32,
 ) -> Result<FoundLog<Entry<K::Key>>, Refusal>
     requires { HasPages pages (D.state disk.old).sectors }
-    ensures device { ((D.state disk.new).sectors ≡ (D.state disk.old).sectors) × ((D.state disk.new).honest ≡ (D.state disk.old).honest) }
+    ensures device { SameDevice (D.state disk.old) (D.state disk.new) }
     ensures faults { FaultsTold (D.state disk.old).faults (D.state disk.new).faults result }
-    ensures bodies { IfOk result (λ found. (1 ≤ found.bodies) × (found.bodies ≤ 32)) }
-    ensures lays { (l : Limits) → l.pages ≡ pages → LaysLogOf (known_of (class_of K.Key.Shape K.is_proper l)) (reading_of K.said (format_of K.KeyClass)) (D.state disk.old) (D.state disk.new) result }
+    ensures bodies { IfOk result (λ found. (1 ≤ found.bodies) × (found.bodies ≤ PLACES)) }
+    ensures lays { (l : Limits) → l.pages ≡ pages
+        → LaysLogOf (known_at K.Key.Shape K.is_proper l) (reading_by K.said K.KeyClass)
+        (D.state disk.old) (D.state disk.new) result }
 {
     match read_class_log::<K, D>(alloc, disk, pages) {
         Ok(found) => lay_found::<D, K>(alloc, disk, found, pages),

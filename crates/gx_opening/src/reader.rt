@@ -58,11 +58,13 @@ impl<D: SectorDisk, K: KeyClass> Pages<K> for StoreReader<D, K> {
 
     ghost steady = { λ s. IsSteady (D.state s.disk) s.frames };
 
-    ghost since = { λ was now page. IsSince (is_node (format_of K.KeyClass)) (D.state was.disk) (D.state now.disk) was now page };
+    ghost since = { λ was now page. IsSince (is_node (format_of K.KeyClass)) (D.state was.disk)
+        (D.state now.disk) was now page };
 
     ghost asked = { λ old new asked. MovesAsAsked old new asked };
 
-    ghost why = { λ old new fault. IsWhy (is_node (format_of K.KeyClass)) (D.state old.disk) (D.state new.disk) old new fault };
+    ghost why = { λ old new fault. IsWhy (is_node (format_of K.KeyClass)) (D.state old.disk)
+        (D.state new.disk) old new fault };
 
     fn used(&self) -> u32 {
         self.store.used()

@@ -1,14 +1,15 @@
 //! What stands on a device.
 ghost use Rattle.std.specs.Prelude.{◌≡◌, ◌+◌, ◌*◌, ◌<◌, ◌≤◌, true, IfOk, IfErr, Err};
+ghost use Rattle.gx_glog.specs.declared.extent.TheConstants.{PLACES};
+ghost use Rattle.gx_disk.specs.declared.layout.TheConstants.{MAX_PAGES, MIN_SECTORS, PAGES_AT, PAGE_SECTORS};
+ghost use Rattle.gx_disk.specs.Device.{SameDevice};
 ghost use Rattle.gx_machine.specs.Keys.{keys_of, entry_cmp};
-ghost use Rattle.gx_node.specs.Reading.{format_of, is_node};
 ghost use Rattle.gx_pool.specs.Bringing.{OnlyRead};
-ghost use Rattle.gx_index_laws.specs.Classes.{known_of};
-ghost use Rattle.gx_readings.specs.Classes.{class_of, reading_of};
 ghost use Rattle.gx_opening.specs.Formatted.{IsAllowed, IsLarge, TellsFaults};
 ghost use Rattle.gx_opening.specs.Noting.{AreOfOthers};
-ghost use Rattle.gx_opening.specs.Sound.{AreSound, IsCause, Tells};
-ghost use Rattle.gx_opening.specs.Standing.{FindsInOrder, IsStood, IsTested, MayStart, StaysSafe, limits_of, told_with};
+ghost use Rattle.gx_opening.specs.Sound.{IsCause, Tells};
+ghost use Rattle.gx_opening.specs.Standing.{MayStart, limits_of, told_with};
+ghost use Rattle.gx_opening.specs.Setting.{AreSoundAs, StaysSafeAs, FindsInOrderAs, IsStoodAs, IsTestedAs};
 
 use crate::formatted::formatted_for;
 use crate::legal::test_pages;
@@ -36,17 +37,18 @@ fn stand<D: SectorDisk, K: ReadKeys>(
     alloc: Global,
     disk: &mut D,
 ) -> Result<Standing<K::Key>, Refusal>
-    ensures device { ((D.state disk.new).sectors ≡ (D.state disk.old).sectors) × ((D.state disk.new).honest ≡ (D.state disk.old).honest) }
+    ensures device { SameDevice (D.state disk.old) (D.state disk.new) }
     ensures faults { TellsFaults (D.state disk.old).faults (D.state disk.new).faults result }
-    ensures allowed { IfOk result (λ s. IsAllowed K.CLASS s.parameters × IsLarge (D.state disk.old).sectors s.parameters) }
-    ensures bodies { IfOk result (λ s. (1 ≤ s.log.bodies) × (s.log.bodies ≤ 32)) }
-    ensures small { (D.state disk.old).sectors < 4232 → (result ≡ Err Refusal.TooSmall) × (disk.new ≡ disk.old) }
-    ensures safe { (D.state disk.old).honest ≡ true → StaysSafe K.Key.Shape K.is_proper K.said (format_of K.KeyClass) (D.state disk.old) (D.state disk.new) }
+    ensures allowed { IfOk result (λ s. IsAllowed K.CLASS s.parameters
+        × IsLarge (D.state disk.old).sectors s.parameters) }
+    ensures bodies { IfOk result (λ s. (1 ≤ s.log.bodies) × (s.log.bodies ≤ PLACES)) }
+    ensures small { (D.state disk.old).sectors < MIN_SECTORS → (result ≡ Err Refusal.TooSmall) × (disk.new ≡ disk.old) }
+    ensures safe { (D.state disk.old).honest ≡ true
+        → StaysSafeAs K.Key.Shape K.is_proper K.said K.KeyClass D.state disk.old disk.new }
     ensures order { (D.state disk.old).honest ≡ true
-        → FindsInOrder K.Key.Shape K.is_proper K.said (format_of K.KeyClass)
-        D.state (D.state disk.old) (D.state disk.new) result }
-    ensures stood { (D.state disk.old).honest ≡ true → 4232 ≤ (D.state disk.old).sectors
-        → IsStood K.Key.Shape K.is_proper K.said (format_of K.KeyClass) K.CLASS (D.state disk.old) (D.state disk.new) result }
+        → FindsInOrderAs K.Key.Shape K.is_proper K.said K.KeyClass D.state disk.old disk.new result }
+    ensures stood { (D.state disk.old).honest ≡ true → MIN_SECTORS ≤ (D.state disk.old).sectors
+        → IsStoodAs K.Key.Shape K.is_proper K.said K.KeyClass D.state disk.old disk.new result }
 {
     what_stands_is_legal::<K>();
     match formatted_for::<D, K>(disk) {
@@ -77,16 +79,18 @@ fn tested<D: SectorDisk, K: ReadKeys>(
     disk: D,
     standing: Standing<K::Key>,
 ) -> (D, Result<Standing<K::Key>, Refusal>)
-    requires inside { (standing.parameters.pages ≤ 65536) × (4168 + 8 * standing.parameters.pages ≤ (D.state disk).sectors) }
+    requires inside { (standing.parameters.pages ≤ MAX_PAGES)
+        × (PAGES_AT + PAGE_SECTORS * standing.parameters.pages ≤ (D.state disk).sectors) }
     ensures read { OnlyRead (D.state disk) (D.state result.0) }
     ensures faults { TellsFaults (D.state disk).faults (D.state result.0).faults result.1 }
     ensures ok { IfOk result.1 (λ s. s ≡ standing) }
     ensures fits { IfOk result.1 (λ s. s.log.analysis.told.used ≤ s.parameters.pages) }
     ensures others { IfOk result.1 (λ s. AreOfOthers (entry_cmp (keys_of K.Key.Shape)) s.log.analysis.told.touched) }
     ensures cause { IfErr result.1 IsCause }
-    ensures tested { (D.state disk).honest ≡ true → AreOfOthers (entry_cmp (keys_of K.Key.Shape)) standing.log.analysis.told.touched
-        → Tells (AreSound (known_of (class_of K.Key.Shape K.is_proper (limits_of standing.parameters))) (reading_of K.said (format_of K.KeyClass)) (is_node (format_of K.KeyClass) standing.parameters.pages)
-        standing.log.analysis.told (D.state disk).seen) result.1 }
+    ensures tested { (D.state disk).honest ≡ true
+        → AreOfOthers (entry_cmp (keys_of K.Key.Shape)) standing.log.analysis.told.touched
+        → Tells (AreSoundAs K.Key.Shape K.is_proper K.said K.KeyClass (limits_of standing.parameters)
+        standing.parameters.pages standing.log.analysis.told (D.state disk).seen) result.1 }
 {
     let Parameters { pages, most, .. } = standing.parameters;
     let (disk, sound) = test_pages::<D, K>(alloc, disk, &standing.log.analysis, pages, most);
@@ -95,28 +99,31 @@ fn tested<D: SectorDisk, K: ReadKeys>(
 
 /// Settles a device, reads what it is formatted for, lays its log, and tests its pages. The device is handed back.
 ///
-/// Refused, by the first that holds: with fewer sectors than the smallest index takes (`TooSmall`, and no call is made), without the magic
-/// (`NotFormatted`), with numbers out of range or of another class (`BadParameter`), with fewer sectors than that index takes
-/// (`TooSmall`), with a damaged log, or pages that can't be read, aren't a legal tree, or haven't what open transactions touched in its place
-/// (`Damaged`); and where a call fails (`Device`), or memory is refused (`Memory`). At each moment a crash may leave what it could at the
-/// start, or an image with the log that was found and after it the same pages. A sync comes before the first write, and of the sectors only
-/// those of pages that the log gives are written. What is found has the numbers that an engine may start with, and its open transactions
-/// have touched no entry twice, whatever the device is.
+/// Refused, by the first that holds: with fewer sectors than the smallest index takes (`TooSmall`, and no call is
+/// made), without the magic (`NotFormatted`), with numbers out of range or of another class (`BadParameter`), with
+/// fewer sectors than that index takes (`TooSmall`), with a damaged log, or pages that can't be read, aren't a legal
+/// tree, or haven't what open transactions touched in its place (`Damaged`); and where a call fails (`Device`), or
+/// memory is refused (`Memory`). At each moment a crash may leave what it could at the start, or an image with the log
+/// that was found and after it the same pages. A sync comes before the first write, and of the sectors only those of
+/// pages that the log gives are written. What is found has the numbers that an engine may start with, and its open
+/// transactions have touched no entry twice, whatever the device is.
 pub fn find<D: SectorDisk, K: ReadKeys>(
     alloc: Global,
     disk: D,
 ) -> (D, Result<Standing<K::Key>, Refusal>)
-    ensures device { ((D.state result.0).sectors ≡ (D.state disk).sectors) × ((D.state result.0).honest ≡ (D.state disk).honest) }
+    ensures device { SameDevice (D.state disk) (D.state result.0) }
     ensures faults { TellsFaults (D.state disk).faults (D.state result.0).faults result.1 }
-    ensures allowed { IfOk result.1 (λ s. IsAllowed K.CLASS s.parameters × IsLarge (D.state disk).sectors s.parameters) }
+    ensures allowed { IfOk result.1 (λ s. IsAllowed K.CLASS s.parameters
+        × IsLarge (D.state disk).sectors s.parameters) }
     ensures starts { IfOk result.1 MayStart }
     ensures others { IfOk result.1 (λ s. AreOfOthers (entry_cmp (keys_of K.Key.Shape)) s.log.analysis.told.touched) }
-    ensures small { (D.state disk).sectors < 4232 → (result.1 ≡ Err Refusal.TooSmall) × (result.0 ≡ disk) }
-    ensures safe { (D.state disk).honest ≡ true → StaysSafe K.Key.Shape K.is_proper K.said (format_of K.KeyClass) (D.state disk) (D.state result.0) }
-    ensures order { (D.state disk).honest ≡ true → FindsInOrder K.Key.Shape K.is_proper K.said (format_of K.KeyClass)
-        D.state (D.state disk) (D.state result.0) result.1 }
-    ensures tested { (D.state disk).honest ≡ true → 4232 ≤ (D.state disk).sectors
-        → IsTested K.Key.Shape K.is_proper K.said (format_of K.KeyClass) K.CLASS (D.state disk) (D.state result.0) result.1 }
+    ensures small { (D.state disk).sectors < MIN_SECTORS → (result.1 ≡ Err Refusal.TooSmall) × (result.0 ≡ disk) }
+    ensures safe { (D.state disk).honest ≡ true
+        → StaysSafeAs K.Key.Shape K.is_proper K.said K.KeyClass D.state disk result.0 }
+    ensures order { (D.state disk).honest ≡ true
+        → FindsInOrderAs K.Key.Shape K.is_proper K.said K.KeyClass D.state disk result.0 result.1 }
+    ensures tested { (D.state disk).honest ≡ true → MIN_SECTORS ≤ (D.state disk).sectors
+        → IsTestedAs K.Key.Shape K.is_proper K.said K.KeyClass D.state disk result.0 result.1 }
 {
     what_stands_is_legal::<K>();
     let mut disk = disk;

@@ -1,5 +1,6 @@
 -- The first fault of given bytes.
 use Rattle.std.specs.Prelude.{ℕ, ◌+◌, ◌*◌, ◌==◌, ◌&&◌, Bool, true, not, if◌then◌else◌, List, [], ◌∷◌, length, slice_range, Option, Some, None, nat_le}
+use Rattle.gx_page.specs.declared.block.TheConstants.{PAGE_SIZE}
 use Rattle.gx_page.specs.Bytes.{all_zero, number_16_at}
 use Rattle.gx_page.specs.Reading.{count_of, entries_of}
 use Rattle.gx_page.specs.declared.fault.PageFault.{PageFault}
@@ -32,7 +33,7 @@ is_reserved_zero bytes = all_zero (slice_range bytes 6 8) && all_zero (slice_ran
 -- the directory ends within the block, its slots are in order, and the heap starts at the last of them, behind the directory
 unfoldable pub is_directory : List ℕ → Bool
 is_directory bytes =
-    nat_le (directory_end bytes) 4096 && in_order 4096 (entries_of bytes) && (heap_start bytes == last_place 4096 (entries_of bytes)) && nat_le (directory_end bytes) (heap_start bytes)
+    nat_le (directory_end bytes) PAGE_SIZE && in_order PAGE_SIZE (entries_of bytes) && (heap_start bytes == last_place PAGE_SIZE (entries_of bytes)) && nat_le (directory_end bytes) (heap_start bytes)
 
 unfoldable pub is_free_zero : List ℕ → Bool
 is_free_zero bytes = all_zero (slice_range bytes (directory_end bytes) (heap_start bytes))
@@ -40,7 +41,7 @@ is_free_zero bytes = all_zero (slice_range bytes (directory_end bytes) (heap_sta
 -- the tests in their order
 abbrev pub fault_of : List ℕ → Option PageFault
 fault_of bytes =
-    if not (length bytes == 4096) then Some Size
+    if not (length bytes == PAGE_SIZE) then Some Size
     else (if not (is_reserved_zero bytes) then Some Reserved
     else (if not (is_directory bytes) then Some Directory
     else (if not (is_free_zero bytes) then Some Free else None)))

@@ -1,6 +1,7 @@
 -- The one image of a page's contents, and which contents have one.
 use Rattle.std.specs.Prelude.{ℕ, ◌+◌, ◌-◌, ◌*◌, ◌^◌, ◌<◌, ◌≤◌, List, [], ◌∷◌, ◌++◌, length}
 use Rattle.std.specs.List.{All}
+use Rattle.gx_page.specs.declared.block.TheConstants.{PAGE_SIZE}
 use Rattle.gx_page.specs.Bytes.{spell_16, spell_32, spell_64, zeros, AreBytes}
 use Rattle.gx_page.specs.Contents.{Contents}
 
@@ -22,15 +23,15 @@ heap (item ∷ items) = heap items ++ item
 -- the 32 bytes of the header: level, count, where the heap starts, sequence number, right page and own number
 abbrev pub header : Contents → List ℕ → List ℕ
 header page body =
-    spell_16 page.level ++ (spell_16 (length page.items) ++ (spell_16 (4096 - total page.items) ++ (0 ∷ 0 ∷ (spell_64 page.nsn ++ (spell_32 page.right ++ (spell_32 page.number
+    spell_16 page.level ++ (spell_16 (length page.items) ++ (spell_16 (PAGE_SIZE - total page.items) ++ (0 ∷ 0 ∷ (spell_64 page.nsn ++ (spell_32 page.right ++ (spell_32 page.number
     ++ (0 ∷ 0 ∷ 0 ∷ 0 ∷ 0 ∷ 0 ∷ 0 ∷ 0 ∷ body)))))))
 
 -- header, directory, zeros, and the items' bytes up to the end
 unfoldable pub image_of : Contents → List ℕ
-image_of page = header page (directory 4096 page.items ++ (zeros (4064 - (4 * length page.items + total page.items)) ++ heap page.items))
+image_of page = header page (directory PAGE_SIZE page.items ++ (zeros (4064 - (4 * length page.items + total page.items)) ++ heap page.items))
 
 abbrev pub Fits : List (List ℕ) → Type 0
-Fits items = 32 + 4 * length items + total items ≤ 4096
+Fits items = 32 + 4 * length items + total items ≤ PAGE_SIZE
 
 abbrev pub IsItem : List ℕ → Type 0
 IsItem item = (1 ≤ length item) × AreBytes item

@@ -1,6 +1,7 @@
 -- The laws of the format.
 use Rattle.std.specs.Prelude.{◌≡◌, ◌↔◌, ℕ, ◌+◌, ◌-◌, ◌*◌, ◌<◌, ◌≤◌, List, [], ◌++◌, length, drop, slice_index_or, slice_range, None}
 use Rattle.std.specs.List.{insert}
+use Rattle.gx_page.specs.declared.block.TheConstants.{PAGE_SIZE}
 use Rattle.gx_page.specs.Bytes.{AreBytes}
 use Rattle.gx_page.specs.Contents.{Contents}
 use Rattle.gx_page.specs.Format.{image_of, heap, total, Fits, IsWellFormed}
@@ -24,7 +25,7 @@ FaultlessAreImages = (bytes : List ℕ) → AreBytes bytes → ((fault_of bytes 
 
 -- an image ends with the heap of its items
 abbrev pub ImagesEndWithTheHeap : Type 0
-ImagesEndWithTheHeap = (v : Contents) → IsWellFormed v → drop (4096 - total v.items) (image_of v) ≡ heap v.items
+ImagesEndWithTheHeap = (v : Contents) → IsWellFormed v → drop (PAGE_SIZE - total v.items) (image_of v) ≡ heap v.items
 
 -- the heap of the items from a slot on is that of the items behind it, then the slot's item
 abbrev pub HeapGoesOn : Type 0
@@ -43,7 +44,7 @@ PlaceInHeap = (items : List (List ℕ)) (size slot : ℕ) → AllOfLength size i
 -- an item's place in the image
 abbrev pub PlaceInImage : Type 0
 PlaceInImage = (v : Contents) (size slot : ℕ) → IsWellFormed v → AllOfLength size v.items → slot < length v.items
-    → slice_range (image_of v) (4096 - size * (slot + 1)) (4096 - size * slot) ≡ slice_index_or v.items slot []
+    → slice_range (image_of v) (PAGE_SIZE - size * (slot + 1)) (PAGE_SIZE - size * slot) ≡ slice_index_or v.items slot []
 
 -- ---- room
 

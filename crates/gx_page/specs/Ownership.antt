@@ -9,10 +9,11 @@ use denote.Struct.Lending.{lent_at}
 use Rattle.std.specs.Box.Ownership.{box_owns}
 use Rattle.std.specs.declared.alloc.Global.{Global}
 use Rattle.std.specs.contracts.impls.GlobalAllocator.TheImpl.{ghosts}
+use Rattle.gx_page.specs.declared.block.TheConstants.{PAGE_SIZE}
 
 -- an array of the block's 4,096 bytes, as a type of the logic
 abbrev pub the_bytes : RattleType
-the_bytes = Array u8 4096
+the_bytes = Array u8 PAGE_SIZE
 
 -- the bytes at p, and the right to give their block back to the heap
 abbrev pub block_owns : Global → Ptr → List ℕ → Fml

@@ -1,12 +1,14 @@
 //! The block of a page: 4,096 bytes of the heap behind one raw pointer.
 //!
-//! The pointer is followed in `byte`, `set_byte`, `slice`, `bytes`, `bytes_mut`, `write`, `move_down` and `move_up` alone, and
-//! changes hands in `of_box` and `into_box`. These ten, and that a block may be lent and sent, are proved by hand; the rest is
-//! safe code over them.
-ghost use Rattle.std.specs.Prelude.{◌≡◌, ℕ, ◌+◌, ◌-◌, ◌<◌, ◌≤◌, List, length, IfOk, slice_index, slice_range, slice_set};
+//! The pointer is followed in `byte`, `set_byte`, `slice`, `bytes`, `bytes_mut`, `write`, `move_down` and `move_up`
+//! alone, and changes hands in `of_box` and `into_box`. These ten, and that a block may be lent and sent, are proved by
+//! hand; the rest is safe code over them.
+ghost use Rattle.std.specs.Prelude.{◌≡◌, ℕ, ◌+◌, ◌-◌, ◌<◌, ◌≤◌, List, length};
+ghost use Rattle.std.specs.Prelude.{IfOk, slice_index, slice_range, slice_set};
 ghost use Rattle.std.specs.Borrow.{sem};
 ghost use Rattle.std.specs.List.{copy_within};
-ghost use Rattle.gx_page.specs.Bytes.{zeros, spell_16, spell_32, spell_64, number_16_at, number_32_at, number_64_at, overwrite};
+ghost use Rattle.gx_page.specs.Bytes.{zeros, spell_16, spell_32, spell_64, number_16_at};
+ghost use Rattle.gx_page.specs.Bytes.{number_32_at, number_64_at, overwrite};
 ghost use Rattle.gx_page.specs.Ownership.{block_owns, block_lends};
 
 use std::alloc::{AllocError, Global};
@@ -201,7 +203,8 @@ impl Block {
     /// Copies so many bytes from a place to one that isn't above it, the first of them first.
     fn move_down(&mut self, from: usize, dest: usize, count: usize)
         requires { (dest ≤ from) × (from + count ≤ PAGE_SIZE) }
-        ensures { (self.new.bytes ≡ copy_within self.old.bytes from (from + count) dest) × (length self.old.bytes ≡ PAGE_SIZE) }
+        ensures { (self.new.bytes ≡ copy_within self.old.bytes from (from + count) dest)
+            × (length self.old.bytes ≡ PAGE_SIZE) }
     {
         let start = self.at as *mut u8;
         let mut index = 0;
@@ -214,7 +217,8 @@ impl Block {
     /// Copies so many bytes from a place to one above it, the last of them first.
     fn move_up(&mut self, from: usize, dest: usize, count: usize)
         requires { (from ≤ dest) × (dest + count ≤ PAGE_SIZE) }
-        ensures { (self.new.bytes ≡ copy_within self.old.bytes from (from + count) dest) × (length self.old.bytes ≡ PAGE_SIZE) }
+        ensures { (self.new.bytes ≡ copy_within self.old.bytes from (from + count) dest)
+            × (length self.old.bytes ≡ PAGE_SIZE) }
     {
         let start = self.at as *mut u8;
         let mut left = count;

@@ -1,7 +1,9 @@
 //! The tests of given bytes, in the order of their faults.
-ghost use Rattle.std.specs.Prelude.{◌≡◌, ℕ, ◌+◌, ◌*◌, ◌≤◌, length, drop, slice_range, Some, None, IfNone, MatchResult, ⊤, true};
+ghost use Rattle.std.specs.Prelude.{◌≡◌, ℕ, ◌+◌, ◌*◌, ◌≤◌, length, drop, slice_range};
+ghost use Rattle.std.specs.Prelude.{Some, None, IfNone, MatchResult, ⊤, true};
 ghost use Rattle.gx_page.specs.Bytes.{all_zero as every_zero, number_16_at, number_32_at};
-ghost use Rattle.gx_page.specs.Faults.{fault_of, lowest, is_reserved_zero as reserved_zero, is_directory as right_directory, is_free_zero as free_zero};
+ghost use Rattle.gx_page.specs.Faults.{fault_of, lowest, is_reserved_zero as reserved_zero};
+ghost use Rattle.gx_page.specs.Faults.{is_directory as right_directory, is_free_zero as free_zero};
 ghost use Rattle.gx_page.specs.Reading.{IsImage, read_of, entries};
 
 use crate::block::PAGE_SIZE;
@@ -44,7 +46,7 @@ fn is_reserved_zero(bytes: &[u8]) -> bool
 /// Where the last slot's bytes begin, if each slot has a byte and ends where the one before begins.
 fn lowest_place(bytes: &[u8], count: usize) -> Option<usize>
     requires { (length bytes.now ≡ PAGE_SIZE) × (32 + 4 * count ≤ PAGE_SIZE) }
-    ensures { result ≡ lowest 4096 (entries count (drop 32 bytes.now)) }
+    ensures { result ≡ lowest PAGE_SIZE (entries count (drop 32 bytes.now)) }
 {
     let mut end = PAGE_SIZE;
     for slot in 0..count {

@@ -20,7 +20,7 @@ pub(crate) fn slot_at(slot: usize) -> usize
 pub(crate) fn count_of(block: &Block) -> u16
     requires { IsImage block.now.bytes }
     ensures count { result ≡ length (read_of block.now.bytes).items }
-    ensures fits { 32 + 4 * length (read_of block.now.bytes).items + total (read_of block.now.bytes).items ≤ 4096 }
+    ensures fits { 32 + 4 * length (read_of block.now.bytes).items + total (read_of block.now.bytes).items ≤ PAGE_SIZE }
 {
     block.u16_at(COUNT)
 }
@@ -28,7 +28,7 @@ pub(crate) fn count_of(block: &Block) -> u16
 /// Where the heap of an image starts.
 pub(crate) fn start_of(block: &Block) -> u16
     requires { IsImage block.now.bytes }
-    ensures { result + total (read_of block.now.bytes).items ≡ 4096 }
+    ensures { result + total (read_of block.now.bytes).items ≡ PAGE_SIZE }
 {
     block.u16_at(START)
 }
@@ -37,7 +37,8 @@ pub(crate) fn start_of(block: &Block) -> u16
 pub(crate) fn place_of(block: &Block, slot: usize) -> u16
     requires image { IsImage block.now.bytes }
     requires slot { slot < length (read_of block.now.bytes).items }
-    ensures { result + (total (take slot (read_of block.now.bytes).items) + length (slice_index_or (read_of block.now.bytes).items slot [])) ≡ 4096 }
+    ensures { result + (total (take slot (read_of block.now.bytes).items) + length
+        (slice_index_or (read_of block.now.bytes).items slot [])) ≡ PAGE_SIZE }
 {
     block.u16_at(slot_at(slot))
 }
@@ -47,7 +48,8 @@ pub(crate) fn size_of(block: &Block, slot: usize) -> u16
     requires image { IsImage block.now.bytes }
     requires slot { slot < length (read_of block.now.bytes).items }
     ensures size { result ≡ length (slice_index_or (read_of block.now.bytes).items slot []) }
-    ensures within { total (take slot (read_of block.now.bytes).items) + result ≤ total (read_of block.now.bytes).items }
+    ensures within { total (take slot (read_of block.now.bytes).items) + result
+        ≤ total (read_of block.now.bytes).items }
 {
     block.u16_at(slot_at(slot) + LENGTH)
 }
@@ -56,11 +58,11 @@ pub(crate) fn size_of(block: &Block, slot: usize) -> u16
 pub(crate) fn end_of(block: &Block, slot: usize) -> u16
     requires image { IsImage block.now.bytes }
     requires slot { slot ≤ length (read_of block.now.bytes).items }
-    ensures end { result + total (take slot (read_of block.now.bytes).items) ≡ 4096 }
+    ensures end { result + total (take slot (read_of block.now.bytes).items) ≡ PAGE_SIZE }
     ensures within { total (take slot (read_of block.now.bytes).items) ≤ total (read_of block.now.bytes).items }
 {
     if slot == 0 {
-        4096
+        PAGE_SIZE as u16
     } else {
         place_of(block, slot - 1)
     }
@@ -71,7 +73,8 @@ pub(crate) fn end_of(block: &Block, slot: usize) -> u16
 pub(crate) fn open_slot(block: &mut Block, slot: usize, count: usize, end: u16, size: u16)
     requires slots { (slot ≤ count) × (36 + 4 * count ≤ PAGE_SIZE) }
     requires block { length block.old.bytes ≡ PAGE_SIZE }
-    ensures { block.new.bytes ≡ overwrite block.old.bytes (32 + 4 * slot) (opened (count - slot) end size (drop (32 + 4 * slot) block.old.bytes)) }
+    ensures { block.new.bytes ≡ overwrite block.old.bytes (32 + 4 * slot)
+        (opened (count - slot) end size (drop (32 + 4 * slot) block.old.bytes)) }
 {
     let mut above = end;
     let mut pending = size;
@@ -92,7 +95,8 @@ pub(crate) fn open_slot(block: &mut Block, slot: usize, count: usize, end: u16, 
 pub(crate) fn close_slot(block: &mut Block, slot: usize, count: usize, end: u16)
     requires slots { (slot < count) × (32 + 4 * count ≤ PAGE_SIZE) }
     requires block { length block.old.bytes ≡ PAGE_SIZE }
-    ensures { block.new.bytes ≡ overwrite block.old.bytes (32 + 4 * slot) (closed (count - 1 - slot) end (drop (36 + 4 * slot) block.old.bytes)) }
+    ensures { block.new.bytes ≡ overwrite block.old.bytes (32 + 4 * slot)
+        (closed (count - 1 - slot) end (drop (36 + 4 * slot) block.old.bytes)) }
 {
     let mut above = end;
     for index in slot..count - 1 {

@@ -1,5 +1,6 @@
 //! Edits of a block that is an image. Each leaves the image of the edited contents.
-ghost use Rattle.std.specs.Prelude.{◌≡◌, ℕ, ◌+◌, ◌*◌, ◌<◌, ◌≤◌, [], length, IfOk, IfErr, None, Some, slice_index_or, slice_set};
+ghost use Rattle.std.specs.Prelude.{◌≡◌, ℕ, ◌+◌, ◌*◌, ◌<◌, ◌≤◌, [], length, IfOk};
+ghost use Rattle.std.specs.Prelude.{IfErr, None, Some, slice_index_or, slice_set};
 ghost use Rattle.gx_page.specs.Bytes.{zeros};
 ghost use Rattle.std.specs.List.{insert, remove};
 ghost use Rattle.gx_page.specs.Edits.{blank, with_items};
@@ -20,7 +21,7 @@ pub(crate) fn write_blank(block: &mut Block, level: u16, number: u32)
     ensures page { read_of block.new.bytes ≡ blank level number }
 {
     block.set_u16(0, level);
-    block.set_u16(START, 4096);
+    block.set_u16(START, PAGE_SIZE as u16);
     block.set_u32(NUMBER, number);
 }
 
@@ -50,10 +51,12 @@ pub(crate) fn load(block: &mut Block, bytes: &[u8]) -> Result<(), PageFault>
 pub(crate) fn insert(block: &mut Block, slot: usize, bytes: &[u8])
     requires image { IsImage block.old.bytes }
     requires slot { slot ≤ length (read_of block.old.bytes).items }
-    requires fits { 36 + 4 * length (read_of block.old.bytes).items + total (read_of block.old.bytes).items + length bytes.now ≤ 4096 }
+    requires fits { 36 + 4 * length (read_of block.old.bytes).items + total
+        (read_of block.old.bytes).items + length bytes.now ≤ PAGE_SIZE }
     requires item { 1 ≤ length bytes.now }
     ensures image { IsImage block.new.bytes }
-    ensures items { read_of block.new.bytes ≡ with_items (read_of block.old.bytes) (insert (read_of block.old.bytes).items slot bytes.now) }
+    ensures items { read_of block.new.bytes ≡ with_items (read_of block.old.bytes)
+        (insert (read_of block.old.bytes).items slot bytes.now) }
 {
     let count = count_of(block);
     let start = start_of(block);
@@ -72,7 +75,8 @@ pub(crate) fn remove(block: &mut Block, slot: usize)
     requires image { IsImage block.old.bytes }
     requires slot { slot < length (read_of block.old.bytes).items }
     ensures image { IsImage block.new.bytes }
-    ensures items { read_of block.new.bytes ≡ with_items (read_of block.old.bytes) (remove (read_of block.old.bytes).items slot) }
+    ensures items { read_of block.new.bytes ≡ with_items (read_of block.old.bytes)
+        (remove (read_of block.old.bytes).items slot) }
 {
     let count = count_of(block);
     let start = start_of(block);
@@ -92,7 +96,8 @@ pub(crate) fn replace(block: &mut Block, slot: usize, bytes: &[u8])
     requires slot { slot < length (read_of block.old.bytes).items }
     requires size { length bytes.now ≡ length (slice_index_or (read_of block.old.bytes).items slot []) }
     ensures image { IsImage block.new.bytes }
-    ensures items { read_of block.new.bytes ≡ with_items (read_of block.old.bytes) (slice_set (read_of block.old.bytes).items slot bytes.now) }
+    ensures items { read_of block.new.bytes ≡ with_items (read_of block.old.bytes)
+        (slice_set (read_of block.old.bytes).items slot bytes.now) }
 {
     let from = usize::from(place_of(block, slot));
     block.write(from, bytes);
@@ -104,7 +109,9 @@ pub(crate) fn set_byte(block: &mut Block, slot: usize, index: usize, byte: u8)
     requires slot { slot < length (read_of block.old.bytes).items }
     requires index { index < length (slice_index_or (read_of block.old.bytes).items slot []) }
     ensures image { IsImage block.new.bytes }
-    ensures items { read_of block.new.bytes ≡ with_items (read_of block.old.bytes) (slice_set (read_of block.old.bytes).items slot (slice_set (slice_index_or (read_of block.old.bytes).items slot []) index byte)) }
+    ensures items { read_of block.new.bytes ≡ with_items (read_of block.old.bytes)
+        (slice_set (read_of block.old.bytes).items slot
+        (slice_set (slice_index_or (read_of block.old.bytes).items slot []) index byte)) }
 {
     let from = usize::from(place_of(block, slot));
     block.set_byte(from + index, byte);

@@ -3,12 +3,13 @@ ghost use Rattle.std.specs.Prelude.{◌+◌, ◌*◌, ◌<◌, ◌≤◌, length
 ghost use Rattle.std.specs.List.{insert};
 ghost use Rattle.gx_page.specs.Format.{Fits};
 ghost use Rattle.gx_page.specs.Sizes.{NoneLonger};
-ghost use Rattle.gx_page.specs.Laws.{ImagesTell, FaultlessAreImages, ImagesReadBack, ImagesEndWithTheHeap, HeapGoesOn, TotalOfOneLength, PlaceInHeap, PlaceInImage, FewFit};
+ghost use Rattle.gx_page.specs.Laws.{ImagesTell, FaultlessAreImages, ImagesReadBack, ImagesEndWithTheHeap};
+ghost use Rattle.gx_page.specs.Laws.{HeapGoesOn, TotalOfOneLength, PlaceInHeap, PlaceInImage, FewFit};
 
 use crate::Page;
 
-/// Contents have one image and an image has one reading: equal images of well-formed contents are equal contents, and bytes
-/// have no fault exactly where they are the image of well-formed contents.
+/// Contents have one image and an image has one reading: equal images of well-formed contents are equal contents, and
+/// bytes have no fault exactly where they are the image of well-formed contents.
 pub fn format()
     ensures images_tell { ImagesTell }
     ensures read_back { ImagesReadBack }

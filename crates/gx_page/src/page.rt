@@ -1,5 +1,6 @@
 //! The slotted page: its calls, over a block that is always an image.
-ghost use Rattle.std.specs.Prelude.{◌≡◌, ◌↔◌, ◌⊎◌, ℕ, ◌+◌, ◌<◌, ◌≤◌, List, [], length, IfOk, IfErr, IsOk, IsTrue, None, Some, slice_index_or, slice_set};
+ghost use Rattle.std.specs.Prelude.{◌≡◌, ◌↔◌, ◌⊎◌, ℕ, ◌+◌, ◌<◌, ◌≤◌, List, [], length, IfOk};
+ghost use Rattle.std.specs.Prelude.{IfErr, IsOk, IsTrue, None, Some, slice_index_or, slice_set};
 ghost use Rattle.std.specs.Bool.{OnTrue, OnFalse};
 ghost use Rattle.std.specs.List.{insert, remove};
 ghost use Rattle.gx_page.specs.Contents.{Contents};
@@ -67,8 +68,10 @@ impl Page {
     /// The page whose image the bytes are.
     /// Refused with the first fault of the bytes, and after all tests with `Memory` where there is none for the block.
     pub fn from_image(alloc: Global, bytes: &[u8]) -> Result<Page, PageFault>
-        ensures page { IfOk result (λ page. (fault_of bytes.now ≡ None) × IsImage bytes.now × (page ≡ read_of bytes.now)) }
-        ensures fault { IfErr result (λ fault. (fault_of bytes.now ≡ Some fault) ⊎ ((fault_of bytes.now ≡ None) × (fault ≡ PageFault.Memory))) }
+        ensures page { IfOk result (λ page. (fault_of bytes.now ≡ None) × IsImage bytes.now
+            × (page ≡ read_of bytes.now)) }
+        ensures fault { IfErr result (λ fault. (fault_of bytes.now ≡ Some fault)
+            ⊎ ((fault_of bytes.now ≡ None) × (fault ≡ PageFault.Memory))) }
         ensures faultless { (fault_of bytes.now ≡ None) ↔ IsImage bytes.now }
     {
         if let Some(fault) = first_fault(bytes) {
@@ -84,7 +87,8 @@ impl Page {
     /// Becomes the page whose image the bytes are, with no memory taken.
     /// Refused with the first fault of the bytes, and the page is then as it was.
     pub fn load(&mut self, bytes: &[u8]) -> Result<(), PageFault>
-        ensures loaded { IfOk result (λ _. (fault_of bytes.now ≡ None) × IsImage bytes.now × (self.new ≡ read_of bytes.now)) }
+        ensures loaded { IfOk result (λ _. (fault_of bytes.now ≡ None) × IsImage bytes.now
+            × (self.new ≡ read_of bytes.now)) }
         ensures fault { IfErr result (λ fault. (fault_of bytes.now ≡ Some fault) × (self.new ≡ self.old)) }
         ensures faultless { (fault_of bytes.now ≡ None) ↔ IsImage bytes.now }
     {
@@ -94,7 +98,8 @@ impl Page {
     /// The own number of the page whose image the bytes are, with no memory taken.
     /// Refused with the first fault of the bytes.
     pub fn check(bytes: &[u8]) -> Result<u32, PageFault>
-        ensures page { IfOk result (λ number. (fault_of bytes.now ≡ None) × IsImage bytes.now × (number ≡ (read_of bytes.now).number)) }
+        ensures page { IfOk result (λ number. (fault_of bytes.now ≡ None) × IsImage bytes.now
+            × (number ≡ (read_of bytes.now).number)) }
         ensures fault { IfErr result (λ fault. fault_of bytes.now ≡ Some fault) }
         ensures faultless { (fault_of bytes.now ≡ None) ↔ IsImage bytes.now }
     {
@@ -173,7 +178,8 @@ impl Page {
     pub fn set_byte(&mut self, slot: usize, index: usize, byte: u8)
         requires slot { slot < length self.old.items }
         requires index { index < length (slice_index_or self.old.items slot []) }
-        ensures { self.new ≡ with_items self.old (slice_set self.old.items slot (slice_set (slice_index_or self.old.items slot []) index byte)) }
+        ensures { self.new ≡ with_items self.old (slice_set self.old.items slot
+            (slice_set (slice_index_or self.old.items slot []) index byte)) }
     {
         edits::set_byte(&mut self.block, slot, index, byte);
     }

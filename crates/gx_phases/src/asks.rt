@@ -89,7 +89,8 @@ fn ask_working<B: Shape, W: Drop>(
 ) -> Asked<B>
     requires session { is_session session ≡ true }
     requires eight { length phases.old.items ≡ SESSIONS }
-    ensures { WorkingAsked (keys_of B.Shape) session call work phases.old.items table.old result phases.new.items table.new }
+    ensures { WorkingAsked (keys_of B.Shape) session call work phases.old.items table.old
+        result phases.new.items table.new }
 {
     match call {
         Call::Begin => refused(Refusal::InTransaction),

@@ -44,10 +44,26 @@ impl<B: Shape, W> Model for Sessions<B, W> {
 
     ghost Value = { State B W };
 
-    ghost view = { λ s. record { phases = s.phases.items; table = s.table; transactions = s.transactions.items; next = s.next; latest = s.latest; durable = s.durable; failed = s.failed } };
+    ghost view = { λ s. record {
+      phases = s.phases.items;
+      table = s.table;
+      transactions = s.transactions.items;
+      next = s.next;
+      latest = s.latest;
+      durable = s.durable;
+      failed = s.failed;
+    } };
 
     ghost invariant = { λ s. IsKept (keys B.cmp B.overlap B.inside)
-        (record { phases = s.phases.items; table = s.table; transactions = s.transactions.items; next = s.next; latest = s.latest; durable = s.durable; failed = s.failed }) };
+        (record {
+          phases = s.phases.items;
+          table = s.table;
+          transactions = s.transactions.items;
+          next = s.next;
+          latest = s.latest;
+          durable = s.durable;
+          failed = s.failed;
+        }) };
 }
 
 impl<B: Shape, W: Drop> Sessions<B, W> {
@@ -58,11 +74,14 @@ impl<B: Shape, W: Drop> Sessions<B, W> {
     ghost use Rattle.gx_engine_laws.specs.Events.{IsEvent};
     ghost use Rattle.gx_txn.specs.Tables.{held_by, claimed_in, locks_for, IsKept as HeldIsKept};
     ghost use Rattle.gx_phases.specs.States.{fresh_state, engine_of, phase_at, with_phase_of, IsKept};
-    ghost use Rattle.gx_phases.specs.Moves.{is_open, asks_commit, HasWrite, is_undoing, waits_for, with_work, transaction_of, covered, next_of, Acknowledged, RestoredOne, TakesUp, may_lose, answered_state, written_state, sealed_state, ended_state, synced_state, failed_state};
+    ghost use Rattle.gx_phases.specs.Moves.{is_open, asks_commit, HasWrite, is_undoing, waits_for};
+    ghost use Rattle.gx_phases.specs.Moves.{with_work, transaction_of, covered, next_of, Acknowledged};
+    ghost use Rattle.gx_phases.specs.Moves.{RestoredOne, TakesUp, may_lose, answered_state, written_state};
+    ghost use Rattle.gx_phases.specs.Moves.{sealed_state, ended_state, synced_state, failed_state};
     ghost use Rattle.gx_phases.specs.Asked.{Begun, IsAsked, asked_event, begins, is_full};
 
-    /// Sessions without a transaction, where the last commit has the number `latest`, that of `durable` is durable, and the
-    /// next transaction gets the number `next`. It takes all places for claims, notes and predicates.
+    /// Sessions without a transaction, where the last commit has the number `latest`, that of `durable` is durable, and
+    /// the next transaction gets the number `next`. It takes all places for claims, notes and predicates.
     pub fn new(alloc: Global, latest: u64, durable: u64, next: u64) -> Result<Self, AllocError>
         requires sealed { durable ≤ latest }
         ensures { IfOk result (λ sessions. sessions ≡ fresh_state W latest durable next) }
@@ -109,16 +128,18 @@ impl<B: Shape, W: Drop> Sessions<B, W> {
 
     /// Asks a call of a session, from 1 to 8, whose work over the tree begins so. It takes no memory.
     ///
-    /// The reply comes at once where the call is refused and for a Begin, which gives the session the next transaction's
-    /// number; else the call is open. Refusals, the first that holds: `Failed` once a fault has made the engine fail;
-    /// `BadSession` for another number; `CallOpen` where the session has a call open, undoes or waits for its commit;
-    /// `InTransaction` for a Begin in a transaction, `NoTransaction` for another call outside of one; `HistoryFull` for a Begin
-    /// where the number of the last commit or of the next transaction is 2^64 - 9 or more; `Busy` with the least other session
-    /// that conflicts; `ClaimsFull` and `PredicatesFull` where the places are taken. A refused call changes nothing.
+    /// The reply comes at once where the call is refused and for a Begin, which gives the session the next
+    /// transaction's number; else the call is open. Refusals, the first that holds: `Failed` once a fault has made the
+    /// engine fail; `BadSession` for another number; `CallOpen` where the session has a call open, undoes or waits for
+    /// its commit; `InTransaction` for a Begin in a transaction, `NoTransaction` for another call outside of one;
+    /// `HistoryFull` for a Begin where the number of the last commit or of the next transaction is 2^64 - 9 or more;
+    /// `Busy` with the least other session that conflicts; `ClaimsFull` and `PredicatesFull` where the places are
+    /// taken. A refused call changes nothing.
     pub fn ask(&mut self, session: u8, call: Call<B>, work: W) -> Asked<B>
         ensures asked { IsAsked (keys_of B.Shape) session call work self.old result self.new }
         ensures event { (live : Entry B → Bool) (older : List (List (Entry B)))
-            → IsEvent (keys_of B.Shape) (engine_of live older self.old) (asked_event session call self.old result) (engine_of live older self.new) }
+            → IsEvent (keys_of B.Shape) (engine_of live older self.old) (asked_event session call self.old result)
+            (engine_of live older self.new) }
     {
         if self.failed {
             return asks::refused(Refusal::Failed);
@@ -193,11 +214,13 @@ impl<B: Shape, W: Drop> Sessions<B, W> {
         self.table.notes(session)
     }
 
-    /// Gives an open call or an undo this work, and hands back the work that it had. A session with neither hands this back.
+    /// Gives an open call or an undo this work, and hands back the work that it had.
+    /// A session with neither hands this back.
     pub fn replace_work(&mut self, session: u8, work: W) -> W
         requires { is_session session ≡ true }
         ensures given { result ≡ (with_work work (phase_at (session - 1) self.old.phases)).0 }
-        ensures state { self.new ≡ with_phase_of session (with_work work (phase_at (session - 1) self.old.phases)).1 self.old }
+        ensures state { self.new ≡ with_phase_of session
+            (with_work work (phase_at (session - 1) self.old.phases)).1 self.old }
     {
         steps::replace_work(&mut self.phases, session, work)
     }
@@ -211,20 +234,21 @@ impl<B: Shape, W: Drop> Sessions<B, W> {
         steps::close(&mut self.phases, session);
     }
 
-    /// Notes what a session's open insert or delete of this entry wrote in a leaf, and closes the call: `before` is the entry's
-    /// mark from before this write, set where it was marked or absent. Of all writes of an entry, the first one's `before` and
-    /// the last one's leaf stand.
+    /// Notes what a session's open insert or delete of this entry wrote in a leaf, and closes the call: `before` is the
+    /// entry's mark from before this write, set where it was marked or absent. Of all writes of an entry, the first
+    /// one's `before` and the last one's leaf stand.
     pub fn note(&mut self, session: u8, entry: Entry<B>, before: bool, leaf: u32)
         requires session { is_session session ≡ true }
         requires write { HasWrite entry (phase_at (session - 1) self.old.phases) }
-        ensures { self.new ≡ written_state (keys_of B.Shape) session (record { entry = entry; before = before; leaf = leaf }) self.old }
+        ensures { self.new ≡ written_state (keys_of B.Shape) session
+            (record { entry = entry; before = before; leaf = leaf }) self.old }
     {
         self.table.note(session, entry, before, leaf);
         steps::close(&mut self.phases, session);
     }
 
-    /// Seals the commit that a session has asked: it gets the next number, which is the answer, and the session waits for that to
-    /// be durable. Its locks and notes are free.
+    /// Seals the commit that a session has asked: it gets the next number, which is the answer, and the session waits
+    /// for that to be durable. Its locks and notes are free.
     pub fn seal(&mut self, session: u8) -> u64
         requires session { is_session session ≡ true }
         requires commit { asks_commit (phase_at (session - 1) self.old.phases) ≡ true }
@@ -253,8 +277,8 @@ impl<B: Shape, W: Drop> Sessions<B, W> {
         }
     }
 
-    /// Acknowledges a session's commit exactly where its number is durable: the answer is that number, and the session is free.
-    /// Else nothing changes.
+    /// Acknowledges a session's commit exactly where its number is durable: the answer is that number, and the session
+    /// is free. Else nothing changes.
     pub fn acknowledge(&mut self, session: u8) -> Option<u64>
         requires { is_session session ≡ true }
         ensures number { result ≡ covered self.old.durable (waits_for (phase_at (session - 1) self.old.phases)) }
@@ -285,8 +309,8 @@ impl<B: Shape, W: Drop> Sessions<B, W> {
         }
     }
 
-    /// Counts one note more as restored, by a write in this leaf, and takes the work on the next. The note keeps its mark from before,
-    /// and has this leaf from now on. Where none is left, nothing changes.
+    /// Counts one note more as restored, by a write in this leaf, and takes the work on the next. The note keeps its
+    /// mark from before, and has this leaf from now on. Where none is left, nothing changes.
     pub fn restored(&mut self, session: u8, leaf: u32, work: W)
         requires { is_session session ≡ true }
         ensures { RestoredOne (next_of session self.old) session leaf work self.old self.new }
@@ -327,11 +351,11 @@ impl<B: Shape, W: Drop> Sessions<B, W> {
         self.failed = true;
     }
 
-    /// Takes up one note of a transaction that a crash has left to be undone: the session, which has no transaction or undoes one,
-    /// claims the note's entry, has noted it, and undoes this transaction from its first note on.
+    /// Takes up one note of a transaction that a crash has left to be undone: the session, which has no transaction or
+    /// undoes one, claims the note's entry, has noted it, and undoes this transaction from its first note on.
     ///
-    /// Refusals, as of a claim: `Busy` with the least other session that claims the entry, `ClaimsFull` where 512 claims are held
-    /// in all and the session lacks this one. Then nothing changes.
+    /// Refusals, as of a claim: `Busy` with the least other session that claims the entry, `ClaimsFull` where 512
+    /// claims are held in all and the session lacks this one. Then nothing changes.
     pub fn hold_loser(
         &mut self,
         session: u8,
@@ -341,7 +365,8 @@ impl<B: Shape, W: Drop> Sessions<B, W> {
     ) -> Result<(), Refusal>
         requires session { is_session session ≡ true }
         requires loser { may_lose (phase_at (session - 1) self.old.phases) ≡ true }
-        ensures { TakesUp (keys_of B.Shape) (locks_for (keys_of B.Shape) (Insert note.entry) session self.old.table) session transaction note work
+        ensures { TakesUp (keys_of B.Shape) (locks_for (keys_of B.Shape) (Insert note.entry) session
+            self.old.table) session transaction note work
             self.old result self.new }
     {
         match steps::hold(&mut self.table, session, note) {

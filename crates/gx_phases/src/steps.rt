@@ -49,7 +49,8 @@ pub fn hold<B: Shape>(
 ) -> Result<(), Refusal>
     requires session { is_session session ≡ true }
     requires eight { length table.old ≡ SESSIONS }
-    ensures { HeldNote (keys_of B.Shape) (locks_for (keys_of B.Shape) (Insert note.entry) session table.old) session note table.old result table.new }
+    ensures { HeldNote (keys_of B.Shape) (locks_for (keys_of B.Shape) (Insert note.entry) session table.old) session
+        note table.old result table.new }
 {
     table.claim(session, note.entry)?;
     table.note(session, note.entry, note.before, note.leaf);
@@ -120,7 +121,8 @@ pub fn replace_work<B: Shape, W: Drop>(phases: &mut Vec<Phase<B, W>>, session: u
     requires session { is_session session ≡ true }
     requires eight { length phases.old.items ≡ SESSIONS }
     ensures given { result ≡ (with_work work (phase_at (session - 1) phases.old.items)).0 }
-    ensures phases { phases.new.items ≡ with_phase session (with_work work (phase_at (session - 1) phases.old.items)).1 phases.old.items }
+    ensures phases { phases.new.items ≡ with_phase session
+        (with_work work (phase_at (session - 1) phases.old.items)).1 phases.old.items }
 {
     let was = take_phase(phases, session);
     let (before, phase) = with_work(work, was);

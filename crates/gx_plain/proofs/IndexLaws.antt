@@ -7,6 +7,7 @@ use Rattle.std.proofs.lemmas.List.Sums.{sum_by-set, sum_by-cons}
 use Rattle.std.specs.Int.{from_bool}
 use Rattle.std.proofs.lemmas.Bool.{leb-false}
 use Rattle.gx_geom.specs.declared.refusal.Refusal.TheVariants.{BadSession, HistoryFull}
+use Rattle.gx_machine.specs.declared.limits.TheConstants.{SESSIONS}
 use Rattle.gx_machine.specs.declared.entry.Entry.{Entry}
 use Rattle.gx_machine.specs.declared.call.Call.{Call}
 use Rattle.gx_machine.specs.declared.call.Call.TheVariants.{Begin, Insert, Delete, Search, Commit, Abort}
@@ -241,7 +242,7 @@ module _ {B : Type 0} (k : Keys B) where
   idle_each n p = subst (λ (x : Session B). CanAnswer 0 x) (sym (replicate_reads n p)) tt
 
   -- a fresh index keeps what is kept
-  pub kept_fresh : (latest : List (Entry B)) (capacity : ℕ) (sessions : List (Session B)) → latest ≡ [] → sessions ≡ replicate 8 Idle → IsKept k latest capacity 0 1 sessions
+  pub kept_fresh : (latest : List (Entry B)) (capacity : ℕ) (sessions : List (Session B)) → latest ≡ [] → sessions ≡ replicate SESSIONS Idle → IsKept k latest capacity 0 1 sessions
   kept_fresh latest capacity sessions none idle =
       subst (λ (xs : List (Entry B)). IsKept k xs capacity 0 1 sessions) (sym none)
       (subst (λ (xs : List (Session B)). IsKept k [] capacity 0 1 xs) (sym idle) (record {

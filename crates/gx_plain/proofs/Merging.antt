@@ -12,7 +12,7 @@ use Rattle.std.specs.Ordering.{ordering_reverse}
 use Rattle.gx_machine.specs.declared.entry.Entry.{Entry}
 use Rattle.gx_machine.specs.Keys.{Keys, IsLawful, entry_cmp, same_entry}
 use Rattle.gx_machine.specs.Sets.{has, including, including_all, Before, InOrder}
-use Rattle.gx_locks.specs.Orders.{Below}
+use Rattle.gx_machine.specs.Orders.{Below}
 use Rattle.gx_machine.proofs.SetLaws.{entry_total, including_by, including_before}
 
 some_same : {A : Type 0} {x y : A} → Some x ≡ Some y → x ≡ y

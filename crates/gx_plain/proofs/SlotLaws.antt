@@ -14,7 +14,7 @@ use Rattle.gx_machine.specs.Sessions.{Locks, Changes, no_locks, no_changes, Sess
 use Rattle.gx_machine.proofs.SessionMoves.{claim_given, predicate_given}
 use Rattle.gx_plain.specs.Index.{has_begun}
 use Rattle.gx_plain.specs.Slots.{added_by, opened_by, begins, CanAnswer}
-use Rattle.gx_locks.proofs.SetLemmas.{length-including}
+use Rattle.gx_machine.proofs.SetLemmas.{length-including}
 
 module _ {B : Type 0} (k : Keys B) where
   -- a fact of what asking gives, by whether the call has its lock

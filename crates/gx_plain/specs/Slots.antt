@@ -5,6 +5,7 @@ use Rattle.gx_machine.specs.declared.entry.Entry.{Entry}
 use Rattle.gx_machine.specs.declared.call.Call.{Call}
 use Rattle.gx_machine.specs.declared.call.Call.TheVariants.{Begin, Insert, Delete, Search, Commit, Abort}
 use Rattle.gx_machine.specs.declared.limits.TheConstants.{MAX_CLAIMS, MAX_PREDICATES}
+use Rattle.gx_machine.specs.declared.query.Query.{Query}
 use Rattle.gx_machine.specs.declared.reply.Reply.{Reply}
 use Rattle.gx_machine.specs.declared.reply.Reply.TheVariants as replies
 use Rattle.gx_machine.specs.Keys.{Keys}
@@ -124,6 +125,10 @@ Closes given old reply new =
 abbrev pub SameSet : {B : Type 0} → List (Entry B) → ℕ → List (Entry B) → ℕ → Type 0
 SameSet latest commits latest' commits' = (latest' ≡ latest) × (commits' ≡ commits)
 
+-- what is answered to a search
+abbrev pub answer_search : {B : Type 0} → Keys B → Query B → List (Entry B) → Changes B → Reply B × Changes B
+answer_search k query latest changes = (replies.Found (found k query (view k latest changes)), changes)
+
 -- what answering a session does: to it, to the last committed set, and to the number of commits
 abbrev pub SlotAnswers : {B : Type 0} → Keys B → Session B → List (Entry B) → ℕ → Reply B → Session B → List (Entry B) → ℕ → Type 0
 SlotAnswers k Idle latest commits reply session latest' commits' = (reply ≡ replies.Refused NoCall) × (session ≡ Idle) × SameSet latest commits latest' commits'
@@ -135,7 +140,7 @@ SlotAnswers k (Open locks changes (Some (Insert e))) latest commits reply sessio
 SlotAnswers k (Open locks changes (Some (Delete e))) latest commits reply session latest' commits' =
     (reply ≡ (answer_delete k e latest changes).0) × (session ≡ Open locks (answer_delete k e latest changes).1 None) × SameSet latest commits latest' commits'
 SlotAnswers k (Open locks changes (Some (Search q))) latest commits reply session latest' commits' =
-    Closes (replies.Found (found k q (view k latest changes)), changes) (Open locks changes (Some (Search q))) reply session × SameSet latest commits latest' commits'
+    Closes (answer_search k q latest changes) (Open locks changes (Some (Search q))) reply session × SameSet latest commits latest' commits'
 SlotAnswers k (Open locks changes (Some Commit)) latest commits reply session latest' commits' =
     (reply ≡ replies.Committed (commits + 1)) × (session ≡ Idle) × (latest' ≡ view k latest changes) × (commits' ≡ commits + 1)
 SlotAnswers k (Open locks changes (Some Abort)) latest commits reply session latest' commits' = ⊥

@@ -1,5 +1,7 @@
-//! What a transaction holds, as vectors: claims, predicates, and its own changes (claims with predicates: Kornacker, Mohan, Hellerstein 1997).
-ghost use Rattle.std.specs.Prelude.{◌≡◌, ◌<◌, ◌≤◌, ◌+◌, ◌++◌, ◌∷◌, [], ◌||◌, length, nat_lt, vec_len, vec_capacity, true, IfOk, if◌then◌else◌};
+//! What a transaction holds, as vectors: claims, predicates, and its own changes (claims with predicates:
+//! Kornacker, Mohan, Hellerstein 1997).
+ghost use Rattle.std.specs.Prelude.{◌≡◌, ◌<◌, ◌≤◌, ◌+◌, ◌++◌, ◌∷◌, [], ◌||◌, length, nat_lt};
+ghost use Rattle.std.specs.Prelude.{vec_len, vec_capacity, true, IfOk, if◌then◌else◌};
 ghost use Rattle.gx_machine.specs.Keys.{keys_of, matches};
 ghost use Rattle.gx_machine.specs.Sets.{has, including, found, including_all, excluding_all};
 ghost use Rattle.gx_machine.specs.Invariants.{Covered};
@@ -7,8 +9,7 @@ ghost use Rattle.gx_machine.specs.Sessions.{has_query};
 ghost use Rattle.std.specs.List.{list_any};
 
 use gx_geom::Shape;
-use gx_locks::{is_same_query, matches};
-use gx_machine::{Entry, MAX_CLAIMS, MAX_PREDICATES, Query};
+use gx_machine::{Entry, MAX_CLAIMS, MAX_PREDICATES, Query, is_same_query, matches};
 
 /// Whether the query is among the predicates.
 pub fn has_query<B: Shape>(query: &Query<B>, predicates: &[Query<B>]) -> bool
@@ -36,7 +37,7 @@ pub fn write_conflicts<B: Shape>(e: &Entry<B>, claims: &[Entry<B>], predicates: 
     ensures { result ≡ has (keys_of B.Shape) e.now claims.now
         || list_any (λ q. matches (keys_of B.Shape) q e.now) predicates.now }
 {
-    gx_locks::has(e, claims) || any_matches(predicates, e)
+    gx_machine::has(e, claims) || any_matches(predicates, e)
 }
 
 /// Claims an entry. False, and nothing changes, exactly where the session lacks it and all places are spent.
@@ -52,20 +53,21 @@ pub fn claim<B: Shape>(e: Entry<B>, claims: &mut Vec<Entry<B>>, spent: usize) ->
     ensures kept { Covered (keys_of B.Shape) claims.old.items claims.new.items }
     ensures room { MAX_CLAIMS ≤ vec_capacity claims.new }
 {
-    if gx_locks::has(&e, claims) {
+    if gx_machine::has(&e, claims) {
         return true;
     }
     if spent >= MAX_CLAIMS {
         return false;
     }
-    gx_locks::put(e, claims);
+    gx_machine::put(e, claims);
     true
 }
 
 /// Holds a predicate. False, and nothing changes, exactly where the session lacks it and its places are spent.
 pub fn hold<B: Shape>(query: Query<B>, predicates: &mut Vec<Query<B>>) -> bool
     requires { MAX_PREDICATES ≤ vec_capacity predicates.old }
-    ensures place { result ≡ has_query (keys_of B.Shape) query predicates.old.items || nat_lt (length predicates.old.items) MAX_PREDICATES }
+    ensures place { result ≡ has_query (keys_of B.Shape) query predicates.old.items
+        || nat_lt (length predicates.old.items) MAX_PREDICATES }
     ensures predicates { predicates.new.items ≡
         (if has_query (keys_of B.Shape) query predicates.old.items then predicates.old.items
         else if nat_lt (length predicates.old.items) MAX_PREDICATES then predicates.old.items ++ query ∷ []

@@ -1,12 +1,14 @@
 //! The plain index.
-ghost use Rattle.std.specs.Prelude.{vec_len, vec_capacity, nat_le, ◌||◌, ◌&&◌, ◌≡◌, ◌<◌, ◌≤◌, ◌+◌, ◌-◌, Some, IfOk, MatchOption, IsTrue, ⊤, false, true, ◌^◌, length, sum_by, slice_set, replicate};
+ghost use Rattle.std.specs.Prelude.{vec_len, vec_capacity, nat_le, ◌||◌, ◌&&◌, ◌≡◌, ◌<◌, ◌≤◌, ◌+◌, ◌-◌, Some, IfOk};
+ghost use Rattle.std.specs.Prelude.{MatchOption, IsTrue, ⊤, false, true, ◌^◌, length, sum_by, slice_set, replicate};
 ghost use Rattle.std.specs.List.{slice_index_or};
 ghost use Rattle.gx_machine.specs.declared.limits.TheConstants.{MAX_CLAIMS};
 ghost use Rattle.gx_machine.specs.Keys.{keys_of};
 ghost use Rattle.gx_machine.specs.Machine.{is_session, least_conflicting, claims_held};
 ghost use Rattle.gx_machine.specs.Sessions.{Idle, claims_of, ask_session};
 ghost use Rattle.gx_machine.specs.Sets.{InOrder};
-ghost use Rattle.gx_plain.specs.Slots.{added_by, opened_by, begins, CanAnswer, SlotAnswers, SlotSeals, NothingSealed, SlotDrops};
+ghost use Rattle.gx_plain.specs.Slots.{added_by, opened_by, begins, CanAnswer};
+ghost use Rattle.gx_plain.specs.Slots.{SlotAnswers, SlotSeals, NothingSealed, SlotDrops};
 
 use crate::slot::Slot;
 use gx_geom::{Refusal, Shape};
@@ -23,7 +25,8 @@ fn lacks_numbers(begins: bool, commits: u64, next: u64) -> bool
 
 /// The place of a session in the list, where there is one of that number.
 fn place_of(session: u8) -> Option<usize>
-    ensures place { MatchOption result (is_session session ≡ false) (λ place. (is_session session ≡ true) × (place ≡ session - 1)) }
+    ensures place { MatchOption result (is_session session ≡ false) (λ place. (is_session session ≡ true)
+        × (place ≡ session - 1)) }
     ensures within { MatchOption result ⊤ (λ place. place < SESSIONS) }
 {
     let place = usize::from(session).checked_sub(1)?;
@@ -46,7 +49,7 @@ fn least_conflicting<B: Shape>(slots: &[Slot<B>], call: &Call<B>, session: u8) -
     requires { length slots.now ≤ SESSIONS }
     ensures { result ≡ least_conflicting (keys_of B.Shape) call.now session 1 slots.now }
 {
-    gx_locks::least_conflicting(slots, call, session)
+    gx_machine::least_conflicting(slots, call, session)
 }
 
 /// The claims held in all.
@@ -83,8 +86,10 @@ fn ask_at<B: Shape>(
 ) -> Asked<B>
     requires within { place < length slots.old.items }
     requires spent { claims_of (slice_index_or slots.old.items place Idle) ≤ spent }
-    ensures asked { result ≡ (ask_session (keys_of B.Shape) call least spent (slice_index_or slots.old.items place Idle)).0 }
-    ensures session { slots.new.items ≡ slice_set slots.old.items place (ask_session (keys_of B.Shape) call least spent (slice_index_or slots.old.items place Idle)).1 }
+    ensures asked { result ≡ (ask_session (keys_of B.Shape) call least spent
+        (slice_index_or slots.old.items place Idle)).0 }
+    ensures session { slots.new.items ≡ slice_set slots.old.items place
+        (ask_session (keys_of B.Shape) call least spent (slice_index_or slots.old.items place Idle)).1 }
 {
     slots[place].ask(call, least, spent)
 }
@@ -104,12 +109,16 @@ fn answer_at<B: Shape>(
     requires counted { added_by (slice_index_or slots.old.items place Idle) ≤ added }
     requires more { commits.old + 1 < 2 ^ 64 }
     requires few { claims_of (slice_index_or slots.old.items place Idle) ≤ MAX_CLAIMS }
-    ensures answers { SlotAnswers (keys_of B.Shape) (slice_index_or slots.old.items place Idle) latest.old.items commits.old result
+    ensures answers { SlotAnswers (keys_of B.Shape) (slice_index_or slots.old.items place Idle)
+        latest.old.items commits.old result
         (slice_index_or slots.new.items place Idle) latest.new.items commits.new }
     ensures others { slots.new.items ≡ slice_set slots.old.items place (slice_index_or slots.new.items place Idle) }
-    ensures room { vec_len latest.new + added + added_by (slice_index_or slots.new.items place Idle) ≤ vec_capacity latest.new + added_by (slice_index_or slots.old.items place Idle) }
-    ensures opened { commits.new + opened_by (slice_index_or slots.new.items place Idle) ≤ commits.old + opened_by (slice_index_or slots.old.items place Idle) }
-    ensures claims { claims_of (slice_index_or slots.new.items place Idle) ≤ claims_of (slice_index_or slots.old.items place Idle) }
+    ensures room { vec_len latest.new + added + added_by (slice_index_or slots.new.items place Idle)
+        ≤ vec_capacity latest.new + added_by (slice_index_or slots.old.items place Idle) }
+    ensures opened { commits.new + opened_by (slice_index_or slots.new.items place Idle)
+        ≤ commits.old + opened_by (slice_index_or slots.old.items place Idle) }
+    ensures claims { claims_of (slice_index_or slots.new.items place Idle)
+        ≤ claims_of (slice_index_or slots.old.items place Idle) }
     ensures can_answer { CanAnswer commits.new (slice_index_or slots.new.items place Idle) }
     ensures in_order { InOrder (keys_of B.Shape) latest.new.items }
     ensures rises { commits.old ≤ commits.new }
@@ -126,7 +135,8 @@ fn seal_at<B: Shape>(
 ) -> Option<u64>
     requires within { place < length slots.old.items }
     requires in_order { InOrder (keys_of B.Shape) latest.old.items }
-    requires room { vec_len latest.old + added_by (slice_index_or slots.old.items place Idle) ≤ vec_capacity latest.old }
+    requires room { vec_len latest.old + added_by (slice_index_or slots.old.items place Idle)
+        ≤ vec_capacity latest.old }
     requires more { commits.old + 1 < 2 ^ 64 }
     ensures seals { MatchOption result
         (NothingSealed (keys_of B.Shape) (slice_index_or slots.old.items place Idle) latest.old.items commits.old
@@ -134,10 +144,13 @@ fn seal_at<B: Shape>(
         (SlotSeals (keys_of B.Shape) (slice_index_or slots.old.items place Idle) latest.old.items commits.old
         (slice_index_or slots.new.items place Idle) latest.new.items commits.new) }
     ensures others { slots.new.items ≡ slice_set slots.old.items place (slice_index_or slots.new.items place Idle) }
-    ensures room { vec_len latest.new + added_by (slice_index_or slots.new.items place Idle) ≤ vec_len latest.old + added_by (slice_index_or slots.old.items place Idle) }
+    ensures room { vec_len latest.new + added_by (slice_index_or slots.new.items place Idle)
+        ≤ vec_len latest.old + added_by (slice_index_or slots.old.items place Idle) }
     ensures capacity { vec_capacity latest.old ≤ vec_capacity latest.new }
-    ensures opened { commits.new + opened_by (slice_index_or slots.new.items place Idle) ≤ commits.old + opened_by (slice_index_or slots.old.items place Idle) }
-    ensures claims { claims_of (slice_index_or slots.new.items place Idle) ≤ claims_of (slice_index_or slots.old.items place Idle) }
+    ensures opened { commits.new + opened_by (slice_index_or slots.new.items place Idle)
+        ≤ commits.old + opened_by (slice_index_or slots.old.items place Idle) }
+    ensures claims { claims_of (slice_index_or slots.new.items place Idle)
+        ≤ claims_of (slice_index_or slots.old.items place Idle) }
     ensures in_order { InOrder (keys_of B.Shape) latest.new.items }
 {
     slots[place].seal(latest, commits)
@@ -146,11 +159,15 @@ fn seal_at<B: Shape>(
 /// Closes the open call of the session at a place.
 fn drop_at<B: Shape>(slots: &mut Vec<Slot<B>>, place: usize) -> bool
     requires { place < length slots.old.items }
-    ensures drops { SlotDrops (slice_index_or slots.old.items place Idle) result (slice_index_or slots.new.items place Idle) }
+    ensures drops { SlotDrops (slice_index_or slots.old.items place Idle) result
+        (slice_index_or slots.new.items place Idle) }
     ensures others { slots.new.items ≡ slice_set slots.old.items place (slice_index_or slots.new.items place Idle) }
-    ensures added { added_by (slice_index_or slots.new.items place Idle) ≡ added_by (slice_index_or slots.old.items place Idle) }
-    ensures opened { opened_by (slice_index_or slots.new.items place Idle) ≡ opened_by (slice_index_or slots.old.items place Idle) }
-    ensures claims { claims_of (slice_index_or slots.new.items place Idle) ≡ claims_of (slice_index_or slots.old.items place Idle) }
+    ensures added { added_by (slice_index_or slots.new.items place Idle)
+        ≡ added_by (slice_index_or slots.old.items place Idle) }
+    ensures opened { opened_by (slice_index_or slots.new.items place Idle)
+        ≡ opened_by (slice_index_or slots.old.items place Idle) }
+    ensures claims { claims_of (slice_index_or slots.new.items place Idle)
+        ≡ claims_of (slice_index_or slots.old.items place Idle) }
 {
     slots[place].drop_call()
 }
@@ -176,11 +193,18 @@ impl<B: Shape> Model for PlainIndex<B> {
     ghost use Rattle.gx_plain.specs.Kept.{IsKept};
 
     ghost view = { λ i. record {
-      machine = record { older = []; latest = i.committed.items; oldest = i.commits; sessions = i.slots.items; failed = false };
+      machine = record {
+        older = [];
+        latest = i.committed.items;
+        oldest = i.commits;
+        sessions = i.slots.items;
+        failed = false;
+      };
       next = i.next;
     } };
 
-    ghost invariant = { λ i. IsKept (keys B.cmp B.overlap B.inside) i.committed.items (vec_capacity i.committed) i.commits i.next i.slots.items };
+    ghost invariant = { λ i. IsKept (keys B.cmp B.overlap B.inside) i.committed.items (vec_capacity i.committed)
+        i.commits i.next i.slots.items };
 }
 
 impl<B: Shape> PlainIndex<B> {
@@ -203,10 +227,10 @@ impl<B: Shape> PlainIndex<B> {
     ///
     /// The reply comes at once where the call is refused and for a Begin; else the call is open until it is
     /// answered. Refusals, the first that holds: `BadSession` for another number; `CallOpen` where the session has
-    /// a call open, has asked for its abort or waits for its commit; `InTransaction` for a Begin in a transaction, `NoTransaction` for
-    /// another call outside of one; `HistoryFull` for a Begin where the number of the last commit or of the next
-    /// transaction is 2^64 - 9 or more; `Busy` with the least other session that conflicts; `ClaimsFull` and
-    /// `PredicatesFull` where the places are taken. A refused call changes nothing.
+    /// a call open, has asked for its abort or waits for its commit; `InTransaction` for a Begin in a transaction,
+    /// `NoTransaction` for another call outside of one; `HistoryFull` for a Begin where the number of the last commit
+    /// or of the next transaction is 2^64 - 9 or more; `Busy` with the least other session that conflicts; `ClaimsFull`
+    /// and `PredicatesFull` where the places are taken. A refused call changes nothing.
     pub fn ask(&mut self, session: u8, call: Call<B>) -> Asked<B>
         ensures asked { result ≡ (ask_index (keys_of B.Shape) session call self.old).0 }
         ensures index { self.new ≡ (ask_index (keys_of B.Shape) session call self.old).1 }
@@ -245,8 +269,8 @@ impl<B: Shape> PlainIndex<B> {
         )
     }
 
-    /// Seals the open commit of a session under the next number, which it returns: the last committed set becomes what the
-    /// session sees, durable at once, and its claims and predicates are free. `answer` of the session then gives
+    /// Seals the open commit of a session under the next number, which it returns: the last committed set becomes what
+    /// the session sees, durable at once, and its claims and predicates are free. `answer` of the session then gives
     /// `Committed` with that number. `None`, and nothing changes, where the session has no commit open.
     pub fn seal(&mut self, session: u8) -> Option<u64>
         ensures { SealsIndex (keys_of B.Shape) session self.old result self.new }
@@ -261,8 +285,8 @@ impl<B: Shape> PlainIndex<B> {
     }
 
     /// Closes the open call of a session without an answer. The session keeps its transaction, its claims and its
-    /// predicates, and the call may be asked again. `false`, and nothing changes, where the session has no call open; an
-    /// abort and a sealed commit are no open calls.
+    /// predicates, and the call may be asked again. `false`, and nothing changes, where the session has no call open;
+    /// an abort and a sealed commit are no open calls.
     pub fn drop_call(&mut self, session: u8) -> bool
         ensures { DropsIndex session self.old result self.new }
     {

@@ -32,26 +32,31 @@ pub fn a_fresh_index_is_plain<B>()
 /// Asking is one step of the machine, an ask or a Begin refused for want of numbers, and keeps the index plain.
 pub fn asking_is_a_step<B>()
     ensures step { (k : Keys B) (s : ℕ) (call : Call B) (index : Index B) → IsPlain index → AskIsRun k s call index }
-    ensures plain { (k : Keys B) (s : ℕ) (call : Call B) (index : Index B) → IsPlain index → IsPlain (ask_index k s call index).1 }
+    ensures plain { (k : Keys B) (s : ℕ) (call : Call B) (index : Index B) → IsPlain index
+        → IsPlain (ask_index k s call index).1 }
 {}
 
 /// Answering is a run of the machine, and keeps the index plain. The run is an answer; a commit's seal, its becoming
 /// durable and its answer; a call closed for want of memory; or nothing, where there is nothing to answer.
 pub fn answering_is_a_run<B>()
-    ensures run { (k : Keys B) (s : ℕ) (old new : Index B) (reply : Reply B) → IsPlain old → AnswersIndex k s old reply new → AnswerIsRun k s old reply new }
-    ensures plain { (k : Keys B) (s : ℕ) (old new : Index B) (reply : Reply B) → IsPlain old → AnswersIndex k s old reply new → IsPlain new }
+    ensures run { (k : Keys B) (s : ℕ) (old new : Index B) (reply : Reply B) → IsPlain old
+        → AnswersIndex k s old reply new → AnswerIsRun k s old reply new }
+    ensures plain { (k : Keys B) (s : ℕ) (old new : Index B) (reply : Reply B) → IsPlain old
+        → AnswersIndex k s old reply new → IsPlain new }
 {}
 
 /// Sealing is a run of the machine, a seal and its becoming durable, and keeps the index plain.
 pub fn sealing_is_a_run<B>()
     ensures run { (k : Keys B) (s number : ℕ) (old new : Index B) → IsPlain old → SealsIndex k s old (Some number) new
         → IsRun k old.machine (Seals s number ∷ Durable number ∷ []) new.machine }
-    ensures plain { (k : Keys B) (s number : ℕ) (old new : Index B) → IsPlain old → SealsIndex k s old (Some number) new → IsPlain new }
+    ensures plain { (k : Keys B) (s number : ℕ) (old new : Index B) → IsPlain old → SealsIndex k s old (Some number) new
+        → IsPlain new }
 {}
 
 /// Dropping a call is a step of the machine, a call closed for want of pages or of memory, and keeps the index plain.
 pub fn dropping_is_a_step<B>()
-    ensures step { (k : Keys B) (s : ℕ) (why : Refusal) (old new : Index B) → IsPlain old → may_close why ≡ true → DropsIndex s old true new
+    ensures step { (k : Keys B) (s : ℕ) (why : Refusal) (old new : Index B) → IsPlain old → may_close why ≡ true
+        → DropsIndex s old true new
         → IsStep k old.machine (Closes s why) new.machine }
     ensures plain { (s : ℕ) (old new : Index B) → IsPlain old → DropsIndex s old true new → IsPlain new }
 {}
@@ -59,27 +64,33 @@ pub fn dropping_is_a_step<B>()
 /// A call that is asked and answered is a run of the machine in which that call is asked and given that reply, and
 /// nothing else is; and keeps the index plain.
 pub fn each_call_is_a_run<B>()
-    ensures run { (k : Keys B) (s : ℕ) (call : Call B) (old new : Index B) (reply : Reply B) → IsPlain old → CallsIndex k old s call reply new
+    ensures run { (k : Keys B) (s : ℕ) (call : Call B) (old new : Index B) (reply : Reply B) → IsPlain old
+        → CallsIndex k old s call reply new
         → IsCallRun k s call reply old.machine new.machine }
-    ensures plain { (k : Keys B) (s : ℕ) (call : Call B) (old new : Index B) (reply : Reply B) → IsPlain old → CallsIndex k old s call reply new → IsPlain new }
+    ensures plain { (k : Keys B) (s : ℕ) (call : Call B) (old new : Index B) (reply : Reply B) → IsPlain old
+        → CallsIndex k old s call reply new → IsPlain new }
 {}
 
 /// What the lines of a script ask and are answered is one run of the machine, joined over all lines, whatever pieces
 /// the script came in; its replies are those of the text.
 pub fn each_script_is_one_run()
     ensures { (number : ℕ) (lines : List Line) (old new : Index Rectangle) (text : List ℕ) → IsPlain old
-        → IsScript (CallsIndex box_keys) number lines old text new → IsOneRun number lines old.machine new.machine text }
+        → IsScript (CallsIndex box_keys) number lines old text new
+        → IsOneRun number lines old.machine new.machine text }
 {}
 
-/// A run of the machine in which one call is asked and answered, from where no call is open and no fault has come, is decided by that call:
-/// its reply is the one that asking and answering it alone gives, whatever else becomes durable meanwhile, and so is what calls see of the machine
-/// then. But for a refusal for want of pages, memory or numbers, or for a fault.
+/// A run of the machine in which one call is asked and answered, from where no call is open and no fault has come, is
+/// decided by that call: its reply is the one that asking and answering it alone gives, whatever else becomes durable
+/// meanwhile, and so is what calls see of the machine then.
+/// But for a refusal for want of pages, memory or numbers, or for a fault.
 pub fn a_call_alone_decides_its_reply<B>()
     ensures { (k : Keys B) (s : ℕ) (call : Call B) (reply : Reply B) (old new : Machine B)
-        → is_decided reply ≡ true → Rests old → IsCallRun k s call reply old new → IsDecidedCall k s call reply old new }
+        → is_decided reply ≡ true → Rests old → IsCallRun k s call reply old new
+        → IsDecidedCall k s call reply old new }
 {}
 
-/// What the lines of a script are answered, where each reply is decided by the calls, has the text that the calls alone decide.
+/// What the lines of a script are answered, where each reply is decided by the calls,
+/// has the text that the calls alone decide.
 pub fn texts_are_decided_by_calls()
     ensures { (number : ℕ) (lines : List Line) (old new : Index Rectangle) (text : List ℕ)
         → IsPlain old → Rests old.machine → IsScript (AnswersDecided (CallsIndex box_keys)) number lines old text new

@@ -1,9 +1,10 @@
 //! Sets merged in one pass, in place.
-ghost use Rattle.std.specs.Prelude.{◌≡◌, ◌+◌, ◌<◌, ◌≤◌, ◌∷◌, ◌++◌, false, Some, slice_get, length, take, drop, vec_len, vec_capacity};
+ghost use Rattle.std.specs.Prelude.{◌≡◌, ◌+◌, ◌<◌, ◌≤◌, ◌∷◌, ◌++◌, false, Some};
+ghost use Rattle.std.specs.Prelude.{slice_get, length, take, drop, vec_len, vec_capacity};
 ghost use Rattle.std.specs.List.{list_any};
 ghost use Rattle.gx_machine.specs.Keys.{keys_of};
 ghost use Rattle.gx_machine.specs.Sets.{has, including_all, Before, InOrder};
-ghost use Rattle.gx_locks.specs.Orders.{Below};
+ghost use Rattle.gx_machine.specs.Orders.{Below};
 
 use gx_geom::Shape;
 use gx_machine::Entry;
@@ -16,7 +17,7 @@ fn gap<B: Shape>(e: &Entry<B>, set: &[Entry<B>]) -> usize
     ensures below { Below (keys_of B.Shape) e.now (take result set.now) }
     ensures before { Before (keys_of B.Shape) e.now (drop result set.now) }
 {
-    match gx_locks::find(e, set) {
+    match gx_machine::find(e, set) {
         Ok(at) | Err(at) => at,
     }
 }
@@ -34,8 +35,8 @@ fn put_behind<B: Shape>(set: &mut [Entry<B>], at: usize, end: usize, free: usize
     set[at + free] = e;
 }
 
-/// Puts an entry, the last of those up to `left`, in its place among the first `end`, with `left` free places before what
-/// was put in already. Answers its place.
+/// Puts an entry, the last of those up to `left`, in its place among the first `end`, with `left` free places before
+/// what was put in already. Answers its place.
 fn put_last<B: Shape>(
     more: &[Entry<B>],
     e: Entry<B>,
@@ -50,15 +51,18 @@ fn put_last<B: Shape>(
     requires lacks { has (keys_of B.Shape) e (take end set.old) ≡ false }
     ensures bound { result ≤ end }
     ensures front { take result set.new ≡ take result set.old }
-    ensures put { including_all (keys_of B.Shape) (take left more.now) (take result set.old) ++ drop (result + left) set.new
-        ≡ including_all (keys_of B.Shape) (take (left + 1) more.now) (take end set.old) ++ drop (end + left + 1) set.old }
+    ensures put { including_all (keys_of B.Shape) (take left more.now) (take result set.old)
+        ++ drop (result + left) set.new
+        ≡ including_all (keys_of B.Shape) (take (left + 1) more.now) (take end set.old)
+        ++ drop (end + left + 1) set.old }
 {
     let at = gap(&e, &set[..end]);
     put_behind(set, at, end, left, e);
     at
 }
 
-/// Merges these entries into the set of the first `count`, which lacks each of them. There is a place for each behind it.
+/// Merges these entries into the set of the first `count`, which lacks each of them.
+/// There is a place for each behind it.
 fn merge_down<B: Shape>(more: &[Entry<B>], set: &mut [Entry<B>], count: usize)
     requires more_in_order { InOrder (keys_of B.Shape) more.now }
     requires in_order { InOrder (keys_of B.Shape) (take count set.old) }
@@ -86,7 +90,7 @@ pub fn merge<B: Shape>(more: &[Entry<B>], set: &mut Vec<Entry<B>>)
     ensures grown { vec_len set.new ≤ vec_len set.old + length more.now }
 {
     if has_any(more, set) {
-        gx_locks::include_all(more, set);
+        gx_machine::include_all(more, set);
         return;
     }
     let count = set.len();
@@ -99,5 +103,5 @@ fn has_any<B: Shape>(more: &[Entry<B>], set: &[Entry<B>]) -> bool
     requires { InOrder (keys_of B.Shape) set.now }
     ensures { result ≡ list_any (λ e. has (keys_of B.Shape) e set.now) more.now }
 {
-    more.iter().any(|e| gx_locks::has_in_order(e, set))
+    more.iter().any(|e| gx_machine::has_in_order(e, set))
 }

@@ -1,11 +1,13 @@
 //! A session of the plain index.
-ghost use Rattle.std.specs.Prelude.{◌≡◌, ◌≤◌, ◌<◌, ◌+◌, ◌^◌, Some, None, IfOk, MatchOption, vec_len, vec_capacity, length};
+ghost use Rattle.std.specs.Prelude.{◌≡◌, ◌≤◌, ◌<◌, ◌+◌, ◌^◌, Some, None, IfOk};
+ghost use Rattle.std.specs.Prelude.{MatchOption, vec_len, vec_capacity, length};
 ghost use Rattle.gx_machine.specs.Keys.{keys_of};
 
 use crate::{held, views};
 use gx_geom::{Refusal, Shape};
-use gx_locks::Conflicts;
-use gx_machine::{Asked, Call, Entries, Entry, MAX_CLAIMS, MAX_PREDICATES, Query, Reply};
+use gx_machine::{
+    Asked, Call, Conflicts, Entries, Entry, MAX_CLAIMS, MAX_PREDICATES, Query, Reply,
+};
 use std::alloc::{AllocError, Global};
 use std::marker::Model;
 
@@ -58,10 +60,14 @@ fn refused<B>(why: Refusal) -> Asked<B>
 }
 
 impl<B: Shape> Slot<B> {
-    ghost use Rattle.gx_plain.specs.Slots.{IsFree, IsOpen, IsWrite, IsDeleting, IsCommitting, CanAnswer, changes_of, added_by, opened_by, begins, Closes, SlotAnswers, SlotSeals, NothingSealed, SlotDrops};
-    ghost use Rattle.gx_machine.specs.Sets.{found, InOrder};
+    ghost use Rattle.gx_plain.specs.Slots.{IsFree, IsOpen, IsWrite, IsDeleting, IsCommitting};
+    ghost use Rattle.gx_plain.specs.Slots.{CanAnswer, changes_of, added_by, opened_by, begins};
+    ghost use Rattle.gx_plain.specs.Slots.{Closes, SlotAnswers, SlotSeals, NothingSealed, SlotDrops, answer_search};
+    ghost use Rattle.gx_machine.specs.Sets.{InOrder};
     ghost use Rattle.gx_machine.specs.Sessions.{view, answer_insert, answer_delete};
-    ghost use Rattle.gx_machine.specs.Sessions.{Idle, Open, Aborting, Committing, locks_of, claims_of, with_claim, with_predicate, unless_busy, asked_with, ask_idle, ask_open, ask_session};
+    ghost use Rattle.gx_machine.specs.Sessions.{Idle, Open, Aborting, Committing, locks_of};
+    ghost use Rattle.gx_machine.specs.Sessions.{claims_of, with_claim, with_predicate, unless_busy};
+    ghost use Rattle.gx_machine.specs.Sessions.{asked_with, ask_idle, ask_open, ask_session};
 
     /// A session with no transaction, and with its room.
     pub fn new(alloc: Global) -> Result<Self, AllocError>
@@ -136,8 +142,10 @@ impl<B: Shape> Slot<B> {
     fn ask_open(&mut self, call: Call<B>, least: Option<u8>, spent: usize) -> Asked<B>
         requires free { IsFree self.old }
         requires spent { claims_of self.old ≤ spent }
-        ensures asked { result ≡ (ask_open (keys_of B.Shape) call least spent (locks_of self.old) (changes_of self.old)).0 }
-        ensures session { self.new ≡ (ask_open (keys_of B.Shape) call least spent (locks_of self.old) (changes_of self.old)).1 }
+        ensures asked { result ≡ (ask_open (keys_of B.Shape) call least spent
+            (locks_of self.old) (changes_of self.old)).0 }
+        ensures session { self.new
+            ≡ (ask_open (keys_of B.Shape) call least spent (locks_of self.old) (changes_of self.old)).1 }
     {
         match call {
             Call::Begin => refused(Refusal::InTransaction),
@@ -153,8 +161,12 @@ impl<B: Shape> Slot<B> {
         requires write { IsWrite e call }
         requires free { IsFree self.old }
         requires spent { claims_of self.old ≤ spent }
-        ensures asked { result ≡ (asked_with call (unless_busy least (with_claim (keys_of B.Shape) e spent (locks_of self.old))) (locks_of self.old) (changes_of self.old)).0 }
-        ensures session { self.new ≡ (asked_with call (unless_busy least (with_claim (keys_of B.Shape) e spent (locks_of self.old))) (locks_of self.old) (changes_of self.old)).1 }
+        ensures asked { result
+            ≡ (asked_with call (unless_busy least (with_claim (keys_of B.Shape) e spent (locks_of self.old)))
+            (locks_of self.old) (changes_of self.old)).0 }
+        ensures session { self.new
+            ≡ (asked_with call (unless_busy least (with_claim (keys_of B.Shape) e spent (locks_of self.old)))
+            (locks_of self.old) (changes_of self.old)).1 }
     {
         if let Some(other) = least {
             return refused(Refusal::Busy(other));
@@ -169,8 +181,14 @@ impl<B: Shape> Slot<B> {
 
     fn ask_search(&mut self, query: Query<B>, least: Option<u8>) -> Asked<B>
         requires { IsFree self.old }
-        ensures asked { result ≡ (asked_with (Call.Search query) (unless_busy least (with_predicate (keys_of B.Shape) query (locks_of self.old))) (locks_of self.old) (changes_of self.old)).0 }
-        ensures session { self.new ≡ (asked_with (Call.Search query) (unless_busy least (with_predicate (keys_of B.Shape) query (locks_of self.old))) (locks_of self.old) (changes_of self.old)).1 }
+        ensures asked { result
+            ≡ (asked_with (Call.Search query) (unless_busy least
+            (with_predicate (keys_of B.Shape) query (locks_of self.old)))
+            (locks_of self.old) (changes_of self.old)).0 }
+        ensures session { self.new
+            ≡ (asked_with (Call.Search query) (unless_busy least
+            (with_predicate (keys_of B.Shape) query (locks_of self.old)))
+            (locks_of self.old) (changes_of self.old)).1 }
     {
         if let Some(other) = least {
             return refused(Refusal::Busy(other));
@@ -185,8 +203,10 @@ impl<B: Shape> Slot<B> {
 
     fn ask_commit(&mut self, least: Option<u8>) -> Asked<B>
         requires { IsFree self.old }
-        ensures asked { result ≡ (asked_with Call.Commit (unless_busy least (Ok (locks_of self.old))) (locks_of self.old) (changes_of self.old)).0 }
-        ensures session { self.new ≡ (asked_with Call.Commit (unless_busy least (Ok (locks_of self.old))) (locks_of self.old) (changes_of self.old)).1 }
+        ensures asked { result ≡ (asked_with Call.Commit (unless_busy least (Ok (locks_of self.old)))
+            (locks_of self.old) (changes_of self.old)).0 }
+        ensures session { self.new ≡ (asked_with Call.Commit (unless_busy least (Ok (locks_of self.old)))
+            (locks_of self.old) (changes_of self.old)).1 }
     {
         if let Some(other) = least {
             return refused(Refusal::Busy(other));
@@ -219,7 +239,8 @@ impl<B: Shape> Slot<B> {
         requires room { vec_len latest.old + added ≤ vec_capacity latest.old }
         requires counted { added_by self.old ≤ added }
         requires in_order { InOrder (keys_of B.Shape) latest.old.items }
-        ensures closes { Closes (answer_insert (keys_of B.Shape) e latest.old.items (changes_of self.old)) self.old result self.new }
+        ensures closes { Closes (answer_insert (keys_of B.Shape) e latest.old.items
+            (changes_of self.old)) self.old result self.new }
         ensures latest { latest.new.items ≡ latest.old.items }
         ensures room { vec_len latest.new + added + added_by self.new ≤ vec_capacity latest.new + added_by self.old }
     {
@@ -228,11 +249,11 @@ impl<B: Shape> Slot<B> {
             return Reply::Refused(Refusal::Present);
         }
         if latest.reserve(added.saturating_add(1)).is_err()
-            || gx_locks::include(e, &mut self.added).is_err()
+            || gx_machine::include(e, &mut self.added).is_err()
         {
             return Reply::Refused(Refusal::Memory);
         }
-        gx_locks::exclude(&e, &mut self.taken);
+        gx_machine::exclude(&e, &mut self.taken);
         Reply::Inserted
     }
 
@@ -241,22 +262,24 @@ impl<B: Shape> Slot<B> {
         requires few { claims_of self.old ≤ MAX_CLAIMS }
         requires in_order { InOrder (keys_of B.Shape) latest.now }
         ensures reply { result ≡ (answer_delete (keys_of B.Shape) e latest.now (changes_of self.old)).0 }
-        ensures session { self.new ≡ Open (locks_of self.old) (answer_delete (keys_of B.Shape) e latest.now (changes_of self.old)).1 None }
+        ensures session { self.new ≡ Open (locks_of self.old)
+            (answer_delete (keys_of B.Shape) e latest.now (changes_of self.old)).1 None }
         ensures added { added_by self.new ≤ added_by self.old }
     {
         self.phase = Phase::Open(None);
         if !views::has(&e, latest, &self.added, &self.taken) {
             return Reply::Refused(Refusal::Absent);
         }
-        gx_locks::put(e, &mut self.taken);
-        gx_locks::exclude(&e, &mut self.added);
+        gx_machine::put(e, &mut self.taken);
+        gx_machine::exclude(&e, &mut self.added);
         Reply::Deleted
     }
 
     fn search(&mut self, query: Query<B>, latest: &[Entry<B>]) -> Reply<B>
         requires open { IsOpen self.old }
         requires in_order { InOrder (keys_of B.Shape) latest.now }
-        ensures closes { Closes (Reply.Found (found (keys_of B.Shape) query (view (keys_of B.Shape) latest.now (changes_of self.old))), changes_of self.old) self.old result self.new }
+        ensures closes { Closes (answer_search (keys_of B.Shape) query latest.now (changes_of self.old))
+            self.old result self.new }
         ensures added { added_by self.new ≡ added_by self.old }
     {
         self.phase = Phase::Open(None);
@@ -318,7 +341,8 @@ impl<B: Shape> Slot<B> {
         requires room { vec_len latest.old + added_by self.old ≤ vec_capacity latest.old }
         requires more { commits.old + 1 < 2 ^ 64 }
         ensures seals { MatchOption result
-            (NothingSealed (keys_of B.Shape) self.old latest.old.items commits.old self.new latest.new.items commits.new)
+            (NothingSealed (keys_of B.Shape) self.old latest.old.items commits.old
+            self.new latest.new.items commits.new)
             (SlotSeals (keys_of B.Shape) self.old latest.old.items commits.old self.new latest.new.items commits.new) }
         ensures room { vec_len latest.new + added_by self.new ≤ vec_len latest.old + added_by self.old }
         ensures capacity { vec_capacity latest.old ≤ vec_capacity latest.new }
@@ -366,7 +390,8 @@ impl<B: Shape> Slot<B> {
         requires counted { added_by self.old ≤ added }
         requires more { commits.old + 1 < 2 ^ 64 }
         requires few { claims_of self.old ≤ MAX_CLAIMS }
-        ensures answers { SlotAnswers (keys_of B.Shape) self.old latest.old.items commits.old result self.new latest.new.items commits.new }
+        ensures answers { SlotAnswers (keys_of B.Shape) self.old latest.old.items commits.old result
+            self.new latest.new.items commits.new }
         ensures room { vec_len latest.new + added + added_by self.new ≤ vec_capacity latest.new + added_by self.old }
         ensures opened { commits.new + opened_by self.new ≤ commits.old + opened_by self.old }
         ensures claims { claims_of self.new ≤ claims_of self.old }

@@ -5,8 +5,7 @@ ghost use Rattle.gx_machine.specs.Sets.{has, including_all, excluding_all, found
 
 use crate::merge;
 use gx_geom::Shape;
-use gx_locks::matches;
-use gx_machine::{Entry, Query};
+use gx_machine::{Entry, Query, matches};
 use std::alloc::{AllocError, Global};
 
 /// Whether the view has the entry.
@@ -20,7 +19,7 @@ pub fn has<B: Shape>(
     ensures { result ≡ has (keys_of B.Shape) e.now
         (including_all (keys_of B.Shape) added.now (excluding_all (keys_of B.Shape) taken.now latest.now)) }
 {
-    gx_locks::has(e, added) || !gx_locks::has(e, taken) && gx_locks::has_in_order(e, latest)
+    gx_machine::has(e, added) || !gx_machine::has(e, taken) && gx_machine::has_in_order(e, latest)
 }
 
 /// The entries of the set that match, without those taken away. Few match, so each that does is looked up.
@@ -31,11 +30,12 @@ fn matches_without<B: Shape>(
     taken: &[Entry<B>],
 ) -> Result<Vec<Entry<B>>, AllocError>
     requires { InOrder (keys_of B.Shape) taken.now }
-    ensures { IfOk result (λ v. v.items ≡ excluding_all (keys_of B.Shape) taken.now (found (keys_of B.Shape) query.now set.now)) }
+    ensures { IfOk result (λ v. v.items ≡ excluding_all (keys_of B.Shape) taken.now
+        (found (keys_of B.Shape) query.now set.now)) }
 {
     set.iter()
         .filter(|e| matches(query, *e))
-        .filter(|e| !gx_locks::has_in_order(*e, taken))
+        .filter(|e| !gx_machine::has_in_order(*e, taken))
         .copied()
         .collect(alloc)
 }
@@ -56,7 +56,7 @@ pub fn search<B: Shape>(
     let mut out = matches_without(alloc, query, latest, taken)?;
     for e in added {
         if matches(query, e) {
-            gx_locks::include(*e, &mut out)?;
+            gx_machine::include(*e, &mut out)?;
         }
     }
     Ok(out)
@@ -68,11 +68,12 @@ pub fn take_over<B: Shape>(latest: &mut Vec<Entry<B>>, added: &[Entry<B>], taken
     requires added { InOrder (keys_of B.Shape) added.now }
     requires taken { InOrder (keys_of B.Shape) taken.now }
     requires room { vec_len latest.old + length added.now ≤ vec_capacity latest.old }
-    ensures view { latest.new.items ≡ including_all (keys_of B.Shape) added.now (excluding_all (keys_of B.Shape) taken.now latest.old.items) }
+    ensures view { latest.new.items ≡ including_all (keys_of B.Shape) added.now
+        (excluding_all (keys_of B.Shape) taken.now latest.old.items) }
     ensures in_order { InOrder (keys_of B.Shape) latest.new.items }
     ensures room { vec_capacity latest.old ≤ vec_capacity latest.new }
     ensures grown { vec_len latest.new ≤ vec_len latest.old + length added.now }
 {
-    gx_locks::exclude_all(taken, latest);
+    gx_machine::exclude_all(taken, latest);
     merge::merge(added, latest);
 }

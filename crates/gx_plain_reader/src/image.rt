@@ -150,9 +150,10 @@ fn look(
     })
 }
 
-/// All that is found to be wrong with a device's bytes as an index of this class, 1 for boxes and 2 for intervals: the first reason
-/// ahead of the log; or else each rule that the first record which may not be there breaks; or else each page that can't be
-/// read; or else each rule that the tree breaks. Nothing of a sound image. Refused with `Damage::Memory` alone.
+/// All that is found to be wrong with a device's bytes as an index of this class, 1 for boxes and 2 for intervals: the
+/// first reason ahead of the log; or else each rule that the first record which may not be there breaks; or else each
+/// page that can't be read; or else each rule that the tree breaks. Nothing of a sound image. Refused with
+/// `Damage::Memory` alone.
 pub fn findings(alloc: Global, image: &[u8], class: u16) -> Result<Vec<Finding>, Damage> {
     match look(alloc, image, class)? {
         Ok(_sound) => Ok(Vec::new(alloc)),
@@ -160,9 +161,9 @@ pub fn findings(alloc: Global, image: &[u8], class: u16) -> Result<Vec<Finding>,
     }
 }
 
-/// Reads a device's bytes as an index of this class, 1 for boxes and 2 for intervals. Nothing is taken on trust: the bytes that
-/// an index has are tested one by one, and `Damage` says what the first test was that failed, where tests go from the sectors
-/// to the log, then the pages, then the tree.
+/// Reads a device's bytes as an index of this class, 1 for boxes and 2 for intervals. Nothing is taken on trust: the
+/// bytes that an index has are tested one by one, and `Damage` says what the first test was that failed, where tests go
+/// from the sectors to the log, then the pages, then the tree.
 pub fn read(alloc: Global, image: &[u8], class: u16) -> Result<Reading, Damage> {
     let (log, nodes) = match look(alloc, image, class)? {
         Ok(sound) => sound,

@@ -5,6 +5,7 @@ use Rattle.std.proofs.Math.Decide.{ℕ_discrete}
 use Rattle.std.proofs.lemmas.Option.{none-some}
 use Rattle.std.proofs.lemmas.List.{set-set}
 use Rattle.std.proofs.lemmas.Bool.{lt-ltb, ltb-true}
+use Rattle.gx_disk.specs.declared.layout.TheConstants.{MAX_PAGES}
 use Rattle.gx_disk.specs.Device.{Device, Rests, SamePending, MayLeave}
 use Rattle.gx_page.specs.Contents.{Contents}
 use Rattle.gx_page.specs.Edits.{blank}
@@ -137,7 +138,7 @@ vacated_goes s i sound inside = λ q k was gone. elim (is_some_page (mark_at s i
 pub loaded_goes : (s : State) (i : ℕ) (w : Contents) → IsSound s → i < length s.marks → GoesAlone s (with_page (vacated s i) i w) i
 loaded_goes s i w sound inside = λ q k was gone. vacated_goes s i sound inside q k was (sym (loaded_kept (vacated s i) i q w (vacated_sound s i sound inside) (vacated_free s i inside)) ∙ gone)
 
-pub settled_goes : (s t u : State) (i page : ℕ) (stamp : Option ℕ) (w : Contents) → IsSound s → i < length s.marks → page ≤ 65536 → t ≡ with_page (vacated s i) i w → u ≡ settled t i page stamp → GoesAlone s u i
+pub settled_goes : (s t u : State) (i page : ℕ) (stamp : Option ℕ) (w : Contents) → IsSound s → i < length s.marks → page ≤ MAX_PAGES → t ≡ with_page (vacated s i) i w → u ≡ settled t i page stamp → GoesAlone s u i
 settled_goes s t u i page stamp w sound inside small te ue =
     let v : State = with_page (vacated s i) i w in
     let whole : IsSound v = with_page_sound (vacated s i) i w (vacated_sound s i sound inside) in
@@ -204,7 +205,7 @@ pub loaded_page : (s : State) (i : ℕ) (w : Contents) → IsSound s → i < len
 loaded_page s i w sound inside = get_or-set_same s.pages i w (blank 0 0) (rw sound.sizes inside)
 
 -- and the frame is the page's
-pub admitted_kept : (s : State) (i page : ℕ) (w : Contents) → IsSound s → i < length s.marks → page ≤ 65536
+pub admitted_kept : (s : State) (i page : ℕ) (w : Contents) → IsSound s → i < length s.marks → page ≤ MAX_PAGES
     → kept (settled (with_page (vacated s i) i w) i page None) page ≡ Some (record { page = w; stamp = None })
 admitted_kept s i page w sound inside small =
     let t : State = with_page (vacated s i) i w in
@@ -213,7 +214,7 @@ admitted_kept s i page w sound inside small =
     ∙ ap (λ c. Some (record { page = c; stamp = None })) (loaded_page s i w sound inside)
 
 pub admitted_brings : (passes : Contents → Bool) (d : Bool) (seen : List ℕ) (s : State) (i page : ℕ) (w : Contents) → IsSound s → i < length s.marks → clean s.held (mark_at s i) ≡ true
-    → page ≤ 65536 → kept s page ≡ None → w.number ≡ page → passes w ≡ true → (d ≡ true → HasImage (bytes_of seen page) w)
+    → page ≤ MAX_PAGES → kept s page ≡ None → w.number ≡ page → passes w ≡ true → (d ≡ true → HasImage (bytes_of seen page) w)
     → Brings passes d seen s (settled (with_page (vacated s i) i w) i page None)
 admitted_brings passes d seen s i page w sound inside is small absent number passing backed =
     let t : State = with_page (vacated s i) i w in
@@ -248,7 +249,7 @@ image_read bytes buffer e image = rw e (record { image = image; read = refl })
 
 -- a frame emptied, an image read into it, and the frame given to its page
 pub admitted : (passes : Contents → Bool) (d : Bool) (seen buffer : List ℕ) (s t u : State) (i page : ℕ) → IsSound s → i < length s.marks → clean s.held (mark_at s i) ≡ true
-    → page ≤ 65536 → kept s page ≡ None → t ≡ with_page (vacated s i) i (read_of buffer) → u ≡ settled t i page None
+    → page ≤ MAX_PAGES → kept s page ≡ None → t ≡ with_page (vacated s i) i (read_of buffer) → u ≡ settled t i page None
     → (frame_at t i).page.number ≡ page → passes (frame_at t i).page ≡ true → IsImage buffer → (d ≡ true → bytes_of seen page ≡ buffer)
     → Brings passes d seen s u
 admitted passes d seen buffer s t u i page sound inside is small absent te ue number passing image read =
@@ -257,7 +258,7 @@ admitted passes d seen buffer s t u i page sound inside is small absent te ue nu
     rw (ue, te) (admitted_brings passes d seen s i page w sound inside is small absent (ap (λ c. c.number) (sym there) ∙ number) (ap passes (sym there) ∙ passing)
     (λ honest. image_read (bytes_of seen page) buffer (read honest) image))
 
-pub admitted_there : (s t u : State) (w : Contents) (i page : ℕ) → IsSound s → i < length s.marks → page ≤ 65536 → t ≡ with_page (vacated s i) i w → u ≡ settled t i page None → IsSome (kept u page)
+pub admitted_there : (s t u : State) (w : Contents) (i page : ℕ) → IsSound s → i < length s.marks → page ≤ MAX_PAGES → t ≡ with_page (vacated s i) i w → u ≡ settled t i page None → IsSome (kept u page)
 admitted_there s t u w i page sound inside small te ue = rw (ue, te, admitted_kept s i page w sound inside small) refl
 
 -- ---- runs of bringings

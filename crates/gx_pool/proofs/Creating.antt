@@ -1,6 +1,7 @@
 -- What making a page leaves of the frames.
 use Rattle.std.proofs.Common.{◌≡◌, ◌≢◌, ◌∙◌, sym, ap, subst, refl, ◌⊎◌, inl, inr, ℕ, ◌<◌, ◌≤◌, ◌+◌, length, count_by, Bool, true, false, Some, None, arith, length-set}
 use Rattle.std.proofs.lemmas.List.{set-set}
+use Rattle.gx_disk.specs.declared.layout.TheConstants.{MAX_PAGES}
 use Rattle.gx_page.specs.Contents.{Contents}
 use Rattle.gx_pool.specs.declared.mark.Mark.{Mark}
 use Rattle.gx_pool.specs.Marks.{empty, clean, is_dirty}
@@ -35,7 +36,7 @@ carried s t u q same (inl was) = inl (same ∙ was)
 carried s t u q same (inr left) = inr (record { was = left.was; is = same ∙ left.is })
 
 -- a clean frame emptied, given contents, and given to its page
-pub made : (s t u : State) (i page batch : ℕ) (w : Contents) → IsSound s → i < length s.marks → clean s.held (mark_at s i) ≡ true → (is_upper_at s i ≡ true → NoCleanLeaf s) → 1 ≤ page → page ≤ 65536
+pub made : (s t u : State) (i page batch : ℕ) (w : Contents) → IsSound s → i < length s.marks → clean s.held (mark_at s i) ≡ true → (is_upper_at s i ≡ true → NoCleanLeaf s) → 1 ≤ page → page ≤ MAX_PAGES
     → kept s page ≡ None → t ≡ with_page (vacated s i) i w → u ≡ settled t i page (Some batch) → Makes s u page w batch
 made s t u i page batch w sound inside is first positive small absent te ue =
     let v : State = with_page (vacated s i) i w in

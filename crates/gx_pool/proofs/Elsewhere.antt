@@ -1,5 +1,6 @@
 -- Why a call ahead of the pages changes nothing of them.
 use Rattle.std.proofs.Common.{sym, ap, subst, inl, inr, ℕ, List, length, arith}
+use Rattle.gx_disk.specs.declared.layout.TheConstants.{PAGE_SECTORS}
 use Rattle.gx_disk.specs.Device.{Device}
 use Rattle.gx_disk.specs.Sectors.{sector_of}
 use Rattle.gx_disk.proofs.Spans.{touched_span}
@@ -19,7 +20,7 @@ rest_leaves d e rests = record {
 }
 
 pub elsewhere_reads : (d e : Device) → ElsewhereReadsTheSame d e
-elsewhere_reads d e page leaves = let ahead = leaves.ahead in touched_span leaves.first leaves.count (first_of page) 8 d e leaves.touches (inl (omega (arith, ahead)))
+elsewhere_reads d e page leaves = let ahead = leaves.ahead in touched_span leaves.first leaves.count (first_of page) PAGE_SECTORS d e leaves.touches (inl (omega (arith, ahead)))
 
 pub elsewhere_backed : (d e : Device) → ElsewhereKeepsBacked d e
 elsewhere_backed d e s leaves backed = λ page k is clean. subst {A = List ℕ} (λ bytes. HasImage bytes k.page) (sym (elsewhere_reads d e page leaves)) (backed page k is clean)

@@ -1,6 +1,7 @@
 -- Why a write of one page leaves the others' sectors as they were.
 use Rattle.std.proofs.Common.{◌≡◌, ◌≢◌, ◌∙◌, sym, ap, subst, refl, inl, inr, ℕ, ◌≤◌, Bool, true, false, Result, arith}
 use Rattle.std.proofs.lemmas.Bool.{cases_lt}
+use Rattle.gx_disk.specs.declared.layout.TheConstants.{PAGE_SECTORS}
 use Rattle.gx_disk.specs.Device.{Device}
 use Rattle.gx_disk.proofs.Leaving.{call_leaves, nothing_leaves}
 use Rattle.gx_disk.proofs.Spans.{AreApart, apart_outside, image_span, touched_span}
@@ -13,7 +14,7 @@ true_false : (b : Bool) → b ≡ true → b ≡ false → ⊥
 true_false b is not_so = grind arith
 
 -- two pages have no sector in common
-pub pages_apart : (page other : ℕ) → 1 ≤ page → 1 ≤ other → page ≢ other → AreApart (first_of page) 8 (first_of other) 8
+pub pages_apart : (page other : ℕ) → 1 ≤ page → 1 ≤ other → page ≢ other → AreApart (first_of page) PAGE_SECTORS (first_of other) PAGE_SECTORS
 pages_apart page other one two ne = elim (cases_lt page other) [
   | inl below ↦ inl (omega (arith, below, one))
   | inr above ↦ elim (cases_lt other page) [
@@ -33,12 +34,12 @@ pub write_keeps_area : {A E : Type 0} → (named : ℕ → Bool) (d e : Device) 
     → IsAreaSettled named d → WritesPage d e old new page k result → KeepsArea named d e
 write_keeps_area named d e old new page k result honest there is settled wrote =
     let w = wrote.writes honest in
-    let apart : (q : ℕ) → IsPage d.sectors q → named q ≡ false → AreApart (first_of page) 8 (first_of q) 8 =
+    let apart : (q : ℕ) → IsPage d.sectors q → named q ≡ false → AreApart (first_of page) PAGE_SECTORS (first_of q) PAGE_SECTORS =
     λ q other unnamed. pages_apart page q there.from other.from (named_apart named page q is unnamed) in
     let still : IsAreaSettled named e = λ q s other unnamed within.
     let was : IsPage d.sectors q = subst {A = ℕ} (λ n. IsPage n q) wrote.counts.sectors other in
-    w.touches.settled s (apart_outside (first_of page) 8 (first_of q) 8 s (apart q was unnamed) within) (settled q s was unnamed within) in
-    let reads : AgreesOutside named d.sectors d.seen e.seen = λ q other unnamed. touched_span (first_of page) 8 (first_of q) 8 d e w.touches (apart q other unnamed) in
+    w.touches.settled s (apart_outside (first_of page) PAGE_SECTORS (first_of q) PAGE_SECTORS s (apart q was unnamed) within) (settled q s was unnamed within) in
+    let reads : AgreesOutside named d.sectors d.seen e.seen = λ q other unnamed. touched_span (first_of page) PAGE_SECTORS (first_of q) PAGE_SECTORS d e w.touches (apart q other unnamed) in
     record {
       seen = reads;
       settled = still;

@@ -2,9 +2,11 @@
 use Rattle.std.proofs.Common.{◌≡◌, ◌≢◌, ◌∙◌, sym, ap, subst, refl, ℕ, ◌+◌, ◌*◌, ◌≤◌, List, length, Bool, true, Option, Some, None, Result, Ok, Err, zero, suc, arith}
 use Rattle.std.proofs.Math.Decide.{ℕ_discrete}
 use Rattle.std.proofs.lemmas.Option.{none-some}
+use Rattle.gx_disk.specs.declared.layout.TheConstants.{PAGE_SECTORS}
 use Rattle.gx_disk.specs.Device.{Device}
 use Rattle.gx_disk.specs.Sectors.{span_of, put}
 use Rattle.gx_disk.proofs.Spans.{put_back, touched_span}
+use Rattle.gx_page.specs.declared.block.TheConstants.{PAGE_SIZE}
 use Rattle.gx_page.specs.Contents.{Contents}
 use Rattle.gx_page.specs.Format.{image_of}
 use Rattle.gx_page.specs.Reading.{read_of}
@@ -19,7 +21,7 @@ use Rattle.gx_pool.proofs.Gated.{pages_apart}
 use Rattle.gx_pool.proofs.Shown.{one_kept}
 
 -- a page's bytes, once they were written
-back_there : (page : ℕ) (bytes seen : List ℕ) → length bytes ≡ 4096 → 512 * first_of page + 4096 ≤ length seen → bytes_of (put (512 * first_of page) bytes seen) page ≡ bytes
+back_there : (page : ℕ) (bytes seen : List ℕ) → length bytes ≡ PAGE_SIZE → 512 * first_of page + PAGE_SIZE ≤ length seen → bytes_of (put (512 * first_of page) bytes seen) page ≡ bytes
 unfolding span_of
 back_there page bytes seen size fits = rw (← size) (put_back (512 * first_of page) bytes seen (omega (arith, fits, size)))
 
@@ -84,7 +86,7 @@ pub write_keeps_shown : {A E : Type 0} → (d e : Device) (old new : State) (pag
 write_keeps_shown d e old new page k result honest whole there none is gated wrote backed =
     let now : Written e new page k = written d e old new page k result honest whole there is gated wrote in
     let others : (q : ℕ) → 1 ≤ q → q ≢ page → bytes_of e.seen q ≡ bytes_of d.seen q =
-    λ q from ne. touched_span (first_of page) 8 (first_of q) 8 d e (wrote.writes honest).touches (pages_apart page q there.from from (λ same. ne (sym same))) in
+    λ q from ne. touched_span (first_of page) PAGE_SECTORS (first_of q) PAGE_SECTORS d e (wrote.writes honest).touches (pages_apart page q there.from from (λ same. ne (sym same))) in
     record {
       backed = λ q l at clean. elim (ℕ_discrete q page) [
         | yes here ↦ page_backed e new page q k l now here at clean

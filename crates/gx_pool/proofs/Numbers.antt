@@ -8,6 +8,7 @@ use Rattle.std.proofs.lemmas.List.Folds.{list_any_more}
 use Rattle.std.proofs.lemmas.List.Sums.{count_by-le-length}
 use Rattle.std.proofs.lemmas.Option.{none-some}
 use Rattle.gx_page.specs.Contents.{Contents}
+use Rattle.gx_pool.specs.declared.frames.TheConstants.{FRAMES}
 use Rattle.gx_pool.specs.declared.mark.Mark.{Mark}
 use Rattle.gx_pool.specs.Marks.{clean, empty, is_dirty, is_held}
 use Rattle.gx_pool.specs.State.{State, Kept, IsSound, IsSpare, NoneDirty, mark_at, place_of, kept, stamp_of, clean_count, dirty_count, is_clean_at, is_clean_page, is_counted, held_clean}
@@ -132,7 +133,7 @@ one_bit : (n m : ℕ) (b : Bool) → b ≡ true → m ≡ n + cond b 1 0 → m �
 one_bit n m true is sum = sum
 one_bit n m false is sum = absurd (grind arith)
 
-one_clean : (s : State) (k : ℕ) → held_clean s (k + 1) ≡ held_clean s k + cond (is_counted s k) 1 0
+pub one_clean : (s : State) (k : ℕ) → held_clean s (k + 1) ≡ held_clean s k + cond (is_counted s k) 1 0
 unfolding held_clean
 one_clean s k = ap (held_clean s) (add-one k)
 
@@ -347,7 +348,7 @@ then_dirty s i mark inside was is = one_more is_dirty s.marks i mark empty insid
 pub was_counted : (marks : List Mark) (i dirty : ℕ) (was : Bool) → i < length marks → dirty ≡ count_by is_dirty marks → was ≡ is_dirty (get_or marks i empty) → cond was 1 0 ≤ dirty
 was_counted marks i dirty was inside counted is = rw (is, counted) (counted_at is_dirty marks i empty inside)
 
-pub few_counted : (marks : List Mark) (dirty : ℕ) → length marks ≤ 4096 → dirty ≡ count_by is_dirty marks → dirty ≤ 4096
+pub few_counted : (marks : List Mark) (dirty : ℕ) → length marks ≤ FRAMES → dirty ≡ count_by is_dirty marks → dirty ≤ FRAMES
 few_counted marks dirty few counted = let all = count_by-le-length is_dirty marks in omega (arith, all, few, counted)
 
 pub put_counted : (marks : List Mark) (i dirty after : ℕ) (mark : Mark) (was is : Bool) → i < length marks → dirty ≡ count_by is_dirty marks → was ≡ is_dirty (get_or marks i empty) → is ≡ is_dirty mark

@@ -1,11 +1,13 @@
 -- Frames and places name each other after each edit, and what is kept of each page.
-use Rattle.std.proofs.Common.{◌≡◌, ◌≢◌, ◌∙◌, sym, ap, refl, ◌⊎◌, inl, inr, ℕ, ◌<◌, ◌≤◌, List, length, get_or, set, Option, Some, None, IfSome, IfNone, IsSome, Bool, true, false, zero, suc, [], ◌∷◌, ◌++◌, arith, get_or-set_same, get_or-set_other, length-set}
+use Rattle.std.proofs.Common.{◌≡◌, ◌+◌, ◌≢◌, ◌∙◌, sym, ap, refl, ◌⊎◌, inl, inr, ℕ, ◌<◌, ◌≤◌, List, length, get_or, set, Option, Some, None, IfSome, IfNone, IsSome, Bool, true, false, zero, suc, [], ◌∷◌, ◌++◌, arith, get_or-set_same, get_or-set_other, length-set}
 use Rattle.std.specs.Prelude.{is_some}
 use Rattle.std.proofs.Math.Decide.{ℕ_discrete}
 use Rattle.std.proofs.lemmas.Option.{none-some}
 use Rattle.std.proofs.Math.ListN.{get_or-eq_default}
 use Rattle.std.proofs.lemmas.Bool.{cases_lt}
+use Rattle.gx_disk.specs.declared.layout.TheConstants.{MAX_PAGES}
 use Rattle.gx_page.specs.Contents.{Contents}
+use Rattle.gx_pool.specs.declared.frames.TheConstants.{FRAMES}
 use Rattle.gx_pool.specs.declared.mark.Mark.{Mark}
 use Rattle.gx_pool.specs.Marks.{empty, is_gated, writable, IsLeast}
 use Rattle.gx_pool.specs.State.{State, Kept, IsSound, IsWritable, stamp_of, mark_at, place_of, kept, kept_at, frame_at}
@@ -105,7 +107,7 @@ with_page_sound s i page sound = record {
   blank = sound.blank;
 }
 
-pub settled_sound : (s : State) (i page : ℕ) (stamp : Option ℕ) → IsSound s → i < length s.marks → (mark_at s i).page ≡ None → 1 ≤ page → page ≤ 65536 → place_of s page ≡ None
+pub settled_sound : (s : State) (i page : ℕ) (stamp : Option ℕ) → IsSound s → i < length s.marks → (mark_at s i).page ≡ None → 1 ≤ page → page ≤ MAX_PAGES → place_of s page ≡ None
     → IsSound (settled s i page stamp)
 settled_sound s i page stamp sound inside free positive small absent =
     let new : Mark = record { page = Some page; stamp = stamp } in
@@ -264,7 +266,7 @@ paged_other s i page other contents sound at ne =
     ap (λ p. record { page = p; stamp = (frame_at s j).stamp }) (get_or-set_other s.pages i j contents _ apart))
 
 -- an empty frame given to a page is that page's, and no other's
-pub settled_kept : (s : State) (i page : ℕ) (stamp : Option ℕ) → IsSound s → i < length s.marks → page ≤ 65536
+pub settled_kept : (s : State) (i page : ℕ) (stamp : Option ℕ) → IsSound s → i < length s.marks → page ≤ MAX_PAGES
     → kept (settled s i page stamp) page ≡ Some (record { page = (frame_at s i).page; stamp = stamp })
 settled_kept s i page stamp sound inside small =
     let room : page < length s.places = omega (arith, sound.numbers) in
@@ -349,7 +351,7 @@ one_same [] d all (suc k) = refl
 one_same (x ∷ xs) d all zero = all 0
 one_same (x ∷ xs) d all (suc k) = one_same xs d (λ j. all (suc j)) k
 
-pub empty_sound : (s : State) → length s.pages ≡ length s.marks → length s.marks ≤ 4096 → length s.places ≡ 65537 → ((k : ℕ) → mark_at s k ≡ empty) → ((k : ℕ) → place_of s k ≡ None) → IsSound s
+pub empty_sound : (s : State) → length s.pages ≡ length s.marks → length s.marks ≤ FRAMES → length s.places ≡ MAX_PAGES + 1 → ((k : ℕ) → mark_at s k ≡ empty) → ((k : ℕ) → place_of s k ≡ None) → IsSound s
 empty_sound s sizes few numbers marks places = record {
   sizes = sizes;
   few = few;

@@ -2,6 +2,7 @@
 use Rattle.std.proofs.Common.{◌≡◌, ◌∙◌, sym, ap, subst, refl, ⊎_elim, ℕ, List, Bool, true, Option, Some, None, Ok, Err, Result}
 use Rattle.std.proofs.Math.Decide.{ℕ_discrete}
 use Rattle.std.proofs.lemmas.Option.{none-some}
+use Rattle.gx_disk.specs.declared.layout.TheConstants.{PAGE_SECTORS}
 use Rattle.gx_disk.specs.Device.{Device}
 use Rattle.gx_disk.proofs.Spans.{touched_span}
 use Rattle.gx_page.specs.Contents.{Contents}
@@ -78,6 +79,6 @@ pub write_keeps_readable : {A E : Type 0} → (passes : Contents → Bool) (used
 write_keeps_readable passes used d e old new page k result honest there is wrote readable = λ q from used_is gone. elim (ℕ_discrete q page) [
   | yes e_is ↦ absurd (still_there d e old new page k result is wrote (ap (kept new) (sym e_is) ∙ gone))
   | no ne ↦
-      subst {A = List ℕ} (λ bytes. IsPassing passes q bytes) (sym (touched_span (first_of page) 8 (first_of q) 8 d e (wrote.writes honest).touches (pages_apart page q there.from from (λ same. ne (sym same)))))
+      subst {A = List ℕ} (λ bytes. IsPassing passes q bytes) (sym (touched_span (first_of page) PAGE_SECTORS (first_of q) PAGE_SECTORS d e (wrote.writes honest).touches (pages_apart page q there.from from (λ same. ne (sym same)))))
       (readable q from used_is (sym (wrote.others q ne) ∙ gone))
 ]

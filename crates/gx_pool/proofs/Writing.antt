@@ -2,8 +2,10 @@
 use Rattle.std.proofs.Common.{◌≡◌, ◌≢◌, ◌∙◌, sym, ap, refl, subst, inl, inr, ℕ, ◌+◌, ◌/◌, ◌≤◌, List, length, Bool, true, false, Some, None, IsSome, Result, Ok, Err, OnErr, arith, length-set}
 use Rattle.std.proofs.Math.Decide.{ℕ_discrete}
 use Rattle.std.proofs.lemmas.Option.{none-some}
+use Rattle.gx_disk.specs.declared.layout.TheConstants.{PAGE_SECTORS}
 use Rattle.gx_disk.specs.Device.{Device, Counts, Writes}
 use Rattle.gx_disk.specs.declared.device.DiskFault.{DiskFault}
+use Rattle.gx_page.specs.declared.block.TheConstants.{PAGE_SIZE}
 use Rattle.gx_page.specs.Format.{image_of}
 use Rattle.gx_page.specs.Reading.{IsImage, read_of}
 use Rattle.gx_pool.specs.declared.fault.PoolFault.{PoolFault}
@@ -25,7 +27,7 @@ page_image s page i k bytes at is image whole back =
     subst {A = List ℕ} (λ b. HasImage b k.page) same (record { image = whole; read = back ∙ kept_page s page i k at is })
 
 pub wrote_ok : (d e : Device) (s t : State) (page i : ℕ) (k : Kept) (bytes : List ℕ) → IsSound s → place_of s page ≡ Some i → kept s page ≡ Some k → t ≡ stamped s i None → IsSome (mark_at s i).stamp
-    → bytes ≡ image_of (frame_at s i).page → IsImage bytes → read_of bytes ≡ (frame_at s i).page → length bytes ≡ 4096
+    → bytes ≡ image_of (frame_at s i).page → IsImage bytes → read_of bytes ≡ (frame_at s i).page → length bytes ≡ PAGE_SIZE
     → Counts {T = Unit {0}} {E = DiskFault} 1 d e (Ok tt)
     → (d.honest ≡ true → Writes {T = Unit {0}} {E = DiskFault} (first_of page) (length bytes / 512) bytes d e (Ok tt))
     → WritesPage {A = Unit {0}} {E = PoolFault} d e s t page k (Ok tt)
@@ -33,7 +35,7 @@ wrote_ok d e s t page i k bytes sound at is new dirty image whole back size coun
   counts = record { sectors = counts.sectors; honest = counts.honest; faults = counts.faults; calls = counts.calls };
   image = page_image s page i k bytes at is image whole back;
   writes = λ honest.
-      let w : Writes {T = Unit {0}} {E = DiskFault} (first_of page) 8 (image_of k.page) d e (Ok tt) =
+      let w : Writes {T = Unit {0}} {E = DiskFault} (first_of page) PAGE_SECTORS (image_of k.page) d e (Ok tt) =
       rw (← kept_page s page i k at is, ← image) (subst {A = ℕ} (λ n. Writes {T = Unit {0}} {E = DiskFault} (first_of page) (n / 512) bytes d e (Ok tt)) size (writes honest)) in
       record { touches = w.touches; written = w.written; torn = w.torn; pending = w.pending; time = w.time };
   clean = rw new (stamped_kept s i page None sound at ∙ ap (λ c. Some (record { page = c; stamp = None })) (kept_page s page i k at is));
@@ -48,7 +50,7 @@ wrote_ok d e s t page i k bytes sound at is new dirty image whole back size coun
 }
 
 pub wrote_err : (d e : Device) (s t : State) (page i : ℕ) (k : Kept) (bytes : List ℕ) (why : DiskFault) (fault : PoolFault) → place_of s page ≡ Some i → kept s page ≡ Some k → t ≡ s
-    → bytes ≡ image_of (frame_at s i).page → IsImage bytes → read_of bytes ≡ (frame_at s i).page → length bytes ≡ 4096
+    → bytes ≡ image_of (frame_at s i).page → IsImage bytes → read_of bytes ≡ (frame_at s i).page → length bytes ≡ PAGE_SIZE
     → Counts {T = Unit {0}} {E = DiskFault} 1 d e (Err why)
     → (d.honest ≡ true → Writes {T = Unit {0}} {E = DiskFault} (first_of page) (length bytes / 512) bytes d e (Err why))
     → WritesPage {A = Unit {0}} {E = PoolFault} d e s t page k (Err fault)
@@ -56,7 +58,7 @@ wrote_err d e s t page i k bytes why fault at is new image whole back size count
   counts = record { sectors = counts.sectors; honest = counts.honest; faults = counts.faults; calls = counts.calls };
   image = page_image s page i k bytes at is image whole back;
   writes = λ honest.
-      let w : Writes {T = Unit {0}} {E = DiskFault} (first_of page) 8 (image_of k.page) d e (Err why) =
+      let w : Writes {T = Unit {0}} {E = DiskFault} (first_of page) PAGE_SECTORS (image_of k.page) d e (Err why) =
       rw (← kept_page s page i k at is, ← image) (subst {A = ℕ} (λ n. Writes {T = Unit {0}} {E = DiskFault} (first_of page) (n / 512) bytes d e (Err why)) size (writes honest)) in
       record { touches = w.touches; written = w.written; torn = w.torn; pending = w.pending; time = w.time };
   clean = tt;

@@ -1,5 +1,6 @@
 -- Calls of a device that change no page of it.
 use Rattle.std.specs.Prelude.{◌≡◌, ℕ, ◌+◌, ◌≤◌, Bool}
+use Rattle.gx_disk.specs.declared.layout.TheConstants.{PAGES_AT}
 use Rattle.gx_disk.specs.Device.{Device, Rests, Touches}
 use Rattle.gx_page.specs.Contents.{Contents}
 use Rattle.gx_pool.specs.Area.{bytes_of}
@@ -12,7 +13,7 @@ use Rattle.gx_pool.specs.State.{State}
 pub record LeavesPages (d e : Device) : Type 0 where
   pub first : ℕ
   pub count : ℕ
-  pub ahead : first + count ≤ 4168
+  pub ahead : first + count ≤ PAGES_AT
   pub touches : Touches first count d e
 
 -- a call after which nothing reads otherwise is one, as a read and a sync are

@@ -1,5 +1,6 @@
 -- What of the page area no write of the pool changes: the pages that no gated record names.
 use Rattle.std.specs.Prelude.{◌≡◌, ℕ, List, Bool, true, false}
+use Rattle.gx_disk.specs.declared.layout.TheConstants.{PAGE_SECTORS}
 use Rattle.gx_disk.specs.Device.{Device, MayLeave}
 use Rattle.gx_disk.specs.Moments.{Leaves}
 use Rattle.gx_disk.specs.Sectors.{IsWithin}
@@ -12,7 +13,7 @@ NamesGated named s = (page : ℕ) → IsWritable s page → named page ≡ true
 
 -- the sectors of each page but these are settled
 abbrev pub IsAreaSettled : (ℕ → Bool) → Device → Type 0
-IsAreaSettled named d = (page s : ℕ) → IsPage d.sectors page → named page ≡ false → IsWithin (first_of page) 8 s → d.pending s ≡ false
+IsAreaSettled named d = (page s : ℕ) → IsPage d.sectors page → named page ≡ false → IsWithin (first_of page) PAGE_SECTORS s → d.pending s ≡ false
 
 -- an image has each page but these as those bytes have it
 abbrev pub AgreesOutside : (ℕ → Bool) → ℕ → List ℕ → List ℕ → Type 0

@@ -15,6 +15,10 @@ use Rattle.gx_pool.specs.State.{State, IsSound, holding, kept}
 abbrev pub IsReadable : (Contents → Bool) → (ℕ → Bool) → State → List ℕ → Type 0
 IsReadable passes used s seen = (page : ℕ) → 1 ≤ page → used page ≡ true → kept s page ≡ None → IsPassing passes page (bytes_of seen page)
 
+-- over an honest device, pages that can be brought still can
+abbrev pub StaysReadable : (Contents → Bool) → Device → Device → State → State → Type 0
+StaysReadable passes d e old new = (used : ℕ → Bool) → d.honest ≡ true → IsReadable passes used old d.seen → IsReadable passes used new e.seen
+
 -- one of these pages isn't refused as damaged
 abbrev pub OneIsNotDamaged : Device → Device → Type 0
 OneIsNotDamaged d e = (passes : Contents → Bool) (used : ℕ → Bool) (old new : State) (page : ℕ) (result : Result (Unit {0}) PoolFault) → d.honest ≡ true → 1 ≤ page → used page ≡ true

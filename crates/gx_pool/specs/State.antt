@@ -1,7 +1,9 @@
 -- What frames hold.
 use Rattle.std.specs.Prelude.{◌≡◌, ℕ, zero, suc, ◌+◌, ◌<◌, ◌≤◌, List, [], length, slice_index, slice_index_or, count_by, Bool, true, false, not, ◌&&◌, cond, Option, Some, None, IsSome, is_none, take}
+use Rattle.gx_disk.specs.declared.layout.TheConstants.{MAX_PAGES}
 use Rattle.gx_page.specs.Contents.{Contents}
 use Rattle.gx_page.specs.Edits.{blank}
+use Rattle.gx_pool.specs.declared.frames.TheConstants.{FRAMES}
 use Rattle.gx_pool.specs.declared.mark.Mark.{Mark}
 use Rattle.gx_pool.specs.Marks.{clean, empty, is_dirty, is_gated, is_held, is_upper, NoLeaf}
 
@@ -46,8 +48,8 @@ stamp_of (Some k) = k.stamp
 -- frames and places name each other, no page has the number 0, and a frame without a page has no stamp
 pub record IsSound (s : State) : Type 0 where
   pub sizes : length s.pages ≡ length s.marks
-  pub few : length s.marks ≤ 4096
-  pub numbers : length s.places ≡ 65537
+  pub few : length s.marks ≤ FRAMES
+  pub numbers : length s.places ≡ MAX_PAGES + 1
   pub there : (page i : ℕ) → place_of s page ≡ Some i → (i < length s.marks) × ((mark_at s i).page ≡ Some page)
   pub back : (i page : ℕ) → (mark_at s i).page ≡ Some page → place_of s page ≡ Some i
   pub zero : place_of s 0 ≡ None

@@ -1,12 +1,13 @@
 -- What a page's write leaves.
-use Rattle.std.specs.Prelude.{◌≡◌, ◌≢◌, ◌⊎◌, ◌≤◌, ◌+◌, ℕ, length, true, false, Some, None, Option, Result, OnOk, OnErr}
+use Rattle.std.specs.Prelude.{◌≡◌, ◌≢◌, ◌⊎◌, ◌≤◌, ◌+◌, ℕ, length, Bool, true, false, Some, None, Option, Result, OnOk, OnErr}
+use Rattle.gx_disk.specs.declared.layout.TheConstants.{PAGE_SECTORS}
 use Rattle.gx_disk.specs.Device.{Device, Counts, Elapses, Touches, Writes}
 use Rattle.gx_page.specs.Contents.{Contents}
 use Rattle.gx_page.specs.Format.{image_of}
 use Rattle.gx_pool.specs.Area.{first_of}
 use Rattle.gx_pool.specs.Bringing.{HasImage}
 use Rattle.gx_pool.specs.Laws.{IsBacked, shown}
-use Rattle.gx_pool.specs.Marks.{is_held}
+use Rattle.gx_pool.specs.Marks.{is_gated, is_held}
 use Rattle.gx_pool.specs.State.{State, Kept, clean_count, dirty_count, kept, stamp_of}
 
 -- A kept page was written to its sectors, as the image that reads back as it. Where that succeeded, it is clean, one page
@@ -14,7 +15,7 @@ use Rattle.gx_pool.specs.State.{State, Kept, clean_count, dirty_count, kept, sta
 pub record WritesPage {A E : Type 0} (d e : Device) (old new : State) (page : ℕ) (k : Kept) (result : Result A E) : Type 0 where
   pub counts : Counts 1 d e result
   pub image : HasImage (image_of k.page) k.page
-  pub writes : d.honest ≡ true → Writes (first_of page) 8 (image_of k.page) d e result
+  pub writes : d.honest ≡ true → Writes (first_of page) PAGE_SECTORS (image_of k.page) d e result
   pub clean : OnOk result (kept new page ≡ Some (record { page = k.page; stamp = None }))
   pub fewer : OnOk result (dirty_count new + 1 ≡ dirty_count old)
   pub free : OnOk result (is_held old.held (Some page) ≡ false → clean_count new ≡ clean_count old + 1)
@@ -40,7 +41,7 @@ contents_of (Some k) = Some k.page
 -- page is kept as it was, and this one with the same contents. What is dirty was so, with the same stamp; no more pages are
 -- dirty, and no fewer frames are clean.
 pub record WritesAtMost (d e : Device) (old new : State) (page : ℕ) : Type 0 where
-  pub touches : d.honest ≡ true → Touches (first_of page) 8 d e
+  pub touches : d.honest ≡ true → Touches (first_of page) PAGE_SECTORS d e
   pub time : d.honest ≡ true → Elapses d e
   pub calls : (e.calls ≡ d.calls) ⊎ (e.calls ≡ d.calls + 1)
   pub others : (q : ℕ) → q ≢ page → kept new q ≡ kept old q
@@ -51,3 +52,15 @@ pub record WritesAtMost (d e : Device) (old new : State) (page : ℕ) : Type 0 w
   pub held : new.held ≡ old.held
   pub gated : new.gated ≡ old.gated
   pub frames : length new.marks ≡ length old.marks
+
+-- a page has changes, and all of them are gated
+abbrev pub may_be_written : State → ℕ → Bool
+may_be_written s page = is_gated s.gated (stamp_of (kept s page))
+
+-- a page that is kept was written, where all its changes are gated
+abbrev pub WritesGated : {A E : Type 0} → Device → Device → State → State → ℕ → Result A E → Type 0
+WritesGated d e old new page result = (k : Kept) → kept old page ≡ Some k → is_gated old.gated k.stamp ≡ true → WritesPage d e old new page k result
+
+-- over an honest device, pages that are backed are shown as before
+abbrev pub StaysShown : Device → Device → State → State → Type 0
+StaysShown d e old new = d.honest ≡ true → IsBacked old d.seen → KeepsShown d e old new

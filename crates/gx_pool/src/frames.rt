@@ -1,14 +1,15 @@
 //! Frames, and the table of which page is in which.
-ghost use Rattle.std.specs.Prelude.{◌≡◌, ◌≢◌, ◌<◌, ◌≤◌, ◌+◌, ◌*◌, ◌↔◌, ⊤, ℕ, true, false, IsTrue, IsSome, IfOk, OnOk, OnErr, IfSome, IfNone, Some, None, length, count_by, slice_index_or, nat_le, max};
+ghost use Rattle.std.specs.Prelude.{◌≡◌, ◌≢◌, ◌<◌, ◌≤◌, ◌+◌, ◌*◌, ◌↔◌, ⊤, ℕ, true, false, IsTrue, IsSome, IfOk, OnOk};
+ghost use Rattle.std.specs.Prelude.{OnErr, IfSome, IfNone, Some, None, length, count_by, slice_index_or, nat_le, max};
 ghost use Rattle.std.specs.Borrow.{sem};
 ghost use Rattle.std.specs.Bool.{OnTrue, OnFalse};
 ghost use Rattle.gx_page.specs.Edits.{blank};
 ghost use Rattle.gx_page.specs.Faults.{fault_of};
 ghost use Rattle.gx_page.specs.Reading.{IsImage, read_of};
 
-use crate::area::PAGES;
 use crate::mark::{self, HELD, Mark};
 use arrayvec::ArrayVec;
+use gx_disk::MAX_PAGES;
 use gx_page::{Page, PageFault};
 use std::alloc::{AllocError, Global};
 use std::marker::Model;
@@ -35,16 +36,31 @@ impl Model for Frames {
 
     ghost Value = { State };
 
-    ghost view = { λ s. record { pages = s.pages.items; marks = s.marks.items; places = s.places.items; held = s.held.items; gated = s.gated } };
+    ghost view = { λ s. record {
+      pages = s.pages.items;
+      marks = s.marks.items;
+      places = s.places.items;
+      held = s.held.items;
+      gated = s.gated;
+    } };
 
-    ghost invariant = { λ s. IsSound (record { pages = s.pages.items; marks = s.marks.items; places = s.places.items; held = s.held.items; gated = s.gated }) × (s.hand ≤ length s.marks.items) × (s.dirty ≡ count_by is_dirty s.marks.items) };
+    ghost invariant = { λ s. IsSound (record {
+      pages = s.pages.items;
+      marks = s.marks.items;
+      places = s.places.items;
+      held = s.held.items;
+      gated = s.gated;
+    }) × (s.hand ≤ length s.marks.items)
+        × (s.dirty ≡ count_by is_dirty s.marks.items) };
 }
 
 impl Frames {
     ghost use Rattle.gx_pool.specs.Lending.{LendsPage, LendsChange};
     ghost use Rattle.gx_pool.specs.Marks.{clean, empty, is_gated};
     ghost use Rattle.gx_pool.specs.Creating.{Creates, Copies, Makes};
-    ghost use Rattle.gx_pool.specs.State.{State, IsEmpty, IsSound, place_of, mark_at, kept, stamp_of, clean_count, dirty_count, held_clean, is_clean_page, is_counted, NoneClean, NoneDirty, IsSpare, IsWritable, NoCleanLeaf, is_upper_at};
+    ghost use Rattle.gx_pool.specs.State.{State, IsEmpty, IsSound, place_of, mark_at, kept, stamp_of};
+    ghost use Rattle.gx_pool.specs.State.{clean_count, dirty_count, held_clean, is_clean_page, is_counted};
+    ghost use Rattle.gx_pool.specs.State.{NoneClean, NoneDirty, IsSpare, IsWritable, NoCleanLeaf, is_upper_at};
     ghost use Rattle.gx_pool.specs.Edits.{numbered, vacated, with_page, settled, stamped};
 
     /// So many empty frames, with the table of pages.
@@ -56,7 +72,7 @@ impl Frames {
         Ok(Frames {
             pages: mark::blank_pages(alloc, frames)?,
             marks: mark::empty_marks(alloc, frames)?,
-            places: mark::empty_places(alloc, PAGES + 1)?,
+            places: mark::empty_places(alloc, MAX_PAGES + 1)?,
             held: ArrayVec::new(),
             gated: 0,
             hand: 0,
@@ -66,7 +82,7 @@ impl Frames {
 
     /// The frame of a page.
     pub(crate) fn place(&self, page: u32) -> Option<usize>
-        requires { page ≤ PAGES }
+        requires { page ≤ MAX_PAGES }
         ensures place { result ≡ place_of self.now page }
         ensures inside { IfSome result (λ i. i < length self.now.marks) }
         ensures sound { IsSound self.now }
@@ -77,7 +93,7 @@ impl Frames {
     /// Whether a page is kept.
     #[tactic(auto, using(crate::proofs::Places::some_kept, crate::proofs::Places::kept_none))]
     pub(crate) fn is_kept(&self, page: u32) -> bool
-        requires { page ≤ PAGES }
+        requires { page ≤ MAX_PAGES }
         ensures kept { OnTrue result (IsSome (kept self.now page)) }
         ensures absent { OnFalse result (kept self.now page ≡ None) }
     {
@@ -97,7 +113,7 @@ impl Frames {
 
     /// A page that is kept.
     pub(crate) fn kept_page(&self, page: u32) -> &Page
-        requires page { page ≤ PAGES }
+        requires page { page ≤ MAX_PAGES }
         requires kept { IsSome (kept self.now page) }
         ensures { IfSome (kept self.now page) (λ k. result.now ≡ k.page) }
     {
@@ -109,7 +125,8 @@ impl Frames {
 
     /// The frame for a page that comes in.
     pub(crate) fn frame_to_use(&mut self) -> Option<usize>
-        ensures found { IfSome result (λ i. (i < length self.old.marks) × (clean self.old.held (mark_at self.old i) ≡ true)) }
+        ensures found { IfSome result (λ i. (i < length self.old.marks)
+            × (clean self.old.held (mark_at self.old i) ≡ true)) }
         ensures first { IfSome result (λ i. is_upper_at self.old i ≡ true → NoCleanLeaf self.old) }
         ensures none { IfNone result (NoneClean self.old) }
         ensures unchanged { self.new ≡ self.old }
@@ -149,7 +166,7 @@ impl Frames {
     #[tactic(auto, using(crate::proofs::Places::settled_sound))]
     pub(crate) fn settle(&mut self, i: usize, page: u32, stamp: Option<u64>)
         requires frame { (i < length self.old.marks) × ((mark_at self.old i).page ≡ None) }
-        requires page { (page ≤ PAGES) × (place_of self.old page ≡ None) }
+        requires page { (page ≤ MAX_PAGES) × (place_of self.old page ≡ None) }
         requires number { 1 ≤ page }
         ensures { self.new ≡ settled self.old i page stamp }
     {
@@ -172,7 +189,7 @@ impl Frames {
 
     /// Gives a clean frame to a page that isn't kept: blank, and with a change of a batch.
     pub(crate) fn create(&mut self, page: u32, level: u16, batch: u64)
-        requires page { (page ≤ PAGES) × (kept self.old page ≡ None) }
+        requires page { (page ≤ MAX_PAGES) × (kept self.old page ≡ None) }
         requires number { 1 ≤ page }
         requires frame { 0 < clean_count self.old }
         ensures { Creates self.old self.new page level batch }
@@ -197,12 +214,12 @@ impl Frames {
         mark::copy_page(&mut self.pages, from, to, number);
     }
 
-    /// Gives a clean frame to a page that isn't kept: a copy of one that is and that doesn't go, under its own number, and with
-    /// a change of a batch.
+    /// Gives a clean frame to a page that isn't kept: a copy of one that is and that doesn't go, under its own number,
+    /// and with a change of a batch.
     pub(crate) fn create_as(&mut self, page: u32, from: u32, batch: u64)
-        requires page { (page ≤ PAGES) × (kept self.old page ≡ None) }
+        requires page { (page ≤ MAX_PAGES) × (kept self.old page ≡ None) }
         requires number { 1 ≤ page }
-        requires from { (from ≤ PAGES) × IsSome (kept self.old from) }
+        requires from { (from ≤ MAX_PAGES) × IsSome (kept self.old from) }
         requires stays { ¬ IsSpare self.old from }
         requires frame { 0 < clean_count self.old }
         ensures { Copies self.old self.new page from batch }
@@ -215,11 +232,12 @@ impl Frames {
 
     /// Gives a clean frame to a page that isn't kept: a copy of the page in a frame that isn't clean.
     fn copy_frame(&mut self, page: u32, source: usize, batch: u64)
-        requires page { (page ≤ PAGES) × (kept self.old page ≡ None) }
+        requires page { (page ≤ MAX_PAGES) × (kept self.old page ≡ None) }
         requires number { 1 ≤ page }
         requires source { (source < length self.old.marks) × (clean self.old.held (mark_at self.old source) ≡ false) }
         requires frame { 0 < clean_count self.old }
-        ensures { Makes self.old self.new page (numbered (slice_index_or self.old.pages source (blank 0 0)) page) batch }
+        ensures { Makes self.old self.new page (numbered (slice_index_or self.old.pages source (blank 0 0)) page)
+            batch }
     {
         match self.frame_to_use() {
             Some(target) => {
@@ -252,7 +270,7 @@ impl Frames {
     }
 
     /// How many of the pages that are held are kept clean, each counted once.
-    #[tactic(auto, using(crate::proofs::Numbers::next_clean, crate::proofs::Numbers::same_clean, crate::proofs::Numbers::no_clean))]
+    #[tactic(auto, using(crate::proofs::Numbers::one_clean, crate::proofs::Numbers::no_clean))]
     fn held_clean(&self) -> usize
         ensures { result ≡ held_clean self.now (length self.now.held) }
     {
@@ -302,7 +320,7 @@ impl Frames {
 
     /// A page that is kept, to change, as of a batch.
     pub(crate) fn change_kept(&mut self, page: u32, batch: u64) -> &mut Page
-        requires page { page ≤ PAGES }
+        requires page { page ≤ MAX_PAGES }
         requires kept { IsSome (kept self.old page) }
         ensures* writes_back { sem 𝓛 (LendsChange self.entry page batch result) }
         ensures page { IfSome (kept self.old page) (λ k. result.now ≡ k.page) }
@@ -339,7 +357,8 @@ impl Frames {
 
     /// The least page that may be written.
     pub(crate) fn dirty(&self) -> Option<u32>
-        ensures found { IfSome result (λ page. IsWritable self.now page × ((q : ℕ) → IsWritable self.now q → page ≤ q)) }
+        ensures found { IfSome result (λ page. IsWritable self.now page
+            × ((q : ℕ) → IsWritable self.now q → page ≤ q)) }
         ensures none { IfNone result ((q : ℕ) → IsWritable self.now q → ⊥) }
     {
         mark::least_writable(&self.marks, self.gated)
@@ -348,8 +367,9 @@ impl Frames {
     /// The frame of a page that may be written.
     #[tactic(auto, using(crate::proofs::Places::placed_gated, crate::proofs::Places::unplaced_gated))]
     pub(crate) fn writable(&self, page: u32) -> Option<usize>
-        requires { page ≤ PAGES }
-        ensures some { IfSome result (λ i. (is_gated self.now.gated (stamp_of (kept self.now page)) ≡ true) × (place_of self.now page ≡ Some i) × (i < length self.now.marks)) }
+        requires { page ≤ MAX_PAGES }
+        ensures some { IfSome result (λ i. (is_gated self.now.gated (stamp_of (kept self.now page)) ≡ true)
+            × (place_of self.now page ≡ Some i) × (i < length self.now.marks)) }
         ensures none { IfNone result (is_gated self.now.gated (stamp_of (kept self.now page)) ≡ false) }
         ensures sound { IsSound self.now }
     {

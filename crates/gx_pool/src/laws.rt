@@ -1,8 +1,16 @@
 //! Laws of the pool. Each function is its contract alone.
 ghost use Rattle.gx_pool.specs.Gated.{ImagesAgree};
-ghost use Rattle.gx_pool.specs.Laws.{ChangeIsOfItsPage, ChangeIsOfNoOther, BringingKeepsBacked, BringingShowsTheSame, BringingKeepsPassing, CreatingKeepsBacked, CreatingShowsTheSame, CreatingKeepsPassing, CreatingShowsItsPage, ChangingKeepsBacked, ChangingShowsItsPage, ChangingShowsTheSame, ChangingKeepsPassing, ChangingKeepsSound, SomeAreClean, NoneAreClean, CleanAndDirtyAreApart, AllButHeldAreCounted, NoneDirtyIsZero, ZeroIsNoneDirty, ChangeOfACleanPageRaises, ChangeOfADirtyPageLeaves, ChangeKeepsClean, ChangeTakesAClean};
-ghost use Rattle.gx_pool.specs.Elsewhere.{RestLeavesPages, ElsewhereReadsTheSame, ElsewhereKeepsBacked, ElsewhereShowsTheSame, ElsewhereKeepsSettled, ElsewhereKeepsReadable};
-ghost use Rattle.gx_pool.specs.Readable.{OneIsNotDamaged, SomeAreNotDamaged, BringingKeepsReadable, CreatingKeepsReadable, ChangingKeepsReadable};
+ghost use Rattle.gx_pool.specs.Laws.{ChangeIsOfItsPage, ChangeIsOfNoOther, BringingKeepsBacked, BringingShowsTheSame};
+ghost use Rattle.gx_pool.specs.Laws.{BringingKeepsPassing, CreatingKeepsBacked, CreatingShowsTheSame};
+ghost use Rattle.gx_pool.specs.Laws.{CreatingKeepsPassing, CreatingShowsItsPage, ChangingKeepsBacked};
+ghost use Rattle.gx_pool.specs.Laws.{ChangingShowsItsPage, ChangingShowsTheSame, ChangingKeepsPassing};
+ghost use Rattle.gx_pool.specs.Laws.{ChangingKeepsSound, SomeAreClean, NoneAreClean, CleanAndDirtyAreApart};
+ghost use Rattle.gx_pool.specs.Laws.{AllButHeldAreCounted, NoneDirtyIsZero, ZeroIsNoneDirty, ChangeOfACleanPageRaises};
+ghost use Rattle.gx_pool.specs.Laws.{ChangeOfADirtyPageLeaves, ChangeKeepsClean, ChangeTakesAClean};
+ghost use Rattle.gx_pool.specs.Elsewhere.{RestLeavesPages, ElsewhereReadsTheSame, ElsewhereKeepsBacked};
+ghost use Rattle.gx_pool.specs.Elsewhere.{ElsewhereShowsTheSame, ElsewhereKeepsSettled, ElsewhereKeepsReadable};
+ghost use Rattle.gx_pool.specs.Readable.{OneIsNotDamaged, SomeAreNotDamaged, BringingKeepsReadable};
+ghost use Rattle.gx_pool.specs.Readable.{CreatingKeepsReadable, ChangingKeepsReadable};
 
 use gx_disk::SectorDisk;
 
@@ -12,16 +20,17 @@ pub fn change()
     ensures of_no_other { ChangeIsOfNoOther }
 {}
 
-/// Where each clean page is what an honest device has, it is so after pages were brought, and every page is shown as before:
-/// its last change, or what the device has. Where each kept page passes the test, each does then.
+/// Where each clean page is what an honest device has, it is so after pages were brought, and every page is shown as
+/// before: its last change, or what the device has. Where each kept page passes the test, each does then.
 pub fn bringing()
     ensures backed { BringingKeepsBacked }
     ensures shown { BringingShowsTheSame }
     ensures passing { BringingKeepsPassing }
 {}
 
-/// Where each clean page is what an honest device has, it is so after a page was made, blank or as a copy, and every other page
-/// is shown as before. Where each kept page passes the test, each does then, if the page that was made passes it.
+/// Where each clean page is what an honest device has, it is so after a page was made, blank or as a copy, and every
+/// other page is shown as before. Where each kept page passes the test, each does then,
+/// if the page that was made passes it.
 pub fn creating()
     ensures backed { CreatingKeepsBacked }
     ensures shown { CreatingShowsTheSame }
@@ -29,8 +38,8 @@ pub fn creating()
     ensures passing { CreatingKeepsPassing }
 {}
 
-/// The same of a change through a loan: its page is shown with the last contents, and every other page as before. Frames and
-/// the table still name each other, which is the premise of these laws.
+/// The same of a change through a loan: its page is shown with the last contents, and every other page as before.
+/// Frames and the table still name each other, which is the premise of these laws.
 pub fn changing()
     ensures backed { ChangingKeepsBacked }
     ensures its_page { ChangingShowsItsPage }
@@ -39,8 +48,9 @@ pub fn changing()
     ensures sound { ChangingKeepsSound }
 {}
 
-/// Where what an honest device has of each used page that isn't kept passes the test, it is so after pages were brought, made or
-/// changed, whatever goes meanwhile; `Pool::write_page` keeps it too. Then no used page that is brought is refused as damaged.
+/// Where what an honest device has of each used page that isn't kept passes the test, it is so after pages were
+/// brought, made or changed, whatever goes meanwhile; `Pool::write_page` keeps it too. Then no used page that is
+/// brought is refused as damaged.
 pub fn readable<D: SectorDisk>()
     ensures one { (disk after : D) → OneIsNotDamaged (D.state disk) (D.state after) }
     ensures several { (disk after : D) → SomeAreNotDamaged (D.state disk) (D.state after) }
@@ -49,8 +59,8 @@ pub fn readable<D: SectorDisk>()
     ensures changing { ChangingKeepsReadable }
 {}
 
-/// A call that touches sectors ahead of page 1 alone, as a step of a log or of its turn does, or none, as a read and a sync,
-/// leaves each page as the device has it: what is backed, shown, settled and readable.
+/// A call that touches sectors ahead of page 1 alone, as a step of a log or of its turn does, or none, as a read and a
+/// sync, leaves each page as the device has it: what is backed, shown, settled and readable.
 pub fn calls_elsewhere<D: SectorDisk>()
     ensures rest { (disk after : D) → RestLeavesPages (D.state disk) (D.state after) }
     ensures bytes { (disk after : D) → ElsewhereReadsTheSame (D.state disk) (D.state after) }
@@ -60,8 +70,8 @@ pub fn calls_elsewhere<D: SectorDisk>()
     ensures readable { (disk after : D) → ElsewhereKeepsReadable (D.state disk) (D.state after) }
 {}
 
-/// Some frame is clean exactly where the number of clean frames is positive, and no page is dirty exactly where the number of
-/// dirty frames is 0. A frame is clean or dirty, not both, or its page is clean and held.
+/// Some frame is clean exactly where the number of clean frames is positive, and no page is dirty exactly where the
+/// number of dirty frames is 0. A frame is clean or dirty, not both, or its page is clean and held.
 pub fn counting()
     ensures some { SomeAreClean }
     ensures none { NoneAreClean }
@@ -71,8 +81,8 @@ pub fn counting()
     ensures zero { ZeroIsNoneDirty }
 {}
 
-/// A change raises the number of dirty frames by one where the page was clean, and leaves it where it was dirty. It leaves the
-/// number of clean frames too where the page was dirty or is held; else it lowers that by one.
+/// A change raises the number of dirty frames by one where the page was clean, and leaves it where it was dirty. It
+/// leaves the number of clean frames too where the page was dirty or is held; else it lowers that by one.
 pub fn change_counts()
     ensures raises { ChangeOfACleanPageRaises }
     ensures leaves { ChangeOfADirtyPageLeaves }

@@ -1,4 +1,5 @@
-//! The frame pool: pages of a device in frames, each page its last change, and none written before its changes are gated.
+//! The frame pool: pages of a device in frames, each page its last change,
+//! and none written before its changes are gated.
 #![tactic(auto)]
 
 mod area;
@@ -9,7 +10,6 @@ mod mark;
 mod passing;
 mod pool;
 
-pub use area::{AREA, PAGE_SECTORS, PAGES};
 pub use fault::PoolFault;
 pub use frames::FRAMES;
 pub use mark::HELD;

@@ -1,9 +1,12 @@
 //! What is known of a frame besides its page.
-ghost use Rattle.std.specs.Prelude.{◌≡◌, ◌≢◌, ◌==◌, ◌<◌, ◌+◌, ◌≤◌, true, false, cond, ℕ, length, count_by, slice_index_or, slice_set, Some, None, MatchOption, IfSome, IfNone, IfOk};
+ghost use Rattle.std.specs.Prelude.{◌≡◌, ◌≢◌, ◌==◌, ◌<◌, ◌+◌, ◌≤◌, true, false, cond, ℕ, length, count_by};
+ghost use Rattle.std.specs.Prelude.{slice_index_or, slice_set, Some, None, MatchOption, IfSome, IfNone, IfOk};
 ghost use Rattle.std.specs.List.{list_any};
 ghost use Rattle.gx_page.specs.Edits.{blank};
+ghost use Rattle.gx_pool.specs.declared.frames.TheConstants.{FRAMES};
 ghost use Rattle.gx_pool.specs.Edits.{forgotten, later, numbered};
-ghost use Rattle.gx_pool.specs.Marks.{clean, empty, is_dirty, is_gated, is_upper, writable, IsLeast, NoLeaf, NoLeafBetween};
+ghost use Rattle.gx_pool.specs.Marks.{clean, empty, is_dirty, is_gated, is_upper};
+ghost use Rattle.gx_pool.specs.Marks.{writable, IsLeast, NoLeaf, NoLeafBetween};
 
 use arrayvec::ArrayVec;
 use gx_page::Page;
@@ -12,8 +15,8 @@ use std::alloc::{AllocError, Global};
 /// How many pages an event may hold.
 pub const HELD: usize = 4;
 
-/// What a frame holds: the number of its page, none for an empty frame; and the greatest batch that has a change of it, none
-/// where it is as the device has it.
+/// What a frame holds: the number of its page, none for an empty frame; and the greatest batch that has a change of it,
+/// none where it is as the device has it.
 #[derive(Clone, Copy)]
 pub struct Mark {
     pub(crate) page: Option<u32>,
@@ -142,7 +145,9 @@ fn leaf_between(
     to: usize,
 ) -> Option<usize>
     requires { (to ≤ length marks.now) × (length pages.now ≡ length marks.now) }
-    ensures found { IfSome result (λ i. (i < length marks.now) × (clean held.now (slice_index_or marks.now i empty) ≡ true) × (is_upper (slice_index_or marks.now i empty) (slice_index_or pages.now i (blank 0 0)) ≡ false)) }
+    ensures found { IfSome result (λ i. (i < length marks.now)
+        × (clean held.now (slice_index_or marks.now i empty) ≡ true)
+        × (is_upper (slice_index_or marks.now i empty) (slice_index_or pages.now i (blank 0 0)) ≡ false)) }
     ensures none { IfNone result (NoLeafBetween held.now marks.now pages.now from to) }
 {
     for i in from..to {
@@ -155,8 +160,10 @@ fn leaf_between(
 
 /// The first clean frame.
 fn clean_frame(marks: &[Mark], held: &[u32]) -> Option<usize>
-    ensures found { IfSome result (λ i. (i < length marks.now) × (clean held.now (slice_index_or marks.now i empty) ≡ true)) }
-    ensures none { IfNone result ((k : ℕ) → k < length marks.now → clean held.now (slice_index_or marks.now k empty) ≡ false) }
+    ensures found { IfSome result (λ i. (i < length marks.now)
+        × (clean held.now (slice_index_or marks.now i empty) ≡ true)) }
+    ensures none { IfNone result ((k : ℕ) → k < length marks.now
+        → clean held.now (slice_index_or marks.now k empty) ≡ false) }
 {
     for i in 0..marks.len() {
         if marks[i].is_clean(held) {
@@ -169,7 +176,9 @@ fn clean_frame(marks: &[Mark], held: &[u32]) -> Option<usize>
 /// The first clean frame that is empty or has a leaf, from the hand on and round.
 fn leaf_frame(marks: &[Mark], pages: &[Page], held: &[u32], hand: usize) -> Option<usize>
     requires { (hand ≤ length marks.now) × (length pages.now ≡ length marks.now) }
-    ensures found { IfSome result (λ i. (i < length marks.now) × (clean held.now (slice_index_or marks.now i empty) ≡ true) × (is_upper (slice_index_or marks.now i empty) (slice_index_or pages.now i (blank 0 0)) ≡ false)) }
+    ensures found { IfSome result (λ i. (i < length marks.now)
+        × (clean held.now (slice_index_or marks.now i empty) ≡ true)
+        × (is_upper (slice_index_or marks.now i empty) (slice_index_or pages.now i (blank 0 0)) ≡ false)) }
     ensures none { IfNone result (NoLeaf held.now marks.now pages.now) }
 {
     match leaf_between(marks, pages, held, hand, marks.len()) {
@@ -178,8 +187,8 @@ fn leaf_frame(marks: &[Mark], pages: &[Page], held: &[u32], hand: usize) -> Opti
     }
 }
 
-/// The frame for a page that comes in: the first clean one that is empty or has a leaf, from the hand on and round; and where
-/// there is none, the first clean one.
+/// The frame for a page that comes in: the first clean one that is empty or has a leaf, from the hand on and round; and
+/// where there is none, the first clean one.
 pub(crate) fn frame_to_use(
     marks: &[Mark],
     pages: &[Page],
@@ -187,9 +196,12 @@ pub(crate) fn frame_to_use(
     hand: usize,
 ) -> Option<usize>
     requires { (hand ≤ length marks.now) × (length pages.now ≡ length marks.now) }
-    ensures found { IfSome result (λ i. (i < length marks.now) × (clean held.now (slice_index_or marks.now i empty) ≡ true)) }
-    ensures first { IfSome result (λ i. is_upper (slice_index_or marks.now i empty) (slice_index_or pages.now i (blank 0 0)) ≡ true → NoLeaf held.now marks.now pages.now) }
-    ensures none { IfNone result ((k : ℕ) → k < length marks.now → clean held.now (slice_index_or marks.now k empty) ≡ false) }
+    ensures found { IfSome result (λ i. (i < length marks.now)
+        × (clean held.now (slice_index_or marks.now i empty) ≡ true)) }
+    ensures first { IfSome result (λ i. is_upper (slice_index_or marks.now i empty)
+        (slice_index_or pages.now i (blank 0 0)) ≡ true → NoLeaf held.now marks.now pages.now) }
+    ensures none { IfNone result ((k : ℕ) → k < length marks.now
+        → clean held.now (slice_index_or marks.now k empty) ≡ false) }
 {
     match leaf_frame(marks, pages, held, hand) {
         Some(i) => Some(i),
@@ -223,7 +235,7 @@ fn copy_as(page: &mut Page, from: &Page, number: u32)
 /// How many frames are dirty, of so many before, once one that was dirty or wasn't is dirty or isn't.
 fn dirty_after(dirty: usize, was: bool, is: bool) -> usize
     requires counted { cond was 1 0 ≤ dirty }
-    requires few { dirty ≤ 4096 }
+    requires few { dirty ≤ FRAMES }
     ensures { result + cond was 1 0 ≡ dirty + cond is 1 0 }
 {
     match (was, is) {
@@ -235,7 +247,7 @@ fn dirty_after(dirty: usize, was: bool, is: bool) -> usize
 
 /// Notes what is known of a frame; answers how many frames are dirty then, of so many before.
 pub(crate) fn put(marks: &mut Vec<Mark>, i: usize, mark: Mark, dirty: usize) -> usize
-    requires frame { (i < length marks.old.items) × (length marks.old.items ≤ 4096) }
+    requires frame { (i < length marks.old.items) × (length marks.old.items ≤ FRAMES) }
     requires counted { dirty ≡ count_by is_dirty marks.old.items }
     ensures put { marks.new.items ≡ slice_set marks.old.items i mark }
     ensures counted { result ≡ count_by is_dirty marks.new.items }
@@ -263,7 +275,8 @@ pub(crate) fn least_writable(marks: &[Mark], gated: u64) -> Option<u32>
 /// So many empty frames.
 #[tactic(auto, using(crate::proofs::Places::one_same))]
 pub(crate) fn empty_marks(alloc: Global, frames: usize) -> Result<Vec<Mark>, AllocError>
-    ensures { IfOk result (λ marks. (length marks.items ≡ frames) × ((k : ℕ) → slice_index_or marks.items k empty ≡ empty)) }
+    ensures { IfOk result (λ marks. (length marks.items ≡ frames)
+        × ((k : ℕ) → slice_index_or marks.items k empty ≡ empty)) }
 {
     let mut marks = Vec::with_capacity(alloc, frames)?;
     for _i in 0..frames {
@@ -275,7 +288,8 @@ pub(crate) fn empty_marks(alloc: Global, frames: usize) -> Result<Vec<Mark>, All
 /// A table of so many numbers of pages that have no frame.
 #[tactic(auto, using(crate::proofs::Places::one_same))]
 pub(crate) fn empty_places(alloc: Global, pages: usize) -> Result<Vec<Option<u16>>, AllocError>
-    ensures { IfOk result (λ places. (length places.items ≡ pages) × ((k : ℕ) → slice_index_or places.items k None ≡ None)) }
+    ensures { IfOk result (λ places. (length places.items ≡ pages)
+        × ((k : ℕ) → slice_index_or places.items k None ≡ None)) }
 {
     let mut places = Vec::with_capacity(alloc, pages)?;
     for _i in 0..pages {

@@ -1,24 +1,29 @@
 //! The pool: pages of a device that is lent to each call that may use it.
-ghost use Rattle.std.specs.Prelude.{Bool, List, ◌≡◌, ◌≢◌, ◌⊎◌, ◌<◌, ◌≤◌, ◌+◌, ◌/◌, ◌↔◌, ℕ, [], true, false, Some, None, IsSome, IfSome, IfNone, IfOk, OnOk, OnErr, length, slice_index, slice_index_or, max};
+ghost use Rattle.std.specs.Prelude.{Bool, List, ◌≡◌, ◌≢◌, ◌⊎◌, ◌<◌, ◌≤◌, ◌+◌, ◌/◌, ◌↔◌, ℕ, []};
+ghost use Rattle.std.specs.Prelude.{true, false, Some, None, IsSome, IfSome, IfNone, IfOk};
+ghost use Rattle.std.specs.Prelude.{OnOk, OnErr, length, slice_index, slice_index_or, max};
 ghost use Rattle.std.specs.Borrow.{sem};
 ghost use Rattle.std.specs.Bool.{OnTrue, OnFalse};
+ghost use Rattle.gx_disk.specs.Device.{SameDevice};
 ghost use Rattle.gx_page.specs.Edits.{blank};
 ghost use Rattle.gx_pool.specs.Area.{bytes_of, IsPage, IsPassing};
-ghost use Rattle.gx_pool.specs.Marks.{clean, empty, is_gated};
-ghost use Rattle.gx_pool.specs.State.{State, Kept, IsEmpty, IsSound, NoneDirty, AllKept, clean_count, dirty_count, holding, kept, mark_at, place_of, stamp_of, NoneClean, SomeClean, IsSpare, IsWritable};
+ghost use Rattle.gx_pool.specs.Marks.{clean, empty};
+ghost use Rattle.gx_pool.specs.State.{Kept, IsEmpty, IsSound, NoneDirty, AllKept, clean_count, dirty_count};
+ghost use Rattle.gx_pool.specs.State.{holding, kept, mark_at, place_of, NoneClean, SomeClean, IsSpare, IsWritable};
 ghost use Rattle.gx_pool.specs.Creating.{Creates, Copies};
 ghost use Rattle.gx_pool.specs.Gated.{IsAreaSettled, KeepsArea, NamesGated};
-ghost use Rattle.gx_pool.specs.Laws.{IsBacked, IsPassed};
-ghost use Rattle.gx_pool.specs.Readable.{IsReadable};
-ghost use Rattle.gx_pool.specs.Writing.{WritesPage, WritesAtMost, KeepsShown};
-ghost use Rattle.gx_pool.specs.Bringing.{Brings, BringsOne, ComesAlone, GoesAlone, OthersStayOrGo, HasImage, OnlyRead, faults_of, BringsAll};
+ghost use Rattle.gx_pool.specs.Laws.{IsPassed};
+ghost use Rattle.gx_pool.specs.Readable.{StaysReadable};
+ghost use Rattle.gx_pool.specs.Writing.{WritesPage, WritesAtMost, may_be_written, WritesGated, StaysShown};
+ghost use Rattle.gx_pool.specs.Bringing.{Brings, BringsOne, ComesAlone, GoesAlone};
+ghost use Rattle.gx_pool.specs.Bringing.{OthersStayOrGo, OnlyRead, faults_of, BringsAll};
 
-use crate::area::{PAGES, first_sector};
+use crate::area::first_sector;
 use crate::fault::PoolFault;
 use crate::frames::{FRAMES, Frames};
 use crate::mark::HELD;
 use crate::passing::PageTest;
-use gx_disk::SectorDisk;
+use gx_disk::{MAX_PAGES, SectorDisk};
 use gx_page::{PAGE_SIZE, Page};
 use std::alloc::{AllocError, Global};
 
@@ -49,8 +54,10 @@ impl<T: PageTest> Pool<T> {
     /// Whether a frame has the page of a number and it passes the test.
     fn is_right(&self, i: usize, page: u32) -> bool
         requires { i < length self.now.frames.marks }
-        ensures yes { OnTrue result (((slice_index_or self.now.frames.pages i (blank 0 0)).number ≡ page) × (T.passes self.now.test (slice_index_or self.now.frames.pages i (blank 0 0)) ≡ true)) }
-        ensures no { OnFalse result ((slice_index_or self.now.frames.pages i (blank 0 0)).number ≡ page → T.passes self.now.test (slice_index_or self.now.frames.pages i (blank 0 0)) ≡ true → ⊥) }
+        ensures yes { OnTrue result (((slice_index_or self.now.frames.pages i (blank 0 0)).number ≡ page)
+            × (T.passes self.now.test (slice_index_or self.now.frames.pages i (blank 0 0)) ≡ true)) }
+        ensures no { OnFalse result ((slice_index_or self.now.frames.pages i (blank 0 0)).number ≡ page
+            → T.passes self.now.test (slice_index_or self.now.frames.pages i (blank 0 0)) ≡ true → ⊥) }
     {
         let read = self.frames.page_in(i);
         let is_its_own = read.number() == page;
@@ -61,7 +68,8 @@ impl<T: PageTest> Pool<T> {
     fn read<D: SectorDisk>(&mut self, disk: &mut D, page: u32) -> Result<(), PoolFault>
         requires { IsPage (D.state disk.old).sectors page }
         ensures only_read { OnlyRead (D.state disk.old) (D.state disk.new) }
-        ensures read { OnOk result ((D.state disk.old).honest ≡ true → bytes_of (D.state disk.old).seen page ≡ self.new.buffer.value) }
+        ensures read { OnOk result ((D.state disk.old).honest ≡ true
+            → bytes_of (D.state disk.old).seen page ≡ self.new.buffer.value) }
         ensures faults { (D.state disk.new).faults ≡ (D.state disk.old).faults + faults_of result }
         ensures fault { OnErr result (result ≡ Err PoolFault.Device) }
         ensures same { (self.new.frames ≡ self.old.frames) × (self.new.test ≡ self.old.test) }
@@ -74,10 +82,12 @@ impl<T: PageTest> Pool<T> {
 
     /// Takes the bytes that were read into a frame, where they are the image of the page and it passes the test.
     fn admit(&mut self, i: usize, page: u32) -> bool
-        requires frame { (i < length self.old.frames.marks) × (clean self.old.frames.held (mark_at self.old.frames i) ≡ true) }
-        requires page { (page ≤ 65536) × (kept self.old.frames page ≡ None) }
+        requires frame { (i < length self.old.frames.marks)
+            × (clean self.old.frames.held (mark_at self.old.frames i) ≡ true) }
+        requires page { (page ≤ MAX_PAGES) × (kept self.old.frames page ≡ None) }
         requires number { 1 ≤ page }
-        ensures brings { (d : Bool) (seen : List ℕ) → (d ≡ true → bytes_of seen page ≡ self.old.buffer.value) → Brings (T.passes self.old.test) d seen self.old.frames self.new.frames }
+        ensures brings { (d : Bool) (seen : List ℕ) → (d ≡ true → bytes_of seen page ≡ self.old.buffer.value)
+            → Brings (T.passes self.old.test) d seen self.old.frames self.new.frames }
         ensures alone { ComesAlone self.old.frames self.new.frames page }
         ensures goes { GoesAlone self.old.frames self.new.frames i }
         ensures others { OthersStayOrGo self.old.frames self.new.frames page }
@@ -101,7 +111,8 @@ impl<T: PageTest> Pool<T> {
     fn fetch<D: SectorDisk>(&mut self, disk: &mut D, page: u32) -> Result<(), PoolFault>
         requires page { IsPage (D.state disk.old).sectors page }
         requires absent { kept self.old.frames page ≡ None }
-        ensures fetched { BringsOne (T.passes self.old.test) (D.state disk.old) (D.state disk.new) self.old.frames self.new.frames page result }
+        ensures fetched { BringsOne (T.passes self.old.test) (D.state disk.old) (D.state disk.new)
+            self.old.frames self.new.frames page result }
         ensures idle { NoneClean self.old.frames → (self.new.frames ≡ self.old.frames) × (disk.new ≡ disk.old) }
         ensures test { self.new.test ≡ self.old.test }
     {
@@ -116,18 +127,20 @@ impl<T: PageTest> Pool<T> {
         }
     }
 
-    /// Brings a page into a frame, unless it is in one, and leaves what is held as it is: `page` reads it then. A clean frame
-    /// that is empty or has a leaf is used before one with a page above the leaves. Where the page is in one,
-    /// or no frame is clean (empty, or with a clean page that isn't held), the device isn't called. At most one page goes for it,
-    /// and none where it is in a frame.
+    /// Brings a page into a frame, unless it is in one, and leaves what is held as it is: `page` reads it then. A clean
+    /// frame that is empty or has a leaf is used before one with a page above the leaves. Where the page is in one, or
+    /// no frame is clean (empty, or with a clean page that isn't held), the device isn't called. At most one page goes
+    /// for it, and none where it is in a frame.
     ///
-    /// Refused with `NoCleanFrame` exactly where it isn't in a frame and no frame is clean. Else with `Device` where the
-    /// device failed; then every frame is as it was. And with `Damaged` where the device has no page of that number, or one
-    /// that fails the test; then a frame is empty.
+    /// Refused with `NoCleanFrame` exactly where it isn't in a frame and no frame is clean. Else with `Device` where
+    /// the device failed; then every frame is as it was. And with `Damaged` where the device has no page of that
+    /// number, or one that fails the test; then a frame is empty.
     pub fn bring_one<D: SectorDisk>(&mut self, disk: &mut D, page: u32) -> Result<(), PoolFault>
         requires { IsPage (D.state disk.old).sectors page }
-        ensures brought { BringsOne (T.passes self.old.test) (D.state disk.old) (D.state disk.new) self.old.frames self.new.frames page result }
-        ensures idle { IsSome (kept self.old.frames page) ⊎ NoneClean self.old.frames → (self.new.frames ≡ self.old.frames) × (disk.new ≡ disk.old) }
+        ensures brought { BringsOne (T.passes self.old.test) (D.state disk.old) (D.state disk.new)
+            self.old.frames self.new.frames page result }
+        ensures idle { IsSome (kept self.old.frames page) ⊎ NoneClean self.old.frames
+            → (self.new.frames ≡ self.old.frames) × (disk.new ≡ disk.old) }
         ensures test { self.new.test ≡ self.old.test }
     {
         if self.frames.is_kept(page) {
@@ -137,17 +150,19 @@ impl<T: PageTest> Pool<T> {
     }
 
     /// Holds these pages, up to four, and lets go what was held; those that aren't kept are read. What an event uses is
-    /// brought first: then its pages can be read and changed, and none of that fails. A page above the leaves goes for them only
-    /// where each leaf that might go goes too, and at most as many pages go as weren't kept of these.
+    /// brought first: then its pages can be read and changed, and none of that fails. A page above the leaves goes for
+    /// them only where each leaf that might go goes too, and at most as many pages go as weren't kept of these.
     ///
-    /// Refused with the fault of the first page that can't be brought: `NoCleanFrame` exactly where no frame is empty or has
-    /// a clean page other than these, else `Device` where the device failed, and `Damaged` where it has no page of that
-    /// number, or one that fails the test. The pages before it are kept, and dirty pages are as they were.
+    /// Refused with the fault of the first page that can't be brought: `NoCleanFrame` exactly where no frame is empty
+    /// or has a clean page other than these, else `Device` where the device failed, and `Damaged` where it has no page
+    /// of that number, or one that fails the test. The pages before it are kept, and dirty pages are as they were.
     pub fn bring<D: SectorDisk>(&mut self, disk: &mut D, pages: &[u32]) -> Result<(), PoolFault>
         requires few { length pages.now ≤ HELD }
         requires pages { (k : ℕ) → k < length pages.now → IsPage (D.state disk.old).sectors (slice_index pages.now k) }
-        ensures brought { BringsAll (T.passes self.old.test) (D.state disk.old) (D.state disk.new) (holding self.old.frames pages.now) self.new.frames pages.now result }
-        ensures idle { AllKept self.old.frames pages.now ⊎ NoneClean (holding self.old.frames pages.now) → (self.new.frames ≡ holding self.old.frames pages.now) × (disk.new ≡ disk.old) }
+        ensures brought { BringsAll (T.passes self.old.test) (D.state disk.old) (D.state disk.new)
+            (holding self.old.frames pages.now) self.new.frames pages.now result }
+        ensures idle { AllKept self.old.frames pages.now ⊎ NoneClean (holding self.old.frames pages.now)
+            → (self.new.frames ≡ holding self.old.frames pages.now) × (disk.new ≡ disk.old) }
         ensures test { self.new.test ≡ self.old.test }
     {
         self.frames.hold(pages);
@@ -164,8 +179,8 @@ impl<T: PageTest> Pool<T> {
         self.frames.clean_frames()
     }
 
-    /// How many frames have a page with changes that aren't on the device: at most all, and 0 exactly where no page has any. Frames and the
-    /// table of pages name each other, and the event holds at most four pages.
+    /// How many frames have a page with changes that aren't on the device: at most all, and 0 exactly where no page has
+    /// any. Frames and the table of pages name each other, and the event holds at most four pages.
     pub fn dirty_frames(&self) -> usize
         ensures count { result ≡ dirty_count self.now.frames }
         ensures few { result ≤ length self.now.frames.marks }
@@ -176,11 +191,11 @@ impl<T: PageTest> Pool<T> {
         self.frames.dirty_frames()
     }
 
-    /// Makes a page that was never written: blank, of a level, and with a change of a batch. The device isn't read, since its
-    /// sectors may hold anything, and no memory is taken. A clean frame is used, so at most one page goes: a clean one that isn't held.
-    /// The page is dirty, so it stays until it is written; nothing has to hold it.
+    /// Makes a page that was never written: blank, of a level, and with a change of a batch. The device isn't read,
+    /// since its sectors may hold anything, and no memory is taken. A clean frame is used, so at most one page goes: a
+    /// clean one that isn't held. The page is dirty, so it stays until it is written; nothing has to hold it.
     pub fn create(&mut self, page: u32, level: u16, batch: u64)
-        requires page { (1 ≤ page) × (page ≤ PAGES) }
+        requires page { (1 ≤ page) × (page ≤ MAX_PAGES) }
         requires absent { kept self.old.frames page ≡ None }
         requires frame { 0 < clean_count self.old.frames }
         ensures created { Creates self.old.frames self.new.frames page level batch }
@@ -189,13 +204,13 @@ impl<T: PageTest> Pool<T> {
         self.frames.create(page, level, batch);
     }
 
-    /// Makes a page that was never written as a copy of one that is kept, under its own number, and with a change of a batch. The
-    /// page that is copied is dirty or held, so it stays. Else as `create`: the device isn't read, no memory is taken, and a
-    /// clean frame is used.
+    /// Makes a page that was never written as a copy of one that is kept, under its own number, and with a change of a
+    /// batch. The page that is copied is dirty or held, so it stays. Else as `create`: the device isn't read, no memory
+    /// is taken, and a clean frame is used.
     pub fn create_as(&mut self, page: u32, from: u32, batch: u64)
-        requires page { (1 ≤ page) × (page ≤ PAGES) }
+        requires page { (1 ≤ page) × (page ≤ MAX_PAGES) }
         requires absent { kept self.old.frames page ≡ None }
-        requires from { (from ≤ PAGES) × IsSome (kept self.old.frames from) }
+        requires from { (from ≤ MAX_PAGES) × IsSome (kept self.old.frames from) }
         requires stays { ¬ IsSpare self.old.frames from }
         requires frame { 0 < clean_count self.old.frames }
         ensures created { Copies self.old.frames self.new.frames page from batch }
@@ -215,7 +230,8 @@ impl<T: PageTest> Pool<T> {
         requires frame { (place_of self.old.frames page ≡ Some i) × (i < length self.old.frames.marks) }
         requires dirty { IsSome (mark_at self.old.frames i).stamp }
         requires sound { IsSound self.old.frames }
-        ensures written { (k : Kept) → kept self.old.frames page ≡ Some k → WritesPage (D.state disk.old) (D.state disk.new) self.old.frames self.new.frames page k result }
+        ensures written { (k : Kept) → kept self.old.frames page ≡ Some k
+            → WritesPage (D.state disk.old) (D.state disk.new) self.old.frames self.new.frames page k result }
         ensures fault { OnErr result (result ≡ Err PoolFault.Device) }
         ensures test { self.new.test ≡ self.old.test }
     {
@@ -228,28 +244,33 @@ impl<T: PageTest> Pool<T> {
         }
     }
 
-    /// Writes a page to its sectors, where it has changes and all of them are in gated batches; else nothing is done. Once
-    /// it is written it is clean, and its frame may go to another page.
+    /// Writes a page to its sectors, where it has changes and all of them are in gated batches; else nothing is done.
+    /// Once it is written it is clean, and its frame may go to another page.
     ///
-    /// Whether it succeeds or not, no sector but the page's eight changes, each other page is kept as it was, and what is dirty
-    /// was so with the same stamp. So where the sectors of all pages but some are settled,
-    /// and the pages that may be written are among those, a crash at any moment of the call leaves each other page's bytes.
+    /// Whether it succeeds or not, no sector but the page's eight changes, each other page is kept as it was, and what
+    /// is dirty was so with the same stamp. So where the sectors of all pages but some are settled, and the pages that
+    /// may be written are among those, a crash at any moment of the call leaves each other page's bytes.
     ///
-    /// Whether it succeeds or not, each page is shown as before, where each clean page is what an honest device has: as its
-    /// last change, or what the device has. And each clean page is so then too.
+    /// Whether it succeeds or not, each page is shown as before, where each clean page is what an honest device has: as
+    /// its last change, or what the device has. And each clean page is so then too.
     ///
     /// Refused with `Device` where the device failed. The page is then kept as it was, with its changes.
     pub fn write_page<D: SectorDisk>(&mut self, disk: &mut D, page: u32) -> Result<(), PoolFault>
         requires { IsPage (D.state disk.old).sectors page }
-        ensures idle { is_gated self.old.frames.gated (stamp_of (kept self.old.frames page)) ≡ false → (result ≡ Ok tt) × (self.new ≡ self.old) × (disk.new ≡ disk.old) }
-        ensures written { (k : Kept) → kept self.old.frames page ≡ Some k → is_gated self.old.frames.gated k.stamp ≡ true → WritesPage (D.state disk.old) (D.state disk.new) self.old.frames self.new.frames page k result }
-        ensures area { (named : ℕ → Bool) → (D.state disk.old).honest ≡ true → NamesGated named self.old.frames → IsAreaSettled named (D.state disk.old) → KeepsArea named (D.state disk.old) (D.state disk.new) }
+        ensures idle { may_be_written self.old.frames page ≡ false
+            → (result ≡ Ok tt) × (self.new ≡ self.old) × (disk.new ≡ disk.old) }
+        ensures written { WritesGated (D.state disk.old) (D.state disk.new)
+            self.old.frames self.new.frames page result }
+        ensures area { (named : ℕ → Bool) → (D.state disk.old).honest ≡ true → NamesGated named self.old.frames
+            → IsAreaSettled named (D.state disk.old) → KeepsArea named (D.state disk.old) (D.state disk.new) }
         ensures at_most { WritesAtMost (D.state disk.old) (D.state disk.new) self.old.frames self.new.frames page }
-        ensures readable { (used : ℕ → Bool) → (D.state disk.old).honest ≡ true → IsReadable (T.passes self.old.test) used self.old.frames (D.state disk.old).seen → IsReadable (T.passes self.old.test) used self.new.frames (D.state disk.new).seen }
-        ensures shown { (D.state disk.old).honest ≡ true → IsBacked self.old.frames (D.state disk.old).seen → KeepsShown (D.state disk.old) (D.state disk.new) self.old.frames self.new.frames }
-        ensures device { ((D.state disk.new).sectors ≡ (D.state disk.old).sectors) × ((D.state disk.new).honest ≡ (D.state disk.old).honest) }
+        ensures readable { StaysReadable (T.passes self.old.test) (D.state disk.old) (D.state disk.new)
+            self.old.frames self.new.frames }
+        ensures shown { StaysShown (D.state disk.old) (D.state disk.new) self.old.frames self.new.frames }
+        ensures device { SameDevice (D.state disk.old) (D.state disk.new) }
         ensures faults { (D.state disk.new).faults ≡ (D.state disk.old).faults + faults_of result }
-        ensures passing { IsPassed (T.passes self.old.test) self.old.frames → IsPassed (T.passes self.old.test) self.new.frames }
+        ensures passing { IsPassed (T.passes self.old.test) self.old.frames
+            → IsPassed (T.passes self.old.test) self.new.frames }
         ensures fault { OnErr result (result ≡ Err PoolFault.Device) }
         ensures test { self.new.test ≡ self.old.test }
     {
@@ -261,7 +282,8 @@ impl<T: PageTest> Pool<T> {
 
     /// The least page that has changes, all of them in gated batches: one that `write_page` writes.
     pub fn dirty(&self) -> Option<u32>
-        ensures found { IfSome result (λ page. IsWritable self.now.frames page × ((q : ℕ) → IsWritable self.now.frames q → page ≤ q)) }
+        ensures found { IfSome result (λ page. IsWritable self.now.frames page
+            × ((q : ℕ) → IsWritable self.now.frames q → page ≤ q)) }
         ensures none { IfNone result ((q : ℕ) → IsWritable self.now.frames q → ⊥) }
     {
         self.frames.dirty()
@@ -274,8 +296,8 @@ impl<T: PageTest> Pool<T> {
         self.frames.set_gated(batch);
     }
 
-    /// Tells that a checkpoint has ended: the log goes on behind batch 0, which is gated, in the other extent. All pages were
-    /// written before.
+    /// Tells that a checkpoint has ended: the log goes on behind batch 0, which is gated, in the other extent.
+    /// All pages were written before.
     pub fn turned(&mut self)
         requires { NoneDirty self.old.frames }
         ensures { self.new ≡ record self.old { frames = record self.old.frames { gated = 0 } } }
@@ -292,7 +314,7 @@ impl<T: PageTest> Pool<T> {
 
     /// Whether a page is in a frame.
     pub fn is_kept(&self, page: u32) -> bool
-        requires { page ≤ PAGES }
+        requires { page ≤ MAX_PAGES }
         ensures kept { OnTrue result (IsSome (kept self.now.frames page)) }
         ensures absent { OnFalse result (kept self.now.frames page ≡ None) }
     {
@@ -301,16 +323,17 @@ impl<T: PageTest> Pool<T> {
 
     /// A page that is in a frame, to read; several may be read at once.
     pub fn page(&self, page: u32) -> &Page
-        requires page { page ≤ PAGES }
+        requires page { page ≤ MAX_PAGES }
         requires kept { IsSome (kept self.now.frames page) }
         ensures { IfSome (kept self.now.frames page) (λ k. result.now ≡ k.page) }
     {
         self.frames.kept_page(page)
     }
 
-    /// A page that is in a frame, to change, as of a batch: its greatest stamp is that batch, or a later one that it had.
+    /// A page that is in a frame, to change, as of a batch:
+    /// its greatest stamp is that batch, or a later one that it had.
     pub fn change_kept(&mut self, page: u32, batch: u64) -> &mut Page
-        requires page { page ≤ PAGES }
+        requires page { page ≤ MAX_PAGES }
         requires kept { IsSome (kept self.old.frames page) }
         ensures* writes_back { sem 𝓛 (lends_change T.row self.entry page batch result) }
         ensures page { IfSome (kept self.old.frames page) (λ k. result.now ≡ k.page) }
@@ -324,15 +347,16 @@ impl<T: PageTest> Pool<T> {
     /// Refused as `bring_one`.
     pub fn view<D: SectorDisk>(&mut self, disk: &mut D, page: u32) -> Result<&Page, PoolFault>
         requires { IsPage (D.state disk.old).sectors page }
-        ensures* viewed { sem 𝓛 (lends_view T.row (T.passes self.old.test) (D.state disk.old) (D.state disk.new) self.entry page result) }
+        ensures* viewed { sem 𝓛 (lends_view T.row (T.passes self.old.test) (D.state disk.old)
+            (D.state disk.new) self.entry page result) }
         ensures idle { IsSome (kept self.old.frames page) ⊎ NoneClean self.old.frames → disk.new ≡ disk.old }
     {
         self.bring_one(disk, page)?;
         Ok(self.page(page))
     }
 
-    /// Brings a page as `bring_one` does, and lends it to be changed, as of a batch: its greatest stamp is that batch, or a
-    /// later one that it had.
+    /// Brings a page as `bring_one` does, and lends it to be changed, as of a batch:
+    /// its greatest stamp is that batch, or a later one that it had.
     ///
     /// Refused as `bring_one`; then no page has changed.
     pub fn change<D: SectorDisk>(
@@ -342,7 +366,8 @@ impl<T: PageTest> Pool<T> {
         batch: u64,
     ) -> Result<&mut Page, PoolFault>
         requires { IsPage (D.state disk.old).sectors page }
-        ensures* changed { sem 𝓛 (lends_brought T.row (T.passes self.old.test) (D.state disk.old) (D.state disk.new) self.entry page batch result) }
+        ensures* changed { sem 𝓛 (lends_brought T.row (T.passes self.old.test) (D.state disk.old) (D.state disk.new)
+            self.entry page batch result) }
         ensures idle { IsSome (kept self.old.frames page) ⊎ NoneClean self.old.frames → disk.new ≡ disk.old }
     {
         self.bring_one(disk, page)?;

@@ -1,21 +1,18 @@
 -- What a log is told of a class of keys, and how its bytes are read.
 use Rattle.std.specs.Prelude.{ℕ, ◌==◌, if◌then◌else◌, Bool, List, []}
-use Rattle.std.specs.Ordering.{is_eq}
 use Rattle.gx_machine.specs.declared.entry.Entry.{Entry}
 use Rattle.gx_machine.specs.Keys.{Members, keys_of}
 use Rattle.gx_page.specs.Contents.{Contents}
 use Rattle.gx_page.specs.Edits.{blank}
 use Rattle.gx_page.specs.Reading.{read_of}
 use Rattle.gx_pool.specs.Area.{IsPassing}
-use Rattle.gx_tree_laws.specs.Trees.{Node, Rules}
-use Rattle.gx_node.specs.Reading.{Format, leaf_of, inner_of, is_node}
-use Rattle.gx_recovery.specs.Known.{Limits}
-use Rattle.gx_index_laws.specs.Classes.{Class, Page}
+use Rattle.gx_tree_laws.specs.Trees.{Node}
+use Rattle.gx_class.specs.declared.class.KeyClass.{Ghosts}
+use Rattle.gx_node.specs.Keyed.{rules_of}
+use Rattle.gx_node.specs.Reading.{Format, format_of, leaf_of, inner_of, is_node}
+use Rattle.gx_recovery.specs.Known.{Known, Limits}
+use Rattle.gx_index_laws.specs.Classes.{Class, Page, known_of}
 use Rattle.gx_durable.specs.Spelled.{Reading}
-
--- what the tree's laws are told of the keys of a type, from what its trait says of them, with so many entries a node
-abbrev pub rules_of : {B : Type 0} → Members B → ℕ → Rules B
-rules_of shape most = record { covers = λ a b. shape.inside b a; same = λ a b. is_eq (shape.cmp a b); most = most }
 
 -- a class of keys, by what its key type's trait says of them and by the test of keys, within an index's limits
 abbrev pub class_of : {B : Type 0} → Members B → (B → Bool) → Limits → Class B
@@ -40,3 +37,10 @@ reading_of said f = record {
   no_page = record { node = node_of f (blank 0 0); own = 0; bytes = [] };
   fits = λ page content. (pages : ℕ) × IsPassing (is_node f pages) page content.bytes;
 }
+
+-- what a log is told of a class of keys within an index's limits, and how its bytes are read
+abbrev pub known_at : {B : Type 0} → Members B → (B → Bool) → Limits → Known (Entry B) (Page B)
+known_at shape is_key limits = known_of (class_of shape is_key limits)
+
+abbrev pub reading_by : {C B : Type 0} → (List ℕ → B) → Ghosts C B → Reading (Entry B) (Page B)
+reading_by said class = reading_of said (format_of class)

@@ -3,8 +3,8 @@ ghost use Rattle.std.specs.Prelude.{◌≡◌, ◌<◌, ℕ, Bool, true, List, l
 
 use gx_class::{Box2Class, IntervalClass, KeyClass};
 
-/// A class whose keys' bytes say something also where they are no key's. A log whose record has such bytes is damaged; so what they
-/// say isn't a key.
+/// A class whose keys' bytes say something also where they are no key's. A log whose record has such bytes is damaged;
+/// so what they say isn't a key.
 pub trait ReadKeys: KeyClass {
     /// What a key's bytes say.
     ghost said: { List ℕ → Self.Key };
@@ -19,7 +19,8 @@ pub trait ReadKeys: KeyClass {
     ghost key_is_proper: { (k : Self.Key) → Self.is_key k → is_proper k ≡ true };
 
     /// Bytes say a key only where they are its.
-    ghost said_only: { (bytes : List ℕ) → length bytes ≡ Self.KEY → ((i : ℕ) → slice_index bytes i < 256) → is_proper (said bytes) ≡ true
+    ghost said_only: { (bytes : List ℕ) → length bytes ≡ Self.KEY → ((i : ℕ) → slice_index bytes i < 256)
+        → is_proper (said bytes) ≡ true
         → Self.is_key (said bytes) × (bytes ≡ Self.spelling (said bytes)) };
 }
 

@@ -1,5 +1,5 @@
-//! What a log is told of a class of keys: how a key's bytes are read as an entry, and a page's as a node, and what is known of the
-//! tree of such pages. So each law of `gx_durable` holds of boxes and of intervals.
+//! What a log is told of a class of keys: how a key's bytes are read as an entry, and a page's as a node, and what is
+//! known of the tree of such pages. So each law of `gx_durable` holds of boxes and of intervals.
 #![tactic(auto)]
 
 mod keys;

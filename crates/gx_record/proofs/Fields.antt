@@ -3,6 +3,7 @@ use Rattle.std.proofs.Common.{◌≡◌, ℕ, zero, suc, ◌+◌, ◌^◌, ◌<�
 use Rattle.std.specs.Prelude.{is_none}
 use Rattle.std.proofs.lemmas.Bool.{cases_lt, ltb-false, le-ltb, eqb-true, eq-eqb}
 use Rattle.std.proofs.lemmas.List.{take_at, drop_at, take-append-drop, length-append, length-take, get_or-drop, get_or-take, get_or_past}
+use Rattle.gx_page.specs.declared.block.TheConstants.{PAGE_SIZE}
 use Rattle.gx_page.specs.Bytes.{AreBytes}
 use Rattle.gx_page.specs.Faults.{fault_of}
 use Rattle.gx_page.specs.Reading.{read_of}
@@ -166,15 +167,15 @@ pub record TakesImage (page : ℕ) (bytes : List ℕ) (x : List ℕ × List ℕ)
 pub image_takes : (page : ℕ) (bytes : List ℕ) (x : List ℕ × List ℕ) → AreBytes bytes → image_at page bytes ≡ Some x → TakesImage page bytes x
 unfolding image_at
 image_takes page bytes x are e =
-    let b = bind_some (bytes_at 4096 bytes) (λ image. cond (is_image_of page image.0) (Some image) None) x e in
-    let t = bytes_take 4096 bytes b.0 are b.1 in
+    let b = bind_some (bytes_at PAGE_SIZE bytes) (λ image. cond (is_image_of page image.0) (Some image) None) x e in
+    let t = bytes_take PAGE_SIZE bytes b.0 are b.1 in
     let g = provided (is_image_of page b.0.0) b.0 x b.2 in
     let whole : TakesImage page bytes b.0 = record { takes = t.takes; image = image_passes page b.0.0 t.are g.0 } in
     subst (λ (y : List ℕ × List ℕ). TakesImage page bytes y) g.1 whole
 
 pub image_again : (page : ℕ) (image rest : List ℕ) → IsImageOf page image → image_at page (image ++ rest) ≡ Some (image, rest)
 unfolding image_at
-image_again page image rest i = rw (bytes_again 4096 image rest (image_size image i.image), image_tests page image i) refl
+image_again page image rest i = rw (bytes_again PAGE_SIZE image rest (image_size image i.image), image_tests page image i) refl
 
 -- a page's bytes
 abbrev pub numbered_bytes : ℕ × List ℕ → List ℕ

@@ -8,6 +8,7 @@ use Rattle.gx_page.specs.Contents.{Contents}
 use Rattle.gx_page.specs.Format.{image_of, IsWellFormed}
 use Rattle.gx_page.specs.Reading.{read_of}
 use Rattle.gx_page.proofs.Images.{read-image}
+use Rattle.gx_record.specs.declared.sizes.TheConstants.{END_RECORD, SPLIT_RECORD}
 use Rattle.gx_record.specs.Bytes.{u64_bytes, u32_bytes, mark_byte}
 use Rattle.gx_record.specs.Rec.{Rec, Pages, Write, Commit, End, Counters, Note}
 use Rattle.gx_record.specs.Format.{IsRecord, IsImageOf, BeginsWith, spelling, spellings, pages_bytes, entry_bytes}
@@ -138,7 +139,7 @@ spelling_begins key r rest is =
     } in
     (begins, behind)
 
-pub spelling_sizes : (key : ℕ) (r : Rec) → IsRecord key r → (9 ≤ length (spelling r)) × (length (spelling r) ≤ 12314 + key)
+pub spelling_sizes : (key : ℕ) (r : Rec) → IsRecord key r → (END_RECORD ≤ length (spelling r)) × (length (spelling r) ≤ SPLIT_RECORD + key)
 spelling_sizes key (Pages counter used pages) is = let size = spelling_size (Pages counter used pages) is.in_range in let few = is.in_range.3 in (omega (arith, size), omega (arith, size, few))
 spelling_sizes key (Write tx row k before after leaf image) is = let size = spelling_size (Write tx row k before after leaf image) is.in_range in (omega (arith, size), omega (arith, size, is.has_key))
 spelling_sizes key (Commit tx n) is = let size = spelling_size (Commit tx n) is.in_range in (omega (arith, size), omega (arith, size))

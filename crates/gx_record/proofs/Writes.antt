@@ -5,6 +5,7 @@ use Rattle.std.specs.List.{AllByRecursion}
 use Rattle.gx_page.specs.Bytes.{overwrite}
 use Rattle.gx_page.proofs.Pieces.{overwrite_more, length-overwrite}
 use Rattle.gx_page.proofs.Parts.{image_size}
+use Rattle.gx_record.specs.declared.sizes.TheConstants.{NUMBERED_IMAGE}
 use Rattle.gx_record.specs.Bytes.{u64_bytes, u32_bytes, mark_byte}
 use Rattle.gx_record.specs.Rec.{Rec, Pages, Write, Commit, End, Counters, Note}
 use Rattle.gx_record.specs.Format.{spelling, pages_bytes, entry_bytes, ArePages, IsInRange}
@@ -36,7 +37,7 @@ last_page {old = old} {new = new} {at = at} {end = end} page image h = subst (λ
 pub front_wrote : (old new text : List ℕ) (end : ℕ) → Wrote old new 0 text end → new ≡ text ++ drop end old
 front_wrote old new text end h = h.written ∙ ap (λ (n : ℕ). text ++ drop n old) (omega (arith, h.ends))
 
-length-pages_bytes : (pages : List (ℕ × List ℕ)) → AllByRecursion IsWhole pages → length (pages_bytes pages) ≡ 4100 * length pages
+length-pages_bytes : (pages : List (ℕ × List ℕ)) → AllByRecursion IsWhole pages → length (pages_bytes pages) ≡ NUMBERED_IMAGE * length pages
 length-pages_bytes [] whole = omega arith
 length-pages_bytes (p ∷ pages) whole =
     omega (arith, whole.0, length-u32_bytes p.0, length-append (u32_bytes p.0) (p.1 ++ pages_bytes pages), length-append p.1 (pages_bytes pages), length-pages_bytes pages whole.1)

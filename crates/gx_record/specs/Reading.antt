@@ -1,5 +1,6 @@
 -- Reading from left to right: what is read and the bytes after it, or nothing.
 use Rattle.std.specs.Prelude.{◌≡◌, ℕ, zero, suc, ◌+◌, ◌==◌, ◌&&◌, Bool, true, false, List, [], ◌∷◌, length, take, drop, Option, Some, None, nat_lt, is_none, if◌then◌else◌}
+use Rattle.gx_page.specs.declared.block.TheConstants.{PAGE_SIZE}
 use Rattle.gx_page.specs.Faults.{fault_of}
 use Rattle.gx_page.specs.Reading.{read_of}
 use Rattle.gx_record.specs.Bytes.{u64_of, u32_of}
@@ -45,7 +46,7 @@ is_image_of page image = is_none (fault_of image) && ((read_of image).number == 
 
 unfoldable pub image_at : ℕ → List ℕ → Option (List ℕ × List ℕ)
 image_at page bytes = do
-  image ← bytes_at 4096 bytes
+  image ← bytes_at PAGE_SIZE bytes
   if is_image_of page image.0 then Some image else None
 
 -- a page with its image

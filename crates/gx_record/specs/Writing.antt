@@ -1,7 +1,9 @@
 -- What is written into bytes, and where it ends.
 use Rattle.std.specs.Prelude.{◌≡◌, ℕ, ◌+◌, ◌*◌, ◌≤◌, List, length}
 use Rattle.std.specs.List.{AllByRecursion}
+use Rattle.gx_page.specs.declared.block.TheConstants.{PAGE_SIZE}
 use Rattle.gx_page.specs.Bytes.{overwrite}
+use Rattle.gx_record.specs.declared.sizes.TheConstants.{COMMIT_RECORD, COUNTERS_RECORD, END_RECORD, NUMBERED_IMAGE, NOTE_BESIDE_KEY, PAGES_HEAD, WRITE_BESIDE_KEY}
 use Rattle.gx_record.specs.Rec.{Rec, Pages, Write, Commit, End, Counters, Note}
 
 -- a text stands from a place on up to another one, and all else is as it was
@@ -12,18 +14,22 @@ pub record Wrote (old new : List ℕ) (at : ℕ) (text : List ℕ) (end : ℕ) :
 
 -- how many bytes the spelling of a record has whose images have a page's size
 abbrev pub size_of : Rec → ℕ
-size_of (Pages counter used pages) = 14 + 4100 * length pages
-size_of (Write tx row key before after leaf image) = 4119 + length key
-size_of (Commit tx n) = 17
-size_of (End tx) = 9
-size_of (Counters n counter used next) = 29
-size_of (Note tx row key before leaf) = 22 + length key
+size_of (Pages counter used pages) = PAGES_HEAD + NUMBERED_IMAGE * length pages
+size_of (Write tx row key before after leaf image) = WRITE_BESIDE_KEY + length key
+size_of (Commit tx n) = COMMIT_RECORD
+size_of (End tx) = END_RECORD
+size_of (Counters n counter used next) = COUNTERS_RECORD
+size_of (Note tx row key before leaf) = NOTE_BESIDE_KEY + length key
+
+-- how many bytes the record of a write has whose key is spelled in so many
+abbrev pub write_record : ℕ → ℕ
+write_record key = key + WRITE_BESIDE_KEY
 
 abbrev pub IsWhole : ℕ × List ℕ → Type 0
-IsWhole p = length p.1 ≡ 4096
+IsWhole p = length p.1 ≡ PAGE_SIZE
 
 -- each image has a page's size
 abbrev pub HasWholeImages : Rec → Type 0
 HasWholeImages (Pages counter used pages) = AllByRecursion IsWhole pages
-HasWholeImages (Write tx row key before after leaf image) = length image ≡ 4096
+HasWholeImages (Write tx row key before after leaf image) = length image ≡ PAGE_SIZE
 HasWholeImages _ = Unit {0}

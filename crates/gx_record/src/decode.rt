@@ -1,6 +1,8 @@
 //! Reading a record from the front of bytes, field by field. Each function answers what it read and the bytes after it.
 ghost use Rattle.std.specs.Prelude.{◌≡◌};
-ghost use Rattle.gx_record.specs.Reading.{Reads, bytes_at, number_8_at, number_4_at, mark_at, page_at, is_image_of, image_at, numbered_at, rising_at, images_at, pages_at, entry_at, write_at, commit_at, end_at, counters_at, note_at, record_at};
+ghost use Rattle.gx_record.specs.Reading.{Reads, bytes_at, number_8_at, number_4_at, mark_at, page_at};
+ghost use Rattle.gx_record.specs.Reading.{is_image_of, image_at, numbered_at, rising_at, images_at, pages_at};
+ghost use Rattle.gx_record.specs.Reading.{entry_at, write_at, commit_at, end_at, counters_at, note_at, record_at};
 ghost use Rattle.gx_record.specs.Seen.{is_marked, numbered, images, rec_of};
 
 use crate::mark::Mark;

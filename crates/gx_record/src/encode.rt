@@ -10,6 +10,10 @@ ghost use Rattle.gx_record.specs.Writing.{Wrote, size_of, IsWhole, HasWholeImage
 use crate::mark::Mark;
 use crate::pages::{PageImage, PageImages};
 use crate::record::Record;
+use crate::sizes::{
+    COMMIT_RECORD, COUNTERS_RECORD, END_RECORD, NOTE_BESIDE_KEY, NUMBERED_IMAGE, PAGES_HEAD,
+    WRITE_BESIDE_KEY,
+};
 use crate::tags::{COMMIT, COUNTERS, END, NOTE, PAGES, WRITE};
 use gx_page::PAGE_SIZE;
 
@@ -19,12 +23,12 @@ pub(crate) fn length_of(logged: &Record<'_>) -> usize
     ensures { result ≡ size_of (rec_of logged.now) }
 {
     match logged {
-        Record::Pages { pages, .. } => 14 + (4 + PAGE_SIZE) * pages.count(),
-        Record::Write { key, .. } => 23 + key.len() + PAGE_SIZE,
-        Record::Commit { .. } => 17,
-        Record::End { .. } => 9,
-        Record::Counters { .. } => 29,
-        Record::Note { key, .. } => 22 + key.len(),
+        Record::Pages { pages, .. } => PAGES_HEAD + NUMBERED_IMAGE * pages.count(),
+        Record::Write { key, .. } => WRITE_BESIDE_KEY + key.len(),
+        Record::Commit { .. } => COMMIT_RECORD,
+        Record::End { .. } => END_RECORD,
+        Record::Counters { .. } => COUNTERS_RECORD,
+        Record::Note { key, .. } => NOTE_BESIDE_KEY + key.len(),
     }
 }
 
@@ -81,10 +85,10 @@ fn put_entry(out: &mut [u8], at: usize, tx: u64, row: u64, key: &[u8]) -> usize
 
 /// Writes a page's number and its image.
 fn put_page(out: &mut [u8], at: usize, page: u32, image: &[u8]) -> usize
-    requires room { at + 4100 ≤ length out.old }
+    requires room { at + NUMBERED_IMAGE ≤ length out.old }
     requires whole { length image.now ≡ PAGE_SIZE }
     ensures wrote { Wrote out.old out.new at (u32_bytes page ++ image.now) result }
-    ensures behind { result ≡ at + 4100 }
+    ensures behind { result ≡ at + NUMBERED_IMAGE }
 {
     let at = put_u32(out, at, page);
     put(out, at, image)
@@ -92,10 +96,10 @@ fn put_page(out: &mut [u8], at: usize, page: u32, image: &[u8]) -> usize
 
 /// Writes pages behind their count.
 fn put_pages(out: &mut [u8], at: usize, pages: &PageImages<'_>) -> usize
-    requires room { at + (1 + 4100 * length (images pages.now)) ≤ length out.old }
+    requires room { at + (1 + NUMBERED_IMAGE * length (images pages.now)) ≤ length out.old }
     requires whole { AllByRecursion IsWhole (images pages.now) }
     ensures wrote { Wrote out.old out.new at (length (images pages.now) ∷ pages_bytes (images pages.now)) result }
-    ensures behind { result ≡ at + (1 + 4100 * length (images pages.now)) }
+    ensures behind { result ≡ at + (1 + NUMBERED_IMAGE * length (images pages.now)) }
 {
     match *pages {
         PageImages::One(first) => {
@@ -121,7 +125,7 @@ fn put_pages(out: &mut [u8], at: usize, pages: &PageImages<'_>) -> usize
 #[inline(never)]
 fn write_pages(out: &mut [u8], counter: u64, used: u32, pages: &PageImages<'_>) -> usize
     requires whole { AllByRecursion IsWhole (images pages.now) }
-    requires room { 14 + 4100 * length (images pages.now) ≤ length out.old }
+    requires room { PAGES_HEAD + NUMBERED_IMAGE * length (images pages.now) ≤ length out.old }
     ensures { Wrote out.old out.new 0 (spelling (Pages counter used (images pages.now))) result }
 {
     let at = put(out, 0, &[PAGES]);
@@ -142,8 +146,9 @@ fn write_write(
     image: &[u8],
 ) -> usize
     requires whole { length image.now ≡ PAGE_SIZE }
-    requires room { 4119 + length key.now ≤ length out.old }
-    ensures { Wrote out.old out.new 0 (spelling (Write tx row key.now (is_marked marks.0) (is_marked marks.1) leaf image.now)) result }
+    requires room { WRITE_BESIDE_KEY + length key.now ≤ length out.old }
+    ensures { Wrote out.old out.new 0
+        (spelling (Write tx row key.now (is_marked marks.0) (is_marked marks.1) leaf image.now)) result }
 {
     let at = put(out, 0, &[WRITE]);
     let at = put_entry(out, at, tx, row, key);
@@ -154,7 +159,7 @@ fn write_write(
 
 /// Writes a note's record at the front.
 fn write_note(out: &mut [u8], tx: u64, row: u64, key: &[u8], before: Mark, leaf: u32) -> usize
-    requires { 22 + length key.now ≤ length out.old }
+    requires { NOTE_BESIDE_KEY + length key.now ≤ length out.old }
     ensures { Wrote out.old out.new 0 (spelling (Note tx row key.now (is_marked before) leaf)) result }
 {
     let at = put(out, 0, &[NOTE]);
@@ -165,7 +170,7 @@ fn write_note(out: &mut [u8], tx: u64, row: u64, key: &[u8], before: Mark, leaf:
 
 /// Writes a commit's record at the front.
 fn write_commit(out: &mut [u8], tx: u64, n: u64) -> usize
-    requires { 17 ≤ length out.old }
+    requires { COMMIT_RECORD ≤ length out.old }
     ensures { Wrote out.old out.new 0 (spelling (Commit tx n)) result }
 {
     let at = put(out, 0, &[COMMIT]);
@@ -175,7 +180,7 @@ fn write_commit(out: &mut [u8], tx: u64, n: u64) -> usize
 
 /// Writes a record of counters at the front.
 fn write_counters(out: &mut [u8], n: u64, counter: u64, used: u32, next: u64) -> usize
-    requires { 29 ≤ length out.old }
+    requires { COUNTERS_RECORD ≤ length out.old }
     ensures { Wrote out.old out.new 0 (spelling (Counters n counter used next)) result }
 {
     let at = put(out, 0, &[COUNTERS]);

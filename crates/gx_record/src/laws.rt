@@ -1,10 +1,11 @@
 //! Laws of the spelling. Each function is its contract alone.
-ghost use Rattle.gx_record.specs.Laws.{NoSpellingBeginsAnother, SpellingsBegin, SpellingsTell, SpellingsJoin, SpellingsHaveSizes, SpellingsAreShort, ImagesAreOfPages};
+ghost use Rattle.gx_record.specs.Laws.{NoSpellingBeginsAnother, SpellingsBegin, SpellingsTell, SpellingsJoin};
+ghost use Rattle.gx_record.specs.Laws.{SpellingsHaveSizes, SpellingsAreShort, ImagesAreOfPages};
 
-/// No spelling of a record in range begins another's, so that bytes are whole records in one way only; and whatever a spelling
-/// begins has that record at its front. Records are spelled one after the other. How long
-/// a spelling is follows from its kind, how many pages it has, and its key: 9 to 12,314 bytes, not counting the key's. What a
-/// record calls an image of a page is the image of well-formed contents with that number.
+/// No spelling of a record in range begins another's, so that bytes are whole records in one way only; and whatever a
+/// spelling begins has that record at its front. Records are spelled one after the other. How long a spelling is
+/// follows from its kind, how many pages it has, and its key: 9 to 12,314 bytes, not counting the key's. What a record
+/// calls an image of a page is the image of well-formed contents with that number.
 pub fn format()
     ensures no_spelling_begins_another { NoSpellingBeginsAnother }
     ensures spellings_begin { SpellingsBegin }

@@ -10,8 +10,8 @@ use crate::{decode, encode};
 
 /// A record of the log. It borrows the bytes of its key and the images of its pages.
 ///
-/// In range are images that a page has, each with its page's own number, and pages by rising number. Any number of a field's
-/// width is in range, also a page's number 0.
+/// In range are images that a page has, each with its page's own number, and pages by rising number. Any number of a
+/// field's width is in range, also a page's number 0.
 #[derive(Clone, Copy, PartialEq, Eq)]
 pub enum Record<'a> {
     /// Pages as a change leaves them, and the change counter and the number of pages in use after it.
@@ -20,7 +20,8 @@ pub enum Record<'a> {
         used: u32,
         pages: PageImages<'a>,
     },
-    /// A transaction changes an entry's mark, or adds the entry (then `before` is `Marked`), in a leaf with this image after it.
+    /// A transaction changes an entry's mark, or adds the entry (then `before` is `Marked`),
+    /// in a leaf with this image after it.
     Write {
         tx: u64,
         row: u64,
@@ -68,7 +69,7 @@ impl<'a> Record<'a> {
 
     /// Writes the record's spelling at the front, and answers how many bytes it has.
     /// None where there is no room for it, and nothing is then written.
-    #[tactic(auto, using(crate::proofs::Writes::in_range_whole, crate::proofs::Writes::spelling_size, crate::proofs::Writes::front_wrote))]
+    #[tactic(auto, using(crate::proofs::Writes::in_range_whole, crate::proofs::Writes::front_wrote))]
     pub fn encode_into(&self, out: &mut [u8]) -> Option<usize>
         requires { IsInRange (rec_of self.now) }
         ensures fits { IsSome result ↔ (length (spelling (rec_of self.now)) ≤ length out.old) }

@@ -21,7 +21,8 @@ pub const TOUCHED: usize = MAX_CLAIMS;
 /// The transaction's number that none can follow, so that no log has it.
 pub const LAST_TRANSACTION: u64 = u64::MAX;
 
-/// Entries and pages, by what a log needs to know of them. It is known by an index's limits: those of one index never change.
+/// Entries and pages, by what a log needs to know of them. It is known by an index's limits:
+/// those of one index never change.
 pub trait Meaning {
     type Entry;
 

@@ -5,17 +5,20 @@ ghost use Rattle.gx_recovery.specs.Records.{Commit, Counters, Note};
 ghost use Rattle.gx_recovery.specs.Logged.{IsHealthy, all_records, appended};
 ghost use Rattle.gx_recovery.specs.Life.{IsLife};
 ghost use Rattle.gx_recovery.specs.Worked.{worked, rows, found_in, wanted_of};
-ghost use Rattle.gx_recovery.specs.WorkedLife.{fresh, insert_8, in_flight, committed, second, losing, torn, reopened, undoing, undone, written, renewed_last, worked_steps, sets_of, stood_for, too_early, past_a_gate, torn_page, imageless, imaged, noteless, ended_early, shared, seen_by};
+ghost use Rattle.gx_recovery.specs.WorkedLife.{fresh, insert_8, in_flight, committed, second, losing, torn};
+ghost use Rattle.gx_recovery.specs.WorkedLife.{reopened, undoing, undone, written, renewed_last, worked_steps};
+ghost use Rattle.gx_recovery.specs.WorkedLife.{sets_of, stood_for, too_early, past_a_gate, torn_page};
+ghost use Rattle.gx_recovery.specs.WorkedLife.{imageless, imaged, noteless, ended_early, shared, seen_by};
 
-/// Each damaged log of the rows is refused for its own item and for no other. Beside them stand logs that are at a limit
-/// and not over it.
+/// Each damaged log of the rows is refused for its own item and for no other.
+/// Beside them stand logs that are at a limit and not over it.
 pub fn each_item_refuses_a_log_alone()
     ensures { found_in rows ≡ wanted_of rows }
 {}
 
-/// A life of a small index: a fresh log; an insert and its commit; an insert with a split and a deletion, by a transaction
-/// that a crash cuts off, with a page torn; an opening, the undo of both entries, an end; a sweep; and a checkpoint. The
-/// second insert and the sweep are small changes.
+/// A life of a small index: a fresh log; an insert and its commit; an insert with a split and a deletion, by a
+/// transaction that a crash cuts off, with a page torn; an opening, the undo of both entries, an end; a sweep; and a
+/// checkpoint. The second insert and the sweep are small changes.
 pub fn a_worked_life_meets_the_definitions()
     ensures lawful { IsLawful worked }
     ensures fresh { IsHealthy worked fresh }
@@ -44,10 +47,11 @@ pub fn the_sets_of_the_worked_life()
 {}
 
 /// What would go wrong. With nothing committed, a crash leaves entry 7 where its page is written before its record is
-/// gated, and where a batch is read behind a closed gate. It leaves entry 9, which nobody wrote, where a page is written of which
-/// the log has a small change alone, and that write is torn; an image leaves nothing. With entry 7 committed, a crash leaves entry 8 and not 7 where a
-/// checkpoint leaves out the notes, and where a transaction ends before all is restored. Where two transactions write one
-/// entry, the commit of the first has a set that isn't its view.
+/// gated, and where a batch is read behind a closed gate. It leaves entry 9, which nobody wrote, where a page is
+/// written of which the log has a small change alone, and that write is torn; an image leaves nothing. With entry 7
+/// committed, a crash leaves entry 8 and not 7 where a checkpoint leaves out the notes, and where a transaction ends
+/// before all is restored. Where two transactions write one entry,
+/// the commit of the first has a set that isn't its view.
 pub fn what_the_rules_prevent()
     ensures too_early { stood_for too_early in_flight.gated ≡ 7 ∷ [] }
     ensures past_a_gate { stood_for fresh.area past_a_gate ≡ 7 ∷ [] }

@@ -4,6 +4,7 @@ use Rattle.std.specs.Prelude.{Option, Some, Result, Ok, Err, IfOk, IfErr, take, 
 use Rattle.std.proofs.lemmas.Bool.{cases_lt}
 use Rattle.gx_geom.specs.declared.refusal.Refusal.{Refusal}
 use Rattle.gx_geom.specs.declared.refusal.Refusal.TheVariants.{Damaged}
+use Rattle.gx_glog.specs.declared.extent.TheConstants.{BODY_ROOM}
 use Rattle.gx_glog.specs.declared.extent.Extent.{Extent}
 use Rattle.gx_glog.specs.Layout.{is_open, body_of, size_in, records_in}
 use Rattle.gx_glog.specs.Reading.{IsSize, ReadsBody}
@@ -19,14 +20,14 @@ images_joined [] ys = refl
 images_joined (x ∷ xs) ys = ap (λ (zs : List Imaged). images_of x ++ zs) (images_joined xs ys) ∙ sym (append_assoc (images_of x) (all_images xs) (all_images ys))
 
 -- the bytes that are cut out of a body are its records'
-read_as : (seen : List ℕ) (extent : Extent) (i : ℕ) (bytes body : List ℕ) (size : ℕ) → (size ≤ 32764 → bytes ≡ take size (drop 4 body)) → body ≡ body_of seen extent i → size ≡ size_in body
+read_as : (seen : List ℕ) (extent : Extent) (i : ℕ) (bytes body : List ℕ) (size : ℕ) → (size ≤ BODY_ROOM → bytes ≡ take size (drop 4 body)) → body ≡ body_of seen extent i → size ≡ size_in body
     → IsSize size → bytes ≡ records_in (body_of seen extent i)
 unfolding records_in
 read_as seen extent i bytes body size cut_to read said fits = cut_to fits.1 ∙ ap (λ n. take n (drop 4 body)) said ∙ ap (λ (b : List ℕ). take (size_in b) (drop 4 b)) read
 
 -- the body of a place is told
 pub place_told : (key : ℕ) (seen : List ℕ) (extent : Extent) (i : ℕ) (old new : List Imaged) (bytes body : List ℕ) (found : Option ℕ) (size : ℕ) (result : Result (Unit {0}) Refusal)
-    → found ≡ Some size → ReadsBody seen extent i body (Ok found) → (size ≤ 32764 → bytes ≡ take size (drop 4 body)) → BytesTold key bytes old result new
+    → found ≡ Some size → ReadsBody seen extent i body (Ok found) → (size ≤ BODY_ROOM → bytes ≡ take size (drop 4 body)) → BytesTold key bytes old result new
     → PlaceTold key seen extent i old result new
 place_told key seen extent i old new bytes body found size (Ok done) is reads cut_to told =
     let read : (is_open seen extent i ≡ true) × (body ≡ body_of seen extent i) × (size ≡ size_in body) × IsSize size = subst (λ (o : Option ℕ). ReadsBody seen extent i body (Ok o)) is reads in

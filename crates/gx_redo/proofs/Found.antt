@@ -8,6 +8,7 @@ use Rattle.gx_disk.specs.Device.{Device, IsSettled, MayLeave}
 use Rattle.gx_disk.specs.Looks.{Looks}
 use Rattle.gx_disk.specs.Sectors.{sector_of}
 use Rattle.gx_disk.proofs.Leaving.{leaves_joined, leaves_weaker}
+use Rattle.gx_glog.specs.declared.extent.TheConstants.{PLACES}
 use Rattle.gx_glog.specs.declared.extent.Extent.{Extent}
 use Rattle.gx_glog.specs.Layout.{selected_of, is_open, open_run}
 use Rattle.gx_glog.specs.Cuts.{open_bodies}
@@ -74,7 +75,7 @@ module _ {E P : Type 0} (k : Known E P) (r : Reading E P) where
       subst (λ m. ExtentGiven k.pages r.key seen x m (Err refusal.Damaged)) count
       (subst (λ e. ExtentGiven k.pages r.key seen e n (Err refusal.Damaged)) at
       (subst (λ m. ExtentGiven k.pages m seen extent n (Err refusal.Damaged)) key_is (subst (λ m. ExtentGiven m key seen extent n (Err refusal.Damaged)) (sym same) read))) in
-      here (record { gates = λ j less. run_opened seen x 32 0 j (is_open seen x 0) refl (omega arith) (omega (arith, less)); sizes = log.sizes }) a.spelled a.has a.on_device
+      here (record { gates = λ j less. run_opened seen x PLACES 0 j (is_open seen x 0) refl (omega arith) (omega (arith, less)); sizes = log.sizes }) a.spelled a.has a.on_device
 
   pub refused_whole : (pages key : ℕ) (seen : List ℕ) (extent : Extent) (n : ℕ) → k.pages ≡ pages → key ≡ r.key → extent ≡ selected_of seen → n ≡ opened seen → {T : Type 0} (result : Result T Refusal) (why : Refusal) → result ≡ Err why
       → ExtentGiven pages key seen extent n (Err why) → HasUndamaged k r seen → result ≡ Err refusal.Damaged → ⊥

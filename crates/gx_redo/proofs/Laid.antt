@@ -2,7 +2,9 @@
 use Rattle.std.proofs.Common.{◌≡◌, ◌∙◌, sym, ap, refl, subst, ⊎_elim, inl, inr, ℕ, zero, suc, ◌+◌, ◌*◌, ◌<◌, ◌≤◌, ◌==◌, Bool, true, false, List, [], ◌∷◌, length, drop, get_or, drop-cons, add-one, arith, eq-eqb}
 use Rattle.std.specs.Prelude.{Option, None, Some, unwrap_or, if◌then◌else◌, Result, Ok, Err, IfOk, OnOk}
 use Rattle.std.proofs.lemmas.Bool.{eqb-true, cases_lt}
+use Rattle.gx_page.specs.declared.block.TheConstants.{PAGE_SIZE}
 use Rattle.gx_geom.specs.declared.refusal.Refusal.{Refusal}
+use Rattle.gx_disk.specs.declared.layout.TheConstants.{PAGE_SECTORS}
 use Rattle.gx_disk.specs.Device.{Device, MayLeave, Writes, Syncs, Touches, Elapses}
 use Rattle.gx_disk.specs.Moments.{Leaves}
 use Rattle.gx_disk.specs.Sectors.{span_of, put, IsOutside, sector_of}
@@ -34,24 +36,24 @@ lays_none d (Err x) = record { size = refl; others = λ s is. refl; settled = λ
 -- an image of a device after calls that lay pages is one of before, beside them
 later_image : (x : Imaged) (xs : List Imaged) (old mid : Device) (n : ℕ) → n ≡ 8 → Touches (first_of x.0) n old mid → (image : List ℕ) → IsImageBeside xs mid image → IsImageBeside (x ∷ xs) old image
 later_image x xs old mid n eight touches image is =
-    let out : (s : ℕ) → IsOutside (first_of x.0) 8 s → IsOutside (first_of x.0) n s = λ s o. subst (λ m. IsOutside (first_of x.0) m s) (sym eight) o in
+    let out : (s : ℕ) → IsOutside (first_of x.0) PAGE_SECTORS s → IsOutside (first_of x.0) n s = λ s o. subst (λ m. IsOutside (first_of x.0) m s) (sym eight) o in
     record {
       size = is.size ∙ touches.size;
       settled = λ s beside was. is.settled s beside.1 (touches.settled s (out s beside.0) was) ∙ touches.bytes s (out s beside.0);
     }
 
 -- so is an image after one write
-one_image : (x : Imaged) (xs : List Imaged) (old mid : Device) (image : List ℕ) → Touches (first_of x.0) 8 old mid → MayLeave mid image → IsImageBeside (x ∷ xs) old image
+one_image : (x : Imaged) (xs : List Imaged) (old mid : Device) (image : List ℕ) → Touches (first_of x.0) PAGE_SECTORS old mid → MayLeave mid image → IsImageBeside (x ∷ xs) old image
 one_image x xs old mid image touches may = record {
   size = may.size ∙ touches.size;
   settled = λ s beside was. may.settled s (touches.settled s beside.0 was) ∙ touches.bytes s beside.0;
 }
 
-write_leaves : (x : Imaged) (xs : List Imaged) (old mid : Device) → Touches (first_of x.0) 8 old mid → Elapses old mid → Leaves (IsImageBeside (x ∷ xs) old) old mid
+write_leaves : (x : Imaged) (xs : List Imaged) (old mid : Device) → Touches (first_of x.0) PAGE_SECTORS old mid → Elapses old mid → Leaves (IsImageBeside (x ∷ xs) old) old mid
 write_leaves x xs old mid touches time = call_leaves (IsImageBeside (x ∷ xs) old) old mid time (λ image may. one_image x xs old mid image touches may)
 
 -- a write that failed is the last call
-pub lays_failed : {T E F : Type 0} → (x : Imaged) (xs : List Imaged) (old new : Device) (why : E) (told : F) → Writes {T = T} (first_of x.0) 8 x.1 old new (Err why)
+pub lays_failed : {T E F : Type 0} → (x : Imaged) (xs : List Imaged) (old new : Device) (why : E) (told : F) → Writes {T = T} (first_of x.0) PAGE_SECTORS x.1 old new (Err why)
     → Lays {T = T} (x ∷ xs) old new (Err told)
 lays_failed x xs old new why told writes = record {
   size = writes.touches.size;
@@ -62,24 +64,24 @@ lays_failed x xs old new why told writes = record {
 }
 
 -- pages of other numbers lie apart
-pub apart_pages : (q p : ℕ) → (q == p) ≡ false → 1 ≤ q → 1 ≤ p → AreApart (first_of q) 8 (first_of p) 8
+pub apart_pages : (q p : ℕ) → (q == p) ≡ false → 1 ≤ q → 1 ≤ p → AreApart (first_of q) PAGE_SECTORS (first_of p) PAGE_SECTORS
 apart_pages q p other from there =
     ⊎_elim (λ (less : q < p). inl (omega (arith, less, from))) (λ (more : p ≤ q). ⊎_elim (λ (above : p < q). inr (omega (arith, above, there)))
     (λ (least : q ≤ p). absurd (let same : q ≡ p = omega (arith, more, least) in let test : (q == p) ≡ true = eq-eqb q p same in cc)) (cases_lt p q)) (cases_lt q p)
 
 -- the page that is written, and another
-page_written : (x : Imaged) (sectors : ℕ) (old new : List ℕ) → length x.1 ≡ 4096 → IsPage sectors x.0 → length old ≡ 512 * sectors → new ≡ put (512 * first_of x.0) x.1 old → bytes_of new x.0 ≡ x.1
+page_written : (x : Imaged) (sectors : ℕ) (old new : List ℕ) → length x.1 ≡ PAGE_SIZE → IsPage sectors x.0 → length old ≡ 512 * sectors → new ≡ put (512 * first_of x.0) x.1 old → bytes_of new x.0 ≡ x.1
 unfolding span_of
 page_written x sectors old new whole is long written =
     rw (written, ← whole) (put_back (512 * first_of x.0) x.1 old (omega (arith, is.inside, is.from, whole, long)))
 
-page_kept : (x : Imaged) (sectors p : ℕ) (old new : Device) → (x.0 == p) ≡ false → IsPage sectors x.0 → IsPage sectors p → Touches (first_of x.0) 8 old new → bytes_of new.seen p ≡ bytes_of old.seen p
+page_kept : (x : Imaged) (sectors p : ℕ) (old new : Device) → (x.0 == p) ≡ false → IsPage sectors x.0 → IsPage sectors p → Touches (first_of x.0) PAGE_SECTORS old new → bytes_of new.seen p ≡ bytes_of old.seen p
 page_kept x sectors p old new other is there touches =
-    touched_span (first_of x.0) 8 (first_of p) 8 old new touches (apart_pages x.0 p other is.from there.from)
+    touched_span (first_of x.0) PAGE_SECTORS (first_of p) PAGE_SECTORS old new touches (apart_pages x.0 p other is.from there.from)
 
 -- a page that is written, and then the others
-laid_first : (x : Imaged) (xs : List Imaged) (sectors : ℕ) (old mid new : Device) (p : ℕ) (b : Bool) → (x.0 == p) ≡ b → image_in x.0 xs ≡ None → length x.1 ≡ 4096 → length old.seen ≡ 512 * sectors
-    → IsPage sectors x.0 → IsPage sectors p → mid.seen ≡ put (512 * first_of x.0) x.1 old.seen → Touches (first_of x.0) 8 old mid
+laid_first : (x : Imaged) (xs : List Imaged) (sectors : ℕ) (old mid new : Device) (p : ℕ) (b : Bool) → (x.0 == p) ≡ b → image_in x.0 xs ≡ None → length x.1 ≡ PAGE_SIZE → length old.seen ≡ 512 * sectors
+    → IsPage sectors x.0 → IsPage sectors p → mid.seen ≡ put (512 * first_of x.0) x.1 old.seen → Touches (first_of x.0) PAGE_SECTORS old mid
     → bytes_of new.seen p ≡ unwrap_or (image_in p xs) (bytes_of mid.seen p) → bytes_of new.seen p ≡ unwrap_or (if b then Some x.1 else image_in p xs) (bytes_of old.seen p)
 laid_first x xs sectors old mid new p true same once whole long is there written touches rest =
     let number : x.0 ≡ p = eqb-true x.0 p same in
@@ -88,8 +90,8 @@ laid_first x xs sectors old mid new p true same once whole long is there written
 laid_first x xs sectors old mid new p false other once whole long is there written touches rest =
     rest ∙ ap (λ (bytes : List ℕ). unwrap_or (image_in p xs) bytes) (page_kept x sectors p old mid other is there touches)
 
-pub lays_first : {T E F : Type 0} → (x : Imaged) (xs : List Imaged) (old mid new : Device) (done : F) (result : Result T E) → length x.1 ≡ 4096 → length old.seen ≡ 512 * old.sectors
-    → ArePages old.sectors (x ∷ xs) → AreOnce (x ∷ xs) → mid.sectors ≡ old.sectors → Writes {E = E} (first_of x.0) 8 x.1 old mid (Ok done) → Lays xs mid new result → Lays (x ∷ xs) old new result
+pub lays_first : {T E F : Type 0} → (x : Imaged) (xs : List Imaged) (old mid new : Device) (done : F) (result : Result T E) → length x.1 ≡ PAGE_SIZE → length old.seen ≡ 512 * old.sectors
+    → ArePages old.sectors (x ∷ xs) → AreOnce (x ∷ xs) → mid.sectors ≡ old.sectors → Writes {E = E} (first_of x.0) PAGE_SECTORS x.1 old mid (Ok done) → Lays xs mid new result → Lays (x ∷ xs) old new result
 lays_first x xs old mid new done (Ok y) whole long are once same writes rest = record {
   size = rest.size ∙ writes.touches.size;
   others = λ s beside. rest.others s beside.1 ∙ writes.touches.bytes s beside.0;

@@ -3,14 +3,14 @@ use Rattle.std.proofs.Common.{◌≡◌, ◌≢◌, ◌∙◌, sym, ap, refl, su
 use Rattle.std.specs.Prelude.{Option, None, Some, unwrap_or, if◌then◌else◌, Result, Ok, Err, OnOk}
 use Rattle.std.specs.Option.{option_map}
 use Rattle.std.proofs.Math.Path.{fun_ext}
+use Rattle.gx_disk.specs.declared.layout.TheConstants.{PAGES_AT, PAGE_SECTORS}
 use Rattle.gx_disk.specs.Device.{Device, IsSettled}
 use Rattle.gx_disk.specs.Sectors.{sector_of, IsOutside, IsWithin}
 use Rattle.gx_disk.proofs.Leaving.{leaves_weaker}
 use Rattle.gx_disk.proofs.Spans.{apart_outside, spans_same}
+use Rattle.gx_glog.specs.declared.extent.TheConstants.{PLACES}
 use Rattle.gx_glog.specs.declared.extent.Extent.{Extent}
-use Rattle.gx_glog.specs.declared.stage.Stage.TheVariants.{Idle}
-use Rattle.gx_glog.specs.declared.stage.Turn.TheVariants.{Closed}
-use Rattle.gx_glog.specs.State.{Log}
+use Rattle.gx_glog.specs.State.{starting}
 use Rattle.gx_glog.specs.Layout.{gates_of, selected_of, is_open, body_of, size_in, open_run}
 use Rattle.gx_glog.specs.Reading.{IsSize}
 use Rattle.gx_glog.specs.Cuts.{bodies_in, open_bodies}
@@ -53,18 +53,18 @@ later_kept p x xs true is there none = let no : Some x.1 ≡ None = rw is at non
 later_kept p x xs false is there none = there (rw is at none)
 
 -- a sector outside each page that is kept
-beside_each : (xs : List Imaged) (s : ℕ) → ((p : ℕ) → image_in p xs ≢ None → IsOutside (first_of p) 8 s) → IsBeside xs s
+beside_each : (xs : List Imaged) (s : ℕ) → ((p : ℕ) → image_in p xs ≢ None → IsOutside (first_of p) PAGE_SECTORS s) → IsBeside xs s
 beside_each [] s out = tt
 beside_each (x ∷ xs) s out = (out x.0 (first_kept x xs), beside_each xs s (λ p there. out p (later_kept p x xs (x.0 == p) refl there)))
 
 -- sectors ahead of page 1 are no page's
-ahead : (xs : List Imaged) (s : ℕ) → s < 4168 → IsBeside xs s
+ahead : (xs : List Imaged) (s : ℕ) → s < PAGES_AT → IsBeside xs s
 ahead [] s less = tt
 ahead (x ∷ xs) s less = (inl (omega (arith, less)), ahead xs s less)
 
 -- bytes that are the same there have the same log
 abbrev SameAhead : List ℕ → List ℕ → Type 0
-SameAhead xs ys = (s : ℕ) → s < 4168 → sector_of xs s ≡ sector_of ys s
+SameAhead xs ys = (s : ℕ) → s < PAGES_AT → sector_of xs s ≡ sector_of ys s
 
 run_same : (xs ys : List ℕ) (extent : Extent) (places k : ℕ) → ((j : ℕ) → j < k + places → is_open xs extent j ≡ is_open ys extent j) → open_run xs extent k places ≡ open_run ys extent k places
 unfolding open_run
@@ -82,29 +82,29 @@ module _ (xs ys : List ℕ) (same : SameAhead xs ys) where
   selects_same : selected_of xs ≡ selected_of ys
   selects_same = selector_same xs ys (same 2 (omega arith))
 
-  gates_same : (extent : Extent) (j : ℕ) → j < 32 → is_open xs extent j ≡ is_open ys extent j
+  gates_same : (extent : Extent) (j : ℕ) → j < PLACES → is_open xs extent j ≡ is_open ys extent j
   gates_same extent j less = let at = placed extent in gate_same extent j xs ys (same (gates_of extent + j) (omega (arith, at.to, at.bodies, less)))
 
-  place_same : (extent : Extent) (j : ℕ) → j < 32 → body_of xs extent j ≡ body_of ys extent j
+  place_same : (extent : Extent) (j : ℕ) → j < PLACES → body_of xs extent j ≡ body_of ys extent j
   place_same extent j less = let at = placed extent in body_same extent j xs ys (λ s within. same s (omega (arith, at.to, less, within.below)))
 
-  opened_same : (extent : Extent) → open_run xs extent 0 32 ≡ open_run ys extent 0 32
-  opened_same extent = run_same xs ys extent 32 0 (λ j less. gates_same extent j (omega (arith, less)))
+  opened_same : (extent : Extent) → open_run xs extent 0 PLACES ≡ open_run ys extent 0 PLACES
+  opened_same extent = run_same xs ys extent PLACES 0 (λ j less. gates_same extent j (omega (arith, less)))
 
   log_same : open_bodies xs ≡ open_bodies ys
   unfolding open_bodies
   log_same =
       let x = selected_of ys in
-      let few : open_run ys x 0 32 ≤ 32 = run_few ys x 32 0 (is_open ys x 0) refl in
-      ap (λ (e : Extent). bodies_in xs e (open_run xs e 0 32)) selects_same ∙ ap (λ n. bodies_in xs x n) (opened_same x)
-      ∙ bodies_same x (open_run ys x 0 32) xs ys (λ j less. place_same x j (omega (arith, few, less)))
+      let few : open_run ys x 0 PLACES ≤ PLACES = run_few ys x PLACES 0 (is_open ys x 0) refl in
+      ap (λ (e : Extent). bodies_in xs e (open_run xs e 0 PLACES)) selects_same ∙ ap (λ n. bodies_in xs x n) (opened_same x)
+      ∙ bodies_same x (open_run ys x 0 PLACES) xs ys (λ j less. place_same x j (omega (arith, few, less)))
 
   sizes_same : HasSizes ys → HasSizes xs
   sizes_same sizes j less =
       let x = selected_of ys in
-      let few : open_run ys x 0 32 ≤ 32 = run_few ys x 32 0 (is_open ys x 0) refl in
-      let run : open_run xs (selected_of xs) 0 32 ≡ open_run ys x 0 32 = ap (λ (e : Extent). open_run xs e 0 32) selects_same ∙ opened_same x in
-      let below : j < open_run ys x 0 32 = omega (arith, less, run) in
+      let few : open_run ys x 0 PLACES ≤ PLACES = run_few ys x PLACES 0 (is_open ys x 0) refl in
+      let run : open_run xs (selected_of xs) 0 PLACES ≡ open_run ys x 0 PLACES = ap (λ (e : Extent). open_run xs e 0 PLACES) selects_same ∙ opened_same x in
+      let below : j < open_run ys x 0 PLACES = omega (arith, less, run) in
       subst (λ (e : Extent). IsSize (size_in (body_of xs e j))) (sym selects_same)
       (subst (λ (b : List ℕ). IsSize (size_in b)) (sym (place_same x j (omega (arith, few, below)))) (sizes j below))
 
@@ -113,11 +113,11 @@ neither true image o none = cc
 neither false image o none = (refl, none)
 
 -- the sectors of a page of which nothing is kept are beside those that are
-beside_all : (xs : List Imaged) (sectors p s : ℕ) → ArePages sectors xs → IsPage sectors p → image_in p xs ≡ None → IsWithin (first_of p) 8 s → IsBeside xs s
+beside_all : (xs : List Imaged) (sectors p s : ℕ) → ArePages sectors xs → IsPage sectors p → image_in p xs ≡ None → IsWithin (first_of p) PAGE_SECTORS s → IsBeside xs s
 beside_all [] sectors p s are is none within = tt
 beside_all (x ∷ xs) sectors p s are is none within =
     let both = neither (x.0 == p) x.1 (image_in p xs) none in
-    (apart_outside (first_of x.0) 8 (first_of p) 8 s (apart_pages x.0 p both.0 are.0.from is.from) within, beside_all xs sectors p s are.1 is both.1 within)
+    (apart_outside (first_of x.0) PAGE_SECTORS (first_of p) PAGE_SECTORS s (apart_pages x.0 p both.0 are.0.from is.from) within, beside_all xs sectors p s are.1 is both.1 within)
 
 none_mapped : {A B : Type 0} (f : A → B) (o : Option A) → option_map f o ≡ None → o ≡ None
 none_mapped f None is = refl
@@ -126,10 +126,6 @@ none_mapped f (Some x) is = cc
 mapped_or : {A B : Type 0} (f : A → B) (o : Option A) (a : A) → f (unwrap_or o a) ≡ unwrap_or (option_map f o) (f a)
 mapped_or f None a = refl
 mapped_or f (Some x) a = refl
-
--- the log that starts behind so many bodies
-abbrev glog_at : Extent → ℕ → Log
-glog_at extent n = record { extent = extent; used = n; gated = n; stage = Idle; turn = Closed; flight = []; filling = [] }
 
 module _ {E P : Type 0} (k : Known E P) (r : Reading E P) (kept : List Imaged) (d : Device) (bodies : List (List (Record E P))) (l : IsLawful k)
     (is : IsFoundOn k r d bodies) (gives_so : IsGiven r kept (records_of bodies)) (are : ArePages d.sectors kept) where
@@ -195,21 +191,21 @@ module _ {E P : Type 0} (k : Known E P) (r : Reading E P) (kept : List Imaged) (
       let so = same_pages e.seen others in
       let x = selected_of d.seen in
       let selects : selected_of e.seen ≡ x = selects_same e.seen d.seen ahead_same in
-      let run : open_run e.seen x 0 32 ≡ open_run d.seen x 0 32 = opened_same e.seen d.seen ahead_same x in
-      let few : open_run d.seen x 0 32 ≤ 32 = run_few d.seen x 32 0 (is_open d.seen x 0) refl in
+      let run : open_run e.seen x 0 PLACES ≡ open_run d.seen x 0 PLACES = opened_same e.seen d.seen ahead_same x in
+      let few : open_run d.seen x 0 PLACES ≤ PLACES = run_few d.seen x PLACES 0 (is_open d.seen x 0) refl in
       let area : area_of r k.pages e.seen ≡ redone (area_of r k.pages d.seen) log = fun_ext (laid_area e laid) in
-      let sizes : (j : ℕ) → j < open_run e.seen x 0 32 → IsSize (size_in (body_of e.seen x j)) =
+      let sizes : (j : ℕ) → j < open_run e.seen x 0 PLACES → IsSize (size_in (body_of e.seen x j)) =
       λ j less. subst (λ (b : List ℕ). IsSize (size_in b)) (sym (place_same e.seen d.seen ahead_same x j (omega (arith, few, run, less)))) (is.sizes j (omega (arith, run, less))) in
       record {
         settled = settled;
         area = laid_area e laid;
         same = so;
-        glog = ap (λ (y : Extent). glog_at y (open_run e.seen y 0 32)) selects ∙ ap (λ n. glog_at x n) run;
+        glog = ap (λ (y : Extent). starting y (open_run e.seen y 0 PLACES)) selects ∙ ap (λ n. starting x n) run;
         written = λ p. ap (λ (a : ℕ → P). a p) (area ∙ sym (redone_twice k log (area_of r k.pages d.seen) is_log) ∙ ap (λ (a : ℕ → P). redone a log) (sym area));
-        sizes = subst (λ (y : Extent). (j : ℕ) → j < open_run e.seen y 0 32 → IsSize (size_in (body_of e.seen y j))) (sym selects) sizes;
+        sizes = subst (λ (y : Extent). (j : ℕ) → j < open_run e.seen y 0 PLACES → IsSize (size_in (body_of e.seen y j))) (sym selects) sizes;
         turn = λ says good.
             found_up k r e.sectors e.seen e.pending bodies settled (omega (arith, size, whole, is.pages.inside)) (subst H (sym sectors) is.pages)
-            (subst (λ (y : Extent). (j : ℕ) → j < open_run e.seen y 0 32 → IsSize (size_in (body_of e.seen y j))) (sym selects) sizes) (subst B (sym so.bodies) is.told) is.undamaged good (so.head ∙ says);
+            (subst (λ (y : Extent). (j : ℕ) → j < open_run e.seen y 0 PLACES → IsSize (size_in (body_of e.seen y j))) (sym selects) sizes) (subst B (sym so.bodies) is.told) is.undamaged good (so.head ∙ says);
       }
 
   done_so : {T R : Type 0} (e : Device) (result : Result T R) → length d.seen ≡ 512 * d.sectors → e.sectors ≡ d.sectors → length e.seen ≡ length d.seen

@@ -8,6 +8,7 @@ use Rattle.gx_record.specs.Format.{spelling, spellings, IsRecord, BeginsWith}
 use Rattle.gx_record.specs.Writing.{IsWhole}
 use Rattle.gx_record.proofs.Whole.{no_spelling_begins_another, spelling_sizes}
 use Rattle.gx_record.proofs.Writes.{spelling_size, in_range_whole}
+use Rattle.gx_redo.specs.declared.given.TheConstants.{LEAST_SHARE}
 use Rattle.gx_redo.specs.Kept.{Imaged, with_all, all_images, images_of}
 use Rattle.gx_redo.specs.Spelled.{AreSpelled, IsLeft, IsReadTo, HasSpelled, IsPartOf}
 use Rattle.gx_redo.proofs.Keeping.{with_joined}
@@ -21,7 +22,7 @@ images_whole key (End tx) is = tt
 images_whole key (Counters n counter used next) is = tt
 images_whole key (Note tx row k before leaf) is = tt
 
-pub images_few : (key : ℕ) (x : Rec) → IsRecord key x → 4104 * length (images_of x) ≤ length (spelling x)
+pub images_few : (key : ℕ) (x : Rec) → IsRecord key x → LEAST_SHARE * length (images_of x) ≤ length (spelling x)
 images_few key (Pages counter used pages) is = let size = spelling_size (Pages counter used pages) is.in_range in let few = is.in_range.3 in omega (arith, size, few)
 images_few key (Write tx row k before after leaf image) is = let size = spelling_size (Write tx row k before after leaf image) is.in_range in omega (arith, size)
 images_few key (Commit tx n) is = omega arith
@@ -33,7 +34,7 @@ images_few key (Note tx row k before leaf) is = omega arith
 pub long_enough : (key : ℕ) (rest : List ℕ) (x : Rec) (n : ℕ) → BeginsWith key rest x n → 9 ≤ n
 long_enough key rest x n begins = let long = (spelling_sizes key x begins.is_record).0 in omega (arith, long, begins.size)
 
-pub few_begun : (key : ℕ) (rest : List ℕ) (x : Rec) (n : ℕ) → BeginsWith key rest x n → 4104 * length (images_of x) ≤ n
+pub few_begun : (key : ℕ) (rest : List ℕ) (x : Rec) (n : ℕ) → BeginsWith key rest x n → LEAST_SHARE * length (images_of x) ≤ n
 few_begun key rest x n begins = let few = images_few key x begins.is_record in omega (arith, few, begins.size)
 
 -- no bytes are no records

@@ -1,5 +1,6 @@
 -- What is laid of the pages that are kept, and what else a crash may leave.
 use Rattle.std.specs.Prelude.{◌≡◌, ℕ, false, List, [], ◌∷◌, length, unwrap_or, Result, OnOk}
+use Rattle.gx_disk.specs.declared.layout.TheConstants.{PAGE_SECTORS}
 use Rattle.gx_disk.specs.Device.{Device}
 use Rattle.gx_disk.specs.Moments.{Leaves}
 use Rattle.gx_disk.specs.Sectors.{sector_of, IsOutside}
@@ -14,7 +15,7 @@ ArePages sectors (x ∷ xs) = IsPage sectors x.0 × ArePages sectors xs
 -- a sector is none of these pages'
 abbrev pub IsBeside : List Imaged → ℕ → Type 0
 IsBeside [] s = Unit {0}
-IsBeside (x ∷ xs) s = IsOutside (first_of x.0) 8 s × IsBeside xs s
+IsBeside (x ∷ xs) s = IsOutside (first_of x.0) PAGE_SECTORS s × IsBeside xs s
 
 -- An image has each sector that was settled and is none of these pages' as it read.
 pub record IsImageBeside (pages : List Imaged) (d : Device) (image : List ℕ) : Type 0 where

@@ -1,9 +1,11 @@
 -- What a log's redo leaves of its device, said of the theory of logs.
 use Rattle.std.specs.Prelude.{◌≡◌, ◌≢◌, ℕ, ◌<◌, true, None, List, [], Result, OnOk}
 use Rattle.std.specs.Option.{option_map}
+use Rattle.gx_disk.specs.declared.layout.TheConstants.{PAGE_SECTORS}
 use Rattle.gx_disk.specs.Device.{Device, IsSettled}
 use Rattle.gx_disk.specs.Moments.{Leaves}
 use Rattle.gx_disk.specs.Sectors.{IsOutside}
+use Rattle.gx_glog.specs.declared.extent.TheConstants.{PLACES}
 use Rattle.gx_glog.specs.declared.extent.Extent.{Extent}
 use Rattle.gx_glog.specs.Layout.{selected_of, body_of, size_in, open_run}
 use Rattle.gx_glog.specs.Reading.{IsSize}
@@ -48,7 +50,7 @@ BodiesGive {E} {P} k r = (seen : List ℕ) (extent : Extent) (n : ℕ) (bodies :
 pub record IsFoundOn {E P : Type 0} (k : Known E P) (r : Reading E P) (d : Device) (bodies : List (List (Record E P))) : Type 0 where
   pub settled : IsSettled d
   pub pages : HasPages k.pages d.sectors
-  pub sizes : (j : ℕ) → j < open_run d.seen (selected_of d.seen) 0 32 → IsSize (size_in (body_of d.seen (selected_of d.seen) j))
+  pub sizes : (j : ℕ) → j < open_run d.seen (selected_of d.seen) 0 PLACES → IsSize (size_in (body_of d.seen (selected_of d.seen) j))
   pub told : AreBodies r (open_bodies d.seen) bodies
   pub undamaged : is_undamaged k bodies ≡ true
 
@@ -73,7 +75,7 @@ pub record IsRedone {E P : Type 0} (k : Known E P) (r : Reading E P) (d e : Devi
 
 -- a sector is no part of a page of which a log gives the content
 abbrev pub IsUngiven : {E P : Type 0} → List (Record E P) → ℕ → Type 0
-IsUngiven log s = (p : ℕ) → given p log ≢ None → IsOutside (first_of p) 8 s
+IsUngiven log s = (p : ℕ) → given p log ≢ None → IsOutside (first_of p) PAGE_SECTORS s
 
 -- At each moment of a redo, also where a call fails, what a crash may leave has the log that was found, and after it the same pages.
 -- Where these are good for it and can be read, and the device says what is known of it, it stands for the set that the log as it was found

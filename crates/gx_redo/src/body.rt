@@ -1,9 +1,12 @@
 //! The bytes of a log's bodies, and the pages that their records give.
 ghost use Rattle.std.specs.Prelude.{◌≡◌, ◌+◌, ◌*◌, ◌<◌, ◌≤◌, ℕ, List, length, drop, IfSome, IfNone, IfErr};
 ghost use Rattle.std.specs.List.{AllByRecursion};
+ghost use Rattle.gx_glog.specs.declared.extent.TheConstants.{BODY_ROOM};
+ghost use Rattle.gx_record.specs.declared.sizes.TheConstants.{END_RECORD};
 ghost use Rattle.gx_record.specs.Rec.{Rec};
 ghost use Rattle.gx_record.specs.Seen.{images, rec_of};
 ghost use Rattle.gx_record.specs.Writing.{IsWhole};
+ghost use Rattle.gx_redo.specs.declared.given.TheConstants.{LEAST_SHARE, MOST_GIVEN, MOST_IN_BODY};
 ghost use Rattle.gx_redo.specs.Kept.{with_all, images_of};
 ghost use Rattle.gx_redo.specs.Spelled.{AreSpelled, IsReadTo, IsPartOf, BytesTold};
 
@@ -13,7 +16,7 @@ use gx_record::{PageImages, Record};
 
 /// Keeps the images of pages, in their order.
 fn on_pages(given: &mut Given, pages: &PageImages<'_>)
-    requires room { length given.old + length (images pages.now) ≤ 224 }
+    requires room { length given.old + length (images pages.now) ≤ MOST_GIVEN }
     requires whole { AllByRecursion IsWhole (images pages.now) }
     ensures { given.new ≡ with_all (images pages.now) given.old }
 {
@@ -33,7 +36,7 @@ fn on_pages(given: &mut Given, pages: &PageImages<'_>)
 
 /// Keeps the images that a record gives, in their order.
 fn on_record(given: &mut Given, logged: &Record<'_>)
-    requires room { length given.old + length (images_of (rec_of logged.now)) ≤ 224 }
+    requires room { length given.old + length (images_of (rec_of logged.now)) ≤ MOST_GIVEN }
     requires whole { AllByRecursion IsWhole (images_of (rec_of logged.now)) }
     ensures { given.new ≡ with_all (images_of (rec_of logged.now)) given.old }
 {
@@ -47,12 +50,14 @@ fn on_record(given: &mut Given, logged: &Record<'_>)
     }
 }
 
-/// Reads the record at the front of the bytes and keeps its images. Answers how many bytes it has; none where there is no record.
+/// Reads the record at the front of the bytes and keeps its images. Answers how many bytes it has;
+/// none where there is no record.
 fn on_first(given: &mut Given, bytes: &[u8], key: usize) -> Option<usize>
     requires some { 0 < length bytes.now }
-    requires room { 4104 * length given.old + length bytes.now ≤ 923332 }
-    ensures size { IfSome result (λ n. (9 ≤ n) × (n ≤ length bytes.now)) }
-    ensures count { IfSome result (λ n. 4104 * length given.new ≤ 4104 * length given.old + n) }
+    requires room { LEAST_SHARE * (length given.old + MOST_IN_BODY) + length bytes.now
+        ≤ LEAST_SHARE * MOST_GIVEN + BODY_ROOM }
+    ensures size { IfSome result (λ n. (END_RECORD ≤ n) × (n ≤ length bytes.now)) }
+    ensures count { IfSome result (λ n. LEAST_SHARE * length given.new ≤ LEAST_SHARE * length given.old + n) }
     ensures told { IfSome result (λ n. IsReadTo key bytes.now given.old (drop n bytes.now) given.new) }
     ensures part { IfSome result (λ n. IsPartOf key bytes.now (drop n bytes.now)) }
     ensures same { IfNone result (given.new ≡ given.old) }
@@ -67,12 +72,12 @@ fn on_first(given: &mut Given, bytes: &[u8], key: usize) -> Option<usize>
     }
 }
 
-/// Reads the bytes of a body, record by record, and keeps the images that they give, the last one of each page. `Damaged` where
-/// the bytes aren't whole records, with keys of that size.
+/// Reads the bytes of a body, record by record, and keeps the images that they give, the last one of each page.
+/// `Damaged` where the bytes aren't whole records, with keys of that size.
 pub(crate) fn on_body(given: &mut Given, bytes: &[u8], key: usize) -> Result<(), Refusal>
-    requires few { length bytes.now ≤ 32764 }
-    requires room { length given.old ≤ 217 }
-    ensures count { length given.new ≤ length given.old + 7 }
+    requires few { length bytes.now ≤ BODY_ROOM }
+    requires room { length given.old + MOST_IN_BODY ≤ MOST_GIVEN }
+    ensures count { length given.new ≤ length given.old + MOST_IN_BODY }
     ensures refusal { IfErr result (λ refusal. refusal ≡ Refusal.Damaged) }
     ensures told { BytesTold key bytes.now given.old result given.new }
 {

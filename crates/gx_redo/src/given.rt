@@ -1,14 +1,24 @@
 //! The pages that a log gives.
-ghost use Rattle.std.specs.Prelude.{◌≡◌, ◌+◌, ◌<◌, ◌≤◌, ◌++◌, ◌∷◌, [], ℕ, List, length, IfOk, IfErr, MatchOption, slice_set, vec_len, vec_capacity};
+ghost use Rattle.std.specs.Prelude.{◌≡◌, ◌+◌, ◌<◌, ◌≤◌, ◌++◌, ◌∷◌, [], ℕ, List, length, IfOk};
+ghost use Rattle.std.specs.Prelude.{IfErr, MatchOption, slice_set, vec_len, vec_capacity};
+ghost use Rattle.gx_page.specs.declared.block.TheConstants.{PAGE_SIZE};
 ghost use Rattle.gx_redo.specs.Kept.{AreOnce, with_image};
 
 use crate::imaged::Imaged;
 use gx_geom::Refusal;
+use gx_glog::{BODY_ROOM, PLACES};
+use gx_record::SPLIT_RECORD;
 use std::alloc::Global;
 use std::marker::Model;
 
-/// How many pages an extent may give: seven in each of its 32 bodies, since each image has 4,104 bytes at least of a body's 32,764.
-pub const MOST_GIVEN: usize = 224;
+/// How many bytes of its record an image takes at least: a third of a split's.
+pub const LEAST_SHARE: usize = SPLIT_RECORD / 3;
+
+/// How many images a body may have.
+pub const MOST_IN_BODY: usize = BODY_ROOM / LEAST_SHARE;
+
+/// How many pages an extent may give.
+pub const MOST_GIVEN: usize = MOST_IN_BODY * PLACES as usize;
 
 /// The pages that a log gives, each with the last image that the log has of it.
 #[derive(Drop)]
@@ -32,7 +42,8 @@ impl Model for Given {
 fn place(page: u32, pages: &[Imaged]) -> Option<usize>
     ensures { MatchOption result
         ((image : List ℕ) → with_image (page, image) pages.now ≡ pages.now ++ (page, image) ∷ [])
-        (λ i. (i < length pages.now) × ((image : List ℕ) → with_image (page, image) pages.now ≡ slice_set pages.now i (page, image))) }
+        (λ i. (i < length pages.now) × ((image : List ℕ)
+        → with_image (page, image) pages.now ≡ slice_set pages.now i (page, image))) }
 {
     for (i, x) in pages.iter().enumerate() {
         if x.page() == page {
@@ -86,7 +97,7 @@ impl Given {
     /// Keeps an image of a page, in the place of what is kept of it.
     pub(crate) fn put(&mut self, page: u32, image: &[u8])
         requires room { length self.old < MOST_GIVEN }
-        requires whole { length image.now ≡ 4096 }
+        requires whole { length image.now ≡ PAGE_SIZE }
         ensures image { self.new ≡ with_image (page, image.now) self.old }
         ensures count { length self.new ≤ length self.old + 1 }
     {

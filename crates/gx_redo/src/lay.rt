@@ -1,24 +1,27 @@
 //! Pages written where they belong.
 ghost use Rattle.std.specs.Prelude.{◌≡◌, ◌+◌, ◌≤◌, true, length, IfErr, OnOk, OnErr};
-ghost use Rattle.gx_disk.specs.Device.{Counts, Writes, Syncs, IsSettled};
+ghost use Rattle.gx_page.specs.declared.block.TheConstants.{PAGE_SIZE};
+ghost use Rattle.gx_disk.specs.Device.{Counts, Writes, Syncs, SameDevice};
 ghost use Rattle.gx_found_log.specs.Found.{FaultsTold};
 ghost use Rattle.gx_pool.specs.Area.{IsPage, first_of};
 ghost use Rattle.gx_redo.specs.Kept.{AreOnce};
 ghost use Rattle.gx_redo.specs.Laid.{ArePages, Lays};
 
 use crate::imaged::Imaged;
-use gx_disk::SectorDisk;
+use gx_disk::{PAGE_SECTORS, PAGES_AT, SectorDisk};
 use gx_geom::Refusal;
 
 /// Writes a page.
 fn write<D: SectorDisk>(disk: &mut D, x: &Imaged) -> Result<(), Refusal>
     requires { IsPage (D.state disk.old).sectors x.now.0 }
     ensures counts { Counts 1 (D.state disk.old) (D.state disk.new) result }
-    ensures writes { (D.state disk.old).honest ≡ true → Writes (first_of x.now.0) 8 x.now.1 (D.state disk.old) (D.state disk.new) result }
-    ensures whole { length x.now.1 ≡ 4096 }
+    ensures writes { (D.state disk.old).honest ≡ true
+        → Writes (first_of x.now.0) PAGE_SECTORS x.now.1 (D.state disk.old) (D.state disk.new) result }
+    ensures whole { length x.now.1 ≡ PAGE_SIZE }
     ensures refusal { IfErr result (λ refusal. refusal ≡ Refusal.Device) }
 {
-    match disk.write(4168 + 8 * (u64::from(x.page()) - 1), x.image()) {
+    let first = PAGES_AT + PAGE_SECTORS * (u64::from(x.page()) - 1);
+    match disk.write(first, x.image()) {
         Ok(()) => Ok(()),
         Err(_) => Err(Refusal::Device),
     }
@@ -28,7 +31,7 @@ fn write<D: SectorDisk>(disk: &mut D, x: &Imaged) -> Result<(), Refusal>
 pub(crate) fn lay<D: SectorDisk>(disk: &mut D, pages: &[Imaged]) -> Result<(), Refusal>
     requires pages { ArePages (D.state disk.old).sectors pages.now }
     requires once { AreOnce pages.now }
-    ensures device { ((D.state disk.new).sectors ≡ (D.state disk.old).sectors) × ((D.state disk.new).honest ≡ (D.state disk.old).honest) }
+    ensures device { SameDevice (D.state disk.old) (D.state disk.new) }
     ensures faults { FaultsTold (D.state disk.old).faults (D.state disk.new).faults result }
     ensures calls { OnOk result ((D.state disk.new).calls ≡ (D.state disk.old).calls + length pages.now) }
     ensures refusal { IfErr result (λ refusal. refusal ≡ Refusal.Device) }

@@ -98,20 +98,20 @@ module _ {B D : Type 0} (brings : ℕ → Parts B D → Result (Unit {0}) (Outco
 
 -- How many pages are taken.
 module _ {B D : Type 0} where
-  abbrev SameUsed : Parts B D → Parts B D → Type 0
+  abbrev pub SameUsed : Parts B D → Parts B D → Type 0
   SameUsed old new = new.volume.shelf.used ≡ old.volume.shelf.used
 
   used_of : Parts B D → ℕ
   used_of e = e.volume.shelf.used
 
-  as_used : (old new other : Parts B D) → new ≡ other → SameUsed old other → SameUsed old new
+  pub as_used : (old new other : Parts B D) → new ≡ other → SameUsed old other → SameUsed old new
   as_used old new other same used = ap (λ (e : Parts B D). e.volume.shelf.used) same ∙ used
 
-  page_used : (page : ℕ) (d e : Device) (old new : Parts B D) (failed : Bool) (outcome : Outcome B) → PageIsWritten page d e old new failed outcome → SameUsed old new
+  pub page_used : (page : ℕ) (d e : Device) (old new : Parts B D) (failed : Bool) (outcome : Outcome B) → PageIsWritten page d e old new failed outcome → SameUsed old new
   page_used page d e old new true outcome comes = as_used old new old comes.1 refl
   page_used page d e old new false outcome comes = ap (λ v. v.shelf.used) comes.1.only
 
-  log_used : (d e : Device) (old new : Parts B D) (failed running : Bool) (outcome : Outcome B) → LogSteps d e old new failed running outcome → SameUsed old new
+  pub log_used : (d e : Device) (old new : Parts B D) (failed running : Bool) (outcome : Outcome B) → LogSteps d e old new failed running outcome → SameUsed old new
   log_used d e old new true running outcome comes = as_used old new old comes.1 refl
   log_used d e old new false true outcome comes = as_used old new old comes.1 refl
   log_used d e old new false false outcome comes = ap (λ v. v.shelf.used) comes.1.only
@@ -139,7 +139,7 @@ module _ {B D : Type 0} where
   from_used d e old new Running outcome comes = runs_used d e old new outcome comes
   from_used d e old new Turning outcome comes = ap (λ v. v.shelf.used) comes.only
 
-  checkpoint_used : (d e : Device) (old new : Parts B D) (failed : Bool) (outcome : Outcome B) → CheckpointSteps d e old new failed outcome → SameUsed old new
+  pub checkpoint_used : (d e : Device) (old new : Parts B D) (failed : Bool) (outcome : Outcome B) → CheckpointSteps d e old new failed outcome → SameUsed old new
   checkpoint_used d e old new true outcome comes = as_used old new old comes.1 refl
   checkpoint_used d e old new false outcome comes = from_used d e old new old.checkpoint outcome comes
 

@@ -3,6 +3,7 @@ use Rattle.std.proofs.Common.{◌≡◌, inl, inr, ℕ, ◌+◌, ◌*◌, ◌<�
 use Rattle.std.specs.Prelude.{IfErr, IfOk, MatchResult, Result, Ok, Err}
 use Rattle.std.proofs.lemmas.Bool.{leb-true}
 use Rattle.std.proofs.Math.Path.{fun_ext}
+use Rattle.gx_disk.specs.declared.layout.TheConstants.{PAGES_AT, PAGE_SECTORS}
 use Rattle.gx_geom.specs.declared.refusal.Refusal.{Refusal}
 use Rattle.gx_geom.specs.declared.refusal.Refusal.TheVariants as refusal
 use Rattle.gx_disk.specs.Device.{Device}
@@ -119,7 +120,7 @@ module _ {E P : Type 0} (k : Known E P) (l : known.IsLawful k) (r : Reading E P)
   pub moved_stands : (image : List ℕ) → durable.Stands k r (found area log) image → durable.Stands k r (found other log) image
   moved_stands image s = record { head = s.head; bodies = s.bodies; told = s.told; undamaged = s.undamaged; sizes = s.sizes; stands = moved_kept (area_of r k.pages image) (records_of s.bodies) s.stands; fit = s.fit }
 
-gates_before : (x : Extent) (s : ℕ) → 4168 ≤ s → gates_of x + 32 ≤ s
+gates_before : (x : Extent) (s : ℕ) → PAGES_AT ≤ s → gates_of x + 32 ≤ s
 gates_before A s from = omega (arith, from)
 gates_before BExtent s from = omega (arith, from)
 
@@ -172,7 +173,7 @@ module _ {B : Type 0} (shape : Members B) (is_key : B → Bool) (said : List ℕ
   bodies_there : AreBodies r (open_bodies m.seen) bodies
   bodies_there = subst (λ (b : List (List ℕ)). AreBodies r b bodies) (sym (st.laid.same.bodies ∙ bodies_are a.seen)) st.laid.is.log.told
 
-  module _ (e : Device) (honest : m.honest ≡ true) (size : 2134016 ≤ length m.seen) (inside : 4168 + 8 * s.parameters.pages ≤ m.sectors) (sectors : e.sectors ≡ m.sectors) where
+  module _ (e : Device) (honest : m.honest ≡ true) (size : 2134016 ≤ length m.seen) (inside : PAGES_AT + PAGE_SECTORS * s.parameters.pages ≤ m.sectors) (sectors : e.sectors ≡ m.sectors) where
     -- what a log was found on was only laid since
     found_there : IsFoundGood k r m.sectors m.seen m.pending bodies
     found_there = record {
@@ -269,13 +270,15 @@ module _ {B : Type 0} (shape : Members B) (is_key : B → Bool) (said : List ℕ
         keeps_one = found_keeps c lc start.next (area e.seen) log is_log closed.found.good.good next_covers
 
         -- so an engine that starts there holds the set that was found
-        pub begins : {D : Type 0} → (engine : Parts B D) → HoldsFrom c r f (is_node f) e start engine → HoldsFound shape is_key said f s.parameters a.seen e engine
-        begins engine holds = record {
+        pub begins : {D : Type 0} → (engine : Parts B D) → engine.volume.shelf.used ≡ start.used → HoldsFrom c r f (is_node f) e start engine
+            → HoldsFound shape is_key said f s.parameters a.seen e engine
+        begins engine used holds = record {
           found = record { log = st.laid.is.log; good = good };
           bodies = bodies;
           index = openings.found_state c start.next (area e.seen) log;
           holds = holds bodies stands_on;
           set = record { older = keeps_one.older; oldest = keeps_one.oldest; stands = λ x. keeps_one.stands x ∙ set_after x };
+          used = used ∙ from.used ∙ ap (λ (x : Analysis (Entry B)). x.used) told_there;
         }
 
         -- and it isn't refused as damaged
@@ -292,7 +295,7 @@ module _ {B : Type 0} (shape : Members B) (is_key : B → Bool) (said : List ℕ
         → HasNotBegun shape is_key said f s.parameters a.seen m e why
     not_begun frames start from why is closes = record { cause = inl is; leaves = closing_leaves (Err why) (closes_from frames start from (Err why) closes) }
 
-  module _ {D : Type 0} (state : D → Device) (disk : D) (honest : m.honest ≡ true) (size : 2134016 ≤ length m.seen) (inside : 4168 + 8 * s.parameters.pages ≤ m.sectors)
+  module _ {D : Type 0} (state : D → Device) (disk : D) (honest : m.honest ≡ true) (size : 2134016 ≤ length m.seen) (inside : PAGES_AT + PAGE_SECTORS * s.parameters.pages ≤ m.sectors)
       (sectors : (state disk).sectors ≡ m.sectors) (still : (state disk).honest ≡ m.honest) (frames : ℕ) (start : Start B) (from : StartsFrom s frames start)
       (given : ClosesLaterOfRun {T = Unit {0}} {E = Refusal} start.extent start.bodies m (state disk) (Ok tt)) (cut : AreCutOff c.keys (analysis k log).touched) where
     begun_closes : ClosesLaterOfRun {T = Unit {0}} {E = Refusal} s.log.extent s.log.bodies m (state disk) (Ok tt)
@@ -308,7 +311,7 @@ module _ {B : Type 0} (shape : Members B) (is_key : B → Bool) (said : List ℕ
     begun_so (Ok engine) started refused holds =
         let same : engine.volume.shelf.disk ≡ disk = ap (λ (v : Volume D). v.shelf.disk) started.volume in
         subst (λ (d : D). HasBegun shape is_key said f s.parameters a.seen m (state d) engine) (sym same)
-        (record { holds = begins (state disk) honest size inside sectors begun_closes frames start from (still ∙ honest) engine holds; leaves = begun_leaves })
+        (record { holds = begins (state disk) honest size inside sectors begun_closes frames start from (still ∙ honest) engine (ap (λ (v : Volume D). v.shelf.used) started.volume) holds; leaves = begun_leaves })
     begun_so (Err n) started refused holds =
         subst (λ (d : D). HasNotBegun shape is_key said f s.parameters a.seen m (state d) n.why) (sym refused.0)
         (record { cause = refused_so (state disk) honest size inside sectors begun_closes frames start from (still ∙ honest) n.why cut refused.1; leaves = begun_leaves })

@@ -2,6 +2,7 @@
 use Rattle.std.proofs.Common.{◌≡◌, ◌⊎◌, inl, inr, ℕ, zero, suc, ◌<◌, ◌≤◌, Bool, List, [], ◌∷◌, length, map, replicate, refl, ap, sym, ◌∙◌, subst, arith}
 use Rattle.std.specs.Prelude.{IfErr, IfOk, MatchResult, Result, Ok, Err}
 use Rattle.std.specs.List.{slice_index_or}
+use Rattle.gx_disk.specs.declared.layout.TheConstants.{MIN_SECTORS}
 use Rattle.gx_geom.specs.declared.refusal.Refusal.{Refusal}
 use Rattle.gx_geom.specs.declared.refusal.Refusal.TheVariants.{Device as DeviceRefusal}
 use Rattle.gx_class.specs.declared.class.KeyClass.{Ghosts}
@@ -51,13 +52,13 @@ device_later state of before middle first (Ok x) same = (same.0 ∙ first.0, sam
 device_later state of before middle first (Err n) same = (same.0 ∙ first.0, same.1 ∙ first.1)
 
 -- a list of free slots
-free_place : {B W : Type 0} (phases : List (Phase B W)) (table : List (Held B)) (n : ℕ) → phase_at n phases ≡ phase.Free → slice_index_or (slots_of phases table) n slots.Free ≡ slots.Free
+pub free_place : {B W : Type 0} (phases : List (Phase B W)) (table : List (Held B)) (n : ℕ) → phase_at n phases ≡ phase.Free → slice_index_or (slots_of phases table) n slots.Free ≡ slots.Free
 free_place [] table n is = refl
 free_place (p ∷ phases) [] n is = refl
 free_place (p ∷ phases) (h ∷ table) zero is = ap (λ q. slot_of q h) is
 free_place (p ∷ phases) (h ∷ table) (suc n) is = free_place phases table n is
 
-all_free : {B : Type 0} (xs : List (Slot B)) (n : ℕ) → length xs ≡ n → ((i : ℕ) → i < n → slice_index_or xs i slots.Free ≡ slots.Free) → xs ≡ replicate n slots.Free
+pub all_free : {B : Type 0} (xs : List (Slot B)) (n : ℕ) → length xs ≡ n → ((i : ℕ) → i < n → slice_index_or xs i slots.Free ≡ slots.Free) → xs ≡ replicate n slots.Free
 all_free [] zero long each = refl
 all_free [] (suc n) long each = absurd (omega (arith, long))
 all_free (x ∷ xs) zero long each = absurd (omega (arith, long))
@@ -181,7 +182,7 @@ module _ {B : Type 0} (shape : Members B) (proper : B → Bool) (said : List ℕ
   pub stands_of : IsTested shape proper said f number d m result → Stands shape proper said f number d m s
   stands_of tested = subst (λ (x : Result (Standing B) Refusal). IsTested shape proper said f number d m x) is tested
 
-  pub enough_of : IfOk result (λ x. IsAllowed number x.parameters × IsLarge d.sectors x.parameters) → 4232 ≤ d.sectors
+  pub enough_of : IfOk result (λ x. IsAllowed number x.parameters × IsLarge d.sectors x.parameters) → MIN_SECTORS ≤ d.sectors
   enough_of allowed =
       let there = subst (λ (x : Result (Standing B) Refusal). IfOk x (λ y. IsAllowed number y.parameters × IsLarge d.sectors y.parameters)) is allowed in
       let least = there.0.range.least_pages in

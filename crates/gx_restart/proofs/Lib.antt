@@ -20,3 +20,8 @@ pub mod Ending
 pub mod Ordered
 pub mod Decided
 pub mod Idle
+pub mod Sizes
+pub mod Copied
+pub mod Counting
+pub mod Used
+pub mod Verified

@@ -1,6 +1,8 @@
 -- What an opening's events leave of the set that was found.
 use Rattle.std.proofs.Common.{◌≡◌, inl, inr, ℕ, ◌+◌, ◌<◌, ◌≤◌, Bool, List, [], ◌∷◌, length, refl, ap, sym, ◌∙◌, subst, arith}
 use Rattle.std.specs.Prelude.{◌-◌, ◌^◌}
+use Rattle.gx_record.specs.Writing.{write_record}
+use Rattle.gx_glog.specs.declared.extent.TheConstants.{BODY_ROOM}
 use Rattle.gx_geom.specs.declared.refusal.Refusal.{Refusal}
 use Rattle.gx_geom.specs.declared.refusal.Refusal.TheVariants as refusal
 use Rattle.gx_class.specs.declared.class.KeyClass.{Ghosts}
@@ -45,6 +47,7 @@ use Rattle.gx_index_laws.specs.Whole.{IsWhole}
 use Rattle.gx_events.specs.declared.event.Event.TheVariants.{Move}
 use Rattle.gx_restart.proofs.Going.{goes_stays}
 use Rattle.gx_restart.proofs.Runs.{all_undo, step_keeps, step_why}
+use Rattle.gx_restart.proofs.Used.{event_used}
 
 module _ {C B D : Type 0} (shape : Members B) (proper : B → Bool) (said : List ℕ → B) (class : Ghosts C B) (state : D → Device) (p : Parameters) (seen : List ℕ)
     (lc : IsLawful (class_of shape proper (limits_of p))) where
@@ -131,6 +134,7 @@ module _ {C B D : Type 0} (shape : Members B) (proper : B → Bool) (said : List
           index = stepped.led.index;
           holds = stepped.led.holds;
           set = record { older = keeps.older; oldest = keeps.oldest; stands = keeps.stands };
+          used = event_used shape proper said class state (limits_of p) lc old new h.bodies h.index h.holds event given is undoes one ∙ h.used;
         },
         leaves_weaker (durable.Stands k r h.index.log) InSet (at old) (at new) (λ image stands. stands_so h.found h.index was image stands) stepped.led.leaves,
       )
@@ -162,7 +166,7 @@ module _ {C B D : Type 0} (shape : Members B) (proper : B → Bool) (said : List
       (all_undo i middle.sessions.phases middle.sessions.table there.holds.holds.sessions.slots on) (there.holds.holds.sessions.failed ∙ at_last.works) stepped.are stepped.led.happening
       at_last.refused
 
-  module _ (short : class.KEY + 4119 ≤ 32764)
+  module _ (short : write_record class.KEY ≤ BODY_ROOM)
       (bounded : (c : Class B) → IsLawful c → (old : index.State B) → IsWhole c old → c.pages ≤ 65536 → c.rules.most ≤ 100 → (s : ℕ) → work_left c old s < 2 ^ 39) where
     -- a session's undo comes to its end
     never_endless : (old new : Parts B D) → OnlyUndoes old → Holds old → IsEndless makes old new → ⊥

@@ -1,6 +1,7 @@
 -- What an event of an opening leaves of the sessions and of the device.
 use Rattle.std.proofs.Common.{◌≡◌, inl, inr, ℕ, zero, suc, ◌+◌, ◌-◌, ◌<◌, ◌≤◌, Bool, true, false, ◌||◌, Option, None, Some, List, [], ◌∷◌, refl, ap, sym, ◌∙◌, subst, arith}
 use Rattle.std.specs.Prelude.{nat_le, Result, Ok, Err, slice_set}
+use Rattle.gx_record.specs.Writing.{write_record}
 use Rattle.gx_geom.specs.declared.refusal.Refusal.{Refusal}
 use Rattle.gx_geom.specs.declared.refusal.Refusal.TheVariants as refusal
 use Rattle.gx_machine.specs.declared.entry.Entry.{Entry}
@@ -314,7 +315,7 @@ module _ {B D : Type 0} (state : D → Device) where
     read_on : (old new : Parts B D) → OnlyRead (at old) (at new) → (at old).faults ≤ (at new).faults → HasGoneOn (at old) (at new)
     read_on old new read faults = record { sectors = read.sectors; honest = read.honest; faults = faults }
 
-    unlogged_device : (old new : Parts B D) → IsUnlogged known r f passes (begun old.volume (key + 4119)) (at old) (at new) old.volume new.volume → HasGoneOn (at old) (at new)
+    unlogged_device : (old new : Parts B D) → IsUnlogged known r f passes (begun old.volume (write_record key)) (at old) (at new) old.volume new.volume → HasGoneOn (at old) (at new)
     unlogged_device old new is = read_on old new (is.since 0).goes_on.device (is.since 0).goes_on.faults
 
     sought_device : (old new : Parts B D) (transaction : ℕ) (n : Note B) (leaf : ℕ) (sought : Sought)

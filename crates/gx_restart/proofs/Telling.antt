@@ -131,26 +131,26 @@ module _ {B D : Type 0} (brings : ℕ → Parts B D → Result (Unit {0}) (Outco
   pub stopped : (e : Stop) → n < old.volume.shelf.used → IsTold brings helps (n + 1) middle (Err e) new → IsRead brings helps old (Err e) new
   stopped e less told = untold e less (subst (λ (k : ℕ). IsTold brings helps k middle (Err e) new) (add-one n) told)
 
-module _ {C D : Type 0} (shape : Members Rectangle) (proper : Rectangle → Bool) (said : List ℕ → Rectangle) (class : Ghosts C Rectangle) (state : D → Device) (l : Limits) where
-  abbrev OfTree : Parts Rectangle D → (Tree Rectangle → Type 0) → Type 0
+module _ {C B D : Type 0} (shape : Members B) (proper : B → Bool) (said : List ℕ → B) (class : Ghosts C B) (state : D → Device) (l : Limits) where
+  abbrev OfTree : Parts B D → (Tree B → Type 0) → Type 0
   OfTree = OfItsTree (class_of shape proper l) (reading_of said (format_of class)) (format_of class) (is_node (format_of class)) state
 
-  abbrev Shows : Parts Rectangle D → Type 0
+  abbrev Shows : Parts B D → Type 0
   Shows e = ShowsTheLogs (known_of (class_of shape proper l)) (reading_of said (format_of class)) (format_of class) (is_node (format_of class)) (state e.volume.shelf.disk) e.volume
 
   -- a page that was brought stands as the tree has it
-  pub node_told : (page : ℕ) (old middle : Parts Rectangle D) (contents : Contents) → 1 ≤ page → page ≤ old.volume.shelf.used
+  pub node_told : (page : ℕ) (old middle : Parts B D) (contents : Contents) → 1 ≤ page → page ≤ old.volume.shelf.used
       → IsBrought (brings shape proper said class state page) (helps shape proper said class state) old (Ok tt) middle → Shows middle
       → StandsAs (format_of class) (is_node (format_of class)) (state middle.volume.shelf.disk) page middle contents
       → OfTree old (λ t. node_of (format_of class) contents ≡ t.node page)
   node_told page old middle contents from to brought shows stands bodies i h =
       let read = brought_read shape proper said class state l page old middle brought bodies i h in
       let agree = shows read.ran.bodies read.ran.index.log read.ran.holds.keeps in
-      let used = ap (λ (t : Tree Rectangle). t.used) read.same in
-      stands.node ∙ agree.nodes page (omega (arith, from), omega (arith, used, h.keeps.used, to)) ∙ ap (λ (t : Tree Rectangle). t.node page) read.same
+      let used = ap (λ (t : Tree B). t.used) read.same in
+      stands.node ∙ agree.nodes page (omega (arith, from), omega (arith, used, h.keeps.used, to)) ∙ ap (λ (t : Tree B). t.node page) read.same
 
   -- the tree after pages were brought
-  pub later : (n : ℕ) (old middle : Parts Rectangle D) (P : Tree Rectangle → Type 0) → AreBrought (brings shape proper said class state) (helps shape proper said class state) old n middle
+  pub later : (n : ℕ) (old middle : Parts B D) (P : Tree B → Type 0) → AreBrought (brings shape proper said class state) (helps shape proper said class state) old n middle
       → OfTree middle P → OfTree old P
   later n old middle P all holds bodies i h =
       let read = all_read shape proper said class state l n old middle all bodies i h in

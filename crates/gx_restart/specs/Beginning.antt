@@ -22,7 +22,7 @@ use Rattle.gx_node.specs.Reading.{Format, is_node}
 use Rattle.gx_opening.specs.declared.standing.Standing.{Standing}
 use Rattle.gx_opening.specs.Standing.{known_for, limits_of, reading}
 use Rattle.gx_readings.specs.Classes.{class_of}
-use Rattle.gx_recovery.specs.Analysis.{number_of}
+use Rattle.gx_recovery.specs.Analysis.{analysis, number_of}
 use Rattle.gx_recovery.specs.Damage.{records_of}
 use Rattle.gx_recovery.specs.Records.{Record}
 use Rattle.gx_recovery.specs.Standing.{stands_for}
@@ -62,13 +62,15 @@ module _ {B : Type 0} (shape : Members B) (is_key : B → Bool) (said : List ℕ
     pub stands : (e : Entry B) → stood (class_of shape is_key (limits_of p)).keys (engine_of (class_of shape is_key (limits_of p)) i) e
         ≡ stands_for (known_for shape is_key said f p) (area_of (reading shape is_key said f) p.pages seen) (records_of log.bodies) e
 
-  -- An engine over a device holds an index that has the set which the log of what is seen keeps, under its number, and no other.
+  -- An engine over a device holds an index that has the set which the log of what is seen keeps, under its number, and no other; and as many pages
+  -- are in use as that log says.
   pub record HoldsFound {D : Type 0} (p : Parameters) (seen : List ℕ) (e : Device) (engine : Parts B D) : Type 0 where
     pub found : IsGoodLog p seen
     pub bodies : List (List (Record (Entry B) (Page B)))
     pub index : index.State B
     pub holds : Holds (class_of shape is_key (limits_of p)) (reading shape is_key said f) f (is_node f) e engine bodies index
     pub set : HasFoundSet p seen found.log index
+    pub used : engine.volume.shelf.used ≡ (analysis (known_for shape is_key said f p) (records_of found.log.bodies)).used
 
   -- It begins so; and at each moment what a crash may leave stands for that set.
   pub record HasBegun {D : Type 0} (p : Parameters) (seen : List ℕ) (d e : Device) (engine : Parts B D) : Type 0 where

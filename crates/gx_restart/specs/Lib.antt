@@ -14,3 +14,7 @@ pub mod Reading
 pub mod Order
 pub mod Decided
 pub mod Idle
+pub mod Sizes
+pub mod Counted
+pub mod Copied
+pub mod Verified

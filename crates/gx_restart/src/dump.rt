@@ -24,27 +24,40 @@ use gx_script::Noted;
 use std::io::Write;
 
 impl<D: SectorDisk, K: ReadKeys + KeyClass<Key = Box2>> Index<D, K> {
-    /// Writes the text of the tree: a line with the number of the last commit, the greatest page that is taken and the counter of splits;
-    /// and for each page from 1 on its line, and one for each of its entries, by slot. Pages are brought one after another, with the
-    /// events that give them frames. No node changes, and no set, claim, predicate or open call. It takes no memory.
+    /// Writes the text of the tree: a line with the number of the last commit, the greatest page that is taken and the
+    /// counter of splits; and for each page from 1 on its line, and one for each of its entries, by slot. Pages are
+    /// brought one after another, with the events that give them frames. No node changes, and no set, claim, predicate
+    /// or open call. It takes no memory.
     ///
-    /// `Write` where the writer's last call failed or took nothing, or 2^32 calls of it were made. `Refused` with `Device`, `Failed` or `Damaged` as an event was. Where a page isn't
-    /// brought within `EVENTS` turns of one or two events it is given up, with `Damaged`; from then on the index only refuses, with
-    /// `Failed`, and writes nothing. Over a device that doesn't lie none is given up. What was written before is a beginning of the text.
+    /// `Write` where the writer's last call failed or took nothing, or 2^32 calls of it were made. `Refused` with
+    /// `Device`, `Failed` or `Damaged` as an event was. Where a page isn't brought within `EVENTS` turns of one or two
+    /// events it is given up, with `Damaged`; from then on the index only refuses, with `Failed`, and writes nothing.
+    /// Over a device that doesn't lie none is given up. What was written before is a beginning of the text.
     pub fn dump<W: Write>(&mut self, writer: &mut Noted<W>) -> Result<(), DumpFault>
-        ensures dumps { Dumps (Brings ⟦<Box2 as Shape>⟧ K.is_proper K.said K.KeyClass D.state) (Helps ⟦<Box2 as Shape>⟧ K.is_proper K.said K.KeyClass D.state) self.old result self.new }
-        ensures text { OnOk result ((l : Limits) → OfItsTree (class_of ⟦<Box2 as Shape>⟧ K.is_proper l) (reading_of K.said (format_of K.KeyClass)) (format_of K.KeyClass) (is_node (format_of K.KeyClass))
-            D.state self.old.engine (λ t. Appends (W.contents writer.old.inner) (W.contents writer.new.inner) (dump_text self.old.engine.sessions.latest t))) }
-        ensures cut { IfErr result (λ _. (l : Limits) → OfItsTree (class_of ⟦<Box2 as Shape>⟧ K.is_proper l) (reading_of K.said (format_of K.KeyClass)) (format_of K.KeyClass) (is_node (format_of K.KeyClass))
-            D.state self.old.engine (λ t. IsCut (W.contents writer.old.inner) (W.contents writer.new.inner) (dump_text self.old.engine.sessions.latest t))) }
+        ensures dumps { Dumps (Brings ⟦<Box2 as Shape>⟧ K.is_proper K.said K.KeyClass D.state)
+            (Helps ⟦<Box2 as Shape>⟧ K.is_proper K.said K.KeyClass D.state) self.old result self.new }
+        ensures text { OnOk result ((l : Limits)
+            → OfItsTree (class_of ⟦<Box2 as Shape>⟧ K.is_proper l) (reading_of K.said (format_of K.KeyClass))
+            (format_of K.KeyClass) (is_node (format_of K.KeyClass))
+            D.state self.old.engine (λ t. Appends (W.contents writer.old.inner) (W.contents writer.new.inner)
+            (dump_text self.old.engine.sessions.latest t))) }
+        ensures cut { IfErr result (λ _. (l : Limits)
+            → OfItsTree (class_of ⟦<Box2 as Shape>⟧ K.is_proper l) (reading_of K.said (format_of K.KeyClass))
+            (format_of K.KeyClass) (is_node (format_of K.KeyClass))
+            D.state self.old.engine (λ t. IsCut (W.contents writer.old.inner) (W.contents writer.new.inner)
+            (dump_text self.old.engine.sessions.latest t))) }
         ensures stuck { IfErr result (λ e. e ≡ DumpFault.Write → TakesNoMore writer.new) }
         ensures ended { self.old.ended ≡ true → writer.new ≡ writer.old }
-        ensures reads { OnOk result ((l : Limits) → Reads (class_of ⟦<Box2 as Shape>⟧ K.is_proper l) (reading_of K.said (format_of K.KeyClass)) (format_of K.KeyClass) (is_node (format_of K.KeyClass))
+        ensures reads { OnOk result ((l : Limits)
+            → Reads (class_of ⟦<Box2 as Shape>⟧ K.is_proper l) (reading_of K.said (format_of K.KeyClass))
+            (format_of K.KeyClass) (is_node (format_of K.KeyClass))
             D.state self.old.engine self.new.engine) }
-        ensures runs { (l : Limits) → RunsOn (class_of ⟦<Box2 as Shape>⟧ K.is_proper l) (reading_of K.said (format_of K.KeyClass)) (format_of K.KeyClass) (is_node (format_of K.KeyClass))
+        ensures runs { (l : Limits) → RunsOn (class_of ⟦<Box2 as Shape>⟧ K.is_proper l)
+            (reading_of K.said (format_of K.KeyClass)) (format_of K.KeyClass) (is_node (format_of K.KeyClass))
             D.state self.old.engine self.new.engine }
         ensures keeps { KeepsSessions self.old.engine self.new.engine }
-        ensures ends { (l : Limits) → EndsWhereHeld ⟦<Box2 as Shape>⟧ K.is_proper K.said K.KeyClass D.state l self.old self.new }
+        ensures ends { (l : Limits) → EndsWhereHeld ⟦<Box2 as Shape>⟧ K.is_proper K.said
+            K.KeyClass D.state l self.old self.new }
     {
         if self.ended {
             return Err(DumpFault::Refused(Refusal::Failed));

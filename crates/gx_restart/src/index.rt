@@ -16,8 +16,8 @@ use gx_machine::{Call, Reply};
 use gx_readings::ReadKeys;
 use std::marker::Model;
 
-/// An index for one thread: an engine whose calls are asked one after another, each run to its end. Contracts see its engine, and
-/// whether the bound on a call's events was passed.
+/// An index for one thread: an engine whose calls are asked one after another, each run to its end. Contracts see its
+/// engine, and whether the bound on a call's events was passed.
 #[derive(Drop)]
 pub struct Index<D: SectorDisk, K: ReadKeys> {
     pub(crate) engine: Engine<D, K>,
@@ -59,8 +59,10 @@ where
     // A call of an index that goes on.
     fn run(&mut self, session: u8, call: Call<K::Key>) -> Reply<K::Key>
         requires { self.old.ended ≡ false }
-        ensures calls { CallsBy (Makes K.Key.Shape K.is_proper K.said K.KeyClass D.state) false self.old session call result self.new }
-        ensures ends { (l : Limits) → EndsWhereHeld K.Key.Shape K.is_proper K.said K.KeyClass D.state l self.old self.new }
+        ensures calls { CallsBy (Makes K.Key.Shape K.is_proper K.said K.KeyClass D.state) false
+            self.old session call result self.new }
+        ensures ends { (l : Limits) → EndsWhereHeld K.Key.Shape K.is_proper K.said
+            K.KeyClass D.state l self.old self.new }
     {
         match drive(&mut self.engine, session, Event::Ask(session, call)) {
             Some(reply) => reply,
@@ -71,17 +73,21 @@ where
         }
     }
 
-    /// Asks a call of a session, and runs its events to the end: its moves, and the steps of the log and of a checkpoint and the writes of
-    /// pages that help them.
+    /// Asks a call of a session, and runs its events to the end: its moves, and the steps of the log and of a
+    /// checkpoint and the writes of pages that help them.
     ///
-    /// The reply is the one with which the call ended. After `Device`, `Failed` and `Damaged` the call stands open, and each further one is
-    /// answered with `Failed`. A call that has not ended within `EVENTS` events is given up, and answered with `Damaged`; from then on the
-    /// index only refuses, with `Failed`. Over a device that doesn't lie no call is given up.
+    /// The reply is the one with which the call ended. After `Device`, `Failed` and `Damaged` the call stands open, and
+    /// each further one is answered with `Failed`. A call that has not ended within `EVENTS` events is given up, and
+    /// answered with `Damaged`; from then on the index only refuses, with `Failed`. Over a device that doesn't lie no
+    /// call is given up.
     pub fn call(&mut self, session: u8, call: Call<K::Key>) -> Reply<K::Key>
-        ensures calls { CallsIndex (Makes K.Key.Shape K.is_proper K.said K.KeyClass D.state) self.old session call result self.new }
-        ensures runs { (l : Limits) → RunsOn (class_of K.Key.Shape K.is_proper l) (reading_of K.said (format_of K.KeyClass)) (format_of K.KeyClass) (is_node (format_of K.KeyClass))
+        ensures calls { CallsIndex (Makes K.Key.Shape K.is_proper K.said K.KeyClass D.state)
+            self.old session call result self.new }
+        ensures runs { (l : Limits) → RunsOn (class_of K.Key.Shape K.is_proper l)
+            (reading_of K.said (format_of K.KeyClass)) (format_of K.KeyClass) (is_node (format_of K.KeyClass))
             D.state self.old.engine self.new.engine }
-        ensures ends { (l : Limits) → EndsWhereHeld K.Key.Shape K.is_proper K.said K.KeyClass D.state l self.old self.new }
+        ensures ends { (l : Limits) → EndsWhereHeld K.Key.Shape K.is_proper K.said
+            K.KeyClass D.state l self.old self.new }
     {
         if self.ended {
             return Reply::Refused(Refusal::Failed);

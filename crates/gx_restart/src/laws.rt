@@ -34,33 +34,38 @@ use gx_disk::SectorDisk;
 use gx_geom::{Box2, Shape};
 use gx_readings::ReadKeys;
 
-/// A call of an index that goes on, over an engine that holds an index's state, is a run of the machine as which that state is
-/// seen: the call is asked and given its reply, and nothing else is asked or replied. So the reply is the machine's for that call asked
-/// alone, or tells of a fault that was met.
+/// A call of an index that goes on, over an engine that holds an index's state, is a run of the machine as which that
+/// state is seen: the call is asked and given its reply, and nothing else is asked or replied. So the reply is the
+/// machine's for that call asked alone, or tells of a fault that was met.
 pub fn each_call_is_asked_alone<D: SectorDisk, K: ReadKeys>()
     ensures { (l : Limits) (s : ℕ) (call : Call K.Key) (reply : Reply K.Key) (old new : State K.Key D)
         → CallsIndex (Makes K.Key.Shape K.is_proper K.said K.KeyClass D.state) old s call reply new → old.ended ≡ false
-        → CallsAlone (class_of K.Key.Shape K.is_proper l) (reading_of K.said (format_of K.KeyClass)) (format_of K.KeyClass) (is_node (format_of K.KeyClass)) D.state s call reply old.engine new.engine }
+        → CallsAlone (class_of K.Key.Shape K.is_proper l) (reading_of K.said (format_of K.KeyClass))
+        (format_of K.KeyClass) (is_node (format_of K.KeyClass)) D.state s call reply old.engine new.engine }
 {
     gx_engine::laws::a_class_is_lawful::<K>();
     gx_engine::laws::progress::no_call_is_given_up::<D, K>();
 }
 
-/// What the lines of a script ask of an index that goes on, over an engine that holds an index's state, and are answered, is one run of the
-/// machine as which that state is seen, joined over all lines; its replies are those of the text.
+/// What the lines of a script ask of an index that goes on, over an engine that holds an index's state, and are
+/// answered, is one run of the machine as which that state is seen, joined over all lines; its replies are those of the
+/// text.
 pub fn each_script_is_one_run<D: SectorDisk, K: ReadKeys + KeyClass<Key = Box2>>()
     ensures { (l : Limits) (number : ℕ) (lines : List Line) (old new : State Rectangle D) (text : List ℕ)
-        → IsScript (CallsIndex (Makes ⟦<Box2 as Shape>⟧ K.is_proper K.said K.KeyClass D.state)) number lines old text new → old.ended ≡ false
-        → RunsFrom (class_of ⟦<Box2 as Shape>⟧ K.is_proper l) (reading_of K.said (format_of K.KeyClass)) (format_of K.KeyClass) (is_node (format_of K.KeyClass)) D.state old.engine new.engine
+        → IsScript (CallsIndex (Makes ⟦<Box2 as Shape>⟧ K.is_proper K.said K.KeyClass D.state)) number lines
+        old text new → old.ended ≡ false
+        → RunsFrom (class_of ⟦<Box2 as Shape>⟧ K.is_proper l) (reading_of K.said (format_of K.KeyClass))
+        (format_of K.KeyClass) (is_node (format_of K.KeyClass)) D.state old.engine new.engine
         (λ m n. IsOneRun number lines m n text) }
 {
     gx_engine::laws::a_class_is_lawful::<K>();
     gx_engine::laws::progress::no_call_is_given_up::<D, K>();
 }
 
-/// Where no reply to a script is a refusal for want of pages, memory or numbers, or for a fault, its text is the one that the calls alone
-/// decide: `decided_text` of what they see of the machine at the start, the last set, its number and the sessions. So it is the text that the plain
-/// index gives from the same start. An index that was opened is such a start: no call of it is open, and its calls see the set that was found.
+/// Where no reply to a script is a refusal for want of pages, memory or numbers, or for a fault, its text is the one
+/// that the calls alone decide: `decided_text` of what they see of the machine at the start, the last set, its number
+/// and the sessions. So it is the text that the plain index gives from the same start. An index that was opened is such
+/// a start: no call of it is open, and its calls see the set that was found.
 pub fn texts_are_decided_by_calls<D: SectorDisk, K: ReadKeys + KeyClass<Key = Box2>>()
     ensures decided { (l : Limits) (number : ℕ) (lines : List Line) (old new : State Rectangle D) (text : List ℕ)
         → IsDecidedScript ⟦<Box2 as Shape>⟧ K.is_proper K.said K.KeyClass D.state number lines old text new
@@ -81,7 +86,9 @@ pub fn texts_are_decided_by_calls<D: SectorDisk, K: ReadKeys + KeyClass<Key = Bo
 
 /// Where a settling has ended well over an engine that holds an index's state, each commit that was sealed is durable.
 pub fn a_settled_index_is_durable<D: SectorDisk, K: ReadKeys>()
-    ensures { (l : Limits) (e : Parts K.Key D) (bodies : List (List (Record (Entry K.Key) (Page K.Key)))) (i : index.State K.Key)
-        → Holds (class_of K.Key.Shape K.is_proper l) (reading_of K.said (format_of K.KeyClass)) (format_of K.KeyClass) (is_node (format_of K.KeyClass)) (D.state e.volume.shelf.disk) e bodies i
+    ensures { (l : Limits) (e : Parts K.Key D)
+        (bodies : List (List (Record (Entry K.Key) (Page K.Key)))) (i : index.State K.Key)
+        → Holds (class_of K.Key.Shape K.is_proper l) (reading_of K.said (format_of K.KeyClass)) (format_of K.KeyClass)
+        (is_node (format_of K.KeyClass)) (D.state e.volume.shelf.disk) e bodies i
         → IsAtRest e → e.sessions.durable ≡ e.sessions.latest }
 {}

@@ -1,5 +1,5 @@
-//! An index for one thread: a device formatted and opened, calls that are run to their end over an engine, all that is logged gated,
-//! scripts, and the text of its tree.
+//! An index for one thread: a device formatted and opened, calls that are run to their end over an engine, all that is
+//! logged gated, scripts, and the text of its tree; and a device verified.
 #![tactic(auto)]
 
 mod dump;
@@ -10,6 +10,7 @@ mod opening;
 mod script;
 mod settle;
 mod text;
+mod verification;
 
 pub use fault::DumpFault;
 pub use gx_engine::{EVENTS, NotOpened};
@@ -18,3 +19,4 @@ pub use gx_script::{Noted, ScriptFault};
 pub use index::Index;
 pub use opening::open;
 pub use script::run_script;
+pub use verification::{NotVerified, Report, verify, verify_or_copy};

@@ -1,5 +1,6 @@
 //! The opening of a device: what stands there is found, and an engine begins over it and undoes what a crash cut off.
 ghost use Rattle.std.specs.Prelude.{◌≡◌, ◌≤◌, ◌<◌, ◌+◌, ◌*◌, ℕ, List, false, true, Err, IfErr, IfOk, MatchResult};
+ghost use Rattle.gx_disk.specs.declared.layout.TheConstants.{MIN_SECTORS, PAGES_AT, PAGE_SECTORS};
 ghost use Rattle.gx_node.specs.Reading.{format_of};
 ghost use Rattle.gx_glog.specs.declared.parameters.Parameters.{Parameters};
 ghost use Rattle.gx_opening.specs.Formatted.{IsAllowed};
@@ -27,10 +28,11 @@ use gx_readings::ReadKeys;
 use std::alloc::Global;
 use undo::finish;
 
-// How many frames an engine may have.
-const LEAST_FRAMES: usize = 16;
+/// How few frames an engine may have.
+pub(crate) const LEAST_FRAMES: usize = 16;
 
-const MOST_FRAMES: usize = 4096;
+/// How many.
+pub(crate) const MOST_FRAMES: usize = 4096;
 
 // Ends an engine's checkpoint, and undoes what a crash cut off; or gives the engine up.
 fn finished<D: SectorDisk, K: ReadKeys + Probing>(
@@ -40,13 +42,18 @@ where
     K::Probe: Drop,
     requires undoes { OnlyUndoes engine }
     requires works { engine.sessions.failed ≡ false }
-    ensures device { MatchResult result (λ new. IsSameDevice (D.state engine.volume.shelf.disk) (D.state new.volume.shelf.disk))
+    ensures device { MatchResult result (λ new. IsSameDevice (D.state engine.volume.shelf.disk)
+        (D.state new.volume.shelf.disk))
         (λ n. IsSameDevice (D.state engine.volume.shelf.disk) (D.state n.disk)) }
-    ensures faults { IfErr result (λ n. n.why ≡ Refusal.Device → (D.state engine.volume.shelf.disk).faults < (D.state n.disk).faults) }
+    ensures faults { IfErr result (λ n. n.why ≡ Refusal.Device
+        → (D.state engine.volume.shelf.disk).faults < (D.state n.disk).faults) }
     ensures idle { IfOk result IsIdle }
-    ensures keeps { (p : Parameters) (seen : List ℕ) → 4 ≤ p.most → HoldsFound K.Key.Shape K.is_proper K.said (format_of K.KeyClass) p seen (D.state engine.volume.shelf.disk) engine
+    ensures keeps { (p : Parameters) (seen : List ℕ) → 4 ≤ p.most
+        → HoldsFound K.Key.Shape K.is_proper K.said (format_of K.KeyClass) p seen
+        (D.state engine.volume.shelf.disk) engine
         → MatchResult result
-        (λ new. HasBegun K.Key.Shape K.is_proper K.said (format_of K.KeyClass) p seen (D.state engine.volume.shelf.disk) (D.state new.volume.shelf.disk) new)
+        (λ new. HasBegun K.Key.Shape K.is_proper K.said (format_of K.KeyClass) p seen (D.state engine.volume.shelf.disk)
+        (D.state new.volume.shelf.disk) new)
         (λ n. HasNotBegun K.Key.Shape K.is_proper K.said (format_of K.KeyClass) p seen
         (D.state engine.volume.shelf.disk) (D.state n.disk) n.why) }
 {
@@ -73,14 +80,17 @@ where
     K::Probe: Drop,
     requires start { MayStart standing.now }
     requires allowed { IsAllowed K.CLASS standing.now.parameters }
-    requires inside { 4168 + 8 * standing.now.parameters.pages ≤ (D.state disk).sectors }
+    requires inside { PAGES_AT + PAGE_SECTORS * standing.now.parameters.pages ≤ (D.state disk).sectors }
     requires frames { (16 ≤ frames) × (frames ≤ 4096) }
-    ensures device { MatchResult result (λ engine. IsSameDevice (D.state disk) (D.state engine.volume.shelf.disk)) (λ n. IsSameDevice (D.state disk) (D.state n.disk)) }
+    ensures device { MatchResult result (λ engine. IsSameDevice (D.state disk) (D.state engine.volume.shelf.disk))
+        (λ n. IsSameDevice (D.state disk) (D.state n.disk)) }
     ensures faults { IfErr result (λ n. n.why ≡ Refusal.Device → (D.state disk).faults < (D.state n.disk).faults) }
     ensures idle { IfOk result IsIdle }
-    ensures keeps { (a : D) → (D.state disk).honest ≡ true → Stands K.Key.Shape K.is_proper K.said (format_of K.KeyClass) K.CLASS (D.state a) (D.state disk) standing.now
+    ensures keeps { (a : D) → (D.state disk).honest ≡ true
+        → Stands K.Key.Shape K.is_proper K.said (format_of K.KeyClass) K.CLASS (D.state a) (D.state disk) standing.now
         → MatchResult result
-        (λ engine. HasBegun K.Key.Shape K.is_proper K.said (format_of K.KeyClass) standing.now.parameters (D.state a).seen (D.state disk) (D.state engine.volume.shelf.disk) engine)
+        (λ engine. HasBegun K.Key.Shape K.is_proper K.said (format_of K.KeyClass) standing.now.parameters
+        (D.state a).seen (D.state disk) (D.state engine.volume.shelf.disk) engine)
         (λ n. HasNotBegun K.Key.Shape K.is_proper K.said (format_of K.KeyClass) standing.now.parameters (D.state a).seen
         (D.state disk) (D.state n.disk) n.why) }
 {
@@ -99,17 +109,21 @@ fn open_with<D: SectorDisk, K: ReadKeys + Probing>(
 where
     K::Probe: Drop,
     requires frames { (16 ≤ frames) × (frames ≤ 4096) }
-    ensures small { (D.state disk).sectors < 4232 → result ≡ Err (record { why = Refusal.TooSmall; disk = disk }) }
-    ensures device { MatchResult result (λ engine. IsSameDevice (D.state disk) (D.state engine.volume.shelf.disk)) (λ n. IsSameDevice (D.state disk) (D.state n.disk)) }
+    ensures small { (D.state disk).sectors < MIN_SECTORS
+        → result ≡ Err (record { why = Refusal.TooSmall; disk = disk }) }
+    ensures device { MatchResult result (λ engine. IsSameDevice (D.state disk) (D.state engine.volume.shelf.disk))
+        (λ n. IsSameDevice (D.state disk) (D.state n.disk)) }
     ensures faults { IfErr result (λ n. n.why ≡ Refusal.Device → (D.state disk).faults < (D.state n.disk).faults) }
     ensures idle { IfOk result IsIdle }
     ensures safe { (D.state disk).honest ≡ true → MatchResult result
-        (λ engine. OpensSafely K.Key.Shape K.is_proper K.said (format_of K.KeyClass) (D.state disk) (D.state engine.volume.shelf.disk))
+        (λ engine. OpensSafely K.Key.Shape K.is_proper K.said (format_of K.KeyClass) (D.state disk)
+        (D.state engine.volume.shelf.disk))
         (λ n. OpensSafely K.Key.Shape K.is_proper K.said (format_of K.KeyClass) (D.state disk) (D.state n.disk)) }
     ensures order { OpensInOrder K.Key.Shape K.is_proper K.said K.KeyClass D.state disk result }
-    ensures opened { (D.state disk).honest ≡ true → 4232 ≤ (D.state disk).sectors
-        → IfOk result (λ engine. IsOpened K.Key.Shape K.is_proper K.said (format_of K.KeyClass) K.CLASS (D.state disk) (D.state engine.volume.shelf.disk) engine) }
-    ensures refused { (D.state disk).honest ≡ true → 4232 ≤ (D.state disk).sectors
+    ensures opened { (D.state disk).honest ≡ true → MIN_SECTORS ≤ (D.state disk).sectors
+        → IfOk result (λ engine. IsOpened K.Key.Shape K.is_proper K.said (format_of K.KeyClass) K.CLASS (D.state disk)
+        (D.state engine.volume.shelf.disk) engine) }
+    ensures refused { (D.state disk).honest ≡ true → MIN_SECTORS ≤ (D.state disk).sectors
         → IfErr result (λ n. IsRefused K.Key.Shape K.is_proper K.said (format_of K.KeyClass) D.state K.CLASS
         (D.state disk) (D.state n.disk) n.why) }
 {
@@ -121,22 +135,24 @@ where
     }
 }
 
-/// Opens a device, with so many frames for pages. It is settled and read for what it is formatted for, its log is read and laid over its
-/// pages, which are tested, gates behind the log are closed, and an engine begins: its checkpoint is ended, and what transactions wrote that
-/// a crash cut off is undone. The engine has no session with a transaction, and no checkpoint runs. It takes all the memory that the
-/// engine ever takes, but for searches' stacks and answers.
+/// Opens a device, with so many frames for pages. It is settled and read for what it is formatted for, its log is read
+/// and laid over its pages, which are tested, gates behind the log are closed, and an engine begins: its checkpoint is
+/// ended, and what transactions wrote that a crash cut off is undone. The engine has no session with a transaction, and
+/// no checkpoint runs. It takes all the memory that the engine ever takes, but for searches' stacks and answers.
 ///
-/// Refused, with the device as the calls left it, by the first that holds: with fewer frames than 16 or more than 4,096 (`BadParameter`), on a
-/// device with fewer sectors than the smallest index takes (`TooSmall`; no call is made before these two), without the magic
-/// (`NotFormatted`), with numbers out of range or of another class (`BadParameter`), with fewer sectors than that index takes
-/// (`TooSmall`), with a damaged log, or pages that can't be read, aren't a legal tree, or haven't what open transactions touched in its place
-/// (`Damaged`); and where a call fails (`Device`, and only then), or memory is refused (`Memory`). On a device that lies, where 2^56 events of
-/// one transaction's undo take no end, it is given up with `Damaged`.
+/// Refused, with the device as the calls left it, by the first that holds: with fewer frames than 16 or more than 4,096
+/// (`BadParameter`), on a device with fewer sectors than the smallest index takes (`TooSmall`; no call is made before
+/// these two), without the magic (`NotFormatted`), with numbers out of range or of another class (`BadParameter`), with
+/// fewer sectors than that index takes (`TooSmall`), with a damaged log, or pages that can't be read, aren't a legal
+/// tree, or haven't what open transactions touched in its place (`Damaged`); and where a call fails (`Device`, and only
+/// then), or memory is refused (`Memory`). On a device that lies, where 2^56 events of one transaction's undo take no
+/// end, it is given up with `Damaged`.
 ///
-/// On an honest device, at each moment, also where it is refused, a crash may leave what it could at the start, or an image with the log that
-/// was found and after it the same pages; where these are good for the log, that stands for the set that the log keeps, under its
-/// number. The engine then holds an index with that one set. A sync comes before the first write. Where it is refused with `NotFormatted`,
-/// `BadParameter` or `TooSmall` nothing is written, and where it is refused with `Damaged` only pages that the log gives, and no other sector.
+/// On an honest device, at each moment, also where it is refused, a crash may leave what it could at the start, or an
+/// image with the log that was found and after it the same pages; where these are good for the log, that stands for the
+/// set that the log keeps, under its number. The engine then holds an index with that one set. A sync comes before the
+/// first write. Where it is refused with `NotFormatted`, `BadParameter` or `TooSmall` nothing is written, and where it
+/// is refused with `Damaged` only pages that the log gives, and no other sector.
 pub fn open<D: SectorDisk, K: ReadKeys + Probing>(
     alloc: Global,
     disk: D,
@@ -144,21 +160,27 @@ pub fn open<D: SectorDisk, K: ReadKeys + Probing>(
 ) -> Result<Engine<D, K>, NotOpened<D>>
 where
     K::Probe: Drop,
-    ensures frames { ((16 ≤ frames) × (frames ≤ 4096) → ⊥) → result ≡ Err (record { why = Refusal.BadParameter; disk = disk }) }
-    ensures small { 16 ≤ frames → frames ≤ 4096 → (D.state disk).sectors < 4232 → result ≡ Err (record { why = Refusal.TooSmall; disk = disk }) }
-    ensures device { MatchResult result (λ engine. IsSameDevice (D.state disk) (D.state engine.volume.shelf.disk)) (λ n. IsSameDevice (D.state disk) (D.state n.disk)) }
+    ensures frames { ((16 ≤ frames) × (frames ≤ 4096) → ⊥)
+        → result ≡ Err (record { why = Refusal.BadParameter; disk = disk }) }
+    ensures small { 16 ≤ frames → frames ≤ 4096 → (D.state disk).sectors < MIN_SECTORS
+        → result ≡ Err (record { why = Refusal.TooSmall; disk = disk }) }
+    ensures device { MatchResult result (λ engine. IsSameDevice (D.state disk) (D.state engine.volume.shelf.disk))
+        (λ n. IsSameDevice (D.state disk) (D.state n.disk)) }
     ensures faults { IfErr result (λ n. n.why ≡ Refusal.Device → (D.state disk).faults < (D.state n.disk).faults) }
     ensures idle { IfOk result IsIdle }
     ensures safe { (D.state disk).honest ≡ true → MatchResult result
-        (λ engine. OpensSafely K.Key.Shape K.is_proper K.said (format_of K.KeyClass) (D.state disk) (D.state engine.volume.shelf.disk))
+        (λ engine. OpensSafely K.Key.Shape K.is_proper K.said (format_of K.KeyClass) (D.state disk)
+        (D.state engine.volume.shelf.disk))
         (λ n. OpensSafely K.Key.Shape K.is_proper K.said (format_of K.KeyClass) (D.state disk) (D.state n.disk)) }
     ensures keeps { (D.state disk).honest ≡ true → MatchResult result
-        (λ engine. KeepsItsSet K.Key.Shape K.is_proper K.said (format_of K.KeyClass) (D.state disk) (D.state engine.volume.shelf.disk))
+        (λ engine. KeepsItsSet K.Key.Shape K.is_proper K.said (format_of K.KeyClass) (D.state disk)
+        (D.state engine.volume.shelf.disk))
         (λ n. KeepsItsSet K.Key.Shape K.is_proper K.said (format_of K.KeyClass) (D.state disk) (D.state n.disk)) }
     ensures order { OpensInOrder K.Key.Shape K.is_proper K.said K.KeyClass D.state disk result }
     ensures opened { (D.state disk).honest ≡ true
-        → IfOk result (λ engine. IsOpened K.Key.Shape K.is_proper K.said (format_of K.KeyClass) K.CLASS (D.state disk) (D.state engine.volume.shelf.disk) engine) }
-    ensures refused { (D.state disk).honest ≡ true → 16 ≤ frames → frames ≤ 4096 → 4232 ≤ (D.state disk).sectors
+        → IfOk result (λ engine. IsOpened K.Key.Shape K.is_proper K.said (format_of K.KeyClass) K.CLASS (D.state disk)
+        (D.state engine.volume.shelf.disk) engine) }
+    ensures refused { (D.state disk).honest ≡ true → 16 ≤ frames → frames ≤ 4096 → MIN_SECTORS ≤ (D.state disk).sectors
         → IfErr result (λ n. IsRefused K.Key.Shape K.is_proper K.said (format_of K.KeyClass) D.state K.CLASS
         (D.state disk) (D.state n.disk) n.why) }
 {

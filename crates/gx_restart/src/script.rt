@@ -25,12 +25,14 @@ where
     }
 }
 
-/// Reads a script of boxes to its end, asks the index for the calls of its lines, and writes the replies, as `gx_plain::run_plain` does.
+/// Reads a script of boxes to its end, asks the index for the calls of its lines, and writes the replies, as
+/// `gx_plain::run_plain` does.
 ///
-/// All lines of a reply are written before the next line's call is asked. A line that isn't one of a script's is answered by
-/// its number, and the script goes on. It ends well where the reader's last call gave nothing. Faults: `Read` where that
-/// failed, or 2^32 calls were made of the reader; `Write` where the writer's last call failed or took nothing, or 2^32 calls
-/// were made of the writer. What was written then is a beginning of the text, and replies given before stand.
+/// All lines of a reply are written before the next line's call is asked. A line that isn't one of a script's is
+/// answered by its number, and the script goes on. It ends well where the reader's last call gave nothing. Faults:
+/// `Read` where that failed, or 2^32 calls were made of the reader; `Write` where the writer's last call failed or took
+/// nothing, or 2^32 calls were made of the writer. What was written then is a beginning of the text, and replies given
+/// before stand.
 pub fn run_script<R: Read, W: Write, D: SectorDisk, K: ReadKeys + KeyClass<Key = Box2> + Probing>(
     reader: &mut Noted<R>,
     writer: &mut Noted<W>,
@@ -38,9 +40,12 @@ pub fn run_script<R: Read, W: Write, D: SectorDisk, K: ReadKeys + KeyClass<Key =
 ) -> Result<(), ScriptFault>
 where
     K::Probe: Drop,
-    ensures done { OnOk result (IsDone (CallsIndex (Makes ⟦<Box2 as Shape>⟧ K.is_proper K.said K.KeyClass D.state)) (R.remaining reader.old.inner) (R.remaining reader.new.inner)
+    ensures done { OnOk result (IsDone (CallsIndex (Makes ⟦<Box2 as Shape>⟧ K.is_proper K.said K.KeyClass D.state))
+        (R.remaining reader.old.inner) (R.remaining reader.new.inner)
         (W.contents writer.old.inner) (W.contents writer.new.inner) index.old index.new) }
-    ensures stopped { IfErr result (IsStopped (CallsIndex (Makes ⟦<Box2 as Shape>⟧ K.is_proper K.said K.KeyClass D.state)) (R.remaining reader.old.inner) (R.remaining reader.new.inner)
+    ensures stopped { IfErr result
+        (IsStopped (CallsIndex (Makes ⟦<Box2 as Shape>⟧ K.is_proper K.said K.KeyClass D.state))
+        (R.remaining reader.old.inner) (R.remaining reader.new.inner)
         (W.contents writer.old.inner) (W.contents writer.new.inner) index.old index.new) }
     ensures ended { OnOk result (reader.new.last ≡ Some Transfer.Nothing) }
     ensures fault { IfErr result (IsFaultOf reader.new writer.new) }

@@ -1,5 +1,5 @@
 //! What is logged is gated.
-ghost use Rattle.std.specs.Prelude.{OnOk, ◌≡◌};
+ghost use Rattle.std.specs.Prelude.{Err, OnOk, ◌≡◌, ◌≢◌};
 ghost use Rattle.gx_node.specs.Reading.{format_of, is_node};
 ghost use Rattle.gx_recovery.specs.Known.{Limits};
 ghost use Rattle.gx_readings.specs.Classes.{class_of, reading_of};
@@ -24,8 +24,10 @@ where
     // Makes a step of the checkpoint or of the log over and over, until it has nothing to do.
     fn exhaust(&mut self, event: Event<K::Key>) -> Result<(), Refusal>
         requires { IsFlushing event }
-        ensures made { IsExhausted (Makes K.Key.Shape K.is_proper K.said K.KeyClass D.state) event self.old.engine result self.new.engine }
+        ensures made { IsExhausted (Makes K.Key.Shape K.is_proper K.said K.KeyClass D.state) event
+            self.old.engine result self.new.engine }
         ensures same { self.new.ended ≡ self.old.ended }
+        ensures memory { result ≢ Err Refusal.Memory }
     {
         match repeat(&mut self.engine, event) {
             Some(ends) => ends,
@@ -35,23 +37,28 @@ where
 
     // Steps of the checkpoint, and then of the log, until there is nothing to do.
     fn exhaust_both(&mut self) -> Result<(), Refusal>
-        ensures made { SettlesOn (Makes K.Key.Shape K.is_proper K.said K.KeyClass D.state) self.old.engine result self.new.engine }
+        ensures made { SettlesOn (Makes K.Key.Shape K.is_proper K.said K.KeyClass D.state)
+            self.old.engine result self.new.engine }
         ensures same { self.new.ended ≡ self.old.ended }
+        ensures memory { result ≢ Err Refusal.Memory }
     {
         self.exhaust(Event::CheckpointStep)?;
         self.exhaust(Event::LogStep)
     }
 
-    /// Ends a checkpoint that runs or is due, and gates all that is logged: checkpoint steps until there is nothing to do, and then
-    /// log steps. It takes no memory, and changes no set, claim or predicate, and no call that is open.
+    /// Ends a checkpoint that runs or is due, and gates all that is logged: checkpoint steps until there is nothing to
+    /// do, and then log steps. It takes no memory, and changes no set, claim or predicate, and no call that is open.
     ///
-    /// Refused with `Device`, `Failed` or `Damaged` as an event was. Over any device it ends: each step leaves less to flush.
+    /// Refused with `Device`, `Failed` or `Damaged` as an event was. Over any device it ends: each step leaves less to
+    /// flush.
     pub fn settle(&mut self) -> Result<(), Refusal>
         ensures settles { Settles (Makes K.Key.Shape K.is_proper K.said K.KeyClass D.state) self.old result self.new }
-        ensures runs { (l : Limits) → RunsOn (class_of K.Key.Shape K.is_proper l) (reading_of K.said (format_of K.KeyClass)) (format_of K.KeyClass) (is_node (format_of K.KeyClass))
+        ensures runs { (l : Limits) → RunsOn (class_of K.Key.Shape K.is_proper l)
+            (reading_of K.said (format_of K.KeyClass)) (format_of K.KeyClass) (is_node (format_of K.KeyClass))
             D.state self.old.engine self.new.engine }
         ensures rests { OnOk result (IsAtRest self.new.engine) }
         ensures keeps { KeepsSessions self.old.engine self.new.engine }
+        ensures memory { result ≢ Err Refusal.Memory }
     {
         if self.ended {
             return Err(Refusal::Failed);

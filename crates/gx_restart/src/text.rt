@@ -1,5 +1,5 @@
 //! The text of an index's tree: its pages are brought one after another, and told line by line, read where they lie.
-mod bring;
+pub(crate) mod bring;
 mod lines;
 mod pages;
 mod stop;

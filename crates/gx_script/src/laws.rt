@@ -1,5 +1,6 @@
 //! What the grammar of scripts means.
-ghost use Rattle.std.specs.Prelude.{◌≡◌, ◌≢◌, ◌+◌, ◌<◌, ◌^◌, ℕ, ℤ, List, [], ◌∷◌, ◌++◌, true, length, codes, decimal, Some, FitsSigned};
+ghost use Rattle.std.specs.Prelude.{◌≡◌, ◌≢◌, ◌+◌, ◌<◌, ◌^◌, ℕ, ℤ, List, [], ◌∷◌, ◌++◌};
+ghost use Rattle.std.specs.Prelude.{true, length, codes, decimal, Some, FitsSigned};
 ghost use Rattle.std.specs.Int.{w32};
 ghost use Rattle.std.specs.Fmt.{signed_decimal};
 ghost use Rattle.gx_geom.specs.Rectangles.{Rectangle, IsBox};
@@ -34,7 +35,8 @@ pub fn one_carriage_return_goes()
 pub fn words_stand_between_separators()
     ensures none { words [] ≡ [] }
     ensures skipped { (b : ℕ) (more : List ℕ) → is_separator b ≡ true → words (b ∷ more) ≡ words more }
-    ensures ended { (w more : List ℕ) (b : ℕ) → IsWord w → is_separator b ≡ true → words (w ++ (b ∷ more)) ≡ w ∷ words more }
+    ensures ended { (w more : List ℕ) (b : ℕ) → IsWord w → is_separator b ≡ true
+        → words (w ++ (b ∷ more)) ≡ w ∷ words more }
     ensures last { (w : List ℕ) → IsWord w → words w ≡ w ∷ [] }
 {}
 

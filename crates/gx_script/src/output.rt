@@ -1,5 +1,6 @@
 //! The text that waits to be written.
-ghost use Rattle.std.specs.Prelude.{◌≡◌, ◌+◌, ◌<◌, ◌≤◌, ◌↔◌, [], ◌∷◌, ◌++◌, length, decimal, codes, IsTrue, OnOk, IfErr, OnErr};
+ghost use Rattle.std.specs.Prelude.{◌≡◌, ◌+◌, ◌<◌, ◌≤◌, ◌↔◌, [], ◌∷◌, ◌++◌, length};
+ghost use Rattle.std.specs.Prelude.{decimal, codes, IsTrue, OnOk, IfErr, OnErr};
 ghost use Rattle.std.specs.Fmt.{signed_decimal};
 ghost use Rattle.std.specs.Io.KnownBytes.{Appends};
 ghost use Rattle.gx_geom.specs.Rectangles.{corners_text};
@@ -104,7 +105,8 @@ impl Output {
     /// Adds the line of a refusal.
     pub(crate) fn put_refusal(&mut self, session: u64, why: Refusal)
         requires { length self.old + LONGEST ≤ WAITING }
-        ensures { self.new ≡ self.old ++ told_line session (codes "refused " ++ (decimal (refusal_number why) ++ (32 ∷ refusal_text why))) }
+        ensures { self.new ≡ self.old ++ told_line session (codes "refused "
+            ++ (decimal (refusal_number why) ++ (32 ∷ refusal_text why))) }
     {
         let text = why.text();
         self.put_number(session);

@@ -19,7 +19,8 @@ pub(crate) fn put_reply<W: Write>(
     reply: &Reply<Box2>,
 ) -> Result<(), ScriptFault>
     ensures ok { OnOk result (IsPut
-        (W.contents writer.old.inner) (W.contents writer.new.inner) output.old (reply_text session reply.now) output.new) }
+        (W.contents writer.old.inner) (W.contents writer.new.inner) output.old
+        (reply_text session reply.now) output.new) }
     ensures cut { IfErr result (λ e. (e ≡ ScriptFault.Write)
         × IsCut
         (W.contents writer.old.inner) (W.contents writer.new.inner) (output.old ++ reply_text session reply.now)) }
@@ -52,7 +53,8 @@ fn put_entries<W: Write>(
         (flat_map (entry_line session) entries.now) output.new) }
     ensures cut { IfErr result (λ e. (e ≡ ScriptFault.Write)
         × IsCut
-        (W.contents writer.old.inner) (W.contents writer.new.inner) (output.old ++ flat_map (entry_line session) entries.now)) }
+        (W.contents writer.old.inner) (W.contents writer.new.inner)
+        (output.old ++ flat_map (entry_line session) entries.now)) }
     ensures stuck { OnErr result (TakesNoMore writer.new) }
 {
     for entry in entries {

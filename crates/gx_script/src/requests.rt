@@ -4,7 +4,8 @@ ghost use Rattle.std.specs.Int.{w32};
 ghost use Rattle.gx_geom.specs.Rectangles.{rectangle_of};
 ghost use Rattle.gx_script.specs.Words.{words};
 ghost use Rattle.gx_script.specs.Numbers.{number_of, corner_of};
-ghost use Rattle.gx_script.specs.Requests.{command_of, first_word, box_of, box_words, entry_words, with_arguments, alone, command_line, session_line, line_of};
+ghost use Rattle.gx_script.specs.Requests.{command_of, first_word, box_of, box_words, entry_words};
+ghost use Rattle.gx_script.specs.Requests.{with_arguments, alone, command_line, session_line, line_of};
 
 use crate::Line;
 use crate::command::Command;

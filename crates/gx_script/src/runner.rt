@@ -1,5 +1,6 @@
 //! Scripts from a reader to a writer.
-ghost use Rattle.std.specs.Prelude.{◌≡◌, ◌≢◌, ◌+◌, ◌^◌, ◌<◌, ◌≤◌, ◌==◌, position, ℕ, List, [], ◌∷◌, ◌++◌, length, take, MatchOption, OnOk, IfOk, IfErr, OnErr, Some};
+ghost use Rattle.std.specs.Prelude.{◌≡◌, ◌≢◌, ◌+◌, ◌^◌, ◌<◌, ◌≤◌, ◌==◌, position, ℕ, List, [], ◌∷◌};
+ghost use Rattle.std.specs.Prelude.{◌++◌, length, take, MatchOption, OnOk, IfOk, IfErr, OnErr, Some};
 ghost use Rattle.std.specs.List.{position_or_len};
 ghost use Rattle.gx_script.specs.Requests.{line_of};
 ghost use Rattle.gx_script.specs.Scripts.{asked_as, IsDone, IsStopped, IsUnended, IsTold};
@@ -88,14 +89,17 @@ impl Script {
         bytes: &[u8],
     ) -> Result<(), ScriptFault>
         requires { self.old.number + length bytes.now < 2 ^ 64 }
-        ensures ok { OnOk result (IsUnended self.old.line → Feeds I.answered self.old.number index.old self.old.output (λ number done start written.
+        ensures ok { OnOk result (IsUnended self.old.line
+            → Feeds I.answered self.old.number index.old self.old.output (λ number done start written.
             (fed : IsFed I.answered number done start written (self.old.line ++ bytes.now) self.new.line
             (W.contents writer.old.inner) (W.contents writer.new.inner) self.new.output index.new)
             × (self.new.number ≡ number + length (done ++ fed.more)))) }
         ensures unended { OnOk result (IsUnended self.old.line → IsUnended self.new.line) }
         ensures waits { OnOk result (self.new.output ≡ []) }
         ensures bound { OnOk result (self.new.number ≤ self.old.number + length bytes.now) }
-        ensures cut { IfErr result (λ e. (e ≡ ScriptFault.Write) × (IsUnended self.old.line → Feeds I.answered self.old.number index.old self.old.output (λ number done start written.
+        ensures cut { IfErr result (λ e. (e ≡ ScriptFault.Write)
+            × (IsUnended self.old.line
+            → Feeds I.answered self.old.number index.old self.old.output (λ number done start written.
             IsFedPart I.answered number done start written (self.old.line ++ bytes.now)
             (W.contents writer.old.inner) (W.contents writer.new.inner) index.new))) }
         ensures stuck { OnErr result (TakesNoMore writer.new) }
@@ -117,10 +121,13 @@ impl Script {
         index: &mut I,
     ) -> Result<(), ScriptFault>
         requires { self.old.number + 1 < 2 ^ 64 }
-        ensures ok { OnOk result (IsUnended self.old.line → Feeds I.answered self.old.number index.old self.old.output (λ number done start written.
+        ensures ok { OnOk result (IsUnended self.old.line
+            → Feeds I.answered self.old.number index.old self.old.output (λ number done start written.
             IsEnded I.answered number done start written self.old.line
             (W.contents writer.old.inner) (W.contents writer.new.inner) index.new)) }
-        ensures cut { IfErr result (λ e. (e ≡ ScriptFault.Write) × (IsUnended self.old.line → Feeds I.answered self.old.number index.old self.old.output (λ number done start written.
+        ensures cut { IfErr result (λ e. (e ≡ ScriptFault.Write)
+            × (IsUnended self.old.line
+            → Feeds I.answered self.old.number index.old self.old.output (λ number done start written.
             IsEndedPart I.answered number done start written self.old.line
             (W.contents writer.old.inner) (W.contents writer.new.inner) index.new))) }
         ensures stuck { OnErr result (TakesNoMore writer.new) }
@@ -143,7 +150,8 @@ impl Script {
             (W.contents writer.old.inner) (W.contents writer.new.inner) self.old.output self.new.output) }
         ensures line { OnOk result (self.new.line ≡ []) }
         ensures number { OnOk result (self.new.number ≡ self.old.number + 1) }
-        ensures cut { IfErr result (λ e. (e ≡ ScriptFault.Write) × IsToldPart I.answered self.old.number (line_of self.old.line) index.old index.new
+        ensures cut { IfErr result (λ e. (e ≡ ScriptFault.Write)
+            × IsToldPart I.answered self.old.number (line_of self.old.line) index.old index.new
             (W.contents writer.old.inner) (W.contents writer.new.inner) self.old.output) }
         ensures stuck { OnErr result (TakesNoMore writer.new) }
     {
@@ -157,7 +165,8 @@ impl Script {
 
 // the first line that ends in these bytes, and what stands after its line feed
 fn next_line(bytes: &[u8]) -> Option<(&[u8], &[u8])>
-    ensures { MatchOption result (IsUnended bytes.now) (λ p. IsUnended p.0.now × (bytes.now ≡ p.0.now ++ (10 ∷ p.1.now))) }
+    ensures { MatchOption result (IsUnended bytes.now) (λ p. IsUnended p.0.now
+        × (bytes.now ≡ p.0.now ++ (10 ∷ p.1.now))) }
 {
     let (line, rest) = bytes.split_at(line_end(bytes));
     match rest.split_first() {
@@ -221,7 +230,8 @@ fn answer<W: Write, I: Answers>(
 ) -> Result<(), ScriptFault>
     ensures ok { (number : ℕ) → OnOk result (IsToldWhole I.answered number (Line.Asks session call) index.old index.new
         (W.contents writer.old.inner) (W.contents writer.new.inner) output.old output.new) }
-    ensures cut { IfErr result (λ e. (e ≡ ScriptFault.Write) × ((number : ℕ) → IsToldPart I.answered number (Line.Asks session call) index.old index.new
+    ensures cut { IfErr result (λ e. (e ≡ ScriptFault.Write)
+        × ((number : ℕ) → IsToldPart I.answered number (Line.Asks session call) index.old index.new
         (W.contents writer.old.inner) (W.contents writer.new.inner) output.old)) }
     ensures stuck { OnErr result (TakesNoMore writer.new) }
 {

@@ -50,7 +50,8 @@ fn same_reply<B: Shape>(one: &Reply<B>, other: &Reply<B>) -> bool
 
 /// The reply of an item, where it is one of this session.
 fn reply_of<B: Shape>(session: u8, item: &Item<B>) -> Option<&Reply<B>>
-    ensures { MatchOption result (replies_of session (item.now ∷ []) ≡ []) (λ r. replies_of session (item.now ∷ []) ≡ r.now ∷ []) }
+    ensures { MatchOption result (replies_of session (item.now ∷ []) ≡ [])
+        (λ r. replies_of session (item.now ∷ []) ≡ r.now ∷ []) }
 {
     match item {
         Item::Replied(of, reply) if *of == session => Some(reply),
@@ -60,7 +61,8 @@ fn reply_of<B: Shape>(session: u8, item: &Item<B>) -> Option<&Reply<B>>
 
 /// Whether the replies of a session in a record are these, in their order.
 pub(crate) fn agree<B: Shape>(calls: &[Item<B>], session: u8, replies: &[Reply<B>]) -> bool
-    ensures { MatchBool result (replies_of session calls.now ≡ replies.now) (replies_of session calls.now ≡ replies.now → ⊥) }
+    ensures { MatchBool result (replies_of session calls.now ≡ replies.now) (replies_of session calls.now ≡ replies.now
+        → ⊥) }
 {
     let mut next = 0;
     for place in 0..calls.len() {

@@ -2,8 +2,8 @@
 
 /// Is called between two events of a call, and after each event of a flusher, while no lock is held.
 pub trait Between {
-    /// Comes after an event of this session, 0 for a flusher: the first has step 1, and each further one the next number, up
-    /// to 2^64 - 1.
+    /// Comes after an event of this session, 0 for a flusher: the first has step 1, and each further one the next
+    /// number, up to 2^64 - 1.
     fn between(&self, session: u8, step: u64);
 }
 

@@ -1,5 +1,6 @@
 //! What lies under the lock.
-ghost use Rattle.std.specs.Prelude.{◌≡◌, ℕ, ◌+◌, ◌-◌, ◌*◌, ◌<◌, ◌≤◌, ◌^◌, ◌++◌, ◌∷◌, [], true, MatchBool, MatchResult, vec_len, vec_capacity};
+ghost use Rattle.std.specs.Prelude.{◌≡◌, ℕ, ◌+◌, ◌-◌, ◌*◌, ◌<◌, ◌≤◌, ◌^◌, ◌++◌, ◌∷◌, []};
+ghost use Rattle.std.specs.Prelude.{true, MatchBool, MatchResult, vec_len, vec_capacity};
 ghost use Rattle.gx_machine.specs.declared.item.Item.TheVariants as item;
 ghost use Rattle.gx_events.specs.declared.outcome.Outcome.TheVariants as outcome;
 ghost use Rattle.gx_machine.specs.declared.reply.Reply.TheVariants as reply;
@@ -70,8 +71,8 @@ fn gives_up(why: Refusal) -> bool
     )
 }
 
-/// An outcome as it ends a call: a refusal for anything but a fault or a full record, which is of a move of a call that isn't
-/// open, is told as `Damaged`.
+/// An outcome as it ends a call: a refusal for anything but a fault or a full record, which is of a move of a call that
+/// isn't open, is told as `Damaged`.
 fn given_up<B: Shape>(last: Outcome<B>) -> Outcome<B>
     ensures replied { replied result ≡ replied last }
     ensures refuses { RefusesToGiveUp result }
@@ -112,8 +113,9 @@ fn open_after<B: Shape>(reply: &Reply<B>, opened: u64) -> u64
 
 /// An engine, and the record of all that its sessions asked and were replied. Contracts see it as both.
 ///
-/// Whenever it is looked at, the ledger's total is the number of replies in the record. Where what has to be granted of the engine is
-/// granted, the record replays, from the machine that the run names, as the machine that the engine is seen as.
+/// Whenever it is looked at, the ledger's total is the number of replies in the record. Where what has to be granted of
+/// the engine is granted, the record replays, from the machine that the run names, as the machine that the engine is
+/// seen as.
 #[derive(Drop)]
 pub struct Book<B: Shape, E: Events<B>, R: Run<B>> {
     engine: E,
@@ -132,7 +134,8 @@ impl<B: Shape, E: Events<B>, R: Run<B>> Model for Book<B, E, R> {
 
     ghost view = { λ b. (b.engine, b.calls.items) };
 
-    ghost invariant = { λ b. IsKept (keys B.cmp B.overlap B.inside) E.granted E.sees R.starts b.engine b.calls.items b.opened (vec_capacity b.calls) b.tally.total };
+    ghost invariant = { λ b. IsKept (keys B.cmp B.overlap B.inside) E.granted E.sees R.starts b.engine b.calls.items
+        b.opened (vec_capacity b.calls) b.tally.total };
 }
 
 impl<B: Shape, E: Events<B>, R: Run<B>> Book<B, E, R> {
@@ -144,7 +147,8 @@ impl<B: Shape, E: Events<B>, R: Run<B>> Book<B, E, R> {
     ghost use Rattle.gx_shared.specs.Agreed.{replies_of};
     ghost use Rattle.gx_shared.specs.Books.{MayBeShared, Stands, IsOf, IsHold, IsMade, IsWorked};
 
-    /// A book over an engine, with nothing recorded. It takes all room of the record; without that the engine comes back.
+    /// A book over an engine, with nothing recorded. It takes all room of the record; without that the engine comes
+    /// back.
     #[tactic(auto, using(crate::proofs::Sharing::begun))]
     pub(crate) fn new(alloc: Global, tally: Tally<R>, engine: E) -> Result<Self, E>
         requires starts { E.granted → MayBeShared E.sees R.starts engine }
@@ -184,7 +188,8 @@ impl<B: Shape, E: Events<B>, R: Run<B>> Book<B, E, R> {
         &self.engine
     }
 
-    /// Compares a share with the ledger: the calls that it counts are finished, and a share with all parts counts all of them.
+    /// Compares a share with the ledger: the calls that it counts are finished, and a share with all parts counts all
+    /// of them.
     pub(crate) fn audit(&mut self, share: &mut Share<R>)
         ensures same { self.new ≡ self.old }
         ensures bound { share.old.amount ≤ finished self.old.1 }
@@ -193,16 +198,16 @@ impl<B: Shape, E: Events<B>, R: Run<B>> Book<B, E, R> {
         self.tally.audit(share);
     }
 
-    /// What a book keeps, where what has to be granted of the engine is granted: its record replays, from the machine that the run names,
-    /// as the machine that its engine is seen as.
+    /// What a book keeps, where what has to be granted of the engine is granted: its record replays, from the machine
+    /// that the run names, as the machine that its engine is seen as.
     pub fn stands(&self)
         ensures { E.granted → Stands (keys_of B.Shape) E.sees R.starts self.now.0 self.now.1 }
     {
         let _ = &self.engine;
     }
 
-    /// Applies an event that is no session's, of the log, of a page or of a checkpoint: the engine makes it, once. The outcome is the
-    /// engine's, which is no reply, and nothing is recorded.
+    /// Applies an event that is no session's, of the log, of a page or of a checkpoint: the engine makes it, once. The
+    /// outcome is the engine's, which is no reply, and nothing is recorded.
     pub fn apply(&mut self, event: Event<B>) -> Outcome<B>
         requires { is_work event ≡ true }
         ensures worked { IsWorked (keys_of B.Shape) E.Events self.old event result self.new }
@@ -260,13 +265,15 @@ impl<B: Shape, E: Events<B>, R: Run<B>> Book<B, E, R> {
         }
     }
 
-    /// Applies an event of the session, an ask or a move, in one hold of the lock: the engine makes it, once. The outcome is the engine's,
-    /// and what it adds is recorded: the call that is asked, the number under which a commit is sealed, the reply that ends a call. A
-    /// reply that is handed out is the item that was recorded. The session's share rises by one where a reply is recorded, and in no other case.
+    /// Applies an event of the session, an ask or a move, in one hold of the lock: the engine makes it, once. The
+    /// outcome is the engine's, and what it adds is recorded: the call that is asked, the number under which a commit
+    /// is sealed, the reply that ends a call. A reply that is handed out is the item that was recorded. The session's
+    /// share rises by one where a reply is recorded, and in no other case.
     ///
-    /// An ask is refused with `HistoryFull`, neither applied nor recorded, unless three items for it and for each open call
-    /// still fit. What a search found becomes `Memory`, here and in the record, where its copy is refused memory. The reply of
-    /// an engine that a fault has ended, to a call that it has refused before, is `Refused(Failed)` once the record is full.
+    /// An ask is refused with `HistoryFull`, neither applied nor recorded, unless three items for it and for each open
+    /// call still fit. What a search found becomes `Memory`, here and in the record, where its copy is refused memory.
+    /// The reply of an engine that a fault has ended, to a call that it has refused before, is `Refused(Failed)` once
+    /// the record is full.
     pub fn apply_for(&mut self, session: &mut Session<R>, event: Event<B>) -> Outcome<B>
         requires { IsOf session.old.0 event }
         ensures hold { E.granted → IsHold (keys_of B.Shape) E.sees self.old event result self.new }
@@ -279,8 +286,8 @@ impl<B: Shape, E: Events<B>, R: Run<B>> Book<B, E, R> {
         }
     }
 
-    /// Applies an event of a session's call, which is the session's own or no session's. The session's share rises by one where
-    /// a reply is recorded. Where the outcome refuses, it is for a fault or for a record that is full.
+    /// Applies an event of a session's call, which is the session's own or no session's. The session's share rises by
+    /// one where a reply is recorded. Where the outcome refuses, it is for a fault or for a record that is full.
     #[tactic(auto, using(crate::proofs::Sharing::share_of_work, crate::proofs::Sharing::share_of_own, crate::proofs::Sharing::own_of, crate::proofs::Sharing::work_of))]
     pub(crate) fn run(&mut self, session: &mut Session<R>, event: Event<B>) -> Outcome<B>
         requires { InCall session.old.0 event }
@@ -307,7 +314,8 @@ impl<B: Shape, E: Events<B>, R: Run<B>> Book<B, E, R> {
 
     /// Whether a session's replies in the record are exactly these, in this order. Takes no memory.
     pub fn agrees(&self, session: u8, replies: &[Reply<B>]) -> bool
-        ensures { MatchBool result (replies_of session self.now.1 ≡ replies.now) (replies_of session self.now.1 ≡ replies.now → ⊥) }
+        ensures { MatchBool result (replies_of session self.now.1 ≡ replies.now)
+            (replies_of session self.now.1 ≡ replies.now → ⊥) }
     {
         agree(self.calls.as_slice(), session, replies)
     }

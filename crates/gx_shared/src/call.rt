@@ -3,6 +3,7 @@ ghost use Rattle.std.specs.Prelude.{◌≡◌};
 ghost use Rattle.gx_shared.specs.Sharing.{InCall, Follows};
 
 use crate::flush::{Part, ROUND};
+use crate::turns::Turn;
 use crate::{Between, Run, Session, Shared};
 use gx_events::{Driver, Event, Events, Next, Outcome};
 use gx_geom::Shape;
@@ -39,12 +40,14 @@ fn flush<B: Shape, E: Events<B>, R: Run<B>, W: Wait>(
 impl<R: Ledger> Session<R> {
     ghost use Rattle.gx_shared.specs.Sharing.{IsCalled};
 
-    /// Asks a call and runs its events to the end, one hold of the lock for each; `between` comes between two of them, while no
-    /// lock is held. The session is used with the `Shared` that made it.
+    /// Asks a call and runs its events to the end, one hold of the lock for each; `between` comes between two of them,
+    /// while no lock is held. The session is used with the `Shared` that made it. Before the log is stepped for a
+    /// sealed commit others get a turn to seal theirs, for a bounded time.
     ///
-    /// The reply is the one that was recorded, and the session's share rises by one. Or the call is given up, and its share is as
-    /// before: with `Device`, `Failed` or `Damaged` where an event of the log or of a page met a fault, with `Failed` where the
-    /// record is full of such refusals, with `HistoryFull` where the record has no room for the call.
+    /// The reply is the one that was recorded, and the session's share rises by one. Or the call is given up, and its
+    /// share is as before: with `Device`, `Failed` or `Damaged` where an event of the log or of a page met a fault,
+    /// with `Failed` where the record is full of such refusals, with `HistoryFull` where the record has no room for the
+    /// call.
     #[tactic(auto, using(crate::proofs::Sharing::done_of, crate::proofs::Sharing::run_of, crate::proofs::Sharing::call_of))]
     pub fn call<B: Shape, E: Events<B>, G: Between, W: Wait>(
         &mut self,
@@ -58,23 +61,33 @@ impl<R: Ledger> Session<R> {
         ensures { IsCalled self.old result self.new }
     {
         let number = self.number();
+        let turns = &shared.turns;
+        let mut turn = Turn::begin(number, &call);
         let mut event = Event::Ask(number, call);
         let mut step: u64 = 0;
         for _ in rt.forever() {
+            let moves = matches!(event, Event::Move(_));
             match hold(rt, shared, self, event) {
-                Next::Done(reply) => return reply,
+                Next::Done(reply) => {
+                    turn.end(turns);
+                    return reply;
+                }
                 Next::Run(next) => event = next,
+            }
+            if moves && matches!(event, Event::Move(_)) {
+                turn.moved();
             }
             step = step.saturating_add(1);
             between.between(number, step);
+            turn.wait(rt, turns, &event);
         }
         unreachable!()
     }
 }
 
-/// Runs so many rounds of a flusher: in each the next step of a checkpoint, the next step of the log, the write of a page where
-/// one may be written, and the sweep of a page, each in a hold of the lock of its own. `between` comes after each of them, while
-/// no lock is held. It ends before that where one is refused.
+/// Runs so many rounds of a flusher: in each the next step of a checkpoint, the next step of the log, the write of a
+/// page where one may be written, and the sweep of a page, each in a hold of the lock of its own. `between` comes after
+/// each of them, while no lock is held. It ends before that where one is refused.
 pub fn flusher<B: Shape, E: Events<B>, R: Run<B>, G: Between, W: Wait>(
     rt: &W,
     shared: &Shared<B, E, R>,

@@ -15,8 +15,8 @@ fn copied<B: Shape>(alloc: Global, entries: &[Entry<B>]) -> Result<Vec<Entry<B>>
     Ok(copy)
 }
 
-/// A reply for the caller and the same one for the record. Where what a search found can't be copied for want of memory, both
-/// say so; every other reply is copied without memory.
+/// A reply for the caller and the same one for the record. Where what a search found can't be copied for want of
+/// memory, both say so; every other reply is copied without memory.
 pub(crate) fn handed<B: Shape>(alloc: Global, reply: Reply<B>) -> (Reply<B>, Reply<B>)
     ensures same { result.1 ≡ result.0 }
     ensures handed { IsHanded reply result.0 }

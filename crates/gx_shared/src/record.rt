@@ -19,7 +19,8 @@ pub(crate) fn append<B: Shape>(calls: &mut Vec<Item<B>>, item: Item<B>)
     let _ = calls.push(item);
 }
 
-/// Puts behind the last item that a commit was sealed, where the number of the last commit rose and the record isn't full.
+/// Puts behind the last item that a commit was sealed, where the number of the last commit rose and the record isn't
+/// full.
 pub(crate) fn append_sealed<B: Shape>(
     calls: &mut Vec<Item<B>>,
     session: u8,
@@ -29,7 +30,8 @@ pub(crate) fn append_sealed<B: Shape>(
     requires { constants.RECORD ≤ vec_capacity calls.old }
     ensures items { length calls.old.items + length (items_sealed {B = B} session before after) ≤ constants.RECORD
         → calls.new.items ≡ calls.old.items ++ items_sealed session before after }
-    ensures adds { (calls.new.items ≡ calls.old.items) ⊎ (calls.new.items ≡ calls.old.items ++ item.Sealed session after ∷ []) }
+    ensures adds { (calls.new.items ≡ calls.old.items)
+        ⊎ (calls.new.items ≡ calls.old.items ++ item.Sealed session after ∷ []) }
     ensures fits { length calls.old.items ≤ constants.RECORD → length calls.new.items ≤ constants.RECORD }
     ensures capacity { vec_capacity calls.old ≤ vec_capacity calls.new }
 {

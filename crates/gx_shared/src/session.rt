@@ -4,8 +4,8 @@ ghost use Rattle.std.specs.Prelude.{◌≡◌, ◌+◌, ◌<◌, ◌^◌};
 use std::marker::Model;
 use std::sync::ledger::{Book as Tally, Ledger, Share};
 
-/// A session: its number, and how many of its calls are finished, which its part of the ledger counts too. Contracts see it as
-/// both numbers.
+/// A session: its number, and how many of its calls are finished, which its part of the ledger counts too. Contracts
+/// see it as both numbers.
 #[derive(Drop)]
 pub struct Session<R: Ledger> {
     number: u8,

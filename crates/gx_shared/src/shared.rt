@@ -3,6 +3,7 @@ ghost use Rattle.std.specs.Prelude.{◌≡◌, ◌+◌, [], length, IfOk};
 ghost use Rattle.gx_machine.specs.declared.limits.TheConstants.{SESSIONS};
 ghost use Rattle.gx_shared.specs.Sharing.{fresh_sessions, shares_of};
 
+use crate::turns::Turns;
 use crate::{Book, Run, Session};
 use gx_events::Events;
 use gx_geom::{Refusal, Shape};
@@ -45,6 +46,7 @@ fn gathered<R: Ledger>(first: Share<R>, sessions: Vec<Session<R>>) -> Share<R>
 #[derive(Drop)]
 pub struct Shared<B: Shape, E: Events<B>, R: Run<B>> {
     pub(crate) book: Mutex<Book<B, E, R>>,
+    pub(crate) turns: Turns,
 }
 
 impl<B: Shape, E: Events<B>, R: Run<B>> Shared<B, E, R> {
@@ -52,12 +54,12 @@ impl<B: Shape, E: Events<B>, R: Run<B>> Shared<B, E, R> {
     ghost use Rattle.gx_events.specs.Items.{finished};
     ghost use Rattle.gx_shared.specs.Books.{MayBeShared};
 
-    /// Puts an engine under a lock, with an empty record, and makes its eight sessions, of which none has a call finished. The
-    /// blank is that of the run's ledger, in eight parts. Where what has to be granted of the engine is granted, it is seen as the run's
-    /// machine, in which no call is open.
+    /// Puts an engine under a lock, with an empty record, and makes its eight sessions, of which none has a call
+    /// finished. The blank is that of the run's ledger, in eight parts. Where what has to be granted of the engine is
+    /// granted, it is seen as the run's machine, in which no call is open.
     ///
-    /// It takes all room that the record will need, 65,536 items. Without that memory it answers `Memory`, and the engine comes
-    /// back; the blank is spent.
+    /// It takes all room that the record will need, 65,536 items. Without that memory it answers `Memory`, and the
+    /// engine comes back; the blank is spent.
     pub fn new(
         alloc: Global,
         blank: Blank,
@@ -77,6 +79,7 @@ impl<B: Shape, E: Events<B>, R: Run<B>> Shared<B, E, R> {
             Ok(book) => Ok((
                 Shared {
                     book: Mutex::new(book),
+                    turns: Turns::new(),
                 },
                 sessions,
             )),
@@ -84,8 +87,8 @@ impl<B: Shape, E: Events<B>, R: Run<B>> Shared<B, E, R> {
         }
     }
 
-    /// Ends the sharing: the sessions come back, and the book with them. Its record has as many finished calls as the shares of
-    /// all eight sessions add up to; where fewer come back, at least as many as theirs.
+    /// Ends the sharing: the sessions come back, and the book with them. Its record has as many finished calls as the
+    /// shares of all eight sessions add up to; where fewer come back, at least as many as theirs.
     pub fn close(self, sessions: Vec<Session<R>>) -> Book<B, E, R>
         requires { R.parts ≡ SESSIONS }
         ensures least { shares_of sessions.items ≤ finished result.1 }

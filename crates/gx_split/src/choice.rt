@@ -1,5 +1,6 @@
 //! Which key is placed next, and on which side (Guttman 1984, PickNext).
-ghost use Rattle.std.specs.Prelude.{◌≡◌, ◌≤◌, ◌<◌, ◌+◌, ◌-◌, ◌^◌, ℕ, [], All, length, map, nat_lt, nat_le, true, false, if◌then◌else◌, Some};
+ghost use Rattle.std.specs.Prelude.{◌≡◌, ◌≤◌, ◌<◌, ◌+◌, ◌-◌, ◌^◌, ℕ, [], All, length, map};
+ghost use Rattle.std.specs.Prelude.{nat_lt, nat_le, true, false, if◌then◌else◌, Some};
 ghost use Rattle.gx_split.specs.Split.{measure, growth, second_less, first_greatest, goes_second};
 ghost use Rattle.gx_split.specs.Waiting.{gap_of, groups_of, IsShort};
 
@@ -63,7 +64,8 @@ struct Offer {
 
 /// Whether a key goes to the second group by growth, then by size, then by number.
 fn prefers_second(first: Offer, second: Offer) -> bool
-    ensures { result ≡ second_less first.grows second.grows (second_less first.size second.size (nat_lt second.keys first.keys)) }
+    ensures { result ≡ second_less first.grows second.grows
+        (second_less first.size second.size (nat_lt second.keys first.keys)) }
 {
     (second.grows, second.size, second.keys) < (first.grows, first.size, first.keys)
 }
@@ -72,8 +74,10 @@ fn prefers_second(first: Offer, second: Offer) -> bool
 fn takes_second(first: Offer, second: Offer, waiting: usize, least: usize) -> bool
     requires first { first.keys + waiting < 2 ^ 64 }
     requires second { second.keys + waiting < 2 ^ 64 }
-    ensures { result ≡ if nat_le (first.keys + waiting) least then false else (if nat_le (second.keys + waiting) least then true
-        else second_less first.grows second.grows (second_less first.size second.size (nat_lt second.keys first.keys))) }
+    ensures { result ≡ if nat_le (first.keys + waiting)
+        least then false else (if nat_le (second.keys + waiting) least then true
+        else second_less first.grows second.grows (second_less first.size second.size
+        (nat_lt second.keys first.keys))) }
 {
     if first.keys + waiting <= least {
         false
@@ -93,7 +97,8 @@ pub fn goes_second<M: Measure>(
 ) -> bool
     requires first { covers.now.in_first + length waiting.now < 2 ^ 64 }
     requires second { covers.now.in_second + length waiting.now < 2 ^ 64 }
-    ensures { result ≡ goes_second (measure M.joined M.extent) (groups_of covers.now waiting.now []) least next.now.first next.now.second }
+    ensures { result ≡ goes_second (measure M.joined M.extent) (groups_of covers.now waiting.now []) least
+        next.now.first next.now.second }
 {
     let first = Offer {
         grows: next.first,

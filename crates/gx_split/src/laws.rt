@@ -19,20 +19,23 @@ pub fn next_is_first_greatest()
 /// Each key has a side, each side its least number, and the seeds are on different sides.
 pub fn split_is_fair<M: Measure>()
     ensures { (keys : List M) (least : ℕ) → 1 ≤ least → 2 * least ≤ length keys
-        → IsFairSplit (length keys) least (seeds (measure M.joined M.extent) keys) (split_sides (measure M.joined M.extent) keys least) }
+        → IsFairSplit (length keys) least (seeds (measure M.joined M.extent) keys)
+        (split_sides (measure M.joined M.extent) keys least) }
 {}
 
-/// Each placement, in words: the first of the waiting keys at which the growths are farthest apart goes to the group that
-/// needs all that wait, else to the one that grows less, else to the smaller, else to the one of fewer keys, else to the
-/// first (Guttman 1984, PickNext).
+/// Each placement, in words: the first of the waiting keys at which the growths are farthest apart goes to the group
+/// that needs all that wait, else to the one that grows less, else to the smaller, else to the one of fewer keys, else
+/// to the first (Guttman 1984, PickNext).
 pub fn each_placement<M: Measure>()
     ensures { (keys : List M) (least : ℕ) (g : Groups M) → 0 < length g.rest → All (λ slot. slot < length keys) g.rest
-        → (p : Placing M) × IsPlacement (measure M.joined M.extent) keys least g (place_one (measure M.joined M.extent) keys least g) p }
+        → (p : Placing M) × IsPlacement (measure M.joined M.extent) keys least g
+        (place_one (measure M.joined M.extent) keys least g) p }
 {}
 
 /// The split is the seeds and such placements until no key waits.
 pub fn split_is_placements<M: Measure>()
     ensures { (keys : List M) (least : ℕ) → 1 ≤ least → 2 * least ≤ length keys
         → (first : M) × (second : M) × (end : Groups M)
-        × IsQuadraticSplit (measure M.joined M.extent) keys least (split_sides (measure M.joined M.extent) keys least) first second end }
+        × IsQuadraticSplit (measure M.joined M.extent) keys least
+        (split_sides (measure M.joined M.extent) keys least) first second end }
 {}

@@ -42,6 +42,7 @@ pub trait Measure: Copy {
 
     /// A size, below 2^126, that the union with none of a frame's keys exceeds.
     fn reach(&self, frame: &Self::Frame) -> u128
-        ensures most { (keys : List Self) → frames frame.now keys → All (λ other. extent (joined self.now other) ≤ result) keys }
+        ensures most { (keys : List Self) → frames frame.now keys
+            → All (λ other. extent (joined self.now other) ≤ result) keys }
         ensures bound { result < 2 ^ 126 };
 }

@@ -1,7 +1,8 @@
 //! Placing one key more.
 ghost use Rattle.std.specs.Prelude.{◌≡◌, ◌≤◌, ◌<◌, ◌+◌, ◌*◌, ◌^◌, true, All, List, length, map};
 ghost use Rattle.gx_split.specs.Split.{measure, place_one};
-ghost use Rattle.gx_split.specs.Waiting.{cover_of, groups_of, covers_with, with_growth, sides_with, HasGrowths, IsShort, IsKept};
+ghost use Rattle.gx_split.specs.Waiting.{cover_of, groups_of, covers_with, with_growth};
+ghost use Rattle.gx_split.specs.Waiting.{sides_with, HasGrowths, IsShort, IsKept};
 
 use crate::Measure;
 use crate::choice::{farthest, goes_second, growth};
@@ -60,14 +61,16 @@ fn refresh_all<M: Measure>(second: bool, covers: &Covers<M>, waiting: &mut [Wait
     }
 }
 
-/// A key goes to a group, and the others' growths are those beside its new cover: as they were, where it covered the key.
+/// A key goes to a group, and the others' growths are those beside its new cover:
+/// as they were, where it covered the key.
 fn put<M: Measure>(second: bool, key: &M, covers: &mut Covers<M>, waiting: &mut WaitingList<'_, M>)
     requires first { covers.old.in_first + 1 < 2 ^ 64 }
     requires second { covers.old.in_second + 1 < 2 ^ 64 }
     requires grown { All (HasGrowths (measure M.joined M.extent) covers.old) waiting.old.items }
     requires short { All (IsShort M.SHORT) waiting.old.items }
     ensures covers { covers.new ≡ covers_with (measure M.joined M.extent) second covers.old key.now }
-    ensures waiting { waiting.new.items ≡ map (with_growth (measure M.joined M.extent) second covers.new) waiting.old.items }
+    ensures waiting { waiting.new.items
+        ≡ map (with_growth (measure M.joined M.extent) second covers.new) waiting.old.items }
     ensures short { All (IsShort M.SHORT) waiting.new.items }
 {
     let is_covered = is_covered(second, key, covers);

@@ -1,5 +1,6 @@
 //! The pair of keys with which the two groups begin (Guttman 1984, PickSeeds).
-ghost use Rattle.std.specs.Prelude.{◌≡◌, ◌≤◌, ◌<◌, ◌≤ℤ◌, ◌+◌, ◌-◌, ◌-ℤ◌, ◌^◌, pos, true, All, List, length, slice_get, int_lt, if◌then◌else◌};
+ghost use Rattle.std.specs.Prelude.{◌≡◌, ◌≤◌, ◌<◌, ◌≤ℤ◌, ◌+◌, ◌-◌, ◌-ℤ◌, ◌^◌, pos, true};
+ghost use Rattle.std.specs.Prelude.{All, List, length, slice_get, int_lt, if◌then◌else◌};
 ghost use Rattle.gx_split.specs.Split.{measure, waste, waste_at, pair, worst_in_row, worst_in_rows, worst_pair};
 ghost use Rattle.gx_split.specs.Sizes.{IsSizes};
 
@@ -96,7 +97,8 @@ fn worst_in_row<M: Measure>(keys: &[M], sizes: &[u128], lower: usize, best: Cand
     requires best_order { best.lower < best.higher }
     requires wasted { best.waste ≡ waste_at (measure M.joined M.extent) keys.now best.lower best.higher }
     ensures slots { pair result.lower result.higher
-        ≡ worst_in_row (waste_at (measure M.joined M.extent) keys.now) (pair best.lower best.higher) lower (length keys.now - 1 - lower) }
+        ≡ worst_in_row (waste_at (measure M.joined M.extent) keys.now) (pair best.lower best.higher) lower
+        (length keys.now - 1 - lower) }
     ensures wastes { result.waste ≡ waste_at (measure M.joined M.extent) keys.now result.lower result.higher }
     ensures in_order { result.lower < result.higher }
     ensures within { result.higher < length keys.now }
@@ -133,7 +135,8 @@ fn worst_with_row<M: Measure>(
     requires best_order { best.lower < best.higher }
     requires wasted { best.waste ≡ waste_at (measure M.joined M.extent) keys.now best.lower best.higher }
     ensures slots { pair result.lower result.higher
-        ≡ worst_in_row (waste_at (measure M.joined M.extent) keys.now) (pair best.lower best.higher) lower (length keys.now - 1 - lower) }
+        ≡ worst_in_row (waste_at (measure M.joined M.extent) keys.now) (pair best.lower best.higher) lower
+        (length keys.now - 1 - lower) }
     ensures wastes { result.waste ≡ waste_at (measure M.joined M.extent) keys.now result.lower result.higher }
     ensures in_order { result.lower < result.higher }
     ensures within { result.higher < length keys.now }
@@ -149,7 +152,8 @@ fn worst_with_row<M: Measure>(
 pub fn worst_pair<M: Measure>(keys: &[M]) -> Candidate
     requires some { 2 ≤ length keys.now }
     requires few { length keys.now ≤ 101 }
-    ensures slots { pair result.lower result.higher ≡ worst_pair (waste_at (measure M.joined M.extent) keys.now) (length keys.now) }
+    ensures slots { pair result.lower result.higher
+        ≡ worst_pair (waste_at (measure M.joined M.extent) keys.now) (length keys.now) }
     ensures in_order { result.lower < result.higher }
     ensures within { result.higher < length keys.now }
 {

@@ -1,5 +1,6 @@
 //! The split of a list of keys (Guttman 1984, the quadratic split).
-ghost use Rattle.std.specs.Prelude.{◌≡◌, ◌≤◌, ◌<◌, ◌+◌, ◌-◌, ◌*◌, ◌||◌, nat_eq, All, length, map, replicate, slice_set, false, true};
+ghost use Rattle.std.specs.Prelude.{◌≡◌, ◌≤◌, ◌<◌, ◌+◌, ◌-◌, ◌*◌, ◌||◌, nat_eq, All};
+ghost use Rattle.std.specs.Prelude.{length, map, replicate, slice_set, false, true};
 ghost use Rattle.gx_split.specs.Split.{measure, pair, others, placed, seeds, split_sides, waste_at};
 ghost use Rattle.gx_split.specs.Fair.{IsFairSplit, IsFirstWorst};
 ghost use Rattle.gx_split.specs.Waiting.{slot_of, groups_of, HasGrowths, IsFresh, IsShort, IsKept};
@@ -80,7 +81,8 @@ fn place_all<M: Measure>(
     requires short { All (IsShort M.SHORT) waiting.old.items }
     requires left { length waiting.old.items + 2 ≡ length keys.now }
     ensures { groups_of covers.new waiting.new.items sides.new
-        ≡ placed (measure M.joined M.extent) keys.now least (groups_of covers.old waiting.old.items sides.old) (length keys.now - 2) }
+        ≡ placed (measure M.joined M.extent) keys.now least
+        (groups_of covers.old waiting.old.items sides.old) (length keys.now - 2) }
 {
     for _placed in 0..keys.len() - 2 {
         place_next(least, covers, waiting, sides);
@@ -100,7 +102,8 @@ pub fn split<M: Measure>(keys: &[M], least: usize, sides: &mut [bool])
     requires as_many { length sides.old ≡ length keys.now }
     ensures sides { sides.new ≡ split_sides (measure M.joined M.extent) keys.now least }
     ensures fair { IsFairSplit (length keys.now) least (seeds (measure M.joined M.extent) keys.now) sides.new }
-    ensures seeds { IsFirstWorst (waste_at (measure M.joined M.extent) keys.now) (length keys.now) (seeds (measure M.joined M.extent) keys.now) }
+    ensures seeds { IsFirstWorst (waste_at (measure M.joined M.extent) keys.now) (length keys.now)
+        (seeds (measure M.joined M.extent) keys.now) }
 {
     let seeds = worst_pair(keys);
     let mut covers = Covers {

@@ -6,6 +6,7 @@ use Rattle.gx_machine.specs.declared.entry.Entry.{Entry}
 use Rattle.gx_machine.specs.declared.call.Call.{Call}
 use Rattle.gx_machine.specs.Sessions.{Locks}
 use Rattle.gx_disk.specs.Device.{Device}
+use Rattle.gx_disk.specs.declared.layout.TheConstants.{MAX_PAGES}
 use Rattle.gx_page.specs.Contents.{Contents}
 use Rattle.gx_tree_laws.specs.Legal.{Legal}
 use Rattle.gx_tree_laws.specs.Lists.{Each}
@@ -105,7 +106,7 @@ module _ {B D : Type 0} (c : Class B) (law : IsLawful c) (said : List ℕ → B)
       (subst (λ (n : Node B). ((nat_lt 0 (times item.page (child_pages n)) && nat_lt (size n) c.rules.most) ≡ false) ⊎ (1 < times item.page (child_pages n))) same none))
 
   -- a split is never refused as damage
-  pub split_is_sound : item.page ≢ 1 → v.shelf.pages ≤ 65536 → c.rules.most ≤ size (shown.node item.page)
+  pub split_is_sound : item.page ≢ 1 → v.shelf.pages ≤ MAX_PAGES → c.rules.most ≤ size (shown.node item.page)
       → (Legal c.rules shown → Used shown item.page → Used shown parent → item.page ≢ parent → 0 < (shown.node parent).level → c.rules.most ≤ size (shown.node item.page)
       → v.shelf.counter + 1 < 2 ^ 64 → ⊥) → ⊥
   split_is_sound below few full never =
@@ -115,11 +116,11 @@ module _ {B D : Type 0} (c : Class B) (law : IsLawful c) (said : List ℕ → B)
       let used = agree.used in
       let there = its.descent.there in
       let counter = legal.counter in
-      let most : t.used ≤ 65536 = (let in_use = stood c law said f passes d e v w bodies old whole keeps in let fits = stepping.used_few c law said f passes d e v w bodies old whole keeps in
+      let most : t.used ≤ MAX_PAGES = (let in_use = stood c law said f passes d e v w bodies old whole keeps in let fits = stepping.used_few c law said f passes d e v w bodies old whole keeps in
       let pages = keeps.pages in omega (arith, used, in_use, fits, pages, few)) in
       let tally : t.counter ≡ v.shelf.counter = keeps.counter in
-      let small : v.shelf.counter + 1 < 65536 = omega (arith, counter, most, tally) in
-      let large : 65536 ≤ 2 ^ 64 = omega arith in
+      let small : v.shelf.counter + 1 < MAX_PAGES = omega (arith, counter, most, tally) in
+      let large : MAX_PAGES ≤ 2 ^ 64 = omega arith in
       never (shown_legal c law said f passes d e v w bodies old whole keeps)
       (there.0, (let high = there.1 in omega (arith, high, used))) (from.0.0, (let high = from.0.1 in omega (arith, high, used)))
       (λ is. its.apart (sym is)) (subst (λ (n : Node B). 0 < n.level) (sym same) from.1) full (omega (arith, small, large))

@@ -18,6 +18,7 @@ use Rattle.gx_index_laws.proofs.Standing.{known_lawful}
 use Rattle.gx_durable.specs.Spelled.{record_read}
 use Rattle.gx_readings.specs.Classes.{class_of, reading_of}
 use Rattle.gx_store.specs.Standing.{store_of}
+use Rattle.gx_record.specs.declared.sizes.TheConstants.{PAGE_RECORD}
 use Rattle.gx_storage.specs.Changes.{IsLoggedIf, known_at, page_given}
 use Rattle.gx_storage.specs.Keeps.{Keeps, StaysWith}
 use Rattle.gx_storage.specs.Numbers.{HasOwnNumber}
@@ -47,7 +48,7 @@ module _ {B D E : Type 0} (shape : Members B) (is_key : B → Bool) (l : Limits)
     (d e : Device) (v w : Volume D) (page : ℕ) (bodies : List (List (Record (Entry B) (Page B)))) (old : State B) (whole : IsWhole (class_of shape is_key l) old)
     (keeps : Keeps (known_at shape is_key l) (reading_of said f) f passes d v bodies old.log) where
   pub sweeps_leaf : (result : Result Bool E) → (test : Entry B → Bool) → ((entry : Entry B) → is_claimed (keys_of shape) entry old.slots ≡ true → test entry ≡ true)
-      → IfOk result (λ any. IsLoggedIf (known_at shape is_key) (reading_of said f) f passes 4114 d e v w (page_given page e.seen w.shelf) any)
+      → IfOk result (λ any. IsLoggedIf (known_at shape is_key) (reading_of said f) f passes PAGE_RECORD d e v w (page_given page e.seen w.shelf) any)
       → IfOk result (Swept test (store_of f d.seen v.shelf) (store_of f e.seen w.shelf) page)
       → IfOk result (λ any. any ≡ true → HasOwnNumber e.seen w.shelf page)
       → IfOk result (SweepsLeaf (class_of shape is_key l) (reading_of said f) f passes e w bodies old page)

@@ -24,6 +24,7 @@ use Rattle.gx_glog.specs.Appending.{Appends}
 use Rattle.gx_glog.specs.declared.filling.Appended.{Appended}
 use Rattle.gx_glog.specs.declared.filling.Appended.TheVariants.{At, NoRoom}
 use Rattle.gx_glog.specs.declared.stage.Turn.TheVariants.{Closed}
+use Rattle.gx_glog.specs.declared.extent.TheConstants.{BODY_ROOM, PLACES}
 use Rattle.gx_durable.specs.Calls.{AppendStaysUp, AppendStaysStamped}
 use Rattle.gx_durable.specs.Spelled.{Reading, record_read}
 use Rattle.gx_durable.proofs.Appending.{append_placed}
@@ -49,7 +50,7 @@ on_err (Err why) P is = is
 -- ---- the record
 
 -- a record that fits is appended, while no turn is under way
-appended_at : (bytes : List ℕ) (old new : Log) (result : Appended) → Appends bytes old new result → old.turn ≡ Closed → length old.filling + length bytes ≤ 32764 → result ≡ At old.used
+appended_at : (bytes : List ℕ) (old new : Log) (result : Appended) → Appends bytes old new result → old.turn ≡ Closed → length old.filling + length bytes ≤ BODY_ROOM → result ≡ At old.used
 appended_at bytes old new (At place) is still room = ap (λ n. At n) is.1
 appended_at bytes old new NoRoom is still room = absurd (elim is.0 [
   | inl more ↦ omega (arith, more, room)
@@ -57,12 +58,12 @@ appended_at bytes old new NoRoom is still room = absurd (elim is.0 [
 ])
 
 module _ {B : Type 0} (known : Limits → Known (Entry B) (Page B)) (r : Reading (Entry B) (Page B)) where
-  last_at : (x : Rec) (old new : Log) → Appends (spelling x) old new (At old.used) → old.turn ≡ Closed → old.used < 32 → HasKey r.key x
+  last_at : (x : Rec) (old new : Log) → Appends (spelling x) old new (At old.used) → old.turn ≡ Closed → old.used < PLACES → HasKey r.key x
       → ((l : Limits) → AppendStaysUp (known l) r x old new (At old.used)) → AppendStaysStamped r x old new (At old.used) → IsLast known r x old new
   last_at x old new is still place key up stamped = record { logs = record { place = place; still = still; fits = is.0; log = is.2 }; key = key; up = up; stamped = stamped; placed = append_placed x old new (At old.used) is }
 
   -- a record that was appended is the log's last
-  pub is_last : (x y : Rec) (old new : Log) (result : Appended) → x ≡ y → Appends (spelling x) old new result → old.turn ≡ Closed → old.used < 32 → length old.filling + length (spelling x) ≤ 32764
+  pub is_last : (x y : Rec) (old new : Log) (result : Appended) → x ≡ y → Appends (spelling x) old new result → old.turn ≡ Closed → old.used < PLACES → length old.filling + length (spelling x) ≤ BODY_ROOM
       → HasKey r.key x → ((l : Limits) → AppendStaysUp (known l) r x old new result) → AppendStaysStamped r x old new result → IsLast known r y old new
   is_last x y old new result same appends still place room key up stamped =
       let at = appended_at (spelling x) old new result appends still room in
@@ -95,10 +96,10 @@ write_in_range tx row key before after leaf image c tx_fits row_fits leaf_fits i
 
 -- ---- the room
 
-pub has_room_for : (log : Log) (size : ℕ) → has_room log size ≡ true → (log.used < 32) × (length log.filling + size ≤ 32764)
+pub has_room_for : (log : Log) (size : ℕ) → has_room log size ≡ true → (log.used < PLACES) × (length log.filling + size ≤ BODY_ROOM)
 has_room_for log size is =
-    let both = and_parts (nat_lt log.used 32) (nat_le (length log.filling + size) 32764) is in
-    (ltb-true log.used 32 both.0, leb-true (length log.filling + size) 32764 both.1)
+    let both = and_parts (nat_lt log.used PLACES) (nat_le (length log.filling + size) BODY_ROOM) is in
+    (ltb-true log.used PLACES both.0, leb-true (length log.filling + size) BODY_ROOM both.1)
 
 pub begun_with : {D : Type 0} (s u : Shelf D) (l : Log) (size used : ℕ) (room : Bool) → u ≡ record s { batch = used; has_room = room } → used ≡ l.used → room ≡ has_room l size
     → u ≡ record s { batch = l.used; has_room = has_room l size }
@@ -143,7 +144,7 @@ module _ {D : Type 0} (passes : ℕ → Contents → Bool) (state : D → Device
   steady_begun u is steady = subst {A = Shelf D} (λ x. IsSteady (state x.disk) x.frames) (sym is) steady
 
   -- the event's record has room, where the store says so
-  pub has_room_then : has_room v.log size ≡ t.has_room → t.has_room ≡ true → (v.log.used < 32) × (length v.log.filling + size ≤ 32764)
+  pub has_room_then : has_room v.log size ≡ t.has_room → t.has_room ≡ true → (v.log.used < PLACES) × (length v.log.filling + size ≤ BODY_ROOM)
   has_room_then same is = has_room_for v.log size (same ∙ is)
 
 -- a store has as many pages as its tree

@@ -7,12 +7,14 @@ use Rattle.gx_page.specs.Contents.{Contents}
 use Rattle.gx_page.specs.Format.{image_of}
 use Rattle.gx_record.specs.Rec.{Rec, Pages, Write}
 use Rattle.gx_record.specs.Format.{HasKey}
+use Rattle.gx_record.specs.Writing.{write_record}
 use Rattle.gx_node.specs.Reading.{Format}
 use Rattle.gx_recovery.specs.Known.{Known, Limits}
 use Rattle.gx_recovery.specs.Records.{gives}
 use Rattle.gx_index_laws.specs.Classes.{Page, known_of}
 use Rattle.gx_glog.specs.State.{Log}
 use Rattle.gx_glog.specs.declared.filling.Appended.TheVariants.{At}
+use Rattle.gx_glog.specs.declared.extent.TheConstants.{BODY_ROOM, PLACES}
 use Rattle.gx_durable.specs.Calls.{AppendPlaces, AppendStaysUp, AppendStaysStamped}
 use Rattle.gx_durable.specs.Spelled.{Reading, record_read}
 use Rattle.gx_readings.specs.Classes.{class_of}
@@ -31,9 +33,12 @@ known_at shape is_key limits = known_of (class_of shape is_key limits)
 -- whether a log has room for a record of so many bytes, while no turn is under way: a place is left for its batch, and the record
 -- fits the batch that fills
 abbrev pub has_room : Log → ℕ → Bool
-has_room log size = nat_lt log.used 32 && nat_le (length log.filling + size) 32764
+has_room log size = nat_lt log.used PLACES && nat_le (length log.filling + size) BODY_ROOM
 
--- the pages of a volume as an event begins whose record has so many bytes
+-- pages as an event begins whose record has so many bytes; and those of a volume
+abbrev pub begun_at : {D : Type 0} → Log → ℕ → Shelf D → Shelf D
+begun_at log size s = record s { batch = log.used; has_room = has_room log size }
+
 abbrev pub begun : {D : Type 0} → Volume D → ℕ → Shelf D
 begun v size = record v.shelf { batch = v.log.used; has_room = has_room v.log size }
 
@@ -77,8 +82,8 @@ module _ {B : Type 0} (known : Limits → Known (Entry B) (Page B)) (r : Reading
 
     -- The mark of a pair was set, and is logged with the mark that was found; or the pair isn't in the leaf, and nothing is logged.
     abbrev pub MarkIsLogged : {D : Type 0} → (B → List ℕ) → ℕ → ℕ → Entry B → ℕ → Bool → Device → Device → Volume D → Volume D → Sought → Type 0
-    MarkIsLogged spelling key transaction entry page marked d e v w (Here slot before) = IsLogged (key + 4119) d e v w (write_of spelling transaction entry.row entry.key before marked page e.seen w.shelf)
-    MarkIsLogged spelling key transaction entry page marked d e v w (Right next) = IsUnlogged (begun v (key + 4119)) d e v w
+    MarkIsLogged spelling key transaction entry page marked d e v w (Here slot before) = IsLogged (write_record key) d e v w (write_of spelling transaction entry.row entry.key before marked page e.seen w.shelf)
+    MarkIsLogged spelling key transaction entry page marked d e v w (Right next) = IsUnlogged (begun v (write_record key)) d e v w
 
     -- Something was changed, and is logged; or nothing was, and nothing is.
     abbrev pub IsLoggedIf : {D : Type 0} → ℕ → Device → Device → Volume D → Volume D → Rec → Bool → Type 0

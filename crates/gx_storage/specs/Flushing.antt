@@ -12,6 +12,7 @@ use Rattle.gx_glog.specs.declared.stage.Stage.TheVariants.{Idle}
 use Rattle.gx_glog.specs.declared.stage.Turn.{Turn}
 use Rattle.gx_glog.specs.declared.stage.Turn.TheVariants.{Closed}
 use Rattle.gx_glog.specs.State.{Log, turning}
+use Rattle.gx_glog.specs.declared.extent.TheConstants.{BODY_ROOM}
 use Rattle.gx_pool.specs.State.{State, IsWritable, NoneDirty, clean_count}
 use Rattle.gx_node.specs.Reading.{Format}
 use Rattle.gx_recovery.specs.Known.{Known, IsLawful}
@@ -61,7 +62,7 @@ Helps s Damaged result = result ≡ None
 
 -- the log has no room for a record: it doesn't fit, or a turn is under way
 abbrev pub HasNoRoom : Rec → Log → Type 0
-HasNoRoom x log = (32764 < length log.filling + length (spelling x)) ⊎ (1 ≤ turning log.turn)
+HasNoRoom x log = (BODY_ROOM < length log.filling + length (spelling x)) ⊎ (1 ≤ turning log.turn)
 
 -- a record was appended and nothing else has changed, or there was no room for it and nothing has
 abbrev pub Recorded : {D : Type 0} → Rec → Volume D → Volume D → Result (Unit {0}) StoreFault → Type 0
@@ -71,12 +72,12 @@ Recorded x v w (Err fault) = (fault ≡ NoRoom) × HasNoRoom x v.log × (w ≡ v
 -- a record came behind those of the head, or there was no room for it
 pub record GoesInHead (x : Rec) (old new : Log) : Type 0 where
   pub still : old.turn ≡ Closed
-  pub fits : length old.flight + length (spelling x) ≤ 32764
+  pub fits : length old.flight + length (spelling x) ≤ BODY_ROOM
   pub log : new ≡ record old { flight = old.flight ++ spelling x }
 
 abbrev pub PutInHead : {D : Type 0} → Rec → Volume D → Volume D → Result (Unit {0}) StoreFault → Type 0
 PutInHead x v w (Ok done) = GoesInHead x v.log w.log × (w ≡ record v { log = w.log })
-PutInHead x v w (Err fault) = (fault ≡ NoRoom) × ((32764 < length v.log.flight + length (spelling x)) ⊎ (1 ≤ turning v.log.turn)) × (w ≡ v)
+PutInHead x v w (Err fault) = (fault ≡ NoRoom) × ((BODY_ROOM < length v.log.flight + length (spelling x)) ⊎ (1 ≤ turning v.log.turn)) × (w ≡ v)
 
 -- the head's records are those of before and this one
 abbrev pub HeadHas : {E P : Type 0} → Reading E P → Record E P → Log → Log → Type 0

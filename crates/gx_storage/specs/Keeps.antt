@@ -20,6 +20,7 @@ use Rattle.gx_recovery.specs.Logged.{Logged, all_records, appended}
 use Rattle.gx_index_laws.specs.Classes.{Page, tree_in}
 use Rattle.gx_glog.specs.State.{Log}
 use Rattle.gx_glog.specs.declared.stage.Turn.TheVariants.{Closed}
+use Rattle.gx_glog.specs.declared.extent.TheConstants.{BODY_ROOM, PLACES}
 use Rattle.gx_durable.specs.Spelled.{Reading, record_read}
 use Rattle.gx_durable.specs.Standing.{Stands}
 use Rattle.gx_durable.specs.Stamps.{AllPlaced, AllSaid}
@@ -86,7 +87,7 @@ module _ {B : Type 0} (k : Known (Entry B) (Page B)) (r : Reading (Entry B) (Pag
 
 -- the log is longer by exactly this record, and nothing else of it has changed
 pub record Logs (x : Rec) (old new : Log) : Type 0 where
-  pub place : old.used < 32
+  pub place : old.used < PLACES
   pub still : old.turn ≡ Closed
-  pub fits : length old.filling + length (spelling x) ≤ 32764
+  pub fits : length old.filling + length (spelling x) ≤ BODY_ROOM
   pub log : new ≡ record old { filling = old.filling ++ spelling x }

@@ -6,6 +6,7 @@ pub mod Formed
 pub mod Giving
 pub mod Keeps
 pub mod Numbers
+pub mod Setting
 pub mod State
 pub mod Adds
 pub mod Sweeps

@@ -1,19 +1,20 @@
-//! The device calls of a checkpoint, one a call: the sync of the pages, the head of the renewed log, and the turn to the other extent.
+//! The device calls of a checkpoint, one a call: the sync of the pages, the head of the renewed log, and the turn to
+//! the other extent.
 ghost use Rattle.std.specs.Prelude.{◌≡◌, ◌↔◌, ◌⊎◌, ◌≤◌, [], length, true, IfErr, OnOk};
 ghost use Rattle.std.specs.Bool.{OnTrue, OnFalse};
 ghost use Rattle.gx_disk.specs.Device.{Counts, IsSettled};
 ghost use Rattle.gx_glog.specs.State.{in_flight, Turns};
-ghost use Rattle.gx_node.specs.Reading.{format_of, is_node};
+ghost use Rattle.gx_node.specs.Reading.{format_of};
 ghost use Rattle.gx_pool.specs.State.{IsSound, NoneDirty, dirty_count};
+ghost use Rattle.gx_pool.specs.declared.frames.TheConstants.{FRAMES};
 ghost use Rattle.gx_record.specs.Format.{IsInRange};
 ghost use Rattle.gx_record.specs.Rec.{Note};
 ghost use Rattle.gx_record.specs.Seen.{rec_of};
-ghost use Rattle.gx_recovery.specs.Known.{Limits};
 ghost use Rattle.gx_recovery.specs.Records as records;
 ghost use Rattle.gx_durable.specs.Turns.{HeadGrows, told_result};
-ghost use Rattle.gx_index_laws.specs.Classes.{known_of};
-ghost use Rattle.gx_readings.specs.Classes.{class_of, reading_of};
-ghost use Rattle.gx_storage.specs.Flushing.{HeadHas, KeepsOn, MayTurn, PutInHead, ReadyToTurn, TurnsOn};
+ghost use Rattle.gx_readings.specs.Classes.{reading_of};
+ghost use Rattle.gx_storage.specs.Flushing.{HeadHas, PutInHead, ReadyToTurn};
+ghost use Rattle.gx_storage.specs.Setting.{KeepsOnAs, MayTurnAs, TurnsOnAs};
 
 use crate::Storage;
 use crate::changes::set_mark::mark_of;
@@ -26,11 +27,11 @@ use gx_record::Record;
 use gx_store::StoreFault;
 
 impl<D: SectorDisk, K: ReadKeys> Storage<D, K> {
-    /// How many frames have a page with changes that aren't on the device: at most 4,096. Frames and the table of pages name each other, and
-    /// the event holds at most four pages.
+    /// How many frames have a page with changes that aren't on the device: at most 4,096. Frames and the table of
+    /// pages name each other, and the event holds at most four pages.
     pub fn dirty_frames(&self) -> usize
         ensures count { result ≡ dirty_count self.now.shelf.frames }
-        ensures few { result ≤ 4096 }
+        ensures few { result ≤ FRAMES }
         ensures zero { (result ≡ 0) ↔ NoneDirty self.now.shelf.frames }
         ensures sound { IsSound self.now.shelf.frames }
         ensures held { length self.now.shelf.frames.held ≤ 4 }
@@ -54,30 +55,33 @@ impl<D: SectorDisk, K: ReadKeys> Storage<D, K> {
         self.log.is_idle() && self.log.has_head() && self.store.dirty_frames() == 0
     }
 
-    /// Settles all that was written, in one device call. Pages and log are left as they stand. Refused with `Device` exactly
-    /// where the device failed.
+    /// Settles all that was written, in one device call. Pages and log are left as they stand. Refused with `Device`
+    /// exactly where the device failed.
     ///
-    /// Of an honest device, whether it succeeds or not: the same state is kept, and at each moment what a crash may leave stands for a
-    /// kept set.
+    /// Of an honest device, whether it succeeds or not: the same state is kept, and at each moment what a crash may
+    /// leave stands for a kept set.
     pub fn sync(&mut self) -> Result<(), Refusal>
         ensures counts { Counts 1 (D.state self.old.shelf.disk) (D.state self.new.shelf.disk) result }
         ensures only { self.new ≡ record self.old { shelf = record self.old.shelf { disk = self.new.shelf.disk } } }
-        ensures settled { (D.state self.old.shelf.disk).honest ≡ true → OnOk result (IsSettled (D.state self.new.shelf.disk)) }
+        ensures settled { (D.state self.old.shelf.disk).honest ≡ true
+            → OnOk result (IsSettled (D.state self.new.shelf.disk)) }
         ensures refusal { IfErr result (λ refusal. refusal ≡ Refusal.Device) }
-        ensures keeps { (l : Limits) → KeepsOn (known_of (class_of K.Key.Shape K.is_proper l)) (reading_of K.said (format_of K.KeyClass)) (format_of K.KeyClass) (is_node (format_of K.KeyClass)) (D.state self.old.shelf.disk) (D.state self.new.shelf.disk) self.old self.new }
+        ensures keeps { KeepsOnAs K.Key.Shape K.is_proper K.said K.KeyClass D.state self.old self.new }
     {
         self.store.sync::<OfClass<K>>()
     }
 
-    /// Puts a record behind those of the head, which a turn makes the other extent's first batch: the counters first, and then a note
-    /// for each entry that an open transaction wrote, by transaction, row and key. Nothing is written to the device. `NoRoom` exactly
-    /// where the body has none for it, or a turn is under way; nothing then changes. A batch that begins drops the head.
+    /// Puts a record behind those of the head, which a turn makes the other extent's first batch: the counters first,
+    /// and then a note for each entry that an open transaction wrote, by transaction, row and key. Nothing is written
+    /// to the device. `NoRoom` exactly where the body has none for it, or a turn is under way; nothing then changes.
+    /// A batch that begins drops the head.
     pub fn put_head(&mut self, logged: &Record<'_>) -> Result<(), StoreFault>
         requires in_range { IsInRange (rec_of logged.now) }
         requires idle { self.old.log.stage ≡ Stage.Idle }
         ensures puts { PutInHead (rec_of logged.now) self.old self.new result }
-        ensures head { OnOk result (HeadGrows (reading_of K.said (format_of K.KeyClass)) (rec_of logged.now) self.old.log self.new.log (Appended.At 0)) }
-        ensures keeps { (l : Limits) → KeepsOn (known_of (class_of K.Key.Shape K.is_proper l)) (reading_of K.said (format_of K.KeyClass)) (format_of K.KeyClass) (is_node (format_of K.KeyClass)) (D.state self.old.shelf.disk) (D.state self.new.shelf.disk) self.old self.new }
+        ensures head { OnOk result (HeadGrows (reading_of K.said (format_of K.KeyClass)) (rec_of logged.now)
+            self.old.log self.new.log (Appended.At 0)) }
+        ensures keeps { KeepsOnAs K.Key.Shape K.is_proper K.said K.KeyClass D.state self.old self.new }
     {
         match put_first::<OfClass<K>>(&mut self.log, logged) {
             Appended::At(_) => Ok(()),
@@ -85,8 +89,9 @@ impl<D: SectorDisk, K: ReadKeys> Storage<D, K> {
         }
     }
 
-    /// Puts the note of an entry that an open transaction wrote behind the records of the head, with its mark from before and the leaf
-    /// that it was last written on. Nothing is written to the device. `NoRoom` exactly as `put_head`; nothing then changes.
+    /// Puts the note of an entry that an open transaction wrote behind the records of the head, with its mark from
+    /// before and the leaf that it was last written on. Nothing is written to the device. `NoRoom` exactly as
+    /// `put_head`; nothing then changes.
     pub fn put_note(
         &mut self,
         transaction: u64,
@@ -97,8 +102,9 @@ impl<D: SectorDisk, K: ReadKeys> Storage<D, K> {
     ) -> Result<(), StoreFault>
         requires idle { self.old.log.stage ≡ Stage.Idle }
         ensures puts { PutInHead (Note transaction row (K.spelling key) before leaf) self.old self.new result }
-        ensures head { OnOk result (HeadHas (reading_of K.said (format_of K.KeyClass)) (records.Note transaction (record { row = row; key = key }) before leaf) self.old.log self.new.log) }
-        ensures keeps { (l : Limits) → KeepsOn (known_of (class_of K.Key.Shape K.is_proper l)) (reading_of K.said (format_of K.KeyClass)) (format_of K.KeyClass) (is_node (format_of K.KeyClass)) (D.state self.old.shelf.disk) (D.state self.new.shelf.disk) self.old self.new }
+        ensures head { OnOk result (HeadHas (reading_of K.said (format_of K.KeyClass))
+            (records.Note transaction (record { row = row; key = key }) before leaf) self.old.log self.new.log) }
+        ensures keeps { KeepsOnAs K.Key.Shape K.is_proper K.said K.KeyClass D.state self.old self.new }
     {
         K::known(&key);
         K::encode(key, &mut self.key);
@@ -115,23 +121,30 @@ impl<D: SectorDisk, K: ReadKeys> Storage<D, K> {
         }
     }
 
-    /// Makes the next device call of the turn to the other extent, exactly one, in this order: its gates closed, its first body, sync,
-    /// its gate, sync, the selector, sync. Answers which call it was; with `Done` the log goes on in the other extent behind the
-    /// head, and the frames are told. Pages are left as they stand. Refused with `Device` exactly where the device failed; the
-    /// call is then still due.
+    /// Makes the next device call of the turn to the other extent, exactly one, in this order: its gates closed, its
+    /// first body, sync, its gate, sync, the selector, sync. Answers which call it was; with `Done` the log goes on
+    /// in the other extent behind the head, and the frames are told. Pages are left as they stand. Refused with
+    /// `Device` exactly where the device failed; the call is then still due.
     ///
-    /// Of an honest device whose pages are settled, where the head is the log renewed: the same state is kept until the last call, and
-    /// after it the one with the renewed log alone. Whether it succeeds or not, no set changes, and at each moment what a crash may
-    /// leave stands for a kept set of the state before. That the turn may begin is said for a state that is kept where pages are settled
-    /// and the head is the log renewed; as long as it is under way it may go on.
+    /// Of an honest device whose pages are settled, where the head is the log renewed: the same state is kept until
+    /// the last call, and after it the one with the renewed log alone. Whether it succeeds or not, no set changes,
+    /// and at each moment what a crash may leave stands for a kept set of the state before. That the turn may begin
+    /// is said for a state that is kept where pages are settled and the head is the log renewed; as long as it is
+    /// under way it may go on.
     pub fn turn_step(&mut self) -> Result<Turn, Refusal>
         requires { ReadyToTurn self.old }
         ensures counts { Counts 1 (D.state self.old.shelf.disk) (D.state self.new.shelf.disk) result }
         ensures turns { Turns self.old.log self.new.log result }
-        ensures only { self.new ≡ record self.old { log = self.new.log; shelf = record self.old.shelf { disk = self.new.shelf.disk; frames = told_result result self.old.shelf.frames } } }
+        ensures only { self.new ≡ record self.old {
+          log = self.new.log;
+          shelf = record self.old.shelf {
+            disk = self.new.shelf.disk;
+            frames = told_result result self.old.shelf.frames;
+          };
+        } }
         ensures refusal { IfErr result (λ refusal. refusal ≡ Refusal.Device) }
-        ensures begins { (l : Limits) → MayTurn (known_of (class_of K.Key.Shape K.is_proper l)) (reading_of K.said (format_of K.KeyClass)) (format_of K.KeyClass) (is_node (format_of K.KeyClass)) (D.state self.old.shelf.disk) self.old }
-        ensures keeps { (l : Limits) → TurnsOn (known_of (class_of K.Key.Shape K.is_proper l)) (reading_of K.said (format_of K.KeyClass)) (format_of K.KeyClass) (is_node (format_of K.KeyClass)) (D.state self.old.shelf.disk) (D.state self.new.shelf.disk) self.old self.new result }
+        ensures begins { MayTurnAs K.Key.Shape K.is_proper K.said K.KeyClass D.state self.old }
+        ensures keeps { TurnsOnAs K.Key.Shape K.is_proper K.said K.KeyClass D.state self.old self.new result }
     {
         self.store.turn_step::<OfClass<K>>(&mut self.log)
     }

@@ -1,19 +1,18 @@
-//! What a flusher does: the log's next device call, a page's write, and the word of what is to be done where an event is refused.
+//! What a flusher does: the log's next device call, a page's write, and the word of what is to be done where an event
+//! is refused.
 ghost use Rattle.std.specs.Prelude.{◌≡◌, ◌+◌, ◌<◌, true, false, Some, Ok, IfErr, IfOk, OnOk, MatchResult};
 ghost use Rattle.gx_disk.specs.Device.{Counts};
 ghost use Rattle.gx_glog.specs.State.{calls_of, Goes};
-ghost use Rattle.gx_node.specs.Reading.{format_of, is_node};
+ghost use Rattle.gx_glog.specs.declared.extent.TheConstants.{PLACES};
 ghost use Rattle.gx_pool.specs.Marks.{is_gated};
 ghost use Rattle.gx_pool.specs.State.{Kept, kept, stamp_of};
 ghost use Rattle.gx_pool.specs.Writing.{WritesPage, WritesAtMost};
 ghost use Rattle.gx_record.specs.Format.{IsInRange};
 ghost use Rattle.gx_record.specs.Rec as rec;
 ghost use Rattle.gx_record.specs.Seen.{rec_of};
-ghost use Rattle.gx_recovery.specs.Known.{Limits};
 ghost use Rattle.gx_durable.specs.Steps.{told_frames};
-ghost use Rattle.gx_index_laws.specs.Classes.{known_of};
-ghost use Rattle.gx_readings.specs.Classes.{class_of, reading_of};
-ghost use Rattle.gx_storage.specs.Flushing.{GivesNoPage, Helps, HelpsFrames, IsLeastWritable, KeepsRecord, Recorded, StepsLog, WritesGated};
+ghost use Rattle.gx_storage.specs.Flushing.{GivesNoPage, Helps, HelpsFrames, IsLeastWritable, Recorded};
+ghost use Rattle.gx_storage.specs.Setting.{KeepsRecordAs, StepsLogAs, WritesGatedAs};
 
 use crate::Storage;
 use gx_disk::SectorDisk;
@@ -54,10 +53,11 @@ impl<D: SectorDisk, K: ReadKeys> Storage<D, K> {
         }
     }
 
-    /// What helps an event that was refused so. Want of room in the log: the log's next call, since its filling buffer is emptied
-    /// when a batch begins. Want of clean frames, where still fewer are clean: the write of the least page whose changes are all in
-    /// gated batches, and where no page is such, the log's next call, which gates more. Nothing helps against a device that fails
-    /// or lies, and nothing is to be done where as many frames are clean by now.
+    /// What helps an event that was refused so. Want of room in the log: the log's next call, since its filling
+    /// buffer is emptied when a batch begins. Want of clean frames, where still fewer are clean: the write of the
+    /// least page whose changes are all in gated batches, and where no page is such, the log's next call, which gates
+    /// more. Nothing helps against a device that fails or lies, and nothing is to be done where as many frames are
+    /// clean by now.
     pub fn help(&self, fault: StoreFault) -> Option<Help>
         ensures { Helps self.now.shelf fault result }
     {
@@ -68,46 +68,63 @@ impl<D: SectorDisk, K: ReadKeys> Storage<D, K> {
         }
     }
 
-    /// How many places of the selected extent are taken, the one in flight too. A record goes into the next one, so one has to
-    /// be left.
+    /// How many places of the selected extent are taken, the one in flight too. A record goes into the next one, so
+    /// one has to be left.
     pub fn places(&self) -> u8
         ensures { result ≡ self.now.log.used }
     {
         self.log.used()
     }
 
-    /// Makes the log's next device call, at most one, and tells the frames of a batch whose gate is synced. Answers which call it
-    /// was, and Idle where nothing is logged and none was made. Pages are left as they stand. Refused with `Device` exactly where
-    /// the device failed; the call is then still due.
+    /// Makes the log's next device call, at most one, and tells the frames of a batch whose gate is synced. Answers
+    /// which call it was, and Idle where nothing is logged and none was made. Pages are left as they stand. Refused
+    /// with `Device` exactly where the device failed; the call is then still due.
     ///
-    /// Of an honest device: what filled is in flight from its first call on, and its commits are durable from its gate's sync on, and
-    /// not before. Whether it succeeds or not, no set changes, and at each moment what a crash may leave stands for a kept set of
-    /// the state before.
+    /// Of an honest device: what filled is in flight from its first call on, and its commits are durable from its
+    /// gate's sync on, and not before. Whether it succeeds or not, no set changes, and at each moment what a crash
+    /// may leave stands for a kept set of the state before.
     pub fn log_step(&mut self) -> Result<Stage, Refusal>
         ensures counts { Counts (calls_of result) (D.state self.old.shelf.disk) (D.state self.new.shelf.disk) result }
         ensures goes { Goes self.old.log self.new.log result }
-        ensures only { self.new ≡ record self.old { log = self.new.log; shelf = record self.old.shelf { disk = self.new.shelf.disk; frames = told_frames result self.new.log self.old.shelf.frames } } }
+        ensures only { self.new ≡ record self.old {
+          log = self.new.log;
+          shelf = record self.old.shelf {
+            disk = self.new.shelf.disk;
+            frames = told_frames result self.new.log self.old.shelf.frames;
+          };
+        } }
         ensures refusal { IfErr result (λ refusal. refusal ≡ Refusal.Device) }
-        ensures keeps { (l : Limits) → StepsLog (known_of (class_of K.Key.Shape K.is_proper l)) (reading_of K.said (format_of K.KeyClass)) (format_of K.KeyClass) (is_node (format_of K.KeyClass)) (D.state self.old.shelf.disk) (D.state self.new.shelf.disk) self.old self.new result }
+        ensures keeps { StepsLogAs K.Key.Shape K.is_proper K.said K.KeyClass D.state self.old self.new result }
     {
         self.store.log_step::<OfClass<K>>(&mut self.log)
     }
 
-    /// Writes a page to its sectors, where it has changes and all of them are in gated batches, and answers whether that was so; else
-    /// nothing is done. A page that was written is clean. Refused with `Device` exactly where the device failed; the page is then
-    /// kept as it was, with its changes.
+    /// Writes a page to its sectors, where it has changes and all of them are in gated batches, and answers whether
+    /// that was so; else nothing is done. A page that was written is clean. Refused with `Device` exactly where the
+    /// device failed; the page is then kept as it was, with its changes.
     ///
-    /// Of an honest device, while no turn is under way: whether it succeeds or not, the same records stand over the page area that
-    /// is read now, no set changes, and at each moment what a crash may leave stands for a kept set of the state before.
+    /// Of an honest device, while no turn is under way: whether it succeeds or not, the same records stand over the
+    /// page area that is read now, no set changes, and at each moment what a crash may leave stands for a kept set of
+    /// the state before.
     pub fn write_page(&mut self, page: u32) -> Result<bool, Refusal>
-        ensures answer { IfOk result (λ written. written ≡ is_gated self.old.shelf.frames.gated (stamp_of (kept self.old.shelf.frames page))) }
-        ensures idle { is_gated self.old.shelf.frames.gated (stamp_of (kept self.old.shelf.frames page)) ≡ false → (result ≡ Ok false) × (self.new ≡ self.old) }
-        ensures written { (k : Kept) → kept self.old.shelf.frames page ≡ Some k → is_gated self.old.shelf.frames.gated k.stamp ≡ true → WritesPage (D.state self.old.shelf.disk) (D.state self.new.shelf.disk) self.old.shelf.frames self.new.shelf.frames page k result }
-        ensures at_most { WritesAtMost (D.state self.old.shelf.disk) (D.state self.new.shelf.disk) self.old.shelf.frames self.new.shelf.frames page }
-        ensures only { self.new ≡ record self.old { shelf = record self.old.shelf { disk = self.new.shelf.disk; frames = self.new.shelf.frames } } }
-        ensures faults { MatchResult result (λ _. (D.state self.new.shelf.disk).faults ≡ (D.state self.old.shelf.disk).faults) (λ _. (D.state self.new.shelf.disk).faults ≡ (D.state self.old.shelf.disk).faults + 1) }
+        ensures answer { IfOk result (λ written. written ≡ is_gated self.old.shelf.frames.gated
+            (stamp_of (kept self.old.shelf.frames page))) }
+        ensures idle { is_gated self.old.shelf.frames.gated (stamp_of (kept self.old.shelf.frames page)) ≡ false
+            → (result ≡ Ok false) × (self.new ≡ self.old) }
+        ensures written { (k : Kept) → kept self.old.shelf.frames page ≡ Some k
+            → is_gated self.old.shelf.frames.gated k.stamp ≡ true
+            → WritesPage (D.state self.old.shelf.disk) (D.state self.new.shelf.disk) self.old.shelf.frames
+            self.new.shelf.frames page k result }
+        ensures at_most { WritesAtMost (D.state self.old.shelf.disk) (D.state self.new.shelf.disk) self.old.shelf.frames
+            self.new.shelf.frames page }
+        ensures only { self.new ≡ record self.old
+            { shelf = record self.old.shelf { disk = self.new.shelf.disk; frames = self.new.shelf.frames } } }
+        ensures faults { MatchResult result (λ _. (D.state self.new.shelf.disk).faults
+            ≡ (D.state self.old.shelf.disk).faults) (λ _. (D.state self.new.shelf.disk).faults
+            ≡ (D.state self.old.shelf.disk).faults + 1) }
         ensures refusal { IfErr result (λ refusal. refusal ≡ Refusal.Device) }
-        ensures keeps { is_gated self.old.shelf.frames.gated (stamp_of (kept self.old.shelf.frames page)) ≡ true → (l : Limits) → WritesGated (known_of (class_of K.Key.Shape K.is_proper l)) (reading_of K.said (format_of K.KeyClass)) (format_of K.KeyClass) (is_node (format_of K.KeyClass)) (D.state self.old.shelf.disk) (D.state self.new.shelf.disk) self.old self.new }
+        ensures keeps { is_gated self.old.shelf.frames.gated (stamp_of (kept self.old.shelf.frames page)) ≡ true
+            → WritesGatedAs K.Key.Shape K.is_proper K.said K.KeyClass D.state self.old self.new }
     {
         self.store.write_page::<OfClass<K>>(page)
     }
@@ -115,9 +132,11 @@ impl<D: SectorDisk, K: ReadKeys> Storage<D, K> {
     // Appends a record that gives no page.
     fn append(&mut self, logged: &Record<'_>) -> Result<(), StoreFault>
         requires in_range { IsInRange (rec_of logged.now) }
-        requires place { self.old.log.used < 32 }
+        requires place { self.old.log.used < PLACES }
         ensures recorded { Recorded (rec_of logged.now) self.old self.new result }
-        ensures keeps { GivesNoPage (rec_of logged.now) → OnOk result ((l : Limits) → KeepsRecord (known_of (class_of K.Key.Shape K.is_proper l)) (reading_of K.said (format_of K.KeyClass)) (format_of K.KeyClass) (is_node (format_of K.KeyClass)) (D.state self.old.shelf.disk) self.old self.new (rec_of logged.now)) }
+        ensures keeps { GivesNoPage (rec_of logged.now)
+            → OnOk result (KeepsRecordAs K.Key.Shape K.is_proper K.said K.KeyClass D.state self.old self.new
+            (rec_of logged.now)) }
     {
         match append::<OfClass<K>>(&mut self.log, logged) {
             Appended::At(_) => Ok(()),
@@ -125,12 +144,13 @@ impl<D: SectorDisk, K: ReadKeys> Storage<D, K> {
         }
     }
 
-    /// Appends the record that a transaction commits, as the commit of that number. Nothing is written to the device, and the pages
-    /// stay as they stand. `NoRoom` exactly where the log has no room for it; nothing then changes.
+    /// Appends the record that a transaction commits, as the commit of that number. Nothing is written to the device,
+    /// and the pages stay as they stand. `NoRoom` exactly where the log has no room for it; nothing then changes.
     pub fn append_commit(&mut self, transaction: u64, number: u64) -> Result<(), StoreFault>
-        requires place { self.old.log.used < 32 }
+        requires place { self.old.log.used < PLACES }
         ensures recorded { Recorded (rec.Commit transaction number) self.old self.new result }
-        ensures keeps { OnOk result ((l : Limits) → KeepsRecord (known_of (class_of K.Key.Shape K.is_proper l)) (reading_of K.said (format_of K.KeyClass)) (format_of K.KeyClass) (is_node (format_of K.KeyClass)) (D.state self.old.shelf.disk) self.old self.new (rec.Commit transaction number)) }
+        ensures keeps { OnOk result (KeepsRecordAs K.Key.Shape K.is_proper K.said K.KeyClass D.state self.old self.new
+            (rec.Commit transaction number)) }
     {
         self.append(&Record::Commit {
             tx: transaction,
@@ -138,12 +158,13 @@ impl<D: SectorDisk, K: ReadKeys> Storage<D, K> {
         })
     }
 
-    /// Appends the record that a transaction's undo is done. Nothing is written to the device, and the pages stay as they stand.
-    /// `NoRoom` exactly where the log has no room for it; nothing then changes.
+    /// Appends the record that a transaction's undo is done. Nothing is written to the device, and the pages stay as
+    /// they stand. `NoRoom` exactly where the log has no room for it; nothing then changes.
     pub fn append_end(&mut self, transaction: u64) -> Result<(), StoreFault>
-        requires place { self.old.log.used < 32 }
+        requires place { self.old.log.used < PLACES }
         ensures recorded { Recorded (rec.End transaction) self.old self.new result }
-        ensures keeps { OnOk result ((l : Limits) → KeepsRecord (known_of (class_of K.Key.Shape K.is_proper l)) (reading_of K.said (format_of K.KeyClass)) (format_of K.KeyClass) (is_node (format_of K.KeyClass)) (D.state self.old.shelf.disk) self.old self.new (rec.End transaction)) }
+        ensures keeps { OnOk result (KeepsRecordAs K.Key.Shape K.is_proper K.said K.KeyClass D.state self.old self.new
+            (rec.End transaction)) }
     {
         self.append(&Record::End { tx: transaction })
     }

@@ -1,5 +1,5 @@
-//! A tree's pages in frames over a device, with their log: each change of a page goes with the record that gives it, or nothing is
-//! changed.
+//! A tree's pages in frames over a device, with their log: each change of a page goes with the record that gives it,
+//! or nothing is changed.
 #![tactic(auto)]
 
 mod changes;

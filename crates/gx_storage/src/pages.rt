@@ -3,16 +3,14 @@ ghost use Rattle.std.specs.Prelude.{◌≡◌, ◌≢◌, ◌≤◌, ◌<◌, na
 ghost use Rattle.gx_machine.specs.declared.entry.Entry.{Entry};
 ghost use Rattle.gx_node.specs.Edits.{entry_of};
 ghost use Rattle.gx_node.specs.Reading.{format_of, is_node};
-ghost use Rattle.gx_readings.specs.Classes.{reading_of};
-ghost use Rattle.gx_store.specs.Faults as faults;
-ghost use Rattle.gx_store.specs.Standing.{standing, store_of};
-ghost use Rattle.gx_store.specs.State.{IsHeld, IsSteady};
+ghost use Rattle.gx_store.specs.Standing.{standing};
+ghost use Rattle.gx_store.specs.State.{IsHeld};
 ghost use Rattle.gx_tree_laws.specs.Lists.{how_many};
 ghost use Rattle.gx_tree_laws.specs.Trees.{Pair};
 ghost use Rattle.gx_tree_laws.specs.Writes.{is_sweepable};
-ghost use Rattle.gx_node.specs.Store.{Stays, node_of, tree_of};
+ghost use Rattle.gx_node.specs.Store.{node_of};
 ghost use Rattle.gx_storage.specs.Bringing.{bringing, has_removable};
-ghost use Rattle.gx_storage.specs.Changes.{IsUnlogged, known_at};
+ghost use Rattle.gx_storage.specs.Setting.{FaultsAs, StaysAs, UnloggedAs, tree_at};
 
 use crate::Storage;
 use crate::changes::room::begin_reading;
@@ -33,7 +31,8 @@ fn is_removable<K: KeyClass, F: Fn(Entry<K::Key>) -> bool>(
 ) -> bool
     requires slot { slot < length leaf.now.pairs }
     requires claimed { F.IsAlwaysCallable claimed.now }
-    ensures { (test : Entry K.Key → Bool) → ((entry : Entry K.Key) (answer : Bool) → F.post claimed.now entry answer → answer ≡ test entry)
+    ensures { (test : Entry K.Key → Bool)
+        → ((entry : Entry K.Key) (answer : Bool) → F.post claimed.now entry answer → answer ≡ test entry)
         → (x : Pair K.Key) → slice_get leaf.now.pairs slot ≡ Some x → result ≡ is_sweepable (λ x. test (entry_of x)) x }
 {
     let (entry, marked) = leaf.entry(slot);
@@ -43,7 +42,8 @@ fn is_removable<K: KeyClass, F: Fn(Entry<K::Key>) -> bool>(
 /// Whether a leaf has a marked pair that nobody claims.
 fn any_removable<K: KeyClass, F: Fn(Entry<K::Key>) -> bool>(leaf: &Leaf<K>, claimed: &F) -> bool
     requires claimed { F.IsAlwaysCallable claimed.now }
-    ensures { (test : Entry K.Key → Bool) → ((entry : Entry K.Key) (answer : Bool) → F.post claimed.now entry answer → answer ≡ test entry)
+    ensures { (test : Entry K.Key → Bool)
+        → ((entry : Entry K.Key) (answer : Bool) → F.post claimed.now entry answer → answer ≡ test entry)
         → result ≡ nat_lt 0 (how_many (is_sweepable (λ x. test (entry_of x))) leaf.now.pairs) }
 {
     for slot in 0..leaf.len() {
@@ -55,20 +55,19 @@ fn any_removable<K: KeyClass, F: Fn(Entry<K::Key>) -> bool>(leaf: &Leaf<K>, clai
 }
 
 impl<D: SectorDisk, K: ReadKeys> Storage<D, K> {
-    /// Brings a page that is taken into a frame, where it is held until pages are brought again. Nothing is logged, and whether it
-    /// succeeds or not no node has changed.
+    /// Brings a page that is taken into a frame, where it is held until pages are brought again. Nothing is logged,
+    /// and whether it succeeds or not no node has changed.
     ///
-    /// Refused with `TooFewFrames` where no frame is clean, with `Device` where the device failed, and with `Damaged` where what the
-    /// device has there is no page of that number, or no node of the class.
+    /// Refused with `TooFewFrames` where no frame is clean, with `Device` where the device failed, and with `Damaged`
+    /// where what the device has there is no page of that number, or no node of the class.
     pub fn bring(&mut self, page: u32) -> Result<(), StoreFault>
         requires from { 1 ≤ page }
         requires to { page ≤ self.old.shelf.used }
-        ensures unlogged { IsUnlogged (known_at K.Key.Shape K.is_proper) (reading_of K.said (format_of K.KeyClass)) (format_of K.KeyClass) (is_node (format_of K.KeyClass))
-            (bringing self.old) (D.state self.old.shelf.disk) (D.state self.new.shelf.disk) self.old self.new }
-        ensures stays { Stays (IsSteady (D.state self.old.shelf.disk) self.old.shelf.frames) (store_of (format_of K.KeyClass) (D.state self.old.shelf.disk).seen self.old.shelf)
-            (store_of (format_of K.KeyClass) (D.state self.new.shelf.disk).seen self.new.shelf) }
+        ensures unlogged { UnloggedAs K.Key.Shape K.is_proper K.said K.KeyClass D.state (bringing self.old) self.old
+            self.new }
+        ensures stays { StaysAs K.KeyClass D.state self.old.shelf self.new.shelf }
         ensures held { OnOk result (IsHeld self.new.shelf page) }
-        ensures why { IfErr result (faults.IsWhy (is_node (format_of K.KeyClass)) (D.state self.old.shelf.disk) (D.state self.new.shelf.disk) (bringing self.old) self.new.shelf) }
+        ensures why { IfErr result (FaultsAs K.KeyClass D.state (bringing self.old) self.new.shelf) }
         ensures room { result ≢ Err StoreFault.NoRoom }
     {
         begin_reading(&self.log, &mut self.store);
@@ -79,7 +78,8 @@ impl<D: SectorDisk, K: ReadKeys> Storage<D, K> {
     pub fn held_page(&self, page: u32) -> &Page
         requires { IsHeld self.now.shelf page }
         ensures stands { result.now ≡ standing self.now.shelf.frames (D.state self.now.shelf.disk).seen page }
-        ensures node { node_of (format_of K.KeyClass) result.now ≡ (tree_of (store_of (format_of K.KeyClass) (D.state self.now.shelf.disk).seen self.now.shelf)).node page }
+        ensures node { node_of (format_of K.KeyClass) result.now
+            ≡ (tree_at K.KeyClass D.state self.now.shelf).node page }
         ensures number { result.now.number ≡ page }
         ensures passes { is_node (format_of K.KeyClass) self.now.shelf.pages result.now ≡ true }
     {
@@ -87,12 +87,14 @@ impl<D: SectorDisk, K: ReadKeys> Storage<D, K> {
         self.store.held_page(page)
     }
 
-    /// Whether a sweep takes anything from a page that is held: it is a leaf that has a marked pair that nobody claims. Nothing changes.
+    /// Whether a sweep takes anything from a page that is held: it is a leaf that has a marked pair that nobody
+    /// claims. Nothing changes.
     pub fn has_removable<F: Fn(Entry<K::Key>) -> bool>(&self, page: u32, claimed: F) -> bool
         requires held { IsHeld self.now.shelf page }
         requires claimed { F.IsAlwaysCallable claimed }
-        ensures { (test : Entry K.Key → Bool) → ((entry : Entry K.Key) (answer : Bool) → F.post claimed entry answer → answer ≡ test entry)
-            → result ≡ has_removable test ((tree_of (store_of (format_of K.KeyClass) (D.state self.now.shelf.disk).seen self.now.shelf)).node page) }
+        ensures { (test : Entry K.Key → Bool)
+            → ((entry : Entry K.Key) (answer : Bool) → F.post claimed entry answer → answer ≡ test entry)
+            → result ≡ has_removable test ((tree_at K.KeyClass D.state self.now.shelf).node page) }
     {
         let held = self.held_page(page);
         held.level() == 0 && any_removable(&Leaf::<K>::of(held), &claimed)

@@ -1,19 +1,13 @@
 //! The tree's steps that read, over pages with their log.
 ghost use Rattle.std.specs.Prelude.{◌≡◌, ◌≢◌, ◌<◌, ◌++◌, ◌∷◌, [], length, List, Err, IfOk, IfErr, OnOk, OnErr};
-ghost use Rattle.gx_node.specs.Reading.{format_of, is_node};
-ghost use Rattle.gx_readings.specs.Classes.{reading_of};
-ghost use Rattle.gx_store.specs.Faults as faults;
-ghost use Rattle.gx_store.specs.Standing.{store_of};
-ghost use Rattle.gx_store.specs.State.{IsHeld, IsSteady};
+ghost use Rattle.gx_store.specs.State.{IsHeld};
 ghost use Rattle.gx_tree_laws.specs.Reach as reach;
 ghost use Rattle.gx_tree_laws.specs.Trees.{Used};
 ghost use Rattle.gx_tree.specs.Looking.{LookStep};
-ghost use Rattle.gx_node.specs.Owner.{IsWhy};
 ghost use Rattle.gx_tree.specs.Seeking.{Seeks};
-ghost use Rattle.gx_node.specs.Store.{Stays, tree_of};
 ghost use Rattle.gx_tree.specs.Wants.{wants};
 ghost use Rattle.gx_storage.specs.Bringing.{bringing};
-ghost use Rattle.gx_storage.specs.Changes.{IsUnlogged, known_at};
+ghost use Rattle.gx_storage.specs.Setting.{IsWhyAs, StaysAs, UnloggedAs, tree_at};
 
 use crate::Storage;
 use crate::changes::room::begin_reading;
@@ -24,27 +18,27 @@ use gx_store::StoreFault;
 use gx_tree::{Look, Sought, StepFault, Wanted};
 
 impl<D: SectorDisk, K: ReadKeys + Probing> Storage<D, K> {
-    /// Reads the page of a look's next item, as the tree's `look_step` says. Nothing is logged and no room in the log is asked for, and
-    /// whether it succeeds or not no node has changed.
+    /// Reads the page of a look's next item, as the tree's `look_step` says. Nothing is logged and no room in the log
+    /// is asked for, and whether it succeeds or not no node has changed.
     ///
-    /// Refused with `Pages` where the page could not be brought, `Damaged` where the item names no page that is taken: the look is
-    /// then as it was. And with `Memory` where that is refused; the look is of no use then.
+    /// Refused with `Pages` where the page could not be brought, `Damaged` where the item names no page that is
+    /// taken: the look is then as it was. And with `Memory` where that is refused; the look is of no use then.
     pub fn look_step(
         &mut self,
         wanted: &Wanted<K>,
         look: &mut Look<K::Key>,
     ) -> Result<(), StepFault<StoreFault>>
         requires { 0 < length look.old.stack.items }
-        ensures unlogged { IsUnlogged (known_at K.Key.Shape K.is_proper) (reading_of K.said (format_of K.KeyClass)) (format_of K.KeyClass) (is_node (format_of K.KeyClass))
-            (bringing self.old) (D.state self.old.shelf.disk) (D.state self.new.shelf.disk) self.old self.new }
-        ensures stays { Stays (IsSteady (D.state self.old.shelf.disk) self.old.shelf.frames) (store_of (format_of K.KeyClass) (D.state self.old.shelf.disk).seen self.old.shelf)
-            (store_of (format_of K.KeyClass) (D.state self.new.shelf.disk).seen self.new.shelf) }
-        ensures step { OnOk result (LookStep (tree_of (store_of (format_of K.KeyClass) (D.state self.new.shelf.disk).seen self.new.shelf)) (wants K.passes wanted.now.keys wanted.now.row)
-            (K.passes wanted.now.bounds) look.old.stack.items look.new.stack.items look.old.found.items look.new.found.items) }
-        ensures why { IfErr result (IsWhy (faults.IsWhy (is_node (format_of K.KeyClass)) (D.state self.old.shelf.disk) (D.state self.new.shelf.disk) (bringing self.old) self.new.shelf)) }
+        ensures unlogged { UnloggedAs K.Key.Shape K.is_proper K.said K.KeyClass D.state (bringing self.old) self.old
+            self.new }
+        ensures stays { StaysAs K.KeyClass D.state self.old.shelf self.new.shelf }
+        ensures step { OnOk result (LookStep (tree_at K.KeyClass D.state self.new.shelf)
+            (wants K.passes wanted.now.keys wanted.now.row) (K.passes wanted.now.bounds) look.old.stack.items
+            look.new.stack.items look.old.found.items look.new.found.items) }
+        ensures why { IfErr result (IsWhyAs K.KeyClass D.state (bringing self.old) self.new.shelf) }
         ensures room { result ≢ Err (StepFault.Pages StoreFault.NoRoom) }
-        ensures damaged { result ≡ Err StepFault.Damaged → (rest : List reach.Item) (item : reach.Item) → look.old.stack.items ≡ rest ++ item ∷ []
-            → ¬ Used (tree_of (store_of (format_of K.KeyClass) (D.state self.new.shelf.disk).seen self.new.shelf)) item.page }
+        ensures damaged { result ≡ Err StepFault.Damaged → (rest : List reach.Item) (item : reach.Item)
+            → look.old.stack.items ≡ rest ++ item ∷ [] → ¬ Used (tree_at K.KeyClass D.state self.new.shelf) item.page }
         ensures refused { OnErr result (result ≢ Err StepFault.Memory → look.new ≡ look.old) }
         ensures full { result ≢ Err StepFault.PagesFull }
     {
@@ -52,25 +46,26 @@ impl<D: SectorDisk, K: ReadKeys + Probing> Storage<D, K> {
         gx_tree::look_step(&mut self.store, wanted, look)
     }
 
-    /// Looks for a pair in the leaf on a page, as the tree's `seek_step` says. Nothing is logged and no room in the log is asked for, and
-    /// whether it succeeds or not no node has changed.
+    /// Looks for a pair in the leaf on a page, as the tree's `seek_step` says. Nothing is logged and no room in the
+    /// log is asked for, and whether it succeeds or not no node has changed.
     ///
-    /// Refused with `Pages` where the page could not be brought, and with `Damaged` only where it isn't a leaf that is taken.
+    /// Refused with `Pages` where the page could not be brought, and with `Damaged` only where it isn't a leaf that
+    /// is taken.
     pub fn seek_step(
         &mut self,
         wanted: &Wanted<K>,
         page: u32,
     ) -> Result<Sought, StepFault<StoreFault>>
-        ensures unlogged { IsUnlogged (known_at K.Key.Shape K.is_proper) (reading_of K.said (format_of K.KeyClass)) (format_of K.KeyClass) (is_node (format_of K.KeyClass))
-            (bringing self.old) (D.state self.old.shelf.disk) (D.state self.new.shelf.disk) self.old self.new }
-        ensures stays { Stays (IsSteady (D.state self.old.shelf.disk) self.old.shelf.frames) (store_of (format_of K.KeyClass) (D.state self.old.shelf.disk).seen self.old.shelf)
-            (store_of (format_of K.KeyClass) (D.state self.new.shelf.disk).seen self.new.shelf) }
+        ensures unlogged { UnloggedAs K.Key.Shape K.is_proper K.said K.KeyClass D.state (bringing self.old) self.old
+            self.new }
+        ensures stays { StaysAs K.KeyClass D.state self.old.shelf self.new.shelf }
         ensures held { OnOk result (IsHeld self.new.shelf page) }
-        ensures sought { IfOk result (Seeks (wants K.passes wanted.now.keys wanted.now.row) ((tree_of (store_of (format_of K.KeyClass) (D.state self.new.shelf.disk).seen self.new.shelf)).node page)) }
-        ensures why { IfErr result (IsWhy (faults.IsWhy (is_node (format_of K.KeyClass)) (D.state self.old.shelf.disk) (D.state self.new.shelf.disk) (bringing self.old) self.new.shelf)) }
+        ensures sought { IfOk result (Seeks (wants K.passes wanted.now.keys wanted.now.row)
+            ((tree_at K.KeyClass D.state self.new.shelf).node page)) }
+        ensures why { IfErr result (IsWhyAs K.KeyClass D.state (bringing self.old) self.new.shelf) }
         ensures room { result ≢ Err (StepFault.Pages StoreFault.NoRoom) }
-        ensures damaged { result ≡ Err StepFault.Damaged → Used (tree_of (store_of (format_of K.KeyClass) (D.state self.new.shelf.disk).seen self.new.shelf)) page
-            → ((tree_of (store_of (format_of K.KeyClass) (D.state self.new.shelf.disk).seen self.new.shelf)).node page).level ≢ 0 }
+        ensures damaged { result ≡ Err StepFault.Damaged → Used (tree_at K.KeyClass D.state self.new.shelf) page
+            → ((tree_at K.KeyClass D.state self.new.shelf).node page).level ≢ 0 }
         ensures memory { result ≢ Err StepFault.Memory }
         ensures full { result ≢ Err StepFault.PagesFull }
     {

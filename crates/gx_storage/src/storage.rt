@@ -36,8 +36,8 @@ impl<D: SectorDisk, K: ReadKeys> Storage<D, K> {
     ghost use Rattle.gx_node.specs.Reading.{format_of, is_node};
     ghost use Rattle.gx_store.specs.State.{IsInOrder};
 
-    /// A log, the pages of a tree whose nodes have at most `most` entries, and a buffer of a key's size, from which records lend
-    /// keys.
+    /// A log, the pages of a tree whose nodes have at most `most` entries, and a buffer of a key's size, from which
+    /// records lend keys.
     pub fn new(log: Glog, store: PageStore<D, K>, most: usize, key: Vec<u8>) -> Storage<D, K>
         requires most { most ≤ MAX_ENTRIES }
         requires key { length key.items ≡ K.KEY }
@@ -51,10 +51,11 @@ impl<D: SectorDisk, K: ReadKeys> Storage<D, K> {
         }
     }
 
-    /// What always holds of the pages: they fit the device, each that is kept is a node of the class under its own number, and none is
-    /// kept that isn't taken.
+    /// What always holds of the pages: they fit the device, each that is kept is a node of the class under its own
+    /// number, and none is kept that isn't taken.
     pub fn in_order(&self)
-        ensures { IsInOrder (is_node (format_of K.KeyClass) self.now.shelf.pages) (D.state self.now.shelf.disk).sectors self.now.shelf.frames self.now.shelf.used self.now.shelf.pages }
+        ensures { IsInOrder (is_node (format_of K.KeyClass) self.now.shelf.pages) (D.state self.now.shelf.disk).sectors
+            self.now.shelf.frames self.now.shelf.used self.now.shelf.pages }
     {
         self.store.in_order()
     }

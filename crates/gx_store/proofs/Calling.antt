@@ -2,6 +2,7 @@
 use Rattle.std.proofs.Common.{◌≡◌, ◌∙◌, ◌⊎◌, sym, ap, refl, inl, inr, subst, ℕ, ◌+◌, ◌-◌, ◌*◌, ◌<◌, ◌≤◌, Bool, true, false, Option, None, Some, Result, Ok, Err, arith}
 use Rattle.std.specs.Prelude.{nat_lt}
 use Rattle.std.proofs.lemmas.Bool.{le-ltb, lt-ltb}
+use Rattle.gx_disk.specs.declared.layout.TheConstants.{PAGES_AT, PAGE_SECTORS}
 use Rattle.gx_disk.specs.Device.{Device}
 use Rattle.gx_geom.specs.declared.refusal.Refusal.{Refusal}
 use Rattle.gx_glog.specs.declared.stage.Stage.{Stage}
@@ -126,7 +127,7 @@ none_still (Some k) p same is = cc
 pub write_in_order : (passes : Contents → Bool) (sectors now used pages page : ℕ) (d e : Device) (old new : State) → now ≡ sectors → IsInOrder passes sectors old used pages → (IsPassed passes old → IsPassed passes new)
     → WritesAtMost d e old new page → IsInOrder passes now new used pages
 write_in_order passes sectors now used pages page d e old new same order passing most =
-    let S : ℕ → Type 0 = λ n. 4168 + 8 * pages ≤ n in
+    let S : ℕ → Type 0 = λ n. PAGES_AT + PAGE_SECTORS * pages ≤ n in
     record {
       few = order.few;
       inside = subst S (sym same) order.inside;

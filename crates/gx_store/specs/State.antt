@@ -1,5 +1,6 @@
 -- What contracts see of a store of pages.
 use Rattle.std.specs.Prelude.{◌≡◌, ℕ, ◌+◌, ◌*◌, ◌<◌, ◌≤◌, Bool, true, false, not, ◌&&◌, is_none, None, Some, IsSome}
+use Rattle.gx_disk.specs.declared.layout.TheConstants.{MAX_PAGES, PAGES_AT, PAGE_SECTORS}
 use Rattle.gx_disk.specs.Device.{Device}
 use Rattle.gx_page.specs.Contents.{Contents}
 use Rattle.gx_pool.specs.Laws.{IsBacked, IsPassed}
@@ -25,8 +26,8 @@ pub record Shelf (D : Type 0) : Type 0 where
 -- The pages fit the device and those that are taken are some of them; each kept page has its own number and passes the test; and
 -- no page beyond those that are taken is kept.
 pub record IsInOrder (passes : Contents → Bool) (sectors : ℕ) (frames : State) (used pages : ℕ) : Type 0 where
-  pub few : pages ≤ 65536
-  pub inside : 4168 + 8 * pages ≤ sectors
+  pub few : pages ≤ MAX_PAGES
+  pub inside : PAGES_AT + PAGE_SECTORS * pages ≤ sectors
   pub taken : used ≤ pages
   pub passed : IsPassed passes frames
   pub none_above : (page : ℕ) → used < page → kept frames page ≡ None

@@ -1,16 +1,17 @@
 //! What whoever keeps the log beside the pages has the store's frames and device do.
-ghost use Rattle.std.specs.Prelude.{◌≡◌, ◌↔◌, ◌+◌, ◌≤◌, ℕ, Bool, [], true, false, Some, Ok, IfSome, IfNone, IfOk, IfErr, OnOk, MatchResult, length};
-ghost use Rattle.gx_disk.specs.Device.{Counts, IsSettled};
+ghost use Rattle.std.specs.Prelude.{◌≡◌, ◌↔◌, ◌≤◌, ℕ, [], true, false, Ok};
+ghost use Rattle.std.specs.Prelude.{IfSome, IfNone, IfOk, IfErr, OnOk, length};
+ghost use Rattle.gx_disk.specs.Device.{Counts, IsSettled, SameDevice, CountsFault};
 ghost use Rattle.gx_glog.specs.Standing.{On};
 ghost use Rattle.gx_glog.specs.State.{calls_of, Goes, Turns};
 ghost use Rattle.gx_node.specs.Reading.{format_of, is_node};
+ghost use Rattle.gx_pool.specs.declared.frames.TheConstants.{FRAMES};
 ghost use Rattle.gx_pool.specs.Area.{IsPage};
 ghost use Rattle.gx_pool.specs.Elsewhere.{LeavesPages};
-ghost use Rattle.gx_pool.specs.Laws.{IsBacked, IsPassed};
-ghost use Rattle.gx_pool.specs.Marks.{is_gated};
-ghost use Rattle.gx_pool.specs.Readable.{IsReadable};
-ghost use Rattle.gx_pool.specs.State.{Kept, IsSound, IsWritable, NoneDirty, clean_count, dirty_count, kept, stamp_of};
-ghost use Rattle.gx_pool.specs.Writing.{WritesPage, WritesAtMost, KeepsShown};
+ghost use Rattle.gx_pool.specs.Laws.{IsPassed};
+ghost use Rattle.gx_pool.specs.Readable.{StaysReadable};
+ghost use Rattle.gx_pool.specs.State.{IsSound, IsWritable, NoneDirty, clean_count, dirty_count};
+ghost use Rattle.gx_pool.specs.Writing.{WritesAtMost, may_be_written, WritesGated, StaysShown};
 ghost use Rattle.gx_recovery.specs.Known.{Limits};
 ghost use Rattle.gx_durable.specs.Calls.{StepKeepsRunning};
 ghost use Rattle.gx_durable.specs.Pages.{PageKeepsRunning};
@@ -31,24 +32,28 @@ use gx_geom::Refusal;
 use gx_glog::{Glog, Stage, Turn};
 use gx_pool::{PageTest, Pool};
 
-// Writes a page, where it has changes and all of them are in gated batches, and answers whether that was so: then one frame fewer is
-// dirty.
+// Writes a page, where it has changes and all of them are in gated batches, and answers whether that was so:
+// then one frame fewer is dirty.
 fn write<M: Spelled, T: PageTest, D: SectorDisk>(
     pool: &mut Pool<T>,
     disk: &mut D,
     page: u32,
 ) -> Result<bool, Refusal>
     requires { IsPage (D.state disk.old).sectors page }
-    ensures answer { IfOk result (λ written. written ≡ is_gated pool.old.frames.gated (stamp_of (kept pool.old.frames page))) }
-    ensures idle { is_gated pool.old.frames.gated (stamp_of (kept pool.old.frames page)) ≡ false → (result ≡ Ok false) × (pool.new ≡ pool.old) × (disk.new ≡ disk.old) }
-    ensures written { (k : Kept) → kept pool.old.frames page ≡ Some k → is_gated pool.old.frames.gated k.stamp ≡ true → WritesPage (D.state disk.old) (D.state disk.new) pool.old.frames pool.new.frames page k result }
+    ensures answer { IfOk result (λ written. written ≡ may_be_written pool.old.frames page) }
+    ensures idle { may_be_written pool.old.frames page ≡ false
+        → (result ≡ Ok false) × (pool.new ≡ pool.old) × (disk.new ≡ disk.old) }
+    ensures written { WritesGated (D.state disk.old) (D.state disk.new) pool.old.frames pool.new.frames page result }
     ensures at_most { WritesAtMost (D.state disk.old) (D.state disk.new) pool.old.frames pool.new.frames page }
-    ensures device { ((D.state disk.new).sectors ≡ (D.state disk.old).sectors) × ((D.state disk.new).honest ≡ (D.state disk.old).honest) }
-    ensures shown { (D.state disk.old).honest ≡ true → IsBacked pool.old.frames (D.state disk.old).seen → KeepsShown (D.state disk.old) (D.state disk.new) pool.old.frames pool.new.frames }
-    ensures readable { (used : ℕ → Bool) → (D.state disk.old).honest ≡ true → IsReadable (T.passes pool.old.test) used pool.old.frames (D.state disk.old).seen → IsReadable (T.passes pool.old.test) used pool.new.frames (D.state disk.new).seen }
-    ensures passing { IsPassed (T.passes pool.old.test) pool.old.frames → IsPassed (T.passes pool.old.test) pool.new.frames }
-    ensures faults { MatchResult result (λ _. (D.state disk.new).faults ≡ (D.state disk.old).faults) (λ _. (D.state disk.new).faults ≡ (D.state disk.old).faults + 1) }
-    ensures runs { (l : Limits) → PageKeepsRunning (M.known l) M.reading pool.old.frames pool.new.frames (D.state disk.old) (D.state disk.new) }
+    ensures device { SameDevice (D.state disk.old) (D.state disk.new) }
+    ensures shown { StaysShown (D.state disk.old) (D.state disk.new) pool.old.frames pool.new.frames }
+    ensures readable { StaysReadable (T.passes pool.old.test) (D.state disk.old) (D.state disk.new)
+        pool.old.frames pool.new.frames }
+    ensures passing { IsPassed (T.passes pool.old.test) pool.old.frames
+        → IsPassed (T.passes pool.old.test) pool.new.frames }
+    ensures faults { CountsFault (D.state disk.old) (D.state disk.new) result }
+    ensures runs { (l : Limits) → PageKeepsRunning (M.known l) M.reading pool.old.frames pool.new.frames
+        (D.state disk.old) (D.state disk.new) }
     ensures refusal { IfErr result (λ refusal. refusal ≡ Refusal.Device) }
     ensures test { pool.new.test ≡ pool.old.test }
 {
@@ -67,11 +72,11 @@ impl<D: SectorDisk, K: KeyClass> PageStore<D, K> {
         self.pool.clean_frames()
     }
 
-    /// How many frames have a page with changes that aren't on the device: at most 4,096. Frames and the table of pages name each other, and
-    /// the event holds at most four pages.
+    /// How many frames have a page with changes that aren't on the device: at most 4,096. Frames and the table of pages
+    /// name each other, and the event holds at most four pages.
     pub fn dirty_frames(&self) -> usize
         ensures count { result ≡ dirty_count self.now.frames }
-        ensures few { result ≤ 4096 }
+        ensures few { result ≤ FRAMES }
         ensures zero { (result ≡ 0) ↔ NoneDirty self.now.frames }
         ensures sound { IsSound self.now.frames }
         ensures held { length self.now.frames.held ≤ 4 }
@@ -81,41 +86,54 @@ impl<D: SectorDisk, K: KeyClass> PageStore<D, K> {
 
     /// The least page that has changes, all of them in gated batches: one that `write_page` writes.
     pub fn dirty(&self) -> Option<u32>
-        ensures found { IfSome result (λ page. IsWritable self.now.frames page × ((q : ℕ) → IsWritable self.now.frames q → page ≤ q)) }
+        ensures found { IfSome result (λ page. IsWritable self.now.frames page
+            × ((q : ℕ) → IsWritable self.now.frames q → page ≤ q)) }
         ensures none { IfNone result ((q : ℕ) → IsWritable self.now.frames q → ⊥) }
     {
         self.pool.dirty()
     }
 
-    /// Makes the next device call of a log on the store's device, and tells the frames of a batch whose gate is synced. Pages are
-    /// left as they stand, in frames and on the device.
+    /// Makes the next device call of a log on the store's device, and tells the frames of a batch whose gate is synced.
+    /// Pages are left as they stand, in frames and on the device.
     ///
     /// Refused as the log's own step.
     pub fn log_step<M: Spelled>(&mut self, log: &mut Glog) -> Result<Stage, Refusal>
         ensures counts { Counts (calls_of result) (D.state self.old.disk) (D.state self.new.disk) result }
         ensures goes { Goes log.old log.new result }
-        ensures only { self.new ≡ record self.old { disk = self.new.disk; frames = told_frames result log.new self.old.frames } }
-        ensures pages { (D.state self.old.disk).honest ≡ true → On log.old (D.state self.old.disk).seen (D.state self.old.disk).pending → LeavesPages (D.state self.old.disk) (D.state self.new.disk) }
-        ensures runs { (l : Limits) → StepKeepsRunning (M.known l) M.reading log.old log.new self.old.frames self.new.frames (D.state self.old.disk) (D.state self.new.disk) result }
+        ensures only { self.new ≡ record self.old {
+          disk = self.new.disk;
+          frames = told_frames result log.new self.old.frames;
+        } }
+        ensures pages { (D.state self.old.disk).honest ≡ true
+            → On log.old (D.state self.old.disk).seen (D.state self.old.disk).pending
+            → LeavesPages (D.state self.old.disk) (D.state self.new.disk) }
+        ensures runs { (l : Limits) → StepKeepsRunning (M.known l) M.reading log.old log.new self.old.frames
+            self.new.frames (D.state self.old.disk) (D.state self.new.disk) result }
     {
         log_step::<M, NodeTest<K>, D>(log, &mut self.pool, &mut self.disk)
     }
 
-    /// Writes a page to its sectors, where it has changes and all of them are in gated batches, and answers whether that was so; else
-    /// nothing is done. Once it is written it is clean. Each page is left as it stands.
+    /// Writes a page to its sectors, where it has changes and all of them are in gated batches, and answers whether
+    /// that was so; else nothing is done. Once it is written it is clean. Each page is left as it stands.
     ///
     /// Refused with `Device` where the device failed. The page is then kept as it was, with its changes.
     pub fn write_page<M: Spelled>(&mut self, page: u32) -> Result<bool, Refusal>
-        ensures answer { IfOk result (λ written. written ≡ is_gated self.old.frames.gated (stamp_of (kept self.old.frames page))) }
-        ensures idle { is_gated self.old.frames.gated (stamp_of (kept self.old.frames page)) ≡ false → (result ≡ Ok false) × (self.new ≡ self.old) }
-        ensures written { (k : Kept) → kept self.old.frames page ≡ Some k → is_gated self.old.frames.gated k.stamp ≡ true → WritesPage (D.state self.old.disk) (D.state self.new.disk) self.old.frames self.new.frames page k result }
-        ensures at_most { WritesAtMost (D.state self.old.disk) (D.state self.new.disk) self.old.frames self.new.frames page }
+        ensures answer { IfOk result (λ written. written ≡ may_be_written self.old.frames page) }
+        ensures idle { may_be_written self.old.frames page ≡ false → (result ≡ Ok false) × (self.new ≡ self.old) }
+        ensures written { WritesGated (D.state self.old.disk) (D.state self.new.disk)
+            self.old.frames self.new.frames page result }
+        ensures at_most { WritesAtMost (D.state self.old.disk) (D.state self.new.disk)
+            self.old.frames self.new.frames page }
         ensures only { self.new ≡ record self.old { disk = self.new.disk; frames = self.new.frames } }
         ensures honest { (D.state self.new.disk).honest ≡ (D.state self.old.disk).honest }
-        ensures shown { (D.state self.old.disk).honest ≡ true → IsBacked self.old.frames (D.state self.old.disk).seen → KeepsShown (D.state self.old.disk) (D.state self.new.disk) self.old.frames self.new.frames }
-        ensures readable { (D.state self.old.disk).honest ≡ true → CanBeRead (is_node (format_of K.KeyClass)) (D.state self.old.disk) self.old → CanBeRead (is_node (format_of K.KeyClass)) (D.state self.new.disk) self.new }
-        ensures faults { MatchResult result (λ _. (D.state self.new.disk).faults ≡ (D.state self.old.disk).faults) (λ _. (D.state self.new.disk).faults ≡ (D.state self.old.disk).faults + 1) }
-        ensures runs { is_gated self.old.frames.gated (stamp_of (kept self.old.frames page)) ≡ true → (l : Limits) → PageKeepsRunning (M.known l) M.reading self.old.frames self.new.frames (D.state self.old.disk) (D.state self.new.disk) }
+        ensures shown { StaysShown (D.state self.old.disk) (D.state self.new.disk) self.old.frames self.new.frames }
+        ensures readable { (D.state self.old.disk).honest ≡ true
+            → CanBeRead (is_node (format_of K.KeyClass)) (D.state self.old.disk) self.old
+            → CanBeRead (is_node (format_of K.KeyClass)) (D.state self.new.disk) self.new }
+        ensures faults { CountsFault (D.state self.old.disk) (D.state self.new.disk) result }
+        ensures runs { may_be_written self.old.frames page ≡ true → (l : Limits)
+            → PageKeepsRunning (M.known l) M.reading self.old.frames self.new.frames
+            (D.state self.old.disk) (D.state self.new.disk) }
         ensures refusal { IfErr result (λ refusal. refusal ≡ Refusal.Device) }
     {
         let _ = self.pool.dirty_frames();
@@ -132,15 +150,16 @@ impl<D: SectorDisk, K: KeyClass> PageStore<D, K> {
         ensures counts { Counts 1 (D.state self.old.disk) (D.state self.new.disk) result }
         ensures only { self.new ≡ record self.old { disk = self.new.disk } }
         ensures settled { (D.state self.old.disk).honest ≡ true → OnOk result (IsSettled (D.state self.new.disk)) }
-        ensures pages { (D.state self.old.disk).honest ≡ true → LeavesPages (D.state self.old.disk) (D.state self.new.disk) }
+        ensures pages { (D.state self.old.disk).honest ≡ true
+            → LeavesPages (D.state self.old.disk) (D.state self.new.disk) }
         ensures up { (l : Limits) → StaysUp (M.known l) M.reading (D.state self.old.disk) (D.state self.new.disk) }
         ensures refusal { IfErr result (λ refusal. refusal ≡ Refusal.Device) }
     {
         sync::<M, D>(&mut self.disk)
     }
 
-    /// Makes the next device call of a log's turn to the other extent, and tells the frames of one that has ended. Pages are left as
-    /// they stand; none is dirty.
+    /// Makes the next device call of a log's turn to the other extent, and tells the frames of one that has ended.
+    /// Pages are left as they stand; none is dirty.
     ///
     /// Refused as the log's own step of a turn.
     pub fn turn_step<M: Spelled>(&mut self, log: &mut Glog) -> Result<Turn, Refusal>
@@ -150,9 +169,15 @@ impl<D: SectorDisk, K: KeyClass> PageStore<D, K> {
         requires clean { NoneDirty self.old.frames }
         ensures counts { Counts 1 (D.state self.old.disk) (D.state self.new.disk) result }
         ensures turns { Turns log.old log.new result }
-        ensures only { self.new ≡ record self.old { disk = self.new.disk; frames = told_result result self.old.frames } }
-        ensures pages { (D.state self.old.disk).honest ≡ true → On log.old (D.state self.old.disk).seen (D.state self.old.disk).pending → LeavesPages (D.state self.old.disk) (D.state self.new.disk) }
-        ensures runs { (l : Limits) → TurnKeepsRunning (M.known l) M.reading log.old log.new self.old.frames self.new.frames (D.state self.old.disk) (D.state self.new.disk) result }
+        ensures only { self.new ≡ record self.old {
+          disk = self.new.disk;
+          frames = told_result result self.old.frames;
+        } }
+        ensures pages { (D.state self.old.disk).honest ≡ true
+            → On log.old (D.state self.old.disk).seen (D.state self.old.disk).pending
+            → LeavesPages (D.state self.old.disk) (D.state self.new.disk) }
+        ensures runs { (l : Limits) → TurnKeepsRunning (M.known l) M.reading log.old log.new self.old.frames
+            self.new.frames (D.state self.old.disk) (D.state self.new.disk) result }
     {
         turn_step::<M, NodeTest<K>, D>(log, &mut self.pool, &mut self.disk)
     }

@@ -21,11 +21,14 @@ impl<D: SectorDisk, K: KeyClass> PagesMut<K> for PageStore<D, K> {
 
     fn prepare(&mut self, _changes: &[u32], taken: u32) -> Result<(), StoreFault>
         requires few { taken ≤ 2 }
-        requires room { 0 < taken → length (store_of (format_of K.KeyClass) (D.state self.old.disk).seen self.old).nodes + taken ≤ self.old.pages }
+        requires room { 0 < taken
+            → length (store_of (format_of K.KeyClass) (D.state self.old.disk).seen self.old).nodes + taken
+            ≤ self.old.pages }
         ensures answer { result ≡ prepared self.old taken }
         ensures same { self.new ≡ self.old }
         ensures ready { OnOk result (taken ≤ ready_pages self.new) }
-        ensures why { IfErr result (IsWhy (is_node (format_of K.KeyClass)) (D.state self.old.disk) (D.state self.new.disk) self.old self.new) }
+        ensures why { IfErr result (IsWhy (is_node (format_of K.KeyClass)) (D.state self.old.disk)
+            (D.state self.new.disk) self.old self.new) }
     {
         if !self.has_room {
             return Err(StoreFault::NoRoom);

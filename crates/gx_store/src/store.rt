@@ -9,8 +9,8 @@ use gx_disk::SectorDisk;
 use gx_pool::Pool;
 use std::marker::Model;
 
-/// The pages of a tree in frames over a device. Its log is no part of it, so that no step of the tree touches that; an event tells
-/// it what it has to know of the log by `begin`.
+/// The pages of a tree in frames over a device. Its log is no part of it, so that no step of the tree touches that; an
+/// event tells it what it has to know of the log by `begin`.
 #[derive(Drop)]
 pub struct PageStore<D: SectorDisk, K: KeyClass> {
     pub(crate) disk: D,
@@ -39,13 +39,14 @@ impl<D: SectorDisk, K: KeyClass> Model for PageStore<D, K> {
       has_room = m.has_room;
     } };
 
-    ghost invariant = { λ m. IsInOrder (is_node (format_of K.KeyClass) m.pages) (D.state m.disk).sectors m.pool.frames m.used m.pages
+    ghost invariant = { λ m. IsInOrder (is_node (format_of K.KeyClass) m.pages)
+        (D.state m.disk).sectors m.pool.frames m.used m.pages
         × (m.pool.test.pages ≡ m.pages) };
 }
 
 impl<D: SectorDisk, K: KeyClass> PageStore<D, K> {
-    /// A store of so many pages, of which so many are taken, with so many splits made. Before its first event it has no room for
-    /// a record.
+    /// A store of so many pages, of which so many are taken, with so many splits made.
+    /// Before its first event it has no room for a record.
     pub fn new(
         disk: D,
         pool: Pool<NodeTest<K>>,
@@ -53,9 +54,18 @@ impl<D: SectorDisk, K: KeyClass> PageStore<D, K> {
         counter: u64,
         pages: u32,
     ) -> PageStore<D, K>
-        requires order { IsInOrder (is_node (format_of K.KeyClass) pages) (D.state disk).sectors pool.frames used pages }
+        requires order { IsInOrder (is_node (format_of K.KeyClass) pages)
+            (D.state disk).sectors pool.frames used pages }
         requires test { pool.test.pages ≡ pages }
-        ensures { result ≡ record { disk = disk; frames = pool.frames; used = used; counter = counter; pages = pages; batch = 0; has_room = false } }
+        ensures { result ≡ record {
+          disk = disk;
+          frames = pool.frames;
+          used = used;
+          counter = counter;
+          pages = pages;
+          batch = 0;
+          has_room = false;
+        } }
     {
         PageStore {
             disk,
@@ -68,10 +78,11 @@ impl<D: SectorDisk, K: KeyClass> PageStore<D, K> {
         }
     }
 
-    /// What always holds of a store: its pages fit the device, each that is kept is a node of the class under its own number, and
-    /// none is kept that isn't taken.
+    /// What always holds of a store: its pages fit the device, each that is kept is a node of the class under its own
+    /// number, and none is kept that isn't taken.
     pub fn in_order(&self)
-        ensures { IsInOrder (is_node (format_of K.KeyClass) self.now.pages) (D.state self.now.disk).sectors self.now.frames self.now.used self.now.pages }
+        ensures { IsInOrder (is_node (format_of K.KeyClass) self.now.pages) (D.state self.now.disk).sectors
+            self.now.frames self.now.used self.now.pages }
     {
         let _ = &self.used;
     }

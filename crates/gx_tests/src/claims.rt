@@ -30,7 +30,7 @@ fn begun<R: AllocGlobal>(rt: &R) -> Result<Beside, AllocError> {
 }
 
 // What the tables are to answer where the plain index gives this.
-pub(crate) fn given(asked: Asked<Box2>) -> Result<(), Refusal> {
+fn given(asked: Asked<Box2>) -> Result<(), Refusal> {
     match asked {
         Asked::Open => Ok(()),
         Asked::Now(Reply::Refused(why)) => Err(why),
@@ -39,11 +39,7 @@ pub(crate) fn given(asked: Asked<Box2>) -> Result<(), Refusal> {
 }
 
 // What the tables are to answer for a call by the plain index, which answers it then.
-pub(crate) fn plainly(
-    plain: &mut PlainIndex<Box2>,
-    s: u8,
-    call: Call<Box2>,
-) -> Result<(), Refusal> {
+fn plainly(plain: &mut PlainIndex<Box2>, s: u8, call: Call<Box2>) -> Result<(), Refusal> {
     let given = given(plain.ask(s, call));
     if given.is_ok() {
         let _ = plain.answer(s);
@@ -52,19 +48,10 @@ pub(crate) fn plainly(
 }
 
 // A session's number.
-pub(crate) fn session(drawn: u32) -> u8
+fn session(drawn: u32) -> u8
     ensures { is_session result ≡ true }
 {
     1 + (drawn % 8) as u8
-}
-
-// A query of one kind or another.
-pub(crate) fn query(drawn: u32, key: Box2) -> Query<Box2> {
-    match drawn % 3 {
-        0 => Query::Overlap(key),
-        1 => Query::Within(key),
-        _ => Query::Equal(key),
-    }
 }
 
 impl Beside {

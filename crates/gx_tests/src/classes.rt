@@ -68,8 +68,8 @@ pub fn check_bytes<K: KeyClass>(
     }
 }
 
-/// Fails unless the class has this number and keys of 16 bytes that start with this one, and a bound has that penalty for a
-/// key, and this union.
+/// Fails unless the class has this number and keys of 16 bytes that start with this one, and a bound has that penalty
+/// for a key, and this union.
 pub fn check_calls<K: KeyClass>(
     rt: &impl Abort,
     (class, start): (u16, K::Key),

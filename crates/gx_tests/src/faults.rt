@@ -33,8 +33,8 @@ enum Failing {
     ForEver(ErrorKind),
 }
 
-// The errors of a reader or a writer with the last that it gave, how often it was called, and how often after one of them,
-// but for interrupted calls.
+// The errors of a reader or a writer with the last that it gave, how often it was called, and how often after one of
+// them, but for interrupted calls.
 #[derive(Drop)]
 struct Errors {
     failing: Failing,

@@ -65,8 +65,8 @@ pub(crate) fn formatted(
     Ok(disk)
 }
 
-/// What a format for nine pages answers over an index of eight that stops before call `k`, or behind it where it is done, and
-/// what a crash leaves then.
+/// What a format for nine pages answers over an index of eight that stops before call `k`, or behind it where it is
+/// done, and what a crash leaves then.
 fn stopped(
     rt: &HostRuntime,
     k: u64,

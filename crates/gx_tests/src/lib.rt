@@ -1,5 +1,5 @@
-//! Tests by public calls of what no contract says. What no contract says of devices, records, frames and the log is run by
-//! `gx_device_runs`.
+//! Tests by public calls of what no contract says. Drawn runs, and what no contract says of devices, records, frames,
+//! the log and the index, are lines of `stdin` of the programs named `_runs`.
 #![tactic(auto)]
 
 #[cfg(test)]
@@ -10,8 +10,6 @@ mod asserts;
 mod boxes;
 #[cfg(test)]
 mod claims;
-#[cfg(test)]
-mod claims_run;
 #[cfg(test)]
 mod classes;
 #[cfg(test)]
@@ -36,15 +34,5 @@ mod plain;
 mod reaches;
 #[cfg(test)]
 mod scripts;
-#[cfg(test)]
-mod tree_drawn;
-#[cfg(test)]
-mod tree_held;
-#[cfg(test)]
-mod tree_legal;
-#[cfg(test)]
-mod tree_rows;
-#[cfg(test)]
-mod tree_runs;
 #[cfg(test)]
 mod trees;

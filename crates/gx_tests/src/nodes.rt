@@ -1,5 +1,5 @@
-//! Nodes written in place: each edit byte for byte, on nodes of 0, 1, 99 and 100 entries, of boxes and of intervals; and
-//! damaged pages.
+//! Nodes written in place: each edit byte for byte, on nodes of 0, 1, 99 and 100 entries, of boxes and of intervals;
+//! and damaged pages.
 ghost use Rattle.std.specs.Prelude.{◌≡◌, true, length};
 ghost use Rattle.gx_node.specs.Reading.{format_of, is_leaf, leaf_of, is_inner, inner_of};
 
@@ -223,7 +223,8 @@ fn split_leaf<K: Numbered>(rt: &impl Abort, page: &mut Page, other: &mut Page, c
     take_pairs_out::<K>(rt, other, count, false);
 }
 
-/// The entries of a split node that go, or those that stay: a leaf's pairs, or an inner node's children with later bounds.
+/// The entries of a split node that go, or those that stay: a leaf's pairs, or an inner node's children with later
+/// bounds.
 fn write_side<K: Numbered>(rt: &impl Abort, page: &mut Page, level: u16, count: u8, going: bool) {
     start(page, level);
     for n in 0..count {

@@ -1,6 +1,7 @@
 //! A small class, for tests: keys that reach from nothing up to a number.
 ghost use Rattle.gx_machine.specs.declared.query.Query.TheVariants.{Overlap, Within, Equal};
-ghost use Rattle.std.specs.Prelude.{◌≡◌, ◌≤◌, ◌<◌, ◌-◌, ◌/◌, ◌++◌, ◌∷◌, [], true, false, refl, length, replicate, nat_le, max};
+ghost use Rattle.std.specs.Prelude.{◌≡◌, ◌≤◌, ◌<◌, ◌-◌, ◌/◌, ◌++◌, ◌∷◌, [], true};
+ghost use Rattle.std.specs.Prelude.{false, refl, length, replicate, nat_le, max};
 ghost use Rattle.std.proofs.Common.{ap, arith};
 ghost use Rattle.std.proofs.lemmas.Bool.Decides.{nat_tests};
 ghost use Rattle.gx_tests.specs.Halves.{halves, halves_leave_each};
@@ -127,7 +128,12 @@ impl KeyClass for ReachClass {
 
     ghost covers_through = { λ a b c _ _ _ p q. Prim.grind (arith, nat_tests) };
 
-    ghost match_is_consistent = { elim [ Overlap p ↦ λ k b _ _ m c. refl | Within p ↦ λ k b _ _ m c. refl | Equal p ↦ λ k b _ _ m c. Prim.grind (arith, nat_tests) ] };
+    ghost match_is_consistent = { elim [
+      | Overlap p ↦ λ k b _ _ m c. refl
+      | Within p ↦ λ k b _ _ m c. refl
+      | Equal p ↦
+          λ k b _ _ m c. Prim.grind (arith, nat_tests)
+    ] };
 
     ghost union_is_key = { λ a b p q. Prim.omega arith };
 

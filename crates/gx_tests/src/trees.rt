@@ -1,21 +1,18 @@
-//! Looks, seeks and descents, a page a step, at trees that were built by hand.
+//! Seeks and descents, a page a step, at a tree that was built by hand. Looks are run by `gx_engine_runs`.
 
 use crate::asserts::same;
-use crate::tree_legal::page;
 use gx_class::{Box2Class, KeyClass, Probing};
 use gx_geom::{Box2, Refusal};
-use gx_machine::{Entry, Query};
+use gx_machine::Entry;
 use gx_memory_tree::MemoryPages;
 use gx_page::Page;
-use gx_tree::{
-    Item, Look, Pages, Sought, StepFault, Wanted, Way, descend_step, look_step, seek_step, way_step,
-};
+use gx_tree::{Item, Pages, Sought, StepFault, Wanted, Way, descend_step, seek_step, way_step};
 use std::alloc::AllocError;
 use std::convert::Infallible;
 use std::process::Abort;
 use std::test::Fail;
 
-pub(crate) type Corners = (i32, i32, i32, i32);
+type Corners = (i32, i32, i32, i32);
 
 /// The head of a tree's page: level, sequence number, rightlink.
 type Header = (u16, u64, u32);
@@ -23,20 +20,7 @@ type Header = (u16, u64, u32);
 /// A page of a tree, and each box of it with a leaf's row or an inner node's child.
 type Node<'a> = (Header, &'a [(u32, Corners)]);
 
-/// Nine boxes in a line, of the rows 1 to 9.
-const LINE: [Corners; 9] = [
-    (10, 0, 11, 1),
-    (20, 0, 21, 1),
-    (30, 0, 31, 1),
-    (40, 0, 41, 1),
-    (50, 0, 51, 1),
-    (60, 0, 61, 1),
-    (70, 0, 71, 1),
-    (80, 0, 81, 1),
-    (90, 0, 91, 1),
-];
-
-pub(crate) fn a_box(rt: &impl Abort, corners: Corners) -> Box2 {
+fn a_box(rt: &impl Abort, corners: Corners) -> Box2 {
     let (x1, y1, x2, y2) = corners;
     Box2::new(x1, y1, x2, y2).ok().expect(rt, "a box")
 }
@@ -136,91 +120,6 @@ fn tree_of<K: KeyClass, R: Abort + AllocGlobal>(
     Ok(tree.ok().expect(rt, "a tree"))
 }
 
-/// A root with this child's bytes, over an empty leaf.
-fn root_and_leaf<R: Abort + AllocGlobal>(rt: &R, child: &[u8]) -> Result<Vec<Page>, Fail> {
-    let mut pages = pages_of(rt, &[((1, 0, 0), &[]), ((0, 0, 0), &[])])?;
-    put(rt, pages.first_mut().expect(rt, "a root"), child);
-    Ok(pages)
-}
-
-/// A fresh tree, with so many pages that can be taken: a root over an empty leaf.
-pub(crate) fn fresh_tree<K: KeyClass, R: Abort + AllocGlobal>(
-    rt: &R,
-    more: usize,
-) -> Result<MemoryPages<K>, Fail> {
-    let child = child_item::<K>(rt, 2, K::start());
-    tree_of(rt, root_and_leaf(rt, &child)?, 0, more)
-}
-
-/// The nine boxes, four entries a node: four leaves, two nodes above them, and the root.
-const NINE_ROWS: [Node<'static>; 7] = [
-    ((2, 0, 0), &[(6, (10, 0, 41, 1)), (7, (50, 0, 91, 1))]),
-    ((0, 1, 3), &[(1, (10, 0, 11, 1)), (2, (20, 0, 21, 1))]),
-    ((0, 2, 4), &[(3, (30, 0, 31, 1)), (4, (40, 0, 41, 1))]),
-    ((0, 3, 5), &[(5, (50, 0, 51, 1)), (6, (60, 0, 61, 1))]),
-    (
-        (0, 0, 0),
-        &[
-            (7, (70, 0, 71, 1)),
-            (8, (80, 0, 81, 1)),
-            (9, (90, 0, 91, 1)),
-        ],
-    ),
-    ((1, 0, 7), &[(2, (10, 0, 21, 1)), (3, (30, 0, 41, 1))]),
-    ((1, 0, 0), &[(4, (50, 0, 61, 1)), (5, (70, 0, 91, 1))]),
-];
-
-/// The tree of the nine boxes.
-pub(crate) fn nine_rows<R: Abort + AllocGlobal>(rt: &R) -> Result<MemoryPages<Box2Class>, Fail> {
-    tree_of(rt, pages_of(rt, &NINE_ROWS)?, 3, 9)
-}
-
-/// One step, which is made.
-fn step<K: Probing>(
-    rt: &impl Abort,
-    pages: &mut MemoryPages<K>,
-    wanted: &Wanted<K>,
-    look: &mut Look<K::Key>,
-) {
-    assert!(rt; !look.is_done());
-    assert!(rt; look_step(pages, wanted, look).is_ok());
-}
-
-/// How many steps a look takes to its end.
-fn steps_to_the_end<K: Probing>(
-    rt: &impl Abort,
-    pages: &mut MemoryPages<K>,
-    wanted: &Wanted<K>,
-    look: &mut Look<K::Key>,
-) -> usize {
-    let mut steps = 0;
-    for n in 0..20usize {
-        if look.is_done() {
-            break;
-        }
-        step(rt, pages, wanted, look);
-        steps = n + 1;
-    }
-    assert!(rt; look.is_done());
-    steps
-}
-
-/// The rows that a look from the root to its end finds, and how many pages it reads.
-fn rows_found<K: Probing, R: Abort + AllocGlobal>(
-    rt: &R,
-    pages: &mut MemoryPages<K>,
-    wanted: &Wanted<K>,
-) -> Result<(Vec<u64>, usize), Fail> {
-    let root = Item::new(1, pages.counter());
-    let mut look = Look::new(rt.alloc(), root)?;
-    let reads = steps_to_the_end(rt, pages, wanted, &mut look);
-    let mut rows = Vec::new(rt.alloc());
-    for found in look.found() {
-        rows.push(found.entry.row)?;
-    }
-    Ok((rows, reads))
-}
-
 #[test]
 fn a_page_of_another_number_is_no_tree(rt: HostRuntime) -> Result<(), Fail> {
     let mut pages = Vec::new(rt.alloc());
@@ -230,135 +129,7 @@ fn a_page_of_another_number_is_no_tree(rt: HostRuntime) -> Result<(), Fail> {
     Ok(())
 }
 
-/// How often a row stands in a list.
-fn times(rows: &[u64], row: u64) -> usize {
-    let mut times = 0usize;
-    for one in rows {
-        if *one == row {
-            times = times.saturating_add(1);
-        }
-    }
-    times
-}
-
-/// Fails unless these are so many, and of the rows of the keys, from 1 on, once each whose key matches the query.
-fn are_filtered<K: KeyClass>(
-    rt: &impl Abort,
-    rows: &[u64],
-    keys: &[K::Key],
-    query: &Query<K::Key>,
-    count: usize,
-) {
-    same(rt, &rows.len(), &count);
-    for (k, key) in keys.iter().enumerate() {
-        let times = times(rows, k as u64 + 1);
-        same(rt, &times, &usize::from(K::matches(query, key)));
-    }
-}
-
-/// Fails unless each query finds of these keys what a filter finds, and as many as stand beside it.
-fn find_what_a_filter_finds<K: Probing, R: Abort + AllocGlobal>(
-    rt: &R,
-    pages: &mut MemoryPages<K>,
-    keys: &[K::Key],
-    queries: &[(Query<K::Key>, usize)],
-) -> Result<(), Fail>
-where
-    K::Probe: Drop,
-{
-    for (query, count) in queries {
-        let (rows, _) = rows_found(rt, pages, &Wanted::matching(query))?;
-        are_filtered::<K>(rt, rows.as_slice(), keys, query, *count);
-    }
-    Ok(())
-}
-
-/// The boxes of the line.
-pub(crate) fn line(rt: &impl Abort) -> [Box2; 9] {
-    let mut line = [Box2::point(0, 0); 9];
-    for (k, corners) in LINE.iter().enumerate() {
-        line[k] = a_box(rt, *corners);
-    }
-    line
-}
-
-/// Queries of the line, and how many rows each finds.
-fn queries(rt: &impl Abort) -> [(Query<Box2>, usize); 8] {
-    let all = a_box(rt, (0, 0, 100, 100));
-    let some = a_box(rt, (21, 1, 50, 9));
-    [
-        (Query::Overlap(all), 9),
-        (Query::Overlap(some), 4),
-        (Query::Overlap(a_box(rt, (12, 0, 19, 1))), 0),
-        (Query::Within(all), 9),
-        (Query::Within(some), 0),
-        (Query::Within(a_box(rt, (20, 0, 51, 1))), 4),
-        (Query::Equal(a_box(rt, LINE[4])), 1),
-        (Query::Equal(some), 0),
-    ]
-}
-
-// A search finds each row of the line that a plain filter finds, once, and no other.
-#[test]
-fn searches_find_what_a_filter_finds(rt: HostRuntime) -> Result<(), Fail> {
-    let (line, queries) = (line(&rt), queries(&rt));
-    find_what_a_filter_finds(&rt, &mut nine_rows(&rt)?, &line, &queries)
-}
-
-/// Fails unless a look finds so many rows and reads so many pages.
-fn finds<K: Probing, R: Abort + AllocGlobal>(
-    rt: &R,
-    pages: &mut MemoryPages<K>,
-    query: &Query<K::Key>,
-    counts: (usize, usize),
-) -> Result<(), Fail>
-where
-    K::Probe: Drop,
-{
-    let (rows, reads) = rows_found(rt, pages, &Wanted::matching(query))?;
-    same(rt, &(rows.len(), reads), &counts);
-    Ok(())
-}
-
-/// Fails unless a look for each row with this key finds these rows and reads three pages.
-fn find_rows<K: Probing, R: Abort + AllocGlobal>(
-    rt: &R,
-    pages: &mut MemoryPages<K>,
-    key: K::Key,
-    found: &[(u64, &[u64])],
-) -> Result<(), Fail>
-where
-    K::Probe: Drop,
-{
-    for (row, wanted) in found {
-        let row = *row;
-        let (rows, reads) = rows_found(rt, pages, &Wanted::entry(&Entry { row, key }))?;
-        same(rt, &(rows.as_slice(), reads), &(*wanted, 3));
-    }
-    Ok(())
-}
-
-#[test]
-fn pages_that_lead_nowhere_are_not_read(rt: HostRuntime) -> Result<(), Fail> {
-    let all = Query::Overlap(a_box(&rt, (0, 0, 100, 100)));
-    let key = a_box(&rt, LINE[4]);
-    let mut pages = nine_rows(&rt)?;
-    finds(&rt, &mut pages, &all, (9, 7))?;
-    find_rows(&rt, &mut pages, key, &[(5, &[5]), (6, &[])])
-}
-
-/// Two rows in one leaf.
-const HELD: [Node<'static>; 2] = [
-    ((1, 0, 0), &[(2, (0, 0, 101, 5))]),
-    ((0, 0, 0), &[(1, (100, 4, 101, 5)), (2, (0, 0, 1, 1))]),
-];
-
-/// A tree of two rows, when a search begins.
-pub(crate) fn held<R: Abort + AllocGlobal>(rt: &R) -> Result<MemoryPages<Box2Class>, Fail> {
-    tree_of(rt, pages_of(rt, &HELD)?, 0, 14)
-}
-
-/// These two and five others in three leaves.
+/// Seven rows in three leaves: page 2 was split twice.
 const SPLIT_TWICE: [Node<'static>; 4] = [
     (
         (1, 0, 0),
@@ -380,53 +151,9 @@ const SPLIT_TWICE: [Node<'static>; 4] = [
     ),
 ];
 
-/// The same tree once others have added five rows and split page 2 twice.
-pub(crate) fn split_twice<R: Abort + AllocGlobal>(rt: &R) -> Result<MemoryPages<Box2Class>, Fail> {
+/// The tree of these.
+fn split_twice<R: Abort + AllocGlobal>(rt: &R) -> Result<MemoryPages<Box2Class>, Fail> {
     tree_of(rt, pages_of(rt, &SPLIT_TWICE)?, 2, 12)
-}
-
-/// A look that has read the root.
-fn begun<K: Probing, R: Abort + AllocGlobal>(
-    rt: &R,
-    pages: &mut MemoryPages<K>,
-    wanted: &Wanted<K>,
-) -> Result<Look<K::Key>, Fail> {
-    let mut look = Look::new(rt.alloc(), Item::new(1, 0))?;
-    step(rt, pages, wanted, &mut look);
-    Ok(look)
-}
-
-/// Three further steps of a look, its last ones, of which the third alone finds a pair: row 2, live, in page 3.
-fn the_third_step_finds<K: Probing>(
-    rt: &impl Abort,
-    pages: &mut MemoryPages<K>,
-    wanted: &Wanted<K>,
-    look: &mut Look<K::Key>,
-) {
-    step(rt, pages, wanted, look);
-    step(rt, pages, wanted, look);
-    same(rt, &look.found().len(), &0);
-    step(rt, pages, wanted, look);
-    assert!(rt; look.is_done() && look.found().len() == 1);
-    for found in look.found() {
-        same(
-            rt,
-            &(found.entry.row, found.marked, found.leaf),
-            &(2, false, 3),
-        );
-    }
-}
-
-// The search has read the root when page 2 is split. It reads the pages 2, 4 and 3, and finds the row that was in page 2.
-// One that begins then reads the root and page 3 alone.
-#[test]
-fn a_held_search_follows_rightlinks(rt: HostRuntime) -> Result<(), Fail> {
-    let query = Query::Overlap(a_box(&rt, (0, 0, 5, 5)));
-    let wanted = Wanted::matching(&query);
-    let mut look = begun(&rt, &mut held(&rt)?, &wanted)?;
-    let mut pages = split_twice(&rt)?;
-    the_third_step_finds(&rt, &mut pages, &wanted, &mut look);
-    finds(&rt, &mut pages, &query, (1, 2))
 }
 
 /// A page, and what a seek's step says there of the row 2.
@@ -561,7 +288,8 @@ fn goes<K: KeyClass>(
 
 /// Fails unless the root's third child is this one.
 fn has_third<K: KeyClass>(rt: &impl Abort, pages: &MemoryPages<K>, child: &[u8]) {
-    let root = page(rt, pages, 1);
+    assert!(rt; pages.used() >= 1);
+    let root = pages.page(1);
     assert!(rt; root.count() > 2);
     same(rt, &root.get(2), &child);
 }

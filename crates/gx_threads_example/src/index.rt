@@ -14,27 +14,30 @@ use gx_restart::{Index, format, open};
 use gx_shared::laws::an_idle_engine_may_be_shared;
 use std::alloc::Global;
 
-/// How many entries a node has at most.
-const MOST: u16 = 100;
-
 /// How many pages are held in memory.
 const FRAMES: usize = 64;
 
-/// Lays a new index of boxes down on a device.
-pub(crate) fn make<D: SectorDisk + Drop>(alloc: Global, disk: D, pages: u32) -> Result<D, Trouble> {
+/// Lays a new index of boxes down on a device, with so many entries in a node at most.
+pub(crate) fn make<D: SectorDisk + Drop>(
+    alloc: Global,
+    disk: D,
+    pages: u32,
+    most: u16,
+) -> Result<D, Trouble> {
     let mut disk = disk;
-    format::<D, Box2Class>(alloc, &mut disk, pages, MOST)?;
+    format::<D, Box2Class>(alloc, &mut disk, pages, most)?;
     Ok(disk)
 }
 
-/// Opens the index that a device has, to be shared by threads. Where devices of this kind keep what they are told, it is seen as one machine, of
-/// whose sessions none has a call open.
+/// Opens the index that a device has, to be shared by threads. Where devices of this kind keep what they are told, it
+/// is seen as one machine, of whose sessions none has a call open.
 pub(crate) fn open_index<D: SectorDisk + Drop>(
     alloc: Global,
     disk: D,
 ) -> Result<EngineEvents<D, Box2Class>, Trouble>
     ensures { ⟦<EngineEvents<D, Box2Class> as Events<Box2>>⟧.granted
-        → IfOk result (λ e. MayBeShared ⟦<EngineEvents<D, Box2Class> as Events<Box2>>⟧.sees (⟦<EngineEvents<D, Box2Class> as Events<Box2>>⟧.sees e) e) }
+        → IfOk result (λ e. MayBeShared ⟦<EngineEvents<D, Box2Class> as Events<Box2>>⟧.sees
+        (⟦<EngineEvents<D, Box2Class> as Events<Box2>>⟧.sees e) e) }
 {
     an_opened_engine_is_idle::<D, Box2Class>();
     an_idle_engine_may_be_shared::<Box2, EngineEvents<D, Box2Class>>();

@@ -1,14 +1,23 @@
-//! Threads over one index in a file, as a service has them: the index is opened, shared by threads, closed, settled, and opened again.
+//! Threads over one index in a file, as a service has them: the index is opened, shared by threads, closed, settled,
+//! and opened again.
 //!
-//! A line of `stdin` has two numbers: how many threads there are, 1 to 8, and how many transactions each makes. Behind them a file may be
-//! named; an index is made in it, and what it held is lost. Without a file the device is one in memory.
+//! A line of `stdin` has two numbers: how many threads there are, 1 to 8, and how many transactions each makes. Behind
+//! them a file may be named; an index is made in it, and what it held is lost. Without a file the device is one in
+//! memory.
 //!
-//! The program prints what the record says of each session, how many calls were finished in all, how many commits there are, and how many
-//! entries the index has once it is opened again: the same in whatever order the threads came.
+//! Behind the word `single` a transaction has one insert, behind `pair` a search and an insert, in place of three
+//! inserts and a search.
+//!
+//! A line may have the word `storm` first, and then a seed, how many sessions there are and how many calls each makes;
+//! so their calls are drawn, and the record is replayed by the plain index.
+//!
+//! The program prints what the record says of each session, how many calls were finished in all, how many commits there
+//! are, and how many entries the index has once it is opened again: the same in whatever order the threads came.
 #![tactic(auto)]
 
 mod index;
 mod share;
+mod storms;
 mod trouble;
 mod work;
 
@@ -20,21 +29,28 @@ use std::alloc::Global;
 use std::fs::{File, Files};
 use std::sync::Wait;
 use std::thread::Threads;
+use storms::{read_storm, storm};
 use trouble::Trouble;
+use work::Kind;
 
 /// How many pages the device has.
 const PAGES: u32 = 4096;
+
+/// How many entries a node has at most.
+const MOST: u16 = 100;
 
 /// What a line wants.
 #[derive(Clone, Copy)]
 struct Wanted<'l> {
     threads: u8,
     transactions: u16,
+    kind: Kind,
     file: Option<&'l str>,
 }
 
 /// A line's two numbers, and the file behind them, if there is one.
 fn read_line(line: &str) -> Result<Wanted<'_>, Trouble> {
+    let (kind, line) = Kind::read(line);
     let Some((threads, rest)) = line.split_once(' ') else {
         return Err(Trouble::BadLine);
     };
@@ -46,6 +62,7 @@ fn read_line(line: &str) -> Result<Wanted<'_>, Trouble> {
         (Ok(threads), Ok(transactions)) => Ok(Wanted {
             threads,
             transactions,
+            kind,
             file,
         }),
         _ => Err(Trouble::BadLine),
@@ -59,13 +76,40 @@ fn serve<D: SectorDisk + Drop + Send, W: Threads + Wait + Sync + Print>(
     disk: D,
     wanted: &Wanted<'_>,
 ) -> Result<(), Trouble> {
-    let disk = make(alloc, disk, PAGES)?;
+    let disk = make(alloc, disk, PAGES, MOST)?;
     let engine = open_index(alloc, disk)?;
-    let engine = share(rt, alloc, engine, wanted.threads, wanted.transactions)?;
+    let engine = share(
+        rt,
+        alloc,
+        engine,
+        wanted.threads,
+        wanted.transactions,
+        wanted.kind,
+    )?;
     let disk = settle(engine)?;
     let entries = count(alloc, disk)?;
     println!(rt; "opened again: {entries} entries")?;
     Ok(())
+}
+
+/// Has the storm that a line says.
+fn run_storm<W: Threads + Wait + Sync + Print + Files<File = File>>(
+    rt: &W,
+    alloc: Global,
+    words: &str,
+) -> Result<(), Trouble> {
+    let (wanted, file) = read_storm(words)?;
+    let sectors = sectors_for(PAGES);
+    match file {
+        Some(file) => {
+            let disk = FileDisk::create(rt, file, sectors)?;
+            storm(rt, alloc, disk, PAGES, &wanted)
+        }
+        None => {
+            let disk = MemDisk::new(alloc, sectors as usize)?;
+            storm(rt, alloc, disk, PAGES, &wanted)
+        }
+    }
 }
 
 /// Does what a line says.
@@ -74,6 +118,9 @@ fn run_line<W: Threads + Wait + Sync + Print + Files<File = File>>(
     alloc: Global,
     line: &str,
 ) -> Result<(), Trouble> {
+    if let Some(words) = line.strip_prefix("storm ") {
+        return run_storm(rt, alloc, words);
+    }
     let wanted = read_line(line)?;
     let sectors = sectors_for(PAGES);
     match wanted.file {

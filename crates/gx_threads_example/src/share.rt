@@ -4,7 +4,7 @@ ghost use Rattle.gx_machine.specs.declared.limits.TheConstants.{SESSIONS};
 ghost use Rattle.gx_shared.specs.Books.{MayBeShared};
 
 use crate::trouble::Trouble;
-use crate::work::Worker;
+use crate::work::{Kind, Worker};
 use gx_events::Events;
 use gx_geom::Box2;
 use gx_machine::{Item, Reply};
@@ -78,7 +78,8 @@ fn tell<E: Events<Box2>, R: Run<Box2>, W: Print>(
     Ok(())
 }
 
-/// Shares an engine among so many threads, each of which makes so many transactions, and gives it back once they are joined.
+/// Shares an engine among so many threads, each of which makes so many transactions, and gives it back once they are
+/// joined.
 fn run<E: Events<Box2> + Drop + Send, R: Run<Box2> + Send + Sync, W: Threads + Wait + Sync + Print>(
     rt: &W,
     alloc: Global,
@@ -86,6 +87,7 @@ fn run<E: Events<Box2> + Drop + Send, R: Run<Box2> + Send + Sync, W: Threads + W
     engine: E,
     threads: u8,
     transactions: u16,
+    kind: Kind,
 ) -> Result<E, Trouble>
     requires name { blank.name ≡ R.name }
     requires parts { (blank.parts ≡ R.parts) × (R.parts ≡ SESSIONS) }
@@ -98,7 +100,7 @@ fn run<E: Events<Box2> + Drop + Send, R: Run<Box2> + Send + Sync, W: Threads + W
     let done = map_vec(
         rt,
         workers,
-        &|worker| worker.work(rt, &shared, transactions),
+        &|worker| worker.work(rt, &shared, transactions, kind),
     )?;
     let handed = all_back(alloc, &mut sessions, done)?;
     let book = shared.close(sessions);
@@ -113,8 +115,17 @@ pub(crate) fn share<E: Events<Box2> + Drop + Send, W: Threads + Wait + Sync + Pr
     engine: E,
     threads: u8,
     transactions: u16,
+    kind: Kind,
 ) -> Result<E, Trouble>
     requires { E.granted → MayBeShared E.sees (E.sees engine) engine }
 {
-    run::<E, Brand, W>(rt, alloc, Blank::new(8), engine, threads, transactions)
+    run::<E, Brand, W>(
+        rt,
+        alloc,
+        Blank::new(8),
+        engine,
+        threads,
+        transactions,
+        kind,
+    )
 }

@@ -7,7 +7,32 @@ use std::alloc::{AllocError, Global};
 use std::sync::Wait;
 use std::sync::ledger::Ledger;
 
-/// A session with the replies that it was handed, in their order. A call that is given up, for a fault, has none in the record, and none here.
+/// What a transaction asks between its begin and its commit.
+#[derive(Clone, Copy)]
+pub(crate) enum Kind {
+    /// One insert, at a place in no order.
+    Single,
+    /// A search, and then such an insert.
+    Pair,
+    /// Three inserts, in order, and then a search.
+    Several,
+}
+
+impl Kind {
+    /// The kind that a line's first word names, and the rest of the line. With neither word it is the last.
+    pub(crate) fn read(line: &str) -> (Kind, &str) {
+        if let Some(rest) = line.strip_prefix("single ") {
+            return (Kind::Single, rest);
+        }
+        match line.strip_prefix("pair ") {
+            Some(rest) => (Kind::Pair, rest),
+            None => (Kind::Several, line),
+        }
+    }
+}
+
+/// A session with the replies that it was handed, in their order. A call that is given up, for a fault, has none in the
+/// record, and none here.
 #[derive(Drop)]
 pub(crate) struct Worker<R: Ledger> {
     pub(crate) session: Session<R>,
@@ -20,6 +45,11 @@ fn between(x1: i32, y1: i32, x2: i32, y2: i32) -> Box2 {
         Ok(key) => key,
         Err(_) => Box2::point(x1, y1),
     }
+}
+
+/// The place of a turn's entry among up to 8,191, in no order.
+fn scattered(turn: u16) -> i32 {
+    i32::from(turn) * 7919 % 8191 * 100
 }
 
 impl<R: Ledger> Worker<R> {
@@ -49,26 +79,67 @@ impl<R: Ledger> Worker<R> {
         Ok(())
     }
 
-    /// A transaction in a strip that this session alone uses: three inserts, a search of what it has inserted first, and a commit.
-    fn transact<E: Events<Box2>, W: Wait>(
+    /// Inserts an entry at this place of a strip that this session alone uses.
+    fn insert<E: Events<Box2>, W: Wait>(
         &mut self,
         rt: &W,
         shared: &Shared<Box2, E, R>,
-        turn: u16,
+        x: i32,
     ) -> Result<(), AllocError>
     where
         R: Run<Box2>,
     {
         let row = u64::from(self.session.number());
-        let y = i32::from(self.session.number()) * 100;
+        let y = self.strip();
+        let key = between(x, y, x.saturating_add(1), y.saturating_add(1));
+        self.call(rt, shared, Call::Insert(Entry { row, key }))
+    }
+
+    /// Searches the strip's first places.
+    fn search<E: Events<Box2>, W: Wait>(
+        &mut self,
+        rt: &W,
+        shared: &Shared<Box2, E, R>,
+    ) -> Result<(), AllocError>
+    where
+        R: Run<Box2>,
+    {
+        let y = self.strip();
+        let strip = Query::Overlap(between(0, y, 1000, y.saturating_add(1)));
+        self.call(rt, shared, Call::Search(strip))
+    }
+
+    /// Where the strip of this session begins.
+    fn strip(&self) -> i32 {
+        i32::from(self.session.number()) * 100
+    }
+
+    /// A transaction.
+    fn transact<E: Events<Box2>, W: Wait>(
+        &mut self,
+        rt: &W,
+        shared: &Shared<Box2, E, R>,
+        turn: u16,
+        kind: Kind,
+    ) -> Result<(), AllocError>
+    where
+        R: Run<Box2>,
+    {
         self.call(rt, shared, Call::Begin)?;
-        for insert in 0..3u8 {
-            let x = i32::from(turn) * 100 + i32::from(insert) * 10;
-            let key = between(x, y, x + 1, y + 1);
-            self.call(rt, shared, Call::Insert(Entry { row, key }))?;
+        match kind {
+            Kind::Single => self.insert(rt, shared, scattered(turn))?,
+            Kind::Pair => {
+                self.search(rt, shared)?;
+                self.insert(rt, shared, scattered(turn))?;
+            }
+            Kind::Several => {
+                for number in 0..3u8 {
+                    let x = i32::from(turn) * 100 + i32::from(number) * 10;
+                    self.insert(rt, shared, x)?;
+                }
+                self.search(rt, shared)?;
+            }
         }
-        let strip = Query::Overlap(between(0, y, 1000, y + 1));
-        self.call(rt, shared, Call::Search(strip))?;
         self.call(rt, shared, Call::Commit)
     }
 
@@ -78,13 +149,14 @@ impl<R: Ledger> Worker<R> {
         rt: &W,
         shared: &Shared<Box2, E, R>,
         transactions: u16,
+        kind: Kind,
     ) -> Result<Self, AllocError>
     where
         R: Run<Box2>,
     {
         let mut worker = self;
         for turn in 0..transactions {
-            worker.transact(rt, shared, turn)?;
+            worker.transact(rt, shared, turn, kind)?;
         }
         Ok(worker)
     }

@@ -1,15 +1,16 @@
-//! A new index on a device in memory.
+//! A new index on a device in memory, and in a file.
 ghost use Rattle.std.specs.Prelude.{◌≡◌, IfOk};
 ghost use Rattle.gx_machine.specs.Machine.{fresh_machine};
 ghost use Rattle.gx_shared.specs.Books.{MayBeShared};
 
 use gx_class::Box2Class;
-use gx_disk::MemDisk;
+use gx_disk::{FileDisk, MemDisk};
 use gx_engine_events::{EngineEvents, new_index};
 use gx_events::Events;
 use gx_format::sectors_for;
 use gx_geom::Box2;
 use std::alloc::Global;
+use std::fs::{File, Files};
 use std::test::Fail;
 
 /// An engine on a new index of boxes, with so many pages, entries in a node and frames.
@@ -20,13 +21,34 @@ pub(crate) fn fresh(
     most: u16,
     frames: usize,
 ) -> Result<EngineEvents<MemDisk, Box2Class>, Fail>
-    ensures { IfOk result (λ engine. MayBeShared ⟦<EngineEvents<MemDisk, Box2Class> as Events<Box2>>⟧.sees (λ m. m ≡ fresh_machine) engine) }
+    ensures { IfOk result (λ engine. MayBeShared ⟦<EngineEvents<MemDisk, Box2Class> as Events<Box2>>⟧.sees
+        (λ m. m ≡ fresh_machine) engine) }
 {
     let Ok(sectors) = usize::try_from(sectors_for(pages)) else {
         return Err(Fail::new("the device is too large"));
     };
     let disk = MemDisk::new(alloc, sectors)?;
     match new_index::<MemDisk, Box2Class>(alloc, disk, pages, most, frames) {
+        Ok(engine) => Ok(engine),
+        Err(_) => Err(Fail::new("there is no new index")),
+    }
+}
+
+/// The same in a file, which is made, or loses what it held. Where files keep what they are told, the engine is seen as
+/// the machine with nothing committed.
+pub(crate) fn fresh_in_file<T: Files<File = File>>(
+    rt: &T,
+    alloc: Global,
+    file: &str,
+    pages: u32,
+    most: u16,
+    frames: usize,
+) -> Result<EngineEvents<FileDisk, Box2Class>, Fail>
+    ensures { ⟦<EngineEvents<FileDisk, Box2Class> as Events<Box2>>⟧.granted → IfOk result (λ engine.
+        MayBeShared ⟦<EngineEvents<FileDisk, Box2Class> as Events<Box2>>⟧.sees (λ m. m ≡ fresh_machine) engine) }
+{
+    let disk = FileDisk::create(rt, file, sectors_for(pages))?;
+    match new_index::<FileDisk, Box2Class>(alloc, disk, pages, most, frames) {
         Ok(engine) => Ok(engine),
         Err(_) => Err(Fail::new("there is no new index")),
     }

@@ -1,7 +1,21 @@
-//! Tests of sessions in threads over the engine of pages and a log.
+//! Tests of sessions in threads over the engine of pages and a log: sessions that keep the replies that they were
+//! handed, calls that are held between two events, and calls that are drawn. What runs the threads takes any engine of
+//! events.
 #![tactic(auto)]
 
 #[cfg(test)]
+mod callers;
+#[cfg(test)]
+mod draws;
+#[cfg(test)]
+mod flushed;
+#[cfg(test)]
 mod fresh;
 #[cfg(test)]
+mod held;
+#[cfg(test)]
+mod holds;
+#[cfg(test)]
 mod runs;
+#[cfg(test)]
+mod stormed;

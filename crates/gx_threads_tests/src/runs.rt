@@ -1,13 +1,14 @@
-//! Sessions in threads over the engine, on a device in memory.
-use crate::fresh::fresh;
+//! Sessions in threads over the engine, on a device in memory, and once in a file.
+use crate::callers::wanted;
+use crate::flushed::flushed;
+use crate::fresh::{fresh, fresh_in_file};
+use crate::holds::{empty, first_hold, flusher_hold, pairing, search_hold};
+use crate::stormed::stormed;
 use gx_class::Box2Class;
 use gx_disk::MemDisk;
 use gx_engine_events::EngineEvents;
 use gx_events::Events;
-use gx_shared_callers::callers::wanted;
-use gx_shared_callers::flushed::flushed;
-use gx_shared_callers::holds::{empty, first_hold, flusher_hold, pairing, search_hold};
-use gx_shared_callers::seeded::seeded;
+use std::fs;
 use std::marker::Brand;
 use std::sync::ledger::Blank;
 use std::test::Fail;
@@ -24,6 +25,15 @@ fn a_search_stays_open_while_others_commit(rt: HostRuntime) -> Result<(), Fail> 
     let alloc = rt.alloc();
     let engine = fresh(alloc, 16, 4, 16)?;
     search_hold::<_, Brand, _>(&rt, alloc, Blank::new(8), engine, 4)
+}
+
+#[test]
+fn a_search_of_a_file_stays_open_while_others_commit(rt: HostRuntime) -> Result<(), Fail> {
+    let alloc = rt.alloc();
+    let engine = fresh_in_file(&rt, alloc, "held.index", 16, 4, 16)?;
+    search_hold::<_, Brand, _>(&rt, alloc, Blank::new(8), engine, 4)?;
+    fs::remove_file(&rt, "held.index")?;
+    Ok(())
 }
 
 #[test]
@@ -48,10 +58,10 @@ fn a_run_without_calls_has_an_empty_record(rt: HostRuntime) -> Result<(), Fail> 
 }
 
 #[test]
-fn the_plain_index_replays_a_record_of_four_threads(rt: HostRuntime) -> Result<(), Fail> {
+fn the_plain_index_replays_a_storm(rt: HostRuntime) -> Result<(), Fail> {
     let alloc = rt.alloc();
     let engine = fresh(alloc, 1024, 8, 64)?;
-    seeded::<_, Brand, _>(&rt, alloc, Blank::new(8), engine)
+    stormed::<_, Brand, _>(&rt, alloc, Blank::new(8), engine)
 }
 
 /// How many entries the first leaf has, deleted ones among them that no sweep has taken.

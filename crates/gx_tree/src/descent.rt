@@ -1,10 +1,12 @@
 //! The way down to the leaf for a coming pair.
-ghost use Rattle.std.specs.Prelude.{◌≡◌, ◌≢◌, ◌≤◌, ◌<◌, length, true, false, Err, IfSome, IfNone, IfOk, IfErr, OnOk, OnErr, ℕ, [], ◌∷◌};
+ghost use Rattle.std.specs.Prelude.{◌≡◌, ◌≢◌, ◌≤◌, ◌<◌, length, true, false, Err, IfSome, IfNone, IfOk, IfErr, OnOk};
+ghost use Rattle.std.specs.Prelude.{OnErr, ℕ, [], ◌∷◌};
 ghost use Rattle.std.specs.Bool.{OnTrue, OnFalse};
 ghost use Rattle.gx_node.specs.Reading.{format_of, is_node};
 ghost use Rattle.gx_tree_laws.specs.Trees.{Used};
 ghost use Rattle.gx_tree.specs.Descending.{Descends, StepsDown, is_widened, next_of};
-ghost use Rattle.gx_node.specs.Owner.{KeepsSince, KeepsSinceBut, IsWhy, IsWhyLater, Brings, AsksAtMost, AsksToWrite, Asks, to_write};
+ghost use Rattle.gx_node.specs.Owner.{KeepsSince, KeepsSinceBut, IsWhy, IsWhyLater, Brings, AsksAtMost, AsksToWrite};
+ghost use Rattle.gx_node.specs.Owner.{Asks, to_write};
 ghost use Rattle.gx_node.specs.Store.{node_of, tree_of, Stays};
 
 use crate::bring::bring_page;
@@ -74,7 +76,8 @@ fn are_same<B: Shape>(first: &B, second: &B) -> bool
 /// where it has no children.
 fn way_down<K: KeyClass>(inner: &Inner<K>, coming: &K::Key, most: usize) -> Option<Way<K::Key>>
     requires { 0 < inner.now.level }
-    ensures way { (seen : ℕ) → inner.now.nsn ≤ seen → IfSome result (Descends K.cost K.joined most inner.now seen coming.now) }
+    ensures way { (seen : ℕ) → inner.now.nsn ≤ seen
+        → IfSome result (Descends K.cost K.joined most inner.now seen coming.now) }
     ensures none { IfNone result (length inner.now.children ≡ 0) }
 {
     if inner.len() == 0 {
@@ -102,7 +105,8 @@ fn way_at<K: KeyClass>(
     most: usize,
 ) -> Option<Way<K::Key>>
     requires { is_node (format_of K.KeyClass) room page.now ≡ true }
-    ensures way { IfSome result (Descends K.cost K.joined most (node_of (format_of K.KeyClass) page.now) item.now.seen coming.now) }
+    ensures way { IfSome result (Descends K.cost K.joined most (node_of (format_of K.KeyClass) page.now) item.now.seen
+        coming.now) }
     ensures none { IfNone result ((0 < (node_of (format_of K.KeyClass) page.now).level)
         × (length (node_of (format_of K.KeyClass) page.now).children ≡ 0)) }
 {
@@ -138,9 +142,11 @@ pub fn way_step<K: KeyClass, P: Pages<K>>(
     ensures tried { OnErr result (AsksAtMost P.asked (item.now.page ∷ []) pages.old pages.new) }
     ensures why { IfErr result (IsWhy (P.why pages.old pages.new)) }
     ensures later { OnOk result (IsWhyLater P.why pages.old pages.new) }
-    ensures way { IfOk result (Descends K.cost K.joined most ((tree_of (P.store pages.new)).node item.now.page) item.now.seen coming.now) }
+    ensures way { IfOk result (Descends K.cost K.joined most ((tree_of (P.store pages.new)).node item.now.page)
+        item.now.seen coming.now) }
     ensures damaged { result ≡ Err StepFault.Damaged → Used (tree_of (P.store pages.new)) item.now.page
-        → (0 < ((tree_of (P.store pages.new)).node item.now.page).level) × (length ((tree_of (P.store pages.new)).node item.now.page).children ≡ 0) }
+        → (0 < ((tree_of (P.store pages.new)).node item.now.page).level)
+        × (length ((tree_of (P.store pages.new)).node item.now.page).children ≡ 0) }
     ensures held { OnOk result (P.held pages.new item.now.page × Used (tree_of (P.store pages.new)) item.now.page) }
     ensures memory { result ≢ Err StepFault.Memory }
     ensures full { result ≢ Err StepFault.PagesFull }
@@ -157,8 +163,8 @@ pub fn way_step<K: KeyClass, P: Pages<K>>(
 /// Makes a step of a descent for a coming key at the page of its item, as `way_step` says: it goes down, and where the
 /// child's bound doesn't cover the key it widens it first, to the union of the two.
 ///
-/// Refused with `Pages` where the page could not be brought, or what the widening needs could not be had, and with `Damaged`
-/// only where `way_step` is: nothing has changed then.
+/// Refused with `Pages` where the page could not be brought, or what the widening needs could not be had, and with
+/// `Damaged` only where `way_step` is: nothing has changed then.
 pub fn descend_step<K: KeyClass, P: PagesMut<K>>(
     pages: &mut P,
     item: &Item,
@@ -168,16 +174,20 @@ pub fn descend_step<K: KeyClass, P: PagesMut<K>>(
     ensures steady { P.steady pages.old → P.steady pages.new }
     ensures since { KeepsSinceBut P.since item.now.page pages.old pages.new }
     ensures kept { OnErr result (KeepsSince P.since pages.old pages.new) }
-    ensures asked { IfOk result (λ did. Asks P.asked (to_write (is_widened did) (item.now.page ∷ []) 0) pages.old pages.new) }
+    ensures asked { IfOk result (λ did. Asks P.asked (to_write (is_widened did) (item.now.page ∷ []) 0) pages.old
+        pages.new) }
     ensures tried { OnErr result (AsksToWrite P.asked (item.now.page ∷ []) 0 pages.old pages.new) }
     ensures read { IfOk result (λ did. is_widened did ≡ false → KeepsSince P.since pages.old pages.new) }
     ensures why { IfErr result (IsWhy (P.why pages.old pages.new)) }
     ensures held { OnOk result (P.held pages.new item.now.page) }
     ensures changing { IfOk result (λ did. is_widened did ≡ true → P.changing pages.new item.now.page) }
-    ensures descended { P.steady pages.old → IfOk result (StepsDown K.cost K.joined most (P.store pages.old) (P.store pages.new) item.now coming.now) }
+    ensures descended { P.steady pages.old
+        → IfOk result (StepsDown K.cost K.joined most (P.store pages.old) (P.store pages.new) item.now coming.now) }
     ensures refused { P.steady pages.old → OnErr result (P.store pages.new ≡ P.store pages.old) }
-    ensures damaged { P.steady pages.old → result ≡ Err StepFault.Damaged → Used (tree_of (P.store pages.old)) item.now.page
-        → (0 < ((tree_of (P.store pages.old)).node item.now.page).level) × (length ((tree_of (P.store pages.old)).node item.now.page).children ≡ 0) }
+    ensures damaged { P.steady pages.old → result ≡ Err StepFault.Damaged
+        → Used (tree_of (P.store pages.old)) item.now.page
+        → (0 < ((tree_of (P.store pages.old)).node item.now.page).level)
+        × (length ((tree_of (P.store pages.old)).node item.now.page).children ≡ 0) }
     ensures memory { result ≢ Err StepFault.Memory }
     ensures full { result ≢ Err StepFault.PagesFull }
 {

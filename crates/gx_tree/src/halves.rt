@@ -140,8 +140,9 @@ fn node_keys<K: KeyClass>(page: &Page, room: u32, keys: &mut [K::Key])
     }
 }
 
-/// Splits the entries of a full node by the class's PickSplit (Guttman 1984), where a node has at most `most` entries, with
-/// at least two fifths of `most`, and two, on each side. `None` where the node isn't full, or has more than `MAX_ENTRIES`.
+/// Splits the entries of a full node by the class's PickSplit (Guttman 1984), where a node has at most `most`
+/// entries, with at least two fifths of `most`, and two, on each side. `None` where the node isn't full, or has more
+/// than `MAX_ENTRIES`.
 ///
 /// The node's keys are written over the first of `keys`.
 #[tactic(auto, using(crate::proofs::Parted::size_is))]
@@ -154,10 +155,12 @@ pub(crate) fn halve<K: KeyClass>(
     requires node { is_node (format_of K.KeyClass) room page.now ≡ true }
     requires most { (4 ≤ most) × (most ≤ MAX_ENTRIES) }
     requires space { MAX_ENTRIES ≤ length keys.old }
-    ensures halves { IfSome result (λ h. AreHalves (rules_of K.Key.Shape most) K.sides_of (node_of (format_of K.KeyClass) page.now) h.sides h.left h.right) }
+    ensures halves { IfSome result (λ h. AreHalves (rules_of K.Key.Shape most) K.sides_of
+        (node_of (format_of K.KeyClass) page.now) h.sides h.left h.right) }
     ensures few { IfSome result (λ h. length h.sides ≤ MAX_ENTRIES) }
     ensures full { IfSome result (λ _. most ≤ size (node_of (format_of K.KeyClass) page.now)) }
-    ensures none { IfNone result ((size (node_of (format_of K.KeyClass) page.now) < most) ⊎ (MAX_ENTRIES < size (node_of (format_of K.KeyClass) page.now))) }
+    ensures none { IfNone result ((size (node_of (format_of K.KeyClass) page.now) < most)
+        ⊎ (MAX_ENTRIES < size (node_of (format_of K.KeyClass) page.now))) }
 {
     let count = page.count();
     if count > MAX_ENTRIES {

@@ -1,12 +1,14 @@
 //! The steps that add a pair to a leaf, and that mark one.
-ghost use Rattle.std.specs.Prelude.{◌≡◌, ◌≢◌, ◌≤◌, ◌<◌, Bool, true, false, [], length, map, Some, slice_get, Err, OnOk, OnErr, IfOk, IfErr, ◌∷◌};
+ghost use Rattle.std.specs.Prelude.{◌≡◌, ◌≢◌, ◌≤◌, ◌<◌, Bool, true, false, [], length, map, Some, slice_get, Err, OnOk};
+ghost use Rattle.std.specs.Prelude.{OnErr, IfOk, IfErr, ◌∷◌};
 ghost use Rattle.std.specs.List.{list_any};
 ghost use Rattle.gx_machine.specs.declared.entry.Entry.{Entry};
 ghost use Rattle.gx_node.specs.Edits.{entry_of};
 ghost use Rattle.gx_node.specs.declared.items.TheConstants.{MAX_ENTRIES};
 ghost use Rattle.gx_tree_laws.specs.Trees.{Pair, Used};
 ghost use Rattle.gx_tree_laws.specs.Writes.{is_sweepable};
-ghost use Rattle.gx_node.specs.Owner.{KeepsSince, KeepsSinceBut, IsWhy, IsWhyLater, Brings, Prepares, AsksAtMost, AsksToWrite, Asks, to_write};
+ghost use Rattle.gx_node.specs.Owner.{KeepsSince, KeepsSinceBut, IsWhy, IsWhyLater, Brings, Prepares, AsksAtMost};
+ghost use Rattle.gx_node.specs.Owner.{AsksToWrite, Asks, to_write};
 ghost use Rattle.gx_tree.specs.Seeking.{is_here};
 ghost use Rattle.gx_node.specs.Store.{tree_of};
 ghost use Rattle.gx_tree.specs.Wants.{wants};
@@ -41,7 +43,8 @@ pub(crate) fn bring_leaf<K: KeyClass, P: PagesMut<K>>(
     ensures tried { OnErr result (AsksAtMost P.asked (page ∷ []) pages.old pages.new) }
     ensures why { IfErr result (IsWhy (P.why pages.old pages.new)) }
     ensures later { OnOk result (IsWhyLater P.why pages.old pages.new) }
-    ensures damaged { result ≡ Err StepFault.Damaged → Used (tree_of (P.store pages.new)) page → ((tree_of (P.store pages.new)).node page).level ≢ 0 }
+    ensures damaged { result ≡ Err StepFault.Damaged → Used (tree_of (P.store pages.new)) page
+        → ((tree_of (P.store pages.new)).node page).level ≢ 0 }
     ensures memory { result ≢ Err StepFault.Memory }
     ensures full { result ≢ Err StepFault.PagesFull }
 {
@@ -80,8 +83,8 @@ pub(crate) fn prepare_page<K: KeyClass, P: PagesMut<K>>(
 /// Puts a live pair behind the last of the leaf on a page, where a node has at most `most` entries, which is at most
 /// `MAX_ENTRIES`.
 ///
-/// Refused with `Pages` where the page could not be brought or made ready, and with `Damaged` only where it isn't a leaf
-/// that is taken, or has no room. Nothing has changed then.
+/// Refused with `Pages` where the page could not be brought or made ready, and with `Damaged` only where it isn't a
+/// leaf that is taken, or has no room. Nothing has changed then.
 pub fn add_step<K: KeyClass, P: PagesMut<K>>(
     pages: &mut P,
     page: u32,
@@ -96,10 +99,12 @@ pub fn add_step<K: KeyClass, P: PagesMut<K>>(
     ensures tried { OnErr result (AsksToWrite P.asked (page ∷ []) 0 pages.old pages.new) }
     ensures why { IfErr result (IsWhy (P.why pages.old pages.new)) }
     ensures held { OnOk result (P.held pages.new page × P.changing pages.new page) }
-    ensures added { P.steady pages.old → OnOk result (Appends most (tree_of (P.store pages.old)) (tree_of (P.store pages.new)) page entry.now) }
+    ensures added { P.steady pages.old
+        → OnOk result (Appends most (tree_of (P.store pages.old)) (tree_of (P.store pages.new)) page entry.now) }
     ensures refused { P.steady pages.old → OnErr result (P.store pages.new ≡ P.store pages.old) }
     ensures damaged { P.steady pages.old → result ≡ Err StepFault.Damaged → Used (tree_of (P.store pages.old)) page
-        → ((tree_of (P.store pages.old)).node page).level ≡ 0 → most ≤ length ((tree_of (P.store pages.old)).node page).pairs }
+        → ((tree_of (P.store pages.old)).node page).level ≡ 0
+        → most ≤ length ((tree_of (P.store pages.old)).node page).pairs }
     ensures memory { result ≢ Err StepFault.Memory }
     ensures full { result ≢ Err StepFault.PagesFull }
 {
@@ -111,11 +116,11 @@ pub fn add_step<K: KeyClass, P: PagesMut<K>>(
     Ok(())
 }
 
-/// Sets or clears the mark of the wanted pair in the leaf on a page. A pair that was found in a leaf is there or further to
-/// the right; where it isn't in this leaf, the next one is told, as `seek_step` does.
+/// Sets or clears the mark of the wanted pair in the leaf on a page. A pair that was found in a leaf is there or
+/// further to the right; where it isn't in this leaf, the next one is told, as `seek_step` does.
 ///
-/// Refused with `Pages` where the page could not be brought or made ready, and with `Damaged` only where it isn't a leaf
-/// that is taken. Nothing has changed then.
+/// Refused with `Pages` where the page could not be brought or made ready, and with `Damaged` only where it isn't a
+/// leaf that is taken. Nothing has changed then.
 pub fn set_mark_step<K: Probing, P: PagesMut<K>>(
     pages: &mut P,
     wanted: &Wanted<K>,

@@ -1,5 +1,6 @@
 //! A look, a page a step.
-ghost use Rattle.std.specs.Prelude.{◌≡◌, ◌<◌, ◌≤◌, ◌++◌, ◌∷◌, [], true, length, filter, map, ◌≢◌, List, ◌==◌, slice_get, Some, Err, IfOk, IfErr, OnOk, OnErr};
+ghost use Rattle.std.specs.Prelude.{◌≡◌, ◌<◌, ◌≤◌, ◌++◌, ◌∷◌, [], true, length, filter, map, ◌≢◌, List, ◌==◌};
+ghost use Rattle.std.specs.Prelude.{slice_get, Some, Err, IfOk, IfErr, OnOk, OnErr};
 ghost use Rattle.gx_node.specs.Hits.{passing_of};
 ghost use Rattle.gx_node.specs.Reading.{format_of, is_node};
 ghost use Rattle.gx_tree_laws.specs.Trees.{Pair, Used};
@@ -38,7 +39,8 @@ fn keep<K: Probing>(
 ) -> Result<(), AllocError>
     requires { slot < length leaf.now.pairs }
     ensures { (x : Pair K.Key) → slice_get leaf.now.pairs slot ≡ Some x
-        → OnOk result (found.new.items ≡ found.old.items ++ map (found_at page) (filter (has_row wanted.now.row) (x ∷ []))) }
+        → OnOk result (found.new.items ≡ found.old.items ++ map (found_at page)
+        (filter (has_row wanted.now.row) (x ∷ []))) }
 {
     let (entry, marked) = leaf.entry(slot);
     if wanted.takes(entry.row, marked) {
@@ -79,8 +81,8 @@ fn gather<K: Probing>(
     wanted: &Wanted<K>,
     found: &mut Vec<Found<K::Key>>,
 ) -> Result<(), AllocError>
-    ensures { OnOk result (found.new.items
-        ≡ found.old.items ++ map (found_at page) (filter (wants K.passes wanted.now.keys wanted.now.row) leaf.now.pairs)) }
+    ensures { OnOk result (found.new.items ≡ found.old.items ++ map (found_at page)
+        (filter (wants K.passes wanted.now.keys wanted.now.row) leaf.now.pairs)) }
 {
     for block in 0..leaf.len().div_ceil(BLOCK) {
         gather_block(leaf, block * BLOCK, page, wanted, found)?;
@@ -88,8 +90,8 @@ fn gather<K: Probing>(
     Ok(())
 }
 
-/// Stacks those children of a block of an inner node's slots below which something wanted may stand, with the counter as it
-/// is.
+/// Stacks those children of a block of an inner node's slots below which something wanted may stand, with the counter
+/// as it is.
 fn descend_block<K: Probing>(
     inner: &Inner<K>,
     from: usize,
@@ -116,7 +118,8 @@ fn descend<K: Probing>(
     wanted: &Wanted<K>,
     stack: &mut Stack,
 ) -> Result<(), AllocError>
-    ensures { OnOk result (stack.new.items ≡ stack.old.items ++ below counter (K.passes wanted.now.bounds) inner.now.children) }
+    ensures { OnOk result (stack.new.items ≡ stack.old.items ++ below counter (K.passes wanted.now.bounds)
+        inner.now.children) }
 {
     for block in 0..inner.len().div_ceil(BLOCK) {
         descend_block(inner, block * BLOCK, counter, wanted, stack)?;
@@ -190,8 +193,8 @@ fn read<K: Probing>(
 /// below which something wanted may stand, each remembered with the counter as it is now (Kornacker, Mohan, Hellerstein
 /// 1997).
 ///
-/// Refused with `Pages` where the page could not be brought, and `Damaged` where the item names no page that is taken: the
-/// look is then as it was. And with `Memory` where that is refused; the look is of no use then.
+/// Refused with `Pages` where the page could not be brought, and `Damaged` where the item names no page that is
+/// taken: the look is then as it was. And with `Memory` where that is refused; the look is of no use then.
 pub fn look_step<K: Probing, P: Pages<K>>(
     pages: &mut P,
     wanted: &Wanted<K>,
@@ -203,8 +206,8 @@ pub fn look_step<K: Probing, P: Pages<K>>(
     ensures since { KeepsSince P.since pages.old pages.new }
     ensures asked { OnOk result ((rest : List reach.Item) (item : reach.Item) → look.old.stack.items ≡ rest ++ item ∷ []
         → Asks P.asked (Brings (item.page ∷ []) ∷ []) pages.old pages.new) }
-    ensures tried { OnErr result ((rest : List reach.Item) (item : reach.Item) → look.old.stack.items ≡ rest ++ item ∷ []
-        → AsksAtMost P.asked (item.page ∷ []) pages.old pages.new) }
+    ensures tried { OnErr result ((rest : List reach.Item) (item : reach.Item)
+        → look.old.stack.items ≡ rest ++ item ∷ [] → AsksAtMost P.asked (item.page ∷ []) pages.old pages.new) }
     ensures why { IfErr result (IsWhy (P.why pages.old pages.new)) }
     ensures later { OnOk result (IsWhyLater P.why pages.old pages.new) }
     ensures step { OnOk result (LookStep (tree_of (P.store pages.new)) (wants K.passes wanted.now.keys wanted.now.row)

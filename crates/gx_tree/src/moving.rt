@@ -32,7 +32,8 @@ pub(crate) fn take_side<K: KeyClass, P: PagesMut<K>>(
     requires ready { 0 < P.ready pages.old }
     requires sides { length sides.now ≡ size (node_at (P.store pages.old).nodes from) }
     ensures page { result ≡ suc (length (P.store pages.old).nodes) }
-    ensures taken { P.store pages.new ≡ with_page (P.store pages.old) (left_of sides.now (node_at (P.store pages.old).nodes from)) }
+    ensures taken { P.store pages.new ≡ with_page (P.store pages.old)
+        (left_of sides.now (node_at (P.store pages.old).nodes from)) }
     ensures next { P.held pages.new result × P.changing pages.new result }
     ensures held { (q : ℕ) → P.held pages.old q → P.held pages.new q }
     ensures changing { (q : ℕ) → P.changing pages.old q → P.changing pages.new q }
@@ -57,8 +58,10 @@ pub(crate) fn keep_side<K: KeyClass, P: PagesMut<K>>(
     requires held { P.held pages.old page }
     requires changing { P.changing pages.old page }
     requires sides { length sides.now ≡ size (node_at (P.store pages.old).nodes page) }
-    ensures kept { P.store pages.new ≡ with_node (P.store pages.old) page (node_with (node_at (P.store pages.old).nodes page) link.nsn link.right
-        (staying sides.now (node_at (P.store pages.old).nodes page).pairs) (staying sides.now (node_at (P.store pages.old).nodes page).children)) }
+    ensures kept { P.store pages.new ≡ with_node (P.store pages.old) page
+        (node_with (node_at (P.store pages.old).nodes page) link.nsn link.right
+        (staying sides.now (node_at (P.store pages.old).nodes page).pairs)
+        (staying sides.now (node_at (P.store pages.old).nodes page).children)) }
     ensures held { (q : ℕ) → P.held pages.old q → P.held pages.new q }
     ensures changing { (q : ℕ) → P.changing pages.old q → P.changing pages.new q }
     ensures steady { P.steady pages.old → P.steady pages.new }

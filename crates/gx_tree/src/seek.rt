@@ -39,8 +39,9 @@ fn next_wanted<K: Probing>(leaf: &Leaf<K>, wanted: &Wanted<K>, from: usize) -> O
     None
 }
 
-/// Looks for a pair in the leaf on a page, by `Wanted::entry`. A pair that was found in a leaf is there or further to the
-/// right, since splits move pairs to the right only (Lehman, Yao 1981); where it isn't in this leaf, the next one is told.
+/// Looks for a pair in the leaf on a page, by `Wanted::entry`. A pair that was found in a leaf is there or further to
+/// the right, since splits move pairs to the right only (Lehman, Yao 1981); where it isn't in this leaf, the next one
+/// is told.
 ///
 /// Refused with `Pages` where the page could not be brought, and with `Damaged` only where it isn't a leaf that is
 /// taken.
@@ -57,8 +58,10 @@ pub fn seek_step<K: Probing, P: Pages<K>>(
     ensures tried { OnErr result (AsksAtMost P.asked (page ∷ []) pages.old pages.new) }
     ensures why { IfErr result (IsWhy (P.why pages.old pages.new)) }
     ensures later { OnOk result (IsWhyLater P.why pages.old pages.new) }
-    ensures sought { IfOk result (Seeks (wants K.passes wanted.now.keys wanted.now.row) ((tree_of (P.store pages.new)).node page)) }
-    ensures damaged { result ≡ Err StepFault.Damaged → Used (tree_of (P.store pages.new)) page → ((tree_of (P.store pages.new)).node page).level ≢ 0 }
+    ensures sought { IfOk result (Seeks (wants K.passes wanted.now.keys wanted.now.row)
+        ((tree_of (P.store pages.new)).node page)) }
+    ensures damaged { result ≡ Err StepFault.Damaged → Used (tree_of (P.store pages.new)) page
+        → ((tree_of (P.store pages.new)).node page).level ≢ 0 }
     ensures memory { result ≢ Err StepFault.Memory }
     ensures full { result ≢ Err StepFault.PagesFull }
 {

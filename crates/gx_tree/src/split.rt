@@ -1,12 +1,14 @@
 //! The split of a node.
-ghost use Rattle.std.specs.Prelude.{◌≡◌, ◌≢◌, ◌<◌, ◌≤◌, ◌+◌, ◌^◌, ◌⊎◌, ℕ, suc, true, false, length, map, slice_index_or, ◌==◌, Err, IfOk, IfErr, IfSome, IfNone, OnOk, OnErr, [], ◌∷◌};
+ghost use Rattle.std.specs.Prelude.{◌≡◌, ◌≢◌, ◌<◌, ◌≤◌, ◌+◌, ◌^◌, ◌⊎◌, ℕ, suc, true, false, length, map};
+ghost use Rattle.std.specs.Prelude.{slice_index_or, ◌==◌, Err, IfOk, IfErr, IfSome, IfNone, OnOk, OnErr, [], ◌∷◌};
 ghost use Rattle.gx_node.specs.Hits.{IsNextHit};
 ghost use Rattle.gx_node.specs.Reading.{format_of, is_node};
 ghost use Rattle.gx_node.specs.declared.items.TheConstants.{MAX_ENTRIES};
 ghost use Rattle.gx_tree_laws.specs.Legal.{Legal};
 ghost use Rattle.gx_tree_laws.specs.Trees.{Used, size, times, child_pages};
 ghost use Rattle.gx_node.specs.Keyed.{rules_of};
-ghost use Rattle.gx_node.specs.Owner.{KeepsSince, KeepsSinceBut, IsWhy, IsWhyLater, Brings, AsksAtMost, AsksToWrite, Asks, to_write};
+ghost use Rattle.gx_node.specs.Owner.{KeepsSince, KeepsSinceBut, IsWhy, IsWhyLater, Brings, AsksAtMost, AsksToWrite};
+ghost use Rattle.gx_node.specs.Owner.{Asks, to_write};
 ghost use Rattle.gx_tree.specs.Splitting.{NamesOnce, CanSplit, DidSplit, HasNoPlace, Splits, parent_of, has_split};
 ghost use Rattle.gx_node.specs.Store.{node_of, node_at, tree_of, Stays, with_node};
 
@@ -91,7 +93,8 @@ fn bring_both<K: KeyClass, P: Pages<K>>(
     parent: u32,
 ) -> Result<(), StepFault<P::Fault>>
     ensures held { OnOk result (P.held pages.new page × P.held pages.new parent) }
-    ensures used { OnOk result (Used (tree_of (P.store pages.new)) page × Used (tree_of (P.store pages.new)) parent × (page ≢ parent)) }
+    ensures used { OnOk result (Used (tree_of (P.store pages.new)) page × Used (tree_of (P.store pages.new)) parent
+        × (page ≢ parent)) }
     ensures stays { Stays (P.steady pages.old) (P.store pages.old) (P.store pages.new) }
     ensures steady { P.steady pages.old → P.steady pages.new }
     ensures since { KeepsSince P.since pages.old pages.new }
@@ -99,7 +102,8 @@ fn bring_both<K: KeyClass, P: Pages<K>>(
     ensures tried { OnErr result (AsksAtMost P.asked (page ∷ parent ∷ []) pages.old pages.new) }
     ensures why { IfErr result (IsWhy (P.why pages.old pages.new)) }
     ensures later { OnOk result (IsWhyLater P.why pages.old pages.new) }
-    ensures damaged { result ≡ Err StepFault.Damaged → Used (tree_of (P.store pages.new)) page → Used (tree_of (P.store pages.new)) parent → page ≡ parent }
+    ensures damaged { result ≡ Err StepFault.Damaged → Used (tree_of (P.store pages.new)) page
+        → Used (tree_of (P.store pages.new)) parent → page ≡ parent }
     ensures memory { result ≢ Err StepFault.Memory }
     ensures full { result ≢ Err StepFault.PagesFull }
 {
@@ -115,8 +119,8 @@ fn bring_both<K: KeyClass, P: Pages<K>>(
 
 /// Where and how a node that is held can be split. `None` where its parent has no place for that.
 ///
-/// Refused with `PagesFull` where no page is left, and with `Damaged` where the parent is a leaf, the node isn't full, or
-/// the counter of splits is at its end. The node's keys are written over the first of `keys`.
+/// Refused with `PagesFull` where no page is left, and with `Damaged` where the parent is a leaf, the node isn't
+/// full, or the counter of splits is at its end. The node's keys are written over the first of `keys`.
 fn plan_split<K: KeyClass, P: PagesMut<K>>(
     pages: &P,
     page: u32,
@@ -127,14 +131,19 @@ fn plan_split<K: KeyClass, P: PagesMut<K>>(
     requires most { (4 ≤ most) × (most ≤ MAX_ENTRIES) }
     requires space { MAX_ENTRIES ≤ length keys.old }
     requires held { P.held pages.now page × P.held pages.now parent }
-    ensures some { IfOk result (λ plan. IfSome plan (λ p. CanSplit (rules_of K.Key.Shape most) K.sides_of (P.store pages.now) page parent p.0 p.1.sides p.1.left p.1.right)) }
-    ensures none { IfOk result (λ plan. IfNone plan (HasNoPlace (rules_of K.Key.Shape most) (tree_of (P.store pages.now)) page parent)) }
+    ensures some { IfOk result (λ plan. IfSome plan (λ p. CanSplit (rules_of K.Key.Shape most) K.sides_of
+        (P.store pages.now) page parent p.0 p.1.sides p.1.left p.1.right)) }
+    ensures none { IfOk result (λ plan. IfNone plan (HasNoPlace (rules_of K.Key.Shape most)
+        (tree_of (P.store pages.now)) page parent)) }
     ensures full { result ≡ Err StepFault.PagesFull → (P.store pages.now).room ≤ length (P.store pages.now).nodes }
     ensures why { IfErr result (IsWhy (λ _. ⊥)) }
-    ensures placed { result ≡ Err StepFault.PagesFull → ¬ HasNoPlace (rules_of K.Key.Shape most) (tree_of (P.store pages.now)) page parent }
+    ensures placed { result ≡ Err StepFault.PagesFull
+        → ¬ HasNoPlace (rules_of K.Key.Shape most) (tree_of (P.store pages.now)) page parent }
     ensures only_full { IfOk result (λ plan. IfSome plan (λ _. most ≤ size (node_at (P.store pages.now).nodes page))) }
-    ensures damaged { result ≡ Err StepFault.Damaged → 0 < (node_at (P.store pages.now).nodes parent).level → (P.store pages.now).counter + 1 < 2 ^ 64
-        → (size (node_at (P.store pages.now).nodes page) < most) ⊎ (MAX_ENTRIES < size (node_at (P.store pages.now).nodes page)) }
+    ensures damaged { result ≡ Err StepFault.Damaged → 0 < (node_at (P.store pages.now).nodes parent).level
+        → (P.store pages.now).counter + 1 < 2 ^ 64
+        → (size (node_at (P.store pages.now).nodes page) < most)
+        ⊎ (MAX_ENTRIES < size (node_at (P.store pages.now).nodes page)) }
     ensures memory { result ≢ Err StepFault.Memory }
 {
     let room = pages.room();
@@ -191,13 +200,17 @@ fn make_split<K: KeyClass, P: PagesMut<K>>(
 ) -> Split<K::Key>
     requires held { P.held pages.old page × P.held pages.old parent }
     requires changing { P.changing pages.old page × P.changing pages.old parent }
-    requires used { Used (tree_of (P.store pages.old)) page × Used (tree_of (P.store pages.old)) parent × (page ≢ parent) }
+    requires used { Used (tree_of (P.store pages.old)) page × Used (tree_of (P.store pages.old)) parent
+        × (page ≢ parent) }
     requires ready { 0 < P.ready pages.old }
     requires most { _most ≤ MAX_ENTRIES }
-    requires can { CanSplit (rules_of K.Key.Shape _most) K.sides_of (P.store pages.old) page parent slot halves.now.sides halves.now.left halves.now.right }
-    ensures split { DidSplit (rules_of K.Key.Shape _most) K.sides_of (P.store pages.old) (P.store pages.new) page parent result }
+    requires can { CanSplit (rules_of K.Key.Shape _most) K.sides_of (P.store pages.old) page parent slot
+        halves.now.sides halves.now.left halves.now.right }
+    ensures split { DidSplit (rules_of K.Key.Shape _most) K.sides_of (P.store pages.old) (P.store pages.new) page parent
+        result }
     ensures steady { P.steady pages.old → P.steady pages.new }
-    ensures since { (was : P) (q : ℕ) → q ≢ page → q ≢ parent → q ≢ suc (length (P.store pages.old).nodes) → P.since was pages.old q → P.since was pages.new q }
+    ensures since { (was : P) (q : ℕ) → q ≢ page → q ≢ parent → q ≢ suc (length (P.store pages.old).nodes)
+        → P.since was pages.old q → P.since was pages.new q }
     ensures held { P.held pages.new page × P.held pages.new parent × P.held pages.new result.sibling }
     ensures changing { P.changing pages.new page × P.changing pages.new parent × P.changing pages.new result.sibling }
     ensures sibling { result.sibling ≡ suc (length (P.store pages.old).nodes) }
@@ -232,15 +245,16 @@ fn make_split<K: KeyClass, P: PagesMut<K>>(
     }
 }
 
-/// Splits the node on a page, which is full, below its parent. The counter of splits rises by one. The node gets its new
-/// value as its sequence number, and a new sibling as its rightlink; the sibling gets the number and the rightlink that the
-/// node had, so that whoever remembers an older number goes on to it (Kornacker, Mohan, Hellerstein 1997). In the parent the
-/// node's entry gets the union of the keys that stay, and the sibling's entry is put behind the last. `None` where the parent
-/// doesn't name the page, names it twice, or is full: the descent begins again at the root.
+/// Splits the node on a page, which is full, below its parent. The counter of splits rises by one. The node gets its
+/// new value as its sequence number, and a new sibling as its rightlink; the sibling gets the number and the
+/// rightlink that the node had, so that whoever remembers an older number goes on to it (Kornacker, Mohan,
+/// Hellerstein 1997). In the parent the node's entry gets the union of the keys that stay, and the sibling's entry is
+/// put behind the last. `None` where the parent doesn't name the page, names it twice, or is full: the descent begins
+/// again at the root.
 ///
-/// Refused with `PagesFull` only where no page is left; with `Pages` where a page could not be brought, or what the changes
-/// need could not be had; and with `Damaged` where the two aren't a full node and an inner node above it, or the counter is at
-/// its end. Nothing has changed then. The node's keys are written over the first of `keys`.
+/// Refused with `PagesFull` only where no page is left; with `Pages` where a page could not be brought, or what the
+/// changes need could not be had; and with `Damaged` where the two aren't a full node and an inner node above it, or
+/// the counter is at its end. Nothing has changed then. The node's keys are written over the first of `keys`.
 #[tactic(auto, using(crate::proofs::Owner::why_any))]
 pub fn split_step<K: KeyClass, P: PagesMut<K>>(
     pages: &mut P,
@@ -252,24 +266,36 @@ pub fn split_step<K: KeyClass, P: PagesMut<K>>(
     requires most { (4 ≤ most) × (most ≤ MAX_ENTRIES) }
     requires space { MAX_ENTRIES ≤ length keys.old }
     ensures steady { P.steady pages.old → P.steady pages.new }
-    ensures since { (was : P) (q : ℕ) → q ≢ page → q ≢ parent → q ≢ suc (length (P.store pages.old).nodes) → P.since was pages.old q → P.since was pages.new q }
+    ensures since { (was : P) (q : ℕ) → q ≢ page → q ≢ parent → q ≢ suc (length (P.store pages.old).nodes)
+        → P.since was pages.old q → P.since was pages.new q }
     ensures kept { OnErr result (KeepsSince P.since pages.old pages.new) }
-    ensures asked { IfOk result (λ did. Asks P.asked (to_write (has_split did) (page ∷ parent ∷ []) 1) pages.old pages.new) }
+    ensures asked { IfOk result (λ did. Asks P.asked (to_write (has_split did) (page ∷ parent ∷ []) 1) pages.old
+        pages.new) }
     ensures tried { OnErr result (AsksToWrite P.asked (page ∷ parent ∷ []) 1 pages.old pages.new) }
     ensures none { IfOk result (λ did. IfNone did (KeepsSince P.since pages.old pages.new)) }
     ensures why { IfErr result (IsWhy (P.why pages.old pages.new)) }
-    ensures held { IfOk result (λ did. IfSome did (λ split. P.held pages.new page × P.held pages.new parent × P.held pages.new split.sibling)) }
-    ensures changing { IfOk result (λ did. IfSome did (λ split. P.changing pages.new page × P.changing pages.new parent × P.changing pages.new split.sibling)) }
-    ensures sibling { IfOk result (λ did. IfSome did (λ split. split.sibling ≡ suc (length (P.store pages.old).nodes))) }
+    ensures held { IfOk result (λ did. IfSome did (λ split.
+        P.held pages.new page × P.held pages.new parent × P.held pages.new split.sibling)) }
+    ensures changing { IfOk result (λ did. IfSome did (λ split.
+        P.changing pages.new page × P.changing pages.new parent × P.changing pages.new split.sibling)) }
+    ensures sibling { IfOk result (λ did. IfSome did (λ split.
+        split.sibling ≡ suc (length (P.store pages.old).nodes))) }
     ensures keys { IfOk result (λ did. IfSome did (λ split. K.is_key split.left × K.is_key split.right)) }
-    ensures apart { IfOk result (λ did. IfSome did (λ split. (page ≢ parent) × (split.sibling ≢ page) × (split.sibling ≢ parent))) }
-    ensures only_full { P.steady pages.old → IfOk result (λ did. IfSome did (λ _. most ≤ size (node_at (P.store pages.old).nodes page))) }
-    ensures placed { P.steady pages.old → result ≡ Err StepFault.PagesFull → ¬ HasNoPlace (rules_of K.Key.Shape most) (tree_of (P.store pages.old)) page parent }
-    ensures split { P.steady pages.old → IfOk result (Splits (rules_of K.Key.Shape most) K.sides_of (P.store pages.old) (P.store pages.new) page parent) }
+    ensures apart { IfOk result (λ did. IfSome did (λ split.
+        (page ≢ parent) × (split.sibling ≢ page) × (split.sibling ≢ parent))) }
+    ensures only_full { P.steady pages.old
+        → IfOk result (λ did. IfSome did (λ _. most ≤ size (node_at (P.store pages.old).nodes page))) }
+    ensures placed { P.steady pages.old → result ≡ Err StepFault.PagesFull
+        → ¬ HasNoPlace (rules_of K.Key.Shape most) (tree_of (P.store pages.old)) page parent }
+    ensures split { P.steady pages.old
+        → IfOk result (Splits (rules_of K.Key.Shape most) K.sides_of (P.store pages.old) (P.store pages.new) page
+        parent) }
     ensures refused { P.steady pages.old → OnErr result (P.store pages.new ≡ P.store pages.old) }
-    ensures full { P.steady pages.old → result ≡ Err StepFault.PagesFull → (P.store pages.old).room ≤ length (P.store pages.old).nodes }
-    ensures damaged { P.steady pages.old → result ≡ Err StepFault.Damaged → Legal (rules_of K.Key.Shape most) (tree_of (P.store pages.old))
-        → Used (tree_of (P.store pages.old)) page → Used (tree_of (P.store pages.old)) parent → page ≢ parent
+    ensures full { P.steady pages.old → result ≡ Err StepFault.PagesFull
+        → (P.store pages.old).room ≤ length (P.store pages.old).nodes }
+    ensures damaged { P.steady pages.old → result ≡ Err StepFault.Damaged
+        → Legal (rules_of K.Key.Shape most) (tree_of (P.store pages.old)) → Used (tree_of (P.store pages.old)) page
+        → Used (tree_of (P.store pages.old)) parent → page ≢ parent
         → 0 < (node_at (P.store pages.old).nodes parent).level → most ≤ size (node_at (P.store pages.old).nodes page)
         → (P.store pages.old).counter + 1 < 2 ^ 64 → ⊥ }
     ensures memory { result ≢ Err StepFault.Memory }

@@ -1,5 +1,6 @@
 //! The split of the root.
-ghost use Rattle.std.specs.Prelude.{true, ◌≡◌, ◌≢◌, ◌<◌, ◌≤◌, ◌+◌, ◌^◌, ◌⊎◌, ℕ, suc, length, Err, IfOk, IfErr, OnOk, OnErr, [], ◌∷◌};
+ghost use Rattle.std.specs.Prelude.{true, ◌≡◌, ◌≢◌, ◌<◌, ◌≤◌, ◌+◌, ◌^◌, ◌⊎◌, ℕ, suc, length, Err, IfOk, IfErr, OnOk};
+ghost use Rattle.std.specs.Prelude.{OnErr, [], ◌∷◌};
 ghost use Rattle.gx_node.specs.declared.items.TheConstants.{MAX_ENTRIES};
 ghost use Rattle.gx_tree_laws.specs.Legal.{Legal};
 ghost use Rattle.gx_tree_laws.specs.Trees.{Used, size};
@@ -30,8 +31,8 @@ pub struct RootSplit<B> {
 
 /// How the root, which is held, can be split.
 ///
-/// Refused with `PagesFull` where fewer than two pages are left, and with `Damaged` where the root is a leaf, isn't full, or
-/// has the greatest level. The root's keys are written over the first of `keys`.
+/// Refused with `PagesFull` where fewer than two pages are left, and with `Damaged` where the root is a leaf, isn't
+/// full, or has the greatest level. The root's keys are written over the first of `keys`.
 fn plan_root<K: KeyClass, P: PagesMut<K>>(
     pages: &P,
     most: usize,
@@ -40,12 +41,15 @@ fn plan_root<K: KeyClass, P: PagesMut<K>>(
     requires most { (4 ≤ most) × (most ≤ MAX_ENTRIES) }
     requires space { MAX_ENTRIES ≤ length keys.old }
     requires held { P.held pages.now 1 }
-    ensures some { IfOk result (λ h. CanSplitRoot (rules_of K.Key.Shape most) K.sides_of (P.store pages.now) h.sides h.left h.right) }
+    ensures some { IfOk result (λ h. CanSplitRoot (rules_of K.Key.Shape most) K.sides_of (P.store pages.now) h.sides
+        h.left h.right) }
     ensures why { IfErr result (IsWhy (λ _. ⊥)) }
     ensures only_full { OnOk result (most ≤ size (node_at (P.store pages.now).nodes 1)) }
     ensures full { result ≡ Err StepFault.PagesFull → (P.store pages.now).room < length (P.store pages.now).nodes + 2 }
-    ensures damaged { result ≡ Err StepFault.Damaged → 0 < (node_at (P.store pages.now).nodes 1).level → (node_at (P.store pages.now).nodes 1).level + 1 < 2 ^ 16
-        → (size (node_at (P.store pages.now).nodes 1) < most) ⊎ (MAX_ENTRIES < size (node_at (P.store pages.now).nodes 1)) }
+    ensures damaged { result ≡ Err StepFault.Damaged → 0 < (node_at (P.store pages.now).nodes 1).level
+        → (node_at (P.store pages.now).nodes 1).level + 1 < 2 ^ 16
+        → (size (node_at (P.store pages.now).nodes 1) < most)
+        ⊎ (MAX_ENTRIES < size (node_at (P.store pages.now).nodes 1)) }
     ensures memory { result ≢ Err StepFault.Memory }
 {
     let room = pages.room();
@@ -73,14 +77,18 @@ fn make_root_split<K: KeyClass, P: PagesMut<K>>(
     requires changing { P.changing pages.old 1 }
     requires used { Used (tree_of (P.store pages.old)) 1 }
     requires ready { 2 ≤ P.ready pages.old }
-    requires can { CanSplitRoot (rules_of K.Key.Shape _most) K.sides_of (P.store pages.old) halves.now.sides halves.now.left halves.now.right }
-    ensures split { DidSplitRoot (rules_of K.Key.Shape _most) K.sides_of (P.store pages.old) (P.store pages.new) result }
+    requires can { CanSplitRoot (rules_of K.Key.Shape _most) K.sides_of (P.store pages.old) halves.now.sides
+        halves.now.left halves.now.right }
+    ensures split { DidSplitRoot (rules_of K.Key.Shape _most) K.sides_of (P.store pages.old) (P.store pages.new)
+        result }
     ensures steady { P.steady pages.old → P.steady pages.new }
-    ensures since { (was : P) (q : ℕ) → q ≢ 1 → q ≢ suc (length (P.store pages.old).nodes) → q ≢ suc (suc (length (P.store pages.old).nodes)) → P.since was pages.old q → P.since was pages.new q }
+    ensures since { (was : P) (q : ℕ) → q ≢ 1 → q ≢ suc (length (P.store pages.old).nodes)
+        → q ≢ suc (suc (length (P.store pages.old).nodes)) → P.since was pages.old q → P.since was pages.new q }
     ensures held { P.held pages.new 1 × P.held pages.new result.first × P.held pages.new result.second }
     ensures changing { P.changing pages.new 1 × P.changing pages.new result.first × P.changing pages.new result.second }
     ensures asked { Asks P.asked [] pages.old pages.new }
-    ensures places { (result.first ≡ suc (length (P.store pages.old).nodes)) × (result.second ≡ suc (suc (length (P.store pages.old).nodes))) }
+    ensures places { (result.first ≡ suc (length (P.store pages.old).nodes))
+        × (result.second ≡ suc (suc (length (P.store pages.old).nodes))) }
     ensures keys { K.is_key result.left × K.is_key result.right }
 {
     let sides = halves.sides();
@@ -118,13 +126,13 @@ fn make_root_split<K: KeyClass, P: PagesMut<K>>(
     }
 }
 
-/// Splits the root, which is full. Its entries move to two new pages of its level, with the sequence number 0, of which the
-/// first has the second as its rightlink; the root, a level higher, holds an entry for each. So the root stays on page 1,
-/// and the counter of splits is as it was: nobody goes on from the root to the right.
+/// Splits the root, which is full. Its entries move to two new pages of its level, with the sequence number 0, of
+/// which the first has the second as its rightlink; the root, a level higher, holds an entry for each. So the root
+/// stays on page 1, and the counter of splits is as it was: nobody goes on from the root to the right.
 ///
-/// Refused with `PagesFull` only where fewer than two pages are left; with `Pages` where the root could not be brought, or
-/// what the changes need could not be had; and with `Damaged` where page 1 isn't a full inner node, or has the level 65535.
-/// Nothing has changed then. The root's keys are written over the first of `keys`.
+/// Refused with `PagesFull` only where fewer than two pages are left; with `Pages` where the root could not be
+/// brought, or what the changes need could not be had; and with `Damaged` where page 1 isn't a full inner node, or
+/// has the level 65535. Nothing has changed then. The root's keys are written over the first of `keys`.
 #[tactic(auto, using(crate::proofs::Owner::why_any))]
 pub fn split_root_step<K: KeyClass, P: PagesMut<K>>(
     pages: &mut P,
@@ -134,21 +142,28 @@ pub fn split_root_step<K: KeyClass, P: PagesMut<K>>(
     requires most { (4 ≤ most) × (most ≤ MAX_ENTRIES) }
     requires space { MAX_ENTRIES ≤ length keys.old }
     ensures steady { P.steady pages.old → P.steady pages.new }
-    ensures since { (was : P) (q : ℕ) → q ≢ 1 → q ≢ suc (length (P.store pages.old).nodes) → q ≢ suc (suc (length (P.store pages.old).nodes)) → P.since was pages.old q → P.since was pages.new q }
+    ensures since { (was : P) (q : ℕ) → q ≢ 1 → q ≢ suc (length (P.store pages.old).nodes)
+        → q ≢ suc (suc (length (P.store pages.old).nodes)) → P.since was pages.old q → P.since was pages.new q }
     ensures kept { OnErr result (KeepsSince P.since pages.old pages.new) }
     ensures asked { OnOk result (Asks P.asked (to_write true (1 ∷ []) 2) pages.old pages.new) }
     ensures tried { OnErr result (AsksToWrite P.asked (1 ∷ []) 2 pages.old pages.new) }
     ensures why { IfErr result (IsWhy (P.why pages.old pages.new)) }
     ensures held { IfOk result (λ did. P.held pages.new 1 × P.held pages.new did.first × P.held pages.new did.second) }
-    ensures changing { IfOk result (λ did. P.changing pages.new 1 × P.changing pages.new did.first × P.changing pages.new did.second) }
-    ensures places { IfOk result (λ did. (did.first ≡ suc (length (P.store pages.old).nodes)) × (did.second ≡ suc (suc (length (P.store pages.old).nodes)))) }
+    ensures changing { IfOk result (λ did. P.changing pages.new 1 × P.changing pages.new did.first
+        × P.changing pages.new did.second) }
+    ensures places { IfOk result (λ did. (did.first ≡ suc (length (P.store pages.old).nodes))
+        × (did.second ≡ suc (suc (length (P.store pages.old).nodes)))) }
     ensures keys { IfOk result (λ did. K.is_key did.left × K.is_key did.right) }
     ensures only_full { P.steady pages.old → OnOk result (most ≤ size (node_at (P.store pages.old).nodes 1)) }
-    ensures split { P.steady pages.old → IfOk result (DidSplitRoot (rules_of K.Key.Shape most) K.sides_of (P.store pages.old) (P.store pages.new)) }
+    ensures split { P.steady pages.old
+        → IfOk result (DidSplitRoot (rules_of K.Key.Shape most) K.sides_of (P.store pages.old) (P.store pages.new)) }
     ensures refused { P.steady pages.old → OnErr result (P.store pages.new ≡ P.store pages.old) }
-    ensures full { P.steady pages.old → result ≡ Err StepFault.PagesFull → (P.store pages.old).room < length (P.store pages.old).nodes + 2 }
-    ensures damaged { P.steady pages.old → result ≡ Err StepFault.Damaged → Legal (rules_of K.Key.Shape most) (tree_of (P.store pages.old))
-        → most ≤ size (node_at (P.store pages.old).nodes 1) → (node_at (P.store pages.old).nodes 1).level + 1 < 2 ^ 16 → ⊥ }
+    ensures full { P.steady pages.old → result ≡ Err StepFault.PagesFull
+        → (P.store pages.old).room < length (P.store pages.old).nodes + 2 }
+    ensures damaged { P.steady pages.old → result ≡ Err StepFault.Damaged
+        → Legal (rules_of K.Key.Shape most) (tree_of (P.store pages.old))
+        → most ≤ size (node_at (P.store pages.old).nodes 1) → (node_at (P.store pages.old).nodes 1).level + 1 < 2 ^ 16
+        → ⊥ }
     ensures memory { result ≢ Err StepFault.Memory }
 {
     bring_page(pages, 1)?;

@@ -1,11 +1,13 @@
 //! The sweep of a leaf: what goes is told before it goes.
-ghost use Rattle.std.specs.Prelude.{◌≡◌, ◌≢◌, ◌≤◌, ◌<◌, ℕ, Bool, true, false, length, map, take, Some, slice_get, Err, OnOk, OnErr, IfOk, IfErr, ◌∷◌, []};
+ghost use Rattle.std.specs.Prelude.{◌≡◌, ◌≢◌, ◌≤◌, ◌<◌, ℕ, Bool, true, false, length, map, take, Some, slice_get, Err};
+ghost use Rattle.std.specs.Prelude.{OnOk, OnErr, IfOk, IfErr, ◌∷◌, []};
 ghost use Rattle.gx_machine.specs.declared.entry.Entry.{Entry};
 ghost use Rattle.gx_node.specs.Edits.{entry_of};
 ghost use Rattle.gx_node.specs.declared.items.TheConstants.{MAX_ENTRIES};
 ghost use Rattle.gx_tree_laws.specs.Trees.{Pair, Used};
 ghost use Rattle.gx_tree_laws.specs.Writes.{is_sweepable};
-ghost use Rattle.gx_node.specs.Owner.{KeepsSince, KeepsSinceBut, IsWhy, IsWhyLater, Brings, AsksAtMost, AsksToWrite, Asks, to_write};
+ghost use Rattle.gx_node.specs.Owner.{KeepsSince, KeepsSinceBut, IsWhy, IsWhyLater, Brings, AsksAtMost, AsksToWrite};
+ghost use Rattle.gx_node.specs.Owner.{Asks, to_write};
 ghost use Rattle.gx_node.specs.Store.{node_at, tree_of, Stays};
 ghost use Rattle.gx_tree.specs.Sweeping.{FitsLeaf, PlansSweep, TakesOut, slots_from, slots_of, takes_none, to_take_out};
 ghost use Rattle.gx_tree.specs.Writing.{Swept};
@@ -17,8 +19,8 @@ use gx_machine::Entry;
 use gx_node::{Leaf, MAX_ENTRIES, PagesMut, StepFault};
 use std::marker::Model;
 
-/// What a sweep takes out of a leaf: a page, and the slots of the pairs that go. So whoever makes ready for a sweep knows
-/// before it how much it changes.
+/// What a sweep takes out of a leaf: a page, and the slots of the pairs that go. So whoever makes ready for a sweep
+/// knows before it how much it changes.
 #[derive(Drop)]
 pub struct Sweep {
     page: u32,
@@ -37,7 +39,8 @@ impl Model for Sweep {
 
     ghost view = { λ s. record { page = s.page; sides = take s.count s.sides } };
 
-    ghost invariant = { λ s. (s.count ≤ MAX_ENTRIES) × (s.gone ≤ MAX_ENTRIES) × (take s.gone s.slots ≡ slots_from 0 (take s.count s.sides)) };
+    ghost invariant = { λ s. (s.count ≤ MAX_ENTRIES) × (s.gone ≤ MAX_ENTRIES)
+        × (take s.gone s.slots ≡ slots_from 0 (take s.count s.sides)) };
 }
 
 impl Sweep {
@@ -111,7 +114,8 @@ fn is_unclaimed<K: KeyClass, F: Fn(Entry<K::Key>) -> bool>(
 ) -> bool
     requires slot { slot < length leaf.now.pairs }
     requires claimed { F.IsAlwaysCallable claimed.now }
-    ensures { (test : Entry K.Key → Bool) → ((entry : Entry K.Key) (answer : Bool) → F.post claimed.now entry answer → answer ≡ test entry)
+    ensures { (test : Entry K.Key → Bool)
+        → ((entry : Entry K.Key) (answer : Bool) → F.post claimed.now entry answer → answer ≡ test entry)
         → (x : Pair K.Key) → slice_get leaf.now.pairs slot ≡ Some x → result ≡ is_sweepable (λ x. test (entry_of x)) x }
 {
     let (entry, marked) = leaf.entry(slot);
@@ -126,7 +130,8 @@ fn choose_sides<K: KeyClass, F: Fn(Entry<K::Key>) -> bool>(
 )
     requires sides { length sides.old ≡ length leaf.now.pairs }
     requires claimed { F.IsAlwaysCallable claimed.now }
-    ensures { (test : Entry K.Key → Bool) → ((entry : Entry K.Key) (answer : Bool) → F.post claimed.now entry answer → answer ≡ test entry)
+    ensures { (test : Entry K.Key → Bool)
+        → ((entry : Entry K.Key) (answer : Bool) → F.post claimed.now entry answer → answer ≡ test entry)
         → sides.new ≡ map (is_sweepable (λ x. test (entry_of x))) leaf.now.pairs }
 {
     for slot in 0..leaf.len() {
@@ -134,11 +139,11 @@ fn choose_sides<K: KeyClass, F: Fn(Entry<K::Key>) -> bool>(
     }
 }
 
-/// Brings the leaf on a page, and says which of its pairs a sweep takes out: those that are marked and that nobody claims.
-/// Nothing changes.
+/// Brings the leaf on a page, and says which of its pairs a sweep takes out: those that are marked and that nobody
+/// claims. Nothing changes.
 ///
-/// Refused with `Pages` where the page could not be brought, and with `Damaged` only where it isn't a leaf that is taken,
-/// or has more than `MAX_ENTRIES` pairs.
+/// Refused with `Pages` where the page could not be brought, and with `Damaged` only where it isn't a leaf that is
+/// taken, or has more than `MAX_ENTRIES` pairs.
 pub fn plan_sweep<K: KeyClass, P: PagesMut<K>, F: Fn(Entry<K::Key>) -> bool>(
     pages: &mut P,
     page: u32,
@@ -155,10 +160,12 @@ pub fn plan_sweep<K: KeyClass, P: PagesMut<K>, F: Fn(Entry<K::Key>) -> bool>(
     ensures held { OnOk result (P.held pages.new page × Used (tree_of (P.store pages.new)) page) }
     ensures page { IfOk result (λ sweep. sweep.page ≡ page) }
     ensures fits { IfOk result (λ sweep. FitsLeaf sweep ((tree_of (P.store pages.new)).node page)) }
-    ensures plans { (test : Entry K.Key → Bool) → ((entry : Entry K.Key) (answer : Bool) → F.post claimed entry answer → answer ≡ test entry)
+    ensures plans { (test : Entry K.Key → Bool)
+        → ((entry : Entry K.Key) (answer : Bool) → F.post claimed entry answer → answer ≡ test entry)
         → IfOk result (PlansSweep test ((tree_of (P.store pages.new)).node page)) }
     ensures damaged { result ≡ Err StepFault.Damaged → Used (tree_of (P.store pages.new)) page
-        → ((tree_of (P.store pages.new)).node page).level ≡ 0 → MAX_ENTRIES < length ((tree_of (P.store pages.new)).node page).pairs }
+        → ((tree_of (P.store pages.new)).node page).level ≡ 0
+        → MAX_ENTRIES < length ((tree_of (P.store pages.new)).node page).pairs }
     ensures memory { result ≢ Err StepFault.Memory }
     ensures full { result ≢ Err StepFault.PagesFull }
 {
@@ -175,8 +182,8 @@ pub fn plan_sweep<K: KeyClass, P: PagesMut<K>, F: Fn(Entry<K::Key>) -> bool>(
     Ok(Sweep::new(page, sides, count))
 }
 
-/// Takes the pairs of a sweep out of its leaf, which is held and still as it was planned. Where the sweep is empty nothing
-/// changes, and nothing is made ready.
+/// Takes the pairs of a sweep out of its leaf, which is held and still as it was planned. Where the sweep is empty
+/// nothing changes, and nothing is made ready.
 ///
 /// Refused with `Pages` where what the change needs could not be had. Nothing has changed then.
 pub fn make_sweep<K: KeyClass, P: PagesMut<K>>(
@@ -216,8 +223,8 @@ pub fn make_sweep<K: KeyClass, P: PagesMut<K>>(
 /// removed later (Kornacker, Mohan, Hellerstein 1997). Whether there were any; where there were none the page isn't
 /// changed.
 ///
-/// Refused with `Pages` where the page could not be brought or made ready, and with `Damaged` only where it isn't a leaf
-/// that is taken, or has more than `MAX_ENTRIES` pairs. Nothing has changed then.
+/// Refused with `Pages` where the page could not be brought or made ready, and with `Damaged` only where it isn't a
+/// leaf that is taken, or has more than `MAX_ENTRIES` pairs. Nothing has changed then.
 pub fn sweep_step<K: KeyClass, P: PagesMut<K>, F: Fn(Entry<K::Key>) -> bool>(
     pages: &mut P,
     page: u32,
@@ -233,11 +240,13 @@ pub fn sweep_step<K: KeyClass, P: PagesMut<K>, F: Fn(Entry<K::Key>) -> bool>(
     ensures why { IfErr result (IsWhy (P.why pages.old pages.new)) }
     ensures held { OnOk result (P.held pages.new page) }
     ensures changing { IfOk result (λ any. any ≡ true → P.changing pages.new page) }
-    ensures swept { P.steady pages.old → (test : Entry K.Key → Bool) → ((entry : Entry K.Key) (answer : Bool) → F.post claimed entry answer → answer ≡ test entry)
+    ensures swept { P.steady pages.old → (test : Entry K.Key → Bool)
+        → ((entry : Entry K.Key) (answer : Bool) → F.post claimed entry answer → answer ≡ test entry)
         → IfOk result (Swept test (P.store pages.old) (P.store pages.new) page) }
     ensures refused { P.steady pages.old → OnErr result (P.store pages.new ≡ P.store pages.old) }
     ensures damaged { P.steady pages.old → result ≡ Err StepFault.Damaged → Used (tree_of (P.store pages.old)) page
-        → ((tree_of (P.store pages.old)).node page).level ≡ 0 → MAX_ENTRIES < length ((tree_of (P.store pages.old)).node page).pairs }
+        → ((tree_of (P.store pages.old)).node page).level ≡ 0
+        → MAX_ENTRIES < length ((tree_of (P.store pages.old)).node page).pairs }
     ensures memory { result ≢ Err StepFault.Memory }
     ensures full { result ≢ Err StepFault.PagesFull }
 {

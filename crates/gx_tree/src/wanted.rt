@@ -19,7 +19,9 @@ pub struct Wanted<K: Probing> {
 impl<K: Probing> Wanted<K> {
     /// What a search wants: the live pairs whose keys match.
     pub fn matching(query: &Query<K::Key>) -> Self
-        ensures pairs { (x : Pair K.Key) → K.is_key x.key → wants K.passes result.keys result.row x ≡ (not x.marked && key_matches (keys_of K.Key.Shape) query.now x.key) }
+        ensures pairs { (x : Pair K.Key) → K.is_key x.key
+            → wants K.passes result.keys result.row x
+            ≡ (not x.marked && key_matches (keys_of K.Key.Shape) query.now x.key) }
         ensures bounds { (b : K.Key) → K.is_key b → K.passes result.bounds b ≡ K.may_match query.now b }
     {
         Wanted {
@@ -31,8 +33,11 @@ impl<K: Probing> Wanted<K> {
 
     /// What a write's look wants: the pair of its row and its key, live or marked.
     pub fn entry(entry: &Entry<K::Key>) -> Self
-        ensures pairs { (x : Pair K.Key) → K.is_key x.key → wants K.passes result.keys result.row x ≡ ((x.row == entry.now.row) && is_eq (K.Key.cmp x.key entry.now.key)) }
-        ensures bounds { (b : K.Key) → K.is_key b → K.passes result.bounds b ≡ K.may_match (Query.Equal entry.now.key) b }
+        ensures pairs { (x : Pair K.Key) → K.is_key x.key
+            → wants K.passes result.keys result.row x
+            ≡ ((x.row == entry.now.row) && is_eq (K.Key.cmp x.key entry.now.key)) }
+        ensures bounds { (b : K.Key) → K.is_key b
+            → K.passes result.bounds b ≡ K.may_match (Query.Equal entry.now.key) b }
     {
         let query = Query::Equal(entry.key);
         Wanted {

@@ -1,9 +1,12 @@
 //! What holds of every tree, whatever steps are made.
-ghost use Rattle.std.specs.Prelude.{◌≡◌, ◌≢◌, ◌≤◌, ◌<◌, ◌+◌, ◌^◌, ◌++◌, ◌∷◌, [], ℕ, suc, Bool, true, not, ◌&&◌, List, flat_map};
+ghost use Rattle.std.specs.Prelude.{◌≡◌, ◌≢◌, ◌≤◌, ◌<◌, ◌+◌, ◌^◌, ◌++◌, ◌∷◌, []};
+ghost use Rattle.std.specs.Prelude.{ℕ, suc, Bool, true, not, ◌&&◌, List, flat_map};
 ghost use Rattle.gx_tree_laws.specs.Lists.{one_if, how_many, Each, SomeOf};
-ghost use Rattle.gx_tree_laws.specs.Trees.{Pair, Tree, Rules, IsLawful, Used, size, child_pages, times, leaves, standing, is_entry, fresh_tree};
+ghost use Rattle.gx_tree_laws.specs.Trees.{Pair, Tree, Rules, IsLawful, Used, size, child_pages};
+ghost use Rattle.gx_tree_laws.specs.Trees.{times, leaves, standing, is_entry, fresh_tree};
 ghost use Rattle.gx_tree_laws.specs.Legal.{Legal};
-ghost use Rattle.gx_tree_laws.specs.Steps.{IsSplit, IsRootSplit, IsWidening, IsAdding, IsMarking, IsSweep, Step, IsStep, AreSteps, LeavesAlone};
+ghost use Rattle.gx_tree_laws.specs.Steps.{IsSplit, IsRootSplit, IsWidening, IsAdding, IsMarking};
+ghost use Rattle.gx_tree_laws.specs.Steps.{IsSweep, Step, IsStep, AreSteps, LeavesAlone};
 ghost use Rattle.gx_tree_laws.specs.Reach.{Item, InReach, pages_ahead};
 ghost use Rattle.gx_tree_laws.specs.Looks.{ItemFits, IsLook, from_root, stacked, found_with, LeadsTo};
 ghost use Rattle.gx_tree_laws.specs.Writes.{IsDescent, IsSeek, leaves_left, is_sweepable, must_restart, descent_left};
@@ -94,16 +97,17 @@ pub fn sweep_takes_unclaimed_marked_pairs<K>()
         + how_many (λ x. test x && (x.marked && not (claimed x))) (old.node a).pairs ≡ standing test old }
 {}
 
-/// A look that begins with the root misses nothing: all that is wanted lies ahead, and no page lies ahead twice. As many
-/// pages lie ahead as are taken.
+/// A look that begins with the root misses nothing: all that is wanted lies ahead, and no page lies ahead twice. As
+/// many pages lie ahead as are taken.
 pub fn look_begins_with_the_root<K>()
-    ensures look { (r : Rules K) (t : Tree K) → Legal r t → (wants : Pair K → Bool) → IsLook t wants (from_root t ∷ []) [] }
+    ensures look { (r : Rules K) (t : Tree K) → Legal r t → (wants : Pair K → Bool)
+        → IsLook t wants (from_root t ∷ []) [] }
     ensures pages { (r : Rules K) (t : Tree K) → Legal r t → pages_ahead t (from_root t ∷ []) ≡ t.used }
 {}
 
 /// A step of a look reads the top page of its stack: it finds what is wanted there, and stacks the rightlink, if the
-/// page was split since its number was read, and the entries that may lead to something wanted. It is then still a look,
-/// and fewer pages lie ahead.
+/// page was split since its number was read, and the entries that may lead to something wanted. It is then still a
+/// look, and fewer pages lie ahead.
 pub fn look_goes_on<K>()
     ensures look { (r : Rules K) → IsLawful r → (t : Tree K) → Legal r t
         → (wants : Pair K → Bool) (leads : K → Bool) → LeadsTo r t wants leads
@@ -118,8 +122,8 @@ pub fn look_goes_on<K>()
         → IsLook t wants (item ∷ stack) found → Used t item.page }
 {}
 
-/// A look with nothing stacked has found exactly what is wanted and stands: as many of what it found pass any test as of
-/// what is wanted and stands. So it found each pair once.
+/// A look with nothing stacked has found exactly what is wanted and stands: as many of what it found pass any test as
+/// of what is wanted and stands. So it found each pair once.
 pub fn look_ends_with_all_that_is_wanted<K>()
     ensures all { (t : Tree K) (wants : Pair K → Bool) (found : List (Pair K)) → IsLook t wants [] found
         → (test : Pair K → Bool) → how_many test found ≡ standing (λ x. wants x && test x) t }
@@ -136,8 +140,8 @@ pub fn what_is_not_found_is_in_reach<K>()
         → SomeOf (λ item. (l : ℕ) × InReach t item l × (0 < how_many (λ x. wants x && test x) (t.node l).pairs)) stack }
 {}
 
-/// Steps of others, in any order and number, keep each look that is at work, as long as they neither add, mark nor sweep
-/// what it wants; each descent; and each seek, as long as they don't sweep or mark the pair that is sought.
+/// Steps of others, in any order and number, keep each look that is at work, as long as they neither add, mark nor
+/// sweep what it wants; each descent; and each seek, as long as they don't sweep or mark the pair that is sought.
 pub fn steps_of_others_keep_what_is_at_work<K>()
     ensures looks { (r : Rules K) → IsLawful r → (wants : Pair K → Bool) (stack : List Item) (found : List (Pair K))
         (steps : List (Step K)) (old new : Tree K) → Legal r old → AreSteps r old steps new
@@ -150,9 +154,10 @@ pub fn steps_of_others_keep_what_is_at_work<K>()
         → Each (LeavesAlone r (is_entry r row key)) steps → IsSeek r old a row key → IsSeek r new a row key }
 {}
 
-/// While a search runs, rightlinks go on, those of inner nodes too: a page that was split since it began has a rightlink
-/// to a taken page of its own level, which isn't the root, and the root itself is no such page. It is so at the beginning,
-/// where no number is above the counter, and steps of others, in any order and number, keep it (Lehman, Yao 1981).
+/// While a search runs, rightlinks go on, those of inner nodes too: a page that was split since it began has a
+/// rightlink to a taken page of its own level, which isn't the root, and the root itself is no such page. It is so at
+/// the beginning, where no number is above the counter, and steps of others,
+/// in any order and number, keep it (Lehman, Yao 1981).
 pub fn rightlinks_go_on<K>()
     ensures begins { (r : Rules K) (t : Tree K) → Legal r t → GoesOn t t.counter }
     ensures one { (r : Rules K) → IsLawful r → (floor : ℕ) (old new : Tree K) (step : Step K)
@@ -166,18 +171,19 @@ pub fn rightlinks_go_on<K>()
 pub fn descent_goes_down<K>()
     ensures begins { (r : Rules K) (coming : K) (t : Tree K) → Legal r t → IsDescent r t (from_root t) coming }
     ensures down { (r : Rules K) (coming : K) (t : Tree K) → Legal r t → (a x : ℕ) → Used t a
-        → 0 < times x (child_pages (t.node a)) → Each (λ c. c.page ≡ x → r.covers c.key coming ≡ true) (t.node a).children
+        → 0 < times x (child_pages (t.node a)) → Each (λ c. c.page ≡ x
+        → r.covers c.key coming ≡ true) (t.node a).children
         → IsDescent r t (record { page = x; seen = t.counter }) coming }
     ensures widens { (r : Rules K) (coming : K) (old new : Tree K) (a x : ℕ) (key : K)
         → IsWidening r old new a x coming key
         → Each (λ c. c.page ≡ x → r.covers c.key coming ≡ true) (new.node a).children }
 {}
 
-/// A descent that runs alone ends: each of its steps but the last lowers what it has left, which is below 2^40. It begins
-/// again where its page was split since, and where it would split its page and the page that it came from no longer names
-/// it or is full; it goes down from a page that isn't full, where the child's entry covers the key or is widened for it;
-/// at a full leaf it sweeps what it can; else it splits and begins again. A split takes a page that isn't taken yet, of the
-/// `room` pages of the device.
+/// A descent that runs alone ends: each of its steps but the last lowers what it has left, which is below 2^40. It
+/// begins again where its page was split since, and where it would split its page and the page that it came from no
+/// longer names it or is full; it goes down from a page that isn't full, where the child's entry covers the key or is
+/// widened for it; at a full leaf it sweeps what it can; else it splits and begins again. A split takes a page that
+/// isn't taken yet, of the `room` pages of the device.
 pub fn descent_comes_to_an_end<K>()
     ensures restarts { (r : Rules K) (room : ℕ) (claimed : Pair K → Bool) (t : Tree K) → Legal r t
         → (parent : ℕ) (item : Item) → must_restart r t parent item ≡ true
@@ -205,7 +211,8 @@ pub fn descent_comes_to_an_end<K>()
         → IsRootSplit r old new sides left right → new.used ≤ room
         → descent_left r new room claimed 0 (from_root new) < descent_left r old room claimed parent item }
     // a split by others lowers it too: the page that it takes counts for more than all levels
-    ensures others_split { (r : Rules K) (room : ℕ) (claimed : Pair K → Bool) → IsLawful r → (old new : Tree K) → Legal r old
+    ensures others_split { (r : Rules K) (room : ℕ) (claimed : Pair K → Bool) → IsLawful r → (old new : Tree K)
+        → Legal r old
         → (parent : ℕ) (item : Item) → Used old item.page → (n p : ℕ) (sides : List Bool) (left right : K)
         → IsSplit r old new n p sides left right → new.used ≤ room
         → descent_left r new room claimed parent item < descent_left r old room claimed parent item }
@@ -213,13 +220,14 @@ pub fn descent_comes_to_an_end<K>()
         → Legal r old → (parent : ℕ) (item : Item) → Used old item.page → (sides : List Bool) (left right : K)
         → IsRootSplit r old new sides left right → new.used ≤ room
         → descent_left r new room claimed parent item < descent_left r old room claimed parent item }
-    ensures most { (r : Rules K) (room : ℕ) (claimed : Pair K → Bool) (t : Tree K) → Legal r t → (parent : ℕ) (item : Item)
+    ensures most { (r : Rules K) (room : ℕ) (claimed : Pair K → Bool) (t : Tree K) → Legal r t
+        → (parent : ℕ) (item : Item)
         → Used t item.page → t.used ≤ room → room ≤ 65536 → r.most ≤ 100
         → descent_left r t room claimed parent item < 2 ^ 40 }
 {}
 
-/// A seek begins with a leaf in which the pair stands. It is always at a leaf; where the pair isn't there, it goes on with
-/// the leaf's rightlink, and has fewer leaves left. It has no more of them than pages are taken.
+/// A seek begins with a leaf in which the pair stands. It is always at a leaf; where the pair isn't there, it goes on
+/// with the leaf's rightlink, and has fewer leaves left. It has no more of them than pages are taken.
 pub fn seek_goes_right<K>()
     ensures begins { (r : Rules K) (a row : ℕ) (key : K) (t : Tree K) → Legal r t → Used t a → (t.node a).level ≡ 0
         → 0 < how_many (is_entry r row key) (t.node a).pairs → IsSeek r t a row key }
@@ -231,7 +239,8 @@ pub fn seek_goes_right<K>()
     ensures most { (t : Tree K) (a : ℕ) → leaves_left t a ≤ t.used }
 {}
 
-/// A mark that is set or cleared keeps each seek, that of the pair which it marks too: a pair is sought whether it is marked or not.
+/// A mark that is set or cleared keeps each seek, that of the pair which it marks too:
+/// a pair is sought whether it is marked or not.
 pub fn marking_keeps_each_seek<K>()
     ensures { (r : Rules K) (a row : ℕ) (key : K) (old new : Tree K) (b marked_row : ℕ) (marked_key : K) (mark : Bool)
         → IsMarking r old new b marked_row marked_key mark → IsSeek r old a row key → IsSeek r new a row key }

@@ -7,7 +7,9 @@ ghost use Rattle.gx_tree_laws.specs.Steps.{AreSteps};
 ghost use Rattle.gx_tree_laws.specs.Reach.{Item, run};
 ghost use Rattle.gx_tree_laws.specs.Looks.{IsLook, from_root, stacked, found_with, LeadsTo};
 ghost use Rattle.gx_tree_laws.specs.Writes.{IsSeek, leaves_left, must_restart, descent_left};
-ghost use Rattle.gx_tree_laws.specs.Worked.{Box, box, boxes, live, held, held_split, held_steps, held_end, eight_rows, nine_rows, nine_steps, swept, swept_steps, near_origin, wanted_near_origin, named_twice, off_the_chain, bound_too_small};
+ghost use Rattle.gx_tree_laws.specs.Worked.{Box, box, boxes, live, held, held_split, held_steps, held_end};
+ghost use Rattle.gx_tree_laws.specs.Worked.{eight_rows, nine_rows, nine_steps, swept, swept_steps, near_origin};
+ghost use Rattle.gx_tree_laws.specs.Worked.{wanted_near_origin, named_twice, off_the_chain, bound_too_small};
 
 /// Boxes keep the laws of keys.
 pub fn boxes_are_lawful()
@@ -35,8 +37,10 @@ pub fn worked_steps_are_steps()
 pub fn worked_search_moves_right()
     ensures root { stacked held near_origin (from_root held) [] ≡ record { page = 2; seen = 0 } ∷ [] }
     ensures near { run held_end 3 0 2 ≡ 2 ∷ 4 ∷ 3 ∷ [] }
-    ensures second { stacked held_end near_origin (record { page = 2; seen = 0 }) [] ≡ record { page = 4; seen = 0 } ∷ [] }
-    ensures fourth { stacked held_end near_origin (record { page = 4; seen = 0 }) [] ≡ record { page = 3; seen = 0 } ∷ [] }
+    ensures second { stacked held_end near_origin (record { page = 2; seen = 0 }) []
+        ≡ record { page = 4; seen = 0 } ∷ [] }
+    ensures fourth { stacked held_end near_origin (record { page = 4; seen = 0 }) []
+        ≡ record { page = 3; seen = 0 } ∷ [] }
     ensures third { stacked held_end near_origin (record { page = 3; seen = 0 }) [] ≡ [] }
     ensures found { found_with held_end wanted_near_origin (record { page = 3; seen = 0 })
         (found_with held_end wanted_near_origin (record { page = 4; seen = 0 })
@@ -46,8 +50,8 @@ pub fn worked_search_moves_right()
     ensures leads { LeadsTo boxes held_end wanted_near_origin near_origin }
 {}
 
-/// A search that begins once a leaf is split remembers both halves with the counter as it is now, and doesn't move right
-/// from the first: it reads each half once.
+/// A search that begins once a leaf is split remembers both halves with the counter as it is now, and doesn't move
+/// right from the first: it reads each half once.
 pub fn worked_search_reads_each_leaf_once()
     ensures children { stacked held_split (λ b. true) (from_root held_split) []
         ≡ record { page = 2; seen = 1 } ∷ record { page = 3; seen = 1 } ∷ [] }

@@ -13,7 +13,7 @@ use Rattle.gx_machine.specs.Sets.{has, including, InOrder}
 use Rattle.gx_machine.proofs.SetLaws.{entry_exact}
 use Rattle.gx_txn.specs.declared.note.Note.{Note}
 use Rattle.gx_txn.specs.Notes.{entries_of, noting}
-use Rattle.gx_locks.proofs.Searched.{turned, first_before, rises, lacks_in_gap}
+use Rattle.gx_machine.proofs.Searched.{turned, first_before, rises, lacks_in_gap}
 
 module _ {B : Type 0} (k : Keys B) where
   -- one step of noting, by how the entry compares with the first

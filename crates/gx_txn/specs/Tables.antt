@@ -9,7 +9,7 @@ use Rattle.gx_machine.specs.Keys.{Keys}
 use Rattle.gx_machine.specs.Sets.{has, InOrder}
 use Rattle.gx_machine.specs.Sessions.{Locks, no_locks, conflicts, lock_for}
 use Rattle.gx_machine.specs.Invariants.{Covered}
-use Rattle.gx_locks.specs.Least.{least_barring}
+use Rattle.gx_machine.specs.Least.{least_barring}
 use Rattle.gx_txn.specs.declared.note.Note.{Note}
 use Rattle.gx_txn.specs.Notes.{entries_of}
 

@@ -4,7 +4,7 @@ ghost use Rattle.std.specs.List.{list_any};
 ghost use Rattle.gx_machine.specs.declared.limits.TheConstants.{MAX_CLAIMS};
 ghost use Rattle.gx_machine.specs.Keys.{keys_of, matches};
 ghost use Rattle.gx_machine.specs.Sets.{has, InOrder};
-ghost use Rattle.gx_locks.specs.Orders.{IsSearched};
+ghost use Rattle.gx_machine.specs.Orders.{IsSearched};
 
 use crate::lanes::{Is, LiesIn, Overlaps, some_passes};
 use crate::marks::RowMarks;
@@ -61,7 +61,7 @@ impl<B: Shape> Claims<B> {
         requires { InOrder (keys_of B.Shape) self.now }
         ensures { IsSearched (keys_of B.Shape) e.now self.now result }
     {
-        gx_locks::find(e, &self.entries)
+        gx_machine::find(e, &self.entries)
     }
 
     /// Whether the entry is one of them. It is searched for only where its row is marked.
@@ -69,7 +69,7 @@ impl<B: Shape> Claims<B> {
         requires { InOrder (keys_of B.Shape) self.now }
         ensures { result ≡ has (keys_of B.Shape) e.now self.now }
     {
-        self.rows.has(e.row) && gx_locks::has_in_order(e, &self.entries)
+        self.rows.has(e.row) && gx_machine::has_in_order(e, &self.entries)
     }
 
     /// Whether one of them matches the query.

@@ -7,8 +7,7 @@ use crate::claims::Claims;
 use crate::predicates::Predicates;
 use crate::{Note, search};
 use gx_geom::{Refusal, Shape};
-use gx_locks::Conflicts;
-use gx_machine::{Call, Entry, MAX_CLAIMS, Query};
+use gx_machine::{Call, Conflicts, Entry, MAX_CLAIMS, Query};
 use std::alloc::{AllocError, Global};
 use std::marker::Model;
 
@@ -28,7 +27,10 @@ impl<B: Shape> Model for Holding<B> {
 
     ghost Value = { Held B };
 
-    ghost view = { λ h. record { locks = record { claims = h.claims; predicates = h.predicates }; notes = h.notes.items } };
+    ghost view = { λ h. record {
+      locks = record { claims = h.claims; predicates = h.predicates };
+      notes = h.notes.items;
+    } };
 
     ghost invariant = { λ h. (MAX_CLAIMS ≤ vec_capacity h.notes)
         × IsKept (keys B.cmp B.overlap B.inside) (record {

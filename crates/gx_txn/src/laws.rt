@@ -18,7 +18,8 @@ pub fn asks_are_decided_as_by_the_machine<B>()
     ensures machine { (k : Keys B) (call : Call B) (s : ℕ) (sessions : List (Session B)) (table : List (Held B))
         → is_session s ≡ true → map locks_of sessions ≡ map (λ h. h.locks) table
         → locks_for k call s table
-        ≡ lock_for k call (least_conflicting k call s 1 sessions) (claims_held sessions) (locks_of (session_at s sessions)) }
+        ≡ lock_for k call (least_conflicting k call s 1 sessions) (claims_held sessions)
+        (locks_of (session_at s sessions)) }
     ensures deletes { (k : Keys B) (e : Entry B) (s : ℕ) (table : List (Held B))
         → locks_for k (Delete e) s table ≡ locks_for k (Insert e) s table }
 {}
@@ -30,5 +31,6 @@ pub fn first_mark_and_last_leaf_stand<B>()
         → of_entry k e (notes_of k writes) ≡ written k e writes }
     ensures written { (k : Keys B) → IsLawful k → (e : Entry B) (writes : List (Note B))
         → has k e (entries_of (notes_of k writes)) ≡ has k e (entries_of writes) }
-    ensures in_order { (k : Keys B) → IsLawful k → (writes : List (Note B)) → InOrder k (entries_of (notes_of k writes)) }
+    ensures in_order { (k : Keys B) → IsLawful k → (writes : List (Note B))
+        → InOrder k (entries_of (notes_of k writes)) }
 {}

@@ -8,8 +8,7 @@ ghost use Rattle.gx_machine.specs.Sessions.{has_query};
 use crate::lanes::{Around, OverlappedBy, SameAs, some_passes};
 use crate::search::put_last;
 use gx_geom::Shape;
-use gx_locks::is_same_query;
-use gx_machine::{Entry, MAX_PREDICATES, Query};
+use gx_machine::{Entry, MAX_PREDICATES, Query, is_same_query};
 use std::alloc::{AllocError, Global};
 use std::marker::Model;
 

@@ -1,5 +1,6 @@
 //! Binary search for a note, and places in vectors that have room.
-ghost use Rattle.std.specs.Prelude.{insert, ◌++◌, ◌∷◌, [], vec_len, vec_capacity, ◌≡◌, ◌<◌, ◌≤◌, MatchResult, length, slice_index_or, slice_set, false};
+ghost use Rattle.std.specs.Prelude.{insert, ◌++◌, ◌∷◌, [], vec_len, vec_capacity, ◌≡◌, ◌<◌};
+ghost use Rattle.std.specs.Prelude.{◌≤◌, MatchResult, length, slice_index_or, slice_set, false};
 ghost use Rattle.gx_machine.specs.Keys.{keys_of};
 ghost use Rattle.gx_machine.specs.Sets.{has, InOrder};
 ghost use Rattle.gx_txn.specs.declared.note.Note.{Note};

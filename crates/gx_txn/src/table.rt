@@ -10,8 +10,7 @@ ghost use Rattle.gx_txn.specs.Tables.{nothing_held, claims_in, claims, IsKept, T
 use crate::Note;
 use crate::holding::Holding;
 use gx_geom::{Refusal, Shape};
-use gx_locks::least_conflicting;
-use gx_machine::{Call, Entry, Query, SESSIONS};
+use gx_machine::{Call, Entry, Query, SESSIONS, least_conflicting};
 use std::alloc::{AllocError, Global};
 use std::marker::Model;
 
@@ -47,10 +46,13 @@ fn claim_at<B: Shape>(
 ) -> Result<(), Refusal>
     requires within { place < length slots.old.items }
     requires spent { length (slice_index_or slots.old.items place nothing_held).locks.claims ≤ spent }
-    ensures takes { Takes (with_claim (keys_of B.Shape) e spent (slice_index_or slots.old.items place nothing_held).locks)
+    ensures takes { Takes (with_claim (keys_of B.Shape) e spent
+        (slice_index_or slots.old.items place nothing_held).locks)
         (slice_index_or slots.old.items place nothing_held) result (slice_index_or slots.new.items place nothing_held) }
-    ensures claimed { OnOk result (claims (keys_of B.Shape) e (slice_index_or slots.new.items place nothing_held) ≡ true) }
-    ensures others { slots.new.items ≡ slice_set slots.old.items place (slice_index_or slots.new.items place nothing_held) }
+    ensures claimed { OnOk result (claims (keys_of B.Shape) e (slice_index_or slots.new.items place nothing_held)
+        ≡ true) }
+    ensures others { slots.new.items ≡ slice_set slots.old.items place
+        (slice_index_or slots.new.items place nothing_held) }
 {
     slots[place].claim(e, spent)
 }
@@ -62,10 +64,13 @@ fn hold_at<B: Shape>(
     query: Query<B>,
 ) -> Result<(), Refusal>
     requires { place < length slots.old.items }
-    ensures takes { Takes (with_predicate (keys_of B.Shape) query (slice_index_or slots.old.items place nothing_held).locks)
+    ensures takes { Takes (with_predicate (keys_of B.Shape) query
+        (slice_index_or slots.old.items place nothing_held).locks)
         (slice_index_or slots.old.items place nothing_held) result (slice_index_or slots.new.items place nothing_held) }
-    ensures held { OnOk result (has_query (keys_of B.Shape) query (slice_index_or slots.new.items place nothing_held).locks.predicates ≡ true) }
-    ensures others { slots.new.items ≡ slice_set slots.old.items place (slice_index_or slots.new.items place nothing_held) }
+    ensures held { OnOk result (has_query (keys_of B.Shape) query
+        (slice_index_or slots.new.items place nothing_held).locks.predicates ≡ true) }
+    ensures others { slots.new.items ≡ slice_set slots.old.items place
+        (slice_index_or slots.new.items place nothing_held) }
 {
     slots[place].hold(query)
 }
@@ -114,7 +119,8 @@ impl<B: Shape> Transactions<B> {
     /// takes no second place.
     pub fn claim(&mut self, session: u8, e: Entry<B>) -> Result<(), Refusal>
         requires { is_session session ≡ true }
-        ensures takes { TakesIn (locks_for (keys_of B.Shape) (Insert e) session self.old) session self.old result self.new }
+        ensures takes { TakesIn (locks_for (keys_of B.Shape) (Insert e) session self.old)
+            session self.old result self.new }
         ensures claimed { OnOk result (claims (keys_of B.Shape) e (held_by session self.new) ≡ true) }
     {
         if let Some(other) = least_conflicting(&self.slots, &Call::Insert(e), session) {
@@ -131,8 +137,10 @@ impl<B: Shape> Transactions<B> {
     /// the session holds already takes no second place.
     pub fn predicate(&mut self, session: u8, query: Query<B>) -> Result<(), Refusal>
         requires { is_session session ≡ true }
-        ensures takes { TakesIn (locks_for (keys_of B.Shape) (Search query) session self.old) session self.old result self.new }
-        ensures held { OnOk result (has_query (keys_of B.Shape) query (held_by session self.new).locks.predicates ≡ true) }
+        ensures takes { TakesIn (locks_for (keys_of B.Shape) (Search query) session self.old)
+            session self.old result self.new }
+        ensures held { OnOk result (has_query (keys_of B.Shape) query
+            (held_by session self.new).locks.predicates ≡ true) }
     {
         if let Some(other) = least_conflicting(&self.slots, &Call::Search(query), session) {
             return Err(Refusal::Busy(other));

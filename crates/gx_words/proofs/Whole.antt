@@ -17,13 +17,14 @@ use Rattle.clap.specs.Walk.{Row, Rule, Text, has_row, nothing_held, rows_after, 
 use Rattle.clap.specs.declared.error.kind.ErrorKind.{ErrorKind}
 use Rattle.clap.specs.declared.builder.value_parser.ValueParser.TheVariants as vp
 use Rattle.clap.proofs.ValueTestLemmas.{accepts-Accepts}
-use Rattle.gx_words.specs.Asking.{HasDump, HasFormat, HasRun, IsAccepted, IsWhole}
-use Rattle.gx_words.specs.Program.{dump_app, format_app, gist_app, plain_app, run_app, with_required}
+use Rattle.gx_words.specs.Asking.{HasDump, HasFormat, HasRun, HasStorm, IsAccepted, IsWhole}
+use Rattle.gx_words.specs.Program.{dump_app, format_app, gist_app, plain_app, run_app, storm_app, verify_app, with_required}
 use Rattle.gx_words.proofs.Passing.{AllOwn, IsGood, IsOther, some_kind, default_gives, default_keeps, given_row, good_word, level_good, row_by_id, walk_other}
 
 -- the program's words, and the same as its parser has them at work
 abbrev app : App
-app = with_subcommand (with_subcommand (with_subcommand (with_subcommand (with_required (new_app (codes "gist"))) plain_app.top) format_app.top) run_app.top) dump_app.top
+app = with_subcommand (with_subcommand (with_subcommand (with_subcommand (with_subcommand (with_subcommand (with_required (new_app (codes "gist")))
+    plain_app.top) format_app.top) run_app.top) dump_app.top) verify_app.top) storm_app.top
 
 abbrev at_work : App
 at_work = built app
@@ -58,6 +59,12 @@ run_shape = built_leaf (inherited app.top run_app.top)
 abbrev dump_shape : Shape
 dump_shape = built_leaf (inherited app.top dump_app.top)
 
+abbrev verify_shape : Shape
+verify_shape = built_leaf (inherited app.top verify_app.top)
+
+abbrev storm_shape : Shape
+storm_shape = built_leaf (inherited app.top storm_app.top)
+
 format_own : AllOwn format_shape.rules format_shape.rules
 unfolding clap_on_literals
 format_own = (
@@ -80,6 +87,22 @@ dump_own = (
   refl,
   inr (refl, omega arith),
   (refl, inl refl, tt),
+)
+
+verify_own : AllOwn verify_shape.rules verify_shape.rules
+unfolding clap_on_literals
+verify_own = (
+  refl,
+  inr (refl, omega arith),
+  (refl, inl refl, tt),
+)
+
+storm_own : AllOwn storm_shape.rules storm_shape.rules
+unfolding clap_on_literals
+storm_own = (
+  refl,
+  inr (refl, omega arith),
+  (refl, inr (refl, omega arith), (refl, inr (refl, omega arith), (refl, inl refl, tt))),
 )
 
 -- what `format` is given where nothing is wrong with it
@@ -143,6 +166,35 @@ has_dump words fine =
     let good_file = good_word dump_shape.rules _ dump_own.0 rows passed.good file.0 file.1 in
     record { file = good_file.word; file_is = good_file.first }
 
+-- what `verify` is given where nothing is wrong with it
+has_verify : (words : List Text) → level_fault verify_shape [] nothing_held words false [] ≡ [] → HasDump (rows_after verify_shape.rules [] words)
+unfolding clap_on_literals
+has_verify words fine =
+    let passed = level_good verify_shape verify_own [] words false [] fine in
+    let rows = rows_after verify_shape.rules [] words in
+    let file = given_row (codes "FILE") rows (that_one (is_given (codes "FILE") rows) _ passed.checks) in
+    let good_file = good_word verify_shape.rules _ verify_own.0 rows passed.good file.0 file.1 in
+    record { file = good_file.word; file_is = good_file.first }
+
+-- what `storm` is given where nothing is wrong with it
+has_storm : (words : List Text) → level_fault storm_shape [] nothing_held words false [] ≡ [] → HasStorm (rows_after storm_shape.rules [] words)
+unfolding clap_on_literals
+has_storm words fine =
+    let passed = level_good storm_shape storm_own [] words false [] fine in
+    let rows = rows_after storm_shape.rules [] words in
+    let there = all_three (is_given (codes "SEED") rows) (is_given (codes "SESSIONS") rows) (is_given (codes "CALLS") rows) _ passed.checks in
+    let seed = given_row (codes "SEED") rows there.0 in
+    let sessions = given_row (codes "SESSIONS") rows there.1 in
+    let calls = given_row (codes "CALLS") rows there.2 in
+    let good_seed = good_word storm_shape.rules _ storm_own.0 rows passed.good seed.0 seed.1 in
+    let good_sessions = good_word storm_shape.rules _ storm_own.2.0 rows passed.good sessions.0 sessions.1 in
+    let good_calls = good_word storm_shape.rules _ storm_own.2.2.0 rows passed.good calls.0 calls.1 in
+    record {
+      seed = number_accepted _ rows 0 4294967295 refl refl (omega arith) good_seed;
+      sessions = number_accepted _ rows 1 8 refl refl (omega arith) good_sessions;
+      calls = number_accepted _ rows 1 2000 refl refl (omega arith) good_calls;
+    }
+
 -- ---- the program's own level
 
 abbrev plain_shape : Shape
@@ -158,22 +210,26 @@ rest_shapes (s ∷ rest) = rest
 
 -- what tells how its commands are used
 abbrev help_command : Shape
-help_command = first_shape (rest_shapes (rest_shapes (rest_shapes (rest_shapes at_work.subs))))
+help_command = first_shape (rest_shapes (rest_shapes (rest_shapes (rest_shapes (rest_shapes (rest_shapes at_work.subs))))))
 
-abbrev found_by : Bool → Bool → Bool → Bool → Bool → Option Shape
-found_by is_plain is_format is_run is_dump is_help =
-    cond is_plain (Some plain_shape) (cond is_format (Some format_shape) (cond is_run (Some run_shape) (cond is_dump (Some dump_shape) (cond is_help (Some help_command) None))))
+abbrev found_by : Bool → Bool → Bool → Bool → Bool → Bool → Bool → Option Shape
+found_by is_plain is_format is_run is_dump is_verify is_storm is_help =
+    cond is_plain (Some plain_shape)
+    (cond is_format (Some format_shape) (cond is_run (Some run_shape) (cond is_dump (Some dump_shape) (cond is_verify (Some verify_shape)
+    (cond is_storm (Some storm_shape) (cond is_help (Some help_command) None))))))
 
-entered_whole : (words : List Text) (is_plain is_format is_run is_dump is_help : Bool) → (is_help ≡ true → ⊥)
-    → option_map_or (λ s. level_fault s [] nothing_held words false []) (found_by is_plain is_format is_run is_dump is_help) [] ≡ []
-    → is_some (option_map (λ s. rows_at s words) (found_by is_plain is_format is_run is_dump is_help)) ≡ true
-    → IsWhole (option_map (λ s. rows_at s words) (found_by is_plain is_format is_run is_dump is_help))
-entered_whole words true is_format is_run is_dump is_help no_help fine met = inl refl
-entered_whole words false true is_run is_dump is_help no_help fine met = inr (inl (refl, has_format words fine))
-entered_whole words false false true is_dump is_help no_help fine met = inr (inr (inl (refl, has_run words fine)))
-entered_whole words false false false true is_help no_help fine met = inr (inr (inr (refl, has_dump words fine)))
-entered_whole words false false false false true no_help fine met = absurd (no_help refl)
-entered_whole words false false false false false no_help fine met = absurd (let bad : false ≡ true = met in cc)
+entered_whole : (words : List Text) (is_plain is_format is_run is_dump is_verify is_storm is_help : Bool) → (is_help ≡ true → ⊥)
+    → option_map_or (λ s. level_fault s [] nothing_held words false []) (found_by is_plain is_format is_run is_dump is_verify is_storm is_help) [] ≡ []
+    → is_some (option_map (λ s. rows_at s words) (found_by is_plain is_format is_run is_dump is_verify is_storm is_help)) ≡ true
+    → IsWhole (option_map (λ s. rows_at s words) (found_by is_plain is_format is_run is_dump is_verify is_storm is_help))
+entered_whole words true is_format is_run is_dump is_verify is_storm is_help no_help fine met = inl refl
+entered_whole words false true is_run is_dump is_verify is_storm is_help no_help fine met = inr (inl (refl, has_format words fine))
+entered_whole words false false true is_dump is_verify is_storm is_help no_help fine met = inr (inr (inl (refl, has_run words fine)))
+entered_whole words false false false true is_verify is_storm is_help no_help fine met = inr (inr (inr (inl (refl, has_dump words fine))))
+entered_whole words false false false false true is_storm is_help no_help fine met = inr (inr (inr (inr (inl (refl, has_verify words fine)))))
+entered_whole words false false false false false true is_help no_help fine met = inr (inr (inr (inr (inr (refl, has_storm words fine)))))
+entered_whole words false false false false false false true no_help fine met = absurd (no_help refl)
+entered_whole words false false false false false false false no_help fine met = absurd (let bad : false ≡ true = met in cc)
 
 no_help_named : (word : Text) → bytes_eq word (codes "help") ≡ false → (bytes_eq (codes "help") word || false) ≡ true → ⊥
 no_help_named word other named = go (bytes_eq (codes "help") word) refl named
@@ -191,7 +247,7 @@ unfolding clap_on_literals
 stop_whole None fine met other = absurd (let bad : false ≡ true = met in cc)
 stop_whole (Some p) fine met other =
     entered_whole p.1 (bytes_eq (codes "plain") p.0 || false) (bytes_eq (codes "format") p.0 || false) (bytes_eq (codes "run") p.0 || false) (bytes_eq (codes "dump") p.0 || false)
-    (bytes_eq (codes "help") p.0 || false) (no_help_named p.0 other) fine met
+    (bytes_eq (codes "verify") p.0 || false) (bytes_eq (codes "storm") p.0 || false) (bytes_eq (codes "help") p.0 || false) (no_help_named p.0 other) fine met
 
 top_own : AllOwn at_work.top.rules at_work.top.rules
 unfolding clap_on_literals

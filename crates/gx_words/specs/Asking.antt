@@ -4,7 +4,7 @@ use Rattle.std.specs.Str.Parse.{IsNumeral, digits_value, without_leading_plus}
 use Rattle.clap.specs.Words.{IsSignedIn, Row, Text, first_of, one_of, subcommand_of, without_minus}
 use Rattle.gx_words.specs.Program.{gist_app}
 use Rattle.gx_words.specs.declared.asking.Asked.{Asked}
-use Rattle.gx_words.specs.declared.asking.Asked.TheVariants.{Plain, Format, Run, Dump}
+use Rattle.gx_words.specs.declared.asking.Asked.TheVariants.{Plain, Format, Run, Dump, Verify, Storm}
 
 -- the word that was given under this name, or stands for it by default, is this number in decimal digits, and the number lies
 -- in this range
@@ -27,9 +27,15 @@ pub record IsRun (rows : List Row) (file : Text) (frames : ℕ) : Type 0 where
   pub file_is : first_of (codes "FILE") rows ≡ Some file
   pub frames_are : IsNumber rows (codes "frames") 16 4096 frames
 
--- what is given to `dump`
+-- what is given to `dump`, and to `verify`
 abbrev pub IsDump : List Row → Text → Type 0
 IsDump rows file = first_of (codes "FILE") rows ≡ Some file
+
+-- what is given to `storm`
+pub record IsStorm (rows : List Row) (seed sessions calls : ℕ) : Type 0 where
+  pub seed_is : IsNumber rows (codes "SEED") 0 4294967295 seed
+  pub sessions_are : IsNumber rows (codes "SESSIONS") 1 8 sessions
+  pub calls_are : IsNumber rows (codes "CALLS") 1 2000 calls
 
 -- the command of this name, with what is given to it, asks for this
 abbrev pub Asks : Text → List Row → Asked → Type 0
@@ -37,6 +43,8 @@ Asks name rows Plain = name ≡ codes "plain"
 Asks name rows (Format file pages most) = (name ≡ codes "format") × IsFormat rows file.now pages most
 Asks name rows (Run file frames) = (name ≡ codes "run") × IsRun rows file.now frames
 Asks name rows (Dump file) = (name ≡ codes "dump") × IsDump rows file.now
+Asks name rows (Verify file) = (name ≡ codes "verify") × IsDump rows file.now
+Asks name rows (Storm seed sessions calls) = (name ≡ codes "storm") × IsStorm rows seed sessions calls
 
 -- what is asked for, by the command that was found
 abbrev pub IsAsked : Option (Text × List Row) → Asked → Type 0
@@ -63,17 +71,24 @@ pub record HasRun (rows : List Row) : Type 0 where
   pub file_is : first_of (codes "FILE") rows ≡ Some file
   pub frames : IsAccepted rows (codes "frames") 16 4096
 
--- all that `dump` wants
+-- all that `dump` wants, and `verify`
 pub record HasDump (rows : List Row) : Type 0 where
   pub file : Text
   pub file_is : first_of (codes "FILE") rows ≡ Some file
+
+-- all that `storm` wants
+pub record HasStorm (rows : List Row) : Type 0 where
+  pub seed : IsAccepted rows (codes "SEED") 0 4294967295
+  pub sessions : IsAccepted rows (codes "SESSIONS") 1 8
+  pub calls : IsAccepted rows (codes "CALLS") 1 2000
 
 -- a command was found, with all that it wants
 abbrev pub IsWhole : Option (Text × List Row) → Type 0
 IsWhole None = ⊥
 IsWhole (Some command) =
     (command.0 ≡ codes "plain") ⊎ ((command.0 ≡ codes "format") × HasFormat command.1) ⊎ ((command.0 ≡ codes "run") × HasRun command.1)
-    ⊎ ((command.0 ≡ codes "dump") × HasDump command.1)
+    ⊎ ((command.0 ≡ codes "dump") × HasDump command.1) ⊎ ((command.0 ≡ codes "verify") × HasDump command.1)
+    ⊎ ((command.0 ≡ codes "storm") × HasStorm command.1)
 
 -- the words ask for this
 abbrev pub WordsAsk : List Text → Asked → Type 0

@@ -44,9 +44,19 @@ run_app = with_rule (with_rule (new_app (codes "run")) (wanted_rule (codes "FILE
 abbrev pub dump_app : App
 dump_app = with_rule (new_app (codes "dump")) (wanted_rule (codes "FILE"))
 
--- `gist`, which wants a command, and its four commands
+-- `verify FILE`
+abbrev pub verify_app : App
+verify_app = with_rule (new_app (codes "verify")) (wanted_rule (codes "FILE"))
+
+-- `storm SEED SESSIONS CALLS`, with a seed below 2^32, 1 to 8 sessions and 1 to 2,000 calls
+abbrev pub storm_app : App
+storm_app = with_rule (with_rule (with_rule (new_app (codes "storm")) (number_rule (codes "SEED") 0 4294967295))
+    (number_rule (codes "SESSIONS") 1 8)) (number_rule (codes "CALLS") 1 2000)
+
+-- `gist`, which wants a command, and its six commands
 unfoldable pub gist_app : App
-gist_app = with_subcommand (with_subcommand (with_subcommand (with_subcommand (with_required (new_app (codes "gist"))) plain_app.top) format_app.top) run_app.top) dump_app.top
+gist_app = with_subcommand (with_subcommand (with_subcommand (with_subcommand (with_subcommand (with_subcommand (with_required (new_app (codes "gist")))
+    plain_app.top) format_app.top) run_app.top) dump_app.top) verify_app.top) storm_app.top
 
 -- the command is this one, and none of its arguments is for the commands below it too
 abbrev pub Is : App → Command → Type 0

@@ -1,7 +1,8 @@
 //! What the words ask for, read of what clap found in them.
 ghost use Rattle.std.specs.Prelude.{codes, ℕ};
 ghost use Rattle.clap.specs.Words.{found_of, rows_of, subcommand_rows_of};
-ghost use Rattle.gx_words.specs.Asking.{IsAccepted, IsNumber, HasFormat, HasRun, HasDump, Asks, IsAsked, IsWhole};
+ghost use Rattle.gx_words.specs.Asking.{IsAccepted, IsNumber, HasFormat, HasRun};
+ghost use Rattle.gx_words.specs.Asking.{HasDump, HasStorm, Asks, IsAsked, IsWhole};
 
 use clap::ArgMatches;
 
@@ -31,6 +32,20 @@ pub enum Asked<'a> {
         /// The file's path.
         file: &'a str,
     },
+    /// Whether a file's index is sound, and what it holds.
+    Verify {
+        /// The file's path.
+        file: &'a str,
+    },
+    /// Sessions in threads that draw their calls, on an index in memory.
+    Storm {
+        /// What the calls are drawn by.
+        seed: u32,
+        /// How many sessions, 1 to 8.
+        sessions: u8,
+        /// How many calls each makes, 1 to 2,000.
+        calls: u32,
+    },
 }
 
 /// What the words ask for that clap found these matches in.
@@ -42,6 +57,8 @@ pub(crate) fn what_is_asked<'a>(found: &ArgMatches<'a>) -> Asked<'a>
         Some(("format", given)) => format_of(given),
         Some(("run", given)) => run_of(given),
         Some(("dump", given)) => dump_of(given),
+        Some(("verify", given)) => verify_of(given),
+        Some(("storm", given)) => storm_of(given),
         _ => Asked::Plain,
     }
 }
@@ -76,6 +93,28 @@ fn dump_of<'a>(given: &ArgMatches<'a>) -> Asked<'a>
 {
     Asked::Dump {
         file: given.get_str("FILE").unwrap(),
+    }
+}
+
+// What is given to `verify`.
+fn verify_of<'a>(given: &ArgMatches<'a>) -> Asked<'a>
+    requires { HasDump (rows_of (found_of given.now)) }
+    ensures { Asks (codes "verify") (rows_of (found_of given.now)) result }
+{
+    Asked::Verify {
+        file: given.get_str("FILE").unwrap(),
+    }
+}
+
+// What is given to `storm`.
+fn storm_of<'a>(given: &ArgMatches<'a>) -> Asked<'a>
+    requires { HasStorm (rows_of (found_of given.now)) }
+    ensures { Asks (codes "storm") (rows_of (found_of given.now)) result }
+{
+    Asked::Storm {
+        seed: number(given, "SEED"),
+        sessions: number(given, "SESSIONS") as u8,
+        calls: number(given, "CALLS"),
     }
 }
 

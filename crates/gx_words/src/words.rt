@@ -2,7 +2,8 @@
 ghost use Rattle.std.specs.Prelude.{◌≡◌, [], map, codes, OnOk, IfOk, IfErr};
 ghost use Rattle.clap.specs.Words.{app_of, new_app, fault_of, HasKind};
 ghost use Rattle.gx_words.specs.Asking.{WordsAsk};
-ghost use Rattle.gx_words.specs.Program.{gist_app, with_required, plain_app, format_app, run_app, dump_app, wanted_rule, number_rule, frames_rule, Is, IsRule};
+ghost use Rattle.gx_words.specs.Program.{gist_app, with_required, plain_app, format_app, run_app, dump_app};
+ghost use Rattle.gx_words.specs.Program.{verify_app, storm_app, wanted_rule, number_rule, frames_rule, Is, IsRule};
 
 use crate::asking::{Asked, what_is_asked};
 use clap::{Arg, Command, Error, value_parser};
@@ -69,6 +70,14 @@ const RUN: &str =
 const DUMP: &str =
     "The tree of the index in the file places.gist, page by page:\n\ngist dump places.gist\n\ndocs/SCRIPT.md has its lines and the refusals.";
 
+/// How an index is verified.
+const VERIFY: &str =
+    "Whether the index in the file places.gist is sound, and what it holds; the file stays as it is:\n\ngist verify places.gist\n\ndocs/SCRIPT.md has the line and the refusals.";
+
+/// What a storm is.
+const STORM: &str =
+    "Four sessions in threads, each of which makes 200 calls that are drawn by the seed 1; a plain index replays what they asked and were answered:\n\ngist storm 1 4 200\n\nIt touches no file. docs/SCRIPT.md has what it prints.";
+
 /// The program, which calls itself `gist` whatever its file is called, and wants a command.
 fn program<'a>(alloc: Global) -> Result<Command<'a>, AllocError>
     ensures { IfOk result (λ command. app_of command ≡ with_required (new_app (codes "gist"))) }
@@ -117,6 +126,28 @@ fn dump<'a>(alloc: Global) -> Result<Command<'a>, AllocError>
         .arg(file(alloc))
 }
 
+fn verify<'a>(alloc: Global) -> Result<Command<'a>, AllocError>
+    ensures { IfOk result (Is verify_app) }
+{
+    Command::new(alloc, "verify")
+        .about("Tests the index in a file, and prints what it holds; writes nothing")
+        .after_help(VERIFY)
+        .arg(file(alloc))
+}
+
+fn storm<'a>(alloc: Global) -> Result<Command<'a>, AllocError>
+    ensures { IfOk result (Is storm_app) }
+{
+    Command::new(alloc, "storm")
+        .about(
+            "Runs sessions in threads on an index in memory, and replays what they were answered",
+        )
+        .after_help(STORM)
+        .arg(seed(alloc))?
+        .arg(sessions(alloc))?
+        .arg(calls(alloc))
+}
+
 fn file<'a>(alloc: Global) -> Arg<'a>
     ensures { IsRule (wanted_rule (codes "FILE")) result }
 {
@@ -143,6 +174,33 @@ fn most<'a>(alloc: Global) -> Arg<'a>
         .help("How many entries a node of its tree may have, 4 to 100")
 }
 
+fn seed<'a>(alloc: Global) -> Arg<'a>
+    ensures { IsRule (number_rule (codes "SEED") 0 4294967295) result }
+{
+    Arg::new(alloc, "SEED")
+        .required(true)
+        .value_parser(value_parser!(u32).range(0..=4294967295))
+        .help("What the calls are drawn by, 0 to 4294967295")
+}
+
+fn sessions<'a>(alloc: Global) -> Arg<'a>
+    ensures { IsRule (number_rule (codes "SESSIONS") 1 8) result }
+{
+    Arg::new(alloc, "SESSIONS")
+        .required(true)
+        .value_parser(value_parser!(u32).range(1..=8))
+        .help("How many sessions, 1 to 8")
+}
+
+fn calls<'a>(alloc: Global) -> Arg<'a>
+    ensures { IsRule (number_rule (codes "CALLS") 1 2000) result }
+{
+    Arg::new(alloc, "CALLS")
+        .required(true)
+        .value_parser(value_parser!(u32).range(1..=2000))
+        .help("How many calls each session makes, 1 to 2000")
+}
+
 fn frames<'a>(alloc: Global) -> Arg<'a>
     ensures { IsRule frames_rule result }
 {
@@ -162,7 +220,9 @@ fn command<'a>(alloc: Global) -> Result<Command<'a>, AllocError>
         .subcommand(plain(alloc))?
         .subcommand(format(alloc)?)?
         .subcommand(run(alloc)?)?
-        .subcommand(dump(alloc)?)
+        .subcommand(dump(alloc)?)?
+        .subcommand(verify(alloc)?)?
+        .subcommand(storm(alloc)?)
 }
 
 /// Reads the words, the program's own name first: what they ask for, or what is wrong with them.

@@ -7,7 +7,8 @@ use gx_geom::Box2;
 use gx_machine::{Call, Entry, MAX_CLAIMS, MAX_PREDICATES, Query, Reply};
 use std::alloc::Global;
 
-/// How many places lie between a pair that is deleted and the next one: a number that has no divisor in common with how many there are.
+/// How many places lie between a pair that is deleted and the next one: a number that has no divisor in common with how
+/// many there are.
 const STRIDE: u64 = 61_813;
 
 /// Opens the session's transaction.
@@ -129,7 +130,8 @@ pub(crate) fn delete_many(
     Some(marks)
 }
 
-/// Deletes these pairs, as many in a transaction as it may write, undoes each transaction, and answers how many deletes that were.
+/// Deletes these pairs, as many in a transaction as it may write, undoes each transaction, and answers how many deletes
+/// that were.
 pub(crate) fn undo_many(index: &mut Index, entries: &[Entry<Box2>]) -> Option<u64> {
     let each = MAX_CLAIMS as u64;
     let mut deleted: u64 = 0;

@@ -5,9 +5,9 @@ ghost use Rattle.gx_pool.specs.State.{clean_count, kept};
 
 use crate::leaves::leaf;
 use crate::numbers::draw;
-use gx_disk::SectorDisk;
+use gx_disk::{PAGE_SECTORS, PAGES_AT, SectorDisk};
 use gx_page::Page;
-use gx_pool::{AREA, PAGE_SECTORS, PageTest, Pool, PoolFault};
+use gx_pool::{PageTest, Pool, PoolFault};
 use std::alloc::Global;
 
 /// The test that pages are leaves.
@@ -39,7 +39,7 @@ fn lay<D: SectorDisk>(alloc: Global, disk: &mut D, page: u32) -> Option<()>
 {
     let mut leaf = leaf(alloc, page)?;
     leaf.set_nsn(3 * u64::from(page));
-    disk.write(AREA + PAGE_SECTORS * u64::from(page - 1), leaf.image())
+    disk.write(PAGES_AT + PAGE_SECTORS * u64::from(page - 1), leaf.image())
         .ok()
 }
 

@@ -46,8 +46,8 @@ pub(crate) fn root(tree: &Tree) -> Item {
     Item::new(1, tree.counter())
 }
 
-/// Inserts a pair. `None` where a step was refused, or there were too many. Keys of nodes that are split are written over
-/// `keys`.
+/// Inserts a pair. `None` where a step was refused, or there were too many. Keys of nodes that are split are written
+/// over `keys`.
 pub(crate) fn insert(tree: &mut Tree, entry: &Entry<Box2>, keys: &mut [Box2; MOST]) -> Option<()> {
     let mut place = Place::top(tree);
     for _ in 0..STEPS {

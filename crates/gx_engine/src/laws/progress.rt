@@ -3,12 +3,14 @@ ghost use Rattle.std.specs.Prelude.{◌≤◌, ◌<◌, ℕ};
 ghost use Rattle.gx_events.specs.declared.event.Event.TheVariants.{CheckpointStep, LogStep, Move, WritePage};
 ghost use Rattle.gx_events.specs.declared.outcome.Outcome.TheVariants.{Help, More};
 ghost use Rattle.gx_pool.specs.State.{dirty_count};
+ghost use Rattle.gx_pool.specs.declared.frames.TheConstants.{FRAMES};
 ghost use Rattle.gx_engine.specs.States.{IsOrderly, Parts};
 ghost use Rattle.gx_recovery.specs.Known.{Limits};
 ghost use Rattle.gx_engine.specs.Backlog.{backlog};
 ghost use Rattle.gx_events.specs.declared.outcome.Need.{Need};
 ghost use Rattle.gx_events.specs.declared.outcome.Outcome.{Outcome};
-ghost use Rattle.gx_engine.specs.Helping.{AskedEnds, CallEnds, DoesWork, HasWork, HelpComes, NamesWork, PageNamesWork, WaitingLeavesAll, event_of};
+ghost use Rattle.gx_engine.specs.Helping.{AskedEnds, CallEnds, DoesWork, HasWork, HelpComes, NamesWork, PageNamesWork};
+ghost use Rattle.gx_engine.specs.Helping.{WaitingLeavesAll, event_of};
 ghost use Rattle.gx_engine.specs.Made.{Makes};
 
 use crate::laws::a_class_is_lawful;
@@ -16,45 +18,55 @@ use gx_disk::SectorDisk;
 use gx_index_laws::measures::what_a_call_has_left_is_bounded;
 use gx_readings::ReadKeys;
 
-/// What there is left to flush falls by each step of the log and of a checkpoint that did work, and by each page that was written: the calls of
-/// the batch in flight and of the one that fills, the dirty pages, and the calls of a checkpoint that runs, or that will be due once what
-/// fills is in flight. It is below 2^13 with frames for 4,096 pages. So while no session works, and no call of the device fails, the log
-/// and a checkpoint have nothing to do after so many steps.
+/// What there is left to flush falls by each step of the log and of a checkpoint that did work, and by each page that
+/// was written: the calls of the batch in flight and of the one that fills, the dirty pages, and the calls of a
+/// checkpoint that runs, or that will be due once what fills is in flight. It is below 2^13 with frames for 4,096
+/// pages. So while no session works, and no call of the device fails, the log and a checkpoint have nothing to do
+/// after so many steps.
 pub fn each_step_leaves_less_to_flush<D: SectorDisk, K: ReadKeys>()
-    ensures log { (old new : Parts K.Key D) → Makes K.Key.Shape K.is_proper K.said K.KeyClass D.state old LogStep More new → backlog new < backlog old }
-    ensures page { (old new : Parts K.Key D) (page : ℕ) → Makes K.Key.Shape K.is_proper K.said K.KeyClass D.state old (WritePage page) More new → backlog new < backlog old }
-    ensures checkpoint { (old new : Parts K.Key D) → Makes K.Key.Shape K.is_proper K.said K.KeyClass D.state old CheckpointStep More new → backlog new < backlog old }
-    ensures few { (e : Parts K.Key D) → dirty_count e.volume.shelf.frames ≤ 4096 → backlog e < 8192 }
+    ensures log { (old new : Parts K.Key D)
+        → Makes K.Key.Shape K.is_proper K.said K.KeyClass D.state old LogStep More new → backlog new < backlog old }
+    ensures page { (old new : Parts K.Key D) (page : ℕ)
+        → Makes K.Key.Shape K.is_proper K.said K.KeyClass D.state old (WritePage page) More new
+        → backlog new < backlog old }
+    ensures checkpoint { (old new : Parts K.Key D)
+        → Makes K.Key.Shape K.is_proper K.said K.KeyClass D.state old CheckpointStep More new
+        → backlog new < backlog old }
+    ensures few { (e : Parts K.Key D) → dirty_count e.volume.shelf.frames ≤ FRAMES → backlog e < 8192 }
 {}
 
-/// What a session's move waits for has work to do: the page that it names may be written, the checkpoint that it names runs or is due, and while
-/// the log is named no checkpoint runs, and the log has a call to make. So it is of an engine over a device that doesn't lie. And a move that
-/// waits leaves each session's call as much to do as it had, as does each event that helps.
+/// What a session's move waits for has work to do: the page that it names may be written, the checkpoint that it
+/// names runs or is due, and while the log is named no checkpoint runs, and the log has a call to make. So it is of
+/// an engine over a device that doesn't lie. And a move that waits leaves each session's call as much to do as it
+/// had, as does each event that helps.
 ///
-/// Over any device a move that waits leaves no more to flush, and an event that has work to do does it, and leaves less to flush, or is
-/// refused.
+/// Over any device a move that waits leaves no more to flush, and an event that has work to do does it, and leaves
+/// less to flush, or is refused.
 pub fn a_move_that_waits_names_work<D: SectorDisk, K: ReadKeys>()
     ensures work { (l : Limits) → NamesWork K.Key.Shape K.is_proper K.said K.KeyClass D.state l }
-    ensures helps { (old new : Parts K.Key D) (n : Need) (given : Outcome K.Key) → HasWork n old → Makes K.Key.Shape K.is_proper K.said K.KeyClass D.state old (event_of n) given new
-        → DoesWork given old new }
+    ensures helps { (old new : Parts K.Key D) (n : Need) (given : Outcome K.Key) → HasWork n old
+        → Makes K.Key.Shape K.is_proper K.said K.KeyClass D.state old (event_of n) given new → DoesWork given old new }
     ensures left { (l : Limits) → WaitingLeavesAll K.Key.Shape K.is_proper K.said K.KeyClass D.state l }
-    ensures flush { (old new : Parts K.Key D) (s : ℕ) (n : Need) → Makes K.Key.Shape K.is_proper K.said K.KeyClass D.state old (Move s) (Help n) new → backlog new ≤ backlog old }
+    ensures flush { (old new : Parts K.Key D) (s : ℕ) (n : Need)
+        → Makes K.Key.Shape K.is_proper K.said K.KeyClass D.state old (Move s) (Help n) new
+        → backlog new ≤ backlog old }
 {}
 
-/// What a page that is to be brought waits for has work to do, in the same sense, and leaves no more to flush. So it is of an engine over a
-/// device that doesn't lie.
+/// What a page that is to be brought waits for has work to do, in the same sense, and leaves no more to flush. So it
+/// is of an engine over a device that doesn't lie.
 ///
-/// Over any device what has work to do does it by its own call too, and leaves less to flush, or is refused; and what there is to flush
-/// is below 2^13 in any engine.
+/// Over any device what has work to do does it by its own call too, and leaves less to flush, or is refused; and what
+/// there is to flush is below 2^13 in any engine.
 pub fn a_page_that_waits_names_work<D: SectorDisk, K: ReadKeys>()
     ensures work { (l : Limits) → PageNamesWork K.Key.Shape K.is_proper K.said K.KeyClass D.state l }
-    ensures helps { (old new : Parts K.Key D) (n : Need) (given : Outcome K.Key) → HasWork n old → HelpComes (D.state old.volume.shelf.disk) (D.state new.volume.shelf.disk) n old new given
+    ensures helps { (old new : Parts K.Key D) (n : Need) (given : Outcome K.Key) → HasWork n old
+        → HelpComes (D.state old.volume.shelf.disk) (D.state new.volume.shelf.disk) n old new given
         → DoesWork given old new }
     ensures few { (e : Parts K.Key D) → IsOrderly e → backlog e < 8192 }
 {}
 
-/// A session's call that is moved alone, with the events that help it, comes to its end: fewer than 2^55 events are made of it. So it is of an
-/// engine over a device that doesn't lie.
+/// A session's call that is moved alone, with the events that help it, comes to its end: fewer than 2^55 events are
+/// made of it. So it is of an engine over a device that doesn't lie.
 pub fn a_call_alone_ends<D: SectorDisk, K: ReadKeys>()
     ensures { (l : Limits) → CallEnds K.Key.Shape K.is_proper K.said K.KeyClass D.state l }
 {

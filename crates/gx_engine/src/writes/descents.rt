@@ -4,29 +4,22 @@ ghost use Rattle.gx_machine.specs.declared.call.Call.{Call};
 ghost use Rattle.gx_machine.specs.declared.call.Call.TheVariants.{Insert};
 ghost use Rattle.gx_machine.specs.Keys.{keys_of};
 ghost use Rattle.gx_machine.specs.Machine.{is_session};
-ghost use Rattle.gx_node.specs.Reading.{format_of, is_node};
-ghost use Rattle.gx_recovery.specs.Known.{Limits};
-ghost use Rattle.gx_readings.specs.Classes.{class_of, reading_of};
-ghost use Rattle.gx_store.specs.Standing.{store_of};
-ghost use Rattle.gx_store.specs.State.{IsSteady};
-ghost use Rattle.gx_storage.specs.Bringing.{has_removable};
 ghost use Rattle.gx_tree.specs.declared.descent.Way.TheVariants.{Add};
 ghost use Rattle.gx_tree.specs.Descending.{WayAt, next_of};
 ghost use Rattle.gx_tree_laws.specs.Reach as reach;
-ghost use Rattle.gx_node.specs.Keyed.{rules_of};
-ghost use Rattle.gx_node.specs.Store.{tree_of};
 ghost use Rattle.gx_phases.specs.declared.phase.Phase.TheVariants.{Open};
 ghost use Rattle.gx_phases.specs.Moves.{HasWrite, is_open, transaction_of, written_state};
-ghost use Rattle.gx_phases.specs.States.{phase_at};
-ghost use Rattle.gx_storage.specs.Changes.{known_at};
+ghost use Rattle.gx_disk.specs.declared.layout.TheConstants.{MAX_PAGES};
 ghost use Rattle.gx_engine.specs.Calls.{IsRead};
 ghost use Rattle.gx_engine.specs.declared.work.Work as declared;
 ghost use Rattle.gx_engine.specs.declared.work.Work.TheVariants.{Descends};
-ghost use Rattle.gx_engine.specs.Descending.{Adding, LeafSweeping, RootSplitting, Splitting, Stepping};
-ghost use Rattle.gx_engine.specs.Moves.{Moves, calling};
+ghost use Rattle.gx_engine.specs.Moves.{calling};
 ghost use Rattle.gx_engine.specs.States.{is_due};
-ghost use Rattle.gx_engine.specs.Sweeping.{is_held, node_shown};
-ghost use Rattle.gx_engine.specs.Writing.{AddsAs, IsFull, MakesRoomAs, SplitsAs, WritesAs, write_events};
+ghost use Rattle.gx_engine.specs.Sweeping.{is_held};
+ghost use Rattle.gx_engine.specs.Writes.{AddsAs, MakesRoomAs, SplitsAs, WritesAs, write_events};
+ghost use Rattle.gx_storage.specs.Setting.{IsSteadyAs, store_at, tree_at};
+ghost use Rattle.gx_engine.specs.Setting.{AddingAs, IsFullAs, LeafSweepingAs, MovesAs, RootSplittingAs, SplittingAs};
+ghost use Rattle.gx_engine.specs.Setting.{SteppingAs, may_sweep, phase_in};
 
 use crate::Engine;
 use crate::laws::a_class_is_lawful;
@@ -45,7 +38,7 @@ impl<D: SectorDisk, K: ReadKeys> Engine<D, K> {
     fn go_to(&mut self, session: u8, from: u32, item: Item) -> Outcome<K::Key>
         requires session { is_session session ≡ true }
         ensures outcome { result ≡ Outcome.More }
-        ensures there { (call : Call K.Key) (was : declared.Work K.Key) → phase_at (session - 1) self.old.sessions.phases ≡ Open call was
+        ensures there { (call : Call K.Key) (was : declared.Work K.Key) → phase_in session self.old ≡ Open call was
             → self.new ≡ calling session call (Descends from item) self.old }
         ensures device { IsRead D.state self.old self.new }
     {
@@ -58,8 +51,9 @@ impl<D: SectorDisk, K: ReadKeys> Engine<D, K> {
     fn begin_again(&mut self, session: u8) -> Outcome<K::Key>
         requires session { is_session session ≡ true }
         ensures outcome { result ≡ Outcome.More }
-        ensures there { (call : Call K.Key) (was : declared.Work K.Key) → phase_at (session - 1) self.old.sessions.phases ≡ Open call was
-            → self.new ≡ calling session call (Descends 0 (record { page = 1; seen = self.old.volume.shelf.counter })) self.old }
+        ensures there { (call : Call K.Key) (was : declared.Work K.Key) → phase_in session self.old ≡ Open call was
+            → self.new ≡ calling session call (Descends 0 (record { page = 1; seen = self.old.volume.shelf.counter }))
+            self.old }
         ensures device { IsRead D.state self.old self.new }
     {
         let root = Item::new(1, self.storage.counter());
@@ -70,8 +64,9 @@ impl<D: SectorDisk, K: ReadKeys> Engine<D, K> {
     fn go_down(&mut self, session: u8, from: &Item, did: &Descended<K::Key>) -> Outcome<K::Key>
         requires session { is_session session ≡ true }
         ensures outcome { result ≡ Outcome.More }
-        ensures there { (next : reach.Item) → next_of did.now ≡ Some next → (call : Call K.Key) (was : declared.Work K.Key)
-            → phase_at (session - 1) self.old.sessions.phases ≡ Open call was → self.new ≡ calling session call (Descends from.now.page next) self.old }
+        ensures there { (next : reach.Item) → next_of did.now ≡ Some next
+            → (call : Call K.Key) (was : declared.Work K.Key) → phase_in session self.old ≡ Open call was
+            → self.new ≡ calling session call (Descends from.now.page next) self.old }
         ensures device { IsRead D.state self.old self.new }
     {
         let next = did.next().unwrap_or(Item::new(from.page(), from.seen()));
@@ -85,8 +80,8 @@ impl<D: SectorDisk, K: ReadKeys> Engine<D, K> {
         coming: &K::Key,
     ) -> Result<Descended<K::Key>, StepFault<StoreFault>>
         requires early { is_due self.old ≡ false }
-        ensures step { Stepping (known_at K.Key.Shape K.is_proper) (reading_of K.said (format_of K.KeyClass)) (format_of K.KeyClass) (is_node (format_of K.KeyClass)) K.cost K.joined
-            (D.state self.old.volume.shelf.disk) (D.state self.new.volume.shelf.disk) self.old.volume self.new.volume item.now coming.now result }
+        ensures step { SteppingAs K.Key.Shape K.is_proper K.said K.KeyClass D.state self.old.volume self.new.volume
+            item.now coming.now result }
         ensures only { self.new ≡ record self.old { volume = self.new.volume } }
         ensures device { IsRead D.state self.old self.new }
     {
@@ -102,8 +97,8 @@ impl<D: SectorDisk, K: ReadKeys> Engine<D, K> {
     ) -> Result<(), StepFault<StoreFault>>
         requires session { is_session session ≡ true }
         requires early { is_due self.old ≡ false }
-        ensures adds { Adding (known_at K.Key.Shape K.is_proper) (reading_of K.said (format_of K.KeyClass)) (format_of K.KeyClass) (is_node (format_of K.KeyClass)) K.spelling K.KEY
-            (D.state self.old.volume.shelf.disk) (D.state self.new.volume.shelf.disk) self.old.volume self.new.volume (transaction_of session self.old.sessions) entry.now item.now.page result }
+        ensures adds { AddingAs K.Key.Shape K.is_proper K.said K.KeyClass D.state self.old.volume self.new.volume
+            (transaction_of session self.old.sessions) entry.now item.now.page result }
         ensures only { self.new ≡ record self.old { volume = self.new.volume } }
         ensures device { IsRead D.state self.old self.new }
     {
@@ -114,10 +109,11 @@ impl<D: SectorDisk, K: ReadKeys> Engine<D, K> {
     // An insert's pair, which was absent, was added to the leaf of an item: that is noted, and the call is answered.
     fn note_added(&mut self, session: u8, entry: Entry<K::Key>, item: &Item) -> Outcome<K::Key>
         requires session { is_session session ≡ true }
-        requires write { HasWrite entry (phase_at (session - 1) self.old.sessions.phases) }
+        requires write { HasWrite entry (phase_in session self.old) }
         ensures outcome { result ≡ Outcome.Replied Reply.Inserted }
         ensures noted { self.new ≡ record self.old {
-          sessions = written_state (keys_of K.Key.Shape) session (record { entry = entry; before = true; leaf = item.now.page }) self.old.sessions;
+          sessions = written_state (keys_of K.Key.Shape) session
+              (record { entry = entry; before = true; leaf = item.now.page }) self.old.sessions;
         } }
         ensures device { IsRead D.state self.old self.new }
     {
@@ -134,14 +130,14 @@ impl<D: SectorDisk, K: ReadKeys> Engine<D, K> {
         item: Item,
     ) -> Outcome<K::Key>
         requires session { is_session session ≡ true }
-        requires descends { phase_at (session - 1) self.old.sessions.phases ≡ Open (Insert entry) (Descends parent item) }
+        requires descends { phase_in session self.old ≡ Open (Insert entry) (Descends parent item) }
         requires works { self.old.sessions.failed ≡ false }
         requires early { is_due self.old ≡ false }
         ensures comes { AddsAs K.Key.Shape K.KeyClass D.state session (Insert entry) self.old self.new result }
-        ensures moves { (IsSteady (D.state self.old.volume.shelf.disk) self.old.volume.shelf.frames → WayAt K.cost K.joined self.old.volume.most
-            (store_of (format_of K.KeyClass) (D.state self.old.volume.shelf.disk).seen self.old.volume.shelf) item entry.key Add) → (l : Limits)
-            → Moves (class_of K.Key.Shape K.is_proper l) (reading_of K.said (format_of K.KeyClass)) (format_of K.KeyClass) (is_node (format_of K.KeyClass))
-            (D.state self.old.volume.shelf.disk) (D.state self.new.volume.shelf.disk) session self.old self.new result (write_events session (Insert entry) result) }
+        ensures moves { (IsSteadyAs D.state self.old.volume.shelf
+            → WayAt K.cost K.joined self.old.volume.most (store_at K.KeyClass D.state self.old.volume.shelf) item
+            entry.key Add) → MovesAs K.Key.Shape K.is_proper K.said K.KeyClass D.state session self.old self.new result
+            (write_events session (Insert entry) result) }
         ensures device { IsRead D.state self.old self.new }
     {
         a_class_is_lawful::<K>();
@@ -159,8 +155,8 @@ impl<D: SectorDisk, K: ReadKeys> Engine<D, K> {
     // Takes out of a leaf what is marked and no session claims, as storage does.
     fn sweep_leaf(&mut self, item: &Item) -> Result<bool, StepFault<StoreFault>>
         requires early { is_due self.old ≡ false }
-        ensures sweeps { LeafSweeping (known_at K.Key.Shape K.is_proper) (reading_of K.said (format_of K.KeyClass)) (format_of K.KeyClass) (is_node (format_of K.KeyClass))
-            (is_held (keys_of K.Key.Shape) self.old) (D.state self.old.volume.shelf.disk) (D.state self.new.volume.shelf.disk) self.old.volume self.new.volume item.now.page result }
+        ensures sweeps { LeafSweepingAs K.Key.Shape K.is_proper K.said K.KeyClass D.state
+            (is_held (keys_of K.Key.Shape) self.old) self.old.volume self.new.volume item.now.page result }
         ensures only { self.new ≡ record self.old { volume = self.new.volume } }
         ensures device { IsRead D.state self.old self.new }
     {
@@ -176,10 +172,11 @@ impl<D: SectorDisk, K: ReadKeys> Engine<D, K> {
         item: &Item,
     ) -> Result<Option<Split<K::Key>>, StepFault<StoreFault>>
         requires early { is_due self.old ≡ false }
-        ensures splits { Splitting (known_at K.Key.Shape K.is_proper) (reading_of K.said (format_of K.KeyClass)) (format_of K.KeyClass) (is_node (format_of K.KeyClass))
-            (rules_of K.Key.Shape) K.sides_of (D.state self.old.volume.shelf.disk) (D.state self.new.volume.shelf.disk) self.old.volume self.new.volume item.now.page parent result }
+        ensures splits { SplittingAs K.Key.Shape K.is_proper K.said K.KeyClass D.state self.old.volume self.new.volume
+            item.now.page parent result }
         ensures only { self.new ≡ record self.old { volume = self.new.volume } }
-        ensures fits { (self.new.volume.shelf.used ≤ self.new.volume.shelf.pages) × (self.new.volume.shelf.pages ≤ 65536) }
+        ensures fits { (self.new.volume.shelf.used ≤ self.new.volume.shelf.pages)
+            × (self.new.volume.shelf.pages ≤ MAX_PAGES) }
         ensures device { IsRead D.state self.old self.new }
     {
         let split = self.storage.split(item.page(), parent, &mut self.keys);
@@ -190,10 +187,11 @@ impl<D: SectorDisk, K: ReadKeys> Engine<D, K> {
     // Splits the root, as storage does.
     fn split_root(&mut self) -> Result<RootSplit<K::Key>, StepFault<StoreFault>>
         requires early { is_due self.old ≡ false }
-        ensures splits { RootSplitting (known_at K.Key.Shape K.is_proper) (reading_of K.said (format_of K.KeyClass)) (format_of K.KeyClass) (is_node (format_of K.KeyClass))
-            (rules_of K.Key.Shape) K.sides_of (D.state self.old.volume.shelf.disk) (D.state self.new.volume.shelf.disk) self.old.volume self.new.volume result }
+        ensures splits { RootSplittingAs K.Key.Shape K.is_proper K.said K.KeyClass D.state self.old.volume
+            self.new.volume result }
         ensures only { self.new ≡ record self.old { volume = self.new.volume } }
-        ensures fits { (self.new.volume.shelf.used ≤ self.new.volume.shelf.pages) × (self.new.volume.shelf.pages ≤ 65536) }
+        ensures fits { (self.new.volume.shelf.used ≤ self.new.volume.shelf.pages)
+            × (self.new.volume.shelf.pages ≤ MAX_PAGES) }
         ensures device { IsRead D.state self.old self.new }
     {
         let split = self.storage.split_root(&mut self.keys);
@@ -201,20 +199,20 @@ impl<D: SectorDisk, K: ReadKeys> Engine<D, K> {
         split
     }
 
-    // The node of a descent's item is full, and below the root: it is split, or its parent has no place for that. The descent begins
-    // again.
+    // The node of a descent's item is full, and below the root: it is split, or its parent has no place for that. The
+    // descent begins again.
     fn split_below(&mut self, session: u8, parent: u32, item: Item) -> Outcome<K::Key>
         requires session { is_session session ≡ true }
-        requires open { is_open (phase_at (session - 1) self.old.sessions.phases) ≡ true }
+        requires open { is_open (phase_in session self.old) ≡ true }
         requires works { self.old.sessions.failed ≡ false }
         requires early { is_due self.old ≡ false }
         requires below { item.page ≢ 1 }
-        ensures comes { (entry : Entry K.Key) → phase_at (session - 1) self.old.sessions.phases ≡ Open (Insert entry) (Descends parent item)
+        ensures comes { (entry : Entry K.Key) → phase_in session self.old ≡ Open (Insert entry) (Descends parent item)
             → SplitsAs K.Key.Shape K.KeyClass D.state session (Insert entry) item.page self.old self.new result }
-        ensures moves { (entry : Entry K.Key) → phase_at (session - 1) self.old.sessions.phases ≡ Open (Insert entry) (Descends parent item)
-            → IsFull (format_of K.KeyClass) (D.state self.old.volume.shelf.disk) self.old item.page → (l : Limits)
-            → Moves (class_of K.Key.Shape K.is_proper l) (reading_of K.said (format_of K.KeyClass)) (format_of K.KeyClass) (is_node (format_of K.KeyClass))
-            (D.state self.old.volume.shelf.disk) (D.state self.new.volume.shelf.disk) session self.old self.new result (write_events session (Insert entry) result) }
+        ensures moves { (entry : Entry K.Key) → phase_in session self.old ≡ Open (Insert entry) (Descends parent item)
+            → IsFullAs K.KeyClass D.state self.old item.page
+            → MovesAs K.Key.Shape K.is_proper K.said K.KeyClass D.state session self.old self.new result
+            (write_events session (Insert entry) result) }
         ensures device { IsRead D.state self.old self.new }
     {
         a_class_is_lawful::<K>();
@@ -230,16 +228,16 @@ impl<D: SectorDisk, K: ReadKeys> Engine<D, K> {
     // The root is full: it is split, and the descent begins again.
     fn split_top(&mut self, session: u8, parent: u32, item: Item) -> Outcome<K::Key>
         requires session { is_session session ≡ true }
-        requires open { is_open (phase_at (session - 1) self.old.sessions.phases) ≡ true }
+        requires open { is_open (phase_in session self.old) ≡ true }
         requires works { self.old.sessions.failed ≡ false }
         requires early { is_due self.old ≡ false }
         requires top { item.page ≡ 1 }
-        ensures comes { (entry : Entry K.Key) → phase_at (session - 1) self.old.sessions.phases ≡ Open (Insert entry) (Descends parent item)
+        ensures comes { (entry : Entry K.Key) → phase_in session self.old ≡ Open (Insert entry) (Descends parent item)
             → SplitsAs K.Key.Shape K.KeyClass D.state session (Insert entry) item.page self.old self.new result }
-        ensures moves { (entry : Entry K.Key) → phase_at (session - 1) self.old.sessions.phases ≡ Open (Insert entry) (Descends parent item)
-            → IsFull (format_of K.KeyClass) (D.state self.old.volume.shelf.disk) self.old item.page → (l : Limits)
-            → Moves (class_of K.Key.Shape K.is_proper l) (reading_of K.said (format_of K.KeyClass)) (format_of K.KeyClass) (is_node (format_of K.KeyClass))
-            (D.state self.old.volume.shelf.disk) (D.state self.new.volume.shelf.disk) session self.old self.new result (write_events session (Insert entry) result) }
+        ensures moves { (entry : Entry K.Key) → phase_in session self.old ≡ Open (Insert entry) (Descends parent item)
+            → IsFullAs K.KeyClass D.state self.old item.page
+            → MovesAs K.Key.Shape K.is_proper K.said K.KeyClass D.state session self.old self.new result
+            (write_events session (Insert entry) result) }
         ensures device { IsRead D.state self.old self.new }
     {
         a_class_is_lawful::<K>();
@@ -255,17 +253,17 @@ impl<D: SectorDisk, K: ReadKeys> Engine<D, K> {
     // The node of a descent's item is full, and has no pair that a sweep takes: it is split.
     fn split_here(&mut self, session: u8, parent: u32, item: Item) -> Outcome<K::Key>
         requires session { is_session session ≡ true }
-        requires open { is_open (phase_at (session - 1) self.old.sessions.phases) ≡ true }
+        requires open { is_open (phase_in session self.old) ≡ true }
         requires works { self.old.sessions.failed ≡ false }
         requires early { is_due self.old ≡ false }
-        ensures comes { (entry : Entry K.Key) → phase_at (session - 1) self.old.sessions.phases ≡ Open (Insert entry) (Descends parent item)
+        ensures comes { (entry : Entry K.Key) → phase_in session self.old ≡ Open (Insert entry) (Descends parent item)
             → SplitsAs K.Key.Shape K.KeyClass D.state session (Insert entry) item.page self.old self.new result }
-        ensures moves { (entry : Entry K.Key) → phase_at (session - 1) self.old.sessions.phases ≡ Open (Insert entry) (Descends parent item)
-            → IsFull (format_of K.KeyClass) (D.state self.old.volume.shelf.disk) self.old item.page
-            → (IsSteady (D.state self.old.volume.shelf.disk) self.old.volume.shelf.frames
-            → has_removable (is_held (keys_of K.Key.Shape) self.old) (node_shown (format_of K.KeyClass) (D.state self.old.volume.shelf.disk) item.page self.old) ≡ false) → (l : Limits)
-            → Moves (class_of K.Key.Shape K.is_proper l) (reading_of K.said (format_of K.KeyClass)) (format_of K.KeyClass) (is_node (format_of K.KeyClass))
-            (D.state self.old.volume.shelf.disk) (D.state self.new.volume.shelf.disk) session self.old self.new result (write_events session (Insert entry) result) }
+        ensures moves { (entry : Entry K.Key) → phase_in session self.old ≡ Open (Insert entry) (Descends parent item)
+            → IsFullAs K.KeyClass D.state self.old item.page
+            → (IsSteadyAs D.state self.old.volume.shelf
+            → may_sweep K.Key.Shape K.KeyClass D.state item.page self.old ≡ false)
+            → MovesAs K.Key.Shape K.is_proper K.said K.KeyClass D.state session self.old self.new result
+            (write_events session (Insert entry) result) }
         ensures device { IsRead D.state self.old self.new }
     {
         if item.page() == 1 {
@@ -278,16 +276,17 @@ impl<D: SectorDisk, K: ReadKeys> Engine<D, K> {
     // A descent has come to a full leaf: that is swept, or where it has nothing to take split.
     fn make_room(&mut self, session: u8, parent: u32, item: Item) -> Outcome<K::Key>
         requires session { is_session session ≡ true }
-        requires open { is_open (phase_at (session - 1) self.old.sessions.phases) ≡ true }
+        requires open { is_open (phase_in session self.old) ≡ true }
         requires works { self.old.sessions.failed ≡ false }
         requires early { is_due self.old ≡ false }
-        ensures comes { (entry : Entry K.Key) → phase_at (session - 1) self.old.sessions.phases ≡ Open (Insert entry) (Descends parent item)
+        ensures comes { (entry : Entry K.Key) → phase_in session self.old ≡ Open (Insert entry) (Descends parent item)
             → MakesRoomAs K.Key.Shape K.KeyClass D.state session (Insert entry) item.page self.old self.new result }
-        ensures moves { (entry : Entry K.Key) → phase_at (session - 1) self.old.sessions.phases ≡ Open (Insert entry) (Descends parent item)
-            → (IsSteady (D.state self.old.volume.shelf.disk) self.old.volume.shelf.frames → (((tree_of (store_of (format_of K.KeyClass) (D.state self.old.volume.shelf.disk).seen self.old.volume.shelf)).node item.page).level ≡ 0)
-            × (self.old.volume.most ≤ length ((tree_of (store_of (format_of K.KeyClass) (D.state self.old.volume.shelf.disk).seen self.old.volume.shelf)).node item.page).pairs)) → (l : Limits)
-            → Moves (class_of K.Key.Shape K.is_proper l) (reading_of K.said (format_of K.KeyClass)) (format_of K.KeyClass) (is_node (format_of K.KeyClass))
-            (D.state self.old.volume.shelf.disk) (D.state self.new.volume.shelf.disk) session self.old self.new result (write_events session (Insert entry) result) }
+        ensures moves { (entry : Entry K.Key) → phase_in session self.old ≡ Open (Insert entry) (Descends parent item)
+            → (IsSteadyAs D.state self.old.volume.shelf
+            → (((tree_at K.KeyClass D.state self.old.volume.shelf).node item.page).level ≡ 0)
+            × (self.old.volume.most ≤ length ((tree_at K.KeyClass D.state self.old.volume.shelf).node item.page).pairs))
+            → MovesAs K.Key.Shape K.is_proper K.said K.KeyClass D.state session self.old self.new result
+            (write_events session (Insert entry) result) }
         ensures device { IsRead D.state self.old self.new }
     {
         a_class_is_lawful::<K>();
@@ -312,12 +311,12 @@ impl<D: SectorDisk, K: ReadKeys> Engine<D, K> {
         item: Item,
     ) -> Outcome<K::Key>
         requires session { is_session session ≡ true }
-        requires descends { phase_at (session - 1) self.old.sessions.phases ≡ Open (Insert entry) (Descends parent item) }
+        requires descends { phase_in session self.old ≡ Open (Insert entry) (Descends parent item) }
         requires works { self.old.sessions.failed ≡ false }
         requires early { is_due self.old ≡ false }
         ensures comes { WritesAs K.Key.Shape K.KeyClass D.state session (Insert entry) self.old self.new result }
-        ensures moves { (l : Limits) → Moves (class_of K.Key.Shape K.is_proper l) (reading_of K.said (format_of K.KeyClass)) (format_of K.KeyClass) (is_node (format_of K.KeyClass))
-            (D.state self.old.volume.shelf.disk) (D.state self.new.volume.shelf.disk) session self.old self.new result (write_events session (Insert entry) result) }
+        ensures moves { MovesAs K.Key.Shape K.is_proper K.said K.KeyClass D.state session self.old self.new result
+            (write_events session (Insert entry) result) }
         ensures device { IsRead D.state self.old self.new }
     {
         a_class_is_lawful::<K>();
@@ -341,16 +340,17 @@ impl<D: SectorDisk, K: ReadKeys> Engine<D, K> {
         }
     }
 
-    /// A move of a session's insert, which is open, while it descends: its pair stands nowhere yet. The step at the page of its item goes
-    /// down to the entry of least penalty, whose bound is widened first where it doesn't cover the key; or adds the pair to a leaf that
-    /// has room, and the call is answered; or sweeps a full leaf, or splits a full node, and the descent begins again at the root, as it
-    /// does where its page was split meanwhile: `More`. Whatever it changes is logged. It makes no write and no sync of the device and
-    /// takes no memory.
+    /// A move of a session's insert, which is open, while it descends: its pair stands nowhere yet. The step at the
+    /// page of its item goes down to the entry of least penalty, whose bound is widened first where it doesn't cover
+    /// the key; or adds the pair to a leaf that has room, and the call is answered; or sweeps a full leaf, or splits
+    /// a full node, and the descent begins again at the root, as it does where its page was split meanwhile: `More`.
+    /// Whatever it changes is logged. It makes no write and no sync of the device and takes no memory.
     ///
-    /// `Help(Checkpoint)` exactly where a checkpoint runs or 24 places of the extent are taken, and nothing has changed. `Help` where
-    /// the record doesn't fit the batch that fills or a page couldn't be brought, with what has to happen first; the insert is then at
-    /// what it was. Where too few pages are left for a split the call is closed: `Replied(Refused(PagesFull))`. Where the device failed,
-    /// or a page didn't read, the engine has failed, and the reply is `Device` or `Damaged`.
+    /// `Help(Checkpoint)` exactly where a checkpoint runs or 24 places of the extent are taken, and nothing has
+    /// changed. `Help` where the record doesn't fit the batch that fills or a page couldn't be brought, with what has
+    /// to happen first; the insert is then at what it was. Where too few pages are left for a split the call is
+    /// closed: `Replied(Refused(PagesFull))`. Where the device failed, or a page didn't read, the engine has failed,
+    /// and the reply is `Device` or `Damaged`.
     pub(crate) fn descend(
         &mut self,
         session: u8,
@@ -359,11 +359,11 @@ impl<D: SectorDisk, K: ReadKeys> Engine<D, K> {
         item: Item,
     ) -> Outcome<K::Key>
         requires session { is_session session ≡ true }
-        requires descends { phase_at (session - 1) self.old.sessions.phases ≡ Open (Insert entry) (Descends parent item) }
+        requires descends { phase_in session self.old ≡ Open (Insert entry) (Descends parent item) }
         requires works { self.old.sessions.failed ≡ false }
         ensures comes { WritesAs K.Key.Shape K.KeyClass D.state session (Insert entry) self.old self.new result }
-        ensures moves { (l : Limits) → Moves (class_of K.Key.Shape K.is_proper l) (reading_of K.said (format_of K.KeyClass)) (format_of K.KeyClass) (is_node (format_of K.KeyClass))
-            (D.state self.old.volume.shelf.disk) (D.state self.new.volume.shelf.disk) session self.old self.new result (write_events session (Insert entry) result) }
+        ensures moves { MovesAs K.Key.Shape K.is_proper K.said K.KeyClass D.state session self.old self.new result
+            (write_events session (Insert entry) result) }
         ensures device { IsRead D.state self.old self.new }
     {
         if self.is_due() {

@@ -3,21 +3,17 @@ ghost use Rattle.std.specs.Prelude.{◌≡◌, ◌-◌, ◌<◌, [], ◌∷◌, 
 ghost use Rattle.gx_machine.specs.declared.call.Call.{Call};
 ghost use Rattle.gx_machine.specs.declared.entry.Entry.{Entry};
 ghost use Rattle.gx_machine.specs.declared.call.Call.TheVariants.{Delete, Insert};
-ghost use Rattle.gx_machine.specs.Keys.{keys_of};
 ghost use Rattle.gx_machine.specs.Machine.{is_session};
-ghost use Rattle.gx_node.specs.Reading.{format_of, is_node};
-ghost use Rattle.gx_recovery.specs.Known.{Limits};
 ghost use Rattle.gx_engine_laws.specs.Events.{FindsAbsent, Works};
-ghost use Rattle.gx_readings.specs.Classes.{class_of, reading_of};
 ghost use Rattle.gx_phases.specs.declared.phase.Phase.TheVariants.{Open};
 ghost use Rattle.gx_phases.specs.Moves.{WritesEntry, answered_state, is_open};
-ghost use Rattle.gx_phases.specs.States.{phase_at};
 ghost use Rattle.gx_engine.specs.Calls.{IsRead};
 ghost use Rattle.gx_engine.specs.declared.work.Work as declared;
 ghost use Rattle.gx_engine.specs.declared.work.Work.TheVariants.{Looks, Rests};
-ghost use Rattle.gx_engine.specs.Looking.{IsFirstUnless, LooksFor, Reaches, turned_by, work_before};
-ghost use Rattle.gx_engine.specs.Moves.{Moves, MovesOn, MovesSo, calling};
-ghost use Rattle.gx_engine.specs.Writing.{AreWriting, OnlyReads, WritesAs, brought, is_looking, write_events};
+ghost use Rattle.gx_engine.specs.Looks.{IsFirstUnless, LooksFor, turned_by, work_before};
+ghost use Rattle.gx_engine.specs.Moves.{calling};
+ghost use Rattle.gx_engine.specs.Writes.{AreWriting, OnlyReads, WritesAs, brought, is_looking, write_events};
+ghost use Rattle.gx_engine.specs.Setting.{MovesAs, MovesOnAs, MovesSoAs, ReachesAs, phase_in};
 
 use crate::Engine;
 use crate::laws::a_class_is_lawful;
@@ -31,7 +27,8 @@ use gx_readings::ReadKeys;
 use gx_storage::laws::{a_volume_shows_keys, a_volume_shows_the_logs_tree};
 use gx_tree::{Item, Look, Wanted};
 
-/// What a write's look turns into: where it has found its pair, a seek from the leaf in which that stood; else it goes on.
+/// What a write's look turns into: where it has found its pair, a seek from the leaf in which that stood; else it
+/// goes on.
 fn turned<B: Shape>(look: Look<B>) -> Work<B>
     ensures { result ≡ turned_by look.found.items look }
 {
@@ -45,8 +42,9 @@ impl<D: SectorDisk, K: ReadKeys + Probing> Engine<D, K>
 where
     K::Probe: Drop,
 {
-    // A write's look reads its next page; one that hasn't begun reads the root. It goes on, or where it has found its pair seeks that.
-    // `Ok` gives the look where nothing is left to read and its pair is nowhere, and `Err` is what else came of it.
+    // A write's look reads its next page; one that hasn't begun reads the root. It goes on, or where it has found its
+    // pair seeks that. `Ok` gives the look where nothing is left to read and its pair is nowhere, and `Err` is what
+    // else came of it.
     fn look_on(
         &mut self,
         session: u8,
@@ -55,22 +53,26 @@ where
         begun: bool,
     ) -> Result<Look<K::Key>, Outcome<K::Key>>
         requires session { is_session session ≡ true }
-        requires open { is_open (phase_at (session - 1) self.old.sessions.phases) ≡ true }
+        requires open { is_open (phase_in session self.old) ≡ true }
         requires works { self.old.sessions.failed ≡ false }
         requires more { 0 < length look.stack.items }
         requires first { IsFirstUnless begun self.old look }
         ensures done { IfOk result (λ after. length after.stack.items ≡ 0) }
         ensures rest { OnOk result (self.new ≡ brought self.old self.new) }
-        ensures goes_on { IfOk result (λ after. (call : Call K.Key) → WritesEntry entry.now call → phase_at (session - 1) self.old.sessions.phases ≡ Open call Rests → (l : Limits)
-            → MovesOn (class_of K.Key.Shape K.is_proper l) (reading_of K.said (format_of K.KeyClass)) (format_of K.KeyClass) (is_node (format_of K.KeyClass))
-            (D.state self.old.volume.shelf.disk) (D.state self.new.volume.shelf.disk) session (calling session call (work_before begun look) self.old) (calling session call (Looks after) self.new)) }
-        ensures reads { OnErr result ((call : Call K.Key) → phase_at (session - 1) self.old.sessions.phases ≡ Open call Rests → OnlyReads self.old self.new) }
-        ensures comes { IfErr result (λ outcome. (call : Call K.Key) → WritesEntry entry.now call → phase_at (session - 1) self.old.sessions.phases ≡ Open call Rests
-            → WritesAs K.Key.Shape K.KeyClass D.state session call
-            (calling session call (work_before begun look) self.old) self.new outcome) }
-        ensures moves { IfErr result (λ outcome. (call : Call K.Key) → WritesEntry entry.now call → phase_at (session - 1) self.old.sessions.phases ≡ Open call Rests → (l : Limits)
-            → Moves (class_of K.Key.Shape K.is_proper l) (reading_of K.said (format_of K.KeyClass)) (format_of K.KeyClass) (is_node (format_of K.KeyClass))
-            (D.state self.old.volume.shelf.disk) (D.state self.new.volume.shelf.disk) session (calling session call (work_before begun look) self.old) self.new outcome
+        ensures goes_on { IfOk result (λ after. (call : Call K.Key) → WritesEntry entry.now call
+            → phase_in session self.old ≡ Open call Rests
+            → MovesOnAs K.Key.Shape K.is_proper K.said K.KeyClass D.state session
+            (calling session call (work_before begun look) self.old) (calling session call (Looks after) self.new)) }
+        ensures reads { OnErr result ((call : Call K.Key) → phase_in session self.old ≡ Open call Rests
+            → OnlyReads self.old self.new) }
+        ensures comes { IfErr result (λ outcome. (call : Call K.Key) → WritesEntry entry.now call
+            → phase_in session self.old ≡ Open call Rests
+            → WritesAs K.Key.Shape K.KeyClass D.state session call (calling session call (work_before begun look)
+            self.old) self.new outcome) }
+        ensures moves { IfErr result (λ outcome. (call : Call K.Key) → WritesEntry entry.now call
+            → phase_in session self.old ≡ Open call Rests
+            → MovesAs K.Key.Shape K.is_proper K.said K.KeyClass D.state session
+            (calling session call (work_before begun look) self.old) self.new outcome
             (write_events session call outcome)) }
         ensures device { IsRead D.state self.old self.new }
     {
@@ -93,28 +95,34 @@ where
         }
     }
 
-    // A write's look begins at the root, or goes on, and reads a page. `Ok` gives the look where nothing is left to read and its pair is
-    // nowhere, and `Err` is what else came of it.
+    // A write's look begins at the root, or goes on, and reads a page. `Ok` gives the look where nothing is left to
+    // read and its pair is nowhere, and `Err` is what else came of it.
     fn write_look(
         &mut self,
         session: u8,
         entry: &Entry<K::Key>,
     ) -> Result<Look<K::Key>, Outcome<K::Key>>
         requires session { is_session session ≡ true }
-        requires looks { (call : Call K.Key) × (work : declared.Work K.Key) × LooksFor entry.now call work (phase_at (session - 1) self.old.sessions.phases) }
+        requires looks { (call : Call K.Key) × (work : declared.Work K.Key)
+            × LooksFor entry.now call work (phase_in session self.old) }
         requires works { self.old.sessions.failed ≡ false }
         ensures done { IfOk result (λ look. length look.stack.items ≡ 0) }
-        ensures rest { OnOk result ((call : Call K.Key) (work : declared.Work K.Key) → LooksFor entry.now call work (phase_at (session - 1) self.old.sessions.phases)
-            → (phase_at (session - 1) self.new.sessions.phases ≡ Open call Rests) × (self.new ≡ calling session call Rests (brought self.old self.new))) }
-        ensures reaches { IfOk result (λ look. (call : Call K.Key) (work : declared.Work K.Key) → LooksFor entry.now call work (phase_at (session - 1) self.old.sessions.phases) → (l : Limits)
-            → Reaches (class_of K.Key.Shape K.is_proper l) (reading_of K.said (format_of K.KeyClass)) (format_of K.KeyClass) (is_node (format_of K.KeyClass))
-            D.state session self.old (calling session call (Looks look) self.new)) }
+        ensures rest { OnOk result ((call : Call K.Key) (work : declared.Work K.Key)
+            → LooksFor entry.now call work (phase_in session self.old)
+            → (phase_in session self.new ≡ Open call Rests) × (self.new
+            ≡ calling session call Rests (brought self.old self.new))) }
+        ensures reaches { IfOk result (λ look. (call : Call K.Key) (work : declared.Work K.Key)
+            → LooksFor entry.now call work (phase_in session self.old)
+            → ReachesAs K.Key.Shape K.is_proper K.said K.KeyClass D.state session self.old
+            (calling session call (Looks look) self.new)) }
         ensures reads { OnErr result (OnlyReads self.old self.new) }
-        ensures comes { IfErr result (λ outcome. (call : Call K.Key) (work : declared.Work K.Key) → LooksFor entry.now call work (phase_at (session - 1) self.old.sessions.phases)
+        ensures comes { IfErr result (λ outcome. (call : Call K.Key) (work : declared.Work K.Key)
+            → LooksFor entry.now call work (phase_in session self.old)
             → WritesAs K.Key.Shape K.KeyClass D.state session call self.old self.new outcome) }
-        ensures moves { IfErr result (λ outcome. (call : Call K.Key) (work : declared.Work K.Key) → LooksFor entry.now call work (phase_at (session - 1) self.old.sessions.phases) → (l : Limits)
-            → Moves (class_of K.Key.Shape K.is_proper l) (reading_of K.said (format_of K.KeyClass)) (format_of K.KeyClass) (is_node (format_of K.KeyClass))
-            (D.state self.old.volume.shelf.disk) (D.state self.new.volume.shelf.disk) session self.old self.new outcome (write_events session call outcome)) }
+        ensures moves { IfErr result (λ outcome. (call : Call K.Key) (work : declared.Work K.Key)
+            → LooksFor entry.now call work (phase_in session self.old)
+            → MovesAs K.Key.Shape K.is_proper K.said K.KeyClass D.state session self.old self.new outcome
+            (write_events session call outcome)) }
         ensures device { IsRead D.state self.old self.new }
     {
         a_class_is_lawful::<K>();
@@ -138,11 +146,11 @@ where
         requires works { self.old.sessions.failed ≡ false }
         requires done { length look.now.stack.items ≡ 0 }
         ensures outcome { result ≡ Outcome.More }
-        ensures descends { (entry : Entry K.Key) → phase_at (session - 1) self.old.sessions.phases ≡ Open (Insert entry) Rests
+        ensures descends { (entry : Entry K.Key) → phase_in session self.old ≡ Open (Insert entry) Rests
             → (work : declared.Work K.Key) × (self.new ≡ calling session (Insert entry) work self.old) }
-        ensures moves { (entry : Entry K.Key) → phase_at (session - 1) self.old.sessions.phases ≡ Open (Insert entry) Rests → (l : Limits)
-            → Moves (class_of K.Key.Shape K.is_proper l) (reading_of K.said (format_of K.KeyClass)) (format_of K.KeyClass) (is_node (format_of K.KeyClass))
-            (D.state self.old.volume.shelf.disk) (D.state self.new.volume.shelf.disk) session (calling session (Insert entry) (Looks look.now) self.old) self.new Outcome.More (Works ∷ []) }
+        ensures moves { (entry : Entry K.Key) → phase_in session self.old ≡ Open (Insert entry) Rests
+            → MovesAs K.Key.Shape K.is_proper K.said K.KeyClass D.state session
+            (calling session (Insert entry) (Looks look.now) self.old) self.new Outcome.More (Works ∷ []) }
         ensures device { IsRead D.state self.old self.new }
     {
         a_class_is_lawful::<K>();
@@ -155,14 +163,14 @@ where
     // A delete's look has ended, and its pair is nowhere.
     fn find_absent(&mut self, session: u8, look: &Look<K::Key>) -> Outcome<K::Key>
         requires session { is_session session ≡ true }
-        requires open { is_open (phase_at (session - 1) self.old.sessions.phases) ≡ true }
+        requires open { is_open (phase_in session self.old) ≡ true }
         requires works { self.old.sessions.failed ≡ false }
         requires done { length look.now.stack.items ≡ 0 }
         ensures outcome { result ≡ Outcome.Replied (Reply.Refused Refusal.Absent) }
         ensures closed { self.new ≡ record self.old { sessions = answered_state session self.old.sessions } }
-        ensures moves { (entry : Entry K.Key) → phase_at (session - 1) self.old.sessions.phases ≡ Open (Delete entry) Rests → (l : Limits)
-            → Moves (class_of K.Key.Shape K.is_proper l) (reading_of K.said (format_of K.KeyClass)) (format_of K.KeyClass) (is_node (format_of K.KeyClass))
-            (D.state self.old.volume.shelf.disk) (D.state self.new.volume.shelf.disk) session (calling session (Delete entry) (Looks look.now) self.old) self.new
+        ensures moves { (entry : Entry K.Key) → phase_in session self.old ≡ Open (Delete entry) Rests
+            → MovesAs K.Key.Shape K.is_proper K.said K.KeyClass D.state session
+            (calling session (Delete entry) (Looks look.now) self.old) self.new
             (Outcome.Replied (Reply.Refused Refusal.Absent)) (FindsAbsent session entry ∷ []) }
         ensures device { IsRead D.state self.old self.new }
     {
@@ -171,22 +179,23 @@ where
         self.close(session, Refusal::Absent)
     }
 
-    /// A move of a session's insert, which is open, while it looks for its pair. Each reads one page, the first one the root: `More`.
-    /// Where the page has the pair, live or marked, the insert seeks it from there on; and where no page is left to read, it descends
-    /// from the root. It makes no write and no sync of the device. The look takes memory for what it stacks and finds, and what comes
-    /// after it takes none.
+    /// A move of a session's insert, which is open, while it looks for its pair. Each reads one page, the first one
+    /// the root: `More`. Where the page has the pair, live or marked, the insert seeks it from there on; and where no
+    /// page is left to read, it descends from the root. It makes no write and no sync of the device. The look takes
+    /// memory for what it stacks and finds, and what comes after it takes none.
     ///
-    /// `Help` where a page couldn't be brought, with what has to happen first; the insert is then at what it was. Refused memory closes
-    /// the call: `Replied(Refused(Memory))`. Where the device failed, or a page didn't read, the engine has failed, and the reply is
-    /// `Device` or `Damaged`.
+    /// `Help` where a page couldn't be brought, with what has to happen first; the insert is then at what it was.
+    /// Refused memory closes the call: `Replied(Refused(Memory))`. Where the device failed, or a page didn't read,
+    /// the engine has failed, and the reply is `Device` or `Damaged`.
     pub(crate) fn insert_look(&mut self, session: u8, entry: Entry<K::Key>) -> Outcome<K::Key>
         requires session { is_session session ≡ true }
-        requires looks { (work : declared.Work K.Key) × (phase_at (session - 1) self.old.sessions.phases ≡ Open (Insert entry) work) × (is_looking work ≡ true) }
+        requires looks { (work : declared.Work K.Key) × (phase_in session self.old ≡ Open (Insert entry) work)
+            × (is_looking work ≡ true) }
         requires works { self.old.sessions.failed ≡ false }
         ensures comes { WritesAs K.Key.Shape K.KeyClass D.state session (Insert entry) self.old self.new result }
         ensures reads { OnlyReads self.old self.new }
-        ensures moves { (l : Limits) → MovesSo (class_of K.Key.Shape K.is_proper l) (reading_of K.said (format_of K.KeyClass)) (format_of K.KeyClass) (is_node (format_of K.KeyClass))
-            (D.state self.old.volume.shelf.disk) (D.state self.new.volume.shelf.disk) session self.old self.new result (AreWriting session (Insert entry) result) }
+        ensures moves { MovesSoAs K.Key.Shape K.is_proper K.said K.KeyClass D.state session self.old self.new result
+            (AreWriting session (Insert entry) result) }
         ensures device { IsRead D.state self.old self.new }
     {
         a_class_is_lawful::<K>();
@@ -196,16 +205,17 @@ where
         }
     }
 
-    /// A move of a session's delete, which is open, while it looks for its pair: as an insert's, but where no page is left to read the
-    /// pair is nowhere, and the reply is `Refused(Absent)`.
+    /// A move of a session's delete, which is open, while it looks for its pair: as an insert's, but where no page is
+    /// left to read the pair is nowhere, and the reply is `Refused(Absent)`.
     pub(crate) fn delete_look(&mut self, session: u8, entry: Entry<K::Key>) -> Outcome<K::Key>
         requires session { is_session session ≡ true }
-        requires looks { (work : declared.Work K.Key) × (phase_at (session - 1) self.old.sessions.phases ≡ Open (Delete entry) work) × (is_looking work ≡ true) }
+        requires looks { (work : declared.Work K.Key) × (phase_in session self.old ≡ Open (Delete entry) work)
+            × (is_looking work ≡ true) }
         requires works { self.old.sessions.failed ≡ false }
         ensures comes { WritesAs K.Key.Shape K.KeyClass D.state session (Delete entry) self.old self.new result }
         ensures reads { OnlyReads self.old self.new }
-        ensures moves { (l : Limits) → MovesSo (class_of K.Key.Shape K.is_proper l) (reading_of K.said (format_of K.KeyClass)) (format_of K.KeyClass) (is_node (format_of K.KeyClass))
-            (D.state self.old.volume.shelf.disk) (D.state self.new.volume.shelf.disk) session self.old self.new result (AreWriting session (Delete entry) result) }
+        ensures moves { MovesSoAs K.Key.Shape K.is_proper K.said K.KeyClass D.state session self.old self.new result
+            (AreWriting session (Delete entry) result) }
         ensures device { IsRead D.state self.old self.new }
     {
         a_class_is_lawful::<K>();

@@ -3,22 +3,17 @@ ghost use Rattle.std.specs.Prelude.{◌≡◌, ◌-◌, ℕ, not, true, false, I
 ghost use Rattle.gx_machine.specs.declared.call.Call.TheVariants.{Delete, Insert};
 ghost use Rattle.gx_machine.specs.Keys.{keys_of};
 ghost use Rattle.gx_machine.specs.Machine.{is_session};
-ghost use Rattle.gx_node.specs.Reading.{format_of, is_node};
-ghost use Rattle.gx_recovery.specs.Known.{Limits};
-ghost use Rattle.gx_readings.specs.Classes.{class_of, reading_of};
 ghost use Rattle.gx_tree.specs.declared.seek.Sought.TheVariants.{Here};
 ghost use Rattle.gx_phases.specs.declared.phase.Phase.TheVariants.{Open};
 ghost use Rattle.gx_phases.specs.Moves.{transaction_of};
-ghost use Rattle.gx_phases.specs.States.{phase_at};
 ghost use Rattle.gx_storage.specs.Bringing.{bringing};
-ghost use Rattle.gx_storage.specs.Changes.{IsUnlogged, known_at};
 ghost use Rattle.gx_engine.specs.Calls.{IsRead};
 ghost use Rattle.gx_engine.specs.declared.work.Work.TheVariants.{Seeks};
-ghost use Rattle.gx_engine.specs.Moves.{Moves};
-ghost use Rattle.gx_engine.specs.Seeking.{IsSought, IsUnsought, SeeksAs, set_outcome, set_state, standing_refusal, write_call, written_reply};
+ghost use Rattle.gx_engine.specs.Seeks.{SeeksAs, set_outcome, set_state, standing_refusal, write_call, written_reply};
 ghost use Rattle.gx_engine.specs.States.{is_due};
-ghost use Rattle.gx_engine.specs.Undoing.{Seeking};
-ghost use Rattle.gx_engine.specs.Writing.{WritesAs, write_events};
+ghost use Rattle.gx_engine.specs.Writes.{WritesAs, write_events};
+ghost use Rattle.gx_storage.specs.Setting.{UnloggedAs};
+ghost use Rattle.gx_engine.specs.Setting.{IsSoughtAs, IsUnsoughtAs, MovesAs, SeekingAs, phase_in};
 
 use crate::Engine;
 use crate::laws::a_class_is_lawful;
@@ -56,8 +51,8 @@ fn standing(marked: bool) -> Refusal
 }
 
 impl<D: SectorDisk, K: ReadKeys> Engine<D, K> {
-    // What is noted of a write: it was made in this leaf, with the mark that was found, and is answered; or its pair is sought further to
-    // the right.
+    // What is noted of a write: it was made in this leaf, with the mark that was found, and is answered; or its pair
+    // is sought further to the right.
     fn note_set(
         &mut self,
         session: u8,
@@ -67,9 +62,10 @@ impl<D: SectorDisk, K: ReadKeys> Engine<D, K> {
         sought: Sought,
     ) -> Outcome<K::Key>
         requires session { is_session session ≡ true }
-        requires seeks { phase_at (session - 1) self.old.sessions.phases ≡ Open (write_call marked entry) (Seeks leaf) }
+        requires seeks { phase_in session self.old ≡ Open (write_call marked entry) (Seeks leaf) }
         ensures outcome { result ≡ set_outcome marked sought }
-        ensures noted { self.new ≡ record self.old { sessions = set_state (keys_of K.Key.Shape) session entry leaf marked sought self.old.sessions } }
+        ensures noted { self.new ≡ record self.old
+            { sessions = set_state (keys_of K.Key.Shape) session entry leaf marked sought self.old.sessions } }
         ensures device { IsRead D.state self.old self.new }
     {
         match sought {
@@ -99,9 +95,9 @@ where
     ) -> Result<Sought, StepFault<StoreFault>>
         requires session { is_session session ≡ true }
         requires early { is_due self.old ≡ false }
-        ensures sought { Seeking (known_at K.Key.Shape K.is_proper) (reading_of K.said (format_of K.KeyClass)) (format_of K.KeyClass) (is_node (format_of K.KeyClass)) K.is_key (keys_of K.Key.Shape)
-            K.spelling K.KEY (D.state self.old.volume.shelf.disk) (D.state self.new.volume.shelf.disk) self.old.volume self.new.volume (transaction_of session self.old.sessions)
-            (record { entry = entry.now; before = marked; leaf = leaf }) leaf result }
+        ensures sought { SeekingAs K.Key.Shape K.is_proper K.said K.KeyClass D.state self.old.volume self.new.volume
+            (transaction_of session self.old.sessions) (record { entry = entry.now; before = marked; leaf = leaf }) leaf
+            result }
         ensures only { self.new ≡ record self.old { volume = self.new.volume } }
         ensures device { IsRead D.state self.old self.new }
     {
@@ -117,11 +113,11 @@ where
         entry: &Entry<K::Key>,
         leaf: u32,
     ) -> Result<Sought, StepFault<StoreFault>>
-        ensures unlogged { IsUnlogged (known_at K.Key.Shape K.is_proper) (reading_of K.said (format_of K.KeyClass)) (format_of K.KeyClass) (is_node (format_of K.KeyClass))
-            (bringing self.old.volume) (D.state self.old.volume.shelf.disk) (D.state self.new.volume.shelf.disk) self.old.volume self.new.volume }
-        ensures sought { IfOk result (IsSought (format_of K.KeyClass) K.is_key (keys_of K.Key.Shape) (D.state self.new.volume.shelf.disk) self.new.volume entry.now leaf) }
-        ensures refused { IfErr result (IsUnsought (format_of K.KeyClass) K.is_key (keys_of K.Key.Shape) (is_node (format_of K.KeyClass))
-            (D.state self.old.volume.shelf.disk) (D.state self.new.volume.shelf.disk) self.old.volume self.new.volume leaf) }
+        ensures unlogged { UnloggedAs K.Key.Shape K.is_proper K.said K.KeyClass D.state (bringing self.old.volume)
+            self.old.volume self.new.volume }
+        ensures sought { IfOk result (IsSoughtAs K.Key.Shape K.KeyClass D.state self.new.volume entry.now leaf) }
+        ensures refused { IfErr result (IsUnsoughtAs K.Key.Shape K.KeyClass D.state self.old.volume self.new.volume
+            leaf) }
         ensures only { self.new ≡ record self.old { volume = self.new.volume } }
         ensures device { IsRead D.state self.old self.new }
     {
@@ -129,8 +125,8 @@ where
         self.storage.seek_step(&wanted, leaf)
     }
 
-    // A write whose pair stands in this leaf with the other mark, while no checkpoint is due: the mark is set, and that is logged, noted
-    // and answered.
+    // A write whose pair stands in this leaf with the other mark, while no checkpoint is due: the mark is set, and
+    // that is logged, noted and answered.
     fn set_found(
         &mut self,
         session: u8,
@@ -139,13 +135,14 @@ where
         marked: bool,
     ) -> Outcome<K::Key>
         requires session { is_session session ≡ true }
-        requires seeks { phase_at (session - 1) self.old.sessions.phases ≡ Open (write_call marked entry) (Seeks leaf) }
+        requires seeks { phase_in session self.old ≡ Open (write_call marked entry) (Seeks leaf) }
         requires works { self.old.sessions.failed ≡ false }
         requires early { is_due self.old ≡ false }
-        requires found { (slot : ℕ) × IsSought (format_of K.KeyClass) K.is_key (keys_of K.Key.Shape) (D.state self.old.volume.shelf.disk) self.old.volume entry leaf (Here slot (not marked)) }
+        requires found { (slot : ℕ) × IsSoughtAs K.Key.Shape K.KeyClass D.state self.old.volume entry leaf
+            (Here slot (not marked)) }
         ensures comes { SeeksAs K.Key.Shape K.KeyClass D.state session entry leaf marked self.old self.new result }
-        ensures moves { (l : Limits) → Moves (class_of K.Key.Shape K.is_proper l) (reading_of K.said (format_of K.KeyClass)) (format_of K.KeyClass) (is_node (format_of K.KeyClass))
-            (D.state self.old.volume.shelf.disk) (D.state self.new.volume.shelf.disk) session self.old self.new result (write_events session (write_call marked entry) result) }
+        ensures moves { MovesAs K.Key.Shape K.is_proper K.said K.KeyClass D.state session self.old self.new result
+            (write_events session (write_call marked entry) result) }
         ensures device { IsRead D.state self.old self.new }
     {
         a_class_is_lawful::<K>();
@@ -163,8 +160,8 @@ where
         }
     }
 
-    // What comes of a write whose pair was sought: it is sought further to the right; or it stands as the write would leave it, and the
-    // call is closed; or its mark is set, once no checkpoint is due.
+    // What comes of a write whose pair was sought: it is sought further to the right; or it stands as the write would
+    // leave it, and the call is closed; or its mark is set, once no checkpoint is due.
     fn write_sought(
         &mut self,
         session: u8,
@@ -174,12 +171,12 @@ where
         sought: Sought,
     ) -> Outcome<K::Key>
         requires session { is_session session ≡ true }
-        requires seeks { phase_at (session - 1) self.old.sessions.phases ≡ Open (write_call marked entry) (Seeks leaf) }
+        requires seeks { phase_in session self.old ≡ Open (write_call marked entry) (Seeks leaf) }
         requires works { self.old.sessions.failed ≡ false }
-        requires found { IsSought (format_of K.KeyClass) K.is_key (keys_of K.Key.Shape) (D.state self.old.volume.shelf.disk) self.old.volume entry leaf sought }
+        requires found { IsSoughtAs K.Key.Shape K.KeyClass D.state self.old.volume entry leaf sought }
         ensures comes { SeeksAs K.Key.Shape K.KeyClass D.state session entry leaf marked self.old self.new result }
-        ensures moves { (l : Limits) → Moves (class_of K.Key.Shape K.is_proper l) (reading_of K.said (format_of K.KeyClass)) (format_of K.KeyClass) (is_node (format_of K.KeyClass))
-            (D.state self.old.volume.shelf.disk) (D.state self.new.volume.shelf.disk) session self.old self.new result (write_events session (write_call marked entry) result) }
+        ensures moves { MovesAs K.Key.Shape K.is_proper K.said K.KeyClass D.state session self.old self.new result
+            (write_events session (write_call marked entry) result) }
         ensures device { IsRead D.state self.old self.new }
     {
         a_class_is_lawful::<K>();
@@ -211,11 +208,11 @@ where
         marked: bool,
     ) -> Outcome<K::Key>
         requires session { is_session session ≡ true }
-        requires seeks { phase_at (session - 1) self.old.sessions.phases ≡ Open (write_call marked entry) (Seeks leaf) }
+        requires seeks { phase_in session self.old ≡ Open (write_call marked entry) (Seeks leaf) }
         requires works { self.old.sessions.failed ≡ false }
         ensures comes { SeeksAs K.Key.Shape K.KeyClass D.state session entry leaf marked self.old self.new result }
-        ensures moves { (l : Limits) → Moves (class_of K.Key.Shape K.is_proper l) (reading_of K.said (format_of K.KeyClass)) (format_of K.KeyClass) (is_node (format_of K.KeyClass))
-            (D.state self.old.volume.shelf.disk) (D.state self.new.volume.shelf.disk) session self.old self.new result (write_events session (write_call marked entry) result) }
+        ensures moves { MovesAs K.Key.Shape K.is_proper K.said K.KeyClass D.state session self.old self.new result
+            (write_events session (write_call marked entry) result) }
         ensures device { IsRead D.state self.old self.new }
     {
         a_class_is_lawful::<K>();
@@ -230,14 +227,16 @@ where
         }
     }
 
-    /// A move of a session's insert, which is open, while it seeks its pair, which stands in this leaf or to the right of it. Where it isn't
-    /// in this leaf, the insert seeks it in the next one: `More`. Where it is live, the call is closed: `Replied(Refused(Present))`, and
-    /// nothing is logged. Where it is marked, the mark is cleared, which is logged and noted: `Replied(Inserted)`. It makes no write and no
-    /// sync of the device, and takes no memory.
+    /// A move of a session's insert, which is open, while it seeks its pair, which stands in this leaf or to the
+    /// right of it. Where it isn't in this leaf, the insert seeks it in the next one: `More`. Where it is live, the
+    /// call is closed: `Replied(Refused(Present))`, and nothing is logged. Where it is marked, the mark is cleared,
+    /// which is logged and noted: `Replied(Inserted)`. It makes no write and no sync of the device, and takes no
+    /// memory.
     ///
-    /// `Help(Checkpoint)` where the mark is to be cleared while a checkpoint runs or 24 places of the extent are taken; `Help` where the
-    /// record doesn't fit the batch that fills or a page couldn't be brought, with what has to happen first. The insert is then at what it
-    /// was. Where the device failed, or a page didn't read, the engine has failed, and the reply is `Device` or `Damaged`.
+    /// `Help(Checkpoint)` where the mark is to be cleared while a checkpoint runs or 24 places of the extent are
+    /// taken; `Help` where the record doesn't fit the batch that fills or a page couldn't be brought, with what has
+    /// to happen first. The insert is then at what it was. Where the device failed, or a page didn't read, the engine
+    /// has failed, and the reply is `Device` or `Damaged`.
     pub(crate) fn insert_at(
         &mut self,
         session: u8,
@@ -245,18 +244,18 @@ where
         leaf: u32,
     ) -> Outcome<K::Key>
         requires session { is_session session ≡ true }
-        requires seeks { phase_at (session - 1) self.old.sessions.phases ≡ Open (Insert entry) (Seeks leaf) }
+        requires seeks { phase_in session self.old ≡ Open (Insert entry) (Seeks leaf) }
         requires works { self.old.sessions.failed ≡ false }
         ensures comes { WritesAs K.Key.Shape K.KeyClass D.state session (Insert entry) self.old self.new result }
-        ensures moves { (l : Limits) → Moves (class_of K.Key.Shape K.is_proper l) (reading_of K.said (format_of K.KeyClass)) (format_of K.KeyClass) (is_node (format_of K.KeyClass))
-            (D.state self.old.volume.shelf.disk) (D.state self.new.volume.shelf.disk) session self.old self.new result (write_events session (Insert entry) result) }
+        ensures moves { MovesAs K.Key.Shape K.is_proper K.said K.KeyClass D.state session self.old self.new result
+            (write_events session (Insert entry) result) }
         ensures device { IsRead D.state self.old self.new }
     {
         self.write_at(session, entry, leaf, false)
     }
 
-    /// A move of a session's delete, which is open, while it seeks its pair: as an insert's, but the mark is set where the pair is live,
-    /// `Replied(Deleted)`, and where it is marked the reply is `Refused(Absent)`.
+    /// A move of a session's delete, which is open, while it seeks its pair: as an insert's, but the mark is set
+    /// where the pair is live, `Replied(Deleted)`, and where it is marked the reply is `Refused(Absent)`.
     pub(crate) fn delete_at(
         &mut self,
         session: u8,
@@ -264,11 +263,11 @@ where
         leaf: u32,
     ) -> Outcome<K::Key>
         requires session { is_session session ≡ true }
-        requires seeks { phase_at (session - 1) self.old.sessions.phases ≡ Open (Delete entry) (Seeks leaf) }
+        requires seeks { phase_in session self.old ≡ Open (Delete entry) (Seeks leaf) }
         requires works { self.old.sessions.failed ≡ false }
         ensures comes { WritesAs K.Key.Shape K.KeyClass D.state session (Delete entry) self.old self.new result }
-        ensures moves { (l : Limits) → Moves (class_of K.Key.Shape K.is_proper l) (reading_of K.said (format_of K.KeyClass)) (format_of K.KeyClass) (is_node (format_of K.KeyClass))
-            (D.state self.old.volume.shelf.disk) (D.state self.new.volume.shelf.disk) session self.old self.new result (write_events session (Delete entry) result) }
+        ensures moves { MovesAs K.Key.Shape K.is_proper K.said K.KeyClass D.state session self.old self.new result
+            (write_events session (Delete entry) result) }
         ensures device { IsRead D.state self.old self.new }
     {
         self.write_at(session, entry, leaf, true)

@@ -1,4 +1,5 @@
-//! Events of an engine, one after another beside the machine: a session's next event is what its driver says, or its next ask.
+//! Events of an engine, one after another beside the machine: a session's next event is what its driver says, or its
+//! next ask.
 use gx_class::Box2Class;
 use gx_disk::{FuseDisk, MemDisk};
 use gx_engine::Engine;
@@ -42,7 +43,8 @@ fn is_asked(outcome: &Outcome<Box2>, asked: &Asked<Box2>) -> bool {
     }
 }
 
-// Whether a call that went on is answered as by the machine, or not yet. A commit that is sealed is sealed there, under the same number.
+// Whether a call that went on is answered as by the machine, or not yet. A commit that is sealed is sealed there, under
+// the same number.
 fn is_moved(plain: &mut Plain, session: u8, sealed: Option<u64>, outcome: &Outcome<Box2>) -> bool {
     match outcome {
         Outcome::More => sealed.is_none() || plain.seal(session) == sealed,

@@ -1,11 +1,14 @@
 //! What is damaged in the pages of a device.
 ghost use Rattle.std.specs.Prelude.{◌≡◌, ◌≤◌, ◌+◌, ◌*◌, ℕ, true, IfSome};
+ghost use Rattle.gx_store.specs.State.{IsSteady};
+ghost use Rattle.gx_disk.specs.declared.layout.TheConstants.{MAX_PAGES, PAGES_AT, PAGE_SECTORS};
 ghost use Rattle.gx_legality.specs.declared.fault.Rule.{Rule as RuleOf};
 ghost use Rattle.gx_node.specs.Reading.{format_of, is_node};
-ghost use Rattle.gx_opening.specs.Sound.{IsSteadyStore, OnlyReadsStore};
+ghost use Rattle.gx_opening.specs.Sound.{OnlyReadsStore};
 ghost use Rattle.gx_pool.specs.Bringing.{OnlyRead};
 ghost use Rattle.gx_node.specs.Keyed.{rules_of};
-ghost use Rattle.gx_opening.specs.Shown.{IsUnreadable, PagesShow, TreeShows};
+ghost use Rattle.gx_opening.specs.Shown.{IsUnreadable, TreeShows};
+ghost use Rattle.gx_opening.specs.Setting.{PagesShowAs};
 
 use super::Damage;
 use crate::notes_of;
@@ -31,9 +34,11 @@ fn unreadable<D: SectorDisk, K: ReadKeys>(
     disk: &mut D,
     used: u32,
 ) -> Option<u32>
-    requires inside { (used ≤ 65536) × (4168 + 8 * used ≤ (D.state disk.old).sectors) }
+    requires inside { (used ≤ MAX_PAGES) × (PAGES_AT + PAGE_SECTORS * used ≤ (D.state disk.old).sectors) }
     ensures read { OnlyRead (D.state disk.old) (D.state disk.new) }
-    ensures shows { (D.state disk.old).honest ≡ true → IfSome result (IsUnreadable (is_node (format_of K.KeyClass) pool.old.test.pages) used (D.state disk.old).seen) }
+    ensures shows { (D.state disk.old).honest ≡ true
+        → IfSome result (IsUnreadable (is_node (format_of K.KeyClass) pool.old.test.pages)
+        used (D.state disk.old).seen) }
 {
     for before in 0..used {
         match pool.bring_one(disk, before + 1) {
@@ -46,7 +51,8 @@ fn unreadable<D: SectorDisk, K: ReadKeys>(
 
 // What a fault of a test tells.
 fn broken(fault: LegalityFault<StoreFault>) -> Option<Damage>
-    ensures { IfSome result (λ damage. (page : ℕ) × (rule : RuleOf) × (fault ≡ LegalityFault.Broken page rule) × (damage ≡ Damage.Broken page rule)) }
+    ensures { IfSome result (λ damage. (page : ℕ) × (rule : RuleOf) × (fault ≡ LegalityFault.Broken page rule)
+        × (damage ≡ Damage.Broken page rule)) }
 {
     match fault {
         LegalityFault::Broken(page, rule) => Some(Damage::Broken(page, rule)),
@@ -62,8 +68,9 @@ fn in_tree<D: SectorDisk, K: ReadKeys>(
     touched: &[Touch<Entry<K::Key>>],
 ) -> Option<Damage>
     ensures reads { OnlyReadsStore (format_of K.KeyClass) (is_node (format_of K.KeyClass)) D.state store.old store.new }
-    ensures shows { IsSteadyStore (format_of K.KeyClass) (is_node (format_of K.KeyClass)) D.state store.old
-        → IfSome result (TreeShows (format_of K.KeyClass) (rules_of K.Key.Shape most) touched.now (D.state store.old.disk).seen store.old) }
+    ensures shows { IsSteady (D.state store.old.disk) store.old.frames
+        → IfSome result (TreeShows (format_of K.KeyClass) (rules_of K.Key.Shape most) touched.now
+        (D.state store.old.disk).seen store.old) }
 {
     going_on::<D, K>();
     let Ok(notes) = notes_of(alloc, touched) else {
@@ -86,11 +93,11 @@ fn over_frames<D: SectorDisk, K: ReadKeys>(
     pages: u32,
     most: u16,
 ) -> (D, Option<Damage>)
-    requires inside { (pages ≤ 65536) × (4168 + 8 * pages ≤ (D.state disk).sectors) }
+    requires inside { (pages ≤ MAX_PAGES) × (PAGES_AT + PAGE_SECTORS * pages ≤ (D.state disk).sectors) }
     requires fits { analysis.now.told.used ≤ pages }
     ensures read { OnlyRead (D.state disk) (D.state result.0) }
     ensures shows { (D.state disk).honest ≡ true
-        → IfSome result.1 (PagesShow D (format_of K.KeyClass) (is_node (format_of K.KeyClass) pages) (rules_of K.Key.Shape most) pages analysis.now.told (D.state disk).seen) }
+        → IfSome result.1 (PagesShowAs D K.Key.Shape K.KeyClass pages most analysis.now.told (D.state disk).seen) }
 {
     a_store_starts::<D, K>();
     going_on::<D, K>();
@@ -102,8 +109,8 @@ fn over_frames<D: SectorDisk, K: ReadKeys>(
     (store.into_disk(), damage)
 }
 
-/// What is damaged in the pages of a device of so many, with so many entries a node at most, by what its log tells. The device is handed
-/// back.
+/// What is damaged in the pages of a device of so many, with so many entries a node at most,
+/// by what its log tells. The device is handed back.
 pub(crate) fn in_pages<D: SectorDisk, K: ReadKeys>(
     alloc: Global,
     disk: D,
@@ -111,10 +118,10 @@ pub(crate) fn in_pages<D: SectorDisk, K: ReadKeys>(
     pages: u32,
     most: u16,
 ) -> (D, Option<Damage>)
-    requires inside { (pages ≤ 65536) × (4168 + 8 * pages ≤ (D.state disk).sectors) }
+    requires inside { (pages ≤ MAX_PAGES) × (PAGES_AT + PAGE_SECTORS * pages ≤ (D.state disk).sectors) }
     ensures read { OnlyRead (D.state disk) (D.state result.0) }
     ensures shows { (D.state disk).honest ≡ true
-        → IfSome result.1 (PagesShow D (format_of K.KeyClass) (is_node (format_of K.KeyClass) pages) (rules_of K.Key.Shape most) pages analysis.now.told (D.state disk).seen) }
+        → IfSome result.1 (PagesShowAs D K.Key.Shape K.KeyClass pages most analysis.now.told (D.state disk).seen) }
 {
     let used = analysis.used();
     if pages < used {

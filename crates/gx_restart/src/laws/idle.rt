@@ -11,7 +11,8 @@ use gx_readings::ReadKeys;
 /// An engine that was opened over an honest device is seen as a machine with one set, under the number of the log that
 /// was found, and eight sessions of which none has a transaction.
 pub fn an_opened_engine_is_idle<D: SectorDisk, K: ReadKeys>()
-    ensures { (disk : D) (engine : Parts K.Key D) → IsOpened K.Key.Shape K.is_proper K.said (format_of K.KeyClass) K.CLASS
+    ensures { (disk : D) (engine : Parts K.Key D)
+        → IsOpened K.Key.Shape K.is_proper K.said (format_of K.KeyClass) K.CLASS
         (D.state disk) (D.state engine.volume.shelf.disk) engine
         → IsSeenIdle K.Key.Shape K.is_proper K.said (format_of K.KeyClass) (D.state engine.volume.shelf.disk) engine }
 {

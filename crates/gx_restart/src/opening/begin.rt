@@ -1,5 +1,6 @@
 //! An engine over what stands on a device: the gates behind its log are closed, and it starts there.
 ghost use Rattle.std.specs.Prelude.{◌≡◌, ◌≤◌, ◌<◌, ◌+◌, ◌*◌, ℕ, false, true, IfOk, MatchResult};
+ghost use Rattle.gx_disk.specs.declared.layout.TheConstants.{PAGES_AT, PAGE_SECTORS};
 ghost use Rattle.gx_node.specs.Reading.{format_of};
 ghost use Rattle.gx_opening.specs.Formatted.{IsAllowed};
 ghost use Rattle.gx_opening.specs.Standing.{MayStart, Stands};
@@ -40,11 +41,11 @@ fn start_of<B: Shape>(
     })
 }
 
-/// Closes the gates behind the log that stands on a device, and starts an engine there: a checkpoint runs, each transaction that a crash cut
-/// off has a session that undoes it, and the other sessions are free.
+/// Closes the gates behind the log that stands on a device, and starts an engine there: a checkpoint runs, each
+/// transaction that a crash cut off has a session that undoes it, and the other sessions are free.
 ///
-/// Refused with `Device` where a call fails, and with `Memory`. On an honest device, at each moment, also where it is refused, what a
-/// crash may leave stands for the set that the log keeps, under its number.
+/// Refused with `Device` where a call fails, and with `Memory`. On an honest device, at each moment, also where it is
+/// refused, what a crash may leave stands for the set that the log keeps, under its number.
 pub(crate) fn begin<D: SectorDisk, K: ReadKeys>(
     alloc: Global,
     disk: D,
@@ -53,16 +54,21 @@ pub(crate) fn begin<D: SectorDisk, K: ReadKeys>(
 ) -> Result<Engine<D, K>, NotOpened<D>>
     requires start { MayStart standing.now }
     requires allowed { IsAllowed K.CLASS standing.now.parameters }
-    requires inside { 4168 + 8 * standing.now.parameters.pages ≤ (D.state disk).sectors }
+    requires inside { PAGES_AT + PAGE_SECTORS * standing.now.parameters.pages ≤ (D.state disk).sectors }
     requires frames { (16 ≤ frames) × (frames ≤ 4096) }
-    ensures device { MatchResult result (λ engine. IsSameDevice (D.state disk) (D.state engine.volume.shelf.disk)) (λ n. IsSameDevice (D.state disk) (D.state n.disk)) }
-    ensures faults { MatchResult result (λ engine. (D.state disk).faults ≤ (D.state engine.volume.shelf.disk).faults) (λ n. n.why ≡ Refusal.Device → (D.state disk).faults < (D.state n.disk).faults) }
+    ensures device { MatchResult result (λ engine. IsSameDevice (D.state disk) (D.state engine.volume.shelf.disk))
+        (λ n. IsSameDevice (D.state disk) (D.state n.disk)) }
+    ensures faults { MatchResult result (λ engine. (D.state disk).faults ≤ (D.state engine.volume.shelf.disk).faults)
+        (λ n. n.why ≡ Refusal.Device → (D.state disk).faults < (D.state n.disk).faults) }
     ensures undoes { IfOk result OnlyUndoes }
     ensures works { IfOk result (λ engine. engine.sessions.failed ≡ false) }
-    ensures begun { (a : D) → (D.state disk).honest ≡ true → Stands K.Key.Shape K.is_proper K.said (format_of K.KeyClass) K.CLASS (D.state a) (D.state disk) standing.now
+    ensures begun { (a : D) → (D.state disk).honest ≡ true
+        → Stands K.Key.Shape K.is_proper K.said (format_of K.KeyClass) K.CLASS (D.state a) (D.state disk) standing.now
         → MatchResult result
-        (λ engine. HasBegun K.Key.Shape K.is_proper K.said (format_of K.KeyClass) standing.now.parameters (D.state a).seen (D.state disk) (D.state engine.volume.shelf.disk) engine)
-        (λ n. HasNotBegun K.Key.Shape K.is_proper K.said (format_of K.KeyClass) standing.now.parameters (D.state a).seen (D.state disk) (D.state n.disk) n.why) }
+        (λ engine. HasBegun K.Key.Shape K.is_proper K.said (format_of K.KeyClass) standing.now.parameters
+        (D.state a).seen (D.state disk) (D.state engine.volume.shelf.disk) engine)
+        (λ n. HasNotBegun K.Key.Shape K.is_proper K.said (format_of K.KeyClass) standing.now.parameters (D.state a).seen
+        (D.state disk) (D.state n.disk) n.why) }
 {
     a_class_is_lawful::<K>();
     a_log_tells_who_was_cut_off::<K::Key>();

@@ -22,7 +22,8 @@ where
     requires works { engine.old.sessions.failed ≡ false }
     ensures goes { GoesBy (Makes K.Key.Shape K.is_proper K.said K.KeyClass D.state) engine.old engine.new }
     ensures ended { IfOk result (λ _. WorksOff engine.new) }
-    ensures why { IfErr result (λ why. WhyStopped (Makes K.Key.Shape K.is_proper K.said K.KeyClass D.state) engine.old why engine.new) }
+    ensures why { IfErr result
+        (λ why. WhyStopped (Makes K.Key.Shape K.is_proper K.said K.KeyClass D.state) engine.old why engine.new) }
 {
     match repeat(engine, Event::CheckpointStep) {
         Some(ends) => ends,
@@ -54,7 +55,8 @@ where
     ensures goes { GoesBy (Makes K.Key.Shape K.is_proper K.said K.KeyClass D.state) engine.old engine.new }
     ensures undone { IfOk result (λ _. IsFreeAt (session - 1) engine.new) }
     ensures works { IfOk result (λ _. WorksOff engine.new) }
-    ensures why { IfErr result (λ why. WhyStopped (Makes K.Key.Shape K.is_proper K.said K.KeyClass D.state) engine.old why engine.new) }
+    ensures why { IfErr result
+        (λ why. WhyStopped (Makes K.Key.Shape K.is_proper K.said K.KeyClass D.state) engine.old why engine.new) }
 {
     undone(drive(engine, session, Event::Move(session)))
 }
@@ -68,7 +70,8 @@ where
     ensures goes { GoesBy (Makes K.Key.Shape K.is_proper K.said K.KeyClass D.state) engine.old engine.new }
     ensures free { IfOk result (λ _. AreFreeBelow 8 engine.new) }
     ensures works { IfOk result (λ _. WorksOff engine.new) }
-    ensures why { IfErr result (λ why. WhyStopped (Makes K.Key.Shape K.is_proper K.said K.KeyClass D.state) engine.old why engine.new) }
+    ensures why { IfErr result
+        (λ why. WhyStopped (Makes K.Key.Shape K.is_proper K.said K.KeyClass D.state) engine.old why engine.new) }
 {
     for place in 0..8u8 {
         match undo(engine, place + 1) {
@@ -79,10 +82,11 @@ where
     Ok(())
 }
 
-/// Ends the checkpoint that an engine began with, and undoes what a crash cut off: no session has a transaction then, and no checkpoint runs.
+/// Ends the checkpoint that an engine began with, and undoes what a crash cut off: no session has a transaction then,
+/// and no checkpoint runs.
 ///
-/// Refused as the event was that was refused, and with `Damaged` where 2^56 events of a session take no end, as they may on a device that lies.
-/// It takes no memory.
+/// Refused as the event was that was refused, and with `Damaged` where 2^56 events of a session take no end, as they
+/// may on a device that lies. It takes no memory.
 pub(crate) fn finish<D: SectorDisk, K: ReadKeys + Probing>(
     engine: &mut Engine<D, K>,
 ) -> Result<(), Refusal>
@@ -93,7 +97,8 @@ where
     ensures goes { GoesBy (Makes K.Key.Shape K.is_proper K.said K.KeyClass D.state) engine.old engine.new }
     ensures free { IfOk result (λ _. AreFreeBelow 8 engine.new) }
     ensures works { IfOk result (λ _. WorksOff engine.new) }
-    ensures why { IfErr result (λ why. WhyStopped (Makes K.Key.Shape K.is_proper K.said K.KeyClass D.state) engine.old why engine.new) }
+    ensures why { IfErr result
+        (λ why. WhyStopped (Makes K.Key.Shape K.is_proper K.said K.KeyClass D.state) engine.old why engine.new) }
 {
     match end_checkpoint(engine) {
         Ok(()) => undo_all(engine),

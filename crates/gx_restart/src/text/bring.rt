@@ -35,7 +35,8 @@ fn help<D: SectorDisk, K: ReadKeys>(engine: &mut Engine<D, K>, named: Need) -> R
 fn take<D: SectorDisk, K: ReadKeys>(engine: &mut Engine<D, K>, page: u32) -> Result<bool, Refusal>
     requires from { 1 ≤ page }
     requires to { page ≤ engine.old.volume.shelf.used }
-    ensures taken { IsTaken (Brings K.Key.Shape K.is_proper K.said K.KeyClass D.state page) (Helps K.Key.Shape K.is_proper K.said K.KeyClass D.state) engine.old result engine.new }
+    ensures taken { IsTaken (Brings K.Key.Shape K.is_proper K.said K.KeyClass D.state page)
+        (Helps K.Key.Shape K.is_proper K.said K.KeyClass D.state) engine.old result engine.new }
     ensures held { IfOk result (λ brought. brought ≡ true → IsHeld engine.new.volume.shelf page) }
 {
     match engine.bring_page(page) {
@@ -49,17 +50,20 @@ fn take<D: SectorDisk, K: ReadKeys>(engine: &mut Engine<D, K>, page: u32) -> Res
     }
 }
 
-/// Brings a page that is taken into a frame, where it is held until pages are brought again. Where it finds no frame, the events are made
-/// that give one: steps of the log and of a checkpoint, and writes of pages. No node changes, and no set, claim, predicate or open call.
+/// Brings a page that is taken into a frame, where it is held until pages are brought again. Where it finds no frame,
+/// the events are made that give one: steps of the log and of a checkpoint, and writes of pages. No node changes, and
+/// no set, claim, predicate or open call.
 ///
-/// `Refused` as an event was, and `GivenUp` where it isn't brought within `EVENTS` turns of one or two events. It takes no memory.
+/// `Refused` as an event was, and `GivenUp` where it isn't brought within `EVENTS` turns of one or two events. It takes
+/// no memory.
 pub(crate) fn bring<D: SectorDisk, K: ReadKeys>(
     engine: &mut Engine<D, K>,
     page: u32,
 ) -> Result<(), Stop>
     requires from { 1 ≤ page }
     requires to { page ≤ engine.old.volume.shelf.used }
-    ensures brought { IsBrought (Brings K.Key.Shape K.is_proper K.said K.KeyClass D.state page) (Helps K.Key.Shape K.is_proper K.said K.KeyClass D.state) engine.old result engine.new }
+    ensures brought { IsBrought (Brings K.Key.Shape K.is_proper K.said K.KeyClass D.state page)
+        (Helps K.Key.Shape K.is_proper K.said K.KeyClass D.state) engine.old result engine.new }
     ensures held { OnOk result (IsHeld engine.new.volume.shelf page) }
 {
     for _turn in 0..EVENTS {

@@ -30,7 +30,8 @@ pub(crate) fn put_head<W: Write>(
     counter: u64,
 ) -> Result<(), Stop>
     ensures ok { OnOk result (IsPut
-        (W.contents writer.old.inner) (W.contents writer.new.inner) lines.old (head_line number used counter) lines.new) }
+        (W.contents writer.old.inner) (W.contents writer.new.inner) lines.old
+        (head_line number used counter) lines.new) }
     ensures cut { IfErr result (λ e. (e ≡ Stop.Write) × IsCut
         (W.contents writer.old.inner) (W.contents writer.new.inner) (lines.old ++ head_line number used counter)) }
     ensures stuck { OnErr result (TakesNoMore writer.new) }
@@ -52,10 +53,12 @@ pub(crate) fn put_page<W: Write, K: KeyClass<Key = Box2>>(
 ) -> Result<(), Stop>
     requires { IsNode (format_of K.KeyClass) page.now }
     ensures ok { OnOk result (IsPut
-        (W.contents writer.old.inner) (W.contents writer.new.inner) lines.old (node_text number (node_of (format_of K.KeyClass) page.now)) lines.new) }
+        (W.contents writer.old.inner) (W.contents writer.new.inner) lines.old
+        (node_text number (node_of (format_of K.KeyClass) page.now)) lines.new) }
     ensures cut { IfErr result (λ e. (e ≡ Stop.Write)
         × IsCut
-        (W.contents writer.old.inner) (W.contents writer.new.inner) (lines.old ++ node_text number (node_of (format_of K.KeyClass) page.now))) }
+        (W.contents writer.old.inner) (W.contents writer.new.inner)
+        (lines.old ++ node_text number (node_of (format_of K.KeyClass) page.now))) }
     ensures stuck { OnErr result (TakesNoMore writer.new) }
 {
     lines.make_room(writer)?;
@@ -76,7 +79,8 @@ fn put_pairs<W: Write, K: KeyClass<Key = Box2>>(
     leaf: &Leaf<K>,
 ) -> Result<(), Stop>
     ensures ok { OnOk result (IsPut
-        (W.contents writer.old.inner) (W.contents writer.new.inner) lines.old (flat_map entry_line leaf.now.pairs) lines.new) }
+        (W.contents writer.old.inner) (W.contents writer.new.inner) lines.old
+        (flat_map entry_line leaf.now.pairs) lines.new) }
     ensures cut { IfErr result (λ e. (e ≡ Stop.Write) × IsCut
         (W.contents writer.old.inner) (W.contents writer.new.inner) (lines.old ++ flat_map entry_line leaf.now.pairs)) }
     ensures stuck { OnErr result (TakesNoMore writer.new) }
@@ -96,9 +100,11 @@ fn put_children<W: Write, K: KeyClass<Key = Box2>>(
     inner: &Inner<K>,
 ) -> Result<(), Stop>
     ensures ok { OnOk result (IsPut
-        (W.contents writer.old.inner) (W.contents writer.new.inner) lines.old (flat_map child_line inner.now.children) lines.new) }
+        (W.contents writer.old.inner) (W.contents writer.new.inner) lines.old
+        (flat_map child_line inner.now.children) lines.new) }
     ensures cut { IfErr result (λ e. (e ≡ Stop.Write) × IsCut
-        (W.contents writer.old.inner) (W.contents writer.new.inner) (lines.old ++ flat_map child_line inner.now.children)) }
+        (W.contents writer.old.inner) (W.contents writer.new.inner)
+        (lines.old ++ flat_map child_line inner.now.children)) }
     ensures stuck { OnErr result (TakesNoMore writer.new) }
 {
     for slot in 0..inner.len() {

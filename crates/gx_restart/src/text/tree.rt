@@ -34,11 +34,18 @@ fn tell<W: Write, D: SectorDisk, K: ReadKeys + KeyClass<Key = Box2>>(
 ) -> Result<(), Stop>
     requires from { 1 ≤ page }
     requires to { page ≤ engine.old.volume.shelf.used }
-    ensures told { IsTold (Brings ⟦<Box2 as Shape>⟧ K.is_proper K.said K.KeyClass D.state) (Helps ⟦<Box2 as Shape>⟧ K.is_proper K.said K.KeyClass D.state) page engine.old result engine.new }
-    ensures text { OnOk result ((l : Limits) → OfItsTree (class_of ⟦<Box2 as Shape>⟧ K.is_proper l) (reading_of K.said (format_of K.KeyClass)) (format_of K.KeyClass) (is_node (format_of K.KeyClass))
-        D.state engine.old (λ t. IsPut (W.contents writer.old.inner) (W.contents writer.new.inner) lines.old (node_text page (t.node page)) lines.new)) }
-    ensures cut { IfErr result (λ _. (l : Limits) → OfItsTree (class_of ⟦<Box2 as Shape>⟧ K.is_proper l) (reading_of K.said (format_of K.KeyClass)) (format_of K.KeyClass) (is_node (format_of K.KeyClass))
-        D.state engine.old (λ t. IsCut (W.contents writer.old.inner) (W.contents writer.new.inner) (lines.old ++ node_text page (t.node page)))) }
+    ensures told { IsTold (Brings ⟦<Box2 as Shape>⟧ K.is_proper K.said K.KeyClass D.state)
+        (Helps ⟦<Box2 as Shape>⟧ K.is_proper K.said K.KeyClass D.state) page engine.old result engine.new }
+    ensures text { OnOk result ((l : Limits)
+        → OfItsTree (class_of ⟦<Box2 as Shape>⟧ K.is_proper l) (reading_of K.said (format_of K.KeyClass))
+        (format_of K.KeyClass) (is_node (format_of K.KeyClass))
+        D.state engine.old (λ t. IsPut (W.contents writer.old.inner) (W.contents writer.new.inner) lines.old
+        (node_text page (t.node page)) lines.new)) }
+    ensures cut { IfErr result (λ _. (l : Limits)
+        → OfItsTree (class_of ⟦<Box2 as Shape>⟧ K.is_proper l) (reading_of K.said (format_of K.KeyClass))
+        (format_of K.KeyClass) (is_node (format_of K.KeyClass))
+        D.state engine.old (λ t. IsCut (W.contents writer.old.inner) (W.contents writer.new.inner)
+        (lines.old ++ node_text page (t.node page)))) }
     ensures stuck { IfErr result (λ e. e ≡ Stop.Write → TakesNoMore writer.new) }
 {
     a_volume_shows_the_logs_tree::<D, K>();
@@ -46,29 +53,42 @@ fn tell<W: Write, D: SectorDisk, K: ReadKeys + KeyClass<Key = Box2>>(
     put_page::<W, K>(writer, lines, page, engine.held_page(page))
 }
 
-/// Writes the text of the tree of an index: a line with the number of the last commit, the greatest page that is taken and the counter of
-/// splits; and for each page from 1 on its line, and one for each of its entries, by slot. Pages are brought one after another, with the
-/// events that give them frames. No node changes, and no set, claim, predicate or open call.
+/// Writes the text of the tree of an index: a line with the number of the last commit, the greatest page that is taken
+/// and the counter of splits; and for each page from 1 on its line, and one for each of its entries, by slot. Pages are
+/// brought one after another, with the events that give them frames. No node changes, and no set, claim, predicate or
+/// open call.
 ///
-/// `Write` where the writer's last call failed or took nothing, or 2^32 calls of it were made; `Refused` as an event was, with `Device`, `Failed` or `Damaged`, and `GivenUp` where a page
-/// isn't brought within `gx_engine::EVENTS` turns of one or two events, which never is where the engine holds an index over a device
-/// that doesn't lie. What was written then is a beginning of the text. It takes no memory.
+/// `Write` where the writer's last call failed or took nothing, or 2^32 calls of it were made; `Refused` as an event
+/// was, with `Device`, `Failed` or `Damaged`, and `GivenUp` where a page isn't brought within `gx_engine::EVENTS` turns
+/// of one or two events, which never is where the engine holds an index over a device that doesn't lie. What was
+/// written then is a beginning of the text. It takes no memory.
 pub fn dump<W: Write, D: SectorDisk, K: ReadKeys + KeyClass<Key = Box2>>(
     engine: &mut Engine<D, K>,
     writer: &mut Noted<W>,
 ) -> Result<(), Stop>
-    ensures read { IsRead (Brings ⟦<Box2 as Shape>⟧ K.is_proper K.said K.KeyClass D.state) (Helps ⟦<Box2 as Shape>⟧ K.is_proper K.said K.KeyClass D.state) engine.old result engine.new }
-    ensures text { OnOk result ((l : Limits) → OfItsTree (class_of ⟦<Box2 as Shape>⟧ K.is_proper l) (reading_of K.said (format_of K.KeyClass)) (format_of K.KeyClass) (is_node (format_of K.KeyClass))
-        D.state engine.old (λ t. Appends (W.contents writer.old.inner) (W.contents writer.new.inner) (dump_text engine.old.sessions.latest t))) }
-    ensures cut { IfErr result (λ _. (l : Limits) → OfItsTree (class_of ⟦<Box2 as Shape>⟧ K.is_proper l) (reading_of K.said (format_of K.KeyClass)) (format_of K.KeyClass) (is_node (format_of K.KeyClass))
-        D.state engine.old (λ t. IsCut (W.contents writer.old.inner) (W.contents writer.new.inner) (dump_text engine.old.sessions.latest t))) }
+    ensures read { IsRead (Brings ⟦<Box2 as Shape>⟧ K.is_proper K.said K.KeyClass D.state)
+        (Helps ⟦<Box2 as Shape>⟧ K.is_proper K.said K.KeyClass D.state) engine.old result engine.new }
+    ensures text { OnOk result ((l : Limits)
+        → OfItsTree (class_of ⟦<Box2 as Shape>⟧ K.is_proper l) (reading_of K.said (format_of K.KeyClass))
+        (format_of K.KeyClass) (is_node (format_of K.KeyClass))
+        D.state engine.old (λ t. Appends (W.contents writer.old.inner) (W.contents writer.new.inner)
+        (dump_text engine.old.sessions.latest t))) }
+    ensures cut { IfErr result (λ _. (l : Limits)
+        → OfItsTree (class_of ⟦<Box2 as Shape>⟧ K.is_proper l) (reading_of K.said (format_of K.KeyClass))
+        (format_of K.KeyClass) (is_node (format_of K.KeyClass))
+        D.state engine.old (λ t. IsCut (W.contents writer.old.inner) (W.contents writer.new.inner)
+        (dump_text engine.old.sessions.latest t))) }
     ensures stuck { IfErr result (λ e. e ≡ Stop.Write → TakesNoMore writer.new) }
-    ensures reads { OnOk result ((l : Limits) → Reads (class_of ⟦<Box2 as Shape>⟧ K.is_proper l) (reading_of K.said (format_of K.KeyClass)) (format_of K.KeyClass) (is_node (format_of K.KeyClass))
+    ensures reads { OnOk result ((l : Limits)
+        → Reads (class_of ⟦<Box2 as Shape>⟧ K.is_proper l) (reading_of K.said (format_of K.KeyClass))
+        (format_of K.KeyClass) (is_node (format_of K.KeyClass))
         D.state engine.old engine.new) }
-    ensures runs { (l : Limits) → Runs (class_of ⟦<Box2 as Shape>⟧ K.is_proper l) (reading_of K.said (format_of K.KeyClass)) (format_of K.KeyClass) (is_node (format_of K.KeyClass))
+    ensures runs { (l : Limits) → Runs (class_of ⟦<Box2 as Shape>⟧ K.is_proper l)
+        (reading_of K.said (format_of K.KeyClass)) (format_of K.KeyClass) (is_node (format_of K.KeyClass))
         D.state engine.old engine.new }
     ensures keeps { KeepsSessions engine.old engine.new }
-    ensures ends { (l : Limits) → WhereHeld (class_of ⟦<Box2 as Shape>⟧ K.is_proper l) (reading_of K.said (format_of K.KeyClass)) (format_of K.KeyClass) (is_node (format_of K.KeyClass))
+    ensures ends { (l : Limits) → WhereHeld (class_of ⟦<Box2 as Shape>⟧ K.is_proper l)
+        (reading_of K.said (format_of K.KeyClass)) (format_of K.KeyClass) (is_node (format_of K.KeyClass))
         D.state engine.old (IsNotGivenUp result) }
 {
     a_page_that_waits_names_work::<D, K>();

@@ -1,19 +1,13 @@
 //! A step of a descent, which may widen a bound.
 ghost use Rattle.std.specs.Prelude.{◌≡◌, ◌≢◌, ◌<◌, ℕ, true, length, Err, IfOk, OnErr, IfErr};
 ghost use Rattle.gx_glog.specs.declared.stage.Turn.TheVariants.{Closed};
-ghost use Rattle.gx_node.specs.Reading.{format_of, is_node};
-ghost use Rattle.gx_readings.specs.Classes.{reading_of};
-ghost use Rattle.gx_store.specs.Faults as faults;
-ghost use Rattle.gx_store.specs.Since.{IsSince};
-ghost use Rattle.gx_store.specs.Standing.{store_of};
-ghost use Rattle.gx_store.specs.State.{IsSteady};
 ghost use Rattle.gx_tree_laws.specs.Trees.{Used};
 ghost use Rattle.gx_tree.specs.Descending.{StepsDown, WayAt, is_widened};
-ghost use Rattle.gx_node.specs.Owner.{IsWhy};
-ghost use Rattle.gx_node.specs.Store.{tree_of};
-ghost use Rattle.gx_storage.specs.Changes.{IsLoggedIf, IsUnlogged, begun, has_room, known_at, page_given};
+ghost use Rattle.gx_record.specs.declared.sizes.TheConstants.{PAGE_RECORD};
+ghost use Rattle.gx_storage.specs.Changes.{begun, begun_at, has_room};
 ghost use Rattle.gx_storage.specs.Changing.{HasToWiden, unwidened};
-ghost use Rattle.gx_storage.specs.Numbers.{HasOwnNumber};
+ghost use Rattle.gx_storage.specs.Setting.{IsSinceAs, IsSteadyAs, IsWhyAs, LogsIfAs, OwnNumberAs, ShowsTheSame};
+ghost use Rattle.gx_storage.specs.Setting.{UnloggedAs, page_given_at, store_at, tree_at};
 
 use crate::Storage;
 use crate::changes::given::give_page;
@@ -22,6 +16,7 @@ use gx_disk::SectorDisk;
 use gx_geom::Shape;
 use gx_glog::Glog;
 use gx_readings::ReadKeys;
+use gx_record::PAGE_RECORD;
 use gx_store::{PageStore, StoreFault};
 use gx_tree::{Descended, Item, Pages, StepFault, Way, descend_step, way_step};
 
@@ -39,7 +34,8 @@ fn was_widened<B: Shape>(did: &Descended<B>) -> bool
     }
 }
 
-/// What a step of a descent did that took this way, where the counter of splits is `seen`. `None` where it has to widen a bound.
+/// What a step of a descent did that took this way, where the counter of splits is `seen`. `None` where it has to
+/// widen a bound.
 fn unwidened<B: Shape>(way: Way<B>, seen: u64) -> Option<Descended<B>>
     ensures { result ≡ unwidened way seen }
 {
@@ -53,8 +49,8 @@ fn unwidened<B: Shape>(way: Way<B>, seen: u64) -> Option<Descended<B>>
     }
 }
 
-/// Says what a descent does at the page of its item, as the tree's `way_step` does. No room in the log is asked for. The event then
-/// begins whose record gives the page.
+/// Says what a descent does at the page of its item, as the tree's `way_step` does. No room in the log is asked for.
+/// The event then begins whose record gives the page.
 fn read_way<D: SectorDisk, K: ReadKeys>(
     log: &Glog,
     store: &mut PageStore<D, K>,
@@ -62,64 +58,66 @@ fn read_way<D: SectorDisk, K: ReadKeys>(
     coming: &K::Key,
     most: usize,
 ) -> Result<Way<K::Key>, StepFault<StoreFault>>
-    ensures since { (q : ℕ) → IsSince (is_node (format_of K.KeyClass)) (D.state store.old.disk) (D.state store.new.disk) (record store.old { batch = log.now.used; has_room = has_room log.now 4114 }) store.new q }
-    ensures same { IsSteady (D.state store.old.disk) store.old.frames
-        → store_of (format_of K.KeyClass) (D.state store.new.disk).seen store.new ≡ store_of (format_of K.KeyClass) (D.state store.old.disk).seen store.old }
-    ensures why { IfErr result (IsWhy (faults.IsWhy (is_node (format_of K.KeyClass)) (D.state store.old.disk) (D.state store.new.disk) (record store.old { batch = log.now.used; has_room = has_room log.now 4114 }) store.new)) }
-    ensures way { IfOk result (WayAt K.cost K.joined most (store_of (format_of K.KeyClass) (D.state store.new.disk).seen store.new) item.now coming.now) }
-    ensures damaged { result ≡ Err StepFault.Damaged → Used (tree_of (store_of (format_of K.KeyClass) (D.state store.new.disk).seen store.new)) item.now.page
-        → (0 < ((tree_of (store_of (format_of K.KeyClass) (D.state store.new.disk).seen store.new)).node item.now.page).level)
-        × (length ((tree_of (store_of (format_of K.KeyClass) (D.state store.new.disk).seen store.new)).node item.now.page).children ≡ 0) }
+    ensures since { (q : ℕ) → IsSinceAs K.KeyClass D.state (begun_at log.now PAGE_RECORD store.old) store.new q }
+    ensures same { IsSteadyAs D.state store.old → ShowsTheSame K.KeyClass D.state store.old store.new }
+    ensures why { IfErr result (IsWhyAs K.KeyClass D.state (begun_at log.now PAGE_RECORD store.old) store.new) }
+    ensures way { IfOk result (WayAt K.cost K.joined most (store_at K.KeyClass D.state store.new) item.now coming.now) }
+    ensures damaged { result ≡ Err StepFault.Damaged → Used (tree_at K.KeyClass D.state store.new) item.now.page
+        → (0 < ((tree_at K.KeyClass D.state store.new).node item.now.page).level)
+        × (length ((tree_at K.KeyClass D.state store.new).node item.now.page).children ≡ 0) }
     ensures room { result ≢ Err (StepFault.Pages StoreFault.NoRoom) }
     ensures memory { result ≢ Err StepFault.Memory }
     ensures full { result ≢ Err StepFault.PagesFull }
 {
     begin_reading(log, store);
     let way = way_step(store, item, coming, most);
-    begin(log, store, 4114);
+    begin(log, store, PAGE_RECORD);
     way
 }
 
 impl<D: SectorDisk, K: ReadKeys> Storage<D, K> {
-    /// Makes a step of a descent for a coming key at the page of its item, as the tree's `descend_step` says. Where a bound was widened
-    /// the record of its page is appended; else nothing has changed and nothing is logged, and no room is asked for.
+    /// Makes a step of a descent for a coming key at the page of its item, as the tree's `descend_step` says. Where a
+    /// bound was widened the record of its page is appended; else nothing has changed and nothing is logged, and no
+    /// room is asked for.
     ///
-    /// Refused with `Pages` where the page could not be brought, or the bound has to be widened and the log has no room for the record
-    /// (`NoRoom`); with `Damaged` only where the page isn't taken, or has a level above 0 and no entries. Nothing has changed then, and
-    /// nothing is logged.
+    /// Refused with `Pages` where the page could not be brought, or the bound has to be widened and the log has no
+    /// room for the record (`NoRoom`); with `Damaged` only where the page isn't taken, or has a level above 0 and no
+    /// entries. Nothing has changed then, and nothing is logged.
     pub fn descend(
         &mut self,
         item: &Item,
         coming: &K::Key,
     ) -> Result<Descended<K::Key>, StepFault<StoreFault>>
         requires still { self.old.log.turn ≡ Closed }
-        ensures logged { IfOk result (λ did. IsLoggedIf (known_at K.Key.Shape K.is_proper) (reading_of K.said (format_of K.KeyClass)) (format_of K.KeyClass) (is_node (format_of K.KeyClass))
-            4114 (D.state self.old.shelf.disk) (D.state self.new.shelf.disk) self.old self.new (page_given item.now.page (D.state self.new.shelf.disk).seen self.new.shelf) (is_widened did)) }
-        ensures unlogged { OnErr result (IsUnlogged (known_at K.Key.Shape K.is_proper) (reading_of K.said (format_of K.KeyClass)) (format_of K.KeyClass) (is_node (format_of K.KeyClass))
-            (begun self.old 4114) (D.state self.old.shelf.disk) (D.state self.new.shelf.disk) self.old self.new) }
-        ensures descended { IsSteady (D.state self.old.shelf.disk) self.old.shelf.frames → IfOk result (StepsDown K.cost K.joined self.old.most
-            (store_of (format_of K.KeyClass) (D.state self.old.shelf.disk).seen self.old.shelf) (store_of (format_of K.KeyClass) (D.state self.new.shelf.disk).seen self.new.shelf) item.now coming.now) }
-        ensures own { IfOk result (λ did. is_widened did ≡ true → HasOwnNumber (D.state self.new.shelf.disk).seen self.new.shelf item.now.page) }
-        ensures refused { IsSteady (D.state self.old.shelf.disk) self.old.shelf.frames
-            → OnErr result (store_of (format_of K.KeyClass) (D.state self.new.shelf.disk).seen self.new.shelf ≡ store_of (format_of K.KeyClass) (D.state self.old.shelf.disk).seen self.old.shelf) }
-        ensures why { IfErr result (IsWhy (faults.IsWhy (is_node (format_of K.KeyClass)) (D.state self.old.shelf.disk) (D.state self.new.shelf.disk) (begun self.old 4114) self.new.shelf)) }
-        ensures damaged { IsSteady (D.state self.old.shelf.disk) self.old.shelf.frames → result ≡ Err StepFault.Damaged
-            → Used (tree_of (store_of (format_of K.KeyClass) (D.state self.old.shelf.disk).seen self.old.shelf)) item.now.page
-            → (0 < ((tree_of (store_of (format_of K.KeyClass) (D.state self.old.shelf.disk).seen self.old.shelf)).node item.now.page).level)
-            × (length ((tree_of (store_of (format_of K.KeyClass) (D.state self.old.shelf.disk).seen self.old.shelf)).node item.now.page).children ≡ 0) }
+        ensures logged { IfOk result (λ did. LogsIfAs K.Key.Shape K.is_proper K.said K.KeyClass D.state PAGE_RECORD
+            self.old self.new (page_given_at D.state item.now.page self.new.shelf) (is_widened did)) }
+        ensures unlogged { OnErr result (UnloggedAs K.Key.Shape K.is_proper K.said K.KeyClass D.state
+            (begun self.old PAGE_RECORD) self.old self.new) }
+        ensures descended { IsSteadyAs D.state self.old.shelf
+            → IfOk result (StepsDown K.cost K.joined self.old.most (store_at K.KeyClass D.state self.old.shelf)
+            (store_at K.KeyClass D.state self.new.shelf) item.now coming.now) }
+        ensures own { IfOk result (λ did. is_widened did ≡ true → OwnNumberAs D.state self.new.shelf item.now.page) }
+        ensures refused { IsSteadyAs D.state self.old.shelf
+            → OnErr result (ShowsTheSame K.KeyClass D.state self.old.shelf self.new.shelf) }
+        ensures why { IfErr result (IsWhyAs K.KeyClass D.state (begun self.old PAGE_RECORD) self.new.shelf) }
+        ensures damaged { IsSteadyAs D.state self.old.shelf → result ≡ Err StepFault.Damaged
+            → Used (tree_at K.KeyClass D.state self.old.shelf) item.now.page
+            → (0 < ((tree_at K.KeyClass D.state self.old.shelf).node item.now.page).level)
+            × (length ((tree_at K.KeyClass D.state self.old.shelf).node item.now.page).children ≡ 0) }
         ensures room { result ≡ Err (StepFault.Pages StoreFault.NoRoom)
-            → HasToWiden K.cost K.joined self.old.most (store_of (format_of K.KeyClass) (D.state self.new.shelf.disk).seen self.new.shelf) item.now coming.now }
+            → HasToWiden K.cost K.joined self.old.most (store_at K.KeyClass D.state self.new.shelf) item.now
+            coming.now }
         ensures memory { result ≢ Err StepFault.Memory }
         ensures full { result ≢ Err StepFault.PagesFull }
     {
-        if !has_room(&self.log, 4114) {
+        if !has_room(&self.log, PAGE_RECORD) {
             let way = read_way(&self.log, &mut self.store, item, coming, self.most)?;
             match unwidened(way, self.store.counter()) {
                 Some(did) => return Ok(did),
                 None => return Err(StepFault::Pages(StoreFault::NoRoom)),
             }
         }
-        begin(&self.log, &mut self.store, 4114);
+        begin(&self.log, &mut self.store, PAGE_RECORD);
         let did = descend_step(&mut self.store, item, coming, self.most)?;
         if !was_widened(&did) {
             return Ok(did);

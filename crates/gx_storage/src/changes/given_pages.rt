@@ -1,14 +1,15 @@
 //! The record of three pages that were changed.
 ghost use Rattle.std.specs.Prelude.{◌≡◌, ◌≢◌, ◌≤◌, ◌<◌, ◌+◌, [], ◌∷◌, length};
 ghost use Rattle.gx_glog.specs.declared.stage.Turn.TheVariants.{Closed};
-ghost use Rattle.gx_node.specs.Reading.{format_of};
-ghost use Rattle.gx_readings.specs.Classes.{reading_of};
+ghost use Rattle.gx_glog.specs.declared.extent.TheConstants.{BODY_ROOM, PLACES};
 ghost use Rattle.gx_record.specs.Format.{IsPage};
 ghost use Rattle.gx_record.specs.Seen.{numbered};
+ghost use Rattle.gx_record.specs.declared.sizes.TheConstants.{SPLIT_RECORD};
 ghost use Rattle.gx_store.specs.State.{IsHeld};
 ghost use Rattle.gx_tree_laws.specs.Lists.{Each};
-ghost use Rattle.gx_storage.specs.Changes.{IsLast, image_at, known_at};
-ghost use Rattle.gx_storage.specs.Giving.{IsGiven, pages_given, rising};
+ghost use Rattle.gx_storage.specs.Changes.{image_at};
+ghost use Rattle.gx_storage.specs.Giving.{IsGiven, rising};
+ghost use Rattle.gx_storage.specs.Setting.{IsLastAs, pages_given_at};
 
 use gx_disk::SectorDisk;
 use gx_durable::calls::append;
@@ -50,8 +51,8 @@ fn held_image<D: SectorDisk, K: ReadKeys>(store: &PageStore<D, K>, page: u32) ->
     }
 }
 
-/// Appends the record of three pages that were changed, of which the record has the images as they are held, with the counter and
-/// the number of pages in use as they are now.
+/// Appends the record of three pages that were changed, of which the record has the images as they are held, with the
+/// counter and the number of pages in use as they are now.
 pub(crate) fn give_three<D: SectorDisk, K: ReadKeys>(
     log: &mut Glog,
     store: &PageStore<D, K>,
@@ -59,13 +60,13 @@ pub(crate) fn give_three<D: SectorDisk, K: ReadKeys>(
     second: u32,
     third: u32,
 )
-    requires place { log.old.used < 32 }
+    requires place { log.old.used < PLACES }
     requires still { log.old.turn ≡ Closed }
-    requires room { length log.old.filling + 12314 ≤ 32764 }
+    requires room { length log.old.filling + SPLIT_RECORD ≤ BODY_ROOM }
     requires held { IsHeld store.now first × IsHeld store.now second × IsHeld store.now third }
     requires rise { (first < second) × (second < third) }
-    ensures last { IsLast (known_at K.Key.Shape K.is_proper) (reading_of K.said (format_of K.KeyClass))
-        (pages_given (first ∷ second ∷ third ∷ []) (D.state store.now.disk).seen store.now) log.old log.new }
+    ensures last { IsLastAs K.Key.Shape K.is_proper K.said K.KeyClass
+        (pages_given_at D.state (first ∷ second ∷ third ∷ []) store.now) log.old log.new }
     ensures given { Each (IsGiven (D.state store.now.disk).seen store.now) (first ∷ second ∷ third ∷ []) }
 {
     let (counter, used) = (store.counter(), store.used());

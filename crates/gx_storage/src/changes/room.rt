@@ -3,16 +3,16 @@ ghost use Rattle.std.specs.Prelude.{◌≡◌, true};
 ghost use Rattle.gx_storage.specs.Changes.{has_room};
 
 use gx_disk::SectorDisk;
-use gx_glog::Glog;
+use gx_glog::{Glog, PLACES};
 use gx_readings::ReadKeys;
 use gx_store::PageStore;
 
-/// Whether a log has room for a record of so many bytes, while no turn to the other extent is under way: a place is left for its
-/// batch, and the record fits the batch that fills.
+/// Whether a log has room for a record of so many bytes, while no turn to the other extent is under way: a place is
+/// left for its batch, and the record fits the batch that fills.
 pub(crate) fn has_room(log: &Glog, size: usize) -> bool
     ensures { result ≡ has_room log.now size }
 {
-    log.used() < 32 && size <= log.free()
+    log.used() < PLACES && size <= log.free()
 }
 
 /// Begins an event that appends no record, and so wants no room for one.
@@ -22,8 +22,8 @@ pub(crate) fn begin_reading<D: SectorDisk, K: ReadKeys>(log: &Glog, store: &mut 
     store.begin(u64::from(log.used()), true);
 }
 
-/// Begins an event whose record has so many bytes: its changes are of the batch that the log's next place takes, and the pages are
-/// told whether the log has room for the record.
+/// Begins an event whose record has so many bytes: its changes are of the batch that the log's next place takes, and
+/// the pages are told whether the log has room for the record.
 pub(crate) fn begin<D: SectorDisk, K: ReadKeys>(
     log: &Glog,
     store: &mut PageStore<D, K>,

@@ -1,22 +1,17 @@
 //! The mark of a pair is set or cleared.
-ghost use Rattle.std.specs.Prelude.{◌≡◌, ◌≢◌, ◌+◌, ℕ, Bool, true, false, Err, IfOk, OnErr, IfErr};
+ghost use Rattle.std.specs.Prelude.{◌≡◌, ◌≢◌, ◌+◌, ℕ, Err, IfOk, OnErr, IfErr};
 ghost use Rattle.gx_glog.specs.declared.stage.Turn.TheVariants.{Closed};
-ghost use Rattle.gx_node.specs.Reading.{format_of, is_node};
-ghost use Rattle.gx_readings.specs.Classes.{reading_of};
 ghost use Rattle.gx_record.specs.Seen.{is_marked};
-ghost use Rattle.gx_store.specs.Faults as faults;
-ghost use Rattle.gx_store.specs.Since.{IsSince};
-ghost use Rattle.gx_store.specs.Standing.{store_of};
-ghost use Rattle.gx_store.specs.State.{IsSteady};
+ghost use Rattle.gx_record.specs.Writing.{write_record};
 ghost use Rattle.gx_tree_laws.specs.Trees.{Used};
-ghost use Rattle.gx_node.specs.Owner.{IsWhy};
 ghost use Rattle.gx_tree.specs.Seeking.{Seeks};
-ghost use Rattle.gx_node.specs.Store.{tree_of};
 ghost use Rattle.gx_tree.specs.Wants.{wants};
 ghost use Rattle.gx_tree.specs.Writing.{SetsMark};
-ghost use Rattle.gx_storage.specs.Changes.{IsUnlogged, MarkIsLogged, begun, has_room, known_at};
+ghost use Rattle.gx_storage.specs.Changes.{begun, begun_at, has_room};
 ghost use Rattle.gx_storage.specs.Changing.{HasWanted};
 ghost use Rattle.gx_storage.specs.Numbers.{OwnWhereSet};
+ghost use Rattle.gx_storage.specs.Setting.{IsSinceAs, IsSteadyAs, IsWhyAs, LogsMarkAs, ShowsTheSame, UnloggedAs};
+ghost use Rattle.gx_storage.specs.Setting.{store_at, tree_at};
 
 use crate::Storage;
 use crate::changes::room::{begin, begin_reading, has_room};
@@ -37,8 +32,8 @@ pub(crate) fn mark_of(marked: bool) -> Mark
     if marked { Mark::Marked } else { Mark::Live }
 }
 
-/// Looks for a pair in the leaf on a page, as the tree's `seek_step` does. No room in the log is asked for. The event then begins
-/// whose record has so many bytes.
+/// Looks for a pair in the leaf on a page, as the tree's `seek_step` does. No room in the log is asked for. The event
+/// then begins whose record has so many bytes.
 fn read_leaf<D: SectorDisk, K: ReadKeys + Probing>(
     log: &Glog,
     store: &mut PageStore<D, K>,
@@ -46,13 +41,13 @@ fn read_leaf<D: SectorDisk, K: ReadKeys + Probing>(
     page: u32,
     size: usize,
 ) -> Result<Sought, StepFault<StoreFault>>
-    ensures since { (q : ℕ) → IsSince (is_node (format_of K.KeyClass)) (D.state store.old.disk) (D.state store.new.disk) (record store.old { batch = log.now.used; has_room = has_room log.now size }) store.new q }
-    ensures same { IsSteady (D.state store.old.disk) store.old.frames
-        → store_of (format_of K.KeyClass) (D.state store.new.disk).seen store.new ≡ store_of (format_of K.KeyClass) (D.state store.old.disk).seen store.old }
-    ensures why { IfErr result (IsWhy (faults.IsWhy (is_node (format_of K.KeyClass)) (D.state store.old.disk) (D.state store.new.disk) (record store.old { batch = log.now.used; has_room = has_room log.now size }) store.new)) }
-    ensures sought { IfOk result (Seeks (wants K.passes wanted.now.keys wanted.now.row) ((tree_of (store_of (format_of K.KeyClass) (D.state store.new.disk).seen store.new)).node page)) }
-    ensures damaged { result ≡ Err StepFault.Damaged → Used (tree_of (store_of (format_of K.KeyClass) (D.state store.new.disk).seen store.new)) page
-        → ((tree_of (store_of (format_of K.KeyClass) (D.state store.new.disk).seen store.new)).node page).level ≢ 0 }
+    ensures since { (q : ℕ) → IsSinceAs K.KeyClass D.state (begun_at log.now size store.old) store.new q }
+    ensures same { IsSteadyAs D.state store.old → ShowsTheSame K.KeyClass D.state store.old store.new }
+    ensures why { IfErr result (IsWhyAs K.KeyClass D.state (begun_at log.now size store.old) store.new) }
+    ensures sought { IfOk result (Seeks (wants K.passes wanted.now.keys wanted.now.row)
+        ((tree_at K.KeyClass D.state store.new).node page)) }
+    ensures damaged { result ≡ Err StepFault.Damaged → Used (tree_at K.KeyClass D.state store.new) page
+        → ((tree_at K.KeyClass D.state store.new).node page).level ≢ 0 }
     ensures room { result ≢ Err (StepFault.Pages StoreFault.NoRoom) }
     ensures memory { result ≢ Err StepFault.Memory }
     ensures full { result ≢ Err StepFault.PagesFull }
@@ -64,11 +59,13 @@ fn read_leaf<D: SectorDisk, K: ReadKeys + Probing>(
 }
 
 impl<D: SectorDisk, K: ReadKeys + Probing> Storage<D, K> {
-    /// Sets or clears the mark of the wanted pair in the leaf on a page, and appends the transaction's write of the entry, with the
-    /// mark that was found. Where the pair isn't in this leaf the next one is told, as `seek_step` does, and nothing is logged.
+    /// Sets or clears the mark of the wanted pair in the leaf on a page, and appends the transaction's write of the
+    /// entry, with the mark that was found. Where the pair isn't in this leaf the next one is told, as `seek_step`
+    /// does, and nothing is logged.
     ///
-    /// Refused with `Pages` where the pair is in this leaf and the log has no room for the record (`NoRoom`), or the page could not be
-    /// brought; with `Damaged` only where it isn't a leaf that is taken. Nothing has changed then, and nothing is logged.
+    /// Refused with `Pages` where the pair is in this leaf and the log has no room for the record (`NoRoom`), or the
+    /// page could not be brought; with `Damaged` only where it isn't a leaf that is taken. Nothing has changed then,
+    /// and nothing is logged.
     pub fn set_mark(
         &mut self,
         transaction: u64,
@@ -78,21 +75,23 @@ impl<D: SectorDisk, K: ReadKeys + Probing> Storage<D, K> {
         marked: bool,
     ) -> Result<Sought, StepFault<StoreFault>>
         requires still { self.old.log.turn ≡ Closed }
-        ensures logged { IfOk result (MarkIsLogged (known_at K.Key.Shape K.is_proper) (reading_of K.said (format_of K.KeyClass)) (format_of K.KeyClass) (is_node (format_of K.KeyClass))
-            K.spelling K.KEY transaction entry.now page marked (D.state self.old.shelf.disk) (D.state self.new.shelf.disk) self.old self.new) }
-        ensures unlogged { OnErr result (IsUnlogged (known_at K.Key.Shape K.is_proper) (reading_of K.said (format_of K.KeyClass)) (format_of K.KeyClass) (is_node (format_of K.KeyClass))
-            (begun self.old (K.KEY + 4119)) (D.state self.old.shelf.disk) (D.state self.new.shelf.disk) self.old self.new) }
-        ensures marked { IsSteady (D.state self.old.shelf.disk) self.old.shelf.frames
-            → IfOk result (SetsMark (wants K.passes wanted.now.keys wanted.now.row) (store_of (format_of K.KeyClass) (D.state self.old.shelf.disk).seen self.old.shelf) (store_of (format_of K.KeyClass) (D.state self.new.shelf.disk).seen self.new.shelf) page marked) }
+        ensures logged { IfOk result (LogsMarkAs K.Key.Shape K.is_proper K.said K.KeyClass D.state transaction entry.now
+            page marked self.old self.new) }
+        ensures unlogged { OnErr result (UnloggedAs K.Key.Shape K.is_proper K.said K.KeyClass D.state
+            (begun self.old (write_record K.KEY)) self.old self.new) }
+        ensures marked { IsSteadyAs D.state self.old.shelf
+            → IfOk result (SetsMark (wants K.passes wanted.now.keys wanted.now.row)
+            (store_at K.KeyClass D.state self.old.shelf) (store_at K.KeyClass D.state self.new.shelf) page marked) }
         ensures own { IfOk result (λ did. OwnWhereSet (D.state self.new.shelf.disk).seen self.new.shelf page did) }
-        ensures refused { IsSteady (D.state self.old.shelf.disk) self.old.shelf.frames
-            → OnErr result (store_of (format_of K.KeyClass) (D.state self.new.shelf.disk).seen self.new.shelf ≡ store_of (format_of K.KeyClass) (D.state self.old.shelf.disk).seen self.old.shelf) }
-        ensures why { IfErr result (IsWhy (faults.IsWhy (is_node (format_of K.KeyClass)) (D.state self.old.shelf.disk) (D.state self.new.shelf.disk) (begun self.old (K.KEY + 4119)) self.new.shelf)) }
-        ensures damaged { IsSteady (D.state self.old.shelf.disk) self.old.shelf.frames → result ≡ Err StepFault.Damaged
-            → Used (tree_of (store_of (format_of K.KeyClass) (D.state self.old.shelf.disk).seen self.old.shelf)) page
-            → ((tree_of (store_of (format_of K.KeyClass) (D.state self.old.shelf.disk).seen self.old.shelf)).node page).level ≢ 0 }
+        ensures refused { IsSteadyAs D.state self.old.shelf
+            → OnErr result (ShowsTheSame K.KeyClass D.state self.old.shelf self.new.shelf) }
+        ensures why { IfErr result (IsWhyAs K.KeyClass D.state (begun self.old (write_record K.KEY)) self.new.shelf) }
+        ensures damaged { IsSteadyAs D.state self.old.shelf → result ≡ Err StepFault.Damaged
+            → Used (tree_at K.KeyClass D.state self.old.shelf) page
+            → ((tree_at K.KeyClass D.state self.old.shelf).node page).level ≢ 0 }
         ensures room { result ≡ Err (StepFault.Pages StoreFault.NoRoom)
-            → HasWanted (wants K.passes wanted.now.keys wanted.now.row) ((tree_of (store_of (format_of K.KeyClass) (D.state self.new.shelf.disk).seen self.new.shelf)).node page) }
+            → HasWanted (wants K.passes wanted.now.keys wanted.now.row)
+            ((tree_at K.KeyClass D.state self.new.shelf).node page) }
         ensures memory { result ≢ Err StepFault.Memory }
         ensures full { result ≢ Err StepFault.PagesFull }
     {

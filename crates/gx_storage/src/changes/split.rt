@@ -1,40 +1,39 @@
 //! The split of a node.
 ghost use Rattle.std.specs.Prelude.{◌≡◌, ◌≢◌, ◌<◌, ◌≤◌, ◌+◌, ◌^◌, suc, length, Err, IfOk, IfErr, IfSome, OnErr};
 ghost use Rattle.gx_glog.specs.declared.stage.Turn.TheVariants.{Closed};
-ghost use Rattle.gx_node.specs.Reading.{format_of, is_node};
 ghost use Rattle.gx_node.specs.declared.items.TheConstants.{MAX_ENTRIES};
-ghost use Rattle.gx_readings.specs.Classes.{reading_of};
-ghost use Rattle.gx_store.specs.Faults as faults;
 ghost use Rattle.gx_store.specs.Since.{IsStamped};
-ghost use Rattle.gx_store.specs.Standing.{store_of};
-ghost use Rattle.gx_store.specs.State.{IsSteady};
 ghost use Rattle.gx_tree_laws.specs.Legal.{Legal};
 ghost use Rattle.gx_tree_laws.specs.Trees.{Used, size};
 ghost use Rattle.gx_node.specs.Keyed.{rules_of};
-ghost use Rattle.gx_node.specs.Owner.{IsWhy};
 ghost use Rattle.gx_tree.specs.Splitting.{HasNoPlace, Splits, has_split};
-ghost use Rattle.gx_node.specs.Store.{node_at, tree_of};
-ghost use Rattle.gx_storage.specs.Changes.{IsLoggedIf, IsUnlogged, begun, known_at};
-ghost use Rattle.gx_storage.specs.Giving.{pages_given, rising};
-ghost use Rattle.gx_storage.specs.Numbers.{HasOwnNumber};
+ghost use Rattle.gx_node.specs.Store.{node_at};
+ghost use Rattle.gx_record.specs.declared.sizes.TheConstants.{SPLIT_RECORD};
+ghost use Rattle.gx_storage.specs.Changes.{begun};
+ghost use Rattle.gx_storage.specs.Giving.{rising};
 ghost use Rattle.gx_tree_laws.specs.Lists.{Each};
+ghost use Rattle.gx_storage.specs.Setting.{IsSteadyAs, IsWhyAs, LogsIfAs, OwnNumberAs, ShowsTheSame, UnloggedAs};
+ghost use Rattle.gx_storage.specs.Setting.{pages_given_at, store_at, tree_at};
 
 use crate::Storage;
 use crate::changes::given_pages::{give_three, in_rising_order};
 use crate::changes::room::begin;
 use gx_disk::SectorDisk;
 use gx_readings::ReadKeys;
+use gx_record::SPLIT_RECORD;
 use gx_store::StoreFault;
 use gx_tree::{Split, StepFault, split_step};
 
 impl<D: SectorDisk, K: ReadKeys> Storage<D, K> {
-    /// Splits the node on a page, which is full, below its parent, as the tree's `split_step` says, and appends the record of the node,
-    /// the parent and the new sibling, by rising page number. `None` where the parent has no place for that: then nothing has changed
-    /// and nothing is logged, and no room is asked for. The node's keys are written over the first of `keys`.
+    /// Splits the node on a page, which is full, below its parent, as the tree's `split_step` says, and appends the
+    /// record of the node, the parent and the new sibling, by rising page number. `None` where the parent has no
+    /// place for that: then nothing has changed and nothing is logged, and no room is asked for. The node's keys are
+    /// written over the first of `keys`.
     ///
-    /// Refused with `PagesFull` only where no page is left; with `Pages` where the log has no room for the record (`NoRoom`), no frame is
-    /// clean for the sibling (`TooFewFrames`), or a page could not be brought; and with `Damaged` where the two aren't a full node and
-    /// an inner node above it, or the counter of splits is at its end. Nothing has changed then, and nothing is logged.
+    /// Refused with `PagesFull` only where no page is left; with `Pages` where the log has no room for the record
+    /// (`NoRoom`), no frame is clean for the sibling (`TooFewFrames`), or a page could not be brought; and with
+    /// `Damaged` where the two aren't a full node and an inner node above it, or the counter of splits is at its end.
+    /// Nothing has changed then, and nothing is logged.
     pub fn split(
         &mut self,
         page: u32,
@@ -44,37 +43,45 @@ impl<D: SectorDisk, K: ReadKeys> Storage<D, K> {
         requires still { self.old.log.turn ≡ Closed }
         requires most { 4 ≤ self.old.most }
         requires space { MAX_ENTRIES ≤ length keys.old }
-        ensures logged { IfOk result (λ did. IsLoggedIf (known_at K.Key.Shape K.is_proper) (reading_of K.said (format_of K.KeyClass)) (format_of K.KeyClass) (is_node (format_of K.KeyClass))
-            12314 (D.state self.old.shelf.disk) (D.state self.new.shelf.disk) self.old self.new
-            (pages_given (rising page parent (suc self.old.shelf.used)) (D.state self.new.shelf.disk).seen self.new.shelf) (has_split did)) }
-        ensures unlogged { OnErr result (IsUnlogged (known_at K.Key.Shape K.is_proper) (reading_of K.said (format_of K.KeyClass)) (format_of K.KeyClass) (is_node (format_of K.KeyClass))
-            (begun self.old 12314) (D.state self.old.shelf.disk) (D.state self.new.shelf.disk) self.old self.new) }
-        ensures split { IsSteady (D.state self.old.shelf.disk) self.old.shelf.frames → IfOk result (Splits (rules_of K.Key.Shape self.old.most) K.sides_of
-            (store_of (format_of K.KeyClass) (D.state self.old.shelf.disk).seen self.old.shelf) (store_of (format_of K.KeyClass) (D.state self.new.shelf.disk).seen self.new.shelf) page parent) }
-        ensures stamped { IsSteady (D.state self.old.shelf.disk) self.old.shelf.frames → IfOk result (λ did. IfSome did (λ _.
-            IsStamped self.old.log.used self.old.shelf.frames self.new.shelf.frames page × IsStamped self.old.log.used self.old.shelf.frames self.new.shelf.frames parent)) }
-        ensures own { IfOk result (λ did. IfSome did (λ _. Each (HasOwnNumber (D.state self.new.shelf.disk).seen self.new.shelf) (rising page parent (suc self.old.shelf.used)))) }
+        ensures logged { IfOk result (λ did. LogsIfAs K.Key.Shape K.is_proper K.said K.KeyClass D.state SPLIT_RECORD
+            self.old self.new (pages_given_at D.state (rising page parent (suc self.old.shelf.used)) self.new.shelf)
+            (has_split did)) }
+        ensures unlogged { OnErr result (UnloggedAs K.Key.Shape K.is_proper K.said K.KeyClass D.state
+            (begun self.old SPLIT_RECORD) self.old self.new) }
+        ensures split { IsSteadyAs D.state self.old.shelf
+            → IfOk result (Splits (rules_of K.Key.Shape self.old.most) K.sides_of
+            (store_at K.KeyClass D.state self.old.shelf) (store_at K.KeyClass D.state self.new.shelf) page parent) }
+        ensures stamped { IsSteadyAs D.state self.old.shelf
+            → IfOk result (λ did. IfSome did (λ _. IsStamped self.old.log.used self.old.shelf.frames
+            self.new.shelf.frames page × IsStamped self.old.log.used self.old.shelf.frames self.new.shelf.frames
+            parent)) }
+        ensures own { IfOk result (λ did. IfSome did (λ _. Each (OwnNumberAs D.state self.new.shelf)
+            (rising page parent (suc self.old.shelf.used)))) }
         ensures sibling { IfOk result (λ did. IfSome did (λ split. split.sibling ≡ suc self.old.shelf.used)) }
-        ensures apart { IfOk result (λ did. IfSome did (λ split. (page ≢ parent) × (split.sibling ≢ page) × (split.sibling ≢ parent))) }
+        ensures apart { IfOk result (λ did. IfSome did (λ split.
+            (page ≢ parent) × (split.sibling ≢ page) × (split.sibling ≢ parent))) }
         ensures keys { IfOk result (λ did. IfSome did (λ split. K.is_key split.left × K.is_key split.right)) }
-        ensures only_full { IsSteady (D.state self.old.shelf.disk) self.old.shelf.frames → IfOk result (λ did. IfSome did (λ _.
-            self.old.most ≤ size (node_at (store_of (format_of K.KeyClass) (D.state self.old.shelf.disk).seen self.old.shelf).nodes page))) }
-        ensures refused { IsSteady (D.state self.old.shelf.disk) self.old.shelf.frames
-            → OnErr result (store_of (format_of K.KeyClass) (D.state self.new.shelf.disk).seen self.new.shelf ≡ store_of (format_of K.KeyClass) (D.state self.old.shelf.disk).seen self.old.shelf) }
-        ensures why { IfErr result (IsWhy (faults.IsWhy (is_node (format_of K.KeyClass)) (D.state self.old.shelf.disk) (D.state self.new.shelf.disk) (begun self.old 12314) self.new.shelf)) }
-        ensures full { IsSteady (D.state self.old.shelf.disk) self.old.shelf.frames → result ≡ Err StepFault.PagesFull → self.old.shelf.pages ≤ self.old.shelf.used }
-        ensures placed { IsSteady (D.state self.old.shelf.disk) self.old.shelf.frames → result ≡ Err StepFault.PagesFull
-            → ¬ HasNoPlace (rules_of K.Key.Shape self.old.most) (tree_of (store_of (format_of K.KeyClass) (D.state self.old.shelf.disk).seen self.old.shelf)) page parent }
-        ensures damaged { IsSteady (D.state self.old.shelf.disk) self.old.shelf.frames → result ≡ Err StepFault.Damaged
-            → Legal (rules_of K.Key.Shape self.old.most) (tree_of (store_of (format_of K.KeyClass) (D.state self.old.shelf.disk).seen self.old.shelf))
-            → Used (tree_of (store_of (format_of K.KeyClass) (D.state self.old.shelf.disk).seen self.old.shelf)) page
-            → Used (tree_of (store_of (format_of K.KeyClass) (D.state self.old.shelf.disk).seen self.old.shelf)) parent → page ≢ parent
-            → 0 < (node_at (store_of (format_of K.KeyClass) (D.state self.old.shelf.disk).seen self.old.shelf).nodes parent).level
-            → self.old.most ≤ size (node_at (store_of (format_of K.KeyClass) (D.state self.old.shelf.disk).seen self.old.shelf).nodes page)
+        ensures only_full { IsSteadyAs D.state self.old.shelf
+            → IfOk result (λ did. IfSome did (λ _. self.old.most ≤ size
+            (node_at (store_at K.KeyClass D.state self.old.shelf).nodes page))) }
+        ensures refused { IsSteadyAs D.state self.old.shelf
+            → OnErr result (ShowsTheSame K.KeyClass D.state self.old.shelf self.new.shelf) }
+        ensures why { IfErr result (IsWhyAs K.KeyClass D.state (begun self.old SPLIT_RECORD) self.new.shelf) }
+        ensures full { IsSteadyAs D.state self.old.shelf → result ≡ Err StepFault.PagesFull
+            → self.old.shelf.pages ≤ self.old.shelf.used }
+        ensures placed { IsSteadyAs D.state self.old.shelf → result ≡ Err StepFault.PagesFull
+            → ¬ HasNoPlace (rules_of K.Key.Shape self.old.most) (tree_at K.KeyClass D.state self.old.shelf) page
+            parent }
+        ensures damaged { IsSteadyAs D.state self.old.shelf → result ≡ Err StepFault.Damaged
+            → Legal (rules_of K.Key.Shape self.old.most) (tree_at K.KeyClass D.state self.old.shelf)
+            → Used (tree_at K.KeyClass D.state self.old.shelf) page
+            → Used (tree_at K.KeyClass D.state self.old.shelf) parent → page ≢ parent
+            → 0 < (node_at (store_at K.KeyClass D.state self.old.shelf).nodes parent).level
+            → self.old.most ≤ size (node_at (store_at K.KeyClass D.state self.old.shelf).nodes page)
             → self.old.shelf.counter + 1 < 2 ^ 64 → ⊥ }
         ensures memory { result ≢ Err StepFault.Memory }
     {
-        begin(&self.log, &mut self.store, 12314);
+        begin(&self.log, &mut self.store, SPLIT_RECORD);
         let Some(split) = split_step(&mut self.store, page, parent, self.most, keys)? else {
             return Ok(None);
         };

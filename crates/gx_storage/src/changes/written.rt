@@ -1,31 +1,31 @@
 //! The record of a write.
 ghost use Rattle.std.specs.Prelude.{◌≡◌, ◌≤◌, ◌<◌, ◌+◌, length};
 ghost use Rattle.gx_glog.specs.declared.stage.Turn.TheVariants.{Closed};
-ghost use Rattle.gx_node.specs.Reading.{format_of};
+ghost use Rattle.gx_glog.specs.declared.extent.TheConstants.{BODY_ROOM, PLACES};
 ghost use Rattle.gx_page.specs.Format.{IsWellFormed};
 ghost use Rattle.gx_record.specs.Seen.{is_marked};
-ghost use Rattle.gx_readings.specs.Classes.{reading_of};
+ghost use Rattle.gx_record.specs.Writing.{write_record};
 ghost use Rattle.gx_store.specs.Standing.{standing};
 ghost use Rattle.gx_store.specs.State.{IsHeld};
-ghost use Rattle.gx_storage.specs.Changes.{IsLast, known_at, write_of};
-ghost use Rattle.gx_storage.specs.Numbers.{HasOwnNumber};
+ghost use Rattle.gx_storage.specs.Changes.{write_of};
+ghost use Rattle.gx_storage.specs.Setting.{IsLastAs, OwnNumberAs};
 
 use gx_disk::SectorDisk;
 use gx_durable::calls::append;
 use gx_glog::Glog;
 use gx_readings::{OfClass, ReadKeys};
-use gx_record::{Mark, Record};
+use gx_record::{Mark, Record, WRITE_BESIDE_KEY};
 use gx_store::PageStore;
 
 /// How many bytes the record of a write has.
 pub(crate) fn write_size<K: ReadKeys>() -> usize
-    ensures { result ≡ K.KEY + 4119 }
+    ensures { result ≡ write_record K.KEY }
 {
-    K::KEY + 4119
+    K::KEY + WRITE_BESIDE_KEY
 }
 
-/// Appends the record of a write: the transaction changed the entry's mark, or added it, on a leaf, of which the record has the
-/// image as it is held. The key's bytes are written over `spelled`.
+/// Appends the record of a write: the transaction changed the entry's mark, or added it, on a leaf, of which the
+/// record has the image as it is held. The key's bytes are written over `spelled`.
 pub(crate) fn write_record<D: SectorDisk, K: ReadKeys>(
     log: &mut Glog,
     store: &PageStore<D, K>,
@@ -37,16 +37,17 @@ pub(crate) fn write_record<D: SectorDisk, K: ReadKeys>(
     after: Mark,
     leaf: u32,
 )
-    requires place { log.old.used < 32 }
+    requires place { log.old.used < PLACES }
     requires still { log.old.turn ≡ Closed }
-    requires room { length log.old.filling + (K.KEY + 4119) ≤ 32764 }
+    requires room { length log.old.filling + write_record K.KEY ≤ BODY_ROOM }
     requires held { IsHeld store.now leaf }
     requires spelled { length spelled.old ≡ K.KEY }
-    ensures last { IsLast (known_at K.Key.Shape K.is_proper) (reading_of K.said (format_of K.KeyClass))
-        (write_of K.spelling transaction row key (is_marked before) (is_marked after) leaf (D.state store.now.disk).seen store.now) log.old log.new }
+    ensures last { IsLastAs K.Key.Shape K.is_proper K.said K.KeyClass
+        (write_of K.spelling transaction row key (is_marked before) (is_marked after) leaf (D.state store.now.disk).seen
+        store.now) log.old log.new }
     ensures formed { IsWellFormed (standing store.now.frames (D.state store.now.disk).seen leaf) }
     ensures spelled { length spelled.new ≡ K.KEY }
-    ensures own { HasOwnNumber (D.state store.now.disk).seen store.now leaf }
+    ensures own { OwnNumberAs D.state store.now leaf }
 {
     K::known(&key);
     store.in_order();

@@ -20,7 +20,8 @@ impl<K: KeyClass> Edit<K> for SetBound<K::Key> {
 
     ghost fits = { λ e room node. (0 < node.level) × (e.slot < length node.children) };
 
-    ghost edits = { λ e old new. (c : Child K.Key) → slice_get old.children e.slot ≡ Some c → new ≡ with_children old (slice_set old.children e.slot (bounded_by e.bound c)) };
+    ghost edits = { λ e old new. (c : Child K.Key) → slice_get old.children e.slot ≡ Some c
+        → new ≡ with_children old (slice_set old.children e.slot (bounded_by e.bound c)) };
 
     fn apply(self, page: &mut Page, _room: u32) {
         inner_edits::set_bound::<K>(page, self.slot, self.bound, _room);
@@ -41,9 +42,11 @@ impl<K: KeyClass> Edit<K> for AppendChild<K::Key> {
     ghost use Rattle.gx_node.specs.Edits.{with_children};
     ghost use Rattle.gx_node.specs.declared.items.TheConstants.{MAX_ENTRIES};
 
-    ghost fits = { λ e room node. (0 < node.level) × (length node.children < MAX_ENTRIES) × (1 ≤ e.page) × (e.page ≤ room) };
+    ghost fits = { λ e room node. (0 < node.level) × (length node.children < MAX_ENTRIES) × (1 ≤ e.page)
+        × (e.page ≤ room) };
 
-    ghost edits = { λ e old new. new ≡ with_children old (old.children ++ record { key = e.bound; page = e.page } ∷ []) };
+    ghost edits = { λ e old new.
+        new ≡ with_children old (old.children ++ record { key = e.bound; page = e.page } ∷ []) };
 
     fn apply(self, page: &mut Page, _room: u32) {
         inner_edits::append::<K>(page, self.bound, self.page, _room);
@@ -62,14 +65,16 @@ pub struct RaiseRoot<B> {
 impl<K: KeyClass> Edit<K> for RaiseRoot<K::Key> {
     ghost use Rattle.std.specs.Prelude.{◌≡◌, ◌<◌, ◌≤◌, ◌+◌, ◌^◌, suc, ◌∷◌, []};
 
-    ghost fits = { λ e room node. (node.level + 1 < 2 ^ 16) × (1 ≤ e.first.page) × (e.first.page ≤ room) × (1 ≤ e.second.page) × (e.second.page ≤ room) };
+    ghost fits = { λ e room node. (node.level + 1 < 2 ^ 16) × (1 ≤ e.first.page) × (e.first.page ≤ room)
+        × (1 ≤ e.second.page) × (e.second.page ≤ room) };
 
     ghost edits = { λ e old new. new ≡ record {
       level = suc old.level;
       nsn = old.nsn;
       right = old.right;
       pairs = [];
-      children = record { key = e.first.bound; page = e.first.page } ∷ record { key = e.second.bound; page = e.second.page } ∷ [];
+      children = record { key = e.first.bound; page = e.first.page }
+          ∷ record { key = e.second.bound; page = e.second.page } ∷ [];
     } };
 
     fn apply(self, page: &mut Page, _room: u32) {

@@ -43,7 +43,8 @@ impl<K: KeyClass> Edit<K> for SetMark {
 
     ghost fits = { λ e room node. (node.level ≡ 0) × (e.slot < length node.pairs) };
 
-    ghost edits = { λ e old new. (x : Pair K.Key) → slice_get old.pairs e.slot ≡ Some x → new ≡ with_pairs old (slice_set old.pairs e.slot (marked_as e.marked x)) };
+    ghost edits = { λ e old new. (x : Pair K.Key) → slice_get old.pairs e.slot ≡ Some x
+        → new ≡ with_pairs old (slice_set old.pairs e.slot (marked_as e.marked x)) };
 
     fn apply(self, page: &mut Page, _room: u32) {
         leaf_edits::set_mark::<K>(page, self.slot, self.marked);

@@ -19,7 +19,8 @@ impl<'a, K: KeyClass> Edit<K> for KeepSide<'a> {
 
     ghost fits = { λ e room node. length e.sides.now ≡ size node };
 
-    ghost edits = { λ e old new. new ≡ node_with old old.nsn old.right (staying e.sides.now old.pairs) (staying e.sides.now old.children) };
+    ghost edits = { λ e old new. new ≡ node_with old old.nsn old.right (staying e.sides.now old.pairs)
+        (staying e.sides.now old.children) };
 
     fn apply(self, page: &mut Page, _room: u32) {
         if page.level() == 0 {

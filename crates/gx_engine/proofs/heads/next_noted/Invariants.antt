@@ -1,4 +1,4 @@
-use Rattle.gx_engine.specs.Putting.{IsNextOf, from_of}
+use Rattle.gx_engine.specs.Heads.{IsNextOf, from_of}
 use Rattle.gx_engine.proofs.heads.next_noted.Given as goal
 
 -- the next one of the sessions so far

@@ -1,29 +1,33 @@
 use Rattle.std.proofs.Common.{Err, ℕ, List, [], ◌∷◌, ◌++◌, replicate}
 use Rattle.std.proofs.lemmas.Result.{err_from_is_err_and}
+use Rattle.gx_disk.specs.declared.layout.TheConstants.{PAGES_AT, PAGE_SECTORS}
 use Rattle.gx_page.specs.Edits.{blank}
 use Rattle.gx_page.specs.Format.{image_of}
+use Rattle.gx_glog.specs.declared.parameters.TheConstants.{PARAMETERS}
+use Rattle.gx_glog.specs.declared.extent.TheConstants.{BODIES_A, BODY_SECTORS, GATES_A, GATES_B, PLACES, SELECTOR}
 use Rattle.gx_glog.specs.declared.extent.Extent.TheVariants.{A}
 use Rattle.gx_glog.specs.First.{closed_gates_bytes, first_body_bytes, open_gate_bytes, selector_bytes}
 use Rattle.gx_glog.specs.Parameters.{parameters_bytes}
+use Rattle.gx_format.specs.declared.fresh.TheConstants.{PAGE_2}
 use Rattle.gx_format.specs.Calls.{Call, Write, Sync}
 use Rattle.gx_format.proofs.Running.{goes_on, ends_there, run_joined}
 use Rattle.gx_format.proofs.fresh.lay.Goals as goal
 
 -- the calls of each part
 abbrev told : List ℕ → List Call
-told parameters = Write 1 1 parameters ∷ Write 2 1 (selector_bytes A) ∷ []
+told parameters = Write PARAMETERS 1 parameters ∷ Write SELECTOR 1 (selector_bytes A) ∷ []
 
 abbrev gates : List Call
-gates = Write 8 32 closed_gates_bytes ∷ Write 2088 32 closed_gates_bytes ∷ []
+gates = Write GATES_A PLACES closed_gates_bytes ∷ Write GATES_B PLACES closed_gates_bytes ∷ []
 
 abbrev pages : List ℕ → List Call
-pages root = Write 4168 8 root ∷ Write 4176 8 (image_of (blank 0 2)) ∷ []
+pages root = Write PAGES_AT PAGE_SECTORS root ∷ Write PAGE_2 PAGE_SECTORS (image_of (blank 0 2)) ∷ []
 
 abbrev body : List Call
-body = Write 40 64 first_body_bytes ∷ Sync ∷ []
+body = Write BODIES_A BODY_SECTORS first_body_bytes ∷ Sync ∷ []
 
 abbrev opening : List Call
-opening = Write 8 1 open_gate_bytes ∷ Sync ∷ []
+opening = Write GATES_A 1 open_gate_bytes ∷ Sync ∷ []
 
 pub returns-in_err-close_gates-clause-runs : goal.returns-in_err-close_gates-clause-runs
 returns-in_err-close_gates-clause-runs g c =

@@ -1,4 +1,6 @@
 use Rattle.std.proofs.Common.{◌-◌, ◌≡◌, ◌*◌, ◌≤◌, true, length, Ok}
+use Rattle.gx_record.specs.declared.sizes.TheConstants.{END_RECORD}
+use Rattle.gx_glog.specs.declared.extent.TheConstants.{BODY_ROOM, PLACES}
 use Rattle.gx_disk.specs.Looks.{Looks}
 use Rattle.gx_recovery.specs.Known.{Limits}
 use Rattle.gx_found_log.specs.Found.{ReadSoFar, ReadsAlone}
@@ -7,9 +9,9 @@ use Rattle.gx_found_log.proofs.found.on_extent.Given as goal
 -- the bodies before place i are read, and nothing was done but that
 abbrev pub invariant-loop-i : goal.invariant-loop-i
 invariant-loop-i g l = record {
-  few : l.i ≤ 32;
+  few : l.i ≤ PLACES;
   room : length l.body ≡ length l.fn.body;
-  closed : 9 * length l.analysis.closed ≤ 32764 * l.i;
+  closed : END_RECORD * length l.analysis.closed ≤ BODY_ROOM * l.i;
   reads : ReadsAlone {T = Unit {0}} (g.D.SectorDisk.state l.fn.disk) (g.D.SectorDisk.state l.disk) (Ok tt);
   looks : (g.D.SectorDisk.state l.fn.disk).honest ≡ true → Looks (g.D.SectorDisk.state l.fn.disk) (g.D.SectorDisk.state l.disk);
   on : (g.D.SectorDisk.state l.fn.disk).honest ≡ true → (d : Limits) → (g.M.Meaning.known d).cmp ≡ g.M.Entry.Ord.cmp
@@ -18,4 +20,4 @@ invariant-loop-i g l = record {
 }
 
 abbrev pub decreases-loop-i : goal.decreases-loop-i
-decreases-loop-i g l = 32 - l.i
+decreases-loop-i g l = PLACES - l.i

@@ -1,5 +1,5 @@
 use Rattle.std.proofs.Common.{ℕ, List, inl, subst, ◌∙◌}
-use Rattle.gx_command.specs.Streams.{TellsPerson, stream_of}
+use Rattle.gx_commands.specs.Streams.{TellsPerson, stream_of}
 use Rattle.gx_front.proofs.files.tell_file.Goals as goal
 
 pub returns-in-Some : goal.returns-in-Some

@@ -1,15 +1,15 @@
-use Rattle.std.proofs.Common.{◌≡◌, ◌∙◌, ap, inl, map, rules}
-use Rattle.clap.specs.Words.{fault_of, kind_of}
-use Rattle.clap.specs.declared.error.kind.ErrorKind.TheVariants.{OutOfMemory}
-use Rattle.gx_words.specs.Program.{gist_app}
-use Rattle.gx_front.proofs.Wrong.{no_memory_fault, some_fault}
+use Rattle.std.proofs.Common.{map}
+use Rattle.gx_front.proofs.Storming.{awaits_small, few_calls, stormed}
 use Rattle.gx_front.proofs.program.gist.Goals as goal
 
-pub returns-in-Err-2 : goal.returns-in-Err-2
-returns-in-Err-2 g c =
-    let other = λ (same : kind_of c.in-Err-2.error ≡ OutOfMemory).
-    no_memory_fault c.kind.result c.if-eq.ensures (c.kind.ensures ∙ (ap kind_of c.in-Err-2.error-is ∙ same)) in
-    rw c.in-Ok.is (inl (
-      some_fault (fault_of gist_app (map g.S.AsStr.text c.in-Ok.given.now)) c.in-Err-2.error c.in-Err-2.ensures.wrong other,
-      record { status_is = c.refuse_words.ensures; unread = search rules; unwritten = search rules },
-    ))
+pub tell_storm-requires-clause-sessions : goal.tell_storm-requires-clause-sessions
+tell_storm-requires-clause-sessions g c = λ κs. λ live.
+    (awaits_small (λ given. map g.S.AsStr.text given.now) c.in-Err.storm _ _ _ _ c.args.words c.in-Err.ensures.storm).sessions
+
+pub tell_storm-requires-clause-calls : goal.tell_storm-requires-clause-calls
+tell_storm-requires-clause-calls g c = λ κs. λ live.
+    few_calls c.in-Err.storm (awaits_small (λ given. map g.S.AsStr.text given.now) c.in-Err.storm _ _ _ _ c.args.words c.in-Err.ensures.storm)
+
+pub returns-in-Err : goal.returns-in-Err
+returns-in-Err g c =
+    stormed (λ given. map g.S.AsStr.text given.now) c.in-Err.storm _ _ _ _ _ _ _ _ c.args.words _ c.tell_storm.result c.in-Err.ensures.storm c.tell_storm.ensures

@@ -2,6 +2,7 @@ use Rattle.std.proofs.Common.{ℕ, ◌-◌, ◌≡◌, ◌<◌, ◌≤◌, true,
 use Rattle.gx_disk.specs.Device.{Counts}
 use Rattle.gx_disk.specs.Looks.{Looks}
 use Rattle.gx_geom.specs.declared.refusal.Refusal.{Refusal}
+use Rattle.gx_glog.specs.declared.extent.TheConstants.{PLACES}
 use Rattle.gx_glog.specs.Layout.{is_open}
 use Rattle.gx_glog.proofs.later.has_open_gate.Given as goal
 
@@ -16,4 +17,4 @@ invariant-loop-i g l = record {
 }
 
 abbrev pub decreases-loop-i : goal.decreases-loop-i
-decreases-loop-i g l = 32 - l.i
+decreases-loop-i g l = PLACES - l.i

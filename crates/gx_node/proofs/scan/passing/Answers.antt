@@ -1,5 +1,6 @@
 use Rattle.std.proofs.Common.{◌≡◌, ◌∙◌, ◌<◌, ◌+◌, ◌-◌, ◌*◌, ap, refl, arith, [], length, take, List, ℕ, min}
 use Rattle.gx_page.proofs.Images.{length-heap}
+use Rattle.gx_node.specs.declared.passing.TheConstants.{BLOCK}
 use Rattle.gx_node.specs.Hits.{hits_among}
 use Rattle.gx_node.specs.Reading.{format_of, has_key, key_of}
 use Rattle.gx_node.proofs.Heaps.{heap_front, cut_item}
@@ -83,5 +84,5 @@ pub returns : goal.returns
 returns g c =
     let count = c.min-count.ensures in
     let all = c.count.ensures.count in
-    let end : c.loop-place.place ≡ min 64 (length c.args.page.now.items - c.args.from) = omega arith in
+    let end : c.loop-place.place ≡ min BLOCK (length c.args.page.now.items - c.args.from) = omega arith in
     c.of.ensures ∙ c.loop-place.invariant.gathering.hits ∙ ap (hits_among _ c.args.from) end

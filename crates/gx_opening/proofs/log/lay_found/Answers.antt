@@ -1,13 +1,13 @@
 use Rattle.std.proofs.Common.{inl, inr}
 use Rattle.gx_opening.proofs.Laying.{none_laid, redone_lays, redo_refused}
 use Rattle.gx_opening.proofs.log.lay_found.Goals as goal
-use Rattle.gx_opening.proofs.log.lay_found.Goals.{then-found-eq0-via-then-found-eq0, then-found-eq0-via-else-found-eq0+then-found-gt32}
+use Rattle.gx_opening.proofs.log.lay_found.Goals.{then-found-eq0-via-then-found-eq0, then-found-eq0-via-else-found-eq0+then-found-gt-PLACES}
 
 pub returns-then-found-eq0-clause-lays : goal.returns-then-found-eq0-clause-lays
 returns-then-found-eq0-clause-lays g c = λ l same lawful honest settled is.
     none_laid _ _ (g.D.SectorDisk.state c.args.disk.now) c.args.found is (elim c.then-found-eq0.branch [
       | then-found-eq0-via-then-found-eq0 w ↦ inl w.if-found-eq0.true
-      | then-found-eq0-via-else-found-eq0+then-found-gt32 w ↦ inr w.if-found-gt32.true
+      | then-found-eq0-via-else-found-eq0+then-found-gt-PLACES w ↦ inr w.if-found-gt-PLACES.true
     ])
 
 pub returns-in-Ok-clause-lays : goal.returns-in-Ok-clause-lays

@@ -1,4 +1,5 @@
 use Rattle.std.proofs.Common.{◌≤◌, ◌∙◌, inl, inr, refl, arith}
+use Rattle.gx_disk.specs.declared.layout.TheConstants.{MIN_SECTORS}
 use Rattle.gx_found_log.specs.declared.found.FoundLog.{FoundLog}
 use Rattle.gx_glog.specs.declared.parameters.Parameters.{Parameters}
 use Rattle.gx_machine.specs.declared.entry.Entry.{Entry}
@@ -23,7 +24,7 @@ returns-in-Ok-lay_log-clause-safe g c = λ honest.
     let p = c.in-Ok.parameters in
     let settles = c.in-Ok.ensures.settles honest in
     let allowed = c.in-Ok.ensures.allowed in
-    let enough : 4232 ≤ a.sectors = (let least = allowed.0.range.least_pages in let large = allowed.1 in omega (arith, least, large)) in
+    let enough : MIN_SECTORS ≤ a.sectors = (let least = allowed.0.range.least_pages in let large = allowed.1 in omega (arith, least, large)) in
     let formatted = formatted_so shape proper said f _ a b p enough settles in
     let lays = c.in-Ok-lay_log.ensures.lays (limits_of p) refl (c.what_stands_is_legal.ensures.lawful (limits_of p)) (c.in-Ok.ensures.counted.honest ∙ honest) settles.settled in
     stood_safe shape proper said f 0 a b e p formatted.says settles.only lays.leaves)
@@ -41,7 +42,7 @@ returns-in-Ok-lay_log-clause-stood g c = λ honest large.
     let p = c.in-Ok.parameters in
     let settles = c.in-Ok.ensures.settles honest in
     let allowed = c.in-Ok.ensures.allowed in
-    let enough : 4232 ≤ a.sectors = (let least = allowed.0.range.least_pages in let large = allowed.1 in omega (arith, least, large)) in
+    let enough : MIN_SECTORS ≤ a.sectors = (let least = allowed.0.range.least_pages in let large = allowed.1 in omega (arith, least, large)) in
     let formatted = formatted_so shape proper said f _ a b p enough settles in
     let lays = c.in-Ok-lay_log.ensures.lays (limits_of p) refl (c.what_stands_is_legal.ensures.lawful (limits_of p)) (c.in-Ok.ensures.counted.honest ∙ honest) settles.settled in
     (formatted, laid_so shape proper said f 0 a b e p formatted.says settles.only c.in-Ok-lay_log.log lays))
@@ -59,7 +60,7 @@ returns-in-Err-lay_log-clause-safe g c = λ honest.
     let p = c.in-Ok.parameters in
     let settles = c.in-Ok.ensures.settles honest in
     let allowed = c.in-Ok.ensures.allowed in
-    let enough : 4232 ≤ a.sectors = (let least = allowed.0.range.least_pages in let large = allowed.1 in omega (arith, least, large)) in
+    let enough : MIN_SECTORS ≤ a.sectors = (let least = allowed.0.range.least_pages in let large = allowed.1 in omega (arith, least, large)) in
     let formatted = formatted_so shape proper said f _ a b p enough settles in
     let lays = c.in-Err-lay_log.ensures.lays (limits_of p) refl (c.what_stands_is_legal.ensures.lawful (limits_of p)) (c.in-Ok.ensures.counted.honest ∙ honest) settles.settled in
     stood_safe shape proper said f 0 a b e p formatted.says settles.only lays.leaves)
@@ -77,7 +78,7 @@ returns-in-Err-lay_log-clause-stood g c = λ honest large.
     let p = c.in-Ok.parameters in
     let settles = c.in-Ok.ensures.settles honest in
     let allowed = c.in-Ok.ensures.allowed in
-    let enough : 4232 ≤ a.sectors = (let least = allowed.0.range.least_pages in let large = allowed.1 in omega (arith, least, large)) in
+    let enough : MIN_SECTORS ≤ a.sectors = (let least = allowed.0.range.least_pages in let large = allowed.1 in omega (arith, least, large)) in
     let formatted = formatted_so shape proper said f _ a b p enough settles in
     let lays = c.in-Err-lay_log.ensures.lays (limits_of p) refl (c.what_stands_is_legal.ensures.lawful (limits_of p)) (c.in-Ok.ensures.counted.honest ∙ honest) settles.settled in
     inr (unlaid_so shape proper said f _ a b e p formatted.says settles.only c.in-Err-lay_log.why formatted c.in-Err-lay_log.ensures.faults lays))
@@ -107,7 +108,7 @@ returns-in-Ok-lay_log-clause-order g c = λ honest.
     let p = c.in-Ok.parameters in
     let settles = c.in-Ok.ensures.settles honest in
     let allowed = c.in-Ok.ensures.allowed in
-    let enough : 4232 ≤ a.sectors = (let least = allowed.0.range.least_pages in let large = allowed.1 in omega (arith, least, large)) in
+    let enough : MIN_SECTORS ≤ a.sectors = (let least = allowed.0.range.least_pages in let large = allowed.1 in omega (arith, least, large)) in
     let lays = c.in-Ok-lay_log.ensures.lays (limits_of p) refl (c.what_stands_is_legal.ensures.lawful (limits_of p)) (c.in-Ok.ensures.counted.honest ∙ honest) settles.settled in
     laid_in_order shape proper said f state a (state c.lay_log.new.disk) c.formatted_for.new.disk p (formatted_so shape proper said f _ a b p enough settles).says
     (synced_so _ a b p c.in-Ok.ensures.counted c.in-Ok.ensures.synced settles) c.in-Ok-lay_log.log lays)
@@ -125,7 +126,7 @@ returns-in-Err-lay_log-clause-order g c = λ honest.
     let p = c.in-Ok.parameters in
     let settles = c.in-Ok.ensures.settles honest in
     let allowed = c.in-Ok.ensures.allowed in
-    let enough : 4232 ≤ a.sectors = (let least = allowed.0.range.least_pages in let large = allowed.1 in omega (arith, least, large)) in
+    let enough : MIN_SECTORS ≤ a.sectors = (let least = allowed.0.range.least_pages in let large = allowed.1 in omega (arith, least, large)) in
     let lays = c.in-Err-lay_log.ensures.lays (limits_of p) refl (c.what_stands_is_legal.ensures.lawful (limits_of p)) (c.in-Ok.ensures.counted.honest ∙ honest) settles.settled in
     let why = c.in-Err-lay_log.why in
     unlaid_in_order shape proper said f state a e c.formatted_for.new.disk p (formatted_so shape proper said f _ a b p enough settles).says

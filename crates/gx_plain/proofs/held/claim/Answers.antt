@@ -4,7 +4,7 @@ use Rattle.gx_machine.specs.Keys.{IsLawful, keys}
 use Rattle.gx_machine.specs.Sets.{has}
 use Rattle.gx_machine.specs.Invariants.{Covered}
 use Rattle.gx_machine.proofs.SessionMoves.{has_included, included_covers}
-use Rattle.gx_locks.proofs.SetLemmas.{length-including}
+use Rattle.gx_machine.proofs.SetLemmas.{length-including}
 use Rattle.gx_plain.proofs.held.claim.Goals as goal
 
 pub put-requires : goal.put-requires

@@ -4,7 +4,7 @@ use Rattle.gx_machine.specs.declared.call.Call.{Call}
 use Rattle.gx_machine.specs.Keys.{Keys, keys}
 use Rattle.gx_machine.specs.Sessions.{Session, session_conflicts}
 use Rattle.gx_machine.specs.Machine.{least_conflicting}
-use Rattle.gx_locks.specs.Least.{least_barring}
+use Rattle.gx_machine.specs.Least.{least_barring}
 use Rattle.gx_plain.proofs.index.least_conflicting.Goals as goal
 
 -- the machine's least session is the least that bars

@@ -13,5 +13,9 @@ returns c =
     ∙ ap₂ with_subcommand with_plain (ap (λ (a : App). a.top) c.in_ok-format.ensures.0) in
     let with_run = c.in_ok-subcommand-3.ensures.shape c.in_ok-run.ensures.1
     ∙ ap₂ with_subcommand with_format (ap (λ (a : App). a.top) c.in_ok-run.ensures.0) in
-    IfOk-weaker c.subcommand-4.result _ _
-    (λ r adds. adds.shape c.in_ok-dump.ensures.1 ∙ ap₂ with_subcommand with_run (ap (λ (a : App). a.top) c.in_ok-dump.ensures.0)) c.subcommand-4.ensures
+    let with_dump = c.in_ok-subcommand-4.ensures.shape c.in_ok-dump.ensures.1
+    ∙ ap₂ with_subcommand with_run (ap (λ (a : App). a.top) c.in_ok-dump.ensures.0) in
+    let with_verify = c.in_ok-subcommand-5.ensures.shape c.in_ok-verify.ensures.1
+    ∙ ap₂ with_subcommand with_dump (ap (λ (a : App). a.top) c.in_ok-verify.ensures.0) in
+    IfOk-weaker c.subcommand-6.result _ _
+    (λ r adds. adds.shape c.in_ok-storm.ensures.1 ∙ ap₂ with_subcommand with_verify (ap (λ (a : App). a.top) c.in_ok-storm.ensures.0)) c.subcommand-6.ensures

@@ -3,7 +3,7 @@ use Rattle.gx_machine.specs.declared.call.Call.TheVariants.{Insert}
 use Rattle.gx_phases.specs.States.{phase_at}
 use Rattle.gx_engine.specs.declared.work.Work.TheVariants.{Descends, Rests}
 use Rattle.gx_engine.specs.States.{Parts}
-use Rattle.gx_engine.proofs.Looking.{replaced}
+use Rattle.gx_engine.proofs.LookMoves.{replaced}
 use Rattle.gx_engine.proofs.WriteLooks.{descends_moves}
 use Rattle.gx_engine.proofs.engine.Engine.begin_descent.Goals as goal
 

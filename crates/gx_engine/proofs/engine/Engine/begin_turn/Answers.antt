@@ -8,7 +8,7 @@ use Rattle.gx_engine.specs.declared.checkpoint.Checkpoint.{Checkpoint}
 use Rattle.gx_engine.specs.declared.checkpoint.Checkpoint.TheVariants.{Running}
 use Rattle.gx_engine.specs.Checkpoints.{IsQuiet}
 use Rattle.gx_engine.specs.States.{Parts, StandsIn}
-use Rattle.gx_engine.proofs.Checkpointing.{running_is_calm}
+use Rattle.gx_engine.proofs.CheckpointTurns.{running_is_calm}
 use Rattle.gx_engine.proofs.TurnBegins.{never_full, sync_fails, turn_led}
 use Rattle.gx_engine.proofs.engine.Engine.begin_turn.Goals as goal
 

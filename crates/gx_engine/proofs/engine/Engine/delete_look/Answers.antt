@@ -8,7 +8,7 @@ use Rattle.gx_phases.specs.Moves.{is_open}
 use Rattle.gx_phases.specs.States.{phase_at}
 use Rattle.gx_engine.specs.declared.work.Work.{Work}
 use Rattle.gx_engine.specs.declared.work.Work.TheVariants.{Looks}
-use Rattle.gx_engine.specs.Looking.{LooksFor}
+use Rattle.gx_engine.specs.Looks.{LooksFor}
 use Rattle.gx_engine.specs.Moves.{calling}
 use Rattle.gx_engine.specs.States.{Parts}
 use Rattle.gx_engine.proofs.Further.{reached_reply}

@@ -8,11 +8,13 @@ use Rattle.gx_node.specs.declared.fault.StepFault.TheVariants.{Damaged}
 use Rattle.gx_phases.specs.Moves.{failed_state}
 use Rattle.gx_phases.specs.States.{IsKept, phase_at}
 use Rattle.gx_store.specs.declared.fault.StoreFault.{StoreFault}
+use Rattle.gx_record.specs.declared.sizes.TheConstants.{PAGE_RECORD, SPLIT_RECORD}
+use Rattle.gx_record.specs.Writing.{write_record}
 use Rattle.gx_engine.specs.declared.work.Work.TheVariants.{Descends}
 use Rattle.gx_engine.specs.Moves.{Moves}
 use Rattle.gx_engine.specs.Refusals.{IsRefused}
 use Rattle.gx_engine.specs.States.{Parts}
-use Rattle.gx_engine.specs.Writing.{AsksRoom, IsFull, LacksPages, LeftFew, page_record, split_record, write_events, write_record}
+use Rattle.gx_engine.specs.Writes.{AsksRoom, IsFull, LacksPages, LeftFew, write_events}
 use Rattle.gx_tree.specs.declared.descent.Descended.TheVariants.{Again, Down, FullInner, FullLeaf, Leaf, Widened}
 use Rattle.gx_tree.specs.declared.descent.Way.TheVariants.{Add}
 use Rattle.gx_tree.specs.declared.descent.Descended.{Descended}
@@ -29,7 +31,7 @@ use Rattle.gx_engine.proofs.Descents.{again_moves, down_moves, widened_moves}
 use Rattle.gx_engine.proofs.MakingRoom.{asks_page, asks_split, asks_sweep, asks_write, comes_more, lacks_pages, on_comes, on_is}
 use Rattle.gx_engine.proofs.ReadFirst.{comes_then, few_then, moves_then}
 use Rattle.gx_engine.proofs.Stopping.{lost_comes, stopped_comes, stopped_moves}
-use Rattle.gx_engine.proofs.Undone.{why_pages}
+use Rattle.gx_engine.proofs.UndoMoves.{why_pages}
 use Rattle.gx_engine.proofs.Calling.{then_read}
 use Rattle.gx_engine.proofs.engine.Engine.descend_on.Goals as goal
 
@@ -159,7 +161,7 @@ returns-in-Leaf-clause-comes g c =
     comes_more k (is_node f) d e c.args.session (Insert c.args.entry) old c.add_here.new.self (λ size. size ≡ write_record key) (AsksRoom f key d c.args.session (Insert c.args.entry) old)
     (asks_write f key d c.args.session c.args.entry c.args.parent c.args.item old c.requires.descends (λ steady. ((has.steps steady).0.1, (has.steps steady).0.2)))
     ⊥ (LacksPages f d c.args.session (Insert c.args.entry) old) (λ none. absurd none) c.add_here.result
-    (comes_then k known r f (is_node f) 4114 d m e c.args.session c.args.entry old mid c.step_down.ensures.only has.logged (λ size. size ≡ write_record key) ⊥ ⊥ (λ none. none)
+    (comes_then k known r f (is_node f) PAGE_RECORD d m e c.args.session c.args.entry old mid c.step_down.ensures.only has.logged (λ size. size ≡ write_record key) ⊥ ⊥ (λ none. none)
     c.add_here.new.self c.add_here.result c.add_here.ensures.comes)
 
 pub returns-in-Leaf-clause-moves : goal.returns-in-Leaf-clause-moves
@@ -196,12 +198,12 @@ returns-in-FullLeaf-clause-comes g c =
     let key = g.K.KeyClass.KEY in
     let e = state c.make_room.new.self.volume.shelf.disk in
     let full : IsFull f d old page = λ steady. full_leaf (node_shown f d page old) old.volume.most (has.steps steady).0.2 in
-    comes_more k (is_node f) d e c.args.session (Insert c.args.entry) old c.make_room.new.self (λ size. (size ≡ page_record) ⊎ (size ≡ split_record)) (AsksRoom f key d c.args.session (Insert c.args.entry) old)
+    comes_more k (is_node f) d e c.args.session (Insert c.args.entry) old c.make_room.new.self (λ size. (size ≡ PAGE_RECORD) ⊎ (size ≡ SPLIT_RECORD)) (AsksRoom f key d c.args.session (Insert c.args.entry) old)
     (asks_sweep f key d c.args.session c.args.entry c.args.parent c.args.item old c.requires.descends full)
     (LeftFew d old page) (LacksPages f d c.args.session (Insert c.args.entry) old)
     (lacks_pages f key d c.args.session c.args.entry c.args.parent c.args.item old c.requires.descends full) c.make_room.result
-    (comes_then k known r f (is_node f) 4114 d m e c.args.session c.args.entry old mid c.step_down.ensures.only has.logged (λ size. (size ≡ page_record) ⊎ (size ≡ split_record)) (LeftFew m mid page) (LeftFew d old page)
-    (few_then k known r f (is_node f) 4114 d m e c.args.session c.args.entry old mid c.step_down.ensures.only has.logged (λ steady. (has.steps steady).1) page)
+    (comes_then k known r f (is_node f) PAGE_RECORD d m e c.args.session c.args.entry old mid c.step_down.ensures.only has.logged (λ size. (size ≡ PAGE_RECORD) ⊎ (size ≡ SPLIT_RECORD)) (LeftFew m mid page) (LeftFew d old page)
+    (few_then k known r f (is_node f) PAGE_RECORD d m e c.args.session c.args.entry old mid c.step_down.ensures.only has.logged (λ steady. (has.steps steady).1) page)
     c.make_room.new.self c.make_room.result (c.make_room.ensures.comes c.args.entry (ap (λ (x : Parts g.row.K-Key.Denot g.row.D.Denot). phase_at (c.args.session - 1) x.sessions.phases) c.step_down.ensures.only ∙ c.requires.descends)))
 
 pub returns-in-FullLeaf-clause-moves : goal.returns-in-FullLeaf-clause-moves
@@ -239,12 +241,12 @@ returns-in-FullInner-clause-comes g c =
     let key = g.K.KeyClass.KEY in
     let e = state c.split_here.new.self.volume.shelf.disk in
     let full : IsFull f d old page = λ steady. full_inner (node_shown f d page old) old.volume.most (has.steps steady).0.2 in
-    comes_more k (is_node f) d e c.args.session (Insert c.args.entry) old c.split_here.new.self (λ size. size ≡ split_record) (AsksRoom f key d c.args.session (Insert c.args.entry) old)
+    comes_more k (is_node f) d e c.args.session (Insert c.args.entry) old c.split_here.new.self (λ size. size ≡ SPLIT_RECORD) (AsksRoom f key d c.args.session (Insert c.args.entry) old)
     (asks_split f key d c.args.session c.args.entry c.args.parent c.args.item old c.requires.descends full)
     (LeftFew d old page) (LacksPages f d c.args.session (Insert c.args.entry) old)
     (lacks_pages f key d c.args.session c.args.entry c.args.parent c.args.item old c.requires.descends full) c.split_here.result
-    (comes_then k known r f (is_node f) 4114 d m e c.args.session c.args.entry old mid c.step_down.ensures.only has.logged (λ size. size ≡ split_record) (LeftFew m mid page) (LeftFew d old page)
-    (few_then k known r f (is_node f) 4114 d m e c.args.session c.args.entry old mid c.step_down.ensures.only has.logged (λ steady. (has.steps steady).1) page)
+    (comes_then k known r f (is_node f) PAGE_RECORD d m e c.args.session c.args.entry old mid c.step_down.ensures.only has.logged (λ size. size ≡ SPLIT_RECORD) (LeftFew m mid page) (LeftFew d old page)
+    (few_then k known r f (is_node f) PAGE_RECORD d m e c.args.session c.args.entry old mid c.step_down.ensures.only has.logged (λ steady. (has.steps steady).1) page)
     c.split_here.new.self c.split_here.result (c.split_here.ensures.comes c.args.entry (ap (λ (x : Parts g.row.K-Key.Denot g.row.D.Denot). phase_at (c.args.session - 1) x.sessions.phases) c.step_down.ensures.only ∙ c.requires.descends)))
 
 pub returns-in-FullInner-clause-moves : goal.returns-in-FullInner-clause-moves
@@ -272,7 +274,7 @@ returns-in-Err-Pages-clause-comes g c =
     let state = g.D.SectorDisk.state in
     let did = c.in-Err-Pages.ensures.step in
     stopped_comes _ _ k (is_node (format_of g.K.KeyClass)) state old c.args.session c.args.entry c.step_down.new.self.volume did.stops.unlogged.most did.stops.unlogged.log
-    c.requires.early (λ page. (did.stops.unlogged.since page).same.stamp) 4114 (asks_page (format_of g.K.KeyClass) g.K.KeyClass.KEY (state old.volume.shelf.disk) c.args.session c.args.entry c.args.parent c.args.item old c.requires.descends 4114 refl) (omega arith) c.in-Err-Pages.fault (why_pages _ c.in-Err-Pages.field-0 c.in-Err-Pages.fault c.in-Err-Pages.field-0-is did.stops.why)
+    c.requires.early (λ page. (did.stops.unlogged.since page).same.stamp) PAGE_RECORD (asks_page (format_of g.K.KeyClass) g.K.KeyClass.KEY (state old.volume.shelf.disk) c.args.session c.args.entry c.args.parent c.args.item old c.requires.descends PAGE_RECORD refl) (omega arith) c.in-Err-Pages.fault (why_pages _ c.in-Err-Pages.field-0 c.in-Err-Pages.fault c.in-Err-Pages.field-0-is did.stops.why)
     c.refuse.new.self c.refuse.result
     (subst (λ (x : Parts g.row.K-Key.Denot g.row.D.Denot). IsRefused c.in-Err-Pages.fault x c.refuse.new.self c.refuse.result) c.step_down.ensures.only
     (subst (λ (n : StoreFault). IsRefused n c.step_down.new.self c.refuse.new.self c.refuse.result) c.in-Err-Pages.fault-is c.refuse.ensures.refused))
@@ -287,7 +289,7 @@ returns-in-Err-Pages-clause-moves g c =
     let un = did.stops.unlogged in
     λ l. stopped_moves _ (c.a_class_is_lawful.ensures l) _ _ _ state old kept c.requires.works c.args.session c.requires.session c.args.entry _ c.requires.descends
     c.step_down.new.self.volume un.most un.log (un.since 0).goes_on.device (un.keeps l)
-    4114 c.in-Err-Pages.fault (why_pages _ c.in-Err-Pages.field-0 c.in-Err-Pages.fault c.in-Err-Pages.field-0-is did.stops.why)
+    PAGE_RECORD c.in-Err-Pages.fault (why_pages _ c.in-Err-Pages.field-0 c.in-Err-Pages.fault c.in-Err-Pages.field-0-is did.stops.why)
     c.refuse.new.self c.refuse.result
     (subst (λ (x : Parts g.row.K-Key.Denot g.row.D.Denot). IsRefused c.in-Err-Pages.fault x c.refuse.new.self c.refuse.result) c.step_down.ensures.only
     (subst (λ (n : StoreFault). IsRefused n c.step_down.new.self c.refuse.new.self c.refuse.result) c.in-Err-Pages.fault-is c.refuse.ensures.refused))

@@ -6,7 +6,7 @@ use Rattle.gx_storage.specs.Flushing.{HasNoRoom}
 use Rattle.gx_storage.specs.State.{Volume}
 use Rattle.gx_engine.specs.States.{Parts, is_due}
 use Rattle.gx_engine.proofs.Serving.{flies_on}
-use Rattle.gx_engine.proofs.Undone.{end_moves}
+use Rattle.gx_engine.proofs.UndoMoves.{end_moves}
 use Rattle.gx_engine.proofs.engine.Engine.end_undo.Goals as goal
 
 pub returns-in-Ok-clause-moves : goal.returns-in-Ok-clause-moves

@@ -1,7 +1,7 @@
 use Rattle.std.proofs.Common.{rules}
 use Rattle.gx_txn.specs.declared.note.Note.{Note}
 use Rattle.gx_engine.proofs.Framed.{marked_frames}
-use Rattle.gx_engine.proofs.Undone.{seeking}
+use Rattle.gx_engine.proofs.UndoMoves.{seeking}
 use Rattle.gx_engine.proofs.Ordered.{order_changed}
 use Rattle.gx_engine.proofs.Calling.{marked_read}
 use Rattle.gx_engine.proofs.engine.Engine.give_mark.Goals as goal

@@ -5,10 +5,10 @@ use Rattle.gx_node.specs.Reading.{format_of, is_node}
 use Rattle.gx_engine_laws.specs.Events.{Works}
 use Rattle.gx_phases.specs.States.{phase_at}
 use Rattle.gx_engine.specs.declared.work.Work.TheVariants.{Looks}
-use Rattle.gx_engine.specs.Looking.{LooksFor}
+use Rattle.gx_engine.specs.Looks.{LooksFor}
 use Rattle.gx_engine.specs.Moves.{calling}
 use Rattle.gx_engine.specs.States.{Parts}
-use Rattle.gx_engine.specs.Writing.{AsksRoom, LacksPages}
+use Rattle.gx_engine.specs.Writes.{AsksRoom, LacksPages}
 use Rattle.gx_engine.proofs.Calling.{then_read}
 use Rattle.gx_engine.proofs.Further.{reached_more}
 use Rattle.gx_engine.proofs.WriteLooks.{descends_comes, write_so}

@@ -6,14 +6,15 @@ use Rattle.gx_store.specs.State.{IsInOrder}
 use Rattle.gx_tree.specs.Wants.{wants}
 use Rattle.gx_phases.specs.Moves as moves
 use Rattle.gx_phases.specs.States.{IsKept, phase_at, with_phase_of}
+use Rattle.gx_disk.specs.declared.layout.TheConstants.{MAX_PAGES}
 use Rattle.gx_storage.specs.State.{Volume}
 use Rattle.gx_engine.specs.declared.work.Work.TheVariants.{Looks, Rests}
-use Rattle.gx_engine.specs.Looking.{turned_by, work_before}
+use Rattle.gx_engine.specs.Looks.{turned_by, work_before}
 use Rattle.gx_engine.specs.Moves.{calling}
 use Rattle.gx_engine.specs.States.{Parts}
-use Rattle.gx_engine.specs.Writing.{brought}
+use Rattle.gx_engine.specs.Writes.{brought}
 use Rattle.gx_engine.proofs.Further.{hand_on, put_on, read_there}
-use Rattle.gx_engine.proofs.Looking.{same_events}
+use Rattle.gx_engine.proofs.LookMoves.{same_events}
 use Rattle.gx_engine.proofs.Taking.{put_reads, put_write}
 use Rattle.gx_engine.proofs.WriteLooks.{at_look, may_find_none, none_left, stop_reads, stop_write, turned_moves}
 use Rattle.gx_engine.proofs.engine.Engine.look_on.Goals as goal
@@ -29,7 +30,7 @@ returns-then-is_done-clause-goes_on g c call writes phase l =
     let order = subst (λ (x : Parts g.row.K-Key.Denot g.row.D.Denot).
     IsInOrder (is_node (format_of g.K.KeyClass) x.volume.shelf.pages) (g.D.SectorDisk.state x.volume.shelf.disk).sectors x.volume.shelf.frames x.volume.shelf.used x.volume.shelf.pages)
     c.self-2.view_is c.in_order.ensures in
-    let small : e.volume.shelf.pages ≤ 65536 = subst (λ (n : ℕ). n ≤ 65536) (did.since 0).goes_on.pages order.few in
+    let small : e.volume.shelf.pages ≤ MAX_PAGES = subst (λ (n : ℕ). n ≤ MAX_PAGES) (did.since 0).goes_on.pages order.few in
     let few = subst (λ (x : Parts g.row.K-Key.Denot g.row.D.Denot). x.volume.most ≤ 100) c.self.view_is c.most.ensures.few in
     let takes = wants g.K.Probing.passes c.entry-wanted.result.keys c.entry-wanted.result.row in
     let leads = g.K.Probing.passes c.entry-wanted.result.bounds in
@@ -78,7 +79,7 @@ returns-in-Ok-clause-moves g c call writes phase l =
     let order = subst (λ (x : Parts g.row.K-Key.Denot g.row.D.Denot).
     IsInOrder (is_node (format_of g.K.KeyClass) x.volume.shelf.pages) (g.D.SectorDisk.state x.volume.shelf.disk).sectors x.volume.shelf.frames x.volume.shelf.used x.volume.shelf.pages)
     c.self-2.view_is c.in_order.ensures in
-    let small : e.volume.shelf.pages ≤ 65536 = subst (λ (n : ℕ). n ≤ 65536) (did.since 0).goes_on.pages order.few in
+    let small : e.volume.shelf.pages ≤ MAX_PAGES = subst (λ (n : ℕ). n ≤ MAX_PAGES) (did.since 0).goes_on.pages order.few in
     let few = subst (λ (x : Parts g.row.K-Key.Denot g.row.D.Denot). x.volume.most ≤ 100) c.self.view_is c.most.ensures.few in
     let takes = wants g.K.Probing.passes c.entry-wanted.result.keys c.entry-wanted.result.row in
     let leads = g.K.Probing.passes c.entry-wanted.result.bounds in

@@ -8,13 +8,14 @@ use Rattle.gx_node.specs.declared.fault.StepFault.TheVariants.{Damaged}
 use Rattle.gx_phases.specs.Moves.{failed_state}
 use Rattle.gx_phases.specs.States.{IsKept, phase_at}
 use Rattle.gx_store.specs.declared.fault.StoreFault.{StoreFault}
+use Rattle.gx_record.specs.declared.sizes.TheConstants.{PAGE_RECORD, SPLIT_RECORD}
 use Rattle.gx_engine.specs.declared.work.Work.TheVariants.{Descends}
 use Rattle.gx_events.specs.declared.outcome.Outcome.TheVariants.{More}
 use Rattle.gx_node.specs.declared.items.TheConstants.{MAX_ENTRIES}
 use Rattle.gx_engine.specs.Moves.{Moves}
 use Rattle.gx_engine.specs.Refusals.{IsRefused}
 use Rattle.gx_engine.specs.States.{Parts}
-use Rattle.gx_engine.specs.Writing.{LeftFew, page_record, split_record, write_events}
+use Rattle.gx_engine.specs.Writes.{LeftFew, write_events}
 use Rattle.gx_node.specs.Store.{tree_of}
 use Rattle.gx_tree_laws.specs.Trees.{size}
 use Rattle.gx_storage.specs.Changes.{known_at}
@@ -24,7 +25,7 @@ use Rattle.gx_engine.proofs.DescentMoves.{full_leaf, none_removable, removable_a
 use Rattle.gx_engine.proofs.MakingRoom.{comes_more, never_swept, swept_moves, yet_comes}
 use Rattle.gx_engine.proofs.ReadFirst.{comes_then, few_then, moves_then}
 use Rattle.gx_engine.proofs.Stopping.{lost_comes, stopped_comes, stopped_moves}
-use Rattle.gx_engine.proofs.Undone.{why_pages}
+use Rattle.gx_engine.proofs.UndoMoves.{why_pages}
 use Rattle.gx_engine.proofs.Calling.{then_read}
 use Rattle.gx_engine.proofs.engine.Engine.make_room.Goals as goal
 
@@ -36,7 +37,7 @@ returns-in-Ok-true-clause-comes g c entry at =
     let shape : Members g.row.K-Key.Denot =
     record { partial_cmp = g.K.Key.PartialOrd.partial_cmp; eq = g.K.Key.PartialEq.eq; cmp = g.K.Key.Ord.cmp; overlap = g.K.Key.Shape.overlap; inside = g.K.Key.Shape.inside } in
     let has = swept_true (known_at shape g.K.ReadKeys.is_proper) (reading_of g.K.ReadKeys.said (format_of g.K.KeyClass)) (format_of g.K.KeyClass) (is_node (format_of g.K.KeyClass)) (state old.volume.shelf.disk) (state c.sweep_leaf.new.self.volume.shelf.disk) old.volume c.sweep_leaf.new.self.volume (is_held k old) c.args.item.page c.in-Ok-true.field-0 c.in-Ok-true.field-0-test c.in-Ok-true.ensures.sweeps in
-    yet_comes (λ size. (size ≡ page_record) ⊎ (size ≡ split_record)) (LeftFew (state old.volume.shelf.disk) old c.args.item.page) k (is_node (format_of g.K.KeyClass)) (state old.volume.shelf.disk) (state c.sweep_leaf.new.self.volume.shelf.disk) c.args.session (Insert entry) (Descends c.args.parent c.args.item) old c.sweep_leaf.new.self c.sweep_leaf.ensures.only has.logged.most at
+    yet_comes (λ size. (size ≡ PAGE_RECORD) ⊎ (size ≡ SPLIT_RECORD)) (LeftFew (state old.volume.shelf.disk) old c.args.item.page) k (is_node (format_of g.K.KeyClass)) (state old.volume.shelf.disk) (state c.sweep_leaf.new.self.volume.shelf.disk) c.args.session (Insert entry) (Descends c.args.parent c.args.item) old c.sweep_leaf.new.self c.sweep_leaf.ensures.only has.logged.most at
 
 pub returns-in-Ok-true-clause-moves : goal.returns-in-Ok-true-clause-moves
 returns-in-Ok-true-clause-moves g c entry at leaf l =
@@ -67,11 +68,11 @@ returns-in-Ok-false-clause-comes g c entry at =
     let m = state c.sweep_leaf.new.self.volume.shelf.disk in
     let e = state c.split_here.new.self.volume.shelf.disk in
     let page = c.args.item.page in
-    comes_then k known r f (is_node f) 4114 d m e c.args.session entry old c.sweep_leaf.new.self c.sweep_leaf.ensures.only has.unlogged
-    (λ size. (size ≡ page_record) ⊎ (size ≡ split_record)) (LeftFew m c.sweep_leaf.new.self page) (LeftFew d old page)
-    (few_then k known r f (is_node f) 4114 d m e c.args.session entry old c.sweep_leaf.new.self c.sweep_leaf.ensures.only has.unlogged has.same page)
+    comes_then k known r f (is_node f) PAGE_RECORD d m e c.args.session entry old c.sweep_leaf.new.self c.sweep_leaf.ensures.only has.unlogged
+    (λ size. (size ≡ PAGE_RECORD) ⊎ (size ≡ SPLIT_RECORD)) (LeftFew m c.sweep_leaf.new.self page) (LeftFew d old page)
+    (few_then k known r f (is_node f) PAGE_RECORD d m e c.args.session entry old c.sweep_leaf.new.self c.sweep_leaf.ensures.only has.unlogged has.same page)
     c.split_here.new.self c.split_here.result
-    (comes_more k (is_node f) m e c.args.session (Insert entry) c.sweep_leaf.new.self c.split_here.new.self (λ size. size ≡ split_record) (λ size. (size ≡ page_record) ⊎ (size ≡ split_record))
+    (comes_more k (is_node f) m e c.args.session (Insert entry) c.sweep_leaf.new.self c.split_here.new.self (λ size. size ≡ SPLIT_RECORD) (λ size. (size ≡ PAGE_RECORD) ⊎ (size ≡ SPLIT_RECORD))
     (λ size is. inr is) (LeftFew m c.sweep_leaf.new.self page) (LeftFew m c.sweep_leaf.new.self page) (λ few. few) c.split_here.result
     (c.split_here.ensures.comes entry (ap (λ (x : Parts g.row.K-Key.Denot g.row.D.Denot). phase_at (c.args.session - 1) x.sessions.phases) c.sweep_leaf.ensures.only ∙ at)))
 
@@ -102,7 +103,7 @@ returns-in-Err-Pages-clause-comes g c entry at =
     let state = g.D.SectorDisk.state in
     let did = c.in-Err-Pages.ensures.sweeps in
     stopped_comes _ _ k (is_node (format_of g.K.KeyClass)) state old c.args.session entry c.sweep_leaf.new.self.volume did.stops.unlogged.most did.stops.unlogged.log
-    c.requires.early (λ page. (did.stops.unlogged.since page).same.stamp) 4114 (inl refl) (omega arith) c.in-Err-Pages.fault (why_pages _ c.in-Err-Pages.field-0 c.in-Err-Pages.fault c.in-Err-Pages.field-0-is did.stops.why)
+    c.requires.early (λ page. (did.stops.unlogged.since page).same.stamp) PAGE_RECORD (inl refl) (omega arith) c.in-Err-Pages.fault (why_pages _ c.in-Err-Pages.field-0 c.in-Err-Pages.fault c.in-Err-Pages.field-0-is did.stops.why)
     c.refuse.new.self c.refuse.result
     (subst (λ (x : Parts g.row.K-Key.Denot g.row.D.Denot). IsRefused c.in-Err-Pages.fault x c.refuse.new.self c.refuse.result) c.sweep_leaf.ensures.only
     (subst (λ (n : StoreFault). IsRefused n c.sweep_leaf.new.self c.refuse.new.self c.refuse.result) c.in-Err-Pages.fault-is c.refuse.ensures.refused))
@@ -117,7 +118,7 @@ returns-in-Err-Pages-clause-moves g c entry at leaf =
     let un = did.stops.unlogged in
     λ l. stopped_moves _ (c.a_class_is_lawful.ensures l) _ _ _ state old kept c.requires.works c.args.session c.requires.session entry _ at
     c.sweep_leaf.new.self.volume un.most un.log (un.since 0).goes_on.device (un.keeps l)
-    4114 c.in-Err-Pages.fault (why_pages _ c.in-Err-Pages.field-0 c.in-Err-Pages.fault c.in-Err-Pages.field-0-is did.stops.why)
+    PAGE_RECORD c.in-Err-Pages.fault (why_pages _ c.in-Err-Pages.field-0 c.in-Err-Pages.fault c.in-Err-Pages.field-0-is did.stops.why)
     c.refuse.new.self c.refuse.result
     (subst (λ (x : Parts g.row.K-Key.Denot g.row.D.Denot). IsRefused c.in-Err-Pages.fault x c.refuse.new.self c.refuse.result) c.sweep_leaf.ensures.only
     (subst (λ (n : StoreFault). IsRefused n c.sweep_leaf.new.self c.refuse.new.self c.refuse.result) c.in-Err-Pages.fault-is c.refuse.ensures.refused))

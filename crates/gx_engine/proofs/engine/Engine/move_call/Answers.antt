@@ -4,6 +4,7 @@ use Rattle.gx_machine.specs.Keys.{keys}
 use Rattle.gx_node.specs.Reading.{format_of, is_node}
 use Rattle.gx_phases.specs.declared.phase.Phase.TheVariants as phase
 use Rattle.gx_phases.specs.States.{IsKept, phase_at}
+use Rattle.gx_disk.specs.declared.layout.TheConstants.{MAX_PAGES}
 use Rattle.gx_engine.specs.States.{Parts}
 use Rattle.gx_engine.proofs.Steps.{delete_steps, insert_steps, never_steps, seal_steps, search_steps}
 use Rattle.gx_engine.proofs.Calling.{seal_read}
@@ -27,7 +28,7 @@ pub returns-in-Commit-clause-steps : goal.returns-in-Commit-clause-steps
 returns-in-Commit-clause-steps g c l =
     let k = keys g.K.Key.Ord.cmp g.K.Key.Shape.overlap g.K.Key.Shape.inside in
     let kept = subst (λ (x : Parts g.row.K-Key.Denot g.row.D.Denot). IsKept k x.sessions) c.self.view_is c.has_failed.ensures.kept in
-    let pages = subst (λ (x : Parts g.row.K-Key.Denot g.row.D.Denot). x.volume.shelf.pages ≤ 65536) c.self.view_is c.in_order.ensures.few in
+    let pages = subst (λ (x : Parts g.row.K-Key.Denot g.row.D.Denot). x.volume.shelf.pages ≤ MAX_PAGES) c.self.view_is c.in_order.ensures.few in
     let most = subst (λ (x : Parts g.row.K-Key.Denot g.row.D.Denot). x.volume.most ≤ 100) c.self.view_is c.most.ensures.few in
     let at = c.requires.open.1 ∙ ap (λ x. phase.Open x c.requires.open.0) c.in-Commit.is in
     seal_steps _ _ _ _ _ _ c.args.self.now c.seal.new.self (c.a_class_is_lawful.ensures l) kept c.args.session c.requires.session c.requires.works pages most

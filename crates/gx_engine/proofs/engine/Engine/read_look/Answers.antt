@@ -10,12 +10,12 @@ use Rattle.gx_phases.specs.States.{State, phase_at, with_phase_of}
 use Rattle.gx_storage.specs.State.{Volume}
 use Rattle.gx_engine.specs.declared.work.Work.{Work}
 use Rattle.gx_engine.specs.declared.work.Work.TheVariants.{Rests}
-use Rattle.gx_engine.specs.Looking.{IsFirstUnless, work_before}
+use Rattle.gx_engine.specs.Looks.{IsFirstUnless, work_before}
 use Rattle.gx_engine.specs.Moves.{calling}
 use Rattle.gx_engine.specs.Refusals.{IsRefused}
 use Rattle.gx_engine.specs.States.{Parts}
 use Rattle.gx_engine.proofs.Further.{none_at_hand}
-use Rattle.gx_engine.proofs.Looking.{replaced}
+use Rattle.gx_engine.proofs.LookMoves.{replaced}
 use Rattle.gx_engine.proofs.Ordered.{order_read}
 use Rattle.gx_engine.proofs.Reading.{closed_comes, damaged_at_hand, memory_at_hand, of_err, on_err, pages_at_hand, refused_comes}
 use Rattle.gx_pool.proofs.Bringing.{only_read_joined}

@@ -6,15 +6,16 @@ use Rattle.gx_recovery.proofs.Tests.{and_second}
 use Rattle.gx_store.specs.State.{IsInOrder}
 use Rattle.gx_tree.specs.Wants.{wants}
 use Rattle.gx_phases.specs.States.{IsKept}
+use Rattle.gx_disk.specs.declared.layout.TheConstants.{MAX_PAGES}
 use Rattle.gx_storage.specs.State.{Volume}
 use Rattle.gx_engine.specs.declared.work.Work.TheVariants.{Looks, Rests}
-use Rattle.gx_engine.specs.Looking.{work_before}
+use Rattle.gx_engine.specs.Looks.{work_before}
 use Rattle.gx_engine.specs.Moves.{calling}
 use Rattle.gx_engine.specs.States.{Parts}
-use Rattle.gx_engine.specs.Writing.{brought}
-use Rattle.gx_engine.proofs.Finding.{stop_search}
+use Rattle.gx_engine.specs.Writes.{brought}
+use Rattle.gx_engine.proofs.SearchMoves.{stop_search}
 use Rattle.gx_engine.proofs.Further.{hand_on, put_on, read_there}
-use Rattle.gx_engine.proofs.Looking.{same_events}
+use Rattle.gx_engine.proofs.LookMoves.{same_events}
 use Rattle.gx_engine.proofs.Reading.{read_at_hand}
 use Rattle.gx_engine.proofs.Taking.{put_search}
 use Rattle.gx_engine.proofs.engine.Engine.read_on.Goals as goal
@@ -30,7 +31,7 @@ returns-then-is_done-clause-goes_on g c l =
     let order = subst (λ (x : Parts g.row.K-Key.Denot g.row.D.Denot).
     IsInOrder (is_node (format_of g.K.KeyClass) x.volume.shelf.pages) (g.D.SectorDisk.state x.volume.shelf.disk).sectors x.volume.shelf.frames x.volume.shelf.used x.volume.shelf.pages)
     c.self-2.view_is c.in_order.ensures in
-    let small : e.volume.shelf.pages ≤ 65536 = subst (λ (n : ℕ). n ≤ 65536) (did.since 0).goes_on.pages order.few in
+    let small : e.volume.shelf.pages ≤ MAX_PAGES = subst (λ (n : ℕ). n ≤ MAX_PAGES) (did.since 0).goes_on.pages order.few in
     let few = subst (λ (x : Parts g.row.K-Key.Denot g.row.D.Denot). x.volume.most ≤ 100) c.self.view_is c.most.ensures.few in
     let takes = wants g.K.Probing.passes c.matching-wanted.result.keys c.matching-wanted.result.row in
     let leads = g.K.Probing.passes c.matching-wanted.result.bounds in
@@ -71,7 +72,7 @@ returns-in-Ok-clause-moves g c l =
     let order = subst (λ (x : Parts g.row.K-Key.Denot g.row.D.Denot).
     IsInOrder (is_node (format_of g.K.KeyClass) x.volume.shelf.pages) (g.D.SectorDisk.state x.volume.shelf.disk).sectors x.volume.shelf.frames x.volume.shelf.used x.volume.shelf.pages)
     c.self-2.view_is c.in_order.ensures in
-    let small : e.volume.shelf.pages ≤ 65536 = subst (λ (n : ℕ). n ≤ 65536) (did.since 0).goes_on.pages order.few in
+    let small : e.volume.shelf.pages ≤ MAX_PAGES = subst (λ (n : ℕ). n ≤ MAX_PAGES) (did.since 0).goes_on.pages order.few in
     let few = subst (λ (x : Parts g.row.K-Key.Denot g.row.D.Denot). x.volume.most ≤ 100) c.self.view_is c.most.ensures.few in
     let takes = wants g.K.Probing.passes c.matching-wanted.result.keys c.matching-wanted.result.row in
     let leads = g.K.Probing.passes c.matching-wanted.result.bounds in

@@ -1,13 +1,14 @@
-use Rattle.std.proofs.Common.{◌≡◌, ◌∙◌, ap, subst, ◌+◌, rules}
+use Rattle.std.proofs.Common.{◌≡◌, ◌∙◌, ap, subst, rules}
 use Rattle.gx_machine.specs.Keys.{Members, keys}
 use Rattle.gx_phases.specs.States.{IsKept}
 use Rattle.gx_store.specs.State.{IsInOrder}
 use Rattle.gx_node.specs.declared.fault.StepFault.TheVariants.{Damaged}
 use Rattle.gx_phases.specs.Moves.{failed_state}
+use Rattle.gx_record.specs.Writing.{write_record}
 use Rattle.gx_engine.specs.Refusals.{IsRefused}
 use Rattle.gx_node.specs.Reading.{format_of, is_node}
 use Rattle.gx_engine.specs.States.{Parts}
-use Rattle.gx_engine.proofs.Undone.{never_comes, never_moves, noted_moves, refused_comes, refused_moves, sought_comes, sought_moves, why_pages}
+use Rattle.gx_engine.proofs.UndoMoves.{never_comes, never_moves, noted_moves, refused_comes, refused_moves, sought_comes, sought_moves, why_pages}
 use Rattle.gx_engine.proofs.engine.Engine.restore.Goals as goal
 
 pub returns-in-Ok-clause-comes : goal.returns-in-Ok-clause-comes
@@ -42,7 +43,7 @@ returns-in-Err-Pages-clause-moves g c =
     let did = c.in-Err-Pages.ensures.sought in
     λ l. refused_moves _ (c.a_class_is_lawful.ensures l) _ _ _ state (state old.volume.shelf.disk) old kept c.requires.works c.args.session c.requires.session c.requires.early
     c.set_noted.new.self.volume did.unlogged.most c.args.note c.requires.next c.args.leaf c.requires.leaf did.unlogged.log (did.unlogged.since 0).goes_on.device (did.unlogged.keeps l)
-    (g.K.KeyClass.KEY + 4119) c.in-Err-Pages.fault (why_pages _ c.in-Err-Pages.field-0 c.in-Err-Pages.fault c.in-Err-Pages.field-0-is did.why) c.refuse.new.self c.refuse.result
+    (write_record g.K.KeyClass.KEY) c.in-Err-Pages.fault (why_pages _ c.in-Err-Pages.field-0 c.in-Err-Pages.fault c.in-Err-Pages.field-0-is did.why) c.refuse.new.self c.refuse.result
     (subst (λ (x : Parts g.row.K-Key.Denot g.row.D.Denot). IsRefused c.in-Err-Pages.fault x c.refuse.new.self c.refuse.result) c.set_noted.ensures.only c.refuse.ensures.refused)
 
 pub returns-in-Err-Memory-clause-comes : goal.returns-in-Err-Memory-clause-comes

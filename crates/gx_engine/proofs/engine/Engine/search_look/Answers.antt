@@ -6,11 +6,11 @@ use Rattle.gx_phases.specs.States.{State, phase_at}
 use Rattle.gx_phases.specs.Moves.{failed_state}
 use Rattle.gx_engine.specs.declared.work.Work.{Work}
 use Rattle.gx_engine.specs.declared.work.Work.TheVariants.{Looks, Rests}
-use Rattle.gx_engine.specs.Searching.{SearchComes}
+use Rattle.gx_engine.specs.Searches.{SearchComes}
 use Rattle.gx_engine.specs.States.{Parts}
-use Rattle.gx_engine.proofs.Finding.{no_search}
+use Rattle.gx_engine.proofs.SearchMoves.{no_search}
 use Rattle.gx_engine.proofs.Further.{moves_again, on_again}
-use Rattle.gx_engine.proofs.Looking.{closes_moves}
+use Rattle.gx_engine.proofs.LookMoves.{closes_moves}
 use Rattle.gx_engine.proofs.Reading.{err_map, ok_map, on_ok_map}
 use Rattle.gx_engine.proofs.Taking.{again, answered_taken, phase_now, put_back, read_rests, rests, returned, taken}
 use Rattle.gx_pool.proofs.Bringing.{only_read_nothing}

@@ -1,4 +1,4 @@
-use Rattle.std.proofs.Common.{◌≡◌, inr, refl, ◌∙◌, ap, subst, ◌+◌, ◌-◌, arith, rules}
+use Rattle.std.proofs.Common.{◌≡◌, inr, refl, ◌∙◌, ap, subst, ◌-◌, arith, rules}
 use Rattle.gx_machine.specs.Keys.{Members, keys}
 use Rattle.gx_node.specs.Reading.{format_of, is_node}
 use Rattle.gx_events.specs.declared.outcome.Outcome.{Outcome}
@@ -7,14 +7,15 @@ use Rattle.gx_phases.specs.States.{IsKept, phase_at}
 use Rattle.gx_store.specs.State.{IsInOrder}
 use Rattle.gx_node.specs.declared.fault.StepFault.TheVariants.{Damaged}
 use Rattle.gx_readings.specs.Classes.{class_of, reading_of}
+use Rattle.gx_record.specs.Writing.{write_record}
 use Rattle.gx_engine.specs.Moves.{Moves}
 use Rattle.gx_engine.specs.Refusals.{IsRefused}
-use Rattle.gx_engine.specs.Seeking.{SeekComes, write_call}
+use Rattle.gx_engine.specs.Seeks.{SeekComes, write_call}
 use Rattle.gx_engine.specs.States.{Parts}
-use Rattle.gx_engine.specs.Writing.{write_events}
-use Rattle.gx_engine.proofs.Seeking.{damaged_comes, noted_so, refused_comes, set_comes}
-use Rattle.gx_engine.proofs.Setting.{never_set, refused_moves, set_moves}
-use Rattle.gx_engine.proofs.Undone.{why_pages}
+use Rattle.gx_engine.specs.Writes.{write_events}
+use Rattle.gx_engine.proofs.WriteSeeks.{damaged_comes, noted_so, refused_comes, set_comes}
+use Rattle.gx_engine.proofs.SeekMoves.{never_set, refused_moves, set_moves}
+use Rattle.gx_engine.proofs.UndoMoves.{why_pages}
 use Rattle.gx_engine.proofs.engine.Engine.set_found.Goals as goal
 
 pub note_set-requires-clause-seeks : goal.note_set-requires-clause-seeks
@@ -70,7 +71,7 @@ returns-in-Err-Pages-clause-comes g c =
     let k = keys g.K.Key.Ord.cmp g.K.Key.Shape.overlap g.K.Key.Shape.inside in
     refused_comes c.args.self.now c.give_mark.new.self.volume did.unlogged.log did.unlogged.most (format_of g.K.KeyClass) g.K.KeyClass.is_key k g.K.KeyClass.KEY (is_node (format_of
     g.K.KeyClass)) g.D.SectorDisk.state _
-    c.args.session c.args.entry c.args.leaf c.args.marked (λ page. (did.unlogged.since page).same.stamp) (g.K.KeyClass.KEY + 4119) (inr refl) (omega (arith, short)) c.in-Err-Pages.fault
+    c.args.session c.args.entry c.args.leaf c.args.marked (λ page. (did.unlogged.since page).same.stamp) (write_record g.K.KeyClass.KEY) (inr refl) (omega (arith, short)) c.in-Err-Pages.fault
     (λ room. c.requires.early)
     (why_pages _ c.in-Err-Pages.field-0 c.in-Err-Pages.fault c.in-Err-Pages.field-0-is did.why) c.refuse.new.self c.refuse.result
     (subst (λ (x : Parts g.row.K-Key.Denot g.row.D.Denot). IsRefused c.in-Err-Pages.fault x c.refuse.new.self c.refuse.result) c.give_mark.ensures.only refused)
@@ -85,7 +86,7 @@ returns-in-Err-Pages-clause-moves g c =
     λ l. refused_moves _ (c.a_class_is_lawful.ensures l) _ _ _ (state old.volume.shelf.disk) old kept c.requires.works c.args.session c.requires.session c.args.entry c.args.leaf
     c.args.marked c.requires.seeks state
     c.give_mark.new.self.volume did.unlogged.most did.unlogged.log (did.unlogged.since 0).goes_on.device (did.unlogged.keeps l)
-    (g.K.KeyClass.KEY + 4119) c.in-Err-Pages.fault (why_pages _ c.in-Err-Pages.field-0 c.in-Err-Pages.fault c.in-Err-Pages.field-0-is did.why) c.refuse.new.self c.refuse.result
+    (write_record g.K.KeyClass.KEY) c.in-Err-Pages.fault (why_pages _ c.in-Err-Pages.field-0 c.in-Err-Pages.fault c.in-Err-Pages.field-0-is did.why) c.refuse.new.self c.refuse.result
     (subst (λ (x : Parts g.row.K-Key.Denot g.row.D.Denot). IsRefused c.in-Err-Pages.fault x c.refuse.new.self c.refuse.result) c.give_mark.ensures.only refused)
 
 pub returns-in-Err-Memory-clause-comes : goal.returns-in-Err-Memory-clause-comes

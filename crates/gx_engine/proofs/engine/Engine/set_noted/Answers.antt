@@ -2,7 +2,7 @@ use Rattle.std.proofs.Common.{rules}
 use Rattle.gx_tree.specs.Wants.{wants}
 use Rattle.gx_engine.specs.States.{Parts}
 use Rattle.gx_engine.proofs.Framed.{marked_frames}
-use Rattle.gx_engine.proofs.Undone.{seeking}
+use Rattle.gx_engine.proofs.UndoMoves.{seeking}
 use Rattle.gx_engine.proofs.Ordered.{order_changed}
 use Rattle.gx_engine.proofs.engine.Engine.set_noted.Goals as goal
 

@@ -1,3 +1,4 @@
+use Rattle.gx_record.specs.declared.sizes.TheConstants.{SPLIT_RECORD}
 use Rattle.gx_engine.proofs.Descents.{splitting}
 use Rattle.gx_engine.proofs.Calling.{changed_read}
 use Rattle.gx_tree.specs.Splitting.{has_split}
@@ -12,4 +13,4 @@ returns-clause-splits g c =
 pub returns-clause-device : goal.returns-clause-device
 returns-clause-device g c =
     let did = c.split-split.ensures in
-    rw (← c.self.view_is) (changed_read _ _ _ _ _ _ _ _ 12314 _ has_split c.split-split.result did.logged did.unlogged)
+    rw (← c.self.view_is) (changed_read _ _ _ _ _ _ _ _ SPLIT_RECORD _ has_split c.split-split.result did.logged did.unlogged)

@@ -8,14 +8,15 @@ use Rattle.gx_node.specs.Keyed.{rules_of}
 use Rattle.gx_phases.specs.Moves.{failed_state}
 use Rattle.gx_phases.specs.States.{IsKept, phase_at}
 use Rattle.gx_store.specs.declared.fault.StoreFault.{StoreFault}
+use Rattle.gx_record.specs.declared.sizes.TheConstants.{SPLIT_RECORD}
 use Rattle.gx_engine.specs.declared.work.Work.TheVariants.{Descends}
 use Rattle.gx_engine.specs.Moves.{Moves}
 use Rattle.gx_engine.specs.Refusals.{IsRefused}
 use Rattle.gx_engine.specs.States.{Parts}
-use Rattle.gx_engine.specs.Writing.{write_events}
+use Rattle.gx_engine.specs.Writes.{write_events}
 use Rattle.gx_engine.proofs.MakingRoom.{few_top, full_comes, full_is, full_moves, never_split_root, on_comes, on_is, root_any}
 use Rattle.gx_engine.proofs.Stopping.{lost_comes, stopped_comes, stopped_moves}
-use Rattle.gx_engine.proofs.Undone.{why_pages}
+use Rattle.gx_engine.proofs.UndoMoves.{why_pages}
 use Rattle.gx_engine.proofs.Calling.{then_read}
 use Rattle.gx_engine.proofs.engine.Engine.split_top.Goals as goal
 
@@ -55,7 +56,7 @@ returns-in-Err-Pages-clause-comes g c entry at =
     let state = g.D.SectorDisk.state in
     let did = c.in-Err-Pages.ensures.splits in
     stopped_comes _ _ k (is_node (format_of g.K.KeyClass)) state old c.args.session entry c.split_root.new.self.volume did.stops.unlogged.most did.stops.unlogged.log
-    c.requires.early (λ page. (did.stops.unlogged.since page).same.stamp) 12314 refl (omega arith) c.in-Err-Pages.fault (why_pages _ c.in-Err-Pages.field-0 c.in-Err-Pages.fault c.in-Err-Pages.field-0-is did.stops.why)
+    c.requires.early (λ page. (did.stops.unlogged.since page).same.stamp) SPLIT_RECORD refl (omega arith) c.in-Err-Pages.fault (why_pages _ c.in-Err-Pages.field-0 c.in-Err-Pages.fault c.in-Err-Pages.field-0-is did.stops.why)
     c.refuse.new.self c.refuse.result
     (subst (λ (x : Parts g.row.K-Key.Denot g.row.D.Denot). IsRefused c.in-Err-Pages.fault x c.refuse.new.self c.refuse.result) c.split_root.ensures.only
     (subst (λ (n : StoreFault). IsRefused n c.split_root.new.self c.refuse.new.self c.refuse.result) c.in-Err-Pages.fault-is c.refuse.ensures.refused))
@@ -70,7 +71,7 @@ returns-in-Err-Pages-clause-moves g c entry at full =
     let un = did.stops.unlogged in
     λ l. stopped_moves _ (c.a_class_is_lawful.ensures l) _ _ _ state old kept c.requires.works c.args.session c.requires.session entry _ at
     c.split_root.new.self.volume un.most un.log (un.since 0).goes_on.device (un.keeps l)
-    12314 c.in-Err-Pages.fault (why_pages _ c.in-Err-Pages.field-0 c.in-Err-Pages.fault c.in-Err-Pages.field-0-is did.stops.why)
+    SPLIT_RECORD c.in-Err-Pages.fault (why_pages _ c.in-Err-Pages.field-0 c.in-Err-Pages.fault c.in-Err-Pages.field-0-is did.stops.why)
     c.refuse.new.self c.refuse.result
     (subst (λ (x : Parts g.row.K-Key.Denot g.row.D.Denot). IsRefused c.in-Err-Pages.fault x c.refuse.new.self c.refuse.result) c.split_root.ensures.only
     (subst (λ (n : StoreFault). IsRefused n c.split_root.new.self c.refuse.new.self c.refuse.result) c.in-Err-Pages.fault-is c.refuse.ensures.refused))

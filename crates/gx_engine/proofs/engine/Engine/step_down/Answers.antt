@@ -1,5 +1,6 @@
 use Rattle.std.proofs.Common.{rules}
 use Rattle.gx_tree.specs.Descending.{is_widened}
+use Rattle.gx_record.specs.declared.sizes.TheConstants.{PAGE_RECORD}
 use Rattle.gx_engine.proofs.Descents.{stepping}
 use Rattle.gx_engine.proofs.Framed.{changed_frames}
 use Rattle.gx_engine.proofs.Ordered.{order_changed}
@@ -10,7 +11,7 @@ pub invariant_of-self : goal.invariant_of-self
 invariant_of-self g c =
     let did = c.descend.ensures in
     order_changed _ _ c.self.invariant _ (search rules) (search rules)
-    (changed_frames _ _ _ _ _ _ _ _ 4114 _ is_widened c.descend.result did.logged did.unlogged)
+    (changed_frames _ _ _ _ _ _ _ _ PAGE_RECORD _ is_widened c.descend.result did.logged did.unlogged)
 
 pub returns-clause-step : goal.returns-clause-step
 returns-clause-step g c =
@@ -21,4 +22,4 @@ returns-clause-step g c =
 pub returns-clause-device : goal.returns-clause-device
 returns-clause-device g c =
     let did = c.descend.ensures in
-    rw (← c.self.view_is) (changed_read _ _ _ _ _ _ _ _ 4114 _ is_widened c.descend.result did.logged did.unlogged)
+    rw (← c.self.view_is) (changed_read _ _ _ _ _ _ _ _ PAGE_RECORD _ is_widened c.descend.result did.logged did.unlogged)

@@ -1,5 +1,6 @@
 use Rattle.std.proofs.Common.{rules}
 use Rattle.gx_machine.specs.Keys.{keys}
+use Rattle.gx_record.specs.declared.sizes.TheConstants.{PAGE_RECORD}
 use Rattle.gx_engine.specs.States.{Parts}
 use Rattle.gx_engine.specs.Sweeping.{is_held}
 use Rattle.gx_engine.proofs.Framed.{changed_frames}
@@ -12,7 +13,7 @@ pub invariant_of-self : goal.invariant_of-self
 invariant_of-self g c =
     let did = c.sweep.ensures in
     order_changed _ _ c.self.invariant _ (search rules) (search rules)
-    (changed_frames _ _ _ _ _ _ _ _ 4114 _ (λ any. any) c.sweep.result did.logged did.unlogged)
+    (changed_frames _ _ _ _ _ _ _ _ PAGE_RECORD _ (λ any. any) c.sweep.result did.logged did.unlogged)
 
 pub returns-clause-sweeps : goal.returns-clause-sweeps
 returns-clause-sweeps g c =
@@ -26,4 +27,4 @@ returns-clause-sweeps g c =
 pub returns-clause-device : goal.returns-clause-device
 returns-clause-device g c =
     let did = c.sweep.ensures in
-    rw (← c.self.view_is) (changed_read _ _ _ _ _ _ _ _ 4114 _ (λ any. any) c.sweep.result did.logged did.unlogged)
+    rw (← c.self.view_is) (changed_read _ _ _ _ _ _ _ _ PAGE_RECORD _ (λ any. any) c.sweep.result did.logged did.unlogged)

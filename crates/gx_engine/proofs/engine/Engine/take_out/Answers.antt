@@ -6,6 +6,7 @@ use Rattle.gx_store.specs.Faults.{CanBeRead}
 use Rattle.gx_store.specs.State.{IsSteady}
 use Rattle.gx_node.specs.declared.fault.StepFault.TheVariants.{Damaged, Pages}
 use Rattle.gx_phases.specs.Moves.{failed_state}
+use Rattle.gx_record.specs.declared.sizes.TheConstants.{PAGE_RECORD}
 use Rattle.gx_storage.specs.Bringing.{has_removable}
 use Rattle.gx_storage.specs.Changes.{has_room}
 use Rattle.gx_storage.specs.State.{Volume}
@@ -87,7 +88,7 @@ returns-in-Err-Pages-clause-leads g c =
     let failed : c.sweep.result ≡ Err (Pages c.in-Err-Pages.fault) = search rules in
     let why = of_err _ c.sweep.result (Pages c.in-Err-Pages.fault) failed c.sweep.ensures.why in
     rw (← c.self.view_is) (λ l. refused_leads _ (c.a_class_is_lawful.ensures l) _ _ _ g.D.SectorDisk.state old w did.most did.log (did.since 0).goes_on.device (did.keeps l)
-    (has_room old.volume.log 4114) c.in-Err-Pages.fault why c.turn_away.new.self c.turn_away.result c.turn_away.ensures.refused)
+    (has_room old.volume.log PAGE_RECORD) c.in-Err-Pages.fault why c.turn_away.new.self c.turn_away.result c.turn_away.ensures.refused)
 
 pub returns-in-Err-Damaged : goal.returns-in-Err-Damaged
 returns-in-Err-Damaged g c =

@@ -7,7 +7,7 @@ use Rattle.gx_phases.specs.States.{phase_at}
 use Rattle.gx_engine.specs.States.{Parts}
 use Rattle.gx_engine.specs.declared.work.Work.{Work}
 use Rattle.gx_engine.specs.Undoing.{leaf_of, undo_work}
-use Rattle.gx_engine.proofs.Undone.{is_next, some_comes}
+use Rattle.gx_engine.proofs.UndoMoves.{is_next, some_comes}
 use Rattle.gx_engine.proofs.engine.Engine.undo.Goals as goal
 
 pub restore-requires-clause-next : goal.restore-requires-clause-next

@@ -7,12 +7,12 @@ use Rattle.gx_phases.specs.States.{IsKept, phase_at}
 use Rattle.gx_node.specs.declared.fault.StepFault.TheVariants.{Damaged}
 use Rattle.gx_engine.specs.Moves.{Moves}
 use Rattle.gx_engine.specs.Refusals.{IsRefused}
-use Rattle.gx_engine.specs.Seeking.{SeekComes, write_call}
+use Rattle.gx_engine.specs.Seeks.{SeekComes, write_call}
 use Rattle.gx_engine.specs.States.{Parts}
-use Rattle.gx_engine.specs.Writing.{write_events}
-use Rattle.gx_engine.proofs.Seeking.{comes_on, damaged_comes, no_room, refused_comes, why_begun}
-use Rattle.gx_engine.proofs.Setting.{moves_on, never_moves, refused_moves}
-use Rattle.gx_engine.proofs.Undone.{why_pages}
+use Rattle.gx_engine.specs.Writes.{write_events}
+use Rattle.gx_engine.proofs.WriteSeeks.{comes_on, damaged_comes, no_room, refused_comes, why_begun}
+use Rattle.gx_engine.proofs.SeekMoves.{moves_on, never_moves, refused_moves}
+use Rattle.gx_engine.proofs.UndoMoves.{why_pages}
 use Rattle.gx_engine.proofs.engine.Engine.write_at.Goals as goal
 
 pub write_sought-requires-clause-seeks : goal.write_sought-requires-clause-seeks

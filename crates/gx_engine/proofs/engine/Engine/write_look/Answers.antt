@@ -7,9 +7,9 @@ use Rattle.gx_phases.specs.States.{State, phase_at}
 use Rattle.gx_engine.specs.declared.work.Work.{Work}
 use Rattle.gx_engine.specs.declared.work.Work.TheVariants.{Looks, Rests}
 use Rattle.gx_engine.specs.States.{Parts}
-use Rattle.gx_engine.specs.Writing.{WriteComes}
+use Rattle.gx_engine.specs.Writes.{WriteComes}
 use Rattle.gx_engine.proofs.Further.{moves_again, on_again}
-use Rattle.gx_engine.proofs.Looking.{closes_moves, same_events}
+use Rattle.gx_engine.proofs.LookMoves.{closes_moves, same_events}
 use Rattle.gx_engine.proofs.Reading.{err_map, ok_map, on_err_map, on_ok_map}
 use Rattle.gx_engine.proofs.Taking.{again, answered_taken, no_look, phase_now, put_back, read_rests, reads_of, reads_rested, rests, taken}
 use Rattle.gx_engine.proofs.WriteLooks.{memory_told, rests_yet}

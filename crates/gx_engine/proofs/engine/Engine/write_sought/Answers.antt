@@ -5,10 +5,10 @@ use Rattle.gx_phases.specs.States.{phase_at}
 use Rattle.gx_tree.specs.declared.seek.Sought.{Sought}
 use Rattle.gx_tree.specs.declared.seek.Sought.TheVariants.{Here, Right}
 use Rattle.gx_engine.specs.declared.work.Work.TheVariants.{Seeks}
-use Rattle.gx_engine.specs.Seeking.{IsSought, write_call}
+use Rattle.gx_engine.specs.Seeks.{IsSought, write_call}
 use Rattle.gx_engine.specs.States.{Parts}
-use Rattle.gx_engine.proofs.Looking.{replaced}
-use Rattle.gx_engine.proofs.Setting.{right_moves, stands_moves}
+use Rattle.gx_engine.proofs.LookMoves.{replaced}
+use Rattle.gx_engine.proofs.SeekMoves.{right_moves, stands_moves}
 use Rattle.gx_engine.proofs.engine.Engine.write_sought.Goals as goal
 
 pub returns-in-Right-clause-comes : goal.returns-in-Right-clause-comes

@@ -1,6 +1,7 @@
 use Rattle.std.proofs.Common.{◌≡◌, ◌∙◌, ◌-◌, List, ℕ, ap, sym, map, length, min}
 use Rattle.std.proofs.lemmas.List.{length-map}
 use Rattle.std.proofs.lemmas.Simd.{map-map}
+use Rattle.gx_node.specs.declared.passing.TheConstants.{BLOCK}
 use Rattle.gx_node.specs.Hits.{hits_among}
 use Rattle.gx_node.specs.Reading.{format_of, key_of, pair_of}
 use Rattle.gx_node.proofs.leaf.Leaf.passing.Goals as goal
@@ -11,7 +12,7 @@ returns g c =
     let items = c.self.inside.page.now.items in
     let seen = map (λ (item : List ℕ). g.K.Probing.passes c.args.probe.now (key_of f item)) items in
     let many : length items ≡ length c.args.self.now.pairs = sym (length-map items (pair_of f)) ∙ ap (λ n. length n.pairs) c.self.view_is in
-    c.passing.ensures ∙ ap (λ n. hits_among seen c.args.from (min 64 (n - c.args.from))) many
-    ∙ ap (λ hits. hits_among hits c.args.from (min 64 (length c.args.self.now.pairs - c.args.from)))
+    c.passing.ensures ∙ ap (λ n. hits_among seen c.args.from (min BLOCK (n - c.args.from))) many
+    ∙ ap (λ hits. hits_among hits c.args.from (min BLOCK (length c.args.self.now.pairs - c.args.from)))
     (sym (ap (λ n. map (λ pair. g.K.Probing.passes c.args.probe.now pair.key) n.pairs) (sym c.self.view_is)
     ∙ map-map (λ pair. g.K.Probing.passes c.args.probe.now pair.key) (pair_of f) items))

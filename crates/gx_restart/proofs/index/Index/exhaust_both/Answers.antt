@@ -6,4 +6,5 @@ pub returns : goal.returns
 returns g c = record {
   made = settles_then _ c.args.self.now.engine c.exhaust.new.self.engine c.in_ok-exhaust.field-0 c.exhaust-2.result c.exhaust-2.new.self.engine c.in_ok-exhaust.ensures.made c.exhaust-2.ensures.made;
   same = c.exhaust-2.ensures.same ∙ c.in_ok-exhaust.ensures.same;
+  memory = c.exhaust-2.ensures.memory;
 }

@@ -3,6 +3,7 @@ use Rattle.std.proofs.Common.{◌+◌, true, false, sym, ap, ◌∙◌, arith}
 use Rattle.gx_node.specs.Reading.{format_of, is_node}
 use Rattle.gx_store.specs.Standing.{store_of}
 use Rattle.gx_store.specs.State.{Shelf}
+use Rattle.gx_record.specs.Writing.{write_record}
 use Rattle.gx_storage.specs.State.{Volume}
 use Rattle.gx_storage.proofs.Recording.{nodes_of}
 use Rattle.gx_storage.proofs.Writing.{added_since, added_stamped, begun_is, has_room_then, logged_write, on_err, stepped, steady_begun, tree_used, unlogged, unstepped}
@@ -16,7 +17,7 @@ returns-in_err-add_step-clause-unlogged g c =
     let v : Volume g.row.D.Denot = record { log = i.log; shelf = i.store; most = i.most } in
     let u = c.begin.new.store in
     let t = c.add_step.new.pages in
-    let size = g.K.KeyClass.KEY + 4119 in
+    let size = write_record g.K.KeyClass.KEY in
     let is = begun_is v u size _ c.begin.ensures c.write_size.ensures in
     let since = unstepped (is_node f) state v size t u is c.in_err-add_step.ensures.kept in
     rw (← c.self.view_is) (on_err _ _ (unlogged _ _ f (is_node f) state v size t since
@@ -30,7 +31,7 @@ write_record-requires-clause-place g c =
     let v : Volume g.row.D.Denot = record { log = i.log; shelf = i.store; most = i.most } in
     let u = c.begin.new.store in
     let t = c.add_step.new.pages in
-    let size = g.K.KeyClass.KEY + 4119 in
+    let size = write_record g.K.KeyClass.KEY in
     let is = begun_is v u size _ c.begin.ensures c.write_size.ensures in
     let did = stepped (is_node f) state v size t u c.args.page is c.in_ok-add_step.ensures.since in
     (has_room_then (is_node f) state v size t (sym did.goes_on.has_room) c.in_ok-add_step.ensures.held.1).0
@@ -43,7 +44,7 @@ write_record-requires-clause-room g c =
     let v : Volume g.row.D.Denot = record { log = i.log; shelf = i.store; most = i.most } in
     let u = c.begin.new.store in
     let t = c.add_step.new.pages in
-    let size = g.K.KeyClass.KEY + 4119 in
+    let size = write_record g.K.KeyClass.KEY in
     let is = begun_is v u size _ c.begin.ensures c.write_size.ensures in
     let did = stepped (is_node f) state v size t u c.args.page is c.in_ok-add_step.ensures.since in
     (has_room_then (is_node f) state v size t (sym did.goes_on.has_room) c.in_ok-add_step.ensures.held.1).1
@@ -56,7 +57,7 @@ returns-clause-logged g c =
     let v : Volume g.row.D.Denot = record { log = i.log; shelf = i.store; most = i.most } in
     let u = c.begin.new.store in
     let t = c.add_step.new.pages in
-    let size = g.K.KeyClass.KEY + 4119 in
+    let size = write_record g.K.KeyClass.KEY in
     let is = begun_is v u size _ c.begin.ensures c.write_size.ensures in
     let did = stepped (is_node f) state v size t u c.args.page is c.in_ok-add_step.ensures.since in
     rw (← c.self.view_is) (logged_write _ _ f (is_node f) state v size t c.args.transaction c.args.entry.now.row (g.K.KeyClass.spelling c.args.entry.now.key) true false c.args.page c.write_record.new.log did
@@ -74,7 +75,7 @@ returns-clause-stamped g c =
     let v : Volume g.row.D.Denot = record { log = i.log; shelf = i.store; most = i.most } in
     let u = c.begin.new.store in
     let t = c.add_step.new.pages in
-    let size = g.K.KeyClass.KEY + 4119 in
+    let size = write_record g.K.KeyClass.KEY in
     let is = begun_is v u size _ c.begin.ensures c.write_size.ensures in
     let did = stepped (is_node f) state v size t u c.args.page is c.in_ok-add_step.ensures.since in
     rw (← c.self.view_is) (λ steady. added_stamped f (is_node f) state v size t c.args.page i.most c.args.entry.now did c.in_ok-add_step.ensures.held.0 steady

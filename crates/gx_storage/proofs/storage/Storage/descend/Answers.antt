@@ -5,6 +5,7 @@ use Rattle.gx_store.specs.Standing.{standing_node, store_of}
 use Rattle.gx_store.specs.State.{Shelf}
 use Rattle.gx_store.proofs.Listed.{nodes_long}
 use Rattle.gx_tree.specs.Descending.{is_widened}
+use Rattle.gx_record.specs.declared.sizes.TheConstants.{PAGE_RECORD}
 use Rattle.gx_storage.specs.State.{Volume}
 use Rattle.gx_storage.proofs.Recording.{nodes_of}
 use Rattle.gx_storage.proofs.Giving.{descended_since, has_to_widen, logged_if, logged_page, unlogged_if, unwidened_narrow, unwidened_stays}
@@ -17,7 +18,7 @@ returns-in_err-way-clause-unlogged g c =
     let f = format_of g.K.KeyClass in
     let state = g.D.SectorDisk.state in
     let v : Volume g.row.D.Denot = record { log = i.log; shelf = i.store; most = i.most } in
-    rw (← c.self.view_is) (on_err _ _ (unlogged _ _ f (is_node f) state v 4114 c.read_way.new.store c.in_err-way.ensures.since (λ steady. c.in_err-way.ensures.same steady)))
+    rw (← c.self.view_is) (on_err _ _ (unlogged _ _ f (is_node f) state v PAGE_RECORD c.read_way.new.store c.in_err-way.ensures.since (λ steady. c.in_err-way.ensures.same steady)))
 
 pub returns-in-Some-clause-logged : goal.returns-in-Some-clause-logged
 returns-in-Some-clause-logged g c =
@@ -26,8 +27,8 @@ returns-in-Some-clause-logged g c =
     let state = g.D.SectorDisk.state in
     let v : Volume g.row.D.Denot = record { log = i.log; shelf = i.store; most = i.most } in
     let narrow = unwidened_narrow c.in_ok-way.way _ c.in-Some.did (sym c.unwidened.ensures ∙ c.in-Some.is) in
-    rw (← c.self.view_is) (unlogged_if _ _ f (is_node f) 4114 _ _ v _ _ _ narrow
-    (unlogged _ _ f (is_node f) state v 4114 c.read_way.new.store c.in_ok-way.ensures.since (λ steady. c.in_ok-way.ensures.same steady)))
+    rw (← c.self.view_is) (unlogged_if _ _ f (is_node f) PAGE_RECORD _ _ v _ _ _ narrow
+    (unlogged _ _ f (is_node f) state v PAGE_RECORD c.read_way.new.store c.in_ok-way.ensures.since (λ steady. c.in_ok-way.ensures.same steady)))
 
 pub returns-in-None-clause-unlogged : goal.returns-in-None-clause-unlogged
 returns-in-None-clause-unlogged g c =
@@ -35,7 +36,7 @@ returns-in-None-clause-unlogged g c =
     let f = format_of g.K.KeyClass in
     let state = g.D.SectorDisk.state in
     let v : Volume g.row.D.Denot = record { log = i.log; shelf = i.store; most = i.most } in
-    rw (← c.self.view_is) (unlogged _ _ f (is_node f) state v 4114 c.read_way.new.store c.in_ok-way.ensures.since (λ steady. c.in_ok-way.ensures.same steady))
+    rw (← c.self.view_is) (unlogged _ _ f (is_node f) state v PAGE_RECORD c.read_way.new.store c.in_ok-way.ensures.since (λ steady. c.in_ok-way.ensures.same steady))
 
 pub returns-in-None-clause-room : goal.returns-in-None-clause-room
 returns-in-None-clause-room g c =
@@ -52,10 +53,10 @@ returns-in_err-did-clause-unlogged g c =
     let v : Volume g.row.D.Denot = record { log = i.log; shelf = i.store; most = i.most } in
     let u = c.begin.new.store in
     let t = c.descend_step.new.pages in
-    let is = begun_is v u 4114 _ c.begin.ensures refl in
-    let since = unstepped (is_node f) state v 4114 t u is c.in_err-did.ensures.kept in
-    rw (← c.self.view_is) (on_err _ _ (unlogged _ _ f (is_node f) state v 4114 t since
-    (λ steady. c.in_err-did.ensures.refused (steady_begun (is_node f) state v 4114 t u is steady) ∙ ap (λ (x : Shelf g.row.D.Denot). store_of f (state x.disk).seen x) is)))
+    let is = begun_is v u PAGE_RECORD _ c.begin.ensures refl in
+    let since = unstepped (is_node f) state v PAGE_RECORD t u is c.in_err-did.ensures.kept in
+    rw (← c.self.view_is) (on_err _ _ (unlogged _ _ f (is_node f) state v PAGE_RECORD t since
+    (λ steady. c.in_err-did.ensures.refused (steady_begun (is_node f) state v PAGE_RECORD t u is steady) ∙ ap (λ (x : Shelf g.row.D.Denot). store_of f (state x.disk).seen x) is)))
 
 pub returns-then-not-was_widened-clause-logged : goal.returns-then-not-was_widened-clause-logged
 returns-then-not-was_widened-clause-logged g c =
@@ -65,11 +66,11 @@ returns-then-not-was_widened-clause-logged g c =
     let v : Volume g.row.D.Denot = record { log = i.log; shelf = i.store; most = i.most } in
     let u = c.begin.new.store in
     let t = c.descend_step.new.pages in
-    let is = begun_is v u 4114 _ c.begin.ensures refl in
+    let is = begun_is v u PAGE_RECORD _ c.begin.ensures refl in
     let narrow : is_widened c.in_ok-did.did ≡ false = sym c.was_widened.ensures ∙ c.if-not-was_widened.true in
-    let since = unstepped (is_node f) state v 4114 t u is (c.in_ok-did.ensures.read narrow) in
-    rw (← c.self.view_is) (unlogged_if _ _ f (is_node f) 4114 _ _ v _ _ _ narrow (unlogged _ _ f (is_node f) state v 4114 t since
-    (λ steady. unwidened_stays g.K.KeyClass.cost g.K.KeyClass.joined i.most _ _ c.args.item.now c.args.coming.now c.in_ok-did.did narrow (c.in_ok-did.ensures.descended (steady_begun (is_node f) state v 4114 t u is steady))
+    let since = unstepped (is_node f) state v PAGE_RECORD t u is (c.in_ok-did.ensures.read narrow) in
+    rw (← c.self.view_is) (unlogged_if _ _ f (is_node f) PAGE_RECORD _ _ v _ _ _ narrow (unlogged _ _ f (is_node f) state v PAGE_RECORD t since
+    (λ steady. unwidened_stays g.K.KeyClass.cost g.K.KeyClass.joined i.most _ _ c.args.item.now c.args.coming.now c.in_ok-did.did narrow (c.in_ok-did.ensures.descended (steady_begun (is_node f) state v PAGE_RECORD t u is steady))
     ∙ ap (λ (x : Shelf g.row.D.Denot). store_of f (state x.disk).seen x) is)))
 
 pub give_page-requires-clause-place : goal.give_page-requires-clause-place
@@ -80,10 +81,10 @@ give_page-requires-clause-place g c =
     let v : Volume g.row.D.Denot = record { log = i.log; shelf = i.store; most = i.most } in
     let u = c.begin.new.store in
     let t = c.descend_step.new.pages in
-    let is = begun_is v u 4114 _ c.begin.ensures refl in
-    let step = stepped (is_node f) state v 4114 t u c.args.item.now.page is c.in_ok-did.ensures.since in
+    let is = begun_is v u PAGE_RECORD _ c.begin.ensures refl in
+    let step = stepped (is_node f) state v PAGE_RECORD t u c.args.item.now.page is c.in_ok-did.ensures.since in
     let wide : is_widened c.in_ok-did.did ≡ true = sym c.was_widened.ensures ∙ c.if-not-was_widened.false in
-    (has_room_then (is_node f) state v 4114 t (sym step.goes_on.has_room) (c.in_ok-did.ensures.changing wide)).0
+    (has_room_then (is_node f) state v PAGE_RECORD t (sym step.goes_on.has_room) (c.in_ok-did.ensures.changing wide)).0
 
 pub give_page-requires-clause-room : goal.give_page-requires-clause-room
 give_page-requires-clause-room g c =
@@ -93,10 +94,10 @@ give_page-requires-clause-room g c =
     let v : Volume g.row.D.Denot = record { log = i.log; shelf = i.store; most = i.most } in
     let u = c.begin.new.store in
     let t = c.descend_step.new.pages in
-    let is = begun_is v u 4114 _ c.begin.ensures refl in
-    let step = stepped (is_node f) state v 4114 t u c.args.item.now.page is c.in_ok-did.ensures.since in
+    let is = begun_is v u PAGE_RECORD _ c.begin.ensures refl in
+    let step = stepped (is_node f) state v PAGE_RECORD t u c.args.item.now.page is c.in_ok-did.ensures.since in
     let wide : is_widened c.in_ok-did.did ≡ true = sym c.was_widened.ensures ∙ c.if-not-was_widened.false in
-    (has_room_then (is_node f) state v 4114 t (sym step.goes_on.has_room) (c.in_ok-did.ensures.changing wide)).1
+    (has_room_then (is_node f) state v PAGE_RECORD t (sym step.goes_on.has_room) (c.in_ok-did.ensures.changing wide)).1
 
 pub give_page-requires-clause-numbers : goal.give_page-requires-clause-numbers
 give_page-requires-clause-numbers g c =
@@ -111,10 +112,10 @@ returns-clause-logged g c =
     let v : Volume g.row.D.Denot = record { log = i.log; shelf = i.store; most = i.most } in
     let u = c.begin.new.store in
     let t = c.descend_step.new.pages in
-    let is = begun_is v u 4114 _ c.begin.ensures refl in
-    let step = stepped (is_node f) state v 4114 t u c.args.item.now.page is c.in_ok-did.ensures.since in
+    let is = begun_is v u PAGE_RECORD _ c.begin.ensures refl in
+    let step = stepped (is_node f) state v PAGE_RECORD t u c.args.item.now.page is c.in_ok-did.ensures.since in
     let wide : is_widened c.in_ok-did.did ≡ true = sym c.was_widened.ensures ∙ c.if-not-was_widened.false in
-    rw (← c.self.view_is) (logged_if _ _ f (is_node f) 4114 _ _ v _ _ _ wide (logged_page _ _ f (is_node f) state v 4114 t c.args.item.now.page c.give_page.new.log step c.in_ok-did.ensures.held (nodes_of f _ _ c.in_order.ensures)
+    rw (← c.self.view_is) (logged_if _ _ f (is_node f) PAGE_RECORD _ _ v _ _ _ wide (logged_page _ _ f (is_node f) state v PAGE_RECORD t c.args.item.now.page c.give_page.new.log step c.in_ok-did.ensures.held (nodes_of f _ _ c.in_order.ensures)
     (rw c.page.ensures at c.give_page.ensures.last) (rw c.page.ensures at c.give_page.ensures.formed)))
 
 pub returns-clause-descended : goal.returns-clause-descended
@@ -125,8 +126,8 @@ returns-clause-descended g c =
     let v : Volume g.row.D.Denot = record { log = i.log; shelf = i.store; most = i.most } in
     let u = c.begin.new.store in
     let t = c.descend_step.new.pages in
-    let is = begun_is v u 4114 _ c.begin.ensures refl in
-    rw (← c.self.view_is) (λ steady. descended_since f state v 4114 u g.K.KeyClass.cost g.K.KeyClass.joined i.most _ c.args.item.now c.args.coming.now c.in_ok-did.did is (c.in_ok-did.ensures.descended (steady_begun (is_node f) state v 4114 t u is steady)))
+    let is = begun_is v u PAGE_RECORD _ c.begin.ensures refl in
+    rw (← c.self.view_is) (λ steady. descended_since f state v PAGE_RECORD u g.K.KeyClass.cost g.K.KeyClass.joined i.most _ c.args.item.now c.args.coming.now c.in_ok-did.did is (c.in_ok-did.ensures.descended (steady_begun (is_node f) state v PAGE_RECORD t u is steady)))
 
 pub returns-then-not-was_widened-clause-descended : goal.returns-then-not-was_widened-clause-descended
 returns-then-not-was_widened-clause-descended g c = grind (arith, common_steps)

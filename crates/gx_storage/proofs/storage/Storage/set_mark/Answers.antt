@@ -5,6 +5,7 @@ use Rattle.gx_store.specs.Since.{IsSince}
 use Rattle.gx_store.specs.Standing.{store_of}
 use Rattle.gx_store.specs.State.{Shelf}
 use Rattle.gx_tree.specs.Seeking.{is_here}
+use Rattle.gx_record.specs.Writing.{write_record}
 use Rattle.gx_storage.specs.Changes.{begun}
 use Rattle.gx_storage.specs.State.{Volume}
 use Rattle.gx_storage.proofs.Recording.{nodes_of}
@@ -20,7 +21,7 @@ returns-in_err-sought-clause-unlogged g c =
     let v : Volume g.row.D.Denot = record { log = i.log; shelf = i.store; most = i.most } in
     let t : Shelf g.row.D.Denot = c.read_leaf.new.store in
     let since = subst {A = ℕ} (λ n. ((q : ℕ) → IsSince (is_node f) (state v.shelf.disk) (state t.disk) (begun v n) t q)) c.write_size-size.ensures c.in_err-sought.ensures.since in
-    rw (← c.self.view_is) (on_err _ _ (unlogged _ _ f (is_node f) state v (g.K.KeyClass.KEY + 4119) t since (λ steady. c.in_err-sought.ensures.same steady)))
+    rw (← c.self.view_is) (on_err _ _ (unlogged _ _ f (is_node f) state v (write_record g.K.KeyClass.KEY) t since (λ steady. c.in_err-sought.ensures.same steady)))
 
 pub returns-in-Here-clause-unlogged : goal.returns-in-Here-clause-unlogged
 returns-in-Here-clause-unlogged g c =
@@ -30,7 +31,7 @@ returns-in-Here-clause-unlogged g c =
     let v : Volume g.row.D.Denot = record { log = i.log; shelf = i.store; most = i.most } in
     let t : Shelf g.row.D.Denot = c.read_leaf.new.store in
     let since = subst {A = ℕ} (λ n. ((q : ℕ) → IsSince (is_node f) (state v.shelf.disk) (state t.disk) (begun v n) t q)) c.write_size-size.ensures c.in_ok-sought.ensures.since in
-    rw (← c.self.view_is) (unlogged _ _ f (is_node f) state v (g.K.KeyClass.KEY + 4119) t since (λ steady. c.in_ok-sought.ensures.same steady))
+    rw (← c.self.view_is) (unlogged _ _ f (is_node f) state v (write_record g.K.KeyClass.KEY) t since (λ steady. c.in_ok-sought.ensures.same steady))
 
 pub returns-in-Right-clause-logged : goal.returns-in-Right-clause-logged
 returns-in-Right-clause-logged g c =
@@ -40,7 +41,7 @@ returns-in-Right-clause-logged g c =
     let v : Volume g.row.D.Denot = record { log = i.log; shelf = i.store; most = i.most } in
     let t : Shelf g.row.D.Denot = c.read_leaf.new.store in
     let since = subst {A = ℕ} (λ n. ((q : ℕ) → IsSince (is_node f) (state v.shelf.disk) (state t.disk) (begun v n) t q)) c.write_size-size.ensures c.in_ok-sought.ensures.since in
-    rw (← c.self.view_is) (unlogged _ _ f (is_node f) state v (g.K.KeyClass.KEY + 4119) t since (λ steady. c.in_ok-sought.ensures.same steady))
+    rw (← c.self.view_is) (unlogged _ _ f (is_node f) state v (write_record g.K.KeyClass.KEY) t since (λ steady. c.in_ok-sought.ensures.same steady))
 
 pub returns-in_err-slot-clause-unlogged : goal.returns-in_err-slot-clause-unlogged
 returns-in_err-slot-clause-unlogged g c =
@@ -50,7 +51,7 @@ returns-in_err-slot-clause-unlogged g c =
     let v : Volume g.row.D.Denot = record { log = i.log; shelf = i.store; most = i.most } in
     let u = c.begin.new.store in
     let t = c.set_mark_step.new.pages in
-    let size = g.K.KeyClass.KEY + 4119 in
+    let size = write_record g.K.KeyClass.KEY in
     let is = begun_is v u size _ c.begin.ensures c.write_size-size.ensures in
     let since = unstepped (is_node f) state v size t u is c.in_err-slot.ensures.kept in
     rw (← c.self.view_is) (on_err _ _ (unlogged _ _ f (is_node f) state v size t since
@@ -64,7 +65,7 @@ write_record-requires-clause-place g c =
     let v : Volume g.row.D.Denot = record { log = i.log; shelf = i.store; most = i.most } in
     let u = c.begin.new.store in
     let t = c.set_mark_step.new.pages in
-    let size = g.K.KeyClass.KEY + 4119 in
+    let size = write_record g.K.KeyClass.KEY in
     let is = begun_is v u size _ c.begin.ensures c.write_size-size.ensures in
     let did = stepped (is_node f) state v size t u c.args.page is c.in_ok-slot.ensures.since in
     (has_room_then (is_node f) state v size t (sym did.goes_on.has_room) (c.in_ok-slot.ensures.changing (ap is_here c.in-Here-2.is))).0
@@ -77,7 +78,7 @@ write_record-requires-clause-room g c =
     let v : Volume g.row.D.Denot = record { log = i.log; shelf = i.store; most = i.most } in
     let u = c.begin.new.store in
     let t = c.set_mark_step.new.pages in
-    let size = g.K.KeyClass.KEY + 4119 in
+    let size = write_record g.K.KeyClass.KEY in
     let is = begun_is v u size _ c.begin.ensures c.write_size-size.ensures in
     let did = stepped (is_node f) state v size t u c.args.page is c.in_ok-slot.ensures.since in
     (has_room_then (is_node f) state v size t (sym did.goes_on.has_room) (c.in_ok-slot.ensures.changing (ap is_here c.in-Here-2.is))).1
@@ -90,7 +91,7 @@ returns-in-Here-2-clause-logged g c =
     let v : Volume g.row.D.Denot = record { log = i.log; shelf = i.store; most = i.most } in
     let u = c.begin.new.store in
     let t = c.set_mark_step.new.pages in
-    let size = g.K.KeyClass.KEY + 4119 in
+    let size = write_record g.K.KeyClass.KEY in
     let is = begun_is v u size _ c.begin.ensures c.write_size-size.ensures in
     let did = stepped (is_node f) state v size t u c.args.page is c.in_ok-slot.ensures.since in
     rw (← c.self.view_is) (logged_write _ _ f (is_node f) state v size t c.args.transaction c.args.entry.now.row (g.K.KeyClass.spelling c.args.entry.now.key) c.in-Here-2.before c.args.marked c.args.page c.write_record.new.log did
@@ -108,7 +109,7 @@ returns-in-Here-2-clause-marked g c =
     let v : Volume g.row.D.Denot = record { log = i.log; shelf = i.store; most = i.most } in
     let u = c.begin.new.store in
     let t = c.set_mark_step.new.pages in
-    let size = g.K.KeyClass.KEY + 4119 in
+    let size = write_record g.K.KeyClass.KEY in
     let is = begun_is v u size _ c.begin.ensures c.write_size-size.ensures in
     rw (← c.self.view_is) (λ steady. marked_since f state v size u _ _ c.args.page c.args.marked _ _ is c.in-Here-2.is (c.in_ok-slot.ensures.marked (steady_begun (is_node f) state v size t u is steady)))
 
@@ -120,7 +121,7 @@ returns-in-Right-2-clause-logged g c =
     let v : Volume g.row.D.Denot = record { log = i.log; shelf = i.store; most = i.most } in
     let u = c.begin.new.store in
     let t = c.set_mark_step.new.pages in
-    let size = g.K.KeyClass.KEY + 4119 in
+    let size = write_record g.K.KeyClass.KEY in
     let is = begun_is v u size _ c.begin.ensures c.write_size-size.ensures in
     let since = unstepped (is_node f) state v size t u is (c.in_ok-slot.ensures.passed (ap is_here c.in-Right-2.is)) in
     rw (← c.self.view_is) (unlogged _ _ f (is_node f) state v size t since

@@ -2,6 +2,7 @@ use Rattle.std.proofs.Common.{◌≡◌, suc, sym, ap, refl, ◌∙◌, arith}
 use Rattle.std.proofs.lemmas.Result.{err_from_is_err_and}
 use Rattle.gx_node.specs.Reading.{format_of, is_node}
 use Rattle.gx_store.specs.State.{IsHeld}
+use Rattle.gx_record.specs.declared.sizes.TheConstants.{SPLIT_RECORD}
 use Rattle.gx_storage.specs.Giving.{rising}
 use Rattle.gx_storage.specs.State.{Volume}
 use Rattle.gx_storage.proofs.Recording.{nodes_of}
@@ -17,10 +18,10 @@ returns-in_err-split-clause-unlogged g c =
     let v : Volume g.row.D.Denot = record { log = i.log; shelf = i.store; most = i.most } in
     let u = c.begin.new.store in
     let t = c.split_step.new.pages in
-    let is = begun_is v u 12314 _ c.begin.ensures refl in
-    let since = unstepped (is_node f) state v 12314 t u is c.in_err-split.ensures.kept in
-    rw (← c.self.view_is) (on_err _ _ (unlogged _ _ f (is_node f) state v 12314 t since
-    (λ steady. c.in_err-split.ensures.refused (steady_begun (is_node f) state v 12314 t u is steady) ∙ store_begun f state v 12314 u is)))
+    let is = begun_is v u SPLIT_RECORD _ c.begin.ensures refl in
+    let since = unstepped (is_node f) state v SPLIT_RECORD t u is c.in_err-split.ensures.kept in
+    rw (← c.self.view_is) (on_err _ _ (unlogged _ _ f (is_node f) state v SPLIT_RECORD t since
+    (λ steady. c.in_err-split.ensures.refused (steady_begun (is_node f) state v SPLIT_RECORD t u is steady) ∙ store_begun f state v SPLIT_RECORD u is)))
 
 pub give_three-requires-clause-place : goal.give_three-requires-clause-place
 give_three-requires-clause-place g c =
@@ -30,10 +31,10 @@ give_three-requires-clause-place g c =
     let v : Volume g.row.D.Denot = record { log = i.log; shelf = i.store; most = i.most } in
     let u = c.begin.new.store in
     let t = c.split_step.new.pages in
-    let is = begun_is v u 12314 _ c.begin.ensures refl in
-    let did = split_stepped (is_node f) state v 12314 t u c.args.page c.args.parent _ (suc i.store.used) is (ap suc (begun_long f state v 12314 u is)) c.in_ok-split.ensures.since in
+    let is = begun_is v u SPLIT_RECORD _ c.begin.ensures refl in
+    let did = split_stepped (is_node f) state v SPLIT_RECORD t u c.args.page c.args.parent _ (suc i.store.used) is (ap suc (begun_long f state v SPLIT_RECORD u is)) c.in_ok-split.ensures.since in
     let changing = rw c.in-Some.is at c.in_ok-split.ensures.changing in
-    (has_room_then (is_node f) state v 12314 t (sym did.goes_on.has_room) changing.0).0
+    (has_room_then (is_node f) state v SPLIT_RECORD t (sym did.goes_on.has_room) changing.0).0
 
 pub give_three-requires-clause-room : goal.give_three-requires-clause-room
 give_three-requires-clause-room g c =
@@ -43,10 +44,10 @@ give_three-requires-clause-room g c =
     let v : Volume g.row.D.Denot = record { log = i.log; shelf = i.store; most = i.most } in
     let u = c.begin.new.store in
     let t = c.split_step.new.pages in
-    let is = begun_is v u 12314 _ c.begin.ensures refl in
-    let did = split_stepped (is_node f) state v 12314 t u c.args.page c.args.parent _ (suc i.store.used) is (ap suc (begun_long f state v 12314 u is)) c.in_ok-split.ensures.since in
+    let is = begun_is v u SPLIT_RECORD _ c.begin.ensures refl in
+    let did = split_stepped (is_node f) state v SPLIT_RECORD t u c.args.page c.args.parent _ (suc i.store.used) is (ap suc (begun_long f state v SPLIT_RECORD u is)) c.in_ok-split.ensures.since in
     let changing = rw c.in-Some.is at c.in_ok-split.ensures.changing in
-    (has_room_then (is_node f) state v 12314 t (sym did.goes_on.has_room) changing.0).1
+    (has_room_then (is_node f) state v SPLIT_RECORD t (sym did.goes_on.has_room) changing.0).1
 
 pub give_three-requires-clause-held : goal.give_three-requires-clause-held
 give_three-requires-clause-held g c =
@@ -61,12 +62,12 @@ returns-clause-logged g c =
     let v : Volume g.row.D.Denot = record { log = i.log; shelf = i.store; most = i.most } in
     let u = c.begin.new.store in
     let t = c.split_step.new.pages in
-    let is = begun_is v u 12314 _ c.begin.ensures refl in
-    let did = split_stepped (is_node f) state v 12314 t u c.args.page c.args.parent _ (suc i.store.used) is (ap suc (begun_long f state v 12314 u is)) c.in_ok-split.ensures.since in
+    let is = begun_is v u SPLIT_RECORD _ c.begin.ensures refl in
+    let did = split_stepped (is_node f) state v SPLIT_RECORD t u c.args.page c.args.parent _ (suc i.store.used) is (ap suc (begun_long f state v SPLIT_RECORD u is)) c.in_ok-split.ensures.since in
     let sibling = rw c.in-Some.is at c.in_ok-split.ensures.sibling in
-    let next : c.in-Some.split.sibling ≡ suc i.store.used = sibling ∙ ap suc (begun_long f state v 12314 u is) in
+    let next : c.in-Some.split.sibling ≡ suc i.store.used = sibling ∙ ap suc (begun_long f state v SPLIT_RECORD u is) in
     let these = c.in_rising_order-first.ensures.these ∙ ap (λ p. rising c.args.page c.args.parent p) next in
-    rw (← c.self.view_is) (logged_these _ _ f (is_node f) state v 12314 t _ (rising c.args.page c.args.parent (suc i.store.used)) c.give_three.new.log these did c.give_three.ensures.given (nodes_of f _ _ c.in_order.ensures)
+    rw (← c.self.view_is) (logged_these _ _ f (is_node f) state v SPLIT_RECORD t _ (rising c.args.page c.args.parent (suc i.store.used)) c.give_three.new.log these did c.give_three.ensures.given (nodes_of f _ _ c.in_order.ensures)
     c.give_three.ensures.last)
 
 pub returns-clause-own : goal.returns-clause-own
@@ -77,9 +78,9 @@ returns-clause-own g c =
     let v : Volume g.row.D.Denot = record { log = i.log; shelf = i.store; most = i.most } in
     let u = c.begin.new.store in
     let t = c.split_step.new.pages in
-    let is = begun_is v u 12314 _ c.begin.ensures refl in
+    let is = begun_is v u SPLIT_RECORD _ c.begin.ensures refl in
     let sibling = rw c.in-Some.is at c.in_ok-split.ensures.sibling in
-    let next : c.in-Some.split.sibling ≡ suc i.store.used = sibling ∙ ap suc (begun_long f state v 12314 u is) in
+    let next : c.in-Some.split.sibling ≡ suc i.store.used = sibling ∙ ap suc (begun_long f state v SPLIT_RECORD u is) in
     let these = c.in_rising_order-first.ensures.these ∙ ap (λ p. rising c.args.page c.args.parent p) next in
     rw (← c.self.view_is) (all_own (state t.disk).seen t _ (rising c.args.page c.args.parent (suc i.store.used)) these c.give_three.ensures.given)
 
@@ -91,13 +92,13 @@ returns-clause-stamped g c =
     let v : Volume g.row.D.Denot = record { log = i.log; shelf = i.store; most = i.most } in
     let u = c.begin.new.store in
     let t = c.split_step.new.pages in
-    let is = begun_is v u 12314 _ c.begin.ensures refl in
-    let did = split_stepped (is_node f) state v 12314 t u c.args.page c.args.parent _ (suc i.store.used) is (ap suc (begun_long f state v 12314 u is)) c.in_ok-split.ensures.since in
+    let is = begun_is v u SPLIT_RECORD _ c.begin.ensures refl in
+    let did = split_stepped (is_node f) state v SPLIT_RECORD t u c.args.page c.args.parent _ (suc i.store.used) is (ap suc (begun_long f state v SPLIT_RECORD u is)) c.in_ok-split.ensures.since in
     let held = rw c.in-Some.is at c.in_ok-split.ensures.held in
     let apart = rw c.in-Some.is at c.in_ok-split.ensures.apart in
     rw (← c.self.view_is) (λ steady.
-    (let made = rw c.in-Some.is at (c.in_ok-split.ensures.split (steady_begun (is_node f) state v 12314 t u is steady)) in
-    split_stamped f (is_node f) state v 12314 t _ g.K.KeyClass.sides_of did.goes_on steady u c.args.page c.args.parent c.in-Some.split is held.0 held.1 apart.1 apart.2 made))
+    (let made = rw c.in-Some.is at (c.in_ok-split.ensures.split (steady_begun (is_node f) state v SPLIT_RECORD t u is steady)) in
+    split_stamped f (is_node f) state v SPLIT_RECORD t _ g.K.KeyClass.sides_of did.goes_on steady u c.args.page c.args.parent c.in-Some.split is held.0 held.1 apart.1 apart.2 made))
 
 pub returns-in_default-clause-logged : goal.returns-in_default-clause-logged
 returns-in_default-clause-logged g c =
@@ -107,11 +108,11 @@ returns-in_default-clause-logged g c =
     let v : Volume g.row.D.Denot = record { log = i.log; shelf = i.store; most = i.most } in
     let u = c.begin.new.store in
     let t = c.split_step.new.pages in
-    let is = begun_is v u 12314 _ c.begin.ensures refl in
+    let is = begun_is v u SPLIT_RECORD _ c.begin.ensures refl in
     let none = rw c.in_default.is at c.in_ok-split.ensures.none in
-    let since = unstepped (is_node f) state v 12314 t u is none in
-    rw (← c.self.view_is) (unlogged _ _ f (is_node f) state v 12314 t since
-    (λ steady. (let stays = rw c.in_default.is at (c.in_ok-split.ensures.split (steady_begun (is_node f) state v 12314 t u is steady)) in stays.0 ∙ store_begun f state v 12314 u is)))
+    let since = unstepped (is_node f) state v SPLIT_RECORD t u is none in
+    rw (← c.self.view_is) (unlogged _ _ f (is_node f) state v SPLIT_RECORD t since
+    (λ steady. (let stays = rw c.in_default.is at (c.in_ok-split.ensures.split (steady_begun (is_node f) state v SPLIT_RECORD t u is steady)) in stays.0 ∙ store_begun f state v SPLIT_RECORD u is)))
 
 pub returns-in_err-split-clause-full : goal.returns-in_err-split-clause-full
 returns-in_err-split-clause-full g c =
@@ -121,11 +122,11 @@ returns-in_err-split-clause-full g c =
     let v : Volume g.row.D.Denot = record { log = i.log; shelf = i.store; most = i.most } in
     let u = c.begin.new.store in
     let t = c.split_step.new.pages in
-    let is = begun_is v u 12314 _ c.begin.ensures refl in
-    let long = begun_long f state v 12314 u is in
-    let pages = begun_pages f state v 12314 u is in
+    let is = begun_is v u SPLIT_RECORD _ c.begin.ensures refl in
+    let long = begun_long f state v SPLIT_RECORD u is in
+    let pages = begun_pages f state v SPLIT_RECORD u is in
     let told = err_from_is_err_and c.from_residual.result c.from_residual.ensures.1 in
-    rw (← c.self.view_is) (λ steady refused. (let full = c.in_err-split.ensures.full (steady_begun (is_node f) state v 12314 t u is steady) (rw (told.1, told.2) at refused) in omega (arith, long, pages, full)))
+    rw (← c.self.view_is) (λ steady refused. (let full = c.in_err-split.ensures.full (steady_begun (is_node f) state v SPLIT_RECORD t u is steady) (rw (told.1, told.2) at refused) in omega (arith, long, pages, full)))
 
 pub returns-in_err-split-clause-damaged : goal.returns-in_err-split-clause-damaged
 returns-in_err-split-clause-damaged g c =
@@ -135,9 +136,9 @@ returns-in_err-split-clause-damaged g c =
     let v : Volume g.row.D.Denot = record { log = i.log; shelf = i.store; most = i.most } in
     let u = c.begin.new.store in
     let t = c.split_step.new.pages in
-    let is = begun_is v u 12314 _ c.begin.ensures refl in
+    let is = begun_is v u SPLIT_RECORD _ c.begin.ensures refl in
     let told = err_from_is_err_and c.from_residual.result c.from_residual.ensures.1 in
-    rw (← c.self.view_is) (λ steady refused. damaged_since f state v 12314 u is _ c.args.page c.args.parent (c.in_err-split.ensures.damaged (steady_begun (is_node f) state v 12314 t u is steady) (rw (told.1, told.2) at refused)))
+    rw (← c.self.view_is) (λ steady refused. damaged_since f state v SPLIT_RECORD u is _ c.args.page c.args.parent (c.in_err-split.ensures.damaged (steady_begun (is_node f) state v SPLIT_RECORD t u is steady) (rw (told.1, told.2) at refused)))
 
 pub returns-clause-sibling : goal.returns-clause-sibling
 returns-clause-sibling g c =
@@ -147,6 +148,6 @@ returns-clause-sibling g c =
     let v : Volume g.row.D.Denot = record { log = i.log; shelf = i.store; most = i.most } in
     let u = c.begin.new.store in
     let t = c.split_step.new.pages in
-    let is = begun_is v u 12314 _ c.begin.ensures refl in
+    let is = begun_is v u SPLIT_RECORD _ c.begin.ensures refl in
     let sibling = rw c.in-Some.is at c.in_ok-split.ensures.sibling in
-    rw (← c.self.view_is) (sibling ∙ ap suc (begun_long f state v 12314 u is))
+    rw (← c.self.view_is) (sibling ∙ ap suc (begun_long f state v SPLIT_RECORD u is))

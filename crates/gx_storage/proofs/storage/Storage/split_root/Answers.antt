@@ -1,6 +1,7 @@
 use Rattle.std.proofs.Common.{◌≡◌, suc, ℕ, List, [], ◌∷◌, sym, ap, refl, ◌∙◌, arith}
 use Rattle.std.proofs.lemmas.Result.{err_from_is_err_and}
 use Rattle.gx_node.specs.Reading.{format_of, is_node}
+use Rattle.gx_record.specs.declared.sizes.TheConstants.{SPLIT_RECORD}
 use Rattle.gx_storage.specs.State.{Volume}
 use Rattle.gx_storage.proofs.Recording.{nodes_of}
 use Rattle.gx_storage.proofs.Splitting.{all_own, begun_long, begun_pages, logged_these, no_root, root_damaged_since, root_stamped, root_stepped, store_begun}
@@ -14,9 +15,9 @@ returns-then-used-eq0-clause-unlogged g c =
     let state = g.D.SectorDisk.state in
     let v : Volume g.row.D.Denot = record { log = i.log; shelf = i.store; most = i.most } in
     let u = c.begin.new.store in
-    let is = begun_is v u 12314 _ c.begin.ensures refl in
-    let since = unstepped (is_node f) state v 12314 u u is (λ was q since. since) in
-    rw (← c.self.view_is) (unlogged _ _ f (is_node f) state v 12314 u since (λ steady. store_begun f state v 12314 u is))
+    let is = begun_is v u SPLIT_RECORD _ c.begin.ensures refl in
+    let since = unstepped (is_node f) state v SPLIT_RECORD u u is (λ was q since. since) in
+    rw (← c.self.view_is) (unlogged _ _ f (is_node f) state v SPLIT_RECORD u since (λ steady. store_begun f state v SPLIT_RECORD u is))
 
 pub returns-in_err-split-clause-unlogged : goal.returns-in_err-split-clause-unlogged
 returns-in_err-split-clause-unlogged g c =
@@ -26,10 +27,10 @@ returns-in_err-split-clause-unlogged g c =
     let v : Volume g.row.D.Denot = record { log = i.log; shelf = i.store; most = i.most } in
     let u = c.begin.new.store in
     let t = c.split_root_step.new.pages in
-    let is = begun_is v u 12314 _ c.begin.ensures refl in
-    let since = unstepped (is_node f) state v 12314 t u is c.in_err-split.ensures.kept in
-    rw (← c.self.view_is) (on_err _ _ (unlogged _ _ f (is_node f) state v 12314 t since
-    (λ steady. c.in_err-split.ensures.refused (steady_begun (is_node f) state v 12314 t u is steady) ∙ store_begun f state v 12314 u is)))
+    let is = begun_is v u SPLIT_RECORD _ c.begin.ensures refl in
+    let since = unstepped (is_node f) state v SPLIT_RECORD t u is c.in_err-split.ensures.kept in
+    rw (← c.self.view_is) (on_err _ _ (unlogged _ _ f (is_node f) state v SPLIT_RECORD t since
+    (λ steady. c.in_err-split.ensures.refused (steady_begun (is_node f) state v SPLIT_RECORD t u is steady) ∙ store_begun f state v SPLIT_RECORD u is)))
 
 pub give_three-requires-clause-place : goal.give_three-requires-clause-place
 give_three-requires-clause-place g c =
@@ -39,9 +40,9 @@ give_three-requires-clause-place g c =
     let v : Volume g.row.D.Denot = record { log = i.log; shelf = i.store; most = i.most } in
     let u = c.begin.new.store in
     let t = c.split_root_step.new.pages in
-    let is = begun_is v u 12314 _ c.begin.ensures refl in
-    let did = root_stepped (is_node f) state v 12314 t u _ _ (suc i.store.used) (suc (suc i.store.used)) is (ap suc (begun_long f state v 12314 u is)) (ap (λ n. suc (suc n)) (begun_long f state v 12314 u is)) c.in_ok-split.ensures.since in
-    (has_room_then (is_node f) state v 12314 t (sym did.goes_on.has_room) c.in_ok-split.ensures.changing.0).0
+    let is = begun_is v u SPLIT_RECORD _ c.begin.ensures refl in
+    let did = root_stepped (is_node f) state v SPLIT_RECORD t u _ _ (suc i.store.used) (suc (suc i.store.used)) is (ap suc (begun_long f state v SPLIT_RECORD u is)) (ap (λ n. suc (suc n)) (begun_long f state v SPLIT_RECORD u is)) c.in_ok-split.ensures.since in
+    (has_room_then (is_node f) state v SPLIT_RECORD t (sym did.goes_on.has_room) c.in_ok-split.ensures.changing.0).0
 
 pub give_three-requires-clause-room : goal.give_three-requires-clause-room
 give_three-requires-clause-room g c =
@@ -51,9 +52,9 @@ give_three-requires-clause-room g c =
     let v : Volume g.row.D.Denot = record { log = i.log; shelf = i.store; most = i.most } in
     let u = c.begin.new.store in
     let t = c.split_root_step.new.pages in
-    let is = begun_is v u 12314 _ c.begin.ensures refl in
-    let did = root_stepped (is_node f) state v 12314 t u _ _ (suc i.store.used) (suc (suc i.store.used)) is (ap suc (begun_long f state v 12314 u is)) (ap (λ n. suc (suc n)) (begun_long f state v 12314 u is)) c.in_ok-split.ensures.since in
-    (has_room_then (is_node f) state v 12314 t (sym did.goes_on.has_room) c.in_ok-split.ensures.changing.0).1
+    let is = begun_is v u SPLIT_RECORD _ c.begin.ensures refl in
+    let did = root_stepped (is_node f) state v SPLIT_RECORD t u _ _ (suc i.store.used) (suc (suc i.store.used)) is (ap suc (begun_long f state v SPLIT_RECORD u is)) (ap (λ n. suc (suc n)) (begun_long f state v SPLIT_RECORD u is)) c.in_ok-split.ensures.since in
+    (has_room_then (is_node f) state v SPLIT_RECORD t (sym did.goes_on.has_room) c.in_ok-split.ensures.changing.0).1
 
 pub returns-clause-own : goal.returns-clause-own
 returns-clause-own g c =
@@ -63,10 +64,10 @@ returns-clause-own g c =
     let v : Volume g.row.D.Denot = record { log = i.log; shelf = i.store; most = i.most } in
     let u = c.begin.new.store in
     let t = c.split_root_step.new.pages in
-    let is = begun_is v u 12314 _ c.begin.ensures refl in
+    let is = begun_is v u SPLIT_RECORD _ c.begin.ensures refl in
     let places = c.in_ok-split.ensures.places in
     let split = c.in_ok-split.split in
-    let these = ap (λ x. (let xs : List ℕ = 1 ∷ x ∷ split.second ∷ [] in xs)) (places.0 ∙ ap suc (begun_long f state v 12314 u is)) ∙ ap (λ x. (let xs : List ℕ = 1 ∷ suc i.store.used ∷ x ∷ [] in xs)) (places.1 ∙ ap (λ n. suc (suc n)) (begun_long f state v 12314 u is)) in
+    let these = ap (λ x. (let xs : List ℕ = 1 ∷ x ∷ split.second ∷ [] in xs)) (places.0 ∙ ap suc (begun_long f state v SPLIT_RECORD u is)) ∙ ap (λ x. (let xs : List ℕ = 1 ∷ suc i.store.used ∷ x ∷ [] in xs)) (places.1 ∙ ap (λ n. suc (suc n)) (begun_long f state v SPLIT_RECORD u is)) in
     rw (← c.self.view_is) (all_own (state t.disk).seen t (1 ∷ split.first ∷ split.second ∷ []) (1 ∷ suc i.store.used ∷ suc (suc i.store.used) ∷ []) these c.give_three.ensures.given)
 
 pub returns-clause-logged : goal.returns-clause-logged
@@ -77,12 +78,12 @@ returns-clause-logged g c =
     let v : Volume g.row.D.Denot = record { log = i.log; shelf = i.store; most = i.most } in
     let u = c.begin.new.store in
     let t = c.split_root_step.new.pages in
-    let is = begun_is v u 12314 _ c.begin.ensures refl in
-    let did = root_stepped (is_node f) state v 12314 t u _ _ (suc i.store.used) (suc (suc i.store.used)) is (ap suc (begun_long f state v 12314 u is)) (ap (λ n. suc (suc n)) (begun_long f state v 12314 u is)) c.in_ok-split.ensures.since in
+    let is = begun_is v u SPLIT_RECORD _ c.begin.ensures refl in
+    let did = root_stepped (is_node f) state v SPLIT_RECORD t u _ _ (suc i.store.used) (suc (suc i.store.used)) is (ap suc (begun_long f state v SPLIT_RECORD u is)) (ap (λ n. suc (suc n)) (begun_long f state v SPLIT_RECORD u is)) c.in_ok-split.ensures.since in
     let places = c.in_ok-split.ensures.places in
     let split = c.in_ok-split.split in
-    let these = ap (λ x. (let xs : List ℕ = 1 ∷ x ∷ split.second ∷ [] in xs)) (places.0 ∙ ap suc (begun_long f state v 12314 u is)) ∙ ap (λ x. (let xs : List ℕ = 1 ∷ suc i.store.used ∷ x ∷ [] in xs)) (places.1 ∙ ap (λ n. suc (suc n)) (begun_long f state v 12314 u is)) in
-    rw (← c.self.view_is) (logged_these _ _ f (is_node f) state v 12314 t (1 ∷ split.first ∷ split.second ∷ []) (1 ∷ suc i.store.used ∷ suc (suc i.store.used) ∷ []) c.give_three.new.log these did c.give_three.ensures.given
+    let these = ap (λ x. (let xs : List ℕ = 1 ∷ x ∷ split.second ∷ [] in xs)) (places.0 ∙ ap suc (begun_long f state v SPLIT_RECORD u is)) ∙ ap (λ x. (let xs : List ℕ = 1 ∷ suc i.store.used ∷ x ∷ [] in xs)) (places.1 ∙ ap (λ n. suc (suc n)) (begun_long f state v SPLIT_RECORD u is)) in
+    rw (← c.self.view_is) (logged_these _ _ f (is_node f) state v SPLIT_RECORD t (1 ∷ split.first ∷ split.second ∷ []) (1 ∷ suc i.store.used ∷ suc (suc i.store.used) ∷ []) c.give_three.new.log these did c.give_three.ensures.given
     (nodes_of f _ _ c.in_order.ensures) c.give_three.ensures.last)
 
 pub returns-clause-stamped : goal.returns-clause-stamped
@@ -93,12 +94,12 @@ returns-clause-stamped g c =
     let v : Volume g.row.D.Denot = record { log = i.log; shelf = i.store; most = i.most } in
     let u = c.begin.new.store in
     let t = c.split_root_step.new.pages in
-    let is = begun_is v u 12314 _ c.begin.ensures refl in
-    let did = root_stepped (is_node f) state v 12314 t u _ _ (suc i.store.used) (suc (suc i.store.used)) is (ap suc (begun_long f state v 12314 u is)) (ap (λ n. suc (suc n)) (begun_long f state v 12314 u is)) c.in_ok-split.ensures.since in
+    let is = begun_is v u SPLIT_RECORD _ c.begin.ensures refl in
+    let did = root_stepped (is_node f) state v SPLIT_RECORD t u _ _ (suc i.store.used) (suc (suc i.store.used)) is (ap suc (begun_long f state v SPLIT_RECORD u is)) (ap (λ n. suc (suc n)) (begun_long f state v SPLIT_RECORD u is)) c.in_ok-split.ensures.since in
     rw (← c.self.view_is) (λ steady.
-    (let made = c.in_ok-split.ensures.split (steady_begun (is_node f) state v 12314 t u is steady) in
-    root_stamped f (is_node f) state v 12314 t _ g.K.KeyClass.sides_of did.goes_on steady u c.in_ok-split.split is c.in_ok-split.ensures.held.0
-    (omega (arith, c.if-used-eq0.false, c.used.ensures, begun_long f state v 12314 u is)) made))
+    (let made = c.in_ok-split.ensures.split (steady_begun (is_node f) state v SPLIT_RECORD t u is steady) in
+    root_stamped f (is_node f) state v SPLIT_RECORD t _ g.K.KeyClass.sides_of did.goes_on steady u c.in_ok-split.split is c.in_ok-split.ensures.held.0
+    (omega (arith, c.if-used-eq0.false, c.used.ensures, begun_long f state v SPLIT_RECORD u is)) made))
 
 pub give_three-requires-clause-rise : goal.give_three-requires-clause-rise
 give_three-requires-clause-rise g c =
@@ -108,9 +109,9 @@ give_three-requires-clause-rise g c =
     let v : Volume g.row.D.Denot = record { log = i.log; shelf = i.store; most = i.most } in
     let u = c.begin.new.store in
     let t = c.split_root_step.new.pages in
-    let is = begun_is v u 12314 _ c.begin.ensures refl in
+    let is = begun_is v u SPLIT_RECORD _ c.begin.ensures refl in
     let places = c.in_ok-split.ensures.places in
-    let long = begun_long f state v 12314 u is in
+    let long = begun_long f state v SPLIT_RECORD u is in
     let some = c.if-used-eq0.false in
     let used = c.used.ensures in
     (omega (arith, some, used, places), omega (arith, places))
@@ -123,9 +124,9 @@ returns-clause-places g c =
     let v : Volume g.row.D.Denot = record { log = i.log; shelf = i.store; most = i.most } in
     let u = c.begin.new.store in
     let t = c.split_root_step.new.pages in
-    let is = begun_is v u 12314 _ c.begin.ensures refl in
+    let is = begun_is v u SPLIT_RECORD _ c.begin.ensures refl in
     let places = c.in_ok-split.ensures.places in
-    rw (← c.self.view_is) (places.0 ∙ ap suc (begun_long f state v 12314 u is), places.1 ∙ ap (λ n. suc (suc n)) (begun_long f state v 12314 u is))
+    rw (← c.self.view_is) (places.0 ∙ ap suc (begun_long f state v SPLIT_RECORD u is), places.1 ∙ ap (λ n. suc (suc n)) (begun_long f state v SPLIT_RECORD u is))
 
 pub returns-in_err-split-clause-full : goal.returns-in_err-split-clause-full
 returns-in_err-split-clause-full g c =
@@ -135,11 +136,11 @@ returns-in_err-split-clause-full g c =
     let v : Volume g.row.D.Denot = record { log = i.log; shelf = i.store; most = i.most } in
     let u = c.begin.new.store in
     let t = c.split_root_step.new.pages in
-    let is = begun_is v u 12314 _ c.begin.ensures refl in
-    let long = begun_long f state v 12314 u is in
-    let pages = begun_pages f state v 12314 u is in
+    let is = begun_is v u SPLIT_RECORD _ c.begin.ensures refl in
+    let long = begun_long f state v SPLIT_RECORD u is in
+    let pages = begun_pages f state v SPLIT_RECORD u is in
     let told = err_from_is_err_and c.from_residual.result c.from_residual.ensures.1 in
-    rw (← c.self.view_is) (λ steady refused. (let full = c.in_err-split.ensures.full (steady_begun (is_node f) state v 12314 t u is steady) (rw (told.1, told.2) at refused) in omega (arith, long, pages, full)))
+    rw (← c.self.view_is) (λ steady refused. (let full = c.in_err-split.ensures.full (steady_begun (is_node f) state v SPLIT_RECORD t u is steady) (rw (told.1, told.2) at refused) in omega (arith, long, pages, full)))
 
 pub returns-in_err-split-clause-damaged : goal.returns-in_err-split-clause-damaged
 returns-in_err-split-clause-damaged g c =
@@ -149,9 +150,9 @@ returns-in_err-split-clause-damaged g c =
     let v : Volume g.row.D.Denot = record { log = i.log; shelf = i.store; most = i.most } in
     let u = c.begin.new.store in
     let t = c.split_root_step.new.pages in
-    let is = begun_is v u 12314 _ c.begin.ensures refl in
+    let is = begun_is v u SPLIT_RECORD _ c.begin.ensures refl in
     let told = err_from_is_err_and c.from_residual.result c.from_residual.ensures.1 in
-    rw (← c.self.view_is) (λ steady refused. root_damaged_since f state v 12314 u is _ (c.in_err-split.ensures.damaged (steady_begun (is_node f) state v 12314 t u is steady) (rw (told.1, told.2) at refused)))
+    rw (← c.self.view_is) (λ steady refused. root_damaged_since f state v SPLIT_RECORD u is _ (c.in_err-split.ensures.damaged (steady_begun (is_node f) state v SPLIT_RECORD t u is steady) (rw (told.1, told.2) at refused)))
 
 pub returns-then-used-eq0-clause-damaged : goal.returns-then-used-eq0-clause-damaged
 returns-then-used-eq0-clause-damaged g c =
@@ -160,7 +161,7 @@ returns-then-used-eq0-clause-damaged g c =
     let state = g.D.SectorDisk.state in
     let v : Volume g.row.D.Denot = record { log = i.log; shelf = i.store; most = i.most } in
     let u = c.begin.new.store in
-    let is = begun_is v u 12314 _ c.begin.ensures refl in
-    let long = begun_long f state v 12314 u is in
+    let is = begun_is v u SPLIT_RECORD _ c.begin.ensures refl in
+    let long = begun_long f state v SPLIT_RECORD u is in
     let none : i.store.used ≡ 0 = omega (arith, long, c.used.ensures, c.if-used-eq0.true) in
     rw (← c.self.view_is) (λ steady refused legal full rises. no_root f (state i.store.disk).seen i.store _ none legal)

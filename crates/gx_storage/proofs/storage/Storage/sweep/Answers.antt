@@ -13,6 +13,7 @@ use Rattle.gx_node.specs.Store.{Store, tree_of}
 use Rattle.gx_node.specs.Owner.{IsWhy}
 use Rattle.gx_node.specs.declared.fault.StepFault.{StepFault}
 use Rattle.gx_tree.specs.Sweeping.{FitsLeaf, takes_none}
+use Rattle.gx_record.specs.declared.sizes.TheConstants.{PAGE_RECORD}
 use Rattle.gx_storage.specs.Bringing.{has_removable}
 use Rattle.gx_storage.specs.Changes.{begun}
 use Rattle.gx_storage.specs.State.{Volume}
@@ -30,7 +31,7 @@ returns-in_err-plan-clause-unlogged g c =
     let v : Volume g.row.D.Denot = record { log = i.log; shelf = i.store; most = i.most } in
     let read = c.plan.new.store in
     let since = c.in_err-plan.ensures.since in
-    rw (← c.self.view_is) (on_err _ _ (unlogged _ _ f (is_node f) state v 4114 read since
+    rw (← c.self.view_is) (on_err _ _ (unlogged _ _ f (is_node f) state v PAGE_RECORD read since
     (λ steady. c.in_err-plan.ensures.same steady)))
 
 pub returns-then-is_empty-clause-logged : goal.returns-then-is_empty-clause-logged
@@ -41,7 +42,7 @@ returns-then-is_empty-clause-logged g c =
     let v : Volume g.row.D.Denot = record { log = i.log; shelf = i.store; most = i.most } in
     let read = c.plan.new.store in
     let since = c.in_ok-plan.ensures.since in
-    rw (← c.self.view_is) (unlogged _ _ f (is_node f) state v 4114 read since
+    rw (← c.self.view_is) (unlogged _ _ f (is_node f) state v PAGE_RECORD read since
     (λ steady. c.in_ok-plan.ensures.same steady))
 
 pub returns-then-is_empty-clause-swept : goal.returns-then-is_empty-clause-swept
@@ -81,8 +82,8 @@ returns-in_err-make_sweep-clause-unlogged g c =
     let v : Volume g.row.D.Denot = record { log = i.log; shelf = i.store; most = i.most } in
     let read = c.plan.new.store in
     let t = c.make_sweep.new.pages in
-    let since : (q : ℕ) → IsSince (is_node f) (state v.shelf.disk) (state t.disk) (begun v 4114) t q = λ q. c.in_err-make_sweep.ensures.kept (begun v 4114) q (c.in_ok-plan.ensures.since q) in
-    rw (← c.self.view_is) (on_err _ _ (unlogged _ _ f (is_node f) state v 4114 t since
+    let since : (q : ℕ) → IsSince (is_node f) (state v.shelf.disk) (state t.disk) (begun v PAGE_RECORD) t q = λ q. c.in_err-make_sweep.ensures.kept (begun v PAGE_RECORD) q (c.in_ok-plan.ensures.since q) in
+    rw (← c.self.view_is) (on_err _ _ (unlogged _ _ f (is_node f) state v PAGE_RECORD t since
     (λ steady. c.in_err-make_sweep.ensures.refused ∙ c.in_ok-plan.ensures.same steady)))
 
 pub give_page-requires-clause-place : goal.give_page-requires-clause-place
@@ -96,8 +97,8 @@ give_page-requires-clause-place g c =
     let plan = c.in_ok-plan.plan in
     let here = c.in_ok-plan.ensures.page in
     let some : takes_none c.in_ok-plan.plan ≡ false = sym c.is_empty.ensures ∙ c.if-is_empty.false in
-    let step = swept_step (is_node f) state v 4114 read t plan.page c.args.page here c.in_ok-plan.ensures.since c.in_ok-make_sweep.ensures.since in
-    (has_room_then (is_node f) state v 4114 t (sym step.goes_on.has_room) (c.in_ok-make_sweep.ensures.changing some)).0
+    let step = swept_step (is_node f) state v PAGE_RECORD read t plan.page c.args.page here c.in_ok-plan.ensures.since c.in_ok-make_sweep.ensures.since in
+    (has_room_then (is_node f) state v PAGE_RECORD t (sym step.goes_on.has_room) (c.in_ok-make_sweep.ensures.changing some)).0
 
 pub give_page-requires-clause-room : goal.give_page-requires-clause-room
 give_page-requires-clause-room g c =
@@ -110,8 +111,8 @@ give_page-requires-clause-room g c =
     let plan = c.in_ok-plan.plan in
     let here = c.in_ok-plan.ensures.page in
     let some : takes_none c.in_ok-plan.plan ≡ false = sym c.is_empty.ensures ∙ c.if-is_empty.false in
-    let step = swept_step (is_node f) state v 4114 read t plan.page c.args.page here c.in_ok-plan.ensures.since c.in_ok-make_sweep.ensures.since in
-    (has_room_then (is_node f) state v 4114 t (sym step.goes_on.has_room) (c.in_ok-make_sweep.ensures.changing some)).1
+    let step = swept_step (is_node f) state v PAGE_RECORD read t plan.page c.args.page here c.in_ok-plan.ensures.since c.in_ok-make_sweep.ensures.since in
+    (has_room_then (is_node f) state v PAGE_RECORD t (sym step.goes_on.has_room) (c.in_ok-make_sweep.ensures.changing some)).1
 
 pub give_page-requires-clause-held : goal.give_page-requires-clause-held
 give_page-requires-clause-held g c =
@@ -132,9 +133,9 @@ returns-clause-logged g c =
     let t = c.make_sweep.new.pages in
     let plan = c.in_ok-plan.plan in
     let here = c.in_ok-plan.ensures.page in
-    let step = swept_step (is_node f) state v 4114 read t plan.page c.args.page here c.in_ok-plan.ensures.since c.in_ok-make_sweep.ensures.since in
+    let step = swept_step (is_node f) state v PAGE_RECORD read t plan.page c.args.page here c.in_ok-plan.ensures.since c.in_ok-make_sweep.ensures.since in
     let held = subst {A = ℕ} (λ a. IsHeld t a) here c.in_ok-make_sweep.ensures.held in
-    rw (← c.self.view_is) (logged_page _ _ f (is_node f) state v 4114 t c.args.page c.give_page.new.log step held (nodes_of f _ _ c.in_order.ensures) c.give_page.ensures.last c.give_page.ensures.formed)
+    rw (← c.self.view_is) (logged_page _ _ f (is_node f) state v PAGE_RECORD t c.args.page c.give_page.new.log step held (nodes_of f _ _ c.in_order.ensures) c.give_page.ensures.last c.give_page.ensures.formed)
 
 pub returns-clause-swept : goal.returns-clause-swept
 returns-clause-swept g c =
@@ -161,8 +162,8 @@ returns-clause-stamped g c =
     let plan = c.in_ok-plan.plan in
     let here = c.in_ok-plan.ensures.page in
     let some : takes_none c.in_ok-plan.plan ≡ false = sym c.is_empty.ensures ∙ c.if-is_empty.false in
-    let step = swept_step (is_node f) state v 4114 read t plan.page c.args.page here c.in_ok-plan.ensures.since c.in_ok-make_sweep.ensures.since in
-    rw (← c.self.view_is) (λ steady swept. swept_stamped plan f (is_node f) state v 4114 t _ c.args.page here step c.in_ok-make_sweep.ensures.held steady
+    let step = swept_step (is_node f) state v PAGE_RECORD read t plan.page c.args.page here c.in_ok-plan.ensures.since c.in_ok-make_sweep.ensures.since in
+    rw (← c.self.view_is) (λ steady swept. swept_stamped plan f (is_node f) state v PAGE_RECORD t _ c.args.page here step c.in_ok-make_sweep.ensures.held steady
     (c.in_ok-plan.ensures.same steady) c.in_ok-plan.ensures.fits some c.in_ok-make_sweep.ensures.takes)
 
 pub returns-clause-own : goal.returns-clause-own
@@ -179,8 +180,8 @@ returns-in_err-make_sweep-clause-why g c =
     let t : Shelf g.row.D.Denot = c.make_sweep.new.pages in
     let W : Shelf g.row.D.Denot → StoreFault → Type 0 = λ x why. faults.IsWhy passes (state x.disk) (state t.disk) x t why in
     let failed : c.from_residual-in_err-make_sweep.result ≡ Err c.in_err-make_sweep.field-0.0 = search rules in
-    rw (← c.self.view_is) (subst {A = Result Bool (StepFault StoreFault)} (λ x. IfErr x (IsWhy (W (begun v 4114)))) (sym failed)
-    (whys {A = Bool} (W read) (W (begun v 4114)) (λ why is. why_later passes (state v.shelf.disk) (state read.disk) (state t.disk) (begun v 4114) read t why (c.in_ok-plan.ensures.since 0).goes_on is)
+    rw (← c.self.view_is) (subst {A = Result Bool (StepFault StoreFault)} (λ x. IfErr x (IsWhy (W (begun v PAGE_RECORD)))) (sym failed)
+    (whys {A = Bool} (W read) (W (begun v PAGE_RECORD)) (λ why is. why_later passes (state v.shelf.disk) (state read.disk) (state t.disk) (begun v PAGE_RECORD) read t why (c.in_ok-plan.ensures.since 0).goes_on is)
     (Err c.in_err-make_sweep.field-0.0) c.in_err-make_sweep.ensures.why))
 
 pub returns-in_err-make_sweep-clause-room : goal.returns-in_err-make_sweep-clause-room

@@ -1,0 +1,138 @@
+-- How a command over a device ends: its status, what it has read, what it has written, and what became of the device.
+use Rattle.std.specs.Prelude.{ℕ, ◌≡◌, ◌⊎◌, Bool, true, false, Option, List, Result, Ok, Err, OnOk}
+use Rattle.std.specs.Io.KnownBytes.{Appends}
+use Rattle.gx_geom.specs.Rectangles.{Rectangle}
+use Rattle.gx_geom.specs.declared.refusal.Refusal.{Refusal}
+use Rattle.gx_machine.specs.declared.call.Call.{Call}
+use Rattle.gx_machine.specs.declared.reply.Reply.{Reply}
+use Rattle.gx_machine.specs.Keys.{Members}
+use Rattle.gx_script.specs.declared.fault.ScriptFault.{ScriptFault}
+use Rattle.gx_script.specs.Scripts.{IsDone, IsStopped}
+use Rattle.gx_script.specs.Writes.{IsCut}
+use Rattle.gx_class.specs.declared.class.KeyClass.{Ghosts}
+use Rattle.gx_disk.specs.Device.{Device, IsSettled}
+use Rattle.gx_disk.specs.Moments.{Leaves}
+use Rattle.gx_page.specs.Contents.{Contents}
+use Rattle.gx_page.specs.Format.{IsWellFormed}
+use Rattle.gx_node.specs.Reading.{format_of, is_node}
+use Rattle.gx_glog.specs.declared.parameters.Parameters.{Parameters}
+use Rattle.gx_format.specs.Fresh.{IsFresh}
+use Rattle.gx_format.specs.Formatting.{Formats, IsOldOrFresh}
+use Rattle.gx_recovery.specs.Known.{Limits}
+use Rattle.gx_readings.specs.Classes.{class_of, reading_of}
+use Rattle.gx_engine.specs.declared.start.NotOpened.{NotOpened}
+use Rattle.gx_engine.specs.States.{Parts}
+use Rattle.gx_engine.specs.Made.{Makes}
+use Rattle.gx_engine.specs.Resting.{IsAtRest, KeepsSessions}
+use Rattle.gx_restart.specs.Alone.{RunsOn}
+use Rattle.gx_restart.specs.Called.{CallsIndex}
+use Rattle.gx_restart.specs.Settled.{Settles}
+use Rattle.gx_restart.specs.States.{State}
+use Rattle.gx_commands.specs.declared.watched.Watched.{Watched}
+use Rattle.gx_commands.specs.Scripts.{TellsFault}
+use Rattle.gx_commands.specs.Streams.{HasEnded, IsFaultOf, Outputs, Stream, TakesNoMore, TellsPerson, kind_of}
+use Rattle.gx_commands.specs.Lines.{fault_sentence, formatted_line}
+use Rattle.gx_commands.specs.Openings.{Opens}
+use Rattle.gx_commands.specs.Refusing.{Refuses, TellsOpening}
+use Rattle.gx_commands.specs.Watching.{Watches}
+
+-- A format is told: its line was written; or a front of it, where the writer takes no more, of which a person is told.
+abbrev pub TellsFormatted : ℕ → ℕ → Outputs → Outputs → ℕ → Type 0
+TellsFormatted pages most old new status =
+    ((status ≡ 0) × (Appends old.replies.bytes new.replies.bytes (formatted_line pages most) × (new.person ≡ old.person)))
+    ⊎ ((status ≡ 1) × (IsCut old.replies.bytes new.replies.bytes (formatted_line pages most)
+    × (TakesNoMore new.replies × TellsFault new.replies.kind old.person new.person)))
+
+-- so is what it was refused with
+abbrev pub TellsFormat : ℕ → ℕ → Result (Unit {0}) Refusal → Outputs → Outputs → ℕ → Type 0
+TellsFormat pages most (Ok done) old new status = TellsFormatted pages most old new status
+TellsFormat pages most (Err why) old new status = Refuses why old new status
+
+-- A device was formatted, with this result, which is told. At each moment of it a crash leaves an image of before but for its first
+-- sector, or no index, or the fresh one; at Ok the device reads as the fresh one, and all of it is settled.
+pub record FormatsOver {D : Type 0} (state : D → Device) (parameters : Parameters) (root : Contents) (old new : D) (from to : Outputs) (status : ℕ) : Type 0 where
+  pub result : Result (Unit {0}) Refusal
+  pub formats : Formats state parameters root old new result
+  pub moments : (state old).honest ≡ true → Leaves (IsOldOrFresh (state old) parameters root) (state old) (state new)
+  pub fresh : (state old).honest ≡ true → OnOk result (IsFresh parameters root (state new).seen × IsSettled (state new))
+  pub well_formed : OnOk result (IsWellFormed root)
+  pub told : TellsFormat parameters.pages parameters.most result from to status
+
+-- what a settling was refused with is told; where it ended well nothing is
+abbrev pub TellsSettled : Result (Unit {0}) Refusal → Outputs → Outputs → ℕ → Type 0
+TellsSettled (Ok done) old new status = (status ≡ 0) × (new ≡ old)
+TellsSettled (Err why) old new status = Refuses why old new status
+
+-- the device of an index
+abbrev pub device_of : {B D : Type 0} → State B D → D
+device_of index = index.engine.volume.shelf.disk
+
+module _ {C D : Type 0} (shape : Members Rectangle) (is_key : Rectangle → Bool) (said : List ℕ → Rectangle) (class : Ghosts C Rectangle) (state : D → Device) where
+  -- An index was settled, with this result, which is told, and its device is handed back. Where it ended well, no checkpoint runs, and no batch is
+  -- in flight or fills.
+  pub record EndsSettling (old : State Rectangle D) (after : D) (from to : Outputs) (status : ℕ) : Type 0 where
+    pub result : Result (Unit {0}) Refusal
+    pub new : State Rectangle D
+    pub settles : Settles (Makes shape is_key said class state) old result new
+    pub runs : (l : Limits) → RunsOn (class_of shape is_key l) (reading_of said (format_of class)) (format_of class) (is_node (format_of class)) state old.engine new.engine
+    pub rests : OnOk result (IsAtRest new.engine)
+    pub keeps : KeepsSessions old.engine new.engine
+    pub told : TellsSettled result from to status
+    pub left : after ≡ device_of new
+
+  -- What follows a script's end, by whether a reply told of a fault: a person is told, and nothing more is done; or the index is settled.
+  abbrev pub EndsBy : Bool → State Rectangle D → D → Outputs → Outputs → ℕ → Type 0
+  EndsBy true index after from to status =
+      (status ≡ 1) × ((to.replies ≡ from.replies) × (TellsPerson fault_sentence from.person to.person × (after ≡ device_of index)))
+  EndsBy false index after from to status = EndsSettling index after from to status
+
+  -- each call is the index's, and its reply is watched
+  abbrev pub AnswersWatched : Watched (State Rectangle D) → ℕ → Call Rectangle → Reply Rectangle → Watched (State Rectangle D) → Type 0
+  AnswersWatched = Watches (CallsIndex (Makes shape is_key said class state))
+
+  -- an index over an engine, none of whose replies was seen yet
+  abbrev pub watched_over : Parts Rectangle D → Watched (State Rectangle D)
+  watched_over engine = record { index = record { engine = engine; ended = false }; met = false }
+
+  -- The script was read to its end, and then ended by whether a reply told of a fault. The writer held the script's text by then, and a
+  -- person had been told nothing. Of the device nothing was asked but by the script's calls and what follows them.
+  pub record HasRun (old : Watched (State Rectangle D)) (after : D) (had left : Stream) (from to : Outputs) (status : ℕ) : Type 0 where
+    pub new : Watched (State Rectangle D)
+    pub between : Outputs
+    pub done : IsDone AnswersWatched had.bytes left.bytes from.replies.bytes between.replies.bytes old new
+    pub ended : HasEnded left
+    pub quiet : between.person ≡ from.person
+    pub ends : EndsBy new.met new.index after between to status
+
+  -- The script was stopped by a fault of its reader or its writer, of which a person is told. Of the device nothing was asked but by the script's calls.
+  pub record WasStopped (old : Watched (State Rectangle D)) (after : D) (had left : Stream) (from to : Outputs) (status : ℕ) : Type 0 where
+    pub new : Watched (State Rectangle D)
+    pub fault : ScriptFault
+    pub status_is : status ≡ 1
+    pub stopped : IsStopped AnswersWatched had.bytes left.bytes from.replies.bytes to.replies.bytes old new fault
+    pub faulty : IsFaultOf left to.replies fault
+    pub heard : TellsFault (kind_of left to.replies fault) from.person to.person
+    pub left_is : after ≡ device_of new.index
+
+  -- a script was run on a watched index
+  abbrev pub RunsScript : Watched (State Rectangle D) → D → Stream → Stream → Outputs → Outputs → ℕ → Type 0
+  RunsScript old after had left from to status = HasRun old after had left from to status ⊎ WasStopped old after had left from to status
+
+  -- The opening was refused, which is told. Nothing was read.
+  pub record WasRefused (number frames : ℕ) (disk after : D) (had left : Stream) (from to : Outputs) (status : ℕ) : Type 0 where
+    pub refused : NotOpened D
+    pub opening : Opens shape is_key said class state number frames disk (Err refused)
+    pub unread : left ≡ had
+    pub told : TellsOpening shape is_key said class state number refused.why refused.disk after from to status
+
+  -- An engine was opened, and the script run on it.
+  pub record WasOpened (number frames : ℕ) (disk after : D) (had left : Stream) (from to : Outputs) (status : ℕ) : Type 0 where
+    pub engine : Parts Rectangle D
+    pub opening : Opens shape is_key said class state number frames disk (Ok engine)
+    pub script : RunsScript (watched_over engine) after had left from to status
+
+  -- A script was run over a device that was opened with so many frames, for a class of keys of this number; or the opening was refused. The
+  -- device that is left is handed back.
+  abbrev pub RunsOver : ℕ → ℕ → D → D → Stream → Stream → Outputs → Outputs → ℕ → Type 0
+  RunsOver number frames disk after had left from to status =
+      WasRefused number frames disk after had left from to status ⊎ WasOpened number frames disk after had left from to status

@@ -1,0 +1,75 @@
+//! What a watched script says of the index, and a status of 0 of the device, after a script and after a dump. Each
+//! function is its contract alone.
+ghost use Rattle.std.specs.Prelude.{◌≡◌, ℕ, List, Option, false, true};
+ghost use Rattle.gx_commands.specs.Streams.{Outputs, Stream};
+ghost use Rattle.gx_commands.specs.Durably.{EndsDurably};
+ghost use Rattle.gx_commands.specs.Dumping.{DumpsOver, TellsKept};
+ghost use Rattle.gx_commands.specs.Endings.{RunsOver};
+ghost use Rattle.gx_commands.specs.Saying.{SaysSo};
+ghost use Rattle.gx_commands.specs.Watching.{IsFaultless, Watches};
+ghost use Rattle.gx_commands.specs.declared.watched.Watched.{Watched};
+ghost use Rattle.gx_glog.specs.declared.parameters.Parameters.{Parameters};
+ghost use Rattle.gx_script.specs.declared.fault.ScriptFault.{ScriptFault};
+ghost use Rattle.gx_script.specs.declared.line.Line.{Line};
+ghost use Rattle.gx_script.specs.Scripts.{IsDone, IsScript, IsStopped};
+
+use gx_class::KeyClass;
+use gx_disk::SectorDisk;
+use gx_geom::{Box2, Shape};
+use gx_readings::ReadKeys;
+use gx_script::Answers;
+
+/// A script over a watched index is one over the index: of the same lines, with the same text, read and written the
+/// same.
+pub fn a_watched_script_is_a_script<I: Answers>()
+    ensures lines { (number : ℕ) (lines : List Line) (old new : Watched I) (text : List ℕ)
+        → IsScript (Watches I.answered) number lines old text new
+        → IsScript I.answered number lines old.index text new.index }
+    ensures done { (had left held holds : Option (List ℕ)) (old new : Watched I)
+        → IsDone (Watches I.answered) had left held holds old new
+        → IsDone I.answered had left held holds old.index new.index }
+    ensures stopped { (had left held holds : Option (List ℕ)) (old new : Watched I) (fault : ScriptFault)
+        → IsStopped (Watches I.answered) had left held holds old new fault
+        → IsStopped I.answered had left held holds old.index new.index fault }
+{}
+
+/// Where nothing was met by a script's end, no reply to one of its lines told of a fault.
+pub fn a_script_that_met_nothing_is_faultless<I: Answers>()
+    ensures { (number : ℕ) (lines : List Line) (old new : Watched I) (text : List ℕ)
+        → IsScript (Watches I.answered) number lines old text new → new.met ≡ false → IsScript
+        (IsFaultless I.answered) number lines old.index text new.index }
+{}
+
+/// Where a script over an honest device ended with status 0, what its lines asked and were answered is one run of the
+/// set machine, which begins with the set that the device's log kept, under its number. On the device that is left all
+/// commits are durable, and each image that a crash may leave of it stands for the last set.
+pub fn a_run_that_is_done_is_durable<D: SectorDisk, K: ReadKeys + KeyClass<Key = Box2>>()
+    ensures { (number frames : ℕ) (disk after : D) (had left : Stream) (from to : Outputs) →
+        (D.state disk).honest ≡ true
+        → RunsOver ⟦<Box2 as Shape>⟧ K.is_proper K.said K.KeyClass D.state number frames disk after had left from to 0
+        → EndsDurably ⟦<Box2 as Shape>⟧ K.is_proper K.said K.KeyClass D.state number disk after had left from to }
+{
+    gx_engine::laws::a_class_is_lawful::<K>();
+    gx_engine::laws::progress::no_call_is_given_up::<D, K>();
+}
+
+/// Where a dump over an honest device ended with status 0, what was written is the text of the tree of an index that
+/// has the set which the device's log kept, with that set's number.
+pub fn a_dump_that_is_done_tells_what_was_kept<D: SectorDisk, K: ReadKeys + KeyClass<Key = Box2>>()
+    ensures { (number frames : ℕ) (disk after : D) (from to : Outputs) → (D.state disk).honest ≡ true
+        → DumpsOver ⟦<Box2 as Shape>⟧ K.is_proper K.said K.KeyClass D.state number frames disk after from to 0
+        → TellsKept ⟦<Box2 as Shape>⟧ K.is_proper K.said K.KeyClass D.state number disk from to }
+{}
+
+/// What an honest device says that it is formatted for it says after a command too, as it reads and in whatever a
+/// crash may leave: after a script, however that ended, after a dump, and where the opening was refused.
+pub fn a_command_leaves_what_a_device_says<D: SectorDisk, K: ReadKeys + KeyClass<Key = Box2>>()
+    ensures run { (p : Parameters) (number frames : ℕ) (disk after : D) (had left : Stream) (from to : Outputs)
+        (status : ℕ) → (D.state disk).honest ≡ true → SaysSo p (D.state disk) → RunsOver ⟦<Box2 as Shape>⟧
+        K.is_proper K.said K.KeyClass D.state number frames disk after had left from to status
+        → SaysSo p (D.state after) }
+    ensures dump { (p : Parameters) (number frames : ℕ) (disk after : D) (from to : Outputs) (status : ℕ)
+        → (D.state disk).honest ≡ true → SaysSo p (D.state disk)
+        → DumpsOver ⟦<Box2 as Shape>⟧ K.is_proper K.said K.KeyClass D.state number frames disk after from to status
+        → SaysSo p (D.state after) }
+{}

@@ -1,0 +1,164 @@
+//! A script over a device, from its opening to the program's status.
+ghost use Rattle.gx_commands.specs.Streams.{kind_of, outputs_of, stream_of};
+ghost use Rattle.gx_commands.specs.Scripts.{TellsFault};
+ghost use Rattle.gx_commands.specs.Endings.{EndsBy, EndsSettling, RunsOver, RunsScript, TellsSettled};
+
+use crate::opening::{opened, refuse_opening};
+use crate::person::{tell_fault, tell_person};
+use crate::refusals::refuse;
+use crate::{DONE, REFUSED, Watched};
+use gx_class::{KeyClass, Probing};
+use gx_disk::SectorDisk;
+use gx_geom::{Box2, Refusal, Shape};
+use gx_readings::ReadKeys;
+use gx_restart::{Index, ScriptFault};
+use gx_script::Noted;
+use std::alloc::Global;
+use std::io::{Read, Write};
+
+// Tells what a settling was refused with, and returns the status.
+fn tell_settled<W: Write, E: Write>(
+    ended: Result<(), Refusal>,
+    writer: &mut Noted<W>,
+    faults: &mut Noted<E>,
+) -> u8
+    ensures { TellsSettled ended (outputs_of W.contents E.contents writer.old faults.old)
+        (outputs_of W.contents E.contents writer.new faults.new) result }
+{
+    match ended {
+        Ok(()) => DONE,
+        Err(why) => refuse(writer, faults, why),
+    }
+}
+
+// Settles an index, tells what that was refused with, and returns the device and the status.
+fn settle_after<
+    D: SectorDisk + Drop,
+    K: ReadKeys + KeyClass<Key = Box2> + Probing,
+    W: Write,
+    E: Write,
+>(index: Index<D, K>, writer: &mut Noted<W>, faults: &mut Noted<E>) -> (D, u8)
+where
+    K::Probe: Drop,
+    ensures { EndsSettling ⟦<Box2 as Shape>⟧ K.is_proper K.said K.KeyClass D.state index result.0
+        (outputs_of W.contents E.contents writer.old faults.old)
+        (outputs_of W.contents E.contents writer.new faults.new) result.1 }
+{
+    let mut index = index;
+    let ended = index.settle();
+    let status = tell_settled(ended, writer, faults);
+    (index.into_engine().into_disk(), status)
+}
+
+// What follows a script that was read to its end: where a reply told of a fault, a person is told; else the index is
+// settled. The device is handed back.
+fn end_script<
+    D: SectorDisk + Drop,
+    K: ReadKeys + KeyClass<Key = Box2> + Probing,
+    W: Write,
+    E: Write,
+>(watched: Watched<Index<D, K>>, writer: &mut Noted<W>, faults: &mut Noted<E>) -> (D, u8)
+where
+    K::Probe: Drop,
+    ensures { EndsBy ⟦<Box2 as Shape>⟧ K.is_proper K.said K.KeyClass D.state watched.met watched.index result.0
+        (outputs_of W.contents E.contents writer.old faults.old)
+        (outputs_of W.contents E.contents writer.new faults.new) result.1 }
+{
+    let Watched { index, met } = watched;
+    if met {
+        tell_person(
+            faults,
+            "the device failed, or what it holds is damaged; what isn't committed is lost",
+        );
+        return (index.into_engine().into_disk(), REFUSED);
+    }
+    settle_after(index, writer, faults)
+}
+
+// Runs a script on an index, and what follows it. The device is handed back: what isn't on it is lost.
+fn run_watched<
+    D: SectorDisk + Drop,
+    K: ReadKeys + KeyClass<Key = Box2> + Probing,
+    R: Read,
+    W: Write,
+    E: Write,
+>(
+    watched: Watched<Index<D, K>>,
+    reader: &mut Noted<R>,
+    writer: &mut Noted<W>,
+    faults: &mut Noted<E>,
+) -> (D, u8)
+where
+    K::Probe: Drop,
+    ensures { RunsScript ⟦<Box2 as Shape>⟧ K.is_proper K.said K.KeyClass D.state watched result.0
+        (stream_of R.remaining reader.old) (stream_of R.remaining reader.new)
+        (outputs_of W.contents E.contents writer.old faults.old)
+        (outputs_of W.contents E.contents writer.new faults.new) result.1 }
+{
+    let mut watched = watched;
+    match gx_script::run(reader, writer, &mut watched) {
+        Ok(()) => end_script(watched, writer, faults),
+        Err(fault) => {
+            tell_stopped(faults, fault, reader, writer);
+            (watched.index.into_engine().into_disk(), REFUSED)
+        }
+    }
+}
+
+// Tells a person what stopped a script.
+fn tell_stopped<R: Read, W: Write, E: Write>(
+    faults: &mut Noted<E>,
+    fault: ScriptFault,
+    reader: &Noted<R>,
+    writer: &Noted<W>,
+)
+    ensures { TellsFault (kind_of (stream_of R.remaining reader.now) (stream_of W.contents writer.now) fault)
+        (stream_of E.contents faults.old) (stream_of E.contents faults.new) }
+{
+    let kind = match fault {
+        ScriptFault::Read => reader.kind,
+        ScriptFault::Write => writer.kind,
+    };
+    tell_fault(faults, fault, kind);
+}
+
+/// Opens a device with so many frames for pages, 16 to 4,096, runs a script of boxes on the index that it holds,
+/// writes the replies, gates all that is logged, and returns the device and the status. Transactions that are open at
+/// the script's end stay open, and the next opening undoes them.
+///
+/// The status is 0 where the device was opened, the script was read to its end, no reply was refused with `Device`,
+/// `Failed` or `Damaged`, and all that was logged is gated. It is 1 in all other cases. Where the opening is refused
+/// nothing is read, and `refused N text` is written, and a person told what it means, and of damage where it lies;
+/// where the settling behind the script is refused, that line follows the replies. Where a read or a write of the
+/// script failed, or a reply told of a fault, nothing is settled, and a person is told, unless whoever reads the
+/// replies has left. Of the device nothing is asked but by the opening, the script's calls and the settling.
+pub fn run_over<
+    D: SectorDisk + Drop,
+    K: ReadKeys + KeyClass<Key = Box2> + Probing,
+    R: Read,
+    W: Write,
+    E: Write,
+>(
+    alloc: Global,
+    disk: D,
+    frames: usize,
+    reader: &mut Noted<R>,
+    writer: &mut Noted<W>,
+    faults: &mut Noted<E>,
+) -> (D, u8)
+where
+    K::Probe: Drop,
+    ensures { RunsOver ⟦<Box2 as Shape>⟧ K.is_proper K.said K.KeyClass D.state K.CLASS frames disk result.0
+        (stream_of R.remaining reader.old) (stream_of R.remaining reader.new)
+        (outputs_of W.contents E.contents writer.old faults.old)
+        (outputs_of W.contents E.contents writer.new faults.new) result.1 }
+{
+    match opened::<D, K>(alloc, disk, frames) {
+        Ok(engine) => {
+            let index = Index::new(engine);
+            let watched = Watched::new(index);
+            run_watched(watched, reader, writer, faults)
+        }
+        Err(refused) => refuse_opening::<D, K, W, E>(alloc, refused, writer, faults),
+    }
+}

@@ -1,0 +1,49 @@
+//! A script on a fresh index, from its first byte to the program's status.
+ghost use Rattle.gx_commands.specs.Scripts.{TellsMemory, EndsScript};
+ghost use Rattle.gx_commands.specs.Streams.{outputs_of, stream_of};
+
+use crate::person::{print, tell_fault};
+use crate::{DONE, REFUSED};
+use gx_plain::{PlainIndex, run_plain};
+use gx_script::{Noted, ScriptFault};
+use std::alloc::Global;
+use std::io::{Read, Write};
+
+/// Tells that memory was refused, and returns the status.
+pub fn refuse_memory<W: Write>(writer: &mut Noted<W>) -> u8
+    ensures { TellsMemory (stream_of W.contents writer.old) (stream_of W.contents writer.new) result }
+{
+    print(writer, b"refused 10 memory\n");
+    REFUSED
+}
+
+/// Runs a script on a fresh index in memory, writes the index's replies, and returns the status.
+///
+/// The status is 0 where the script was read to its end; and 1 where a read or a write failed, of which a person is
+/// told unless whoever reads the replies has left, and where memory is refused before the script begins, which writes
+/// `refused 10 memory`.
+pub fn run_script<R: Read, W: Write, E: Write>(
+    alloc: Global,
+    reader: &mut Noted<R>,
+    writer: &mut Noted<W>,
+    faults: &mut Noted<E>,
+) -> u8
+    ensures { EndsScript (stream_of R.remaining reader.old) (stream_of R.remaining reader.new)
+        (outputs_of W.contents E.contents writer.old faults.old)
+        (outputs_of W.contents E.contents writer.new faults.new) result }
+{
+    let Ok(mut index) = PlainIndex::new(alloc) else {
+        return refuse_memory(writer);
+    };
+    match run_plain(reader, writer, &mut index) {
+        Ok(()) => DONE,
+        Err(fault) => {
+            let kind = match fault {
+                ScriptFault::Read => reader.kind,
+                ScriptFault::Write => writer.kind,
+            };
+            tell_fault(faults, fault, kind);
+            REFUSED
+        }
+    }
+}

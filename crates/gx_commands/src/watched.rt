@@ -1,0 +1,49 @@
+//! An index whose replies are watched for faults.
+ghost use Rattle.std.specs.Prelude.{◌≡◌, false};
+ghost use Rattle.gx_commands.specs.Watching.{tells_fault};
+
+use gx_geom::{Box2, Refusal};
+use gx_machine::{Call, Reply};
+use gx_script::Answers;
+
+/// What answers the calls of a script, and whether a reply has told of a fault.
+#[derive(Drop)]
+pub struct Watched<I> {
+    /// What answers.
+    pub index: I,
+    /// Whether a reply was refused with `Device`, `Failed` or `Damaged`.
+    pub met: bool,
+}
+
+impl<I> Watched<I> {
+    /// No reply was seen yet.
+    pub fn new(index: I) -> Self
+        ensures { result ≡ record { index = index; met = false } }
+    {
+        Watched { index, met: false }
+    }
+}
+
+// Whether a reply tells that the device failed, or had failed before, or holds what can't be read.
+fn tells_fault(reply: &Reply<Box2>) -> bool
+    ensures { result ≡ tells_fault reply.now }
+{
+    matches!(
+        reply,
+        Reply::Refused(Refusal::Device | Refusal::Failed | Refusal::Damaged)
+    )
+}
+
+impl<I: Answers> Answers for Watched<I> {
+    ghost use Rattle.gx_commands.specs.Watching.{Watches};
+
+    ghost answered = { Watches I.answered };
+
+    fn call(&mut self, session: u8, call: Call<Box2>) -> Reply<Box2> {
+        let reply = self.index.call(session, call);
+        if tells_fault(&reply) {
+            self.met = true;
+        }
+        reply
+    }
+}

@@ -1,5 +1,0 @@
-use Rattle.gx_device_commands.proofs.Dumped.{tells_kept}
-use Rattle.gx_device_commands.proofs.laws.a_dump_that_is_done_tells_what_was_kept.Goals as goal
-
-pub returns : goal.returns
-returns g c = tells_kept _ _ _ _ _

@@ -1,0 +1,15 @@
+use Rattle.std.proofs.Common.{◌≡◌, ◌∙◌, ap, inl, map, rules}
+use Rattle.clap.specs.Words.{fault_of, kind_of}
+use Rattle.clap.specs.declared.error.kind.ErrorKind.TheVariants.{OutOfMemory}
+use Rattle.gx_words.specs.Program.{gist_app}
+use Rattle.gx_front.proofs.Wrong.{no_memory_fault, some_fault}
+use Rattle.gx_front.proofs.program.before_threads.Goals as goal
+
+pub returns-in-Err-2-clause-ended : goal.returns-in-Err-2-clause-ended
+returns-in-Err-2-clause-ended g c =
+    let other = λ (same : kind_of c.in-Err-2.error ≡ OutOfMemory).
+    no_memory_fault c.kind.result c.if-eq.ensures (c.kind.ensures ∙ (ap kind_of c.in-Err-2.error-is ∙ same)) in
+    rw c.in-Ok.is (inl (
+      some_fault (fault_of gist_app (map g.S.AsStr.text c.in-Ok.given.now)) c.in-Err-2.error c.in-Err-2.ensures.wrong other,
+      record { status_is = c.refuse_words.ensures; unread = search rules; unwritten = search rules },
+    ))

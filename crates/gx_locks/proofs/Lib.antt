@@ -1,3 +1,0 @@
-pub mod Searched
-pub mod SetLemmas
-pub mod Sorting

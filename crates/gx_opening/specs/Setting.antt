@@ -1,0 +1,55 @@
+-- What clauses say of a class of keys and of a device, from what their traits say of them.
+use Rattle.std.specs.Prelude.{ℕ, List, Bool, Result}
+use Rattle.gx_geom.specs.declared.refusal.Refusal.{Refusal}
+use Rattle.gx_machine.specs.declared.entry.Entry.{Entry}
+use Rattle.gx_machine.specs.Keys.{Members}
+use Rattle.gx_class.specs.declared.class.KeyClass.{Ghosts}
+use Rattle.gx_disk.specs.Device.{Device}
+use Rattle.gx_glog.specs.declared.parameters.Parameters.{Parameters}
+use Rattle.gx_node.specs.Keyed.{rules_of}
+use Rattle.gx_node.specs.Reading.{format_of, is_node}
+use Rattle.gx_recovery.specs.Analysis.{Analysis}
+use Rattle.gx_recovery.specs.Known.{Limits}
+use Rattle.gx_recovery.specs.Records.{Touch}
+use Rattle.gx_readings.specs.Classes.{known_at, reading_by}
+use Rattle.gx_store.specs.State.{Shelf}
+use Rattle.gx_opening.specs.declared.damage.Damage.{Damage}
+use Rattle.gx_opening.specs.declared.standing.Standing.{Standing}
+use Rattle.gx_opening.specs.Shown.{IndexShows, PagesShow}
+use Rattle.gx_opening.specs.Sound.{AreSound, IsSoundStore}
+use Rattle.gx_opening.specs.Standing.{FindsInOrder, IsStood, IsTested, StaysSafe}
+
+-- a store's pages can be read, and their tree is legal and has what was touched in its place
+abbrev pub IsSoundStoreAs : {C B D : Type 0} → Members B → Ghosts C B → (D → Device) → ℕ → List (Touch (Entry B)) → Shelf D → Type 0
+IsSoundStoreAs shape class state most touched s =
+    IsSoundStore (format_of class) (is_node (format_of class)) state (rules_of shape most) touched s
+
+-- what may be told of the pages of a device that reads so
+abbrev pub PagesShowAs : {C B : Type 0} → Type 0 → Members B → Ghosts C B → ℕ → ℕ → Analysis (Entry B) → List ℕ → Damage → Type 0
+PagesShowAs D shape class pages most told seen damage =
+    PagesShow D (format_of class) (is_node (format_of class) pages) (rules_of shape most) pages told seen damage
+
+module _ {C B : Type 0} (shape : Members B) (proper : B → Bool) (said : List ℕ → B) (class : Ghosts C B) where
+  -- the pages of a device that reads so are sound
+  abbrev pub AreSoundAs : Limits → ℕ → Analysis (Entry B) → List ℕ → Type 0
+  AreSoundAs l pages told seen = AreSound (known_at shape proper l) (reading_by said class) (is_node (format_of class) pages) told seen
+
+  -- what may be told of a device that is formatted for an index of the class
+  abbrev pub IndexShowsAs : Type 0 → Parameters → List ℕ → Damage → Type 0
+  IndexShowsAs D parameters seen damage = IndexShows shape proper said (format_of class) D parameters seen damage
+
+module _ {C B D : Type 0} (shape : Members B) (proper : B → Bool) (said : List ℕ → B) (class : Ghosts C B) (state : D → Device) where
+  -- a crash leaves what it could before, or an index with the same log and pages
+  abbrev pub StaysSafeAs : D → D → Type 0
+  StaysSafeAs old new = StaysSafe shape proper said (format_of class) (state old) (state new)
+
+  -- a sync comes before anything is written, and a device that isn't one of the class isn't written
+  abbrev pub FindsInOrderAs : D → D → Result (Standing B) Refusal → Type 0
+  FindsInOrderAs old new result = FindsInOrder shape proper said (format_of class) state (state old) (state new) result
+
+  -- what stands is laid, and its pages are sound
+  abbrev pub IsStoodAs : D → D → Result (Standing B) Refusal → Type 0
+  IsStoodAs old new result = IsStood shape proper said (format_of class) class.CLASS (state old) (state new) result
+
+  abbrev pub IsTestedAs : D → D → Result (Standing B) Refusal → Type 0
+  IsTestedAs old new result = IsTested shape proper said (format_of class) class.CLASS (state old) (state new) result

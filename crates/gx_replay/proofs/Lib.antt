@@ -1,4 +1,0 @@
-pub mod Comparing
-pub mod Following
-pub mod Asking
-pub mod Replaying

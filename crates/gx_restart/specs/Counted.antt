@@ -1,0 +1,29 @@
+-- How many pairs of an engine's tree aren't marked.
+use Rattle.std.specs.Prelude.{◌≡◌, ℕ, Bool, List}
+use Rattle.gx_class.specs.declared.class.KeyClass.{Ghosts}
+use Rattle.gx_disk.specs.Device.{Device}
+use Rattle.gx_machine.specs.Keys.{Members}
+use Rattle.gx_node.specs.Reading.{format_of, is_node}
+use Rattle.gx_tree_laws.specs.Trees.{Tree}
+use Rattle.gx_recovery.specs.Known.{Limits}
+use Rattle.gx_readings.specs.Classes.{class_of, reading_of}
+use Rattle.gx_engine.specs.States.{Parts}
+use Rattle.gx_restart.specs.Reading.{OfItsTree}
+use Rattle.gx_restart.specs.Sizes.{live_on, live_up_to}
+
+module _ {C B D : Type 0} (shape : Members B) (proper : B → Bool) (said : List ℕ → B) (class : Ghosts C B)
+    (state : D → Device) where
+  -- this holds of the tree of whatever index an engine holds
+  abbrev pub OfEachTree : Parts B D → (Tree B → Type 0) → Type 0
+  OfEachTree e P = (l : Limits) → OfItsTree (class_of shape proper l) (reading_of said (format_of class))
+      (format_of class) (is_node (format_of class)) state e P
+
+  -- so many are on a page; on the pages from 1 to one; on all
+  abbrev pub HasLiveOn : Parts B D → ℕ → ℕ → Type 0
+  HasLiveOn e page n = OfEachTree e (λ t. n ≡ live_on (t.node page))
+
+  abbrev pub HasLiveUpTo : Parts B D → ℕ → ℕ → Type 0
+  HasLiveUpTo e last n = OfEachTree e (λ t. n ≡ live_up_to t.node last)
+
+  abbrev pub HasLive : Parts B D → ℕ → Type 0
+  HasLive e n = OfEachTree e (λ t. n ≡ live_up_to t.node t.used)

@@ -1,0 +1,204 @@
+//! The verification of a device: whether it would open, and what it holds. A copy of it in memory is opened, so
+//! nothing is written.
+ghost use Rattle.std.specs.Prelude.{◌≡◌, ◌≢◌, ◌≤◌, ◌<◌, true, Err, IfErr, IfOk, IfSome};
+ghost use Rattle.gx_disk.specs.Looks.{Looks};
+ghost use Rattle.gx_node.specs.Reading.{format_of};
+ghost use Rattle.gx_opening.specs.Formatted.{Counted};
+ghost use Rattle.gx_restart.specs.Copied.{memory_state, refusal_of_copy};
+ghost use Rattle.gx_restart.specs.Opened.{IsOpened};
+ghost use Rattle.gx_restart.specs.Undoing.{IsIdle};
+ghost use Rattle.gx_restart.specs.Verified.{IsDamagedCopy, IsUnverified, IsVerified, why_of};
+
+mod copy;
+mod entries;
+
+use crate::open;
+use crate::opening::{LEAST_FRAMES, MOST_FRAMES};
+use copy::copied;
+use entries::count_entries;
+use gx_class::Probing;
+use gx_disk::{MIN_SECTORS, MemDisk, SectorDisk};
+use gx_engine::laws::a_class_is_lawful;
+use gx_engine::{Engine, NotOpened};
+use gx_geom::Refusal;
+use gx_readings::ReadKeys;
+use std::alloc::Global;
+
+/// What stands on a device that was verified.
+#[derive(Clone, Copy, Debug, PartialEq, Eq)]
+pub struct Report {
+    /// The number of the last commit.
+    pub commits: u64,
+    /// How many entries that commit's set has.
+    pub entries: u64,
+    /// The greatest page that is taken.
+    pub used: u32,
+}
+
+/// Why a device wasn't verified.
+#[derive(Drop)]
+pub struct NotVerified {
+    /// Why.
+    pub why: Refusal,
+    /// Its copy, where an opening of that was refused, as that left it: of a damaged device its log may lie over its
+    /// pages.
+    pub copy: Option<MemDisk>,
+}
+
+// What a refusal of a copy is told as.
+fn told_of_copy(why: Refusal) -> Refusal
+    ensures { result ≡ refusal_of_copy why }
+{
+    match why {
+        Refusal::Device => Refusal::Memory,
+        other => other,
+    }
+}
+
+// What an engine that was just opened holds. Its device is handed back where that isn't counted.
+fn report_of<D: SectorDisk + Drop, K: ReadKeys + Probing>(
+    engine: Engine<D, K>,
+) -> Result<Report, NotOpened<D>>
+where
+    K::Probe: Drop,
+    ensures verified { (a : D) → IsIdle engine
+        → IsOpened K.Key.Shape K.is_proper K.said (format_of K.KeyClass) K.CLASS
+        (D.state a) (D.state engine.volume.shelf.disk) engine
+        → IfOk result (IsVerified K.Key.Shape K.is_proper K.said (format_of K.KeyClass) K.CLASS (D.state a)) }
+    ensures refused { IfErr result (λ n. n.why ≡ Refusal.Memory) }
+{
+    a_class_is_lawful::<K>();
+    let mut engine = engine;
+    let commits = engine.commits();
+    let used = engine.used();
+    match count_entries(&mut engine) {
+        Ok(entries) => {
+            let _disk = engine.into_disk();
+            Ok(Report {
+                commits,
+                entries,
+                used,
+            })
+        }
+        // all that an engine over memory is stopped for is want of it
+        Err(_) => Err(NotOpened {
+            why: Refusal::Memory,
+            disk: engine.into_disk(),
+        }),
+    }
+}
+
+// Opens a copy, and says what it holds; or hands it back, with its log laid over its pages where it is damaged.
+fn verify_copy<D: SectorDisk + Drop, K: ReadKeys + Probing>(
+    alloc: Global,
+    copy: D,
+    frames: usize,
+) -> Result<Report, NotOpened<D>>
+where
+    K::Probe: Drop,
+    requires frames { (16 ≤ frames) × (frames ≤ 4096) }
+    requires large { MIN_SECTORS ≤ (D.state copy).sectors }
+    ensures verified { (D.state copy).honest ≡ true
+        → IfOk result (IsVerified K.Key.Shape K.is_proper K.said (format_of K.KeyClass) K.CLASS (D.state copy)) }
+    ensures refused { (D.state copy).honest ≡ true
+        → IfErr result (λ n. IsUnverified K.Key.Shape K.is_proper K.said (format_of K.KeyClass) K.CLASS
+        (D.state copy) n.why) }
+    ensures damaged { (D.state copy).honest ≡ true → IfErr result (λ n. n.why ≡ Refusal.Damaged
+        → IsDamagedCopy K.Key.Shape K.is_proper K.said (format_of K.KeyClass) (D.state copy) (D.state n.disk)) }
+    ensures device { IfErr result (λ n. n.why ≢ Refusal.Device) }
+{
+    match open::<D, K>(alloc, copy, frames) {
+        Ok(engine) => report_of(engine),
+        Err(refused) => Err(NotOpened {
+            why: told_of_copy(refused.why),
+            disk: refused.disk,
+        }),
+    }
+}
+
+/// Verifies a device as `verify` does. Where an opening of its copy was refused the copy is handed out, so that
+/// `gx_opening::examine` says of a damaged one what is damaged: it reads as the device, but for pages that the log
+/// gives.
+pub fn verify_or_copy<D: SectorDisk, K: ReadKeys + Probing>(
+    alloc: Global,
+    disk: &mut D,
+    frames: usize,
+) -> Result<Report, NotVerified>
+where
+    K::Probe: Drop,
+    ensures frames { ((16 ≤ frames) × (frames ≤ 4096) → ⊥)
+        → (why_of result ≡ Err Refusal.BadParameter) × (disk.new ≡ disk.old) }
+    ensures small { 16 ≤ frames → frames ≤ 4096 → (D.state disk.old).sectors < MIN_SECTORS
+        → (why_of result ≡ Err Refusal.TooSmall) × (disk.new ≡ disk.old) }
+    ensures counted { Counted 0 (D.state disk.old) (D.state disk.new) (why_of result) }
+    ensures looks { (D.state disk.old).honest ≡ true → Looks (D.state disk.old) (D.state disk.new) }
+    ensures verified { (D.state disk.old).honest ≡ true
+        → IfOk (why_of result)
+        (IsVerified K.Key.Shape K.is_proper K.said (format_of K.KeyClass) K.CLASS (D.state disk.old)) }
+    ensures refused { (D.state disk.old).honest ≡ true → 16 ≤ frames → frames ≤ 4096
+        → MIN_SECTORS ≤ (D.state disk.old).sectors
+        → IfErr (why_of result)
+        (IsUnverified K.Key.Shape K.is_proper K.said (format_of K.KeyClass) K.CLASS (D.state disk.old)) }
+    ensures damaged { (D.state disk.old).honest ≡ true → IfErr result (λ n. n.why ≡ Refusal.Damaged → IfSome n.copy
+        (λ copy. IsDamagedCopy K.Key.Shape K.is_proper K.said (format_of K.KeyClass)
+        (D.state disk.old) (memory_state copy))) }
+{
+    if frames < LEAST_FRAMES || MOST_FRAMES < frames {
+        return Err(NotVerified {
+            why: Refusal::BadParameter,
+            copy: None,
+        });
+    }
+    if disk.sectors() < MIN_SECTORS {
+        return Err(NotVerified {
+            why: Refusal::TooSmall,
+            copy: None,
+        });
+    }
+    match copied(alloc, disk) {
+        Ok(copy) => match verify_copy::<MemDisk, K>(alloc, copy, frames) {
+            Ok(report) => Ok(report),
+            Err(refused) => Err(NotVerified {
+                why: refused.why,
+                copy: Some(refused.disk),
+            }),
+        },
+        Err(why) => Err(NotVerified { why, copy: None }),
+    }
+}
+
+/// Verifies a device: answers what an opening of it with so many frames would, and what it would hold: the number of
+/// the last commit, how many entries that commit's set has, and the greatest page that is taken. What open
+/// transactions wrote isn't counted. A copy of the sectors that an opening reads is opened in memory, 528,456 at
+/// most, so no write and no sync is made on the device.
+///
+/// Refused, by the first that holds: with fewer frames than 16 or more than 4,096 (`BadParameter`), on a device with
+/// fewer sectors than the smallest index takes (`TooSmall`; no call is made before these two), without the magic
+/// (`NotFormatted`), with numbers out of range or of another class (`BadParameter`), with fewer sectors than that
+/// index takes (`TooSmall`), with a damaged log, or pages that can't be read, aren't a legal tree, or haven't what
+/// open transactions touched in its place (`Damaged`); `Device` where a read fails, and only then; and `Memory` where
+/// there is none for the copy, or for an opening of it.
+pub fn verify<D: SectorDisk, K: ReadKeys + Probing>(
+    alloc: Global,
+    disk: &mut D,
+    frames: usize,
+) -> Result<Report, Refusal>
+where
+    K::Probe: Drop,
+    ensures frames { ((16 ≤ frames) × (frames ≤ 4096) → ⊥)
+        → (result ≡ Err Refusal.BadParameter) × (disk.new ≡ disk.old) }
+    ensures small { 16 ≤ frames → frames ≤ 4096 → (D.state disk.old).sectors < MIN_SECTORS
+        → (result ≡ Err Refusal.TooSmall) × (disk.new ≡ disk.old) }
+    ensures counted { Counted 0 (D.state disk.old) (D.state disk.new) result }
+    ensures looks { (D.state disk.old).honest ≡ true → Looks (D.state disk.old) (D.state disk.new) }
+    ensures verified { (D.state disk.old).honest ≡ true
+        → IfOk result (IsVerified K.Key.Shape K.is_proper K.said (format_of K.KeyClass) K.CLASS (D.state disk.old)) }
+    ensures refused { (D.state disk.old).honest ≡ true → 16 ≤ frames → frames ≤ 4096
+        → MIN_SECTORS ≤ (D.state disk.old).sectors
+        → IfErr result (IsUnverified K.Key.Shape K.is_proper K.said (format_of K.KeyClass) K.CLASS (D.state disk.old)) }
+{
+    match verify_or_copy::<D, K>(alloc, disk, frames) {
+        Ok(report) => Ok(report),
+        Err(refused) => Err(refused.why),
+    }
+}

@@ -1,0 +1,145 @@
+-- What clauses say of a class of keys and of a device, from what their traits say of them. A relation takes the
+-- states of the device from the pages or volumes that it relates.
+use Rattle.std.specs.Prelude.{◌≡◌, ℕ, Bool, List, Result}
+use Rattle.gx_machine.specs.declared.entry.Entry.{Entry}
+use Rattle.gx_machine.specs.Keys.{Members}
+use Rattle.gx_geom.specs.declared.refusal.Refusal.{Refusal}
+use Rattle.gx_class.specs.declared.class.KeyClass.{Ghosts}
+use Rattle.gx_disk.specs.Device.{Device}
+use Rattle.gx_glog.specs.declared.stage.Stage.{Stage}
+use Rattle.gx_glog.specs.declared.stage.Turn.{Turn}
+use Rattle.gx_glog.specs.State.{Log}
+use Rattle.gx_page.specs.Contents.{Contents}
+use Rattle.gx_node.specs.Reading.{Format, format_of, is_node}
+use Rattle.gx_node.specs.Owner as owner
+use Rattle.gx_node.specs.Store.{Store, Stays, tree_of}
+use Rattle.gx_node.specs.declared.fault.StepFault.{StepFault}
+use Rattle.gx_record.specs.Rec.{Rec}
+use Rattle.gx_recovery.specs.Known.{Known, Limits}
+use Rattle.gx_index_laws.specs.Classes.{Page}
+use Rattle.gx_durable.specs.Spelled.{Reading}
+use Rattle.gx_readings.specs.Classes.{reading_of}
+use Rattle.gx_store.specs.Faults as faults
+use Rattle.gx_store.specs.Since.{IsSince}
+use Rattle.gx_store.specs.Standing.{store_of}
+use Rattle.gx_store.specs.State.{Shelf, IsSteady}
+use Rattle.gx_store.specs.declared.fault.StoreFault.{StoreFault}
+use Rattle.gx_tree.specs.declared.seek.Sought.{Sought}
+use Rattle.gx_tree_laws.specs.Trees.{Tree}
+use Rattle.gx_storage.specs.Changes.{IsLast, IsLogged, IsLoggedIf, IsUnlogged, MarkIsLogged, ReadsKeep, known_at, page_given}
+use Rattle.gx_storage.specs.Flushing.{KeepsOn, KeepsRecord, MayTurn, StepsLog, TurnsOn, WritesGated}
+use Rattle.gx_storage.specs.Giving.{pages_given}
+use Rattle.gx_storage.specs.Keeps.{ShowsKeys, ShowsTheLogs}
+use Rattle.gx_storage.specs.Numbers.{HasOwnNumber}
+use Rattle.gx_storage.specs.State.{Volume}
+
+module _ {D : Type 0} (state : D → Device) where
+  -- what is read of the device is what stands there, and each clean page is what the device has
+  abbrev pub IsSteadyAs : Shelf D → Type 0
+  IsSteadyAs s = IsSteady (state s.disk) s.frames
+
+  -- the image of a page, as it stands, has that page's number as its own
+  abbrev pub OwnNumberAs : Shelf D → ℕ → Type 0
+  OwnNumberAs s page = HasOwnNumber (state s.disk).seen s page
+
+  -- a page that was changed, as it stands, with the numbers as they are; and several
+  abbrev pub page_given_at : ℕ → Shelf D → Rec
+  page_given_at page s = page_given page (state s.disk).seen s
+
+  abbrev pub pages_given_at : List ℕ → Shelf D → Rec
+  pages_given_at pages s = pages_given pages (state s.disk).seen s
+
+module _ {C B D : Type 0} (class : Ghosts C B) (state : D → Device) where
+  -- what the tree's steps see of pages, and their tree
+  abbrev pub store_at : Shelf D → Store B
+  store_at s = store_of (format_of class) (state s.disk).seen s
+
+  abbrev pub tree_at : Shelf D → Tree B
+  tree_at s = tree_of (store_at s)
+
+  -- the nodes are the same; pages were brought, and no node has changed
+  abbrev pub ShowsTheSame : Shelf D → Shelf D → Type 0
+  ShowsTheSame old new = store_at new ≡ store_at old
+
+  abbrev pub StaysAs : Shelf D → Shelf D → Type 0
+  StaysAs old new = Stays (IsSteadyAs state old) (store_at old) (store_at new)
+
+  -- why pages were refused since an event began, and why a step was
+  abbrev pub FaultsAs : Shelf D → Shelf D → StoreFault → Type 0
+  FaultsAs old new fault = faults.IsWhy (is_node (format_of class)) (state old.disk) (state new.disk) old new fault
+
+  abbrev pub IsWhyAs : Shelf D → Shelf D → StepFault StoreFault → Type 0
+  IsWhyAs old new fault = owner.IsWhy (FaultsAs old new) fault
+
+  -- the pages have gone on since an event began, and this one is as it was
+  abbrev pub IsSinceAs : Shelf D → Shelf D → ℕ → Type 0
+  IsSinceAs old new page = IsSince (is_node (format_of class)) (state old.disk) (state new.disk) old new page
+
+-- a record is the log's last
+abbrev pub IsLastAs : {C B : Type 0} → Members B → (B → Bool) → (List ℕ → B) → Ghosts C B → Rec → Log → Log → Type 0
+IsLastAs shape proper said class x old new =
+    IsLast (known_at shape proper) (reading_of said (format_of class)) x old new
+
+module _ {C B D : Type 0} (shape : Members B) (proper : B → Bool) (said : List ℕ → B) (class : Ghosts C B)
+    (state : D → Device) where
+  -- what is known of the class, its readings and format, which pages are nodes, and the device as a volume has it
+  abbrev known : Limits → Known (Entry B) (Page B)
+  known = known_at shape proper
+
+  abbrev form : Format B
+  form = format_of class
+
+  abbrev reading : Reading (Entry B) (Page B)
+  reading = reading_of said form
+
+  abbrev passes : ℕ → Contents → Bool
+  passes = is_node form
+
+  abbrev at : Volume D → Device
+  at v = state v.shelf.disk
+
+  -- a change is logged by a record of so many bytes; or where something changed; or with the mark that was found
+  abbrev pub LogsAs : ℕ → Volume D → Volume D → Rec → Type 0
+  LogsAs size v w x = IsLogged known reading form passes size (at v) (at w) v w x
+
+  abbrev pub LogsIfAs : ℕ → Volume D → Volume D → Rec → Bool → Type 0
+  LogsIfAs size v w x changed = IsLoggedIf known reading form passes size (at v) (at w) v w x changed
+
+  abbrev pub LogsMarkAs : ℕ → Entry B → ℕ → Bool → Volume D → Volume D → Sought → Type 0
+  LogsMarkAs transaction entry page marked v w sought =
+      MarkIsLogged known reading form passes class.spelling class.KEY transaction entry page marked (at v) (at w) v w
+      sought
+
+  -- nothing is logged, of an event that began so
+  abbrev pub UnloggedAs : Shelf D → Volume D → Volume D → Type 0
+  UnloggedAs begun v w = IsUnlogged known reading form passes begun (at v) (at w) v w
+
+  -- What the flusher's calls keep, within whatever limits an index has: a step of the log, a page's write, a call
+  -- that leaves the state, a record that gives no page, and a turn, which may begin.
+  abbrev pub StepsLogAs : Volume D → Volume D → Result Stage Refusal → Type 0
+  StepsLogAs v w result = (l : Limits) → StepsLog (known l) reading form passes (at v) (at w) v w result
+
+  abbrev pub WritesGatedAs : Volume D → Volume D → Type 0
+  WritesGatedAs v w = (l : Limits) → WritesGated (known l) reading form passes (at v) (at w) v w
+
+  abbrev pub KeepsOnAs : Volume D → Volume D → Type 0
+  KeepsOnAs v w = (l : Limits) → KeepsOn (known l) reading form passes (at v) (at w) v w
+
+  abbrev pub KeepsRecordAs : Volume D → Volume D → Rec → Type 0
+  KeepsRecordAs v w x = (l : Limits) → KeepsRecord (known l) reading form passes (at v) v w x
+
+  abbrev pub MayTurnAs : Volume D → Type 0
+  MayTurnAs v = (l : Limits) → MayTurn (known l) reading form passes (at v) v
+
+  abbrev pub TurnsOnAs : Volume D → Volume D → Result Turn Refusal → Type 0
+  TurnsOnAs v w result = (l : Limits) → TurnsOn (known l) reading form passes (at v) (at w) v w result
+
+  -- what pages show, within an index's limits: the log's tree, keys of the class; and what reads of them keep
+  abbrev pub ShowsTheLogsAs : Limits → Volume D → Type 0
+  ShowsTheLogsAs l v = ShowsTheLogs (known l) reading form passes (at v) v
+
+  abbrev pub ShowsKeysAs : Limits → Volume D → Type 0
+  ShowsKeysAs l v = ShowsKeys (known l) reading form passes class.is_key (at v) v
+
+  abbrev pub ReadsKeepAs : Limits → Volume D → Shelf D → Type 0
+  ReadsKeepAs l v t = ReadsKeep (known l) reading form passes (at v) (state t.disk) v t

@@ -1,0 +1,4 @@
+pub mod Refusals
+pub mod Verdicts
+pub mod Following
+pub mod Mismatches
