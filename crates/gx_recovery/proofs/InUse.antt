@@ -27,7 +27,7 @@ pub given-snoc : {E P : Type 0} (p : ℕ) (log : List (Record E P)) (r : Record 
 given-snoc p log r = given_on-append p None log (r ∷ [])
 
 -- a page in use stays in use
-still_page : (used more p : ℕ) → nat_le used more ≡ true → is_page used p ≡ true → is_page more p ≡ true
+pub still_page : (used more p : ℕ) → nat_le used more ≡ true → is_page used p ≡ true → is_page more p ≡ true
 still_page used more p up is =
     and_all (nat_lt 0 p) (nat_le p more) (and_first (nat_lt 0 p) (nat_le p used) is)
     (let low = leb-true p used (and_second (nat_lt 0 p) (nat_le p used) is) in let rise = leb-true used more up in le-leb p more (omega (arith, low, rise)))
