@@ -1,19 +1,16 @@
 -- The pages that an undamaged log gives are the device's.
-use Rattle.std.proofs.Common.{◌≡◌, ◌∙◌, ap, refl, subst, ℕ, ◌==◌, Bool, true, false, ◌&&◌, ◌||◌, List, [], ◌∷◌, ◌++◌, length, arith}
-use Rattle.std.specs.Prelude.{nat_le, nat_lt}
+use Rattle.std.proofs.Common.{◌≡◌, ◌∙◌, ap, refl, subst, ℕ, ◌==◌, Bool, true, false, ◌&&◌, ◌||◌, List, [], ◌∷◌, ◌++◌, length}
+use Rattle.std.specs.Prelude.{nat_le}
 use Rattle.std.specs.List.{list_all, list_any}
-use Rattle.std.specs.declared.cmp.Ordering.{Ordering}
-use Rattle.std.specs.declared.cmp.Ordering.TheVariants.{Less, Equal, Greater}
-use Rattle.std.specs.Ordering.{match_ordering}
-use Rattle.std.proofs.lemmas.Bool.{leb-true, le-leb, eqb-true}
+use Rattle.std.proofs.lemmas.Bool.{eqb-true}
 use Rattle.std.proofs.Math.Bool.{and-false}
 use Rattle.std.proofs.lemmas.List.Folds.{list_all-append}
 use Rattle.gx_record.specs.Rec as rec
 use Rattle.gx_recovery.specs.Known.{Known}
-use Rattle.gx_recovery.specs.Records.{Image, Record, Pages, Adjust, Write, Commit, End, Counters, Note, Touch, gives, is_whole}
-use Rattle.gx_recovery.specs.Analysis.{Analysis, analysis, read, touching, touch_cmp}
+use Rattle.gx_recovery.specs.Records.{Image, Record, Pages, Adjust, Write, Commit, End, Counters, Note, gives, is_whole}
+use Rattle.gx_recovery.specs.Analysis.{Analysis, analysis, read}
 use Rattle.gx_recovery.specs.Given.{given}
-use Rattle.gx_recovery.specs.Damage.{is_page, touch_fits, apart, transactions, is_transaction, fits, image_fits, may_follow, follows, follow, is_note, note_fits, is_head, records_of, is_undamaged}
+use Rattle.gx_recovery.specs.Damage.{is_page, touch_fits, apart, transactions, fits, image_fits, may_follow, follows, follow, is_note, note_fits, is_head, records_of, is_undamaged}
 use Rattle.gx_recovery.specs.declared.TheConstants.{TRANSACTIONS, TOUCHED}
 use Rattle.gx_recovery.proofs.Folds.{analysis-snoc}
 use Rattle.gx_recovery.proofs.InUse.{still_page, leaf_fits, each_fits}
