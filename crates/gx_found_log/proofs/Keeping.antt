@@ -1,8 +1,8 @@
 -- What is kept of each page once more images are.
-use Rattle.std.proofs.Common.{◌≡◌, ℕ, ◌+◌, ◌≤◌, ◌==◌, Bool, true, false, List, [], ◌∷◌, ◌++◌, length, Option, Some, refl, ap, sym, ◌∙◌, arith, eq-eqb}
+use Rattle.std.proofs.Common.{◌≡◌, ℕ, ◌+◌, ◌≤◌, ◌==◌, Bool, true, false, List, [], ◌∷◌, length, Option, Some, refl, ap, sym, ◌∙◌, arith, eq-eqb}
 use Rattle.std.proofs.lemmas.Bool.{eqb-true}
 use Rattle.std.specs.Prelude.{if◌then◌else◌}
-use Rattle.gx_redo.specs.Kept.{Imaged, image_in, with_image, with_all, AreOnce}
+use Rattle.gx_found_log.specs.Given.{Imaged, image_in, with_image, with_all, AreOnce}
 
 -- by a test, which went one way or the other
 pub by_case : {A : Type 0} (b : Bool) (x y : A) (P : A → Type 0) → (b ≡ true → P x) → (b ≡ false → P y) → P (if b then x else y)
@@ -48,8 +48,3 @@ one_more new (x ∷ xs) =
 pub no_more : (xs kept : List Imaged) → length (with_all xs kept) ≤ length kept + length xs
 no_more [] kept = omega arith
 no_more (x ∷ xs) kept = let rest = no_more xs (with_image x kept) in let first = one_more x kept in omega (arith, rest, first)
-
--- images in a row
-pub with_joined : (xs ys kept : List Imaged) → with_all (xs ++ ys) kept ≡ with_all ys (with_all xs kept)
-with_joined [] ys kept = refl
-with_joined (x ∷ xs) ys kept = with_joined xs ys (with_image x kept)

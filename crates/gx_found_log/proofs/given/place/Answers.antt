@@ -1,6 +1,6 @@
 use Rattle.std.proofs.Common.{◌∙◌, sym}
-use Rattle.gx_redo.proofs.Placing.{stands_at}
-use Rattle.gx_redo.proofs.given.place.Goals as goal
+use Rattle.gx_found_log.proofs.Placing.{stands_at}
+use Rattle.gx_found_log.proofs.given.place.Goals as goal
 
 pub returns-then-page : goal.returns-then-page
 returns-then-page c = (

@@ -1,6 +1,6 @@
 use Rattle.std.proofs.Common.{◌≡◌, ◌++◌, take, drop, ℕ, List}
-use Rattle.gx_redo.specs.Kept.{with_image}
-use Rattle.gx_redo.proofs.given.place.Given as goal
+use Rattle.gx_found_log.specs.Given.{with_image}
+use Rattle.gx_found_log.proofs.given.place.Given as goal
 
 -- the pages that the loop has passed stay in front
 abbrev pub invariant-loop-i : goal.invariant-loop-i

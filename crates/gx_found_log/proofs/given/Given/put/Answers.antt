@@ -1,7 +1,7 @@
 use Rattle.std.proofs.Common.{List, ap, arith, length, subst, sym}
-use Rattle.gx_redo.specs.Kept.{Imaged, AreOnce}
-use Rattle.gx_redo.proofs.Keeping.{once_with, one_more}
-use Rattle.gx_redo.proofs.given.Given.put.Goals as goal
+use Rattle.gx_found_log.specs.Given.{Imaged, AreOnce}
+use Rattle.gx_found_log.proofs.Keeping.{once_with, one_more}
+use Rattle.gx_found_log.proofs.given.Given.put.Goals as goal
 
 pub invariant_of-self : goal.invariant_of-self
 invariant_of-self c = (

@@ -1,8 +1,12 @@
 -- Pages by number, each with the bytes of an image: which image is kept of a page, and what one more makes of them.
-use Rattle.std.specs.Prelude.{◌≡◌, ℕ, ◌==◌, Bool, if◌then◌else◌, Option, None, Some, List, [], ◌∷◌, ◌++◌}
+use Rattle.std.specs.Prelude.{◌≡◌, ℕ, ◌==◌, Bool, if◌then◌else◌, Option, None, Some, List, [], ◌∷◌}
 use Rattle.std.specs.List.{list_all}
+use Rattle.std.specs.Option.{option_map}
 use Rattle.gx_recovery.specs.Damage.{is_page}
 use Rattle.gx_record.specs.Rec.{Rec, Pages, Write, Commit, End, Counters, Note}
+use Rattle.gx_recovery.specs.Records.{Record}
+use Rattle.gx_recovery.specs.Given.{given}
+use Rattle.gx_durable.specs.Spelled.{Reading}
 
 -- a page's number, and the bytes of its image
 abbrev pub Imaged : Type 0
@@ -41,7 +45,6 @@ images_of (End tx) = []
 images_of (Counters n counter used next) = []
 images_of (Note tx row key before leaf) = []
 
--- those that records give
-abbrev pub all_images : List Rec → List Imaged
-all_images [] = []
-all_images (x ∷ xs) = images_of x ++ all_images xs
+-- What is kept of each page is what the log gives of it; of a page that it doesn't give nothing is kept.
+abbrev pub IsGiven : {E P : Type 0} → Reading E P → List Imaged → List (Record E P) → Type 0
+IsGiven r kept log = (p : ℕ) → option_map r.content (image_in p kept) ≡ given p log

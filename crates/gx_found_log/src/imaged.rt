@@ -6,7 +6,7 @@ use std::marker::Model;
 
 /// A page by its number, and the bytes of an image of it.
 #[derive(Clone, Copy)]
-pub(crate) struct Imaged {
+pub struct Imaged {
     page: u32,
     image: [u8; PAGE_SIZE],
 }
@@ -33,14 +33,14 @@ impl Imaged {
     }
 
     /// The page's number.
-    pub(crate) fn page(&self) -> u32
+    pub fn page(&self) -> u32
         ensures { result ≡ self.now.0 }
     {
         self.page
     }
 
     /// The image's bytes.
-    pub(crate) fn image(&self) -> &[u8]
+    pub fn image(&self) -> &[u8]
         ensures bytes { result.now ≡ self.now.1 }
         ensures size { length result.now ≡ PAGE_SIZE }
     {

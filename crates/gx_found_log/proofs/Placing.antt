@@ -1,7 +1,7 @@
 -- Where a page stands among pages, looked at one after another.
 use Rattle.std.proofs.Common.{◌≡◌, ℕ, zero, suc, ◌<◌, List, [], ◌∷◌, ◌++◌, take, drop, length, get_or, refl, ap, sym, ◌∙◌, arith, drop-cons, eq-eqb}
 use Rattle.std.specs.Prelude.{slice_set}
-use Rattle.gx_redo.specs.Kept.{Imaged, with_image}
+use Rattle.gx_found_log.specs.Given.{Imaged, with_image}
 
 set_cut : {X : Type 0} → (xs : List X) (i : ℕ) (a : X) → i < length xs → slice_set xs i a ≡ take i xs ++ a ∷ drop (suc i) xs
 set_cut [] i a h = absurd (omega arith)

@@ -2,7 +2,7 @@
 ghost use Rattle.std.specs.Prelude.{◌≡◌, ◌+◌, ◌<◌, ◌≤◌, ◌++◌, ◌∷◌, [], ℕ, List, length, IfOk};
 ghost use Rattle.std.specs.Prelude.{IfErr, MatchOption, slice_set, vec_len, vec_capacity};
 ghost use Rattle.gx_page.specs.declared.block.TheConstants.{PAGE_SIZE};
-ghost use Rattle.gx_redo.specs.Kept.{AreOnce, with_image};
+ghost use Rattle.gx_found_log.specs.Given.{AreOnce, with_image};
 
 use crate::imaged::Imaged;
 use gx_geom::Refusal;
@@ -28,8 +28,8 @@ pub struct Given {
 
 impl Model for Given {
     ghost use Rattle.std.specs.Prelude.{ℕ, List, ◌≤◌, vec_capacity};
-    ghost use Rattle.gx_redo.specs.Kept.{AreOnce};
-    ghost use Rattle.gx_redo.specs.declared.given.TheConstants.{MOST_GIVEN};
+    ghost use Rattle.gx_found_log.specs.Given.{AreOnce};
+    ghost use Rattle.gx_found_log.specs.declared.given.TheConstants.{MOST_GIVEN};
 
     ghost Value = { List (ℕ × List ℕ) };
 
@@ -87,7 +87,7 @@ impl Given {
     }
 
     /// The pages, each once.
-    pub(crate) fn pages(&self) -> &[Imaged]
+    pub fn pages(&self) -> &[Imaged]
         ensures pages { result.now ≡ self.now }
         ensures once { AreOnce result.now }
     {
