@@ -45,10 +45,7 @@ fn gathered<B: Shape>(alloc: Global, found: &[Found<B>]) -> Result<Vec<Entry<B>>
     Ok(set)
 }
 
-impl<D: SectorDisk, K: ReadKeys + Probing> Engine<D, K>
-where
-    K::Probe: Drop,
-{
+impl<D: SectorDisk, K: ReadKeys + Probing> Engine<D, K> {
     // A look that has ended is the search's answer.
     fn find(&mut self, session: u8, query: Query<K::Key>, look: Look<K::Key>) -> Outcome<K::Key>
         requires session { is_session session ≡ true }

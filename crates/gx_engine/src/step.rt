@@ -37,10 +37,7 @@ fn has_call<B: Shape>(phase: &Phase<B, Work<B>>) -> bool
     }
 }
 
-impl<D: SectorDisk, K: ReadKeys + Probing> Engine<D, K>
-where
-    K::Probe: Drop,
-{
+impl<D: SectorDisk, K: ReadKeys + Probing> Engine<D, K> {
     // A move of a call that is open.
     fn move_call(&mut self, session: u8, call: Call<K::Key>) -> Outcome<K::Key>
         requires session { is_session session ≡ true }

@@ -58,10 +58,7 @@ impl<D: SectorDisk, K: ReadKeys> Engine<D, K> {
     }
 }
 
-impl<D: SectorDisk, K: ReadKeys + Probing> Engine<D, K>
-where
-    K::Probe: Drop,
-{
+impl<D: SectorDisk, K: ReadKeys + Probing> Engine<D, K> {
     // Gives a note's pair, where it is in this leaf, the mark that it had before the session's transaction first
     // wrote it.
     fn set_noted(

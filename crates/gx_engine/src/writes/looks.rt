@@ -38,10 +38,7 @@ fn turned<B: Shape>(look: Look<B>) -> Work<B>
     Work::Seeks(look.found()[0].leaf)
 }
 
-impl<D: SectorDisk, K: ReadKeys + Probing> Engine<D, K>
-where
-    K::Probe: Drop,
-{
+impl<D: SectorDisk, K: ReadKeys + Probing> Engine<D, K> {
     // A write's look reads its next page; one that hasn't begun reads the root. It goes on, or where it has found its
     // pair seeks that. `Ok` gives the look where nothing is left to read and its pair is nowhere, and `Err` is what
     // else came of it.

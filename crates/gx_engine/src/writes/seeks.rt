@@ -81,10 +81,7 @@ impl<D: SectorDisk, K: ReadKeys> Engine<D, K> {
     }
 }
 
-impl<D: SectorDisk, K: ReadKeys + Probing> Engine<D, K>
-where
-    K::Probe: Drop,
-{
+impl<D: SectorDisk, K: ReadKeys + Probing> Engine<D, K> {
     // Gives an entry's pair a mark, where it is in this leaf.
     fn give_mark(
         &mut self,

@@ -17,8 +17,6 @@ use gx_readings::ReadKeys;
 fn end_checkpoint<D: SectorDisk, K: ReadKeys + Probing>(
     engine: &mut Engine<D, K>,
 ) -> Result<(), Refusal>
-where
-    K::Probe: Drop,
     requires works { engine.old.sessions.failed ≡ false }
     ensures goes { GoesBy (Makes K.Key.Shape K.is_proper K.said K.KeyClass D.state) engine.old engine.new }
     ensures ended { IfOk result (λ _. WorksOff engine.new) }
@@ -47,8 +45,6 @@ fn undo<D: SectorDisk, K: ReadKeys + Probing>(
     engine: &mut Engine<D, K>,
     session: u8,
 ) -> Result<(), Refusal>
-where
-    K::Probe: Drop,
     requires session { is_session session ≡ true }
     requires undoes { OnlyUndoes engine.old }
     requires works { WorksOff engine.old }
@@ -63,8 +59,6 @@ where
 
 // Undoes the transaction of each session that has one.
 fn undo_all<D: SectorDisk, K: ReadKeys + Probing>(engine: &mut Engine<D, K>) -> Result<(), Refusal>
-where
-    K::Probe: Drop,
     requires undoes { OnlyUndoes engine.old }
     requires works { WorksOff engine.old }
     ensures goes { GoesBy (Makes K.Key.Shape K.is_proper K.said K.KeyClass D.state) engine.old engine.new }
@@ -90,8 +84,6 @@ where
 pub(crate) fn finish<D: SectorDisk, K: ReadKeys + Probing>(
     engine: &mut Engine<D, K>,
 ) -> Result<(), Refusal>
-where
-    K::Probe: Drop,
     requires undoes { OnlyUndoes engine.old }
     requires works { engine.old.sessions.failed ≡ false }
     ensures goes { GoesBy (Makes K.Key.Shape K.is_proper K.said K.KeyClass D.state) engine.old engine.new }
