@@ -3,7 +3,7 @@ use Rattle.gx_machine.specs.declared.call.Call.TheVariants.{Insert}
 use Rattle.gx_machine.specs.Keys.{Members, keys}
 use Rattle.gx_glog.specs.State.{Log}
 use Rattle.gx_node.specs.Reading.{format_of, is_node}
-use Rattle.gx_readings.specs.Classes.{class_of, reading_of}
+use Rattle.gx_readings.specs.Classes.{class_of, known_at, reading_of}
 use Rattle.gx_node.specs.declared.fault.StepFault.TheVariants.{Damaged}
 use Rattle.gx_phases.specs.Moves.{failed_state}
 use Rattle.gx_phases.specs.States.{IsKept, phase_at}
@@ -22,7 +22,6 @@ use Rattle.gx_tree.specs.Descending.{WayAt, next_of}
 use Rattle.gx_node.specs.Store.{tree_of}
 use Rattle.gx_tree_laws.specs.Trees.{size}
 use Rattle.gx_store.specs.State.{IsInOrder}
-use Rattle.gx_storage.specs.Changes.{known_at}
 use Rattle.gx_storage.proofs.Descending.{IsJoin}
 use Rattle.gx_engine.specs.Sweeping.{is_held, node_shown}
 use Rattle.gx_engine.proofs.Serving.{flies_on}
