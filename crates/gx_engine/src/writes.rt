@@ -43,7 +43,7 @@ impl<D: SectorDisk, K: ReadKeys + Probing> Engine<D, K> {
             (AreWriting session (Insert entry) result) }
         ensures device { IsRead D.state self.old self.new }
     {
-        self.sessions.has_failed();
+        self.sessions.stands();
         match self.sessions.phase(session) {
             Phase::Open(_, Work::Descends(parent, item)) => {
                 let parent = *parent;
@@ -74,7 +74,7 @@ impl<D: SectorDisk, K: ReadKeys + Probing> Engine<D, K> {
             (AreWriting session (Delete entry) result) }
         ensures device { IsRead D.state self.old self.new }
     {
-        self.sessions.has_failed();
+        self.sessions.stands();
         match self.sessions.phase(session) {
             Phase::Open(_, Work::Seeks(leaf)) => {
                 let leaf = *leaf;
