@@ -63,10 +63,8 @@ fn with_standing<B: Copy>(
 ) -> Result<Standing<B>, Refusal>
     ensures { result ≡ told_with sound standing }
 {
-    match sound {
-        Ok(()) => Ok(standing),
-        Err(why) => Err(why),
-    }
+    sound?;
+    Ok(standing)
 }
 
 // Tests the pages of an index that stands on a device.

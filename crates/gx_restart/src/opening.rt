@@ -90,10 +90,8 @@ fn open_over<D: SectorDisk, K: ReadKeys + Probing>(
         (λ n. HasNotBegun K.Key.Shape K.is_proper K.said (format_of K.KeyClass) standing.now.parameters (D.state a).seen
         (D.state disk) (D.state n.disk) n.why) }
 {
-    match begin(alloc, disk, standing, frames) {
-        Ok(engine) => finished(engine),
-        Err(n) => Err(n),
-    }
+    let engine = begin(alloc, disk, standing, frames)?;
+    finished(engine)
 }
 
 // Opens a device, with as many frames as an engine may have.

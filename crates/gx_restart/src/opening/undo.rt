@@ -68,10 +68,7 @@ fn undo_all<D: SectorDisk, K: ReadKeys + Probing>(engine: &mut Engine<D, K>) -> 
         (λ why. WhyStopped (Makes K.Key.Shape K.is_proper K.said K.KeyClass D.state) engine.old why engine.new) }
 {
     for place in 0..8u8 {
-        match undo(engine, place + 1) {
-            Ok(()) => {}
-            Err(why) => return Err(why),
-        }
+        undo(engine, place + 1)?;
     }
     Ok(())
 }
@@ -92,8 +89,6 @@ pub(crate) fn finish<D: SectorDisk, K: ReadKeys + Probing>(
     ensures why { IfErr result
         (λ why. WhyStopped (Makes K.Key.Shape K.is_proper K.said K.KeyClass D.state) engine.old why engine.new) }
 {
-    match end_checkpoint(engine) {
-        Ok(()) => undo_all(engine),
-        Err(why) => Err(why),
-    }
+    end_checkpoint(engine)?;
+    undo_all(engine)
 }

@@ -4,7 +4,7 @@ use Rattle.gx_opening.proofs.log.lay_log.Goals as goal
 
 pub returns-clause-lays : goal.returns-clause-lays
 returns-clause-lays g c = λ l same lawful honest settled.
-    read_laid _ _ (g.D.SectorDisk.state c.args.disk.now) (g.D.SectorDisk.state c.read_class_log.new.disk) (g.D.SectorDisk.state c.lay_found.new.disk) c.in_ok-found.field-0 c.lay_found.result lawful honest
+    read_laid _ _ (g.D.SectorDisk.state c.args.disk.now) (g.D.SectorDisk.state c.read_class_log.new.disk) (g.D.SectorDisk.state c.lay_found.new.disk) c.in_ok-found.found c.lay_found.result lawful honest
     c.in_ok-found.ensures.reads.honest settled (c.in_ok-found.ensures.looks honest) (c.in_ok-found.ensures.log honest l same) (c.lay_found.ensures.lays l same)
 
 pub returns-in_err-found-clause-lays : goal.returns-in_err-found-clause-lays

@@ -22,7 +22,7 @@ returns-clause-safe g c = λ honest.
     let a = state c.args.disk.now in
     let b = state c.formatted_for.new.disk in
     let e = state c.lay_log.new.disk in
-    let p = c.in_ok-parameters.field-0 in
+    let p = c.in_ok-parameters.parameters in
     let settles = c.in_ok-parameters.ensures.settles honest in
     let allowed = c.in_ok-parameters.ensures.allowed in
     let enough : MIN_SECTORS ≤ a.sectors = (let least = allowed.0.range.least_pages in let large = allowed.1 in omega (arith, least, large)) in
@@ -40,13 +40,13 @@ returns-clause-stood g c = λ honest large.
     let a = state c.args.disk.now in
     let b = state c.formatted_for.new.disk in
     let e = state c.lay_log.new.disk in
-    let p = c.in_ok-parameters.field-0 in
+    let p = c.in_ok-parameters.parameters in
     let settles = c.in_ok-parameters.ensures.settles honest in
     let allowed = c.in_ok-parameters.ensures.allowed in
     let enough : MIN_SECTORS ≤ a.sectors = (let least = allowed.0.range.least_pages in let large = allowed.1 in omega (arith, least, large)) in
     let formatted = formatted_so shape proper said f _ a b p enough settles in
     let lays = c.in_ok-log.ensures.lays (limits_of p) refl (c.what_stands_is_legal.ensures.lawful (limits_of p)) (c.in_ok-parameters.ensures.counted.honest ∙ honest) settles.settled in
-    (formatted, laid_so shape proper said f 0 a b e p formatted.says settles.only c.in_ok-log.field-0 lays))
+    (formatted, laid_so shape proper said f 0 a b e p formatted.says settles.only c.in_ok-log.log lays))
 
 pub returns-in_err-log-clause-safe : goal.returns-in_err-log-clause-safe
 returns-in_err-log-clause-safe g c = λ honest.
@@ -58,7 +58,7 @@ returns-in_err-log-clause-safe g c = λ honest.
     let a = state c.args.disk.now in
     let b = state c.formatted_for.new.disk in
     let e = state c.lay_log.new.disk in
-    let p = c.in_ok-parameters.field-0 in
+    let p = c.in_ok-parameters.parameters in
     let settles = c.in_ok-parameters.ensures.settles honest in
     let allowed = c.in_ok-parameters.ensures.allowed in
     let enough : MIN_SECTORS ≤ a.sectors = (let least = allowed.0.range.least_pages in let large = allowed.1 in omega (arith, least, large)) in
@@ -77,7 +77,7 @@ returns-in_err-log-clause-stood g c = λ honest large.
     let a = state c.args.disk.now in
     let b = state c.formatted_for.new.disk in
     let e = state c.lay_log.new.disk in
-    let p = c.in_ok-parameters.field-0 in
+    let p = c.in_ok-parameters.parameters in
     let settles = c.in_ok-parameters.ensures.settles honest in
     let allowed = c.in_ok-parameters.ensures.allowed in
     let enough : MIN_SECTORS ≤ a.sectors = (let least = allowed.0.range.least_pages in let large = allowed.1 in omega (arith, least, large)) in
@@ -110,13 +110,13 @@ returns-clause-order g c = λ honest.
     let state = g.D.SectorDisk.state in
     let a = state c.args.disk.now in
     let b = state c.formatted_for.new.disk in
-    let p = c.in_ok-parameters.field-0 in
+    let p = c.in_ok-parameters.parameters in
     let settles = c.in_ok-parameters.ensures.settles honest in
     let allowed = c.in_ok-parameters.ensures.allowed in
     let enough : MIN_SECTORS ≤ a.sectors = (let least = allowed.0.range.least_pages in let large = allowed.1 in omega (arith, least, large)) in
     let lays = c.in_ok-log.ensures.lays (limits_of p) refl (c.what_stands_is_legal.ensures.lawful (limits_of p)) (c.in_ok-parameters.ensures.counted.honest ∙ honest) settles.settled in
     laid_in_order shape proper said f state a (state c.lay_log.new.disk) c.formatted_for.new.disk p (formatted_so shape proper said f _ a b p enough settles).says
-    (synced_so _ a b p c.in_ok-parameters.ensures.counted c.in_ok-parameters.ensures.synced settles) c.in_ok-log.field-0 lays)
+    (synced_so _ a b p c.in_ok-parameters.ensures.counted c.in_ok-parameters.ensures.synced settles) c.in_ok-log.log lays)
 
 pub returns-in_err-log-clause-order : goal.returns-in_err-log-clause-order
 returns-in_err-log-clause-order g c = λ honest.
@@ -129,7 +129,7 @@ returns-in_err-log-clause-order g c = λ honest.
     let a = state c.args.disk.now in
     let b = state c.formatted_for.new.disk in
     let e = state c.lay_log.new.disk in
-    let p = c.in_ok-parameters.field-0 in
+    let p = c.in_ok-parameters.parameters in
     let settles = c.in_ok-parameters.ensures.settles honest in
     let allowed = c.in_ok-parameters.ensures.allowed in
     let enough : MIN_SECTORS ≤ a.sectors = (let least = allowed.0.range.least_pages in let large = allowed.1 in omega (arith, least, large)) in

@@ -36,8 +36,8 @@ returns-then-is_done-clause-goes_on g c call writes phase l =
     let takes = wants g.K.Probing.passes c.entry-wanted.result.keys c.entry-wanted.result.row in
     let leads = g.K.Probing.passes c.entry-wanted.result.bounds in
     let w : Volume g.row.D.Denot = c.read_look-read.new.self.volume in
-    let zero : length c.in_ok-look.field-0.found.items ≡ 0 = search (arith, rules) in
-    let none : c.in_ok-look.field-0.found.items ≡ [] = none_left c.in_ok-look.field-0.found.items zero in
+    let zero : length c.in_ok-look.look.found.items ≡ 0 = search (arith, rules) in
+    let none : c.in_ok-look.look.found.items ≡ [] = none_left c.in_ok-look.look.found.items zero in
     let on = hand_on _ (c.a_class_is_lawful.ensures l) _ _ _ (g.D.SectorDisk.state e.volume.shelf.disk) e kept c.args.session c.requires.session call Rests phase
     c.args.look (may_find_none c.args.entry.now call writes) small few c.args.begun c.requires.first (g.D.SectorDisk.state w.shelf.disk) _
     (turned_moves _ (c.a_class_is_lawful.ensures l) _ _ _ g.D.SectorDisk.state
@@ -45,8 +45,8 @@ returns-then-is_done-clause-goes_on g c call writes phase l =
     w did.most did.log (did.since 0).goes_on.device (did.keeps l) (c.a_volume_shows_the_logs_tree.ensures l w) g.K.KeyClass.is_key (c.a_volume_shows_keys.ensures l w)
     order takes leads (g.K.KeyClass.may_match (Equal c.args.entry.now.key)) c.entry-wanted.ensures.pairs c.entry-wanted.ensures.bounds
     (λ x b isx isb same covers. g.met.K.KeyClass.match_is_consistent (Equal c.args.entry.now.key) x.key b isx isb same covers)
-    c.in_ok-look.field-0 c.requires.more c.in_ok-look.ensures.step [] none) in
-    read_there _ _ _ _ _ _ c.args.session call (Looks c.in_ok-look.field-0) _ e c.read_look-read.new.self c.in_ok-look.ensures.rest on
+    c.in_ok-look.look c.requires.more c.in_ok-look.ensures.step [] none) in
+    read_there _ _ _ _ _ _ c.args.session call (Looks c.in_ok-look.look) _ e c.read_look-read.new.self c.in_ok-look.ensures.rest on
 
 pub returns-clause-reads : goal.returns-clause-reads
 returns-clause-reads g c call phase =
@@ -92,13 +92,13 @@ returns-clause-moves g c call writes phase l =
     w did.most did.log (did.since 0).goes_on.device (did.keeps l) (c.a_volume_shows_the_logs_tree.ensures l w) g.K.KeyClass.is_key (c.a_volume_shows_keys.ensures l w)
     order takes leads (g.K.KeyClass.may_match (Equal c.args.entry.now.key)) c.entry-wanted.ensures.pairs c.entry-wanted.ensures.bounds
     (λ x b isx isb same covers. g.met.K.KeyClass.match_is_consistent (Equal c.args.entry.now.key) x.key b isx isb same covers)
-    c.in_ok-look.field-0 c.requires.more c.in_ok-look.ensures.step c.in_ok-look.field-0.found.items refl) in
+    c.in_ok-look.look c.requires.more c.in_ok-look.ensures.step c.in_ok-look.look.found.items refl) in
     let only = subst (λ (x : Parts g.row.K-Key.Denot g.row.D.Denot). x ≡ brought e x) (sym c.self-2.view_is) c.in_ok-look.ensures.rest in
     let placed = subst (λ x.
     c.replace_work.new.self ≡ with_phase_of c.args.session (moves.with_work x (phase_at (c.args.session - 1) there.sessions.phases)).1 there.sessions)
     c.turned.ensures c.replace_work.ensures.state in
     put_on k e kept c.args.session c.requires.session call Rests phase (work_before c.args.begun c.args.look) there only
-    (turned_by c.in_ok-look.field-0.found.items c.in_ok-look.field-0) c.replace_work.new.self placed _ _ _ _ g.D.SectorDisk.state _ c.read_look-read.new.self c.self-2.view_is on
+    (turned_by c.in_ok-look.look.found.items c.in_ok-look.look) c.replace_work.new.self placed _ _ _ _ g.D.SectorDisk.state _ c.read_look-read.new.self c.self-2.view_is on
 
 pub returns-in_err-look-clause-reads : goal.returns-in_err-look-clause-reads
 returns-in_err-look-clause-reads g c =

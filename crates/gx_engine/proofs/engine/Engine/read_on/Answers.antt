@@ -44,8 +44,8 @@ returns-then-is_done-clause-goes_on g c l =
     w did.most did.log (did.since 0).goes_on.device (did.keeps l) (c.a_volume_shows_the_logs_tree.ensures l w) g.K.KeyClass.is_key (c.a_volume_shows_keys.ensures l w)
     order takes leads (g.K.KeyClass.may_match c.args.query.now) c.matching-wanted.ensures.pairs c.matching-wanted.ensures.bounds
     (λ x b isx isb wanted covers. g.met.K.KeyClass.match_is_consistent c.args.query.now x.key b isx isb (and_second (not x.marked) (key_matches k c.args.query.now x.key) wanted) covers)
-    c.in_ok-look.field-0 c.requires.more c.in_ok-look.ensures.step tt) in
-    read_there _ _ _ _ _ _ c.args.session (Search c.args.query.now) (Looks c.in_ok-look.field-0) _ e c.read_look-read.new.self c.in_ok-look.ensures.rest on
+    c.in_ok-look.look c.requires.more c.in_ok-look.ensures.step tt) in
+    read_there _ _ _ _ _ _ c.args.session (Search c.args.query.now) (Looks c.in_ok-look.look) _ e c.read_look-read.new.self c.in_ok-look.ensures.rest on
 
 pub returns-clause-comes : goal.returns-clause-comes
 returns-clause-comes g c =
@@ -55,11 +55,11 @@ returns-clause-comes g c =
     let k = keys g.K.Key.Ord.cmp g.K.Key.Shape.overlap g.K.Key.Shape.inside in
     let kept = subst (λ (x : Parts g.row.K-Key.Denot g.row.D.Denot). IsKept k x.sessions) c.self.view_is c.stands.ensures in
     let only = subst (λ (x : Parts g.row.K-Key.Denot g.row.D.Denot). x ≡ brought e x) (sym c.self-2.view_is) c.in_ok-look.ensures.rest in
-    let some : 0 < length c.in_ok-look.field-0.stack.items = search arith in (
-      c.in_ok-look.field-0,
+    let some : 0 < length c.in_ok-look.look.stack.items = search arith in (
+      c.in_ok-look.look,
       some,
       put_search k e kept c.args.session c.requires.session (Search c.args.query.now) Rests c.requires.phase (work_before c.args.begun c.args.look) there only
-          (Looks c.in_ok-look.field-0) c.replace_work.new.self c.replace_work.ensures.state,
+          (Looks c.in_ok-look.look) c.replace_work.new.self c.replace_work.ensures.state,
     )
 
 pub returns-clause-moves : goal.returns-clause-moves
@@ -85,10 +85,10 @@ returns-clause-moves g c l =
     w did.most did.log (did.since 0).goes_on.device (did.keeps l) (c.a_volume_shows_the_logs_tree.ensures l w) g.K.KeyClass.is_key (c.a_volume_shows_keys.ensures l w)
     order takes leads (g.K.KeyClass.may_match c.args.query.now) c.matching-wanted.ensures.pairs c.matching-wanted.ensures.bounds
     (λ x b isx isb wanted covers. g.met.K.KeyClass.match_is_consistent c.args.query.now x.key b isx isb (and_second (not x.marked) (key_matches k c.args.query.now x.key) wanted) covers)
-    c.in_ok-look.field-0 c.requires.more c.in_ok-look.ensures.step tt) in
+    c.in_ok-look.look c.requires.more c.in_ok-look.ensures.step tt) in
     let only = subst (λ (x : Parts g.row.K-Key.Denot g.row.D.Denot). x ≡ brought e x) (sym c.self-2.view_is) c.in_ok-look.ensures.rest in
     put_on k e kept c.args.session c.requires.session (Search c.args.query.now) Rests c.requires.phase (work_before c.args.begun c.args.look) there only
-    (Looks c.in_ok-look.field-0) c.replace_work.new.self c.replace_work.ensures.state _ _ _ _ g.D.SectorDisk.state _ c.read_look-read.new.self c.self-2.view_is on
+    (Looks c.in_ok-look.look) c.replace_work.new.self c.replace_work.ensures.state _ _ _ _ g.D.SectorDisk.state _ c.read_look-read.new.self c.self-2.view_is on
 
 pub returns-in_err-look-clause-comes : goal.returns-in_err-look-clause-comes
 returns-in_err-look-clause-comes g c =
