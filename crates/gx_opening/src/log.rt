@@ -33,10 +33,8 @@ fn lay_found<D: SectorDisk, K: ReadKeys>(
     if found.bodies == 0 || found.bodies > PLACES {
         return Err(Refusal::Damaged);
     }
-    match redo_log::<OfClass<K>, D>(disk, &found, pages) {
-        Ok(()) => Ok(found),
-        Err(why) => Err(why),
-    }
+    redo_log::<OfClass<K>, D>(disk, &found, pages)?;
+    Ok(found)
 }
 
 /// Reads the log of a device of so many pages, which is settled, and lays its pages:
@@ -58,8 +56,6 @@ pub(crate) fn lay_log<D: SectorDisk, K: ReadKeys>(
         → LaysLogOf (known_at K.Key.Shape K.is_proper l) (reading_by K.said K.KeyClass)
         (D.state disk.old) (D.state disk.new) result }
 {
-    match read_class_log::<K, D>(alloc, disk, pages) {
-        Ok(found) => lay_found::<D, K>(disk, found, pages),
-        Err(why) => Err(why),
-    }
+    let found = read_class_log::<K, D>(alloc, disk, pages)?;
+    lay_found::<D, K>(disk, found, pages)
 }
