@@ -36,7 +36,7 @@ pub fn append<M: Spelled>(log: &mut Glog, logged: &Record<'_>) -> Appended
 }
 
 // Tells the pool of the last batch, where its gate was synced.
-fn tell<T: PageTest>(pool: &mut Pool<T>, stage: Stage, used: u8)
+fn tell_pool<T: PageTest>(pool: &mut Pool<T>, stage: Stage, used: u8)
     ensures frames { pool.new.frames ≡ told stage used pool.old.frames }
     ensures test { pool.new.test ≡ pool.old.test }
 {
@@ -70,7 +70,7 @@ pub fn log_step<M: Spelled, T: PageTest, D: SectorDisk>(
         (D.state disk.old) (D.state disk.new) result }
 {
     let stage = log.log_step(disk)?;
-    tell(pool, stage, log.used());
+    tell_pool(pool, stage, log.used());
     Ok(stage)
 }
 

@@ -15,7 +15,7 @@ mod begin;
 mod losers;
 mod undo;
 
-use begin::begin;
+use begin::begin_engine;
 use gx_class::Probing;
 use gx_disk::SectorDisk;
 use gx_engine::laws::a_class_is_lawful;
@@ -90,7 +90,7 @@ fn open_over<D: SectorDisk, K: ReadKeys + Probing>(
         (λ n. HasNotBegun K.Key.Shape K.is_proper K.said (format_of K.KeyClass) standing.now.parameters (D.state a).seen
         (D.state disk) (D.state n.disk) n.why) }
 {
-    let engine = begin(alloc, disk, standing, frames)?;
+    let engine = begin_engine(alloc, disk, standing, frames)?;
     finished(engine)
 }
 

@@ -9,7 +9,7 @@ ghost use Rattle.gx_storage.specs.Changes.{begun, write_of};
 ghost use Rattle.gx_storage.specs.Setting.{IsSteadyAs, IsWhyAs, LogsAs, OwnNumberAs, ShowsTheSame, UnloggedAs, tree_at};
 
 use crate::Storage;
-use crate::changes::room::begin;
+use crate::changes::room::begin_event;
 use crate::changes::written::{write_record, write_size};
 use gx_disk::SectorDisk;
 use gx_machine::Entry;
@@ -53,7 +53,7 @@ impl<D: SectorDisk, K: ReadKeys> Storage<D, K> {
         ensures memory { result ≢ Err StepFault.Memory }
         ensures full { result ≢ Err StepFault.PagesFull }
     {
-        begin(&self.log, &mut self.store, write_size::<K>());
+        begin_event(&self.log, &mut self.store, write_size::<K>());
         add_step(&mut self.store, page, entry, self.most)?;
         self.store.in_order();
         write_record(

@@ -13,13 +13,13 @@ returns-in_err-stage-clause-runs g c = λ l.
     c.in_err-stage.ensures.counts c.in_err-stage.ensures.goes c.in_err-stage.ensures.call (λ is. ap g.D.SectorDisk.state (c.in_err-stage.ensures.idle is)) c.in_err-stage.ensures.keeps)
 
 pub returns-clause-told : goal.returns-clause-told
-returns-clause-told g c = told_at _ c.used.result c.log_step.new.self c.args.pool.now.frames _ c.tell.ensures.frames c.used.ensures.used
+returns-clause-told g c = told_at _ c.used.result c.log_step.new.self c.args.pool.now.frames _ c.tell_pool.ensures.frames c.used.ensures.used
 
 pub returns-clause-runs : goal.returns-clause-runs
 returns-clause-runs g c = λ l.
     step_runs (g.M.Meaning.known l) g.M.Spelled.reading c.args.log.now c.log_step.new.self c.args.pool.now.frames _
     (g.D.SectorDisk.state c.args.disk.now) (g.D.SectorDisk.state c.log_step.new.disk) _ _
-    (told_at _ c.used.result c.log_step.new.self c.args.pool.now.frames _ c.tell.ensures.frames c.used.ensures.used)
+    (told_at _ c.used.result c.log_step.new.self c.args.pool.now.frames _ c.tell_pool.ensures.frames c.used.ensures.used)
     c.in_ok-stage.ensures.counts c.in_ok-stage.ensures.goes c.in_ok-stage.ensures.call (λ is. ap g.D.SectorDisk.state (c.in_ok-stage.ensures.idle is)) c.in_ok-stage.ensures.keeps
 
 pub returns-in_err-stage-clause-pages : goal.returns-in_err-stage-clause-pages
@@ -33,4 +33,4 @@ returns-in_err-stage-clause-placed g c = step_placed c.args.pool.now.frames c.ar
 
 pub returns-clause-placed : goal.returns-clause-placed
 returns-clause-placed g c =
-    step_placed c.args.pool.now.frames c.args.log.now c.log_step.new.self _ _ (told_at _ c.used.result c.log_step.new.self c.args.pool.now.frames _ c.tell.ensures.frames c.used.ensures.used) c.in_ok-stage.ensures.goes
+    step_placed c.args.pool.now.frames c.args.log.now c.log_step.new.self _ _ (told_at _ c.used.result c.log_step.new.self c.args.pool.now.frames _ c.tell_pool.ensures.frames c.used.ensures.used) c.in_ok-stage.ensures.goes

@@ -15,10 +15,10 @@ returns-in_err-add_step-clause-unlogged g c =
     let f = format_of g.K.KeyClass in
     let state = g.D.SectorDisk.state in
     let v : Volume g.row.D.Denot = record { log = i.log; shelf = i.store; most = i.most } in
-    let u = c.begin.new.store in
+    let u = c.begin_event.new.store in
     let t = c.add_step.new.pages in
     let size = write_record g.K.KeyClass.KEY in
-    let is = begun_is v u size _ c.begin.ensures c.write_size.ensures in
+    let is = begun_is v u size _ c.begin_event.ensures c.write_size.ensures in
     let since = unstepped (is_node f) state v size t u is c.in_err-add_step.ensures.kept in
     rw (← c.self.view_is) (on_err _ _ (unlogged _ _ f (is_node f) state v size t since
     (λ steady. c.in_err-add_step.ensures.refused (steady_begun (is_node f) state v size t u is steady) ∙ ap (λ (x : Shelf g.row.D.Denot). store_of f (state x.disk).seen x) is)))
@@ -29,10 +29,10 @@ write_record-requires-clause-place g c =
     let f = format_of g.K.KeyClass in
     let state = g.D.SectorDisk.state in
     let v : Volume g.row.D.Denot = record { log = i.log; shelf = i.store; most = i.most } in
-    let u = c.begin.new.store in
+    let u = c.begin_event.new.store in
     let t = c.add_step.new.pages in
     let size = write_record g.K.KeyClass.KEY in
-    let is = begun_is v u size _ c.begin.ensures c.write_size.ensures in
+    let is = begun_is v u size _ c.begin_event.ensures c.write_size.ensures in
     let did = stepped (is_node f) state v size t u c.args.page is c.in_ok-add_step.ensures.since in
     (has_room_then (is_node f) state v size t (sym did.goes_on.has_room) c.in_ok-add_step.ensures.held.1).0
 
@@ -42,10 +42,10 @@ write_record-requires-clause-room g c =
     let f = format_of g.K.KeyClass in
     let state = g.D.SectorDisk.state in
     let v : Volume g.row.D.Denot = record { log = i.log; shelf = i.store; most = i.most } in
-    let u = c.begin.new.store in
+    let u = c.begin_event.new.store in
     let t = c.add_step.new.pages in
     let size = write_record g.K.KeyClass.KEY in
-    let is = begun_is v u size _ c.begin.ensures c.write_size.ensures in
+    let is = begun_is v u size _ c.begin_event.ensures c.write_size.ensures in
     let did = stepped (is_node f) state v size t u c.args.page is c.in_ok-add_step.ensures.since in
     (has_room_then (is_node f) state v size t (sym did.goes_on.has_room) c.in_ok-add_step.ensures.held.1).1
 
@@ -55,10 +55,10 @@ returns-clause-logged g c =
     let f = format_of g.K.KeyClass in
     let state = g.D.SectorDisk.state in
     let v : Volume g.row.D.Denot = record { log = i.log; shelf = i.store; most = i.most } in
-    let u = c.begin.new.store in
+    let u = c.begin_event.new.store in
     let t = c.add_step.new.pages in
     let size = write_record g.K.KeyClass.KEY in
-    let is = begun_is v u size _ c.begin.ensures c.write_size.ensures in
+    let is = begun_is v u size _ c.begin_event.ensures c.write_size.ensures in
     let did = stepped (is_node f) state v size t u c.args.page is c.in_ok-add_step.ensures.since in
     rw (← c.self.view_is) (logged_write _ _ f (is_node f) state v size t c.args.transaction c.args.entry.now.row (g.K.KeyClass.spelling c.args.entry.now.key) true false c.args.page c.write_record.new.log did
     c.in_ok-add_step.ensures.held.0 (nodes_of f _ _ c.in_order.ensures)
@@ -73,10 +73,10 @@ returns-clause-stamped g c =
     let f = format_of g.K.KeyClass in
     let state = g.D.SectorDisk.state in
     let v : Volume g.row.D.Denot = record { log = i.log; shelf = i.store; most = i.most } in
-    let u = c.begin.new.store in
+    let u = c.begin_event.new.store in
     let t = c.add_step.new.pages in
     let size = write_record g.K.KeyClass.KEY in
-    let is = begun_is v u size _ c.begin.ensures c.write_size.ensures in
+    let is = begun_is v u size _ c.begin_event.ensures c.write_size.ensures in
     let did = stepped (is_node f) state v size t u c.args.page is c.in_ok-add_step.ensures.since in
     rw (← c.self.view_is) (λ steady. added_stamped f (is_node f) state v size t c.args.page i.most c.args.entry.now did c.in_ok-add_step.ensures.held.0 steady
     (added_since f state v size u i.most _ c.args.page c.args.entry.now is (c.in_ok-add_step.ensures.added (steady_begun (is_node f) state v size t u is steady))))
