@@ -98,7 +98,7 @@ returns-in_err-log-clause-faults g c =
 
 pub returns-in_err-parameters-clause-faults : goal.returns-in_err-parameters-clause-faults
 returns-in_err-parameters-clause-faults g c =
-    let p = err_from_is_err_and c.from_residual-in_err-parameters.result c.from_residual-in_err-parameters.ensures.1 in
+    let p = err_from_is_err_and c.from_residual.result c.from_residual.ensures.1 in
     rw (p.1, p.2) (told_same {U = Parameters} _ _ _ (are_told _ _ _ c.in_err-parameters.ensures.counted.faults))
 
 pub returns-clause-order : goal.returns-clause-order
@@ -140,7 +140,7 @@ returns-in_err-log-clause-order g c = λ honest.
 
 pub returns-in_err-parameters-clause-order : goal.returns-in_err-parameters-clause-order
 returns-in_err-parameters-clause-order g c = λ honest.
-    let p = err_from_is_err_and c.from_residual-in_err-parameters.result c.from_residual-in_err-parameters.ensures.1 in
+    let p = err_from_is_err_and c.from_residual.result c.from_residual.ensures.1 in
     rw (p.1, p.2) ((let a = g.D.SectorDisk.state c.args.disk.now in
     let b = g.D.SectorDisk.state c.formatted_for.new.disk in
     let unwritten = unwritten_so _ a b c.in_err-parameters.field-0.0 c.in_err-parameters.ensures.counted (c.in_err-parameters.ensures.settles honest) in
