@@ -202,10 +202,10 @@ impl<K: Drawn> Beside<K> {
         }
         match (call, reply) {
             (Call::Insert(entry), Reply::Inserted) => {
-                self.sets.write(session, told::<K>(&entry), true)?;
+                self.sets.write(session, plain_entry::<K>(&entry), true)?;
             }
             (Call::Delete(entry), Reply::Deleted) => {
-                self.sets.write(session, told::<K>(&entry), false)?;
+                self.sets.write(session, plain_entry::<K>(&entry), false)?;
             }
             (Call::Abort, Reply::Aborted) => {
                 self.sets.drop_writes(session)?;
