@@ -1,5 +1,5 @@
 //! Reading a record from the front of bytes, field by field. Each function answers what it read and the bytes after it.
-ghost use Rattle.std.specs.Prelude.{◌≡◌};
+ghost use Rattle.std.specs.Prelude.{◌≡◌, ◌≤◌};
 ghost use Rattle.gx_record.specs.Reading.{Reads, bytes_at, number_8_at, number_4_at, number_2_at, mark_at, page_at};
 ghost use Rattle.gx_record.specs.Reading.{is_image_of, image_at, numbered_at, rising_at, images_at, pages_at};
 ghost use Rattle.gx_record.specs.Reading.{entry_at, write_at, commit_at, end_at, counters_at, note_at, record_at};
@@ -280,8 +280,8 @@ fn widen_at(bytes: &[u8], size: usize) -> Option<(Record<'_>, &[u8])>
 {
     let (page, rest) = page_at(bytes, 1)?;
     let (slot, rest) = u16_at(rest)?;
-    let (key, rest) = bytes_at(rest, size)?;
-    Some((Record::Widen { page, slot, key }, rest))
+    let (key, behind) = bytes_at(rest, size)?;
+    Some((Record::Widen { page, slot, key }, behind))
 }
 
 /// So many slots, which rise.
@@ -317,9 +317,9 @@ fn slots_at(bytes: &[u8]) -> Option<(Slots<'_>, &[u8])>
 fn sweep_at(bytes: &[u8]) -> Option<(Record<'_>, &[u8])>
     ensures { Reads (λ x. (rec_of x.0, x.1.now)) result (sweep_at bytes.now) }
 {
-    let (page, rest) = page_at(bytes, 1)?;
+    let (leaf, rest) = page_at(bytes, 1)?;
     let (slots, rest) = slots_at(rest)?;
-    Some((Record::Sweep { page, slots }, rest))
+    Some((Record::Sweep { page: leaf, slots }, rest))
 }
 
 /// The record at the front, with a key of `size` bytes, and the bytes after it.

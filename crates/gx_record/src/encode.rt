@@ -6,7 +6,7 @@ ghost use Rattle.gx_record.specs.Format.{entry_bytes, pages_bytes, spelling};
 ghost use Rattle.gx_record.specs.Rec.{Pages, Write, Commit, Counters, Note, Bit, Add, Widen, Sweep};
 ghost use Rattle.gx_record.specs.Seen.{is_marked, images, slots as slots_of, rec_of};
 ghost use Rattle.gx_record.specs.Slots.{slots_bytes};
-ghost use Rattle.gx_record.specs.Writing.{Wrote, size_of, IsWhole, HasWholeImages};
+ghost use Rattle.gx_record.specs.Writing.{Wrote, size_of, IsWhole, IsSized};
 
 use crate::mark::Mark;
 use crate::pages::{PageImage, PageImages};
@@ -16,13 +16,13 @@ use crate::sizes::{
     NOTE_BESIDE_KEY, NUMBERED_IMAGE, PAGES_HEAD, SLOT_NUMBER, SWEEP_BESIDE_SLOTS, WIDEN_BESIDE_KEY,
     WRITE_BESIDE_KEY,
 };
-use crate::slots::Slots;
+use crate::slots::{Slots, whole_slots};
 use crate::tags::{ADD, BIT, COMMIT, COUNTERS, END, NOTE, PAGES, SWEEP, WIDEN, WRITE};
 use gx_page::PAGE_SIZE;
 
 /// How many bytes the spelling has.
 pub(crate) fn length_of(logged: &Record<'_>) -> usize
-    requires { HasWholeImages (rec_of logged.now) }
+    requires { IsSized (rec_of logged.now) }
     ensures { result ≡ size_of (rec_of logged.now) }
 {
     match logged {
@@ -224,9 +224,8 @@ fn put_slots(out: &mut [u8], at: usize, slots: &Slots<'_>) -> usize
     requires room { at + (1 + SLOT_NUMBER * length (slots_of slots.now)) ≤ length out.old }
     ensures { Wrote out.old out.new at (length (slots_of slots.now) ∷ slots_bytes (slots_of slots.now)) result }
 {
-    let count = slots.count();
-    let at = put(out, at, &[count as u8]);
-    put(out, at, &slots.bytes[..SLOT_NUMBER * count])
+    let at = put(out, at, &[slots.count() as u8]);
+    put(out, at, whole_slots(slots.bytes))
 }
 
 /// Writes a sweep's record at the front.
@@ -264,7 +263,7 @@ fn write_counters(out: &mut [u8], n: u64, counter: u64, used: u32, next: u64) ->
 
 /// Writes the spelling at the front.
 pub(crate) fn write(logged: &Record<'_>, out: &mut [u8]) -> usize
-    requires whole { HasWholeImages (rec_of logged.now) }
+    requires sized { IsSized (rec_of logged.now) }
     requires room { size_of (rec_of logged.now) ≤ length out.old }
     ensures { Wrote out.old out.new 0 (spelling (rec_of logged.now)) result }
 {

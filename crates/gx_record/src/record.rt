@@ -88,7 +88,7 @@ pub enum Record<'a> {
 
 impl<'a> Record<'a> {
     /// How many bytes the record's spelling has.
-    #[tactic(auto, using(crate::proofs::Writes::in_range_whole, crate::proofs::Writes::spelling_size))]
+    #[tactic(auto, using(crate::proofs::Writes::in_range_sized, crate::proofs::Writes::spelling_size))]
     pub fn length(&self) -> usize
         requires { IsInRange (rec_of self.now) }
         ensures { result ≡ length (spelling (rec_of self.now)) }
@@ -98,7 +98,7 @@ impl<'a> Record<'a> {
 
     /// Writes the record's spelling at the front, and answers how many bytes it has.
     /// None where there is no room for it, and nothing is then written.
-    #[tactic(auto, using(crate::proofs::Writes::in_range_whole, crate::proofs::Writes::front_wrote))]
+    #[tactic(auto, using(crate::proofs::Writes::in_range_sized, crate::proofs::Writes::front_wrote))]
     pub fn encode_into(&self, out: &mut [u8]) -> Option<usize>
         requires { IsInRange (rec_of self.now) }
         ensures fits { IsSome result ↔ (length (spelling (rec_of self.now)) ≤ length out.old) }

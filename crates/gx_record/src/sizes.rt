@@ -1,5 +1,5 @@
-//! How many bytes the spellings of records have: one each for the kind, a count and a mark, two for a slot's number, four
-//! for a page's and for how many pages are in use, eight for each other number, and a page's own for its image.
+//! How many bytes the spellings of records have: one each for the kind, a count and a mark, two for a slot's number,
+//! four for a page's and for how many pages are in use, eight for each other number, and a page's own for its image.
 
 use gx_page::PAGE_SIZE;
 

@@ -1,7 +1,7 @@
 //! The slots of a sweep, lent.
 ghost use Rattle.std.specs.Prelude.{◌≡◌, length, slice_get};
 ghost use Rattle.gx_record.specs.Seen.{slots};
-ghost use Rattle.gx_record.specs.Slots.{slots_in, rise_from as rising_from};
+ghost use Rattle.gx_record.specs.Slots.{rise_from, slots_bytes, slots_in};
 
 use crate::sizes::SLOT_NUMBER;
 
@@ -12,17 +12,12 @@ pub struct Slots<'a> {
     pub bytes: &'a [u8],
 }
 
-/// Whether the slots that bytes spell rise, from a least one on.
-fn rise_from(bytes: &[u8], least: u32) -> bool
-    ensures { result ≡ rising_from least (slots_in bytes.now) }
+/// The bytes without a last one alone.
+pub(crate) fn whole_slots(bytes: &[u8]) -> &[u8]
+    ensures { result.now ≡ slots_bytes (slots_in bytes.now) }
 {
-    match bytes {
-        [high, low, rest @ ..] => {
-            let slot = u32::from(u16::from_be_bytes([*high, *low]));
-            least <= slot && rise_from(rest, slot + 1)
-        }
-        _ => true,
-    }
+    let size = SLOT_NUMBER * (bytes.len() / SLOT_NUMBER);
+    &bytes[..size]
 }
 
 impl<'a> Slots<'a> {
@@ -37,7 +32,8 @@ impl<'a> Slots<'a> {
     pub fn get(&self, place: usize) -> Option<u16>
         ensures { result ≡ slice_get (slots self.now) place }
     {
-        if self.count() <= place {
+        let size = self.bytes.len();
+        if size / SLOT_NUMBER <= place {
             return None;
         }
         let at = SLOT_NUMBER * place;
@@ -46,8 +42,18 @@ impl<'a> Slots<'a> {
 
     /// Whether each slot is greater than the one before.
     pub fn rise(&self) -> bool
-        ensures { result ≡ rising_from 0 (slots self.now) }
+        ensures { result ≡ rise_from 0 (slots self.now) }
     {
-        rise_from(self.bytes, 0)
+        let mut bytes = self.bytes;
+        let mut least = 0;
+        while let [high, low, rest @ ..] = bytes {
+            let slot = u32::from(u16::from_be_bytes([*high, *low]));
+            if slot < least {
+                return false;
+            }
+            bytes = rest;
+            least = slot + 1;
+        }
+        true
     }
 }
