@@ -7,9 +7,10 @@ use Rattle.std.proofs.lemmas.Bool.{eq-eqb, leb-true}
 use Rattle.std.proofs.lemmas.List.{append-nil}
 use Rattle.std.proofs.lemmas.List.Folds.{list_all-append}
 use Rattle.gx_recovery.specs.Known.{Known, IsLawful}
-use Rattle.gx_recovery.specs.Records.{Image, Whole, Record, Pages, Adjust, Write, Commit, End, Counters, Note, Touch, settled, any_number}
+use Rattle.gx_recovery.specs.Records.{Image, Change, Said, Whole, Record, Pages, Adjust, Write, Commit, End, Counters, Note, Touch, settled, any_number}
 use Rattle.gx_recovery.specs.Analysis.{Analysis, analysis, unread, read, read_on, touching, without}
-use Rattle.gx_recovery.specs.Damage.{is_transaction, is_page, touch_fits, apart, transactions, fits, image_fits, is_open, may_follow, is_note, note_fits, is_head, IsLog}
+use Rattle.gx_recovery.specs.Given.{given, change_fits}
+use Rattle.gx_recovery.specs.Damage.{is_transaction, is_page, touch_fits, apart, transactions, fits, image_fits, said_fits, is_open, may_follow, is_note, note_fits, is_head, IsLog}
 use Rattle.gx_recovery.proofs.Tests.{and_first, and_second}
 use Rattle.gx_recovery.proofs.Folds.{analysis-snoc, settled-snoc}
 use Rattle.gx_recovery.proofs.Told.{settled_shut}
@@ -19,7 +20,7 @@ use Rattle.gx_recovery.proofs.SoundRecords.{FitsBy, parts_of, all_fit}
 use Rattle.gx_recovery.proofs.Undo.{fits_without}
 use Rattle.gx_recovery.specs.declared.TheConstants.{TRANSACTIONS, TOUCHED}
 use Rattle.gx_analysis.specs.Kept.{Kept, by_order, is_closed, lies_apart, may_be_open, has_place, may_touch, may_write, may_give, may_end, may_commit, with_touch, with_pages, with_end, with_commit, ClosedBy}
-use Rattle.gx_analysis.specs.Telling.{IsKept, Tells, TellsClosing, AreOwn, WritesTell, NoEntryIsRefused, PagesTell, CommitsTell, EndsTell, CountersTell, NotesTell}
+use Rattle.gx_analysis.specs.Telling.{IsKept, Tells, TellsClosing, AreOwn, WritesTell, NoEntryIsRefused, ChangesTell, PagesTell, CommitsTell, EndsTell, CountersTell, NotesTell}
 use Rattle.gx_analysis.proofs.Bridging.{same_touching}
 use Rattle.gx_analysis.proofs.Fitting.{yes_and, and_yes, fits_with, unfits_with}
 
@@ -39,6 +40,13 @@ page_again true true c = refl
 page_again true false c = refl
 page_again false true c = refl
 page_again false false c = refl
+
+last_first : (a b c : Bool) → ((a && b) && c) ≡ ((a && c) && b)
+last_first false b c = refl
+last_first true true true = refl
+last_first true true false = refl
+last_first true false true = refl
+last_first true false false = refl
 
 module _ {E P : Type 0} (k : Known E P) where
   -- the state with another analysis
@@ -107,15 +115,28 @@ module _ {E P : Type 0} (k : Known E P) where
       pages = kept.pages;
     }
 
-    write_tells : (t : Touch E) (after : Bool) (content : P) → k.is_entry t.entry ≡ true → k.own content ≡ t.leaf
-        → Tells k log (Write t.transaction t.entry t.before after t.leaf (Whole content)) (may_write k.cmp t s) (with_touch k.cmp t s)
-    write_tells t after content of_class own =
-        let r : Record E P = Write t.transaction t.entry t.before after t.leaf (Whole content) in
+    write_tells : (t : Touch E) (after : Bool) (said : Said P) → k.is_entry t.entry ≡ true
+        → Tells k log (Write t.transaction t.entry t.before after t.leaf said) (may_write k.cmp t s && said_fits k t.leaf said log) (with_touch k.cmp t s)
+    write_tells t after said of_class =
+        let r : Record E P = Write t.transaction t.entry t.before after t.leaf said in
+        let as_said : Bool = said_fits k t.leaf said log in
         record {
-          exact = ap (λ b. b && fits k (analysis k (log ++ r ∷ []))) (and_yes (not (settled any_number t.transaction log)) (k.own content == t.leaf) (eq-eqb (k.own content) t.leaf own))
-              ∙ ap (λ b. not b && fits k (analysis k (log ++ r ∷ []))) (sym (kept.closed t.transaction))
-              ∙ ap (λ b. not (is_closed t.transaction s.closed) && b) (ap (fits k) (analysis-snoc k log r) ∙ touch_fits_by t of_class);
+          exact = ap (λ b. (not b && as_said) && fits k (analysis k (log ++ r ∷ []))) (sym (kept.closed t.transaction))
+              ∙ ap (λ b. (not (is_closed t.transaction s.closed) && as_said) && b) (ap (fits k) (analysis-snoc k log r) ∙ touch_fits_by t of_class)
+              ∙ last_first (not (is_closed t.transaction s.closed)) as_said (may_touch k.cmp t s);
           kept = touch_kept t r refl (λ u. settled_shut k l any_number u log r refl);
+        }
+
+    change_tells : (page : ℕ) (change : Change P) → Tells k log (Adjust page change) (change_fits k change (given page log)) s
+    change_tells page change =
+        let r : Record E P = Adjust page change in
+        record {
+          exact = and_yes (change_fits k change (given page log)) (fits k (analysis k (log ++ r ∷ []))) (ap (fits k) (analysis-snoc k log r) ∙ fit);
+          kept = record {
+            told = kept.told ∙ sym (analysis-snoc k log r);
+            closed = same_closed log r s.closed kept.closed (λ u. settled_shut k l any_number u log r refl);
+            pages = kept.pages;
+          };
         }
 
     pages_fit : (counter used : ℕ) → nat_le (analysis k log).used used ≡ true → fits k (record (analysis k log) { counter = counter; used = used }) ≡ nat_le used k.pages
@@ -216,14 +237,25 @@ module _ {E P : Type 0} (k : Known E P) where
   note_exact l (Note u e b leaf ∷ notes) s h kept t of_class = cc
 
   pub no_entry_refused : NoEntryIsRefused k
-  no_entry_refused l log is t after content of_none =
-      let r : Record E P = Write t.transaction t.entry t.before after t.leaf (Whole content) in
+  no_entry_refused l log is t after said of_none =
+      let r : Record E P = Write t.transaction t.entry t.before after t.leaf said in
       ap (λ b. may_follow k log (analysis k log) r && b)
       (ap (fits k) (analysis-snoc k log r) ∙ unfits_with k l (analysis k log) (max (analysis k log).next (t.transaction + 1)) t (log_fits k l log is) of_none)
       ∙ and-false (may_follow k log (analysis k log) r)
 
   pub writes_tell : WritesTell k
-  writes_tell l log s is kept t after content of_class own = write_tells l log s is kept t after content of_class own
+  writes_tell l log s is kept t after said of_class = write_tells l log s is kept t after said of_class
+
+  -- a write with an image of its own leaf says what fits
+  pub whole_writes_tell : IsLawful k → (log : List (Record E P)) (s : Kept E) → IsLog k log → IsKept k log s → (t : Touch E) (after : Bool) (content : P)
+      → k.is_entry t.entry ≡ true → k.own content ≡ t.leaf
+      → Tells k log (Write t.transaction t.entry t.before after t.leaf (Whole content)) (may_write k.cmp t s) (with_touch k.cmp t s)
+  whole_writes_tell l log s is kept t after content of_class own =
+      let tells = write_tells l log s is kept t after (Whole content) of_class in
+      record { exact = tells.exact ∙ and_yes (may_write k.cmp t s) (k.own content == t.leaf) (eq-eqb (k.own content) t.leaf own); kept = tells.kept }
+
+  pub changes_tell : ChangesTell k
+  changes_tell l log s is kept page change = change_tells l log s is kept page change
 
   pub all_pages_tell : PagesTell k
   all_pages_tell l log s is kept images counter used own = pages_tell l log s is kept images counter used own

@@ -25,6 +25,7 @@ by_order cmp = record {
   placed = λ tree e leaf. Unit {0};
   is_entry = λ e. true;
   own = λ content. content;
+  most = 0;
   pages = 0;
   head = [];
 }

@@ -1,9 +1,10 @@
 -- That what is kept of a log tells what may follow it: by the definitions of logs and of damaged ones.
-use Rattle.std.specs.Prelude.{◌≡◌, ℕ, Bool, true, false, List, [], ◌∷◌, ◌++◌, map, nat_le}
+use Rattle.std.specs.Prelude.{◌≡◌, ℕ, Bool, true, false, ◌&&◌, List, [], ◌∷◌, ◌++◌, map, nat_le}
 use Rattle.gx_recovery.specs.Known.{Known, IsLawful}
-use Rattle.gx_recovery.specs.Records.{Image, Whole, Record, Pages, Write, Commit, End, Counters, Note, Touch, settled, any_number}
+use Rattle.gx_recovery.specs.Records.{Image, Change, Said, Record, Pages, Adjust, Write, Commit, End, Counters, Note, Touch, settled, any_number}
 use Rattle.gx_recovery.specs.Analysis.{Analysis, analysis}
-use Rattle.gx_recovery.specs.Damage.{follows, is_head, IsLog}
+use Rattle.gx_recovery.specs.Given.{given, change_fits}
+use Rattle.gx_recovery.specs.Damage.{said_fits, follows, is_head, IsLog}
 use Rattle.gx_analysis.specs.Kept.{Kept, is_closed, may_touch, may_write, may_give, may_end, may_commit, with_counters, with_touch, with_pages, with_end, with_commit, ClosedBy}
 
 -- What is kept is what the log tells, with a transaction among the closed ones just where the log closes it.
@@ -27,16 +28,23 @@ pub record TellsHead {E P : Type 0} (k : Known E P) (head : List (Record E P)) (
   pub exact : is_head k head ≡ may
   pub kept : IsKept k head new
 
--- a write of an entry of the class, with an image of its own leaf
+-- A write of an entry of the class. Whether what it says of its leaf fits is told by the pages that the log gives, and by nothing that
+-- is kept here.
 abbrev pub WritesTell : {E P : Type 0} → Known E P → Type 0
-WritesTell {E} {P} k = IsLawful k → (log : List (Record E P)) (s : Kept E) → IsLog k log → IsKept k log s → (t : Touch E) (after : Bool) (content : P)
-    → k.is_entry t.entry ≡ true → k.own content ≡ t.leaf
-    → Tells k log (Write t.transaction t.entry t.before after t.leaf (Whole content)) (may_write k.cmp t s) (with_touch k.cmp t s)
+WritesTell {E} {P} k = IsLawful k → (log : List (Record E P)) (s : Kept E) → IsLog k log → IsKept k log s → (t : Touch E) (after : Bool) (said : Said P)
+    → k.is_entry t.entry ≡ true
+    → Tells k log (Write t.transaction t.entry t.before after t.leaf said) (may_write k.cmp t s && said_fits k t.leaf said log) (with_touch k.cmp t s)
 
 -- a write of what is no entry of the class never follows
 abbrev pub NoEntryIsRefused : {E P : Type 0} → Known E P → Type 0
-NoEntryIsRefused {E} {P} k = IsLawful k → (log : List (Record E P)) → IsLog k log → (t : Touch E) (after : Bool) (content : P) → k.is_entry t.entry ≡ false
-    → follows k log (Write t.transaction t.entry t.before after t.leaf (Whole content)) ≡ false
+NoEntryIsRefused {E} {P} k = IsLawful k → (log : List (Record E P)) → IsLog k log → (t : Touch E) (after : Bool) (said : Said P) → k.is_entry t.entry ≡ false
+    → follows k log (Write t.transaction t.entry t.before after t.leaf said) ≡ false
+
+-- A small change of no transaction follows where it fits the page that the log gives, and leaves what is kept as it is. Such a page is in
+-- use, so its number is no test of its own.
+abbrev pub ChangesTell : {E P : Type 0} → Known E P → Type 0
+ChangesTell {E} {P} k = IsLawful k → (log : List (Record E P)) (s : Kept E) → IsLog k log → IsKept k log s → (page : ℕ) (change : Change P)
+    → Tells k log (Adjust page change) (change_fits k change (given page log)) s
 
 -- each image has its page's own number
 abbrev pub AreOwn : {E P : Type 0} → Known E P → List (Image P) → Type 0

@@ -1,7 +1,7 @@
 -- What each rule prints, where it is broken.
 use Rattle.std.specs.Prelude.{ℕ, List, codes}
 use Rattle.gx_analysis.specs.declared.rule.LogRule.{LogRule}
-use Rattle.gx_analysis.specs.declared.rule.LogRule.TheVariants.{FirstGate, BodySize, Spelling, NoCounters, Misplaced, NoKey, PagesOfDevice, CounterFalls, UsedFalls, PageInUse, TransactionNumber, LeafInUse, SharedEntry, TooManyTransactions, TooManyTouches, Ended, CommitNumber}
+use Rattle.gx_analysis.specs.declared.rule.LogRule.TheVariants.{FirstGate, BodySize, Spelling, NoCounters, Misplaced, NoKey, PagesOfDevice, CounterFalls, UsedFalls, PageInUse, TransactionNumber, LeafInUse, SharedEntry, TooManyTransactions, TooManyTouches, Ended, CommitNumber, NoImage, Unfit}
 
 abbrev pub text_of : LogRule → List ℕ
 text_of FirstGate = codes "the first gate of the log is closed"
@@ -21,3 +21,5 @@ text_of TooManyTransactions = codes "more than 8 transactions are open"
 text_of TooManyTouches = codes "more than 512 entries are touched"
 text_of Ended = codes "a transaction goes on after its end"
 text_of CommitNumber = codes "a commit has not the next number"
+text_of NoImage = codes "a page is changed of which the log has no image"
+text_of Unfit = codes "a change does not fit its page"

@@ -228,7 +228,8 @@ impl<E: Copy + Ord> Analysis<E> {
         }
     }
 
-    /// A write, with an image of its own leaf. Refused where its transaction is closed (`Ended`), and as a note is.
+    /// A write, whatever it says of its leaf: whether that fits isn't told by what is kept here. Refused where its
+    /// transaction is closed (`Ended`), and as a note is.
     pub fn on_write(&mut self, t: Touch<E>) -> Result<(), LogRule>
         ensures takes { Takes (may_write E.Ord.cmp t self.old) (with_touch E.Ord.cmp t self.old)
             self.old (refused result) self.new }

@@ -39,6 +39,10 @@ pub enum LogRule {
     Ended,
     /// Commits are numbered one after another.
     CommitNumber,
+    /// An image of a page comes before its small changes.
+    NoImage,
+    /// A small change fits its page.
+    Unfit,
 }
 
 impl fmt::Display for LogRule {
@@ -69,6 +73,8 @@ impl fmt::Display for LogRule {
             LogRule::TooManyTouches => f.write_str("more than 512 entries are touched"),
             LogRule::Ended => f.write_str("a transaction goes on after its end"),
             LogRule::CommitNumber => f.write_str("a commit has not the next number"),
+            LogRule::NoImage => f.write_str("a page is changed of which the log has no image"),
+            LogRule::Unfit => f.write_str("a change does not fit its page"),
         }
     }
 }

@@ -1,32 +1,52 @@
 -- Reading the bytes of a body from any place on.
-use Rattle.std.proofs.Common.{◌≡◌, ℕ, ◌+◌, ◌<◌, ◌≤◌, true, List, [], ◌∷◌, ◌++◌, drop, length, refl, ap, sym, ◌∙◌, subst, arith, append_assoc, length-append}
+use Rattle.std.proofs.Common.{◌≡◌, ℕ, ◌+◌, ◌*◌, ◌<◌, ◌≤◌, true, List, [], ◌∷◌, ◌++◌, drop, length, refl, ap, sym, ◌∙◌, subst, arith, append_assoc, length-append}
 use Rattle.std.specs.List.{AllByRecursion}
 use Rattle.std.proofs.Math.Seq.{drop-append_seam}
 use Rattle.std.specs.Prelude.{Result, Ok, Err, Option, None, Some}
 use Rattle.std.proofs.lemmas.List.{append-nil}
 use Rattle.gx_geom.specs.declared.refusal.Refusal.{Refusal}
 use Rattle.gx_geom.specs.declared.refusal.Refusal.TheVariants.{Damaged}
+use Rattle.gx_record.specs.declared.sizes.TheConstants.{END_RECORD}
 use Rattle.gx_record.specs.Rec.{Rec}
-use Rattle.gx_record.specs.Format.{spelling, spellings, IsRecord, BeginsWith}
+use Rattle.gx_record.specs.Rec as rec
+use Rattle.gx_record.specs.Format.{spelling, spellings, IsInRange, IsRecord, BeginsWith}
+use Rattle.gx_glog.specs.declared.extent.TheConstants.{BODY_ROOM, PLACES}
 use Rattle.gx_record.proofs.Whole.{no_spelling_begins_another, spelling_sizes}
+use Rattle.gx_record.proofs.Writes.{spelling_size}
 use Rattle.gx_recovery.specs.Known.{Known, IsLawful}
 use Rattle.gx_recovery.specs.Records.{Record}
 use Rattle.gx_recovery.specs.Damage.{is_head}
 use Rattle.gx_durable.specs.Spelled.{Reading, record_read, records_read, AreRecords}
+use Rattle.gx_analysis.specs.declared.closed.TheConstants.{CLOSINGS}
 use Rattle.gx_analysis.specs.Kept.{Kept}
 use Rattle.gx_analysis.specs.Telling.{IsKept}
 use Rattle.gx_found_log.specs.declared.part.Part.{Part}
 use Rattle.gx_found_log.specs.declared.part.Part.TheVariants.{Start, Head, Later}
 use Rattle.gx_found_log.specs.Parts.{part_behind, may_go_on, ended}
-use Rattle.gx_found_log.specs.Told.{Told, RecordTold, IsRead, IsRefused, BytesTold, ReadsOn}
+use Rattle.gx_found_log.specs.Told.{closings, Told, RecordTold, IsRead, IsRefused, BytesTold, ReadsOn}
 use Rattle.gx_found_log.proofs.Parts.{begun_behind, goes_behind, goes_not}
 
--- a record's bytes are nine or more
-pub long_enough : (key : ℕ) (rest : List ℕ) (x : Rec) (n : ℕ) → BeginsWith key rest x n → 9 ≤ n
-long_enough key rest x n begins =
-    let long : 9 ≤ length (spelling x) = (spelling_sizes key x begins.is_record).0 in
-    let size : n ≡ length (spelling x) = begins.size in
-    omega arith
+-- a record has bytes
+pub some_bytes : (key : ℕ) (rest : List ℕ) (x : Rec) (n : ℕ) → BeginsWith key rest x n → 0 < n
+some_bytes key rest x n begins = let long = (spelling_sizes key x begins.is_record).0 in omega (arith, long, begins.size)
+
+-- a record that closes a transaction has nine bytes at least
+closing_bytes : (x : Rec) → IsInRange x → END_RECORD * closings x ≤ length (spelling x)
+closing_bytes (rec.Pages counter used pages) is = omega arith
+closing_bytes (rec.Write tx row key before after leaf image) is = omega arith
+closing_bytes (rec.Commit tx n) is = let size = spelling_size (rec.Commit tx n) is in omega (arith, size)
+closing_bytes (rec.End tx) is = let size = spelling_size (rec.End tx) is in omega (arith, size)
+closing_bytes (rec.Counters n counter used next) is = omega arith
+closing_bytes (rec.Note tx row key before leaf) is = omega arith
+
+-- so what a record closes has its bytes behind it
+pub closed_by : (key : ℕ) (rest : List ℕ) (x : Rec) (n old new : ℕ) → BeginsWith key rest x n → new ≤ old + closings x → END_RECORD * new ≤ END_RECORD * old + n
+closed_by key rest x n old new begins count = let closing = closing_bytes x begins.is_record.in_range in omega (arith, closing, begins.size, count)
+
+-- and there is room for it
+pub room_for : (key : ℕ) (rest : List ℕ) (x : Rec) (n closed : ℕ) → BeginsWith key rest x n → END_RECORD * closed + length rest ≤ PLACES * BODY_ROOM
+    → closed + closings x ≤ CLOSINGS
+room_for key rest x n closed begins room = let closing = closing_bytes x begins.is_record.in_range in omega (arith, closing, begins.size, begins.within, room)
 
 abbrev pub no_record : Option (Rec × ℕ)
 no_record = None
@@ -40,7 +60,7 @@ module _ {E P : Type 0} (k : Known E P) (r : Reading E P) (l : IsLawful k) where
   only_none records (y ∷ ys) are some =
       let in_range : IsRecord r.key y × AllByRecursion (IsRecord r.key) ys = subst (λ (zs : List Rec). AllByRecursion (IsRecord r.key) zs) some are.in_range in
       let whole : spelling y ++ spellings ys ≡ [] = sym (ap spellings some) ∙ are.bytes_are in
-      let long : 9 ≤ length (spelling y) = (spelling_sizes r.key y in_range.0).0 in
+      let long = (spelling_sizes r.key y in_range.0).0 in
       let none : length (spelling y) + length (spellings ys) ≡ 0 = sym (length-append (spelling y) (spellings ys)) ∙ ap length whole in
       absurd (omega arith)
 
@@ -81,7 +101,7 @@ module _ {E P : Type 0} (k : Known E P) (r : Reading E P) (l : IsLawful k) where
       → (are : AreRecords r rest records) → are.spelled ≡ rs → First (drop n rest) x records
   first_is rest x n begins records [] are none =
       let no_bytes : rest ≡ [] = sym are.bytes_are ∙ ap spellings none in
-      let long : 9 ≤ length (spelling x) = (spelling_sizes r.key x begins.is_record).0 in
+      let long = (spelling_sizes r.key x begins.is_record).0 in
       let within : n ≤ length rest = begins.within in
       let size : n ≡ length (spelling x) = begins.size in
       let empty : length rest ≡ 0 = ap length no_bytes in

@@ -16,7 +16,7 @@ use Rattle.gx_recovery.specs.Damage.{follows, fits, is_note, note_fits, is_head}
 use Rattle.gx_durable.specs.Spelled.{Reading, record_read, images_read}
 use Rattle.gx_analysis.specs.Kept.{Kept, may_touch, may_write, may_give, may_end, may_commit, with_counters, with_touch, with_pages, with_end, with_commit, Takes, Closes}
 use Rattle.gx_analysis.specs.Telling.{IsKept, Tells, TellsClosing, TellsHead, AreOwn}
-use Rattle.gx_analysis.proofs.Telling.{writes_tell, no_entry_refused, all_pages_tell, commits_tell, ends_tell, all_counters_tell, notes_tell}
+use Rattle.gx_analysis.proofs.Telling.{whole_writes_tell, no_entry_refused, all_pages_tell, commits_tell, ends_tell, all_counters_tell, notes_tell}
 use Rattle.gx_analysis.proofs.Heads.{no_entry_is_no_note}
 use Rattle.gx_found_log.specs.declared.part.Part.TheVariants.{Start, Head, Later}
 use Rattle.gx_found_log.specs.Told.{page_numbers, Told, RecordTold}
@@ -62,12 +62,12 @@ module _ {E P : Type 0} (k : Known E P) (r : Reading E P) (l : IsLawful k) where
       let by_order : Takes (may_write k.cmp t old) (with_touch k.cmp t old) old result new =
       subst (λ (c : E → E → Ordering). Takes (may_write c t old) (with_touch c t old) old result new) (sym ordered) takes in
       told_from log (Write tx (r.entry row key) before after leaf (Whole (r.content image))) (may_write k.cmp t old) (with_touch k.cmp t old) old new result
-      (writes_tell k l log old is kept t after (r.content image) of_class (owns leaf image is_page.image)) by_order
+      (whole_writes_tell k l log old is kept t after (r.content image) of_class (owns leaf image is_page.image)) by_order
 
   pub no_entry_told : (tx row : ℕ) (key : List ℕ) (before after : Bool) (leaf : ℕ) (image : List ℕ) → k.is_entry (r.entry row key) ≡ false → (old new : Kept E)
       → RecordTold Later k r (rec.Write tx row key before after leaf image) old (Err Damaged) new
   no_entry_told tx row key before after leaf image of_none old new log is kept =
-      (ap (λ b. b && true) (no_entry_refused k l log is (record { transaction = tx; entry = r.entry row key; before = before; leaf = leaf }) after (r.content image) of_none), refl)
+      (ap (λ b. b && true) (no_entry_refused k l log is (record { transaction = tx; entry = r.entry row key; before = before; leaf = leaf }) after (Whole (r.content image)) of_none), refl)
 
   pub commit_told : (tx n : ℕ) (old new : Kept E) (result : Result (Unit {0}) Refusal) → Closes (may_commit tx n old) tx (with_commit tx n old.told) old result new
       → RecordTold Later k r (rec.Commit tx n) old result new

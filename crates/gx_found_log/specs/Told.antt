@@ -3,6 +3,7 @@ use Rattle.std.specs.Prelude.{◌≡◌, ℕ, true, false, List, [], ◌∷◌, 
 use Rattle.gx_geom.specs.declared.refusal.Refusal.{Refusal}
 use Rattle.gx_geom.specs.declared.refusal.Refusal.TheVariants.{Damaged}
 use Rattle.gx_record.specs.Rec.{Rec}
+use Rattle.gx_record.specs.Rec as rec
 use Rattle.gx_recovery.specs.Known.{Known}
 use Rattle.gx_recovery.specs.Records.{Record}
 use Rattle.gx_durable.specs.Spelled.{Reading, record_read, AreRecords}
@@ -14,6 +15,15 @@ use Rattle.gx_found_log.specs.Parts.{part_behind, IsBegun, may_go_on}
 -- the numbers of pages, each beside its image
 abbrev pub page_numbers : List (ℕ × List ℕ) → List ℕ
 page_numbers pages = map (λ p. p.0) pages
+
+-- how many transactions a record closes
+abbrev pub closings : Rec → ℕ
+closings (rec.Pages counter used pages) = 0
+closings (rec.Write tx row key before after leaf image) = 0
+closings (rec.Commit tx n) = 1
+closings (rec.End tx) = 1
+closings (rec.Counters n counter used next) = 0
+closings (rec.Note tx row key before leaf) = 0
 
 -- A record may come next and is kept; or it is damage, and may not come.
 abbrev pub Told : {E P : Type 0} → Part → Known E P → List (Record E P) → Record E P → Result (Unit {0}) Refusal → Kept E → Type 0

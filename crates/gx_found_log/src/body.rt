@@ -23,9 +23,10 @@ where
     M::Entry: Copy + Ord,
     requires some { 0 < length bytes.now }
     requires room { END_RECORD * length analysis.old.closed + length bytes.now ≤ PLACES * BODY_ROOM }
-    ensures size { IfOk result (λ n. 9 ≤ n) }
+    ensures size { IfOk result (λ n. 0 < n) }
     ensures within { IfOk result (λ n. n ≤ length bytes.now) }
-    ensures count { length analysis.new.closed ≤ length analysis.old.closed + 1 }
+    ensures closed { IfOk result (λ n. END_RECORD * length analysis.new.closed
+        ≤ END_RECORD * length analysis.old.closed + n) }
     ensures told { (d : Limits) → (M.known d).cmp ≡ M.Entry.Ord.cmp
         → FirstTold part (M.known d) M.reading bytes.now analysis.old (refused result) analysis.new }
     ensures broken { (d : Limits) → (M.known d).cmp ≡ M.Entry.Ord.cmp
@@ -47,8 +48,8 @@ where
 /// `Start`, of others at `Later`. Refused where the bytes aren't whole records, where one may not come, and where a
 /// first body has no counters, with the place and the rule; what is kept is then of no use.
 ///
-/// An extent has 1,048,448 bytes of records at most:
-/// what was closed before, at nine bytes each, and these bytes are no more.
+/// An extent has 1,048,448 bytes of records at most: what was closed before, at nine bytes each, and these bytes are no
+/// more. A record that closes a transaction has nine bytes at least, and no other closes one.
 pub fn on_body<M: Readable>(
     part: Part,
     analysis: &mut Analysis<M::Entry>,

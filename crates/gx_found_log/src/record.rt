@@ -6,7 +6,7 @@ ghost use Rattle.gx_recovery.specs.Known.{Limits};
 ghost use Rattle.gx_analysis.specs.Kept.{may_give, with_pages, Takes};
 ghost use Rattle.gx_analysis.specs.Broken.{refused, breaks_pages};
 ghost use Rattle.gx_analysis.specs.declared.closed.TheConstants.{CLOSINGS};
-ghost use Rattle.gx_found_log.specs.Told.{page_numbers, RecordTold};
+ghost use Rattle.gx_found_log.specs.Told.{page_numbers, closings, RecordTold};
 ghost use Rattle.gx_found_log.specs.Broken.{RecordBreaks};
 
 use crate::head::{on_counters, on_note};
@@ -74,8 +74,8 @@ fn on_later<M: Readable>(
 where
     M::Entry: Copy + Ord,
     requires is_record { IsRecord M.reading.key (rec_of logged.now) }
-    requires room { length analysis.old.closed < CLOSINGS }
-    ensures count { length analysis.new.closed ≤ length analysis.old.closed + 1 }
+    requires room { length analysis.old.closed + closings (rec_of logged.now) ≤ CLOSINGS }
+    ensures count { length analysis.new.closed ≤ length analysis.old.closed + closings (rec_of logged.now) }
     ensures told { (d : Limits) → (M.known d).cmp ≡ M.Entry.Ord.cmp
         → RecordTold Part.Later (M.known d) M.reading (rec_of logged.now) analysis.old (refused result) analysis.new }
     ensures broken { (d : Limits) → (M.known d).cmp ≡ M.Entry.Ord.cmp
@@ -113,8 +113,8 @@ pub(crate) fn on_record<M: Readable>(
 where
     M::Entry: Copy + Ord,
     requires is_record { IsRecord M.reading.key (rec_of logged.now) }
-    requires room { length analysis.old.closed < CLOSINGS }
-    ensures count { length analysis.new.closed ≤ length analysis.old.closed + 1 }
+    requires room { length analysis.old.closed + closings (rec_of logged.now) ≤ CLOSINGS }
+    ensures count { length analysis.new.closed ≤ length analysis.old.closed + closings (rec_of logged.now) }
     ensures told { (d : Limits) → (M.known d).cmp ≡ M.Entry.Ord.cmp
         → RecordTold part (M.known d) M.reading (rec_of logged.now) analysis.old (refused result) analysis.new }
     ensures broken { (d : Limits) → (M.known d).cmp ≡ M.Entry.Ord.cmp

@@ -161,7 +161,7 @@ module _ {B : Type 0} (c : Class B) (l : IsLawful c) (old : State B) (w : IsWhol
 
   -- A small change of one page, where the log gives the page.
   module _ (page : ℕ) (change : Change (Page B)) (step : Step B) (is_page : IsPageStep step) (spares : SparesClaims c old.slots step)
-      (fitting : change_fits change (given page (all_records old.log)) ≡ true)
+      (fitting : change_fits (known_of c) change (given page (all_records old.log)) ≡ true)
       (is_step : IsStep c.rules (tree_now c old) step (tree_now c (with_record (Adjust page change) old))) where
     abbrev small : Record (Entry B) (Page B)
     small = Adjust page change

@@ -64,6 +64,7 @@ known_of c = record {
   placed = λ t e leaf. IsSeek c.rules (tree_in t) leaf e.row e.key;
   is_entry = λ e. c.is_key e.key;
   own = λ page. page.own;
+  most = c.rules.most;
   pages = c.pages;
   head = c.head;
 }

@@ -31,7 +31,8 @@ pub fn a_page_step_is_no_event<B>()
         → Comes c old (Pages images counter used) Works (with_record (Pages images counter used) old) }
     ensures small { (c : Class B) → IsLawful c → (old : State B) → IsWhole c old
         → (page : ℕ) (change : Change (Page B)) (step : Step B)
-        → IsPageStep step → SparesClaims c old.slots step → change_fits change (given page (all_records old.log)) ≡ true
+        → IsPageStep step → SparesClaims c old.slots step
+        → change_fits (known_of c) change (given page (all_records old.log)) ≡ true
         → IsStep c.rules (tree_now c old) step (tree_now c (with_record (Adjust page change) old))
         → Comes c old (Adjust page change) Works (with_record (Adjust page change) old) }
 {}

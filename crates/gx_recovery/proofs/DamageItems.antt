@@ -77,9 +77,9 @@ and_true_last true true = refl
 and_true_last true false = refl
 and_true_last false b = refl
 
-none_unfitting : {P : Type 0} → (change : Change P) (before : Option P) (items : List Damage) → is_none (unfitting change before items) ≡ (change_fits change before && is_none items)
-none_unfitting change None items = refl
-none_unfitting change (Some content) items = none_unless (change.fits content) Unfit items
+none_unfitting : {E P : Type 0} → (k : Known E P) (change : Change P) (before : Option P) (items : List Damage) → is_none (unfitting k change before items) ≡ (change_fits k change before && is_none items)
+none_unfitting k change None items = refl
+none_unfitting k change (Some content) items = none_unless (change.fits k.most content) Unfit items
 
 module _ {E P : Type 0} (k : Known E P) where
   none_misfit : (leaves : Bool) (a : Analysis E) → is_none (misfits k leaves a) ≡ (leaves && fits k a)
@@ -111,7 +111,7 @@ module _ {E P : Type 0} (k : Known E P) where
 
   none_unsaid : (leaf : ℕ) (said : Said P) (log : List (Record E P)) (items : List Damage) → is_none (unsaid k leaf said log items) ≡ (said_fits k leaf said log && is_none items)
   none_unsaid leaf (Whole content) log items = none_unless (k.own content == leaf) OwnNumber items
-  none_unsaid leaf (Small change) log items = none_unfitting change (given leaf log) items
+  none_unsaid leaf (Small change) log items = none_unfitting k change (given leaf log) items
 
   none_unfollowing : (log : List (Record E P)) (a : Analysis E) (r : Record E P) (more : List Damage) → is_none (unfollowing k log a r more) ≡ (may_follow k log a r && is_none more)
   none_unfollowing log a (Pages images counter used) more =
@@ -123,7 +123,7 @@ module _ {E P : Type 0} (k : Known E P) where
       ∙ ap (λ b. nat_le a.counter counter && (nat_le a.used used && (list_all page images && b))) (none_unless (list_all own images) OwnNumber more)
       ∙ and_left_most (nat_le a.counter counter) (nat_le a.used used) (list_all page images) (list_all own images) (is_none more)
       ∙ ap (λ b. (nat_le a.counter counter && (nat_le a.used used && b)) && is_none more) (sym (all_two page own images))
-  none_unfollowing log a (Adjust page change) more = none_unfitting change (given page log) more
+  none_unfollowing log a (Adjust page change) more = none_unfitting k change (given page log) more
   none_unfollowing log a (Write transaction entry mark after leaf said) more =
       none_unless (not (settled any_number transaction log)) Closed (unsaid k leaf said log more)
       ∙ ap (λ b. not (settled any_number transaction log) && b) (none_unsaid leaf said log more)

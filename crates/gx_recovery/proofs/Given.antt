@@ -81,11 +81,6 @@ module _ {P : Type 0} where
   some_one true said before h = some_said said before h
   some_one false said before h = h
 
-  -- a change fits only where something is given
-  fits_given : (change : Change P) (before : Option P) → change_fits change before ≡ true → is_some before ≡ true
-  fits_given change None h = h
-  fits_given change (Some content) h = refl
-
   same_change : (test : Bool) (change : Change P) → (if test then change_given change None else None) ≡ None
   same_change true change = refl
   same_change false change = refl
@@ -194,7 +189,22 @@ module _ {E P : Type 0} where
   notes_speak_of_none p (End transaction ∷ ns) h = cc
   notes_speak_of_none p (Counters number counter used next ∷ ns) h = cc
 
+  notes_give_nothing : (p : ℕ) (notes : List (Record E P)) → list_all is_note notes ≡ true → given p notes ≡ None
+  notes_give_nothing p [] h = refl
+  notes_give_nothing p (Note transaction entry mark leaf ∷ ns) h = notes_give_nothing p ns h
+  notes_give_nothing p (Pages images counter used ∷ ns) h = cc
+  notes_give_nothing p (Adjust page change ∷ ns) h = cc
+  notes_give_nothing p (Write transaction entry mark after leaf said ∷ ns) h = cc
+  notes_give_nothing p (Commit transaction number ∷ ns) h = cc
+  notes_give_nothing p (End transaction ∷ ns) h = cc
+  notes_give_nothing p (Counters number counter used next ∷ ns) h = cc
+
 module _ {E P : Type 0} (k : Known E P) where
+  -- a change fits only where something is given
+  fits_given : (change : Change P) (before : Option P) → change_fits k change before ≡ true → is_some before ≡ true
+  fits_given change None h = h
+  fits_given change (Some content) h = refl
+
   -- a renewed log gives nothing
   pub renewed_gives_none : (next : ℕ) (log : List (Record E P)) (p : ℕ) → given p (renewed k next log) ≡ None
   renewed_gives_none next log p = notes_give_none p None (analysis k log).touched
@@ -209,6 +219,18 @@ module _ {E P : Type 0} (k : Known E P) where
   head_speaks_of_none p (Commit transaction number ∷ rs) h = cc
   head_speaks_of_none p (End transaction ∷ rs) h = cc
   head_speaks_of_none p (Note transaction entry mark leaf ∷ rs) h = cc
+
+  -- and so a head gives nothing
+  pub head_gives_none : (p : ℕ) (head : List (Record E P)) → is_head k head ≡ true → given p head ≡ None
+  head_gives_none p [] h = cc
+  head_gives_none p (Counters number counter used next ∷ notes) h =
+      notes_give_nothing p notes (and_first (list_all is_note notes) (list_all (note_fits used) notes && fits k (analysis k (Counters number counter used next ∷ notes))) h)
+  head_gives_none p (Pages images counter used ∷ rs) h = cc
+  head_gives_none p (Adjust page change ∷ rs) h = cc
+  head_gives_none p (Write transaction entry mark after leaf said ∷ rs) h = cc
+  head_gives_none p (Commit transaction number ∷ rs) h = cc
+  head_gives_none p (End transaction ∷ rs) h = cc
+  head_gives_none p (Note transaction entry mark leaf ∷ rs) h = cc
 
   -- of what these records say anything they give
   GivesAll : ℕ → List (Record E P) → Type 0
@@ -229,7 +251,7 @@ module _ {E P : Type 0} (k : Known E P) where
   spoken_by p log (Write transaction entry mark after leaf (Whole content)) may h = now_given p log (Write transaction entry mark after leaf (Whole content)) h
   spoken_by p log (Write transaction entry mark after leaf (Small change)) may h =
       earlier leaf p log (Write transaction entry mark after leaf (Small change)) h
-      (fits_given change (given leaf log) (and_second (not (settled any_number transaction log)) (change_fits change (given leaf log)) may))
+      (fits_given change (given leaf log) (and_second (not (settled any_number transaction log)) (change_fits k change (given leaf log)) may))
   spoken_by p log (Commit transaction number) may h = cc
   spoken_by p log (End transaction) may h = cc
   spoken_by p log (Counters number counter used next) may h = cc

@@ -9,6 +9,7 @@ pub mod Sets
 pub mod States
 pub mod Lives
 pub mod Given
+pub mod InUse
 pub mod Renewals
 pub mod Moves
 pub mod Undo

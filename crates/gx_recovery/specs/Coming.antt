@@ -72,7 +72,7 @@ beside k e xs = filter (λ x. not (same k x.entry e)) xs
 -- what a write says of its leaf is of that leaf: a whole content has its number, a small change fits what the log gives
 abbrev pub IsSaid : {E P : Type 0} → Known E P → ℕ → Said P → List (Record E P) → Type 0
 IsSaid k leaf (Whole content) log = k.own content ≡ leaf
-IsSaid k leaf (Small change) log = change_fits change (given leaf log) ≡ true
+IsSaid k leaf (Small change) log = change_fits k change (given leaf log) ≡ true
 
 -- A write that is sound: its transaction is open; its entry is one of the class, and no other open transaction has touched
 -- it; a whole content is of its own leaf, and a small change fits what the log gives of that; the leaf is in use; there is room for one touch more; it changes its entry alone; and
@@ -104,7 +104,7 @@ pub record AreSoundPages {E P : Type 0} (k : Known E P) (area : ℕ → P) (log 
 -- A small change of no transaction that is sound: it fits what the log gives of its page; every entry is as live as it was;
 -- and the tree after it is sound, with all that is touched in its place.
 pub record IsSoundChange {E P : Type 0} (k : Known E P) (area : ℕ → P) (log : List (Record E P)) (page : ℕ) (change : Change P) : Type 0 where
-  pub fitting : change_fits change (given page log) ≡ true
+  pub fitting : change_fits k change (given page log) ≡ true
   pub exact : LiveAlike k (tree_of k area log) (tree_of k area (log ++ Adjust page change ∷ []))
   pub sound : k.sound (tree_of k area (log ++ Adjust page change ∷ []))
   pub placed : Placed k (tree_of k area (log ++ Adjust page change ∷ [])) (analysis k log).touched

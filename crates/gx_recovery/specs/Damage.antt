@@ -43,7 +43,7 @@ image_fits k used i = is_page used i.page && k.own i.content == i.page
 -- a whole content has its leaf's own number, and a small change fits what the log gives of the leaf
 abbrev pub said_fits : {E P : Type 0} → Known E P → ℕ → Said P → List (Record E P) → Bool
 said_fits k leaf (Whole content) log = k.own content == leaf
-said_fits k leaf (Small change) log = change_fits change (given leaf log)
+said_fits k leaf (Small change) log = change_fits k change (given leaf log)
 
 -- a transaction may still write, commit or end
 abbrev pub is_open : {E P : Type 0} → ℕ → List (Record E P) → Bool
@@ -52,7 +52,7 @@ is_open t log = is_transaction t && not (settled any_number t log)
 -- Whether a record by itself may come after a log of which a is told. Neither the counter nor the pages in use fall.
 abbrev pub may_follow : {E P : Type 0} → Known E P → List (Record E P) → Analysis E → Record E P → Bool
 may_follow k log a (Pages images counter used) = nat_le a.counter counter && (nat_le a.used used && list_all (image_fits k used) images)
-may_follow k log a (Adjust page change) = change_fits change (given page log)
+may_follow k log a (Adjust page change) = change_fits k change (given page log)
 may_follow k log a (Write transaction entry before after leaf said) = not (settled any_number transaction log) && said_fits k leaf said log
 may_follow k log a (Commit transaction number) = is_open transaction log && number == a.number + 1
 may_follow k log a (End transaction) = is_open transaction log

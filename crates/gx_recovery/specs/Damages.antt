@@ -55,14 +55,14 @@ abbrev pub unopened : {E P : Type 0} → ℕ → List (Record E P) → List Dama
 unopened t log items = unless (is_transaction t) LastNumber (unless (not (settled any_number t log)) Closed items)
 
 -- what is wrong with a small change of a page of which this is given
-abbrev pub unfitting : {P : Type 0} → Change P → Option P → List Damage → List Damage
-unfitting change None items = NoImage ∷ items
-unfitting change (Some content) items = unless (change.fits content) Unfit items
+abbrev pub unfitting : {E P : Type 0} → Known E P → Change P → Option P → List Damage → List Damage
+unfitting k change None items = NoImage ∷ items
+unfitting k change (Some content) items = unless (change.fits k.most content) Unfit items
 
 -- what is wrong with what a write says of its leaf
 abbrev pub unsaid : {E P : Type 0} → Known E P → ℕ → Said P → List (Record E P) → List Damage → List Damage
 unsaid k leaf (Whole content) log items = unless (k.own content == leaf) OwnNumber items
-unsaid k leaf (Small change) log items = unfitting change (given leaf log) items
+unsaid k leaf (Small change) log items = unfitting k change (given leaf log) items
 
 -- what is wrong with a record by itself, after a log of which a is told; more is what is wrong at its end
 abbrev pub unfollowing : {E P : Type 0} → Known E P → List (Record E P) → Analysis E → Record E P → List Damage → List Damage
@@ -71,7 +71,7 @@ unfollowing k log a (Pages images counter used) more =
     (unless (nat_le a.used used) UsedFalls
     (unless (list_all (λ i. is_page used i.page) images) PageNumber
     (unless (list_all (λ i. k.own i.content == i.page) images) OwnNumber more)))
-unfollowing k log a (Adjust page change) more = unfitting change (given page log) more
+unfollowing k log a (Adjust page change) more = unfitting k change (given page log) more
 unfollowing k log a (Write transaction entry before after leaf said) more = unless (not (settled any_number transaction log)) Closed (unsaid k leaf said log more)
 unfollowing k log a (Commit transaction number) more = unopened transaction log (unless (number == a.number + 1) CommitNumber more)
 unfollowing k log a (End transaction) more = unopened transaction log more

@@ -1,5 +1,6 @@
 -- What a log by itself gives of a page: the last whole content with the small changes since, or nothing.
 use Rattle.std.specs.Prelude.{ℕ, Bool, false, ◌==◌, if◌then◌else◌, Option, None, Some, List, [], ◌∷◌}
+use Rattle.gx_recovery.specs.Known.{Known}
 use Rattle.gx_recovery.specs.Records.{Image, Change, Said, Whole, Small, Record, Pages, Adjust, Write, Commit, End, Counters, Note}
 
 -- of page p, by images, where this was given before
@@ -36,6 +37,6 @@ abbrev pub given : {E P : Type 0} → ℕ → List (Record E P) → Option P
 given p log = given_on p None log
 
 -- a small change fits what is given of its page, so that some record has given that whole
-abbrev pub change_fits : {P : Type 0} → Change P → Option P → Bool
-change_fits change None = false
-change_fits change (Some content) = change.fits content
+abbrev pub change_fits : {E P : Type 0} → Known E P → Change P → Option P → Bool
+change_fits k change None = false
+change_fits k change (Some content) = change.fits k.most content

@@ -7,9 +7,9 @@ pub record Image (P : Type 0) : Type 0 where
   pub page : ℕ
   pub content : P
 
--- a small change of a page: which contents it fits, and what it makes of one
+-- a small change of a page: which contents it fits, where a node may have so many entries, and what it makes of one
 pub record Change (P : Type 0) : Type 0 where
-  pub fits : P → Bool
+  pub fits : (most : ℕ) → P → Bool
   pub made : P → P
 
 -- what a write says of its leaf: the whole of its content, or a small change of it

@@ -1,5 +1,5 @@
 -- A small index to try the definitions on: entries are numbers, and pages 2 and 3 are its leaves.
-use Rattle.std.specs.Prelude.{◌≡◌, ℕ, zero, suc, ◌+◌, nat_lt, ◌==◌, Bool, true, false, not, ◌&&◌, if◌then◌else◌, filter, List, [], ◌∷◌, ◌++◌}
+use Rattle.std.specs.Prelude.{◌≡◌, ℕ, zero, suc, ◌+◌, nat_lt, ◌==◌, Bool, true, false, not, ◌&&◌, if◌then◌else◌, filter, length, List, [], ◌∷◌, ◌++◌}
 use Rattle.std.specs.List.{list_any}
 use Rattle.std.specs.Ordering.{is_eq, nat_cmp}
 use Rattle.gx_recovery.specs.Known.{Known, Tree}
@@ -37,6 +37,7 @@ worked = record {
   placed = λ tree e page. list_any (λ p. is_eq (nat_cmp e p.entry)) (pairs_from page tree) ≡ true;
   is_entry = λ e. nat_lt e 1000;
   own = λ content. content.own;
+  most = 3;
   pages = 8;
   head = [];
 }
@@ -49,17 +50,17 @@ insert t e = Write t e true false 2 (Whole (leaf 2 (live e ∷ [])))
 abbrev pub with_pairs : List Pair → Content → Content
 with_pairs pairs content = record content { pairs = pairs }
 
--- a small change that adds a pair: it fits a leaf that hasn't the entry
+-- a small change that adds a pair: it fits a leaf that has room for it, and hasn't the entry
 abbrev pub adding : ℕ → Change Content
 adding e = record {
-  fits = λ content. not (list_any (λ p. p.entry == e) content.pairs);
+  fits = λ most content. nat_lt (length content.pairs) most && not (list_any (λ p. p.entry == e) content.pairs);
   made = λ content. with_pairs (live e ∷ content.pairs) content;
 }
 
 -- one that sweeps an entry away: it fits a leaf that has it with its mark
 abbrev pub sweeping : ℕ → Change Content
 sweeping e = record {
-  fits = λ content. list_any (λ p. p.entry == e && p.marked) content.pairs;
+  fits = λ most content. list_any (λ p. p.entry == e && p.marked) content.pairs;
   made = λ content. with_pairs (filter (λ p. not (p.entry == e)) content.pairs) content;
 }
 
@@ -94,14 +95,16 @@ first body found = record { bodies = body ∷ []; found = found }
 abbrev pub no_transaction : ℕ
 no_transaction = 18446744073709551615
 
--- the rows: the first seven logs have nothing wrong with them, each of the others one thing
+-- the rows: the first eight logs have nothing wrong with them, each of the others one thing
 abbrev pub rows : List Row
 rows =
     later (insert 1 7 ∷ Commit 1 1 ∷ insert 2 7 ∷ End 2 ∷ []) []
     -- small changes behind an image, by a write and by pages; an image is no small change, and may come at any time
     ∷ later (insert 1 7 ∷ small_insert 1 8 ∷ Commit 1 1 ∷ []) []
     ∷ later (Pages (record { page = 2; content = leaf 2 (marked 7 ∷ []) } ∷ []) 0 2 ∷ Adjust 2 (sweeping 7) ∷ small_insert 1 7 ∷ insert 1 7 ∷ []) []
-    -- at the limits: all pages of the device, the last transaction, eight transactions, 512 entries
+    -- at the limits: as many entries as a node may have, all pages of the device, the last transaction, eight transactions,
+    -- 512 entries
+    ∷ later (insert 1 7 ∷ small_insert 1 8 ∷ small_insert 1 9 ∷ []) []
     ∷ first (Counters 0 0 8 1 ∷ Note 1 7 true 8 ∷ []) []
     ∷ later (End 18446744073709551614 ∷ []) []
     ∷ first (fresh_head ∷ notes_upto 8) []
@@ -154,8 +157,9 @@ rows =
     ∷ later (small_insert 1 7 ∷ []) (NoImage ∷ [])
     ∷ later (Adjust 2 (sweeping 7) ∷ []) (NoImage ∷ [])
     ∷ later (insert 1 7 ∷ Adjust 1 (adding 8) ∷ []) (NoImage ∷ [])
-    -- one that doesn't fit: the entry is there; it isn't; it is there without a mark
+    -- one that doesn't fit: the entry is there; its page has as many as it may; it isn't there; it is there without a mark
     ∷ later (insert 1 7 ∷ small_insert 1 7 ∷ []) (Unfit ∷ [])
+    ∷ later (insert 1 7 ∷ small_insert 1 8 ∷ small_insert 1 9 ∷ small_insert 1 6 ∷ []) (Unfit ∷ [])
     ∷ later (insert 1 7 ∷ Adjust 2 (sweeping 8) ∷ []) (Unfit ∷ [])
     ∷ later (insert 1 7 ∷ Adjust 2 (sweeping 7) ∷ []) (Unfit ∷ [])
     ∷ []

@@ -9,7 +9,7 @@ ghost use Rattle.gx_recovery.specs.Analysis.{analysis, number_of};
 ghost use Rattle.gx_recovery.specs.Redo.{redone, tree_of};
 ghost use Rattle.gx_recovery.specs.Given.{given};
 ghost use Rattle.gx_recovery.specs.Standing.{own_before, stands_for};
-ghost use Rattle.gx_recovery.specs.Damage.{is_open, follows, records_of, is_undamaged};
+ghost use Rattle.gx_recovery.specs.Damage.{is_page, is_open, follows, records_of, is_undamaged};
 ghost use Rattle.gx_recovery.specs.Damage.{Place, opened, bodies_read, IsLog};
 ghost use Rattle.gx_recovery.specs.Damages.{damages, is_none};
 ghost use Rattle.gx_recovery.specs.Coming.{WritesOne, Restored, IsGood, MayCome, MayComeAll};
@@ -101,7 +101,7 @@ pub fn redo_may_be_made_again<M: Meaning>()
 /// and a page of which it gives nothing is as it was. So whoever tests a log record by record has, in what is given,
 /// the pages that redo writes. Of what a log says anything it gives the whole: an image comes first. So a page may be
 /// written once all its records are gated, as the gated records then give it. A renewed log gives nothing:
-/// each page's image comes anew.
+/// each page's image comes anew. What is given is a page in use: so is the page of any small change that fits.
 pub fn a_log_gives_what_it_speaks_of<M: Meaning>()
     ensures given { (log : List (Record M.Entry M.Page)) (p : ℕ) (area : ℕ → M.Page) (content : M.Page)
         → given p log ≡ Some content
@@ -118,6 +118,9 @@ pub fn a_log_gives_what_it_speaks_of<M: Meaning>()
         → list_any (gives p) log ≡ true }
     ensures renewed { (d : Limits) → (next : ℕ) (log : List (Record M.Entry M.Page)) (p : ℕ)
         → given p (renewed (M.known d) next log) ≡ None }
+    ensures in_use { (d : Limits) → (log : List (Record M.Entry M.Page)) (p : ℕ) → IsLog (M.known d) log
+        → is_some (given p log) ≡ true
+        → is_page (analysis (M.known d) log).used p ≡ true }
 {}
 
 /// A log as it is found, undamaged and over pages that are good for it, is a healthy state with nothing in flight,

@@ -1,21 +1,19 @@
 -- The pages that an undamaged log gives are the device's.
-use Rattle.std.proofs.Common.{◌≡◌, ◌∙◌, ap, refl, subst, ℕ, ◌==◌, Bool, true, false, ◌&&◌, ◌||◌, List, [], ◌∷◌, ◌++◌, length, arith}
-use Rattle.std.specs.Prelude.{nat_le, nat_lt}
+use Rattle.std.proofs.Common.{◌≡◌, ◌∙◌, ap, refl, subst, ℕ, ◌==◌, Bool, true, false, ◌&&◌, ◌||◌, List, [], ◌∷◌, ◌++◌, length}
+use Rattle.std.specs.Prelude.{nat_le}
 use Rattle.std.specs.List.{list_all, list_any}
-use Rattle.std.specs.declared.cmp.Ordering.{Ordering}
-use Rattle.std.specs.declared.cmp.Ordering.TheVariants.{Less, Equal, Greater}
-use Rattle.std.specs.Ordering.{match_ordering}
-use Rattle.std.proofs.lemmas.Bool.{leb-true, le-leb, eqb-true}
+use Rattle.std.proofs.lemmas.Bool.{eqb-true}
 use Rattle.std.proofs.Math.Bool.{and-false}
 use Rattle.std.proofs.lemmas.List.Folds.{list_all-append}
 use Rattle.gx_record.specs.Rec as rec
 use Rattle.gx_recovery.specs.Known.{Known}
-use Rattle.gx_recovery.specs.Records.{Image, Record, Pages, Adjust, Write, Commit, End, Counters, Note, Touch, gives, is_whole}
-use Rattle.gx_recovery.specs.Analysis.{Analysis, analysis, read, touching, touch_cmp}
+use Rattle.gx_recovery.specs.Records.{Image, Record, Pages, Adjust, Write, Commit, End, Counters, Note, gives, is_whole}
+use Rattle.gx_recovery.specs.Analysis.{Analysis, analysis, read}
 use Rattle.gx_recovery.specs.Given.{given}
-use Rattle.gx_recovery.specs.Damage.{is_page, touch_fits, apart, transactions, is_transaction, fits, image_fits, may_follow, follows, follow, is_note, note_fits, is_head, records_of, is_undamaged}
+use Rattle.gx_recovery.specs.Damage.{is_page, touch_fits, apart, transactions, fits, image_fits, may_follow, follows, follow, is_note, note_fits, is_head, records_of, is_undamaged}
 use Rattle.gx_recovery.specs.declared.TheConstants.{TRANSACTIONS, TOUCHED}
 use Rattle.gx_recovery.proofs.Folds.{analysis-snoc}
+use Rattle.gx_recovery.proofs.InUse.{still_page, leaf_fits, each_fits}
 use Rattle.gx_recovery.proofs.Logs.{and_all}
 use Rattle.gx_recovery.proofs.Tests.{and_first, and_second, clash}
 use Rattle.gx_durable.specs.Spelled.{Reading, record_read, records_read, images_read}
@@ -23,12 +21,6 @@ use Rattle.gx_redo.specs.Kept.{Imaged, with_image, with_all, images_of, all_imag
 use Rattle.gx_redo.specs.Redone.{BodiesGive}
 use Rattle.gx_redo.proofs.Giving.{all_kept, spelled_so}
 use Rattle.gx_redo.proofs.Keeping.{by_case}
-
--- a page in use is the device's, where no more are in use than it has
-on_device : (used pages p : ℕ) → nat_le used pages ≡ true → is_page used p ≡ true → is_page pages p ≡ true
-on_device used pages p few is =
-    and_all (nat_lt 0 p) (nat_le p pages) (and_first (nat_lt 0 p) (nat_le p used) is)
-    (let up = leb-true p used (and_second (nat_lt 0 p) (nat_le p used) is) in let most = leb-true used pages few in le-leb p pages (omega (arith, up, most)))
 
 -- the pages that a record gives are the device's
 abbrev gives_on : {E P : Type 0} → ℕ → Record E P → Bool
@@ -41,37 +33,15 @@ gives_on pages (Counters number counter used next) = true
 gives_on pages (Note transaction entry before leaf) = true
 
 module _ {E P : Type 0} (k : Known E P) where
-  -- the leaf of a touch that was put among others is tested with them
-  leaf_by : (o : Ordering) (used : ℕ) (t x : Touch E) (xs more : List (Touch E)) → (list_all (touch_fits k used) more ≡ true → is_page used t.leaf ≡ true)
-      → list_all (touch_fits k used) (match_ordering o (t ∷ x ∷ xs) (record x { leaf = t.leaf } ∷ xs) (x ∷ more)) ≡ true → is_page used t.leaf ≡ true
-  leaf_by Less used t x xs more rest all =
-      and_second (k.is_entry t.entry) (is_page used t.leaf) (and_second (is_transaction t.transaction) (k.is_entry t.entry && is_page used t.leaf)
-      (and_first (touch_fits k used t) (list_all (touch_fits k used) (x ∷ xs)) all))
-  leaf_by Equal used t x xs more rest all =
-      and_second (k.is_entry x.entry) (is_page used t.leaf) (and_second (is_transaction x.transaction) (k.is_entry x.entry && is_page used t.leaf)
-      (and_first (touch_fits k used (record x { leaf = t.leaf })) (list_all (touch_fits k used) xs) all))
-  leaf_by Greater used t x xs more rest all = rest (and_second (touch_fits k used x) (list_all (touch_fits k used) more) all)
-
-  leaf_fits : (used : ℕ) (t : Touch E) (xs : List (Touch E)) → list_all (touch_fits k used) (touching k t xs) ≡ true → is_page used t.leaf ≡ true
-  leaf_fits used t [] all =
-      and_second (k.is_entry t.entry) (is_page used t.leaf) (and_second (is_transaction t.transaction) (k.is_entry t.entry && is_page used t.leaf)
-      (and_first (touch_fits k used t) true all))
-  leaf_fits used t (x ∷ xs) all = leaf_by (touch_cmp k t x) used t x xs (touching k t xs) (leaf_fits used t xs) all
-
   few_used : (a : Analysis E) → fits k a ≡ true → nat_le a.used k.pages ≡ true
   few_used a fit =
       and_first (nat_le a.used k.pages) (list_all (touch_fits k a.used) a.touched && (apart k a.touched && (nat_le (transactions a.touched) TRANSACTIONS && nat_le (length a.touched) TOUCHED))) fit
-
-  each_fits : (a : Analysis E) → fits k a ≡ true → list_all (touch_fits k a.used) a.touched ≡ true
-  each_fits a fit =
-      let rest : Bool = apart k a.touched && (nat_le (transactions a.touched) TRANSACTIONS && nat_le (length a.touched) TOUCHED) in
-      and_first (list_all (touch_fits k a.used) a.touched) rest (and_second (nat_le a.used k.pages) (list_all (touch_fits k a.used) a.touched && rest) fit)
 
   images_on : (used : ℕ) → nat_le used k.pages ≡ true → (images : List (Image P)) → list_all (image_fits k used) images ≡ true → list_all (λ i. is_page k.pages i.page) images ≡ true
   images_on used few [] all = refl
   images_on used few (i ∷ images) all =
       and_all (is_page k.pages i.page) (list_all (λ j. is_page k.pages j.page) images)
-      (on_device used k.pages i.page few (and_first (is_page used i.page) (k.own i.content == i.page) (and_first (image_fits k used i) (list_all (image_fits k used) images) all)))
+      (still_page used k.pages i.page few (and_first (is_page used i.page) (k.own i.content == i.page) (and_first (image_fits k used i) (list_all (image_fits k used) images) all)))
       (images_on used few images (and_second (image_fits k used i) (list_all (image_fits k used) images) all))
 
   -- so are those of a record that follows
@@ -84,8 +54,8 @@ module _ {E P : Type 0} (k : Known E P) where
   record_on log (Write transaction entry before after leaf said) may fit =
       let a = analysis k log in
       let x : Record E P = Write transaction entry before after leaf said in
-      on_device a.used k.pages leaf (few_used (read k a x) fit)
-      (leaf_fits a.used (record { transaction = transaction; entry = entry; before = before; leaf = leaf }) a.touched (each_fits (read k a x) fit))
+      still_page a.used k.pages leaf (few_used (read k a x) fit)
+      (leaf_fits k a.used (record { transaction = transaction; entry = entry; before = before; leaf = leaf }) a.touched (each_fits k (read k a x) fit))
   record_on log (Commit transaction number) may fit = refl
   record_on log (End transaction) may fit = refl
   record_on log (Counters number counter used next) may fit = refl

@@ -30,9 +30,9 @@ images_few key (End tx) is = omega arith
 images_few key (Counters n counter used next) is = omega arith
 images_few key (Note tx row k before leaf) is = omega arith
 
--- a record has nine bytes or more
-pub long_enough : (key : ℕ) (rest : List ℕ) (x : Rec) (n : ℕ) → BeginsWith key rest x n → 9 ≤ n
-long_enough key rest x n begins = let long = (spelling_sizes key x begins.is_record).0 in omega (arith, long, begins.size)
+-- a record has bytes
+pub some_bytes : (key : ℕ) (rest : List ℕ) (x : Rec) (n : ℕ) → BeginsWith key rest x n → 0 < n
+some_bytes key rest x n begins = let long = (spelling_sizes key x begins.is_record).0 in omega (arith, long, begins.size)
 
 pub few_begun : (key : ℕ) (rest : List ℕ) (x : Rec) (n : ℕ) → BeginsWith key rest x n → LEAST_SHARE * length (images_of x) ≤ n
 few_begun key rest x n begins = let few = images_few key x begins.is_record in omega (arith, few, begins.size)
@@ -47,7 +47,7 @@ none_spelled key (y ∷ ys) are none =
 first_left : (key : ℕ) (rest : List ℕ) (x : Rec) (n : ℕ) (old : List Imaged) → BeginsWith key rest x n → (spelled : List Rec) → AllByRecursion (IsRecord key) spelled
     → spellings spelled ≡ rest → IsLeft key old (drop n rest) (with_all (images_of x) old) spelled
 first_left key rest x n old begins [] are is =
-    absurd (let long = long_enough key rest x n begins in let size = ap length is in omega (arith, long, begins.within, size))
+    absurd (let long = some_bytes key rest x n begins in let size = ap length is in omega (arith, long, begins.within, size))
 first_left key rest x n old begins (y ∷ ys) are is =
     let both : (y ≡ x) × (spellings ys ≡ drop n rest) =
     no_spelling_begins_another key y x (spellings ys) (drop n rest) are.0 begins.is_record (is ∙ begins.front) in

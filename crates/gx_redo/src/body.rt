@@ -2,7 +2,6 @@
 ghost use Rattle.std.specs.Prelude.{◌≡◌, ◌+◌, ◌*◌, ◌<◌, ◌≤◌, ℕ, List, length, drop, IfSome, IfNone, IfErr};
 ghost use Rattle.std.specs.List.{AllByRecursion};
 ghost use Rattle.gx_glog.specs.declared.extent.TheConstants.{BODY_ROOM};
-ghost use Rattle.gx_record.specs.declared.sizes.TheConstants.{END_RECORD};
 ghost use Rattle.gx_record.specs.Rec.{Rec};
 ghost use Rattle.gx_record.specs.Seen.{images, rec_of};
 ghost use Rattle.gx_record.specs.Writing.{IsWhole};
@@ -56,7 +55,7 @@ fn on_first(given: &mut Given, bytes: &[u8], key: usize) -> Option<usize>
     requires some { 0 < length bytes.now }
     requires room { LEAST_SHARE * (length given.old + MOST_IN_BODY) + length bytes.now
         ≤ LEAST_SHARE * MOST_GIVEN + BODY_ROOM }
-    ensures size { IfSome result (λ n. (END_RECORD ≤ n) × (n ≤ length bytes.now)) }
+    ensures size { IfSome result (λ n. (0 < n) × (n ≤ length bytes.now)) }
     ensures count { IfSome result (λ n. LEAST_SHARE * length given.new ≤ LEAST_SHARE * length given.old + n) }
     ensures told { IfSome result (λ n. IsReadTo key bytes.now given.old (drop n bytes.now) given.new) }
     ensures part { IfSome result (λ n. IsPartOf key bytes.now (drop n bytes.now)) }

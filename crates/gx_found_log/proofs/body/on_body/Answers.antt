@@ -12,7 +12,7 @@ on_first-requires-clause-room g c = omega (arith, c.loop-rest.invariant.closed, 
 
 pub loop-rest-preserved : goal.loop-rest-preserved
 loop-rest-preserved g c = record {
-  closed = omega (arith, c.loop-rest.invariant.closed, c.in-Ok.ensures.size, c.in-Ok.ensures.within, c.on_first.ensures.count, c.split_at.ensures.back_len);
+  closed = omega (arith, c.loop-rest.invariant.closed, c.in-Ok.ensures.within, c.in-Ok.ensures.closed, c.split_at.ensures.back_len);
   on = λ d ordered result new later.
       c.loop-rest.invariant.on d ordered result new
       (c.in-Ok.ensures.told d ordered result new

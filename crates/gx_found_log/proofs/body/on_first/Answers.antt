@@ -1,12 +1,17 @@
-use Rattle.std.proofs.Common.{◌≤◌, arith}
+use Rattle.std.proofs.Common.{length}
 use Rattle.gx_record.specs.Seen.{rec_of}
 use Rattle.gx_geom.specs.declared.refusal.Refusal.TheVariants.{Damaged}
 use Rattle.gx_found_log.proofs.Broken.{record_breaks, none_breaks, later_breaks}
-use Rattle.gx_found_log.proofs.Reading.{long_enough, told_comes, refused_comes, none_comes}
+use Rattle.gx_found_log.proofs.Reading.{some_bytes, closed_by, room_for, told_comes, refused_comes, none_comes}
 use Rattle.gx_found_log.proofs.body.on_first.Goals as goal
 
 pub returns-in-Ok-clause-size : goal.returns-in-Ok-clause-size
-returns-in-Ok-clause-size g c = long_enough c.key_size.result c.args.bytes.now (rec_of c.in-Some.found.0) c.in-Some.found.1 c.in-Some.ensures.found
+returns-in-Ok-clause-size g c = some_bytes c.key_size.result c.args.bytes.now (rec_of c.in-Some.found.0) c.in-Some.found.1 c.in-Some.ensures.found
+
+pub returns-in-Ok-clause-closed : goal.returns-in-Ok-clause-closed
+returns-in-Ok-clause-closed g c =
+    closed_by c.key_size.result c.args.bytes.now (rec_of c.in-Some.found.0) c.in-Some.found.1 (length c.args.analysis.now.closed) (length c.on_record.new.analysis.closed)
+    c.in-Some.ensures.found c.on_record.ensures.count
 
 pub returns-in-Ok-clause-told : goal.returns-in-Ok-clause-told
 returns-in-Ok-clause-told g c = λ d ordered.
@@ -25,8 +30,7 @@ returns-in-None-clause-told g c = λ d ordered.
 
 pub on_record-requires-clause-room : goal.on_record-requires-clause-room
 on_record-requires-clause-room g c =
-    let long : 9 ≤ c.in-Some.found.1 = long_enough c.key_size.result c.args.bytes.now (rec_of c.in-Some.found.0) c.in-Some.found.1 c.in-Some.ensures.found in
-    omega (arith, c.requires.room, long, c.in-Some.ensures.found.within)
+    room_for c.key_size.result c.args.bytes.now (rec_of c.in-Some.found.0) c.in-Some.found.1 (length c.args.analysis.now.closed) c.in-Some.ensures.found c.requires.room
 
 pub returns-in-Ok-clause-goes : goal.returns-in-Ok-clause-goes
 returns-in-Ok-clause-goes g c = λ d ordered.

@@ -1,12 +1,21 @@
-use Rattle.std.proofs.Common.{ap, refl}
+use Rattle.std.proofs.Common.{◌+◌, ◌≤◌, length, ap, arith, refl, subst}
 use Rattle.gx_record.specs.Rec as rec
 use Rattle.gx_record.specs.Seen.{is_marked, rec_of, images}
+use Rattle.gx_analysis.specs.declared.closed.TheConstants.{CLOSINGS}
 use Rattle.gx_analysis.specs.Broken.{refused, breaks_pages, breaks_commit, breaks_end}
 use Rattle.gx_found_log.specs.declared.part.Part.TheVariants.{Later}
-use Rattle.gx_found_log.specs.Told.{page_numbers}
+use Rattle.gx_found_log.specs.Told.{page_numbers, closings}
 use Rattle.gx_found_log.proofs.Broken.{keyless, next_broken, write_broken}
 use Rattle.gx_found_log.proofs.Told.{pages_come, write_comes, no_entry_comes, commit_comes, end_comes}
 use Rattle.gx_found_log.proofs.record.on_later.Goals as goal
+
+pub on_commit-requires : goal.on_commit-requires
+on_commit-requires g c =
+    let room = subst (λ (x : rec.Rec). length c.args.analysis.now.closed + closings x ≤ CLOSINGS) (ap rec_of c.in-Commit.is) c.requires.room in omega (arith, room)
+
+pub on_end-requires : goal.on_end-requires
+on_end-requires g c =
+    let room = subst (λ (x : rec.Rec). length c.args.analysis.now.closed + closings x ≤ CLOSINGS) (ap rec_of c.in-End.is) c.requires.room in omega (arith, room)
 
 pub returns-in-Pages-clause-told : goal.returns-in-Pages-clause-told
 returns-in-Pages-clause-told g c = λ d ordered.

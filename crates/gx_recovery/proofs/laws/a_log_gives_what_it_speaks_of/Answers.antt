@@ -1,4 +1,5 @@
 use Rattle.gx_recovery.proofs.Given.{given_is_the_page, redone_by_given, some_given, none_given, spoken_is_given, renewed_gives_none}
+use Rattle.gx_recovery.proofs.InUse.{given_in_use}
 use Rattle.gx_recovery.proofs.laws.a_log_gives_what_it_speaks_of.Goals as goal
 
 pub returns-clause-given : goal.returns-clause-given
@@ -18,3 +19,6 @@ returns-clause-spoken g c = λ d log p is h. spoken_is_given (g.M.Meaning.known 
 
 pub returns-clause-renewed : goal.returns-clause-renewed
 returns-clause-renewed g c = λ d next log p. renewed_gives_none (g.M.Meaning.known d) next log p
+
+pub returns-clause-in_use : goal.returns-clause-in_use
+returns-clause-in_use g c = λ d log p is some. given_in_use (g.M.Meaning.known d) p log is some

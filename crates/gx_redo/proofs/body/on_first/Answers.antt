@@ -3,7 +3,7 @@ use Rattle.gx_record.specs.Seen.{rec_of}
 use Rattle.gx_redo.specs.Kept.{Imaged, images_of}
 use Rattle.gx_redo.specs.Spelled.{IsReadTo}
 use Rattle.gx_redo.proofs.Keeping.{no_more}
-use Rattle.gx_redo.proofs.Spelling.{images_whole, few_begun, long_enough, read_one, not_spelled, part_one}
+use Rattle.gx_redo.proofs.Spelling.{images_whole, few_begun, some_bytes, read_one, not_spelled, part_one}
 use Rattle.gx_redo.proofs.body.on_first.Goals as goal
 
 pub on_record-requires-clause-room : goal.on_record-requires-clause-room
@@ -17,7 +17,7 @@ on_record-requires-clause-whole c = images_whole c.args.key (rec_of c.in-Some.fo
 
 pub returns-in-Some-clause-size : goal.returns-in-Some-clause-size
 returns-in-Some-clause-size c = (
-  long_enough c.args.key c.args.bytes.now (rec_of c.in-Some.found.0) c.in-Some.found.1 c.in-Some.ensures.found,
+  some_bytes c.args.key c.args.bytes.now (rec_of c.in-Some.found.0) c.in-Some.found.1 c.in-Some.ensures.found,
   c.in-Some.ensures.found.within,
 )
 
