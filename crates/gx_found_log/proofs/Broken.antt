@@ -10,15 +10,15 @@ use Rattle.gx_recovery.specs.Known.{Known, IsLawful}
 use Rattle.gx_recovery.specs.Records.{Record, Touch}
 use Rattle.gx_durable.specs.Spelled.{Reading, record_read}
 use Rattle.gx_analysis.specs.Kept.{Kept}
-use Rattle.gx_analysis.specs.Telling.{IsKept}
 use Rattle.gx_analysis.specs.Broken.{breaks_touch, breaks_write}
 use Rattle.gx_analysis.specs.declared.rule.LogRule.{LogRule}
 use Rattle.gx_analysis.specs.declared.rule.LogRule.TheVariants.{Spelling, NoCounters, Misplaced, NoKey}
 use Rattle.gx_found_log.specs.declared.fault.Misfit.{Misfit}
+use Rattle.gx_found_log.specs.declared.gathered.Gathered.{Gathered}
 use Rattle.gx_found_log.specs.declared.part.Part.{Part}
 use Rattle.gx_found_log.specs.declared.part.Part.TheVariants.{Start, Head, Later}
 use Rattle.gx_found_log.specs.Parts.{part_behind, IsBegun}
-use Rattle.gx_found_log.specs.Told.{Told, RecordTold}
+use Rattle.gx_found_log.specs.Told.{IsGathered, OneGathered, RecordGathered}
 use Rattle.gx_found_log.specs.Broken.{may_stand, is_of_class, breaks_next, RecordBreaks, FrontBreaks, part_after, IsBrokenAt, BytesBroken, BrokenOn}
 use Rattle.gx_found_log.proofs.Parts.{begun_behind}
 use Rattle.gx_found_log.proofs.Reading.{no_record, no_clash}
@@ -54,7 +54,7 @@ module _ {E P : Type 0} (k : Known E P) (r : Reading E P) where
       (λ rule. ap (λ (c : E → E → Ordering). breaks_touch c u s rule) ordered ∙ ap (λ (v : Touch E). breaks_touch cmp v s rule) (sym same)) result broken
 
   -- what the front of bytes breaks is broken behind no byte of them
-  pub at_front : (part : Part) (rest : List ℕ) (s : Kept E) (rule : LogRule) → FrontBreaks part k r rest s rule → BytesBroken part k r rest s 0 rule
+  pub at_front : (part : Part) (rest : List ℕ) (s : Gathered E) (rule : LogRule) → FrontBreaks part k r rest s rule → BytesBroken part k r rest s 0 rule
   at_front part rest s rule breaks log is kept = record {
     front = [];
     rest = rest;
@@ -63,8 +63,8 @@ module _ {E P : Type 0} (k : Known E P) (r : Reading E P) where
     before = [];
     are = record { spelled = []; in_range = tt; bytes_are = refl; read = refl };
     begun = subst (λ (x : List (Record E P)). IsBegun part k x) (sym (append-nil log)) is;
-    kept_so = s;
-    kept = subst (λ (x : List (Record E P)). IsKept k x s) (sym (append-nil log)) kept;
+    so_far = s;
+    gathered = subst (λ (x : List (Record E P)). IsGathered k r x s) (sym (append-nil log)) kept;
     breaks = breaks;
   }
 
@@ -72,28 +72,28 @@ module _ {E P : Type 0} (k : Known E P) (r : Reading E P) where
   key_is key is rest x n begins = subst (λ (m : ℕ). BeginsWith m rest x n) is begins
 
   -- a first record that breaks a rule; bytes that no record begins
-  pub record_breaks : (part : Part) (key : ℕ) → key ≡ r.key → (rest : List ℕ) (x : Rec) (n : ℕ) → BeginsWith key rest x n → (s : Kept E) (rule : LogRule)
-      → RecordBreaks part k r x s rule → BytesBroken part k r rest s 0 rule
+  pub record_breaks : (part : Part) (key : ℕ) → key ≡ r.key → (rest : List ℕ) (x : Rec) (n : ℕ) → BeginsWith key rest x n → (s : Gathered E) (rule : LogRule)
+      → RecordBreaks part k r x s.analysis rule → BytesBroken part k r rest s 0 rule
   record_breaks part key is rest x n begins s rule breaks =
       at_front part rest s rule (inr (inr (record { one = x; size = n; begins = key_is key is rest x n begins; breaks = breaks })))
 
   pub none_breaks : (part : Part) (key : ℕ) → key ≡ r.key → (rest : List ℕ) → 0 < length rest
-      → ((x : Rec) (n : ℕ) → BeginsWith key rest x n → no_record ≡ Some (x, n)) → (s : Kept E) → BytesBroken part k r rest s 0 Spelling
+      → ((x : Rec) (n : ℕ) → BeginsWith key rest x n → no_record ≡ Some (x, n)) → (s : Gathered E) → BytesBroken part k r rest s 0 Spelling
   none_breaks part key is rest some none s =
       at_front part rest s Spelling
       (inl (refl, some, λ x n begins. no_clash (x, n) (none x n (subst (λ (m : ℕ). BeginsWith m rest x n) (sym is) begins))))
 
   -- the same of equal parts and bytes
-  pub broken_on : {part behind : Part} {rest left : List ℕ} → part ≡ behind → rest ≡ left → (now : Kept E) (at : ℕ) (rule : LogRule)
+  pub broken_on : {part behind : Part} {rest left : List ℕ} → part ≡ behind → rest ≡ left → (now : Gathered E) (at : ℕ) (rule : LogRule)
       → BytesBroken part k r rest now at rule → BytesBroken behind k r left now at rule
   broken_on {part} {behind} {rest} {left} same same_bytes now at rule broken =
       subst (λ (p : Part). BytesBroken p k r left now at rule) same (subst (λ (ys : List ℕ). BytesBroken part k r ys now at rule) same_bytes broken)
 
-  pub further_on : (part : Part) (bytes : List ℕ) (old : Kept E) (rule : LogRule) (a b : ℕ) → a ≡ b → BytesBroken part k r bytes old a rule → BytesBroken part k r bytes old b rule
+  pub further_on : (part : Part) (bytes : List ℕ) (old : Gathered E) (rule : LogRule) (a b : ℕ) → a ≡ b → BytesBroken part k r bytes old a rule → BytesBroken part k r bytes old b rule
   further_on part bytes old rule a b same broken = subst (λ (m : ℕ). BytesBroken part k r bytes old m rule) same broken
 
   -- a first body that ends before its counters
-  end_at : (part now_at : Part) (bytes rest : List ℕ) (at : ℕ) (old now : Kept E) → rest ≡ [] → now_at ≡ Start → BrokenOn part now_at k r bytes rest at old now
+  end_at : (part now_at : Part) (bytes rest : List ℕ) (at : ℕ) (old now : Gathered E) → rest ≡ [] → now_at ≡ Start → BrokenOn part now_at k r bytes rest at old now
       → BytesBroken part k r bytes old at NoCounters
   end_at part now_at bytes rest at old now empty start on =
       further_on part bytes old NoCounters (at + 0) at (omega arith) (on 0 NoCounters (at_front now_at rest now NoCounters (inr (inl (refl, start, empty)))))
@@ -102,7 +102,7 @@ module _ {E P : Type 0} (k : Known E P) (r : Reading E P) where
   empty_is [] none = refl
   empty_is (x ∷ rest) none = absurd (omega arith)
 
-  pub end_breaks : (part now_at : Part) (bytes rest : List ℕ) (at : ℕ) (old now : Kept E) → length rest ≡ 0 → BrokenOn part now_at k r bytes rest at old now
+  pub end_breaks : (part now_at : Part) (bytes rest : List ℕ) (at : ℕ) (old now : Gathered E) → length rest ≡ 0 → BrokenOn part now_at k r bytes rest at old now
       → (result : Result (Unit {0}) Misfit) → IfErr result (λ misfit. (misfit.at ≡ at) × (misfit.rule ≡ NoCounters) × (now_at ≡ Start))
       → IfErr result (λ misfit. BytesBroken part k r bytes old misfit.at misfit.rule)
   end_breaks part now_at bytes rest at old now none on (Ok done) broken = tt
@@ -113,10 +113,10 @@ module _ {E P : Type 0} (k : Known E P) (r : Reading E P) where
 
 module _ {E P : Type 0} (k : Known E P) (r : Reading E P) (l : IsLawful k) where
   -- what is broken behind a record that may come is broken so many bytes further on
-  later_on : (part : Part) (rest : List ℕ) (x : Rec) (n : ℕ) → BeginsWith r.key rest x n → (now next : Kept E)
-      → RecordTold part k r x now (Ok tt) next → BrokenOn part (part_behind part) k r rest (drop n rest) n now next
+  later_on : (part : Part) (rest : List ℕ) (x : Rec) (n : ℕ) → BeginsWith r.key rest x n → (now next : Gathered E)
+      → RecordGathered part k r x now (Ok tt) next → BrokenOn part (part_behind part) k r rest (drop n rest) n now next
   later_on part rest x n begins now next told at rule broken log is kept =
-      let first : Told part k log (record_read r x) (Ok tt) next = told log is kept in
+      let first : OneGathered part k r log (record_read r x) (Ok tt) next = told log is kept in
       let more : IsBrokenAt (part_behind part) k r (log ++ record_read r x ∷ []) (drop n rest) at rule =
       broken (log ++ record_read r x ∷ []) (begun_behind k l part log (record_read r x) is first.0) first.1 in
       let long : length (spelling x ++ more.front) ≡ length (spelling x) + length more.front = length-append (spelling x) more.front in
@@ -135,11 +135,11 @@ module _ {E P : Type 0} (k : Known E P) (r : Reading E P) (l : IsLawful k) where
           read = ap (λ (ys : List (Record E P)). record_read r x ∷ ys) more.are.read;
         };
         begun = subst (λ (y : List (Record E P)). IsBegun (part_after (part_behind part) more.before) k y) (append_assoc log (record_read r x ∷ []) more.before) more.begun;
-        kept_so = more.kept_so;
-        kept = subst (λ (y : List (Record E P)). IsKept k y more.kept_so) (append_assoc log (record_read r x ∷ []) more.before) more.kept;
+        so_far = more.so_far;
+        gathered = subst (λ (y : List (Record E P)). IsGathered k r y more.so_far) (append_assoc log (record_read r x ∷ []) more.before) more.gathered;
         breaks = more.breaks;
       }
 
-  pub later_breaks : (part : Part) (key : ℕ) → key ≡ r.key → (rest : List ℕ) (x : Rec) (n : ℕ) → BeginsWith key rest x n → (now next : Kept E)
-      → RecordTold part k r x now (Ok tt) next → BrokenOn part (part_behind part) k r rest (drop n rest) n now next
+  pub later_breaks : (part : Part) (key : ℕ) → key ≡ r.key → (rest : List ℕ) (x : Rec) (n : ℕ) → BeginsWith key rest x n → (now next : Gathered E)
+      → RecordGathered part k r x now (Ok tt) next → BrokenOn part (part_behind part) k r rest (drop n rest) n now next
   later_breaks part key is rest x n begins now next told = later_on part rest x n (subst (λ (m : ℕ). BeginsWith m rest x n) is begins) now next told

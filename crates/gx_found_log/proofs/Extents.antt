@@ -1,6 +1,7 @@
 -- The bodies of an extent, read in a row.
 use Rattle.std.proofs.Common.{◌≡◌, ℕ, zero, suc, ◌+◌, ◌<◌, ◌≤◌, Bool, true, false, List, [], ◌∷◌, ◌++◌, refl, ap, sym, ◌∙◌, subst, arith, append_assoc, ⊎_elim}
 use Rattle.std.specs.Prelude.{Option, Some, Result, Ok, Err, IfOk, IfErr, take, drop}
+use Rattle.std.specs.Option.{option_map}
 use Rattle.std.proofs.lemmas.Bool.{cases_lt}
 use Rattle.std.proofs.lemmas.List.{append-nil}
 use Rattle.gx_geom.specs.declared.refusal.Refusal.{Refusal}
@@ -13,7 +14,6 @@ use Rattle.gx_glog.specs.Reading.{IsSize, ReadsBody}
 use Rattle.gx_glog.specs.Cuts.{bodies_in}
 use Rattle.gx_recovery.specs.Known.{Known, IsLawful}
 use Rattle.gx_recovery.specs.Records.{Record}
-use Rattle.gx_recovery.specs.Analysis.{unread}
 use Rattle.gx_recovery.specs.Damage.{is_head, follows, follow, records_of, is_undamaged}
 use Rattle.gx_recovery.proofs.Tests.{and_first, and_second, clash}
 use Rattle.gx_recovery.proofs.Logs.{and_all, follow-append}
@@ -21,12 +21,13 @@ use Rattle.gx_recovery.proofs.DamageItems.{bodies_log, records_append}
 use Rattle.gx_durable.specs.Spelled.{Reading, AreRecords}
 use Rattle.gx_durable.specs.Bodies.{AreBodies}
 use Rattle.gx_durable.proofs.BodyLists.{bodies_more, bodies_one_way, body_adds}
-use Rattle.gx_analysis.specs.Kept.{Kept, is_closed}
-use Rattle.gx_analysis.specs.Telling.{IsKept}
+use Rattle.gx_analysis.specs.Kept.{is_closed}
+use Rattle.gx_found_log.specs.declared.gathered.Gathered.{Gathered}
 use Rattle.gx_found_log.specs.declared.part.Part.{Part}
+use Rattle.gx_found_log.specs.Given.{Imaged, image_in}
 use Rattle.gx_found_log.specs.Parts.{IsBegun, may_go_on}
-use Rattle.gx_found_log.specs.Told.{IsRead, IsRefused, BytesTold}
-use Rattle.gx_found_log.specs.Found.{AreUndamaged, opened, part_at, ReadSoFar, PlaceRead, ReadWhole, ExtentRead, IsFound, LogRead}
+use Rattle.gx_found_log.specs.Told.{IsGathered, IsRead, IsRefused, BytesTold}
+use Rattle.gx_found_log.specs.Found.{IsUnread, AreUndamaged, opened, part_at, ReadSoFar, PlaceRead, ReadWhole, ExtentRead, IsFound, LogRead}
 
 -- so many gates are open in a row, where they all are
 at_least : (bytes : List ℕ) (extent : Extent) (places k n : ℕ) → n ≤ places → ((j : ℕ) → k ≤ j → j < k + n → is_open bytes extent j ≡ true) → n ≤ open_run bytes extent k places
@@ -55,9 +56,6 @@ read_as seen extent i bytes body size cut_to read said fits = cut_to fits.1 ∙ 
 pub is_some_read : (seen : List ℕ) (extent : Extent) (i : ℕ) (body : List ℕ) (found : Option ℕ) (size : ℕ) → found ≡ Some size → ReadsBody seen extent i body (Ok found)
     → (is_open seen extent i ≡ true) × (body ≡ body_of seen extent i) × (size ≡ size_in body) × IsSize size
 is_some_read seen extent i body found size is reads = subst (λ (o : Option ℕ). ReadsBody seen extent i body (Ok o)) is reads
-
-abbrev pub IsUnread : {E : Type 0} → Kept E → Type 0
-IsUnread s = (s.told ≡ unread) × (s.closed ≡ [])
 
 module _ {E P : Type 0} (k : Known E P) (r : Reading E P) (l : IsLawful k) where
   follow_front : (log xs ys : List (Record E P)) → follow k log (xs ++ ys) ≡ true → follow k log xs ≡ true
@@ -90,18 +88,21 @@ module _ {E P : Type 0} (k : Known E P) (r : Reading E P) (l : IsLawful k) where
   none_in seen extent = tt
 
   -- nothing is read
-  pub nothing_read : (seen : List ℕ) (extent : Extent) (s : Kept E) → s.told ≡ unread → s.closed ≡ [] → s.pages ≡ k.pages → ReadSoFar k r seen extent 0 s
-  nothing_read seen extent s told closed pages = record {
+  pub nothing_read : (seen : List ℕ) (extent : Extent) (s : Gathered E) → IsUnread s → s.analysis.pages ≡ k.pages → ReadSoFar k r seen extent 0 s
+  nothing_read seen extent s start pages = record {
     gates = λ j less. absurd (omega arith);
     sizes = λ j less. absurd (omega arith);
     bodies = [];
     told = none_in seen extent;
     undamaged = λ some. absurd (omega arith);
-    kept = record { told = told; closed = λ t. ap (λ (ts : List ℕ). is_closed t ts) closed; pages = pages };
+    gathered = record {
+      kept = record { told = start.told; closed = λ t. ap (λ (ts : List ℕ). is_closed t ts) start.closed; pages = pages };
+      given = λ p. ap (λ (xs : List Imaged). option_map r.content (image_in p xs)) start.given;
+    };
   }
 
   -- what is read so far lets the next body begin
-  pub begun_at : (seen : List ℕ) (extent : Extent) (i : ℕ) (s : Kept E) → (so : ReadSoFar k r seen extent i s) → IsBegun (part_at i) k (records_of so.bodies)
+  pub begun_at : (seen : List ℕ) (extent : Extent) (i : ℕ) (s : Gathered E) → (so : ReadSoFar k r seen extent i s) → IsBegun (part_at i) k (records_of so.bodies)
   begun_at seen extent zero s so = ap (λ (bodies : List (List (Record E P))). records_of bodies) (at_first seen extent so.bodies so.told)
   begun_at seen extent (suc i) s so = bodies_log k so.bodies (so.undamaged (omega arith))
 
@@ -120,10 +121,10 @@ module _ {E P : Type 0} (k : Known E P) (r : Reading E P) (l : IsLawful k) where
   more_by Q i j less before here = ⊎_elim (λ (below : j < i). before j below) (λ (last : i ≤ j). (let same : i ≡ j = omega (arith, last, less) in subst Q same here)) (cases_lt j i)
 
   -- the next body is read
-  pub one_more_read : (seen : List ℕ) (extent : Extent) (i : ℕ) (old new : Kept E) (bytes : List ℕ) → is_open seen extent i ≡ true → IsSize (size_in (body_of seen extent i))
+  pub one_more_read : (seen : List ℕ) (extent : Extent) (i : ℕ) (old new : Gathered E) (bytes : List ℕ) → is_open seen extent i ≡ true → IsSize (size_in (body_of seen extent i))
       → bytes ≡ records_in (body_of seen extent i) → BytesTold (part_at i) k r bytes old (Ok tt) new → ReadSoFar k r seen extent i old → ReadSoFar k r seen extent (i + 1) new
   one_more_read seen extent i old new bytes gate size is told so =
-      let body : IsRead (part_at i) k r (records_of so.bodies) bytes new = told (records_of so.bodies) (begun_at seen extent i old so) so.kept in
+      let body : IsRead (part_at i) k r (records_of so.bodies) bytes new = told (records_of so.bodies) (begun_at seen extent i old so) so.gathered in
       record {
         gates = λ j less. more_by (λ m. is_open seen extent m ≡ true) i j less so.gates gate;
         sizes = λ j less. more_by (λ m. IsSize (size_in (body_of seen extent m))) i j less so.sizes size;
@@ -132,7 +133,7 @@ module _ {E P : Type 0} (k : Known E P) (r : Reading E P) (l : IsLawful k) where
             (body_adds r (bodies_in seen extent i) (records_in (body_of seen extent i)) so.bodies body.records so.told (subst (λ (ys : List ℕ). AreRecords r ys body.records) is body.are));
         undamaged = λ some. one_more_undamaged i so.bodies body.records
             (λ none. at_first seen extent so.bodies (subst (λ n. AreBodies r (bodies_in seen extent n) so.bodies) none so.told)) so.undamaged body.may;
-        kept = subst (λ (xs : List (Record E P)). IsKept k xs new) (sym (records_append k so.bodies body.records)) body.kept;
+        gathered = subst (λ (xs : List (Record E P)). IsGathered k r xs new) (sym (records_append k so.bodies body.records)) body.gathered;
       }
 
   -- bodies in a row, without the last one
@@ -202,10 +203,10 @@ module _ {E P : Type 0} (k : Known E P) (r : Reading E P) (l : IsLawful k) where
       ∙ and_second (is_head k head) (follow k head (records_of (before ++ records ∷ behind))) whole))
 
   -- a body that is refused is in no undamaged log that goes so far
-  pub refused_there : (seen : List ℕ) (extent : Extent) (i : ℕ) (old new : Kept E) (bytes : List ℕ) (refusal : Refusal) → bytes ≡ records_in (body_of seen extent i)
+  pub refused_there : (seen : List ℕ) (extent : Extent) (i : ℕ) (old new : Gathered E) (bytes : List ℕ) (refusal : Refusal) → bytes ≡ records_in (body_of seen extent i)
       → BytesTold (part_at i) k r bytes old (Err refusal) new → ReadSoFar k r seen extent i old → (n : ℕ) → i < n → AreUndamaged k r seen extent n → ⊥
   refused_there seen extent i old new bytes refusal is told so n less whole =
-      let body : IsRefused (part_at i) k r (records_of so.bodies) bytes refusal = told (records_of so.bodies) (begun_at seen extent i old so) so.kept in
+      let body : IsRefused (part_at i) k r (records_of so.bodies) bytes refusal = told (records_of so.bodies) (begun_at seen extent i old so) so.gathered in
       let c : Cut seen extent i whole.bodies = cut seen extent i n whole.bodies less whole.told in
       let same : c.before ≡ so.bodies = bodies_one_way r (bodies_in seen extent i) c.before so.bodies c.told so.told in
       let all : is_undamaged k (so.bodies ++ c.records ∷ c.behind) ≡ true =
@@ -225,7 +226,7 @@ module _ {E P : Type 0} (k : Known E P) (r : Reading E P) (l : IsLawful k) where
       let never : is_undamaged k [] ≡ true = ap (is_undamaged k) (sym empty) ∙ whole.undamaged in
       cc
 
-  pub place_read : (seen : List ℕ) (extent : Extent) (i : ℕ) (old new : Kept E) (bytes body : List ℕ) (size : ℕ) (part : Part) → part ≡ part_at i
+  pub place_read : (seen : List ℕ) (extent : Extent) (i : ℕ) (old new : Gathered E) (bytes body : List ℕ) (size : ℕ) (part : Part) → part ≡ part_at i
       → (size ≤ BODY_ROOM → bytes ≡ take size (drop 4 body)) → is_open seen extent i ≡ true → body ≡ body_of seen extent i → size ≡ size_in body → IsSize size
       → BytesTold part k r bytes old (Ok tt) new → PlaceRead k r seen extent i old (Ok true) new
   place_read seen extent i old new bytes body size part at cut_to gate read said fits told = (
@@ -234,7 +235,7 @@ module _ {E P : Type 0} (k : Known E P) (r : Reading E P) (l : IsLawful k) where
         (subst (λ (p : Part). BytesTold p k r bytes old (Ok tt) new) at told) so,
   )
 
-  pub place_refused : (seen : List ℕ) (extent : Extent) (i : ℕ) (old new : Kept E) (bytes body : List ℕ) (size : ℕ) (part : Part) (refusal : Refusal) → part ≡ part_at i
+  pub place_refused : (seen : List ℕ) (extent : Extent) (i : ℕ) (old new : Gathered E) (bytes body : List ℕ) (size : ℕ) (part : Part) (refusal : Refusal) → part ≡ part_at i
       → (size ≤ BODY_ROOM → bytes ≡ take size (drop 4 body)) → is_open seen extent i ≡ true → body ≡ body_of seen extent i → size ≡ size_in body → IsSize size
       → refusal ≡ Damaged → BytesTold part k r bytes old (Err refusal) new → PlaceRead k r seen extent i old (Err refusal) new
   place_refused seen extent i old new bytes body size part refusal at cut_to gate read said fits damaged told =
@@ -248,25 +249,25 @@ module _ {E P : Type 0} (k : Known E P) (r : Reading E P) (l : IsLawful k) where
   none_open : (seen : List ℕ) (extent : Extent) → is_open seen extent 0 ≡ false → open_run seen extent 0 PLACES ≡ 0
   none_open seen extent shut = run_is extent PLACES 0 0 seen (omega arith) (λ j from below. absurd (omega arith)) (λ less. shut)
 
-  extent_ended_at : (seen : List ℕ) (extent : Extent) (i : ℕ) (old mid new : Kept E) (result : Result ℕ Refusal) → i < PLACES
+  extent_ended_at : (seen : List ℕ) (extent : Extent) (i : ℕ) (old mid new : Gathered E) (result : Result ℕ Refusal) → i < PLACES
       → IfOk result (λ n. (1 ≤ n) × (n ≡ i)) → IfErr result (λ refusal. (refusal ≡ Damaged) × (i ≡ 0)) → is_open seen extent i ≡ false → new ≡ mid
       → (ReadSoFar k r seen extent 0 old → ReadSoFar k r seen extent i mid) → ExtentRead k r seen extent old result new
   extent_ended_at seen extent i old mid new (Ok n) few ok err shut same on =
       λ start. (
-      let so : ReadSoFar k r seen extent n new = subst (λ m. ReadSoFar k r seen extent m new) (sym ok.1) (subst (λ (s : Kept E). ReadSoFar k r seen extent i s) (sym same) (on start)) in
+      let so : ReadSoFar k r seen extent n new = subst (λ m. ReadSoFar k r seen extent m new) (sym ok.1) (subst (λ (s : Gathered E). ReadSoFar k r seen extent i s) (sym same) (on start)) in
       record { some = ok.0; few = omega (arith, few, ok.1); closed = λ less. ap (λ m. is_open seen extent m) ok.1 ∙ shut; read = so })
   extent_ended_at seen extent i old mid new (Err refusal) few ok err shut same on =
       subst (λ (why : Refusal). ExtentRead k r seen extent old (Err why) new) (sym err.0)
       (λ start whole. none_undamaged seen extent (open_run seen extent 0 PLACES) (none_open seen extent (ap (λ m. is_open seen extent m) (sym err.1) ∙ shut)) whole)
 
-  pub extent_ended : (seen now_seen : List ℕ) (extent : Extent) (i : ℕ) (old mid new : Kept E) (result : Result ℕ Refusal) → now_seen ≡ seen → i < PLACES
+  pub extent_ended : (seen now_seen : List ℕ) (extent : Extent) (i : ℕ) (old mid new : Gathered E) (result : Result ℕ Refusal) → now_seen ≡ seen → i < PLACES
       → IfOk result (λ n. (1 ≤ n) × (n ≡ i)) → IfErr result (λ refusal. (refusal ≡ Damaged) × (i ≡ 0)) → (answer : Bool) → answer ≡ false → PlaceRead k r now_seen extent i mid (Ok answer) new
       → (ReadSoFar k r seen extent 0 old → ReadSoFar k r seen extent i mid) → ExtentRead k r seen extent old result new
   extent_ended seen now_seen extent i old mid new result read few ok err answer shut told on =
       let place : PlaceRead k r now_seen extent i mid (Ok false) new = subst (λ (b : Bool). PlaceRead k r now_seen extent i mid (Ok b) new) shut told in
       extent_ended_at seen extent i old mid new result few ok err (ap (λ (s : List ℕ). is_open s extent i) (sym read) ∙ place.0) place.1 on
 
-  extent_refused_at : (seen : List ℕ) (extent : Extent) (i : ℕ) (old mid new : Kept E) (refusal : Refusal) → i < PLACES → PlaceRead k r seen extent i mid (Err refusal) new
+  extent_refused_at : (seen : List ℕ) (extent : Extent) (i : ℕ) (old mid new : Gathered E) (refusal : Refusal) → i < PLACES → PlaceRead k r seen extent i mid (Err refusal) new
       → (ReadSoFar k r seen extent 0 old → ReadSoFar k r seen extent i mid) → ExtentRead k r seen extent old (Err refusal) new
   extent_refused_at seen extent i old mid new Damaged few place on =
       λ start whole. (
@@ -274,13 +275,13 @@ module _ {E P : Type 0} (k : Known E P) (r : Reading E P) (l : IsLawful k) where
       place.1 so (open_run seen extent 0 PLACES) (lies_in_run seen extent i few so.gates place.0) whole)
   extent_refused_at seen extent i old mid new refusal few place on = tt
 
-  pub extent_refused : (seen now_seen : List ℕ) (extent : Extent) (i : ℕ) (old mid new : Kept E) (refusal : Refusal) → now_seen ≡ seen → i < PLACES
+  pub extent_refused : (seen now_seen : List ℕ) (extent : Extent) (i : ℕ) (old mid new : Gathered E) (refusal : Refusal) → now_seen ≡ seen → i < PLACES
       → PlaceRead k r now_seen extent i mid (Err refusal) new → (ReadSoFar k r seen extent 0 old → ReadSoFar k r seen extent i mid) → ExtentRead k r seen extent old (Err refusal) new
   extent_refused seen now_seen extent i old mid new refusal read few place on =
       extent_refused_at seen extent i old mid new refusal few (subst (λ (s : List ℕ). PlaceRead k r s extent i mid (Err refusal) new) read place) on
 
-  found_at : (seen : List ℕ) (extent : Extent) (n : ℕ) (new : Kept E) → extent ≡ selected_of seen → ReadWhole k r seen extent n new
-      → IsFound k r seen (record { extent = extent; bodies = n; analysis = new })
+  found_at : (seen : List ℕ) (extent : Extent) (n : ℕ) (new : Gathered E) → extent ≡ selected_of seen → ReadWhole k r seen extent n new
+      → IsFound k r seen (record { extent = extent; bodies = n; analysis = new.analysis; given = new.given })
   found_at seen extent n new selects whole =
       let so : ReadSoFar k r seen extent n new = whole.read in
       let there : 0 + n ≡ n = omega arith in
@@ -297,23 +298,24 @@ module _ {E P : Type 0} (k : Known E P) (r : Reading E P) (l : IsLawful k) where
           told = subst (λ (e : Extent). AreBodies r (bodies_in seen e (opened seen)) so.bodies) selects (subst (λ m. AreBodies r (bodies_in seen extent m) so.bodies) count so.told);
           undamaged = so.undamaged whole.some;
         };
-        kept = so.kept;
+        kept = so.gathered.kept;
+        given = so.gathered.given;
       }
 
-  pub found_whole : (seen now_seen : List ℕ) (extent : Extent) (n : ℕ) (old new : Kept E) → now_seen ≡ seen → extent ≡ selected_of seen → IsUnread old → k.pages ≡ old.pages
-      → ExtentRead k r now_seen extent old (Ok n) new → IsFound k r seen (record { extent = extent; bodies = n; analysis = new })
+  pub found_whole : (seen now_seen : List ℕ) (extent : Extent) (n : ℕ) (old new : Gathered E) → now_seen ≡ seen → extent ≡ selected_of seen → IsUnread old → k.pages ≡ old.analysis.pages
+      → ExtentRead k r now_seen extent old (Ok n) new → IsFound k r seen (record { extent = extent; bodies = n; analysis = new.analysis; given = new.given })
   found_whole seen now_seen extent n old new read selects start pages all =
       found_at seen extent n new selects
-      (subst (λ (s : List ℕ). ReadWhole k r s extent n new) read (all (nothing_read now_seen extent old start.0 start.1 (sym pages))))
+      (subst (λ (s : List ℕ). ReadWhole k r s extent n new) read (all (nothing_read now_seen extent old start (sym pages))))
 
-  not_found_at : (seen : List ℕ) (extent : Extent) (old new : Kept E) (refusal : Refusal) → extent ≡ selected_of seen → ReadSoFar k r seen extent 0 old
+  not_found_at : (seen : List ℕ) (extent : Extent) (old new : Gathered E) (refusal : Refusal) → extent ≡ selected_of seen → ReadSoFar k r seen extent 0 old
       → ExtentRead k r seen extent old (Err refusal) new → LogRead k r seen (Err refusal)
   not_found_at seen extent old new Damaged selects start all =
       λ whole. all start (subst (λ (e : Extent). AreUndamaged k r seen e (open_run seen e 0 PLACES)) (sym selects) whole)
   not_found_at seen extent old new refusal selects start all = tt
 
-  pub not_found : (seen now_seen : List ℕ) (extent : Extent) (old new : Kept E) (refusal : Refusal) → now_seen ≡ seen → extent ≡ selected_of seen → IsUnread old → k.pages ≡ old.pages
+  pub not_found : (seen now_seen : List ℕ) (extent : Extent) (old new : Gathered E) (refusal : Refusal) → now_seen ≡ seen → extent ≡ selected_of seen → IsUnread old → k.pages ≡ old.analysis.pages
       → ExtentRead k r now_seen extent old (Err refusal) new → LogRead k r seen (Err refusal)
   not_found seen now_seen extent old new refusal read selects start pages all =
-      not_found_at seen extent old new refusal selects (nothing_read seen extent old start.0 start.1 (sym pages))
+      not_found_at seen extent old new refusal selects (nothing_read seen extent old start (sym pages))
       (subst (λ (s : List ℕ). ExtentRead k r s extent old (Err refusal) new) read all)

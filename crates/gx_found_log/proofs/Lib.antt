@@ -1,3 +1,7 @@
+pub mod Placing
+pub mod Keeping
+pub mod Giving
+pub mod Gathering
 pub mod Parts
 pub mod Told
 pub mod Reading

@@ -18,12 +18,11 @@ use Rattle.gx_recovery.specs.Records.{Record}
 use Rattle.gx_recovery.specs.Damage.{is_head}
 use Rattle.gx_durable.specs.Spelled.{Reading, record_read, records_read, AreRecords}
 use Rattle.gx_analysis.specs.declared.closed.TheConstants.{CLOSINGS}
-use Rattle.gx_analysis.specs.Kept.{Kept}
-use Rattle.gx_analysis.specs.Telling.{IsKept}
+use Rattle.gx_found_log.specs.declared.gathered.Gathered.{Gathered}
 use Rattle.gx_found_log.specs.declared.part.Part.{Part}
 use Rattle.gx_found_log.specs.declared.part.Part.TheVariants.{Start, Head, Later}
 use Rattle.gx_found_log.specs.Parts.{part_behind, may_go_on, ended}
-use Rattle.gx_found_log.specs.Told.{closings, Told, RecordTold, IsRead, IsRefused, BytesTold, ReadsOn}
+use Rattle.gx_found_log.specs.Told.{closings, IsGathered, OneGathered, RecordGathered, IsRead, IsRefused, BytesTold, ReadsOn}
 use Rattle.gx_found_log.proofs.Parts.{begun_behind, goes_behind, goes_not}
 
 -- a record has bytes
@@ -64,16 +63,16 @@ module _ {E P : Type 0} (k : Known E P) (r : Reading E P) (l : IsLawful k) where
       let none : length (spelling y) + length (spellings ys) ≡ 0 = sym (length-append (spelling y) (spellings ys)) ∙ ap length whole in
       absurd (omega arith)
 
-  read_none : (part : Part) (log : List (Record E P)) (s : Kept E) → may_go_on part k log [] ≡ true → IsKept k log s → IsRead part k r log [] s
+  read_none : (part : Part) (log : List (Record E P)) (s : Gathered E) → may_go_on part k log [] ≡ true → IsGathered k r log s → IsRead part k r log [] s
   read_none part log s may kept = record {
     records = [];
     are = record { spelled = []; in_range = tt; bytes_are = refl; read = refl };
     may = may;
-    kept = subst (λ (x : List (Record E P)). IsKept k x s) (sym (append-nil log)) kept;
+    gathered = subst (λ (x : List (Record E P)). IsGathered k r x s) (sym (append-nil log)) kept;
   }
 
   -- reading nothing more
-  pub nothing_left : (part : Part) (s : Kept E) → BytesTold part k r [] s (ended part) s
+  pub nothing_left : (part : Part) (s : Gathered E) → BytesTold part k r [] s (ended part) s
   nothing_left Start s log is kept = record {
     damaged = refl;
     none = λ records are. ap (λ (xs : List (Record E P)). is_head k (log ++ xs)) (only_none records are.spelled are refl) ∙ ap (λ (xs : List (Record E P)). is_head k (xs ++ [])) is;
@@ -117,20 +116,20 @@ module _ {E P : Type 0} (k : Known E P) (r : Reading E P) (l : IsLawful k) where
       }
 
   -- one record told, and then the others
-  pub told_first : (part : Part) (rest : List ℕ) (x : Rec) (n : ℕ) → BeginsWith r.key rest x n → (now next : Kept E)
-      → RecordTold part k r x now (Ok tt) next → ReadsOn part (part_behind part) k r rest (drop n rest) now next
+  pub told_first : (part : Part) (rest : List ℕ) (x : Rec) (n : ℕ) → BeginsWith r.key rest x n → (now next : Gathered E)
+      → RecordGathered part k r x now (Ok tt) next → ReadsOn part (part_behind part) k r rest (drop n rest) now next
   told_first part rest x n begins now next told (Ok done) new later log is kept =
-      let first : Told part k log (record_read r x) (Ok tt) next = told log is kept in
+      let first : OneGathered part k r log (record_read r x) (Ok tt) next = told log is kept in
       let more : IsRead (part_behind part) k r (log ++ record_read r x ∷ []) (drop n rest) new =
       later (log ++ record_read r x ∷ []) (begun_behind k l part log (record_read r x) is first.0) first.1 in
       record {
         records = record_read r x ∷ more.records;
         are = in_front rest x n more.records begins more.are;
         may = goes_behind k l part log (record_read r x) more.records first.0 ∙ more.may;
-        kept = subst (λ (y : List (Record E P)). IsKept k y new) (append_assoc log (record_read r x ∷ []) more.records) more.kept;
+        gathered = subst (λ (y : List (Record E P)). IsGathered k r y new) (append_assoc log (record_read r x ∷ []) more.records) more.gathered;
       }
   told_first part rest x n begins now next told (Err refusal) new later log is kept =
-      let first : Told part k log (record_read r x) (Ok tt) next = told log is kept in
+      let first : OneGathered part k r log (record_read r x) (Ok tt) next = told log is kept in
       let more : IsRefused (part_behind part) k r (log ++ record_read r x ∷ []) (drop n rest) refusal =
       later (log ++ record_read r x ∷ []) (begun_behind k l part log (record_read r x) is first.0) first.1 in
       record {
@@ -141,10 +140,10 @@ module _ {E P : Type 0} (k : Known E P) (r : Reading E P) (l : IsLawful k) where
       }
 
   -- a first record that may not come
-  pub refused_first : (part : Part) (rest : List ℕ) (x : Rec) (n : ℕ) → BeginsWith r.key rest x n → (now new : Kept E) (refusal : Refusal)
-      → RecordTold part k r x now (Err refusal) new → BytesTold part k r rest now (Err refusal) new
+  pub refused_first : (part : Part) (rest : List ℕ) (x : Rec) (n : ℕ) → BeginsWith r.key rest x n → (now new : Gathered E) (refusal : Refusal)
+      → RecordGathered part k r x now (Err refusal) new → BytesTold part k r rest now (Err refusal) new
   refused_first part rest x n begins now new refusal told log is kept =
-      let first : Told part k log (record_read r x) (Err refusal) new = told log is kept in
+      let first : OneGathered part k r log (record_read r x) (Err refusal) new = told log is kept in
       record {
         damaged = first.1;
         none = λ records are. (
@@ -175,7 +174,7 @@ module _ {E P : Type 0} (k : Known E P) (r : Reading E P) (l : IsLawful k) where
       }
 
   -- bytes that no record begins
-  pub none_first : (part : Part) (rest : List ℕ) → (rest ≡ [] → ⊥) → ((x : Rec) (n : ℕ) → BeginsWith r.key rest x n → ⊥) → (now new : Kept E)
+  pub none_first : (part : Part) (rest : List ℕ) → (rest ≡ [] → ⊥) → ((x : Rec) (n : ℕ) → BeginsWith r.key rest x n → ⊥) → (now new : Gathered E)
       → BytesTold part k r rest now (Err Damaged) new
   none_first part rest some none now new log is kept = record {
     damaged = refl;
@@ -188,28 +187,28 @@ module _ {E P : Type 0} (k : Known E P) (r : Reading E P) (l : IsLawful k) where
   key_is : (key : ℕ) → key ≡ r.key → (rest : List ℕ) (x : Rec) (n : ℕ) → BeginsWith key rest x n → BeginsWith r.key rest x n
   key_is key is rest x n begins = subst (λ (m : ℕ). BeginsWith m rest x n) is begins
 
-  pub told_comes : (part : Part) (key : ℕ) → key ≡ r.key → (rest : List ℕ) (x : Rec) (n : ℕ) → BeginsWith key rest x n → (now next : Kept E)
-      → RecordTold part k r x now (Ok tt) next → ReadsOn part (part_behind part) k r rest (drop n rest) now next
+  pub told_comes : (part : Part) (key : ℕ) → key ≡ r.key → (rest : List ℕ) (x : Rec) (n : ℕ) → BeginsWith key rest x n → (now next : Gathered E)
+      → RecordGathered part k r x now (Ok tt) next → ReadsOn part (part_behind part) k r rest (drop n rest) now next
   told_comes part key is rest x n begins now next told = told_first part rest x n (key_is key is rest x n begins) now next told
 
-  pub refused_comes : (part : Part) (key : ℕ) → key ≡ r.key → (rest : List ℕ) (x : Rec) (n : ℕ) → BeginsWith key rest x n → (now new : Kept E) (refusal : Refusal)
-      → RecordTold part k r x now (Err refusal) new → BytesTold part k r rest now (Err refusal) new
+  pub refused_comes : (part : Part) (key : ℕ) → key ≡ r.key → (rest : List ℕ) (x : Rec) (n : ℕ) → BeginsWith key rest x n → (now new : Gathered E) (refusal : Refusal)
+      → RecordGathered part k r x now (Err refusal) new → BytesTold part k r rest now (Err refusal) new
   refused_comes part key is rest x n begins now new refusal told = refused_first part rest x n (key_is key is rest x n begins) now new refusal told
 
   pub none_comes : (part : Part) (key : ℕ) → key ≡ r.key → (rest : List ℕ) → 0 < length rest → ((x : Rec) (n : ℕ) → BeginsWith key rest x n → no_record ≡ Some (x, n))
-      → (now new : Kept E) → BytesTold part k r rest now (Err Damaged) new
+      → (now new : Gathered E) → BytesTold part k r rest now (Err Damaged) new
   none_comes part key is rest some none now new =
       none_first part rest (λ empty. (let zero_long : length rest ≡ 0 = ap length empty in omega arith))
       (λ x n begins. no_clash (x, n) (none x n (subst (λ (m : ℕ). BeginsWith m rest x n) (sym is) begins))) now new
 
   -- the same of equal parts and bytes
-  pub moved_on : {part behind : Part} {rest left : List ℕ} → part ≡ behind → rest ≡ left → (now : Kept E) (result : Result (Unit {0}) Refusal) (new : Kept E)
+  pub moved_on : {part behind : Part} {rest left : List ℕ} → part ≡ behind → rest ≡ left → (now : Gathered E) (result : Result (Unit {0}) Refusal) (new : Gathered E)
       → BytesTold part k r rest now result new → BytesTold behind k r left now result new
   moved_on {part} {behind} {rest} {left} same same_bytes now result new told =
       subst (λ (p : Part). BytesTold p k r left now result new) same (subst (λ (ys : List ℕ). BytesTold part k r ys now result new) same_bytes told)
 
   -- where nothing is left, what was read is all
-  pub all_read : (part now_at : Part) (bytes rest : List ℕ) (old now : Kept E) → length rest ≡ 0 → ReadsOn part now_at k r bytes rest old now
+  pub all_read : (part now_at : Part) (bytes rest : List ℕ) (old now : Gathered E) → length rest ≡ 0 → ReadsOn part now_at k r bytes rest old now
       → BytesTold part k r bytes old (ended now_at) now
   all_read part now_at bytes [] old now none on = on (ended now_at) now (nothing_left now_at now)
   all_read part now_at bytes (x ∷ rest) old now none on = absurd (omega arith)

@@ -11,7 +11,7 @@ use Rattle.gx_glog.specs.Reading.{IsSize, ReadsBody, CountsReads}
 use Rattle.gx_recovery.specs.Known.{Known, IsLawful}
 use Rattle.gx_recovery.specs.Damage.{records_of}
 use Rattle.gx_durable.specs.Spelled.{Reading}
-use Rattle.gx_analysis.specs.Kept.{Kept}
+use Rattle.gx_found_log.specs.declared.gathered.Gathered.{Gathered}
 use Rattle.gx_analysis.specs.declared.rule.LogRule.{LogRule}
 use Rattle.gx_analysis.specs.declared.rule.LogRule.TheVariants.{FirstGate, BodySize}
 use Rattle.gx_found_log.specs.declared.fault.LogDamage.{LogDamage}
@@ -20,9 +20,9 @@ use Rattle.gx_found_log.specs.declared.fault.LogFault.TheVariants.{Memory, Devic
 use Rattle.gx_found_log.specs.declared.part.Part.{Part}
 use Rattle.gx_found_log.specs.Broken.{BytesBroken}
 use Rattle.gx_found_log.specs.Faults.{refusal_of, refusing}
-use Rattle.gx_found_log.specs.Found.{part_at, ReadSoFar, PlaceRead, ReadsAlone}
+use Rattle.gx_found_log.specs.Found.{IsUnread, part_at, ReadSoFar, PlaceRead, ReadsAlone}
 use Rattle.gx_found_log.specs.Shown.{BodyBreaks, PlaceShows, ExtentShows, LogShows}
-use Rattle.gx_found_log.proofs.Extents.{IsUnread, read_as, begun_at, missized_there, nothing_read}
+use Rattle.gx_found_log.proofs.Extents.{read_as, begun_at, missized_there, nothing_read}
 
 -- what a body that can't be read is refused by
 pub two_ways : {T : Type 0} (old new : disk.Device) (refusal : Refusal) → CountsReads {T = T} old new (Err refusal) → (refusal ≡ refusals.Device) ⊎ (refusal ≡ refusals.Damaged)
@@ -48,18 +48,18 @@ refused_err (Ok n) damage i err = tt
 refused_err (Err fault) damage i err = (ap refusal_of err.0, err.1)
 
 module _ {E P : Type 0} (k : Known E P) (r : Reading E P) (l : IsLawful k) where
-  unread_at : (seen : List ℕ) (extent : Extent) (i : ℕ) (body : List ℕ) (old new : Kept E) (refusal : Refusal) → ReadsBody seen extent i body (Err refusal)
+  unread_at : (seen : List ℕ) (extent : Extent) (i : ℕ) (body : List ℕ) (old new : Gathered E) (refusal : Refusal) → ReadsBody seen extent i body (Err refusal)
       → PlaceRead k r seen extent i old (Err refusal) new
   unread_at seen extent i body old new refusals.Damaged reads = (reads.0, λ so n less whole. missized_there k r l seen extent i reads.1 n less whole)
   unread_at seen extent i body old new refusal reads = tt
 
-  pub place_unread : (seen : List ℕ) (extent : Extent) (i : ℕ) (body : List ℕ) (old new : Kept E) (refusal why : Refusal) → why ≡ refusal
+  pub place_unread : (seen : List ℕ) (extent : Extent) (i : ℕ) (body : List ℕ) (old new : Gathered E) (refusal why : Refusal) → why ≡ refusal
       → ReadsBody seen extent i body (Err refusal) → PlaceRead k r seen extent i old (Err why) new
   place_unread seen extent i body old new refusal why is reads =
       subst (λ (w : Refusal). PlaceRead k r seen extent i old (Err w) new) (sym is) (unread_at seen extent i body old new refusal reads)
 
   -- what is told of a body whose size is out of range, or that the device doesn't give
-  pub missized_shown : (seen : List ℕ) (extent : Extent) (i : ℕ) (body : List ℕ) (old : Kept E) (refusal : Refusal) (fault : LogFault)
+  pub missized_shown : (seen : List ℕ) (extent : Extent) (i : ℕ) (body : List ℕ) (old : Gathered E) (refusal : Refusal) (fault : LogFault)
       → (refusal ≡ refusals.Device) ⊎ (refusal ≡ refusals.Damaged)
       → (refusal ≡ refusals.Damaged → fault ≡ Damaged (record { extent = extent; body = i; at = 0; rule = BodySize })) → (refusal ≡ refusals.Device → fault ≡ Device)
       → ReadsBody seen extent i body (Err refusal) → PlaceShows k r seen extent i old fault
@@ -69,7 +69,7 @@ module _ {E P : Type 0} (k : Known E P) (r : Reading E P) (l : IsLawful k) where
       subst (λ (f : LogFault). PlaceShows k r seen extent i old f) (sym (damaged damage)) (refl, refl, odd.0, λ so. inl (refl, refl, odd.1))
 
   -- what is told of a body whose records are refused
-  pub misfit_shown : (seen : List ℕ) (extent : Extent) (i : ℕ) (old : Kept E) (bytes body : List ℕ) (size : ℕ) (part : Part) (at : ℕ) (rule : LogRule) → part ≡ part_at i
+  pub misfit_shown : (seen : List ℕ) (extent : Extent) (i : ℕ) (old : Gathered E) (bytes body : List ℕ) (size : ℕ) (part : Part) (at : ℕ) (rule : LogRule) → part ≡ part_at i
       → (size ≤ BODY_ROOM → bytes ≡ take size (drop 4 body)) → is_open seen extent i ≡ true → body ≡ body_of seen extent i → size ≡ size_in body → IsSize size
       → BytesBroken part k r bytes old at rule → PlaceShows k r seen extent i old (Damaged (record { extent = extent; body = i; at = at; rule = rule }))
   misfit_shown seen extent i old bytes body size part at rule is cut_to gate read said fits broken = (
@@ -85,12 +85,12 @@ module _ {E P : Type 0} (k : Known E P) (r : Reading E P) (l : IsLawful k) where
           bodies = so.bodies;
           told = so.told;
           undamaged = so.undamaged;
-          here = here (records_of so.bodies) (begun_at k r l seen extent i old so) so.kept;
+          here = here (records_of so.bodies) (begun_at k r l seen extent i old so) so.gathered;
         })),
   )
 
   -- what is told of an extent: of one whose first gate is closed, and of a place
-  pub gate_shown : (seen : List ℕ) (extent : Extent) (i : ℕ) (mid new : Kept E) (result : Result ℕ LogFault)
+  pub gate_shown : (seen : List ℕ) (extent : Extent) (i : ℕ) (mid new : Gathered E) (result : Result ℕ LogFault)
       → IfErr result (λ fault. (fault ≡ Damaged (record { extent = extent; body = 0; at = 0; rule = FirstGate })) × (i ≡ 0))
       → (answer : Bool) → answer ≡ false → PlaceRead k r seen extent i mid (Ok answer) new → IfErr result (λ fault. ExtentShows k r seen extent fault)
   gate_shown seen extent i mid new (Ok n) err answer shut place = tt
@@ -102,7 +102,7 @@ module _ {E P : Type 0} (k : Known E P) (r : Reading E P) (l : IsLawful k) where
         breaks = inl (refl, refl, refl, ap (λ n. is_open seen extent n) (sym err.1) ∙ closed.0);
       })
 
-  place_shown : (seen : List ℕ) (extent : Extent) (i : ℕ) (mid : Kept E) (fault : LogFault) → PlaceShows k r seen extent i mid fault → ReadSoFar k r seen extent i mid
+  place_shown : (seen : List ℕ) (extent : Extent) (i : ℕ) (mid : Gathered E) (fault : LogFault) → PlaceShows k r seen extent i mid fault → ReadSoFar k r seen extent i mid
       → ExtentShows k r seen extent fault
   place_shown seen extent i mid Memory shows so = tt
   place_shown seen extent i mid Device shows so = tt
@@ -112,13 +112,13 @@ module _ {E P : Type 0} (k : Known E P) (r : Reading E P) (l : IsLawful k) where
     breaks = inr (subst (λ n. (is_open seen extent n ≡ true) × BodyBreaks k r seen extent n damage.at damage.rule) (sym shows.1) (shows.2, shows.3 so));
   }
 
-  pub place_shows : (seen now_seen : List ℕ) (extent : Extent) (i : ℕ) (mid : Kept E) (fault : LogFault) → now_seen ≡ seen → PlaceShows k r now_seen extent i mid fault
+  pub place_shows : (seen now_seen : List ℕ) (extent : Extent) (i : ℕ) (mid : Gathered E) (fault : LogFault) → now_seen ≡ seen → PlaceShows k r now_seen extent i mid fault
       → ReadSoFar k r seen extent i mid → ExtentShows k r seen extent fault
   place_shows seen now_seen extent i mid fault read shows so =
       place_shown seen extent i mid fault (subst (λ (s : List ℕ). PlaceShows k r s extent i mid fault) read shows) so
 
-  pub log_shows : (seen now_seen : List ℕ) (extent : Extent) (old : Kept E) (fault : LogFault) → now_seen ≡ seen → extent ≡ selected_of seen → IsUnread old → k.pages ≡ old.pages
+  pub log_shows : (seen now_seen : List ℕ) (extent : Extent) (old : Gathered E) (fault : LogFault) → now_seen ≡ seen → extent ≡ selected_of seen → IsUnread old → k.pages ≡ old.analysis.pages
       → (ReadSoFar k r now_seen extent 0 old → ExtentShows k r now_seen extent fault) → LogShows k r seen fault
   log_shows seen now_seen extent old fault read selects start pages shows =
       subst (λ (e : Extent). ExtentShows k r seen e fault) selects
-      (subst (λ (s : List ℕ). ExtentShows k r s extent fault) read (shows (nothing_read k r l now_seen extent old start.0 start.1 (sym pages))))
+      (subst (λ (s : List ℕ). ExtentShows k r s extent fault) read (shows (nothing_read k r l now_seen extent old start (sym pages))))

@@ -7,14 +7,14 @@ use Rattle.gx_recovery.specs.Known.{Known}
 use Rattle.gx_recovery.specs.Records.{Record}
 use Rattle.gx_durable.specs.Spelled.{Reading, AreRecords}
 use Rattle.gx_analysis.specs.Kept.{Kept}
-use Rattle.gx_analysis.specs.Telling.{IsKept}
 use Rattle.gx_analysis.specs.Broken.{breaks_counters, breaks_touch, breaks_write, breaks_pages, breaks_end, breaks_commit}
 use Rattle.gx_analysis.specs.declared.rule.LogRule.{LogRule}
 use Rattle.gx_analysis.specs.declared.rule.LogRule.TheVariants.{Spelling, NoCounters, Misplaced, NoKey}
+use Rattle.gx_found_log.specs.declared.gathered.Gathered.{Gathered}
 use Rattle.gx_found_log.specs.declared.part.Part.{Part}
 use Rattle.gx_found_log.specs.declared.part.Part.TheVariants.{Start, Head, Later}
 use Rattle.gx_found_log.specs.Parts.{part_behind, IsBegun}
-use Rattle.gx_found_log.specs.Told.{page_numbers}
+use Rattle.gx_found_log.specs.Told.{page_numbers, IsGathered}
 
 abbrev pub is_counters : Rec → Bool
 is_counters (rec.Pages counter used pages) = false
@@ -73,14 +73,14 @@ RecordBreaks part k r x s rule =
     ((rule ≡ Misplaced) × (may_stand part x ≡ false)) ⊎ (((rule ≡ NoKey) × (is_of_class k r x ≡ false)) ⊎ (breaks_next k r x s rule ≡ true))
 
 -- the record at the front of these bytes breaks the rule
-pub record RecordAt {E P : Type 0} (part : Part) (k : Known E P) (r : Reading E P) (rest : List ℕ) (s : Kept E) (rule : LogRule) : Type 0 where
+pub record RecordAt {E P : Type 0} (part : Part) (k : Known E P) (r : Reading E P) (rest : List ℕ) (s : Gathered E) (rule : LogRule) : Type 0 where
   pub one : Rec
   pub size : ℕ
   pub begins : BeginsWith r.key rest one size
-  pub breaks : RecordBreaks part k r one s rule
+  pub breaks : RecordBreaks part k r one s.analysis rule
 
 -- The front of these bytes breaks the rule: no record stands there, or they end where the counters are wanted, or a record does.
-abbrev pub FrontBreaks : {E P : Type 0} → Part → Known E P → Reading E P → List ℕ → Kept E → LogRule → Type 0
+abbrev pub FrontBreaks : {E P : Type 0} → Part → Known E P → Reading E P → List ℕ → Gathered E → LogRule → Type 0
 FrontBreaks part k r rest s rule =
     ((rule ≡ Spelling) × (0 < length rest) × ((x : Rec) (n : ℕ) → BeginsWith r.key rest x n → ⊥))
     ⊎ (((rule ≡ NoCounters) × (part ≡ Start) × (rest ≡ [])) ⊎ RecordAt part k r rest s rule)
@@ -99,14 +99,14 @@ pub record IsBrokenAt {E P : Type 0} (part : Part) (k : Known E P) (r : Reading 
   pub before : List (Record E P)
   pub are : AreRecords r front before
   pub begun : IsBegun (part_after part before) k (log ++ before)
-  pub kept_so : Kept E
-  pub kept : IsKept k (log ++ before) kept_so
-  pub breaks : FrontBreaks (part_after part before) k r rest kept_so rule
+  pub so_far : Gathered E
+  pub gathered : IsGathered k r (log ++ before) so_far
+  pub breaks : FrontBreaks (part_after part before) k r rest so_far rule
 
--- so of each log that is kept, where these are the bytes of the rest of a body
-abbrev pub BytesBroken : {E P : Type 0} → Part → Known E P → Reading E P → List ℕ → Kept E → ℕ → LogRule → Type 0
-BytesBroken {E} {P} part k r bytes old at rule = (log : List (Record E P)) → IsBegun part k log → IsKept k log old → IsBrokenAt part k r log bytes at rule
+-- so of each log that is gathered, where these are the bytes of the rest of a body
+abbrev pub BytesBroken : {E P : Type 0} → Part → Known E P → Reading E P → List ℕ → Gathered E → ℕ → LogRule → Type 0
+BytesBroken {E} {P} part k r bytes old at rule = (log : List (Record E P)) → IsBegun part k log → IsGathered k r log old → IsBrokenAt part k r log bytes at rule
 
 -- What is broken in these bytes, read from here on at this part, is broken so many bytes further on in all of them.
-abbrev pub BrokenOn : {E P : Type 0} → (part now_at : Part) → Known E P → Reading E P → (bytes rest : List ℕ) (gone : ℕ) (old now : Kept E) → Type 0
+abbrev pub BrokenOn : {E P : Type 0} → (part now_at : Part) → Known E P → Reading E P → (bytes rest : List ℕ) (gone : ℕ) (old now : Gathered E) → Type 0
 BrokenOn part now_at k r bytes rest gone old now = (at : ℕ) (rule : LogRule) → BytesBroken now_at k r rest now at rule → BytesBroken part k r bytes old (gone + at) rule

@@ -1,5 +1,5 @@
 -- The log of an image, read back.
-use Rattle.std.specs.Prelude.{◌≡◌, ℕ, zero, suc, ◌+◌, ◌<◌, ◌≤◌, Bool, true, false, List, Result, Ok, Err}
+use Rattle.std.specs.Prelude.{◌≡◌, ℕ, zero, suc, ◌+◌, ◌<◌, ◌≤◌, Bool, true, false, List, [], Result, Ok, Err}
 use Rattle.gx_geom.specs.declared.refusal.Refusal.{Refusal}
 use Rattle.gx_geom.specs.declared.refusal.Refusal.TheVariants.{Device, Damaged, Memory}
 use Rattle.gx_disk.specs.Device as disk
@@ -10,14 +10,17 @@ use Rattle.gx_glog.specs.Reading.{IsSize}
 use Rattle.gx_glog.specs.Cuts.{bodies_in}
 use Rattle.gx_recovery.specs.Known.{Known}
 use Rattle.gx_recovery.specs.Records.{Record}
+use Rattle.gx_recovery.specs.Analysis.{unread}
 use Rattle.gx_recovery.specs.Damage.{records_of, is_undamaged}
 use Rattle.gx_durable.specs.Spelled.{Reading}
 use Rattle.gx_durable.specs.Bodies.{AreBodies}
-use Rattle.gx_analysis.specs.Kept.{Kept}
 use Rattle.gx_analysis.specs.Telling.{IsKept}
 use Rattle.gx_found_log.specs.declared.found.FoundLog.{FoundLog}
+use Rattle.gx_found_log.specs.declared.gathered.Gathered.{Gathered}
 use Rattle.gx_found_log.specs.declared.part.Part.{Part}
 use Rattle.gx_found_log.specs.declared.part.Part.TheVariants.{Start, Later}
+use Rattle.gx_found_log.specs.Given.{IsGiven}
+use Rattle.gx_found_log.specs.Told.{IsGathered}
 
 -- The first n bodies of an extent: what each says its size is fits it, and their bytes are the records of an undamaged log.
 pub record AreUndamaged {E P : Type 0} (k : Known E P) (r : Reading E P) (seen : List ℕ) (extent : Extent) (n : ℕ) : Type 0 where
@@ -39,19 +42,25 @@ abbrev pub part_at : ℕ → Part
 part_at zero = Start
 part_at (suc i) = Later
 
--- The first n bodies of an extent are read: their gates are open, they are whole, and what is kept is what their records tell, an
+-- The first n bodies of an extent are read: their gates are open, they are whole, and what is gathered is of their records, an
 -- undamaged log where there are any.
-pub record ReadSoFar {E P : Type 0} (k : Known E P) (r : Reading E P) (seen : List ℕ) (extent : Extent) (n : ℕ) (s : Kept E) : Type 0 where
+pub record ReadSoFar {E P : Type 0} (k : Known E P) (r : Reading E P) (seen : List ℕ) (extent : Extent) (n : ℕ) (s : Gathered E) : Type 0 where
   pub gates : (j : ℕ) → j < n → is_open seen extent j ≡ true
   pub sizes : (j : ℕ) → j < n → IsSize (size_in (body_of seen extent j))
   pub bodies : List (List (Record E P))
   pub told : AreBodies r (bodies_in seen extent n) bodies
   pub undamaged : 1 ≤ n → is_undamaged k bodies ≡ true
-  pub kept : IsKept k (records_of bodies) s
+  pub gathered : IsGathered k r (records_of bodies) s
+
+-- nothing is gathered as yet
+pub record IsUnread {E : Type 0} (s : Gathered E) : Type 0 where
+  pub told : s.analysis.told ≡ unread
+  pub closed : s.analysis.closed ≡ []
+  pub given : s.given ≡ []
 
 -- What a place of an extent comes to, of which all before it are read: its gate is closed, and nothing changes; or its body is read
 -- too; or no log that goes so far is undamaged.
-abbrev pub PlaceRead : {E P : Type 0} → Known E P → Reading E P → List ℕ → Extent → ℕ → Kept E → Result Bool Refusal → Kept E → Type 0
+abbrev pub PlaceRead : {E P : Type 0} → Known E P → Reading E P → List ℕ → Extent → ℕ → Gathered E → Result Bool Refusal → Gathered E → Type 0
 PlaceRead k r seen extent i old (Ok true) new = (is_open seen extent i ≡ true) × (ReadSoFar k r seen extent i old → ReadSoFar k r seen extent (i + 1) new)
 PlaceRead k r seen extent i old (Ok false) new = (is_open seen extent i ≡ false) × (new ≡ old)
 PlaceRead k r seen extent i old (Err Damaged) new =
@@ -59,23 +68,24 @@ PlaceRead k r seen extent i old (Err Damaged) new =
 PlaceRead k r seen extent i old (Err refusal) new = Unit {0}
 
 -- The bodies behind an extent's leading open gates are read; there is one at least, and behind the last the gate is closed.
-pub record ReadWhole {E P : Type 0} (k : Known E P) (r : Reading E P) (seen : List ℕ) (extent : Extent) (n : ℕ) (s : Kept E) : Type 0 where
+pub record ReadWhole {E P : Type 0} (k : Known E P) (r : Reading E P) (seen : List ℕ) (extent : Extent) (n : ℕ) (s : Gathered E) : Type 0 where
   pub some : 1 ≤ n
   pub few : n ≤ PLACES
   pub closed : n < PLACES → is_open seen extent n ≡ false
   pub read : ReadSoFar k r seen extent n s
 
-abbrev pub ExtentRead : {E P : Type 0} → Known E P → Reading E P → List ℕ → Extent → Kept E → Result ℕ Refusal → Kept E → Type 0
+abbrev pub ExtentRead : {E P : Type 0} → Known E P → Reading E P → List ℕ → Extent → Gathered E → Result ℕ Refusal → Gathered E → Type 0
 ExtentRead k r seen extent old (Ok n) new = ReadSoFar k r seen extent 0 old → ReadWhole k r seen extent n new
 ExtentRead k r seen extent old (Err Damaged) new = ReadSoFar k r seen extent 0 old → AreUndamaged k r seen extent (open_run seen extent 0 PLACES) → ⊥
 ExtentRead k r seen extent old (Err refusal) new = Unit {0}
 
--- The log of an image is found: it is undamaged, and what is kept is what its records tell.
+-- The log of an image is found: it is undamaged, what is kept is what its records tell, and of each page what it gives.
 pub record IsFound {E P : Type 0} (k : Known E P) (r : Reading E P) (seen : List ℕ) (found : FoundLog E) : Type 0 where
   pub extent : found.extent ≡ selected_of seen
   pub bodies : found.bodies ≡ opened seen
   pub log : HasUndamaged k r seen
   pub kept : IsKept k (records_of log.bodies) found.analysis
+  pub given : IsGiven r found.given (records_of log.bodies)
 
 -- it is found; or it is damaged
 abbrev pub LogRead : {E P : Type 0} → Known E P → Reading E P → List ℕ → Result (FoundLog E) Refusal → Type 0

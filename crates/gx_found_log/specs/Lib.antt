@@ -1,3 +1,4 @@
+pub mod Given
 pub mod Parts
 pub mod Told
 pub mod Broken

@@ -9,12 +9,12 @@ use Rattle.gx_recovery.specs.Records.{Record}
 use Rattle.gx_recovery.specs.Damage.{records_of, is_undamaged}
 use Rattle.gx_durable.specs.Spelled.{Reading}
 use Rattle.gx_durable.specs.Bodies.{AreBodies}
-use Rattle.gx_analysis.specs.Kept.{Kept}
 use Rattle.gx_analysis.specs.declared.rule.LogRule.{LogRule}
 use Rattle.gx_analysis.specs.declared.rule.LogRule.TheVariants.{FirstGate, BodySize}
 use Rattle.gx_found_log.specs.declared.fault.LogDamage.{LogDamage}
 use Rattle.gx_found_log.specs.declared.fault.LogFault.{LogFault}
 use Rattle.gx_found_log.specs.declared.fault.LogFault.TheVariants.{Memory, Device, Damaged}
+use Rattle.gx_found_log.specs.declared.gathered.Gathered.{Gathered}
 use Rattle.gx_found_log.specs.Broken.{IsBrokenAt}
 use Rattle.gx_found_log.specs.Found.{part_at, ReadSoFar}
 
@@ -31,7 +31,7 @@ abbrev pub BodyBreaks : {E P : Type 0} → Known E P → Reading E P → List �
 BodyBreaks k r seen extent i at rule = ((rule ≡ BodySize) × (at ≡ 0) × (IsSize (size_in (body_of seen extent i)) → ⊥)) ⊎ IsBrokenIn k r seen extent i at rule
 
 -- what is told of a place of an extent, of which all before it are read
-abbrev pub PlaceShows : {E P : Type 0} → Known E P → Reading E P → List ℕ → Extent → ℕ → Kept E → LogFault → Type 0
+abbrev pub PlaceShows : {E P : Type 0} → Known E P → Reading E P → List ℕ → Extent → ℕ → Gathered E → LogFault → Type 0
 PlaceShows k r seen extent i old Memory = Unit {0}
 PlaceShows k r seen extent i old Device = Unit {0}
 PlaceShows k r seen extent i old (Damaged damage) =

@@ -1,17 +1,17 @@
 //! The log of a device, read back from the bodies behind its leading open gates.
 ghost use Rattle.std.specs.Prelude.{◌≡◌, ◌+◌, ◌*◌, ◌<◌, ◌≤◌, ◌⊎◌, true, false};
-ghost use Rattle.std.specs.Prelude.{length, take, drop, IfOk, IfErr, [], Err};
+ghost use Rattle.std.specs.Prelude.{length, take, drop, IfOk, IfErr, Err};
 ghost use Rattle.gx_record.specs.declared.sizes.TheConstants.{END_RECORD};
 ghost use Rattle.gx_disk.specs.declared.layout.TheConstants.{PAGES_AT};
 ghost use Rattle.gx_disk.specs.Looks.{Looks};
 ghost use Rattle.gx_recovery.specs.Known.{Limits};
-ghost use Rattle.gx_recovery.specs.Analysis.{unread};
-ghost use Rattle.gx_found_log.specs.Found.{PlaceRead, ExtentRead, LogRead, ReadsAlone};
+ghost use Rattle.gx_found_log.specs.Found.{IsUnread, PlaceRead, ExtentRead, LogRead, ReadsAlone};
 ghost use Rattle.gx_found_log.specs.Found as found;
+ghost use Rattle.gx_found_log.specs.declared.given.TheConstants.{MOST_IN_BODY};
 ghost use Rattle.gx_found_log.specs.Faults.{refusal_of, refusing};
 ghost use Rattle.gx_found_log.specs.Shown.{PlaceShows, ExtentShows, LogShows};
 
-use crate::{LogDamage, LogFault, Part, Readable, on_body};
+use crate::{Gathered, Given, LogDamage, LogFault, Part, Readable, on_body};
 use gx_analysis::{Analysis, LogRule};
 use gx_disk::SectorDisk;
 use gx_geom::Refusal;
@@ -27,6 +27,8 @@ pub struct FoundLog<E> {
     pub bodies: u8,
     /// What the records of their bodies tell.
     pub analysis: Analysis<E>,
+    /// The pages that they give.
+    pub given: Given,
 }
 
 /// The part that the body of a place starts at.
@@ -68,12 +70,12 @@ fn body_fault(refusal: Refusal, extent: Extent, i: u8) -> LogFault
     }
 }
 
-/// Reads the body of a place and tells it. Answers whether its gate is open.
+/// Reads the body of a place and gathers it. Answers whether its gate is open.
 fn on_place<M: Readable, D: SectorDisk>(
     disk: &mut D,
     extent: Extent,
     i: u8,
-    analysis: &mut Analysis<M::Entry>,
+    gathered: &mut Gathered<M::Entry>,
     body: &mut [u8],
 ) -> Result<bool, LogFault>
 where
@@ -81,18 +83,20 @@ where
     requires place { i < PLACES }
     requires room { length body.old ≡ BODY_SIZE }
     requires device { PAGES_AT ≤ (D.state disk.old).sectors }
-    requires closed { END_RECORD * length analysis.old.closed ≤ BODY_ROOM * i }
+    requires closed { END_RECORD * length gathered.old.analysis.closed ≤ BODY_ROOM * i }
+    requires given { length gathered.old.given ≤ MOST_IN_BODY * i }
     ensures room { length body.new ≡ length body.old }
     ensures reads { ReadsAlone (D.state disk.old) (D.state disk.new) (refusing result) }
     ensures looks { (D.state disk.old).honest ≡ true → Looks (D.state disk.old) (D.state disk.new) }
-    ensures closed { IfOk result (λ is. END_RECORD * length analysis.new.closed ≤ BODY_ROOM * (i + 1)) }
+    ensures closed { IfOk result (λ is. END_RECORD * length gathered.new.analysis.closed ≤ BODY_ROOM * (i + 1)) }
+    ensures given { IfOk result (λ is. length gathered.new.given ≤ MOST_IN_BODY * (i + 1)) }
     ensures place { (D.state disk.old).honest ≡ true → (d : Limits) → (M.known d).cmp ≡ M.Entry.Ord.cmp
-        → PlaceRead (M.known d) M.reading (D.state disk.old).seen extent i analysis.old (refusing result) analysis.new }
+        → PlaceRead (M.known d) M.reading (D.state disk.old).seen extent i gathered.old (refusing result) gathered.new }
     ensures shows { (D.state disk.old).honest ≡ true → (d : Limits) → (M.known d).cmp ≡ M.Entry.Ord.cmp
-        → IfErr result (λ fault. PlaceShows (M.known d) M.reading (D.state disk.old).seen extent i analysis.old fault) }
+        → IfErr result (λ fault. PlaceShows (M.known d) M.reading (D.state disk.old).seen extent i gathered.old fault) }
 {
     match read_extent(disk, extent, i, body) {
-        Ok(Some(size)) => match on_body::<M>(part_at(i), analysis, records(body, size)) {
+        Ok(Some(size)) => match on_body::<M>(part_at(i), gathered, records(body, size)) {
             Ok(()) => Ok(true),
             Err(misfit) => Err(LogFault::Damaged(LogDamage {
                 extent,
@@ -129,29 +133,30 @@ fn some_bodies(extent: Extent, i: u8) -> Result<u8, LogFault>
     }
 }
 
-/// Reads the bodies behind an extent's leading open gates and tells them. Answers how many there are.
+/// Reads the bodies behind an extent's leading open gates and gathers them. Answers how many there are.
 fn on_extent<M: Readable, D: SectorDisk>(
     disk: &mut D,
     extent: Extent,
-    analysis: &mut Analysis<M::Entry>,
+    gathered: &mut Gathered<M::Entry>,
     body: &mut [u8],
 ) -> Result<u8, LogFault>
 where
     M::Entry: Copy + Ord,
     requires room { length body.old ≡ BODY_SIZE }
     requires device { PAGES_AT ≤ (D.state disk.old).sectors }
-    requires closed { length analysis.old.closed ≡ 0 }
+    requires closed { length gathered.old.analysis.closed ≡ 0 }
+    requires given { length gathered.old.given ≡ 0 }
     ensures reads { ReadsAlone (D.state disk.old) (D.state disk.new) (refusing result) }
     ensures looks { (D.state disk.old).honest ≡ true → Looks (D.state disk.old) (D.state disk.new) }
     ensures extent { (D.state disk.old).honest ≡ true → (d : Limits) → (M.known d).cmp ≡ M.Entry.Ord.cmp
-        → ExtentRead (M.known d) M.reading (D.state disk.old).seen extent analysis.old (refusing result) analysis.new }
+        → ExtentRead (M.known d) M.reading (D.state disk.old).seen extent gathered.old (refusing result) gathered.new }
     ensures shows { (D.state disk.old).honest ≡ true → (d : Limits) → (M.known d).cmp ≡ M.Entry.Ord.cmp
-        → found.ReadSoFar (M.known d) M.reading (D.state disk.old).seen extent 0 analysis.old
+        → found.ReadSoFar (M.known d) M.reading (D.state disk.old).seen extent 0 gathered.old
         → IfErr result (λ fault. ExtentShows (M.known d) M.reading (D.state disk.old).seen extent fault) }
 {
     let mut i: u8 = 0;
     while i < PLACES {
-        match on_place::<M, D>(disk, extent, i, analysis, body) {
+        match on_place::<M, D>(disk, extent, i, gathered, body) {
             Ok(true) => i += 1,
             Ok(false) => return some_bodies(extent, i),
             Err(fault) => return Err(fault),
@@ -160,32 +165,33 @@ where
     Ok(i)
 }
 
-/// Reads the log of a device, with nothing told as yet.
+/// Reads the log of a device, with nothing gathered as yet.
 fn read_selected<M: Readable, D: SectorDisk>(
     disk: &mut D,
-    mut analysis: Analysis<M::Entry>,
+    mut gathered: Gathered<M::Entry>,
     body: &mut [u8],
 ) -> Result<FoundLog<M::Entry>, LogFault>
 where
     M::Entry: Copy + Ord,
     requires room { length body.old ≡ BODY_SIZE }
     requires device { PAGES_AT ≤ (D.state disk.old).sectors }
-    requires unread { (analysis.told ≡ unread) × (analysis.closed ≡ []) }
+    requires unread { IsUnread gathered }
     ensures reads { ReadsAlone (D.state disk.old) (D.state disk.new) (refusing result) }
     ensures looks { (D.state disk.old).honest ≡ true → Looks (D.state disk.old) (D.state disk.new) }
     ensures log { (D.state disk.old).honest ≡ true → (d : Limits) → (M.known d).cmp ≡ M.Entry.Ord.cmp
-        → (M.known d).pages ≡ analysis.pages
+        → (M.known d).pages ≡ gathered.analysis.pages
         → LogRead (M.known d) M.reading (D.state disk.old).seen (refusing result) }
     ensures shows { (D.state disk.old).honest ≡ true → (d : Limits) → (M.known d).cmp ≡ M.Entry.Ord.cmp
-        → (M.known d).pages ≡ analysis.pages
+        → (M.known d).pages ≡ gathered.analysis.pages
         → IfErr result (λ fault. LogShows (M.known d) M.reading (D.state disk.old).seen fault) }
 {
     match selected(disk) {
-        Ok(extent) => match on_extent::<M, D>(disk, extent, &mut analysis, body) {
+        Ok(extent) => match on_extent::<M, D>(disk, extent, &mut gathered, body) {
             Ok(bodies) => Ok(FoundLog {
                 extent,
                 bodies,
-                analysis,
+                analysis: gathered.analysis,
+                given: gathered.given,
             }),
             Err(fault) => Err(fault),
         },
@@ -220,8 +226,8 @@ where
         → IfErr result (λ fault. LogShows (M.known d) M.reading (D.state disk.old).seen fault) }
 {
     match room(alloc) {
-        Ok(mut body) => match Analysis::new(alloc, pages) {
-            Ok(analysis) => read_selected::<M, D>(disk, analysis, &mut body),
+        Ok(mut body) => match Gathered::new(alloc, pages) {
+            Ok(gathered) => read_selected::<M, D>(disk, gathered, &mut body),
             Err(_) => Err(LogFault::Memory),
         },
         Err(_) => Err(LogFault::Memory),
@@ -231,7 +237,8 @@ where
 /// Reads the log of a device of so many pages, the bodies behind the leading open gates of the selected extent; no gate
 /// behind the first closed one is read. `Damaged` exactly where these bodies aren't whole ones whose records are an
 /// undamaged log, of entries of the class. Refused too by the device's fault (`Device`) and for want of memory
-/// (`Memory`, before the first read). It makes no write. [`examine_log`] tells of a damaged log what is wrong with it.
+/// (`Memory`, before the first read, which takes 1.9 MB and 32 KiB more while it reads). It makes no write. Each body is
+/// read once, for what it tells and for the pages that it gives. [`examine_log`] tells of a damaged log what is wrong.
 pub fn read_log<M: Readable, D: SectorDisk>(
     alloc: Global,
     disk: &mut D,

@@ -1,9 +1,8 @@
 -- Pages that are laid, one after another.
 use Rattle.std.proofs.Common.{◌≡◌, ◌∙◌, sym, ap, refl, subst, ⊎_elim, inl, inr, ℕ, zero, suc, ◌+◌, ◌*◌, ◌<◌, ◌≤◌, ◌==◌, Bool, true, false, List, [], ◌∷◌, length, drop, get_or, drop-cons, add-one, arith, eq-eqb}
-use Rattle.std.specs.Prelude.{Option, None, Some, unwrap_or, if◌then◌else◌, Result, Ok, Err, IfOk, OnOk}
+use Rattle.std.specs.Prelude.{Option, None, Some, unwrap_or, if◌then◌else◌, Result, Ok, Err, OnOk}
 use Rattle.std.proofs.lemmas.Bool.{eqb-true, cases_lt}
 use Rattle.gx_page.specs.declared.block.TheConstants.{PAGE_SIZE}
-use Rattle.gx_geom.specs.declared.refusal.Refusal.{Refusal}
 use Rattle.gx_disk.specs.declared.layout.TheConstants.{PAGE_SECTORS}
 use Rattle.gx_disk.specs.Device.{Device, MayLeave, Writes, Syncs, Touches, Elapses}
 use Rattle.gx_disk.specs.Moments.{Leaves}
@@ -15,7 +14,7 @@ use Rattle.gx_recovery.specs.Damage.{is_page}
 use Rattle.gx_recovery.proofs.Tests.{and_first, and_second}
 use Rattle.gx_durable.specs.Area.{HasPages}
 use Rattle.gx_durable.proofs.Areas.{device_page}
-use Rattle.gx_redo.specs.Kept.{Imaged, image_in, AreOnce, are_on_device}
+use Rattle.gx_found_log.specs.Given.{Imaged, image_in, AreOnce, are_on_device}
 use Rattle.gx_redo.specs.Laid.{ArePages, IsImageBeside, Lays, IsBeside, AreLaid}
 
 -- the pages from place i on begin with the one there
@@ -117,11 +116,6 @@ pages_lie pages sectors has (x ∷ xs) all = (
   device_page pages sectors x.0 has (and_first (is_page pages x.0) (are_on_device pages xs) all),
   pages_lie pages sectors has xs (and_second (is_page pages x.0) (are_on_device pages xs) all),
 )
-
-pub all_lie : (pages sectors : ℕ) → HasPages pages sectors → (given : List Imaged) (result : Result (List Imaged) Refusal)
-    → IfOk result (λ read. (read ≡ given) × (are_on_device pages given ≡ true)) → IfOk result (λ read. ArePages sectors read)
-all_lie pages sectors has given (Ok read) ok = subst (λ (xs : List Imaged). ArePages sectors xs) (sym ok.0) (pages_lie pages sectors has given ok.1)
-all_lie pages sectors has given (Err why) ok = tt
 
 -- an image of a device after calls that lay pages
 image_after : (pages : List Imaged) (old new : Device) → length new.seen ≡ length old.seen → ((s : ℕ) → IsBeside pages s → sector_of new.seen s ≡ sector_of old.seen s)

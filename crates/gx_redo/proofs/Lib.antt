@@ -1,10 +1,5 @@
-pub mod Placing
-pub mod Keeping
-pub mod Spelling
-pub mod Extents
 pub mod Laid
-pub mod Giving
-pub mod Reaching
+pub mod OnDevice
 pub mod Redone
 pub mod Found
 pub mod GoingOn

@@ -38,11 +38,11 @@ use Rattle.gx_durable.specs.Area.{area_of, HasPages}
 use Rattle.gx_durable.specs.Standing.{Stands}
 use Rattle.gx_durable.proofs.Areas.{device_page, page_same}
 use Rattle.gx_durable.proofs.Opening.{found_up}
-use Rattle.gx_redo.specs.Kept.{Imaged, image_in}
+use Rattle.gx_found_log.specs.Given.{Imaged, image_in, IsGiven}
 use Rattle.gx_redo.specs.Laid.{ArePages, HasAsRead, IsBeside, IsImageBeside, AreLaid, Lays, Spares}
-use Rattle.gx_redo.specs.Redone.{IsGiven, IsFoundOn, HasSamePages, IsRedone, IsUngiven, Redone}
+use Rattle.gx_redo.specs.Redone.{IsFoundOn, HasSamePages, IsRedone, IsUngiven, Redone}
 use Rattle.gx_redo.proofs.Laid.{apart_pages}
-use Rattle.gx_redo.proofs.Reaching.{beyond_ungiven}
+use Rattle.gx_redo.proofs.OnDevice.{beyond_ungiven}
 
 -- a page that is kept first, or later
 first_kept : (x : Imaged) (xs : List Imaged) → image_in x.0 (x ∷ xs) ≢ None
@@ -176,7 +176,7 @@ module _ {E P : Type 0} (k : Known E P) (r : Reading E P) (kept : List Imaged) (
       ap (λ (bytes : List ℕ). r.content bytes) (laid p (device_page k.pages d.sectors p is.pages here)) ∙ mapped_or r.content (image_in p kept) (bytes_of d.seen p)
       ∙ ap (λ (o : Option P). unwrap_or o (r.content (bytes_of d.seen p))) (gives_so p)
   laid_by e p false out laid =
-      ap (λ (o : Option P). unwrap_or o r.no_page) (sym (none_given log p (beyond_ungiven k p out bodies is.undamaged)))
+      ap (λ (o : Option P). unwrap_or o r.no_page) (sym (beyond_ungiven k l log is_log p out))
 
   laid_area : (e : Device) → AreLaid kept d.sectors d.seen e.seen → (p : ℕ) → area_of r k.pages e.seen p ≡ redone (area_of r k.pages d.seen) log p
   unfolding area_of

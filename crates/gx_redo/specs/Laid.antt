@@ -5,7 +5,7 @@ use Rattle.gx_disk.specs.Device.{Device}
 use Rattle.gx_disk.specs.Moments.{Leaves}
 use Rattle.gx_disk.specs.Sectors.{sector_of, IsOutside}
 use Rattle.gx_pool.specs.Area.{IsPage, bytes_of, first_of}
-use Rattle.gx_redo.specs.Kept.{Imaged, image_in}
+use Rattle.gx_found_log.specs.Given.{Imaged, image_in}
 
 -- the device has each page
 abbrev pub ArePages : ℕ → List Imaged → Type 0

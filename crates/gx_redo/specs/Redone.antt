@@ -1,17 +1,14 @@
 -- What a log's redo leaves of its device, said of the theory of logs.
-use Rattle.std.specs.Prelude.{◌≡◌, ◌≢◌, ℕ, ◌<◌, true, None, List, [], Result, OnOk}
-use Rattle.std.specs.Option.{option_map}
+use Rattle.std.specs.Prelude.{◌≡◌, ◌≢◌, ℕ, ◌<◌, true, None, List, Result, OnOk}
 use Rattle.gx_disk.specs.declared.layout.TheConstants.{PAGE_SECTORS}
 use Rattle.gx_disk.specs.Device.{Device, IsSettled}
 use Rattle.gx_disk.specs.Moments.{Leaves}
 use Rattle.gx_disk.specs.Sectors.{IsOutside}
 use Rattle.gx_glog.specs.declared.extent.TheConstants.{PLACES}
-use Rattle.gx_glog.specs.declared.extent.Extent.{Extent}
 use Rattle.gx_glog.specs.Layout.{selected_of, body_of, size_in, open_run}
 use Rattle.gx_glog.specs.Reading.{IsSize}
-use Rattle.gx_glog.specs.Cuts.{bodies_in, open_bodies}
+use Rattle.gx_glog.specs.Cuts.{open_bodies}
 use Rattle.gx_pool.specs.Area.{first_of}
-use Rattle.gx_record.specs.Rec.{Rec}
 use Rattle.gx_recovery.specs.Known.{Known, IsLawful}
 use Rattle.gx_recovery.specs.Records.{Record}
 use Rattle.gx_recovery.specs.Redo.{redone}
@@ -26,25 +23,14 @@ use Rattle.gx_durable.specs.Fitting.{AreGood, HasSizes}
 use Rattle.gx_durable.specs.Head.{head_in}
 use Rattle.gx_durable.specs.Standing.{Stands}
 use Rattle.gx_durable.specs.Opening.{UpToTurn, found_glog}
-use Rattle.gx_redo.specs.Kept.{Imaged, image_in, with_all, all_images, are_on_device}
+use Rattle.gx_found_log.specs.declared.found.FoundLog.{FoundLog}
+use Rattle.gx_found_log.specs.Found.{IsFound}
+use Rattle.gx_found_log.specs.Given.{Imaged, are_on_device, IsGiven}
 use Rattle.gx_redo.specs.Laid.{Spares}
-use Rattle.gx_redo.specs.Told.{HasRecords}
 
--- What is kept of each page is what the log gives of it; of a page that it doesn't give nothing is kept.
-abbrev pub IsGiven : {E P : Type 0} → Reading E P → List Imaged → List (Record E P) → Type 0
-IsGiven r kept log = (p : ℕ) → option_map r.content (image_in p kept) ≡ given p log
-
--- The bodies of an undamaged log are records as their bytes spell them, and with their images each page is kept as the log gives it;
--- the device has each of these.
-pub record AreGiven {E P : Type 0} (k : Known E P) (r : Reading E P) (seen : List ℕ) (extent : Extent) (n : ℕ) (bodies : List (List (Record E P))) : Type 0 where
-  pub spelled : List Rec
-  pub has : HasRecords r.key seen extent n spelled
-  pub given : IsGiven r (with_all (all_images spelled) []) (records_of bodies)
-  pub on_device : are_on_device k.pages (with_all (all_images spelled) []) ≡ true
-
-abbrev pub BodiesGive : {E P : Type 0} → Known E P → Reading E P → Type 0
-BodiesGive {E} {P} k r = (seen : List ℕ) (extent : Extent) (n : ℕ) (bodies : List (List (Record E P))) → AreBodies r (bodies_in seen extent n) bodies → is_undamaged k bodies ≡ true
-    → AreGiven k r seen extent n bodies
+-- Of a log that was found, each page that it gives is the device's.
+abbrev pub FoundIsOnDevice : {E P : Type 0} → Known E P → Reading E P → Type 0
+FoundIsOnDevice {E} {P} k r = IsLawful k → (seen : List ℕ) (log : FoundLog E) → IsFound k r seen log → are_on_device k.pages log.given ≡ true
 
 -- A log is found on a settled device, undamaged.
 pub record IsFoundOn {E P : Type 0} (k : Known E P) (r : Reading E P) (d : Device) (bodies : List (List (Record E P))) : Type 0 where

@@ -4,11 +4,11 @@ ghost use Rattle.gx_page.specs.declared.block.TheConstants.{PAGE_SIZE};
 ghost use Rattle.gx_disk.specs.Device.{Counts, Writes, Syncs, SameDevice};
 ghost use Rattle.gx_found_log.specs.Found.{FaultsTold};
 ghost use Rattle.gx_pool.specs.Area.{IsPage, first_of};
-ghost use Rattle.gx_redo.specs.Kept.{AreOnce};
+ghost use Rattle.gx_found_log.specs.Given.{AreOnce};
 ghost use Rattle.gx_redo.specs.Laid.{ArePages, Lays};
 
-use crate::imaged::Imaged;
 use gx_disk::{PAGE_SECTORS, PAGES_AT, SectorDisk};
+use gx_found_log::Imaged;
 use gx_geom::Refusal;
 
 /// Writes a page.

@@ -1,16 +1,10 @@
-//! The pages that a log gives, and their redo: the last image of each is laid on its page.
+//! The redo of a log: the last image that it has of each page is laid on that page.
 #![tactic(auto)]
 
-mod body;
-mod given;
-mod imaged;
 pub mod laws;
 mod lay;
-mod read;
 mod redoing;
 mod restart;
 
-pub use given::{Given, MOST_GIVEN};
-pub use read::read_given;
 pub use redoing::redo;
 pub use restart::redo_log;

@@ -6,10 +6,10 @@ ghost use Rattle.gx_recovery.specs.Known.{Limits};
 ghost use Rattle.gx_redo.specs.Laid.{ArePages, Lays};
 ghost use Rattle.gx_redo.specs.Redone.{Redoes};
 
-use crate::Given;
 use crate::lay::{lay, settle};
 use gx_disk::SectorDisk;
 use gx_durable::Spelled;
+use gx_found_log::Given;
 use gx_geom::Refusal;
 
 /// Writes all pages that are kept, and settles them.

@@ -1,7 +1,7 @@
 use Rattle.std.proofs.Common.{◌∙◌, ◌+◌, ◌∷◌, List, ℕ, arith, drop, sym, subst}
 use Rattle.std.specs.Prelude.{Ok, Err}
 use Rattle.gx_geom.specs.declared.refusal.Refusal.{Refusal}
-use Rattle.gx_redo.specs.Kept.{Imaged, AreOnce}
+use Rattle.gx_found_log.specs.Given.{Imaged, AreOnce}
 use Rattle.gx_redo.specs.Laid.{ArePages, Lays}
 use Rattle.gx_redo.proofs.Laid.{cut_at, none_left, lays_none, lays_failed, lays_first}
 use Rattle.gx_redo.proofs.lay.lay.Goals as goal

@@ -1,7 +1,7 @@
 use Rattle.std.proofs.Common.{◌≡◌, ◌+◌, true, drop}
 use Rattle.std.specs.Prelude.{Result}
 use Rattle.gx_geom.specs.declared.refusal.Refusal.{Refusal}
-use Rattle.gx_redo.specs.Kept.{AreOnce}
+use Rattle.gx_found_log.specs.Given.{AreOnce}
 use Rattle.gx_redo.specs.Laid.{ArePages, Lays}
 use Rattle.gx_redo.proofs.lay.lay.Given as goal
 

@@ -1,6 +1,6 @@
 use Rattle.std.proofs.Common.{◌∙◌, List, subst}
 use Rattle.gx_geom.specs.declared.refusal.Refusal.{Refusal}
-use Rattle.gx_redo.specs.Kept.{Imaged}
+use Rattle.gx_found_log.specs.Given.{Imaged}
 use Rattle.gx_redo.specs.Laid.{Lays}
 use Rattle.gx_redo.proofs.Laid.{lays_synced}
 use Rattle.gx_redo.proofs.redoing.lay_all.Goals as goal

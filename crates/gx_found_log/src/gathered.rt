@@ -1,0 +1,65 @@
+//! What is gathered of a log while its records are read, each told to an analysis and to the table of images.
+ghost use Rattle.std.specs.Prelude.{◌≡◌, ◌+◌, ◌≤◌, [], length, IfOk, IfErr};
+ghost use Rattle.gx_record.specs.Format.{IsRecord};
+ghost use Rattle.gx_record.specs.Seen.{rec_of};
+ghost use Rattle.gx_recovery.specs.Analysis.{unread};
+ghost use Rattle.gx_recovery.specs.Known.{Limits};
+ghost use Rattle.gx_analysis.specs.Broken.{refused};
+ghost use Rattle.gx_analysis.specs.declared.closed.TheConstants.{CLOSINGS};
+ghost use Rattle.gx_found_log.specs.declared.given.TheConstants.{MOST_GIVEN};
+ghost use Rattle.gx_found_log.specs.Broken.{RecordBreaks};
+ghost use Rattle.gx_found_log.specs.Given.{images_of};
+ghost use Rattle.gx_found_log.specs.Told.{closings, RecordGathered};
+
+use crate::images::keep_images;
+use crate::record::on_record;
+use crate::{Given, Part, Readable};
+use gx_analysis::{Analysis, LogRule};
+use gx_geom::Refusal;
+use gx_record::Record;
+use std::alloc::Global;
+
+/// What the records of a log tell so far, and the pages that they give.
+#[derive(Drop)]
+pub struct Gathered<E> {
+    pub(crate) analysis: Analysis<E>,
+    pub(crate) given: Given,
+}
+
+impl<E: Copy + Ord> Gathered<E> {
+    /// Of no record as yet, for a device of so many pages. Refused where memory is (`Memory`).
+    pub(crate) fn new(alloc: Global, pages: u32) -> Result<Self, Refusal>
+        ensures analysis { IfOk result (λ g. g.analysis ≡ record { told = unread; closed = []; pages = pages }) }
+        ensures given { IfOk result (λ g. g.given ≡ []) }
+        ensures refusal { IfErr result (λ refusal. refusal ≡ Refusal.Memory) }
+    {
+        let analysis = Analysis::new(alloc, pages)?;
+        let given = Given::new(alloc)?;
+        Ok(Gathered { analysis, given })
+    }
+}
+
+/// Gathers a record that stands in this part of a log.
+pub(crate) fn gather<M: Readable>(
+    part: Part,
+    gathered: &mut Gathered<M::Entry>,
+    logged: &Record<'_>,
+) -> Result<(), LogRule>
+where
+    M::Entry: Copy + Ord,
+    requires is_record { IsRecord M.reading.key (rec_of logged.now) }
+    requires room { length gathered.old.analysis.closed + closings (rec_of logged.now) ≤ CLOSINGS }
+    requires places { length gathered.old.given + length (images_of (rec_of logged.now)) ≤ MOST_GIVEN }
+    ensures closed { length gathered.new.analysis.closed
+        ≤ length gathered.old.analysis.closed + closings (rec_of logged.now) }
+    ensures given { length gathered.new.given ≤ length gathered.old.given + length (images_of (rec_of logged.now)) }
+    ensures told { (d : Limits) → (M.known d).cmp ≡ M.Entry.Ord.cmp
+        → RecordGathered part (M.known d) M.reading (rec_of logged.now) gathered.old (refused result) gathered.new }
+    ensures broken { (d : Limits) → (M.known d).cmp ≡ M.Entry.Ord.cmp
+        → IfErr result (λ rule. RecordBreaks part (M.known d) M.reading (rec_of logged.now)
+        gathered.old.analysis rule) }
+{
+    on_record::<M>(part, &mut gathered.analysis, logged)?;
+    keep_images(&mut gathered.given, logged);
+    Ok(())
+}
