@@ -1,0 +1,15 @@
+use Rattle.std.proofs.Common.{◌≡◌, [], length, get_or, true, false, ap, sym, ◌∙◌, arith}
+use Rattle.std.specs.List.{list_all}
+use Rattle.std.proofs.lemmas.Grind.{common_steps}
+use Rattle.gx_node.specs.Reading.{format_of}
+use Rattle.gx_node.specs.Small.{has_marked}
+use Rattle.gx_node.proofs.Slots.{leaf_is_keyed}
+use Rattle.gx_node.proofs.SmallItems.{no_slot, fewer_left, slot_fails, slot_passes}
+use Rattle.gx_node.proofs.small.have_marked.Goals as goal
+
+pub mark_of-requires : goal.mark_of-requires
+mark_of-requires g c =
+    ap length c.get.ensures.item ∙ (leaf_is_keyed (format_of g.K.KeyClass) c.args.page.now c.requires c.from-slot.result [] (omega arith)).long
+
+pub loop-rest-smaller : goal.loop-rest-smaller
+loop-rest-smaller g c = fewer_left c.loop-rest.rest.now c.in-len2-up.len_at_least
