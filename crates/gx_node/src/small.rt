@@ -178,6 +178,16 @@ fn set_sides(slots: &[u8], sides: &mut [bool])
     }
 }
 
+/// Takes the items of the slots that the bytes spell out of a page.
+fn take_out(page: &mut Page, slots: &[u8])
+    ensures { page.new ≡ with_items page.old (slots_made (slots_in slots.now) page.old.items) }
+{
+    let mut sides = [false; MAX_ITEMS];
+    let count = page.count();
+    set_sides(slots, &mut sides[..count]);
+    keep_staying(page, &sides[..count]);
+}
+
 /// Takes the pairs in some slots out of a leaf. The slots are spelled in two bytes each, the greater first, and a last
 /// byte alone isn't read. Each is the slot that a pair has before any goes, so their order makes no difference.
 /// False, and the page stays as it was, where the page is no leaf of the class, doesn't have one of the slots, or has
@@ -190,9 +200,6 @@ pub fn remove_slots<K: KeyClass>(page: &mut Page, slots: &[u8]) -> bool
     if !is_leaf::<K>(page) || !have_marked::<K>(page, slots) {
         return false;
     }
-    let mut sides = [false; MAX_ITEMS];
-    let count = page.count();
-    set_sides(slots, &mut sides[..count]);
-    keep_staying(page, &sides[..count]);
+    take_out(page, slots);
     true
 }

@@ -1,7 +1,6 @@
-use Rattle.std.proofs.Common.{◌≡◌, [], get_or, false, ap, sym, ◌∙◌, arith}
+use Rattle.std.proofs.Common.{sym, arith}
 use Rattle.std.proofs.lemmas.Grind.{common_steps}
 use Rattle.gx_node.specs.Reading.{format_of}
-use Rattle.gx_node.specs.Small.{is_bound}
 use Rattle.gx_node.proofs.SmallItems.{all_are_bounds, one_is_no_bound}
 use Rattle.gx_node.proofs.small.are_bounds.Goals as goal
 

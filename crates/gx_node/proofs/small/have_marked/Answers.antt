@@ -1,10 +1,7 @@
-use Rattle.std.proofs.Common.{◌≡◌, [], length, get_or, true, false, ap, sym, ◌∙◌, arith}
-use Rattle.std.specs.List.{list_all}
-use Rattle.std.proofs.lemmas.Grind.{common_steps}
+use Rattle.std.proofs.Common.{[], length, ap, ◌∙◌, arith}
 use Rattle.gx_node.specs.Reading.{format_of}
-use Rattle.gx_node.specs.Small.{has_marked}
 use Rattle.gx_node.proofs.Slots.{leaf_is_keyed}
-use Rattle.gx_node.proofs.SmallItems.{no_slot, fewer_left, slot_fails, slot_passes}
+use Rattle.gx_node.proofs.SmallItems.{fewer_left}
 use Rattle.gx_node.proofs.small.have_marked.Goals as goal
 
 pub mark_of-requires : goal.mark_of-requires

@@ -1,4 +1,4 @@
-use Rattle.std.proofs.Common.{◌≡◌, [], length, get_or, true, ap, sym, ◌∙◌, arith}
+use Rattle.std.proofs.Common.{[], length, ap, ◌∙◌, arith}
 use Rattle.std.proofs.lemmas.Grind.{common_steps}
 use Rattle.gx_node.specs.Reading.{format_of}
 use Rattle.gx_node.specs.Small.{is_item_of}
