@@ -36,7 +36,11 @@ where
         | Record::Write { .. }
         | Record::Commit { .. }
         | Record::End { .. }
-        | Record::Note { .. } => Err(LogRule::Misplaced),
+        | Record::Note { .. }
+        | Record::Bit { .. }
+        | Record::Add { .. }
+        | Record::Widen { .. }
+        | Record::Sweep { .. } => Err(LogRule::Misplaced),
     }
 }
 
@@ -69,6 +73,10 @@ where
         | Record::Write { .. }
         | Record::Commit { .. }
         | Record::End { .. }
-        | Record::Counters { .. } => Err(LogRule::Misplaced),
+        | Record::Counters { .. }
+        | Record::Bit { .. }
+        | Record::Add { .. }
+        | Record::Widen { .. }
+        | Record::Sweep { .. } => Err(LogRule::Misplaced),
     }
 }
