@@ -36,11 +36,11 @@ where
         | Record::Write { .. }
         | Record::Commit { .. }
         | Record::End { .. }
-        | Record::Note { .. }
         | Record::Bit { .. }
         | Record::Add { .. }
         | Record::Widen { .. }
-        | Record::Sweep { .. } => Err(LogRule::Misplaced),
+        | Record::Sweep { .. }
+        | Record::Note { .. } => Err(LogRule::Misplaced),
     }
 }
 
@@ -73,10 +73,10 @@ where
         | Record::Write { .. }
         | Record::Commit { .. }
         | Record::End { .. }
-        | Record::Counters { .. }
         | Record::Bit { .. }
         | Record::Add { .. }
         | Record::Widen { .. }
-        | Record::Sweep { .. } => Err(LogRule::Misplaced),
+        | Record::Sweep { .. }
+        | Record::Counters { .. } => Err(LogRule::Misplaced),
     }
 }
