@@ -1,10 +1,9 @@
 -- A small change of a page, made by the page's items.
-use Rattle.std.proofs.Common.{◌≡◌, ℕ, Bool, true, false, List, [], ◌∷◌, refl, sym, ap, ◌∙◌, subst}
+use Rattle.std.proofs.Common.{◌≡◌, ℕ, Bool, true, false, List, [], ◌∷◌, refl, sym, ap, ◌∙◌}
 use Rattle.std.specs.Bool.{OnTrue}
 use Rattle.gx_page.specs.Contents.{Contents}
 use Rattle.gx_page.specs.Edits.{with_items}
 use Rattle.gx_page.specs.Format.{image_of, IsWellFormed}
-use Rattle.gx_page.specs.Reading.{read_of}
 use Rattle.gx_page.proofs.Images.{read-image}
 use Rattle.gx_record.specs.Bytes.{u16_of}
 use Rattle.gx_record.specs.Slots as slots

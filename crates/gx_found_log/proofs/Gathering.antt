@@ -1,9 +1,8 @@
 -- A record told to an analysis, of which what it says of pages is kept, is gathered.
-use Rattle.std.proofs.Common.{◌≡◌, ℕ, ◌==◌, Bool, true, false, refl, sym, ap, ◌∙◌, subst, List, [], ◌∷◌, ◌++◌, Option, None, Some}
+use Rattle.std.proofs.Common.{◌≡◌, ℕ, ◌==◌, true, false, refl, sym, ap, ◌∙◌, subst, List, [], ◌∷◌, ◌++◌, Option, None, Some}
 use Rattle.std.specs.Prelude.{Result, Ok, Err, if◌then◌else◌}
 use Rattle.std.specs.Option.{option_map}
 use Rattle.gx_geom.specs.declared.refusal.Refusal.{Refusal}
-use Rattle.gx_geom.specs.declared.refusal.Refusal.TheVariants.{Damaged}
 use Rattle.gx_record.specs.Rec as rec
 use Rattle.gx_recovery.specs.Known.{Known}
 use Rattle.gx_recovery.specs.Records.{Record, Change}
@@ -16,8 +15,7 @@ use Rattle.gx_analysis.specs.Broken.{refused}
 use Rattle.gx_analysis.specs.declared.rule.LogRule.{LogRule}
 use Rattle.gx_found_log.specs.declared.gathered.Gathered.{Gathered}
 use Rattle.gx_found_log.specs.declared.part.Part.{Part}
-use Rattle.gx_found_log.specs.Given.{Imaged, image_in, with_image, with_all, images_of, IsGiven}
-use Rattle.gx_found_log.specs.Parts.{may_go_on}
+use Rattle.gx_found_log.specs.Given.{Imaged, image_in, IsGiven}
 use Rattle.gx_found_log.specs.Small.{small_of, page_fits, Changes}
 use Rattle.gx_found_log.specs.Told.{RecordTold, IsGathered, KeepsSaid, RecordGathered}
 use Rattle.gx_found_log.proofs.Giving.{gives_more, changed_kept}

@@ -8,7 +8,7 @@ use Rattle.std.specs.declared.cmp.Ordering.{Ordering}
 use Rattle.gx_geom.specs.declared.refusal.Refusal.{Refusal}
 use Rattle.gx_geom.specs.declared.refusal.Refusal.TheVariants.{Damaged}
 use Rattle.gx_record.specs.Rec as rec
-use Rattle.gx_record.specs.Format.{IsImageOf, IsPage, ArePages, IsInRange, IsRecord}
+use Rattle.gx_record.specs.Format.{IsImageOf, ArePages, IsInRange, IsRecord}
 use Rattle.gx_recovery.specs.Known.{Known, IsLawful}
 use Rattle.gx_recovery.specs.Records.{Image, Change, Said, Whole, Small, Record, Pages, Adjust, Write, Commit, End, Counters, Note, Touch}
 use Rattle.gx_recovery.specs.Analysis.{Analysis, analysis}

@@ -1,4 +1,4 @@
-use Rattle.std.proofs.Common.{subst, sym, inl}
+use Rattle.std.proofs.Common.{subst, sym}
 use Rattle.std.specs.Prelude.{Ok}
 use Rattle.gx_record.specs.Seen.{rec_of}
 use Rattle.gx_analysis.specs.Kept.{Kept}
