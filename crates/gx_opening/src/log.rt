@@ -18,7 +18,6 @@ use std::alloc::Global;
 
 // Lays the pages of a log that was found.
 fn lay_found<D: SectorDisk, K: ReadKeys>(
-    alloc: Global,
     disk: &mut D,
     found: FoundLog<Entry<K::Key>>,
     pages: u32,
@@ -34,7 +33,7 @@ fn lay_found<D: SectorDisk, K: ReadKeys>(
     if found.bodies == 0 || found.bodies > PLACES {
         return Err(Refusal::Damaged);
     }
-    match redo_log::<OfClass<K>, D>(alloc, disk, &found, pages) {
+    match redo_log::<OfClass<K>, D>(disk, &found, pages) {
         Ok(()) => Ok(found),
         Err(why) => Err(why),
     }
@@ -60,7 +59,7 @@ pub(crate) fn lay_log<D: SectorDisk, K: ReadKeys>(
         (D.state disk.old) (D.state disk.new) result }
 {
     match read_class_log::<K, D>(alloc, disk, pages) {
-        Ok(found) => lay_found::<D, K>(alloc, disk, found, pages),
+        Ok(found) => lay_found::<D, K>(disk, found, pages),
         Err(why) => Err(why),
     }
 }

@@ -118,6 +118,7 @@ module _ (n : ℕ) (xs ys : List ℕ) (enough : PAGES_AT ≤ n) (same : ReadAlik
       bodies = is.bodies ∙ opened_alike;
       log = log_alike is.log;
       kept = is.kept;
+      given = is.given;
     }
 
     -- and so are the pages
