@@ -33,7 +33,7 @@ fn is_item_of<K: KeyClass>(item: &[u8], row: u64, key: &[u8]) -> bool
     ensures { result ≡ is_item_of (format_of K.KeyClass) row key.now item.now }
 {
     let (front, tail) = item.split_at(K::KEY);
-    front == key && u64_of(tail.split_at(8).0) == row
+    u64_of(tail.split_at(8).0) == row && front == key
 }
 
 /// The first slot of a leaf whose item is the pair's.
