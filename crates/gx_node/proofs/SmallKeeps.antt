@@ -1,16 +1,15 @@
 -- Small changes keep nodes.
-use Rattle.std.proofs.Common.{◌≡◌, ℕ, ◌+◌, ◌^◌, ◌<◌, ◌≤◌, ◌==◌, ◌&&◌, Bool, true, false, not, cond, List, [], length, get_or, refl, sym, ap, ◌∙◌, arith, Option, Some, None}
+use Rattle.std.proofs.Common.{◌≡◌, ℕ, ◌≤◌, ◌==◌, Bool, true, false, not, cond, List, [], length, get_or, refl, sym, ap, ◌∙◌, Option, Some, None}
 use Rattle.std.specs.Prelude.{nat_lt, is_some}
 use Rattle.std.proofs.lemmas.Bool.{and_parts, and_from, ltb-true}
 use Rattle.gx_class.specs.declared.class.TheConstants.{MAX_KEY}
 use Rattle.gx_page.specs.Bytes.{AreBytes}
 use Rattle.gx_page.specs.Contents.{Contents}
 use Rattle.gx_page.specs.Edits.{with_items}
-use Rattle.gx_page.specs.Format.{IsWellFormed}
 use Rattle.gx_node.specs.Entries.{mark_byte}
 use Rattle.gx_node.specs.Reading.{Format, child_of, are_pairs, are_children, is_leaf, is_inner, is_node}
-use Rattle.gx_node.specs.Small.{is_item_of, has_item_of, slot_of, mark_fits, mark_made, are_bounds, bound_fits, bound_made, has_marked, slots_fit, slots_made}
-use Rattle.gx_node.specs.SmallLaws.{Spells, KeepsNodes, ChangesKeepNodes}
+use Rattle.gx_node.specs.Small.{is_item_of, has_item_of, slot_of, mark_made, pair_made, are_bounds, bound_made, slots_made}
+use Rattle.gx_node.specs.SmallLaws.{Spells, ChangesKeepNodes}
 use Rattle.gx_node.proofs.Parts.{IsLawful}
 use Rattle.gx_node.proofs.EditedLeaves.{leaf_marked}
 use Rattle.gx_node.proofs.Slots.{slot_get}
@@ -53,7 +52,7 @@ changes_keep IsKey spelling f laws short = record {
       let some = (and_parts (is_some (f.reading bytes)) _ (and_parts (nat_lt (length page.items) most) _ (and_parts (is_leaf f page) _ e).1).1).0 in
       let spelled = some_spelled f bytes (f.reading bytes) are refl some in
       let made = pair_put IsKey spelling f laws short most row bytes spelled.0 page room spelled.1 w few e in
-      record { well_formed = made.well_formed; node = λ used room is. leaf_is_node f _ used made.leaf };
+      record { well_formed = made.well_formed; node = λ used room is. leaf_is_node f (with_items page (pair_made row bytes page.items)) used made.leaf };
   bound = λ slot bytes page are w e.
       let one = and_parts (not (page.level == 0)) _ e in
       let two = and_parts (nat_lt slot (length page.items)) (is_some (f.reading bytes)) (and_parts (are_bounds f page.items) _ one.1).1 in

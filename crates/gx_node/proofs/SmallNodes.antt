@@ -9,7 +9,7 @@ use Rattle.std.proofs.lemmas.List.Folds.{list_any_none}
 use Rattle.std.proofs.lemmas.List.Sums.{passes_at_first, fails_before_first}
 use Rattle.std.proofs.lemmas.Slice.Eq.{bytes_eq-Decides}
 use Rattle.gx_class.specs.declared.class.TheConstants.{MAX_KEY}
-use Rattle.gx_page.specs.Bytes.{AreBytes, spell_32, spell_64, number_64_at}
+use Rattle.gx_page.specs.Bytes.{AreBytes, spell_64, number_64_at}
 use Rattle.gx_page.specs.Contents.{Contents}
 use Rattle.gx_page.specs.Edits.{with_items}
 use Rattle.gx_page.specs.Format.{IsItem, IsWellFormed}
@@ -18,8 +18,8 @@ use Rattle.gx_tree_laws.specs.Trees.{Pair, Child, Rules, is_entry}
 use Rattle.gx_node.specs.declared.items.TheConstants.{MAX_ENTRIES}
 use Rattle.gx_node.specs.Edits.{with_pairs, with_children, bounded_by}
 use Rattle.gx_node.specs.Entries.{mark_byte, child_bytes}
-use Rattle.gx_node.specs.Reading.{Format, has_key, key_of, is_pair, pair_of, is_child, child_of, are_pairs, are_children, is_leaf, is_inner, leaf_of, inner_of}
-use Rattle.gx_node.specs.Small.{is_item_of, has_item_of, slot_of, mark_fits, mark_made, pair_fits, pair_made, live_item, is_bound, are_bounds, bound_fits, bound_made, is_marked, has_marked, slots_fit, slots_made, sides_with, sides_of}
+use Rattle.gx_node.specs.Reading.{Format, has_key, key_of, is_pair, pair_of, is_child, child_of, are_children, is_leaf, is_inner, leaf_of, inner_of}
+use Rattle.gx_node.specs.Small.{is_item_of, has_item_of, slot_of, mark_fits, mark_made, pair_fits, pair_made, live_item, is_bound, are_bounds, bound_fits, bound_made, is_marked, has_marked, slots_made, sides_with, sides_of}
 use Rattle.gx_node.specs.SmallLaws.{Spells, MakesLeaf, live_pair, MarksFirst, MarkMeans, PairMeans, MakesInner, BoundMeans, HasMarked, SlotsMean, AreSlotsOf}
 use Rattle.gx_node.proofs.Parts.{IsLawful, key_read, page_written}
 use Rattle.gx_node.proofs.Edited.{get_pass}

@@ -35,4 +35,6 @@ mod reaches;
 #[cfg(test)]
 mod scripts;
 #[cfg(test)]
+mod small;
+#[cfg(test)]
 mod trees;
