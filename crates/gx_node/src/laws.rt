@@ -67,20 +67,20 @@ pub fn small_marks<K: KeyClass>(most: usize)
     ensures { MarksMean (format_of K.KeyClass) (rules_of K.Key.Shape most) }
 {}
 
-/// A pair by its bytes fits the leaves that have room and don't have its entry, and is then the last pair, live. Nothing
-/// else of the leaf changes.
+/// A pair by its bytes fits the leaves that have room and don't have its entry, and is then the last pair, live.
+/// Nothing else of the leaf changes.
 pub fn small_pairs<K: KeyClass>(most: usize)
     ensures { PairsMean (format_of K.KeyClass) (rules_of K.Key.Shape most) }
 {}
 
-/// A bound by its key's bytes fits the inner nodes that have the slot, and is then the slot's bound. Nothing else of the
-/// node changes.
+/// A bound by its key's bytes fits the inner nodes that have the slot, and is then the slot's bound.
+/// Nothing else of the node changes.
 pub fn small_bounds<K: KeyClass>()
     ensures { BoundsMean (format_of K.KeyClass) }
 {}
 
-/// Slots fit the leaves in which each has a marked pair, and these pairs go. Nothing else of the leaf changes. Where the
-/// slots are those of the pairs that pass a test, the others stay.
+/// Slots fit the leaves in which each has a marked pair, and these pairs go. Nothing else of the leaf changes.
+/// Where the slots are those of the pairs that pass a test, the others stay.
 pub fn small_removals<K: KeyClass>()
     ensures removed { RemovalsMean (format_of K.KeyClass) }
     ensures filter { RemovalsAreAFilter (Pair K.Key) }
