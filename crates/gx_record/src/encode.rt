@@ -74,7 +74,7 @@ fn put_u16(out: &mut [u8], at: usize, number: u16) -> usize
     ensures wrote { Wrote out.old out.new at (u16_bytes number) result }
     ensures behind { result ≡ at + 2 }
 {
-    put(out, at, &number.to_be_bytes())
+    put_bytes(out, at, &number.to_be_bytes())
 }
 
 fn put_mark(out: &mut [u8], at: usize, mark: Mark) -> usize
@@ -190,7 +190,7 @@ fn write_bit(out: &mut [u8], tx: u64, row: u64, key: &[u8], marks: (Mark, Mark),
     ensures { Wrote out.old out.new 0
         (spelling (Bit tx row key.now (is_marked marks.0) (is_marked marks.1) leaf)) result }
 {
-    let at = put(out, 0, &[BIT]);
+    let at = put_bytes(out, 0, &[BIT]);
     let at = put_entry(out, at, tx, row, key);
     let at = put_mark(out, at, marks.0);
     let at = put_mark(out, at, marks.1);
@@ -202,7 +202,7 @@ fn write_add(out: &mut [u8], tx: u64, row: u64, key: &[u8], leaf: u32) -> usize
     requires { ADD_BESIDE_KEY + length key.now ≤ length out.old }
     ensures { Wrote out.old out.new 0 (spelling (Add tx row key.now leaf)) result }
 {
-    let at = put(out, 0, &[ADD]);
+    let at = put_bytes(out, 0, &[ADD]);
     let at = put_entry(out, at, tx, row, key);
     put_u32(out, at, leaf)
 }
@@ -212,10 +212,10 @@ fn write_widen(out: &mut [u8], page: u32, slot: u16, key: &[u8]) -> usize
     requires { WIDEN_BESIDE_KEY + length key.now ≤ length out.old }
     ensures { Wrote out.old out.new 0 (spelling (Widen page slot key.now)) result }
 {
-    let at = put(out, 0, &[WIDEN]);
+    let at = put_bytes(out, 0, &[WIDEN]);
     let at = put_u32(out, at, page);
     let at = put_u16(out, at, slot);
-    put(out, at, key)
+    put_bytes(out, at, key)
 }
 
 /// Writes slots behind their count.
@@ -224,8 +224,8 @@ fn put_slots(out: &mut [u8], at: usize, slots: &Slots<'_>) -> usize
     requires room { at + (1 + SLOT_NUMBER * length (slots_of slots.now)) ≤ length out.old }
     ensures { Wrote out.old out.new at (length (slots_of slots.now) ∷ slots_bytes (slots_of slots.now)) result }
 {
-    let at = put(out, at, &[slots.count() as u8]);
-    put(out, at, whole_slots(slots.bytes))
+    let at = put_bytes(out, at, &[slots.count() as u8]);
+    put_bytes(out, at, whole_slots(slots.bytes))
 }
 
 /// Writes a sweep's record at the front.
@@ -234,7 +234,7 @@ fn write_sweep(out: &mut [u8], page: u32, slots: &Slots<'_>) -> usize
     requires room { SWEEP_BESIDE_SLOTS + SLOT_NUMBER * length (slots_of slots.now) ≤ length out.old }
     ensures { Wrote out.old out.new 0 (spelling (Sweep page (slots_of slots.now))) result }
 {
-    let at = put(out, 0, &[SWEEP]);
+    let at = put_bytes(out, 0, &[SWEEP]);
     let at = put_u32(out, at, page);
     put_slots(out, at, slots)
 }
