@@ -52,7 +52,7 @@ fn stand<D: SectorDisk, K: ReadKeys>(
 {
     what_stands_is_legal::<K>();
     match formatted_for::<D, K>(disk) {
-        Ok(parameters) => match lay_log::<D, K>(alloc, disk, parameters.pages) {
+        Ok(parameters) => match lay_log::<D, K>(alloc, disk, parameters.pages, parameters.most) {
             Ok(log) => Ok(Standing { parameters, log }),
             Err(why) => Err(why),
         },

@@ -26,7 +26,7 @@ returns-in-Ok-lay_log-clause-safe g c = λ honest.
     let allowed = c.in-Ok.ensures.allowed in
     let enough : MIN_SECTORS ≤ a.sectors = (let least = allowed.0.range.least_pages in let large = allowed.1 in omega (arith, least, large)) in
     let formatted = formatted_so shape proper said f _ a b p enough settles in
-    let lays = c.in-Ok-lay_log.ensures.lays (limits_of p) refl (c.what_stands_is_legal.ensures.lawful (limits_of p)) (c.in-Ok.ensures.counted.honest ∙ honest) settles.settled in
+    let lays = c.in-Ok-lay_log.ensures.lays (limits_of p) refl refl (c.what_stands_is_legal.ensures.lawful (limits_of p)) (c.in-Ok.ensures.counted.honest ∙ honest) settles.settled in
     stood_safe shape proper said f 0 a b e p formatted.says settles.only lays.leaves)
 
 pub returns-in-Ok-lay_log-clause-stood : goal.returns-in-Ok-lay_log-clause-stood
@@ -44,7 +44,7 @@ returns-in-Ok-lay_log-clause-stood g c = λ honest large.
     let allowed = c.in-Ok.ensures.allowed in
     let enough : MIN_SECTORS ≤ a.sectors = (let least = allowed.0.range.least_pages in let large = allowed.1 in omega (arith, least, large)) in
     let formatted = formatted_so shape proper said f _ a b p enough settles in
-    let lays = c.in-Ok-lay_log.ensures.lays (limits_of p) refl (c.what_stands_is_legal.ensures.lawful (limits_of p)) (c.in-Ok.ensures.counted.honest ∙ honest) settles.settled in
+    let lays = c.in-Ok-lay_log.ensures.lays (limits_of p) refl refl (c.what_stands_is_legal.ensures.lawful (limits_of p)) (c.in-Ok.ensures.counted.honest ∙ honest) settles.settled in
     (formatted, laid_so shape proper said f 0 a b e p formatted.says settles.only c.in-Ok-lay_log.log lays))
 
 pub returns-in-Err-lay_log-clause-safe : goal.returns-in-Err-lay_log-clause-safe
@@ -62,7 +62,7 @@ returns-in-Err-lay_log-clause-safe g c = λ honest.
     let allowed = c.in-Ok.ensures.allowed in
     let enough : MIN_SECTORS ≤ a.sectors = (let least = allowed.0.range.least_pages in let large = allowed.1 in omega (arith, least, large)) in
     let formatted = formatted_so shape proper said f _ a b p enough settles in
-    let lays = c.in-Err-lay_log.ensures.lays (limits_of p) refl (c.what_stands_is_legal.ensures.lawful (limits_of p)) (c.in-Ok.ensures.counted.honest ∙ honest) settles.settled in
+    let lays = c.in-Err-lay_log.ensures.lays (limits_of p) refl refl (c.what_stands_is_legal.ensures.lawful (limits_of p)) (c.in-Ok.ensures.counted.honest ∙ honest) settles.settled in
     stood_safe shape proper said f 0 a b e p formatted.says settles.only lays.leaves)
 
 pub returns-in-Err-lay_log-clause-stood : goal.returns-in-Err-lay_log-clause-stood
@@ -80,7 +80,7 @@ returns-in-Err-lay_log-clause-stood g c = λ honest large.
     let allowed = c.in-Ok.ensures.allowed in
     let enough : MIN_SECTORS ≤ a.sectors = (let least = allowed.0.range.least_pages in let large = allowed.1 in omega (arith, least, large)) in
     let formatted = formatted_so shape proper said f _ a b p enough settles in
-    let lays = c.in-Err-lay_log.ensures.lays (limits_of p) refl (c.what_stands_is_legal.ensures.lawful (limits_of p)) (c.in-Ok.ensures.counted.honest ∙ honest) settles.settled in
+    let lays = c.in-Err-lay_log.ensures.lays (limits_of p) refl refl (c.what_stands_is_legal.ensures.lawful (limits_of p)) (c.in-Ok.ensures.counted.honest ∙ honest) settles.settled in
     inr (unlaid_so shape proper said f _ a b e p formatted.says settles.only c.in-Err-lay_log.why formatted c.in-Err-lay_log.ensures.faults lays))
 
 pub returns-in-Ok-lay_log-clause-faults : goal.returns-in-Ok-lay_log-clause-faults
@@ -109,7 +109,7 @@ returns-in-Ok-lay_log-clause-order g c = λ honest.
     let settles = c.in-Ok.ensures.settles honest in
     let allowed = c.in-Ok.ensures.allowed in
     let enough : MIN_SECTORS ≤ a.sectors = (let least = allowed.0.range.least_pages in let large = allowed.1 in omega (arith, least, large)) in
-    let lays = c.in-Ok-lay_log.ensures.lays (limits_of p) refl (c.what_stands_is_legal.ensures.lawful (limits_of p)) (c.in-Ok.ensures.counted.honest ∙ honest) settles.settled in
+    let lays = c.in-Ok-lay_log.ensures.lays (limits_of p) refl refl (c.what_stands_is_legal.ensures.lawful (limits_of p)) (c.in-Ok.ensures.counted.honest ∙ honest) settles.settled in
     laid_in_order shape proper said f state a (state c.lay_log.new.disk) c.formatted_for.new.disk p (formatted_so shape proper said f _ a b p enough settles).says
     (synced_so _ a b p c.in-Ok.ensures.counted c.in-Ok.ensures.synced settles) c.in-Ok-lay_log.log lays)
 
@@ -127,7 +127,7 @@ returns-in-Err-lay_log-clause-order g c = λ honest.
     let settles = c.in-Ok.ensures.settles honest in
     let allowed = c.in-Ok.ensures.allowed in
     let enough : MIN_SECTORS ≤ a.sectors = (let least = allowed.0.range.least_pages in let large = allowed.1 in omega (arith, least, large)) in
-    let lays = c.in-Err-lay_log.ensures.lays (limits_of p) refl (c.what_stands_is_legal.ensures.lawful (limits_of p)) (c.in-Ok.ensures.counted.honest ∙ honest) settles.settled in
+    let lays = c.in-Err-lay_log.ensures.lays (limits_of p) refl refl (c.what_stands_is_legal.ensures.lawful (limits_of p)) (c.in-Ok.ensures.counted.honest ∙ honest) settles.settled in
     let why = c.in-Err-lay_log.why in
     unlaid_in_order shape proper said f state a e c.formatted_for.new.disk p (formatted_so shape proper said f _ a b p enough settles).says
     (synced_so _ a b p c.in-Ok.ensures.counted c.in-Ok.ensures.synced settles) why (told_cause (FoundLog (Entry g.row.K-Key.Denot)) b.faults e.faults why c.in-Err-lay_log.ensures.faults) lays)
