@@ -52,7 +52,7 @@ pub fn read_class_log<K: ReadKeys, D: SectorDisk>(
     alloc: Global,
     disk: &mut D,
     pages: u32,
-    most: usize,
+    most: u16,
 ) -> Result<FoundLog<Entry<K::Key>>, Refusal>
     requires device { PAGES_AT ≤ (D.state disk.old).sectors }
     requires most { most ≤ MAX_ENTRIES }
@@ -69,7 +69,7 @@ pub fn examine_class_log<K: ReadKeys, D: SectorDisk>(
     alloc: Global,
     disk: &mut D,
     pages: u32,
-    most: usize,
+    most: u16,
 ) -> Result<FoundLog<Entry<K::Key>>, LogFault>
     requires device { PAGES_AT ≤ (D.state disk.old).sectors }
     requires most { most ≤ MAX_ENTRIES }

@@ -213,7 +213,7 @@ pub fn examine_log<M: Readable, D: SectorDisk>(
     alloc: Global,
     disk: &mut D,
     pages: u32,
-    most: usize,
+    most: u16,
 ) -> Result<FoundLog<M::Entry>, LogFault>
 where
     M::Entry: Copy + Ord,
@@ -229,7 +229,7 @@ where
         → IfErr result (λ fault. LogShows (M.known d) M.reading (D.state disk.old).seen fault) }
 {
     match room(alloc) {
-        Ok(mut body) => match Gathered::new(alloc, pages, most) {
+        Ok(mut body) => match Gathered::new(alloc, pages, usize::from(most)) {
             Ok(gathered) => read_selected::<M, D>(disk, gathered, &mut body),
             Err(_) => Err(LogFault::Memory),
         },
@@ -246,7 +246,7 @@ pub fn read_log<M: Readable, D: SectorDisk>(
     alloc: Global,
     disk: &mut D,
     pages: u32,
-    most: usize,
+    most: u16,
 ) -> Result<FoundLog<M::Entry>, Refusal>
 where
     M::Entry: Copy + Ord,

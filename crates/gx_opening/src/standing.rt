@@ -52,7 +52,7 @@ fn stand<D: SectorDisk, K: ReadKeys>(
 {
     what_stands_is_legal::<K>();
     let parameters = formatted_for::<D, K>(disk)?;
-    let log = lay_log::<D, K>(alloc, disk, parameters.pages)?;
+    let log = lay_log::<D, K>(alloc, disk, parameters.pages, parameters.most)?;
     Ok(Standing { parameters, log })
 }
 

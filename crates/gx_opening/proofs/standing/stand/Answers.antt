@@ -27,7 +27,7 @@ returns-clause-safe g c = λ honest.
     let allowed = c.in_ok-parameters.ensures.allowed in
     let enough : MIN_SECTORS ≤ a.sectors = (let least = allowed.0.range.least_pages in let large = allowed.1 in omega (arith, least, large)) in
     let formatted = formatted_so shape proper said f _ a b p enough settles in
-    let lays = c.in_ok-log.ensures.lays (limits_of p) refl (c.what_stands_is_legal.ensures.lawful (limits_of p)) (c.in_ok-parameters.ensures.counted.honest ∙ honest) settles.settled in
+    let lays = c.in_ok-log.ensures.lays (limits_of p) refl refl (c.what_stands_is_legal.ensures.lawful (limits_of p)) (c.in_ok-parameters.ensures.counted.honest ∙ honest) settles.settled in
     stood_safe shape proper said f 0 a b e p formatted.says settles.only lays.leaves)
 
 pub returns-clause-stood : goal.returns-clause-stood
@@ -45,7 +45,7 @@ returns-clause-stood g c = λ honest large.
     let allowed = c.in_ok-parameters.ensures.allowed in
     let enough : MIN_SECTORS ≤ a.sectors = (let least = allowed.0.range.least_pages in let large = allowed.1 in omega (arith, least, large)) in
     let formatted = formatted_so shape proper said f _ a b p enough settles in
-    let lays = c.in_ok-log.ensures.lays (limits_of p) refl (c.what_stands_is_legal.ensures.lawful (limits_of p)) (c.in_ok-parameters.ensures.counted.honest ∙ honest) settles.settled in
+    let lays = c.in_ok-log.ensures.lays (limits_of p) refl refl (c.what_stands_is_legal.ensures.lawful (limits_of p)) (c.in_ok-parameters.ensures.counted.honest ∙ honest) settles.settled in
     (formatted, laid_so shape proper said f 0 a b e p formatted.says settles.only c.in_ok-log.log lays))
 
 pub returns-in_err-log-clause-safe : goal.returns-in_err-log-clause-safe
@@ -63,7 +63,7 @@ returns-in_err-log-clause-safe g c = λ honest.
     let allowed = c.in_ok-parameters.ensures.allowed in
     let enough : MIN_SECTORS ≤ a.sectors = (let least = allowed.0.range.least_pages in let large = allowed.1 in omega (arith, least, large)) in
     let formatted = formatted_so shape proper said f _ a b p enough settles in
-    let lays = c.in_err-log.ensures.lays (limits_of p) refl (c.what_stands_is_legal.ensures.lawful (limits_of p)) (c.in_ok-parameters.ensures.counted.honest ∙ honest) settles.settled in
+    let lays = c.in_err-log.ensures.lays (limits_of p) refl refl (c.what_stands_is_legal.ensures.lawful (limits_of p)) (c.in_ok-parameters.ensures.counted.honest ∙ honest) settles.settled in
     stood_safe shape proper said f 0 a b e p formatted.says settles.only lays.leaves)
 
 pub returns-in_err-log-clause-stood : goal.returns-in_err-log-clause-stood
@@ -82,7 +82,7 @@ returns-in_err-log-clause-stood g c = λ honest large.
     let allowed = c.in_ok-parameters.ensures.allowed in
     let enough : MIN_SECTORS ≤ a.sectors = (let least = allowed.0.range.least_pages in let large = allowed.1 in omega (arith, least, large)) in
     let formatted = formatted_so shape proper said f _ a b p enough settles in
-    let lays = c.in_err-log.ensures.lays (limits_of p) refl (c.what_stands_is_legal.ensures.lawful (limits_of p)) (c.in_ok-parameters.ensures.counted.honest ∙ honest) settles.settled in
+    let lays = c.in_err-log.ensures.lays (limits_of p) refl refl (c.what_stands_is_legal.ensures.lawful (limits_of p)) (c.in_ok-parameters.ensures.counted.honest ∙ honest) settles.settled in
     inr (unlaid_so shape proper said f _ a b e p formatted.says settles.only c.in_err-log.field-0.0 formatted c.in_err-log.ensures.faults lays)))
 
 pub returns-clause-faults : goal.returns-clause-faults
@@ -114,7 +114,7 @@ returns-clause-order g c = λ honest.
     let settles = c.in_ok-parameters.ensures.settles honest in
     let allowed = c.in_ok-parameters.ensures.allowed in
     let enough : MIN_SECTORS ≤ a.sectors = (let least = allowed.0.range.least_pages in let large = allowed.1 in omega (arith, least, large)) in
-    let lays = c.in_ok-log.ensures.lays (limits_of p) refl (c.what_stands_is_legal.ensures.lawful (limits_of p)) (c.in_ok-parameters.ensures.counted.honest ∙ honest) settles.settled in
+    let lays = c.in_ok-log.ensures.lays (limits_of p) refl refl (c.what_stands_is_legal.ensures.lawful (limits_of p)) (c.in_ok-parameters.ensures.counted.honest ∙ honest) settles.settled in
     laid_in_order shape proper said f state a (state c.lay_log.new.disk) c.formatted_for.new.disk p (formatted_so shape proper said f _ a b p enough settles).says
     (synced_so _ a b p c.in_ok-parameters.ensures.counted c.in_ok-parameters.ensures.synced settles) c.in_ok-log.log lays)
 
@@ -133,7 +133,7 @@ returns-in_err-log-clause-order g c = λ honest.
     let settles = c.in_ok-parameters.ensures.settles honest in
     let allowed = c.in_ok-parameters.ensures.allowed in
     let enough : MIN_SECTORS ≤ a.sectors = (let least = allowed.0.range.least_pages in let large = allowed.1 in omega (arith, least, large)) in
-    let lays = c.in_err-log.ensures.lays (limits_of p) refl (c.what_stands_is_legal.ensures.lawful (limits_of p)) (c.in_ok-parameters.ensures.counted.honest ∙ honest) settles.settled in
+    let lays = c.in_err-log.ensures.lays (limits_of p) refl refl (c.what_stands_is_legal.ensures.lawful (limits_of p)) (c.in_ok-parameters.ensures.counted.honest ∙ honest) settles.settled in
     let why = c.in_err-log.field-0.0 in
     unlaid_in_order shape proper said f state a e c.formatted_for.new.disk p (formatted_so shape proper said f _ a b p enough settles).says
     (synced_so _ a b p c.in_ok-parameters.ensures.counted c.in_ok-parameters.ensures.synced settles) why (told_cause (FoundLog (Entry g.row.K-Key.Denot)) b.faults e.faults why c.in_err-log.ensures.faults) lays))
