@@ -207,8 +207,8 @@ fn room(alloc: Global) -> Result<Vec<u8>, AllocError>
     vec![in alloc; 0; BODY_SIZE]
 }
 
-/// Reads the log of a device of so many pages, and entries in a node, as [`read_log`] does. Of a log that is damaged it tells where, and which
-/// rule is broken there: what it tells is true of the device's bytes.
+/// Reads the log of a device of so many pages, and entries in a node, as [`read_log`] does. Of a log that is damaged it
+/// tells where, and which rule is broken there: what it tells is true of the device's bytes.
 pub fn examine_log<M: Readable, D: SectorDisk>(
     alloc: Global,
     disk: &mut D,
@@ -238,10 +238,11 @@ where
 }
 
 /// Reads the log of a device of so many pages, and entries in a node: the bodies behind the leading open gates of the
-/// selected extent; no gate behind the first closed one is read. `Damaged` exactly where these bodies aren't whole ones whose records are an
-/// undamaged log, of entries of the class. Refused too by the device's fault (`Device`) and for want of memory
-/// (`Memory`, before the first read: 1.9 MB, and 32 KiB more while it reads). It makes no write. Each body is read
-/// once, for what it tells and for the pages that it gives. [`examine_log`] tells of a damaged log what is wrong.
+/// selected extent; no gate behind the first closed one is read. `Damaged` exactly where these bodies aren't whole ones
+/// whose records are an undamaged log, of entries of the class. Refused too by the device's fault (`Device`) and for
+/// want of memory (`Memory`, before the first read: 1.9 MB, and 32 KiB more while it reads). It makes no write. Each
+/// body is read once, for what it tells and for the pages that it gives. [`examine_log`] tells of a damaged log what is
+/// wrong.
 pub fn read_log<M: Readable, D: SectorDisk>(
     alloc: Global,
     disk: &mut D,
