@@ -76,6 +76,10 @@ module _ {E P : Type 0} (k : Known E P) (r : Reading E P) where
   one_note (rec.End tx) t small is same = absurd cc
   one_note (rec.Counters n counter used next) t small is same = absurd cc
   one_note (rec.Note tx row key before leaf) t small is same = let size = spelling_size (rec.Note tx row key before leaf) is.in_range in omega (arith, size, is.has_key, small)
+  one_note (rec.Bit tx row key before after leaf) t small is same = absurd cc
+  one_note (rec.Add tx row key leaf) t small is same = absurd cc
+  one_note (rec.Widen page slot key) t small is same = absurd cc
+  one_note (rec.Sweep page slots) t small is same = absurd cc
 
   notes_fit : (xs : List Rec) (ts : List (Touch E)) → r.key ≤ 41 → AllByRecursion (IsRecord r.key) xs → records_read r xs ≡ notes_of ts → length (spellings xs) ≤ 63 * length ts
   notes_fit [] [] small all same = omega arith
@@ -95,6 +99,10 @@ module _ {E P : Type 0} (k : Known E P) (r : Reading E P) where
   one_counters (rec.End tx) n c u m is same = absurd cc
   one_counters (rec.Counters i counter used next) n c u m is same = spelling_size (rec.Counters i counter used next) is.in_range
   one_counters (rec.Note tx row key before leaf) n c u m is same = absurd cc
+  one_counters (rec.Bit tx row key before after leaf) n c u m is same = absurd cc
+  one_counters (rec.Add tx row key leaf) n c u m is same = absurd cc
+  one_counters (rec.Widen page slot key) n c u m is same = absurd cc
+  one_counters (rec.Sweep page slots) n c u m is same = absurd cc
 
   head_size : (xs : List Rec) (n counter used next : ℕ) (ts : List (Touch E)) → r.key ≤ 41 → AllByRecursion (IsRecord r.key) xs → records_read r xs ≡ Counters n counter used next ∷ notes_of ts
       → length (spellings xs) ≤ 29 + 63 * length ts

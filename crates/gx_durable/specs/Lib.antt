@@ -11,6 +11,7 @@ pub mod Legal
 pub mod Opening
 pub mod Pages
 pub mod PoolLaws
+pub mod Small
 pub mod Spelled
 pub mod Stamps
 pub mod Standing

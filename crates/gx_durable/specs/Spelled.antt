@@ -1,17 +1,20 @@
 -- Bytes as records: which records over entries and contents of pages the bytes of a log are.
-use Rattle.std.specs.Prelude.{◌≡◌, ℕ, List, [], ◌∷◌}
+use Rattle.std.specs.Prelude.{◌≡◌, ℕ, true, false, List, [], ◌∷◌}
 use Rattle.std.specs.List.{AllByRecursion}
 use Rattle.gx_record.specs.Rec.{Rec}
 use Rattle.gx_record.specs.Rec as rec
 use Rattle.gx_record.specs.Format.{spellings, IsRecord}
-use Rattle.gx_recovery.specs.Records.{Image, Whole, Record, Pages, Write, Commit, End, Counters, Note}
+use Rattle.gx_recovery.specs.Records.{Image, Change, Whole, Small, Record, Pages, Adjust, Write, Commit, End, Counters, Note}
+use Rattle.gx_durable.specs.Small.{PageChange, SetMark, AddPair, SetKey, RemoveSlots}
 
 -- How bytes are read: how many bytes a key has; the entry of a row and a key's bytes; the content of a page's 4,096 bytes;
--- what stands for a page that the device doesn't have; and which contents can be read as the page of a number.
+-- what a small record's change is of such a content; what stands for a page that the device doesn't have; and which contents
+-- can be read as the page of a number.
 pub record Reading (E P : Type 0) : Type 1 where
   pub key : ℕ
   pub entry : ℕ → List ℕ → E
   pub content : List ℕ → P
+  pub change : PageChange → Change P
   pub no_page : P
   pub fits : ℕ → P → Type 0
 
@@ -23,7 +26,7 @@ abbrev pub images_read : {E P : Type 0} → Reading E P → List (ℕ × List �
 images_read r [] = []
 images_read r (p ∷ pages) = image_read r p ∷ images_read r pages
 
--- a record, its key and its images read
+-- A record, its key and its images read. A pair that is added was absent, which counts as marked.
 abbrev pub record_read : {E P : Type 0} → Reading E P → Rec → Record E P
 record_read r (rec.Pages counter used pages) = Pages (images_read r pages) counter used
 record_read r (rec.Write tx row key before after leaf image) = Write tx (r.entry row key) before after leaf (Whole (r.content image))
@@ -31,6 +34,10 @@ record_read r (rec.Commit tx n) = Commit tx n
 record_read r (rec.End tx) = End tx
 record_read r (rec.Counters n counter used next) = Counters n counter used next
 record_read r (rec.Note tx row key before leaf) = Note tx (r.entry row key) before leaf
+record_read r (rec.Bit tx row key before after leaf) = Write tx (r.entry row key) before after leaf (Small (r.change (SetMark row key after)))
+record_read r (rec.Add tx row key leaf) = Write tx (r.entry row key) true false leaf (Small (r.change (AddPair row key)))
+record_read r (rec.Widen page slot key) = Adjust page (r.change (SetKey slot key))
+record_read r (rec.Sweep page slots) = Adjust page (r.change (RemoveSlots slots))
 
 abbrev pub records_read : {E P : Type 0} → Reading E P → List Rec → List (Record E P)
 records_read r [] = []

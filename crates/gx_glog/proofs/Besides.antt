@@ -1,7 +1,7 @@
 -- What lies beside the log's sectors, and that a record has a byte.
 use Rattle.std.proofs.Common.{inl, inr, ℕ, ◌≤◌, length, arith}
 use Rattle.gx_record.specs.Format.{spelling}
-use Rattle.gx_record.specs.Rec.{Rec, Pages, Write, Commit, End, Counters, Note}
+use Rattle.gx_record.specs.Rec.{Rec, Pages, Write, Commit, End, Counters, Note, Bit, Add, Widen, Sweep}
 use Rattle.gx_disk.specs.declared.layout.TheConstants.{PAGES_AT}
 use Rattle.gx_disk.specs.Sectors.{IsOutside}
 use Rattle.gx_glog.specs.Standing.{IsOfLog}
@@ -19,3 +19,7 @@ spelled_some (Commit tx n) = omega arith
 spelled_some (End tx) = omega arith
 spelled_some (Counters n counter used next) = omega arith
 spelled_some (Note tx row key before leaf) = omega arith
+spelled_some (Bit tx row key before after leaf) = omega arith
+spelled_some (Add tx row key leaf) = omega arith
+spelled_some (Widen page slot key) = omega arith
+spelled_some (Sweep page slots) = omega arith

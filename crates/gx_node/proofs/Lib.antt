@@ -16,3 +16,4 @@ pub mod Parts
 pub mod Scanning
 pub mod Slots
 pub mod Listed
+pub mod SmallItems

@@ -7,3 +7,4 @@ pub mod Seen
 pub mod Keyed
 pub mod Owner
 pub mod Store
+pub mod Small

@@ -28,7 +28,7 @@ fn u32_of(bytes: &[u8]) -> u32
     u32::from_be_bytes([bytes[0], bytes[1], bytes[2], bytes[3]])
 }
 
-fn u64_of(bytes: &[u8]) -> u64
+pub(crate) fn u64_of(bytes: &[u8]) -> u64
     requires { length bytes.now ≡ 8 }
     ensures { result ≡ number_64 bytes.now }
 {

@@ -15,6 +15,7 @@ pub mod leaf_edits;
 mod pages;
 mod passing;
 mod scan;
+pub mod small;
 
 pub use changing::{Edit, PagesMut};
 pub use check::is_node;

@@ -34,6 +34,8 @@ pub enum Damage {
     CommitNumber,
     /// The counter or the pages in use fall.
     Falls,
+    /// A page is changed of which the log has no image, or the change doesn't fit the page.
+    Change,
     /// Two open transactions have touched one entry.
     Shared,
     /// More transactions are open, or have touched more entries, than may be.

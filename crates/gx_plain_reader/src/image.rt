@@ -2,7 +2,7 @@
 use crate::bytes::{sector, span, u16_at, u32_at};
 use crate::finding::{Finding, Findings, Place};
 use crate::log::Log;
-use crate::page::{Node, node_of, own_number, page_at};
+use crate::page::{Node, own_number, page_at};
 use crate::records::take_extent;
 use crate::rules::{self, Rule};
 use crate::set::set_of;
@@ -81,17 +81,20 @@ fn log_of(alloc: Global, image: &[u8], parameters: Parameters) -> Result<Log, Da
         _ => ("A", 8),
     };
     let mut log = Log::new(alloc, parameters, extent);
-    take_extent(&mut log, image, first)?;
+    take_extent(alloc, &mut log, image, first)?;
     Ok(log)
 }
 
 /// The node of a page in use.
 fn node_at(alloc: Global, image: &[u8], log: &Log, number: u32) -> Result<Node, Damage> {
-    let page = page_at(image, log.place(number))?;
+    let at = log
+        .place(number)
+        .unwrap_or(sector(number as usize * 8 + 4160));
+    let page = page_at(image, at)?;
     if own_number(page)? != number {
         return Err(Damage::OwnNumber);
     }
-    node_of(alloc, log.parameters.class, log.parameters.pages, page)
+    log.node_after(alloc, Some(log.parameters.pages), number, page)
 }
 
 /// What is wrong with a page that can't be read.

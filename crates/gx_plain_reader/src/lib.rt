@@ -13,6 +13,7 @@ mod page;
 mod records;
 mod rules;
 mod set;
+mod small;
 mod tree;
 
 pub use damage::Damage;

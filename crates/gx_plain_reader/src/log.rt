@@ -1,7 +1,9 @@
 //! What a log tells, as its records are read one by one.
 use crate::finding::{Findings, Place};
+use crate::page::{Node, node_of, page_at};
 use crate::records::{Logged, Touching};
 use crate::rules::{self, Rule};
+use crate::small::{Small, change};
 use crate::{Damage, Entry, Parameters};
 use std::alloc::Global;
 
@@ -29,6 +31,15 @@ pub(crate) struct Image {
     pub(crate) at: usize,
 }
 
+/// What a record says of a page.
+#[derive(Clone, Copy)]
+pub(crate) enum Said {
+    /// Its bytes.
+    Whole(Image),
+    /// A small change of this page.
+    Changed(u32, Small),
+}
+
 /// The records so far.
 #[derive(Drop)]
 pub(crate) struct Log {
@@ -43,8 +54,8 @@ pub(crate) struct Log {
     pub(crate) touches: Vec<Touch>,
     /// The transactions that committed or ended.
     pub(crate) closed: Vec<u64>,
-    /// Every image, in order.
-    pub(crate) images: Vec<Image>,
+    /// What is said of pages, in order.
+    said: Vec<Said>,
     /// What is wrong with the record that is read.
     pub(crate) found: Findings,
     /// Where that stands: the extent, the body, and how many bytes of records are ahead of it there.
@@ -84,7 +95,7 @@ impl Log {
             next: 0,
             touches: Vec::new(alloc),
             closed: Vec::new(alloc),
-            images: Vec::new(alloc),
+            said: Vec::new(alloc),
             found: Findings::new(alloc),
             extent,
             body: 0,
@@ -211,8 +222,44 @@ impl Log {
     fn test_image(&mut self, image: Image) -> Result<(), Damage> {
         let is_used = self.is_used(image.page);
         self.test(is_used, rules::PAGE_IN_USE)?;
-        self.images.push(image)?;
+        self.said.push(Said::Whole(image))?;
         Ok(())
+    }
+
+    /// A small change of a page.
+    fn test_change(
+        &mut self,
+        alloc: Global,
+        image: &[u8],
+        page: u32,
+        small: Small,
+    ) -> Result<(), Damage> {
+        let Some(at) = self.place(page) else {
+            return self.test(false, rules::NO_IMAGE);
+        };
+        let fits = self.fits(alloc, page, page_at(image, at)?, &small)?;
+        self.test(fits, rules::UNFIT)?;
+        self.said.push(Said::Changed(page, small))?;
+        Ok(())
+    }
+
+    /// A write that tells by a small change how its leaf then is: the mark that the pair gets, or that it comes.
+    fn test_small(
+        &mut self,
+        alloc: Global,
+        image: &[u8],
+        told: &Touching,
+        marked: Option<bool>,
+    ) -> Result<(), Damage> {
+        self.test_touch(told)?;
+        let Some(entry) = told.entry else {
+            return Ok(());
+        };
+        let small = match marked {
+            Some(marked) => Small::Mark(entry, marked),
+            None => Small::Add(entry),
+        };
+        self.test_change(alloc, image, told.leaf, small)
     }
 
     /// A commit's or an end's transaction.
@@ -232,7 +279,12 @@ impl Log {
     }
 
     /// What a record says, which stands here.
-    pub(crate) fn take(&mut self, logged: &Logged) -> Result<(), Damage> {
+    pub(crate) fn take(
+        &mut self,
+        alloc: Global,
+        image: &[u8],
+        logged: &Logged,
+    ) -> Result<(), Damage> {
         match logged {
             Logged::Pages {
                 counter,
@@ -249,7 +301,7 @@ impl Log {
             }
             Logged::Write(touching, image) => {
                 self.test_touch(touching)?;
-                self.images.push(*image)?;
+                self.said.push(Said::Whole(*image))?;
                 Ok(())
             }
             Logged::Commit(transaction, number) => self.commit(*transaction, *number),
@@ -265,17 +317,66 @@ impl Log {
                 self.test_counters(*counter, *used)
             }
             Logged::Note(touching) => self.test_touch(touching),
+            Logged::Bit(touching, marked) => {
+                self.test_small(alloc, image, touching, Some(*marked))
+            }
+            Logged::Add(touching) => self.test_small(alloc, image, touching, None),
+            Logged::Adjust(page, Some(small)) => self.test_change(alloc, image, *page, *small),
+            Logged::Adjust(_, None) => self.test(false, rules::KEY),
         }
     }
 
-    /// Where a page's bytes begin: its last image, or its place in the page area.
-    pub(crate) fn place(&self, page: u32) -> usize {
-        let mut at = crate::bytes::sector(page as usize * 8 + 4160);
-        for image in self.images.iter() {
-            if image.page == page {
-                at = image.at;
+    /// Where the bytes of a page's last image begin, if the log has one.
+    pub(crate) fn place(&self, page: u32) -> Option<usize> {
+        let mut at = None;
+        for said in self.said.iter() {
+            match said {
+                Said::Whole(image) if image.page == page => at = Some(image.at),
+                _ => {}
             }
         }
         at
+    }
+
+    /// The small changes of a page since its last image.
+    fn changes_of(&self, alloc: Global, page: u32) -> Result<Vec<Small>, Damage> {
+        let mut changes = Vec::new(alloc);
+        for said in self.said.iter() {
+            match said {
+                Said::Whole(image) if image.page == page => changes.clear(),
+                Said::Changed(changed, small) if *changed == page => changes.push(*small)?,
+                _ => {}
+            }
+        }
+        Ok(changes)
+    }
+
+    /// The node of a page whose bytes were these before its small changes.
+    pub(crate) fn node_after(
+        &self,
+        alloc: Global,
+        pages: Option<u32>,
+        page: u32,
+        bytes: &[u8],
+    ) -> Result<Node, Damage> {
+        let mut node = node_of(alloc, self.parameters.class, pages, bytes)?;
+        for small in self.changes_of(alloc, page)?.iter() {
+            change(&mut node, self.most(), small)?;
+        }
+        Ok(node)
+    }
+
+    /// How many entries a node may have.
+    fn most(&self) -> usize {
+        usize::from(self.parameters.most)
+    }
+
+    /// Whether a small change fits its page. None fits a page that is no node.
+    fn fits(&self, alloc: Global, page: u32, bytes: &[u8], small: &Small) -> Result<bool, Damage> {
+        match self.node_after(alloc, None, page, bytes) {
+            Ok(mut node) => change(&mut node, self.most(), small),
+            Err(Damage::Memory) => Err(Damage::Memory),
+            Err(_) => Ok(false),
+        }
     }
 }

@@ -115,10 +115,18 @@ fn pair_of(class: u16, item: &[u8]) -> Result<Pair, Damage> {
     })
 }
 
+/// Whether an inner node's entry may name a page, on a device of so many pages; where that isn't told, any.
+fn may_name(pages: Option<u32>, page: u32) -> bool {
+    match pages {
+        Some(pages) => page > 0 && page <= pages,
+        None => true,
+    }
+}
+
 /// An inner node's entry: key, child.
-fn child_of(class: u16, pages: u32, item: &[u8]) -> Result<Child, Damage> {
+fn child_of(class: u16, pages: Option<u32>, item: &[u8]) -> Result<Child, Damage> {
     let page = u32_at(item, 16).ok_or(Damage::Entry)?;
-    if item.len() != 20 || page == 0 || page > pages {
+    if item.len() != 20 || !may_name(pages, page) {
         return Err(Damage::Entry);
     }
     let key = front_key(class, item)?;
@@ -134,7 +142,12 @@ fn pairs_of(alloc: Global, class: u16, page: &[u8]) -> Result<Vec<Pair>, Damage>
     Ok(pairs)
 }
 
-fn children_of(alloc: Global, class: u16, pages: u32, page: &[u8]) -> Result<Vec<Child>, Damage> {
+fn children_of(
+    alloc: Global,
+    class: u16,
+    pages: Option<u32>,
+    page: &[u8],
+) -> Result<Vec<Child>, Damage> {
     let mut children = Vec::new(alloc);
     for number in 0..count(page).ok_or(Damage::Page)? {
         let item = item(page, number).ok_or(Damage::Page)?;
@@ -143,8 +156,13 @@ fn children_of(alloc: Global, class: u16, pages: u32, page: &[u8]) -> Result<Vec
     Ok(children)
 }
 
-/// The node that a page's bytes spell, on a device of so many pages.
-pub(crate) fn node_of(alloc: Global, class: u16, pages: u32, page: &[u8]) -> Result<Node, Damage> {
+/// The node that a page's bytes spell, on a device of so many pages; where that isn't told, it may name any.
+pub(crate) fn node_of(
+    alloc: Global,
+    class: u16,
+    pages: Option<u32>,
+    page: &[u8],
+) -> Result<Node, Damage> {
     let level = u16_at(page, 0).ok_or(Damage::Page)?;
     let nsn = u64_at(page, 8).ok_or(Damage::Page)?;
     let right = u32_at(page, 16).ok_or(Damage::Page)?;

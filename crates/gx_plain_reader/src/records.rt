@@ -1,9 +1,11 @@
 //! The records of bodies, one behind another.
-use crate::bytes::{sector, span, u32_at, u64_at};
-use crate::key::{Entry, KEY, key_of};
+use crate::bytes::{sector, span, u16_at, u32_at, u64_at};
+use crate::key::{Entry, KEY, Key, key_of};
 use crate::log::{Image, Log};
 use crate::page::{PAGE, own_number, page_at};
+use crate::small::{SLOTS, Slots, Small};
 use crate::{Damage, rules};
+use std::alloc::Global;
 
 /// How many bytes of records a body may have.
 const MOST: u32 = 32_764;
@@ -40,6 +42,12 @@ pub(crate) enum Logged {
         next: u64,
     },
     Note(Touching),
+    /// What was written, and the mark after it.
+    Bit(Touching, bool),
+    /// What was written: a pair is added.
+    Add(Touching),
+    /// A page, and the small change of it; `None` where its key is none of the class.
+    Adjust(u32, Option<Small>),
 }
 
 /// How far a record is read.
@@ -76,6 +84,11 @@ impl<'a> Cursor<'a> {
         }
     }
 
+    fn number16(&mut self) -> Option<u16> {
+        let at = self.step(2)?;
+        u16_at(self.image, at)
+    }
+
     fn number32(&mut self) -> Option<u32> {
         let at = self.step(4)?;
         u32_at(self.image, at)
@@ -86,11 +99,24 @@ impl<'a> Cursor<'a> {
         u64_at(self.image, at)
     }
 
-    /// The entry of a row, by its key's bytes.
-    fn entry(&mut self, class: u16, row: u64) -> Option<Option<Entry>> {
+    /// A key, if it is one of the class.
+    fn key(&mut self, class: u16) -> Option<Option<Key>> {
         let at = self.step(KEY)?;
         let bytes = span(self.image, at, KEY)?;
-        Some(key_of(class, bytes).map(|key| Entry { row, key }))
+        Some(key_of(class, bytes))
+    }
+
+    /// The entry of a row, by its key's bytes.
+    fn entry(&mut self, class: u16, row: u64) -> Option<Option<Entry>> {
+        Some(self.key(class)?.map(|key| Entry { row, key }))
+    }
+
+    /// The number of a page that is changed, which isn't 0.
+    fn page(&mut self) -> Option<u32> {
+        match self.number32()? {
+            0 => None,
+            page => Some(page),
+        }
     }
 
     /// A page's number and its image, which has that number as its own.
@@ -174,6 +200,70 @@ fn note(class: u16, cursor: &mut Cursor<'_>) -> Option<Logged> {
     }))
 }
 
+/// A mark set: transaction, row, key, marks before and after, leaf.
+fn bit(class: u16, cursor: &mut Cursor<'_>) -> Option<Logged> {
+    let transaction = cursor.number64()?;
+    let row = cursor.number64()?;
+    let entry = cursor.entry(class, row)?;
+    let before = cursor.mark()?;
+    let after = cursor.mark()?;
+    let leaf = cursor.page()?;
+    let touching = Touching {
+        transaction,
+        entry,
+        before,
+        leaf,
+    };
+    Some(Logged::Bit(touching, after))
+}
+
+/// An entry added, which was absent before: transaction, row, key, leaf.
+fn add(class: u16, cursor: &mut Cursor<'_>) -> Option<Logged> {
+    let transaction = cursor.number64()?;
+    let row = cursor.number64()?;
+    let entry = cursor.entry(class, row)?;
+    let leaf = cursor.page()?;
+    let touching = Touching {
+        transaction,
+        entry,
+        before: true,
+        leaf,
+    };
+    Some(Logged::Add(touching))
+}
+
+/// A bound widened: page, slot, key.
+fn widen(class: u16, cursor: &mut Cursor<'_>) -> Option<Logged> {
+    let page = cursor.page()?;
+    let slot = cursor.number16()?;
+    let key = cursor.key(class)?;
+    Some(Logged::Adjust(page, key.map(|key| Small::Bound(slot, key))))
+}
+
+/// The slots of a sweep, behind their count.
+fn slots(cursor: &mut Cursor<'_>) -> Option<Slots> {
+    let count = usize::from(cursor.byte()?);
+    if count < 1 || count > SLOTS {
+        return None;
+    }
+    let mut numbers = [0; SLOTS];
+    let mut last = None;
+    for place in numbers.iter_mut().take(count) {
+        let slot = cursor.number16()?;
+        if last >= Some(slot) {
+            return None;
+        }
+        last = Some(slot);
+        *place = slot;
+    }
+    Some(Slots { numbers, count })
+}
+
+fn sweep(cursor: &mut Cursor<'_>) -> Option<Logged> {
+    let page = cursor.page()?;
+    Some(Logged::Adjust(page, Some(Small::Sweep(slots(cursor)?))))
+}
+
 /// The record that begins there. `None` where none does that is whole.
 fn record_at(class: u16, cursor: &mut Cursor<'_>) -> Option<Logged> {
     match cursor.byte()? {
@@ -183,6 +273,10 @@ fn record_at(class: u16, cursor: &mut Cursor<'_>) -> Option<Logged> {
         4 => Some(Logged::End(cursor.number64()?)),
         5 => counters(cursor),
         6 => note(class, cursor),
+        7 => bit(class, cursor),
+        8 => add(class, cursor),
+        9 => widen(class, cursor),
+        10 => sweep(cursor),
         _ => None,
     }
 }
@@ -197,7 +291,7 @@ fn may_stand(body: usize, at: usize, logged: &Logged) -> bool {
 }
 
 /// A body: how many bytes of records it has, and those records, whole.
-fn take_body(log: &mut Log, image: &[u8], at: usize) -> Result<(), Damage> {
+fn take_body(alloc: Global, log: &mut Log, image: &[u8], at: usize) -> Result<(), Damage> {
     log.at = 0;
     let size = u32_at(image, at).unwrap_or(0);
     if size < 1 || size > MOST {
@@ -219,7 +313,7 @@ fn take_body(log: &mut Log, image: &[u8], at: usize) -> Result<(), Damage> {
             Some(logged) => {
                 let may = may_stand(log.body, log.at, &logged);
                 log.test(may, rules::MISPLACED)?;
-                log.take(&logged)?;
+                log.take(alloc, image, &logged)?;
             }
             None => log.test(false, rules::SPELLING)?,
         }
@@ -228,7 +322,12 @@ fn take_body(log: &mut Log, image: &[u8], at: usize) -> Result<(), Damage> {
 }
 
 /// The records behind the leading open gates of an extent that begins at this sector, up to one that may not be there.
-pub(crate) fn take_extent(log: &mut Log, image: &[u8], first: usize) -> Result<(), Damage> {
+pub(crate) fn take_extent(
+    alloc: Global,
+    log: &mut Log,
+    image: &[u8],
+    first: usize,
+) -> Result<(), Damage> {
     for place in 0..32_usize {
         log.body = place;
         let gate = sector(first.saturating_add(place));
@@ -236,7 +335,7 @@ pub(crate) fn take_extent(log: &mut Log, image: &[u8], first: usize) -> Result<(
             return log.test(place > 0, rules::FIRST_GATE);
         }
         let body = sector(first.saturating_add(32 + 64 * place));
-        take_body(log, image, body)?;
+        take_body(alloc, log, image, body)?;
         if !log.found.is_none() {
             break;
         }

@@ -54,6 +54,13 @@ pub(crate) const COMMIT_NUMBER: Rule = Rule(
     "a commit has not the next number",
 );
 
+pub(crate) const NO_IMAGE: Rule = Rule(
+    Damage::Change,
+    "a page is changed of which the log has no image",
+);
+
+pub(crate) const UNFIT: Rule = Rule(Damage::Change, "a change does not fit its page");
+
 // Of a page by itself: one that isn't spelled, has another number, or isn't a node of the class. All are told alike.
 pub(crate) const PAGE: Rule = Rule(Damage::Page, "");
 

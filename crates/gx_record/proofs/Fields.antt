@@ -11,10 +11,10 @@ use Rattle.gx_page.specs.declared.fault.PageFault.{PageFault}
 use Rattle.gx_page.proofs.Parts.{image_size}
 use Rattle.gx_page.proofs.Pieces.{both}
 use Rattle.gx_page.proofs.Faultless.{is_image, image_faultless}
-use Rattle.gx_record.specs.Bytes.{u64_bytes, u32_bytes, u64_of, u32_of, mark_byte}
+use Rattle.gx_record.specs.Bytes.{u64_bytes, u32_bytes, u16_bytes, u64_of, u32_of, u16_of, mark_byte}
 use Rattle.gx_record.specs.Format.{IsImageOf, IsPage, ArePages, pages_bytes, entry_bytes}
-use Rattle.gx_record.specs.Reading.{◌>>=◌, bytes_at, number_8_at, number_4_at, mark_at, page_at, is_image_of, image_at, numbered_at, rising_at, images_at, entry_at}
-use Rattle.gx_record.proofs.Numbers.{length-u64_bytes, length-u32_bytes, u64_again, u32_again, u64_back, u32_back, u64_below, u32_below}
+use Rattle.gx_record.specs.Reading.{◌>>=◌, bytes_at, number_8_at, number_4_at, number_2_at, mark_at, page_at, is_image_of, image_at, numbered_at, rising_at, images_at, entry_at}
+use Rattle.gx_record.proofs.Numbers.{length-u64_bytes, length-u32_bytes, length-u16_bytes, u64_again, u32_again, u16_again, u64_back, u32_back, u16_back, u64_below, u32_below, u16_below}
 
 are-drop : (n : ℕ) (bytes : List ℕ) → AreBytes bytes → AreBytes (drop n bytes)
 are-drop n bytes are i = rw get_or-drop (are (n + i))
@@ -34,11 +34,11 @@ pub bind_some : {A B : Type 0} (o : Option A) (f : A → Option B) (y : B) → (
 bind_some (Some x) f y e = (x, refl, e)
 bind_some None f y e = absurd cc
 
-unless : {A : Type 0} (b : Bool) (x y : A) → cond b None (Some x) ≡ Some y → (b ≡ false) × (x ≡ y)
+pub unless : {A : Type 0} (b : Bool) (x y : A) → cond b None (Some x) ≡ Some y → (b ≡ false) × (x ≡ y)
 unless true x y e = absurd cc
 unless false x y e = (refl, cc)
 
-provided : {A : Type 0} (b : Bool) (x y : A) → cond b (Some x) None ≡ Some y → (b ≡ true) × (x ≡ y)
+pub provided : {A : Type 0} (b : Bool) (x y : A) → cond b (Some x) None ≡ Some y → (b ≡ true) × (x ≡ y)
 provided true x y e = (refl, cc)
 provided false x y e = absurd cc
 
@@ -106,6 +106,19 @@ number_4_takes bytes x are e =
 pub number_4_again : (n : ℕ) (rest : List ℕ) → n < 2 ^ 32 → number_4_at (u32_bytes n ++ rest) ≡ Some (n, rest)
 unfolding number_4_at
 number_4_again n rest fits = rw (bytes_again 4 (u32_bytes n) rest (length-u32_bytes n), u32_again n fits) refl
+
+pub number_2_takes : (bytes : List ℕ) (x : ℕ × List ℕ) → AreBytes bytes → number_2_at bytes ≡ Some x → Takes bytes (u16_bytes x.0) x.1 × (x.0 < 2 ^ 16)
+unfolding number_2_at
+number_2_takes bytes x are e =
+    let b = bind_some (bytes_at 2 bytes) (λ front. Some (u16_of front.0, front.1)) x e in
+    let t = bytes_take 2 bytes b.0 are b.1 in
+    let same : u16_bytes (u16_of b.0.0) ≡ b.0.0 = u16_back b.0.0 t.long t.are in
+    let whole : Takes bytes (u16_bytes (u16_of b.0.0)) b.0.1 = rw same t.takes in
+    subst (λ (y : ℕ × List ℕ). Takes bytes (u16_bytes y.0) y.1 × (y.0 < 2 ^ 16)) (some_is _ _ b.2) (whole, u16_below b.0.0 t.are)
+
+pub number_2_again : (n : ℕ) (rest : List ℕ) → n < 2 ^ 16 → number_2_at (u16_bytes n ++ rest) ≡ Some (n, rest)
+unfolding number_2_at
+number_2_again n rest fits = rw (bytes_again 2 (u16_bytes n) rest (length-u16_bytes n), u16_again n fits) refl
 
 -- ---- marks
 

@@ -8,14 +8,16 @@ use Rattle.gx_page.specs.Contents.{Contents}
 use Rattle.gx_page.specs.Format.{image_of, IsWellFormed}
 use Rattle.gx_page.specs.Reading.{read_of}
 use Rattle.gx_page.proofs.Images.{read-image}
-use Rattle.gx_record.specs.declared.sizes.TheConstants.{END_RECORD, SPLIT_RECORD}
-use Rattle.gx_record.specs.Bytes.{u64_bytes, u32_bytes, mark_byte}
-use Rattle.gx_record.specs.Rec.{Rec, Pages, Write, Commit, End, Counters, Note}
+use Rattle.gx_record.specs.declared.sizes.TheConstants.{SPLIT_RECORD, WIDEN_BESIDE_KEY}
+use Rattle.gx_record.specs.Bytes.{u64_bytes, u32_bytes, u16_bytes, mark_byte}
+use Rattle.gx_record.specs.Rec.{Rec, Pages, Write, Commit, End, Counters, Note, Bit, Add, Widen, Sweep}
 use Rattle.gx_record.specs.Format.{IsRecord, IsImageOf, BeginsWith, spelling, spellings, pages_bytes, entry_bytes}
-use Rattle.gx_record.specs.Reading.{pages_at, write_at, commit_at, end_at, counters_at, note_at, fields_at, record_at}
-use Rattle.gx_record.proofs.Fields.{are-rest, found, some_is, number_8_again, number_4_again, mark_again, page_again, numbered_again, images_again, entry_again}
+use Rattle.gx_record.specs.Slots.{slots_bytes}
+use Rattle.gx_record.specs.Reading.{pages_at, write_at, commit_at, end_at, counters_at, note_at, bit_at, add_at, widen_at, sweep_at, fields_at, record_at}
+use Rattle.gx_record.proofs.Fields.{are-rest, found, some_is, bytes_again, number_8_again, number_4_again, number_2_again, mark_again, page_again, numbered_again, images_again, entry_again}
+use Rattle.gx_record.proofs.SlotFields.{slots_read}
 use Rattle.gx_record.proofs.Writes.{spelling_size}
-use Rattle.gx_record.proofs.ByKind.{TakesRecord, pages_take, write_takes, commit_takes, end_takes, counters_take, note_takes}
+use Rattle.gx_record.proofs.ByKind.{TakesRecord, pages_take, write_takes, commit_takes, end_takes, counters_take, note_takes, bit_takes, add_takes, widen_takes, sweep_takes}
 
 -- which way a test went
 chosen : {A : Type 0} (b : Bool) (x y z : A) → cond b x y ≡ z → (b ≡ true → x ≡ z) × (b ≡ false → y ≡ z)
@@ -45,14 +47,18 @@ fields_take key tag bytes x are e =
     kind_takes 3 key tag bytes x _ _ e (commit_takes key bytes x are) (λ e.
     kind_takes 4 key tag bytes x _ _ e (end_takes key bytes x are) (λ e.
     kind_takes 5 key tag bytes x _ _ e (counters_take key bytes x are) (λ e.
-    kind_takes 6 key tag bytes x _ _ e (note_takes key bytes x are) (none_takes key tag bytes x None refl))))))
+    kind_takes 6 key tag bytes x _ _ e (note_takes key bytes x are) (λ e.
+    kind_takes 7 key tag bytes x _ _ e (bit_takes key bytes x are) (λ e.
+    kind_takes 8 key tag bytes x _ _ e (add_takes key bytes x are) (λ e.
+    kind_takes 9 key tag bytes x _ _ e (widen_takes key bytes x are) (λ e.
+    kind_takes 10 key tag bytes x _ _ e (sweep_takes key bytes x are) (none_takes key tag bytes x None refl))))))))))
 
 pub record_takes : (key tag : ℕ) (rest : List ℕ) (x : Rec × List ℕ) → AreBytes (tag ∷ rest) → record_at key (tag ∷ rest) ≡ Some x → TakesRecord key tag rest x
 unfolding record_at
 record_takes key tag rest x are e = fields_take key tag rest x (are-rest tag rest are) e
 
 pub record_again : (key : ℕ) (r : Rec) (rest : List ℕ) → IsRecord key r → record_at key (spelling r ++ rest) ≡ Some (r, rest)
-unfolding record_at fields_at pages_at write_at commit_at end_at counters_at note_at
+unfolding record_at fields_at pages_at write_at commit_at end_at counters_at note_at bit_at add_at widen_at sweep_at
 record_again key (Pages counter used pages) rest is =
     let p = is.in_range in
     let regrouped : (u64_bytes counter ++ (u32_bytes used ++ (length pages ∷ pages_bytes pages))) ++ rest ≡ u64_bytes counter ++ (u32_bytes used ++ (length pages ∷ (pages_bytes pages ++ rest))) = simp append_assoc in
@@ -76,6 +82,23 @@ record_again key (Note tx row k before leaf) rest is =
     let behind = mark_byte before ∷ (u32_bytes leaf ++ rest) in
     let regrouped : (entry_bytes tx row k ++ (mark_byte before ∷ u32_bytes leaf)) ++ rest ≡ entry_bytes tx row k ++ behind = simp append_assoc in
     rw (regrouped, entry_again key tx row k behind p.0 p.1 is.has_key, mark_again before _, page_again 0 leaf rest (omega arith) p.2) refl
+record_again key (Bit tx row k before after leaf) rest is =
+    let p = is.in_range in
+    let behind = mark_byte before ∷ mark_byte after ∷ (u32_bytes leaf ++ rest) in
+    let regrouped : (entry_bytes tx row k ++ (mark_byte before ∷ mark_byte after ∷ u32_bytes leaf)) ++ rest ≡ entry_bytes tx row k ++ behind = simp append_assoc in
+    rw (regrouped, entry_again key tx row k behind p.0 p.1 is.has_key, mark_again before _, mark_again after _, page_again 1 leaf rest p.2.0 p.2.1) refl
+record_again key (Add tx row k leaf) rest is =
+    let p = is.in_range in
+    let regrouped : (entry_bytes tx row k ++ u32_bytes leaf) ++ rest ≡ entry_bytes tx row k ++ (u32_bytes leaf ++ rest) = simp append_assoc in
+    rw (regrouped, entry_again key tx row k (u32_bytes leaf ++ rest) p.0 p.1 is.has_key, page_again 1 leaf rest p.2.0 p.2.1) refl
+record_again key (Widen page slot k) rest is =
+    let p = is.in_range in
+    let regrouped : (u32_bytes page ++ (u16_bytes slot ++ k)) ++ rest ≡ u32_bytes page ++ (u16_bytes slot ++ (k ++ rest)) = simp append_assoc in
+    rw (regrouped, page_again 1 page _ p.0.0 p.0.1, number_2_again slot _ p.1, bytes_again key k rest is.has_key) refl
+record_again key (Sweep page slots) rest is =
+    let p = is.in_range in
+    let regrouped : (u32_bytes page ++ (length slots ∷ slots_bytes slots)) ++ rest ≡ u32_bytes page ++ (length slots ∷ (slots_bytes slots ++ rest)) = simp append_assoc in
+    rw (regrouped, page_again 1 page _ p.0.0 p.0.1, slots_read slots rest p.1 p.2 p.3) refl
 
 -- ---- what is answered
 
@@ -139,13 +162,17 @@ spelling_begins key r rest is =
     } in
     (begins, behind)
 
-pub spelling_sizes : (key : ℕ) (r : Rec) → IsRecord key r → (END_RECORD ≤ length (spelling r)) × (length (spelling r) ≤ SPLIT_RECORD + key)
+pub spelling_sizes : (key : ℕ) (r : Rec) → IsRecord key r → (WIDEN_BESIDE_KEY ≤ length (spelling r)) × (length (spelling r) ≤ SPLIT_RECORD + key)
 spelling_sizes key (Pages counter used pages) is = let size = spelling_size (Pages counter used pages) is.in_range in let few = is.in_range.3 in (omega (arith, size), omega (arith, size, few))
 spelling_sizes key (Write tx row k before after leaf image) is = let size = spelling_size (Write tx row k before after leaf image) is.in_range in (omega (arith, size), omega (arith, size, is.has_key))
 spelling_sizes key (Commit tx n) is = let size = spelling_size (Commit tx n) is.in_range in (omega (arith, size), omega (arith, size))
 spelling_sizes key (End tx) is = let size = spelling_size (End tx) is.in_range in (omega (arith, size), omega (arith, size))
 spelling_sizes key (Counters n counter used next) is = let size = spelling_size (Counters n counter used next) is.in_range in (omega (arith, size), omega (arith, size))
 spelling_sizes key (Note tx row k before leaf) is = let size = spelling_size (Note tx row k before leaf) is.in_range in (omega (arith, size), omega (arith, size, is.has_key))
+spelling_sizes key (Bit tx row k before after leaf) is = let size = spelling_size (Bit tx row k before after leaf) is.in_range in (omega (arith, size), omega (arith, size, is.has_key))
+spelling_sizes key (Add tx row k leaf) is = let size = spelling_size (Add tx row k leaf) is.in_range in (omega (arith, size), omega (arith, size, is.has_key))
+spelling_sizes key (Widen page slot k) is = let size = spelling_size (Widen page slot k) is.in_range in (omega (arith, size), omega (arith, size, is.has_key))
+spelling_sizes key (Sweep page slots) is = let size = spelling_size (Sweep page slots) is.in_range in let some = is.in_range.1 in let few = is.in_range.2 in (omega (arith, size, some), omega (arith, size, few))
 
 pub spellings_join : (rs ss : List Rec) → spellings (rs ++ ss) ≡ spellings rs ++ spellings ss
 spellings_join [] ss = refl

@@ -6,11 +6,13 @@ use Rattle.gx_page.specs.Bytes.{overwrite}
 use Rattle.gx_page.proofs.Pieces.{overwrite_more, length-overwrite}
 use Rattle.gx_page.proofs.Parts.{image_size}
 use Rattle.gx_record.specs.declared.sizes.TheConstants.{NUMBERED_IMAGE}
-use Rattle.gx_record.specs.Bytes.{u64_bytes, u32_bytes, mark_byte}
-use Rattle.gx_record.specs.Rec.{Rec, Pages, Write, Commit, End, Counters, Note}
+use Rattle.gx_record.specs.Bytes.{u64_bytes, u32_bytes, u16_bytes, mark_byte}
+use Rattle.gx_record.specs.Rec.{Rec, Pages, Write, Commit, End, Counters, Note, Bit, Add, Widen, Sweep}
 use Rattle.gx_record.specs.Format.{spelling, pages_bytes, entry_bytes, ArePages, IsInRange}
-use Rattle.gx_record.specs.Writing.{Wrote, size_of, IsWhole, HasWholeImages}
-use Rattle.gx_record.proofs.Numbers.{length-u64_bytes, length-u32_bytes}
+use Rattle.gx_record.specs.Writing.{Wrote, size_of, IsWhole, IsSized}
+use Rattle.gx_record.specs.Slots.{slots_bytes}
+use Rattle.gx_record.proofs.Numbers.{length-u64_bytes, length-u32_bytes, length-u16_bytes}
+use Rattle.gx_record.proofs.SlotBytes.{length-slots_bytes}
 
 -- a text behind another one
 pub then_wrote : {old now new : List ℕ} {at mid end : ℕ} {text more : List ℕ} → Wrote old now at text mid → Wrote now new mid more end → Wrote old new at (text ++ more) end
@@ -46,30 +48,42 @@ length-entry_bytes : (tx row : ℕ) (key : List ℕ) → length (entry_bytes tx 
 length-entry_bytes tx row key =
     omega (arith, length-u64_bytes tx, length-u64_bytes row, length-append (u64_bytes tx) (u64_bytes row ++ key), length-append (u64_bytes row) key)
 
-pub length-spelling : (r : Rec) → HasWholeImages r → length (spelling r) ≡ size_of r
-length-spelling (Pages counter used pages) whole =
-    simp length-append (omega (arith, length-u64_bytes counter, length-u32_bytes used, length-pages_bytes pages whole))
-length-spelling (Write tx row key before after leaf image) whole =
+pub length-spelling : (r : Rec) → IsSized r → length (spelling r) ≡ size_of r
+length-spelling (Pages counter used pages) sized =
+    simp length-append (omega (arith, length-u64_bytes counter, length-u32_bytes used, length-pages_bytes pages sized))
+length-spelling (Write tx row key before after leaf image) sized =
     omega (arith, length-append (entry_bytes tx row key) (mark_byte before ∷ mark_byte after ∷ (u32_bytes leaf ++ image)), length-append (u32_bytes leaf) image, length-u32_bytes leaf, length-entry_bytes tx row key)
-length-spelling (Commit tx n) whole = simp length-append (omega (arith, length-u64_bytes tx, length-u64_bytes n))
-length-spelling (End tx) whole = omega (arith, length-u64_bytes tx)
-length-spelling (Counters n counter used next) whole =
+length-spelling (Commit tx n) sized = simp length-append (omega (arith, length-u64_bytes tx, length-u64_bytes n))
+length-spelling (End tx) sized = omega (arith, length-u64_bytes tx)
+length-spelling (Counters n counter used next) sized =
     simp length-append (omega (arith, length-u64_bytes n, length-u64_bytes counter, length-u32_bytes used, length-u64_bytes next))
-length-spelling (Note tx row key before leaf) whole =
+length-spelling (Note tx row key before leaf) sized =
     omega (arith, length-append (entry_bytes tx row key) (mark_byte before ∷ u32_bytes leaf), length-u32_bytes leaf, length-entry_bytes tx row key)
+length-spelling (Bit tx row key before after leaf) sized =
+    omega (arith, length-append (entry_bytes tx row key) (mark_byte before ∷ mark_byte after ∷ u32_bytes leaf), length-u32_bytes leaf, length-entry_bytes tx row key)
+length-spelling (Add tx row key leaf) sized =
+    omega (arith, length-append (entry_bytes tx row key) (u32_bytes leaf), length-u32_bytes leaf, length-entry_bytes tx row key)
+length-spelling (Widen page slot key) sized =
+    omega (arith, length-append (u32_bytes page) (u16_bytes slot ++ key), length-append (u16_bytes slot) key, length-u32_bytes page, length-u16_bytes slot)
+length-spelling (Sweep page slots) sized =
+    omega (arith, length-append (u32_bytes page) (length slots ∷ slots_bytes slots), length-u32_bytes page, length-slots_bytes slots)
 
 pages_whole : (least : ℕ) (pages : List (ℕ × List ℕ)) → ArePages least pages → AllByRecursion IsWhole pages
 pages_whole least [] are = tt
 pages_whole least (p ∷ pages) are = (image_size p.1 are.1.image.image, pages_whole (p.0 + 1) pages are.2)
 
-pub in_range_whole : (r : Rec) → IsInRange r → HasWholeImages r
-in_range_whole (Pages counter used pages) is = pages_whole 0 pages is.4
-in_range_whole (Write tx row key before after leaf image) is = image_size image is.2.image.image
-in_range_whole (Commit tx n) is = tt
-in_range_whole (End tx) is = tt
-in_range_whole (Counters n counter used next) is = tt
-in_range_whole (Note tx row key before leaf) is = tt
+pub in_range_sized : (r : Rec) → IsInRange r → IsSized r
+in_range_sized (Pages counter used pages) is = pages_whole 0 pages is.4
+in_range_sized (Write tx row key before after leaf image) is = image_size image is.2.image.image
+in_range_sized (Commit tx n) is = tt
+in_range_sized (End tx) is = tt
+in_range_sized (Counters n counter used next) is = tt
+in_range_sized (Note tx row key before leaf) is = tt
+in_range_sized (Bit tx row key before after leaf) is = tt
+in_range_sized (Add tx row key leaf) is = tt
+in_range_sized (Widen page slot key) is = tt
+in_range_sized (Sweep page slots) is = is.2
 
 -- the same of a record in range
 pub spelling_size : (r : Rec) → IsInRange r → length (spelling r) ≡ size_of r
-spelling_size r is = length-spelling r (in_range_whole r is)
+spelling_size r is = length-spelling r (in_range_sized r is)

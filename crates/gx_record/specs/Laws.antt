@@ -3,7 +3,7 @@ use Rattle.std.specs.Prelude.{◌≡◌, ◌↔◌, ℕ, ◌+◌, ◌≤◌, Lis
 use Rattle.std.specs.List.{AllByRecursion}
 use Rattle.gx_page.specs.Contents.{Contents}
 use Rattle.gx_page.specs.Format.{image_of, IsWellFormed}
-use Rattle.gx_record.specs.declared.sizes.TheConstants.{END_RECORD, SPLIT_RECORD}
+use Rattle.gx_record.specs.declared.sizes.TheConstants.{SPLIT_RECORD, WIDEN_BESIDE_KEY}
 use Rattle.gx_record.specs.Rec.{Rec}
 use Rattle.gx_record.specs.Format.{spelling, spellings, IsImageOf, IsRecord, BeginsWith}
 use Rattle.gx_record.specs.Writing.{size_of}
@@ -30,7 +30,7 @@ SpellingsHaveSizes = (key : ℕ) (r : Rec) → IsRecord key r → length (spelli
 
 -- how long a spelling is at least and at most
 abbrev pub SpellingsAreShort : Type 0
-SpellingsAreShort = (key : ℕ) (r : Rec) → IsRecord key r → (END_RECORD ≤ length (spelling r)) × (length (spelling r) ≤ SPLIT_RECORD + key)
+SpellingsAreShort = (key : ℕ) (r : Rec) → IsRecord key r → (WIDEN_BESIDE_KEY ≤ length (spelling r)) × (length (spelling r) ≤ SPLIT_RECORD + key)
 
 -- images are images of pages
 abbrev pub ImagesAreOfPages : Type 0

@@ -4,4 +4,5 @@ pub mod Laws
 pub mod Reading
 pub mod Rec
 pub mod Seen
+pub mod Slots
 pub mod Writing

@@ -1,10 +1,12 @@
 -- Reading from left to right: what is read and the bytes after it, or nothing.
-use Rattle.std.specs.Prelude.{◌≡◌, ℕ, zero, suc, ◌+◌, ◌==◌, ◌&&◌, Bool, true, false, List, [], ◌∷◌, length, take, drop, Option, Some, None, nat_lt, is_none, if◌then◌else◌}
+use Rattle.std.specs.Prelude.{◌≡◌, ℕ, zero, suc, ◌+◌, ◌*◌, ◌==◌, ◌&&◌, ◌||◌, Bool, true, false, List, [], ◌∷◌, length, take, drop, Option, Some, None, nat_lt, is_none, if◌then◌else◌}
 use Rattle.gx_page.specs.declared.block.TheConstants.{PAGE_SIZE}
 use Rattle.gx_page.specs.Faults.{fault_of}
 use Rattle.gx_page.specs.Reading.{read_of}
-use Rattle.gx_record.specs.Bytes.{u64_of, u32_of}
-use Rattle.gx_record.specs.Rec.{Rec, Pages, Write, Commit, End, Counters, Note}
+use Rattle.gx_record.specs.declared.sizes.TheConstants.{MOST_SLOTS, SLOT_NUMBER}
+use Rattle.gx_record.specs.Bytes.{u64_of, u32_of, u16_of}
+use Rattle.gx_record.specs.Rec.{Rec, Pages, Write, Commit, End, Counters, Note, Bit, Add, Widen, Sweep}
+use Rattle.gx_record.specs.Slots.{slots_in, rise_from}
 
 infixl 10 ◌>>=◌
 abbrev pub ◌>>=◌ : {A B : Type 0} → Option A → (A → Option B) → Option B
@@ -28,6 +30,11 @@ unfoldable pub number_4_at : List ℕ → Option (ℕ × List ℕ)
 number_4_at bytes = do
   front ← bytes_at 4 bytes
   Some (u32_of front.0, front.1)
+
+unfoldable pub number_2_at : List ℕ → Option (ℕ × List ℕ)
+number_2_at bytes = do
+  front ← bytes_at 2 bytes
+  Some (u16_of front.0, front.1)
 
 unfoldable pub mark_at : List ℕ → Option (Bool × List ℕ)
 mark_at [] = None
@@ -122,6 +129,44 @@ note_at size bytes = do
   leaf ← page_at 0 before.1
   Some (Note entry.0.0 entry.0.1 entry.0.2 before.0 leaf.0, leaf.1)
 
+unfoldable pub bit_at : ℕ → List ℕ → Option (Rec × List ℕ)
+bit_at size bytes = do
+  entry ← entry_at size bytes
+  before ← mark_at entry.1
+  after ← mark_at before.1
+  leaf ← page_at 1 after.1
+  Some (Bit entry.0.0 entry.0.1 entry.0.2 before.0 after.0 leaf.0, leaf.1)
+
+unfoldable pub add_at : ℕ → List ℕ → Option (Rec × List ℕ)
+add_at size bytes = do
+  entry ← entry_at size bytes
+  leaf ← page_at 1 entry.1
+  Some (Add entry.0.0 entry.0.1 entry.0.2 leaf.0, leaf.1)
+
+unfoldable pub widen_at : ℕ → List ℕ → Option (Rec × List ℕ)
+widen_at size bytes = do
+  page ← page_at 1 bytes
+  slot ← number_2_at page.1
+  key ← bytes_at size slot.1
+  Some (Widen page.0 slot.0 key.0, key.1)
+
+-- so many slots, by rising number
+unfoldable pub rising_slots_at : ℕ → List ℕ → Option (List ℕ × List ℕ)
+rising_slots_at count bytes = do
+  front ← bytes_at (SLOT_NUMBER * count) bytes
+  if rise_from 0 (slots_in front.0) then Some (slots_in front.0, front.1) else None
+
+-- one slot to the most, behind their count
+unfoldable pub slots_at : List ℕ → Option (List ℕ × List ℕ)
+slots_at [] = None
+slots_at (count ∷ rest) = if nat_lt count 1 || nat_lt MOST_SLOTS count then None else rising_slots_at count rest
+
+unfoldable pub sweep_at : List ℕ → Option (Rec × List ℕ)
+sweep_at bytes = do
+  page ← page_at 1 bytes
+  slots ← slots_at page.1
+  Some (Sweep page.0 slots.0, slots.1)
+
 -- the fields behind a byte for the kind
 unfoldable pub fields_at : ℕ → ℕ → List ℕ → Option (Rec × List ℕ)
 fields_at size tag bytes =
@@ -130,7 +175,11 @@ fields_at size tag bytes =
     else (if tag == 3 then commit_at bytes
     else (if tag == 4 then end_at bytes
     else (if tag == 5 then counters_at bytes
-    else (if tag == 6 then note_at size bytes else None)))))
+    else (if tag == 6 then note_at size bytes
+    else (if tag == 7 then bit_at size bytes
+    else (if tag == 8 then add_at size bytes
+    else (if tag == 9 then widen_at size bytes
+    else (if tag == 10 then sweep_at bytes else None)))))))))
 
 unfoldable pub record_at : ℕ → List ℕ → Option (Rec × List ℕ)
 record_at size [] = None

@@ -3,8 +3,9 @@ use Rattle.std.specs.Prelude.{◌≡◌, ℕ, ◌+◌, ◌*◌, ◌≤◌, List,
 use Rattle.std.specs.List.{AllByRecursion}
 use Rattle.gx_page.specs.declared.block.TheConstants.{PAGE_SIZE}
 use Rattle.gx_page.specs.Bytes.{overwrite}
-use Rattle.gx_record.specs.declared.sizes.TheConstants.{COMMIT_RECORD, COUNTERS_RECORD, END_RECORD, NUMBERED_IMAGE, NOTE_BESIDE_KEY, PAGES_HEAD, WRITE_BESIDE_KEY}
-use Rattle.gx_record.specs.Rec.{Rec, Pages, Write, Commit, End, Counters, Note}
+use Rattle.gx_record.specs.declared.sizes.TheConstants.{ADD_BESIDE_KEY, BIT_BESIDE_KEY, COMMIT_RECORD, COUNTERS_RECORD, END_RECORD}
+use Rattle.gx_record.specs.declared.sizes.TheConstants.{MOST_SLOTS, NUMBERED_IMAGE, NOTE_BESIDE_KEY, PAGES_HEAD, SLOT_NUMBER, SWEEP_BESIDE_SLOTS, WIDEN_BESIDE_KEY, WRITE_BESIDE_KEY}
+use Rattle.gx_record.specs.Rec.{Rec, Pages, Write, Commit, End, Counters, Note, Bit, Add, Widen, Sweep}
 
 -- a text stands from a place on up to another one, and all else is as it was
 pub record Wrote (old new : List ℕ) (at : ℕ) (text : List ℕ) (end : ℕ) : Type 0 where
@@ -20,6 +21,10 @@ size_of (Commit tx n) = COMMIT_RECORD
 size_of (End tx) = END_RECORD
 size_of (Counters n counter used next) = COUNTERS_RECORD
 size_of (Note tx row key before leaf) = NOTE_BESIDE_KEY + length key
+size_of (Bit tx row key before after leaf) = BIT_BESIDE_KEY + length key
+size_of (Add tx row key leaf) = ADD_BESIDE_KEY + length key
+size_of (Widen page slot key) = WIDEN_BESIDE_KEY + length key
+size_of (Sweep page slots) = SWEEP_BESIDE_SLOTS + SLOT_NUMBER * length slots
 
 -- how many bytes the record of a write has whose key is spelled in so many
 abbrev pub write_record : ℕ → ℕ
@@ -28,8 +33,9 @@ write_record key = key + WRITE_BESIDE_KEY
 abbrev pub IsWhole : ℕ × List ℕ → Type 0
 IsWhole p = length p.1 ≡ PAGE_SIZE
 
--- each image has a page's size
-abbrev pub HasWholeImages : Rec → Type 0
-HasWholeImages (Pages counter used pages) = AllByRecursion IsWhole pages
-HasWholeImages (Write tx row key before after leaf image) = length image ≡ PAGE_SIZE
-HasWholeImages _ = Unit {0}
+-- each image has a page's size, and there are no more slots than a sweep has
+abbrev pub IsSized : Rec → Type 0
+IsSized (Pages counter used pages) = AllByRecursion IsWhole pages
+IsSized (Write tx row key before after leaf image) = length image ≡ PAGE_SIZE
+IsSized (Sweep page slots) = length slots ≤ MOST_SLOTS
+IsSized _ = Unit {0}

@@ -1,14 +1,17 @@
 //! Reading a record from the front of bytes, field by field. Each function answers what it read and the bytes after it.
-ghost use Rattle.std.specs.Prelude.{◌≡◌};
-ghost use Rattle.gx_record.specs.Reading.{Reads, bytes_at, number_8_at, number_4_at, mark_at, page_at};
+ghost use Rattle.std.specs.Prelude.{◌≡◌, ◌≤◌};
+ghost use Rattle.gx_record.specs.Reading.{Reads, bytes_at, number_8_at, number_4_at, number_2_at, mark_at, page_at};
 ghost use Rattle.gx_record.specs.Reading.{is_image_of, image_at, numbered_at, rising_at, images_at, pages_at};
 ghost use Rattle.gx_record.specs.Reading.{entry_at, write_at, commit_at, end_at, counters_at, note_at, record_at};
-ghost use Rattle.gx_record.specs.Seen.{is_marked, numbered, images, rec_of};
+ghost use Rattle.gx_record.specs.Reading.{bit_at, add_at, widen_at, rising_slots_at, slots_at, sweep_at};
+ghost use Rattle.gx_record.specs.Seen.{is_marked, numbered, images, slots as slots_of, rec_of};
 
 use crate::mark::Mark;
 use crate::pages::{PageImage, PageImages};
 use crate::record::Record;
-use crate::tags::{COMMIT, COUNTERS, END, NOTE, PAGES, WRITE};
+use crate::sizes::{MOST_SLOTS, SLOT_NUMBER};
+use crate::slots::Slots;
+use crate::tags::{ADD, BIT, COMMIT, COUNTERS, END, NOTE, PAGES, SWEEP, WIDEN, WRITE};
 use gx_page::{PAGE_SIZE, Page};
 
 fn bytes_at(bytes: &[u8], size: usize) -> Option<(&[u8], &[u8])>
@@ -34,6 +37,14 @@ fn u32_at(bytes: &[u8]) -> Option<(u32, &[u8])>
 {
     let (front, rest) = bytes_at(bytes, 4)?;
     Some((u32::from_be_bytes(*front.first_chunk::<4>()?), rest))
+}
+
+#[tactic(auto, unfolding(crate::specs::Reading::number_2_at, crate::specs::Bytes::u16_of))]
+fn u16_at(bytes: &[u8]) -> Option<(u16, &[u8])>
+    ensures { Reads (λ x. (x.0, x.1.now)) result (number_2_at bytes.now) }
+{
+    let (front, rest) = bytes_at(bytes, 2)?;
+    Some((u16::from_be_bytes(*front.first_chunk::<2>()?), rest))
 }
 
 #[tactic(auto, unfolding(crate::specs::Reading::mark_at))]
@@ -234,6 +245,83 @@ fn note_at(bytes: &[u8], size: usize) -> Option<(Record<'_>, &[u8])>
     Some((record, rest))
 }
 
+#[tactic(auto, unfolding(crate::specs::Reading::bit_at))]
+fn bit_at(bytes: &[u8], size: usize) -> Option<(Record<'_>, &[u8])>
+    ensures { Reads (λ x. (rec_of x.0, x.1.now)) result (bit_at size bytes.now) }
+{
+    let (Entry { tx, row, key }, rest) = entry_at(bytes, size)?;
+    let (before, rest) = mark_at(rest)?;
+    let (after, rest) = mark_at(rest)?;
+    let (leaf, rest) = page_at(rest, 1)?;
+    let record = Record::Bit {
+        tx,
+        row,
+        key,
+        before,
+        after,
+        leaf,
+    };
+    Some((record, rest))
+}
+
+#[tactic(auto, unfolding(crate::specs::Reading::add_at))]
+fn add_at(bytes: &[u8], size: usize) -> Option<(Record<'_>, &[u8])>
+    ensures { Reads (λ x. (rec_of x.0, x.1.now)) result (add_at size bytes.now) }
+{
+    let (Entry { tx, row, key }, rest) = entry_at(bytes, size)?;
+    let (leaf, rest) = page_at(rest, 1)?;
+    let record = Record::Add { tx, row, key, leaf };
+    Some((record, rest))
+}
+
+#[tactic(auto, unfolding(crate::specs::Reading::widen_at))]
+fn widen_at(bytes: &[u8], size: usize) -> Option<(Record<'_>, &[u8])>
+    ensures { Reads (λ x. (rec_of x.0, x.1.now)) result (widen_at size bytes.now) }
+{
+    let (page, rest) = page_at(bytes, 1)?;
+    let (slot, rest) = u16_at(rest)?;
+    let (key, behind) = bytes_at(rest, size)?;
+    Some((Record::Widen { page, slot, key }, behind))
+}
+
+/// So many slots, which rise.
+#[tactic(auto, unfolding(crate::specs::Reading::rising_slots_at))]
+fn rising_slots_at(bytes: &[u8], count: usize) -> Option<(Slots<'_>, &[u8])>
+    requires { count ≤ MOST_SLOTS }
+    ensures { Reads (λ x. (slots_of x.0, x.1.now)) result (rising_slots_at count bytes.now) }
+{
+    let (bytes, rest) = bytes_at(bytes, SLOT_NUMBER * count)?;
+    let slots = Slots { bytes };
+    if !slots.rise() {
+        return None;
+    }
+    Some((slots, rest))
+}
+
+/// One slot to the most, behind their count.
+#[tactic(auto, unfolding(crate::specs::Reading::slots_at))]
+fn slots_at(bytes: &[u8]) -> Option<(Slots<'_>, &[u8])>
+    ensures { Reads (λ x. (slots_of x.0, x.1.now)) result (slots_at bytes.now) }
+{
+    let [count, rest @ ..] = bytes else {
+        return None;
+    };
+    let count = usize::from(*count);
+    if count < 1 || MOST_SLOTS < count {
+        return None;
+    }
+    rising_slots_at(rest, count)
+}
+
+#[tactic(auto, unfolding(crate::specs::Reading::sweep_at))]
+fn sweep_at(bytes: &[u8]) -> Option<(Record<'_>, &[u8])>
+    ensures { Reads (λ x. (rec_of x.0, x.1.now)) result (sweep_at bytes.now) }
+{
+    let (leaf, rest) = page_at(bytes, 1)?;
+    let (slots, rest) = slots_at(rest)?;
+    Some((Record::Sweep { page: leaf, slots }, rest))
+}
+
 /// The record at the front, with a key of `size` bytes, and the bytes after it.
 #[tactic(auto, unfolding(crate::specs::Reading::record_at, crate::specs::Reading::fields_at))]
 pub(crate) fn record_at(bytes: &[u8], size: usize) -> Option<(Record<'_>, &[u8])>
@@ -249,6 +337,10 @@ pub(crate) fn record_at(bytes: &[u8], size: usize) -> Option<(Record<'_>, &[u8])
         END => end_at(rest),
         COUNTERS => counters_at(rest),
         NOTE => note_at(rest, size),
+        BIT => bit_at(rest, size),
+        ADD => add_at(rest, size),
+        WIDEN => widen_at(rest, size),
+        SWEEP => sweep_at(rest),
         _ => None,
     }
 }

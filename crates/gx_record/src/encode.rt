@@ -1,25 +1,28 @@
 //! Writing a record's spelling, field by field. Each function that writes answers the place behind what it wrote.
 ghost use Rattle.std.specs.Prelude.{◌≡◌, ◌+◌, ◌≤◌, ◌++◌, ◌∷◌, ◌*◌, [], length};
 ghost use Rattle.std.specs.List.{AllByRecursion};
-ghost use Rattle.gx_record.specs.Bytes.{u64_bytes, u32_bytes, mark_byte};
+ghost use Rattle.gx_record.specs.Bytes.{u64_bytes, u32_bytes, u16_bytes, mark_byte};
 ghost use Rattle.gx_record.specs.Format.{entry_bytes, pages_bytes, spelling};
-ghost use Rattle.gx_record.specs.Rec.{Pages, Write, Commit, Counters, Note};
-ghost use Rattle.gx_record.specs.Seen.{is_marked, images, rec_of};
-ghost use Rattle.gx_record.specs.Writing.{Wrote, size_of, IsWhole, HasWholeImages};
+ghost use Rattle.gx_record.specs.Rec.{Pages, Write, Commit, Counters, Note, Bit, Add, Widen, Sweep};
+ghost use Rattle.gx_record.specs.Seen.{is_marked, images, slots as slots_of, rec_of};
+ghost use Rattle.gx_record.specs.Slots.{slots_bytes};
+ghost use Rattle.gx_record.specs.Writing.{Wrote, size_of, IsWhole, IsSized};
 
 use crate::mark::Mark;
 use crate::pages::{PageImage, PageImages};
 use crate::record::Record;
 use crate::sizes::{
-    COMMIT_RECORD, COUNTERS_RECORD, END_RECORD, NOTE_BESIDE_KEY, NUMBERED_IMAGE, PAGES_HEAD,
+    ADD_BESIDE_KEY, BIT_BESIDE_KEY, COMMIT_RECORD, COUNTERS_RECORD, END_RECORD, MOST_SLOTS,
+    NOTE_BESIDE_KEY, NUMBERED_IMAGE, PAGES_HEAD, SLOT_NUMBER, SWEEP_BESIDE_SLOTS, WIDEN_BESIDE_KEY,
     WRITE_BESIDE_KEY,
 };
-use crate::tags::{COMMIT, COUNTERS, END, NOTE, PAGES, WRITE};
+use crate::slots::{Slots, whole_slots};
+use crate::tags::{ADD, BIT, COMMIT, COUNTERS, END, NOTE, PAGES, SWEEP, WIDEN, WRITE};
 use gx_page::PAGE_SIZE;
 
 /// How many bytes the spelling has.
 pub(crate) fn length_of(logged: &Record<'_>) -> usize
-    requires { HasWholeImages (rec_of logged.now) }
+    requires { IsSized (rec_of logged.now) }
     ensures { result ≡ size_of (rec_of logged.now) }
 {
     match logged {
@@ -29,6 +32,10 @@ pub(crate) fn length_of(logged: &Record<'_>) -> usize
         Record::End { .. } => END_RECORD,
         Record::Counters { .. } => COUNTERS_RECORD,
         Record::Note { key, .. } => NOTE_BESIDE_KEY + key.len(),
+        Record::Bit { key, .. } => BIT_BESIDE_KEY + key.len(),
+        Record::Add { key, .. } => ADD_BESIDE_KEY + key.len(),
+        Record::Widen { key, .. } => WIDEN_BESIDE_KEY + key.len(),
+        Record::Sweep { slots, .. } => SWEEP_BESIDE_SLOTS + SLOT_NUMBER * slots.count(),
     }
 }
 
@@ -57,6 +64,15 @@ fn put_u32(out: &mut [u8], at: usize, number: u32) -> usize
     requires { at + 4 ≤ length out.old }
     ensures wrote { Wrote out.old out.new at (u32_bytes number) result }
     ensures behind { result ≡ at + 4 }
+{
+    put(out, at, &number.to_be_bytes())
+}
+
+#[tactic(auto, unfolding(crate::specs::Bytes::u16_bytes))]
+fn put_u16(out: &mut [u8], at: usize, number: u16) -> usize
+    requires { at + 2 ≤ length out.old }
+    ensures wrote { Wrote out.old out.new at (u16_bytes number) result }
+    ensures behind { result ≡ at + 2 }
 {
     put(out, at, &number.to_be_bytes())
 }
@@ -168,6 +184,61 @@ fn write_note(out: &mut [u8], tx: u64, row: u64, key: &[u8], before: Mark, leaf:
     put_u32(out, at, leaf)
 }
 
+/// Writes the record of a bit at the front: the mark before it, and the mark after it.
+fn write_bit(out: &mut [u8], tx: u64, row: u64, key: &[u8], marks: (Mark, Mark), leaf: u32) -> usize
+    requires { BIT_BESIDE_KEY + length key.now ≤ length out.old }
+    ensures { Wrote out.old out.new 0
+        (spelling (Bit tx row key.now (is_marked marks.0) (is_marked marks.1) leaf)) result }
+{
+    let at = put(out, 0, &[BIT]);
+    let at = put_entry(out, at, tx, row, key);
+    let at = put_mark(out, at, marks.0);
+    let at = put_mark(out, at, marks.1);
+    put_u32(out, at, leaf)
+}
+
+/// Writes the record of an entry added at the front.
+fn write_add(out: &mut [u8], tx: u64, row: u64, key: &[u8], leaf: u32) -> usize
+    requires { ADD_BESIDE_KEY + length key.now ≤ length out.old }
+    ensures { Wrote out.old out.new 0 (spelling (Add tx row key.now leaf)) result }
+{
+    let at = put(out, 0, &[ADD]);
+    let at = put_entry(out, at, tx, row, key);
+    put_u32(out, at, leaf)
+}
+
+/// Writes the record of a key widened at the front.
+fn write_widen(out: &mut [u8], page: u32, slot: u16, key: &[u8]) -> usize
+    requires { WIDEN_BESIDE_KEY + length key.now ≤ length out.old }
+    ensures { Wrote out.old out.new 0 (spelling (Widen page slot key.now)) result }
+{
+    let at = put(out, 0, &[WIDEN]);
+    let at = put_u32(out, at, page);
+    let at = put_u16(out, at, slot);
+    put(out, at, key)
+}
+
+/// Writes slots behind their count.
+fn put_slots(out: &mut [u8], at: usize, slots: &Slots<'_>) -> usize
+    requires few { length (slots_of slots.now) ≤ MOST_SLOTS }
+    requires room { at + (1 + SLOT_NUMBER * length (slots_of slots.now)) ≤ length out.old }
+    ensures { Wrote out.old out.new at (length (slots_of slots.now) ∷ slots_bytes (slots_of slots.now)) result }
+{
+    let at = put(out, at, &[slots.count() as u8]);
+    put(out, at, whole_slots(slots.bytes))
+}
+
+/// Writes a sweep's record at the front.
+fn write_sweep(out: &mut [u8], page: u32, slots: &Slots<'_>) -> usize
+    requires few { length (slots_of slots.now) ≤ MOST_SLOTS }
+    requires room { SWEEP_BESIDE_SLOTS + SLOT_NUMBER * length (slots_of slots.now) ≤ length out.old }
+    ensures { Wrote out.old out.new 0 (spelling (Sweep page (slots_of slots.now))) result }
+{
+    let at = put(out, 0, &[SWEEP]);
+    let at = put_u32(out, at, page);
+    put_slots(out, at, slots)
+}
+
 /// Writes a commit's record at the front.
 fn write_commit(out: &mut [u8], tx: u64, n: u64) -> usize
     requires { COMMIT_RECORD ≤ length out.old }
@@ -192,7 +263,7 @@ fn write_counters(out: &mut [u8], n: u64, counter: u64, used: u32, next: u64) ->
 
 /// Writes the spelling at the front.
 pub(crate) fn write(logged: &Record<'_>, out: &mut [u8]) -> usize
-    requires whole { HasWholeImages (rec_of logged.now) }
+    requires sized { IsSized (rec_of logged.now) }
     requires room { size_of (rec_of logged.now) ≤ length out.old }
     ensures { Wrote out.old out.new 0 (spelling (rec_of logged.now)) result }
 {
@@ -229,5 +300,16 @@ pub(crate) fn write(logged: &Record<'_>, out: &mut [u8]) -> usize
             before,
             leaf,
         } => write_note(out, tx, row, key, before, leaf),
+        Record::Bit {
+            tx,
+            row,
+            key,
+            before,
+            after,
+            leaf,
+        } => write_bit(out, tx, row, key, (before, after), leaf),
+        Record::Add { tx, row, key, leaf } => write_add(out, tx, row, key, leaf),
+        Record::Widen { page, slot, key } => write_widen(out, page, slot, key),
+        Record::Sweep { page, slots } => write_sweep(out, page, &slots),
     }
 }

@@ -4,8 +4,8 @@ ghost use Rattle.gx_record.specs.Laws.{SpellingsHaveSizes, SpellingsAreShort, Im
 
 /// No spelling of a record in range begins another's, so that bytes are whole records in one way only; and whatever a
 /// spelling begins has that record at its front. Records are spelled one after the other. How long a spelling is
-/// follows from its kind, how many pages it has, and its key: 9 to 12,314 bytes, not counting the key's. What a record
-/// calls an image of a page is the image of well-formed contents with that number.
+/// follows from its kind, how many pages or slots it has, and its key: 7 to 12,314 bytes, not counting the key's. What
+/// a record calls an image of a page is the image of well-formed contents with that number.
 pub fn format()
     ensures no_spelling_begins_another { NoSpellingBeginsAnother }
     ensures spellings_begin { SpellingsBegin }

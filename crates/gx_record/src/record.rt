@@ -6,12 +6,14 @@ ghost use Rattle.gx_record.specs.Seen.{rec_of, seen};
 
 use crate::mark::Mark;
 use crate::pages::PageImages;
+use crate::slots::Slots;
 use crate::{decode, encode};
 
 /// A record of the log. It borrows the bytes of its key and the images of its pages.
 ///
 /// In range are images that a page has, each with its page's own number, and pages by rising number. Any number of a
-/// field's width is in range, also a page's number 0.
+/// field's width is in range, also a page's number 0; but not the page 0 of a small record, one that says what changes
+/// on a page and not how it then is: `Bit`, `Add`, `Widen` and `Sweep`. A sweep has 1 to 100 slots, which rise.
 #[derive(Clone, Copy, PartialEq, Eq)]
 pub enum Record<'a> {
     /// Pages as a change leaves them, and the change counter and the number of pages in use after it.
@@ -55,11 +57,38 @@ pub enum Record<'a> {
         before: Mark,
         leaf: u32,
     },
+    /// A transaction changes the mark of an entry that a leaf has.
+    Bit {
+        tx: u64,
+        row: u64,
+        key: &'a [u8],
+        before: Mark,
+        after: Mark,
+        leaf: u32,
+    },
+    /// A transaction adds an entry to a leaf, live.
+    Add {
+        tx: u64,
+        row: u64,
+        key: &'a [u8],
+        leaf: u32,
+    },
+    /// The entry in a slot of an inner page gets this key.
+    Widen {
+        page: u32,
+        slot: u16,
+        key: &'a [u8],
+    },
+    /// The pairs in these slots leave a leaf.
+    Sweep {
+        page: u32,
+        slots: Slots<'a>,
+    },
 }
 
 impl<'a> Record<'a> {
     /// How many bytes the record's spelling has.
-    #[tactic(auto, using(crate::proofs::Writes::in_range_whole, crate::proofs::Writes::spelling_size))]
+    #[tactic(auto, using(crate::proofs::Writes::in_range_sized, crate::proofs::Writes::spelling_size))]
     pub fn length(&self) -> usize
         requires { IsInRange (rec_of self.now) }
         ensures { result ≡ length (spelling (rec_of self.now)) }
@@ -69,7 +98,7 @@ impl<'a> Record<'a> {
 
     /// Writes the record's spelling at the front, and answers how many bytes it has.
     /// None where there is no room for it, and nothing is then written.
-    #[tactic(auto, using(crate::proofs::Writes::in_range_whole, crate::proofs::Writes::front_wrote))]
+    #[tactic(auto, using(crate::proofs::Writes::in_range_sized, crate::proofs::Writes::front_wrote))]
     pub fn encode_into(&self, out: &mut [u8]) -> Option<usize>
         requires { IsInRange (rec_of self.now) }
         ensures fits { IsSome result ↔ (length (spelling (rec_of self.now)) ≤ length out.old) }

@@ -1,5 +1,5 @@
-//! How many bytes the spellings of records have: one each for the kind, a count and a mark, four for a page's number
-//! and for how many pages are in use, eight for each other number, and a page's own for its image.
+//! How many bytes the spellings of records have: one each for the kind, a count and a mark, two for a slot's number,
+//! four for a page's and for how many pages are in use, eight for each other number, and a page's own for its image.
 
 use gx_page::PAGE_SIZE;
 
@@ -24,8 +24,26 @@ pub const NOTE_BESIDE_KEY: usize = 1 + 8 + 8 + 1 + 4;
 /// A commit's record.
 pub const COMMIT_RECORD: usize = 1 + 8 + 8;
 
-/// An end's record: none has less.
+/// An end's record.
 pub const END_RECORD: usize = 1 + 8;
 
 /// A record of counters.
 pub const COUNTERS_RECORD: usize = 1 + 8 + 8 + 4 + 8;
+
+/// The record of a bit, without its key.
+pub const BIT_BESIDE_KEY: usize = 1 + 8 + 8 + 1 + 1 + 4;
+
+/// The record of an entry added, without its key.
+pub const ADD_BESIDE_KEY: usize = 1 + 8 + 8 + 4;
+
+/// The record of a key widened, without its key: none has less.
+pub const WIDEN_BESIDE_KEY: usize = 1 + 4 + 2;
+
+/// A sweep's record, without its slots.
+pub const SWEEP_BESIDE_SLOTS: usize = 1 + 4 + 1;
+
+/// The number of a slot.
+pub const SLOT_NUMBER: usize = 2;
+
+/// How many slots a sweep's record has at most.
+pub const MOST_SLOTS: usize = 100;

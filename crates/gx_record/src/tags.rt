@@ -1,4 +1,4 @@
-//! The first byte of each kind of record. The numbers 7 to 10 are kept for kinds to come.
+//! The first byte of each kind of record.
 
 pub(crate) const PAGES: u8 = 1;
 
@@ -11,3 +11,11 @@ pub(crate) const END: u8 = 4;
 pub(crate) const COUNTERS: u8 = 5;
 
 pub(crate) const NOTE: u8 = 6;
+
+pub(crate) const BIT: u8 = 7;
+
+pub(crate) const ADD: u8 = 8;
+
+pub(crate) const WIDEN: u8 = 9;
+
+pub(crate) const SWEEP: u8 = 10;

@@ -45,6 +45,10 @@ leaves_pages k r (rec.Pages counter used pages) is = absurd is
 leaves_pages k r (rec.Write tx row key before after leaf image) is = absurd is
 leaves_pages k r (rec.Counters n counter used next) is = absurd is
 leaves_pages k r (rec.Note tx row key before leaf) is = absurd is
+leaves_pages k r (rec.Bit tx row key before after leaf) is = absurd is
+leaves_pages k r (rec.Add tx row key leaf) is = absurd is
+leaves_pages k r (rec.Widen page slot key) is = absurd is
+leaves_pages k r (rec.Sweep page slots) is = absurd is
 
 has_key : (key : ℕ) (x : Rec) → GivesNoPage x → HasKey key x
 has_key key (rec.Commit tx n) is = tt
@@ -53,6 +57,10 @@ has_key key (rec.Pages counter used pages) is = absurd is
 has_key key (rec.Write tx row k before after leaf image) is = absurd is
 has_key key (rec.Counters n counter used next) is = absurd is
 has_key key (rec.Note tx row k before leaf) is = absurd is
+has_key key (rec.Bit tx row k before after leaf) is = absurd is
+has_key key (rec.Add tx row k leaf) is = absurd is
+has_key key (rec.Widen page slot k) is = absurd is
+has_key key (rec.Sweep page slots) is = absurd is
 
 -- the tree is as it was
 same_after : {E P : Type 0} (k : Known E P) (y : Record E P) (s : Logged E P) → Leaves k y → tree_of k s.area (all_records (appended y s)) ≡ tree_of k s.area (all_records s)

@@ -83,7 +83,7 @@ PutInHead x v w (Err fault) = (fault ≡ NoRoom) × ((BODY_ROOM < length v.log.f
 abbrev pub HeadHas : {E P : Type 0} → Reading E P → Record E P → Log → Log → Type 0
 HeadHas {E} {P} r x old new = (head : List (Record E P)) → AreRecords r old.flight head → AreRecords r new.flight (head ++ x ∷ [])
 
--- a record that gives no page
+-- a record that neither gives a page nor changes one
 abbrev pub GivesNoPage : Rec → Type 0
 GivesNoPage (rec.Commit tx n) = Unit {0}
 GivesNoPage (rec.End tx) = Unit {0}
@@ -91,6 +91,10 @@ GivesNoPage (rec.Pages counter used pages) = ⊥
 GivesNoPage (rec.Write tx row key before after leaf image) = ⊥
 GivesNoPage (rec.Counters n counter used next) = ⊥
 GivesNoPage (rec.Note tx row key before leaf) = ⊥
+GivesNoPage (rec.Bit tx row key before after leaf) = ⊥
+GivesNoPage (rec.Add tx row key leaf) = ⊥
+GivesNoPage (rec.Widen page slot key) = ⊥
+GivesNoPage (rec.Sweep page slots) = ⊥
 
 -- nothing is in flight or fills, a head was put, and no page is dirty
 pub record ReadyToTurn {D : Type 0} (v : Volume D) : Type 0 where

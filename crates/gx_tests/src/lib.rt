@@ -33,6 +33,8 @@ mod plain;
 #[cfg(test)]
 mod reaches;
 #[cfg(test)]
+mod records;
+#[cfg(test)]
 mod scripts;
 #[cfg(test)]
 mod trees;
