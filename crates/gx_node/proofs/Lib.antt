@@ -17,3 +17,6 @@ pub mod Scanning
 pub mod Slots
 pub mod Listed
 pub mod SmallItems
+pub mod SmallNodes
+pub mod SmallPages
+pub mod SmallKeeps

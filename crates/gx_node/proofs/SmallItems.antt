@@ -1,18 +1,19 @@
 -- The first item that passes, and slots spelled in two bytes each.
-use Rattle.std.proofs.Common.{◌≡◌, ℕ, zero, suc, ◌+◌, ◌-◌, ◌*◌, ◌<◌, ◌≤◌, ◌&&◌, ◌==◌, Bool, true, false, not, cond, List, [], ◌∷◌, length, get_or, set, take, drop, Option, Some, None, refl, sym, ap, ◌∙◌, arith}
+use Rattle.std.proofs.Common.{◌≡◌, ℕ, ◌+◌, ◌-◌, ◌*◌, ◌<◌, ◌≤◌, ◌&&◌, ◌==◌, Bool, true, false, not, cond, List, [], ◌∷◌, ◌++◌, length, get_or, set, take, drop, Option, Some, None, refl, sym, ap, ◌∙◌, arith}
 use Rattle.std.specs.Prelude.{position, nat_lt, is_some, replicate}
 use Rattle.std.specs.List.{list_all, list_any, position_or_len}
 use Rattle.std.proofs.lemmas.Bool.{lt-ltb, le-ltb, ltb-true, ltb-false, eqb-true, and_right, and_from, and_parts}
-use Rattle.std.proofs.lemmas.List.{length-take, length-drop, length-set, length-replicate, take_all, set_past}
+use Rattle.std.proofs.lemmas.List.{length-take, length-drop, length-set, length-replicate, take_all, take_at, set_past}
 use Rattle.std.proofs.lemmas.List.Folds.{list_any_at, list_any_none}
 use Rattle.std.proofs.lemmas.List.Sums.{position_or_len_is, passes_at_first, fails_before_first}
 use Rattle.gx_page.specs.Bytes.{AreBytes, number_16}
 use Rattle.gx_page.specs.Contents.{Contents}
+use Rattle.gx_page.specs.Sizes.{NoneLonger}
 use Rattle.gx_node.specs.Reading.{Format, has_key, is_leaf}
 use Rattle.gx_node.specs.Small.{is_item_of, has_item_of, mark_fits, pair_fits, slots_in, sides_with, sides_of, is_bound, are_bounds}
 use Rattle.gx_node.proofs.Edited.{get_pass}
 use Rattle.gx_node.proofs.Parts.{IsLawful}
-use Rattle.gx_node.proofs.Slots.{all_pass, one_fails}
+use Rattle.gx_node.proofs.Slots.{all_pass, one_fails, leaf_is_keyed}
 
 -- ---- the first that passes
 
@@ -152,3 +153,11 @@ is_spelled {B} IsKey spelling f laws key small e = by (f.reading key) refl
     by : (o : Option B) → f.reading key ≡ o → length key ≡ f.key
     by None same = let none : is_some (f.reading key) ≡ false = ap is_some same in cc
     by (Some k) same = let only = laws.only key k small same in ap length only.1 ∙ laws.size k only.0
+
+-- the front of a buffer, as long as what was written there
+pub front_long : (written rest : List ℕ) (size : ℕ) → length written ≡ size → length (take size (written ++ rest)) ≡ size
+front_long written rest size long = ap length (take_at written rest size long) ∙ long
+
+pub none_longer : {B : Type 0} (f : Format B) (page : Contents) (written rest : List ℕ) (size : ℕ) → is_leaf f page ≡ true → length written ≡ size → size ≡ f.key + 9
+    → NoneLonger (length (take size (written ++ rest))) page.items
+none_longer f page written rest size leaf long e = λ k d h. omega (arith, front_long written rest size long, (leaf_is_keyed f page leaf k d h).long)

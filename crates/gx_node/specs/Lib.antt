@@ -8,3 +8,4 @@ pub mod Keyed
 pub mod Owner
 pub mod Store
 pub mod Small
+pub mod SmallLaws

@@ -8,9 +8,9 @@ use Rattle.gx_tree_laws.specs.Lists.{staying}
 use Rattle.gx_node.specs.Entries.{mark_byte}
 use Rattle.gx_node.specs.Reading.{Format, inner_size, has_key, is_leaf}
 
--- the item is this pair's: it begins with the key's bytes, and behind them is the row
+-- the item is this pair's: behind its key is the row, and it begins with the key's bytes
 abbrev pub is_item_of : {B : Type 0} → Format B → ℕ → List ℕ → List ℕ → Bool
-is_item_of f row key item = bytes_eq (take f.key item) key && (number_64_at item f.key == row)
+is_item_of f row key item = (number_64_at item f.key == row) && bytes_eq (take f.key item) key
 
 -- one of the items is
 abbrev pub has_item_of : {B : Type 0} → Format B → ℕ → List ℕ → List (List ℕ) → Bool

@@ -3,6 +3,9 @@ ghost use Rattle.gx_tree_laws.specs.Trees.{Pair, Child};
 ghost use Rattle.gx_node.specs.Hits.{BlocksAreAFilter, HitsAreAFilter};
 ghost use Rattle.gx_node.specs.Reading.{format_of};
 ghost use Rattle.gx_node.specs.Laws.{LeavesHold, HeldPairsAreRead, InnersHold, HeldChildrenAreRead};
+ghost use Rattle.gx_node.specs.Keyed.{rules_of};
+ghost use Rattle.gx_node.specs.SmallLaws.{ChangesKeepNodes, MarksMean, PairsMean, BoundsMean};
+ghost use Rattle.gx_node.specs.SmallLaws.{RemovalsMean, RemovalsAreAFilter};
 ghost use Rattle.gx_node.specs.Laws.{BlanksAreNodes, NodesFollowLinks, MoreAreTaken, OneMark, OneBound};
 
 use gx_class::KeyClass;
@@ -51,4 +54,34 @@ pub fn hits<K: KeyClass>()
 pub fn blocks<K: KeyClass>()
     ensures pairs { BlocksAreAFilter (Pair K.Key) }
     ensures children { BlocksAreAFilter (Child K.Key) }
+{}
+
+/// A small change that fits a page leaves one that can be written, and a node where the page was one.
+pub fn small_changes<K: KeyClass>()
+    ensures { ChangesKeepNodes (format_of K.KeyClass) }
+{}
+
+/// A mark by a pair's bytes fits the leaves that have its entry, and is set in the first that is the entry. Nothing
+/// else of the leaf changes.
+pub fn small_marks<K: KeyClass>(most: usize)
+    ensures { MarksMean (format_of K.KeyClass) (rules_of K.Key.Shape most) }
+{}
+
+/// A pair by its bytes fits the leaves that have room and don't have its entry, and is then the last pair, live.
+/// Nothing else of the leaf changes.
+pub fn small_pairs<K: KeyClass>(most: usize)
+    ensures { PairsMean (format_of K.KeyClass) (rules_of K.Key.Shape most) }
+{}
+
+/// A bound by its key's bytes fits the inner nodes that have the slot, and is then the slot's bound.
+/// Nothing else of the node changes.
+pub fn small_bounds<K: KeyClass>()
+    ensures { BoundsMean (format_of K.KeyClass) }
+{}
+
+/// Slots fit the leaves in which each has a marked pair, and these pairs go. Nothing else of the leaf changes.
+/// Where the slots are those of the pairs that pass a test, the others stay.
+pub fn small_removals<K: KeyClass>()
+    ensures removed { RemovalsMean (format_of K.KeyClass) }
+    ensures filter { RemovalsAreAFilter (Pair K.Key) }
 {}

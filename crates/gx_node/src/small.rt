@@ -1,12 +1,12 @@
-//! Small changes of a page: what one pair or one bound becomes, by its bytes. Each is a test, which says whether the page
-//! is one that the change fits, and makes the change where it is. None takes memory, and the page's number, level,
-//! sequence number and rightlink stay.
-ghost use Rattle.std.specs.Prelude.{◌≡◌, ◌+◌, ◌<◌, ◌≤◌, ◌++◌, true, length, drop, slice_index_or, []};
+//! Small changes of a page: what one pair or one bound becomes, by its bytes. Each tests whether the page is one that
+//! the change fits, and makes the change where it is. None takes memory, and the page's number, level, sequence number
+//! and rightlink stay.
+ghost use Rattle.std.specs.Prelude.{◌≡◌, ◌+◌, ◌≤◌, ◌++◌, true, length, drop};
 ghost use Rattle.std.specs.Bool.{OnTrue, OnFalse};
 ghost use Rattle.std.specs.List.{list_all, position};
 ghost use Rattle.gx_page.specs.Edits.{with_items};
 ghost use Rattle.gx_node.specs.Reading.{format_of, is_leaf};
-ghost use Rattle.gx_node.specs.Small.{is_item_of, slots_in, has_marked, is_bound, are_bounds, live_item, sides_with};
+ghost use Rattle.gx_node.specs.Small.{is_item_of, slots_in, has_marked, is_bound, are_bounds, sides_with};
 ghost use Rattle.gx_node.specs.Small.{mark_fits, mark_made, pair_fits, pair_made, bound_fits, bound_made};
 ghost use Rattle.gx_node.specs.Small.{slots_fit, slots_made};
 ghost use Rattle.gx_node.specs.declared.items.TheConstants.{MAX_ENTRIES};
@@ -33,7 +33,7 @@ fn is_item_of<K: KeyClass>(item: &[u8], row: u64, key: &[u8]) -> bool
     ensures { result ≡ is_item_of (format_of K.KeyClass) row key.now item.now }
 {
     let (front, tail) = item.split_at(K::KEY);
-    front == key && u64_of(tail.split_at(8).0) == row
+    u64_of(tail.split_at(8).0) == row && front == key
 }
 
 /// The first slot of a leaf whose item is the pair's.

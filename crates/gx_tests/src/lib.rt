@@ -37,4 +37,6 @@ mod records;
 #[cfg(test)]
 mod scripts;
 #[cfg(test)]
+mod small;
+#[cfg(test)]
 mod trees;

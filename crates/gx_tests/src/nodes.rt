@@ -14,7 +14,7 @@ use std::process::Abort;
 use std::test::Fail;
 
 /// A class with a key for each small number, and the bytes that the key is to have.
-trait Numbered: KeyClass {
+pub(crate) trait Numbered: KeyClass {
     fn key(rt: &impl Abort, n: u8) -> Self::Key;
 
     fn bytes(n: u8) -> [u8; 16];
@@ -49,14 +49,14 @@ impl Numbered for IntervalClass {
 }
 
 /// Puts bytes behind the last item of a page.
-fn write(rt: &impl Abort, page: &mut Page, item: &[u8]) {
+pub(crate) fn write(rt: &impl Abort, page: &mut Page, item: &[u8]) {
     assert!(rt; !item.is_empty() && item.len() <= 4060);
     let last = page.count();
     assert!(rt; page.insert(last, item));
 }
 
 /// A pair's 25 bytes: the key's 16, the row in eight, and the mark.
-fn write_pair(rt: &impl Abort, page: &mut Page, key: [u8; 16], row: u8, mark: u8) {
+pub(crate) fn write_pair(rt: &impl Abort, page: &mut Page, key: [u8; 16], row: u8, mark: u8) {
     let mut item = [0; 25];
     item[..16].copy_from_slice(&key);
     item[23] = row;
@@ -65,7 +65,7 @@ fn write_pair(rt: &impl Abort, page: &mut Page, key: [u8; 16], row: u8, mark: u8
 }
 
 /// A child's 20 bytes: the key's 16, and the page in four.
-fn write_child(rt: &impl Abort, page: &mut Page, key: [u8; 16], child: u8) {
+pub(crate) fn write_child(rt: &impl Abort, page: &mut Page, key: [u8; 16], child: u8) {
     let mut item = [0; 20];
     item[..16].copy_from_slice(&key);
     item[19] = child;
@@ -166,7 +166,7 @@ fn start(page: &mut Page, level: u16) {
 }
 
 /// Fails unless a page has the image that is wanted. The count says which of the nodes it is.
-fn is_alike(rt: &impl Abort, page: &Page, wanted: &Page, count: u8) {
+pub(crate) fn is_alike(rt: &impl Abort, page: &Page, wanted: &Page, count: u8) {
     let is_alike = page.image() == wanted.image();
     same(rt, &(count, is_alike), &(count, true));
 }

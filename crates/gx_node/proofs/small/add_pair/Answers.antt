@@ -1,13 +1,9 @@
-use Rattle.std.proofs.Common.{◌≡◌, ◌+◌, ◌≤◌, length, get_or, subst, sym, ap, ◌∙◌, arith}
+use Rattle.std.proofs.Common.{◌≡◌, ◌+◌, length, sym, ap, ◌∙◌, arith}
 use Rattle.std.specs.Prelude.{is_some}
-use Rattle.std.proofs.lemmas.Grind.{common_steps}
-use Rattle.std.proofs.lemmas.List.{take_at}
 use Rattle.gx_node.specs.Reading.{format_of}
-use Rattle.gx_node.specs.Seen.{pair_seen}
 use Rattle.gx_node.proofs.Parts.{IsLawful}
-use Rattle.gx_node.proofs.Slots.{leaf_is_keyed}
 use Rattle.gx_node.proofs.EditedLeaves.{pair_long}
-use Rattle.gx_node.proofs.SmallItems.{pair_stands, pair_lacks}
+use Rattle.gx_node.proofs.SmallItems.{pair_stands, pair_lacks, none_longer}
 use Rattle.gx_node.proofs.small.add_pair.Goals as goal
 
 pub returns-then-is_some-clause-fits : goal.returns-then-is_some-clause-fits
@@ -22,8 +18,7 @@ append_item-requires-clause-items g c =
     let size = c.KEY-size.ensures in
     let long : length c.write_pair.new.out ≡ c.KEY-size.result + 9 =
     ap length c.write_pair.ensures.bytes ∙ pair_long k.is_key k.spelling f laws _ c.write_pair.ensures.pair ∙ ap (λ n. n + 9) (sym size) in
-    λ n d h. subst (λ m. length (get_or c.args.page.now.items n d) ≤ m) (sym (ap length (take_at c.write_pair.new.out _ (c.KEY-size.result + 9) long)))
-    (omega (arith, (leaf_is_keyed f c.args.page.now (sym c.is_leaf.ensures ∙ c.if-not-is_leaf.false) n d h).long))
+    none_longer f c.args.page.now c.write_pair.new.out _ (c.KEY-size.result + 9) (sym c.is_leaf.ensures ∙ c.if-not-is_leaf.false) long (ap (λ n. n + 9) size)
 
 pub returns-clause-fits : goal.returns-clause-fits
 returns-clause-fits g c =

@@ -1,10 +1,9 @@
-use Rattle.std.proofs.Common.{◌≡◌, ◌+◌, ◌<◌, ◌++◌, not, length, drop, sym, ap, ◌∙◌, arith}
+use Rattle.std.proofs.Common.{◌≡◌, ◌+◌, not, length, drop, sym, ap, ◌∙◌, arith}
 use Rattle.std.specs.Prelude.{is_some}
-use Rattle.std.proofs.lemmas.Grind.{common_steps}
-use Rattle.std.proofs.lemmas.List.{take_at, length-append, length-drop}
+use Rattle.std.proofs.lemmas.List.{length-append, length-drop}
 use Rattle.gx_node.specs.Reading.{format_of}
 use Rattle.gx_node.proofs.Parts.{IsLawful}
-use Rattle.gx_node.proofs.SmallItems.{bound_long, is_spelled}
+use Rattle.gx_node.proofs.SmallItems.{bound_long, is_spelled, front_long}
 use Rattle.gx_node.proofs.small.set_key.Goals as goal
 
 pub write_bound-requires-clause-key : goal.write_bound-requires-clause-key
@@ -29,4 +28,4 @@ replace-requires-clause-size g c =
     let item : length c.get.result.now ≡ k.KEY + 4 = ap length c.get.ensures.item ∙ bound in
     let long : length c.write_bound.new.out ≡ c.KEY-size.result + 4 =
     ap length c.write_bound.ensures ∙ omega (arith, length-append c.args.key.now (drop k.KEY c.get.result.now), length-drop k.KEY c.get.result.now, key, item, c.KEY-size.ensures) in
-    ap length (take_at c.write_bound.new.out _ (c.KEY-size.result + 4) long) ∙ long ∙ ap (λ n. n + 4) c.KEY-size.ensures ∙ sym bound
+    front_long c.write_bound.new.out _ (c.KEY-size.result + 4) long ∙ ap (λ n. n + 4) c.KEY-size.ensures ∙ sym bound

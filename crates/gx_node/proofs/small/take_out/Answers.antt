@@ -1,4 +1,4 @@
-use Rattle.std.proofs.Common.{◌≡◌, false, length, ap, ◌∙◌, arith}
+use Rattle.std.proofs.Common.{◌≡◌, false, length, ap, ◌∙◌}
 use Rattle.std.proofs.lemmas.List.{take_at, take-replicate}
 use Rattle.gx_page.specs.Edits.{with_items}
 use Rattle.gx_tree_laws.specs.Lists.{staying}
