@@ -60,6 +60,7 @@ impl<D: SectorDisk, K: ReadKeys> Storage<D, K> {
             &mut self.log,
             &self.store,
             &mut self.key,
+            &mut self.imaged,
             transaction,
             entry.row,
             entry.key,

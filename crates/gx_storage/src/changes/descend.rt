@@ -125,7 +125,14 @@ impl<D: SectorDisk, K: ReadKeys> Storage<D, K> {
         self.store.in_order();
         let counter = self.store.counter();
         let used = self.store.used();
-        give_page(&mut self.log, &self.store, counter, used, item.page());
+        give_page(
+            &mut self.log,
+            &self.store,
+            &mut self.imaged,
+            counter,
+            used,
+            item.page(),
+        );
         Ok(did)
     }
 }

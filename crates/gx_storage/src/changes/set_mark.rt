@@ -111,6 +111,7 @@ impl<D: SectorDisk, K: ReadKeys + Probing> Storage<D, K> {
                     &mut self.log,
                     &self.store,
                     &mut self.key,
+                    &mut self.imaged,
                     transaction,
                     entry.row,
                     entry.key,

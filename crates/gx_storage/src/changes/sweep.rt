@@ -104,7 +104,14 @@ impl<D: SectorDisk, K: ReadKeys> Storage<D, K> {
         self.store.in_order();
         let counter = self.store.counter();
         let used = self.store.used();
-        give_page(&mut self.log, &self.store, counter, used, page);
+        give_page(
+            &mut self.log,
+            &self.store,
+            &mut self.imaged,
+            counter,
+            used,
+            page,
+        );
         Ok(true)
     }
 }

@@ -8,8 +8,10 @@ ghost use Rattle.gx_record.specs.Writing.{write_record};
 ghost use Rattle.gx_store.specs.Standing.{standing};
 ghost use Rattle.gx_store.specs.State.{IsHeld};
 ghost use Rattle.gx_storage.specs.Changes.{write_of};
+ghost use Rattle.gx_storage.specs.Imaged.{with_imaged};
 ghost use Rattle.gx_storage.specs.Setting.{IsLastAs, OwnNumberAs};
 
+use crate::imaged::note_image;
 use gx_disk::SectorDisk;
 use gx_durable::calls::append;
 use gx_glog::Glog;
@@ -25,11 +27,12 @@ pub(crate) fn write_size<K: ReadKeys>() -> usize
 }
 
 /// Appends the record of a write: the transaction changed the entry's mark, or added it, on a leaf, of which the
-/// record has the image as it is held. The key's bytes are written over `spelled`.
+/// record has the image as it is held, and whose bit is set. The key's bytes are written over `spelled`.
 pub(crate) fn write_record<D: SectorDisk, K: ReadKeys>(
     log: &mut Glog,
     store: &PageStore<D, K>,
     spelled: &mut [u8],
+    imaged: &mut [bool],
     transaction: u64,
     row: u64,
     key: K::Key,
@@ -46,6 +49,7 @@ pub(crate) fn write_record<D: SectorDisk, K: ReadKeys>(
         (write_of K.spelling transaction row key (is_marked before) (is_marked after) leaf (D.state store.now.disk).seen
         store.now) log.old log.new }
     ensures formed { IsWellFormed (standing store.now.frames (D.state store.now.disk).seen leaf) }
+    ensures imaged { imaged.new ≡ with_imaged leaf imaged.old }
     ensures spelled { length spelled.new ≡ K.KEY }
     ensures own { OwnNumberAs D.state store.now leaf }
 {
@@ -65,4 +69,5 @@ pub(crate) fn write_record<D: SectorDisk, K: ReadKeys>(
             image: page.image(),
         },
     );
+    note_image(imaged, leaf);
 }
