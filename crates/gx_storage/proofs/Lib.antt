@@ -1,6 +1,7 @@
 pub mod Calling
 pub mod Giving
 pub mod Helping
+pub mod Imaging
 pub mod Keying
 pub mod Marking
 pub mod Moving
@@ -8,6 +9,8 @@ pub mod OnlyReads
 pub mod Recording
 pub mod Removing
 pub mod Shown
+pub mod SmallLeaf
+pub mod SmallRecords
 pub mod Splitting
 pub mod Sweeping
 pub mod Turning

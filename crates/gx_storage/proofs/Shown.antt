@@ -44,7 +44,7 @@ used_fits k l log is =
 
 module _ {B : Type 0} (said : List ℕ → B) (f : Format B) where
   -- what is read of the bytes that a page is, is what is shown of it
-  bytes_shown : (o : Option Kept) (on_device : List ℕ) → ((k : Kept) → o ≡ Some k → IsWellFormed k.page) → read_of (bytes_by o on_device) ≡ shown_of o (read_of on_device)
+  pub bytes_shown : (o : Option Kept) (on_device : List ℕ) → ((k : Kept) → o ≡ Some k → IsWellFormed k.page) → read_of (bytes_by o on_device) ≡ shown_of o (read_of on_device)
   bytes_shown None on_device formed = refl
   bytes_shown (Some k) on_device formed = read-image k.page (formed k refl)
 

@@ -2,6 +2,7 @@
 //! record, or nothing has changed.
 
 mod add;
+mod added;
 mod descend;
 mod given;
 mod given_pages;

@@ -19,7 +19,6 @@ ghost use Rattle.gx_storage.specs.Setting.{KeepsOnAs, MayTurnAs, TurnsOnAs};
 
 use crate::Storage;
 use crate::changes::set_mark::mark_of;
-use crate::imaged::forget_images;
 use gx_disk::SectorDisk;
 use gx_durable::turn::put_first;
 use gx_geom::Refusal;
@@ -150,7 +149,7 @@ impl<D: SectorDisk, K: ReadKeys> Storage<D, K> {
         ensures keeps { TurnsOnAs K.Key.Shape K.is_proper K.said K.KeyClass D.state self.old self.new result }
     {
         let told = self.store.turn_step::<OfClass<K>>(&mut self.log);
-        forget_images(&mut self.imaged, &told);
+        self.imaged.forget_after(&told);
         told
     }
 }

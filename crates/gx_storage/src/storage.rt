@@ -2,6 +2,7 @@
 ghost use Rattle.std.specs.Prelude.{◌≡◌, ◌≤◌, false, length, replicate};
 ghost use Rattle.gx_node.specs.declared.items.TheConstants.{MAX_ENTRIES};
 
+use crate::imaged::Imaged;
 use gx_disk::SectorDisk;
 use gx_glog::Glog;
 use gx_node::MAX_ENTRIES;
@@ -19,7 +20,7 @@ pub struct Storage<D: SectorDisk, K: ReadKeys> {
     // a key's bytes, as a record lends them
     pub(crate) key: Vec<u8>,
     // whether the log's extent has an image of a page, by its number less one
-    pub(crate) imaged: Vec<bool>,
+    pub(crate) imaged: Imaged,
 }
 
 impl<D: SectorDisk, K: ReadKeys> Model for Storage<D, K> {
@@ -29,7 +30,7 @@ impl<D: SectorDisk, K: ReadKeys> Model for Storage<D, K> {
 
     ghost Value = { Volume D };
 
-    ghost view = { λ m. record { log = m.log; shelf = m.store; most = m.most; imaged = m.imaged.items } };
+    ghost view = { λ m. record { log = m.log; shelf = m.store; most = m.most; imaged = m.imaged } };
 
     ghost invariant = { λ m. (length m.key.items ≡ K.KEY) × (m.most ≤ MAX_ENTRIES) };
 }
@@ -57,7 +58,7 @@ impl<D: SectorDisk, K: ReadKeys> Storage<D, K> {
             store,
             most,
             key,
-            imaged,
+            imaged: Imaged::of(imaged),
         }
     }
 

@@ -9,7 +9,7 @@ ghost use Rattle.gx_record.specs.declared.sizes.TheConstants.{PAGE_RECORD};
 ghost use Rattle.gx_storage.specs.Imaged.{imaged_with};
 ghost use Rattle.gx_storage.specs.Setting.{IsLastAs, OwnNumberAs, page_given_at};
 
-use crate::imaged::note_image;
+use crate::imaged::Imaged;
 use gx_disk::SectorDisk;
 use gx_durable::calls::append;
 use gx_glog::Glog;
@@ -22,7 +22,7 @@ use gx_store::PageStore;
 pub(crate) fn give_page<D: SectorDisk, K: ReadKeys>(
     log: &mut Glog,
     store: &PageStore<D, K>,
-    imaged: &mut [bool],
+    imaged: &mut Imaged,
     counter: u64,
     used: u32,
     page: u32,
@@ -51,5 +51,5 @@ pub(crate) fn give_page<D: SectorDisk, K: ReadKeys>(
             }),
         },
     );
-    note_image(imaged, page);
+    imaged.note(page);
 }

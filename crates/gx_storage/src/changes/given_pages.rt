@@ -12,7 +12,7 @@ ghost use Rattle.gx_storage.specs.Giving.{IsGiven, rising};
 ghost use Rattle.gx_storage.specs.Imaged.{imaged_with};
 ghost use Rattle.gx_storage.specs.Setting.{IsLastAs, pages_given_at};
 
-use crate::imaged::note_image;
+use crate::imaged::Imaged;
 use gx_disk::SectorDisk;
 use gx_durable::calls::append;
 use gx_glog::Glog;
@@ -58,7 +58,7 @@ fn held_image<D: SectorDisk, K: ReadKeys>(store: &PageStore<D, K>, page: u32) ->
 pub(crate) fn give_three<D: SectorDisk, K: ReadKeys>(
     log: &mut Glog,
     store: &PageStore<D, K>,
-    imaged: &mut [bool],
+    imaged: &mut Imaged,
     first: u32,
     second: u32,
     third: u32,
@@ -86,7 +86,7 @@ pub(crate) fn give_three<D: SectorDisk, K: ReadKeys>(
             pages: PageImages::Three(low, middle, high),
         },
     );
-    note_image(imaged, first);
-    note_image(imaged, second);
-    note_image(imaged, third);
+    imaged.note(first);
+    imaged.note(second);
+    imaged.note(third);
 }

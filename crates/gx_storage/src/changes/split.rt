@@ -87,7 +87,14 @@ impl<D: SectorDisk, K: ReadKeys> Storage<D, K> {
         };
         self.store.in_order();
         let (first, second, third) = in_rising_order(page, parent, split.sibling);
-        give_three(&mut self.log, &self.store, &mut self.imaged, first, second, third);
+        give_three(
+            &mut self.log,
+            &self.store,
+            &mut self.imaged,
+            first,
+            second,
+            third,
+        );
         Ok(Some(split))
     }
 }

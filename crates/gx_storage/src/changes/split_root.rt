@@ -72,7 +72,14 @@ impl<D: SectorDisk, K: ReadKeys> Storage<D, K> {
         }
         let split = split_root_step(&mut self.store, self.most, keys)?;
         self.store.in_order();
-        give_three(&mut self.log, &self.store, &mut self.imaged, 1, split.first, split.second);
+        give_three(
+            &mut self.log,
+            &self.store,
+            &mut self.imaged,
+            1,
+            split.first,
+            split.second,
+        );
         Ok(split)
     }
 }

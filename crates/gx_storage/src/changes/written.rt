@@ -11,7 +11,7 @@ ghost use Rattle.gx_storage.specs.Changes.{write_of};
 ghost use Rattle.gx_storage.specs.Imaged.{with_imaged};
 ghost use Rattle.gx_storage.specs.Setting.{IsLastAs, OwnNumberAs};
 
-use crate::imaged::note_image;
+use crate::imaged::Imaged;
 use gx_disk::SectorDisk;
 use gx_durable::calls::append;
 use gx_glog::Glog;
@@ -32,7 +32,7 @@ pub(crate) fn write_record<D: SectorDisk, K: ReadKeys>(
     log: &mut Glog,
     store: &PageStore<D, K>,
     spelled: &mut [u8],
-    imaged: &mut [bool],
+    imaged: &mut Imaged,
     transaction: u64,
     row: u64,
     key: K::Key,
@@ -69,5 +69,5 @@ pub(crate) fn write_record<D: SectorDisk, K: ReadKeys>(
             image: page.image(),
         },
     );
-    note_image(imaged, leaf);
+    imaged.note(leaf);
 }

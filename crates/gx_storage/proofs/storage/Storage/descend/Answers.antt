@@ -17,7 +17,7 @@ returns-in_err-way-clause-unlogged g c =
     let i = c.self.inside in
     let f = format_of g.K.KeyClass in
     let state = g.D.SectorDisk.state in
-    let v : Volume g.row.D.Denot = record { log = i.log; shelf = i.store; most = i.most } in
+    let v : Volume g.row.D.Denot = record { log = i.log; shelf = i.store; most = i.most; imaged = i.imaged } in
     rw (← c.self.view_is) (on_err _ _ (unlogged _ _ f (is_node f) state v PAGE_RECORD c.read_way.new.store c.in_err-way.ensures.since (λ steady. c.in_err-way.ensures.same steady)))
 
 pub returns-in-Some-clause-logged : goal.returns-in-Some-clause-logged
@@ -25,7 +25,7 @@ returns-in-Some-clause-logged g c =
     let i = c.self.inside in
     let f = format_of g.K.KeyClass in
     let state = g.D.SectorDisk.state in
-    let v : Volume g.row.D.Denot = record { log = i.log; shelf = i.store; most = i.most } in
+    let v : Volume g.row.D.Denot = record { log = i.log; shelf = i.store; most = i.most; imaged = i.imaged } in
     let narrow = unwidened_narrow c.in_ok-way.way _ c.in-Some.did (sym c.unwidened.ensures ∙ c.in-Some.is) in
     rw (← c.self.view_is) (unlogged_if _ _ f (is_node f) PAGE_RECORD _ _ v _ _ _ narrow
     (unlogged _ _ f (is_node f) state v PAGE_RECORD c.read_way.new.store c.in_ok-way.ensures.since (λ steady. c.in_ok-way.ensures.same steady)))
@@ -35,7 +35,7 @@ returns-in-None-clause-unlogged g c =
     let i = c.self.inside in
     let f = format_of g.K.KeyClass in
     let state = g.D.SectorDisk.state in
-    let v : Volume g.row.D.Denot = record { log = i.log; shelf = i.store; most = i.most } in
+    let v : Volume g.row.D.Denot = record { log = i.log; shelf = i.store; most = i.most; imaged = i.imaged } in
     rw (← c.self.view_is) (unlogged _ _ f (is_node f) state v PAGE_RECORD c.read_way.new.store c.in_ok-way.ensures.since (λ steady. c.in_ok-way.ensures.same steady))
 
 pub returns-in-None-clause-room : goal.returns-in-None-clause-room
@@ -50,7 +50,7 @@ returns-in_err-did-clause-unlogged g c =
     let i = c.self.inside in
     let f = format_of g.K.KeyClass in
     let state = g.D.SectorDisk.state in
-    let v : Volume g.row.D.Denot = record { log = i.log; shelf = i.store; most = i.most } in
+    let v : Volume g.row.D.Denot = record { log = i.log; shelf = i.store; most = i.most; imaged = i.imaged } in
     let u = c.begin.new.store in
     let t = c.descend_step.new.pages in
     let is = begun_is v u PAGE_RECORD _ c.begin.ensures refl in
@@ -63,7 +63,7 @@ returns-then-not-was_widened-clause-logged g c =
     let i = c.self.inside in
     let f = format_of g.K.KeyClass in
     let state = g.D.SectorDisk.state in
-    let v : Volume g.row.D.Denot = record { log = i.log; shelf = i.store; most = i.most } in
+    let v : Volume g.row.D.Denot = record { log = i.log; shelf = i.store; most = i.most; imaged = i.imaged } in
     let u = c.begin.new.store in
     let t = c.descend_step.new.pages in
     let is = begun_is v u PAGE_RECORD _ c.begin.ensures refl in
@@ -78,7 +78,7 @@ give_page-requires-clause-place g c =
     let i = c.self.inside in
     let f = format_of g.K.KeyClass in
     let state = g.D.SectorDisk.state in
-    let v : Volume g.row.D.Denot = record { log = i.log; shelf = i.store; most = i.most } in
+    let v : Volume g.row.D.Denot = record { log = i.log; shelf = i.store; most = i.most; imaged = i.imaged } in
     let u = c.begin.new.store in
     let t = c.descend_step.new.pages in
     let is = begun_is v u PAGE_RECORD _ c.begin.ensures refl in
@@ -91,7 +91,7 @@ give_page-requires-clause-room g c =
     let i = c.self.inside in
     let f = format_of g.K.KeyClass in
     let state = g.D.SectorDisk.state in
-    let v : Volume g.row.D.Denot = record { log = i.log; shelf = i.store; most = i.most } in
+    let v : Volume g.row.D.Denot = record { log = i.log; shelf = i.store; most = i.most; imaged = i.imaged } in
     let u = c.begin.new.store in
     let t = c.descend_step.new.pages in
     let is = begun_is v u PAGE_RECORD _ c.begin.ensures refl in
@@ -109,13 +109,13 @@ returns-clause-logged g c =
     let i = c.self.inside in
     let f = format_of g.K.KeyClass in
     let state = g.D.SectorDisk.state in
-    let v : Volume g.row.D.Denot = record { log = i.log; shelf = i.store; most = i.most } in
+    let v : Volume g.row.D.Denot = record { log = i.log; shelf = i.store; most = i.most; imaged = i.imaged } in
     let u = c.begin.new.store in
     let t = c.descend_step.new.pages in
     let is = begun_is v u PAGE_RECORD _ c.begin.ensures refl in
     let step = stepped (is_node f) state v PAGE_RECORD t u c.args.item.now.page is c.in_ok-did.ensures.since in
     let wide : is_widened c.in_ok-did.did ≡ true = sym c.was_widened.ensures ∙ c.if-not-was_widened.false in
-    rw (← c.self.view_is) (logged_if _ _ f (is_node f) PAGE_RECORD _ _ v _ _ _ wide (logged_page _ _ f (is_node f) state v PAGE_RECORD t c.args.item.now.page c.give_page.new.log step c.in_ok-did.ensures.held (nodes_of f _ _ c.in_order.ensures)
+    rw (← c.self.view_is) (logged_if _ _ f (is_node f) PAGE_RECORD _ _ v _ _ _ wide (logged_page _ _ f (is_node f) state v PAGE_RECORD t c.args.item.now.page c.give_page.new.log c.give_page.new.imaged (rw c.page.ensures at c.give_page.ensures.imaged) step c.in_ok-did.ensures.held (nodes_of f _ _ c.in_order.ensures)
     (rw c.page.ensures at c.give_page.ensures.last) (rw c.page.ensures at c.give_page.ensures.formed)))
 
 pub returns-clause-descended : goal.returns-clause-descended
@@ -123,7 +123,7 @@ returns-clause-descended g c =
     let i = c.self.inside in
     let f = format_of g.K.KeyClass in
     let state = g.D.SectorDisk.state in
-    let v : Volume g.row.D.Denot = record { log = i.log; shelf = i.store; most = i.most } in
+    let v : Volume g.row.D.Denot = record { log = i.log; shelf = i.store; most = i.most; imaged = i.imaged } in
     let u = c.begin.new.store in
     let t = c.descend_step.new.pages in
     let is = begun_is v u PAGE_RECORD _ c.begin.ensures refl in

@@ -18,7 +18,7 @@ returns-in_err-sought-clause-unlogged g c =
     let i = c.self.inside in
     let f = format_of g.K.KeyClass in
     let state = g.D.SectorDisk.state in
-    let v : Volume g.row.D.Denot = record { log = i.log; shelf = i.store; most = i.most } in
+    let v : Volume g.row.D.Denot = record { log = i.log; shelf = i.store; most = i.most; imaged = i.imaged } in
     let t : Shelf g.row.D.Denot = c.read_leaf.new.store in
     let since = subst {A = ℕ} (λ n. ((q : ℕ) → IsSince (is_node f) (state v.shelf.disk) (state t.disk) (begun v n) t q)) c.write_size-size.ensures c.in_err-sought.ensures.since in
     rw (← c.self.view_is) (on_err _ _ (unlogged _ _ f (is_node f) state v (write_record g.K.KeyClass.KEY) t since (λ steady. c.in_err-sought.ensures.same steady)))
@@ -28,7 +28,7 @@ returns-in-Here-clause-unlogged g c =
     let i = c.self.inside in
     let f = format_of g.K.KeyClass in
     let state = g.D.SectorDisk.state in
-    let v : Volume g.row.D.Denot = record { log = i.log; shelf = i.store; most = i.most } in
+    let v : Volume g.row.D.Denot = record { log = i.log; shelf = i.store; most = i.most; imaged = i.imaged } in
     let t : Shelf g.row.D.Denot = c.read_leaf.new.store in
     let since = subst {A = ℕ} (λ n. ((q : ℕ) → IsSince (is_node f) (state v.shelf.disk) (state t.disk) (begun v n) t q)) c.write_size-size.ensures c.in_ok-sought.ensures.since in
     rw (← c.self.view_is) (unlogged _ _ f (is_node f) state v (write_record g.K.KeyClass.KEY) t since (λ steady. c.in_ok-sought.ensures.same steady))
@@ -38,7 +38,7 @@ returns-in-Right-clause-logged g c =
     let i = c.self.inside in
     let f = format_of g.K.KeyClass in
     let state = g.D.SectorDisk.state in
-    let v : Volume g.row.D.Denot = record { log = i.log; shelf = i.store; most = i.most } in
+    let v : Volume g.row.D.Denot = record { log = i.log; shelf = i.store; most = i.most; imaged = i.imaged } in
     let t : Shelf g.row.D.Denot = c.read_leaf.new.store in
     let since = subst {A = ℕ} (λ n. ((q : ℕ) → IsSince (is_node f) (state v.shelf.disk) (state t.disk) (begun v n) t q)) c.write_size-size.ensures c.in_ok-sought.ensures.since in
     rw (← c.self.view_is) (unlogged _ _ f (is_node f) state v (write_record g.K.KeyClass.KEY) t since (λ steady. c.in_ok-sought.ensures.same steady))
@@ -48,7 +48,7 @@ returns-in_err-slot-clause-unlogged g c =
     let i = c.self.inside in
     let f = format_of g.K.KeyClass in
     let state = g.D.SectorDisk.state in
-    let v : Volume g.row.D.Denot = record { log = i.log; shelf = i.store; most = i.most } in
+    let v : Volume g.row.D.Denot = record { log = i.log; shelf = i.store; most = i.most; imaged = i.imaged } in
     let u = c.begin.new.store in
     let t = c.set_mark_step.new.pages in
     let size = write_record g.K.KeyClass.KEY in
@@ -62,7 +62,7 @@ write_record-requires-clause-place g c =
     let i = c.self.inside in
     let f = format_of g.K.KeyClass in
     let state = g.D.SectorDisk.state in
-    let v : Volume g.row.D.Denot = record { log = i.log; shelf = i.store; most = i.most } in
+    let v : Volume g.row.D.Denot = record { log = i.log; shelf = i.store; most = i.most; imaged = i.imaged } in
     let u = c.begin.new.store in
     let t = c.set_mark_step.new.pages in
     let size = write_record g.K.KeyClass.KEY in
@@ -75,7 +75,7 @@ write_record-requires-clause-room g c =
     let i = c.self.inside in
     let f = format_of g.K.KeyClass in
     let state = g.D.SectorDisk.state in
-    let v : Volume g.row.D.Denot = record { log = i.log; shelf = i.store; most = i.most } in
+    let v : Volume g.row.D.Denot = record { log = i.log; shelf = i.store; most = i.most; imaged = i.imaged } in
     let u = c.begin.new.store in
     let t = c.set_mark_step.new.pages in
     let size = write_record g.K.KeyClass.KEY in
@@ -88,13 +88,13 @@ returns-in-Here-2-clause-logged g c =
     let i = c.self.inside in
     let f = format_of g.K.KeyClass in
     let state = g.D.SectorDisk.state in
-    let v : Volume g.row.D.Denot = record { log = i.log; shelf = i.store; most = i.most } in
+    let v : Volume g.row.D.Denot = record { log = i.log; shelf = i.store; most = i.most; imaged = i.imaged } in
     let u = c.begin.new.store in
     let t = c.set_mark_step.new.pages in
     let size = write_record g.K.KeyClass.KEY in
     let is = begun_is v u size _ c.begin.ensures c.write_size-size.ensures in
     let did = stepped (is_node f) state v size t u c.args.page is c.in_ok-slot.ensures.since in
-    rw (← c.self.view_is) (logged_write _ _ f (is_node f) state v size t c.args.transaction c.args.entry.now.row (g.K.KeyClass.spelling c.args.entry.now.key) c.in-Here-2.before c.args.marked c.args.page c.write_record.new.log did
+    rw (← c.self.view_is) (logged_write _ _ f (is_node f) state v size t c.args.transaction c.args.entry.now.row (g.K.KeyClass.spelling c.args.entry.now.key) c.in-Here-2.before c.args.marked c.args.page c.write_record.new.log c.write_record.new.imaged c.write_record.ensures.imaged did
     c.in_ok-slot.ensures.held (nodes_of f _ _ c.in_order.ensures)
     (λ steady.
     (let made = marked_numbers _ _ _ c.args.page c.args.marked _ c.in-Here-2.slot c.in-Here-2.before c.in-Here-2.is (c.in_ok-slot.ensures.marked (steady_begun (is_node f) state v size t u is steady)) in
@@ -106,7 +106,7 @@ returns-in-Here-2-clause-marked g c =
     let i = c.self.inside in
     let f = format_of g.K.KeyClass in
     let state = g.D.SectorDisk.state in
-    let v : Volume g.row.D.Denot = record { log = i.log; shelf = i.store; most = i.most } in
+    let v : Volume g.row.D.Denot = record { log = i.log; shelf = i.store; most = i.most; imaged = i.imaged } in
     let u = c.begin.new.store in
     let t = c.set_mark_step.new.pages in
     let size = write_record g.K.KeyClass.KEY in
@@ -118,7 +118,7 @@ returns-in-Right-2-clause-logged g c =
     let i = c.self.inside in
     let f = format_of g.K.KeyClass in
     let state = g.D.SectorDisk.state in
-    let v : Volume g.row.D.Denot = record { log = i.log; shelf = i.store; most = i.most } in
+    let v : Volume g.row.D.Denot = record { log = i.log; shelf = i.store; most = i.most; imaged = i.imaged } in
     let u = c.begin.new.store in
     let t = c.set_mark_step.new.pages in
     let size = write_record g.K.KeyClass.KEY in

@@ -28,7 +28,7 @@ returns-in_err-plan-clause-unlogged g c =
     let i = c.self.inside in
     let f = format_of g.K.KeyClass in
     let state = g.D.SectorDisk.state in
-    let v : Volume g.row.D.Denot = record { log = i.log; shelf = i.store; most = i.most } in
+    let v : Volume g.row.D.Denot = record { log = i.log; shelf = i.store; most = i.most; imaged = i.imaged } in
     let read = c.plan.new.store in
     let since = c.in_err-plan.ensures.since in
     rw (← c.self.view_is) (on_err _ _ (unlogged _ _ f (is_node f) state v PAGE_RECORD read since
@@ -39,7 +39,7 @@ returns-then-is_empty-clause-logged g c =
     let i = c.self.inside in
     let f = format_of g.K.KeyClass in
     let state = g.D.SectorDisk.state in
-    let v : Volume g.row.D.Denot = record { log = i.log; shelf = i.store; most = i.most } in
+    let v : Volume g.row.D.Denot = record { log = i.log; shelf = i.store; most = i.most; imaged = i.imaged } in
     let read = c.plan.new.store in
     let since = c.in_ok-plan.ensures.since in
     rw (← c.self.view_is) (unlogged _ _ f (is_node f) state v PAGE_RECORD read since
@@ -50,7 +50,7 @@ returns-then-is_empty-clause-swept g c =
     let i = c.self.inside in
     let f = format_of g.K.KeyClass in
     let state = g.D.SectorDisk.state in
-    let v : Volume g.row.D.Denot = record { log = i.log; shelf = i.store; most = i.most } in
+    let v : Volume g.row.D.Denot = record { log = i.log; shelf = i.store; most = i.most; imaged = i.imaged } in
     let read = c.plan.new.store in
     let none : takes_none c.in_ok-plan.plan ≡ true = sym c.is_empty.ensures ∙ c.if-is_empty.true in
     rw (← c.self.view_is) (λ steady test agrees. unswept_since f state v _ (c.in_ok-plan.ensures.same steady)
@@ -61,7 +61,7 @@ make_sweep-requires-clause-held g c =
     let i = c.self.inside in
     let f = format_of g.K.KeyClass in
     let state = g.D.SectorDisk.state in
-    let v : Volume g.row.D.Denot = record { log = i.log; shelf = i.store; most = i.most } in
+    let v : Volume g.row.D.Denot = record { log = i.log; shelf = i.store; most = i.most; imaged = i.imaged } in
     let read = c.plan.new.store in
     subst {A = ℕ} (λ a. IsHeld read a × Used (tree_of (store_of f (state read.disk).seen read)) a) (sym c.in_ok-plan.ensures.page) c.in_ok-plan.ensures.held
 
@@ -70,7 +70,7 @@ make_sweep-requires-clause-fits g c =
     let i = c.self.inside in
     let f = format_of g.K.KeyClass in
     let state = g.D.SectorDisk.state in
-    let v : Volume g.row.D.Denot = record { log = i.log; shelf = i.store; most = i.most } in
+    let v : Volume g.row.D.Denot = record { log = i.log; shelf = i.store; most = i.most; imaged = i.imaged } in
     let read = c.plan.new.store in
     subst {A = ℕ} (λ a. FitsLeaf c.in_ok-plan.plan ((tree_of (store_of f (state read.disk).seen read)).node a)) (sym c.in_ok-plan.ensures.page) c.in_ok-plan.ensures.fits
 
@@ -79,7 +79,7 @@ returns-in_err-make_sweep-clause-unlogged g c =
     let i = c.self.inside in
     let f = format_of g.K.KeyClass in
     let state = g.D.SectorDisk.state in
-    let v : Volume g.row.D.Denot = record { log = i.log; shelf = i.store; most = i.most } in
+    let v : Volume g.row.D.Denot = record { log = i.log; shelf = i.store; most = i.most; imaged = i.imaged } in
     let read = c.plan.new.store in
     let t = c.make_sweep.new.pages in
     let since : (q : ℕ) → IsSince (is_node f) (state v.shelf.disk) (state t.disk) (begun v PAGE_RECORD) t q = λ q. c.in_err-make_sweep.ensures.kept (begun v PAGE_RECORD) q (c.in_ok-plan.ensures.since q) in
@@ -91,7 +91,7 @@ give_page-requires-clause-place g c =
     let i = c.self.inside in
     let f = format_of g.K.KeyClass in
     let state = g.D.SectorDisk.state in
-    let v : Volume g.row.D.Denot = record { log = i.log; shelf = i.store; most = i.most } in
+    let v : Volume g.row.D.Denot = record { log = i.log; shelf = i.store; most = i.most; imaged = i.imaged } in
     let read = c.plan.new.store in
     let t = c.make_sweep.new.pages in
     let plan = c.in_ok-plan.plan in
@@ -105,7 +105,7 @@ give_page-requires-clause-room g c =
     let i = c.self.inside in
     let f = format_of g.K.KeyClass in
     let state = g.D.SectorDisk.state in
-    let v : Volume g.row.D.Denot = record { log = i.log; shelf = i.store; most = i.most } in
+    let v : Volume g.row.D.Denot = record { log = i.log; shelf = i.store; most = i.most; imaged = i.imaged } in
     let read = c.plan.new.store in
     let t = c.make_sweep.new.pages in
     let plan = c.in_ok-plan.plan in
@@ -128,21 +128,21 @@ returns-clause-logged g c =
     let i = c.self.inside in
     let f = format_of g.K.KeyClass in
     let state = g.D.SectorDisk.state in
-    let v : Volume g.row.D.Denot = record { log = i.log; shelf = i.store; most = i.most } in
+    let v : Volume g.row.D.Denot = record { log = i.log; shelf = i.store; most = i.most; imaged = i.imaged } in
     let read = c.plan.new.store in
     let t = c.make_sweep.new.pages in
     let plan = c.in_ok-plan.plan in
     let here = c.in_ok-plan.ensures.page in
     let step = swept_step (is_node f) state v PAGE_RECORD read t plan.page c.args.page here c.in_ok-plan.ensures.since c.in_ok-make_sweep.ensures.since in
     let held = subst {A = ℕ} (λ a. IsHeld t a) here c.in_ok-make_sweep.ensures.held in
-    rw (← c.self.view_is) (logged_page _ _ f (is_node f) state v PAGE_RECORD t c.args.page c.give_page.new.log step held (nodes_of f _ _ c.in_order.ensures) c.give_page.ensures.last c.give_page.ensures.formed)
+    rw (← c.self.view_is) (logged_page _ _ f (is_node f) state v PAGE_RECORD t c.args.page c.give_page.new.log c.give_page.new.imaged c.give_page.ensures.imaged step held (nodes_of f _ _ c.in_order.ensures) c.give_page.ensures.last c.give_page.ensures.formed)
 
 pub returns-clause-swept : goal.returns-clause-swept
 returns-clause-swept g c =
     let i = c.self.inside in
     let f = format_of g.K.KeyClass in
     let state = g.D.SectorDisk.state in
-    let v : Volume g.row.D.Denot = record { log = i.log; shelf = i.store; most = i.most } in
+    let v : Volume g.row.D.Denot = record { log = i.log; shelf = i.store; most = i.most; imaged = i.imaged } in
     let read = c.plan.new.store in
     let t = c.make_sweep.new.pages in
     let plan = c.in_ok-plan.plan in
@@ -156,7 +156,7 @@ returns-clause-stamped g c =
     let i = c.self.inside in
     let f = format_of g.K.KeyClass in
     let state = g.D.SectorDisk.state in
-    let v : Volume g.row.D.Denot = record { log = i.log; shelf = i.store; most = i.most } in
+    let v : Volume g.row.D.Denot = record { log = i.log; shelf = i.store; most = i.most; imaged = i.imaged } in
     let read = c.plan.new.store in
     let t = c.make_sweep.new.pages in
     let plan = c.in_ok-plan.plan in
@@ -174,7 +174,7 @@ pub returns-in_err-make_sweep-clause-why : goal.returns-in_err-make_sweep-clause
 returns-in_err-make_sweep-clause-why g c =
     let i = c.self.inside in
     let state = g.D.SectorDisk.state in
-    let v : Volume g.row.D.Denot = record { log = i.log; shelf = i.store; most = i.most } in
+    let v : Volume g.row.D.Denot = record { log = i.log; shelf = i.store; most = i.most; imaged = i.imaged } in
     let passes = is_node (format_of g.K.KeyClass) in
     let read : Shelf g.row.D.Denot = c.plan.new.store in
     let t : Shelf g.row.D.Denot = c.make_sweep.new.pages in
