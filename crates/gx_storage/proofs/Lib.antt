@@ -9,6 +9,7 @@ pub mod OnlyReads
 pub mod Recording
 pub mod Removing
 pub mod Shown
+pub mod SmallFits
 pub mod SmallLeaf
 pub mod SmallRecords
 pub mod Splitting
