@@ -185,7 +185,7 @@ impl<E: Copy + Ord> Analysis<E> {
         ensures { self.new ≡ with_touch E.Ord.cmp t self.old }
     {
         self.next = self.next.max(t.transaction() + 1);
-        touched::put(t, &mut self.touched);
+        touched::keep_touch(t, &mut self.touched);
     }
 
     /// The numbers that a log begins with. Refused where it uses more pages than the device has (`PagesOfDevice`).

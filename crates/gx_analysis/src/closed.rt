@@ -41,7 +41,7 @@ fn find(t: u64, numbers: &[u64]) -> Result<usize, usize>
 }
 
 /// Puts a number at its place in a vector that has room for it.
-fn put(numbers: &mut Vec<u64>, place: usize, t: u64)
+fn insert_at(numbers: &mut Vec<u64>, place: usize, t: u64)
     requires within { place ≤ vec_len numbers.old }
     requires room { vec_len numbers.old < vec_capacity numbers.old }
     ensures items { numbers.new.items ≡ insert numbers.old.items place t }
@@ -84,7 +84,7 @@ impl Closed {
         ensures { ClosesOne t self.old self.new }
     {
         if let Err(i) = find(t, &self.numbers) {
-            put(&mut self.numbers, i, t);
+            insert_at(&mut self.numbers, i, t);
         }
     }
 }

@@ -109,7 +109,7 @@ pub(crate) fn has_place<E: Copy + Ord>(t: &Touch<E>, touched: &[Touch<E>]) -> bo
 }
 
 /// Puts a touch in its place, for which there is room: of one that stands, only the leaf changes.
-pub(crate) fn put<E: Copy + Ord>(t: Touch<E>, touched: &mut Vec<Touch<E>>)
+pub(crate) fn keep_touch<E: Copy + Ord>(t: Touch<E>, touched: &mut Vec<Touch<E>>)
     requires { length (touching (by_order E.Ord.cmp) t touched.old.items) ≤ vec_capacity touched.old }
     ensures items { touched.new.items ≡ touching (by_order E.Ord.cmp) t touched.old.items }
     ensures capacity { vec_capacity touched.old ≤ vec_capacity touched.new }

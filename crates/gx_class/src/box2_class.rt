@@ -13,7 +13,7 @@ use gx_split::Measure;
 pub struct Box2Class;
 
 /// Writes a number's four bytes over those of `out` from `at` on.
-fn put(out: &mut [u8], at: usize, number: i32)
+fn write_number(out: &mut [u8], at: usize, number: i32)
     requires { at + 4 ≤ length out.old }
     ensures { out.new ≡ take at out.old ++ (number_bytes number ++ drop (at + 4) out.old) }
 {
@@ -115,10 +115,10 @@ impl KeyClass for Box2Class {
     }
 
     fn encode(key: Box2, out: &mut [u8]) {
-        put(out, 0, key.x1());
-        put(out, 4, key.y1());
-        put(out, 8, key.x2());
-        put(out, 12, key.y2());
+        write_number(out, 0, key.x1());
+        write_number(out, 4, key.y1());
+        write_number(out, 8, key.x2());
+        write_number(out, 12, key.y2());
     }
 
     fn decode(bytes: &[u8]) -> Option<Box2> {

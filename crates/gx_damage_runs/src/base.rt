@@ -102,42 +102,42 @@ impl Body {
         }
     }
 
-    pub(crate) fn put(&mut self, bytes: &[u8]) -> Result<(), RunFault> {
+    pub(crate) fn put_bytes(&mut self, bytes: &[u8]) -> Result<(), RunFault> {
         self.bytes.extend_from_slice(bytes)?;
         Ok(())
     }
 
     /// A page's number and its image.
     fn image(&mut self, pages: &[Page], number: u8) -> Result<(), RunFault> {
-        self.put(&[0, 0, 0, number])?;
+        self.put_bytes(&[0, 0, 0, number])?;
         let Some(page) = pages.get(usize::from(number).saturating_sub(1)) else {
             return Err(RunFault::Unexpected);
         };
         self.images.push((usize::from(number), self.bytes.len()))?;
-        self.put(page.image())
+        self.put_bytes(page.image())
     }
 
     /// A record's tag and a transaction.
-    pub(crate) fn begin(&mut self, tag: u8, transaction: u8) -> Result<(), RunFault> {
-        self.put(&[tag, 0, 0, 0, 0, 0, 0, 0, transaction])
+    pub(crate) fn begin_record(&mut self, tag: u8, transaction: u8) -> Result<(), RunFault> {
+        self.put_bytes(&[tag, 0, 0, 0, 0, 0, 0, 0, transaction])
     }
 
     /// A row and its key.
     fn entry(&mut self, class: u16, row: u8) -> Result<(), RunFault> {
-        self.put(&[0, 0, 0, 0, 0, 0, 0, row])?;
-        self.put(&key(class, row, row))
+        self.put_bytes(&[0, 0, 0, 0, 0, 0, 0, row])?;
+        self.put_bytes(&key(class, row, row))
     }
 
     fn note(&mut self, class: u16, transaction: u8, row: u8, leaf: u8) -> Result<(), RunFault> {
-        self.begin(6, transaction)?;
+        self.begin_record(6, transaction)?;
         self.entry(class, row)?;
-        self.put(&[row % 2, 0, 0, 0, leaf])
+        self.put_bytes(&[row % 2, 0, 0, 0, leaf])
     }
 
     /// The counters, and notes of what three open transactions have touched.
     fn head(&mut self, class: u16) -> Result<(), RunFault> {
-        self.begin(5, 1)?;
-        self.put(&[0, 0, 0, 0, 0, 0, 0, 3, 0, 0, 0, 7, 0, 0, 0, 0, 0, 0, 0, 2])?;
+        self.begin_record(5, 1)?;
+        self.put_bytes(&[0, 0, 0, 0, 0, 0, 0, 3, 0, 0, 0, 7, 0, 0, 0, 0, 0, 0, 0, 2])?;
         self.note(class, 5, 3, 2)?;
         self.note(class, 5, 9, 5)?;
         self.note(class, 6, 1, 2)?;
@@ -148,22 +148,22 @@ impl Body {
     fn other(&mut self, class: u16, pages: &[Page], which: usize) -> Result<(), RunFault> {
         match which {
             0 => {
-                self.begin(2, 7)?;
+                self.begin_record(2, 7)?;
                 self.entry(class, 8)?;
-                self.put(&[0, 0])?;
+                self.put_bytes(&[0, 0])?;
                 self.image(pages, 5)
             }
             1 => self.closing(3, 7, 2),
-            2 => self.begin(4, 5),
+            2 => self.begin_record(4, 5),
             3 => {
-                self.put(&[1, 0, 0, 0, 0, 0, 0, 0, 3, 0, 0, 0, 7, 2])?;
+                self.put_bytes(&[1, 0, 0, 0, 0, 0, 0, 0, 3, 0, 0, 0, 7, 2])?;
                 self.image(pages, 1)?;
                 self.image(pages, 6)
             }
             4 => {
-                self.begin(2, 9)?;
+                self.begin_record(2, 9)?;
                 self.entry(class, 2)?;
-                self.put(&[1, 0])?;
+                self.put_bytes(&[1, 0])?;
                 self.image(pages, 2)
             }
             _ => self.closing(3, 6, 3),
@@ -172,8 +172,8 @@ impl Body {
 
     /// A commit.
     fn closing(&mut self, tag: u8, transaction: u8, number: u8) -> Result<(), RunFault> {
-        self.begin(tag, transaction)?;
-        self.put(&[0, 0, 0, 0, 0, 0, 0, number])
+        self.begin_record(tag, transaction)?;
+        self.put_bytes(&[0, 0, 0, 0, 0, 0, 0, number])
     }
 }
 

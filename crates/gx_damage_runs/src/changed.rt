@@ -4,7 +4,7 @@ use crate::device::formatted;
 use crate::fault::RunFault;
 use crate::number;
 use crate::opened::FRAMES;
-use crate::told::tell;
+use crate::told::tell_opening;
 use std::alloc::Global;
 use std::str::SplitWhitespace;
 
@@ -42,5 +42,5 @@ pub(crate) fn changed(
         "frames" => frames = place(words)?,
         _ => return Err(RunFault::BadLine),
     }
-    tell(alloc, &image, frames)
+    tell_opening(alloc, &image, frames)
 }

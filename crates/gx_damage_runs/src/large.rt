@@ -7,7 +7,7 @@ use gx_class::Box2Class;
 use gx_disk::{FileDisk, SectorDisk};
 use gx_geom::Box2;
 use gx_machine::Entry;
-use gx_memory_tree::{MemoryPages, Place, insert_step};
+use gx_memory_tree::{DescentPlace, MemoryPages, insert_step};
 use gx_page::Page;
 use gx_tree::Pages;
 use rand_pcg::Pcg32;
@@ -67,7 +67,7 @@ fn fresh_tree(alloc: Global, room: usize) -> Result<Tree, RunFault> {
 
 /// Inserts a pair.
 fn insert(tree: &mut Tree, entry: &Entry<Box2>, keys: &mut [Box2; MOST]) -> Result<(), RunFault> {
-    let mut place = Place::top(tree);
+    let mut place = DescentPlace::top(tree);
     for _ in 0..STEPS {
         match insert_step(tree, place, entry, MOST, keys) {
             Ok(Some(next)) => place = next,
@@ -94,10 +94,10 @@ fn draw_tree(alloc: Global, pairs: u64) -> Result<Tree, RunFault> {
 /// The counters that a log begins with, after one commit.
 fn head(alloc: Global, counter: u64, used: u32) -> Result<Body, RunFault> {
     let mut body = Body::new(alloc);
-    body.begin(5, 1)?;
-    body.put(&counter.to_be_bytes())?;
-    body.put(&used.to_be_bytes())?;
-    body.put(&[0, 0, 0, 0, 0, 0, 0, 2])?;
+    body.begin_record(5, 1)?;
+    body.put_bytes(&counter.to_be_bytes())?;
+    body.put_bytes(&used.to_be_bytes())?;
+    body.put_bytes(&[0, 0, 0, 0, 0, 0, 0, 2])?;
     Ok(body)
 }
 
@@ -105,12 +105,12 @@ fn head(alloc: Global, counter: u64, used: u32) -> Result<Body, RunFault> {
 fn given(alloc: Global, counter: u64, used: u32, pages: &[&Page]) -> Result<Body, RunFault> {
     let mut body = Body::new(alloc);
     for page in pages {
-        body.put(&[1])?;
-        body.put(&counter.to_be_bytes())?;
-        body.put(&used.to_be_bytes())?;
-        body.put(&[1])?;
-        body.put(&page.number().to_be_bytes())?;
-        body.put(page.image())?;
+        body.put_bytes(&[1])?;
+        body.put_bytes(&counter.to_be_bytes())?;
+        body.put_bytes(&used.to_be_bytes())?;
+        body.put_bytes(&[1])?;
+        body.put_bytes(&page.number().to_be_bytes())?;
+        body.put_bytes(page.image())?;
     }
     Ok(body)
 }

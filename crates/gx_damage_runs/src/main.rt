@@ -144,11 +144,15 @@ fn take_large(
 
 impl Runs {
     /// A new index's life begins.
-    fn begin(&mut self, alloc: Global, words: &mut SplitWhitespace<'_>) -> Result<(), RunFault> {
+    fn begin_life(
+        &mut self,
+        alloc: Global,
+        words: &mut SplitWhitespace<'_>,
+    ) -> Result<(), RunFault> {
         let pages = u32::try_from(number(words)?).unwrap_or(0);
         let most = u16::try_from(number(words)?).unwrap_or(0);
         self.script.clear();
-        self.life.begin(alloc, pages, most)
+        self.life.begin_life(alloc, pages, most)
     }
 
     /// The script since the last stop is run.
@@ -193,7 +197,7 @@ impl Runs {
             _ if line.starts_with("new ") => {
                 let mut words = line.split_whitespace();
                 let _new = words.next();
-                self.begin(rt.alloc(), &mut words)?;
+                self.begin_life(rt.alloc(), &mut words)?;
             }
             _ => {
                 print!(rt; "{line}:")?;

@@ -51,7 +51,12 @@ impl Life {
     }
 
     /// A new index, of so many pages and entries a node.
-    pub(crate) fn begin(&mut self, alloc: Global, pages: u32, most: u16) -> Result<(), RunFault> {
+    pub(crate) fn begin_life(
+        &mut self,
+        alloc: Global,
+        pages: u32,
+        most: u16,
+    ) -> Result<(), RunFault> {
         self.images = Vec::new(alloc);
         self.sectors = Vec::new(alloc);
         self.pages = Vec::new(alloc);

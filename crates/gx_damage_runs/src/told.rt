@@ -105,7 +105,11 @@ fn refused(
 
 /// Opens a device with these bytes, and says what came of it: so many commits, or how it is refused, and what a person
 /// reads then. Nothing where the commands that open it differ.
-pub(crate) fn tell(alloc: Global, bytes: &[u8], frames: usize) -> Result<Option<String>, RunFault> {
+pub(crate) fn tell_opening(
+    alloc: Global,
+    bytes: &[u8],
+    frames: usize,
+) -> Result<Option<String>, RunFault> {
     match open::<MemDisk, Box2Class>(alloc, device(alloc, bytes)?, frames) {
         Ok(engine) => {
             let commits = engine.commits();

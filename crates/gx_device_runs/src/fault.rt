@@ -26,7 +26,7 @@ pub(crate) enum RunFault {
 
 impl RunFault {
     /// What it is about, and a number.
-    pub(crate) fn told(self) -> (&'static str, u64) {
+    pub(crate) fn text_and_place(self) -> (&'static str, u64) {
         match self {
             RunFault::BadLine => ("bad line", 0),
             RunFault::Memory => ("memory", 0),
@@ -34,7 +34,7 @@ impl RunFault {
             RunFault::Device => ("device", 0),
             RunFault::Damaged => ("damaged", 0),
             RunFault::Unexpected => ("unexpected", 0),
-            RunFault::Storage(fault) => fault.told(),
+            RunFault::Storage(fault) => fault.text_and_place(),
         }
     }
 }

@@ -1,7 +1,7 @@
 //! A device over a real file, which lies where the program runs.
 use crate::devices::firsts;
 use crate::fault::RunFault;
-use crate::sectors::{told, write};
+use crate::sectors::{word_of, write};
 use crate::words::{Part, number, say, say_parts, word};
 use gx_disk::{DiskFault, FileDisk, SectorDisk};
 use std::str::SplitWhitespace;
@@ -30,7 +30,7 @@ fn say_sectors<R: Print, D: SectorDisk>(rt: &R, disk: &mut D) -> Result<(), RunF
 fn say_file<R: Print>(rt: &R, disk: Result<FileDisk, DiskFault>) -> Result<(), RunFault> {
     match disk {
         Ok(mut disk) => say_sectors(rt, &mut disk),
-        Err(fault) => say(rt, told(Err(fault))),
+        Err(fault) => say(rt, word_of(Err(fault))),
     }
 }
 
@@ -46,7 +46,7 @@ fn write_file(rt: &HostRuntime) -> Result<Option<DiskFault>, DiskFault> {
 pub(crate) fn call(rt: &HostRuntime, words: &mut SplitWhitespace<'_>) -> Result<(), RunFault> {
     match word(words)? {
         "write" => match write_file(rt) {
-            Ok(Some(besides)) => say(rt, told(Err(besides))),
+            Ok(Some(besides)) => say(rt, word_of(Err(besides))),
             Ok(None) => say(rt, "opened besides"),
             Err(_) => say(rt, "not written"),
         },

@@ -188,7 +188,7 @@ fn appended(log: &mut Glog, words: &mut SplitWhitespace<'_>) -> Result<Appended,
 }
 
 /// A line that puts a record into the log.
-pub(crate) fn put<R: Print>(
+pub(crate) fn put_record<R: Print>(
     rt: &R,
     log: &mut Glog,
     words: &mut SplitWhitespace<'_>,

@@ -73,7 +73,7 @@ fn on_log(
         "show" => sectors::look(rt, disk, words),
         "parameters" => parameters::call(rt, disk, words),
         "log" => logs::call(rt, alloc, disk, log, words),
-        "put" => logs::put(rt, log, words),
+        "put" => logs::put_record(rt, log, words),
         "read" => extents::call(rt, alloc, disk, words),
         "all" => cases::call(rt, alloc, words),
         _ => Err(RunFault::BadLine),
@@ -143,7 +143,7 @@ fn main(rt: HostRuntime) -> ExitCode {
     match run(&rt) {
         Ok(()) => ExitCode::from(0),
         Err(fault) => {
-            let (what, place) = fault.told();
+            let (what, place) = fault.text_and_place();
             let _ = println!(rt; " stopped: {what} {place}");
             ExitCode::from(1)
         }

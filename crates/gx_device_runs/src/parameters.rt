@@ -1,6 +1,6 @@
 //! What a device is formatted for.
 use crate::fault::RunFault;
-use crate::sectors::{read, told, write};
+use crate::sectors::{read, word_of, write};
 use crate::words::{Part, number, say, say_parts, word};
 use gx_disk::SectorDisk;
 use gx_glog::{PARAMETERS, Parameters};
@@ -19,12 +19,12 @@ fn parameters(words: &mut SplitWhitespace<'_>) -> Result<Parameters, RunFault> {
 }
 
 /// Writes the sector of parameters.
-fn put<D: SectorDisk>(
+fn write_parameters<D: SectorDisk>(
     disk: &mut D,
     words: &mut SplitWhitespace<'_>,
 ) -> Result<&'static str, RunFault> {
     let sector = parameters(words)?.encode();
-    Ok(told(write(disk, PARAMETERS, &sector)))
+    Ok(word_of(write(disk, PARAMETERS, &sector)))
 }
 
 /// Prints what the sector of parameters says.
@@ -50,7 +50,7 @@ pub(crate) fn call<R: Print, D: SectorDisk>(
     words: &mut SplitWhitespace<'_>,
 ) -> Result<(), RunFault> {
     match word(words)? {
-        "write" => say(rt, put(disk, words)?),
+        "write" => say(rt, write_parameters(disk, words)?),
         "read" => look(rt, disk),
         _ => Err(RunFault::BadLine),
     }

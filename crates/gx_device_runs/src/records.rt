@@ -79,7 +79,11 @@ fn commit<R: Print>(
     spell(rt, &Record::Commit { tx, n }, text)
 }
 
-fn end<R: Print>(rt: &R, text: &mut [u8], words: &mut SplitWhitespace<'_>) -> Result<(), RunFault> {
+fn spell_end<R: Print>(
+    rt: &R,
+    text: &mut [u8],
+    words: &mut SplitWhitespace<'_>,
+) -> Result<(), RunFault> {
     let tx = number(words)?;
     spell(rt, &Record::End { tx }, text)
 }
@@ -285,7 +289,7 @@ pub(crate) fn call<R: Print>(
 ) -> Result<(), RunFault> {
     match word(words)? {
         "commit" => commit(rt, text, words),
-        "end" => end(rt, text, words),
+        "end" => spell_end(rt, text, words),
         "counters" => counters(rt, text, words),
         "note" => note(rt, text, words),
         "write" => write(rt, alloc, text, words),

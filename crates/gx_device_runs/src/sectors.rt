@@ -5,7 +5,7 @@ use gx_disk::{DiskFault, SectorDisk};
 use std::str::SplitWhitespace;
 
 /// What a call answers, as a word.
-pub(crate) fn told(answer: Result<(), DiskFault>) -> &'static str {
+pub(crate) fn word_of(answer: Result<(), DiskFault>) -> &'static str {
     match answer {
         Ok(()) => "done",
         Err(DiskFault::Memory) => "memory",
@@ -59,7 +59,7 @@ fn fill_by<D: SectorDisk>(
         Some(word) => word.parse::<u64>().ok().ok_or(RunFault::BadLine)?,
         None => 1,
     };
-    Ok(told(fill(disk, first, byte, count)))
+    Ok(word_of(fill(disk, first, byte, count)))
 }
 
 /// Writes the bytes of a line over the first ones.
@@ -83,7 +83,7 @@ fn front_by<D: SectorDisk>(
     let sector = number(words)?;
     let mut bytes = read(disk, sector)?;
     overlay(&mut bytes, words)?;
-    Ok(told(write(disk, sector, &bytes)))
+    Ok(word_of(write(disk, sector, &bytes)))
 }
 
 /// A gate that is written open.
@@ -135,7 +135,7 @@ fn make<D: SectorDisk>(
     match word(words)? {
         "fill" => fill_by(disk, words),
         "front" => front_by(disk, words),
-        "sync" => Ok(told(disk.sync())),
+        "sync" => Ok(word_of(disk.sync())),
         _ => Err(RunFault::BadLine),
     }
 }

@@ -3,8 +3,8 @@ use Rattle.std.proofs.Common.{◌≡◌, ◌∙◌, sym, ap, refl, inl, inr, ℕ
 use Rattle.std.proofs.lemmas.Bool.{false≢true, le-leb}
 use Rattle.std.proofs.lemmas.Bool.Decides.{nat_tests}
 use Rattle.std.proofs.lemmas.List.{take_all, drop_all, take-append-le, drop-append-le, length-take-le, length-drop, length-append}
-use Rattle.gx_disk.specs.declared.memory.Call.{Call}
-use Rattle.gx_disk.specs.declared.memory.Call.TheVariants.{Write, Sync}
+use Rattle.gx_disk.specs.declared.memory.PastCall.{PastCall}
+use Rattle.gx_disk.specs.declared.memory.PastCall.TheVariants.{Write, Sync}
 use Rattle.gx_disk.specs.Sectors.{put, IsSpan, IsWithin, IsOutside}
 use Rattle.gx_disk.specs.Device.{Syncs, Writes}
 use Rattle.gx_disk.specs.Memory.{is_within, pending_next, pending_after, size_kept, total_kept, bytes_back, device_of, fit_all, IsKept}
@@ -24,7 +24,7 @@ second_of_both true b p = p
 second_of_both false b p = absurd (false≢true p)
 
 -- two lists of calls fit where each does
-pub fit_all-append : (sectors : ℕ) (calls more : List Call) → IsTrue (fit_all sectors calls) → IsTrue (fit_all sectors more) → IsTrue (fit_all sectors (calls ++ more))
+pub fit_all-append : (sectors : ℕ) (calls more : List PastCall) → IsTrue (fit_all sectors calls) → IsTrue (fit_all sectors more) → IsTrue (fit_all sectors (calls ++ more))
 unfolding fit_all
 fit_all-append sectors [] more fit fits = fits
 fit_all-append sectors (Sync ∷ calls) more fit fits = fit_all-append sectors calls more fit fits
@@ -49,7 +49,7 @@ or_false true = refl
 or_false false = refl
 
 -- a sync recorded
-module _ (sectors : ℕ) (calls calls' : List Call) (kept kept' bytes : List ℕ) (faults made made' synced synced_size : ℕ) (was : IsKept sectors calls kept synced synced_size)
+module _ (sectors : ℕ) (calls calls' : List PastCall) (kept kept' bytes : List ℕ) (faults made made' synced synced_size : ℕ) (was : IsKept sectors calls kept synced synced_size)
     (recorded : calls' ≡ calls ++ Sync ∷ []) (same : kept' ≡ kept ++ []) where
   sync_total : total_kept calls' ≡ length kept'
   unfolding total_kept size_kept
@@ -79,7 +79,7 @@ module _ (sectors : ℕ) (calls calls' : List Call) (kept kept' bytes : List ℕ
   }
 
 -- a write recorded
-module _ (sectors : ℕ) (calls calls' : List Call) (kept kept' bytes bytes' new : List ℕ) (first n m faults made made' synced synced_size : ℕ) (was : IsKept sectors calls kept synced synced_size)
+module _ (sectors : ℕ) (calls calls' : List PastCall) (kept kept' bytes bytes' new : List ℕ) (first n m faults made made' synced synced_size : ℕ) (was : IsKept sectors calls kept synced synced_size)
     (size : length bytes ≡ 512 * sectors) (span : IsSpan sectors first (length new)) (count : length new ≡ 512 * n) (few : 512 * m ≤ length new)
     (same : drop (512 * m) (take (length new) (drop (512 * first) bytes)) ≡ drop (512 * m) new)
     (recorded : calls' ≡ calls ++ Write first n m ∷ []) (keeps : kept' ≡ kept ++ take (512 * m) (drop (512 * first) bytes)) (put_there : bytes' ≡ put (512 * first) new bytes) where

@@ -2,8 +2,8 @@
 use Rattle.std.proofs.Common.{◌≡◌, ◌∙◌, sym, ap, refl, inl, inr, ℕ, zero, suc, ◌*◌, ◌≤◌, List, [], ◌∷◌, length, take, drop, true, false, Bool, arith}
 use Rattle.std.proofs.lemmas.Bool.{cases_lt}
 use Rattle.std.proofs.lemmas.List.{drop_all, length-drop, take-append-drop}
-use Rattle.gx_disk.specs.declared.memory.Call.{Call}
-use Rattle.gx_disk.specs.declared.memory.Call.TheVariants.{Write, Sync}
+use Rattle.gx_disk.specs.declared.memory.PastCall.{PastCall}
+use Rattle.gx_disk.specs.declared.memory.PastCall.TheVariants.{Write, Sync}
 use Rattle.gx_disk.specs.declared.memory.Torn.{Torn}
 use Rattle.gx_disk.specs.Sectors.{sector_of}
 use Rattle.gx_disk.specs.Device.{IsImage}
@@ -13,7 +13,7 @@ use Rattle.gx_disk.proofs.Calls.{second_of_both}
 use Rattle.gx_disk.proofs.Record.{total_kept-append}
 
 -- the later calls fit where all do
-fit_drop : (sectors n : ℕ) (calls : List Call) → fit_all sectors calls ≡ true → fit_all sectors (drop n calls) ≡ true
+fit_drop : (sectors n : ℕ) (calls : List PastCall) → fit_all sectors calls ≡ true → fit_all sectors (drop n calls) ≡ true
 unfolding fit_all
 fit_drop sectors zero calls fit = fit
 fit_drop sectors (suc n) [] fit = refl
@@ -21,17 +21,17 @@ fit_drop sectors (suc n) (Sync ∷ calls) fit = fit_drop sectors n calls fit
 fit_drop sectors (suc n) (Write first k m ∷ calls) fit = fit_drop sectors n calls (second_of_both _ (fit_all sectors calls) fit)
 
 -- the calls since the last sync, and what they kept
-pub record IsSince (sectors : ℕ) (calls : List Call) (kept : List ℕ) : Type 0 where
+pub record IsSince (sectors : ℕ) (calls : List PastCall) (kept : List ℕ) : Type 0 where
   pub fits : fit_all sectors calls ≡ true
   pub sized : total_kept calls ≡ length kept
 
-pub since_sync : (sectors : ℕ) (calls : List Call) (kept : List ℕ) (synced synced_size : ℕ) → IsKept sectors calls kept synced synced_size → IsSince sectors (drop synced calls) (drop synced_size kept)
+pub since_sync : (sectors : ℕ) (calls : List PastCall) (kept : List ℕ) (synced synced_size : ℕ) → IsKept sectors calls kept synced synced_size → IsSince sectors (drop synced calls) (drop synced_size kept)
 since_sync sectors calls kept synced synced_size k =
     let parts = total_kept-append (take synced calls) (drop synced calls) in
     let whole = ap total_kept (take-append-drop synced calls) in
     record { fits = fit_drop sectors synced calls k.fits; sized = omega (arith, k.sized, k.since_size, parts, whole, length-drop synced_size kept) }
 
-pub since_room : (sectors : ℕ) (calls : List Call) (kept : List ℕ) (synced synced_size : ℕ) → IsKept sectors calls kept synced synced_size → synced_size ≤ length kept
+pub since_room : (sectors : ℕ) (calls : List PastCall) (kept : List ℕ) (synced synced_size : ℕ) → IsKept sectors calls kept synced synced_size → synced_size ≤ length kept
 since_room sectors calls kept synced synced_size k = omega (arith, k.sized, k.since_size, total_kept-append (take synced calls) (drop synced calls), ap total_kept (take-append-drop synced calls))
 
 -- devices of which the same sectors are pending
@@ -41,7 +41,7 @@ pending_below_same p q zero same = refl
 pending_below_same p q (suc s) same = rw (pending_below_same p q s same, same s) refl
 
 -- a crash told by the calls since the last sync is one of the device
-pub crash_of_device : (sectors : ℕ) (calls : List Call) (kept now left : List ℕ) (torn : List Torn) (synced synced_size : ℕ) → IsKept sectors calls kept synced synced_size
+pub crash_of_device : (sectors : ℕ) (calls : List PastCall) (kept now left : List ℕ) (torn : List Torn) (synced synced_size : ℕ) → IsKept sectors calls kept synced synced_size
     → IsCrash sectors (pending_after (drop synced calls) false) torn (bytes_before (drop synced calls) (drop synced_size kept) now) now left
     → IsCrash sectors (pending_after calls false) torn (bytes_at synced calls kept now) now left
 unfolding crashed bytes_at

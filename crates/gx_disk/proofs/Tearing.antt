@@ -2,8 +2,8 @@
 use Rattle.std.proofs.Common.{◌≡◌, ◌∙◌, sym, ap, refl, inl, inr, ℕ, ◌+◌, ◌*◌, ◌-◌, ◌<◌, ◌≤◌, List, [], ◌∷◌, ◌++◌, length, take, drop, get_or, true, false, Bool, Some, None, ◌&&◌, if◌then◌else◌, add-one, arith, nat_le}
 use Rattle.std.proofs.lemmas.Bool.{false≢true, leb-true, cases_lt}
 use Rattle.std.proofs.lemmas.List.{drop_at, take-take, drop_all, drop_more, drop-drop, drop-take, take-append-le, drop-append-le, length-take-le, length-drop}
-use Rattle.gx_disk.specs.declared.memory.Call.{Call}
-use Rattle.gx_disk.specs.declared.memory.Call.TheVariants.{Write, Sync}
+use Rattle.gx_disk.specs.declared.memory.PastCall.{PastCall}
+use Rattle.gx_disk.specs.declared.memory.PastCall.TheVariants.{Write, Sync}
 use Rattle.gx_disk.specs.Sectors.{put, sector_of, IsWithin, IsOutside}
 use Rattle.gx_disk.specs.Memory.{is_within, pending_next, pending_after, size_kept, total_kept, place_kept, bytes_back, bytes_before, fit_all}
 use Rattle.gx_disk.specs.Crash.{pending_below}
@@ -11,18 +11,18 @@ use Rattle.gx_disk.proofs.Spans.{length-put, put_back, put_outside}
 use Rattle.gx_disk.proofs.Calls.{first_of_both, second_of_both, within_true, within_false}
 
 -- one call more of a slice of them
-pub pending_step : (calls : List Call) (i : ℕ) (d : Call) (was now all : Bool) (s : ℕ) → now ≡ pending_next (get_or calls i d) was s → i < length calls
+pub pending_step : (calls : List PastCall) (i : ℕ) (d : PastCall) (was now all : Bool) (s : ℕ) → now ≡ pending_next (get_or calls i d) was s → i < length calls
     → pending_after (drop i calls) was s ≡ all → pending_after (drop (i + 1) calls) now s ≡ all
 unfolding pending_after
 pending_step calls i d was now all s next lt so_far = rw next (sym (ap (λ cs. pending_after cs was s) (drop_more calls i d lt)) ∙ so_far)
 
 -- all of them
-pub pending_all : (calls : List Call) (i : ℕ) (now all : Bool) (s : ℕ) → length calls ≤ i → pending_after (drop i calls) now s ≡ all → now ≡ all
+pub pending_all : (calls : List PastCall) (i : ℕ) (now all : Bool) (s : ℕ) → length calls ≤ i → pending_after (drop i calls) now s ≡ all → now ≡ all
 unfolding pending_after
 pending_all calls i now all s le so_far = sym (ap (λ cs. pending_after cs now s) (drop_all i calls le)) ∙ so_far
 
 -- how many bytes there were before calls that fit
-pub length-bytes_before : (sectors : ℕ) (calls : List Call) (kept now : List ℕ) → fit_all sectors calls ≡ true → total_kept calls ≤ length kept → length now ≡ 512 * sectors → length (bytes_before calls kept now) ≡ 512 * sectors
+pub length-bytes_before : (sectors : ℕ) (calls : List PastCall) (kept now : List ℕ) → fit_all sectors calls ≡ true → total_kept calls ≤ length kept → length now ≡ 512 * sectors → length (bytes_before calls kept now) ≡ 512 * sectors
 unfolding bytes_before bytes_back fit_all total_kept size_kept
 length-bytes_before sectors [] kept now fit enough size = size
 length-bytes_before sectors (Sync ∷ calls) kept now fit enough size = length-bytes_before sectors calls kept now fit (omega arith) size
@@ -75,8 +75,8 @@ some_chosen true x y e = (refl, cc)
 some_chosen false x y e = cc
 
 -- what one call says of a sector
-module _ (sectors : ℕ) (calls : List Call) (rest now : List ℕ) (s : ℕ) (size : length now ≡ 512 * sectors) where
-  pub not_there : (call : Call) → place_kept call s ≡ None → fit_all sectors (call ∷ calls) ≡ true → total_kept (call ∷ calls) ≡ length rest
+module _ (sectors : ℕ) (calls : List PastCall) (rest now : List ℕ) (s : ℕ) (size : length now ≡ 512 * sectors) where
+  pub not_there : (call : PastCall) → place_kept call s ≡ None → fit_all sectors (call ∷ calls) ≡ true → total_kept (call ∷ calls) ≡ length rest
       → sector_of (bytes_before (call ∷ calls) rest now) s ≡ sector_of (bytes_before calls (drop (size_kept call) rest) now) s
   unfolding bytes_before bytes_back total_kept size_kept fit_all place_kept
   not_there Sync none fit total = refl
@@ -90,7 +90,7 @@ module _ (sectors : ℕ) (calls : List Call) (rest now : List ℕ) (s : ℕ) (si
       let long = length-bytes_before sectors calls (drop (512 * m) rest) now (second_of_both here (fit_all sectors calls) fit) (omega (arith, length-drop (512 * m) rest)) size in
       put_outside first m s (take (512 * m) rest) (bytes_before calls (drop (512 * m) rest) now) few (omega arith) out
 
-  pub is_there : (call : Call) (at : ℕ) → place_kept call s ≡ Some at → fit_all sectors (call ∷ calls) ≡ true → total_kept (call ∷ calls) ≡ length rest
+  pub is_there : (call : PastCall) (at : ℕ) → place_kept call s ≡ Some at → fit_all sectors (call ∷ calls) ≡ true → total_kept (call ∷ calls) ≡ length rest
       → sector_of (bytes_before (call ∷ calls) rest now) s ≡ take 512 (drop at rest)
   unfolding bytes_before bytes_back total_kept size_kept fit_all place_kept
   is_there Sync at some fit total = cc
@@ -106,7 +106,7 @@ module _ (sectors : ℕ) (calls : List Call) (rest now : List ℕ) (s : ℕ) (si
       ∙ part_of_front (512 * (s - first)) (512 * m) rest (omega (arith, in_it.from, in_it.below)) ∙ ap (λ k. take 512 (drop k rest)) chosen.1
 
 -- where one call has a sector lies in what it kept
-pub place_within : (call : Call) (s at : ℕ) → place_kept call s ≡ Some at → at + 512 ≤ size_kept call
+pub place_within : (call : PastCall) (s at : ℕ) → place_kept call s ≡ Some at → at + 512 ≤ size_kept call
 unfolding size_kept place_kept
 place_within Sync s at some = cc
 place_within (Write first n m) s at some =
@@ -115,13 +115,13 @@ place_within (Write first n m) s at some =
     omega (arith, chosen.1, in_it.from, in_it.below)
 
 -- the calls behind one fit where all do
-fit_behind : (sectors : ℕ) (call : Call) (calls : List Call) → fit_all sectors (call ∷ calls) ≡ true → fit_all sectors calls ≡ true
+fit_behind : (sectors : ℕ) (call : PastCall) (calls : List PastCall) → fit_all sectors (call ∷ calls) ≡ true → fit_all sectors calls ≡ true
 unfolding fit_all
 fit_behind sectors Sync calls fit = fit
 fit_behind sectors (Write first n m) calls fit = second_of_both (nat_le (first + n) sectors && nat_le m n) (fit_all sectors calls) fit
 
 -- the next call of a walk from the front, which hasn't found the sector yet
-module _ (sectors : ℕ) (calls : List Call) (i : ℕ) (d : Call) (kept rest : List ℕ) (s : ℕ) (lt : i < length calls) (fits : fit_all sectors (drop i calls) ≡ true) (sized : total_kept (drop i calls) ≡ length rest)
+module _ (sectors : ℕ) (calls : List PastCall) (i : ℕ) (d : PastCall) (kept rest : List ℕ) (s : ℕ) (lt : i < length calls) (fits : fit_all sectors (drop i calls) ≡ true) (sized : total_kept (drop i calls) ≡ length rest)
     (same : (now : List ℕ) → length now ≡ 512 * sectors → sector_of (bytes_before (drop i calls) rest now) s ≡ sector_of (bytes_before calls kept now) s) where
   next_fits : fit_all sectors (get_or calls i d ∷ drop (i + 1) calls) ≡ true
   next_fits = sym (ap (fit_all sectors) (drop_more calls i d lt)) ∙ fits
@@ -154,7 +154,7 @@ module _ (sectors : ℕ) (calls : List Call) (i : ℕ) (d : Call) (kept rest : L
   front_same none now size = sym (next_same now size ∙ not_there sectors (drop (i + 1) calls) rest now s size (get_or calls i d) (sym none) next_fits next_sized)
 
 -- a walk that has found nothing
-pub walk_over : (calls : List Call) (i : ℕ) (rest now : List ℕ) → length calls ≤ i → bytes_before (drop i calls) rest now ≡ now
+pub walk_over : (calls : List PastCall) (i : ℕ) (rest now : List ℕ) → length calls ≤ i → bytes_before (drop i calls) rest now ≡ now
 unfolding bytes_before
 walk_over calls i rest now le = ap (λ cs. bytes_before cs rest now) (drop_all i calls le)
 

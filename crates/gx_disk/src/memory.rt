@@ -27,7 +27,7 @@ pub enum Torn {
 
 // A write or sync that was made.
 #[derive(Clone, Copy)]
-pub(crate) enum Call {
+pub(crate) enum PastCall {
     // So many sectors from the first on.
     // Of the last ones the overwritten bytes aren't kept, since they stayed as they were.
     Write {
@@ -44,7 +44,7 @@ pub struct MemDisk {
     sectors: usize,
     bytes: Vec<u8>,
     // the writes and syncs since the device was made, cut or crashed
-    past: Vec<Call>,
+    past: Vec<PastCall>,
     // the overwritten bytes that they kept
     kept: Vec<u8>,
     // how many of the calls, and of the bytes, come up to the last sync
@@ -99,9 +99,9 @@ fn changed(old: &[u8], new: &[u8]) -> usize
 
 // Puts a call and its overwritten bytes into the record. Where there is no memory for them, the record stays as it was.
 fn remember(
-    past: &mut Vec<Call>,
+    past: &mut Vec<PastCall>,
     kept: &mut Vec<u8>,
-    call: Call,
+    call: PastCall,
     bytes: &[u8],
 ) -> Result<(), AllocError>
     ensures ok { OnOk result ((past.new.items ≡ past.old.items ++ call ∷ [])
@@ -262,7 +262,7 @@ impl SectorDisk for MemDisk {
         let at = SECTOR_SIZE * first;
         let kept = changed(part(&self.bytes, at, bytes.len()), bytes);
         let count = bytes.len() / SECTOR_SIZE;
-        let call = Call::Write {
+        let call = PastCall::Write {
             first,
             sectors: count,
             kept,
@@ -288,7 +288,7 @@ impl SectorDisk for MemDisk {
             → HasRoom c n self.new.past self.new.kept }
     {
         self.calls = self.calls.next();
-        match remember(&mut self.past, &mut self.kept, Call::Sync, &[]) {
+        match remember(&mut self.past, &mut self.kept, PastCall::Sync, &[]) {
             Ok(()) => {
                 self.synced = self.past.len();
                 self.synced_size = self.kept.len();

@@ -7,21 +7,21 @@ ghost use Rattle.gx_disk.specs.Memory.{total_kept, place_kept, fit_all, bytes_be
 ghost use Rattle.gx_disk.specs.Crash.{choice_of, torn_bytes, pending_below, crashed, IsCrash};
 
 use crate::device::SECTOR_SIZE;
-use crate::memory::{Call, Torn, overwrite, part};
+use crate::memory::{PastCall, Torn, overwrite, part};
 
 // Whether a sector is pending after one more call.
 #[tactic(auto, unfolding(crate::specs::Memory::pending_next))]
-fn is_pending_next(call: &Call, was: bool, s: usize) -> bool
+fn is_pending_next(call: &PastCall, was: bool, s: usize) -> bool
     ensures { result ≡ pending_next call.now was s }
 {
     match *call {
-        Call::Sync => false,
-        Call::Write { first, sectors, .. } => was || (first <= s && s - first < sectors),
+        PastCall::Sync => false,
+        PastCall::Write { first, sectors, .. } => was || (first <= s && s - first < sectors),
     }
 }
 
 /// Whether a sector is pending after these calls.
-pub(crate) fn is_pending(calls: &[Call], s: usize) -> bool
+pub(crate) fn is_pending(calls: &[PastCall], s: usize) -> bool
     ensures { result ≡ pending_after calls.now false s }
 {
     let mut pending = false;
@@ -33,12 +33,12 @@ pub(crate) fn is_pending(calls: &[Call], s: usize) -> bool
 
 #[tactic(auto, unfolding(crate::specs::Memory::size_kept, crate::specs::Memory::place_kept))]
 // Where the overwritten bytes of one call have a sector, if they do.
-fn kept_at(call: &Call, kept: &[u8], s: usize) -> Option<usize>
+fn kept_at(call: &PastCall, kept: &[u8], s: usize) -> Option<usize>
     requires { size_kept call.now ≤ length kept.now }
     ensures { result ≡ place_kept call.now s }
 {
     match *call {
-        Call::Write {
+        PastCall::Write {
             first,
             kept: sectors,
             ..
@@ -49,24 +49,24 @@ fn kept_at(call: &Call, kept: &[u8], s: usize) -> Option<usize>
                 None
             }
         }
-        Call::Sync => None,
+        PastCall::Sync => None,
     }
 }
 
 #[tactic(auto, unfolding(crate::specs::Memory::size_kept))]
 // The overwritten bytes behind those of one call.
-fn after_kept<'a>(call: &Call, kept: &'a [u8]) -> &'a [u8]
+fn after_kept<'a>(call: &PastCall, kept: &'a [u8]) -> &'a [u8]
     requires { size_kept call.now ≤ length kept.now }
     ensures { result.now ≡ drop (size_kept call.now) kept.now }
 {
     match *call {
-        Call::Write { kept: sectors, .. } => &kept[SECTOR_SIZE * sectors..],
-        Call::Sync => kept,
+        PastCall::Write { kept: sectors, .. } => &kept[SECTOR_SIZE * sectors..],
+        PastCall::Sync => kept,
     }
 }
 
 // A sector's first overwritten bytes since these calls began, where any were kept.
-fn old_bytes<'a>(calls: &[Call], kept: &'a [u8], sectors: usize, s: usize) -> Option<&'a [u8]>
+fn old_bytes<'a>(calls: &[PastCall], kept: &'a [u8], sectors: usize, s: usize) -> Option<&'a [u8]>
     requires fits { fit_all sectors calls.now ≡ true }
     requires sized { total_kept calls.now ≡ length kept.now }
     ensures size { IfSome result (λ old. length old.now ≡ 512) }
@@ -112,7 +112,7 @@ fn choice(torn: &[Torn], i: usize) -> Torn
 // Gives a sector its bytes by a choice.
 fn tear_sector(
     bytes: &mut Vec<u8>,
-    calls: &[Call],
+    calls: &[PastCall],
     kept: &[u8],
     sectors: usize,
     s: usize,
@@ -151,7 +151,7 @@ fn one_if(yes: bool) -> usize
 #[tactic(auto, unfolding(crate::specs::Crash::crashed))]
 fn tear_next(
     bytes: &mut Vec<u8>,
-    calls: &[Call],
+    calls: &[PastCall],
     kept: &[u8],
     sectors: usize,
     s: usize,
@@ -180,7 +180,13 @@ fn tear_next(
 }
 
 /// Gives each pending sector its bytes by the choices in turn.
-pub(crate) fn tear(bytes: &mut Vec<u8>, calls: &[Call], kept: &[u8], sectors: usize, torn: &[Torn])
+pub(crate) fn tear(
+    bytes: &mut Vec<u8>,
+    calls: &[PastCall],
+    kept: &[u8],
+    sectors: usize,
+    torn: &[Torn],
+)
     requires fits { fit_all sectors calls.now ≡ true }
     requires sized { total_kept calls.now ≡ length kept.now }
     requires whole { length bytes.old.items ≡ 512 * sectors }
@@ -194,7 +200,7 @@ pub(crate) fn tear(bytes: &mut Vec<u8>, calls: &[Call], kept: &[u8], sectors: us
 }
 
 /// How many sectors these calls leave pending.
-pub(crate) fn count_pending(calls: &[Call], sectors: usize) -> usize
+pub(crate) fn count_pending(calls: &[PastCall], sectors: usize) -> usize
     ensures { result ≡ pending_below (pending_after calls.now false) sectors }
 {
     let mut i = 0;

@@ -36,7 +36,7 @@ pub fn append<M: Spelled>(log: &mut Glog, logged: &Record<'_>) -> Appended
 }
 
 // Tells the pool of the last batch, where its gate was synced.
-fn tell<T: PageTest>(pool: &mut Pool<T>, stage: Stage, used: u8)
+fn tell_pool<T: PageTest>(pool: &mut Pool<T>, stage: Stage, used: u8)
     ensures frames { pool.new.frames ≡ told stage used pool.old.frames }
     ensures test { pool.new.test ≡ pool.old.test }
 {
@@ -71,7 +71,7 @@ pub fn log_step<M: Spelled, T: PageTest, D: SectorDisk>(
 {
     match log.log_step(disk) {
         Ok(stage) => {
-            tell(pool, stage, log.used());
+            tell_pool(pool, stage, log.used());
             Ok(stage)
         }
         Err(refusal) => Err(refusal),

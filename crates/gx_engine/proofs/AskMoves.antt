@@ -45,7 +45,7 @@ use Rattle.gx_phases.proofs.Indexing.{ask_comes}
 use Rattle.gx_storage.specs.Keeps.{Keeps}
 use Rattle.gx_engine.specs.declared.work.Work.{Work}
 use Rattle.gx_engine.specs.declared.work.Work.TheVariants.{Rests}
-use Rattle.gx_engine.specs.Asks.{AskComes, ask_events, told}
+use Rattle.gx_engine.specs.Asks.{AskComes, ask_events, outcome_of}
 use Rattle.gx_engine.specs.States.{Parts}
 use Rattle.gx_engine.specs.Holds.{AreAt, KnowsFlight, Leads, MayBegin, MayRenewBy}
 use Rattle.gx_engine.specs.Noted.{AreTold, has_transaction, touched_by}
@@ -226,10 +226,10 @@ module _ {B D : Type 0} (c : Class B) (r : Reading (Entry B) (Page B)) (f : Form
 
 -- the outcome tells what was given
 pub ask_told : {B D : Type 0} (k : Keys B) (s : ℕ) (call : Call B) (old : Parts B D) (given : Asked B) (new : State B (Work B)) → IsAsked k s call Rests old.sessions given new
-    → AskComes k s call old (told given) (record old { sessions = new })
+    → AskComes k s call old (outcome_of given) (record old { sessions = new })
 ask_told k s call old (asked.Now answer) new asks = (asks, refl)
 ask_told k s call old asked.Open new asks = (asks, refl)
 
-pub told_events : {B : Type 0} (s : ℕ) (call : Call B) (old : State B (Work B)) (given : Asked B) → ask_events s call old (told given) ≡ asked_event s call old given ∷ []
+pub told_events : {B : Type 0} (s : ℕ) (call : Call B) (old : State B (Work B)) (given : Asked B) → ask_events s call old (outcome_of given) ≡ asked_event s call old given ∷ []
 told_events s call old (asked.Now answer) = refl
 told_events s call old asked.Open = refl

@@ -44,7 +44,7 @@ use Rattle.gx_engine.specs.declared.work.Work.{Work}
 use Rattle.gx_engine.specs.declared.checkpoint.Checkpoint.TheVariants.{Turning}
 use Rattle.gx_engine.specs.States.{Parts, runs}
 use Rattle.gx_engine.specs.Holds.{Holds, KnowsFlight, Led, Leads, LeadsSo}
-use Rattle.gx_engine.specs.Commits.{AcknowledgeBy, AcknowledgeComes, AreSealing, acknowledge_events, told}
+use Rattle.gx_engine.specs.Commits.{AcknowledgeBy, AcknowledgeComes, AreSealing, acknowledge_events, commit_outcome}
 use Rattle.gx_engine.proofs.Flushing.{nothing_led}
 use Rattle.gx_engine.specs.Noted.{has_transaction, touched_by}
 use Rattle.gx_engine.proofs.Noting.{busy_slot, told_phase, told_set, without_others}
@@ -184,21 +184,21 @@ module _ {B D : Type 0} (c : Class B) (l : 4 ≤ c.rules.most → IsLawful c) (r
     (waits : phase_at (s - 1) old.sessions.phases ≡ phase.Waiting number) where
   abbrev Leading : Bool → Type 0
   Leading b = (o : Option ℕ) (new : State B (Work B)) → o ≡ (if b then Some number else None) → Acknowledged o s old.sessions new
-      → AcknowledgeBy b s number old (record old { sessions = new }) (told (runs old.checkpoint) o) × Leads c r f passes d d old (record old { sessions = new }) (acknowledge_events s (told (runs old.checkpoint) o))
+      → AcknowledgeBy b s number old (record old { sessions = new }) (commit_outcome (runs old.checkpoint) o) × Leads c r f passes d d old (record old { sessions = new }) (acknowledge_events s (commit_outcome (runs old.checkpoint) o))
 
   by_number : (b : Bool) → nat_le number old.sessions.durable ≡ b → Leading b
   by_number true low o new one is_so =
       let P : Option ℕ → Type 0 = λ x. Acknowledged x s old.sessions new
-      → AcknowledgeBy true s number old (record old { sessions = new }) (told (runs old.checkpoint) x) × Leads c r f passes d d old (record old { sessions = new }) (acknowledge_events s (told (runs old.checkpoint) x)) in
+      → AcknowledgeBy true s number old (record old { sessions = new }) (commit_outcome (runs old.checkpoint) x) × Leads c r f passes d d old (record old { sessions = new }) (acknowledge_events s (commit_outcome (runs old.checkpoint) x)) in
       subst P (sym one)
       (λ now. rw now ((refl, refl), λ bodies i h. acknowledge_led c (l h.some) r f passes d old kept works s is bodies i h number waits (leb-true number old.sessions.durable low))) is_so
   by_number false low o new one is_so =
       let P : Option ℕ → Type 0 = λ x. Acknowledged x s old.sessions new
-      → AcknowledgeBy false s number old (record old { sessions = new }) (told (runs old.checkpoint) x) × Leads c r f passes d d old (record old { sessions = new }) (acknowledge_events s (told (runs old.checkpoint) x)) in
+      → AcknowledgeBy false s number old (record old { sessions = new }) (commit_outcome (runs old.checkpoint) x) × Leads c r f passes d d old (record old { sessions = new }) (acknowledge_events s (commit_outcome (runs old.checkpoint) x)) in
       subst P (sym one) (λ now. rw now ((refl, refl), nothing_led c r f passes d old)) is_so
 
   pub acknowledge_leads : (o : Option ℕ) (new : State B (Work B)) → o ≡ covered old.sessions.durable (waits_for (phase_at (s - 1) old.sessions.phases)) → Acknowledged o s old.sessions new
-      → AcknowledgeComes s number old (record old { sessions = new }) (told (runs old.checkpoint) o) × Leads c r f passes d d old (record old { sessions = new }) (acknowledge_events s (told (runs old.checkpoint) o))
+      → AcknowledgeComes s number old (record old { sessions = new }) (commit_outcome (runs old.checkpoint) o) × Leads c r f passes d d old (record old { sessions = new }) (acknowledge_events s (commit_outcome (runs old.checkpoint) o))
   acknowledge_leads o new one now =
       by_number (nat_le number old.sessions.durable) refl o new
       (one ∙ ap (λ (p : Phase B (Work B)). covered old.sessions.durable (waits_for p)) waits) now

@@ -11,7 +11,7 @@ use Rattle.gx_page.specs.Contents.{Contents}
 use Rattle.gx_node.specs.Edits.{entry_of}
 use Rattle.gx_node.specs.Reading.{Format}
 use Rattle.gx_tree_laws.specs.Lists.{how_many}
-use Rattle.gx_tree_laws.specs.Reach.{Item}
+use Rattle.gx_tree_laws.specs.Reach.{TraversalItem}
 use Rattle.gx_tree_laws.specs.Trees.{Node, Used, size}
 use Rattle.gx_tree_laws.specs.Writes.{is_sweepable}
 use Rattle.gx_tree.specs.declared.descent.Descended.{Descended}
@@ -39,7 +39,7 @@ use Rattle.gx_engine.proofs.LookMoves.{its_work, slot_now}
 
 -- what a step did, and whether a leaf was swept
 module _ {B D : Type 0} (known : Limits → Known (Entry B) (Page B)) (r : Reading (Entry B) (Page B)) (f : Format B) (passes : ℕ → Contents → Bool) (d e : Device) (v w : Volume D) where
-  pub stepped_as : (cost : B → B → ℕ × ℕ) (joined : B → B → B) (item : Item) (coming : B) (did given : Descended B) → did ≡ given
+  pub stepped_as : (cost : B → B → ℕ × ℕ) (joined : B → B → B) (item : TraversalItem) (coming : B) (did given : Descended B) → did ≡ given
       → HasStepped known r f passes cost joined d e v w item coming did → HasStepped known r f passes cost joined d e v w item coming given
   stepped_as cost joined item coming did given is has = subst (λ (x : Descended B). HasStepped known r f passes cost joined d e v w item coming x) is has
 
@@ -85,7 +85,7 @@ full_inner node most full = omega (arith, full)
 
 -- the page of a descent is refused as none that is taken, or as one without entries: that is impossible
 pub never_stepped : {B D : Type 0} (c : Class B) (lawful : 4 ≤ c.rules.most → IsLawful c) (said : List ℕ → B) (f : Format B) (passes : ℕ → Contents → Bool) (d e : Device)
-    (old : Parts B D) (kept : IsKept c.keys old.sessions) (s : ℕ) (is : is_session s ≡ true) (entry : Entry B) (parent : ℕ) (item : Item)
+    (old : Parts B D) (kept : IsKept c.keys old.sessions) (s : ℕ) (is : is_session s ≡ true) (entry : Entry B) (parent : ℕ) (item : TraversalItem)
     (at : phase_at (s - 1) old.sessions.phases ≡ phase.Open (Insert entry) (Descends parent item))
     → (IsSteady d old.volume.shelf.frames → Used (tree_of (store_of f d.seen old.volume.shelf)) item.page
     → (0 < ((tree_of (store_of f d.seen old.volume.shelf)).node item.page).level) × (length ((tree_of (store_of f d.seen old.volume.shelf)).node item.page).children ≡ 0))

@@ -12,7 +12,7 @@ use Rattle.gx_node.specs.Reading.{Format}
 use Rattle.gx_node.specs.declared.items.TheConstants.{MAX_ENTRIES}
 use Rattle.gx_tree_laws.specs.Legal.{Legal}
 use Rattle.gx_tree_laws.specs.Lists.{Each}
-use Rattle.gx_tree_laws.specs.Reach.{Item}
+use Rattle.gx_tree_laws.specs.Reach.{TraversalItem}
 use Rattle.gx_tree_laws.specs.Trees.{Rules, Used, size}
 use Rattle.gx_tree.specs.declared.descent.Descended.{Descended}
 use Rattle.gx_tree.specs.declared.descent.Descended.TheVariants.{Down, Widened}
@@ -75,7 +75,7 @@ use Rattle.gx_engine.proofs.Serving.{FliesOn, held_as_it_is, is_calm, not_due, o
 
 -- what storage tells of a step, as the engine has it
 pub stepping : {B D : Type 0} (known : Limits → Known (Entry B) (Page B)) (r : Reading (Entry B) (Page B)) (f : Format B) (passes : ℕ → Contents → Bool)
-    (cost : B → B → ℕ × ℕ) (joined : B → B → B) (d e : Device) (v w : Volume D) (item : Item) (coming : B) (result : Result (Descended B) (StepFault StoreFault))
+    (cost : B → B → ℕ × ℕ) (joined : B → B → B) (d e : Device) (v w : Volume D) (item : TraversalItem) (coming : B) (result : Result (Descended B) (StepFault StoreFault))
     → IfOk result (λ did. IsLoggedIf known r f passes PAGE_RECORD d e v w (page_given item.page e.seen w.shelf) (is_widened did))
     → OnErr result (IsUnlogged known r f passes (begun v PAGE_RECORD) d e v w)
     → (IsSteady d v.shelf.frames → IfOk result (StepsDown cost joined v.most (store_of f d.seen v.shelf) (store_of f e.seen w.shelf) item coming))
@@ -159,7 +159,7 @@ module _ {B D : Type 0} (c : Class B) (l : IsLawful c) (r : Reading (Entry B) (P
 -- An insert's descent has made a step.
 module _ {B D : Type 0} (c : Class B) (lawful : 4 ≤ c.rules.most → IsLawful c) (said : List ℕ → B) (f : Format B) (passes : ℕ → Contents → Bool) (d e : Device)
     (old : Parts B D) (kept : IsKept c.keys old.sessions) (s : ℕ) (is : is_session s ≡ true) (early : is_due old ≡ false)
-    (entry : Entry B) (parent : ℕ) (item : Item) (at : phase_at (s - 1) old.sessions.phases ≡ phase.Open (Insert entry) (Descends parent item))
+    (entry : Entry B) (parent : ℕ) (item : TraversalItem) (at : phase_at (s - 1) old.sessions.phases ≡ phase.Open (Insert entry) (Descends parent item))
     (w : Volume D) (most : w.most ≡ old.volume.most) where
   abbrev r : Reading (Entry B) (Page B)
   r = reading_of said f
@@ -181,12 +181,12 @@ module _ {B D : Type 0} (c : Class B) (lawful : 4 ≤ c.rules.most → IsLawful 
     work = its_work c l r f passes d old kept s is call (Descends parent item) at bodies i h
 
     -- where a step over frames and device leads an index
-    abbrev pub Goes : index.State B → ℕ → Item → Type 0
+    abbrev pub Goes : index.State B → ℕ → TraversalItem → Type 0
     Goes j from next = GoesTo c l said f passes d e old.volume w bodies i h.whole s entry parent item work held.locks (map note_of held.notes) call slot h.keeps j from next
 
   -- nothing is logged, and the descent is elsewhere
   module _ (same_log : w.log ≡ old.volume.log) (reads : OnlyRead d e) (keeps : KeepsTheSame (known_of c) r f passes d e old.volume w) where
-    pub quiet_moves : (from : ℕ) (next : Item) → ((bodies : List (List (Record (Entry B) (Page B)))) (i : index.State B) (h : Holds c r f passes d old bodies i) → Goes bodies i h i from next)
+    pub quiet_moves : (from : ℕ) (next : TraversalItem) → ((bodies : List (List (Record (Entry B) (Page B)))) (i : index.State B) (h : Holds c r f passes d old bodies i) → Goes bodies i h i from next)
         → Moves c r f passes d e s old (calling s call (Descends from next) (record old { volume = w })) More (Works ∷ [])
     quiet_moves from next to bodies i h =
         let l = lawful h.some in
@@ -206,7 +206,7 @@ module _ {B D : Type 0} (c : Class B) (lawful : 4 ≤ c.rules.most → IsLawful 
     -- it goes down
     pub down_moves : (IsKey : B → Type 0) (cost : B → B → ℕ × ℕ) (joined : B → B → B) → IsJoin c IsKey joined → IsKey entry.key
         → ShowsKeys (known_of c) r f passes IsKey d old.volume → IsInOrder (passes old.volume.shelf.pages) d.sectors old.volume.shelf.frames old.volume.shelf.used old.volume.shelf.pages
-        → (next : Item)
+        → (next : TraversalItem)
         → (IsSteady d old.volume.shelf.frames → StepsDown cost joined old.volume.most (store_of f d.seen old.volume.shelf) (store_of f e.seen w.shelf) item entry.key (Down next))
         → Moves c r f passes d e s old (calling s call (Descends item.page next) (record old { volume = w })) More (Works ∷ [])
     down_moves IsKey cost joined join is_key keyed order next steps =
@@ -219,7 +219,7 @@ module _ {B D : Type 0} (c : Class B) (lawful : 4 ≤ c.rules.most → IsLawful 
   module _ (flies : FliesOn old.volume.log w.log) where
     pub widened_moves : (IsKey : B → Type 0) (cost : B → B → ℕ × ℕ) (joined : B → B → B) → IsJoin c IsKey joined → IsKey entry.key
         → ShowsKeys (known_of c) r f passes IsKey d old.volume → IsInOrder (passes old.volume.shelf.pages) d.sectors old.volume.shelf.frames old.volume.shelf.used old.volume.shelf.pages
-        → (next : Item) (place : ℕ) (key : B)
+        → (next : TraversalItem) (place : ℕ) (key : B)
         → (IsSteady d old.volume.shelf.frames → StepsDown cost joined old.volume.most (store_of f d.seen old.volume.shelf) (store_of f e.seen w.shelf) item entry.key (Widened next place key))
         → HasOwnNumber e.seen w.shelf item.page → KeepsWith (known_of c) r f passes d e old.volume w (page_given item.page e.seen w.shelf)
         → Moves c r f passes d e s old (calling s call (Descends item.page next) (record old { volume = w })) More (Works ∷ [])

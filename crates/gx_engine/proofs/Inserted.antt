@@ -8,7 +8,7 @@ use Rattle.gx_machine.specs.Machine.{is_session}
 use Rattle.gx_disk.specs.Device.{Device}
 use Rattle.gx_page.specs.Contents.{Contents}
 use Rattle.gx_node.specs.Reading.{Format}
-use Rattle.gx_tree_laws.specs.Reach.{Item}
+use Rattle.gx_tree_laws.specs.Reach.{TraversalItem}
 use Rattle.gx_tree_laws.specs.Trees.{Used}
 use Rattle.gx_node.specs.Store.{tree_of}
 use Rattle.gx_tree.specs.Writing.{Appends}
@@ -124,7 +124,7 @@ module _ {B : Type 0} (c : Class B) (l : IsLawful c) (old : State B (Work B)) (k
 
 module _ {B D : Type 0} (c : Class B) (lawful : 4 ≤ c.rules.most → IsLawful c) (said : List ℕ → B) (f : Format B) (passes : ℕ → Contents → Bool) (d e : Device)
     (old : Parts B D) (kept : IsKept c.keys old.sessions) (works : old.sessions.failed ≡ false) (s : ℕ) (is : is_session s ≡ true) (early : is_due old ≡ false)
-    (entry : Entry B) (parent : ℕ) (item : Item) (at : phase_at (s - 1) old.sessions.phases ≡ phase.Open (Insert entry) (Descends parent item))
+    (entry : Entry B) (parent : ℕ) (item : TraversalItem) (at : phase_at (s - 1) old.sessions.phases ≡ phase.Open (Insert entry) (Descends parent item))
     (w : Volume D) (most : w.most ≡ old.volume.most) (flies : FliesOn old.volume.log w.log) where
   abbrev r : Reading (Entry B) (Page B)
   r = reading_of said f
@@ -183,7 +183,7 @@ module _ {B D : Type 0} (s : ℕ) (entry : Entry B) (k : Keys B) (leaf : ℕ) (o
 
 -- the leaf to which an insert has descended is refused as none, or as a full one: that is impossible
 pub never_added : {B D : Type 0} (c : Class B) (lawful : 4 ≤ c.rules.most → IsLawful c) (said : List ℕ → B) (f : Format B) (passes : ℕ → Contents → Bool) (d e : Device)
-    (old : Parts B D) (kept : IsKept c.keys old.sessions) (s : ℕ) (is : is_session s ≡ true) (entry : Entry B) (parent : ℕ) (item : Item)
+    (old : Parts B D) (kept : IsKept c.keys old.sessions) (s : ℕ) (is : is_session s ≡ true) (entry : Entry B) (parent : ℕ) (item : TraversalItem)
     (at : phase_at (s - 1) old.sessions.phases ≡ phase.Open (Insert entry) (Descends parent item))
     → (IsSteady d old.volume.shelf.frames → (((tree_of (store_of f d.seen old.volume.shelf)).node item.page).level ≡ 0)
     × (length ((tree_of (store_of f d.seen old.volume.shelf)).node item.page).pairs < old.volume.most))

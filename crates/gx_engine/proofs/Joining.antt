@@ -29,7 +29,7 @@ use Rattle.gx_phases.specs.declared.phase.Phase.TheVariants as phase
 use Rattle.gx_phases.specs.States.{State, phase_at}
 use Rattle.gx_engine.specs.declared.work.Work.{Work}
 use Rattle.gx_engine.specs.declared.work.Work.TheVariants.{Rests}
-use Rattle.gx_engine.specs.Asks.{told}
+use Rattle.gx_engine.specs.Asks.{outcome_of}
 use Rattle.gx_engine.specs.Flushing.{LogComes, LogSteps, PageComes, PageIsWritten, log_events, log_outcome, page_events, page_outcome}
 use Rattle.gx_engine.specs.Commits as sealing
 use Rattle.gx_engine.specs.Commits.{AcknowledgeBy, AcknowledgeComes, AreSealing, SealComes, acknowledge_events}
@@ -38,14 +38,14 @@ use Rattle.gx_engine.specs.States.{Parts, runs}
 -- An ask.
 module _ {B : Type 0} (k : Keys B) (s : ℕ) (call : Call B) (old new : State B (Work B)) (given : Given B) where
   ask_by : (failed full : Bool) → (failed ≡ true → given ≡ asked.Now (reply.Refused refusal.Failed)) → (failed ≡ false → full ≡ true → given ≡ asked.Now (reply.Refused refusal.HistoryFull))
-      → IsAsk s call failed (told given) (event_by failed full s call given ∷ [])
+      → IsAsk s call failed (outcome_of given) (event_by failed full s call given ∷ [])
   ask_by true full ends spent =
-      subst (λ (x : Given B). IsAsk s call true (told x) (laws.RefusesAsk s call refusal.Failed ∷ [])) (sym (ends refl)) (inr (inl (refl, refl, refl)))
+      subst (λ (x : Given B). IsAsk s call true (outcome_of x) (laws.RefusesAsk s call refusal.Failed ∷ [])) (sym (ends refl)) (inr (inl (refl, refl, refl)))
   ask_by false true ends spent =
-      subst (λ (x : Given B). IsAsk s call false (told x) (laws.RefusesAsk s call refusal.HistoryFull ∷ [])) (sym (spent refl refl)) (inr (inr (refl, refl)))
+      subst (λ (x : Given B). IsAsk s call false (outcome_of x) (laws.RefusesAsk s call refusal.HistoryFull ∷ [])) (sym (spent refl refl)) (inr (inr (refl, refl)))
   ask_by false false ends spent = by given
     where
-      by : (x : Given B) → IsAsk s call false (told x) (laws.Asks s call x ∷ [])
+      by : (x : Given B) → IsAsk s call false (outcome_of x) (laws.Asks s call x ∷ [])
       by (asked.Now r) = inl refl
       by asked.Open = refl
 
@@ -61,7 +61,7 @@ module _ {B : Type 0} (k : Keys B) (s : ℕ) (call : Call B) (old new : State B 
   spent_at (phase.Undoing restored on) c it full at = let no : ⊥ = cc in absurd no
   spent_at (phase.Waiting number) c it full at = let no : ⊥ = cc in absurd no
 
-  pub ask_is : IsAsked k s call Rests old given new → IsAsk s call old.failed (told given) (asked_event s call old given ∷ [])
+  pub ask_is : IsAsked k s call Rests old given new → IsAsk s call old.failed (outcome_of given) (asked_event s call old given ∷ [])
   ask_is is =
       ask_by old.failed (finds_full s call old)
       (λ failed. (subst (λ b. AskedBy k s call Rests b (is_session s) old given new) failed is).0)

@@ -39,7 +39,7 @@ use Rattle.gx_engine.specs.declared.checkpoint.Checkpoint.{Checkpoint}
 use Rattle.gx_engine.specs.declared.checkpoint.Checkpoint.TheVariants.{Off, Running, Turning}
 use Rattle.gx_engine.specs.declared.work.Work.{Work}
 use Rattle.gx_engine.specs.declared.work.Work.TheVariants.{Rests}
-use Rattle.gx_engine.specs.Asks.{AskComes, told}
+use Rattle.gx_engine.specs.Asks.{AskComes, outcome_of}
 use Rattle.gx_engine.specs.Checkpoints.{CheckpointSteps, HeadComes, RunsOn, StepsFrom, StepsOff, SyncComes, TurnComes, WritesDirty}
 use Rattle.gx_engine.specs.Comes.{CallMoves, MoveComes, MovesAt, MovesBy, StepComes}
 use Rattle.gx_engine.specs.Commits.{AcknowledgeBy}
@@ -91,21 +91,21 @@ locks_taken k Commit None spent locks = tt
 locks_taken k Abort None spent locks = tt
 
 refuses : {B W : Type 0} (why : Refusal) (old new : State B W) (given : Asked B) → is_memory why ≡ false
-    → IsRefused why old given new → is_lack (told given) ≡ true → ⊥
-refuses why old new given not is lacks = never (told given) (Replied (reply.Refused why)) (ap told is.0) not lacks
+    → IsRefused why old given new → is_lack (outcome_of given) ≡ true → ⊥
+refuses why old new given not is lacks = never (outcome_of given) (Replied (reply.Refused why)) (ap outcome_of is.0) not lacks
 
 locked : {B W : Type 0} (r : Result (Locks B) Refusal) (s : ℕ) (call : Call B) (work : W) (old new : State B W) (given : Asked B)
-    → NoMemory r → LockTaken r s call work old given new → is_lack (told given) ≡ true → ⊥
-locked (Ok locks) s call work old new given not is lacks = never (told given) More (ap told is.0) refl lacks
+    → NoMemory r → LockTaken r s call work old given new → is_lack (outcome_of given) ≡ true → ⊥
+locked (Ok locks) s call work old new given not is lacks = never (outcome_of given) More (ap outcome_of is.0) refl lacks
 locked (Err why) s call work old new given not is lacks = refuses why old new given not is lacks
 
 began : {B W : Type 0} (full : Bool) (s : ℕ) (old new : State B W) (given : Asked B) → Begun full s old given new
-    → is_lack (told given) ≡ true → ⊥
+    → is_lack (outcome_of given) ≡ true → ⊥
 began true s old new given is lacks = refuses refusal.HistoryFull old new given refl is lacks
-began false s old new given is lacks = never (told given) (Replied reply.Ok) (ap told is.0) refl lacks
+began false s old new given is lacks = never (outcome_of given) (Replied reply.Ok) (ap outcome_of is.0) refl lacks
 
 asked_free : {B W : Type 0} (s : ℕ) (call : Call B) (old new : State B W) (given : Asked B) → AskedFree s call old given new
-    → is_lack (told given) ≡ true → ⊥
+    → is_lack (outcome_of given) ≡ true → ⊥
 asked_free s Begin old new given is lacks = began (is_full old) s old new given is lacks
 asked_free s (Insert e) old new given is lacks = refuses refusal.NoTransaction old new given refl is lacks
 asked_free s (Delete e) old new given is lacks = refuses refusal.NoTransaction old new given refl is lacks
@@ -114,7 +114,7 @@ asked_free s Commit old new given is lacks = refuses refusal.NoTransaction old n
 asked_free s Abort old new given is lacks = refuses refusal.NoTransaction old new given refl is lacks
 
 asked_working : {B W : Type 0} (k : Keys B) (s : ℕ) (call : Call B) (work : W) (old new : State B W) (given : Asked B)
-    → AskedWorking k s call work old given new → is_lack (told given) ≡ true → ⊥
+    → AskedWorking k s call work old given new → is_lack (outcome_of given) ≡ true → ⊥
 asked_working k s Begin work old new given is lacks = refuses refusal.InTransaction old new given refl is lacks
 asked_working k s (Insert e) work old new given is lacks =
     let none = locks_taken k (Insert e) (least_in k (Insert e) s 1 old.table) (claims_in old.table) (held_by s old.table).locks in
@@ -125,11 +125,11 @@ asked_working k s (Delete e) work old new given is lacks =
 asked_working k s (Search q) work old new given is lacks =
     let none = locks_taken k (Search q) (least_in k (Search q) s 1 old.table) (claims_in old.table) (held_by s old.table).locks in
     locked (locks_for k (Search q) s old.table) s (Search q) work old new given none is lacks
-asked_working k s Commit work old new given is lacks = never (told given) More (ap told is.0) refl lacks
-asked_working k s Abort work old new given is lacks = never (told given) More (ap told is.0) refl lacks
+asked_working k s Commit work old new given is lacks = never (outcome_of given) More (ap outcome_of is.0) refl lacks
+asked_working k s Abort work old new given is lacks = never (outcome_of given) More (ap outcome_of is.0) refl lacks
 
 asked_at : {B W : Type 0} (k : Keys B) (s : ℕ) (call : Call B) (work : W) (p : Phase B W) (old new : State B W) (given : Asked B)
-    → AskedAt k s call work p old given new → is_lack (told given) ≡ true → ⊥
+    → AskedAt k s call work p old given new → is_lack (outcome_of given) ≡ true → ⊥
 asked_at k s call work phase.Free old new given is lacks = asked_free s call old new given is lacks
 asked_at k s call work phase.Working old new given is lacks = asked_working k s call work old new given is lacks
 asked_at k s call work (phase.Open pending on) old new given is lacks = refuses refusal.CallOpen old new given refl is lacks
@@ -137,7 +137,7 @@ asked_at k s call work (phase.Undoing restored on) old new given is lacks = refu
 asked_at k s call work (phase.Waiting number) old new given is lacks = refuses refusal.CallOpen old new given refl is lacks
 
 asked_by : {B W : Type 0} (k : Keys B) (s : ℕ) (call : Call B) (work : W) (failed there : Bool) (old new : State B W) (given : Asked B)
-    → AskedBy k s call work failed there old given new → is_lack (told given) ≡ true → ⊥
+    → AskedBy k s call work failed there old given new → is_lack (outcome_of given) ≡ true → ⊥
 asked_by k s call work true there old new given is lacks = refuses refusal.Failed old new given refl is lacks
 asked_by k s call work false false old new given is lacks = refuses refusal.BadSession old new given refl is lacks
 asked_by k s call work false true old new given is lacks =

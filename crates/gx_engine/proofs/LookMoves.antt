@@ -16,7 +16,7 @@ use Rattle.gx_disk.specs.declared.layout.TheConstants.{MAX_PAGES}
 use Rattle.gx_page.specs.Contents.{Contents}
 use Rattle.gx_node.specs.Reading.{Format}
 use Rattle.gx_tree_laws.specs.Trees.{Pair, Tree}
-use Rattle.gx_tree_laws.specs.Reach.{Item}
+use Rattle.gx_tree_laws.specs.Reach.{TraversalItem}
 use Rattle.gx_tree_laws.specs.Looks.{IsLook, from_root}
 use Rattle.gx_tree_laws.proofs.OwnLook.{look_begins}
 use Rattle.gx_tree.specs.declared.found.Found.{Found}
@@ -241,7 +241,7 @@ module _ {B D : Type 0} (c : Class B) (l : IsLawful c) (r : Reading (Entry B) (P
       let t : Tree B = tree_now c i in
       let w : Pair B → Bool = wants_pair c (slot_at s i.slots) in
       let root : look.stack.items ≡ from_root t ∷ [] = stack ∙ ap (λ (n : ℕ). (record { page = 1; seen = n }) ∷ []) (sym h.keeps.counter) in
-      subst (λ (xs : List Item). IsLook t w xs (pairs_found look.found.items)) (sym root)
+      subst (λ (xs : List TraversalItem). IsLook t w xs (pairs_found look.found.items)) (sym root)
       (subst (λ (fs : List (Found B)). IsLook t w (from_root t ∷ []) (pairs_found fs)) (sym found) (look_begins c.rules t (is_legal c l i h.whole) w))
 
   -- it leaves less than a call that rests

@@ -17,7 +17,7 @@ use Rattle.gx_node.specs.Reading.{Format}
 use Rattle.gx_node.specs.declared.items.TheConstants.{MAX_ENTRIES}
 use Rattle.gx_tree_laws.specs.Legal.{Legal}
 use Rattle.gx_tree_laws.specs.Lists.{Each}
-use Rattle.gx_tree_laws.specs.Reach.{Item}
+use Rattle.gx_tree_laws.specs.Reach.{TraversalItem}
 use Rattle.gx_tree_laws.specs.Trees.{Pair, Rules, Used, size}
 use Rattle.gx_tree_laws.proofs.Levels.{root_below_used}
 use Rattle.gx_tree.specs.declared.split.Split.{Split}
@@ -80,7 +80,7 @@ phase_yet {B} {W} s sessions p at =
     ∙ ap (λ (ps : List (Phase B W)). record sessions { phases = ps }) (set-get_or sessions.phases (s - 1) phase.Free)
 
 -- A call goes on with other work, after its pages were changed or read.
-module _ {B D : Type 0} (s : ℕ) (call : Call B) (from : ℕ) (next : Item) (old mid new : Parts B D) (only : mid ≡ record old { volume = mid.volume })
+module _ {B D : Type 0} (s : ℕ) (call : Call B) (from : ℕ) (next : TraversalItem) (old mid new : Parts B D) (only : mid ≡ record old { volume = mid.volume })
     (there : new ≡ calling s call (Descends from next) mid) (o : Outcome B) (one : o ≡ More) where
   abbrev its_end : Parts B D
   its_end = calling s call (Descends from next) (record old { volume = mid.volume })
@@ -106,7 +106,7 @@ yet_comes {B} Asks Lacks k passes d e s call was old mid only most at = (
 
 module _ {B D : Type 0} (c : Class B) (lawful : 4 ≤ c.rules.most → IsLawful c) (said : List ℕ → B) (f : Format B) (passes : ℕ → Contents → Bool) (d e : Device)
     (old : Parts B D) (kept : IsKept c.keys old.sessions) (works : old.sessions.failed ≡ false) (s : ℕ) (is : is_session s ≡ true) (early : is_due old ≡ false)
-    (entry : Entry B) (parent : ℕ) (item : Item) (at : phase_at (s - 1) old.sessions.phases ≡ phase.Open (Insert entry) (Descends parent item))
+    (entry : Entry B) (parent : ℕ) (item : TraversalItem) (at : phase_at (s - 1) old.sessions.phases ≡ phase.Open (Insert entry) (Descends parent item))
     (w : Volume D) (most : w.most ≡ old.volume.most) where
   abbrev r : Reading (Entry B) (Page B)
   r = reading_of said f
@@ -301,7 +301,7 @@ module _ {B D : Type 0} (k : Keys B) (passes : ℕ → Contents → Bool) (d e :
   comes_more o comes = comes
 
 -- A descent's parts ask for what the descent may ask for.
-module _ {B D : Type 0} (f : Format B) (key : ℕ) (d : Device) (s : ℕ) (entry : Entry B) (parent : ℕ) (item : Item) (old : Parts B D)
+module _ {B D : Type 0} (f : Format B) (key : ℕ) (d : Device) (s : ℕ) (entry : Entry B) (parent : ℕ) (item : TraversalItem) (old : Parts B D)
     (at : phase_at (s - 1) old.sessions.phases ≡ phase.Open (Insert entry) (Descends parent item)) where
   pub asks_page : (size : ℕ) → size ≡ PAGE_RECORD → AsksRoom f key d s (Insert entry) old size
   asks_page size is = record { work = Descends parent item; at = at; asks = inl is }
@@ -336,7 +336,7 @@ module _ {B D : Type 0} (s : ℕ) (old mid new : Parts B D) (only : mid ≡ reco
 
 -- A split that was made, or for which there was no place.
 module _ {B D : Type 0} (shape : Members B) (proper : B → Bool) (said : List ℕ → B) (f : Format B) (passes : ℕ → Contents → Bool) (sides_of : List B → ℕ → List Bool)
-    (d e : Device) (old : Parts B D) (w : Volume D) (parent : ℕ) (item : Item) where
+    (d e : Device) (old : Parts B D) (w : Volume D) (parent : ℕ) (item : TraversalItem) where
   pub split_most : (did : Option (Split B)) → Splitting (known_at shape proper) (reading_of said f) f passes (rules_of shape) sides_of d e old.volume w item.page parent (Ok did)
       → w.most ≡ old.volume.most
   split_most (Some did) has = has.logged.most

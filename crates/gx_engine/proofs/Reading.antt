@@ -15,7 +15,7 @@ use Rattle.gx_tree_laws.specs.Lists.{Each}
 use Rattle.gx_tree_laws.specs.Trees.{Child, Node, Pair, Tree, Used}
 use Rattle.gx_tree_laws.specs.Legal.{Legal}
 use Rattle.gx_tree_laws.specs.Alike.{AgreeOnUsed}
-use Rattle.gx_tree_laws.specs.Reach.{Item, pages_ahead}
+use Rattle.gx_tree_laws.specs.Reach.{TraversalItem, pages_ahead}
 use Rattle.gx_tree_laws.specs.Looks.{ItemFits, IsLook, LeadsTo}
 use Rattle.gx_tree_laws.proofs.AlikeLooks.{look_too}
 use Rattle.gx_tree_laws.proofs.AlikeTrees.{used_too}
@@ -86,11 +86,11 @@ module _ {B : Type 0} (c : Class B) (l : IsLawful c) (IsKey : B → Type 0) (wan
     lead = leads_to c.rules one IsKey keys_here wanted wanted leads may (λ x. true) (λ x isx. refl) bounds consistent
 
     -- a step over the other is a step over the one
-    pub step_here : (before after : List Item) (old new : List (Found B)) → Each (ItemFits one) before → LookStep other wants leads before after old new
+    pub step_here : (before after : List TraversalItem) (old new : List (Found B)) → Each (ItemFits one) before → LookStep other wants leads before after old new
         → LookStep one wanted leads before after old new
     step_here before after old new items step rest item is =
         let read = step rest item is in
-        let fits : Each (ItemFits one) (rest ++ item ∷ []) = subst (λ (xs : List Item). Each (ItemFits one) xs) is items in
+        let fits : Each (ItemFits one) (rest ++ item ∷ []) = subst (λ (xs : List TraversalItem). Each (ItemFits one) xs) is items in
         let used : Used one item.page = item_used one item (each_parts (ItemFits one) rest (item ∷ []) fits).1.0 in
         record {
           stack =
@@ -103,7 +103,7 @@ module _ {B : Type 0} (c : Class B) (l : IsLawful c) (IsKey : B → Type 0) (wan
               ∙ ap (λ (xs : List (Pair B)). old ++ map (found_at item.page) xs) (same_filter (one.node item.page).pairs (keys_here.pairs item.page used));
         }
 
-    module _ (before after : List Item) (old new : List (Found B)) (some : 0 < length before) (look : IsLook one wanted before (pairs_found old))
+    module _ (before after : List TraversalItem) (old new : List (Found B)) (some : 0 < length before) (look : IsLook one wanted before (pairs_found old))
         (step : LookStep other wants leads before after old new) where
       pub goes_further : IsLook one wanted after (pairs_found new)
       goes_further = goes_on c.rules one legal wanted leads l.rules lead before after old new some look (step_here before after old new look.items step)
@@ -153,7 +153,7 @@ module _ {B D : Type 0} (c : Class B) (lawful : 4 ≤ c.rules.most → IsLawful 
 
   module _ (shows : ShowsTheLogs (known_of c) r f passes e w) where
     -- the page that is read next is taken, in the tree that is shown
-    pub never_damaged : 0 < length look.stack.items → ((rest : List Item) (item : Item) → look.stack.items ≡ rest ++ item ∷ [] → ¬ Used (tree_shown (known_of c) r f passes e w) item.page)
+    pub never_damaged : 0 < length look.stack.items → ((rest : List TraversalItem) (item : TraversalItem) → look.stack.items ≡ rest ++ item ∷ [] → ¬ Used (tree_shown (known_of c) r f passes e w) item.page)
         → (bodies : List (List (Record (Entry B) (Page B)))) (i : index.State B) → Holds c r f passes d old bodies i → ⊥
     never_damaged some none bodies i h =
         let one : Tree B = tree_now c i in
@@ -309,7 +309,7 @@ module _ {B D : Type 0} (c : Class B) (lawful : 4 ≤ c.rules.most → IsLawful 
 
   -- its page is taken
   pub damaged_at_hand : ShowsTheLogs (known_of c) r f passes new_device w → 0 < length look.stack.items
-      → ((rest : List Item) (item : Item) → look.stack.items ≡ rest ++ item ∷ [] → ¬ Used (tree_shown (known_of c) r f passes new_device w) item.page)
+      → ((rest : List TraversalItem) (item : TraversalItem) → look.stack.items ≡ rest ++ item ∷ [] → ¬ Used (tree_shown (known_of c) r f passes new_device w) item.page)
       → (bodies : List (List (Record (Entry B) (Page B)))) (i : index.State B) → Holds c r f passes old_device held bodies i → ⊥
   damaged_at_hand shows some none =
       never_damaged c lawful r f passes old_device new_device held held_kept s is call look held_phase works w most same_log reads keeps shows some none

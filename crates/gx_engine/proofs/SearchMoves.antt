@@ -10,7 +10,7 @@ use Rattle.gx_machine.specs.Machine.{is_session}
 use Rattle.gx_disk.specs.Device.{Device}
 use Rattle.gx_page.specs.Contents.{Contents}
 use Rattle.gx_node.specs.Reading.{Format}
-use Rattle.gx_tree_laws.specs.Reach.{Item}
+use Rattle.gx_tree_laws.specs.Reach.{TraversalItem}
 use Rattle.gx_tree.specs.declared.look.Look.{Look}
 use Rattle.gx_tree.specs.Found.{pairs_found}
 use Rattle.gx_engine_laws.specs.Engines.{gathered}
@@ -39,7 +39,7 @@ use Rattle.gx_engine.proofs.Serving.{same_device}
 use Rattle.gx_engine.proofs.Taking.{answered_so, reads_of}
 
 -- a stack of no items
-ended : (stack : List Item) → length stack ≡ 0 → stack ≡ []
+ended : (stack : List TraversalItem) → length stack ≡ 0 → stack ≡ []
 ended [] none = refl
 ended (x ∷ xs) none = absurd (omega (arith, none))
 
@@ -65,7 +65,7 @@ module _ {B D : Type 0} (c : Class B) (lawful : 4 ≤ c.rules.most → IsLawful 
       let l = lawful h.some in
       let looks = looks_at c l r f passes d was was_kept s is (Search query) (Looks look) its_phase bodies i h look refl in
       let its = held c l r f passes d was was_kept s is (Search query) (Looks look) its_phase bodies i h in
-      let done : i.work s ≡ index.Looks [] (pairs_found look.found.items) = looks ∙ ap (λ (xs : List Item). index.Looks xs (pairs_found look.found.items)) (ended look.stack.items none) in
+      let done : i.work s ≡ index.Looks [] (pairs_found look.found.items) = looks ∙ ap (λ (xs : List TraversalItem). index.Looks xs (pairs_found look.found.items)) (ended look.stack.items none) in
       answers c l r f passes d was was_kept s is (Search query) (Looks look) its_phase bodies i h d e.volume refl refl (same_device d)
       (as_it_stays c l r f passes d was was_kept s is (Search query) (Looks look) its_phase bodies i h) (reply.Found entries) (Finds s query entries)
       (subst (λ (es : List (Entry B)). happening.Happens c i (Finds s query es) (happening.slotted s (Working its.locks (map note_of its.notes) None) index.Rests i)) (sym are)

@@ -5,7 +5,7 @@ use Rattle.gx_machine.specs.declared.call.Call.{Call}
 use Rattle.gx_machine.specs.Keys.{Keys}
 use Rattle.gx_machine.specs.Machine.{is_session}
 use Rattle.gx_disk.specs.Device.{Device}
-use Rattle.gx_tree_laws.specs.Reach.{Item}
+use Rattle.gx_tree_laws.specs.Reach.{TraversalItem}
 use Rattle.gx_tree.specs.declared.look.Look.{Look}
 use Rattle.gx_phases.specs.declared.phase.Phase.{Phase}
 use Rattle.gx_phases.specs.declared.phase.Phase.TheVariants as phase
@@ -138,7 +138,7 @@ worked_so {B} {D} s call work old mid new rest is =
     ∙ ap (λ (ps : List (Phase B (Work B))). record (brought old mid) { sessions = record old.sessions { phases = ps } }) (set-set old.sessions.phases (s - 1) (phase.Open call Rests) (phase.Open call work))
 
 -- work that is none of a look
-pub no_look : {B : Type 0} (work : Work B) → (work ≡ Rests) ⊎ (((parent : ℕ) × (item : Item) × (work ≡ Descends parent item)) ⊎ ((leaf : ℕ) × (work ≡ Seeks leaf)))
+pub no_look : {B : Type 0} (work : Work B) → (work ≡ Rests) ⊎ (((parent : ℕ) × (item : TraversalItem) × (work ≡ Descends parent item)) ⊎ ((leaf : ℕ) × (work ≡ Seeks leaf)))
     → (look : Look B) → work ≢ Looks look
 no_look {B} work (inl is) look here = let both : ◌≡◌ {A = Work B} Rests (Looks look) = sym is ∙ here in cc
 no_look {B} work (inr (inl is)) look here = let both : ◌≡◌ {A = Work B} (Descends is.0 is.1) (Looks look) = sym is.2 ∙ here in cc

@@ -18,7 +18,7 @@ use Rattle.gx_pool.specs.Bringing.{OnlyRead}
 use Rattle.gx_tree_laws.specs.Lists.{Each, how_many, one_if}
 use Rattle.gx_tree_laws.specs.Trees.{Pair, Tree, Used}
 use Rattle.gx_tree_laws.specs.Legal.{Legal}
-use Rattle.gx_tree_laws.specs.Reach.{Item}
+use Rattle.gx_tree_laws.specs.Reach.{TraversalItem}
 use Rattle.gx_tree_laws.specs.Looks.{ItemFits, from_root}
 use Rattle.gx_tree_laws.proofs.OwnLook.{item_used}
 use Rattle.gx_tree_laws.proofs.Sums.{each_parts}
@@ -309,12 +309,12 @@ module _ {B D : Type 0} (c : Class B) (lawful : 4 ≤ c.rules.most → IsLawful 
     stands_there : Stands one.leaf
     stands_there =
         let last = last_of look.stack.items some in
-        let item : Item = last.1 in
+        let item : TraversalItem = last.1 in
         let read = step_now last.0 item last.2 in
         let all : map (found_at item.page) (filter (is_of c entry) (t.node item.page).pairs) ≡ one ∷ found =
         sym (read.found ∙ ap (λ (xs : List (Found B)). xs ++ map (found_at item.page) (filter (is_of c entry) (t.node item.page).pairs)) nothing_yet) ∙ has in
         let first = first_found item.page (filter (is_of c entry) (t.node item.page).pairs) one found all in
-        let fits : Each (ItemFits t) (last.0 ++ item ∷ []) = subst (λ (xs : List Item). Each (ItemFits t) xs) last.2 its_items in
+        let fits : Each (ItemFits t) (last.0 ++ item ∷ []) = subst (λ (xs : List TraversalItem). Each (ItemFits t) xs) last.2 its_items in
         let taken : Used t item.page = item_used t item (each_parts (ItemFits t) last.0 (item ∷ []) fits).1.0 in
         let stands : 0 < how_many (is_of c entry) (t.node item.page).pairs = some_pass (is_of c entry) (t.node item.page).pairs first.1 in
         subst Stands (sym first.0) (taken, leaf_of item.page taken stands, stands)
@@ -387,11 +387,11 @@ module _ {B D : Type 0} (c : Class B) (lawful : 4 ≤ c.rules.most → IsLawful 
         let l = lawful h.some in
         let found = none_found entry call writes look.found.items (may_have_found c l r f passes d ended kept_ended s is call (Looks look) phase_ended bodies i h look refl) in
         looks_at c l r f passes d ended kept_ended s is call (Looks look) phase_ended bodies i h look refl
-        ∙ ap (λ (xs : List Item). index.Looks xs (pairs_found look.found.items)) (none_left look.stack.items done)
+        ∙ ap (λ (xs : List TraversalItem). index.Looks xs (pairs_found look.found.items)) (none_left look.stack.items done)
         ∙ ap (λ (fs : List (Found B)). index.Looks [] (pairs_found fs)) found
 
   -- an insert descends from the root
-  descends : (item : Item) → item ≡ record { page = 1; seen = e.volume.shelf.counter } → call ≡ Insert entry → Moves c r f passes d d s ended (calling s call (Descends 0 item) ended) More (Works ∷ [])
+  descends : (item : TraversalItem) → item ≡ record { page = 1; seen = e.volume.shelf.counter } → call ≡ Insert entry → Moves c r f passes d d s ended (calling s call (Descends 0 item) ended) More (Works ∷ [])
   descends item item_is inserts bodies i h =
       let l = lawful h.some in
       let t : Tree B = tree_now c i in
@@ -399,7 +399,7 @@ module _ {B D : Type 0} (c : Class B) (lawful : 4 ≤ c.rules.most → IsLawful 
       let slot = slot_now c l r f passes d ended kept_ended s is call (Looks look) phase_ended bodies i h in
       let counted = (is_legal c l i h.whole).counter in
       let root : from_root t ≡ item = ap (λ (n : ℕ). record { page = 1; seen = n }) h.keeps.counter ∙ sym item_is in
-      let it_is : index.Descends entry 0 (from_root t) ≡ index.Descends entry 0 item = ap (λ (x : Item). index.Descends entry 0 x) root in
+      let it_is : index.Descends entry 0 (from_root t) ≡ index.Descends entry 0 item = ap (λ (x : TraversalItem). index.Descends entry 0 x) root in
       goes_on c l r f passes d ended kept_ended s is call (Looks look) phase_ended bodies i h d e.volume refl refl (same_device d)
       (as_it_stays c l r f passes d ended kept_ended s is call (Looks look) phase_ended bodies i h)
       (Descends 0 item) (index.Descends entry 0 (from_root t))
@@ -407,7 +407,7 @@ module _ {B D : Type 0} (c : Class B) (lawful : 4 ≤ c.rules.most → IsLawful 
       (look_descends c l i h.whole s entry (looked bodies i h) (ap (λ (x : Slot B). open_call x) slot ∙ ap (λ (x : Call B). Some x) inserts))
       (look_descends_falls c l i h.whole s its.locks (map note_of its.notes) call slot [] [] entry 0 (from_root t) (looked bodies i h) (omega arith, omega (arith, counted)))
 
-  pub descends_moves : (item : Item) → item ≡ record { page = 1; seen = e.volume.shelf.counter } → call ≡ Insert entry → Moves c r f passes d d s ended (calling s call (Descends 0 item) e) More (Works ∷ [])
+  pub descends_moves : (item : TraversalItem) → item ≡ record { page = 1; seen = e.volume.shelf.counter } → call ≡ Insert entry → Moves c r f passes d d s ended (calling s call (Descends 0 item) e) More (Works ∷ [])
   descends_moves item item_is inserts =
       subst (λ (x : State B (Work B)). Moves c r f passes d d s ended (record e { sessions = x }) More (Works ∷ []))
       (phase_again c.keys e kept s is call rest at (Looks look) (phase.Open call (Descends 0 item)))

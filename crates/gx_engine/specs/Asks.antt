@@ -14,9 +14,9 @@ use Rattle.gx_engine.specs.declared.work.Work.TheVariants.{Rests}
 use Rattle.gx_engine.specs.States.{Parts}
 
 -- what an ask is given, as an outcome
-abbrev pub told : {B : Type 0} → Asked B → Outcome B
-told (asked.Now reply) = Replied reply
-told asked.Open = More
+abbrev pub outcome_of : {B : Type 0} → Asked B → Outcome B
+outcome_of (asked.Now reply) = Replied reply
+outcome_of asked.Open = More
 
 -- a reply at once, or the call is open; what decides is the sessions, and nothing else changes
 abbrev pub AskComes : {B D : Type 0} → Keys B → ℕ → Call B → Parts B D → Outcome B → Parts B D → Type 0

@@ -41,9 +41,9 @@ AreSealing {B} s number More events = (set : List (Entry B)) × (events ≡ Seal
 AreSealing s number other events = events ≡ []
 
 -- the answer of a commit whose number is durable; another one waits for the log, by whether a checkpoint runs
-abbrev pub told : {B : Type 0} → Bool → Option ℕ → Outcome B
-told running None = Help (log_need running)
-told running (Some number) = Replied (Committed number)
+abbrev pub commit_outcome : {B : Type 0} → Bool → Option ℕ → Outcome B
+commit_outcome running None = Help (log_need running)
+commit_outcome running (Some number) = Replied (Committed number)
 
 -- a commit whose number is durable is acknowledged; another one waits
 abbrev pub AcknowledgeBy : {B D : Type 0} → Bool → ℕ → ℕ → Parts B D → Parts B D → Outcome B → Type 0

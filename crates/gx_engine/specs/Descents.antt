@@ -8,7 +8,7 @@ use Rattle.gx_node.specs.Reading.{Format}
 use Rattle.gx_node.specs.declared.items.TheConstants.{MAX_ENTRIES}
 use Rattle.gx_tree_laws.specs.Legal.{Legal}
 use Rattle.gx_tree_laws.specs.Lists.{Each, how_many}
-use Rattle.gx_tree_laws.specs.Reach.{Item}
+use Rattle.gx_tree_laws.specs.Reach.{TraversalItem}
 use Rattle.gx_tree_laws.specs.Trees.{Rules, Used, size}
 use Rattle.gx_tree_laws.specs.Writes.{is_sweepable}
 use Rattle.gx_tree.specs.declared.descent.Descended.{Descended}
@@ -45,19 +45,19 @@ module _ {B : Type 0} (known : Limits → Known (Entry B) (Page B)) (r : Reading
 
   module _ (cost : B → B → ℕ × ℕ) (joined : B → B → B) where
     -- A descent made a step at the page of its item: a bound was widened there, with the record of the page; or nothing is logged.
-    pub record HasStepped {D : Type 0} (d e : Device) (v w : Volume D) (item : Item) (coming : B) (did : Descended B) : Type 0 where
+    pub record HasStepped {D : Type 0} (d e : Device) (v w : Volume D) (item : TraversalItem) (coming : B) (did : Descended B) : Type 0 where
       pub logged : IsLoggedIf known r f passes PAGE_RECORD d e v w (page_given item.page e.seen w.shelf) (is_widened did)
       pub steps : IsSteady d v.shelf.frames → StepsDown cost joined v.most (store_of f d.seen v.shelf) (store_of f e.seen w.shelf) item coming did
       pub own : is_widened did ≡ true → HasOwnNumber e.seen w.shelf item.page
 
     -- It made none: the page was refused, or has a level above 0 and no entries.
-    pub record HasNotStepped {D : Type 0} (d e : Device) (v w : Volume D) (item : Item) (fault : StepFault StoreFault) : Type 0 where
+    pub record HasNotStepped {D : Type 0} (d e : Device) (v w : Volume D) (item : TraversalItem) (fault : StepFault StoreFault) : Type 0 where
       pub stops : IsStopped PAGE_RECORD d e v w fault
       pub damaged : IsSteady d v.shelf.frames → fault ≡ step.Damaged → Used (tree_of (store_of f d.seen v.shelf)) item.page
           → (0 < ((tree_of (store_of f d.seen v.shelf)).node item.page).level) × (length ((tree_of (store_of f d.seen v.shelf)).node item.page).children ≡ 0)
       pub full : fault ≢ step.PagesFull
 
-    abbrev pub Stepping : {D : Type 0} → Device → Device → Volume D → Volume D → Item → B → Result (Descended B) (StepFault StoreFault) → Type 0
+    abbrev pub Stepping : {D : Type 0} → Device → Device → Volume D → Volume D → TraversalItem → B → Result (Descended B) (StepFault StoreFault) → Type 0
     Stepping d e v w item coming (Ok did) = HasStepped d e v w item coming did
     Stepping d e v w item coming (Err fault) = HasNotStepped d e v w item fault
 

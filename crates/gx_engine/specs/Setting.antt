@@ -12,7 +12,7 @@ use Rattle.gx_page.specs.Contents.{Contents}
 use Rattle.gx_node.specs.declared.fault.StepFault.{StepFault}
 use Rattle.gx_node.specs.Keyed.{rules_of}
 use Rattle.gx_node.specs.Reading.{Format, format_of, is_node}
-use Rattle.gx_tree_laws.specs.Reach.{Item}
+use Rattle.gx_tree_laws.specs.Reach.{TraversalItem}
 use Rattle.gx_tree.specs.declared.descent.Descended.{Descended}
 use Rattle.gx_tree.specs.declared.seek.Sought.{Sought}
 use Rattle.gx_tree.specs.declared.split.Split.{Split}
@@ -212,7 +212,7 @@ module _ {C B D : Type 0} (shape : Members B) (proper : B → Bool) (said : List
 
   -- what the steps of a descent tell: of a step down, of a pair that is added, of a leaf's sweep, and of a node's
   -- split and the root's
-  abbrev pub SteppingAs : Volume D → Volume D → Item → B → Result (Descended B) (StepFault StoreFault) → Type 0
+  abbrev pub SteppingAs : Volume D → Volume D → TraversalItem → B → Result (Descended B) (StepFault StoreFault) → Type 0
   SteppingAs v w item coming result =
       Stepping known reading form passes traits.cost traits.joined (on v) (on w) v w item coming result
 

@@ -11,7 +11,7 @@ use Rattle.gx_disk.specs.Device.{Device}
 use Rattle.gx_page.specs.Contents.{Contents}
 use Rattle.gx_node.specs.Reading.{Format, format_of, is_node}
 use Rattle.gx_node.specs.Store.{tree_of}
-use Rattle.gx_tree_laws.specs.Reach.{Item}
+use Rattle.gx_tree_laws.specs.Reach.{TraversalItem}
 use Rattle.gx_tree_laws.specs.Trees.{size}
 use Rattle.gx_tree.specs.declared.look.Look.{Look}
 use Rattle.gx_engine_laws.specs.Events.{Event, Closes, Deletes, FindsAbsent, FindsPresent, Inserts, RefusesCall, Works}
@@ -105,7 +105,7 @@ pub record LacksPages {B D : Type 0} (f : Format B) (d : Device) (s : ℕ) (call
   pub entry : Entry B
   pub inserts : call ≡ Insert entry
   pub parent : ℕ
-  pub item : Item
+  pub item : TraversalItem
   pub descends : phase_at (s - 1) e.sessions.phases ≡ phase.Open call (Descends parent item)
   pub full : IsFull f d e item.page
   pub few : LeftFew d e item.page

@@ -1,7 +1,7 @@
 //! A session asks a call.
 ghost use Rattle.std.specs.Prelude.{◌≡◌};
 ghost use Rattle.gx_machine.specs.Keys.{keys_of};
-ghost use Rattle.gx_engine.specs.Asks.{AskComes, ask_events, told};
+ghost use Rattle.gx_engine.specs.Asks.{AskComes, ask_events, outcome_of};
 ghost use Rattle.gx_engine.specs.Setting.{LeadsAs};
 
 use crate::Engine;
@@ -13,8 +13,8 @@ use gx_machine::{Asked, Call};
 use gx_readings::ReadKeys;
 
 /// What an ask is given, as an event's outcome.
-fn told<B>(given: Asked<B>) -> Outcome<B>
-    ensures { result ≡ told given }
+fn outcome_of<B>(given: Asked<B>) -> Outcome<B>
+    ensures { result ≡ outcome_of given }
 {
     match given {
         Asked::Now(reply) => Outcome::Replied(reply),
@@ -35,6 +35,6 @@ impl<D: SectorDisk, K: ReadKeys> Engine<D, K> {
     {
         a_class_is_lawful::<K>();
         self.sessions.has_failed();
-        told(self.sessions.ask(session, call, Work::Rests))
+        outcome_of(self.sessions.ask(session, call, Work::Rests))
     }
 }

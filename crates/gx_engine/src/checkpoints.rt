@@ -60,7 +60,7 @@ impl<D: SectorDisk, K: ReadKeys> Engine<D, K> {
     {
         match self.storage.dirty() {
             Some(page) => self.write_page(page),
-            None => self.end(Refusal::Damaged),
+            None => self.fail_event(Refusal::Damaged),
         }
     }
 
@@ -100,7 +100,7 @@ impl<D: SectorDisk, K: ReadKeys> Engine<D, K> {
                     self.checkpoint = Checkpoint::Turning;
                     Outcome::More
                 }
-                Err(_) => self.end(Refusal::Damaged),
+                Err(_) => self.fail_event(Refusal::Damaged),
             },
             Err(_) => self.fail(),
         }
@@ -124,7 +124,7 @@ impl<D: SectorDisk, K: ReadKeys> Engine<D, K> {
     }
 
     // Begins a checkpoint, once 24 places of the extent are taken, and makes its first step.
-    fn begin(&mut self) -> Outcome<K::Key>
+    fn begin_checkpoint(&mut self) -> Outcome<K::Key>
         requires works { self.old.sessions.failed ≡ false }
         requires off { self.old.checkpoint ≡ Off }
         ensures steps { Between D.state StepsOff self.old self.new (nat_le CHECKPOINT_AT self.old.volume.log.used)
@@ -157,7 +157,7 @@ impl<D: SectorDisk, K: ReadKeys> Engine<D, K> {
             return Outcome::Refused(Refusal::Failed);
         }
         match self.checkpoint {
-            Checkpoint::Off => self.begin(),
+            Checkpoint::Off => self.begin_checkpoint(),
             Checkpoint::Running => self.run_on(),
             Checkpoint::Turning => self.turn_next(),
         }

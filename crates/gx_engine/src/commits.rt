@@ -3,7 +3,7 @@ ghost use Rattle.std.specs.Prelude.{◌≡◌, ◌-◌, ◌+◌, ℕ, true, fals
 ghost use Rattle.gx_machine.specs.Machine.{is_session};
 ghost use Rattle.gx_phases.specs.declared.phase.Phase.TheVariants.{Waiting};
 ghost use Rattle.gx_phases.specs.Moves.{asks_commit};
-ghost use Rattle.gx_engine.specs.Commits.{AcknowledgeComes, SealComes, acknowledge_events, AreSealing, told};
+ghost use Rattle.gx_engine.specs.Commits.{AcknowledgeComes, SealComes, acknowledge_events, AreSealing, commit_outcome};
 ghost use Rattle.gx_engine.specs.Setting.{LeadsAs, LeadsSoAs, phase_in};
 
 use crate::Engine;
@@ -15,8 +15,8 @@ use gx_machine::Reply;
 use gx_readings::ReadKeys;
 
 /// The answer of a commit whose number is durable; another one waits for the log, by whether a checkpoint runs.
-fn told<B>(running: bool, number: Option<u64>) -> Outcome<B>
-    ensures { result ≡ told running number }
+fn commit_outcome<B>(running: bool, number: Option<u64>) -> Outcome<B>
+    ensures { result ≡ commit_outcome running number }
 {
     match number {
         Some(number) => Outcome::Replied(Reply::Committed(number)),
@@ -70,6 +70,6 @@ impl<D: SectorDisk, K: ReadKeys> Engine<D, K> {
         a_class_is_lawful::<K>();
         self.sessions.has_failed();
         let running = self.is_checkpointing();
-        told(running, self.sessions.acknowledge(session))
+        commit_outcome(running, self.sessions.acknowledge(session))
     }
 }

@@ -25,7 +25,7 @@ use gx_events::Outcome;
 use gx_geom::{Refusal, Shape};
 use gx_readings::ReadKeys;
 use gx_storage::laws::a_volume_shows_the_logs_tree;
-use gx_tree::{Item, Look, StepFault, Wanted};
+use gx_tree::{Look, StepFault, TraversalItem, Wanted};
 use std::alloc::AllocError;
 
 /// What a call is at where its look was refused a page: the look, or nothing where that hadn't begun.
@@ -44,7 +44,7 @@ impl<D: SectorDisk, K: ReadKeys + Probing> Engine<D, K> {
     pub(crate) fn first_look(&self) -> Result<Look<K::Key>, AllocError>
         ensures { IfOk result (IsFirst self.now) }
     {
-        Look::new(self.alloc, Item::new(1, self.storage.counter()))
+        Look::new(self.alloc, TraversalItem::new(1, self.storage.counter()))
     }
 
     // A look reads its next page; one that hasn't begun reads the root. `Err` is what came of it where that was

@@ -71,7 +71,7 @@ impl<D: SectorDisk, K: ReadKeys> Engine<D, K> {
     }
 
     // The engine has failed, which is told to no session.
-    pub(crate) fn end(&mut self, why: Refusal) -> Outcome<K::Key>
+    pub(crate) fn fail_event(&mut self, why: Refusal) -> Outcome<K::Key>
         ensures outcome { result ≡ Outcome.Refused why }
         ensures failed { self.new ≡ record self.old { sessions = failed_state self.old.sessions } }
         ensures device { IsRead D.state self.old self.new }
@@ -90,8 +90,8 @@ impl<D: SectorDisk, K: ReadKeys> Engine<D, K> {
                 self.is_checkpointing(),
                 self.storage.help(fault),
             )),
-            StoreFault::Device => self.end(Refusal::Device),
-            StoreFault::Damaged => self.end(Refusal::Damaged),
+            StoreFault::Device => self.fail_event(Refusal::Device),
+            StoreFault::Damaged => self.fail_event(Refusal::Damaged),
         }
     }
 }

@@ -57,7 +57,7 @@ impl<D: SectorDisk, K: ReadKeys> Engine<D, K> {
             Ok(false) => Outcome::Nothing,
             Err(StepFault::Pages(fault)) => self.turn_away(fault),
             Err(StepFault::Damaged | StepFault::Memory | StepFault::PagesFull) => {
-                self.end(Refusal::Damaged)
+                self.fail_event(Refusal::Damaged)
             }
         }
     }

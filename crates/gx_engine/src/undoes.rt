@@ -50,7 +50,7 @@ impl<D: SectorDisk, K: ReadKeys> Engine<D, K> {
         let transaction = self.sessions.transaction(session);
         match self.storage.append_end(transaction) {
             Ok(()) => {
-                self.sessions.end(session);
+                self.sessions.end_undo(session);
                 Outcome::Replied(Reply::Aborted)
             }
             Err(_) => Outcome::Help(Need::Log),

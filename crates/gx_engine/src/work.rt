@@ -1,6 +1,6 @@
 //! What a session's call is at.
 use gx_geom::Shape;
-use gx_tree::{Item, Look};
+use gx_tree::{Look, TraversalItem};
 
 /// What a session's call is at in the tree, from one event to the next.
 #[derive(Drop)]
@@ -10,7 +10,7 @@ pub enum Work<B: Shape> {
     /// A look, which reads the page of its next item.
     Looks(Look<B>),
     /// A descent for an insert's pair, at an item to which it came from this page; 0 where it begins at the root.
-    Descends(u32, Item),
+    Descends(u32, TraversalItem),
     /// A pair that stands, in this leaf or to the right of it.
     Seeks(u32),
 }

@@ -102,7 +102,7 @@ fn over<D: SectorDisk, K: ReadKeys>(
 }
 
 // An engine over a device of this size. Without memory the device comes back.
-fn begin<D: SectorDisk, K: ReadKeys>(
+fn begin_engine<D: SectorDisk, K: ReadKeys>(
     alloc: Global,
     disk: D,
     size: (u32, u16, usize),
@@ -156,7 +156,7 @@ pub fn new_index<D: SectorDisk, K: ReadKeys>(
     }
     let mut disk = disk;
     match format::<D, K>(alloc, &mut disk, pages, most) {
-        Ok(()) => begin(alloc, disk, (pages, most, frames)),
+        Ok(()) => begin_engine(alloc, disk, (pages, most, frames)),
         Err(why) => Err(NotOpened { why, disk }),
     }
 }

@@ -74,10 +74,10 @@ fn is_fault<B>(outcome: &Outcome<B>) -> bool {
 }
 
 /// An entry, as the plain reader has it.
-fn told<K: Drawn>(entry: &Entry<K::Key>) -> PlainEntry {
+fn plain_entry<K: Drawn>(entry: &Entry<K::Key>) -> PlainEntry {
     PlainEntry {
         row: entry.row,
-        key: K::told(&entry.key),
+        key: K::plain_key(&entry.key),
     }
 }
 
@@ -101,7 +101,7 @@ where
     }
 
     /// Gives the engine up for its device.
-    pub(crate) fn end(self) -> Ended {
+    pub(crate) fn into_ended(self) -> Ended {
         let Beside {
             engine,
             plain: _,

@@ -202,7 +202,7 @@ where
         sealed,
         acknowledged,
         counts,
-    } = beside.end();
+    } = beside.into_ended();
     left.crash(&mut disk);
     let found = read_back(alloc, &mut disk, K::CLASS)?;
     if found.number < acknowledged || sealed < found.number {

@@ -26,7 +26,7 @@ pub(crate) trait Drawn: ReadKeys + Probing {
     fn draw(draw: &mut Pcg32) -> Self::Key;
 
     /// A key, as the plain reader has it.
-    fn told(key: &Self::Key) -> Key;
+    fn plain_key(key: &Self::Key) -> Key;
 }
 
 impl Drawn for Box2Class {
@@ -39,7 +39,7 @@ impl Drawn for Box2Class {
         }
     }
 
-    fn told(key: &Box2) -> Key {
+    fn plain_key(key: &Box2) -> Key {
         Key {
             x1: i64::from(key.x1()),
             y1: i64::from(key.y1()),
@@ -59,7 +59,7 @@ impl Drawn for IntervalClass {
         }
     }
 
-    fn told(key: &Interval) -> Key {
+    fn plain_key(key: &Interval) -> Key {
         Key {
             x1: key.lo(),
             y1: 0,

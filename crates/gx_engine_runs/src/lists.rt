@@ -37,7 +37,10 @@ fn page(words: &mut SplitWhitespace<'_>) -> Result<u32, RunFault> {
 }
 
 /// An engine with nothing committed, on so many pages, with so many entries a node and so many frames.
-pub(crate) fn begin(alloc: Global, words: &mut SplitWhitespace<'_>) -> Result<Listed, RunFault> {
+pub(crate) fn begin_engine(
+    alloc: Global,
+    words: &mut SplitWhitespace<'_>,
+) -> Result<Listed, RunFault> {
     let pages = page(words)?;
     let most = u16::try_from(number(words)?).ok().ok_or(RunFault::BadLine)?;
     let frames = usize::try_from(number(words)?).unwrap_or(0);

@@ -32,7 +32,7 @@ use ends::{End, Failing, Left, Setting, begin_run, make_run};
 use fault::RunFault;
 use gx_class::{Box2Class, IntervalClass};
 use gx_disk::Fuse;
-use lists::{Listed, begin, number, take};
+use lists::{Listed, begin_engine, number, take};
 use std::alloc::Global;
 use std::process::ExitCode;
 use std::str::SplitWhitespace;
@@ -174,7 +174,7 @@ fn make_line<R: Print>(
     let mut words = line.split_whitespace();
     match words.next() {
         Some("index") => {
-            *listed = Some(begin(alloc, &mut words)?);
+            *listed = Some(begin_engine(alloc, &mut words)?);
             print!(rt; "begun")?;
             Ok(())
         }
@@ -216,7 +216,7 @@ fn main(rt: HostRuntime) -> ExitCode {
     match take_lines(&rt) {
         Ok(()) => ExitCode::from(0),
         Err(fault) => {
-            let (what, number) = fault.told();
+            let (what, number) = fault.text_and_number();
             let _ = println!(rt; "{what} {number}");
             ExitCode::from(1)
         }

@@ -87,5 +87,5 @@ where
             Err(rule) => return Err(Misfit { at, rule }),
         }
     }
-    now_at.end(at)
+    now_at.end_body(at)
 }

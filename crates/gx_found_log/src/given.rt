@@ -54,7 +54,7 @@ fn place(page: u32, pages: &[Imaged]) -> Option<usize>
 }
 
 /// Puts an image in the place of what is kept of its page, or behind the last page, where there is room for it.
-fn put(pages: &mut Vec<Imaged>, new: Imaged)
+fn replace_or_push(pages: &mut Vec<Imaged>, new: Imaged)
     requires { vec_len pages.old < vec_capacity pages.old }
     ensures items { pages.new.items ≡ with_image new pages.old.items }
     ensures capacity { vec_capacity pages.old ≤ vec_capacity pages.new }
@@ -95,12 +95,12 @@ impl Given {
     }
 
     /// Keeps an image of a page, in the place of what is kept of it.
-    pub(crate) fn put(&mut self, page: u32, image: &[u8])
+    pub(crate) fn keep_image(&mut self, page: u32, image: &[u8])
         requires room { length self.old < MOST_GIVEN }
         requires whole { length image.now ≡ PAGE_SIZE }
         ensures image { self.new ≡ with_image (page, image.now) self.old }
         ensures count { length self.new ≤ length self.old + 1 }
     {
-        put(&mut self.pages, Imaged::new(page, image));
+        replace_or_push(&mut self.pages, Imaged::new(page, image));
     }
 }

@@ -16,15 +16,15 @@ fn keep_pages(given: &mut Given, pages: &PageImages<'_>)
     ensures { given.new ≡ with_all (images pages.now) given.old }
 {
     match pages {
-        PageImages::One(a) => given.put(a.page, a.image),
+        PageImages::One(a) => given.keep_image(a.page, a.image),
         PageImages::Two(a, b) => {
-            given.put(a.page, a.image);
-            given.put(b.page, b.image);
+            given.keep_image(a.page, a.image);
+            given.keep_image(b.page, b.image);
         }
         PageImages::Three(a, b, c) => {
-            given.put(a.page, a.image);
-            given.put(b.page, b.image);
-            given.put(c.page, c.image);
+            given.keep_image(a.page, a.image);
+            given.keep_image(b.page, b.image);
+            given.keep_image(c.page, c.image);
         }
     }
 }
@@ -37,7 +37,7 @@ pub(crate) fn keep_images(given: &mut Given, logged: &Record<'_>)
 {
     match logged {
         Record::Pages { pages, .. } => keep_pages(given, pages),
-        Record::Write { leaf, image, .. } => given.put(*leaf, image),
+        Record::Write { leaf, image, .. } => given.keep_image(*leaf, image),
         Record::Commit { .. }
         | Record::End { .. }
         | Record::Counters { .. }

@@ -14,7 +14,7 @@ use Rattle.gx_disk.specs.declared.file.FileDisk.{FileDisk}
 use Rattle.gx_commands.specs.Streams.{Outputs, Stream}
 use Rattle.gx_words.specs.Asking.{IsAsked}
 use Rattle.gx_words.specs.Program.{gist_app}
-use Rattle.gx_words.specs.declared.asking.Asked.TheVariants as command
+use Rattle.gx_words.specs.declared.asking.AskedCommand.TheVariants as command
 use Rattle.gx_words.specs.declared.words.WordsFault.{WordsFault}
 use Rattle.gx_storm.specs.declared.threads.Storm.{Storm}
 use Rattle.gx_front.specs.Storms.{EndsStormed, MemoryEvents}

@@ -20,8 +20,8 @@ use Rattle.gx_front.specs.Storms.{EndsStormed, MemoryEvents}
 use Rattle.gx_storm.specs.declared.threads.Storm.{Storm}
 use Rattle.gx_words.specs.Asking.{WordsAsk}
 use Rattle.gx_words.specs.Program.{gist_app}
-use Rattle.gx_words.specs.declared.asking.Asked.{Asked}
-use Rattle.gx_words.specs.declared.asking.Asked.TheVariants as command
+use Rattle.gx_words.specs.declared.asking.AskedCommand.{AskedCommand}
+use Rattle.gx_words.specs.declared.asking.AskedCommand.TheVariants as command
 use Rattle.gx_words.specs.declared.words.WordsFault.{WordsFault}
 use Rattle.gx_words.specs.declared.words.WordsFault.TheVariants.{NotText, Memory}
 
@@ -88,7 +88,7 @@ module _ {C : Type 0} (shape : Members Rectangle) (class : Ghosts C Rectangle) (
 
   module _ (events : MemoryEvents) where
     -- how what was asked for may end
-    abbrev pub EndsAsked : Asked → Stream → Stream → Outputs → Outputs → ℕ → Type 0
+    abbrev pub EndsAsked : AskedCommand → Stream → Stream → Outputs → Outputs → ℕ → Type 0
     EndsAsked command.Plain had left from to status = EndsScript had left from to status
     EndsAsked (command.Format file pages most) had left from to status = (left ≡ had) × EndsFormat class state pages most from to status
     EndsAsked (command.Run file frames) had left from to status = EndsRun frames had left from to status
@@ -100,7 +100,7 @@ module _ {C : Type 0} (shape : Members Rectangle) (class : Ghosts C Rectangle) (
     -- nothing is wrong with the words, and what they ask for ended so
     pub record EndsAsWanted (words : List Text) (had left : Stream) (from to : Outputs) (status : ℕ) : Type 0 where
       pub right : fault_of gist_app words ≡ []
-      pub asked : Asked
+      pub asked : AskedCommand
       pub asks : WordsAsk words asked
       pub ends : EndsAsked asked had left from to status
 
@@ -112,7 +112,7 @@ module _ {C : Type 0} (shape : Members Rectangle) (class : Ghosts C Rectangle) (
         ⊎ EndsAsWanted words had left from to status)
 
 -- This storm is asked for, and nothing was read or written.
-pub record WantsStorm (wanted : Asked) (storm : Storm) (had left : Stream) (from to : Outputs) : Type 0 where
+pub record WantsStorm (wanted : AskedCommand) (storm : Storm) (had left : Stream) (from to : Outputs) : Type 0 where
   pub wanted_is : wanted ≡ command.Storm storm.seed storm.sessions storm.calls
   pub unread : left ≡ had
   pub unwritten : to ≡ from

@@ -13,7 +13,7 @@ use gx_engine_events::EngineEvents;
 use gx_events::Events;
 use gx_geom::{Box2, Shape};
 use gx_storm::Storm;
-use gx_words::{Asked, WordsFault};
+use gx_words::{AskedCommand, WordsFault};
 use std::alloc::Global;
 use std::convert::AsStr;
 use std::fmt::Display;
@@ -103,7 +103,7 @@ pub fn before_threads<T: Files<File = File>, S: AsStr, R: Read, W: Write, E: Wri
 fn carry_out<T: Files<File = File>, R: Read, W: Write, E: Write>(
     rt: &T,
     alloc: Global,
-    asked: Asked,
+    asked: AskedCommand,
     reader: &mut Noted<R>,
     writer: &mut Noted<W>,
     faults: &mut Noted<E>,
@@ -117,16 +117,16 @@ fn carry_out<T: Files<File = File>, R: Read, W: Write, E: Write>(
         (λ storm. WantsStorm asked.entry storm had left from to) }
 {
     match asked {
-        Asked::Plain => Ok(run_script(alloc, reader, writer, faults)),
-        Asked::Format { file, pages, most } => Ok(format_file(
+        AskedCommand::Plain => Ok(run_script(alloc, reader, writer, faults)),
+        AskedCommand::Format { file, pages, most } => Ok(format_file(
             rt, alloc, file, pages, most, writer, faults,
         )),
-        Asked::Run { file, frames } => Ok(run_file(
+        AskedCommand::Run { file, frames } => Ok(run_file(
             rt, alloc, file, frames, reader, writer, faults,
         )),
-        Asked::Dump { file } => Ok(dump_file(rt, alloc, file, writer, faults)),
-        Asked::Verify { file } => Ok(verify_file(rt, alloc, file, writer, faults)),
-        Asked::Storm {
+        AskedCommand::Dump { file } => Ok(dump_file(rt, alloc, file, writer, faults)),
+        AskedCommand::Verify { file } => Ok(verify_file(rt, alloc, file, writer, faults)),
+        AskedCommand::Storm {
             seed,
             sessions,
             calls,

@@ -2,7 +2,7 @@
 
 use super::*;
 use gx_disk::FileDisk;
-use gx_words::{Asked, WordsFault, given, read};
+use gx_words::{AskedCommand, WordsFault, given, read};
 use std::env::FillError;
 use std::fs::{self, File, Files};
 use std::process::Abort;
@@ -43,11 +43,11 @@ const WRONG: [&[&str]; 28] = [
 ];
 
 // What asks for something, and what it asks for.
-const RIGHT: [(&[&str], Asked); 9] = [
-    (&["gist", "plain"], Asked::Plain),
+const RIGHT: [(&[&str], AskedCommand); 9] = [
+    (&["gist", "plain"], AskedCommand::Plain),
     (
         &["gist", "format", "f", "8", "100"],
-        Asked::Format {
+        AskedCommand::Format {
             file: "f",
             pages: 8,
             most: 100,
@@ -55,7 +55,7 @@ const RIGHT: [(&[&str], Asked); 9] = [
     ),
     (
         &["gist", "format", "a b", "65536", "+4"],
-        Asked::Format {
+        AskedCommand::Format {
             file: "a b",
             pages: 65536,
             most: 4,
@@ -63,30 +63,30 @@ const RIGHT: [(&[&str], Asked); 9] = [
     ),
     (
         &["gist", "run", "plain"],
-        Asked::Run {
+        AskedCommand::Run {
             file: "plain",
             frames: 64,
         },
     ),
     (
         &["gist", "run", "--frames", "0016", "f"],
-        Asked::Run {
+        AskedCommand::Run {
             file: "f",
             frames: 16,
         },
     ),
     (
         &["gist", "run", "--frames=4096", "--", "--frames"],
-        Asked::Run {
+        AskedCommand::Run {
             file: "--frames",
             frames: 4096,
         },
     ),
-    (&["gist", "dump", "f"], Asked::Dump { file: "f" }),
-    (&["gist", "verify", "f"], Asked::Verify { file: "f" }),
+    (&["gist", "dump", "f"], AskedCommand::Dump { file: "f" }),
+    (&["gist", "verify", "f"], AskedCommand::Verify { file: "f" }),
     (
         &["gist", "storm", "4294967295", "8", "2000"],
-        Asked::Storm {
+        AskedCommand::Storm {
             seed: 4294967295,
             sessions: 8,
             calls: 2000,

@@ -94,7 +94,7 @@ pub(crate) fn settle<D: SectorDisk, S: Copy>(disk: &mut D, stage: S) -> Result<S
 impl Glog {
     // Puts what fills into flight, at the next place, whose tail begins behind it. A head that was put there is
     // dropped.
-    fn begin(&mut self)
+    fn begin_batch(&mut self)
         requires idle { self.old.stage ≡ Stage.Idle }
         requires some { 1 ≤ length self.old.filling }
         ensures { self.new ≡ begun self.old }
@@ -195,7 +195,7 @@ impl Glog {
         if self.filling.is_empty() {
             return Ok(Stage::Idle);
         }
-        self.begin();
+        self.begin_batch();
         self.make(disk)
     }
 }

@@ -3,7 +3,7 @@ ghost use Rattle.std.specs.Prelude.{◌≡◌};
 ghost use Rattle.gx_glog.specs.First.{first_body_bytes};
 
 use crate::extent::BODY_SIZE;
-use crate::parameters::put;
+use crate::parameters::write_at;
 
 // The record's size, and the record: counters with no commit, no change, two pages in use, and transaction 1 to come.
 const FIRST: [u8; 33] = [
@@ -16,6 +16,6 @@ pub fn first_body() -> [u8; BODY_SIZE]
     ensures { result ≡ first_body_bytes }
 {
     let mut body = [0; BODY_SIZE];
-    put(&mut body, 0, &FIRST);
+    write_at(&mut body, 0, &FIRST);
     body
 }

@@ -19,7 +19,7 @@ pub struct Parameters {
 }
 
 // Writes bytes over those from a place on.
-pub(crate) fn put(sector: &mut [u8], at: usize, bytes: &[u8])
+pub(crate) fn write_at(sector: &mut [u8], at: usize, bytes: &[u8])
     requires { at + length bytes.now ≤ length sector.old }
     ensures { sector.new ≡ take at sector.old ++ (bytes.now ++ drop (at + length bytes.now) sector.old) }
 {
@@ -32,9 +32,9 @@ impl Parameters {
         ensures { result ≡ parameters_bytes self.now ++ replicate 504 0 }
     {
         let mut sector = [0; SECTOR_SIZE];
-        put(&mut sector, 0, &self.pages.to_be_bytes());
-        put(&mut sector, 4, &self.most.to_be_bytes());
-        put(&mut sector, 6, &self.class.to_be_bytes());
+        write_at(&mut sector, 0, &self.pages.to_be_bytes());
+        write_at(&mut sector, 4, &self.most.to_be_bytes());
+        write_at(&mut sector, 6, &self.class.to_be_bytes());
         sector
     }
 

@@ -14,7 +14,7 @@ use Rattle.gx_machine.proofs.SetsByTests.{set_of_a_test_that_agrees, set_that_is
 use Rattle.gx_tree_laws.specs.Lists.{one_if, how_many, Each}
 use Rattle.gx_tree_laws.specs.Trees.{Pair, Child, Tree, Used, child_pages, times, leaves, passing, standing}
 use Rattle.gx_tree_laws.specs.Legal.{ChildFits, Legal}
-use Rattle.gx_tree_laws.specs.Reach.{Item}
+use Rattle.gx_tree_laws.specs.Reach.{TraversalItem}
 use Rattle.gx_tree_laws.specs.Looks.{IsLook, from_root, LeadsTo, stacked, found_with}
 use Rattle.gx_tree_laws.proofs.Sums.{sum_over_le, each_always}
 use Rattle.gx_tree_laws.proofs.OwnLook.{look_goes_on}
@@ -149,10 +149,10 @@ module _ {B : Type 0} (c : Class B) (l : IsLawful c) where
     legal = is_legal c l old w
 
     -- the look of a slot that is at work
-    look_of : (s : ℕ) (stack : List Item) (found : List (Pair B)) → old.work s ≡ Looks stack found → IsLook t (wants_pair c (slot_at s old.slots)) stack found
+    look_of : (s : ℕ) (stack : List TraversalItem) (found : List (Pair B)) → old.work s ≡ Looks stack found → IsLook t (wants_pair c (slot_at s old.slots)) stack found
     look_of s stack found at = subst (λ (x : Work B). DoesWork c t (slot_at s old.slots) x) at (w.works s)
 
-    pub look_read : (s : ℕ) (item : Item) (stack : List Item) (found : List (Pair B)) → old.work s ≡ Looks (item ∷ stack) found → (leads : B → Bool)
+    pub look_read : (s : ℕ) (item : TraversalItem) (stack : List TraversalItem) (found : List (Pair B)) → old.work s ≡ Looks (item ∷ stack) found → (leads : B → Bool)
         → LeadsTo c.rules t (wants_pair c (slot_at s old.slots)) leads
         → Happens c old events.Works (with_work s (Looks (stacked t leads item stack) (found_with t (wants_pair c (slot_at s old.slots)) item found)) old)
     look_read s item stack found at leads consistent =
@@ -185,16 +185,16 @@ module _ {B : Type 0} (c : Class B) (l : IsLawful c) where
         let less = standing_le t p (λ x. wants_pair c slot x && p x) (λ x is. and_all (wants_pair c slot x) (p x) (wants_of slot e wanted x (narrow x is)) is) in
         omega (arith, none, less)
 
-    pub descent_of : (s : ℕ) (e : Entry B) (parent : ℕ) (item : Item) → old.work s ≡ Descends e parent item → DescendsFor c t (slot_at s old.slots) e parent item
+    pub descent_of : (s : ℕ) (e : Entry B) (parent : ℕ) (item : TraversalItem) → old.work s ≡ Descends e parent item → DescendsFor c t (slot_at s old.slots) e parent item
     descent_of s e parent item at = subst (λ (x : Work B). DoesWork c t (slot_at s old.slots) x) at (w.works s)
 
     -- a descent begins again at the root, and goes on to a page that its page names
-    pub descent_again : (s : ℕ) (e : Entry B) (parent : ℕ) (item : Item) → old.work s ≡ Descends e parent item → DescendsFor c t (slot_at s old.slots) e 0 (from_root t)
+    pub descent_again : (s : ℕ) (e : Entry B) (parent : ℕ) (item : TraversalItem) → old.work s ≡ Descends e parent item → DescendsFor c t (slot_at s old.slots) e 0 (from_root t)
     descent_again s e parent item at =
         let d : DescendsFor c t (slot_at s old.slots) e parent item = descent_of s e parent item at in
         record { call = d.call; looked = d.looked; descent = descent_begins c.rules e.key t legal; apart = λ is. (omega (arith, is)); came = inl (refl, refl) }
 
-    pub descent_down : (s : ℕ) (e : Entry B) (parent : ℕ) (item : Item) (x : ℕ) → old.work s ≡ Descends e parent item → 0 < times x (child_pages (t.node item.page))
+    pub descent_down : (s : ℕ) (e : Entry B) (parent : ℕ) (item : TraversalItem) (x : ℕ) → old.work s ≡ Descends e parent item → 0 < times x (child_pages (t.node item.page))
         → Each (λ (d : Child B). d.page ≡ x → c.rules.covers d.key e.key ≡ true) (t.node item.page).children
         → DescendsFor c t (slot_at s old.slots) e item.page (record { page = x; seen = t.counter })
     descent_down s e parent item x at named covers =
@@ -209,7 +209,7 @@ module _ {B : Type 0} (c : Class B) (l : IsLawful c) where
           came = inr (u, (let level = pick.1.level in omega (arith, level)));
         }
 
-    pub descent_finds_none : (s : ℕ) (e : Entry B) (parent : ℕ) (item : Item) → old.work s ≡ Descends e parent item → standing (is_of c e) t ≡ 0
+    pub descent_finds_none : (s : ℕ) (e : Entry B) (parent : ℕ) (item : TraversalItem) → old.work s ≡ Descends e parent item → standing (is_of c e) t ≡ 0
     descent_finds_none s e parent item at =
         let d : DescendsFor c t (slot_at s old.slots) e parent item = descent_of s e parent item at in
         none_stands (slot_at s old.slots) e (is_of c e) (λ x is. is) (wants_insert (slot_at s old.slots) e d.call) d.looked

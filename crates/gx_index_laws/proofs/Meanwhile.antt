@@ -8,7 +8,7 @@ use Rattle.gx_tree_laws.specs.Lists.{one_if}
 use Rattle.gx_tree_laws.specs.Trees.{Pair, Child, Node, Tree, Used, size, times, child_pages, walk, standing}
 use Rattle.gx_tree_laws.specs.Legal.{Linked, Legal}
 use Rattle.gx_tree_laws.specs.Steps.{ChangesOnly, with_key, with_mark, spares, Step, Splits, SplitsRoot, Widens, Adds, Marks, Sweeps, IsStep}
-use Rattle.gx_tree_laws.specs.Reach.{Item}
+use Rattle.gx_tree_laws.specs.Reach.{TraversalItem}
 use Rattle.gx_tree_laws.specs.Looks.{IsLook}
 use Rattle.gx_tree_laws.specs.Writes.{is_sweepable, has_place, must_restart, levels_left, descent_left}
 use Rattle.gx_tree_laws.proofs.Chains.{one_at, one_off, pages_with_key, length_with_key, length_after, linked_once}
@@ -59,7 +59,7 @@ levels_by false false top level then_top then_level h same here low = omega (ari
 
 module _ {B : Type 0} (c : Class B) (l : IsLawful c) (old new : Tree B) (legal : Legal c.rules old) (room : new.used ≤ c.pages) where
   -- A look: of the page that a split takes it has no more to read than there are pages less.
-  module _ (wants : Pair B → Bool) (stack : List Item) (found : List (Pair B)) (look : IsLook old wants stack found) where
+  module _ (wants : Pair B → Bool) (stack : List TraversalItem) (found : List (Pair B)) (look : IsLook old wants stack found) where
     pub look_stays : (step : Step B) → IsStep c.rules old step new → look_left c new stack ≤ look_left c old stack
     look_stays (Splits n p sides left right) is =
         let same = ahead_split c.rules l.rules old new n p sides left right legal is (λ q. 1) (λ q. 1 + one_if (q == n))
@@ -118,7 +118,7 @@ module _ {B : Type 0} (c : Class B) (l : IsLawful c) (old new : Tree B) (legal :
     seek_stays (Sweeps b claimed) is = seek_kept b (filter (spares claimed) (old.node b).pairs) (old.node b).children is.changes
 
   -- A descent: a page that is taken counts for more than all levels, and no level comes in any other way.
-  module _ (parent : ℕ) (item : Item) (there : Used old item.page) where
+  module _ (parent : ℕ) (item : TraversalItem) (there : Used old item.page) where
     module _ (a : ℕ) (pairs : List (Pair B)) (children : List (Child B)) (changes : ChangesOnly old new a pairs children)
         (pages : map (λ (d : Child B). d.page) children ≡ child_pages (old.node a))
         (fits : 0 < times item.page (child_pages (old.node a)) → length pairs + length children ≤ size (old.node a)) where

@@ -17,7 +17,7 @@ use Rattle.gx_tree_laws.specs.Lists.{one_if, how_many}
 use Rattle.gx_tree_laws.specs.Trees.{Pair, Tree, Used, size, child_pages, times}
 use Rattle.gx_tree_laws.specs.Legal.{Legal}
 use Rattle.gx_tree_laws.specs.Steps.{IsSplit, IsRootSplit, IsWidening, IsSweep}
-use Rattle.gx_tree_laws.specs.Reach.{Item, pages_ahead}
+use Rattle.gx_tree_laws.specs.Reach.{TraversalItem, pages_ahead}
 use Rattle.gx_tree_laws.specs.Looks.{IsLook, from_root, stacked}
 use Rattle.gx_tree_laws.specs.Writes.{is_sweepable, must_restart, levels_left, descent_left}
 use Rattle.gx_tree_laws.proofs.Bounds.{pages_most}
@@ -142,14 +142,14 @@ module _ {B : Type 0} (c : Class B) where
       root_taken : Used t 1
       root_taken = let h = legal.counter in (omega arith, omega (arith, h))
 
-      levels_most : (parent : ℕ) (item : Item) → Used t item.page → levels_left c.rules t parent item ≤ t.used
+      levels_most : (parent : ℕ) (item : TraversalItem) → Used t item.page → levels_left c.rules t parent item ≤ t.used
       levels_most parent item u = by (must_restart c.rules t parent item)
         where
           by : (b : Bool) → (if b then suc (t.node 1).level else (t.node item.page).level) ≤ t.used
           by true = let h = level_below_used c.rules t legal 1 root_taken in omega (arith, h)
           by false = let h = level_below_used c.rules t legal item.page u in omega (arith, h)
 
-      pub descent_below : (slots : List (Slot B)) (parent : ℕ) (item : Item) → Used t item.page
+      pub descent_below : (slots : List (Slot B)) (parent : ℕ) (item : TraversalItem) → Used t item.page
           → descent_left c.rules t c.pages (claims_pair c slots) parent item < descent_most c
       descent_below slots parent item u =
           let levels = levels_most parent item u in
@@ -167,13 +167,13 @@ module _ {B : Type 0} (c : Class B) where
         abbrev slot : Slot B
         slot = Working locks notes (Some call)
 
-        look_of : (stack : List Item) (found : List (Pair B)) → old.work s ≡ Looks stack found → IsLook t (wants_pair c (slot_at s old.slots)) stack found
+        look_of : (stack : List TraversalItem) (found : List (Pair B)) → old.work s ≡ Looks stack found → IsLook t (wants_pair c (slot_at s old.slots)) stack found
         look_of stack found is = subst (λ (x : Work B). DoesWork c t (slot_at s old.slots) x) is (w.works s)
 
-        look_now : (stack : List Item) (found : List (Pair B)) → old.work s ≡ Looks stack found → work_left c old s ≡ descent_most c + (pages_ahead t stack + pages_free c t)
+        look_now : (stack : List TraversalItem) (found : List (Pair B)) → old.work s ≡ Looks stack found → work_left c old s ≡ descent_most c + (pages_ahead t stack + pages_free c t)
         look_now stack found is = left_of old s slot (Looks stack found) at is
 
-        pub look_falls : (item : Item) (stack : List Item) (found then_found : List (Pair B)) (leads : B → Bool) → old.work s ≡ Looks (item ∷ stack) found
+        pub look_falls : (item : TraversalItem) (stack : List TraversalItem) (found then_found : List (Pair B)) (leads : B → Bool) → old.work s ≡ Looks (item ∷ stack) found
             → work_left c (with_work s (Looks (stacked t leads item stack) then_found) old) s < work_left c old s
         look_falls item stack found then_found leads is =
             let falls = pages_fall c.rules t legal leads item stack ((look_of (item ∷ stack) found is).items).0 in
@@ -182,7 +182,7 @@ module _ {B : Type 0} (c : Class B) where
             turned_left old s slot (Looks (stacked t leads item stack) then_found) at in
             omega (arith, falls, was, now)
 
-        pub look_descends_falls : (stack : List Item) (found : List (Pair B)) (e : Entry B) (parent : ℕ) (item : Item) → old.work s ≡ Looks stack found → Used t item.page
+        pub look_descends_falls : (stack : List TraversalItem) (found : List (Pair B)) (e : Entry B) (parent : ℕ) (item : TraversalItem) → old.work s ≡ Looks stack found → Used t item.page
             → work_left c (with_work s (Descends e parent item) old) s < work_left c old s
         look_descends_falls stack found e parent item is u =
             let below = descent_below old.slots parent item u in
@@ -191,7 +191,7 @@ module _ {B : Type 0} (c : Class B) where
             turned_left old s slot (Descends e parent item) at in
             omega (arith, below, was, now)
 
-        pub look_seeks_falls : (stack : List Item) (found : List (Pair B)) (e : Entry B) (leaf : ℕ) → old.work s ≡ Looks stack found
+        pub look_seeks_falls : (stack : List TraversalItem) (found : List (Pair B)) (e : Entry B) (leaf : ℕ) → old.work s ≡ Looks stack found
             → work_left c (with_work s (Seeks e leaf) old) s < work_left c old s
         look_seeks_falls stack found e leaf is =
             let below = seek_below leaf in
@@ -200,14 +200,14 @@ module _ {B : Type 0} (c : Class B) where
             omega (arith, below, was, now)
 
         -- A descent.
-        module _ (e : Entry B) (parent : ℕ) (item : Item) (is : old.work s ≡ Descends e parent item) where
+        module _ (e : Entry B) (parent : ℕ) (item : TraversalItem) (is : old.work s ≡ Descends e parent item) where
           descent_of : DescendsFor c t (slot_at s old.slots) e parent item
           descent_of = subst (λ (x : Work B). DoesWork c t (slot_at s old.slots) x) is (w.works s)
 
           descent_now : work_left c old s ≡ descent_left c.rules t c.pages (claims_pair c old.slots) parent item
           descent_now = left_of old s slot (Descends e parent item) at is
 
-          then_left : (st : State B) (then_parent : ℕ) (then_item : Item) → slot_at s st.slots ≡ slot
+          then_left : (st : State B) (then_parent : ℕ) (then_item : TraversalItem) → slot_at s st.slots ≡ slot
               → work_left c (with_work s (Descends e then_parent then_item) st) s ≡ descent_left c.rules (tree_now c st) c.pages (claims_pair c st.slots) then_parent then_item
           then_left st then_parent then_item there = turned_left st s slot (Descends e then_parent then_item) there
 

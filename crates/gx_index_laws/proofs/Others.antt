@@ -13,7 +13,7 @@ use Rattle.gx_tree_laws.specs.Lists.{one_if, how_many}
 use Rattle.gx_tree_laws.specs.Trees.{Pair, Tree, Used}
 use Rattle.gx_tree_laws.specs.Legal.{Legal}
 use Rattle.gx_tree_laws.specs.Steps.{IsAdding, IsMarking, with_mark, Step, Adds, Marks, IsStep}
-use Rattle.gx_tree_laws.specs.Reach.{Item}
+use Rattle.gx_tree_laws.specs.Reach.{TraversalItem}
 use Rattle.gx_tree_laws.specs.Writes.{is_sweepable, descent_left}
 use Rattle.gx_tree_laws.proofs.PageSteps.{standing_added, standing_one_marked}
 use Rattle.gx_engine_laws.specs.Slots.{Note, Slot, Free, Working, Undoing, Waiting, locks_held, slot_at, with_slot}
@@ -58,7 +58,7 @@ module _ {B : Type 0} (c : Class B) (l : IsLawful c) where
       at_place : (s : ℕ) (slots : List (Slot B)) → is_session s ≡ true → slot_at s slots ≡ slice_index_or slots (s - 1) Free
       at_place s slots is = ap (λ (b : Bool). if b then slice_index_or slots (s - 1) Free else Free) is
 
-  module _ (old new : Tree B) (legal : Legal c.rules old) (room : new.used ≤ c.pages) (parent : ℕ) (item : Item) (there : Used old item.page) (claimed : Pair B → Bool) where
+  module _ (old new : Tree B) (legal : Legal c.rules old) (room : new.used ≤ c.pages) (parent : ℕ) (item : TraversalItem) (there : Used old item.page) (claimed : Pair B → Bool) where
     descent_added : (a : ℕ) (x : Pair B) → IsAdding c.rules old new a x → x.marked ≡ false
         → descent_left c.rules new c.pages claimed parent item ≤ descent_left c.rules old c.pages claimed parent item
     descent_added a x is unmarked =
@@ -90,7 +90,7 @@ module _ {B : Type 0} (c : Class B) (l : IsLawful c) where
 
     -- a step after which each descent has no more left leaves each call no more
     module _ (step : Step B) (is : IsStep c.rules t step then_tree) (room : then_tree.used ≤ c.pages)
-        (descents : (parent : ℕ) (item : Item) → Used t item.page → descent_left c.rules then_tree c.pages (claims_pair c old.slots) parent item
+        (descents : (parent : ℕ) (item : TraversalItem) → Used t item.page → descent_left c.rules then_tree c.pages (claims_pair c old.slots) parent item
         ≤ descent_left c.rules t c.pages (claims_pair c old.slots) parent item) where
       call_after : (slot : Slot B) (work : Work B) → DoesWork c t slot work → call_left c then_tree old.slots work ≤ call_left c t old.slots work
       call_after slot Rests does = omega arith

@@ -5,7 +5,7 @@ use Rattle.gx_machine.specs.Keys.{Keys}
 use Rattle.gx_machine.specs.Sets.{has}
 use Rattle.gx_tree_laws.specs.Lists.{how_many}
 use Rattle.gx_tree_laws.specs.Trees.{Pair, Tree}
-use Rattle.gx_tree_laws.specs.Reach.{Item, pages_ahead}
+use Rattle.gx_tree_laws.specs.Reach.{TraversalItem, pages_ahead}
 use Rattle.gx_tree_laws.specs.Writes.{leaves_left, descent_left}
 use Rattle.gx_engine_laws.specs.Slots.{Note, Slot, Free, Working, Undoing, Waiting, slot_at, noted}
 use Rattle.gx_engine_laws.specs.Wants.{is_claimed}
@@ -17,7 +17,7 @@ abbrev pub pages_free : {B : Type 0} → Class B → Tree B → ℕ
 pages_free c t = c.pages - t.used
 
 -- What a look has left: the pages ahead of it, and those not taken. A split puts one of these ahead of it at most.
-abbrev pub look_left : {B : Type 0} → Class B → Tree B → List Item → ℕ
+abbrev pub look_left : {B : Type 0} → Class B → Tree B → List TraversalItem → ℕ
 look_left c t stack = pages_ahead t stack + pages_free c t
 
 -- what a seek has left: the leaves to the right of it, and the pages not taken, of which a split puts one there at most

@@ -3,7 +3,7 @@ use Rattle.std.specs.Prelude.{ℕ, Bool, false, replicate, List, [], ◌∷◌}
 use Rattle.gx_machine.specs.declared.limits.TheConstants.{SESSIONS}
 use Rattle.gx_machine.specs.declared.entry.Entry.{Entry}
 use Rattle.gx_tree_laws.specs.Trees.{Pair, Tree, fresh_node}
-use Rattle.gx_tree_laws.specs.Reach.{Item}
+use Rattle.gx_tree_laws.specs.Reach.{TraversalItem}
 use Rattle.gx_engine_laws.specs.Slots.{Slot, Free}
 use Rattle.gx_engine_laws.specs.Engines.{Engine}
 use Rattle.gx_recovery.specs.Records.{Counters}
@@ -15,8 +15,8 @@ use Rattle.gx_index_laws.specs.Classes.{Class, Page, tree_in, is_live, known_of}
 -- to which it came from this page (0 where it begins); or the way to an entry's pair that stands, which is in this leaf or to the right of it.
 pub data Work (B : Type 0) : Type 0 where
   Rests : Work B
-  Looks : (stack : List Item) (found : List (Pair B)) → Work B
-  Descends : (entry : Entry B) (parent : ℕ) (item : Item) → Work B
+  Looks : (stack : List TraversalItem) (found : List (Pair B)) → Work B
+  Descends : (entry : Entry B) (parent : ℕ) (item : TraversalItem) → Work B
   Seeks : (entry : Entry B) (leaf : ℕ) → Work B
 
 -- The page area and the records over it; the next transaction's number; the eight slots; by session, its transaction,

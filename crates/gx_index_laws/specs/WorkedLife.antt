@@ -12,7 +12,7 @@ use Rattle.gx_machine.specs.declared.reply.Asked.TheVariants.{Now, Open}
 use Rattle.gx_machine.specs.Sessions.{Locks}
 use Rattle.gx_machine.specs.Worked.{number_keys}
 use Rattle.gx_tree_laws.specs.Trees.{Pair, Child}
-use Rattle.gx_tree_laws.specs.Reach.{Item}
+use Rattle.gx_tree_laws.specs.Reach.{TraversalItem}
 use Rattle.gx_engine_laws.specs.Slots.{Note, Free, Working, Waiting}
 use Rattle.gx_engine_laws.specs.Events.{Event, Asks, Inserts, Finds, Seals, Durable, Acknowledges, Undoes, EndsUndo, Opens, Works}
 use Rattle.gx_recovery.specs.Records.{Whole, Record, Pages, Write, Commit, End}
@@ -64,7 +64,7 @@ leaf own number right pairs = record { node = record { level = 0; nsn = number; 
 abbrev pub root : List (Child ℕ) → Page ℕ
 root children = record { node = record { level = 1; nsn = 0; right = 0; pairs = []; children = children }; own = 1; bytes = [] }
 
-abbrev pub item : ℕ → ℕ → Item
+abbrev pub item : ℕ → ℕ → TraversalItem
 item page seen = record { page = page; seen = seen }
 
 -- records

@@ -6,7 +6,7 @@ use Rattle.gx_machine.specs.declared.call.Call.TheVariants.{Insert}
 use Rattle.gx_machine.specs.Keys.{Keys}
 use Rattle.gx_machine.specs.Sets.{has}
 use Rattle.gx_tree_laws.specs.Trees.{Pair, Tree, Used}
-use Rattle.gx_tree_laws.specs.Reach.{Item}
+use Rattle.gx_tree_laws.specs.Reach.{TraversalItem}
 use Rattle.gx_tree_laws.specs.Looks.{IsLook}
 use Rattle.gx_tree_laws.specs.Writes.{IsDescent, IsSeek}
 use Rattle.gx_engine_laws.specs.Slots.{Slot, Free, Working, Undoing, Waiting, noted}
@@ -31,7 +31,7 @@ CameFrom t parent page = ((parent ≡ 0) × (page ≡ 1)) ⊎ (Used t parent × 
 
 -- a descent is an open insert's, and nothing that it wants stands: its look has ended with nothing found; and it came from
 -- another page, if any, which is above a leaf
-pub record DescendsFor {B : Type 0} (c : Class B) (t : Tree B) (slot : Slot B) (e : Entry B) (parent : ℕ) (item : Item) : Type 0 where
+pub record DescendsFor {B : Type 0} (c : Class B) (t : Tree B) (slot : Slot B) (e : Entry B) (parent : ℕ) (item : TraversalItem) : Type 0 where
   pub call : open_call slot ≡ Some (Insert e)
   pub looked : IsLook t (wants_pair c slot) [] []
   pub descent : IsDescent c.rules t item e.key

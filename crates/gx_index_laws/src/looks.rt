@@ -9,7 +9,7 @@ ghost use Rattle.gx_machine.specs.Sessions.{Locks};
 ghost use Rattle.gx_machine.specs.Runs.{may_close};
 ghost use Rattle.gx_tree_laws.specs.Lists.{how_many, Each};
 ghost use Rattle.gx_tree_laws.specs.Trees.{Pair, Used, child_pages, times, standing};
-ghost use Rattle.gx_tree_laws.specs.Reach.{Item};
+ghost use Rattle.gx_tree_laws.specs.Reach.{TraversalItem};
 ghost use Rattle.gx_tree_laws.specs.Looks.{LeadsTo, stacked, found_with, from_root};
 ghost use Rattle.gx_engine_laws.specs.Slots.{Note, Working, Undoing, slot_at, noted};
 ghost use Rattle.gx_engine_laws.specs.Engines.{gathered};
@@ -27,7 +27,7 @@ ghost use Rattle.gx_index_laws.specs.Happening.{Happens, with_work, slotted};
 /// A page of a look is read: what it found there and what it stacks is what the session then looks with.
 pub fn a_look_goes_on<B>()
     ensures { (c : Class B) → IsLawful c → (old : State B) → IsWhole c old
-        → (s : ℕ) (item : Item) (stack : List Item) (found : List (Pair B))
+        → (s : ℕ) (item : TraversalItem) (stack : List TraversalItem) (found : List (Pair B))
         → old.work s ≡ Looks (item ∷ stack) found → (leads : B → Bool)
         → LeadsTo c.rules (tree_now c old) (wants_pair c (slot_at s old.slots)) leads
         → Happens c old Works (with_work s (Looks (stacked (tree_now c old) leads item stack)
@@ -50,7 +50,7 @@ pub fn a_look_turns_into_a_descent_or_a_seek<B>()
         → old.work s ≡ Looks [] [] → open_call (slot_at s old.slots) ≡ Some (Insert e)
         → DoesWork c (tree_now c old) (slot_at s old.slots) (Descends e 0 (from_root (tree_now c old))) }
     ensures absent { (c : Class B) → IsLawful c → (old : State B) → IsWhole c old
-        → (s : ℕ) (e : Entry B) (parent : ℕ) (item : Item)
+        → (s : ℕ) (e : Entry B) (parent : ℕ) (item : TraversalItem)
         → old.work s ≡ Descends e parent item → standing (is_of c e) (tree_now c old) ≡ 0 }
     ensures seeks { (c : Class B) → IsLawful c → (old : State B) → IsWhole c old → (s : ℕ) (e : Entry B) (leaf : ℕ)
         → ((live : Bool) → slot_wants c.keys (slot_at s old.slots) (record { entry = e; live = live }) ≡ true)
@@ -66,11 +66,11 @@ pub fn a_look_turns_into_a_descent_or_a_seek<B>()
 /// its page names by an entry that covers the coming key.
 pub fn a_descent_goes_on<B>()
     ensures again { (c : Class B) → IsLawful c → (old : State B) → IsWhole c old
-        → (s : ℕ) (e : Entry B) (parent : ℕ) (item : Item)
+        → (s : ℕ) (e : Entry B) (parent : ℕ) (item : TraversalItem)
         → old.work s ≡ Descends e parent item
         → DoesWork c (tree_now c old) (slot_at s old.slots) (Descends e 0 (from_root (tree_now c old))) }
     ensures down { (c : Class B) → IsLawful c → (old : State B) → IsWhole c old
-        → (s : ℕ) (e : Entry B) (parent : ℕ) (item : Item) (x : ℕ)
+        → (s : ℕ) (e : Entry B) (parent : ℕ) (item : TraversalItem) (x : ℕ)
         → old.work s ≡ Descends e parent item → 0 < times x (child_pages ((tree_now c old).node item.page))
         → Each (λ d. d.page ≡ x → c.rules.covers d.key e.key ≡ true) ((tree_now c old).node item.page).children
         → DoesWork c (tree_now c old) (slot_at s old.slots)

@@ -11,7 +11,7 @@ ghost use Rattle.gx_tree_laws.specs.Lists.{how_many};
 ghost use Rattle.gx_tree_laws.specs.Trees.{Pair, Used, size, child_pages, times};
 ghost use Rattle.gx_tree_laws.specs.Steps.{IsSplit, IsRootSplit, IsWidening, IsAdding};
 ghost use Rattle.gx_tree_laws.specs.Steps.{IsMarking, IsSweep, Step, IsStep};
-ghost use Rattle.gx_tree_laws.specs.Reach.{Item};
+ghost use Rattle.gx_tree_laws.specs.Reach.{TraversalItem};
 ghost use Rattle.gx_tree_laws.specs.Looks.{from_root, stacked};
 ghost use Rattle.gx_tree_laws.specs.Writes.{is_sweepable, must_restart};
 ghost use Rattle.gx_engine_laws.specs.Slots.{Note, Slot, Working, Undoing, Waiting, locks_held, slot_at, noted};
@@ -38,20 +38,20 @@ pub fn a_look_comes_to_an_end<B>()
     ensures reads { (c : Class B) → IsLawful c → (old : State B) → IsWhole c old
         → (s : ℕ) (locks : Locks B) (notes : List (Note B)) (call : Call B)
         → slot_at s old.slots ≡ Working locks notes (Some call)
-        → (item : Item) (stack : List Item) (found then_found : List (Pair B)) (leads : B → Bool)
+        → (item : TraversalItem) (stack : List TraversalItem) (found then_found : List (Pair B)) (leads : B → Bool)
         → old.work s ≡ Looks (item ∷ stack) found
         → work_left c (with_work s (Looks (stacked (tree_now c old) leads item stack) then_found) old) s
         < work_left c old s }
     ensures descends { (c : Class B) → IsLawful c → (old : State B) → IsWhole c old
         → (s : ℕ) (locks : Locks B) (notes : List (Note B)) (call : Call B)
         → slot_at s old.slots ≡ Working locks notes (Some call)
-        → (stack : List Item) (found : List (Pair B)) (e : Entry B) (parent : ℕ) (item : Item)
+        → (stack : List TraversalItem) (found : List (Pair B)) (e : Entry B) (parent : ℕ) (item : TraversalItem)
         → old.work s ≡ Looks stack found → Used (tree_now c old) item.page
         → work_left c (with_work s (Descends e parent item) old) s < work_left c old s }
     ensures seeks { (c : Class B) → IsLawful c → (old : State B) → IsWhole c old
         → (s : ℕ) (locks : Locks B) (notes : List (Note B)) (call : Call B)
         → slot_at s old.slots ≡ Working locks notes (Some call)
-        → (stack : List Item) (found : List (Pair B)) (e : Entry B) (leaf : ℕ)
+        → (stack : List TraversalItem) (found : List (Pair B)) (e : Entry B) (leaf : ℕ)
         → old.work s ≡ Looks stack found → work_left c (with_work s (Seeks e leaf) old) s < work_left c old s }
 {}
 
@@ -61,13 +61,13 @@ pub fn a_look_comes_to_an_end<B>()
 pub fn a_descent_comes_to_an_end<B>()
     ensures restarts { (c : Class B) → IsLawful c → (old : State B) → IsWhole c old
         → (s : ℕ) (locks : Locks B) (notes : List (Note B)) (call : Call B)
-        → slot_at s old.slots ≡ Working locks notes (Some call) → (e : Entry B) (parent : ℕ) (item : Item)
+        → slot_at s old.slots ≡ Working locks notes (Some call) → (e : Entry B) (parent : ℕ) (item : TraversalItem)
         → old.work s ≡ Descends e parent item
         → must_restart c.rules (tree_now c old) parent item ≡ true
         → work_left c (with_work s (Descends e 0 (from_root (tree_now c old))) old) s < work_left c old s }
     ensures goes_down { (c : Class B) → IsLawful c → (old : State B) → IsWhole c old
         → (s : ℕ) (locks : Locks B) (notes : List (Note B)) (call : Call B)
-        → slot_at s old.slots ≡ Working locks notes (Some call) → (e : Entry B) (parent : ℕ) (item : Item)
+        → slot_at s old.slots ≡ Working locks notes (Some call) → (e : Entry B) (parent : ℕ) (item : TraversalItem)
         → old.work s ≡ Descends e parent item
         → (x : ℕ) → size ((tree_now c old).node item.page) < c.rules.most
         → 0 < times x (child_pages ((tree_now c old).node item.page))
@@ -75,7 +75,7 @@ pub fn a_descent_comes_to_an_end<B>()
         < work_left c old s }
     ensures widens { (c : Class B) → IsLawful c → (old : State B) → IsWhole c old
         → (s : ℕ) (locks : Locks B) (notes : List (Note B)) (call : Call B)
-        → slot_at s old.slots ≡ Working locks notes (Some call) → (e : Entry B) (parent : ℕ) (item : Item)
+        → slot_at s old.slots ≡ Working locks notes (Some call) → (e : Entry B) (parent : ℕ) (item : TraversalItem)
         → old.work s ≡ Descends e parent item
         → (r : Record (Entry B) (Page B)) (x : ℕ) (coming key : B)
         → IsWidening c.rules (tree_now c old) (tree_now c (with_record r old)) item.page x coming key
@@ -88,7 +88,7 @@ pub fn a_descent_comes_to_an_end<B>()
         < work_left c old s }
     ensures sweeps { (c : Class B) → IsLawful c → (old : State B) → IsWhole c old
         → (s : ℕ) (locks : Locks B) (notes : List (Note B)) (call : Call B)
-        → slot_at s old.slots ≡ Working locks notes (Some call) → (e : Entry B) (parent : ℕ) (item : Item)
+        → slot_at s old.slots ≡ Working locks notes (Some call) → (e : Entry B) (parent : ℕ) (item : TraversalItem)
         → old.work s ≡ Descends e parent item
         → (r : Record (Entry B) (Page B))
         → IsSweep (tree_now c old) (tree_now c (with_record r old)) item.page (claims_pair c old.slots)
@@ -96,7 +96,7 @@ pub fn a_descent_comes_to_an_end<B>()
         → work_left c (with_record r old) s < work_left c old s }
     ensures splits { (c : Class B) → IsLawful c → (old : State B) → IsWhole c old
         → (s : ℕ) (locks : Locks B) (notes : List (Note B)) (call : Call B)
-        → slot_at s old.slots ≡ Working locks notes (Some call) → (e : Entry B) (parent : ℕ) (item : Item)
+        → slot_at s old.slots ≡ Working locks notes (Some call) → (e : Entry B) (parent : ℕ) (item : TraversalItem)
         → old.work s ≡ Descends e parent item
         → (r : Record (Entry B) (Page B)) (n p : ℕ) (sides : List Bool) (left right : B)
         → IsSplit c.rules (tree_now c old) (tree_now c (with_record r old)) n p sides left right
@@ -105,7 +105,7 @@ pub fn a_descent_comes_to_an_end<B>()
         < work_left c old s }
     ensures splits_root { (c : Class B) → IsLawful c → (old : State B) → IsWhole c old
         → (s : ℕ) (locks : Locks B) (notes : List (Note B)) (call : Call B)
-        → slot_at s old.slots ≡ Working locks notes (Some call) → (e : Entry B) (parent : ℕ) (item : Item)
+        → slot_at s old.slots ≡ Working locks notes (Some call) → (e : Entry B) (parent : ℕ) (item : TraversalItem)
         → old.work s ≡ Descends e parent item
         → (r : Record (Entry B) (Page B)) (sides : List Bool) (left right : B)
         → IsRootSplit c.rules (tree_now c old) (tree_now c (with_record r old)) sides left right

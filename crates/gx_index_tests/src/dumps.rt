@@ -20,7 +20,7 @@ pub(crate) fn written(alloc: Global, script: &[u8]) -> Option<MemDisk> {
 }
 
 // Writes what is told of it once it is opened again over these bytes: with what end.
-fn told(alloc: Global, script: &[u8], text: &mut [u8]) -> Option<Result<(), DumpFault>> {
+fn dump_opened(alloc: Global, script: &[u8], text: &mut [u8]) -> Option<Result<(), DumpFault>> {
     let mut index = index_over(alloc, written(alloc, script)?)?;
     let mut writer = text;
     Some(index.dump(&mut Noted::new(&mut writer)))
@@ -29,7 +29,7 @@ fn told(alloc: Global, script: &[u8], text: &mut [u8]) -> Option<Result<(), Dump
 // A script leaves the tree with this text.
 fn leaves<T: Abort + AllocGlobal>(rt: &T, script: &[u8], expected: &[u8]) {
     let mut text = [0u8; 1024];
-    let end = told(rt.alloc(), script, text.as_mut_slice());
+    let end = dump_opened(rt.alloc(), script, text.as_mut_slice());
     assert!(rt; end == Some(Ok(())));
     assert!(rt; text.starts_with(expected) && text.get(expected.len()) == Some(&0));
 }
@@ -76,7 +76,7 @@ fn grown(rt: HostRuntime) {
 #[test]
 fn cut(rt: HostRuntime) {
     let mut text = [0u8; 20];
-    let end = told(rt.alloc(), ABORTED, text.as_mut_slice());
+    let end = dump_opened(rt.alloc(), ABORTED, text.as_mut_slice());
     assert!(rt; end == Some(Err(DumpFault::Write)));
     assert!(rt; &text == b"commits 0 used 3 cou");
 }

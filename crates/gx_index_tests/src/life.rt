@@ -163,7 +163,7 @@ fn stands(engine: &mut Working, plain: &mut Plain, number: u64) -> Option<bool> 
 }
 
 // The life up to the checkpoint's write of the selector. Answers the number of the last commit.
-fn begin(engine: &mut Working, plain: &mut Plain) -> Option<u64> {
+fn begin_life(engine: &mut Working, plain: &mut Plain) -> Option<u64> {
     let is_new = stands(engine, plain, 0)?;
     let is_split = split(engine, plain)?;
     let is_open = leave_open(engine, plain)?;
@@ -180,7 +180,7 @@ fn begin(engine: &mut Working, plain: &mut Plain) -> Option<u64> {
 // transaction then.
 fn stopped(alloc: Global, plain: &mut Plain, torn: Torn) -> Option<(MemDisk, u64)> {
     let mut engine = open::<Device, Box2Class>(alloc, formatted(alloc)?, FRAMES).ok()?;
-    let number = begin(&mut engine, plain);
+    let number = begin_life(&mut engine, plain);
     let mut disk = engine.into_disk().into_inner();
     let pending = disk.unsynced();
     disk.crash(&[torn]);

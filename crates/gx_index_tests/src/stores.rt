@@ -8,7 +8,7 @@ use gx_machine::{Entry, Query};
 use gx_pool::{FRAMES, Pool};
 use gx_store::laws::a_store_starts;
 use gx_store::{NodeTest, PageStore, StoreFault};
-use gx_tree::{Item, Look, Pages, StepFault, Wanted, add_step, look_step};
+use gx_tree::{Look, Pages, StepFault, TraversalItem, Wanted, add_step, look_step};
 use std::alloc::{AllocError, Global};
 use std::test::Fail;
 
@@ -39,7 +39,7 @@ where
     K::Probe: Drop,
 {
     let wanted = Wanted::<K>::matching(&Query::Overlap(key));
-    let root = Item::new(1, store.counter());
+    let root = TraversalItem::new(1, store.counter());
     let Ok(mut look) = Look::new(alloc, root) else {
         return None;
     };
@@ -68,12 +68,12 @@ where
     let key = K::start();
     let entry = Entry { row: 7, key };
     let before = found(rt.alloc(), &mut store, key);
-    store.begin(1, false);
+    store.begin_event(1, false);
     let refused = matches!(
         &add_step(&mut store, 2, &entry, 4),
         Err(StepFault::Pages(StoreFault::NoRoom))
     );
-    store.begin(1, true);
+    store.begin_event(1, true);
     if add_step(&mut store, 2, &entry, 4).is_err() {
         return Ok((before, refused, None));
     }

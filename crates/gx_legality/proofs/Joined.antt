@@ -13,7 +13,7 @@ use Rattle.gx_legality.specs.Gathered.{Gathered, Gathers}
 use Rattle.gx_legality.specs.Owner.{IsFound}
 use Rattle.gx_legality.specs.Placing.{BreaksOrLeavesOut}
 use Rattle.gx_legality.specs.declared.fault.LegalityFault.TheVariants.{Memory, Pages, Broken, Unsteady}
-use Rattle.gx_legality.specs.declared.notes.Note.{Note}
+use Rattle.gx_legality.specs.declared.notes.NotedPair.{NotedPair}
 
 module _ {B : Type 0} where
   pub has_shape : {T E : Type 0} (t : Tree B) (marks : List Bool) (links : List (Option ℕ)) (result : Result T E) → AreLinks t links
@@ -66,7 +66,7 @@ module _ {B : Type 0} where
   legal_before r old new same P so = subst (λ (s : Store B). IsLegalButPairs r (tree_of s) → P (tree_of s)) same so
 
   -- a rule that is broken is one that is broken or a pair left out
-  pub found_breaks : {F : Type 0} (r : Rules B) (t : Tree B) (notes : List (Note (Entry B))) (e : LegalityFault F) → IsFound (Breaks r t) e → IsFound (BreaksOrLeavesOut r t notes) e
+  pub found_breaks : {F : Type 0} (r : Rules B) (t : Tree B) (notes : List (NotedPair (Entry B))) (e : LegalityFault F) → IsFound (Breaks r t) e → IsFound (BreaksOrLeavesOut r t notes) e
   found_breaks r t notes Memory is = tt
   found_breaks r t notes (Pages fault) is = tt
   found_breaks r t notes Unsteady is = is

@@ -12,9 +12,9 @@ use Rattle.gx_tree_laws.specs.Lists.{Each, SomeOf, how_many, one_if}
 use Rattle.gx_tree_laws.specs.Trees.{Pair, Tree, Rules, Used, leaves, times, walk, passing, is_entry}
 use Rattle.gx_tree_laws.proofs.Chains.{one_at, one_off, walk_is, length_walk}
 use Rattle.gx_tree_laws.proofs.SeekSteps.{seek_at_leaf}
-use Rattle.gx_legality.specs.declared.notes.Note.{Note}
-use Rattle.gx_legality.specs.declared.notes.Stage.{Stage}
-use Rattle.gx_legality.specs.declared.notes.Stage.TheVariants.{Ahead, Reached, Found}
+use Rattle.gx_legality.specs.declared.notes.NotedPair.{NotedPair}
+use Rattle.gx_legality.specs.declared.notes.NoteStage.{NoteStage}
+use Rattle.gx_legality.specs.declared.notes.NoteStage.TheVariants.{Ahead, Reached, Found}
 use Rattle.gx_legality.specs.Placing.{IsPlaced, Moves, come_to, is_noted, meets, met, passed, stage_at}
 use Rattle.gx_legality.proofs.Once.{count_pairs}
 use Rattle.gx_legality.proofs.Slots.{each_slot, some_slot}
@@ -59,19 +59,19 @@ module _ {E : Type 0} (is : E → Bool) where
           inr (omega (arith, some), ap (λ b. met is xs (if b then Found else Reached)) at ∙ rest.1)
 
   -- one entry more
-  met_next : {X : Type 0} (f : X → E) (xs : List X) (k : ℕ) (x : X) (e : E) (s : Stage) → slice_get xs k ≡ Some x → f x ≡ e
+  met_next : {X : Type 0} (f : X → E) (xs : List X) (k : ℕ) (x : X) (e : E) (s : NoteStage) → slice_get xs k ≡ Some x → f x ≡ e
       → met is (map f (drop k xs)) s ≡ met is (map f (drop (suc k) xs)) (meets (is e) s)
   met_next f [] k x e s at same = absurd (cc)
   met_next f (y ∷ ys) zero x e s at same = let one : f y ≡ e = cc in ap (λ e. met is (map f ys) (meets (is e) s)) one
   met_next f (y ∷ ys) (suc k) x e s at same = met_next f ys k x e s at same
 
-  pub met_more : {X : Type 0} (f : X → E) (xs : List X) (k : ℕ) (x : X) (e : E) (s : Stage) → slice_get xs k ≡ Some x → f x ≡ e
+  pub met_more : {X : Type 0} (f : X → E) (xs : List X) (k : ℕ) (x : X) (e : E) (s : NoteStage) → slice_get xs k ≡ Some x → f x ≡ e
       → met is (map f (drop k xs)) s ≡ met is (map f (drop (k + 1) xs)) (meets (is e) s)
   met_more f xs k x e s at same =
       let next : suc k ≡ k + 1 = omega arith in
       subst (λ n. met is (map f (drop k xs)) s ≡ met is (map f (drop n xs)) (meets (is e) s)) next (met_next f xs k x e s at same)
 
-  pub met_all : {X : Type 0} (f : X → E) (xs : List X) (k : ℕ) (s : Stage) → length xs ≤ k → met is (map f (drop k xs)) s ≡ s
+  pub met_all : {X : Type 0} (f : X → E) (xs : List X) (k : ℕ) (s : NoteStage) → length xs ≤ k → met is (map f (drop k xs)) s ≡ s
   met_all f [] zero s past = refl
   met_all f [] (suc k) s past = refl
   met_all f (x ∷ xs) zero s past = absurd (omega arith)
@@ -168,7 +168,7 @@ module _ {B : Type 0} (order : B → B → Ordering) (overlap inside : B → B �
   abbrev order_here : Entry B → Entry B → Ordering
   order_here = entry_cmp (record { cmp = order; overlaps = overlap; within = inside })
 
-  same_count : (n : Note (Entry B)) (qs : List ℕ) → passing (λ x. is_noted order_here n (entry_of x)) t qs ≡ passing (is_entry rules_here n.entry.row n.entry.key) t qs
+  same_count : (n : NotedPair (Entry B)) (qs : List ℕ) → passing (λ x. is_noted order_here n (entry_of x)) t qs ≡ passing (is_entry rules_here n.entry.row n.entry.key) t qs
   same_count n [] = refl
   same_count n (q ∷ qs) =
       let here : how_many (is_noted order_here n) (map entry_of (t.node q).pairs) ≡ how_many (is_entry rules_here n.entry.row n.entry.key) (t.node q).pairs =
@@ -177,7 +177,7 @@ module _ {B : Type 0} (order : B → B → Ordering) (overlap inside : B → B �
       let rest = same_count n qs in
       omega (arith, here, same, rest)
 
-  placed_by : (n : Note (Entry B)) → Legal rules_here t
+  placed_by : (n : NotedPair (Entry B)) → Legal rules_here t
       → 0 < passing (λ x. is_noted order_here n (entry_of x)) t (from n.leaf (leaves t)) → IsPlaced rules_here t n
   placed_by n legal some = from_some t n.leaf (leaves t)
       (λ none. absurd (let zero = ap (λ ys. passing (λ x. is_noted order_here n (entry_of x)) t ys) none in omega (arith, zero, some)))
@@ -190,7 +190,7 @@ module _ {B : Type 0} (order : B → B → Ordering) (overlap inside : B → B �
       }
       ))
 
-  placed_some : (n : Note (Entry B)) → Legal rules_here t → IsPlaced rules_here t n
+  placed_some : (n : NotedPair (Entry B)) → Legal rules_here t → IsPlaced rules_here t n
       → 0 < passing (λ x. is_noted order_here n (entry_of x)) t (from n.leaf (leaves t))
   placed_some n legal seek =
       let here = seek_at_leaf rules_here n.leaf n.entry.row n.entry.key t seek in
@@ -201,28 +201,28 @@ module _ {B : Type 0} (order : B → B → Ordering) (overlap inside : B → B �
       omega (arith, same, stands)
 
   -- where the pass has come to a note's pair it is placed, and where it hasn't it isn't
-  pub found_placed : (n : Note (Entry B)) → Legal rules_here t → passed t (is_noted order_here n) n.leaf (leaves t) Ahead ≡ Found → IsPlaced rules_here t n
+  pub found_placed : (n : NotedPair (Entry B)) → Legal rules_here t → passed t (is_noted order_here n) n.leaf (leaves t) Ahead ≡ Found → IsPlaced rules_here t n
   found_placed n legal found = elim (passed_ahead t (is_noted order_here n) n.leaf (leaves t)) [
     | inl none ↦ absurd (none.1 found)
     | inr some ↦ placed_by n legal some.0
   ]
 
-  pub missed_placed : (n : Note (Entry B)) → Legal rules_here t → passed t (is_noted order_here n) n.leaf (leaves t) Ahead ≢ Found → ¬ IsPlaced rules_here t n
+  pub missed_placed : (n : NotedPair (Entry B)) → Legal rules_here t → passed t (is_noted order_here n) n.leaf (leaves t) Ahead ≢ Found → ¬ IsPlaced rules_here t n
   missed_placed n legal missed = elim (passed_ahead t (is_noted order_here n) n.leaf (leaves t)) [
     | inl none ↦ λ placed. (let zero = none.0 in let some = placed_some n legal placed in omega (arith, zero, some))
     | inr some ↦ absurd (missed some.1)
   ]
 
-  pub all_placed : (notes : List (Note (Entry B))) (stages done : List Stage) → Legal rules_here t → ((i : ℕ) → stage_at stages i ≡ Ahead)
+  pub all_placed : (notes : List (NotedPair (Entry B))) (stages done : List NoteStage) → Legal rules_here t → ((i : ℕ) → stage_at stages i ≡ Ahead)
       → Moves (λ n s. passed t (is_noted order_here n) n.leaf (leaves t) s) notes stages done
-      → ((i : ℕ) (n : Note (Entry B)) → slice_get notes i ≡ Some n → stage_at done i ≡ Found) → Each (IsPlaced rules_here t) notes
+      → ((i : ℕ) (n : NotedPair (Entry B)) → slice_get notes i ≡ Some n → stage_at done i ≡ Found) → Each (IsPlaced rules_here t) notes
   all_placed notes stages done legal begun moves found =
       each_slot (IsPlaced rules_here t) notes (λ i n here. found_placed n legal
       (ap (passed t (is_noted order_here n) n.leaf (leaves t)) (sym (begun i)) ∙ sym (moves i n here) ∙ found i n here))
 
-  pub one_missed : (notes : List (Note (Entry B))) (stages done : List Stage) (leaf : ℕ) → Legal rules_here t → ((i : ℕ) → stage_at stages i ≡ Ahead)
+  pub one_missed : (notes : List (NotedPair (Entry B))) (stages done : List NoteStage) (leaf : ℕ) → Legal rules_here t → ((i : ℕ) → stage_at stages i ≡ Ahead)
       → Moves (λ n s. passed t (is_noted order_here n) n.leaf (leaves t) s) notes stages done
-      → ((i : ℕ) × (n : Note (Entry B)) × (slice_get notes i ≡ Some n) × (n.leaf ≡ leaf) × (stage_at done i ≢ Found))
+      → ((i : ℕ) × (n : NotedPair (Entry B)) × (slice_get notes i ≡ Some n) × (n.leaf ≡ leaf) × (stage_at done i ≢ Found))
       → SomeOf (λ n. (n.leaf ≡ leaf) × (¬ IsPlaced rules_here t n)) notes
   one_missed notes stages done leaf legal begun moves missed =
       let i = missed.0 in
@@ -235,15 +235,15 @@ module _ {B : Type 0} (order : B → B → Ordering) (overlap inside : B → B �
 
 module _ {B : Type 0} (t : Tree B) where
   -- the next page of the chain
-  pub passed_page : (is : Entry B → Bool) (a long left page : ℕ) (s : Stage) → long ≡ suc left → page ≢ 0
+  pub passed_page : (is : Entry B → Bool) (a long left page : ℕ) (s : NoteStage) → long ≡ suc left → page ≢ 0
       → passed t is a (walk t long page) s ≡ passed t is a (walk t left (t.node page).right) (met is (map entry_of (t.node page).pairs) (come_to page a s))
   passed_page is a long left page s on some =
       ap (λ qs. passed t is a qs s) (ap (λ n. walk t n page) on ∙ walk_on t left page some)
 
-  pub passed_end : (is : Entry B → Bool) (a left page : ℕ) (s : Stage) → page ≡ 0 → passed t is a (walk t left page) s ≡ s
+  pub passed_end : (is : Entry B → Bool) (a left page : ℕ) (s : NoteStage) → page ≡ 0 → passed t is a (walk t left page) s ≡ s
   passed_end is a left page s end = ap (λ qs. passed t is a qs s) (ap (λ p. walk t left p) end ∙ walk_none t left)
 
-  pub passed_done : (is : Entry B → Bool) (a left page : ℕ) (s : Stage) → left ≡ 0 → passed t is a (walk t left page) s ≡ s
+  pub passed_done : (is : Entry B → Bool) (a left page : ℕ) (s : NoteStage) → left ≡ 0 → passed t is a (walk t left page) s ≡ s
   passed_done is a left page s none = ap (λ n. passed t is a (walk t n page) s) none
 
   pub chain_on : (long left page : ℕ) → long ≡ suc left → page ≢ 0 → Linked t page (walk t long page)

@@ -126,7 +126,7 @@ impl<E: Ord + Copy> Gather<E> {
     }
 
     /// Takes one more that comes, if it is among the least. `false` where something came twice.
-    pub(crate) fn put(&mut self, item: E) -> bool
+    pub(crate) fn offer(&mut self, item: E) -> bool
         ensures above { self.new.above ≡ self.old.above }
         ensures half { self.new.half ≡ self.old.half }
         ensures gathers { (all rest : List E) → Gathers E.cmp self.old all (item ∷ rest)

@@ -17,7 +17,7 @@ ghost use Rattle.gx_legality.specs.Placing.{Moves, come_to, is_noted, met, noted
 use crate::fault::{LegalityFault, Rule};
 use crate::gather::Gather;
 use crate::node::bring_pages;
-use crate::notes::{Note, Stage, come_to_page, meet_entry};
+use crate::notes::{NoteStage, NotedPair, come_to_page, meet_entry};
 use gx_class::KeyClass;
 use gx_machine::Entry;
 use gx_node::{Leaf, Pages};
@@ -55,7 +55,7 @@ fn gather_page<K: KeyClass>(page: &Page, room: u32, gather: &mut Gather<Entry<K:
         let Some(entry) = entry_at::<K>(page, room, slot) else {
             return true;
         };
-        if !gather.put(entry) {
+        if !gather.offer(entry) {
             return false;
         }
     }
@@ -66,8 +66,8 @@ fn gather_page<K: KeyClass>(page: &Page, room: u32, gather: &mut Gather<Entry<K:
 fn meet_page<K: KeyClass>(
     page: &Page,
     room: u32,
-    notes: &[Note<Entry<K::Key>>],
-    stages: &mut [Stage],
+    notes: &[NotedPair<Entry<K::Key>>],
+    stages: &mut [NoteStage],
 )
     requires node { is_node (format_of K.KeyClass) room page.now ≡ true }
     requires as_many { length stages.old ≡ length notes.now }
@@ -89,8 +89,8 @@ fn take_leaf<K: KeyClass, P: Pages<K>>(
     pages: &mut P,
     page: u32,
     gather: &mut Gather<Entry<K::Key>>,
-    notes: &[Note<Entry<K::Key>>],
-    stages: &mut [Stage],
+    notes: &[NotedPair<Entry<K::Key>>],
+    stages: &mut [NoteStage],
 ) -> Result<u32, LegalityFault<P::Fault>>
     requires as_many { length stages.old ≡ length notes.now }
     requires in_order { Ascends (entry_cmp (keys_of K.Key.Shape)) (noted notes.now) }
@@ -125,8 +125,8 @@ fn take_leaf<K: KeyClass, P: Pages<K>>(
 pub(crate) fn take_leaves<K: KeyClass, P: Pages<K>>(
     pages: &mut P,
     gather: &mut Gather<Entry<K::Key>>,
-    notes: &[Note<Entry<K::Key>>],
-    stages: &mut [Stage],
+    notes: &[NotedPair<Entry<K::Key>>],
+    stages: &mut [NoteStage],
 ) -> Result<(), LegalityFault<P::Fault>>
     requires as_many { length stages.old ≡ length notes.now }
     requires in_order { Ascends (entry_cmp (keys_of K.Key.Shape)) (noted notes.now) }

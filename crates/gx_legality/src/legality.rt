@@ -11,7 +11,7 @@ ghost use Rattle.gx_tree_laws.specs.Lists.{Each};
 ghost use Rattle.gx_legality.specs.Breaks.{Breaks};
 ghost use Rattle.gx_legality.specs.Gathered.{Ascends, gathered_above};
 ghost use Rattle.gx_legality.specs.Placing.{BreaksOrLeavesOut, IsPlaced, noted, stage_at};
-ghost use Rattle.gx_legality.specs.declared.notes.Stage.TheVariants.{Ahead};
+ghost use Rattle.gx_legality.specs.declared.notes.NoteStage.TheVariants.{Ahead};
 ghost use Rattle.gx_legality.specs.Marks.{AreLinks, HasShape, IsLegalButPairs, marked};
 ghost use Rattle.gx_legality.specs.Owner.{OnlyReads, IsWhy, IsFound, TellsBreak, WereHeld};
 
@@ -21,7 +21,7 @@ use crate::gather::Gather;
 use crate::named::test_named;
 use crate::node::bring_pages;
 use crate::nodes::test_nodes;
-use crate::notes::{Note, Stage, blank_stages, test_found};
+use crate::notes::{NoteStage, NotedPair, blank_stages, test_found};
 use crate::pairs::test_pairs;
 use gx_class::KeyClass;
 use gx_machine::Entry;
@@ -138,8 +138,8 @@ fn test_leaves<K: KeyClass, P: Pages<K>>(
     pages: &mut P,
     most: u16,
     gather: &mut Gather<Entry<K::Key>>,
-    notes: &[Note<Entry<K::Key>>],
-    stages: &mut [Stage],
+    notes: &[NotedPair<Entry<K::Key>>],
+    stages: &mut [NoteStage],
 ) -> Result<(), LegalityFault<P::Fault>>
     requires fresh { gather.old ≡ gathered_above gather.old.half None }
     requires as_many { length stages.old ≡ length notes.now }
@@ -178,7 +178,7 @@ pub fn test_tree<K: KeyClass, P: Pages<K>>(
     pages: &mut P,
     most: u16,
     half: usize,
-    notes: &[Note<Entry<K::Key>>],
+    notes: &[NotedPair<Entry<K::Key>>],
 ) -> Result<(), LegalityFault<P::Fault>>
     requires some { 0 < half }
     requires few { half < 2 ^ 40 }

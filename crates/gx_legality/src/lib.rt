@@ -20,4 +20,4 @@ pub use legality::test_tree;
 pub use named::{mark_children, test_named};
 pub use node::test_node;
 pub use nodes::test_nodes;
-pub use notes::{Note, are_in_order};
+pub use notes::{NotedPair, are_in_order};

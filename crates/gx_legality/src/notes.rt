@@ -4,14 +4,14 @@ ghost use Rattle.std.specs.Prelude.{length, slice_get, MatchOption, OnOk, IfOk, 
 ghost use Rattle.std.specs.Ordering.{is_eq};
 ghost use Rattle.gx_legality.specs.Gathered.{Ascends};
 ghost use Rattle.gx_legality.specs.Placing.{Moves, come_to, is_noted, meets, noted, stage_at};
-ghost use Rattle.gx_legality.specs.declared.notes.Stage.TheVariants.{Ahead, Found};
+ghost use Rattle.gx_legality.specs.declared.notes.NoteStage.TheVariants.{Ahead, Found};
 
 use std::alloc::{AllocError, Global};
 use std::cmp::Ordering;
 
 /// A pair that an open transaction touched, by its row and key, and the leaf that is remembered for it.
 #[derive(Clone, Copy)]
-pub struct Note<E> {
+pub struct NotedPair<E> {
     /// The pair's row and key.
     pub entry: E,
     /// The number of the leaf.
@@ -20,7 +20,7 @@ pub struct Note<E> {
 
 /// How far a pass along the chain has come with a note.
 #[derive(Clone, Copy)]
-pub(crate) enum Stage {
+pub(crate) enum NoteStage {
     /// Not yet to its leaf.
     Ahead,
     /// To its leaf, and not yet to its pair.
@@ -30,7 +30,7 @@ pub(crate) enum Stage {
 }
 
 /// Whether notes are in order by their pairs, and no pair has two.
-pub fn are_in_order<E: Ord + Copy>(notes: &[Note<E>]) -> bool
+pub fn are_in_order<E: Ord + Copy>(notes: &[NotedPair<E>]) -> bool
     ensures { IsTrue result ↔ Ascends E.cmp (noted notes.now) }
 {
     for at in 1..notes.len() {
@@ -42,11 +42,11 @@ pub fn are_in_order<E: Ord + Copy>(notes: &[Note<E>]) -> bool
 }
 
 /// The place of a pair's note, by halves. `None` where it has none.
-fn find<E: Ord + Copy>(notes: &[Note<E>], entry: &E) -> Option<usize>
+fn find<E: Ord + Copy>(notes: &[NotedPair<E>], entry: &E) -> Option<usize>
     requires { Ascends E.cmp (noted notes.now) }
     ensures { MatchOption result
-        ((i : ℕ) (n : Note E) → slice_get notes.now i ≡ Some n → is_noted E.cmp n entry.now ≡ false)
-        (λ at. (at < length notes.now) × ((i : ℕ) (n : Note E) → slice_get notes.now i ≡ Some n
+        ((i : ℕ) (n : NotedPair E) → slice_get notes.now i ≡ Some n → is_noted E.cmp n entry.now ≡ false)
+        (λ at. (at < length notes.now) × ((i : ℕ) (n : NotedPair E) → slice_get notes.now i ≡ Some n
         → is_noted E.cmp n entry.now ≡ (i == at))) }
 {
     let mut low = 0;
@@ -63,25 +63,25 @@ fn find<E: Ord + Copy>(notes: &[Note<E>], entry: &E) -> Option<usize>
 }
 
 /// Stages of so many notes, none of them come to.
-pub(crate) fn blank_stages(alloc: Global, count: usize) -> Result<Vec<Stage>, AllocError>
+pub(crate) fn blank_stages(alloc: Global, count: usize) -> Result<Vec<NoteStage>, AllocError>
     ensures len { IfOk result (λ stages. length stages.items ≡ count) }
     ensures ahead { IfOk result (λ stages. (i : ℕ) → stage_at stages.items i ≡ Ahead) }
 {
-    vec![in alloc; Stage::Ahead; count]
+    vec![in alloc; NoteStage::Ahead; count]
 }
 
 /// A note's stage once the pass comes to its pair.
-fn meet(stage: Stage) -> Stage
+fn meet(stage: NoteStage) -> NoteStage
     ensures { result ≡ meets true stage }
 {
     match stage {
-        Stage::Ahead => Stage::Ahead,
-        Stage::Reached | Stage::Found => Stage::Found,
+        NoteStage::Ahead => NoteStage::Ahead,
+        NoteStage::Reached | NoteStage::Found => NoteStage::Found,
     }
 }
 
 /// The pass comes to a page.
-pub(crate) fn come_to_page<E: Copy>(notes: &[Note<E>], stages: &mut [Stage], page: u32)
+pub(crate) fn come_to_page<E: Copy>(notes: &[NotedPair<E>], stages: &mut [NoteStage], page: u32)
     requires { length stages.old ≡ length notes.now }
     ensures { Moves (λ n s. come_to page n.leaf s) notes.now stages.old stages.new }
 {
@@ -93,17 +93,17 @@ pub(crate) fn come_to_page<E: Copy>(notes: &[Note<E>], stages: &mut [Stage], pag
 }
 
 /// A note's stage once the pass comes to its leaf.
-fn reach(stage: Stage) -> Stage
+fn reach(stage: NoteStage) -> NoteStage
     ensures { (page : ℕ) → result ≡ come_to page page stage }
 {
     match stage {
-        Stage::Ahead | Stage::Reached => Stage::Reached,
-        Stage::Found => Stage::Found,
+        NoteStage::Ahead | NoteStage::Reached => NoteStage::Reached,
+        NoteStage::Found => NoteStage::Found,
     }
 }
 
 /// The pass comes to a pair.
-pub(crate) fn meet_entry<E: Ord + Copy>(notes: &[Note<E>], stages: &mut [Stage], entry: &E)
+pub(crate) fn meet_entry<E: Ord + Copy>(notes: &[NotedPair<E>], stages: &mut [NoteStage], entry: &E)
     requires as_many { length stages.old ≡ length notes.now }
     requires in_order { Ascends E.cmp (noted notes.now) }
     ensures { Moves (λ n s. meets (is_noted E.cmp n entry.now) s) notes.now stages.old stages.new }
@@ -114,21 +114,22 @@ pub(crate) fn meet_entry<E: Ord + Copy>(notes: &[Note<E>], stages: &mut [Stage],
 }
 
 /// Whether the pass has come to a note's pair.
-fn is_found(stage: Stage) -> bool
+fn is_found(stage: NoteStage) -> bool
     ensures { IsTrue result ↔ (stage ≡ Found) }
 {
     match stage {
-        Stage::Found => true,
-        Stage::Ahead | Stage::Reached => false,
+        NoteStage::Found => true,
+        NoteStage::Ahead | NoteStage::Reached => false,
     }
 }
 
 /// Tests that the pass has come to each note's pair. Refused, with the leaf, where it hasn't.
-pub(crate) fn test_found<E: Copy>(notes: &[Note<E>], stages: &[Stage]) -> Result<(), u32>
+pub(crate) fn test_found<E: Copy>(notes: &[NotedPair<E>], stages: &[NoteStage]) -> Result<(), u32>
     requires { length stages.now ≡ length notes.now }
-    ensures found { OnOk result ((i : ℕ) (n : Note E) → slice_get notes.now i ≡ Some n
+    ensures found { OnOk result ((i : ℕ) (n : NotedPair E) → slice_get notes.now i ≡ Some n
         → stage_at stages.now i ≡ Found) }
-    ensures refused { IfErr result (λ leaf. (i : ℕ) × (n : Note E) × (slice_get notes.now i ≡ Some n) × (n.leaf ≡ leaf)
+    ensures refused { IfErr result (λ leaf. (i : ℕ) × (n : NotedPair E) × (slice_get notes.now i ≡ Some n)
+        × (n.leaf ≡ leaf)
         × (stage_at stages.now i ≢ Found)) }
 {
     for at in 0..notes.len() {

@@ -14,7 +14,7 @@ ghost use Rattle.gx_legality.specs.Placing.{Moves, is_noted, noted, passed};
 use crate::fault::{LegalityFault, Rule};
 use crate::gather::{Gather, Pass};
 use crate::leaves::take_leaves;
-use crate::notes::{Note, Stage};
+use crate::notes::{NoteStage, NotedPair};
 use gx_class::KeyClass;
 use gx_machine::Entry;
 use gx_node::Pages;
@@ -49,8 +49,8 @@ fn finish_passes<K: KeyClass, P: Pages<K>>(
         (entries_on (tree_of (P.store pages.old)) (leaves (tree_of (P.store pages.old)))) []
         → TellsBreak (rules_of K.Key.Shape most) (tree_of (P.store pages.old)) result }
 {
-    let no_notes: [Note<Entry<K::Key>>; 0] = [];
-    let mut no_stages: [Stage; 0] = [];
+    let no_notes: [NotedPair<Entry<K::Key>>; 0] = [];
+    let mut no_stages: [NoteStage; 0] = [];
     let passes = most_pairs::<K, P>(pages, most);
     for _pass in 0..passes + 1 {
         match gather.finish() {
@@ -71,8 +71,8 @@ pub(crate) fn test_pairs<K: KeyClass, P: Pages<K>>(
     pages: &mut P,
     most: u16,
     gather: &mut Gather<Entry<K::Key>>,
-    notes: &[Note<Entry<K::Key>>],
-    stages: &mut [Stage],
+    notes: &[NotedPair<Entry<K::Key>>],
+    stages: &mut [NoteStage],
 ) -> Result<(), LegalityFault<P::Fault>>
     requires fresh { gather.old ≡ gathered_above gather.old.half None }
     requires as_many { length stages.old ≡ length notes.now }

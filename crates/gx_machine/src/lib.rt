@@ -25,5 +25,6 @@ pub use queries::{is_same_query, matches};
 pub use query::Query;
 pub use reply::{Asked, Reply};
 pub use sets::{
-    exclude, exclude_all, find, has, has_in_order, include, include_all, is_same, put, put_in_order,
+    exclude, exclude_all, find, has, has_in_order, include, include_all, include_within_capacity,
+    is_same, put_in_order,
 };

@@ -86,7 +86,7 @@ pub fn include<B: Shape>(e: Entry<B>, set: &mut Vec<Entry<B>>) -> Result<(), All
 }
 
 /// Puts the entry in its place, for which there is room.
-pub fn put<B: Shape>(e: Entry<B>, set: &mut Vec<Entry<B>>)
+pub fn include_within_capacity<B: Shape>(e: Entry<B>, set: &mut Vec<Entry<B>>)
     requires { length (including (keys_of B.Shape) e set.old.items) ≤ vec_capacity set.old }
     ensures items { set.new.items ≡ including (keys_of B.Shape) e set.old.items }
     ensures capacity { vec_capacity set.old ≤ vec_capacity set.new }
@@ -131,6 +131,6 @@ pub fn include_all<B: Shape>(more: &[Entry<B>], set: &mut Vec<Entry<B>>)
     ensures grown { vec_len set.new ≤ vec_len set.old + length more.now }
 {
     for e in more {
-        put(*e, set);
+        include_within_capacity(*e, set);
     }
 }

@@ -4,13 +4,13 @@ use Rattle.std.specs.Prelude.{slice_get}
 use Rattle.gx_machine.specs.declared.entry.Entry.{Entry}
 use Rattle.gx_tree_laws.specs.Trees.{Pair, Child, Tree, Rules, IsLawful, Used, size}
 use Rattle.gx_tree_laws.specs.Legal.{ChildFits, Legal}
-use Rattle.gx_tree_laws.specs.Reach.{Item}
+use Rattle.gx_tree_laws.specs.Reach.{TraversalItem}
 use Rattle.gx_tree_laws.specs.Steps.{Widens}
 use Rattle.gx_tree_laws.specs.Writes.{IsDescent, descent_left}
 use Rattle.gx_tree_laws.proofs.DescentFalls.{down_falls, widened_falls}
 use Rattle.gx_tree_laws.proofs.PageSteps.{legal_widened, standing_widened}
 use Rattle.gx_tree.specs.declared.descent.Descended.TheVariants.{Down, Widened}
-use Rattle.gx_memory_tree.specs.declared.inserts.Place.{Place}
+use Rattle.gx_memory_tree.specs.declared.inserts.DescentPlace.{DescentPlace}
 use Rattle.gx_tree.specs.Descending.{IsChoice, StepsDown}
 use Rattle.gx_memory_tree.specs.Inserting.{GoesOn, IsInsert}
 use Rattle.gx_node.specs.Store.{Store, tree_of}
@@ -37,8 +37,8 @@ module _ {K : Type 0} (r : Rules K) where
       (first : (a b : K) → IsKey a → IsKey b → r.covers (joined a b) a ≡ true)
       (second : (a b : K) → IsKey a → IsKey b → r.covers (joined a b) b ≡ true)
       (least : (a b c : K) → IsKey a → IsKey b → r.covers c a ≡ true → r.covers c b ≡ true → r.covers c (joined a b) ≡ true)
-      (old new : Store K) (entry : Entry K) (place : Place) (is : IsKey entry.key) (insert : IsInsert r IsKey (tree_of old) entry place) where
-    pub down_on : (next : Item) → StepsDown cost joined r.most old new place.item entry.key (Down next)
+      (old new : Store K) (entry : Entry K) (place : DescentPlace) (is : IsKey entry.key) (insert : IsInsert r IsKey (tree_of old) entry place) where
+    pub down_on : (next : TraversalItem) → StepsDown cost joined r.most old new place.item entry.key (Down next)
         → GoesOn r IsKey (tree_of old) (tree_of new) entry place (record { item = next; parent = place.item.page })
     down_on next step =
         let t = tree_of old in
@@ -64,7 +64,7 @@ module _ {K : Type 0} (r : Rules K) where
               (sym step.1) falls;
         })
 
-    pub widened_on : (next : Item) (slot : ℕ) (key : K) → StepsDown cost joined r.most old new place.item entry.key (Widened next slot key)
+    pub widened_on : (next : TraversalItem) (slot : ℕ) (key : K) → StepsDown cost joined r.most old new place.item entry.key (Widened next slot key)
         → GoesOn r IsKey (tree_of old) (tree_of new) entry place (record { item = next; parent = place.item.page })
     widened_on next slot key step =
         let t = tree_of old in

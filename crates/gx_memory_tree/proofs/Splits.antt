@@ -3,14 +3,14 @@ use Rattle.std.proofs.Common.{◌≢◌, ◌<◌, ◌≤◌, ◌+◌, ◌^◌, �
 use Rattle.std.specs.Prelude.{IfSome, Option, None, Some}
 use Rattle.gx_tree_laws.specs.Trees.{Rules, Used, size}
 use Rattle.gx_tree_laws.specs.Legal.{Legal}
-use Rattle.gx_memory_tree.specs.declared.inserts.Place.{Place}
+use Rattle.gx_memory_tree.specs.declared.inserts.DescentPlace.{DescentPlace}
 use Rattle.gx_tree.specs.declared.split.Split.{Split}
 use Rattle.gx_memory_tree.specs.Inserting.{IsFullAt, SplitsOrNot}
 use Rattle.gx_tree.specs.Splitting.{Splits, keys_in, least_of}
 use Rattle.gx_node.specs.Store.{Store, node_at, tree_of}
 use Rattle.gx_tree.proofs.Restarts.{restarts}
 
-module _ {B : Type 0} (r : Rules B) (old : Store B) (place : Place) (at : IsFullAt r (tree_of old) place) (below : place.item.page ≢ 1) where
+module _ {B : Type 0} (r : Rules B) (old : Store B) (place : DescentPlace) (at : IsFullAt r (tree_of old) place) (below : place.item.page ≢ 1) where
   -- what a split below the parent came to
   pub splits_below : (IsKey : B → Type 0) (sides_of : List B → ℕ → List Bool) (new : Store B) (did : Option (Split B))
       → Splits r sides_of old new place.item.page place.parent did → IfSome did (λ split. IsKey split.left × IsKey split.right)

@@ -13,7 +13,7 @@ use Rattle.gx_tree_laws.proofs.DescentSteps.{descent_begins}
 use Rattle.gx_tree_laws.proofs.PageSteps.{legal_added, legal_swept, standing_added, standing_swept_plain}
 use Rattle.gx_tree_laws.proofs.Roots.{legal_root, standing_root}
 use Rattle.gx_tree_laws.proofs.Splits.{legal_split, standing_split}
-use Rattle.gx_memory_tree.specs.declared.inserts.Place.{Place}
+use Rattle.gx_memory_tree.specs.declared.inserts.DescentPlace.{DescentPlace}
 use Rattle.gx_memory_tree.specs.Inserting.{CameFrom, GoesOn, HasAdded, HasSplit, HasSwept, IsFullAt, IsInsert, MakesRoom, MakesWay, SplitsOrNot, from_top, live_and}
 use Rattle.gx_node.specs.Keyed.{AreKeys}
 use Rattle.gx_tree.specs.Writing.{Appends, live}
@@ -63,12 +63,12 @@ module _ {K : Type 0} where
     still_absent old new entry way none = let fewer = way.no_more (is_entry r entry.row entry.key) in omega (arith, fewer, none)
 
     -- at a page that was split since, the descent begins again
-    pub split_since : (t : Tree K) (place : Place) → place.item.seen < (t.node place.item.page).nsn → must_restart r t place.parent place.item ≡ true
+    pub split_since : (t : Tree K) (place : DescentPlace) → place.item.seen < (t.node place.item.page).nsn → must_restart r t place.parent place.item ≡ true
     split_since t place since =
         ap (λ b. b || (not (place.item.page == 1) && not (has_place r t place.parent place.item.page))) (lt-ltb place.item.seen (t.node place.item.page).nsn since)
 
     -- a full node that is in an insert's way
-    pub full_at : (IsKey : K → Type 0) (t : Tree K) (entry : Entry K) (place : Place) → IsInsert r IsKey t entry place
+    pub full_at : (IsKey : K → Type 0) (t : Tree K) (entry : Entry K) (place : DescentPlace) → IsInsert r IsKey t entry place
         → r.most ≤ size (t.node place.item.page) → IsFullAt r t place
     full_at IsKey t entry place insert full = record { legal = insert.legal; used = insert.descent.there; came = insert.came; full = full }
 
@@ -78,7 +78,7 @@ module _ {K : Type 0} where
       begins t legal keys absent = record { legal = legal; keys = keys; absent = absent; descent = descent_begins r entry.key t legal; came = inl refl }
 
       -- it begins again where nothing has changed
-      pub begins_again : (t : Tree K) (place : Place) → IsInsert r IsKey t entry place → must_restart r t place.parent place.item ≡ true
+      pub begins_again : (t : Tree K) (place : DescentPlace) → IsInsert r IsKey t entry place → must_restart r t place.parent place.item ≡ true
           → GoesOn r IsKey t t entry place (from_top t)
       begins_again t place insert must = record {
         way = no_way t;
@@ -86,7 +86,7 @@ module _ {K : Type 0} where
         less = restart_falls r (2 ^ 32 - 1) (λ x. false) t insert.legal place.parent place.item must;
       }
 
-      module _ (old new : Tree K) (place : Place) (insert : IsInsert r IsKey old entry place) where
+      module _ (old new : Tree K) (place : DescentPlace) (insert : IsInsert r IsKey old entry place) where
         -- it begins again once a node was split
         split_on : HasSplit r IsKey old new place → new.used ≤ 2 ^ 32 - 1 → GoesOn r IsKey old new entry place (from_top new)
         split_on did few = elim did.split [
@@ -155,7 +155,7 @@ module _ {K : Type 0} where
             }
 
         -- room was made at a full leaf
-        pub room_on : (next : Place) → MakesRoom r IsKey old new place next → GoesOn r IsKey old new entry place next
+        pub room_on : (next : DescentPlace) → MakesRoom r IsKey old new place next → GoesOn r IsKey old new entry place next
         room_on next (inl swept) = subst (λ n. GoesOn r IsKey old new entry place n) (sym swept.1) (swept_on swept.0)
         room_on next (inr split) = subst (λ n. GoesOn r IsKey old new entry place n) (sym split.1) (split_or_not split.0 (let few = split.2 in omega (arith, few)))
 

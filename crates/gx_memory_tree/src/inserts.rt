@@ -16,28 +16,28 @@ use gx_class::KeyClass;
 use gx_machine::Entry;
 use gx_node::MAX_ENTRIES;
 use gx_tree::{
-    Descended, Item, Pages, PagesMut, StepFault, add_step, descend_step, laws, split_root_step,
-    split_step, sweep_step,
+    Descended, Pages, PagesMut, StepFault, TraversalItem, add_step, descend_step, laws,
+    split_root_step, split_step, sweep_step,
 };
 
 /// Where an insert is: an item of its descent, and the page from which it came to it, 0 where it begins.
 #[derive(Clone, Copy, Debug)]
-pub struct Place {
+pub struct DescentPlace {
     /// The item.
-    pub item: Item,
+    pub item: TraversalItem,
     /// The page from which it came.
     pub parent: u32,
 }
 
-impl Place {
+impl DescentPlace {
     /// Where an insert begins: at the root. How many pages are taken is read for its range alone.
-    pub fn top<K: KeyClass, P: Pages<K>>(pages: &P) -> Place
+    pub fn top<K: KeyClass, P: Pages<K>>(pages: &P) -> DescentPlace
         ensures top { result ≡ from_top (tree_of (P.store pages.now)) }
         ensures few { length (P.store pages.now).nodes < 2 ^ 32 }
     {
         let _used = pages.used();
-        Place {
-            item: Item::new(1, pages.counter()),
+        DescentPlace {
+            item: TraversalItem::new(1, pages.counter()),
             parent: 0,
         }
     }
@@ -49,7 +49,7 @@ impl Place {
 /// Refused as the splits are; nothing has changed then. The node's keys are written over the first of `keys`.
 fn split_place<K: KeyClass, P: PagesMut<K>>(
     pages: &mut P,
-    place: Place,
+    place: DescentPlace,
     most: usize,
     keys: &mut [K::Key],
 ) -> Result<(), StepFault<P::Fault>>
@@ -84,10 +84,10 @@ fn split_place<K: KeyClass, P: PagesMut<K>>(
 /// Refused as the splits are; nothing has changed then.
 fn make_room<K: KeyClass, P: PagesMut<K>>(
     pages: &mut P,
-    place: Place,
+    place: DescentPlace,
     most: usize,
     keys: &mut [K::Key],
-) -> Result<Place, StepFault<P::Fault>>
+) -> Result<DescentPlace, StepFault<P::Fault>>
     requires most { (4 ≤ most) × (most ≤ MAX_ENTRIES) }
     requires space { MAX_ENTRIES ≤ length keys.old }
     ensures steady { P.steady pages.old → P.steady pages.new }
@@ -108,7 +108,7 @@ fn make_room<K: KeyClass, P: PagesMut<K>>(
         return Ok(place);
     }
     split_place(pages, place, most, keys)?;
-    Ok(Place::top(pages))
+    Ok(DescentPlace::top(pages))
 }
 
 /// Makes a step of an insert of a live pair that stands nowhere: goes down by the child of least penalty, whose bound
@@ -120,11 +120,11 @@ fn make_room<K: KeyClass, P: PagesMut<K>>(
 /// node that is split are written over the first of `keys`.
 pub fn insert_step<K: KeyClass, P: PagesMut<K>>(
     pages: &mut P,
-    place: Place,
+    place: DescentPlace,
     entry: &Entry<K::Key>,
     most: usize,
     keys: &mut [K::Key],
-) -> Result<Option<Place>, StepFault<P::Fault>>
+) -> Result<Option<DescentPlace>, StepFault<P::Fault>>
     requires most { (4 ≤ most) × (most ≤ MAX_ENTRIES) }
     requires space { MAX_ENTRIES ≤ length keys.old }
     ensures steady { P.steady pages.old → P.steady pages.new }
@@ -149,9 +149,9 @@ pub fn insert_step<K: KeyClass, P: PagesMut<K>>(
     laws::keys_are_lawful::<K::Key>();
     let page = place.item.page();
     match descend_step(pages, &place.item, &entry.key, most)? {
-        Descended::Again => Ok(Some(Place::top(pages))),
-        Descended::Down(item) => Ok(Some(Place { item, parent: page })),
-        Descended::Widened(item, _slot, _bound) => Ok(Some(Place { item, parent: page })),
+        Descended::Again => Ok(Some(DescentPlace::top(pages))),
+        Descended::Down(item) => Ok(Some(DescentPlace { item, parent: page })),
+        Descended::Widened(item, _slot, _bound) => Ok(Some(DescentPlace { item, parent: page })),
         Descended::Leaf => {
             add_step(pages, page, entry, most)?;
             Ok(None)
@@ -159,7 +159,7 @@ pub fn insert_step<K: KeyClass, P: PagesMut<K>>(
         Descended::FullLeaf => Ok(Some(make_room(pages, place, most, keys)?)),
         Descended::FullInner => {
             split_place(pages, place, most, keys)?;
-            Ok(Some(Place::top(pages)))
+            Ok(Some(DescentPlace::top(pages)))
         }
     }
 }
@@ -205,7 +205,7 @@ pub fn insert<K: KeyClass, P: PagesMut<K>>(
     ensures why { IfErr result (IsWhy (λ fault. (was : P) × P.why was pages.new fault)) }
 {
     laws::keys_are_lawful::<K::Key>();
-    let mut place = Place::top(pages);
+    let mut place = DescentPlace::top(pages);
     'steps: loop {
         match insert_step(pages, place, entry, most, keys)? {
             Some(next) => place = next,

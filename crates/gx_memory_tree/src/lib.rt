@@ -6,6 +6,6 @@ mod inserts;
 mod memory;
 mod searches;
 
-pub use inserts::{Place, insert, insert_step};
+pub use inserts::{DescentPlace, insert, insert_step};
 pub use memory::MemoryPages;
 pub use searches::search;

@@ -11,7 +11,7 @@ ghost use Rattle.gx_node.specs.Store.{tree_of};
 
 use gx_class::Probing;
 use gx_machine::Query;
-use gx_tree::{Found, Item, Look, Pages, StepFault, Wanted, laws, look_step};
+use gx_tree::{Found, Look, Pages, StepFault, TraversalItem, Wanted, laws, look_step};
 use std::alloc::Global;
 
 /// The live pairs that match a query, each once, in no order: a look from the root to its end, with no steps of others
@@ -42,7 +42,7 @@ where
 {
     laws::keys_are_lawful::<K::Key>();
     let wanted = Wanted::<K>::matching(query);
-    let root = Item::new(1, pages.counter());
+    let root = TraversalItem::new(1, pages.counter());
     let Ok(mut look) = Look::new(alloc, root) else {
         return Err(StepFault::Memory);
     };

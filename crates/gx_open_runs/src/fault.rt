@@ -27,7 +27,7 @@ pub(crate) enum RunFault {
 
 impl RunFault {
     /// A text for it, and a number.
-    pub(crate) fn told(self) -> (&'static str, u64) {
+    pub(crate) fn text_and_number(self) -> (&'static str, u64) {
         match self {
             RunFault::BadLine => ("a bad line", 0),
             RunFault::Memory => ("no memory", 0),

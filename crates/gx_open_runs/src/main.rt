@@ -226,7 +226,7 @@ fn main(rt: HostRuntime) -> ExitCode {
     match take_lines(&rt) {
         Ok(()) => ExitCode::from(0),
         Err(fault) => {
-            let (what, number) = fault.told();
+            let (what, number) = fault.text_and_number();
             let _ = println!(rt; "{what} {number}");
             ExitCode::from(1)
         }

@@ -20,7 +20,7 @@ use Rattle.gx_legality.specs.Breaks.{Breaks}
 use Rattle.gx_legality.specs.declared.fault.Rule.{Rule}
 use Rattle.gx_legality.specs.declared.fault.LegalityFault.{LegalityFault}
 use Rattle.gx_legality.specs.declared.fault.LegalityFault.TheVariants as fault
-use Rattle.gx_legality.specs.declared.notes.Note.{Note}
+use Rattle.gx_legality.specs.declared.notes.NotedPair.{NotedPair}
 use Rattle.gx_legality.proofs.Slots.{each_slot, slot_of, some_against}
 use Rattle.gx_store.specs.Faults as faults
 use Rattle.gx_store.specs.Faults.{CanBeRead, is_taken}
@@ -86,26 +86,26 @@ module _ {D : Type 0} (breaks : ℕ → Rule → Type 0) (passes : ℕ → Conte
 -- ---- notes and touches
 
 module _ {E : Type 0} (cmp : E → E → Ordering) where
-  some_in : (P : Note E → Type 0) (notes : List (Note E)) (m : Note E) → SomeOf (λ x. x ≡ m) notes → Each P notes → P m
+  some_in : (P : NotedPair E → Type 0) (notes : List (NotedPair E)) (m : NotedPair E) → SomeOf (λ x. x ≡ m) notes → Each P notes → P m
   some_in P [] m some each = absurd some
   some_in P (n ∷ notes) m (inl here) each = subst P here each.0
   some_in P (n ∷ notes) m (inr some) each = some_in P notes m some each.1
 
-  each_of_one : (P : Note E → Type 0) (touched : List (Touch E)) (n : ℕ) (notes : List (Note E)) → Each (IsOfOne cmp touched n) notes → ((k : ℕ) (t : Touch E) → slice_get touched k ≡ Some t → P (note_of t))
+  each_of_one : (P : NotedPair E → Type 0) (touched : List (Touch E)) (n : ℕ) (notes : List (NotedPair E)) → Each (IsOfOne cmp touched n) notes → ((k : ℕ) (t : Touch E) → slice_get touched k ≡ Some t → P (note_of t))
       → Each P notes
   each_of_one P touched n [] only all = tt
   each_of_one P touched n (x ∷ notes) only all = (subst P (sym only.0.same) (all only.0.at only.0.touch only.0.there), each_of_one P touched n notes only.1 all)
 
   -- what holds of all notes holds of all touches
-  pub touches_have : (P : Note E → Type 0) (touched : List (Touch E)) (notes : List (Note E)) → AreNoted cmp touched (length touched) notes → Each P notes → Each (λ t. P (note_of t)) touched
+  pub touches_have : (P : NotedPair E → Type 0) (touched : List (Touch E)) (notes : List (NotedPair E)) → AreNoted cmp touched (length touched) notes → Each P notes → Each (λ t. P (note_of t)) touched
   touches_have P touched notes so each =
       each_slot (λ t. P (note_of t)) touched (λ k t there. some_in P notes (note_of t) (so.all k t (slice_get_within touched k t there) there) each)
 
   -- and the other way round
-  pub notes_have : (P : Note E → Type 0) (touched : List (Touch E)) (notes : List (Note E)) → AreNoted cmp touched (length touched) notes → Each (λ t. P (note_of t)) touched → Each P notes
+  pub notes_have : (P : NotedPair E → Type 0) (touched : List (Touch E)) (notes : List (NotedPair E)) → AreNoted cmp touched (length touched) notes → Each (λ t. P (note_of t)) touched → Each P notes
   notes_have P touched notes so each = each_of_one P touched (length touched) notes so.only (λ k t there. slot_of (λ t. P (note_of t)) touched k t each there)
 
-module _ {B : Type 0} (r : Rules B) (t : Tree B) (cmp : Entry B → Entry B → Ordering) (touched : List (Touch (Entry B))) (notes : List (Note (Entry B))) (so : AreNoted cmp touched (length touched) notes) where
+module _ {B : Type 0} (r : Rules B) (t : Tree B) (cmp : Entry B → Entry B → Ordering) (touched : List (Touch (Entry B))) (notes : List (NotedPair (Entry B))) (so : AreNoted cmp touched (length touched) notes) where
   pub all_in_place : Each (IsPlaced r t) notes → AllInPlace r t touched
   all_in_place each = touches_have cmp (IsPlaced r t) touched notes so each
 
@@ -141,7 +141,7 @@ module _ {B D : Type 0} (f : Format B) (passes : ℕ → Contents → Bool) (sta
       brought_passes passes (state old.disk) (state one.moment.disk) old one.moment page steady clean (since_all old one.moment one.reads begins page) one.is.order one.is.held.kept
 
   -- what a test of the whole refuses isn't sound
-  pub never_sound : (r : Rules B) (touched : List (Touch (Entry B))) (cmp : Entry B → Entry B → Ordering) (notes : List (Note (Entry B))) (s : Shelf D) → AreNoted cmp touched (length touched) notes
+  pub never_sound : (r : Rules B) (touched : List (Touch (Entry B))) (cmp : Entry B → Entry B → Ordering) (notes : List (NotedPair (Entry B))) (s : Shelf D) → AreNoted cmp touched (length touched) notes
       → ((page : ℕ) (rule : Rule) → Breaks r (shown_tree f passes state s) page rule → ¬ Legal r (shown_tree f passes state s))
       → (page : ℕ) (rule : Rule) → BreaksOrLeavesOut r (shown_tree f passes state s) notes page rule → IsSoundStore f passes state r touched s → ⊥
   never_sound r touched cmp notes s so illegal page rule (inl broken) sound = illegal page rule broken sound.shown.legal
@@ -153,7 +153,7 @@ tells_so P Q (Ok done) there back told = there told
 tells_so P Q (Err why) there back told = λ is q. told is (back q)
 
 -- notes in order are of touches of which no two are of one entry
-pub noted_others : {E : Type 0} (cmp : E → E → Ordering) (touched : List (Touch E)) (notes slice : List (Note E)) → slice ≡ notes
+pub noted_others : {E : Type 0} (cmp : E → E → Ordering) (touched : List (Touch E)) (notes slice : List (NotedPair E)) → slice ≡ notes
     → AreNoted cmp touched (length touched) notes → Ascends cmp (noted slice) → AreOfOthers cmp touched
 noted_others {E = E} cmp touched notes slice same so up i j x y before first second tied =
-    so.others (subst (λ (ns : List (Note E)). Ascends cmp (noted ns)) same up) i j x y before (slice_get_within touched j y second) first second tied
+    so.others (subst (λ (ns : List (NotedPair E)). Ascends cmp (noted ns)) same up) i j x y before (slice_get_within touched j y second) first second tied

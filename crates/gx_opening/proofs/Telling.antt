@@ -12,7 +12,7 @@ use Rattle.gx_glog.specs.declared.parameters.Parameters.{Parameters}
 use Rattle.gx_legality.specs.declared.fault.LegalityFault.{LegalityFault}
 use Rattle.gx_legality.specs.declared.fault.LegalityFault.TheVariants as fault
 use Rattle.gx_legality.specs.declared.fault.Rule.{Rule}
-use Rattle.gx_legality.specs.declared.notes.Note.{Note}
+use Rattle.gx_legality.specs.declared.notes.NotedPair.{NotedPair}
 use Rattle.gx_legality.specs.Placing.{BreaksOrLeavesOut, IsPlaced}
 use Rattle.gx_legality.proofs.Slots.{some_slot}
 use Rattle.gx_machine.specs.declared.entry.Entry.{Entry}
@@ -37,16 +37,16 @@ use Rattle.gx_opening.specs.Shown.{FoundShows, IndexShows, IsBroken, IsLeftOut, 
 
 -- a note that is out of its place is of an entry that was touched
 module _ {B : Type 0} (r : Rules B) (t : Tree B) (cmp : Entry B → Entry B → Ordering) (touched : List (Touch (Entry B))) where
-  one_left_out : (page n : ℕ) (notes : List (Note (Entry B))) → Each (IsOfOne cmp touched n) notes → SomeOf (λ m. (m.leaf ≡ page) × (¬ IsPlaced r t m)) notes → IsLeftOut r touched t page
+  one_left_out : (page n : ℕ) (notes : List (NotedPair (Entry B))) → Each (IsOfOne cmp touched n) notes → SomeOf (λ m. (m.leaf ≡ page) × (¬ IsPlaced r t m)) notes → IsLeftOut r touched t page
   one_left_out page n [] only some = absurd some
   one_left_out page n (m ∷ notes) only (inl here) =
       let one = only.0 in
       some_slot (λ x. (x.leaf ≡ page) × ¬ IsSeek r t x.leaf x.entry.row x.entry.key) touched one.at one.touch
-      (subst (λ (x : Note (Entry B)). (x.leaf ≡ page) × (¬ IsPlaced r t x)) one.same here) one.there
+      (subst (λ (x : NotedPair (Entry B)). (x.leaf ≡ page) × (¬ IsPlaced r t x)) one.same here) one.there
   one_left_out page n (m ∷ notes) only (inr some) = one_left_out page n notes only.1 some
 
   -- what a test of the whole finds is broken
-  pub one_broken : (n page : ℕ) (rule : Rule) (notes : List (Note (Entry B))) → AreNoted cmp touched n notes → BreaksOrLeavesOut r t notes page rule → IsBroken r touched t page rule
+  pub one_broken : (n page : ℕ) (rule : Rule) (notes : List (NotedPair (Entry B))) → AreNoted cmp touched n notes → BreaksOrLeavesOut r t notes page rule → IsBroken r touched t page rule
   one_broken n page rule notes noted (inl broken) = inl broken
   one_broken n page rule notes noted (inr out) = inr (out.1.0, one_left_out page n notes noted.only out.1.1)
 

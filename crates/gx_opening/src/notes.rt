@@ -3,12 +3,12 @@ ghost use Rattle.std.specs.Prelude.{◌≡◌, ◌≤◌, length, take, drop, If
 ghost use Rattle.gx_opening.specs.Noting.{AreLess, AreNoted, IsNoLess, IsPut};
 
 use gx_analysis::Touch;
-use gx_legality::Note;
+use gx_legality::NotedPair;
 use std::alloc::{AllocError, Global};
 use std::cmp::Ordering;
 
 // How many of these notes at the front are of lesser entries.
-fn place_of<E: Copy + Ord>(notes: &[Note<E>], entry: &E) -> usize
+fn place_of<E: Copy + Ord>(notes: &[NotedPair<E>], entry: &E) -> usize
     ensures inside { result ≤ length notes.now }
     ensures before { AreLess E.cmp entry.now (take result notes.now) }
     ensures behind { IsNoLess E.cmp entry.now (drop result notes.now) }
@@ -22,7 +22,10 @@ fn place_of<E: Copy + Ord>(notes: &[Note<E>], entry: &E) -> usize
 }
 
 // Puts a note behind those of lesser entries.
-fn put<E: Copy + Ord>(notes: &mut Vec<Note<E>>, note: Note<E>) -> Result<(), AllocError>
+fn insert_note<E: Copy + Ord>(
+    notes: &mut Vec<NotedPair<E>>,
+    note: NotedPair<E>,
+) -> Result<(), AllocError>
     ensures { IfOk result (λ _. IsPut E.cmp note notes.old.items notes.new.items) }
 {
     let place = place_of(notes, &note.entry);
@@ -34,17 +37,17 @@ fn put<E: Copy + Ord>(notes: &mut Vec<Note<E>>, note: Note<E>) -> Result<(), All
 pub fn notes_of<E: Copy + Ord>(
     alloc: Global,
     touched: &[Touch<E>],
-) -> Result<Vec<Note<E>>, AllocError>
+) -> Result<Vec<NotedPair<E>>, AllocError>
     ensures { IfOk result (λ notes. AreNoted E.cmp touched.now (length touched.now) notes.items) }
 {
     let mut notes = Vec::new(alloc);
     for at in 0..touched.len() {
         let touch = &touched[at];
-        let note = Note {
+        let note = NotedPair {
             entry: touch.entry(),
             leaf: touch.leaf(),
         };
-        put(&mut notes, note)?;
+        insert_note(&mut notes, note)?;
     }
     Ok(notes)
 }

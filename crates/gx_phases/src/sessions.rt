@@ -113,7 +113,7 @@ impl<B: Shape, W: Drop> Sessions<B, W> {
     }
 
     /// A Begin of a session without a transaction.
-    fn begin(&mut self, session: u8) -> Asked<B>
+    fn begin_transaction(&mut self, session: u8) -> Asked<B>
         requires session { is_session session ≡ true }
         ensures { Begun (is_full self.old) session self.old result self.new }
     {
@@ -148,7 +148,7 @@ impl<B: Shape, W: Drop> Sessions<B, W> {
             return asks::refused(Refusal::BadSession);
         }
         if self.begins(session, &call) {
-            return self.begin(session);
+            return self.begin_transaction(session);
         }
         asks::ask_at(&mut self.phases, &mut self.table, session, call, work)
     }
@@ -326,7 +326,7 @@ impl<B: Shape, W: Drop> Sessions<B, W> {
     }
 
     /// Ends a session's undo: its locks and notes are free, and so is it.
-    pub fn end(&mut self, session: u8)
+    pub fn end_undo(&mut self, session: u8)
         requires session { is_session session ≡ true }
         requires undoes { is_undoing (phase_at (session - 1) self.old.phases) ≡ true }
         ensures { self.new ≡ ended_state session self.old }

@@ -11,8 +11,8 @@ use Rattle.gx_machine.specs.declared.reply.Reply.TheVariants as replies
 use Rattle.gx_machine.specs.Keys.{Keys}
 use Rattle.gx_machine.specs.Sets.{has, including, excluding}
 use Rattle.gx_machine.specs.Sessions.{Locks, Changes, Session, Idle, Open, Aborting, Committing, locks_of, view, answer_insert, answer_delete, ask_idle}
-use Rattle.gx_plain.specs.declared.slot.Phase.{Phase}
-use Rattle.gx_plain.specs.declared.slot.Phase.TheVariants as phase
+use Rattle.gx_plain.specs.declared.slot.SlotPhase.{SlotPhase}
+use Rattle.gx_plain.specs.declared.slot.SlotPhase.TheVariants as phase
 use Rattle.gx_plain.specs.Slots.{session_of, changes_of, added_by, IsOpen, IsFree, IsDeleting, Closes, SlotAnswers}
 
 free_is_open : {B : Type 0} (s : Session B) → IsFree s → IsOpen s
@@ -28,14 +28,14 @@ deleting_is_open e (Aborting locks) deleting = absurd deleting
 deleting_is_open e (Committing number) deleting = absurd deleting
 
 -- what holds of the parts of a session with a transaction holds of what it has
-parts_here : {B : Type 0} (P : Locks B → Changes B → Type 0) (p : Phase B) (locks : Locks B) (changes : Changes B) → P locks changes
+parts_here : {B : Type 0} (P : Locks B → Changes B → Type 0) (p : SlotPhase B) (locks : Locks B) (changes : Changes B) → P locks changes
     → IsOpen (session_of p locks changes) → P (locks_of (session_of p locks changes)) (changes_of (session_of p locks changes))
 parts_here P phase.Idle locks changes h going = absurd going
 parts_here P (phase.Open call) locks changes h going = h
 parts_here P phase.Aborting locks changes h going = absurd going
 parts_here P (phase.Committing number) locks changes h going = absurd going
 
-module _ {B : Type 0} (p : Phase B) (locks : Locks B) (changes : Changes B) (s : Session B) (is : session_of p locks changes ≡ s) where
+module _ {B : Type 0} (p : SlotPhase B) (locks : Locks B) (changes : Changes B) (s : Session B) (is : session_of p locks changes ≡ s) where
   open_parts : (P : Locks B → Changes B → Type 0) → P locks changes → IsOpen s → P (locks_of s) (changes_of s)
   open_parts P h = subst (λ (x : Session B). IsOpen x → P (locks_of x) (changes_of x)) is (parts_here P p locks changes h)
 
@@ -45,14 +45,14 @@ module _ {B : Type 0} (p : Phase B) (locks : Locks B) (changes : Changes B) (s :
 
   -- it has added as much with its call open as without
   pub adds_the_same : (pending : Option (Call B)) → p ≡ phase.Open pending → length changes.added ≡ added_by s
-  adds_the_same pending at_open = sym (ap (λ (q : Phase B). added_by (session_of q locks changes)) at_open) ∙ ap added_by is
+  adds_the_same pending at_open = sym (ap (λ (q : SlotPhase B). added_by (session_of q locks changes)) at_open) ∙ ap added_by is
 
   -- its commit is answered, sealed under a number
   pub commit_answered : (k : Keys B) (number : ℕ) (latest : List (Entry B)) (commits : ℕ) (reply : Reply B) (new : Session B) → p ≡ phase.Committing number
       → reply ≡ replies.Committed number → new ≡ Idle → SlotAnswers k s latest commits reply new latest commits
   commit_answered k number latest commits reply new committing said idle =
       subst (λ (x : Session B). SlotAnswers k x latest commits reply new latest commits)
-      (sym (ap (λ (q : Phase B). session_of q locks changes) committing) ∙ is) (said, idle, (refl, refl))
+      (sym (ap (λ (q : SlotPhase B). session_of q locks changes) committing) ∙ is) (said, idle, (refl, refl))
 
   module _ (k : Keys B) (e : Entry B) (latest : List (Entry B)) where
     -- an insert of an entry that is seen

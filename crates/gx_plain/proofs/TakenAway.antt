@@ -9,12 +9,12 @@ use Rattle.gx_machine.specs.Sessions.{Locks, Changes, Session, claims_of}
 use Rattle.gx_machine.proofs.SetLaws.{in_order_including, in_order_filter}
 use Rattle.gx_machine.proofs.SessionMoves.{covered_including, covered_excluding}
 use Rattle.gx_machine.proofs.Covers.{length-covered}
-use Rattle.gx_plain.specs.declared.slot.Phase.{Phase}
-use Rattle.gx_plain.specs.declared.slot.Phase.TheVariants as phase
+use Rattle.gx_plain.specs.declared.slot.SlotPhase.{SlotPhase}
+use Rattle.gx_plain.specs.declared.slot.SlotPhase.TheVariants as phase
 use Rattle.gx_plain.specs.Slots.{session_of, DeleteIsClaimed, TakesClaimed, IsDeleting}
 
 -- the entry of an open delete is claimed, and the claims are the session's
-claimed_by : {B : Type 0} (k : Keys B) (e : Entry B) (p : Phase B) (h : Locks B) (c : Changes B) → IsDeleting e (session_of p h c) → DeleteIsClaimed k p h.claims
+claimed_by : {B : Type 0} (k : Keys B) (e : Entry B) (p : SlotPhase B) (h : Locks B) (c : Changes B) → IsDeleting e (session_of p h c) → DeleteIsClaimed k p h.claims
     → (has k e h.claims ≡ true) × (claims_of (session_of p h c) ≡ length h.claims)
 claimed_by k e phase.Idle h c deleting asked = absurd deleting
 claimed_by k e (phase.Open None) h c deleting asked = absurd deleting
@@ -27,7 +27,7 @@ claimed_by k e (phase.Open (Some Abort)) h c deleting asked = absurd deleting
 claimed_by k e phase.Aborting h c deleting asked = absurd deleting
 claimed_by k e (phase.Committing number) h c deleting asked = absurd deleting
 
-module _ {B : Type 0} (k : Keys B) (l : IsLawful k) (e : Entry B) (p : Phase B) (claims taken : List (Entry B)) (takes : TakesClaimed k p claims taken) where
+module _ {B : Type 0} (k : Keys B) (l : IsLawful k) (e : Entry B) (p : SlotPhase B) (claims taken : List (Entry B)) (takes : TakesClaimed k p claims taken) where
   -- with an entry more that is claimed
   pub takes_more : has k e claims ≡ true → TakesClaimed k (phase.Open None) claims (including k e taken)
   takes_more there = record {
@@ -50,7 +50,7 @@ module _ {B : Type 0} (k : Keys B) (l : IsLawful k) (e : Entry B) (p : Phase B) 
       let more = takes_more there in omega (arith, length-covered k l (including k e taken) claims more.in_order more.claimed)
 
 -- the entry of an open delete is claimed by the session, which has no more claims than these places
-pub delete_claimed : {B : Type 0} (k : Keys B) (e : Entry B) (p : Phase B) (h : Locks B) (c : Changes B) (x : Session B) (places : ℕ) → session_of p h c ≡ x → IsDeleting e x → DeleteIsClaimed k p h.claims
+pub delete_claimed : {B : Type 0} (k : Keys B) (e : Entry B) (p : SlotPhase B) (h : Locks B) (c : Changes B) (x : Session B) (places : ℕ) → session_of p h c ≡ x → IsDeleting e x → DeleteIsClaimed k p h.claims
     → claims_of x ≤ places → (has k e h.claims ≡ true) × (length h.claims ≤ places)
 delete_claimed k e p h c x places is deleting asked few =
     let both = claimed_by k e p h c (subst (λ (y : Session _). IsDeleting e y) (sym is) deleting) asked in

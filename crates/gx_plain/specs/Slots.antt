@@ -12,11 +12,11 @@ use Rattle.gx_machine.specs.Keys.{Keys}
 use Rattle.gx_machine.specs.Sessions.{Locks, Changes, no_changes, Session, Idle, Open, Aborting, Committing, locks_of, view, answer_insert, answer_delete, sealed_set, closed_session}
 use Rattle.gx_machine.specs.Sets.{has, found, InOrder}
 use Rattle.gx_machine.specs.Invariants.{Covered}
-use Rattle.gx_plain.specs.declared.slot.Phase.{Phase}
-use Rattle.gx_plain.specs.declared.slot.Phase.TheVariants as phase
+use Rattle.gx_plain.specs.declared.slot.SlotPhase.{SlotPhase}
+use Rattle.gx_plain.specs.declared.slot.SlotPhase.TheVariants as phase
 
 -- the session that a phase makes of locks and changes
-abbrev pub session_of : {B : Type 0} → Phase B → Locks B → Changes B → Session B
+abbrev pub session_of : {B : Type 0} → SlotPhase B → Locks B → Changes B → Session B
 session_of phase.Idle locks changes = Idle
 session_of (phase.Open call) locks changes = Open locks changes call
 session_of phase.Aborting locks changes = Aborting locks
@@ -43,7 +43,7 @@ pub record IsRoomy (claims predicates taken : ℕ) : Type 0 where
   pub for_taken : MAX_CLAIMS ≤ taken
 
 -- the entry of an open delete is claimed
-abbrev pub DeleteIsClaimed : {B : Type 0} → Keys B → Phase B → List (Entry B) → Type 0
+abbrev pub DeleteIsClaimed : {B : Type 0} → Keys B → SlotPhase B → List (Entry B) → Type 0
 DeleteIsClaimed k phase.Idle claims = Unit {0}
 DeleteIsClaimed k (phase.Open None) claims = Unit {0}
 DeleteIsClaimed k (phase.Open (Some Begin)) claims = Unit {0}
@@ -56,7 +56,7 @@ DeleteIsClaimed k phase.Aborting claims = Unit {0}
 DeleteIsClaimed k (phase.Committing number) claims = Unit {0}
 
 -- what a transaction takes away it claims, so that there are never more such entries than claims
-pub record TakesClaimed {B : Type 0} (k : Keys B) (phase : Phase B) (claims taken : List (Entry B)) : Type 0 where
+pub record TakesClaimed {B : Type 0} (k : Keys B) (phase : SlotPhase B) (claims taken : List (Entry B)) : Type 0 where
   pub in_order : InOrder k taken
   pub claimed : Covered k taken claims
   pub asked : DeleteIsClaimed k phase claims

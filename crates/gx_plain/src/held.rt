@@ -59,7 +59,7 @@ pub fn claim<B: Shape>(e: Entry<B>, claims: &mut Vec<Entry<B>>, spent: usize) ->
     if spent >= MAX_CLAIMS {
         return false;
     }
-    gx_machine::put(e, claims);
+    gx_machine::include_within_capacity(e, claims);
     true
 }
 

@@ -13,7 +13,7 @@ use std::marker::Model;
 
 /// How far a session is.
 #[derive(Clone, Copy)]
-pub enum Phase<B> {
+pub enum SlotPhase<B> {
     /// It has no transaction.
     Idle,
     /// It has one, perhaps with a call open.
@@ -27,7 +27,7 @@ pub enum Phase<B> {
 /// A session, with room for its predicates, for all that it may claim, and for all of that to be taken away.
 #[derive(Drop)]
 pub struct Slot<B: Shape> {
-    phase: Phase<B>,
+    phase: SlotPhase<B>,
     claims: Vec<Entry<B>>,
     predicates: Vec<Query<B>>,
     added: Vec<Entry<B>>,
@@ -74,7 +74,7 @@ impl<B: Shape> Slot<B> {
         ensures { IfOk result (λ slot. slot ≡ Idle) }
     {
         Ok(Slot {
-            phase: Phase::Idle,
+            phase: SlotPhase::Idle,
             claims: Vec::with_capacity(alloc, MAX_CLAIMS)?,
             predicates: Vec::with_capacity(alloc, MAX_PREDICATES)?,
             added: Vec::new(alloc),
@@ -87,8 +87,8 @@ impl<B: Shape> Slot<B> {
         ensures { result ≡ claims_of self.now }
     {
         match self.phase {
-            Phase::Idle | Phase::Committing(_) => 0,
-            Phase::Open(_) | Phase::Aborting => self.claims.len(),
+            SlotPhase::Idle | SlotPhase::Committing(_) => 0,
+            SlotPhase::Open(_) | SlotPhase::Aborting => self.claims.len(),
         }
     }
 
@@ -96,7 +96,7 @@ impl<B: Shape> Slot<B> {
     pub fn begins(&self, call: &Call<B>) -> bool
         ensures { result ≡ begins call.now self.now }
     {
-        matches!(call, Call::Begin) && matches!(self.phase, Phase::Idle)
+        matches!(call, Call::Begin) && matches!(self.phase, SlotPhase::Idle)
     }
 
     /// Asks a call, where `least` is the least other session that conflicts and `spent` the claims held in all. It
@@ -113,9 +113,9 @@ impl<B: Shape> Slot<B> {
         ensures session { self.new ≡ (ask_session (keys_of B.Shape) call least spent self.old).1 }
     {
         match self.phase {
-            Phase::Idle => self.ask_idle(call),
-            Phase::Open(None) => self.ask_open(call, least, spent),
-            Phase::Open(Some(_)) | Phase::Aborting | Phase::Committing(_) => {
+            SlotPhase::Idle => self.ask_idle(call),
+            SlotPhase::Open(None) => self.ask_open(call, least, spent),
+            SlotPhase::Open(Some(_)) | SlotPhase::Aborting | SlotPhase::Committing(_) => {
                 refused(Refusal::CallOpen)
             }
         }
@@ -132,7 +132,7 @@ impl<B: Shape> Slot<B> {
                 self.predicates.clear();
                 self.added.clear();
                 self.taken.clear();
-                self.phase = Phase::Open(None);
+                self.phase = SlotPhase::Open(None);
                 Asked::Now(Reply::Ok)
             }
             _ => refused(Refusal::NoTransaction),
@@ -172,7 +172,7 @@ impl<B: Shape> Slot<B> {
             return refused(Refusal::Busy(other));
         }
         if held::claim(e, &mut self.claims, spent) {
-            self.phase = Phase::Open(Some(call));
+            self.phase = SlotPhase::Open(Some(call));
             Asked::Open
         } else {
             refused(Refusal::ClaimsFull)
@@ -194,7 +194,7 @@ impl<B: Shape> Slot<B> {
             return refused(Refusal::Busy(other));
         }
         if held::hold(query, &mut self.predicates) {
-            self.phase = Phase::Open(Some(Call::Search(query)));
+            self.phase = SlotPhase::Open(Some(Call::Search(query)));
             Asked::Open
         } else {
             refused(Refusal::PredicatesFull)
@@ -211,7 +211,7 @@ impl<B: Shape> Slot<B> {
         if let Some(other) = least {
             return refused(Refusal::Busy(other));
         }
-        self.phase = Phase::Open(Some(Call::Commit));
+        self.phase = SlotPhase::Open(Some(Call::Commit));
         Asked::Open
     }
 
@@ -220,7 +220,7 @@ impl<B: Shape> Slot<B> {
         ensures asked { result ≡ Asked.Open }
         ensures session { self.new ≡ Aborting (locks_of self.old) }
     {
-        self.phase = Phase::Aborting;
+        self.phase = SlotPhase::Aborting;
         Asked::Open
     }
 
@@ -229,8 +229,8 @@ impl<B: Shape> Slot<B> {
         ensures { result ≡ added_by self.now }
     {
         match self.phase {
-            Phase::Idle | Phase::Aborting | Phase::Committing(_) => 0,
-            Phase::Open(_) => self.added.len(),
+            SlotPhase::Idle | SlotPhase::Aborting | SlotPhase::Committing(_) => 0,
+            SlotPhase::Open(_) => self.added.len(),
         }
     }
 
@@ -244,7 +244,7 @@ impl<B: Shape> Slot<B> {
         ensures latest { latest.new.items ≡ latest.old.items }
         ensures room { vec_len latest.new + added + added_by self.new ≤ vec_capacity latest.new + added_by self.old }
     {
-        self.phase = Phase::Open(None);
+        self.phase = SlotPhase::Open(None);
         if views::has(&e, latest, &self.added, &self.taken) {
             return Reply::Refused(Refusal::Present);
         }
@@ -266,11 +266,11 @@ impl<B: Shape> Slot<B> {
             (answer_delete (keys_of B.Shape) e latest.now (changes_of self.old)).1 None }
         ensures added { added_by self.new ≤ added_by self.old }
     {
-        self.phase = Phase::Open(None);
+        self.phase = SlotPhase::Open(None);
         if !views::has(&e, latest, &self.added, &self.taken) {
             return Reply::Refused(Refusal::Absent);
         }
-        gx_machine::put(e, &mut self.taken);
+        gx_machine::include_within_capacity(e, &mut self.taken);
         gx_machine::exclude(&e, &mut self.added);
         Reply::Deleted
     }
@@ -282,7 +282,7 @@ impl<B: Shape> Slot<B> {
             self.old result self.new }
         ensures added { added_by self.new ≡ added_by self.old }
     {
-        self.phase = Phase::Open(None);
+        self.phase = SlotPhase::Open(None);
         match views::search(
             *self.added.allocator(),
             &query,
@@ -312,7 +312,7 @@ impl<B: Shape> Slot<B> {
         views::take_over(latest, &self.added, &self.taken);
         let number = *commits + 1;
         *commits = number;
-        self.phase = Phase::Committing(number);
+        self.phase = SlotPhase::Committing(number);
         number
     }
 
@@ -321,7 +321,7 @@ impl<B: Shape> Slot<B> {
         ensures reply { result ≡ Reply.Committed number }
         ensures session { self.new ≡ Idle }
     {
-        self.phase = Phase::Idle;
+        self.phase = SlotPhase::Idle;
         Reply::Committed(number)
     }
 
@@ -330,7 +330,7 @@ impl<B: Shape> Slot<B> {
         ensures reply { result ≡ Reply.Aborted }
         ensures session { self.new ≡ Idle }
     {
-        self.phase = Phase::Idle;
+        self.phase = SlotPhase::Idle;
         Reply::Aborted
     }
 
@@ -351,7 +351,7 @@ impl<B: Shape> Slot<B> {
         ensures in_order { InOrder (keys_of B.Shape) latest.new.items }
     {
         match self.phase {
-            Phase::Open(Some(Call::Commit)) => Some(self.seal_open(latest, commits)),
+            SlotPhase::Open(Some(Call::Commit)) => Some(self.seal_open(latest, commits)),
             _ => None,
         }
     }
@@ -365,8 +365,8 @@ impl<B: Shape> Slot<B> {
         ensures claims { claims_of self.new ≡ claims_of self.old }
     {
         match self.phase {
-            Phase::Open(Some(_)) => {
-                self.phase = Phase::Open(None);
+            SlotPhase::Open(Some(_)) => {
+                self.phase = SlotPhase::Open(None);
                 true
             }
             _ => false,
@@ -400,17 +400,17 @@ impl<B: Shape> Slot<B> {
         ensures rises { commits.old ≤ commits.new }
     {
         match self.phase {
-            Phase::Idle | Phase::Open(None) => Reply::Refused(Refusal::NoCall),
-            Phase::Open(Some(Call::Insert(e))) => self.insert(e, latest, added),
-            Phase::Open(Some(Call::Delete(e))) => self.delete(e, latest),
-            Phase::Open(Some(Call::Search(query))) => self.search(query, latest),
-            Phase::Open(Some(Call::Begin | Call::Abort)) => unreachable!(),
-            Phase::Open(Some(Call::Commit)) => {
+            SlotPhase::Idle | SlotPhase::Open(None) => Reply::Refused(Refusal::NoCall),
+            SlotPhase::Open(Some(Call::Insert(e))) => self.insert(e, latest, added),
+            SlotPhase::Open(Some(Call::Delete(e))) => self.delete(e, latest),
+            SlotPhase::Open(Some(Call::Search(query))) => self.search(query, latest),
+            SlotPhase::Open(Some(Call::Begin | Call::Abort)) => unreachable!(),
+            SlotPhase::Open(Some(Call::Commit)) => {
                 let number = self.seal_open(latest, commits);
                 self.committed(number)
             }
-            Phase::Committing(number) => self.committed(number),
-            Phase::Aborting => self.aborted(),
+            SlotPhase::Committing(number) => self.committed(number),
+            SlotPhase::Aborting => self.aborted(),
         }
     }
 }
@@ -423,8 +423,8 @@ impl<B: Shape> Conflicts<B> for Slot<B> {
 
     fn conflicts(&self, call: &Call<B>) -> bool {
         match self.phase {
-            Phase::Idle | Phase::Committing(_) => false,
-            Phase::Open(_) | Phase::Aborting => match call {
+            SlotPhase::Idle | SlotPhase::Committing(_) => false,
+            SlotPhase::Open(_) | SlotPhase::Aborting => match call {
                 Call::Insert(e) | Call::Delete(e) => held::write_conflicts(
                     e,
                     &self.claims,

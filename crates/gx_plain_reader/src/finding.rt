@@ -90,7 +90,7 @@ impl Findings {
     }
 
     /// This rule is broken there.
-    pub(crate) fn tell(&mut self, place: Place, rule: Rule) -> Result<(), Damage> {
+    pub(crate) fn add_finding(&mut self, place: Place, rule: Rule) -> Result<(), Damage> {
         self.all.push(Finding { place, rule })?;
         Ok(())
     }

@@ -39,7 +39,7 @@ pub struct Reading {
 }
 
 /// The second sector's numbers, as they stand.
-fn told(image: &[u8]) -> Option<Parameters> {
+fn parameters_of(image: &[u8]) -> Option<Parameters> {
     Some(Parameters {
         pages: u32_at(image, 512)?,
         most: u16_at(image, 516)?,
@@ -119,7 +119,7 @@ fn nodes_of(
         let number = before.saturating_add(1);
         match node_at(alloc, image, log, number) {
             Ok(node) => nodes.push(node)?,
-            Err(damage) => found.tell(Place::Unread(number), unreadable(damage)?)?,
+            Err(damage) => found.add_finding(Place::Unread(number), unreadable(damage)?)?,
         }
     }
     Ok(nodes)
@@ -132,10 +132,10 @@ fn look(
     class: u16,
 ) -> Result<Result<(Log, Vec<Node>), Findings>, Damage> {
     let mut found = Findings::new(alloc);
-    let parameters = told(image);
+    let parameters = parameters_of(image);
     let (Some(parameters), None) = (parameters, wrong_head(image, parameters, class)) else {
         let rule = wrong_head(image, parameters, class).unwrap_or(rules::SHORT);
-        found.tell(Place::Head, rule)?;
+        found.add_finding(Place::Head, rule)?;
         return Ok(Err(found));
     };
     let log = log_of(alloc, image, parameters)?;

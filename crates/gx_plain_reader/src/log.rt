@@ -109,7 +109,7 @@ impl Log {
             return Ok(());
         }
         let place = Place::Log(self.extent, self.body, self.at);
-        self.found.tell(place, rule)
+        self.found.add_finding(place, rule)
     }
 
     /// Whether a touch is by a transaction that neither committed nor ended.

@@ -20,7 +20,7 @@ fn order(entry: &Entry) -> (u64, i64, i64, i64, i64) {
 }
 
 /// Puts an entry in its place among entries in order.
-fn put(set: &mut Vec<Entry>, entry: Entry) -> Result<(), Damage> {
+fn insert_entry(set: &mut Vec<Entry>, entry: Entry) -> Result<(), Damage> {
     let mut place = 0_usize;
     for other in set.iter() {
         if order(other) < order(&entry) {
@@ -37,7 +37,7 @@ pub(crate) fn set_of(alloc: Global, nodes: &[Node], log: &Log) -> Result<Vec<Ent
     for node in nodes {
         for pair in node.pairs.iter() {
             if is_in(log, pair) {
-                put(&mut set, pair.entry)?;
+                insert_entry(&mut set, pair.entry)?;
             }
         }
     }

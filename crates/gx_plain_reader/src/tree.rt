@@ -104,7 +104,7 @@ impl Tree<'_> {
         if holds {
             return Ok(());
         }
-        self.found.tell(Place::Page(page), rule)
+        self.found.add_finding(Place::Page(page), rule)
     }
 
     /// So does what stands in a slot of it.
@@ -119,7 +119,7 @@ impl Tree<'_> {
         if holds {
             return Ok(());
         }
-        self.found.tell(Place::Slot(page, what, slot), rule)
+        self.found.add_finding(Place::Slot(page, what, slot), rule)
     }
 
     /// The entries of an inner node name pages below the root.

@@ -3,7 +3,7 @@ use Rattle.std.proofs.Common.{◌≡◌, ◌≢◌, ◌∙◌, sym, ap, subst, r
 use Rattle.std.proofs.lemmas.List.{set-set}
 use Rattle.gx_disk.specs.declared.layout.TheConstants.{MAX_PAGES}
 use Rattle.gx_page.specs.Contents.{Contents}
-use Rattle.gx_pool.specs.declared.mark.Mark.{Mark}
+use Rattle.gx_pool.specs.declared.mark.FrameMark.{FrameMark}
 use Rattle.gx_pool.specs.Marks.{empty, clean, is_dirty}
 use Rattle.gx_pool.specs.State.{State, IsSound, IsSpare, NoCleanLeaf, NoneClean, is_upper_at, mark_at, place_of, frame_at, kept, clean_count}
 use Rattle.gx_pool.specs.Edits.{numbered, vacated, with_page, settled}
@@ -43,7 +43,7 @@ made s t u i page batch w sound inside is first positive small absent te ue =
     let x : State = settled v i page (Some batch) in
     let whole : IsSound v = with_page_sound (vacated s i) i w (vacated_sound s i sound inside) in
     let there : i < length v.marks = rw (length-set s.marks i empty) inside in
-    let mark : Mark = record { page = Some page; stamp = Some batch } in
+    let mark : FrameMark = record { page = Some page; stamp = Some batch } in
     let alone : GoesAlone s x i = settled_goes s v x i page (Some batch) w sound inside small refl refl in
     rw (ue, te) (record {
       made = settled_kept v i page (Some batch) whole there small ∙ ap (λ c. Some (record { page = c; stamp = Some batch })) (loaded_page s i w sound inside);

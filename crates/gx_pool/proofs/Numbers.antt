@@ -9,7 +9,7 @@ use Rattle.std.proofs.lemmas.List.Sums.{count_by-le-length}
 use Rattle.std.proofs.lemmas.Option.{none-some}
 use Rattle.gx_page.specs.Contents.{Contents}
 use Rattle.gx_pool.specs.declared.frames.TheConstants.{FRAMES}
-use Rattle.gx_pool.specs.declared.mark.Mark.{Mark}
+use Rattle.gx_pool.specs.declared.mark.FrameMark.{FrameMark}
 use Rattle.gx_pool.specs.Marks.{clean, empty, is_dirty, is_held}
 use Rattle.gx_pool.specs.State.{State, Kept, IsSound, IsSpare, NoneDirty, mark_at, place_of, kept, stamp_of, clean_count, dirty_count, is_clean_at, is_clean_page, is_counted, held_clean}
 use Rattle.gx_pool.specs.Edits.{changed, changed_at, later, stamped}
@@ -32,11 +32,11 @@ is_same : (page : ℕ) → (page == page) ≡ true
 is_same page = grind arith
 
 -- whether a frame has a clean page among the first so many that are held
-first_held : State → ℕ → Mark → Bool
+first_held : State → ℕ → FrameMark → Bool
 first_held s n mark = is_none mark.stamp && is_held (take n s.held) mark.page
 
 -- whether a frame has the next one, clean, where it is none of those
-next_held : State → ℕ → Mark → Bool
+next_held : State → ℕ → FrameMark → Bool
 next_held s n mark = not (is_held (take n s.held) (Some (get_or s.held n 0))) && (is_none mark.stamp && is_page (get_or s.held n 0) mark.page)
 
 held_more : (held : List ℕ) (n : ℕ) (o : Option ℕ) → n < length held → is_held (take (suc n) held) o ≡ (is_held (take n held) o || is_page (get_or held n 0) o)
@@ -68,7 +68,7 @@ test_parts true n p is = absurd (grind arith)
 test_parts false false p is = absurd (grind arith)
 test_parts false true p is = is
 
-next_page : (s : State) (n : ℕ) (mark : Mark) → next_held s n mark ≡ true → mark.page ≡ Some (get_or s.held n 0)
+next_page : (s : State) (n : ℕ) (mark : FrameMark) → next_held s n mark ≡ true → mark.page ≡ Some (get_or s.held n 0)
 unfolding next_held
 next_page s n mark is = page_is (get_or s.held n 0) mark.page (test_parts (is_held (take n s.held) (Some (get_or s.held n 0))) (is_none mark.stamp) (is_page (get_or s.held n 0) mark.page) is)
 
@@ -335,23 +335,23 @@ cleaned_held s i page inside at was held =
 -- ---- a frame's page
 
 -- as many are dirty where a frame that wasn't dirty isn't
-pub still_clean : (s : State) (i : ℕ) (mark : Mark) → i < length s.marks → (mark_at s i).stamp ≡ None → mark.stamp ≡ None → count_by is_dirty (set s.marks i mark) ≡ dirty_count s
+pub still_clean : (s : State) (i : ℕ) (mark : FrameMark) → i < length s.marks → (mark_at s i).stamp ≡ None → mark.stamp ≡ None → count_by is_dirty (set s.marks i mark) ≡ dirty_count s
 still_clean s i mark inside was is = as_many is_dirty s.marks i mark empty inside (ap is_some was ∙ sym (ap is_some is))
 
 -- and one more where it is
-pub then_dirty : (s : State) (i : ℕ) (mark : Mark) → i < length s.marks → (mark_at s i).stamp ≡ None → is_dirty mark ≡ true → count_by is_dirty (set s.marks i mark) ≡ dirty_count s + 1
+pub then_dirty : (s : State) (i : ℕ) (mark : FrameMark) → i < length s.marks → (mark_at s i).stamp ≡ None → is_dirty mark ≡ true → count_by is_dirty (set s.marks i mark) ≡ dirty_count s + 1
 then_dirty s i mark inside was is = one_more is_dirty s.marks i mark empty inside (ap is_some was) is
 
 -- ---- a frame's mark
 
 -- a dirty frame is counted
-pub was_counted : (marks : List Mark) (i dirty : ℕ) (was : Bool) → i < length marks → dirty ≡ count_by is_dirty marks → was ≡ is_dirty (get_or marks i empty) → cond was 1 0 ≤ dirty
+pub was_counted : (marks : List FrameMark) (i dirty : ℕ) (was : Bool) → i < length marks → dirty ≡ count_by is_dirty marks → was ≡ is_dirty (get_or marks i empty) → cond was 1 0 ≤ dirty
 was_counted marks i dirty was inside counted is = rw (is, counted) (counted_at is_dirty marks i empty inside)
 
-pub few_counted : (marks : List Mark) (dirty : ℕ) → length marks ≤ FRAMES → dirty ≡ count_by is_dirty marks → dirty ≤ FRAMES
+pub few_counted : (marks : List FrameMark) (dirty : ℕ) → length marks ≤ FRAMES → dirty ≡ count_by is_dirty marks → dirty ≤ FRAMES
 few_counted marks dirty few counted = let all = count_by-le-length is_dirty marks in omega (arith, all, few, counted)
 
-pub put_counted : (marks : List Mark) (i dirty after : ℕ) (mark : Mark) (was is : Bool) → i < length marks → dirty ≡ count_by is_dirty marks → was ≡ is_dirty (get_or marks i empty) → is ≡ is_dirty mark
+pub put_counted : (marks : List FrameMark) (i dirty after : ℕ) (mark : FrameMark) (was is : Bool) → i < length marks → dirty ≡ count_by is_dirty marks → was ≡ is_dirty (get_or marks i empty) → is ≡ is_dirty mark
     → after + cond was 1 0 ≡ dirty + cond is 1 0 → after ≡ count_by is_dirty (set marks i mark)
 put_counted marks i dirty after mark was is inside counted before now sum =
     let all = counted_set is_dirty marks i mark empty inside in
@@ -360,7 +360,7 @@ put_counted marks i dirty after mark was is inside counted before now sum =
     omega (arith, all, one, two, counted, sum)
 
 -- no empty frame is dirty
-pub empty_counted : (marks : List Mark) → ((k : ℕ) → get_or marks k empty ≡ empty) → 0 ≡ count_by is_dirty marks
+pub empty_counted : (marks : List FrameMark) → ((k : ℕ) → get_or marks k empty ≡ empty) → 0 ≡ count_by is_dirty marks
 empty_counted marks each = sym (none_counted is_dirty marks empty (λ k below. ap is_dirty (each k)))
 
 -- a number beyond the table is no page's

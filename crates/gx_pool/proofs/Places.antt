@@ -8,7 +8,7 @@ use Rattle.std.proofs.lemmas.Bool.{cases_lt}
 use Rattle.gx_disk.specs.declared.layout.TheConstants.{MAX_PAGES}
 use Rattle.gx_page.specs.Contents.{Contents}
 use Rattle.gx_pool.specs.declared.frames.TheConstants.{FRAMES}
-use Rattle.gx_pool.specs.declared.mark.Mark.{Mark}
+use Rattle.gx_pool.specs.declared.mark.FrameMark.{FrameMark}
 use Rattle.gx_pool.specs.Marks.{empty, is_gated, writable, IsLeast}
 use Rattle.gx_pool.specs.State.{State, Kept, IsSound, IsWritable, stamp_of, mark_at, place_of, kept, kept_at, frame_at}
 use Rattle.gx_pool.specs.Edits.{changed, changed_at, later, vacated, with_page, settled, stamped, forgotten}
@@ -110,7 +110,7 @@ with_page_sound s i page sound = record {
 pub settled_sound : (s : State) (i page : ℕ) (stamp : Option ℕ) → IsSound s → i < length s.marks → (mark_at s i).page ≡ None → 1 ≤ page → page ≤ MAX_PAGES → place_of s page ≡ None
     → IsSound (settled s i page stamp)
 settled_sound s i page stamp sound inside free positive small absent =
-    let new : Mark = record { page = Some page; stamp = stamp } in
+    let new : FrameMark = record { page = Some page; stamp = stamp } in
     let room : page < length s.places = omega (arith, sound.numbers) in
     record {
       sizes = sound.sizes ∙ sym (length-set s.marks i new);
@@ -154,7 +154,7 @@ not_none (Some n) is none = none-some n (sym none)
 
 pub stamped_sound : (s : State) (i : ℕ) (stamp : Option ℕ) → IsSound s → i < length s.marks → IsSome (mark_at s i).page → IsSound (stamped s i stamp)
 stamped_sound s i stamp sound inside there =
-    let new : Mark = record (mark_at s i) { stamp = stamp } in
+    let new : FrameMark = record (mark_at s i) { stamp = stamp } in
     record {
       sizes = sound.sizes ∙ sym (length-set s.marks i new);
       few = rw (length-set s.marks i new) sound.few;
@@ -295,11 +295,11 @@ stamped_other s i page other stamp sound at ne =
 
 -- ---- what may be written
 
-writable_parts : (gated : ℕ) (m : Mark) (page : ℕ) (yes : Bool) → is_gated gated m.stamp ≡ yes → writable gated m ≡ Some page → (yes ≡ true) × (m.page ≡ Some page)
+writable_parts : (gated : ℕ) (m : FrameMark) (page : ℕ) (yes : Bool) → is_gated gated m.stamp ≡ yes → writable gated m ≡ Some page → (yes ≡ true) × (m.page ≡ Some page)
 writable_parts gated m page true is at = (refl, sym (rw is refl) ∙ at)
 writable_parts gated m page false is at = absurd (none-some page (sym (rw is refl) ∙ at))
 
-writable_made : (gated : ℕ) (m : Mark) (page : ℕ) → is_gated gated m.stamp ≡ true → m.page ≡ Some page → writable gated m ≡ Some page
+writable_made : (gated : ℕ) (m : FrameMark) (page : ℕ) → is_gated gated m.stamp ≡ true → m.page ≡ Some page → writable gated m ≡ Some page
 writable_made gated m page is at = rw is at
 
 placed_writable : (s : State) (page : ℕ) (o : Option ℕ) → IsSound s → place_of s page ≡ o → is_gated s.gated (stamp_of (kept_at s o)) ≡ true

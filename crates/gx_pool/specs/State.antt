@@ -4,14 +4,14 @@ use Rattle.gx_disk.specs.declared.layout.TheConstants.{MAX_PAGES}
 use Rattle.gx_page.specs.Contents.{Contents}
 use Rattle.gx_page.specs.Edits.{blank}
 use Rattle.gx_pool.specs.declared.frames.TheConstants.{FRAMES}
-use Rattle.gx_pool.specs.declared.mark.Mark.{Mark}
+use Rattle.gx_pool.specs.declared.mark.FrameMark.{FrameMark}
 use Rattle.gx_pool.specs.Marks.{clean, empty, is_dirty, is_gated, is_held, is_upper, NoLeaf}
 
 pub record State : Type 0 where
   -- the page in each frame
   pub pages : List Contents
   -- what is known of each frame besides
-  pub marks : List Mark
+  pub marks : List FrameMark
   -- the frame of each page, by number
   pub places : List (Option ℕ)
   -- the pages that the event holds
@@ -24,7 +24,7 @@ pub record Kept : Type 0 where
   pub page : Contents
   pub stamp : Option ℕ
 
-abbrev pub mark_at : State → ℕ → Mark
+abbrev pub mark_at : State → ℕ → FrameMark
 mark_at s i = slice_index_or s.marks i empty
 
 abbrev pub place_of : State → ℕ → Option ℕ

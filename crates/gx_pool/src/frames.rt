@@ -7,7 +7,7 @@ ghost use Rattle.gx_page.specs.Edits.{blank};
 ghost use Rattle.gx_page.specs.Faults.{fault_of};
 ghost use Rattle.gx_page.specs.Reading.{IsImage, read_of};
 
-use crate::mark::{self, HELD, Mark};
+use crate::mark::{self, FrameMark, HELD};
 use arrayvec::ArrayVec;
 use gx_disk::MAX_PAGES;
 use gx_page::{Page, PageFault};
@@ -21,7 +21,7 @@ pub const FRAMES: usize = 4096;
 #[derive(Drop)]
 pub struct Frames {
     pages: Vec<Page>,
-    marks: Vec<Mark>,
+    marks: Vec<FrameMark>,
     places: Vec<Option<u16>>,
     held: ArrayVec<u32, HELD>,
     gated: u64,
@@ -148,7 +148,7 @@ impl Frames {
     {
         let mark = mark::mark_in(&self.marks, i);
         mark::forget(&mut self.places, mark.page);
-        self.dirty = mark::put(&mut self.marks, i, Mark::empty(), self.dirty);
+        self.dirty = mark::set_mark(&mut self.marks, i, FrameMark::empty(), self.dirty);
     }
 
     /// Reads an image into an empty frame.
@@ -170,11 +170,11 @@ impl Frames {
         requires number { 1 ≤ page }
         ensures { self.new ≡ settled self.old i page stamp }
     {
-        let mark = Mark {
+        let mark = FrameMark {
             page: Some(page),
             stamp,
         };
-        self.dirty = mark::put(&mut self.marks, i, mark, self.dirty);
+        self.dirty = mark::set_mark(&mut self.marks, i, mark, self.dirty);
         self.places[page as usize] = Some(i as u16);
     }
 
@@ -315,7 +315,7 @@ impl Frames {
         ensures sound { IsSound self.old }
     {
         let mark = mark::mark_in(&self.marks, i);
-        self.dirty = mark::put(&mut self.marks, i, Mark { stamp, ..mark }, self.dirty);
+        self.dirty = mark::set_mark(&mut self.marks, i, FrameMark { stamp, ..mark }, self.dirty);
     }
 
     /// A page that is kept, to change, as of a batch.
@@ -348,7 +348,7 @@ impl Frames {
     }
 
     /// What is known of a frame besides its page.
-    pub(crate) fn mark(&self, i: usize) -> Mark
+    pub(crate) fn mark(&self, i: usize) -> FrameMark
         requires { i < length self.now.marks }
         ensures { result ≡ mark_at self.now i }
     {

@@ -18,7 +18,7 @@ pub const HELD: usize = 4;
 /// What a frame holds: the number of its page, none for an empty frame; and the greatest batch that has a change of it,
 /// none where it is as the device has it.
 #[derive(Clone, Copy)]
-pub struct Mark {
+pub struct FrameMark {
     pub(crate) page: Option<u32>,
     pub(crate) stamp: Option<u64>,
 }
@@ -31,7 +31,7 @@ pub(crate) fn is_among(page: u32, held: &[u32]) -> bool
 }
 
 /// What is known of a frame.
-pub(crate) fn mark_in(marks: &[Mark], i: usize) -> Mark
+pub(crate) fn mark_in(marks: &[FrameMark], i: usize) -> FrameMark
     requires { i < length marks.now }
     ensures { result ≡ slice_index_or marks.now i empty }
 {
@@ -80,12 +80,12 @@ pub(crate) fn forget(places: &mut Vec<Option<u16>>, page: Option<u32>)
     }
 }
 
-impl Mark {
+impl FrameMark {
     /// Of an empty frame.
-    pub(crate) fn empty() -> Mark
+    pub(crate) fn empty() -> FrameMark
         ensures { result ≡ empty }
     {
-        Mark {
+        FrameMark {
             page: None,
             stamp: None,
         }
@@ -138,7 +138,7 @@ impl Mark {
 
 /// The first clean frame between two places that is empty or has a leaf.
 fn leaf_between(
-    marks: &[Mark],
+    marks: &[FrameMark],
     pages: &[Page],
     held: &[u32],
     from: usize,
@@ -159,7 +159,7 @@ fn leaf_between(
 }
 
 /// The first clean frame.
-fn clean_frame(marks: &[Mark], held: &[u32]) -> Option<usize>
+fn clean_frame(marks: &[FrameMark], held: &[u32]) -> Option<usize>
     ensures found { IfSome result (λ i. (i < length marks.now)
         × (clean held.now (slice_index_or marks.now i empty) ≡ true)) }
     ensures none { IfNone result ((k : ℕ) → k < length marks.now
@@ -174,7 +174,7 @@ fn clean_frame(marks: &[Mark], held: &[u32]) -> Option<usize>
 }
 
 /// The first clean frame that is empty or has a leaf, from the hand on and round.
-fn leaf_frame(marks: &[Mark], pages: &[Page], held: &[u32], hand: usize) -> Option<usize>
+fn leaf_frame(marks: &[FrameMark], pages: &[Page], held: &[u32], hand: usize) -> Option<usize>
     requires { (hand ≤ length marks.now) × (length pages.now ≡ length marks.now) }
     ensures found { IfSome result (λ i. (i < length marks.now)
         × (clean held.now (slice_index_or marks.now i empty) ≡ true)
@@ -190,7 +190,7 @@ fn leaf_frame(marks: &[Mark], pages: &[Page], held: &[u32], hand: usize) -> Opti
 /// The frame for a page that comes in: the first clean one that is empty or has a leaf, from the hand on and round; and
 /// where there is none, the first clean one.
 pub(crate) fn frame_to_use(
-    marks: &[Mark],
+    marks: &[FrameMark],
     pages: &[Page],
     held: &[u32],
     hand: usize,
@@ -246,7 +246,7 @@ fn dirty_after(dirty: usize, was: bool, is: bool) -> usize
 }
 
 /// Notes what is known of a frame; answers how many frames are dirty then, of so many before.
-pub(crate) fn put(marks: &mut Vec<Mark>, i: usize, mark: Mark, dirty: usize) -> usize
+pub(crate) fn set_mark(marks: &mut Vec<FrameMark>, i: usize, mark: FrameMark, dirty: usize) -> usize
     requires frame { (i < length marks.old.items) × (length marks.old.items ≤ FRAMES) }
     requires counted { dirty ≡ count_by is_dirty marks.old.items }
     ensures put { marks.new.items ≡ slice_set marks.old.items i mark }
@@ -259,7 +259,7 @@ pub(crate) fn put(marks: &mut Vec<Mark>, i: usize, mark: Mark, dirty: usize) -> 
 }
 
 /// The least page that may be written.
-pub(crate) fn least_writable(marks: &[Mark], gated: u64) -> Option<u32>
+pub(crate) fn least_writable(marks: &[FrameMark], gated: u64) -> Option<u32>
     ensures { IsLeast gated marks.now (length marks.now) result }
 {
     let mut least: Option<u32> = None;
@@ -274,13 +274,13 @@ pub(crate) fn least_writable(marks: &[Mark], gated: u64) -> Option<u32>
 
 /// So many empty frames.
 #[tactic(auto, using(crate::proofs::Places::one_same))]
-pub(crate) fn empty_marks(alloc: Global, frames: usize) -> Result<Vec<Mark>, AllocError>
+pub(crate) fn empty_marks(alloc: Global, frames: usize) -> Result<Vec<FrameMark>, AllocError>
     ensures { IfOk result (λ marks. (length marks.items ≡ frames)
         × ((k : ℕ) → slice_index_or marks.items k empty ≡ empty)) }
 {
     let mut marks = Vec::with_capacity(alloc, frames)?;
     for _i in 0..frames {
-        marks.push(Mark::empty())?;
+        marks.push(FrameMark::empty())?;
     }
     Ok(marks)
 }

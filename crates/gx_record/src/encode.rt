@@ -40,7 +40,7 @@ pub(crate) fn length_of(logged: &Record<'_>) -> usize
 }
 
 /// Writes bytes from a place on.
-fn put(out: &mut [u8], at: usize, bytes: &[u8]) -> usize
+fn put_bytes(out: &mut [u8], at: usize, bytes: &[u8]) -> usize
     requires { at + length bytes.now ≤ length out.old }
     ensures wrote { Wrote out.old out.new at bytes.now result }
     ensures behind { result ≡ at + length bytes.now }
@@ -56,7 +56,7 @@ fn put_u64(out: &mut [u8], at: usize, number: u64) -> usize
     ensures wrote { Wrote out.old out.new at (u64_bytes number) result }
     ensures behind { result ≡ at + 8 }
 {
-    put(out, at, &number.to_be_bytes())
+    put_bytes(out, at, &number.to_be_bytes())
 }
 
 #[tactic(auto, unfolding(crate::specs::Bytes::u32_bytes))]
@@ -65,7 +65,7 @@ fn put_u32(out: &mut [u8], at: usize, number: u32) -> usize
     ensures wrote { Wrote out.old out.new at (u32_bytes number) result }
     ensures behind { result ≡ at + 4 }
 {
-    put(out, at, &number.to_be_bytes())
+    put_bytes(out, at, &number.to_be_bytes())
 }
 
 #[tactic(auto, unfolding(crate::specs::Bytes::u16_bytes))]
@@ -74,7 +74,7 @@ fn put_u16(out: &mut [u8], at: usize, number: u16) -> usize
     ensures wrote { Wrote out.old out.new at (u16_bytes number) result }
     ensures behind { result ≡ at + 2 }
 {
-    put(out, at, &number.to_be_bytes())
+    put_bytes(out, at, &number.to_be_bytes())
 }
 
 fn put_mark(out: &mut [u8], at: usize, mark: Mark) -> usize
@@ -83,8 +83,8 @@ fn put_mark(out: &mut [u8], at: usize, mark: Mark) -> usize
     ensures behind { result ≡ at + 1 }
 {
     match mark {
-        Mark::Live => put(out, at, &[0]),
-        Mark::Marked => put(out, at, &[1]),
+        Mark::Live => put_bytes(out, at, &[0]),
+        Mark::Marked => put_bytes(out, at, &[1]),
     }
 }
 
@@ -96,7 +96,7 @@ fn put_entry(out: &mut [u8], at: usize, tx: u64, row: u64, key: &[u8]) -> usize
 {
     let at = put_u64(out, at, tx);
     let at = put_u64(out, at, row);
-    put(out, at, key)
+    put_bytes(out, at, key)
 }
 
 /// Writes a page's number and its image.
@@ -107,7 +107,7 @@ fn put_page(out: &mut [u8], at: usize, page: u32, image: &[u8]) -> usize
     ensures behind { result ≡ at + NUMBERED_IMAGE }
 {
     let at = put_u32(out, at, page);
-    put(out, at, image)
+    put_bytes(out, at, image)
 }
 
 /// Writes pages behind their count.
@@ -119,16 +119,16 @@ fn put_pages(out: &mut [u8], at: usize, pages: &PageImages<'_>) -> usize
 {
     match *pages {
         PageImages::One(first) => {
-            let at = put(out, at, &[1]);
+            let at = put_bytes(out, at, &[1]);
             put_page(out, at, first.page, first.image)
         }
         PageImages::Two(first, second) => {
-            let at = put(out, at, &[2]);
+            let at = put_bytes(out, at, &[2]);
             let at = put_page(out, at, first.page, first.image);
             put_page(out, at, second.page, second.image)
         }
         PageImages::Three(first, second, third) => {
-            let at = put(out, at, &[3]);
+            let at = put_bytes(out, at, &[3]);
             let at = put_page(out, at, first.page, first.image);
             let at = put_page(out, at, second.page, second.image);
             put_page(out, at, third.page, third.image)
@@ -144,7 +144,7 @@ fn write_pages(out: &mut [u8], counter: u64, used: u32, pages: &PageImages<'_>) 
     requires room { PAGES_HEAD + NUMBERED_IMAGE * length (images pages.now) ≤ length out.old }
     ensures { Wrote out.old out.new 0 (spelling (Pages counter used (images pages.now))) result }
 {
-    let at = put(out, 0, &[PAGES]);
+    let at = put_bytes(out, 0, &[PAGES]);
     let at = put_u64(out, at, counter);
     let at = put_u32(out, at, used);
     put_pages(out, at, pages)
@@ -166,7 +166,7 @@ fn write_write(
     ensures { Wrote out.old out.new 0
         (spelling (Write tx row key.now (is_marked marks.0) (is_marked marks.1) leaf image.now)) result }
 {
-    let at = put(out, 0, &[WRITE]);
+    let at = put_bytes(out, 0, &[WRITE]);
     let at = put_entry(out, at, tx, row, key);
     let at = put_mark(out, at, marks.0);
     let at = put_mark(out, at, marks.1);
@@ -178,7 +178,7 @@ fn write_note(out: &mut [u8], tx: u64, row: u64, key: &[u8], before: Mark, leaf:
     requires { NOTE_BESIDE_KEY + length key.now ≤ length out.old }
     ensures { Wrote out.old out.new 0 (spelling (Note tx row key.now (is_marked before) leaf)) result }
 {
-    let at = put(out, 0, &[NOTE]);
+    let at = put_bytes(out, 0, &[NOTE]);
     let at = put_entry(out, at, tx, row, key);
     let at = put_mark(out, at, before);
     put_u32(out, at, leaf)
@@ -190,7 +190,7 @@ fn write_bit(out: &mut [u8], tx: u64, row: u64, key: &[u8], marks: (Mark, Mark),
     ensures { Wrote out.old out.new 0
         (spelling (Bit tx row key.now (is_marked marks.0) (is_marked marks.1) leaf)) result }
 {
-    let at = put(out, 0, &[BIT]);
+    let at = put_bytes(out, 0, &[BIT]);
     let at = put_entry(out, at, tx, row, key);
     let at = put_mark(out, at, marks.0);
     let at = put_mark(out, at, marks.1);
@@ -202,7 +202,7 @@ fn write_add(out: &mut [u8], tx: u64, row: u64, key: &[u8], leaf: u32) -> usize
     requires { ADD_BESIDE_KEY + length key.now ≤ length out.old }
     ensures { Wrote out.old out.new 0 (spelling (Add tx row key.now leaf)) result }
 {
-    let at = put(out, 0, &[ADD]);
+    let at = put_bytes(out, 0, &[ADD]);
     let at = put_entry(out, at, tx, row, key);
     put_u32(out, at, leaf)
 }
@@ -212,10 +212,10 @@ fn write_widen(out: &mut [u8], page: u32, slot: u16, key: &[u8]) -> usize
     requires { WIDEN_BESIDE_KEY + length key.now ≤ length out.old }
     ensures { Wrote out.old out.new 0 (spelling (Widen page slot key.now)) result }
 {
-    let at = put(out, 0, &[WIDEN]);
+    let at = put_bytes(out, 0, &[WIDEN]);
     let at = put_u32(out, at, page);
     let at = put_u16(out, at, slot);
-    put(out, at, key)
+    put_bytes(out, at, key)
 }
 
 /// Writes slots behind their count.
@@ -224,8 +224,8 @@ fn put_slots(out: &mut [u8], at: usize, slots: &Slots<'_>) -> usize
     requires room { at + (1 + SLOT_NUMBER * length (slots_of slots.now)) ≤ length out.old }
     ensures { Wrote out.old out.new at (length (slots_of slots.now) ∷ slots_bytes (slots_of slots.now)) result }
 {
-    let at = put(out, at, &[slots.count() as u8]);
-    put(out, at, whole_slots(slots.bytes))
+    let at = put_bytes(out, at, &[slots.count() as u8]);
+    put_bytes(out, at, whole_slots(slots.bytes))
 }
 
 /// Writes a sweep's record at the front.
@@ -234,7 +234,7 @@ fn write_sweep(out: &mut [u8], page: u32, slots: &Slots<'_>) -> usize
     requires room { SWEEP_BESIDE_SLOTS + SLOT_NUMBER * length (slots_of slots.now) ≤ length out.old }
     ensures { Wrote out.old out.new 0 (spelling (Sweep page (slots_of slots.now))) result }
 {
-    let at = put(out, 0, &[SWEEP]);
+    let at = put_bytes(out, 0, &[SWEEP]);
     let at = put_u32(out, at, page);
     put_slots(out, at, slots)
 }
@@ -244,7 +244,7 @@ fn write_commit(out: &mut [u8], tx: u64, n: u64) -> usize
     requires { COMMIT_RECORD ≤ length out.old }
     ensures { Wrote out.old out.new 0 (spelling (Commit tx n)) result }
 {
-    let at = put(out, 0, &[COMMIT]);
+    let at = put_bytes(out, 0, &[COMMIT]);
     let at = put_u64(out, at, tx);
     put_u64(out, at, n)
 }
@@ -254,7 +254,7 @@ fn write_counters(out: &mut [u8], n: u64, counter: u64, used: u32, next: u64) ->
     requires { COUNTERS_RECORD ≤ length out.old }
     ensures { Wrote out.old out.new 0 (spelling (Counters n counter used next)) result }
 {
-    let at = put(out, 0, &[COUNTERS]);
+    let at = put_bytes(out, 0, &[COUNTERS]);
     let at = put_u64(out, at, n);
     let at = put_u64(out, at, counter);
     let at = put_u32(out, at, used);
@@ -284,7 +284,7 @@ pub(crate) fn write(logged: &Record<'_>, out: &mut [u8]) -> usize
         } => write_write(out, tx, row, key, (before, after), leaf, image),
         Record::Commit { tx, n } => write_commit(out, tx, n),
         Record::End { tx } => {
-            let at = put(out, 0, &[END]);
+            let at = put_bytes(out, 0, &[END]);
             put_u64(out, at, tx)
         }
         Record::Counters {

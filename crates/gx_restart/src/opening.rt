@@ -15,7 +15,7 @@ mod begin;
 mod losers;
 mod undo;
 
-use begin::begin;
+use begin::begin_engine;
 use gx_class::Probing;
 use gx_disk::SectorDisk;
 use gx_engine::laws::a_class_is_lawful;
@@ -94,7 +94,7 @@ where
         (λ n. HasNotBegun K.Key.Shape K.is_proper K.said (format_of K.KeyClass) standing.now.parameters (D.state a).seen
         (D.state disk) (D.state n.disk) n.why) }
 {
-    match begin(alloc, disk, standing, frames) {
+    match begin_engine(alloc, disk, standing, frames) {
         Ok(engine) => finished(engine),
         Err(n) => Err(n),
     }

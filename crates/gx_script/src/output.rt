@@ -84,9 +84,9 @@ impl Output {
         ensures { self.new ≡ self.old ++ told_line session told.now }
     {
         self.put_number(session);
-        self.put(b" ");
-        self.put(told);
-        self.put(b"\n");
+        self.put_bytes(b" ");
+        self.put_bytes(told);
+        self.put_bytes(b"\n");
     }
 
     /// Adds the line of a session that is told these words, at most 32 bytes, and a number.
@@ -96,10 +96,10 @@ impl Output {
         ensures { self.new ≡ self.old ++ told_line session (told.now ++ decimal count) }
     {
         self.put_number(session);
-        self.put(b" ");
-        self.put(told);
+        self.put_bytes(b" ");
+        self.put_bytes(told);
         self.put_number(count);
-        self.put(b"\n");
+        self.put_bytes(b"\n");
     }
 
     /// Adds the line of a refusal.
@@ -110,11 +110,11 @@ impl Output {
     {
         let text = why.text();
         self.put_number(session);
-        self.put(b" refused ");
+        self.put_bytes(b" refused ");
         self.put_number(u64::from(why.number()));
-        self.put(b" ");
-        self.put(text.as_str().as_bytes());
-        self.put(b"\n");
+        self.put_bytes(b" ");
+        self.put_bytes(text.as_str().as_bytes());
+        self.put_bytes(b"\n");
     }
 
     /// Adds the line of an entry.
@@ -123,11 +123,11 @@ impl Output {
         ensures { self.new ≡ self.old ++ entry_line session entry.now }
     {
         self.put_number(session);
-        self.put(b" entry ");
+        self.put_bytes(b" entry ");
         self.put_number(entry.row);
-        self.put(b" ");
+        self.put_bytes(b" ");
         self.put_corners(&entry.key);
-        self.put(b"\n");
+        self.put_bytes(b"\n");
     }
 
     /// Adds the line for a bad line, by its number.
@@ -135,9 +135,9 @@ impl Output {
         requires { length self.old + LONGEST ≤ WAITING }
         ensures { self.new ≡ self.old ++ bad_line number }
     {
-        self.put(b"line ");
+        self.put_bytes(b"line ");
         self.put_number(number);
-        self.put(b" bad\n");
+        self.put_bytes(b" bad\n");
     }
 
     fn put_corners(&mut self, key: &Box2)
@@ -146,11 +146,11 @@ impl Output {
         ensures len { length self.new ≤ length self.old + 47 }
     {
         self.put_corner(key.x1());
-        self.put(b" ");
+        self.put_bytes(b" ");
         self.put_corner(key.y1());
-        self.put(b" ");
+        self.put_bytes(b" ");
         self.put_corner(key.x2());
-        self.put(b" ");
+        self.put_bytes(b" ");
         self.put_corner(key.y2());
     }
 
@@ -160,7 +160,7 @@ impl Output {
         ensures len { length self.new ≤ length self.old + 20 }
     {
         let mut digits = Buffer::new();
-        self.put(digits.format(number).as_bytes());
+        self.put_bytes(digits.format(number).as_bytes());
     }
 
     fn put_corner(&mut self, corner: i32)
@@ -169,10 +169,10 @@ impl Output {
         ensures len { length self.new ≤ length self.old + 11 }
     {
         let mut digits = Buffer::new();
-        self.put(digits.format(corner).as_bytes());
+        self.put_bytes(digits.format(corner).as_bytes());
     }
 
-    fn put(&mut self, bytes: &[u8])
+    fn put_bytes(&mut self, bytes: &[u8])
         requires { length self.old + length bytes.now ≤ WAITING }
         ensures text { self.new ≡ self.old ++ bytes.now }
         ensures len { length self.new ≡ length self.old + length bytes.now }

@@ -156,7 +156,7 @@ impl Script {
         ensures stuck { OnErr result (TakesNoMore writer.new) }
     {
         let line = parse(self.line.as_slice());
-        tell(writer, index, &mut self.output, self.number, line)?;
+        run_line(writer, index, &mut self.output, self.number, line)?;
         self.line.clear();
         self.number += 1;
         Ok(())
@@ -193,7 +193,7 @@ fn first_feed(bytes: &[u8]) -> Option<usize>
 }
 
 // Does one line.
-fn tell<W: Write, I: Answers>(
+fn run_line<W: Write, I: Answers>(
     writer: &mut Noted<W>,
     index: &mut I,
     output: &mut Output,

@@ -3,7 +3,7 @@ ghost use Rattle.std.specs.Prelude.{◌≡◌};
 ghost use Rattle.gx_shared.specs.Sharing.{InCall, Follows};
 
 use crate::flush::{Part, ROUND};
-use crate::turns::Turn;
+use crate::turns::CallTurn;
 use crate::{Between, Run, Session, Shared};
 use gx_events::{Driver, Event, Events, Next, Outcome};
 use gx_geom::Shape;
@@ -62,14 +62,14 @@ impl<R: Ledger> Session<R> {
     {
         let number = self.number();
         let turns = &shared.turns;
-        let mut turn = Turn::begin(number, &call);
+        let mut turn = CallTurn::begin_call(number, &call);
         let mut event = Event::Ask(number, call);
         let mut step: u64 = 0;
         for _ in rt.forever() {
             let moves = matches!(event, Event::Move(_));
             match hold(rt, shared, self, event) {
                 Next::Done(reply) => {
-                    turn.end(turns);
+                    turn.end_call(turns);
                     return reply;
                 }
                 Next::Run(next) => event = next,

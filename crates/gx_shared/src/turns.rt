@@ -92,7 +92,7 @@ fn nap<W: Wait>(rt: &W, word: &AtomicU64, was: u64) {
 
 /// How far a call is on its way to a durable commit.
 #[derive(Clone, Copy, Debug, PartialEq, Eq)]
-enum Stage {
+enum CommitStage {
     /// It isn't a commit.
     Other,
     /// It is, and not sealed.
@@ -105,21 +105,21 @@ enum Stage {
 
 /// A call under way.
 #[derive(Drop)]
-pub(crate) struct Turn {
+pub(crate) struct CallTurn {
     session: u8,
-    stage: Stage,
+    stage: CommitStage,
     /// How many naps it may still take while another one leads.
     naps: u32,
 }
 
-impl Turn {
+impl CallTurn {
     /// A call of a session begins.
-    pub(crate) fn begin<B>(session: u8, call: &Call<B>) -> Self {
+    pub(crate) fn begin_call<B>(session: u8, call: &Call<B>) -> Self {
         let stage = match call {
-            Call::Commit => Stage::Unsealed,
-            _ => Stage::Other,
+            Call::Commit => CommitStage::Unsealed,
+            _ => CommitStage::Other,
         };
-        Turn {
+        CallTurn {
             session,
             stage,
             naps: FOLLOWS,
@@ -128,8 +128,8 @@ impl Turn {
 
     /// A move of the call did its work, and another one comes: by the first of a commit that does, it is sealed.
     pub(crate) fn moved(&mut self) {
-        if self.stage == Stage::Unsealed {
-            self.stage = Stage::Sealed;
+        if self.stage == CommitStage::Unsealed {
+            self.stage = CommitStage::Sealed;
         }
     }
 
@@ -141,18 +141,18 @@ impl Turn {
     /// any longer.
     pub(crate) fn wait<B, W: Wait>(&mut self, rt: &W, turns: &Turns, next: &Event<B>) {
         match (self.stage, next) {
-            (Stage::Sealed, Event::LogStep) => {
+            (CommitStage::Sealed, Event::LogStep) => {
                 turns.join(self.session);
                 if turns.lead(self.session) {
-                    self.stage = Stage::Leads;
+                    self.stage = CommitStage::Leads;
                 }
                 gather(rt, turns);
             }
-            (Stage::Sealed, _) => {
+            (CommitStage::Sealed, _) => {
                 turns.join(self.session);
                 self.follow(rt, turns);
             }
-            (Stage::Other | Stage::Unsealed, Event::LogStep) => turns.expect_nobody(),
+            (CommitStage::Other | CommitStage::Unsealed, Event::LogStep) => turns.expect_nobody(),
             _ => {}
         }
     }
@@ -170,8 +170,8 @@ impl Turn {
     }
 
     /// The call ends, with a reply or given up.
-    pub(crate) fn end(&self, turns: &Turns) {
-        if self.stage == Stage::Leads {
+    pub(crate) fn end_call(&self, turns: &Turns) {
+        if self.stage == CommitStage::Leads {
             turns.end_round();
         }
     }

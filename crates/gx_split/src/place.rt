@@ -63,7 +63,12 @@ fn refresh_all<M: Measure>(second: bool, covers: &Covers<M>, waiting: &mut [Wait
 
 /// A key goes to a group, and the others' growths are those beside its new cover:
 /// as they were, where it covered the key.
-fn put<M: Measure>(second: bool, key: &M, covers: &mut Covers<M>, waiting: &mut WaitingList<'_, M>)
+fn assign_key<M: Measure>(
+    second: bool,
+    key: &M,
+    covers: &mut Covers<M>,
+    waiting: &mut WaitingList<'_, M>,
+)
     requires first { covers.old.in_first + 1 < 2 ^ 64 }
     requires second { covers.old.in_second + 1 < 2 ^ 64 }
     requires grown { All (HasGrowths (measure M.joined M.extent) covers.old) waiting.old.items }
@@ -115,6 +120,6 @@ pub fn place_next<M: Measure>(
     let next = all[place];
     let second = goes_second(covers, all, least, &next);
     waiting.remove(place);
-    put(second, next.key, covers, waiting);
+    assign_key(second, next.key, covers, waiting);
     mark(second, next.slot, sides);
 }

@@ -10,7 +10,7 @@ use Rattle.gx_page.specs.Contents.{Contents}
 use Rattle.gx_tree_laws.specs.Alike.{AgreeOnUsed}
 use Rattle.gx_tree_laws.specs.Legal.{ChildFits, Legal}
 use Rattle.gx_tree_laws.specs.Looks.{from_root}
-use Rattle.gx_tree_laws.specs.Reach.{Item}
+use Rattle.gx_tree_laws.specs.Reach.{TraversalItem}
 use Rattle.gx_tree_laws.specs.Steps.{IsWidening, Widens}
 use Rattle.gx_tree_laws.specs.Trees.{Node, Pair, Tree, Used, child_pages, size, times}
 use Rattle.gx_tree_laws.specs.Writes.{IsDescent, has_place, must_restart}
@@ -55,7 +55,7 @@ pub record IsJoin {B : Type 0} (c : Class B) (IsKey : B → Type 0) (joined : B 
 
 module _ {B D : Type 0} (c : Class B) (law : IsLawful c) (said : List ℕ → B) (f : Format B) (passes : ℕ → Contents → Bool) (d e : Device) (v w : Volume D)
     (bodies : List (List (Record (Entry B) (Page B)))) (old : State B) (whole : IsWhole c old)
-    (s : ℕ) (entry : Entry B) (parent : ℕ) (item : Item) (at : old.work s ≡ Descends entry parent item)
+    (s : ℕ) (entry : Entry B) (parent : ℕ) (item : TraversalItem) (at : old.work s ≡ Descends entry parent item)
     (locks : Locks B) (notes : List (Note B)) (call : Call B) (slot : slot_at s old.slots ≡ Working locks notes (Some call))
     (keeps : Keeps (known_of c) (reading_of said f) f passes d v bodies old.log) where
   abbrev pub t : Tree B
@@ -87,7 +87,7 @@ module _ {B D : Type 0} (c : Class B) (law : IsLawful c) (said : List ℕ → B)
   shown_descent = descent_too c.rules t shown agree item entry.key its_descent.descent
 
   -- where an index's session descends next, and what its call then has left
-  pub record GoesTo (j : State B) (from : ℕ) (next : Item) : Type 0 where
+  pub record GoesTo (j : State B) (from : ℕ) (next : TraversalItem) : Type 0 where
     pub does : DoesWork c (tree_now c j) (slot_at s j.slots) (Descends entry from next)
     pub lower : work_left c (with_work s (Descends entry from next) j) s < work_left c old s
 
@@ -104,7 +104,7 @@ module _ {B D : Type 0} (c : Class B) (law : IsLawful c) (said : List ℕ → B)
       begins_again (ap (λ b. b || (not (item.page == 1) && not (has_place c.rules t parent item.page))) there)
 
   -- by an entry of its page, which isn't full
-  module _ (cost : B → B → ℕ × ℕ) (slot_there : ℕ) (next : Item) (bound : B) (choice : IsChoice cost c.rules.most (shown.node item.page) entry.key slot_there next.page bound) where
+  module _ (cost : B → B → ℕ × ℕ) (slot_there : ℕ) (next : TraversalItem) (bound : B) (choice : IsChoice cost c.rules.most (shown.node item.page) entry.key slot_there next.page bound) where
     inner : 0 < (t.node item.page).level
     inner = subst (λ (n : Node B). 0 < n.level) same_node choice.inner
 
@@ -204,14 +204,14 @@ module _ {B D : Type 0} (c : Class B) (law : IsLawful c) (said : List ℕ → B)
     abbrev now : Store B
     now = store_of f e.seen w.shelf
 
-    pub went_down_to : (next : Item) → StepsDown cost joined c.rules.most before now item entry.key (Down next) → GoesTo old item.page next
+    pub went_down_to : (next : TraversalItem) → StepsDown cost joined c.rules.most before now item entry.key (Down next) → GoesTo old item.page next
     went_down_to next step =
         let way = step.0.1 in
         goes_by cost step.0.0 next way.1.0 way.1.1 step.1
         (subst (λ (x : Store B). IsDescent c.rules (tree_of x) next entry.key) step.2
         (went_down c.rules IsKey cost joined join.is_key join.first join.second join.least before now item entry.key keys is_key next legal_shown shown_descent step))
 
-    module _ (next : Item) (slot_there : ℕ) (key : B) (step : StepsDown cost joined c.rules.most before now item entry.key (Widened next slot_there key))
+    module _ (next : TraversalItem) (slot_there : ℕ) (key : B) (step : StepsDown cost joined c.rules.most before now item entry.key (Widened next slot_there key))
         (own : HasOwnNumber e.seen w.shelf item.page)
         (after : StaysWith (known_of c) (reading_of said f) f passes d e w bodies old.log (record_read (reading_of said f) (page_given item.page e.seen w.shelf))) where
       widening : IsWidening c.rules shown shown_now item.page next.page entry.key key

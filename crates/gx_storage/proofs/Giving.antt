@@ -32,7 +32,7 @@ use Rattle.gx_tree.specs.declared.descent.Way.{Way}
 use Rattle.gx_tree.specs.declared.descent.Way.TheVariants.{Again, Add, FullLeaf, FullInner, Down, Widen}
 use Rattle.gx_tree.specs.declared.descent.Descended.{Descended}
 use Rattle.gx_tree.specs.declared.descent.Descended.TheVariants as did
-use Rattle.gx_tree_laws.specs.Reach.{Item}
+use Rattle.gx_tree_laws.specs.Reach.{TraversalItem}
 use Rattle.gx_store.specs.Standing.{standing, store_of}
 use Rattle.gx_store.proofs.Changing.{there}
 use Rattle.gx_store.proofs.Shown.{stands_kept}
@@ -149,7 +149,7 @@ pub unlogged_if : {B D : Type 0} (known : Limits → Known (Entry B) (Page B)) (
 unlogged_if known r f passes size d e v w x is apart unlogged = rw apart unlogged
 
 -- what a step of a descent that widened nothing leaves
-pub unwidened_stays : {B : Type 0} (cost : B → B → ℕ × ℕ) (joined : B → B → B) (most : ℕ) (old new : Store B) (item : Item) (coming : B) (d : Descended B) → is_widened d ≡ false
+pub unwidened_stays : {B : Type 0} (cost : B → B → ℕ × ℕ) (joined : B → B → B) (most : ℕ) (old new : Store B) (item : TraversalItem) (coming : B) (d : Descended B) → is_widened d ≡ false
     → StepsDown cost joined most old new item coming d → new ≡ old
 unwidened_stays cost joined most old new item coming did.Again narrow is = is.1
 unwidened_stays cost joined most old new item coming did.Leaf narrow is = is.1
@@ -165,7 +165,7 @@ page_in_range counter used page image c counter_fits used_fits page_fits is read
     (counter_fits, used_fits, omega arith, omega arith, (omega arith, record { fits = page_fits; image = record { image = is; number = ap (λ (p : Contents). p.number) reads ∙ number } }, tt))
 
 -- a step of a descent since before the event began
-pub descended_since : {B D : Type 0} (f : Format B) (state : D → Device) (v : Volume D) (size : ℕ) (u : Shelf D) (cost : B → B → ℕ × ℕ) (joined : B → B → B) (most : ℕ) (new : Store B) (item : Item) (coming : B) (d : Descended B)
+pub descended_since : {B D : Type 0} (f : Format B) (state : D → Device) (v : Volume D) (size : ℕ) (u : Shelf D) (cost : B → B → ℕ × ℕ) (joined : B → B → B) (most : ℕ) (new : Store B) (item : TraversalItem) (coming : B) (d : Descended B)
     → u ≡ begun v size → StepsDown cost joined most (store_of f (state u.disk).seen u) new item coming d → StepsDown cost joined most (store_of f (state v.shelf.disk).seen v.shelf) new item coming d
 descended_since f state v size u cost joined most new item coming d is down = subst {A = Shelf _} (λ x. StepsDown cost joined most (store_of f (state x.disk).seen x) new item coming d) is down
 
@@ -188,7 +188,7 @@ pub unwidened_narrow : {B : Type 0} (way : Way B) (seen : ℕ) (d : Descended B)
 unwidened_narrow way seen d is = sym (ap widened_in is) ∙ never_widened way seen
 
 -- and where it comes to nothing, a bound has to be widened
-pub has_to_widen : {B : Type 0} (cost : B → B → ℕ × ℕ) (joined : B → B → B) (most : ℕ) (s : Store B) (item : Item) (coming : B) (way : Way B) (seen : ℕ) → unwidened way seen ≡ None
+pub has_to_widen : {B : Type 0} (cost : B → B → ℕ × ℕ) (joined : B → B → B) (most : ℕ) (s : Store B) (item : TraversalItem) (coming : B) (way : Way B) (seen : ℕ) → unwidened way seen ≡ None
     → WayAt cost joined most s item coming way → HasToWiden cost joined most s item coming
 has_to_widen {B} cost joined most s item coming Again seen is at = absurd (let never : ◌≡◌ {A = Option (Descended B)} (Some did.Again) None = is in cc)
 has_to_widen {B} cost joined most s item coming Add seen is at = absurd (let never : ◌≡◌ {A = Option (Descended B)} (Some did.Leaf) None = is in cc)

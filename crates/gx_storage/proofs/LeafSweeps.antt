@@ -7,7 +7,7 @@ use Rattle.gx_machine.specs.Sessions.{Locks}
 use Rattle.gx_disk.specs.Device.{Device}
 use Rattle.gx_page.specs.Contents.{Contents}
 use Rattle.gx_tree_laws.specs.Lists.{how_many}
-use Rattle.gx_tree_laws.specs.Reach.{Item}
+use Rattle.gx_tree_laws.specs.Reach.{TraversalItem}
 use Rattle.gx_tree_laws.specs.Steps.{IsSweep, Sweeps}
 use Rattle.gx_tree_laws.specs.Trees.{Node, Pair, Tree}
 use Rattle.gx_tree_laws.specs.Writes.{is_sweepable}
@@ -37,7 +37,7 @@ use Rattle.gx_storage.proofs.Stepping as stepping
 
 module _ {B D : Type 0} (c : Class B) (law : IsLawful c) (said : List ℕ → B) (f : Format B) (passes : ℕ → Contents → Bool) (d e : Device) (v w : Volume D)
     (bodies : List (List (Record (Entry B) (Page B)))) (old : State B) (whole : IsWhole c old)
-    (s : ℕ) (entry : Entry B) (parent : ℕ) (item : Item) (at : old.work s ≡ Descends entry parent item)
+    (s : ℕ) (entry : Entry B) (parent : ℕ) (item : TraversalItem) (at : old.work s ≡ Descends entry parent item)
     (locks : Locks B) (notes : List (Note B)) (call : Call B) (slot : slot_at s old.slots ≡ Working locks notes (Some call))
     (keeps : Keeps (known_of c) (reading_of said f) f passes d v bodies old.log)
     (test : Entry B → Bool) (claims : (x : Entry B) → test x ≡ is_claimed c.keys x old.slots)

@@ -11,7 +11,7 @@ use Rattle.gx_page.specs.Contents.{Contents}
 use Rattle.gx_tree_laws.specs.Legal.{Legal}
 use Rattle.gx_tree_laws.specs.Lists.{Each}
 use Rattle.gx_tree_laws.specs.Looks.{from_root}
-use Rattle.gx_tree_laws.specs.Reach.{Item}
+use Rattle.gx_tree_laws.specs.Reach.{TraversalItem}
 use Rattle.gx_tree_laws.specs.Steps.{IsRootSplit, IsSplit, Splits, SplitsRoot}
 use Rattle.gx_tree_laws.specs.Trees.{Node, Tree, Used, child_pages, size, times}
 use Rattle.gx_tree_laws.proofs.Splits.{split_used}
@@ -71,7 +71,7 @@ each_with P Q (p ∷ pages) one two = ((one.0, two.0), each_with P Q pages one.1
 
 module _ {B D : Type 0} (c : Class B) (law : IsLawful c) (said : List ℕ → B) (f : Format B) (passes : ℕ → Contents → Bool) (d e : Device) (v w : Volume D)
     (bodies : List (List (Record (Entry B) (Page B)))) (old : State B) (whole : IsWhole c old)
-    (s : ℕ) (entry : Entry B) (parent : ℕ) (item : Item) (at : old.work s ≡ Descends entry parent item)
+    (s : ℕ) (entry : Entry B) (parent : ℕ) (item : TraversalItem) (at : old.work s ≡ Descends entry parent item)
     (locks : Locks B) (notes : List (Note B)) (call : Call B) (slot : slot_at s old.slots ≡ Working locks notes (Some call))
     (keeps : Keeps (known_of c) (reading_of said f) f passes d v bodies old.log) where
   abbrev t : Tree B

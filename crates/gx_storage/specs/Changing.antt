@@ -1,6 +1,6 @@
 -- What a change finds to do, as the pages stand.
 use Rattle.std.specs.Prelude.{ℕ, Bool, Option, None, Some}
-use Rattle.gx_tree_laws.specs.Reach.{Item}
+use Rattle.gx_tree_laws.specs.Reach.{TraversalItem}
 use Rattle.gx_tree_laws.specs.Trees.{Node, Pair}
 use Rattle.gx_tree.specs.Descending.{WayAt}
 use Rattle.gx_tree.specs.Seeking.{Seeks}
@@ -21,7 +21,7 @@ unwidened (Down slot child) seen = Some (did.Down (record { page = child; seen =
 unwidened (Widen slot child key) seen = None
 
 -- a step of a descent at this item has to widen a bound
-abbrev pub HasToWiden : {B : Type 0} → (B → B → ℕ × ℕ) → (B → B → B) → ℕ → Store B → Item → B → Type 0
+abbrev pub HasToWiden : {B : Type 0} → (B → B → ℕ × ℕ) → (B → B → B) → ℕ → Store B → TraversalItem → B → Type 0
 HasToWiden {B} cost joined most s item coming = (slot : ℕ) × (child : ℕ) × (key : B) × WayAt cost joined most s item coming (Widen slot child key)
 
 -- the node is a leaf that has a wanted pair

@@ -37,7 +37,8 @@ impl<D: SectorDisk, K: ReadKeys + Probing> Storage<D, K> {
             look.new.stack.items look.old.found.items look.new.found.items) }
         ensures why { IfErr result (IsWhyAs K.KeyClass D.state (bringing self.old) self.new.shelf) }
         ensures room { result ≢ Err (StepFault.Pages StoreFault.NoRoom) }
-        ensures damaged { result ≡ Err StepFault.Damaged → (rest : List reach.Item) (item : reach.Item)
+        ensures damaged { result ≡ Err StepFault.Damaged
+            → (rest : List reach.TraversalItem) (item : reach.TraversalItem)
             → look.old.stack.items ≡ rest ++ item ∷ [] → ¬ Used (tree_at K.KeyClass D.state self.new.shelf) item.page }
         ensures refused { OnErr result (result ≢ Err StepFault.Memory → look.new ≡ look.old) }
         ensures full { result ≢ Err StepFault.PagesFull }

@@ -18,7 +18,7 @@ pub enum StoreFault {
 }
 
 /// What a bringing answers, as the store's own answer.
-pub(crate) fn told(brought: Result<(), PoolFault>) -> Result<(), StoreFault>
+pub(crate) fn store_result(brought: Result<(), PoolFault>) -> Result<(), StoreFault>
     ensures { result ≡ told_of brought }
 {
     match brought {

@@ -1,7 +1,7 @@
 //! What the tree's steps that read ask of the store.
 ghost use Rattle.std.specs.Prelude.{◌≡◌};
 
-use crate::fault::{StoreFault, told};
+use crate::fault::{StoreFault, store_result};
 use crate::store::PageStore;
 use gx_class::KeyClass;
 use gx_disk::SectorDisk;
@@ -47,7 +47,7 @@ impl<D: SectorDisk, K: KeyClass> Pages<K> for PageStore<D, K> {
     }
 
     fn bring(&mut self, pages: &[u32]) -> Result<(), StoreFault> {
-        told(self.pool.bring(&mut self.disk, pages))
+        store_result(self.pool.bring(&mut self.disk, pages))
     }
 
     fn page(&self, page: u32) -> &Page {

@@ -10,7 +10,7 @@ use gx_pool::Pool;
 use std::marker::Model;
 
 /// The pages of a tree in frames over a device. Its log is no part of it, so that no step of the tree touches that; an
-/// event tells it what it has to know of the log by `begin`.
+/// event tells it what it has to know of the log by `begin_event`.
 #[derive(Drop)]
 pub struct PageStore<D: SectorDisk, K: KeyClass> {
     pub(crate) disk: D,
@@ -88,7 +88,7 @@ impl<D: SectorDisk, K: KeyClass> PageStore<D, K> {
     }
 
     /// Begins an event: its changes are of the batch of this place, and its record has room in the log, or hasn't.
-    pub fn begin(&mut self, batch: u64, has_room: bool)
+    pub fn begin_event(&mut self, batch: u64, has_room: bool)
         ensures { self.new ≡ record self.old { batch = batch; has_room = has_room } }
     {
         self.batch = batch;

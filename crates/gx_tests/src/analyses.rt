@@ -35,7 +35,11 @@ fn entry(row: u64) -> Entry<Box2> {
 }
 
 /// Tells one record, of fewer than a thousand.
-fn tell(rt: &impl Abort, analysis: &mut Analysis<Entry<Box2>>, step: Step) -> Result<(), LogRule> {
+fn tell_step(
+    rt: &impl Abort,
+    analysis: &mut Analysis<Entry<Box2>>,
+    step: Step,
+) -> Result<(), LogRule> {
     assert!(rt; analysis.closings() < 1000);
     match step {
         Step::Counters(used) => analysis.on_counters(7, 3, used, 5),
@@ -54,7 +58,7 @@ fn tells(
     step: Step,
     wanted: Result<(), LogRule>,
 ) {
-    same(rt, &tell(rt, analysis, step), &wanted);
+    same(rt, &tell_step(rt, analysis, step), &wanted);
 }
 
 /// How many records pass before the first that is damage, and the rule that this one breaks.
@@ -64,7 +68,7 @@ fn passed<R: Abort + AllocGlobal>(
 ) -> Result<(usize, Option<LogRule>), Fail> {
     let mut analysis = Analysis::new(rt.alloc(), PAGES)?;
     for (i, step) in steps.iter().enumerate() {
-        if let Err(rule) = tell(rt, &mut analysis, *step) {
+        if let Err(rule) = tell_step(rt, &mut analysis, *step) {
             return Ok((i, Some(rule)));
         }
     }

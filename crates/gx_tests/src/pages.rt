@@ -56,7 +56,7 @@ fn try_put(rt: &impl Abort, page: &mut Page, slot: usize, item: &[u8]) -> bool {
 }
 
 /// Puts the item in; fails where the page has no room.
-fn put(rt: &impl Abort, page: &mut Page, slot: usize, item: &[u8]) {
+fn put_item(rt: &impl Abort, page: &mut Page, slot: usize, item: &[u8]) {
     assert!(rt; try_put(rt, page, slot, item));
 }
 
@@ -115,11 +115,11 @@ const ROOT: [Part<'static>; 4] = [
 fn fresh_pages_and_a_first_item(rt: HostRuntime) -> Result<(), Fail> {
     let mut leaf = Page::fresh(rt.alloc(), 0, 2)?;
     shows(&rt, &leaf, &FRESH);
-    put(&rt, &mut leaf, 0, &ENTRY);
+    put_item(&rt, &mut leaf, 0, &ENTRY);
     shows(&rt, &leaf, &ENTRY_PAGE);
     let mut root = Page::fresh(rt.alloc(), 1, 1)?;
     let entry = [0, 0, 0, 0, 0, 0, 0, 0, 0, 0, 0, 0, 0, 0, 0, 0, 0, 0, 0, 2];
-    put(&rt, &mut root, 0, &entry);
+    put_item(&rt, &mut root, 0, &entry);
     shows(&rt, &root, &ROOT);
     root.reset(0, 2);
     shows(&rt, &root, &FRESH);
@@ -157,11 +157,11 @@ fn shows_items(rt: &impl Abort, page: &Page, (counts, directory, heap): Items) {
 #[test]
 fn three_inserts_and_a_removal(rt: HostRuntime) -> Result<(), Fail> {
     let mut page = Page::fresh(rt.alloc(), 0, 2)?;
-    put(&rt, &mut page, 0, b"abc");
+    put_item(&rt, &mut page, 0, b"abc");
     shows_items(&rt, &page, ONE);
-    put(&rt, &mut page, 1, b"de");
+    put_item(&rt, &mut page, 1, b"de");
     shows_items(&rt, &page, TWO);
-    put(&rt, &mut page, 1, b"f");
+    put_item(&rt, &mut page, 1, b"f");
     shows_items(&rt, &page, THREE);
     has_heap(&rt, &page, b"defabc");
     take_out(&rt, &mut page, 0);
@@ -184,7 +184,7 @@ const FULL: [Part<'static>; 5] = [
 #[test]
 fn the_longest_item_fills_a_page(rt: HostRuntime) -> Result<(), Fail> {
     let mut page = Page::fresh(rt.alloc(), 0, 3)?;
-    put(&rt, &mut page, 0, &LONGEST);
+    put_item(&rt, &mut page, 0, &LONGEST);
     shows(&rt, &page, &FULL);
     assert!(rt; !try_put(&rt, &mut page, 1, &[9]));
     shows(&rt, &page, &FULL);
@@ -281,8 +281,8 @@ fn fields(page: &Page) -> (u16, u64, u32, u32) {
 #[test]
 fn each_call_once(rt: HostRuntime) -> Result<(), Fail> {
     let mut page = Page::fresh(rt.alloc(), 0, 3)?;
-    put(&rt, &mut page, 0, b"mountain");
-    put(&rt, &mut page, 0, b"sea");
+    put_item(&rt, &mut page, 0, b"mountain");
+    put_item(&rt, &mut page, 0, b"sea");
     holds(&rt, &page, 2, 1, b"mountain");
     change_byte(&rt, &mut page, 1, 0, b'f');
     holds(&rt, &page, 2, 1, b"fountain");
@@ -308,7 +308,7 @@ fn has_key<K: KeyClass>(rt: &impl Abort, page: &Page, key: K::Key) {
 /// Moves a page's only item behind the only one of another.
 fn move_the_only_item(rt: &impl Abort, from: &mut Page, to: &mut Page) {
     assert!(rt; (from.count(), to.count()) == (1, 1));
-    put(rt, to, 1, from.get(0));
+    put_item(rt, to, 1, from.get(0));
     take_out(rt, from, 0);
     same(rt, &[from.count(), to.count()], &[0, 2]);
 }
@@ -319,7 +319,7 @@ fn an_item_moves_and_a_page_is_read_again(rt: HostRuntime) -> Result<(), Fail> {
     has_key::<Box2Class>(&rt, &page, make_box(&rt, (0, 0, 10, 10)));
     has_key::<ReachClass>(&rt, &page, Reach(0));
     let mut other = Page::fresh(rt.alloc(), 0, 9)?;
-    put(&rt, &mut other, 0, &ENTRY);
+    put_item(&rt, &mut other, 0, &ENTRY);
     move_the_only_item(&rt, &mut page, &mut other);
     load_gives(&rt, &mut page, &[], Err(PageFault::Size));
     load_gives(&rt, &mut page, other.image(), Ok(()));

@@ -6,7 +6,9 @@ use gx_geom::{Box2, Refusal};
 use gx_machine::Entry;
 use gx_memory_tree::MemoryPages;
 use gx_page::Page;
-use gx_tree::{Item, Pages, Sought, StepFault, Wanted, Way, descend_step, seek_step, way_step};
+use gx_tree::{
+    Pages, Sought, StepFault, TraversalItem, Wanted, Way, descend_step, seek_step, way_step,
+};
 use std::alloc::AllocError;
 use std::convert::Infallible;
 use std::process::Abort;
@@ -42,7 +44,7 @@ fn child_item<K: KeyClass>(rt: &impl Abort, child: u32, key: K::Key) -> [u8; 20]
     item
 }
 
-fn put(rt: &impl Abort, page: &mut Page, item: &[u8]) {
+fn put_item(rt: &impl Abort, page: &mut Page, item: &[u8]) {
     assert!(rt; !item.is_empty() && item.len() <= 4060);
     let slot = page.count();
     assert!(rt; page.insert(slot, item));
@@ -70,9 +72,9 @@ fn fresh<R: Abort + AllocGlobal>(rt: &R, number: u32, header: Header) -> Result<
 fn put_entry(rt: &impl Abort, page: &mut Page, number: u32, corners: Corners) {
     let key = a_box(rt, corners);
     if page.level() == 0 {
-        put(rt, page, &pair_item(u64::from(number), key));
+        put_item(rt, page, &pair_item(u64::from(number), key));
     } else {
-        put(rt, page, &child_item::<Box2Class>(rt, number, key));
+        put_item(rt, page, &child_item::<Box2Class>(rt, number, key));
     }
 }
 
@@ -207,7 +209,7 @@ const WAYS: [Said; 6] = [
 
 fn way<K: KeyClass>(
     pages: &mut MemoryPages<K>,
-    item: &Item,
+    item: &TraversalItem,
     coming: &K::Key,
     most: usize,
 ) -> (&'static str, usize, u32, Option<K::Key>) {
@@ -225,7 +227,7 @@ fn way<K: KeyClass>(
 /// Fails unless a descent's step says this.
 fn says(rt: &impl Abort, pages: &mut MemoryPages<Box2Class>, said: &Said) {
     let ((page, seen), coming, most, (word, slot, child, bound)) = *said;
-    let item = Item::new(page, seen);
+    let item = TraversalItem::new(page, seen);
     let bound = match bound {
         Some(corners) => Some(a_box(rt, corners)),
         None => None,
@@ -247,7 +249,7 @@ fn a_descent_goes_down(rt: HostRuntime) -> Result<(), Fail> {
 /// A step of a descent: the page and the number of the item to which it goes down.
 fn goes_down<K: KeyClass>(
     pages: &mut MemoryPages<K>,
-    item: &Item,
+    item: &TraversalItem,
     coming: &K::Key,
     most: usize,
 ) -> Result<Option<(u32, u64)>, StepFault<Infallible>> {
@@ -282,7 +284,7 @@ fn goes<K: KeyClass>(
     coming: &K::Key,
     (item, most, wanted): Step,
 ) {
-    let item = Item::new(item.0, item.1);
+    let item = TraversalItem::new(item.0, item.1);
     same(rt, &goes_down(pages, &item, coming, most), &wanted);
 }
 

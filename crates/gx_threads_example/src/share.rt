@@ -57,7 +57,7 @@ fn all_back<R: Run<Box2>>(
 }
 
 /// Prints what the record says of all.
-fn tell<E: Events<Box2>, R: Run<Box2>, W: Print>(
+fn print_record<E: Events<Box2>, R: Run<Box2>, W: Print>(
     rt: &W,
     book: &Book<Box2, E, R>,
     all: &[Handed],
@@ -104,7 +104,7 @@ fn run<E: Events<Box2> + Drop + Send, R: Run<Box2> + Send + Sync, W: Threads + W
     )?;
     let handed = all_back(alloc, &mut sessions, done)?;
     let book = shared.close(sessions);
-    tell(rt, &book, handed.as_slice())?;
+    print_record(rt, &book, handed.as_slice())?;
     Ok(book.into_engine())
 }
 

@@ -3,7 +3,7 @@ use Rattle.std.proofs.Common.{◌≡◌, ◌≢◌, ◌∙◌, ◌==◌, ◌||�
 use Rattle.std.proofs.lemmas.Bool.{ne_eqb}
 use Rattle.gx_tree_laws.specs.Trees.{Tree, Rules, Used, times, child_pages}
 use Rattle.gx_tree_laws.specs.Legal.{Legal}
-use Rattle.gx_tree_laws.specs.Reach.{Item}
+use Rattle.gx_tree_laws.specs.Reach.{TraversalItem}
 use Rattle.gx_tree_laws.specs.Writes.{has_place, must_restart}
 use Rattle.gx_tree_laws.proofs.Sums.{total_one}
 use Rattle.gx_tree.specs.Splitting.{HasNoPlace}
@@ -13,7 +13,7 @@ or_right true b is = refl
 or_right false b is = is
 
 -- a page whose parent has no place for a split of it: the descent begins again
-pub restarts : {K : Type 0} (r : Rules K) (t : Tree K) (parent : ℕ) (item : Item) → Legal r t → Used t item.page → item.page ≢ 1 → Used t parent
+pub restarts : {K : Type 0} (r : Rules K) (t : Tree K) (parent : ℕ) (item : TraversalItem) → Legal r t → Used t item.page → item.page ≢ 1 → Used t parent
     → HasNoPlace r t item.page parent → must_restart r t parent item ≡ true
 restarts r t parent item legal used below above (inl none) =
     or_right _ (not (item.page == 1) && not (has_place r t parent item.page))

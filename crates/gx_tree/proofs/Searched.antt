@@ -5,7 +5,7 @@ use Rattle.std.proofs.lemmas.Bool.{and_parts}
 use Rattle.gx_tree_laws.specs.Lists.{one_if, how_many, Each}
 use Rattle.gx_tree_laws.specs.Trees.{Pair, Tree, Rules, leaves, standing}
 use Rattle.gx_tree_laws.specs.Legal.{Legal}
-use Rattle.gx_tree_laws.specs.Reach.{Item}
+use Rattle.gx_tree_laws.specs.Reach.{TraversalItem}
 use Rattle.gx_tree_laws.specs.Looks.{IsLook, LeadsTo}
 use Rattle.gx_tree_laws.proofs.Chains.{each_linked}
 use Rattle.gx_tree_laws.proofs.KeysLead.{keys_lead}
@@ -32,7 +32,7 @@ module _ {K : Type 0} (r : Rules K) (t : Tree K) (IsKey : K → Type 0) (keys : 
 
   -- what the look ended with
   pub all_found : Legal r t → (wants match : Pair K → Bool) → ((x : Pair K) → IsKey x.key → wants x ≡ match x)
-      → (stack : List Item) (found : List (Pair K)) → length stack ≡ 0 → IsLook t wants stack found
+      → (stack : List TraversalItem) (found : List (Pair K)) → length stack ≡ 0 → IsLook t wants stack found
       → (test : Pair K → Bool) → how_many test found ≡ standing (λ x. match x && test x) t
   all_found legal wants match same [] found e look test =
       let whole = look.complete test in

@@ -8,7 +8,7 @@ use Rattle.gx_tree_laws.specs.Lists.{Each}
 use Rattle.gx_tree_laws.specs.Trees.{Pair, Child, Node, Tree, Rules, IsLawful, Used, standing}
 use Rattle.gx_tree_laws.specs.Legal.{Legal}
 use Rattle.gx_tree_laws.specs.Steps.{ChangesOnly, EntriesCover, IsWidening, with_key}
-use Rattle.gx_tree_laws.specs.Reach.{Item}
+use Rattle.gx_tree_laws.specs.Reach.{TraversalItem}
 use Rattle.gx_tree_laws.specs.Writes.{IsDescent}
 use Rattle.gx_tree_laws.proofs.PageSteps.{legal_widened, standing_widened}
 use Rattle.gx_tree.specs.declared.descent.Descended.{Descended}
@@ -70,12 +70,12 @@ module _ {K : Type 0} where
       (first : (a b : K) → IsKey a → IsKey b → r.covers (joined a b) a ≡ true)
       (second : (a b : K) → IsKey a → IsKey b → r.covers (joined a b) b ≡ true)
       (least : (a b c : K) → IsKey a → IsKey b → r.covers c a ≡ true → r.covers c b ≡ true → r.covers c (joined a b) ≡ true)
-      (old new : Store K) (item : Item) (coming : K) (keys : AreKeys IsKey (tree_of old)) (is : IsKey coming) where
+      (old new : Store K) (item : TraversalItem) (coming : K) (keys : AreKeys IsKey (tree_of old)) (is : IsKey coming) where
     -- a slot's bound is a key
     bound_is : (slot : ℕ) (c : Child K) → Used (tree_of old) item.page → slice_get ((tree_of old).node item.page).children slot ≡ Some c → IsKey c.key
     bound_is slot c used at = each_slot (λ d. IsKey d.key) ((tree_of old).node item.page).children slot c at (keys.children item.page used)
 
-    pub went_down : (next : Item) → Legal r (tree_of old) → IsDescent r (tree_of old) item coming → StepsDown cost joined r.most old new item coming (Down next) → IsDescent r (tree_of new) next coming
+    pub went_down : (next : TraversalItem) → Legal r (tree_of old) → IsDescent r (tree_of old) item coming → StepsDown cost joined r.most old new item coming (Down next) → IsDescent r (tree_of new) next coming
     went_down next legal descent step =
         let way = step.0.1 in
         let c : Child K = record { key = way.1.0; page = next.page } in
@@ -84,7 +84,7 @@ module _ {K : Type 0} where
         (subst (λ n. IsDescent r (tree_of old) (record { page = next.page; seen = n }) coming) (sym step.1)
         (way_down r coming (tree_of old) legal item.page step.0.0 descent.there c (way.1.1).at covers))
 
-    module _ (next : Item) (slot : ℕ) (key : K) (step : StepsDown cost joined r.most old new item coming (Widened next slot key)) where
+    module _ (next : TraversalItem) (slot : ℕ) (key : K) (step : StepsDown cost joined r.most old new item coming (Widened next slot key)) where
       pub keys_widened : Used (tree_of old) item.page → AreKeys IsKey (tree_of new)
       keys_widened used =
           let way = step.0 in

@@ -5,7 +5,7 @@ use Rattle.gx_node.specs.Hits.{costs_less}
 use Rattle.gx_node.specs.Edits.{bounded_by}
 use Rattle.gx_tree_laws.specs.Trees.{Child, Node}
 use Rattle.gx_tree_laws.specs.Steps.{ChangesOnly}
-use Rattle.gx_tree_laws.specs.Reach.{Item}
+use Rattle.gx_tree_laws.specs.Reach.{TraversalItem}
 use Rattle.gx_node.specs.Store.{Store, tree_of}
 use Rattle.gx_tree.specs.declared.descent.Way.{Way}
 use Rattle.gx_tree.specs.declared.descent.Way.TheVariants.{Again, Add, FullLeaf, FullInner, Down, Widen}
@@ -29,11 +29,11 @@ Descends {B} cost joined most node seen coming (Down slot child) = (node.nsn ≤
 Descends {B} cost joined most node seen coming (Widen slot child key) = (node.nsn ≤ seen) × ((bound : B) × IsChoice cost most node coming slot child bound × (key ≡ joined bound coming) × (key ≢ bound))
 
 -- the descent is at this item, and its page says this way
-abbrev pub WayAt : {B : Type 0} → (B → B → ℕ × ℕ) → (B → B → B) → ℕ → Store B → Item → B → Way B → Type 0
+abbrev pub WayAt : {B : Type 0} → (B → B → ℕ × ℕ) → (B → B → B) → ℕ → Store B → TraversalItem → B → Way B → Type 0
 WayAt cost joined most s item coming way = Descends cost joined most ((tree_of s).node item.page) item.seen coming way
 
 -- what a step of a descent did to the pages, and the item to which it went down
-abbrev pub StepsDown : {B : Type 0} → (B → B → ℕ × ℕ) → (B → B → B) → ℕ → Store B → Store B → Item → B → Descended B → Type 0
+abbrev pub StepsDown : {B : Type 0} → (B → B → ℕ × ℕ) → (B → B → B) → ℕ → Store B → Store B → TraversalItem → B → Descended B → Type 0
 StepsDown cost joined most old new item coming did.Again = WayAt cost joined most old item coming Again × (new ≡ old)
 StepsDown cost joined most old new item coming did.Leaf = WayAt cost joined most old item coming Add × (new ≡ old)
 StepsDown cost joined most old new item coming did.FullLeaf = WayAt cost joined most old item coming FullLeaf × (new ≡ old)
@@ -56,7 +56,7 @@ is_widened did.FullLeaf = false
 is_widened did.FullInner = false
 
 -- the item to which it went down, if it did
-abbrev pub next_of : {B : Type 0} → Descended B → Option Item
+abbrev pub next_of : {B : Type 0} → Descended B → Option TraversalItem
 next_of (did.Down next) = Some next
 next_of (did.Widened next slot key) = Some next
 next_of did.Again = None

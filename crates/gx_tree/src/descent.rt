@@ -11,7 +11,7 @@ ghost use Rattle.gx_node.specs.Store.{node_of, tree_of, Stays};
 
 use crate::bring::bring_page;
 use crate::edits::SetBound;
-use crate::item::Item;
+use crate::item::TraversalItem;
 use gx_class::KeyClass;
 use gx_geom::Shape;
 use gx_node::{Inner, Pages, PagesMut, StepFault};
@@ -47,14 +47,14 @@ pub enum Descended<B> {
     /// An inner node that is full: it is split.
     FullInner,
     /// Down to this item, whose bound covers the coming key.
-    Down(Item),
+    Down(TraversalItem),
     /// The same, once the bound in this slot was widened to this key: the page has changed.
-    Widened(Item, usize, B),
+    Widened(TraversalItem, usize, B),
 }
 
 impl<B: Shape> Descended<B> {
     /// The item to which it went down, if it did.
-    pub fn next(&self) -> Option<Item>
+    pub fn next(&self) -> Option<TraversalItem>
         ensures { result ≡ next_of self.now }
     {
         match self {
@@ -100,7 +100,7 @@ fn way_down<K: KeyClass>(inner: &Inner<K>, coming: &K::Key, most: usize) -> Opti
 fn way_at<K: KeyClass>(
     page: &Page,
     room: u32,
-    item: &Item,
+    item: &TraversalItem,
     coming: &K::Key,
     most: usize,
 ) -> Option<Way<K::Key>>
@@ -131,7 +131,7 @@ fn way_at<K: KeyClass>(
 /// level above 0 and no entries.
 pub fn way_step<K: KeyClass, P: Pages<K>>(
     pages: &mut P,
-    item: &Item,
+    item: &TraversalItem,
     coming: &K::Key,
     most: usize,
 ) -> Result<Way<K::Key>, StepFault<P::Fault>>
@@ -167,7 +167,7 @@ pub fn way_step<K: KeyClass, P: Pages<K>>(
 /// `Damaged` only where `way_step` is: nothing has changed then.
 pub fn descend_step<K: KeyClass, P: PagesMut<K>>(
     pages: &mut P,
-    item: &Item,
+    item: &TraversalItem,
     coming: &K::Key,
     most: usize,
 ) -> Result<Descended<K::Key>, StepFault<P::Fault>>
@@ -196,13 +196,13 @@ pub fn descend_step<K: KeyClass, P: PagesMut<K>>(
         Way::Add => Ok(Descended::Leaf),
         Way::FullLeaf => Ok(Descended::FullLeaf),
         Way::FullInner => Ok(Descended::FullInner),
-        Way::Down(_, child) => Ok(Descended::Down(Item::new(child, pages.counter()))),
+        Way::Down(_, child) => Ok(Descended::Down(TraversalItem::new(child, pages.counter()))),
         Way::Widen(slot, child, bound) => {
             if let Err(fault) = pages.prepare(&[item.page()], 0) {
                 return Err(StepFault::Pages(fault));
             }
             pages.change(item.page(), SetBound { slot, bound });
-            Ok(Descended::Widened(Item::new(child, pages.counter()), slot, bound))
+            Ok(Descended::Widened(TraversalItem::new(child, pages.counter()), slot, bound))
         }
     }
 }

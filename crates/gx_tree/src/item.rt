@@ -7,27 +7,27 @@ use std::marker::Model;
 /// A page that is to be read, and the counter of splits as it was when the page's number was read (Kornacker, Mohan,
 /// Hellerstein 1997). A page whose sequence number is greater was split since.
 #[derive(Clone, Copy, Debug, Default, PartialEq, Eq)]
-pub struct Item {
+pub struct TraversalItem {
     page: u32,
     seen: u64,
 }
 
-impl Model for Item {
+impl Model for TraversalItem {
     ghost use Rattle.gx_tree_laws.specs.Reach as reach;
 
-    ghost Value = { reach.Item };
+    ghost Value = { reach.TraversalItem };
 
     ghost view = { λ i. record { page = i.page; seen = i.seen } };
 
     ghost inverse = { λ i. record { page = i.page; seen = i.seen } };
 }
 
-impl Item {
+impl TraversalItem {
     /// A page and the counter as it is.
-    pub fn new(page: u32, seen: u64) -> Item
+    pub fn new(page: u32, seen: u64) -> TraversalItem
         ensures { result ≡ record { page = page; seen = seen } }
     {
-        Item { page, seen }
+        TraversalItem { page, seen }
     }
 
     /// The page.

@@ -6,7 +6,7 @@ ghost use Rattle.gx_node.specs.Edits.{bounded_by, entry_of};
 ghost use Rattle.gx_tree_laws.specs.Lists.{Each, how_many};
 ghost use Rattle.gx_tree_laws.specs.Trees.{Pair, Child, Node, Tree, Rules, IsLawful, Used, standing, is_entry};
 ghost use Rattle.gx_tree_laws.specs.Legal.{Legal};
-ghost use Rattle.gx_tree_laws.specs.Reach.{Item, pages_ahead};
+ghost use Rattle.gx_tree_laws.specs.Reach.{TraversalItem, pages_ahead};
 ghost use Rattle.gx_tree_laws.specs.Looks.{IsLook, LeadsTo};
 ghost use Rattle.gx_tree_laws.specs.Steps.{ChangesOnly, EntriesCover, IsAdding, IsMarking, IsStep, IsSweep, IsWidening};
 ghost use Rattle.gx_tree_laws.specs.Steps.{Step};
@@ -35,11 +35,11 @@ pub fn keys_are_lawful<B: Shape>()
 /// ahead.
 pub fn look_step_is_a_step<K>()
     ensures look { (r : Rules K) → IsLawful r → (t : Tree K) → Legal r t → (wants : Pair K → Bool) (leads : K → Bool)
-        → LeadsTo r t wants leads → (before after : List Item) (old new : List (Found K)) → 0 < length before
+        → LeadsTo r t wants leads → (before after : List TraversalItem) (old new : List (Found K)) → 0 < length before
         → IsLook t wants before (pairs_found old) → LookStep t wants leads before after old new
         → IsLook t wants after (pairs_found new) }
     ensures falls { (r : Rules K) (t : Tree K) → Legal r t
-        → (wants : Pair K → Bool) (leads : K → Bool) (before after : List Item) (old new : List (Found K))
+        → (wants : Pair K → Bool) (leads : K → Bool) (before after : List TraversalItem) (old new : List (Found K))
         → 0 < length before → IsLook t wants before (pairs_found old) → LookStep t wants leads before after old new
         → pages_ahead t after < pages_ahead t before }
 {}
@@ -77,17 +77,18 @@ pub fn union_is_a_bound<K: KeyClass>()
 /// A descent that goes down goes on: the item to which a step comes is a descent's. A step that widens a bound is the
 /// tree's.
 pub fn descent_goes_on<K: KeyClass>()
-    ensures down { (most : ℕ) (old new : Store K.Key) (item next : Item) (coming : K.Key)
+    ensures down { (most : ℕ) (old new : Store K.Key) (item next : TraversalItem) (coming : K.Key)
         → Legal (rules_of K.Key.Shape most) (tree_of old) → AreKeys K.is_key (tree_of old) → K.is_key coming
         → IsDescent (rules_of K.Key.Shape most) (tree_of old) item coming
         → StepsDown K.cost K.joined most old new item coming (Down next)
         → IsDescent (rules_of K.Key.Shape most) (tree_of new) next coming }
-    ensures widens { (most : ℕ) (old new : Store K.Key) (item next : Item) (coming key : K.Key) (slot : ℕ)
+    ensures widens { (most : ℕ) (old new : Store K.Key) (item next : TraversalItem) (coming key : K.Key) (slot : ℕ)
         → Legal (rules_of K.Key.Shape most) (tree_of old) → AreKeys K.is_key (tree_of old) → K.is_key coming
         → IsDescent (rules_of K.Key.Shape most) (tree_of old) item coming
         → StepsDown K.cost K.joined most old new item coming (Widened next slot key)
         → IsWidening (rules_of K.Key.Shape most) (tree_of old) (tree_of new) item.page next.page coming key }
-    ensures widened { (most : ℕ) (old new : Store K.Key) (item next : Item) (coming key : K.Key) (slot : ℕ) → 2 ≤ most
+    ensures widened { (most : ℕ) (old new : Store K.Key) (item next : TraversalItem) (coming key : K.Key) (slot : ℕ)
+        → 2 ≤ most
         → Legal (rules_of K.Key.Shape most) (tree_of old) → AreKeys K.is_key (tree_of old) → K.is_key coming
         → IsDescent (rules_of K.Key.Shape most) (tree_of old) item coming
         → StepsDown K.cost K.joined most old new item coming (Widened next slot key)
@@ -97,19 +98,21 @@ pub fn descent_goes_on<K: KeyClass>()
 /// Whatever a step of a descent does, the tree stays legal, and no pair changes; and the item to which it goes down
 /// is a descent's.
 pub fn descent_keeps_the_tree<K: KeyClass>()
-    ensures legal { (most : ℕ) (old new : Store K.Key) (item : Item) (coming : K.Key) (did : Descended K.Key) → 2 ≤ most
+    ensures legal { (most : ℕ) (old new : Store K.Key) (item : TraversalItem) (coming : K.Key) (did : Descended K.Key)
+        → 2 ≤ most
         → Legal (rules_of K.Key.Shape most) (tree_of old) → AreKeys K.is_key (tree_of old) → K.is_key coming
         → IsDescent (rules_of K.Key.Shape most) (tree_of old) item coming
         → StepsDown K.cost K.joined most old new item coming did → Legal (rules_of K.Key.Shape most) (tree_of new) }
-    ensures keys { (most : ℕ) (old new : Store K.Key) (item : Item) (coming : K.Key) (did : Descended K.Key)
+    ensures keys { (most : ℕ) (old new : Store K.Key) (item : TraversalItem) (coming : K.Key) (did : Descended K.Key)
         → AreKeys K.is_key (tree_of old) → K.is_key coming → Used (tree_of old) item.page
         → StepsDown K.cost K.joined most old new item coming did → AreKeys K.is_key (tree_of new) }
-    ensures pairs { (most : ℕ) (old new : Store K.Key) (item : Item) (coming : K.Key) (did : Descended K.Key) → 2 ≤ most
+    ensures pairs { (most : ℕ) (old new : Store K.Key) (item : TraversalItem) (coming : K.Key) (did : Descended K.Key)
+        → 2 ≤ most
         → Legal (rules_of K.Key.Shape most) (tree_of old) → AreKeys K.is_key (tree_of old) → K.is_key coming
         → IsDescent (rules_of K.Key.Shape most) (tree_of old) item coming
         → StepsDown K.cost K.joined most old new item coming did → (test : Pair K.Key → Bool)
         → standing test (tree_of new) ≡ standing test (tree_of old) }
-    ensures goes_on { (most : ℕ) (old new : Store K.Key) (item : Item) (coming : K.Key) (did : Descended K.Key)
+    ensures goes_on { (most : ℕ) (old new : Store K.Key) (item : TraversalItem) (coming : K.Key) (did : Descended K.Key)
         → 2 ≤ most → Legal (rules_of K.Key.Shape most) (tree_of old) → AreKeys K.is_key (tree_of old) → K.is_key coming
         → IsDescent (rules_of K.Key.Shape most) (tree_of old) item coming
         → StepsDown K.cost K.joined most old new item coming did

@@ -13,7 +13,7 @@ ghost use Rattle.gx_tree.specs.Wants.{has_row, wants};
 
 use crate::bring::bring_page;
 use crate::found::Found;
-use crate::item::Item;
+use crate::item::TraversalItem;
 use crate::stack::Stack;
 use crate::wanted::Wanted;
 use gx_class::{KeyClass, Probing};
@@ -106,7 +106,7 @@ fn descend_block<K: Probing>(
     let passing = inner.passing(&wanted.bounds, from);
     let slots = passing.as_slice();
     for slot in slots {
-        stack.push(Item::new(inner.page_of(usize::from(*slot)), counter))?;
+        stack.push(TraversalItem::new(inner.page_of(usize::from(*slot)), counter))?;
     }
     Ok(())
 }
@@ -129,7 +129,7 @@ fn descend<K: Probing>(
 
 impl<B: Shape> Look<B> {
     /// A look that begins with an item.
-    pub fn new(alloc: Global, item: Item) -> Result<Self, AllocError>
+    pub fn new(alloc: Global, item: TraversalItem) -> Result<Self, AllocError>
         ensures { IfOk result (λ look. (look.stack.items ≡ item ∷ []) × (look.found.items ≡ [])) }
     {
         Ok(Look {
@@ -170,7 +170,8 @@ fn read<K: Probing>(
 ) -> Result<(), AllocError>
     requires some { 0 < length look.old.stack.items }
     requires node { is_node (format_of K.KeyClass) room page.now ≡ true }
-    ensures { OnOk result ((rest : List reach.Item) (item : reach.Item) → look.old.stack.items ≡ rest ++ item ∷ []
+    ensures { OnOk result ((rest : List reach.TraversalItem) (item : reach.TraversalItem)
+        → look.old.stack.items ≡ rest ++ item ∷ []
         → Reads counter (wants K.passes wanted.now.keys wanted.now.row) (K.passes wanted.now.bounds)
         (node_of (format_of K.KeyClass) page.now) rest item look.new.stack.items
         look.old.found.items look.new.found.items) }
@@ -179,7 +180,8 @@ fn read<K: Probing>(
         return Ok(());
     };
     if item.was_split(page) {
-        look.stack.push(Item::new(page.right(), item.seen()))?;
+        look.stack
+            .push(TraversalItem::new(page.right(), item.seen()))?;
     }
     if page.level() == 0 {
         gather(&Leaf::of(page), item.page(), wanted, &mut look.found)
@@ -204,16 +206,17 @@ pub fn look_step<K: Probing, P: Pages<K>>(
     ensures stays { Stays (P.steady pages.old) (P.store pages.old) (P.store pages.new) }
     ensures steady { P.steady pages.old → P.steady pages.new }
     ensures since { KeepsSince P.since pages.old pages.new }
-    ensures asked { OnOk result ((rest : List reach.Item) (item : reach.Item) → look.old.stack.items ≡ rest ++ item ∷ []
+    ensures asked { OnOk result ((rest : List reach.TraversalItem) (item : reach.TraversalItem)
+        → look.old.stack.items ≡ rest ++ item ∷ []
         → Asks P.asked (Brings (item.page ∷ []) ∷ []) pages.old pages.new) }
-    ensures tried { OnErr result ((rest : List reach.Item) (item : reach.Item)
+    ensures tried { OnErr result ((rest : List reach.TraversalItem) (item : reach.TraversalItem)
         → look.old.stack.items ≡ rest ++ item ∷ [] → AsksAtMost P.asked (item.page ∷ []) pages.old pages.new) }
     ensures why { IfErr result (IsWhy (P.why pages.old pages.new)) }
     ensures later { OnOk result (IsWhyLater P.why pages.old pages.new) }
     ensures step { OnOk result (LookStep (tree_of (P.store pages.new)) (wants K.passes wanted.now.keys wanted.now.row)
         (K.passes wanted.now.bounds) look.old.stack.items look.new.stack.items
         look.old.found.items look.new.found.items) }
-    ensures damaged { result ≡ Err StepFault.Damaged → (rest : List reach.Item) (item : reach.Item)
+    ensures damaged { result ≡ Err StepFault.Damaged → (rest : List reach.TraversalItem) (item : reach.TraversalItem)
         → look.old.stack.items ≡ rest ++ item ∷ [] → ¬ Used (tree_of (P.store pages.new)) item.page }
     ensures refused { OnErr result (result ≢ Err StepFault.Memory → look.new ≡ look.old) }
     ensures full { result ≢ Err StepFault.PagesFull }

@@ -3,7 +3,7 @@ ghost use Rattle.std.specs.Prelude.{◌≡◌, ◌<◌, ◌==◌, ◌↔◌, ◌
 ghost use Rattle.std.specs.Option.{option_to_list};
 ghost use Rattle.gx_tree_laws.specs.Reach as reach;
 
-use crate::item::Item;
+use crate::item::TraversalItem;
 use smallvec::SmallVec;
 use std::alloc::{AllocError, Global};
 use std::marker::Model;
@@ -14,7 +14,7 @@ const INLINE_ITEMS: usize = 2;
 /// The items that a look is to read, the next one last.
 #[derive(Drop)]
 pub(crate) struct Stack {
-    items: SmallVec<Item, INLINE_ITEMS>,
+    items: SmallVec<TraversalItem, INLINE_ITEMS>,
 }
 
 impl Model for Stack {
@@ -27,7 +27,7 @@ impl Model for Stack {
 
 impl Stack {
     /// A stack of one item. It takes no memory.
-    pub(crate) fn of(alloc: Global, item: Item) -> Result<Self, AllocError>
+    pub(crate) fn of(alloc: Global, item: TraversalItem) -> Result<Self, AllocError>
         ensures { IfOk result (λ stack. stack.items ≡ item ∷ []) }
     {
         let mut items = SmallVec::new(alloc);
@@ -43,15 +43,16 @@ impl Stack {
     }
 
     /// The item that is read next.
-    pub(crate) fn last(&self) -> Item
+    pub(crate) fn last(&self) -> TraversalItem
         requires { 0 < length self.now.items }
-        ensures { (rest : List reach.Item) (item : reach.Item) → self.now.items ≡ rest ++ item ∷ [] → result ≡ item }
+        ensures { (rest : List reach.TraversalItem) (item : reach.TraversalItem) → self.now.items ≡ rest ++ item ∷ []
+            → result ≡ item }
     {
         self.items.as_slice()[self.items.len() - 1]
     }
 
     /// Puts an item on top.
-    pub(crate) fn push(&mut self, item: Item) -> Result<(), AllocError>
+    pub(crate) fn push(&mut self, item: TraversalItem) -> Result<(), AllocError>
         ensures items { OnOk result (self.new.items ≡ self.old.items ++ item ∷ []) }
     {
         self.items.push(item)?;
@@ -59,7 +60,7 @@ impl Stack {
     }
 
     /// Takes the item on top.
-    pub(crate) fn pop(&mut self) -> Option<Item>
+    pub(crate) fn pop(&mut self) -> Option<TraversalItem>
         ensures items { self.old.items ≡ self.new.items ++ option_to_list result }
         ensures variant { IsSome result ↔ (0 < length self.old.items) }
     {

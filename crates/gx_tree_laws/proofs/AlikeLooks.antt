@@ -4,7 +4,7 @@ use Rattle.std.specs.Prelude.{nat_lt, ◌==◌, if◌then◌else◌}
 use Rattle.gx_tree_laws.specs.Lists.{Each, sum_over, one_if, how_many}
 use Rattle.gx_tree_laws.specs.Trees.{Pair, Child, Node, Tree, Rules, Used, child_pages}
 use Rattle.gx_tree_laws.specs.Legal.{Legal}
-use Rattle.gx_tree_laws.specs.Reach.{Item, Run, ends, goes, run, down, under, ahead_of, ahead}
+use Rattle.gx_tree_laws.specs.Reach.{TraversalItem, Run, ends, goes, run, down, under, ahead_of, ahead}
 use Rattle.gx_tree_laws.specs.Looks.{ItemFits, IsLook, beyond_of, below_of, stacked, found_with, LeadsTo}
 use Rattle.gx_tree_laws.specs.Writes.{IsDescent}
 use Rattle.gx_tree_laws.specs.Alike.{AgreeOnUsed}
@@ -14,12 +14,12 @@ use Rattle.gx_tree_laws.proofs.AlikeTrees.{used_too, used_back, standing_too}
 
 module _ {K : Type 0} (one other : Tree K) (agree : AgreeOnUsed one other) where
   -- what a look stacks and finds at a page in use
-  pub stacked_too : (leads : K → Bool) (item : Item) (stack : List Item) → Used one item.page → stacked other leads item stack ≡ stacked one leads item stack
+  pub stacked_too : (leads : K → Bool) (item : TraversalItem) (stack : List TraversalItem) → Used one item.page → stacked other leads item stack ≡ stacked one leads item stack
   stacked_too leads item stack u =
       ap (λ (n : Node K). (if nat_lt item.seen n.nsn then record { page = n.right; seen = item.seen } ∷ [] else []) ++ (below_of other leads n.children ++ stack)) (agree.nodes item.page u)
       ∙ ap (λ (c : ℕ). beyond_of one item ++ (below_of (record one { counter = c }) leads (one.node item.page).children ++ stack)) agree.counter
 
-  pub found_too : (wants : Pair K → Bool) (item : Item) (found : List (Pair K)) → Used one item.page → found_with other wants item found ≡ found_with one wants item found
+  pub found_too : (wants : Pair K → Bool) (item : TraversalItem) (found : List (Pair K)) → Used one item.page → found_with other wants item found ≡ found_with one wants item found
   found_too wants item found u = ap (λ (n : Node K). found ++ filter wants n.pairs) (agree.nodes item.page u)
 
 module _ {K : Type 0} (r : Rules K) (one other : Tree K) (agree : AgreeOnUsed one other) where
@@ -34,7 +34,7 @@ module _ {K : Type 0} (r : Rules K) (one other : Tree K) (agree : AgreeOnUsed on
       (each q (used_back one other agree q v)))
       (one.node p).children (consistent p (used_back one other agree p u)))
 
-  pub descent_too : (item : Item) (coming : K) → IsDescent r one item coming → IsDescent r other item coming
+  pub descent_too : (item : TraversalItem) (coming : K) → IsDescent r one item coming → IsDescent r other item coming
   descent_too item coming d = record {
     there = used_too one other agree item.page d.there;
     seen = subst (λ n. item.seen ≤ n) (sym agree.counter) d.seen;
@@ -51,13 +51,13 @@ module _ {K : Type 0} (r : Rules K) (one other : Tree K) (agree : AgreeOnUsed on
       goes (used_too one other agree x u) (subst (λ (n : Node K). seen < n.nsn) (sym (agree.nodes x u)) lt)
       (subst (λ (n : Node K). Run other seen n.right qs) (sym (agree.nodes x u)) (run_too seen rest))
 
-  near_too : (item : Item) → ItemFits one item → run other other.used item.seen item.page ≡ run one one.used item.seen item.page
+  near_too : (item : TraversalItem) → ItemFits one item → run other other.used item.seen item.page ≡ run one one.used item.seen item.page
   near_too item fit =
       let most = length_run one item.seen one.used item.page in
       let e = agree.used in
       run_is other item.seen (run_too item.seen fit.run) other.used (omega (arith, most, e))
 
-  item_too : (item : Item) → ItemFits one item → ItemFits other item
+  item_too : (item : TraversalItem) → ItemFits one item → ItemFits other item
   item_too item fit = record {
     seen = subst (λ n. item.seen ≤ n) (sym agree.counter) fit.seen;
     run = subst (λ (ys : List ℕ). Run other item.seen item.page ys) (sym (near_too item fit)) (run_too item.seen fit.run);
@@ -77,18 +77,18 @@ module _ {K : Type 0} (r : Rules K) (one other : Tree K) (agree : AgreeOnUsed on
       under_too : (q : ℕ) → Used one q → under other f q ≡ under one g q
       under_too q u = ap (λ (n : Node K). down other f n.level q) (agree.nodes q u) ∙ down_too (one.node q).level q u
 
-      ahead_of_too : (item : Item) → ItemFits one item → ahead_of other f item ≡ ahead_of one g item
+      ahead_of_too : (item : TraversalItem) → ItemFits one item → ahead_of other f item ≡ ahead_of one g item
       ahead_of_too item fit =
           ap (λ (ys : List ℕ). sum_over (under other f) ys) (near_too item fit)
           ∙ sum_over_same (under other f) (under one g) (run one one.used item.seen item.page)
           (each_run one item.seen (λ x. under other f x ≡ under one g x) under_too fit.run)
 
-      pub ahead_too : (stack : List Item) → Each (ItemFits one) stack → ahead other f stack ≡ ahead one g stack
+      pub ahead_too : (stack : List TraversalItem) → Each (ItemFits one) stack → ahead other f stack ≡ ahead one g stack
       ahead_too stack fits =
           sum_over_same (ahead_of other f) (ahead_of one g) stack
           (each_map (ItemFits one) (λ item. ahead_of other f item ≡ ahead_of one g item) ahead_of_too stack fits)
 
-    pub look_too : (wants : Pair K → Bool) (stack : List Item) (found : List (Pair K)) → IsLook one wants stack found → IsLook other wants stack found
+    pub look_too : (wants : Pair K → Bool) (stack : List TraversalItem) (found : List (Pair K)) → IsLook one wants stack found → IsLook other wants stack found
     look_too wants stack found look = record {
       items = each_map (ItemFits one) (ItemFits other) item_too stack look.items;
       complete = λ test.

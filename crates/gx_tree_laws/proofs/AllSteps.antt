@@ -5,7 +5,7 @@ use Rattle.std.proofs.Common.{ℕ}
 use Rattle.gx_tree_laws.specs.Trees.{Pair, Tree, Rules, IsLawful, is_entry}
 use Rattle.gx_tree_laws.specs.Legal.{Legal}
 use Rattle.gx_tree_laws.specs.Steps.{Step, Splits, SplitsRoot, Widens, Adds, Marks, Sweeps, IsStep, AreSteps, LeavesAlone}
-use Rattle.gx_tree_laws.specs.Reach.{Item}
+use Rattle.gx_tree_laws.specs.Reach.{TraversalItem}
 use Rattle.gx_tree_laws.specs.Looks.{IsLook}
 use Rattle.gx_tree_laws.proofs.Splits.{legal_split}
 use Rattle.gx_tree_laws.proofs.Roots.{legal_root}
@@ -38,13 +38,13 @@ module _ {K : Type 0} (r : Rules K) (law : IsLawful r) where
       kept_by_steps Alone P keeps steps are.0 new (legal_step old are.0 step legal are.1) are.2 alone.1
       (keeps old are.0 step legal are.1 alone.0 holds)
 
-  pub look_steps : (wants : Pair K → Bool) (stack : List Item) (found : List (Pair K)) (steps : List (Step K)) (old new : Tree K)
+  pub look_steps : (wants : Pair K → Bool) (stack : List TraversalItem) (found : List (Pair K)) (steps : List (Step K)) (old new : Tree K)
       → Legal r old → AreSteps r old steps new → Each (LeavesAlone r wants) steps → IsLook old wants stack found → IsLook new wants stack found
   look_steps wants stack found =
       kept_by_steps (LeavesAlone r wants) (λ t. IsLook t wants stack found)
       (λ old new step legal is alone look. look_step r law wants stack found old new step legal is alone look)
 
-  pub descent_steps : (coming : K) (item : Item) (steps : List (Step K)) (old new : Tree K)
+  pub descent_steps : (coming : K) (item : TraversalItem) (steps : List (Step K)) (old new : Tree K)
       → Legal r old → AreSteps r old steps new → IsDescent r old item coming → IsDescent r new item coming
   descent_steps coming item steps old new legal are descent =
       kept_by_steps (λ step. Unit {0}) (λ t. IsDescent r t item coming)

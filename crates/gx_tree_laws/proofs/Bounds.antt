@@ -5,7 +5,7 @@ use Rattle.std.proofs.lemmas.Bool.{cases_eq}
 use Rattle.gx_tree_laws.specs.Lists.{sum_over, one_if, total}
 use Rattle.gx_tree_laws.specs.Trees.{Pair, Tree, Rules, child_pages}
 use Rattle.gx_tree_laws.specs.Legal.{Legal}
-use Rattle.gx_tree_laws.specs.Reach.{Item, run, down, under, ahead_of, ahead, pages_ahead, times_ahead}
+use Rattle.gx_tree_laws.specs.Reach.{TraversalItem, run, down, under, ahead_of, ahead, pages_ahead, times_ahead}
 use Rattle.gx_tree_laws.specs.Looks.{IsLook}
 use Rattle.gx_tree_laws.specs.Alike.{AgreeOnUsed}
 use Rattle.gx_tree_laws.proofs.Sums.{sum_over_same, sum_over_add, each_always, total_same, at_page, at_page_same, at_page_other, total_at_page}
@@ -21,13 +21,13 @@ module _ {K : Type 0} (t : Tree K) where
       let add = sum_over_add (down t f k) (down t g k) (child_pages (t.node q)) in
       omega (arith, each, add)
 
-  pub ahead_of_add : (f g : ℕ → ℕ) (item : Item) → ahead_of t (λ x. f x + g x) item ≡ ahead_of t f item + ahead_of t g item
+  pub ahead_of_add : (f g : ℕ → ℕ) (item : TraversalItem) → ahead_of t (λ x. f x + g x) item ≡ ahead_of t f item + ahead_of t g item
   ahead_of_add f g item =
       sum_over_same (under t (λ x. f x + g x)) (λ x. under t f x + under t g x) (run t t.used item.seen item.page)
       (each_always (λ x. under t (λ x. f x + g x) x ≡ under t f x + under t g x) (λ q. down_add f g (t.node q).level q) (run t t.used item.seen item.page))
       ∙ sum_over_add (under t f) (under t g) (run t t.used item.seen item.page)
 
-  pub ahead_add : (f g : ℕ → ℕ) (stack : List Item) → ahead t (λ x. f x + g x) stack ≡ ahead t f stack + ahead t g stack
+  pub ahead_add : (f g : ℕ → ℕ) (stack : List TraversalItem) → ahead t (λ x. f x + g x) stack ≡ ahead t f stack + ahead t g stack
   ahead_add f g stack =
       sum_over_same (ahead_of t (λ x. f x + g x)) (λ i. ahead_of t f i + ahead_of t g i) stack
       (each_always (λ i. ahead_of t (λ x. f x + g x) i ≡ ahead_of t f i + ahead_of t g i) (ahead_of_add f g) stack)
@@ -42,7 +42,7 @@ module _ {K : Type 0} (t : Tree K) where
   down_none (suc k) q = let rest = none_over (down t (λ x. 0) k) (child_pages (t.node q)) (down_none k) in omega (arith, rest)
 
   -- pages up to m lie ahead m times at most, where none does twice
-  most_ahead : (stack : List Item) → ((l : ℕ) → times_ahead t l stack ≤ 1) → (m : ℕ) → ahead t (λ q. total (λ l. one_if (q == l)) m) stack ≤ m
+  most_ahead : (stack : List TraversalItem) → ((l : ℕ) → times_ahead t l stack ≤ 1) → (m : ℕ) → ahead t (λ q. total (λ l. one_if (q == l)) m) stack ≤ m
   most_ahead stack once zero =
       let none = none_over (ahead_of t (λ q. 0)) stack (λ item. none_over (under t (λ q. 0)) (run t t.used item.seen item.page) (λ q. down_none (t.node q).level q)) in
       omega (arith, none)
@@ -61,7 +61,7 @@ module _ {K : Type 0} (t : Tree K) where
       ∙ total_at_page q 1 n low high
 
   -- so no more pages lie ahead of a look than are taken
-  pub pages_most : (r : Rules K) → Legal r t → (wants : Pair K → Bool) (stack : List Item) (found : List (Pair K)) → IsLook t wants stack found
+  pub pages_most : (r : Rules K) → Legal r t → (wants : Pair K → Bool) (stack : List TraversalItem) (found : List (Pair K)) → IsLook t wants stack found
       → pages_ahead t stack ≤ t.used
   pages_most r legal wants stack found look =
       let itself : AgreeOnUsed t t = record { used = refl; counter = refl; nodes = λ q u. refl } in

@@ -3,7 +3,7 @@ use Rattle.std.proofs.Common.{◌≡◌, ℕ, zero, suc, List, map, ap, sym, ◌
 use Rattle.gx_tree_laws.specs.Lists.{sum_over, Each}
 use Rattle.gx_tree_laws.specs.Trees.{Pair, Child, Tree, child_pages}
 use Rattle.gx_tree_laws.specs.Steps.{ChangesOnly}
-use Rattle.gx_tree_laws.specs.Reach.{Item, Run, ends, goes, run, down, under, ahead_of, ahead}
+use Rattle.gx_tree_laws.specs.Reach.{TraversalItem, Run, ends, goes, run, down, under, ahead_of, ahead}
 use Rattle.gx_tree_laws.specs.Looks.{ItemFits}
 use Rattle.gx_tree_laws.proofs.Sums.{sum_over_same, each_map, each_always}
 use Rattle.gx_tree_laws.proofs.Changes.{level_kept, nsn_kept, right_kept, pages_kept, used_kept}
@@ -18,13 +18,13 @@ module _ {K : Type 0} (old new : Tree K) (a : ℕ) (pairs : List (Pair K)) (entr
       goes (used_kept old new a pairs entries step x u) (let k = nsn_kept old new a pairs entries step x in omega (arith, k, lt))
       (subst (λ q. Run new seen q qs) (sym (right_kept old new a pairs entries step x)) (run_kept seen rest))
 
-  near_kept : (item : Item) → ItemFits old item → run new new.used item.seen item.page ≡ run old old.used item.seen item.page
+  near_kept : (item : TraversalItem) → ItemFits old item → run new new.used item.seen item.page ≡ run old old.used item.seen item.page
   near_kept item fit =
       let most = length_run old item.seen old.used item.page in
       let e = step.used in
       run_is new item.seen (run_kept item.seen fit.run) new.used (omega (arith, most, e))
 
-  pub item_kept : (item : Item) → ItemFits old item → ItemFits new item
+  pub item_kept : (item : TraversalItem) → ItemFits old item → ItemFits new item
   item_kept item fit = record {
     seen = (let e = step.counter in let h = fit.seen in omega (arith, e, h));
     run = subst (λ (ys : List ℕ). Run new item.seen item.page ys) (sym (near_kept item fit)) (run_kept item.seen fit.run);
@@ -43,13 +43,13 @@ module _ {K : Type 0} (old new : Tree K) (a : ℕ) (pairs : List (Pair K)) (entr
     under_kept : (q : ℕ) → under new f q ≡ under old g q
     under_kept q = ap (λ k. down new f k q) (level_kept old new a pairs entries step q) ∙ down_kept (old.node q).level q
 
-    ahead_of_kept : (item : Item) → ItemFits old item → ahead_of new f item ≡ ahead_of old g item
+    ahead_of_kept : (item : TraversalItem) → ItemFits old item → ahead_of new f item ≡ ahead_of old g item
     ahead_of_kept item fit =
         ap (λ (ys : List ℕ). sum_over (under new f) ys) (near_kept item fit)
         ∙ sum_over_same (under new f) (under old g) (run old old.used item.seen item.page)
         (each_always (λ x. under new f x ≡ under old g x) under_kept (run old old.used item.seen item.page))
 
-    pub ahead_kept : (stack : List Item) → Each (ItemFits old) stack → ahead new f stack ≡ ahead old g stack
+    pub ahead_kept : (stack : List TraversalItem) → Each (ItemFits old) stack → ahead new f stack ≡ ahead old g stack
     ahead_kept stack fits =
         sum_over_same (ahead_of new f) (ahead_of old g) stack
         (each_map (ItemFits old) (λ item. ahead_of new f item ≡ ahead_of old g item) ahead_of_kept stack fits)

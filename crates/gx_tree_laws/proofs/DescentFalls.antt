@@ -7,7 +7,7 @@ use Rattle.gx_tree_laws.specs.Lists.{one_if, how_many}
 use Rattle.gx_tree_laws.specs.Trees.{Pair, Node, Tree, Rules, IsLawful, Used, size, child_pages, times}
 use Rattle.gx_tree_laws.specs.Legal.{ChildFits, Legal}
 use Rattle.gx_tree_laws.specs.Steps.{spares, IsSplit, IsRootSplit, IsWidening, IsSweep}
-use Rattle.gx_tree_laws.specs.Reach.{Item}
+use Rattle.gx_tree_laws.specs.Reach.{TraversalItem}
 use Rattle.gx_tree_laws.specs.Looks.{from_root}
 use Rattle.gx_tree_laws.specs.Writes.{is_sweepable, has_place, must_restart, levels_left, descent_left}
 use Rattle.gx_tree_laws.proofs.Chains.{some_child, pages_with_key, length_with_key}
@@ -22,10 +22,10 @@ product a b c d le me = let p = mul-le-mul_left a me in let q = mul-le-mul_right
 
 module _ {K : Type 0} (r : Rules K) (room : ℕ) (claimed : Pair K → Bool) where
   module _ (t : Tree K) (legal : Legal r t) where
-    restart_levels : (parent : ℕ) (item : Item) → must_restart r t parent item ≡ true → levels_left r t parent item ≡ suc (t.node 1).level
+    restart_levels : (parent : ℕ) (item : TraversalItem) → must_restart r t parent item ≡ true → levels_left r t parent item ≡ suc (t.node 1).level
     restart_levels parent item is = ap (λ b. if b then suc (t.node 1).level else (t.node item.page).level) is
 
-    page_levels : (parent : ℕ) (item : Item) → must_restart r t parent item ≡ false → levels_left r t parent item ≡ (t.node item.page).level
+    page_levels : (parent : ℕ) (item : TraversalItem) → must_restart r t parent item ≡ false → levels_left r t parent item ≡ (t.node item.page).level
     page_levels parent item is = ap (λ b. if b then suc (t.node 1).level else (t.node item.page).level) is
 
     root_taken : Used t 1
@@ -36,7 +36,7 @@ module _ {K : Type 0} (r : Rules K) (room : ℕ) (claimed : Pair K → Bool) whe
         page_levels parent (from_root t) (or_from (nat_lt t.counter (t.node 1).nsn) false (le-ltb t.counter (t.node 1).nsn (legal.pages 1 root_taken).nsn) refl)
 
     -- a descent that needn't begin again has its page's level left, and one that must more
-    levels_least : (parent : ℕ) (item : Item) → Used t item.page → (t.node item.page).level ≤ levels_left r t parent item
+    levels_least : (parent : ℕ) (item : TraversalItem) → Used t item.page → (t.node item.page).level ≤ levels_left r t parent item
     levels_least parent item u = by (must_restart r t parent item) refl
       where
         by : (b : Bool) → must_restart r t parent item ≡ b → (t.node item.page).level ≤ levels_left r t parent item
@@ -44,7 +44,7 @@ module _ {K : Type 0} (r : Rules K) (room : ℕ) (claimed : Pair K → Bool) whe
         by false is = let a = page_levels parent item is in omega (arith, a)
 
     -- a new beginning, where it has to begin again
-    pub restart_falls : (parent : ℕ) (item : Item) → must_restart r t parent item ≡ true
+    pub restart_falls : (parent : ℕ) (item : TraversalItem) → must_restart r t parent item ≡ true
         → descent_left r t room claimed 0 (from_root t) < descent_left r t room claimed parent item
     restart_falls parent item is = let a = restart_levels parent item is in let b = root_levels 0 in omega (arith, a, b)
 
@@ -65,14 +65,14 @@ module _ {K : Type 0} (r : Rules K) (room : ℕ) (claimed : Pair K → Bool) whe
         omega (arith, level, same, b)
 
     -- on to a child
-    pub down_falls : (parent : ℕ) (item : Item) (x : ℕ) → Used t item.page → size (t.node item.page) < r.most → 0 < times x (child_pages (t.node item.page))
+    pub down_falls : (parent : ℕ) (item : TraversalItem) (x : ℕ) → Used t item.page → size (t.node item.page) < r.most → 0 < times x (child_pages (t.node item.page))
         → descent_left r t room claimed item.page (record { page = x; seen = t.counter }) < descent_left r t room claimed parent item
     down_falls parent item x u space named =
         let a = child_levels item.page x u space named in
         let b = levels_least parent item u in
         omega (arith, a, b)
 
-    levels_most : (parent : ℕ) (item : Item) → Used t item.page → levels_left r t parent item ≤ t.used
+    levels_most : (parent : ℕ) (item : TraversalItem) → Used t item.page → levels_left r t parent item ≤ t.used
     levels_most parent item u = by (must_restart r t parent item) refl
       where
         by : (b : Bool) → must_restart r t parent item ≡ b → levels_left r t parent item ≤ t.used
@@ -80,7 +80,7 @@ module _ {K : Type 0} (r : Rules K) (room : ℕ) (claimed : Pair K → Bool) whe
         by false is = let a = page_levels parent item is in let b = level_below_used r t legal item.page u in omega (arith, a, b)
 
     -- below 2^40, on a device of at most 65,536 pages, with at most 100 entries a node
-    pub left_most : (parent : ℕ) (item : Item) → Used t item.page → t.used ≤ room → room ≤ 65536 → r.most ≤ 100
+    pub left_most : (parent : ℕ) (item : TraversalItem) → Used t item.page → t.used ≤ room → room ≤ 65536 → r.most ≤ 100
         → descent_left r t room claimed parent item < 2 ^ 40
     left_most parent item u fits small few =
         let levels = levels_most parent item u in
@@ -90,7 +90,7 @@ module _ {K : Type 0} (r : Rules K) (room : ℕ) (claimed : Pair K → Bool) whe
         omega (arith, levels, pairs, free, marked, fits, small)
 
   -- on to a child whose entry was widened
-  pub widened_falls : IsLawful r → (old new : Tree K) → Legal r old → (parent : ℕ) (item : Item) (x : ℕ) (coming key : K)
+  pub widened_falls : IsLawful r → (old new : Tree K) → Legal r old → (parent : ℕ) (item : TraversalItem) (x : ℕ) (coming key : K)
       → IsWidening r old new item.page x coming key → size (old.node item.page) < r.most → 0 < times x (child_pages (old.node item.page))
       → descent_left r new room claimed item.page (record { page = x; seen = new.counter }) < descent_left r old room claimed parent item
   widened_falls law old new legal parent item x coming key step space named =
@@ -112,7 +112,7 @@ module _ {K : Type 0} (r : Rules K) (room : ℕ) (claimed : Pair K → Bool) whe
       omega (arith, a, b, level, stands, free)
 
   -- a sweep that takes something
-  pub swept_falls : (old new : Tree K) → Legal r old → (parent : ℕ) (item : Item) → IsSweep old new item.page claimed → parent ≢ item.page
+  pub swept_falls : (old new : Tree K) → Legal r old → (parent : ℕ) (item : TraversalItem) → IsSweep old new item.page claimed → parent ≢ item.page
       → 0 < how_many (is_sweepable claimed) (old.node item.page).pairs
       → descent_left r new room claimed parent item < descent_left r old room claimed parent item
   swept_falls old new legal parent item step apart some =
@@ -144,7 +144,7 @@ module _ {K : Type 0} (r : Rules K) (room : ℕ) (claimed : Pair K → Bool) whe
   one_page a b le = let e : a - b ≡ suc (a - suc b) = omega (arith, le) in let p = ap (λ k. k * (a + 1)) e in omega (arith, p)
 
   -- a split, and a new beginning
-  pub split_falls : IsLawful r → (old new : Tree K) → Legal r old → (parent : ℕ) (item : Item) (n p : ℕ) (sides : List Bool) (left right : K)
+  pub split_falls : IsLawful r → (old new : Tree K) → Legal r old → (parent : ℕ) (item : TraversalItem) (n p : ℕ) (sides : List Bool) (left right : K)
       → IsSplit r old new n p sides left right → new.used ≤ room
       → descent_left r new room claimed 0 (from_root new) < descent_left r old room claimed parent item
   split_falls law old new legal parent item n p sides left right step fits =
@@ -158,7 +158,7 @@ module _ {K : Type 0} (r : Rules K) (room : ℕ) (claimed : Pair K → Bool) whe
       omega (arith, stands, top, few, free, one, used, fits)
 
   -- a root split, and a new beginning
-  pub root_split_falls : IsLawful r → (old new : Tree K) → Legal r old → (parent : ℕ) (item : Item) (sides : List Bool) (left right : K)
+  pub root_split_falls : IsLawful r → (old new : Tree K) → Legal r old → (parent : ℕ) (item : TraversalItem) (sides : List Bool) (left right : K)
       → IsRootSplit r old new sides left right → new.used ≤ room
       → descent_left r new room claimed 0 (from_root new) < descent_left r old room claimed parent item
   root_split_falls law old new legal parent item sides left right step fits =
@@ -173,7 +173,7 @@ module _ {K : Type 0} (r : Rules K) (room : ℕ) (claimed : Pair K → Bool) whe
       omega (arith, stands, top, few, free, one, two, used, fits)
 
   -- a split by others takes a page, which counts for more than all levels
-  pub others_split_falls : IsLawful r → (old new : Tree K) → Legal r old → (parent : ℕ) (item : Item) → Used old item.page → (n p : ℕ) (sides : List Bool) (left right : K)
+  pub others_split_falls : IsLawful r → (old new : Tree K) → Legal r old → (parent : ℕ) (item : TraversalItem) → Used old item.page → (n p : ℕ) (sides : List Bool) (left right : K)
       → IsSplit r old new n p sides left right → new.used ≤ room
       → descent_left r new room claimed parent item < descent_left r old room claimed parent item
   others_split_falls law old new legal parent item u n p sides left right step fits =
@@ -186,7 +186,7 @@ module _ {K : Type 0} (r : Rules K) (room : ℕ) (claimed : Pair K → Bool) whe
       let one = one_page room old.used (omega (arith, used, fits)) in
       omega (arith, stands, levels, free, one, fits)
 
-  pub others_root_split_falls : IsLawful r → (old new : Tree K) → Legal r old → (parent : ℕ) (item : Item) → Used old item.page → (sides : List Bool) (left right : K)
+  pub others_root_split_falls : IsLawful r → (old new : Tree K) → Legal r old → (parent : ℕ) (item : TraversalItem) → Used old item.page → (sides : List Bool) (left right : K)
       → IsRootSplit r old new sides left right → new.used ≤ room
       → descent_left r new room claimed parent item < descent_left r old room claimed parent item
   others_root_split_falls law old new legal parent item u sides left right step fits =

@@ -5,7 +5,7 @@ use Rattle.gx_tree_laws.specs.Lists.{Each}
 use Rattle.gx_tree_laws.specs.Trees.{Pair, Child, Node, Tree, Rules, IsLawful, Used, child_pages, times}
 use Rattle.gx_tree_laws.specs.Legal.{ChildFits, Legal}
 use Rattle.gx_tree_laws.specs.Steps.{IsSplit, IsRootSplit, ChangesOnly, IsWidening, EntriesCover, with_key, with_mark, spares, Step, Splits, SplitsRoot, Widens, Adds, Marks, Sweeps, IsStep}
-use Rattle.gx_tree_laws.specs.Reach.{Item}
+use Rattle.gx_tree_laws.specs.Reach.{TraversalItem}
 use Rattle.gx_tree_laws.specs.Looks.{from_root}
 use Rattle.gx_tree_laws.specs.Writes.{IsDescent}
 use Rattle.gx_tree_laws.proofs.Sums.{each_map, each_both, each-append, each_staying, each_going, total_two}
@@ -42,7 +42,7 @@ module _ {K : Type 0} (r : Rules K) (coming : K) where
           (covers q (u.0, (let h = u.1 in let k = step.used in omega (arith, h, k, ns))))
     ]
 
-    pub descent_split : (item : Item) → IsDescent r old item coming → IsDescent r new item coming
+    pub descent_split : (item : TraversalItem) → IsDescent r old item coming → IsDescent r new item coming
     descent_split item d = record {
       there = split_more r law old new n p sides left right legal step item.page d.there;
       seen = (let h = d.seen in let e = step.counter in omega (arith, h, e));
@@ -70,7 +70,7 @@ module _ {K : Type 0} (r : Rules K) (coming : K) where
           subst (λ (z : Node K). Each (Cover a) z.children) (sym (same_node r old new sides left right legal step q before n1)) (covers q before)
     ]
 
-    pub descent_root : (item : Item) → IsDescent r old item coming → IsDescent r new item coming
+    pub descent_root : (item : TraversalItem) → IsDescent r old item coming → IsDescent r new item coming
     descent_root item d = record {
       there = root_more r old new sides left right legal step item.page d.there;
       seen = (let h = d.seen in let e = step.counter in omega (arith, h, e));
@@ -86,7 +86,7 @@ module _ {K : Type 0} (r : Rules K) (coming : K) where
       | inr ne ↦ subst (λ (z : Node K). Each (Cover x) z.children) (sym (step.others q ne)) (covers q (used_before old new a pairs entries step q u))
     ]
 
-    pub descent_changed : (item : Item) → IsDescent r old item coming → IsDescent r new item coming
+    pub descent_changed : (item : TraversalItem) → IsDescent r old item coming → IsDescent r new item coming
     descent_changed item d = record {
       there = used_kept old new a pairs entries step item.page d.there;
       seen = (let h = d.seen in let e = step.counter in omega (arith, h, e));
@@ -95,7 +95,7 @@ module _ {K : Type 0} (r : Rules K) (coming : K) where
     }
 
   -- any step of others
-  pub descent_step : IsLawful r → (item : Item) (old new : Tree K) (step : Step K) → Legal r old → IsStep r old step new
+  pub descent_step : IsLawful r → (item : TraversalItem) (old new : Tree K) (step : Step K) → Legal r old → IsStep r old step new
       → IsDescent r old item coming → IsDescent r new item coming
   descent_step law item old new (Splits n p sides left right) legal step d = descent_split law old new n p sides left right legal step item d
   descent_step law item old new (SplitsRoot sides left right) legal step d = descent_root old new sides left right legal step item d

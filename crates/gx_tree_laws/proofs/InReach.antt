@@ -3,7 +3,7 @@ use Rattle.std.proofs.Common.{ℕ, zero, suc, ◌<◌, Bool, ◌&&◌, inl, inr,
 use Rattle.std.proofs.lemmas.Bool.{cases_lt}
 use Rattle.gx_tree_laws.specs.Lists.{sum_over, how_many, Each, SomeOf}
 use Rattle.gx_tree_laws.specs.Trees.{Pair, Tree, child_pages, times, standing}
-use Rattle.gx_tree_laws.specs.Reach.{Item, Near, here, beyond, Under, itself, below, InReach, Run, ends, goes, down, under, ahead_of, ahead}
+use Rattle.gx_tree_laws.specs.Reach.{TraversalItem, Near, here, beyond, Under, itself, below, InReach, Run, ends, goes, down, under, ahead_of, ahead}
 use Rattle.gx_tree_laws.specs.Looks.{ItemFits, IsLook}
 use Rattle.gx_tree_laws.proofs.Chains.{one_at}
 
@@ -32,13 +32,13 @@ module _ {K : Type 0} (t : Tree K) where
     | inr off ↦ let further = some_near F seen rest (omega (arith, off, some)) in (further.0, beyond lt further.1, further.2)
   ]
 
-  reached : (f : ℕ → ℕ) (item : Item) → ItemFits t item → 0 < ahead_of t f item → (l : ℕ) × InReach t item l × (0 < f l)
+  reached : (f : ℕ → ℕ) (item : TraversalItem) → ItemFits t item → 0 < ahead_of t f item → (l : ℕ) × InReach t item l × (0 < f l)
   reached f item fit some =
       let near = some_near (under t f) item.seen fit.run some in
       let under_it = some_under f (t.node near.0).level near.0 near.2 in
       (under_it.0, record { near = near.0; is_near = near.1; is_under = under_it.1 }, under_it.2)
 
-  pub ahead_in_reach : (f : ℕ → ℕ) (stack : List Item) → Each (ItemFits t) stack → 0 < ahead t f stack
+  pub ahead_in_reach : (f : ℕ → ℕ) (stack : List TraversalItem) → Each (ItemFits t) stack → 0 < ahead t f stack
       → SomeOf (λ item. (l : ℕ) × InReach t item l × (0 < f l)) stack
   ahead_in_reach f [] fits some = omega arith
   ahead_in_reach f (item ∷ stack) fits some = elim (cases_lt 0 (ahead_of t f item)) [
@@ -46,7 +46,7 @@ module _ {K : Type 0} (t : Tree K) where
     | inr off ↦ inr (ahead_in_reach f stack fits.1 (omega (arith, off, some)))
   ]
 
-  pub wanted_in_reach : (wants test : Pair K → Bool) (stack : List Item) (found : List (Pair K)) → IsLook t wants stack found
+  pub wanted_in_reach : (wants test : Pair K → Bool) (stack : List TraversalItem) (found : List (Pair K)) → IsLook t wants stack found
       → how_many test found < standing (λ x. wants x && test x) t
       → SomeOf (λ item. (l : ℕ) × InReach t item l × (0 < how_many (λ x. wants x && test x) (t.node l).pairs)) stack
   wanted_in_reach wants test stack found look more =

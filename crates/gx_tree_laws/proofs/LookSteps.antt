@@ -6,7 +6,7 @@ use Rattle.gx_tree_laws.specs.Lists.{one_if, how_many}
 use Rattle.gx_tree_laws.specs.Trees.{Pair, Child, Node, Tree, Rules, IsLawful, Used, child_pages, is_entry}
 use Rattle.gx_tree_laws.specs.Legal.{Legal}
 use Rattle.gx_tree_laws.specs.Steps.{IsSplit, IsRootSplit, ChangesOnly, with_key, with_mark, spares, Step, Splits, SplitsRoot, Widens, Adds, Marks, Sweeps, IsStep, LeavesAlone}
-use Rattle.gx_tree_laws.specs.Reach.{Item, ahead}
+use Rattle.gx_tree_laws.specs.Reach.{TraversalItem, ahead}
 use Rattle.gx_tree_laws.specs.Looks.{ItemFits, IsLook}
 use Rattle.gx_tree_laws.proofs.Sums.{each_map, sum_over-append}
 use Rattle.gx_tree_laws.proofs.Chains.{one_at, one_off, pages_with_key}
@@ -18,7 +18,7 @@ use Rattle.gx_tree_laws.proofs.SplitReach.{item_split, ahead_split}
 use Rattle.gx_tree_laws.proofs.RootReach.{item_root, ahead_root}
 use Rattle.gx_tree_laws.proofs.ChangeReach.{item_kept, ahead_kept}
 
-module _ {K : Type 0} (wants : Pair K → Bool) (stack : List Item) (found : List (Pair K)) where
+module _ {K : Type 0} (wants : Pair K → Bool) (stack : List TraversalItem) (found : List (Pair K)) where
   wanted : (Pair K → Bool) → Pair K → Bool
   wanted test x = wants x && test x
 
@@ -181,7 +181,7 @@ module _ {K : Type 0} (wants : Pair K → Bool) (test : Pair K → Bool) where
       omega (arith, parts, none)
 
 -- any step of others
-pub look_step : {K : Type 0} (r : Rules K) → IsLawful r → (wants : Pair K → Bool) (stack : List Item) (found : List (Pair K))
+pub look_step : {K : Type 0} (r : Rules K) → IsLawful r → (wants : Pair K → Bool) (stack : List TraversalItem) (found : List (Pair K))
     → (old new : Tree K) (step : Step K) → Legal r old → IsStep r old step new → LeavesAlone r wants step
     → IsLook old wants stack found → IsLook new wants stack found
 look_step r law wants stack found old new (Splits n p sides left right) legal step alone look =

@@ -5,7 +5,7 @@ use Rattle.std.proofs.lemmas.Bool.{cases_eq, ltb-true, ltb-false}
 use Rattle.gx_tree_laws.specs.Lists.{sum_over, one_if, how_many, Each, total}
 use Rattle.gx_tree_laws.specs.Trees.{Pair, Child, Tree, Rules, IsLawful, Used, leaves, standing, is_entry}
 use Rattle.gx_tree_laws.specs.Legal.{Bounds, ChildFits, Legal}
-use Rattle.gx_tree_laws.specs.Reach.{Item, Run, ends, goes, run, down, under, ahead_of, ahead, pages_ahead, pairs_ahead}
+use Rattle.gx_tree_laws.specs.Reach.{TraversalItem, Run, ends, goes, run, down, under, ahead_of, ahead, pages_ahead, pairs_ahead}
 use Rattle.gx_tree_laws.specs.Looks.{ItemFits, IsLook, from_root, beyond_of, below_of, stacked, found_with, LeadsTo}
 use Rattle.gx_tree_laws.proofs.Sums.{sum_over-append, sum_over_same, sum_over_le, sum_over-map, each_map, each_both, each-append, each-map, each_always, total_none}
 use Rattle.gx_tree_laws.proofs.Chains.{one_at, one_off}
@@ -39,7 +39,7 @@ module _ {K : Type 0} (t : Tree K) where
       omega (arith, shape)
 
   module _ (f : ℕ → ℕ) (seen p : ℕ) where
-    beyond : Bool → List Item
+    beyond : Bool → List TraversalItem
     beyond b = if b then record { page = (t.node p).right; seen = seen } ∷ [] else []
 
     -- what lies ahead of an item is what lies at or under its page, and what lies ahead beyond it
@@ -56,12 +56,12 @@ module _ {K : Type 0} (t : Tree K) where
         let next = ap (λ (ys : List ℕ). sum_over (under t f) ys) (run_is t seen rest t.used (omega (arith, long, same_long))) in
         omega (arith, s, next)
 
-  pub ahead_parts : (f : ℕ → ℕ) (item : Item) → ItemFits t item → ahead_of t f item ≡ under t f item.page + ahead t f (beyond_of t item)
+  pub ahead_parts : (f : ℕ → ℕ) (item : TraversalItem) → ItemFits t item → ahead_of t f item ≡ under t f item.page + ahead t f (beyond_of t item)
   ahead_parts f item fit =
       ahead_parts_by f item.seen item.page (run t t.used item.seen item.page) refl (parts_of t item.seen fit.run).1
       (nat_lt item.seen (t.node item.page).nsn) refl
 
-  beyond_fits_by : (item : Item) → ItemFits t item → Parts t item.seen item.page (run t t.used item.seen item.page) → (b : Bool) → nat_lt item.seen (t.node item.page).nsn ≡ b
+  beyond_fits_by : (item : TraversalItem) → ItemFits t item → Parts t item.seen item.page (run t t.used item.seen item.page) → (b : Bool) → nat_lt item.seen (t.node item.page).nsn ≡ b
       → Each (ItemFits t) (if b then record { page = (t.node item.page).right; seen = item.seen } ∷ [] else [])
   beyond_fits_by item fit parts false is = tt
   beyond_fits_by item fit (last le e) true is = let lt = ltb-true item.seen (t.node item.page).nsn is in absurd (omega (arith, le, lt))
@@ -71,10 +71,10 @@ module _ {K : Type 0} (t : Tree K) where
       let next = run_is t item.seen rest t.used (omega (arith, long, same_long)) in
       (record { seen = fit.seen; run = subst (λ (ys : List ℕ). Run t item.seen (t.node item.page).right ys) (sym next) rest }, tt)
 
-  beyond_fits : (item : Item) → ItemFits t item → Each (ItemFits t) (beyond_of t item)
+  beyond_fits : (item : TraversalItem) → ItemFits t item → Each (ItemFits t) (beyond_of t item)
   beyond_fits item fit = beyond_fits_by item fit (parts_of t item.seen fit.run).1 (nat_lt item.seen (t.node item.page).nsn) refl
 
-  pub item_used : (item : Item) → ItemFits t item → Used t item.page
+  pub item_used : (item : TraversalItem) → ItemFits t item → Used t item.page
   item_used item fit = (parts_of t item.seen fit.run).0
 
 module _ {K : Type 0} (r : Rules K) (t : Tree K) (legal : Legal r t) where
@@ -161,7 +161,7 @@ module _ {K : Type 0} (r : Rules K) (t : Tree K) (legal : Legal r t) where
         omega (arith, whole, shape)
 
     -- whatever is counted, a step leaves at most what lay ahead, without the page that it reads
-    pub ahead_less : (f : ℕ → ℕ) (item : Item) (stack : List Item) → ItemFits t item
+    pub ahead_less : (f : ℕ → ℕ) (item : TraversalItem) (stack : List TraversalItem) → ItemFits t item
         → ahead t f (stacked t leads item stack) + f item.page ≤ ahead t f (item ∷ stack)
     ahead_less f item stack fit =
         let u = item_used t item fit in
@@ -173,10 +173,10 @@ module _ {K : Type 0} (r : Rules K) (t : Tree K) (legal : Legal r t) where
         let second = sum_over-append (ahead_of t f) (below_of t leads (t.node item.page).children) stack in
         omega (arith, parts, whole, below, less, first, second)
 
-    pub pages_fall : (item : Item) (stack : List Item) → ItemFits t item → pages_ahead t (stacked t leads item stack) < pages_ahead t (item ∷ stack)
+    pub pages_fall : (item : TraversalItem) (stack : List TraversalItem) → ItemFits t item → pages_ahead t (stacked t leads item stack) < pages_ahead t (item ∷ stack)
     pages_fall item stack fit = let less = ahead_less (λ q. 1) item stack fit in omega (arith, less)
 
-    stacked_fits : (item : Item) (stack : List Item) → ItemFits t item → Each (ItemFits t) stack → Each (ItemFits t) (stacked t leads item stack)
+    stacked_fits : (item : TraversalItem) (stack : List TraversalItem) → ItemFits t item → Each (ItemFits t) stack → Each (ItemFits t) (stacked t leads item stack)
     stacked_fits item stack fit rest =
         let u = item_used t item fit in
         each-append (ItemFits t) (beyond_of t item) (below_of t leads (t.node item.page).children ++ stack) (beyond_fits t item fit)
@@ -228,7 +228,7 @@ module _ {K : Type 0} (r : Rules K) (t : Tree K) (legal : Legal r t) where
           by true rest = omega (arith, rest)
           by false rest = omega (arith, rest)
 
-      pub pairs_same : (test : Pair K → Bool) (item : Item) (stack : List Item) → ItemFits t item
+      pub pairs_same : (test : Pair K → Bool) (item : TraversalItem) (stack : List TraversalItem) → ItemFits t item
           → pairs_ahead t (λ x. wants x && test x) (stacked t leads item stack) + how_many (λ x. wants x && test x) (t.node item.page).pairs
           ≡ pairs_ahead t (λ x. wants x && test x) (item ∷ stack)
       pairs_same test item stack fit =
@@ -247,7 +247,7 @@ module _ {K : Type 0} (r : Rules K) (t : Tree K) (legal : Legal r t) where
           let second = sum_over-append (ahead_of t f) (below_of t leads (t.node item.page).children) stack in
           omega (arith, parts, whole, below, same, first, second)
 
-      pub look_goes_on : (item : Item) (stack : List Item) (found : List (Pair K)) → IsLook t wants (item ∷ stack) found
+      pub look_goes_on : (item : TraversalItem) (stack : List TraversalItem) (found : List (Pair K)) → IsLook t wants (item ∷ stack) found
           → IsLook t wants (stacked t leads item stack) (found_with t wants item found)
       look_goes_on item stack found look = record {
         items = stacked_fits item stack (look.items).0 (look.items).1;
@@ -283,7 +283,7 @@ less_wanted {K} t wants test =
         (each_always (λ x. one_if (wants x && test x) ≤ one_if (test x)) (λ x. at (wants x) (test x)) xs)
 
 -- nothing is found twice
-pub found_once : {K : Type 0} (r : Rules K) (t : Tree K) → Legal r t → (wants : Pair K → Bool) (stack : List Item) (found : List (Pair K))
+pub found_once : {K : Type 0} (r : Rules K) (t : Tree K) → Legal r t → (wants : Pair K → Bool) (stack : List TraversalItem) (found : List (Pair K))
     → IsLook t wants stack found → (row : ℕ) (key : K) → how_many (is_entry r row key) found ≤ 1
 found_once r t legal wants stack found look row key =
     let whole = look.complete (is_entry r row key) in

@@ -5,7 +5,7 @@ use Rattle.gx_tree_laws.specs.Lists.{sum_over, Each}
 use Rattle.gx_tree_laws.specs.Trees.{Node, Tree, Rules, Used, child_pages}
 use Rattle.gx_tree_laws.specs.Legal.{Legal}
 use Rattle.gx_tree_laws.specs.Steps.{IsRootSplit}
-use Rattle.gx_tree_laws.specs.Reach.{Item, Run, ends, goes, run, down, under, ahead_of, ahead}
+use Rattle.gx_tree_laws.specs.Reach.{TraversalItem, Run, ends, goes, run, down, under, ahead_of, ahead}
 use Rattle.gx_tree_laws.specs.Looks.{ItemFits}
 use Rattle.gx_tree_laws.proofs.Sums.{sum_over_same, each_map}
 use Rattle.gx_tree_laws.proofs.Roots.{root_used, used_more, same_node, sum_halves, sum_root}
@@ -74,27 +74,27 @@ module _ {K : Type 0} (r : Rules K) (old new : Tree K) (sides : List Bool) (left
       goes (used_more r old new sides left right legal step x u) (let k = nsn_same x u in omega (arith, k, lt))
       (subst (λ q. Run new seen q qs) (sym (right_same x u)) (run_root seen rest))
 
-  near_root : (item : Item) → ItemFits old item → run new new.used item.seen item.page ≡ run old old.used item.seen item.page
+  near_root : (item : TraversalItem) → ItemFits old item → run new new.used item.seen item.page ≡ run old old.used item.seen item.page
   near_root item fit =
       let most = length_run old item.seen old.used item.page in
       let e = step.used in
       run_is new item.seen (run_root item.seen fit.run) new.used (omega (arith, most, e))
 
-  pub item_root : (item : Item) → ItemFits old item → ItemFits new item
+  pub item_root : (item : TraversalItem) → ItemFits old item → ItemFits new item
   item_root item fit = record {
     seen = (let e = step.counter in let h = fit.seen in omega (arith, e, h));
     run = subst (λ (ys : List ℕ). Run new item.seen item.page ys) (sym (near_root item fit)) (run_root item.seen fit.run);
   }
 
   ahead_of_root : (f g : ℕ → ℕ) → f 1 + (f a + f b) ≡ g 1 → ((q : ℕ) → Used old q → q ≢ 1 → f q ≡ g q)
-      → (item : Item) → ItemFits old item → ahead_of new f item ≡ ahead_of old g item
+      → (item : TraversalItem) → ItemFits old item → ahead_of new f item ≡ ahead_of old g item
   ahead_of_root f g parted same item fit =
       ap (λ (ys : List ℕ). sum_over (under new f) ys) (near_root item fit)
       ∙ sum_over_same (under new f) (under old g) (run old old.used item.seen item.page)
       (each_run old item.seen (λ x. under new f x ≡ under old g x) (under_same f g parted same) fit.run)
 
   pub ahead_root : (f g : ℕ → ℕ) → f 1 + (f a + f b) ≡ g 1 → ((q : ℕ) → Used old q → q ≢ 1 → f q ≡ g q)
-      → (stack : List Item) → Each (ItemFits old) stack → ahead new f stack ≡ ahead old g stack
+      → (stack : List TraversalItem) → Each (ItemFits old) stack → ahead new f stack ≡ ahead old g stack
   ahead_root f g parted same stack fits =
       sum_over_same (ahead_of new f) (ahead_of old g) stack
       (each_map (ItemFits old) (λ item. ahead_of new f item ≡ ahead_of old g item) (ahead_of_root f g parted same) stack fits)

@@ -5,7 +5,7 @@ use Rattle.gx_tree_laws.specs.Lists.{sum_over, Each}
 use Rattle.gx_tree_laws.specs.Trees.{Node, Tree, Rules, IsLawful, Used, child_pages, times}
 use Rattle.gx_tree_laws.specs.Legal.{Legal}
 use Rattle.gx_tree_laws.specs.Steps.{IsSplit}
-use Rattle.gx_tree_laws.specs.Reach.{Item, Run, ends, goes, run, down, under, ahead_of, ahead}
+use Rattle.gx_tree_laws.specs.Reach.{TraversalItem, Run, ends, goes, run, down, under, ahead_of, ahead}
 use Rattle.gx_tree_laws.specs.Looks.{ItemFits}
 use Rattle.gx_tree_laws.proofs.Sums.{sum_over_same, each_map, each-map, each_both}
 use Rattle.gx_tree_laws.proofs.Chains.{one_at, one_off, after, after_at, after_off, sum_after, length_after}
@@ -130,7 +130,7 @@ module _ {K : Type 0} (r : Rules K) (law : IsLawful r) (old new : Tree K) (n p :
       ]
 
   -- the pages near an item are as before, each that is split being followed by the new one
-  near_split : (item : Item) → ItemFits old item → run new new.used item.seen item.page ≡ after n s (run old old.used item.seen item.page)
+  near_split : (item : TraversalItem) → ItemFits old item → run new new.used item.seen item.page ≡ after n s (run old old.used item.seen item.page)
   near_split item fit =
       let long = length_after n s (run old old.used item.seen item.page) in
       let once = run_once old item.seen n fit.run in
@@ -138,21 +138,21 @@ module _ {K : Type 0} (r : Rules K) (law : IsLawful r) (old new : Tree K) (n p :
       let e = step.used in
       run_is new item.seen (run_split item.seen fit.seen fit.run) new.used (omega (arith, long, once, most, e))
 
-  pub item_split : (item : Item) → ItemFits old item → ItemFits new item
+  pub item_split : (item : TraversalItem) → ItemFits old item → ItemFits new item
   item_split item fit = record {
     seen = (let e = step.counter in let h = fit.seen in omega (arith, e, h));
     run = subst (λ (ys : List ℕ). Run new item.seen item.page ys) (sym (near_split item fit)) (run_split item.seen fit.seen fit.run);
   }
 
   pub ahead_of_split : (f g : ℕ → ℕ) → f n + f s ≡ g n → ((q : ℕ) → Used old q → q ≢ n → f q ≡ g q)
-      → (item : Item) → ItemFits old item → ahead_of new f item ≡ ahead_of old g item
+      → (item : TraversalItem) → ItemFits old item → ahead_of new f item ≡ ahead_of old g item
   ahead_of_split f g parted same item fit =
       ap (λ (ys : List ℕ). sum_over (under new f) ys) (near_split item fit)
       ∙ sum_after (under new f) (under old g) n s (run old old.used item.seen item.page) (under_both f g parted same)
       (each_run old item.seen (λ x. x ≢ n → under new f x ≡ under old g x) (under_other f g parted same) fit.run)
 
   pub ahead_split : (f g : ℕ → ℕ) → f n + f s ≡ g n → ((q : ℕ) → Used old q → q ≢ n → f q ≡ g q)
-      → (stack : List Item) → Each (ItemFits old) stack → ahead new f stack ≡ ahead old g stack
+      → (stack : List TraversalItem) → Each (ItemFits old) stack → ahead new f stack ≡ ahead old g stack
   ahead_split f g parted same stack fits =
       sum_over_same (ahead_of new f) (ahead_of old g) stack
       (each_map (ItemFits old) (λ item. ahead_of new f item ≡ ahead_of old g item) (ahead_of_split f g parted same) stack fits)

@@ -4,7 +4,7 @@ use Rattle.gx_tree_laws.specs.Lists.{sum_over, one_if, how_many}
 use Rattle.gx_tree_laws.specs.Trees.{Pair, Tree, Used, child_pages, times}
 
 -- an item of a traversal: a page, and the counter as it was when the page's number was read
-pub record Item : Type 0 where
+pub record TraversalItem : Type 0 where
   pub page : ℕ
   pub seen : ℕ
 
@@ -19,7 +19,7 @@ pub data Under {K : Type 0} (t : Tree K) (l : ℕ) : ℕ → Type 0 where
   below : {q c : ℕ} → 0 < times c (child_pages (t.node q)) → Under t l c → Under t l q
 
 -- a page in the reach of an item: it is under a page that is near it
-pub record InReach {K : Type 0} (t : Tree K) (item : Item) (l : ℕ) : Type 0 where
+pub record InReach {K : Type 0} (t : Tree K) (item : TraversalItem) (l : ℕ) : Type 0 where
   pub near : ℕ
   pub is_near : Near t item.seen near item.page
   pub is_under : Under t l near
@@ -44,20 +44,20 @@ abbrev pub under : {K : Type 0} → Tree K → (ℕ → ℕ) → ℕ → ℕ
 under t f q = down t f (t.node q).level q
 
 -- the sum of f over what lies ahead of an item, and of a stack of them
-abbrev pub ahead_of : {K : Type 0} → Tree K → (ℕ → ℕ) → Item → ℕ
+abbrev pub ahead_of : {K : Type 0} → Tree K → (ℕ → ℕ) → TraversalItem → ℕ
 ahead_of t f item = sum_over (under t f) (run t t.used item.seen item.page)
 
-abbrev pub ahead : {K : Type 0} → Tree K → (ℕ → ℕ) → List Item → ℕ
+abbrev pub ahead : {K : Type 0} → Tree K → (ℕ → ℕ) → List TraversalItem → ℕ
 ahead t f stack = sum_over (ahead_of t f) stack
 
 -- how many pages lie ahead
-abbrev pub pages_ahead : {K : Type 0} → Tree K → List Item → ℕ
+abbrev pub pages_ahead : {K : Type 0} → Tree K → List TraversalItem → ℕ
 pages_ahead t stack = ahead t (λ q. 1) stack
 
 -- how often this page does
-abbrev pub times_ahead : {K : Type 0} → Tree K → ℕ → List Item → ℕ
+abbrev pub times_ahead : {K : Type 0} → Tree K → ℕ → List TraversalItem → ℕ
 times_ahead t l stack = ahead t (λ q. one_if (q == l)) stack
 
 -- how many pairs ahead pass the test
-abbrev pub pairs_ahead : {K : Type 0} → Tree K → (Pair K → Bool) → List Item → ℕ
+abbrev pub pairs_ahead : {K : Type 0} → Tree K → (Pair K → Bool) → List TraversalItem → ℕ
 pairs_ahead t test stack = ahead t (λ q. how_many test (t.node q).pairs) stack

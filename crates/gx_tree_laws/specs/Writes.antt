@@ -3,10 +3,10 @@ use Rattle.std.specs.Prelude.{ℕ, suc, ◌+◌, ◌-◌, ◌*◌, ◌<◌, ◌�
 use Rattle.gx_tree_laws.specs.Trees.{Pair, Tree, Rules, Used, size, times, child_pages, walk, passing, standing, is_entry}
 use Rattle.gx_tree_laws.specs.Legal.{Linked}
 use Rattle.gx_tree_laws.specs.Steps.{EntriesCover}
-use Rattle.gx_tree_laws.specs.Reach.{Item}
+use Rattle.gx_tree_laws.specs.Reach.{TraversalItem}
 
 -- a descent for a coming key is at a page; if the page wasn't split since, each entry that names it covers the key
-pub record IsDescent {K : Type 0} (r : Rules K) (t : Tree K) (item : Item) (coming : K) : Type 0 where
+pub record IsDescent {K : Type 0} (r : Rules K) (t : Tree K) (item : TraversalItem) (coming : K) : Type 0 where
   pub there : Used t item.page
   pub seen : item.seen ≤ t.counter
   pub covered : (t.node item.page).nsn ≤ item.seen → EntriesCover r t item.page coming
@@ -29,16 +29,16 @@ abbrev pub has_place : {K : Type 0} → Rules K → Tree K → ℕ → ℕ → B
 has_place r t parent q = nat_lt 0 (times q (child_pages (t.node parent))) && nat_lt (size (t.node parent)) r.most
 
 -- a descent has to begin again: its page was split since, or the page that it came from has no place for a split of it
-abbrev pub must_restart : {K : Type 0} → Rules K → Tree K → ℕ → Item → Bool
+abbrev pub must_restart : {K : Type 0} → Rules K → Tree K → ℕ → TraversalItem → Bool
 must_restart r t parent item =
     nat_lt item.seen (t.node item.page).nsn || (not (item.page == 1) && not (has_place r t parent item.page))
 
 -- the levels that a descent has left: one more than the root's where it has to begin again, else its page's
-abbrev pub levels_left : {K : Type 0} → Rules K → Tree K → ℕ → Item → ℕ
+abbrev pub levels_left : {K : Type 0} → Rules K → Tree K → ℕ → TraversalItem → ℕ
 levels_left r t parent item = if must_restart r t parent item then suc (t.node 1).level else (t.node item.page).level
 
 -- what a descent that came from this parent has left, on a device of so many pages: those not yet taken, each for a new
 -- beginning; the pairs that a sweep would take; and levels
-abbrev pub descent_left : {K : Type 0} → Rules K → Tree K → ℕ → (Pair K → Bool) → ℕ → Item → ℕ
+abbrev pub descent_left : {K : Type 0} → Rules K → Tree K → ℕ → (Pair K → Bool) → ℕ → TraversalItem → ℕ
 descent_left r t room claimed parent item =
     (room - t.used) * (room + 1) + standing (is_sweepable claimed) t + levels_left r t parent item

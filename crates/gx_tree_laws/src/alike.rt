@@ -4,7 +4,7 @@ ghost use Rattle.std.specs.Prelude.{◌≡◌, ℕ, Bool, List};
 ghost use Rattle.gx_tree_laws.specs.Trees.{Pair, Tree, Rules, IsLawful, Used, standing};
 ghost use Rattle.gx_tree_laws.specs.Legal.{Legal};
 ghost use Rattle.gx_tree_laws.specs.Steps.{Step, IsStep};
-ghost use Rattle.gx_tree_laws.specs.Reach.{Item};
+ghost use Rattle.gx_tree_laws.specs.Reach.{TraversalItem};
 ghost use Rattle.gx_tree_laws.specs.Looks.{IsLook, stacked, found_with, LeadsTo};
 ghost use Rattle.gx_tree_laws.specs.Writes.{IsDescent, IsSeek};
 ghost use Rattle.gx_tree_laws.specs.Alike.{AgreeOnUsed};
@@ -24,18 +24,19 @@ pub fn trees_that_agree_are_alike<K>()
 /// At a page in use it stacks and finds the same in both.
 pub fn looks_over_trees_that_agree_are_alike<K>()
     ensures looks { (r : Rules K) (one other : Tree K) → AgreeOnUsed one other → Legal r one
-        → (wants : Pair K → Bool) (stack : List Item) (found : List (Pair K))
+        → (wants : Pair K → Bool) (stack : List TraversalItem) (found : List (Pair K))
         → IsLook one wants stack found → IsLook other wants stack found }
-    ensures stacks { (one other : Tree K) → AgreeOnUsed one other → (leads : K → Bool) (item : Item) (stack : List Item)
+    ensures stacks { (one other : Tree K) → AgreeOnUsed one other
+        → (leads : K → Bool) (item : TraversalItem) (stack : List TraversalItem)
         → Used one item.page
         → stacked other leads item stack ≡ stacked one leads item stack }
     ensures finds { (one other : Tree K) → AgreeOnUsed one other
-        → (wants : Pair K → Bool) (item : Item) (found : List (Pair K)) → Used one item.page
+        → (wants : Pair K → Bool) (item : TraversalItem) (found : List (Pair K)) → Used one item.page
         → found_with other wants item found ≡ found_with one wants item found }
     ensures leads { (r : Rules K) (one other : Tree K) → AgreeOnUsed one other
         → (wants : Pair K → Bool) (leads : K → Bool)
         → LeadsTo r one wants leads → LeadsTo r other wants leads }
-    ensures descents { (r : Rules K) (one other : Tree K) → AgreeOnUsed one other → (item : Item) (coming : K)
+    ensures descents { (r : Rules K) (one other : Tree K) → AgreeOnUsed one other → (item : TraversalItem) (coming : K)
         → IsDescent r one item coming → IsDescent r other item coming }
 {}
 

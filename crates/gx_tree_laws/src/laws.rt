@@ -7,7 +7,7 @@ ghost use Rattle.gx_tree_laws.specs.Trees.{times, leaves, standing, is_entry, fr
 ghost use Rattle.gx_tree_laws.specs.Legal.{Legal};
 ghost use Rattle.gx_tree_laws.specs.Steps.{IsSplit, IsRootSplit, IsWidening, IsAdding, IsMarking};
 ghost use Rattle.gx_tree_laws.specs.Steps.{IsSweep, Step, IsStep, AreSteps, LeavesAlone};
-ghost use Rattle.gx_tree_laws.specs.Reach.{Item, InReach, pages_ahead};
+ghost use Rattle.gx_tree_laws.specs.Reach.{TraversalItem, InReach, pages_ahead};
 ghost use Rattle.gx_tree_laws.specs.Looks.{ItemFits, IsLook, from_root, stacked, found_with, LeadsTo};
 ghost use Rattle.gx_tree_laws.specs.Writes.{IsDescent, IsSeek, leaves_left, is_sweepable, must_restart, descent_left};
 ghost use Rattle.gx_tree_laws.specs.Rightlinks.{GoesOn};
@@ -111,14 +111,17 @@ pub fn look_begins_with_the_root<K>()
 pub fn look_goes_on<K>()
     ensures look { (r : Rules K) → IsLawful r → (t : Tree K) → Legal r t
         → (wants : Pair K → Bool) (leads : K → Bool) → LeadsTo r t wants leads
-        → (item : Item) (stack : List Item) (found : List (Pair K)) → IsLook t wants (item ∷ stack) found
+        → (item : TraversalItem) (stack : List TraversalItem) (found : List (Pair K))
+        → IsLook t wants (item ∷ stack) found
         → IsLook t wants (stacked t leads item stack) (found_with t wants item found) }
     ensures falls { (r : Rules K) (t : Tree K) → Legal r t → (wants : Pair K → Bool) (leads : K → Bool)
-        (item : Item) (stack : List Item) (found : List (Pair K)) → IsLook t wants (item ∷ stack) found
+        (item : TraversalItem) (stack : List TraversalItem) (found : List (Pair K))
+        → IsLook t wants (item ∷ stack) found
         → pages_ahead t (stacked t leads item stack) < pages_ahead t (item ∷ stack) }
-    ensures most { (r : Rules K) (t : Tree K) → Legal r t → (wants : Pair K → Bool) (stack : List Item)
+    ensures most { (r : Rules K) (t : Tree K) → Legal r t → (wants : Pair K → Bool) (stack : List TraversalItem)
         (found : List (Pair K)) → IsLook t wants stack found → pages_ahead t stack ≤ t.used }
-    ensures reads { (t : Tree K) (wants : Pair K → Bool) (item : Item) (stack : List Item) (found : List (Pair K))
+    ensures reads { (t : Tree K) (wants : Pair K → Bool) (item : TraversalItem) (stack : List TraversalItem)
+        (found : List (Pair K))
         → IsLook t wants (item ∷ stack) found → Used t item.page }
 {}
 
@@ -127,7 +130,7 @@ pub fn look_goes_on<K>()
 pub fn look_ends_with_all_that_is_wanted<K>()
     ensures all { (t : Tree K) (wants : Pair K → Bool) (found : List (Pair K)) → IsLook t wants [] found
         → (test : Pair K → Bool) → how_many test found ≡ standing (λ x. wants x && test x) t }
-    ensures once { (r : Rules K) (t : Tree K) → Legal r t → (wants : Pair K → Bool) (stack : List Item)
+    ensures once { (r : Rules K) (t : Tree K) → Legal r t → (wants : Pair K → Bool) (stack : List TraversalItem)
         (found : List (Pair K)) → IsLook t wants stack found
         → (row : ℕ) (key : K) → how_many (is_entry r row key) found ≤ 1 }
 {}
@@ -135,7 +138,7 @@ pub fn look_ends_with_all_that_is_wanted<K>()
 /// While a look is at work, what is wanted, stands and isn't found lies in the reach of an item of its stack: in a leaf
 /// under a page that is near the item (Lehman, Yao 1981; Kornacker, Mohan, Hellerstein 1997).
 pub fn what_is_not_found_is_in_reach<K>()
-    ensures { (t : Tree K) (wants test : Pair K → Bool) (stack : List Item) (found : List (Pair K))
+    ensures { (t : Tree K) (wants test : Pair K → Bool) (stack : List TraversalItem) (found : List (Pair K))
         → IsLook t wants stack found → how_many test found < standing (λ x. wants x && test x) t
         → SomeOf (λ item. (l : ℕ) × InReach t item l × (0 < how_many (λ x. wants x && test x) (t.node l).pairs)) stack }
 {}
@@ -143,10 +146,11 @@ pub fn what_is_not_found_is_in_reach<K>()
 /// Steps of others, in any order and number, keep each look that is at work, as long as they neither add, mark nor
 /// sweep what it wants; each descent; and each seek, as long as they don't sweep or mark the pair that is sought.
 pub fn steps_of_others_keep_what_is_at_work<K>()
-    ensures looks { (r : Rules K) → IsLawful r → (wants : Pair K → Bool) (stack : List Item) (found : List (Pair K))
+    ensures looks { (r : Rules K) → IsLawful r
+        → (wants : Pair K → Bool) (stack : List TraversalItem) (found : List (Pair K))
         (steps : List (Step K)) (old new : Tree K) → Legal r old → AreSteps r old steps new
         → Each (LeavesAlone r wants) steps → IsLook old wants stack found → IsLook new wants stack found }
-    ensures descents { (r : Rules K) → IsLawful r → (coming : K) (item : Item)
+    ensures descents { (r : Rules K) → IsLawful r → (coming : K) (item : TraversalItem)
         (steps : List (Step K)) (old new : Tree K) → Legal r old → AreSteps r old steps new
         → IsDescent r old item coming → IsDescent r new item coming }
     ensures seeks { (r : Rules K) → IsLawful r → (a row : ℕ) (key : K)
@@ -186,42 +190,42 @@ pub fn descent_goes_down<K>()
 /// isn't taken yet, of the `room` pages of the device.
 pub fn descent_comes_to_an_end<K>()
     ensures restarts { (r : Rules K) (room : ℕ) (claimed : Pair K → Bool) (t : Tree K) → Legal r t
-        → (parent : ℕ) (item : Item) → must_restart r t parent item ≡ true
+        → (parent : ℕ) (item : TraversalItem) → must_restart r t parent item ≡ true
         → descent_left r t room claimed 0 (from_root t) < descent_left r t room claimed parent item }
     ensures goes_down { (r : Rules K) (room : ℕ) (claimed : Pair K → Bool) (t : Tree K) → Legal r t
-        → (parent : ℕ) (item : Item) (x : ℕ) → Used t item.page → size (t.node item.page) < r.most
+        → (parent : ℕ) (item : TraversalItem) (x : ℕ) → Used t item.page → size (t.node item.page) < r.most
         → 0 < times x (child_pages (t.node item.page))
         → descent_left r t room claimed item.page (record { page = x; seen = t.counter })
         < descent_left r t room claimed parent item }
     ensures widens { (r : Rules K) (room : ℕ) (claimed : Pair K → Bool) → IsLawful r → (old new : Tree K) → Legal r old
-        → (parent : ℕ) (item : Item) (x : ℕ) (coming key : K) → IsWidening r old new item.page x coming key
+        → (parent : ℕ) (item : TraversalItem) (x : ℕ) (coming key : K) → IsWidening r old new item.page x coming key
         → size (old.node item.page) < r.most → 0 < times x (child_pages (old.node item.page))
         → descent_left r new room claimed item.page (record { page = x; seen = new.counter })
         < descent_left r old room claimed parent item }
     ensures sweeps { (r : Rules K) (room : ℕ) (claimed : Pair K → Bool) (old new : Tree K) → Legal r old
-        → (parent : ℕ) (item : Item) → IsSweep old new item.page claimed → parent ≢ item.page
+        → (parent : ℕ) (item : TraversalItem) → IsSweep old new item.page claimed → parent ≢ item.page
         → 0 < how_many (is_sweepable claimed) (old.node item.page).pairs
         → descent_left r new room claimed parent item < descent_left r old room claimed parent item }
     ensures splits { (r : Rules K) (room : ℕ) (claimed : Pair K → Bool) → IsLawful r → (old new : Tree K) → Legal r old
-        → (parent : ℕ) (item : Item) (n p : ℕ) (sides : List Bool) (left right : K)
+        → (parent : ℕ) (item : TraversalItem) (n p : ℕ) (sides : List Bool) (left right : K)
         → IsSplit r old new n p sides left right → new.used ≤ room
         → descent_left r new room claimed 0 (from_root new) < descent_left r old room claimed parent item }
     ensures splits_root { (r : Rules K) (room : ℕ) (claimed : Pair K → Bool) → IsLawful r → (old new : Tree K)
-        → Legal r old → (parent : ℕ) (item : Item) (sides : List Bool) (left right : K)
+        → Legal r old → (parent : ℕ) (item : TraversalItem) (sides : List Bool) (left right : K)
         → IsRootSplit r old new sides left right → new.used ≤ room
         → descent_left r new room claimed 0 (from_root new) < descent_left r old room claimed parent item }
     // a split by others lowers it too: the page that it takes counts for more than all levels
     ensures others_split { (r : Rules K) (room : ℕ) (claimed : Pair K → Bool) → IsLawful r → (old new : Tree K)
         → Legal r old
-        → (parent : ℕ) (item : Item) → Used old item.page → (n p : ℕ) (sides : List Bool) (left right : K)
+        → (parent : ℕ) (item : TraversalItem) → Used old item.page → (n p : ℕ) (sides : List Bool) (left right : K)
         → IsSplit r old new n p sides left right → new.used ≤ room
         → descent_left r new room claimed parent item < descent_left r old room claimed parent item }
     ensures others_split_root { (r : Rules K) (room : ℕ) (claimed : Pair K → Bool) → IsLawful r → (old new : Tree K)
-        → Legal r old → (parent : ℕ) (item : Item) → Used old item.page → (sides : List Bool) (left right : K)
+        → Legal r old → (parent : ℕ) (item : TraversalItem) → Used old item.page → (sides : List Bool) (left right : K)
         → IsRootSplit r old new sides left right → new.used ≤ room
         → descent_left r new room claimed parent item < descent_left r old room claimed parent item }
     ensures most { (r : Rules K) (room : ℕ) (claimed : Pair K → Bool) (t : Tree K) → Legal r t
-        → (parent : ℕ) (item : Item)
+        → (parent : ℕ) (item : TraversalItem)
         → Used t item.page → t.used ≤ room → room ≤ 65536 → r.most ≤ 100
         → descent_left r t room claimed parent item < 2 ^ 40 }
 {}

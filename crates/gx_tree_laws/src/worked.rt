@@ -4,7 +4,7 @@ ghost use Rattle.std.specs.Prelude.{◌≡◌, ◌∷◌, [], true, false};
 ghost use Rattle.gx_tree_laws.specs.Trees.{IsLawful, leaves};
 ghost use Rattle.gx_tree_laws.specs.Legal.{Legal};
 ghost use Rattle.gx_tree_laws.specs.Steps.{AreSteps};
-ghost use Rattle.gx_tree_laws.specs.Reach.{Item, run};
+ghost use Rattle.gx_tree_laws.specs.Reach.{TraversalItem, run};
 ghost use Rattle.gx_tree_laws.specs.Looks.{IsLook, from_root, stacked, found_with, LeadsTo};
 ghost use Rattle.gx_tree_laws.specs.Writes.{IsSeek, leaves_left, must_restart, descent_left};
 ghost use Rattle.gx_tree_laws.specs.Worked.{Box, box, boxes, live, held, held_split, held_steps, held_end};

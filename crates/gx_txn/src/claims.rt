@@ -84,14 +84,14 @@ impl<B: Shape> Claims<B> {
     }
 
     /// Puts an entry at a place. There is room: fewer than all places are taken.
-    pub fn put(&mut self, place: usize, e: Entry<B>)
+    pub fn insert_at(&mut self, place: usize, e: Entry<B>)
         requires within { place ≤ length self.old }
         requires room { length self.old < MAX_CLAIMS }
         ensures { self.new ≡ insert self.old place e }
     {
         self.rows.set(e.row);
-        search::put(&mut self.keys, place, e.key);
-        search::put(&mut self.entries, place, e);
+        search::insert_at(&mut self.keys, place, e.key);
+        search::insert_at(&mut self.entries, place, e);
     }
 
     /// Lets go of all.

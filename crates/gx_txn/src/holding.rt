@@ -81,7 +81,7 @@ impl<B: Shape> Holding<B> {
             Ok(_) => Ok(()),
             Err(_) if spent >= MAX_CLAIMS => Err(Refusal::ClaimsFull),
             Err(place) => {
-                self.claims.put(place, e);
+                self.claims.insert_at(place, e);
                 Ok(())
             }
         }
@@ -112,7 +112,7 @@ impl<B: Shape> Holding<B> {
             Ok(place) => {
                 self.notes[place].leaf = note.leaf;
             }
-            Err(place) => search::put(&mut self.notes, place, note),
+            Err(place) => search::insert_at(&mut self.notes, place, note),
         }
     }
 

@@ -22,7 +22,7 @@ pub fn find_note<B: Shape>(note: &Note<B>, notes: &[Note<B>]) -> Result<usize, u
 }
 
 /// Puts an element at its place in a vector that has room for it.
-pub fn put<T: Copy>(list: &mut Vec<T>, place: usize, element: T)
+pub fn insert_at<T: Copy>(list: &mut Vec<T>, place: usize, element: T)
     requires within { place ≤ vec_len list.old }
     requires room { vec_len list.old < vec_capacity list.old }
     ensures items { list.new.items ≡ insert list.old.items place element }

@@ -3,8 +3,8 @@ use Rattle.std.specs.Prelude.{◌≡◌, ◌<◌, ◌≤◌, ◌^◌, ◌⊎◌,
 use Rattle.std.specs.Str.Parse.{IsNumeral, digits_value, without_leading_plus}
 use Rattle.clap.specs.Words.{IsSignedIn, Row, Text, first_of, one_of, subcommand_of, without_minus}
 use Rattle.gx_words.specs.Program.{gist_app}
-use Rattle.gx_words.specs.declared.asking.Asked.{Asked}
-use Rattle.gx_words.specs.declared.asking.Asked.TheVariants.{Plain, Format, Run, Dump, Verify, Storm}
+use Rattle.gx_words.specs.declared.asking.AskedCommand.{AskedCommand}
+use Rattle.gx_words.specs.declared.asking.AskedCommand.TheVariants.{Plain, Format, Run, Dump, Verify, Storm}
 
 -- the word that was given under this name, or stands for it by default, is this number in decimal digits, and the number lies
 -- in this range
@@ -38,7 +38,7 @@ pub record IsStorm (rows : List Row) (seed sessions calls : ℕ) : Type 0 where
   pub calls_are : IsNumber rows (codes "CALLS") 1 2000 calls
 
 -- the command of this name, with what is given to it, asks for this
-abbrev pub Asks : Text → List Row → Asked → Type 0
+abbrev pub Asks : Text → List Row → AskedCommand → Type 0
 Asks name rows Plain = name ≡ codes "plain"
 Asks name rows (Format file pages most) = (name ≡ codes "format") × IsFormat rows file.now pages most
 Asks name rows (Run file frames) = (name ≡ codes "run") × IsRun rows file.now frames
@@ -47,7 +47,7 @@ Asks name rows (Verify file) = (name ≡ codes "verify") × IsDump rows file.now
 Asks name rows (Storm seed sessions calls) = (name ≡ codes "storm") × IsStorm rows seed sessions calls
 
 -- what is asked for, by the command that was found
-abbrev pub IsAsked : Option (Text × List Row) → Asked → Type 0
+abbrev pub IsAsked : Option (Text × List Row) → AskedCommand → Type 0
 IsAsked None asked = ⊥
 IsAsked (Some command) asked = Asks command.0 command.1 asked
 
@@ -91,5 +91,5 @@ IsWhole (Some command) =
     ⊎ ((command.0 ≡ codes "storm") × HasStorm command.1)
 
 -- the words ask for this
-abbrev pub WordsAsk : List Text → Asked → Type 0
+abbrev pub WordsAsk : List Text → AskedCommand → Type 0
 WordsAsk words asked = IsAsked (subcommand_of gist_app words) asked

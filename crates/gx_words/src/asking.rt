@@ -8,7 +8,7 @@ use clap::ArgMatches;
 
 /// What the words ask for.
 #[derive(Clone, Copy, Debug, PartialEq, Eq)]
-pub enum Asked<'a> {
+pub enum AskedCommand<'a> {
     /// A script on an index in memory.
     Plain,
     /// A new index on a file.
@@ -49,7 +49,7 @@ pub enum Asked<'a> {
 }
 
 /// What the words ask for that clap found these matches in.
-pub(crate) fn what_is_asked<'a>(found: &ArgMatches<'a>) -> Asked<'a>
+pub(crate) fn what_is_asked<'a>(found: &ArgMatches<'a>) -> AskedCommand<'a>
     requires { IsWhole (subcommand_rows_of found.now) }
     ensures { IsAsked (subcommand_rows_of found.now) result }
 {
@@ -59,16 +59,16 @@ pub(crate) fn what_is_asked<'a>(found: &ArgMatches<'a>) -> Asked<'a>
         Some(("dump", given)) => dump_of(given),
         Some(("verify", given)) => verify_of(given),
         Some(("storm", given)) => storm_of(given),
-        _ => Asked::Plain,
+        _ => AskedCommand::Plain,
     }
 }
 
 // What is given to `format`.
-fn format_of<'a>(given: &ArgMatches<'a>) -> Asked<'a>
+fn format_of<'a>(given: &ArgMatches<'a>) -> AskedCommand<'a>
     requires { HasFormat (rows_of (found_of given.now)) }
     ensures { Asks (codes "format") (rows_of (found_of given.now)) result }
 {
-    Asked::Format {
+    AskedCommand::Format {
         file: given.get_str("FILE").unwrap(),
         pages: number(given, "PAGES"),
         most: number(given, "M") as u16,
@@ -76,42 +76,42 @@ fn format_of<'a>(given: &ArgMatches<'a>) -> Asked<'a>
 }
 
 // What is given to `run`.
-fn run_of<'a>(given: &ArgMatches<'a>) -> Asked<'a>
+fn run_of<'a>(given: &ArgMatches<'a>) -> AskedCommand<'a>
     requires { HasRun (rows_of (found_of given.now)) }
     ensures { Asks (codes "run") (rows_of (found_of given.now)) result }
 {
-    Asked::Run {
+    AskedCommand::Run {
         file: given.get_str("FILE").unwrap(),
         frames: number(given, "frames") as usize,
     }
 }
 
 // What is given to `dump`.
-fn dump_of<'a>(given: &ArgMatches<'a>) -> Asked<'a>
+fn dump_of<'a>(given: &ArgMatches<'a>) -> AskedCommand<'a>
     requires { HasDump (rows_of (found_of given.now)) }
     ensures { Asks (codes "dump") (rows_of (found_of given.now)) result }
 {
-    Asked::Dump {
+    AskedCommand::Dump {
         file: given.get_str("FILE").unwrap(),
     }
 }
 
 // What is given to `verify`.
-fn verify_of<'a>(given: &ArgMatches<'a>) -> Asked<'a>
+fn verify_of<'a>(given: &ArgMatches<'a>) -> AskedCommand<'a>
     requires { HasDump (rows_of (found_of given.now)) }
     ensures { Asks (codes "verify") (rows_of (found_of given.now)) result }
 {
-    Asked::Verify {
+    AskedCommand::Verify {
         file: given.get_str("FILE").unwrap(),
     }
 }
 
 // What is given to `storm`.
-fn storm_of<'a>(given: &ArgMatches<'a>) -> Asked<'a>
+fn storm_of<'a>(given: &ArgMatches<'a>) -> AskedCommand<'a>
     requires { HasStorm (rows_of (found_of given.now)) }
     ensures { Asks (codes "storm") (rows_of (found_of given.now)) result }
 {
-    Asked::Storm {
+    AskedCommand::Storm {
         seed: number(given, "SEED"),
         sessions: number(given, "SESSIONS") as u8,
         calls: number(given, "CALLS"),

@@ -4,5 +4,5 @@
 mod asking;
 mod words;
 
-pub use asking::Asked;
+pub use asking::AskedCommand;
 pub use words::{WordsFault, given, read};

@@ -5,7 +5,7 @@ ghost use Rattle.gx_words.specs.Asking.{WordsAsk};
 ghost use Rattle.gx_words.specs.Program.{gist_app, with_required, plain_app, format_app, run_app, dump_app};
 ghost use Rattle.gx_words.specs.Program.{verify_app, storm_app, wanted_rule, number_rule, frames_rule, Is, IsRule};
 
-use crate::asking::{Asked, what_is_asked};
+use crate::asking::{AskedCommand, what_is_asked};
 use clap::{Arg, Command, Error, value_parser};
 use std::alloc::{AllocError, Global};
 use std::convert::AsStr;
@@ -226,7 +226,7 @@ fn command<'a>(alloc: Global) -> Result<Command<'a>, AllocError>
 }
 
 /// Reads the words, the program's own name first: what they ask for, or what is wrong with them.
-pub fn read<'a, S: AsStr>(alloc: Global, words: &'a [S]) -> Result<Asked<'a>, Error>
+pub fn read<'a, S: AsStr>(alloc: Global, words: &'a [S]) -> Result<AskedCommand<'a>, Error>
     ensures right { OnOk result (fault_of gist_app (map S.text words.now) ≡ []) }
     ensures asked { IfOk result (WordsAsk (map S.text words.now)) }
     ensures wrong { IfErr result (HasKind (fault_of gist_app (map S.text words.now))) }

@@ -12,7 +12,7 @@ use std::alloc::Global;
 const STRIDE: u64 = 61_813;
 
 /// Opens the session's transaction.
-fn begin(index: &mut Index) -> Option<()> {
+fn begin_transaction(index: &mut Index) -> Option<()> {
     match index.call(Call::Begin)? {
         Reply::Ok => Some(()),
         _ => None,
@@ -64,7 +64,7 @@ pub(crate) fn insert_many(
     let mut state = 7;
     for row in 0..boxes {
         if row % each == 0 {
-            begin(index)?;
+            begin_transaction(index)?;
         }
         let key = draw_box(&mut state)?;
         let entry = Entry { row, key };
@@ -96,7 +96,7 @@ pub(crate) fn query_many(index: &mut Index, queries: u64) -> Option<u64> {
     let mut sum: u64 = 0;
     for number in 0..queries {
         if number % each == 0 {
-            begin(index)?;
+            begin_transaction(index)?;
         }
         let window = draw_window(&mut state)?;
         sum = sum.wrapping_add(query(index, window)?);
@@ -119,7 +119,7 @@ pub(crate) fn delete_many(
 {
     for number in 0..marks {
         if number % each == 0 {
-            begin(index)?;
+            begin_transaction(index)?;
         }
         let place = number.wrapping_mul(STRIDE) % entries.len() as u64;
         delete(index, &entries[place as usize])?;
@@ -137,7 +137,7 @@ pub(crate) fn undo_many(index: &mut Index, entries: &[Entry<Box2>]) -> Option<u6
     let mut deleted: u64 = 0;
     for entry in entries {
         if deleted % each == 0 {
-            begin(index)?;
+            begin_transaction(index)?;
         }
         delete(index, entry)?;
         deleted = deleted.wrapping_add(1);

@@ -3,9 +3,9 @@
 use gx_class::Box2Class;
 use gx_geom::Box2;
 use gx_machine::Entry;
-use gx_memory_tree::{MemoryPages, Place, insert_step};
+use gx_memory_tree::{DescentPlace, MemoryPages, insert_step};
 use gx_page::Page;
-use gx_tree::{Item, Pages};
+use gx_tree::{Pages, TraversalItem};
 use std::alloc::Global;
 
 /// A tree of boxes.
@@ -42,14 +42,14 @@ pub(crate) fn fresh_tree(alloc: Global) -> Option<Tree> {
 }
 
 /// The root, to begin with.
-pub(crate) fn root(tree: &Tree) -> Item {
-    Item::new(1, tree.counter())
+pub(crate) fn root(tree: &Tree) -> TraversalItem {
+    TraversalItem::new(1, tree.counter())
 }
 
 /// Inserts a pair. `None` where a step was refused, or there were too many. Keys of nodes that are split are written
 /// over `keys`.
 pub(crate) fn insert(tree: &mut Tree, entry: &Entry<Box2>, keys: &mut [Box2; MOST]) -> Option<()> {
-    let mut place = Place::top(tree);
+    let mut place = DescentPlace::top(tree);
     for _ in 0..STEPS {
         match insert_step(tree, place, entry, MOST, keys).ok()? {
             Some(next) => place = next,

@@ -97,13 +97,13 @@ impl Pages {
         let mut pages = Pages { leaf, inner };
         for k in 0..count {
             let n = first.wrapping_add(k);
-            pages.put(boxes.get(n), n)?;
+            pages.push_box(boxes.get(n), n)?;
         }
         Some(pages)
     }
 
     /// Puts a box behind the last. `None` where there is no room.
-    fn put(&mut self, key: Box2, row: usize) -> Option<()> {
+    fn push_box(&mut self, key: Box2, row: usize) -> Option<()> {
         push(&mut self.leaf, &pair(key, row))?;
         push(&mut self.inner, &child(key))
     }

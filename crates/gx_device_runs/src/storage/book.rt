@@ -4,7 +4,7 @@ use crate::storage::fault::{StorageFault, What};
 use crate::storage::snapshot::corners;
 use gx_geom::Box2;
 use gx_machine::Entry;
-use gx_memory_tree::Place;
+use gx_memory_tree::DescentPlace;
 use gx_plain_reader::Entry as PlainEntry;
 use rand_pcg::Pcg32;
 use std::alloc::Global;
@@ -31,7 +31,7 @@ pub(crate) struct Row {
 #[derive(Clone, Copy)]
 pub(crate) struct Coming {
     pub(crate) row: usize,
-    pub(crate) place: Place,
+    pub(crate) place: DescentPlace,
 }
 
 /// A session.

@@ -122,7 +122,7 @@ fn crash_and_read(
 }
 
 /// Ends a run: the machine crashes, and what it leaves is read back.
-fn end(run: Run) -> Result<Stood, StorageFault> {
+fn end_run(run: Run) -> Result<Stood, StorageFault> {
     let alloc = run.alloc;
     let (disk, expected, mut draw) = run.into_parts();
     let (left, found) = crash_and_read(alloc, disk, &mut draw)?;
@@ -156,5 +156,5 @@ pub(crate) fn make_run(
     let taken = take_steps(&mut run, setting.steps);
     let is_whole = came_to_its_end(taken)?;
     let counts = run.counts;
-    Ok((is_whole, end(run)?, counts))
+    Ok((is_whole, end_run(run)?, counts))
 }

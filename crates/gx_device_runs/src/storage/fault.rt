@@ -80,7 +80,7 @@ pub(crate) enum StorageFault {
 
 impl StorageFault {
     /// What it is about, and where.
-    pub(crate) fn told(self) -> (&'static str, u64) {
+    pub(crate) fn text_and_place(self) -> (&'static str, u64) {
         match self {
             StorageFault::Memory => ("memory", 0),
             StorageFault::Stopped => ("the machine", 0),

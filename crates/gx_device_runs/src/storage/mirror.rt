@@ -8,13 +8,13 @@ use crate::storage::snapshot::node_of;
 use gx_class::Box2Class;
 use gx_geom::Box2;
 use gx_machine::Entry;
-use gx_memory_tree::{MemoryPages, Place, insert_step};
+use gx_memory_tree::{DescentPlace, MemoryPages, insert_step};
 use gx_node::MAX_ENTRIES;
 use gx_page::Page;
 use gx_plain_reader::Node;
 use gx_tree::{
-    Descended, Item, Pages, RootSplit, Sought, Split, StepFault, Wanted, add_step, descend_step,
-    set_mark_step, split_root_step, split_step, sweep_step,
+    Descended, Pages, RootSplit, Sought, Split, StepFault, TraversalItem, Wanted, add_step,
+    descend_step, set_mark_step, split_root_step, split_step, sweep_step,
 };
 use std::alloc::Global;
 use std::convert::Infallible;
@@ -91,8 +91,8 @@ impl Mirror {
     }
 
     /// Where a descent begins.
-    pub(crate) fn top(&self) -> Place {
-        Place::top(&self.pages)
+    pub(crate) fn top(&self) -> DescentPlace {
+        DescentPlace::top(&self.pages)
     }
 
     /// A page in use.
@@ -117,7 +117,7 @@ impl Mirror {
 
     pub(crate) fn descend(
         &mut self,
-        item: &Item,
+        item: &TraversalItem,
         coming: &Box2,
     ) -> Result<Descended<Box2>, StorageFault> {
         let most = self.most();

@@ -103,7 +103,7 @@ fn fused(disk: MemDisk, failing: Failing) -> Device {
 }
 
 /// The storage over a device with a quarter of the rows, and what stands there.
-fn begin(
+fn begin_storage(
     alloc: Global,
     setting: Setting,
     failing: Failing,
@@ -132,7 +132,7 @@ pub(crate) fn start(
     let mut draw = Pcg32::new(setting.seed, 11);
     let keys = room_for_keys(alloc)?;
     let (mut tree, mut book) = plant(alloc, setting, &mut draw)?;
-    let (volume, expected) = begin(alloc, setting, failing, &mut tree, &mut book)?;
+    let (volume, expected) = begin_storage(alloc, setting, failing, &mut tree, &mut book)?;
     Ok(Run {
         alloc,
         volume,

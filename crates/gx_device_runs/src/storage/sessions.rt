@@ -4,17 +4,17 @@ use crate::storage::draw::below;
 use crate::storage::fault::{StorageFault, What};
 use crate::storage::mirror::PAGES;
 use crate::storage::run::Run;
-use gx_memory_tree::Place;
-use gx_tree::{Descended, Item};
+use gx_memory_tree::DescentPlace;
+use gx_tree::{Descended, TraversalItem};
 
 /// How many places of the log are taken when a checkpoint is due.
 const DUE: u8 = 24;
 
 impl Run {
     /// Goes on at an item below a page.
-    fn go_to(&mut self, number: usize, coming: &Coming, item: Item) {
+    fn go_to(&mut self, number: usize, coming: &Coming, item: TraversalItem) {
         let parent = coming.place.item.page();
-        let place = Place { item, parent };
+        let place = DescentPlace { item, parent };
         let row = coming.row;
         self.book.set_coming(number, Some(Coming { row, place }));
     }
@@ -104,7 +104,7 @@ impl Run {
     fn undo(&mut self, number: usize) -> Result<(), StorageFault> {
         let transaction = self.book.transaction(number)?;
         let Some(row) = self.book.to_undo(number) else {
-            return self.end(number, transaction);
+            return self.end_transaction(number, transaction);
         };
         let live = self.book.row(row)?.live;
         if self.mark(transaction, row, live)? {

@@ -7,7 +7,7 @@ use crate::storage::run::Run;
 use gx_class::Box2Class;
 use gx_geom::Box2;
 use gx_machine::Entry;
-use gx_tree::{Descended, Item, RootSplit, Sought, Split, Wanted};
+use gx_tree::{Descended, RootSplit, Sought, Split, TraversalItem, Wanted};
 
 /// Whether both descents did the same.
 fn did_the_same(one: &Descended<Box2>, other: &Descended<Box2>) -> bool {
@@ -65,7 +65,7 @@ impl Run {
     /// A step of a descent.
     pub(crate) fn descend(
         &mut self,
-        item: &Item,
+        item: &TraversalItem,
         coming: &Box2,
     ) -> Result<Descended<Box2>, StorageFault> {
         for _try in 0..TRIES {
@@ -255,7 +255,11 @@ impl Run {
     }
 
     /// Appends that a session's transaction has ended.
-    pub(crate) fn end(&mut self, session: usize, transaction: u64) -> Result<(), StorageFault> {
+    pub(crate) fn end_transaction(
+        &mut self,
+        session: usize,
+        transaction: u64,
+    ) -> Result<(), StorageFault> {
         for _try in 0..TRIES {
             match self.volume.append_end(transaction) {
                 Ok(()) => {

@@ -15,7 +15,7 @@ use gx_readings::ReadKeys;
 use gx_record::Record;
 use gx_storage::{Help, Storage};
 use gx_store::StoreFault;
-use gx_tree::{Descended, Item, RootSplit, Sought, Split, StepFault, Wanted};
+use gx_tree::{Descended, RootSplit, Sought, Split, StepFault, TraversalItem, Wanted};
 
 /// Why a call of the pages answers nothing.
 pub(crate) type Fault = StepFault<StoreFault>;
@@ -141,7 +141,7 @@ impl<D: SectorDisk, K: ReadKeys> Volume<D, K> {
 
     pub(crate) fn descend(
         &mut self,
-        item: &Item,
+        item: &TraversalItem,
         coming: &K::Key,
     ) -> Result<Descended<K::Key>, Fault> {
         if self.is_closed() {

@@ -31,11 +31,11 @@ use gx_machine::{Entry, Reply};
 use gx_readings::ReadKeys;
 use gx_storage::laws::a_volume_shows_keys;
 use gx_store::StoreFault;
-use gx_tree::{Descended, Item, RootSplit, Split, StepFault};
+use gx_tree::{Descended, RootSplit, Split, StepFault, TraversalItem};
 
 impl<D: SectorDisk, K: ReadKeys> Engine<D, K> {
     // A call descends at this item, to which it came from this page.
-    fn go_to(&mut self, session: u8, from: u32, item: Item) -> Outcome<K::Key>
+    fn go_to(&mut self, session: u8, from: u32, item: TraversalItem) -> Outcome<K::Key>
         requires session { is_session session ≡ true }
         ensures outcome { result ≡ Outcome.More }
         ensures there { (call : Call K.Key) (was : declared.Work K.Key) → phase_in session self.old ≡ Open call was
@@ -56,27 +56,34 @@ impl<D: SectorDisk, K: ReadKeys> Engine<D, K> {
             self.old }
         ensures device { IsRead D.state self.old self.new }
     {
-        let root = Item::new(1, self.storage.counter());
+        let root = TraversalItem::new(1, self.storage.counter());
         self.go_to(session, 0, root)
     }
 
     // A step at an item's page has gone down, and the descent with it.
-    fn go_down(&mut self, session: u8, from: &Item, did: &Descended<K::Key>) -> Outcome<K::Key>
+    fn go_down(
+        &mut self,
+        session: u8,
+        from: &TraversalItem,
+        did: &Descended<K::Key>,
+    ) -> Outcome<K::Key>
         requires session { is_session session ≡ true }
         ensures outcome { result ≡ Outcome.More }
-        ensures there { (next : reach.Item) → next_of did.now ≡ Some next
+        ensures there { (next : reach.TraversalItem) → next_of did.now ≡ Some next
             → (call : Call K.Key) (was : declared.Work K.Key) → phase_in session self.old ≡ Open call was
             → self.new ≡ calling session call (Descends from.now.page next) self.old }
         ensures device { IsRead D.state self.old self.new }
     {
-        let next = did.next().unwrap_or(Item::new(from.page(), from.seen()));
+        let next = did
+            .next()
+            .unwrap_or(TraversalItem::new(from.page(), from.seen()));
         self.go_to(session, from.page(), next)
     }
 
     // A descent's step at the page of its item, as storage makes it.
     fn step_down(
         &mut self,
-        item: &Item,
+        item: &TraversalItem,
         coming: &K::Key,
     ) -> Result<Descended<K::Key>, StepFault<StoreFault>>
         requires early { is_due self.old ≡ false }
@@ -93,7 +100,7 @@ impl<D: SectorDisk, K: ReadKeys> Engine<D, K> {
         &mut self,
         session: u8,
         entry: &Entry<K::Key>,
-        item: &Item,
+        item: &TraversalItem,
     ) -> Result<(), StepFault<StoreFault>>
         requires session { is_session session ≡ true }
         requires early { is_due self.old ≡ false }
@@ -107,7 +114,12 @@ impl<D: SectorDisk, K: ReadKeys> Engine<D, K> {
     }
 
     // An insert's pair, which was absent, was added to the leaf of an item: that is noted, and the call is answered.
-    fn note_added(&mut self, session: u8, entry: Entry<K::Key>, item: &Item) -> Outcome<K::Key>
+    fn note_added(
+        &mut self,
+        session: u8,
+        entry: Entry<K::Key>,
+        item: &TraversalItem,
+    ) -> Outcome<K::Key>
         requires session { is_session session ≡ true }
         requires write { HasWrite entry (phase_in session self.old) }
         ensures outcome { result ≡ Outcome.Replied Reply.Inserted }
@@ -127,7 +139,7 @@ impl<D: SectorDisk, K: ReadKeys> Engine<D, K> {
         session: u8,
         entry: Entry<K::Key>,
         parent: u32,
-        item: Item,
+        item: TraversalItem,
     ) -> Outcome<K::Key>
         requires session { is_session session ≡ true }
         requires descends { phase_in session self.old ≡ Open (Insert entry) (Descends parent item) }
@@ -153,7 +165,7 @@ impl<D: SectorDisk, K: ReadKeys> Engine<D, K> {
     }
 
     // Takes out of a leaf what is marked and no session claims, as storage does.
-    fn sweep_leaf(&mut self, item: &Item) -> Result<bool, StepFault<StoreFault>>
+    fn sweep_leaf(&mut self, item: &TraversalItem) -> Result<bool, StepFault<StoreFault>>
         requires early { is_due self.old ≡ false }
         ensures sweeps { LeafSweepingAs K.Key.Shape K.is_proper K.said K.KeyClass D.state
             (is_held (keys_of K.Key.Shape) self.old) self.old.volume self.new.volume item.now.page result }
@@ -169,7 +181,7 @@ impl<D: SectorDisk, K: ReadKeys> Engine<D, K> {
     fn split_node(
         &mut self,
         parent: u32,
-        item: &Item,
+        item: &TraversalItem,
     ) -> Result<Option<Split<K::Key>>, StepFault<StoreFault>>
         requires early { is_due self.old ≡ false }
         ensures splits { SplittingAs K.Key.Shape K.is_proper K.said K.KeyClass D.state self.old.volume self.new.volume
@@ -201,7 +213,7 @@ impl<D: SectorDisk, K: ReadKeys> Engine<D, K> {
 
     // The node of a descent's item is full, and below the root: it is split, or its parent has no place for that. The
     // descent begins again.
-    fn split_below(&mut self, session: u8, parent: u32, item: Item) -> Outcome<K::Key>
+    fn split_below(&mut self, session: u8, parent: u32, item: TraversalItem) -> Outcome<K::Key>
         requires session { is_session session ≡ true }
         requires open { is_open (phase_in session self.old) ≡ true }
         requires works { self.old.sessions.failed ≡ false }
@@ -226,7 +238,7 @@ impl<D: SectorDisk, K: ReadKeys> Engine<D, K> {
     }
 
     // The root is full: it is split, and the descent begins again.
-    fn split_top(&mut self, session: u8, parent: u32, item: Item) -> Outcome<K::Key>
+    fn split_top(&mut self, session: u8, parent: u32, item: TraversalItem) -> Outcome<K::Key>
         requires session { is_session session ≡ true }
         requires open { is_open (phase_in session self.old) ≡ true }
         requires works { self.old.sessions.failed ≡ false }
@@ -251,7 +263,7 @@ impl<D: SectorDisk, K: ReadKeys> Engine<D, K> {
     }
 
     // The node of a descent's item is full, and has no pair that a sweep takes: it is split.
-    fn split_here(&mut self, session: u8, parent: u32, item: Item) -> Outcome<K::Key>
+    fn split_here(&mut self, session: u8, parent: u32, item: TraversalItem) -> Outcome<K::Key>
         requires session { is_session session ≡ true }
         requires open { is_open (phase_in session self.old) ≡ true }
         requires works { self.old.sessions.failed ≡ false }
@@ -274,7 +286,7 @@ impl<D: SectorDisk, K: ReadKeys> Engine<D, K> {
     }
 
     // A descent has come to a full leaf: that is swept, or where it has nothing to take split.
-    fn make_room(&mut self, session: u8, parent: u32, item: Item) -> Outcome<K::Key>
+    fn make_room(&mut self, session: u8, parent: u32, item: TraversalItem) -> Outcome<K::Key>
         requires session { is_session session ≡ true }
         requires open { is_open (phase_in session self.old) ≡ true }
         requires works { self.old.sessions.failed ≡ false }
@@ -308,7 +320,7 @@ impl<D: SectorDisk, K: ReadKeys> Engine<D, K> {
         session: u8,
         entry: Entry<K::Key>,
         parent: u32,
-        item: Item,
+        item: TraversalItem,
     ) -> Outcome<K::Key>
         requires session { is_session session ≡ true }
         requires descends { phase_in session self.old ≡ Open (Insert entry) (Descends parent item) }
@@ -356,7 +368,7 @@ impl<D: SectorDisk, K: ReadKeys> Engine<D, K> {
         session: u8,
         entry: Entry<K::Key>,
         parent: u32,
-        item: Item,
+        item: TraversalItem,
     ) -> Outcome<K::Key>
         requires session { is_session session ≡ true }
         requires descends { phase_in session self.old ≡ Open (Insert entry) (Descends parent item) }

@@ -25,7 +25,7 @@ use gx_geom::{Refusal, Shape};
 use gx_machine::{Entry, Reply};
 use gx_readings::ReadKeys;
 use gx_storage::laws::{a_volume_shows_keys, a_volume_shows_the_logs_tree};
-use gx_tree::{Item, Look, Wanted};
+use gx_tree::{Look, TraversalItem, Wanted};
 
 /// What a write's look turns into: where it has found its pair, a seek from the leaf in which that stood; else it
 /// goes on.
@@ -155,7 +155,7 @@ where
     {
         a_class_is_lawful::<K>();
         self.sessions.has_failed();
-        let root = Item::new(1, self.storage.counter());
+        let root = TraversalItem::new(1, self.storage.counter());
         self.sessions.replace_work(session, Work::Descends(0, root));
         Outcome::More
     }

@@ -28,7 +28,7 @@ pub(crate) fn a_box(rt: &impl Abort, corners: Corners) -> Box2 {
 }
 
 /// Puts an item behind the others of a page.
-fn put(rt: &impl Abort, page: &mut Page, item: &[u8]) {
+fn put_item(rt: &impl Abort, page: &mut Page, item: &[u8]) {
     assert!(rt; !item.is_empty() && item.len() <= 4060);
     let slot = page.count();
     assert!(rt; page.insert(slot, item));
@@ -54,9 +54,9 @@ fn child_item(child: u32, key: Box2) -> [u8; 20] {
 fn put_entry(rt: &impl Abort, page: &mut Page, number: u32, corners: Corners) {
     let key = a_box(rt, corners);
     if page.level() == 0 {
-        put(rt, page, &pair_item(u64::from(number), key));
+        put_item(rt, page, &pair_item(u64::from(number), key));
     } else {
-        put(rt, page, &child_item(number, key));
+        put_item(rt, page, &child_item(number, key));
     }
 }
 

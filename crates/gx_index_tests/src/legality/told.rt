@@ -1,7 +1,7 @@
 //! What a test of legality tells, whoever keeps the pages.
 use crate::legality::built::{Corners, a_box};
 use gx_class::Box2Class;
-use gx_legality::{LegalityFault, Note, Rule, are_in_order, test_tree};
+use gx_legality::{LegalityFault, NotedPair, Rule, are_in_order, test_tree};
 use gx_machine::Entry;
 use gx_tree::Pages;
 use std::process::Abort;
@@ -42,7 +42,7 @@ where
 {
     let (row, corners, leaf) = note;
     let key = a_box(rt, corners);
-    let notes = [Note {
+    let notes = [NotedPair {
         entry: Entry { row, key },
         leaf,
     }];

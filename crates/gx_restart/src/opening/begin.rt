@@ -46,7 +46,7 @@ fn start_of<B: Shape>(
 ///
 /// Refused with `Device` where a call fails, and with `Memory`. On an honest device, at each moment, also where it is
 /// refused, what a crash may leave stands for the set that the log keeps, under its number.
-pub(crate) fn begin<D: SectorDisk, K: ReadKeys>(
+pub(crate) fn begin_engine<D: SectorDisk, K: ReadKeys>(
     alloc: Global,
     disk: D,
     standing: &Standing<K::Key>,

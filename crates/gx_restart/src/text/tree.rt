@@ -26,7 +26,7 @@ use gx_storage::laws::a_volume_shows_the_logs_tree;
 use std::io::Write;
 
 // Brings a page, and adds its lines.
-fn tell<W: Write, D: SectorDisk, K: ReadKeys + KeyClass<Key = Box2>>(
+fn dump_page<W: Write, D: SectorDisk, K: ReadKeys + KeyClass<Key = Box2>>(
     engine: &mut Engine<D, K>,
     writer: &mut Noted<W>,
     lines: &mut Lines,
@@ -96,7 +96,7 @@ pub fn dump<W: Write, D: SectorDisk, K: ReadKeys + KeyClass<Key = Box2>>(
     let used = engine.used();
     put_head(writer, &mut lines, engine.commits(), used, engine.counter())?;
     for last in 0..used {
-        tell(engine, writer, &mut lines, last + 1)?;
+        dump_page(engine, writer, &mut lines, last + 1)?;
     }
     lines.flush(writer)
 }

@@ -11,7 +11,7 @@ ghost use Rattle.gx_storage.specs.Small.{add_room, add_said};
 
 use crate::Storage;
 use crate::changes::added::{add_size, write_add};
-use crate::changes::room::begin;
+use crate::changes::room::begin_event;
 use gx_disk::SectorDisk;
 use gx_machine::Entry;
 use gx_node::laws::leaves;
@@ -60,7 +60,7 @@ impl<D: SectorDisk, K: ReadKeys> Storage<D, K> {
         leaves::<K>();
         let small = self.imaged.has(page);
         self.store.in_order();
-        begin(&self.log, &mut self.store, add_size::<K>(small));
+        begin_event(&self.log, &mut self.store, add_size::<K>(small));
         add_step(&mut self.store, page, entry, self.most)?;
         self.store.in_order();
         write_add(

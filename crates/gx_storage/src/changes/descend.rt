@@ -11,14 +11,14 @@ ghost use Rattle.gx_storage.specs.Setting.{UnloggedAs, page_given_at, store_at, 
 
 use crate::Storage;
 use crate::changes::given::give_page;
-use crate::changes::room::{begin, begin_reading, has_room};
+use crate::changes::room::{begin_event, begin_reading, has_room};
 use gx_disk::SectorDisk;
 use gx_geom::Shape;
 use gx_glog::Glog;
 use gx_readings::ReadKeys;
 use gx_record::PAGE_RECORD;
 use gx_store::{PageStore, StoreFault};
-use gx_tree::{Descended, Item, Pages, StepFault, Way, descend_step, way_step};
+use gx_tree::{Descended, Pages, StepFault, TraversalItem, Way, descend_step, way_step};
 
 /// Whether a step of a descent widened a bound.
 fn was_widened<B: Shape>(did: &Descended<B>) -> bool
@@ -44,7 +44,7 @@ fn unwidened<B: Shape>(way: Way<B>, seen: u64) -> Option<Descended<B>>
         Way::Add => Some(Descended::Leaf),
         Way::FullLeaf => Some(Descended::FullLeaf),
         Way::FullInner => Some(Descended::FullInner),
-        Way::Down(_, child) => Some(Descended::Down(Item::new(child, seen))),
+        Way::Down(_, child) => Some(Descended::Down(TraversalItem::new(child, seen))),
         Way::Widen(..) => None,
     }
 }
@@ -54,7 +54,7 @@ fn unwidened<B: Shape>(way: Way<B>, seen: u64) -> Option<Descended<B>>
 fn read_way<D: SectorDisk, K: ReadKeys>(
     log: &Glog,
     store: &mut PageStore<D, K>,
-    item: &Item,
+    item: &TraversalItem,
     coming: &K::Key,
     most: usize,
 ) -> Result<Way<K::Key>, StepFault<StoreFault>>
@@ -71,7 +71,7 @@ fn read_way<D: SectorDisk, K: ReadKeys>(
 {
     begin_reading(log, store);
     let way = way_step(store, item, coming, most);
-    begin(log, store, PAGE_RECORD);
+    begin_event(log, store, PAGE_RECORD);
     way
 }
 
@@ -85,7 +85,7 @@ impl<D: SectorDisk, K: ReadKeys> Storage<D, K> {
     /// entries. Nothing has changed then, and nothing is logged.
     pub fn descend(
         &mut self,
-        item: &Item,
+        item: &TraversalItem,
         coming: &K::Key,
     ) -> Result<Descended<K::Key>, StepFault<StoreFault>>
         requires still { self.old.log.turn ≡ Closed }
@@ -117,7 +117,7 @@ impl<D: SectorDisk, K: ReadKeys> Storage<D, K> {
                 None => return Err(StepFault::Pages(StoreFault::NoRoom)),
             }
         }
-        begin(&self.log, &mut self.store, PAGE_RECORD);
+        begin_event(&self.log, &mut self.store, PAGE_RECORD);
         let did = descend_step(&mut self.store, item, coming, self.most)?;
         if !was_widened(&did) {
             return Ok(did);

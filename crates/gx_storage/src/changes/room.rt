@@ -19,12 +19,12 @@ pub(crate) fn has_room(log: &Glog, size: usize) -> bool
 pub(crate) fn begin_reading<D: SectorDisk, K: ReadKeys>(log: &Glog, store: &mut PageStore<D, K>)
     ensures { store.new ≡ record store.old { batch = log.now.used; has_room = true } }
 {
-    store.begin(u64::from(log.used()), true);
+    store.begin_event(u64::from(log.used()), true);
 }
 
 /// Begins an event whose record has so many bytes: its changes are of the batch that the log's next place takes, and
 /// the pages are told whether the log has room for the record.
-pub(crate) fn begin<D: SectorDisk, K: ReadKeys>(
+pub(crate) fn begin_event<D: SectorDisk, K: ReadKeys>(
     log: &Glog,
     store: &mut PageStore<D, K>,
     size: usize,
@@ -32,5 +32,5 @@ pub(crate) fn begin<D: SectorDisk, K: ReadKeys>(
     ensures { store.new ≡ record store.old { batch = log.now.used; has_room = has_room log.now size } }
 {
     let room = has_room(log, size);
-    store.begin(u64::from(log.used()), room);
+    store.begin_event(u64::from(log.used()), room);
 }

@@ -14,7 +14,7 @@ ghost use Rattle.gx_storage.specs.Setting.{IsSinceAs, IsSteadyAs, IsWhyAs, LogsM
 ghost use Rattle.gx_storage.specs.Setting.{store_at, tree_at};
 
 use crate::Storage;
-use crate::changes::room::{begin, begin_reading, has_room};
+use crate::changes::room::{begin_event, begin_reading, has_room};
 use crate::changes::written::{write_record, write_size};
 use gx_class::Probing;
 use gx_disk::SectorDisk;
@@ -54,7 +54,7 @@ fn read_leaf<D: SectorDisk, K: ReadKeys + Probing>(
 {
     begin_reading(log, store);
     let sought = seek_step(store, wanted, page);
-    begin(log, store, size);
+    begin_event(log, store, size);
     sought
 }
 
@@ -103,7 +103,7 @@ impl<D: SectorDisk, K: ReadKeys + Probing> Storage<D, K> {
                 Sought::Right(next) => return Ok(Sought::Right(next)),
             }
         }
-        begin(&self.log, &mut self.store, size);
+        begin_event(&self.log, &mut self.store, size);
         match set_mark_step(&mut self.store, wanted, page, marked)? {
             Sought::Here(slot, before) => {
                 self.store.in_order();

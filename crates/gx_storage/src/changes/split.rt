@@ -17,7 +17,7 @@ ghost use Rattle.gx_storage.specs.Setting.{pages_given_at, store_at, tree_at};
 
 use crate::Storage;
 use crate::changes::given_pages::{give_three, in_rising_order};
-use crate::changes::room::begin;
+use crate::changes::room::begin_event;
 use gx_disk::SectorDisk;
 use gx_readings::ReadKeys;
 use gx_record::SPLIT_RECORD;
@@ -81,7 +81,7 @@ impl<D: SectorDisk, K: ReadKeys> Storage<D, K> {
             → self.old.shelf.counter + 1 < 2 ^ 64 → ⊥ }
         ensures memory { result ≢ Err StepFault.Memory }
     {
-        begin(&self.log, &mut self.store, SPLIT_RECORD);
+        begin_event(&self.log, &mut self.store, SPLIT_RECORD);
         let Some(split) = split_step(&mut self.store, page, parent, self.most, keys)? else {
             return Ok(None);
         };

@@ -16,7 +16,7 @@ ghost use Rattle.gx_storage.specs.Setting.{pages_given_at, store_at, tree_at};
 
 use crate::Storage;
 use crate::changes::given_pages::give_three;
-use crate::changes::room::begin;
+use crate::changes::room::begin_event;
 use gx_disk::SectorDisk;
 use gx_readings::ReadKeys;
 use gx_record::SPLIT_RECORD;
@@ -66,7 +66,7 @@ impl<D: SectorDisk, K: ReadKeys> Storage<D, K> {
             → (node_at (store_at K.KeyClass D.state self.old.shelf).nodes 1).level + 1 < 2 ^ 16 → ⊥ }
         ensures memory { result ≢ Err StepFault.Memory }
     {
-        begin(&self.log, &mut self.store, SPLIT_RECORD);
+        begin_event(&self.log, &mut self.store, SPLIT_RECORD);
         if self.store.used() == 0 {
             return Err(StepFault::Damaged);
         }

@@ -16,7 +16,7 @@ ghost use Rattle.gx_storage.specs.Setting.{UnloggedAs, page_given_at, store_at, 
 
 use crate::Storage;
 use crate::changes::given::give_page;
-use crate::changes::room::{begin, begin_reading};
+use crate::changes::room::{begin_event, begin_reading};
 use gx_disk::SectorDisk;
 use gx_glog::Glog;
 use gx_machine::Entry;
@@ -52,7 +52,7 @@ fn plan<D: SectorDisk, K: ReadKeys, F: Fn(Entry<K::Key>) -> bool>(
 {
     begin_reading(log, store);
     let plan = plan_sweep(store, page, claimed);
-    begin(log, store, PAGE_RECORD);
+    begin_event(log, store, PAGE_RECORD);
     plan
 }
 

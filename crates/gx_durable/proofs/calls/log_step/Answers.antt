@@ -11,13 +11,13 @@ returns-in-Err-clause-runs g c = λ l.
     c.in-Err.ensures.counts c.in-Err.ensures.goes c.in-Err.ensures.call (λ is. ap g.D.SectorDisk.state (c.in-Err.ensures.idle is)) c.in-Err.ensures.keeps
 
 pub returns-in-Ok-clause-told : goal.returns-in-Ok-clause-told
-returns-in-Ok-clause-told g c = told_at _ c.used.result c.log_step.new.self c.args.pool.now.frames _ c.tell.ensures.frames c.used.ensures.used
+returns-in-Ok-clause-told g c = told_at _ c.used.result c.log_step.new.self c.args.pool.now.frames _ c.tell_pool.ensures.frames c.used.ensures.used
 
 pub returns-in-Ok-clause-runs : goal.returns-in-Ok-clause-runs
 returns-in-Ok-clause-runs g c = λ l.
     step_runs (g.M.Meaning.known l) g.M.Spelled.reading c.args.log.now c.log_step.new.self c.args.pool.now.frames _
     (g.D.SectorDisk.state c.args.disk.now) (g.D.SectorDisk.state c.log_step.new.disk) _ _
-    (told_at _ c.used.result c.log_step.new.self c.args.pool.now.frames _ c.tell.ensures.frames c.used.ensures.used)
+    (told_at _ c.used.result c.log_step.new.self c.args.pool.now.frames _ c.tell_pool.ensures.frames c.used.ensures.used)
     c.in-Ok.ensures.counts c.in-Ok.ensures.goes c.in-Ok.ensures.call (λ is. ap g.D.SectorDisk.state (c.in-Ok.ensures.idle is)) c.in-Ok.ensures.keeps
 
 pub returns-in-Err-clause-pages : goal.returns-in-Err-clause-pages
@@ -31,4 +31,4 @@ returns-in-Err-clause-placed g c = step_placed c.args.pool.now.frames c.args.log
 
 pub returns-in-Ok-clause-placed : goal.returns-in-Ok-clause-placed
 returns-in-Ok-clause-placed g c =
-    step_placed c.args.pool.now.frames c.args.log.now c.log_step.new.self _ _ (told_at _ c.used.result c.log_step.new.self c.args.pool.now.frames _ c.tell.ensures.frames c.used.ensures.used) c.in-Ok.ensures.goes
+    step_placed c.args.pool.now.frames c.args.log.now c.log_step.new.self _ _ (told_at _ c.used.result c.log_step.new.self c.args.pool.now.frames _ c.tell_pool.ensures.frames c.used.ensures.used) c.in-Ok.ensures.goes

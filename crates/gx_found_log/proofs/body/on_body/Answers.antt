@@ -35,7 +35,7 @@ returns-in-Err-clause-told g c = λ d ordered.
 
 pub returns-clause-told : goal.returns-clause-told
 returns-clause-told g c = λ d ordered.
-    subst (λ (end : Result (Unit {0}) Refusal). BytesTold c.args.part (g.M.Meaning.known d) g.M.Spelled.reading c.args.bytes.now c.args.gathered.now end c.loop-rest.gathered) (sym c.end.ensures.refusal)
+    subst (λ (end : Result (Unit {0}) Refusal). BytesTold c.args.part (g.M.Meaning.known d) g.M.Spelled.reading c.args.bytes.now c.args.gathered.now end c.loop-rest.gathered) (sym c.end_body.ensures.refusal)
     (all_read (g.M.Meaning.known d) g.M.Spelled.reading (g.met.M.Readable.lawful d) c.args.part c.loop-rest.now_at c.args.bytes.now c.loop-rest.rest.now c.args.gathered.now c.loop-rest.gathered
     (omega (arith, c.loop-rest-test.false)) (c.loop-rest.invariant.on d ordered))
 
@@ -47,4 +47,4 @@ returns-in-Err-clause-broken g c = λ d ordered.
 pub returns-clause-broken : goal.returns-clause-broken
 returns-clause-broken g c = λ d ordered.
     end_breaks (g.M.Meaning.known d) g.M.Spelled.reading c.args.part c.loop-rest.now_at c.args.bytes.now c.loop-rest.rest.now c.loop-rest.at c.args.gathered.now c.loop-rest.gathered
-    (omega (arith, c.loop-rest-test.false)) (c.loop-rest.invariant.broken d ordered) c.end.result c.end.ensures.broken
+    (omega (arith, c.loop-rest-test.false)) (c.loop-rest.invariant.broken d ordered) c.end_body.result c.end_body.ensures.broken

@@ -6,7 +6,7 @@ use Rattle.gx_node.specs.Edits.{entry_of}
 use Rattle.gx_node.specs.Reading.{format_of}
 use Rattle.gx_node.specs.Store.{node_of}
 use Rattle.gx_legality.specs.Placing.{is_noted, met, stage_at}
-use Rattle.gx_legality.specs.declared.notes.Note.{Note}
+use Rattle.gx_legality.specs.declared.notes.NotedPair.{NotedPair}
 use Rattle.gx_legality.proofs.leaves.meet_page.Given as goal
 
 abbrev pub invariant-loop-slot : goal.invariant-loop-slot
@@ -15,7 +15,7 @@ invariant-loop-slot g l =
     let pairs = (node_of (format_of g.K.KeyClass) l.page).pairs in
     record {
       long : length l.stages ≡ length l.fn.stages;
-      met : (i : ℕ) (n : Note (Entry g.row.K-Key.Denot)) → slice_get l.notes i ≡ Some n
+      met : (i : ℕ) (n : NotedPair (Entry g.row.K-Key.Denot)) → slice_get l.notes i ≡ Some n
           → met (is_noted order n) (map entry_of pairs) (stage_at l.fn.stages i)
           ≡ met (is_noted order n) (map entry_of (drop l.slot pairs)) (stage_at l.stages i);
     }

@@ -10,7 +10,7 @@ use Rattle.gx_legality.specs.Entries.{entries_on}
 use Rattle.gx_legality.specs.Gathered.{Gathers}
 use Rattle.gx_legality.specs.Owner.{OnlyReads}
 use Rattle.gx_legality.specs.Placing.{is_noted, passed, stage_at}
-use Rattle.gx_legality.specs.declared.notes.Note.{Note}
+use Rattle.gx_legality.specs.declared.notes.NotedPair.{NotedPair}
 use Rattle.gx_legality.proofs.leaves.take_leaves.Given as goal
 
 abbrev pub invariant-loop-step : goal.invariant-loop-step
@@ -25,7 +25,7 @@ invariant-loop-step g l =
       linked : g.P.Pages.steady l.fn.pages → Linked t 2 (leaves t) → Linked t l.page (walk t (length (g.P.Pages.store l.fn.pages).nodes - l._step) l.page);
       gathers : g.P.Pages.steady l.fn.pages → Linked t 2 (leaves t) → (all : List (Entry g.row.K-Key.Denot)) → Gathers order l.fn.gather all (entries_on t (leaves t))
           → Gathers order l.gather all (entries_on t (walk t (length (g.P.Pages.store l.fn.pages).nodes - l._step) l.page));
-      moves : g.P.Pages.steady l.fn.pages → Linked t 2 (leaves t) → (i : ℕ) (n : Note (Entry g.row.K-Key.Denot)) → slice_get l.notes i ≡ Some n
+      moves : g.P.Pages.steady l.fn.pages → Linked t 2 (leaves t) → (i : ℕ) (n : NotedPair (Entry g.row.K-Key.Denot)) → slice_get l.notes i ≡ Some n
           → passed t (is_noted order n) n.leaf (leaves t) (stage_at l.fn.stages i)
           ≡ passed t (is_noted order n) n.leaf (walk t (length (g.P.Pages.store l.fn.pages).nodes - l._step) l.page) (stage_at l.stages i);
     }

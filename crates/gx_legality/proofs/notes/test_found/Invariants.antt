@@ -1,6 +1,6 @@
 use Rattle.std.proofs.Common.{◌≡◌, ℕ, ◌<◌}
 use Rattle.gx_legality.specs.Placing.{stage_at}
-use Rattle.gx_legality.specs.declared.notes.Stage.TheVariants.{Found}
+use Rattle.gx_legality.specs.declared.notes.NoteStage.TheVariants.{Found}
 use Rattle.gx_legality.proofs.notes.test_found.Given as goal
 
 abbrev pub invariant-loop-at : goal.invariant-loop-at

@@ -14,14 +14,14 @@ next k more set new i e h is placed =
     ap (including_all k (drop (i + 1) more)) placed
     ∙ sym (ap (λ s. including_all k s set) (drop_more more i e h ∙ ap (λ x. x ∷ drop (i + 1) more) (sym is)))
 
-pub put-requires : goal.put-requires
-put-requires g c =
+pub include_within_capacity-requires : goal.include_within_capacity-requires
+include_within_capacity-requires g c =
     omega (arith, length-including (keys g.B.Ord.cmp g.B.Shape.overlap g.B.Shape.inside) c.e-item.result c.loop-e.set.items)
 
 pub loop-e-preserved : goal.loop-e-preserved
 loop-e-preserved g c = record {
-  items = next (keys g.B.Ord.cmp g.B.Shape.overlap g.B.Shape.inside) c.args.more.now c.loop-e.set.items c.put.new.set.items c.loop-e.e-index
-      c.e-item.result c.loop-e-test.true c.e-item.is c.put.ensures.items
+  items = next (keys g.B.Ord.cmp g.B.Shape.overlap g.B.Shape.inside) c.args.more.now c.loop-e.set.items c.include_within_capacity.new.set.items c.loop-e.e-index
+      c.e-item.result c.loop-e-test.true c.e-item.is c.include_within_capacity.ensures.items
       ∙ c.loop-e.invariant.items;
   grown = omega arith;
   room = omega arith;

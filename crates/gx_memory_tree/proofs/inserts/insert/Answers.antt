@@ -5,7 +5,7 @@ use Rattle.std.specs.Ordering.{is_eq}
 use Rattle.std.specs.Prelude.{IfNone, IfSome, Option}
 use Rattle.gx_tree_laws.specs.Legal.{Legal}
 use Rattle.gx_tree_laws.specs.Trees.{Rules, IsLawful, is_entry, standing}
-use Rattle.gx_memory_tree.specs.declared.inserts.Place.{Place}
+use Rattle.gx_memory_tree.specs.declared.inserts.DescentPlace.{DescentPlace}
 use Rattle.gx_memory_tree.specs.Inserting.{GoesOn, HasAdded, IsInsert, MakesWay}
 use Rattle.gx_node.specs.Store.{Store, tree_of}
 use Rattle.gx_memory_tree.proofs.Steps.{added_after, begins, live_after, no_way, once_after, way_on}
@@ -30,7 +30,7 @@ steps-preserved g c =
     let before = tree_of (g.P.Pages.store c.steps.pages) in
     let after = tree_of (g.P.Pages.store c.insert_step.new.pages) in
     let inv = c.steps.invariant in
-    let goes = subst (λ (n : Option Place). IfSome n (GoesOn r g.K.KeyClass.is_key before after c.args.entry.now c.steps.place)) c.in-Some.is
+    let goes = subst (λ (n : Option DescentPlace). IfSome n (GoesOn r g.K.KeyClass.is_key before after c.args.entry.now c.steps.place)) c.in-Some.is
     (c.in_ok-next.ensures.goes_on inv.steady inv.insert) in
     record {
       steady = c.in_ok-next.ensures.steady inv.steady;
@@ -69,7 +69,7 @@ returns-in-None-clause-added g c =
     let after = tree_of (g.P.Pages.store c.insert_step.new.pages) in
     let inv = c.steps.invariant in
     let law : IsLawful r = c.keys_are_lawful.ensures c.args.most (omega (arith, c.requires.most.0)) in
-    let last = subst (λ (n : Option Place). IfNone n (HasAdded r IsKey before after entry)) c.in-None.is (c.in_ok-next.ensures.added inv.steady inv.insert) in
+    let last = subst (λ (n : Option DescentPlace). IfNone n (HasAdded r IsKey before after entry)) c.in-None.is (c.in_ok-next.ensures.added inv.steady inv.insert) in
     let added = added_after r law IsKey entry t before after inv.way last in
     added
 
@@ -83,7 +83,7 @@ returns-in-None-clause-live g c =
     let after = tree_of (g.P.Pages.store c.insert_step.new.pages) in
     let inv = c.steps.invariant in
     let law : IsLawful r = c.keys_are_lawful.ensures c.args.most (omega (arith, c.requires.most.0)) in
-    let last = subst (λ (n : Option Place). IfNone n (HasAdded r IsKey before after entry)) c.in-None.is (c.in_ok-next.ensures.added inv.steady inv.insert) in
+    let last = subst (λ (n : Option DescentPlace). IfNone n (HasAdded r IsKey before after entry)) c.in-None.is (c.in_ok-next.ensures.added inv.steady inv.insert) in
     let added = added_after r law IsKey entry t before after inv.way last in
     λ test. live_after r law IsKey entry t after c.requires.legal added test
 
@@ -97,7 +97,7 @@ returns-in-None-clause-once g c =
     let after = tree_of (g.P.Pages.store c.insert_step.new.pages) in
     let inv = c.steps.invariant in
     let law : IsLawful r = c.keys_are_lawful.ensures c.args.most (omega (arith, c.requires.most.0)) in
-    let last = subst (λ (n : Option Place). IfNone n (HasAdded r IsKey before after entry)) c.in-None.is (c.in_ok-next.ensures.added inv.steady inv.insert) in
+    let last = subst (λ (n : Option DescentPlace). IfNone n (HasAdded r IsKey before after entry)) c.in-None.is (c.in_ok-next.ensures.added inv.steady inv.insert) in
     let added = added_after r law IsKey entry t before after inv.way last in
     once_after r law IsKey entry t after c.requires.legal added
 

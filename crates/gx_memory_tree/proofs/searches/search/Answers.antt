@@ -4,7 +4,7 @@ use Rattle.std.specs.Ordering.{is_eq}
 use Rattle.gx_machine.specs.Keys.{keys, key_matches}
 use Rattle.gx_tree_laws.specs.Lists.{how_many, one_if}
 use Rattle.gx_tree_laws.specs.Trees.{Rules, IsLawful, Used}
-use Rattle.gx_tree_laws.specs.Reach.{Item}
+use Rattle.gx_tree_laws.specs.Reach.{TraversalItem}
 use Rattle.gx_tree_laws.specs.Looks.{IsLook, LeadsTo, from_root}
 use Rattle.gx_tree_laws.proofs.OwnLook.{look_begins}
 use Rattle.gx_node.specs.declared.fault.StepFault.TheVariants.{Damaged}
@@ -24,7 +24,7 @@ pages-init g c =
     let r : Rules g.row.K-Key.Denot = record { covers = λ a b. g.K.Key.Shape.inside b a; same = λ a b. is_eq (g.K.Key.Ord.cmp a b); most = c.requires.most.0 } in
     let w = wants g.K.Probing.passes c.matching-wanted.result.keys c.matching-wanted.result.row in
     let root : c.new-root.result ≡ from_root t = c.new-root.ensures ∙ ap (λ s. record { page = 1; seen = s }) c.counter.ensures in
-    let stack = c.in-Ok.ensures.0 ∙ ap (λ (i : Item). i ∷ []) root in
+    let stack = c.in-Ok.ensures.0 ∙ ap (λ (i : TraversalItem). i ∷ []) root in
     let look = subst (λ is. IsLook t w is (pairs_found c.in-Ok.look.found.items)) (sym stack)
     (subst (λ fs. IsLook t w (from_root t ∷ []) (pairs_found fs)) (sym c.in-Ok.ensures.1) (look_begins r t c.requires.most.2 w)) in
     record {

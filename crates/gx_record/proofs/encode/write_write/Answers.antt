@@ -2,4 +2,4 @@ use Rattle.gx_record.proofs.Writes.{then_wrote}
 use Rattle.gx_record.proofs.encode.write_write.Goals as goal
 
 pub returns : goal.returns
-returns c = then_wrote c.put-at.ensures.wrote (then_wrote c.put_entry-at.ensures.wrote (then_wrote c.put_mark-at.ensures.wrote (then_wrote c.put_mark-at-2.ensures.wrote c.put_page.ensures.wrote)))
+returns c = then_wrote c.put_bytes-at.ensures.wrote (then_wrote c.put_entry-at.ensures.wrote (then_wrote c.put_mark-at.ensures.wrote (then_wrote c.put_mark-at-2.ensures.wrote c.put_page.ensures.wrote)))

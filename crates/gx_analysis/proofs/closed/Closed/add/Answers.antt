@@ -8,4 +8,4 @@ returns-in-Err c =
     let self = c.self.inside in
     let within = rw c.deref.ensures.value at c.in-Err.ensures.0 in
     let start : ClosesOne c.args.t self.numbers.items (insert self.numbers.items c.in-Err.i c.args.t) = one_more c.args.t self.numbers.items c.in-Err.i within in
-    rw (c.put.ensures.items, ← c.self.view_is) start
+    rw (c.insert_at.ensures.items, ← c.self.view_is) start

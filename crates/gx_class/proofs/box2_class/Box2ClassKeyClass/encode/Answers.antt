@@ -17,9 +17,9 @@ returns c =
     let is = c.x1.ensures.in_order in
     let key = c.args.key in
     let out = c.args.out.now in
-    put_all out c.put.new.out c.put-2.new.out c.put-3.new.out c.put-4.new.out (number_bytes key.x1) (number_bytes key.y1) (number_bytes key.x2) (number_bytes key.y2)
+    put_all out c.write_number.new.out c.write_number-2.new.out c.write_number-3.new.out c.write_number-4.new.out (number_bytes key.x1) (number_bytes key.y1) (number_bytes key.x2) (number_bytes key.y2)
     c.requires (length-number_bytes key.x1) (length-number_bytes key.y1) (length-number_bytes key.x2) (length-number_bytes key.y2)
-    (c.put.ensures ∙ ap (placed 0 out) (same_bytes c.x1.result key.x1 is.x1_fits c.x1.ensures.value))
-    (c.put-2.ensures ∙ ap (placed 4 c.put.new.out) (same_bytes c.y1.result key.y1 is.y1_fits c.y1.ensures.value))
-    (c.put-3.ensures ∙ ap (placed 8 c.put-2.new.out) (same_bytes c.x2.result key.x2 is.x2_fits c.x2.ensures.value))
-    (c.put-4.ensures ∙ ap (placed 12 c.put-3.new.out) (same_bytes c.y2.result key.y2 is.y2_fits c.y2.ensures.value))
+    (c.write_number.ensures ∙ ap (placed 0 out) (same_bytes c.x1.result key.x1 is.x1_fits c.x1.ensures.value))
+    (c.write_number-2.ensures ∙ ap (placed 4 c.write_number.new.out) (same_bytes c.y1.result key.y1 is.y1_fits c.y1.ensures.value))
+    (c.write_number-3.ensures ∙ ap (placed 8 c.write_number-2.new.out) (same_bytes c.x2.result key.x2 is.x2_fits c.x2.ensures.value))
+    (c.write_number-4.ensures ∙ ap (placed 12 c.write_number-3.new.out) (same_bytes c.y2.result key.y2 is.y2_fits c.y2.ensures.value))

@@ -72,7 +72,7 @@ returns-in-Err-put_head-clause-leads g c =
     let only = c.sync.ensures.only in
     let w = c.put_head.new.storage in
     let same : state w.shelf.disk ≡ state u.shelf.disk = ap (λ (v : Volume g.row.D.Denot). state v.shelf.disk) c.in-Err-put_head.ensures.only in
-    rw (← c.self.view_is, c.end.ensures.failed, c.end.ensures.outcome, same) (λ l. never_full _ (c.a_class_is_lawful.ensures l) _ _ _
+    rw (← c.self.view_is, c.fail_event.ensures.failed, c.fail_event.ensures.outcome, same) (λ l. never_full _ (c.a_class_is_lawful.ensures l) _ _ _
     (state old.volume.shelf.disk) (state u.shelf.disk) old c.has_failed.ensures.kept works (running_is_calm old.checkpoint running) quiet clean closed u w
     (ap (λ (v : Volume g.row.D.Denot). v.log) only) (ap (λ (v : Volume g.row.D.Denot). v.shelf.counter) only) (ap (λ (v : Volume g.row.D.Denot). v.shelf.used) only)
     (ap (λ (v : Volume g.row.D.Denot). v.most) only) (c.in-Ok.ensures.keeps l) c.in-Ok.ensures.settled c.in-Err-put_head.ensures.only c.in-Err-put_head.field-0 c.in-Err-put_head.ensures.puts _ (Refused Damaged))

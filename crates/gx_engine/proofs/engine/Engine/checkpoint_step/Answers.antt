@@ -6,7 +6,7 @@ use Rattle.gx_engine.proofs.engine.Engine.checkpoint_step.Goals as goal
 pub returns-in-Off-clause-leads : goal.returns-in-Off-clause-leads
 returns-in-Off-clause-leads g c =
     let works = ap (λ (x : Parts g.row.K-Key.Denot g.row.D.Denot). x.sessions.failed) (sym c.self.view_is) ∙ sym c.has_failed.ensures.failed ∙ c.if-has_failed.false in
-    λ l. sync_works _ _ _ _ _ _ _ _ _ _ works (c.begin.ensures.leads l)
+    λ l. sync_works _ _ _ _ _ _ _ _ _ _ works (c.begin_checkpoint.ensures.leads l)
 
 pub returns-in-Running-clause-leads : goal.returns-in-Running-clause-leads
 returns-in-Running-clause-leads g c =

@@ -103,7 +103,7 @@ returns-in-Err-Damaged g c =
     let did = c.in-Err-Damaged.ensures.unlogged in
     let full : IsSteady d old.volume.shelf.frames → CanBeRead (is_node f) d old.volume.shelf → MAX_ENTRIES < length (node_shown f d c.args.page old).pairs =
     λ steady readable. more_than_fit f c.args.page d old (is_held k old) c.requires.from high some (c.sweep.ensures.damaged steady failed) in
-    rw (← c.self.view_is, c.end.ensures.failed, c.end.ensures.outcome) (record {
+    rw (← c.self.view_is, c.fail_event.ensures.failed, c.fail_event.ensures.outcome) (record {
       sweeps = (inr (refl, full), as_brought old c.sweep.new.self (failed_state old.sessions) did.log did.most);
       leads = λ l. never_full _ (c.a_class_is_lawful.ensures l) _ _ _ c.args.page d _ old c.has_failed.ensures.kept _ _ c.requires.from high c.most.ensures.few full;
       device = (did.since 0).goes_on.device;

@@ -19,13 +19,13 @@ returns-then-begins g c =
     let is : is_session c.args.session ≡ true = sym c.is_session.ensures ∙ c.if-not-is_session.false in
     let kept : IsKept k now = subst (IsKept k) c.self.view_is c.self.invariant in
     let works : now.failed ≡ false = sym (ap (λ (x : State g.row.B.Denot g.row.W.Denot). x.failed) c.self.view_is) ∙ c.if-self.false in
-    let done : IsAsked k c.args.session c.args.call c.args.work now c.begin.result c.begin.new.self =
-    asked_there k c.args.session c.args.work now c.begin.result c.args.call c.begin.new.self works is
-    (begun_at k c.args.session c.args.work now c.begin.result c.args.call (phase_at (c.args.session - 1) now.phases) c.begin.new.self
-    (sym c.begins.ensures ∙ c.if-begins.true) c.begin.ensures) in
+    let done : IsAsked k c.args.session c.args.call c.args.work now c.begin_transaction.result c.begin_transaction.new.self =
+    asked_there k c.args.session c.args.work now c.begin_transaction.result c.args.call c.begin_transaction.new.self works is
+    (begun_at k c.args.session c.args.work now c.begin_transaction.result c.args.call (phase_at (c.args.session - 1) now.phases) c.begin_transaction.new.self
+    (sym c.begins.ensures ∙ c.if-begins.true) c.begin_transaction.ensures) in
     record {
       asked = done;
-      event = λ live older. ask_is_event k lawful c.args.session c.args.call c.args.work now c.begin.result c.begin.new.self kept done live older;
+      event = λ live older. ask_is_event k lawful c.args.session c.args.call c.args.work now c.begin_transaction.result c.begin_transaction.new.self kept done live older;
     }
 
 pub invariant_of-self : goal.invariant_of-self

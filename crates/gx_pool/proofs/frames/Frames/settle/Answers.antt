@@ -7,7 +7,7 @@ pub invariant_of-self : goal.invariant_of-self
 invariant_of-self c =
     let s : State = record { pages = c.self.inside.pages.items; marks = c.self.inside.marks.items; places = c.self.inside.places.items; held = c.self.inside.held.items; gated = c.self.inside.gated } in
     let inside : c.args.i < length c.self.inside.marks.items = omega (arith, c.requires.frame.0, ap (λ v. length v.marks) c.self.view_is) in (
-      rw c.put-self-inside.ensures.put (settled_sound s c.args.i c.args.page c.args.stamp c.self.invariant.0 inside (ap (λ v. (mark_at v c.args.i).page) c.self.view_is ∙ c.requires.frame.1) c.requires.number c.requires.page.0 (ap (λ v. place_of v c.args.page) c.self.view_is ∙ c.requires.page.1)),
-      rw (c.put-self-inside.ensures.put, length-set c.self.inside.marks.items c.args.i _) c.self.invariant.1,
-      c.put-self-inside.ensures.counted,
+      rw c.set_mark-self-inside.ensures.put (settled_sound s c.args.i c.args.page c.args.stamp c.self.invariant.0 inside (ap (λ v. (mark_at v c.args.i).page) c.self.view_is ∙ c.requires.frame.1) c.requires.number c.requires.page.0 (ap (λ v. place_of v c.args.page) c.self.view_is ∙ c.requires.page.1)),
+      rw (c.set_mark-self-inside.ensures.put, length-set c.self.inside.marks.items c.args.i _) c.self.invariant.1,
+      c.set_mark-self-inside.ensures.counted,
     )

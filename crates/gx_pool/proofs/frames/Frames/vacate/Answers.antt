@@ -13,7 +13,7 @@ pub invariant_of-self : goal.invariant_of-self
 invariant_of-self c =
     let s : State = record { pages = c.self.inside.pages.items; marks = c.self.inside.marks.items; places = c.self.inside.places.items; held = c.self.inside.held.items; gated = c.self.inside.gated } in
     let inside : c.args.i < length c.self.inside.marks.items = omega (arith, c.requires, ap (λ v. length v.marks) c.self.view_is) in (
-      rw (c.put-self-inside.ensures.put, c.forget.ensures, c.mark_in-mark.ensures, c.deref.ensures.value, c.empty.ensures) (vacated_sound s c.args.i c.self.invariant.0 inside),
-      rw (c.put-self-inside.ensures.put, length-set c.self.inside.marks.items c.args.i _) c.self.invariant.1,
-      c.put-self-inside.ensures.counted,
+      rw (c.set_mark-self-inside.ensures.put, c.forget.ensures, c.mark_in-mark.ensures, c.deref.ensures.value, c.empty.ensures) (vacated_sound s c.args.i c.self.invariant.0 inside),
+      rw (c.set_mark-self-inside.ensures.put, length-set c.self.inside.marks.items c.args.i _) c.self.invariant.1,
+      c.set_mark-self-inside.ensures.counted,
     )

@@ -32,44 +32,44 @@ loop-last-init g c = record {
       c.in_ok-put_head.ensures.ok;
 }
 
-pub tell-requires-clause-to : goal.tell-requires-clause-to
-tell-requires-clause-to g c =
+pub dump_page-requires-clause-to : goal.dump_page-requires-clause-to
+dump_page-requires-clause-to g c =
     let used = all_used boxes g.K.ReadKeys.is_proper g.K.ReadKeys.said g.K.KeyClass g.D.SectorDisk.state c.loop-last.last c.args.engine.now c.loop-last.engine c.loop-last.invariant.all in
     omega (arith, used, c.used-used.ensures, c.loop-last-test.true)
 
-pub returns-in_err-tell-clause-read : goal.returns-in_err-tell-clause-read
-returns-in_err-tell-clause-read g c =
-    let p = err_from_is_err_and c.from_residual-in_err-tell.result c.from_residual-in_err-tell.ensures.1 in
-    rw (p.1, p.2) (stopped (brings boxes g.K.ReadKeys.is_proper g.K.ReadKeys.said g.K.KeyClass g.D.SectorDisk.state) (helps boxes g.K.ReadKeys.is_proper g.K.ReadKeys.said g.K.KeyClass g.D.SectorDisk.state) c.loop-last.last c.args.engine.now c.loop-last.engine c.tell.new.engine c.loop-last.invariant.all c.in_err-tell.field-0.0 (omega (arith, c.used-used.ensures, c.loop-last-test.true))
-    c.in_err-tell.ensures.told)
+pub returns-in_err-dump_page-clause-read : goal.returns-in_err-dump_page-clause-read
+returns-in_err-dump_page-clause-read g c =
+    let p = err_from_is_err_and c.from_residual-in_err-dump_page.result c.from_residual-in_err-dump_page.ensures.1 in
+    rw (p.1, p.2) (stopped (brings boxes g.K.ReadKeys.is_proper g.K.ReadKeys.said g.K.KeyClass g.D.SectorDisk.state) (helps boxes g.K.ReadKeys.is_proper g.K.ReadKeys.said g.K.KeyClass g.D.SectorDisk.state) c.loop-last.last c.args.engine.now c.loop-last.engine c.dump_page.new.engine c.loop-last.invariant.all c.in_err-dump_page.field-0.0 (omega (arith, c.used-used.ensures, c.loop-last-test.true))
+    c.in_err-dump_page.ensures.told)
 
-pub returns-in_err-tell-clause-cut : goal.returns-in_err-tell-clause-cut
-returns-in_err-tell-clause-cut g c =
-    let p = err_from_is_err_and c.from_residual-in_err-tell.result c.from_residual-in_err-tell.ensures.1 in
+pub returns-in_err-dump_page-clause-cut : goal.returns-in_err-dump_page-clause-cut
+returns-in_err-dump_page-clause-cut g c =
+    let p = err_from_is_err_and c.from_residual-in_err-dump_page.result c.from_residual-in_err-dump_page.ensures.1 in
     rw p.1 (λ l bodies i h.
-    page_cut c.args.engine.now.sessions.latest _ (g.W.Write.contents c.args.writer.now.inner) (g.W.Write.contents c.loop-last.writer.inner) (g.W.Write.contents c.tell.new.writer.inner) c.loop-last.last
+    page_cut c.args.engine.now.sessions.latest _ (g.W.Write.contents c.args.writer.now.inner) (g.W.Write.contents c.loop-last.writer.inner) (g.W.Write.contents c.dump_page.new.writer.inner) c.loop-last.last
     c.loop-last.lines (omega (arith, h.keeps.used, c.used-used.ensures, c.loop-last-test.true)) (c.loop-last.invariant.put l bodies i h)
     (later boxes g.K.ReadKeys.is_proper g.K.ReadKeys.said g.K.KeyClass g.D.SectorDisk.state l c.loop-last.last c.args.engine.now c.loop-last.engine
-    (λ t. IsCut (g.W.Write.contents c.loop-last.writer.inner) (g.W.Write.contents c.tell.new.writer.inner) (c.loop-last.lines ++ node_text (c.loop-last.last + 1) (t.node (c.loop-last.last + 1)))) c.loop-last.invariant.all (c.in_err-tell.ensures.cut l) bodies i h))
+    (λ t. IsCut (g.W.Write.contents c.loop-last.writer.inner) (g.W.Write.contents c.dump_page.new.writer.inner) (c.loop-last.lines ++ node_text (c.loop-last.last + 1) (t.node (c.loop-last.last + 1)))) c.loop-last.invariant.all (c.in_err-dump_page.ensures.cut l) bodies i h))
 
-pub returns-in_err-tell-clause-runs : goal.returns-in_err-tell-clause-runs
-returns-in_err-tell-clause-runs g c = λ l.
-    read_run boxes g.K.ReadKeys.is_proper g.K.ReadKeys.said g.K.KeyClass g.D.SectorDisk.state l (Err c.in_err-tell.field-0.0) c.args.engine.now c.tell.new.engine
-    (stopped (brings boxes g.K.ReadKeys.is_proper g.K.ReadKeys.said g.K.KeyClass g.D.SectorDisk.state) (helps boxes g.K.ReadKeys.is_proper g.K.ReadKeys.said g.K.KeyClass g.D.SectorDisk.state) c.loop-last.last c.args.engine.now c.loop-last.engine c.tell.new.engine c.loop-last.invariant.all c.in_err-tell.field-0.0 (omega (arith, c.used-used.ensures, c.loop-last-test.true)) c.in_err-tell.ensures.told)
+pub returns-in_err-dump_page-clause-runs : goal.returns-in_err-dump_page-clause-runs
+returns-in_err-dump_page-clause-runs g c = λ l.
+    read_run boxes g.K.ReadKeys.is_proper g.K.ReadKeys.said g.K.KeyClass g.D.SectorDisk.state l (Err c.in_err-dump_page.field-0.0) c.args.engine.now c.dump_page.new.engine
+    (stopped (brings boxes g.K.ReadKeys.is_proper g.K.ReadKeys.said g.K.KeyClass g.D.SectorDisk.state) (helps boxes g.K.ReadKeys.is_proper g.K.ReadKeys.said g.K.KeyClass g.D.SectorDisk.state) c.loop-last.last c.args.engine.now c.loop-last.engine c.dump_page.new.engine c.loop-last.invariant.all c.in_err-dump_page.field-0.0 (omega (arith, c.used-used.ensures, c.loop-last-test.true)) c.in_err-dump_page.ensures.told)
 
-pub returns-in_err-tell-clause-keeps : goal.returns-in_err-tell-clause-keeps
-returns-in_err-tell-clause-keeps g c =
-    read_keeps boxes g.K.ReadKeys.is_proper g.K.ReadKeys.said g.K.KeyClass g.D.SectorDisk.state (Err c.in_err-tell.field-0.0) c.args.engine.now c.tell.new.engine
-    (stopped (brings boxes g.K.ReadKeys.is_proper g.K.ReadKeys.said g.K.KeyClass g.D.SectorDisk.state) (helps boxes g.K.ReadKeys.is_proper g.K.ReadKeys.said g.K.KeyClass g.D.SectorDisk.state) c.loop-last.last c.args.engine.now c.loop-last.engine c.tell.new.engine c.loop-last.invariant.all c.in_err-tell.field-0.0 (omega (arith, c.used-used.ensures, c.loop-last-test.true)) c.in_err-tell.ensures.told)
+pub returns-in_err-dump_page-clause-keeps : goal.returns-in_err-dump_page-clause-keeps
+returns-in_err-dump_page-clause-keeps g c =
+    read_keeps boxes g.K.ReadKeys.is_proper g.K.ReadKeys.said g.K.KeyClass g.D.SectorDisk.state (Err c.in_err-dump_page.field-0.0) c.args.engine.now c.dump_page.new.engine
+    (stopped (brings boxes g.K.ReadKeys.is_proper g.K.ReadKeys.said g.K.KeyClass g.D.SectorDisk.state) (helps boxes g.K.ReadKeys.is_proper g.K.ReadKeys.said g.K.KeyClass g.D.SectorDisk.state) c.loop-last.last c.args.engine.now c.loop-last.engine c.dump_page.new.engine c.loop-last.invariant.all c.in_err-dump_page.field-0.0 (omega (arith, c.used-used.ensures, c.loop-last-test.true)) c.in_err-dump_page.ensures.told)
 
 pub loop-last-preserved : goal.loop-last-preserved
 loop-last-preserved g c = record {
-  all = one_more (brings boxes g.K.ReadKeys.is_proper g.K.ReadKeys.said g.K.KeyClass g.D.SectorDisk.state) (helps boxes g.K.ReadKeys.is_proper g.K.ReadKeys.said g.K.KeyClass g.D.SectorDisk.state) c.loop-last.last c.args.engine.now c.loop-last.engine c.tell.new.engine c.loop-last.invariant.all c.in_ok-tell.ensures.told;
+  all = one_more (brings boxes g.K.ReadKeys.is_proper g.K.ReadKeys.said g.K.KeyClass g.D.SectorDisk.state) (helps boxes g.K.ReadKeys.is_proper g.K.ReadKeys.said g.K.KeyClass g.D.SectorDisk.state) c.loop-last.last c.args.engine.now c.loop-last.engine c.dump_page.new.engine c.loop-last.invariant.all c.in_ok-dump_page.ensures.told;
   put = λ l bodies i h.
-      page_told c.args.engine.now.sessions.latest _ (g.W.Write.contents c.args.writer.now.inner) (g.W.Write.contents c.loop-last.writer.inner) (g.W.Write.contents c.tell.new.writer.inner) c.loop-last.last
-      c.loop-last.lines c.tell.new.lines (c.loop-last.invariant.put l bodies i h)
+      page_told c.args.engine.now.sessions.latest _ (g.W.Write.contents c.args.writer.now.inner) (g.W.Write.contents c.loop-last.writer.inner) (g.W.Write.contents c.dump_page.new.writer.inner) c.loop-last.last
+      c.loop-last.lines c.dump_page.new.lines (c.loop-last.invariant.put l bodies i h)
       (later boxes g.K.ReadKeys.is_proper g.K.ReadKeys.said g.K.KeyClass g.D.SectorDisk.state l c.loop-last.last c.args.engine.now c.loop-last.engine
-      (λ t. IsPut (g.W.Write.contents c.loop-last.writer.inner) (g.W.Write.contents c.tell.new.writer.inner) c.loop-last.lines (node_text (c.loop-last.last + 1) (t.node (c.loop-last.last + 1))) c.tell.new.lines) c.loop-last.invariant.all (c.in_ok-tell.ensures.text l) bodies i h);
+      (λ t. IsPut (g.W.Write.contents c.loop-last.writer.inner) (g.W.Write.contents c.dump_page.new.writer.inner) c.loop-last.lines (node_text (c.loop-last.last + 1) (t.node (c.loop-last.last + 1))) c.dump_page.new.lines) c.loop-last.invariant.all (c.in_ok-dump_page.ensures.text l) bodies i h);
 }
 
 pub returns-clause-text : goal.returns-clause-text
@@ -105,13 +105,13 @@ returns-in_err-put_head-clause-ends g c =
     let p = err_from_is_err_and c.from_residual.result c.from_residual.ensures.1 in
     rw (p.1, p.2) (λ l bodies i h. only_write _ (Err c.in_err-put_head.field-0.0) c.in_err-put_head.ensures.cut)
 
-pub returns-in_err-tell-clause-ends : goal.returns-in_err-tell-clause-ends
-returns-in_err-tell-clause-ends g c =
-    let p = err_from_is_err_and c.from_residual-in_err-tell.result c.from_residual-in_err-tell.ensures.1 in
+pub returns-in_err-dump_page-clause-ends : goal.returns-in_err-dump_page-clause-ends
+returns-in_err-dump_page-clause-ends g c =
+    let p = err_from_is_err_and c.from_residual-in_err-dump_page.result c.from_residual-in_err-dump_page.ensures.1 in
     let law = c.a_page_that_waits_names_work.ensures in
     rw (p.1, p.2) (λ l.
-    read_ends boxes g.K.ReadKeys.is_proper g.K.ReadKeys.said g.K.KeyClass g.D.SectorDisk.state l (law.work l) law.helps law.few (Err c.in_err-tell.field-0.0) c.args.engine.now c.tell.new.engine
-    (stopped (brings boxes g.K.ReadKeys.is_proper g.K.ReadKeys.said g.K.KeyClass g.D.SectorDisk.state) (helps boxes g.K.ReadKeys.is_proper g.K.ReadKeys.said g.K.KeyClass g.D.SectorDisk.state) c.loop-last.last c.args.engine.now c.loop-last.engine c.tell.new.engine c.loop-last.invariant.all c.in_err-tell.field-0.0 (omega (arith, c.used-used.ensures, c.loop-last-test.true)) c.in_err-tell.ensures.told))
+    read_ends boxes g.K.ReadKeys.is_proper g.K.ReadKeys.said g.K.KeyClass g.D.SectorDisk.state l (law.work l) law.helps law.few (Err c.in_err-dump_page.field-0.0) c.args.engine.now c.dump_page.new.engine
+    (stopped (brings boxes g.K.ReadKeys.is_proper g.K.ReadKeys.said g.K.KeyClass g.D.SectorDisk.state) (helps boxes g.K.ReadKeys.is_proper g.K.ReadKeys.said g.K.KeyClass g.D.SectorDisk.state) c.loop-last.last c.args.engine.now c.loop-last.engine c.dump_page.new.engine c.loop-last.invariant.all c.in_err-dump_page.field-0.0 (omega (arith, c.used-used.ensures, c.loop-last-test.true)) c.in_err-dump_page.ensures.told))
 
 pub returns-clause-ends : goal.returns-clause-ends
 returns-clause-ends g c = λ l bodies i h. only_write _ c.flush.result c.flush.ensures.cut

@@ -25,10 +25,10 @@ returns-clause-text c =
       y2,
       all,
       c.put_corner.ensures.text,
-      c.put.ensures.text,
+      c.put_bytes.ensures.text,
       c.put_corner-2.ensures.text,
-      c.put-2.ensures.text,
+      c.put_bytes-2.ensures.text,
       c.put_corner-3.ensures.text,
-      c.put-3.ensures.text,
+      c.put_bytes-3.ensures.text,
       c.put_corner-4.ensures.text,
     )

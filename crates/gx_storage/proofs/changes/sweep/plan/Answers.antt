@@ -21,7 +21,7 @@ returns-clause-since g c = λ q.
     let read : Shelf g.row.D.Denot = c.plan_sweep-plan.new.pages in
     let room = has_room log PAGE_RECORD in
     let one = since_begun passes state v read c.begin_reading.new.store log.used q true c.begin_reading.ensures (λ was. c.plan_sweep-plan.ensures.since was q) in
-    subst {A = Shelf g.row.D.Denot} (λ x. IsSince passes (state s.disk) (state x.disk) (record s { batch = log.used; has_room = room }) x q) (sym c.begin.ensures)
+    subst {A = Shelf g.row.D.Denot} (λ x. IsSince passes (state s.disk) (state x.disk) (record s { batch = log.used; has_room = room }) x q) (sym c.begin_event.ensures)
     (begun_anew passes state s read log.used true room q one)
 
 pub returns-clause-why : goal.returns-clause-why
@@ -33,7 +33,7 @@ returns-clause-why g c =
     let read : Shelf g.row.D.Denot = c.plan_sweep-plan.new.pages in
     let room = has_room log PAGE_RECORD in
     let W : Shelf g.row.D.Denot → Shelf g.row.D.Denot → StoreFault → Type 0 = λ x y why. faults.IsWhy passes (state x.disk) (state y.disk) x y why in
-    whys (W c.begin_reading.new.store read) (λ why. faults.IsWhy passes (state s.disk) (state c.begin.new.store.disk) (record s { batch = log.used; has_room = room }) c.begin.new.store why)
-    (λ why is. subst {A = Shelf g.row.D.Denot} (λ y. faults.IsWhy passes (state s.disk) (state y.disk) (record s { batch = log.used; has_room = room }) y why) (sym c.begin.ensures)
+    whys (W c.begin_reading.new.store read) (λ why. faults.IsWhy passes (state s.disk) (state c.begin_event.new.store.disk) (record s { batch = log.used; has_room = room }) c.begin_event.new.store why)
+    (λ why is. subst {A = Shelf g.row.D.Denot} (λ y. faults.IsWhy passes (state s.disk) (state y.disk) (record s { batch = log.used; has_room = room }) y why) (sym c.begin_event.ensures)
     (why_anew passes (state s.disk) (state read.disk) s read log.used room why (subst {A = Shelf g.row.D.Denot} (λ x. W x read why) c.begin_reading.ensures is)))
     c.plan_sweep-plan.result c.plan_sweep-plan.ensures.why

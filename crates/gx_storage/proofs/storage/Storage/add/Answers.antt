@@ -17,10 +17,10 @@ returns-in_err-add_step-clause-unlogged g c =
     let f = format_of g.K.KeyClass in
     let state = g.D.SectorDisk.state in
     let v : Volume g.row.D.Denot = record { log = i.log; shelf = i.store; most = i.most; imaged = i.imaged } in
-    let u = c.begin.new.store in
+    let u = c.begin_event.new.store in
     let t = c.add_step.new.pages in
     let size = add_room (is_imaged i.imaged c.args.page) g.K.KeyClass.KEY in
-    let is = begun_is v u size _ c.begin.ensures (c.add_size.ensures ∙ ap (λ b. add_room b g.K.KeyClass.KEY) c.has-small.ensures) in
+    let is = begun_is v u size _ c.begin_event.ensures (c.add_size.ensures ∙ ap (λ b. add_room b g.K.KeyClass.KEY) c.has-small.ensures) in
     let since = unstepped (is_node f) state v size t u is c.in_err-add_step.ensures.kept in
     rw (← c.self.view_is) (on_err _ _ (unlogged _ _ f (is_node f) state v size t since
     (λ steady. c.in_err-add_step.ensures.refused (steady_begun (is_node f) state v size t u is steady) ∙ ap (λ (x : Shelf g.row.D.Denot). store_of f (state x.disk).seen x) is)))
@@ -31,10 +31,10 @@ write_add-requires-clause-place g c =
     let f = format_of g.K.KeyClass in
     let state = g.D.SectorDisk.state in
     let v : Volume g.row.D.Denot = record { log = i.log; shelf = i.store; most = i.most; imaged = i.imaged } in
-    let u = c.begin.new.store in
+    let u = c.begin_event.new.store in
     let t = c.add_step.new.pages in
     let size = add_room (is_imaged i.imaged c.args.page) g.K.KeyClass.KEY in
-    let is = begun_is v u size _ c.begin.ensures (c.add_size.ensures ∙ ap (λ b. add_room b g.K.KeyClass.KEY) c.has-small.ensures) in
+    let is = begun_is v u size _ c.begin_event.ensures (c.add_size.ensures ∙ ap (λ b. add_room b g.K.KeyClass.KEY) c.has-small.ensures) in
     let did = stepped (is_node f) state v size t u c.args.page is c.in_ok-add_step.ensures.since in
     (has_room_then (is_node f) state v size t (sym did.goes_on.has_room) c.in_ok-add_step.ensures.held.1).0
 
@@ -44,10 +44,10 @@ write_add-requires-clause-room g c =
     let f = format_of g.K.KeyClass in
     let state = g.D.SectorDisk.state in
     let v : Volume g.row.D.Denot = record { log = i.log; shelf = i.store; most = i.most; imaged = i.imaged } in
-    let u = c.begin.new.store in
+    let u = c.begin_event.new.store in
     let t = c.add_step.new.pages in
     let size = add_room (is_imaged i.imaged c.args.page) g.K.KeyClass.KEY in
-    let is = begun_is v u size _ c.begin.ensures (c.add_size.ensures ∙ ap (λ b. add_room b g.K.KeyClass.KEY) c.has-small.ensures) in
+    let is = begun_is v u size _ c.begin_event.ensures (c.add_size.ensures ∙ ap (λ b. add_room b g.K.KeyClass.KEY) c.has-small.ensures) in
     let did = stepped (is_node f) state v size t u c.args.page is c.in_ok-add_step.ensures.since in
     rw c.has-small.ensures ((has_room_then (is_node f) state v size t (sym did.goes_on.has_room) c.in_ok-add_step.ensures.held.1).1)
 
@@ -57,10 +57,10 @@ returns-clause-logged g c =
     let f = format_of g.K.KeyClass in
     let state = g.D.SectorDisk.state in
     let v : Volume g.row.D.Denot = record { log = i.log; shelf = i.store; most = i.most; imaged = i.imaged } in
-    let u = c.begin.new.store in
+    let u = c.begin_event.new.store in
     let t = c.add_step.new.pages in
     let size = add_room (is_imaged i.imaged c.args.page) g.K.KeyClass.KEY in
-    let is = begun_is v u size _ c.begin.ensures (c.add_size.ensures ∙ ap (λ b. add_room b g.K.KeyClass.KEY) c.has-small.ensures) in
+    let is = begun_is v u size _ c.begin_event.ensures (c.add_size.ensures ∙ ap (λ b. add_room b g.K.KeyClass.KEY) c.has-small.ensures) in
     let did = stepped (is_node f) state v size t u c.args.page is c.in_ok-add_step.ensures.since in
     rw (← c.self.view_is) (logged_added _ _ f (is_node f) state v size t _ g.K.KeyClass.spelling c.leaves.ensures.hold (nodes_of f _ _ c.in_order.ensures) (nodes_of f _ _ c.in_order-2.ensures)
     c.args.page c.write_add.new.log c.write_add.new.imaged did c.in_ok-add_step.ensures.held.0 c.args.transaction i.most c.args.entry.now
@@ -73,10 +73,10 @@ returns-clause-stamped g c =
     let f = format_of g.K.KeyClass in
     let state = g.D.SectorDisk.state in
     let v : Volume g.row.D.Denot = record { log = i.log; shelf = i.store; most = i.most; imaged = i.imaged } in
-    let u = c.begin.new.store in
+    let u = c.begin_event.new.store in
     let t = c.add_step.new.pages in
     let size = add_room (is_imaged i.imaged c.args.page) g.K.KeyClass.KEY in
-    let is = begun_is v u size _ c.begin.ensures (c.add_size.ensures ∙ ap (λ b. add_room b g.K.KeyClass.KEY) c.has-small.ensures) in
+    let is = begun_is v u size _ c.begin_event.ensures (c.add_size.ensures ∙ ap (λ b. add_room b g.K.KeyClass.KEY) c.has-small.ensures) in
     let did = stepped (is_node f) state v size t u c.args.page is c.in_ok-add_step.ensures.since in
     rw (← c.self.view_is) (λ steady. added_stamped f (is_node f) state v size t c.args.page i.most c.args.entry.now did c.in_ok-add_step.ensures.held.0 steady
     (added_since f state v size u i.most _ c.args.page c.args.entry.now is (c.in_ok-add_step.ensures.added (steady_begun (is_node f) state v size t u is steady))))

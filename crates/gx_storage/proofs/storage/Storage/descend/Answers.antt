@@ -51,9 +51,9 @@ returns-in_err-did-clause-unlogged g c =
     let f = format_of g.K.KeyClass in
     let state = g.D.SectorDisk.state in
     let v : Volume g.row.D.Denot = record { log = i.log; shelf = i.store; most = i.most; imaged = i.imaged } in
-    let u = c.begin.new.store in
+    let u = c.begin_event.new.store in
     let t = c.descend_step.new.pages in
-    let is = begun_is v u PAGE_RECORD _ c.begin.ensures refl in
+    let is = begun_is v u PAGE_RECORD _ c.begin_event.ensures refl in
     let since = unstepped (is_node f) state v PAGE_RECORD t u is c.in_err-did.ensures.kept in
     rw (← c.self.view_is) (on_err _ _ (unlogged _ _ f (is_node f) state v PAGE_RECORD t since
     (λ steady. c.in_err-did.ensures.refused (steady_begun (is_node f) state v PAGE_RECORD t u is steady) ∙ ap (λ (x : Shelf g.row.D.Denot). store_of f (state x.disk).seen x) is)))
@@ -64,9 +64,9 @@ returns-then-not-was_widened-clause-logged g c =
     let f = format_of g.K.KeyClass in
     let state = g.D.SectorDisk.state in
     let v : Volume g.row.D.Denot = record { log = i.log; shelf = i.store; most = i.most; imaged = i.imaged } in
-    let u = c.begin.new.store in
+    let u = c.begin_event.new.store in
     let t = c.descend_step.new.pages in
-    let is = begun_is v u PAGE_RECORD _ c.begin.ensures refl in
+    let is = begun_is v u PAGE_RECORD _ c.begin_event.ensures refl in
     let narrow : is_widened c.in_ok-did.did ≡ false = sym c.was_widened.ensures ∙ c.if-not-was_widened.true in
     let since = unstepped (is_node f) state v PAGE_RECORD t u is (c.in_ok-did.ensures.read narrow) in
     rw (← c.self.view_is) (unlogged_if _ _ f (is_node f) PAGE_RECORD _ _ v _ _ _ narrow (unlogged _ _ f (is_node f) state v PAGE_RECORD t since
@@ -79,9 +79,9 @@ give_page-requires-clause-place g c =
     let f = format_of g.K.KeyClass in
     let state = g.D.SectorDisk.state in
     let v : Volume g.row.D.Denot = record { log = i.log; shelf = i.store; most = i.most; imaged = i.imaged } in
-    let u = c.begin.new.store in
+    let u = c.begin_event.new.store in
     let t = c.descend_step.new.pages in
-    let is = begun_is v u PAGE_RECORD _ c.begin.ensures refl in
+    let is = begun_is v u PAGE_RECORD _ c.begin_event.ensures refl in
     let step = stepped (is_node f) state v PAGE_RECORD t u c.args.item.now.page is c.in_ok-did.ensures.since in
     let wide : is_widened c.in_ok-did.did ≡ true = sym c.was_widened.ensures ∙ c.if-not-was_widened.false in
     (has_room_then (is_node f) state v PAGE_RECORD t (sym step.goes_on.has_room) (c.in_ok-did.ensures.changing wide)).0
@@ -92,9 +92,9 @@ give_page-requires-clause-room g c =
     let f = format_of g.K.KeyClass in
     let state = g.D.SectorDisk.state in
     let v : Volume g.row.D.Denot = record { log = i.log; shelf = i.store; most = i.most; imaged = i.imaged } in
-    let u = c.begin.new.store in
+    let u = c.begin_event.new.store in
     let t = c.descend_step.new.pages in
-    let is = begun_is v u PAGE_RECORD _ c.begin.ensures refl in
+    let is = begun_is v u PAGE_RECORD _ c.begin_event.ensures refl in
     let step = stepped (is_node f) state v PAGE_RECORD t u c.args.item.now.page is c.in_ok-did.ensures.since in
     let wide : is_widened c.in_ok-did.did ≡ true = sym c.was_widened.ensures ∙ c.if-not-was_widened.false in
     (has_room_then (is_node f) state v PAGE_RECORD t (sym step.goes_on.has_room) (c.in_ok-did.ensures.changing wide)).1
@@ -110,9 +110,9 @@ returns-clause-logged g c =
     let f = format_of g.K.KeyClass in
     let state = g.D.SectorDisk.state in
     let v : Volume g.row.D.Denot = record { log = i.log; shelf = i.store; most = i.most; imaged = i.imaged } in
-    let u = c.begin.new.store in
+    let u = c.begin_event.new.store in
     let t = c.descend_step.new.pages in
-    let is = begun_is v u PAGE_RECORD _ c.begin.ensures refl in
+    let is = begun_is v u PAGE_RECORD _ c.begin_event.ensures refl in
     let step = stepped (is_node f) state v PAGE_RECORD t u c.args.item.now.page is c.in_ok-did.ensures.since in
     let wide : is_widened c.in_ok-did.did ≡ true = sym c.was_widened.ensures ∙ c.if-not-was_widened.false in
     rw (← c.self.view_is) (logged_if _ _ f (is_node f) PAGE_RECORD _ _ v _ _ _ wide (logged_page _ _ f (is_node f) state v PAGE_RECORD t c.args.item.now.page c.give_page.new.log c.give_page.new.imaged (rw c.page.ensures at c.give_page.ensures.imaged) step c.in_ok-did.ensures.held (nodes_of f _ _ c.in_order.ensures)
@@ -124,9 +124,9 @@ returns-clause-descended g c =
     let f = format_of g.K.KeyClass in
     let state = g.D.SectorDisk.state in
     let v : Volume g.row.D.Denot = record { log = i.log; shelf = i.store; most = i.most; imaged = i.imaged } in
-    let u = c.begin.new.store in
+    let u = c.begin_event.new.store in
     let t = c.descend_step.new.pages in
-    let is = begun_is v u PAGE_RECORD _ c.begin.ensures refl in
+    let is = begun_is v u PAGE_RECORD _ c.begin_event.ensures refl in
     rw (← c.self.view_is) (λ steady. descended_since f state v PAGE_RECORD u g.K.KeyClass.cost g.K.KeyClass.joined i.most _ c.args.item.now c.args.coming.now c.in_ok-did.did is (c.in_ok-did.ensures.descended (steady_begun (is_node f) state v PAGE_RECORD t u is steady)))
 
 pub returns-then-not-was_widened-clause-descended : goal.returns-then-not-was_widened-clause-descended

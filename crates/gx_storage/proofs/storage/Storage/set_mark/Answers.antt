@@ -49,10 +49,10 @@ returns-in_err-slot-clause-unlogged g c =
     let f = format_of g.K.KeyClass in
     let state = g.D.SectorDisk.state in
     let v : Volume g.row.D.Denot = record { log = i.log; shelf = i.store; most = i.most; imaged = i.imaged } in
-    let u = c.begin.new.store in
+    let u = c.begin_event.new.store in
     let t = c.set_mark_step.new.pages in
     let size = write_record g.K.KeyClass.KEY in
-    let is = begun_is v u size _ c.begin.ensures c.write_size-size.ensures in
+    let is = begun_is v u size _ c.begin_event.ensures c.write_size-size.ensures in
     let since = unstepped (is_node f) state v size t u is c.in_err-slot.ensures.kept in
     rw (← c.self.view_is) (on_err _ _ (unlogged _ _ f (is_node f) state v size t since
     (λ steady. c.in_err-slot.ensures.refused (steady_begun (is_node f) state v size t u is steady) ∙ ap (λ (x : Shelf g.row.D.Denot). store_of f (state x.disk).seen x) is)))
@@ -63,10 +63,10 @@ write_record-requires-clause-place g c =
     let f = format_of g.K.KeyClass in
     let state = g.D.SectorDisk.state in
     let v : Volume g.row.D.Denot = record { log = i.log; shelf = i.store; most = i.most; imaged = i.imaged } in
-    let u = c.begin.new.store in
+    let u = c.begin_event.new.store in
     let t = c.set_mark_step.new.pages in
     let size = write_record g.K.KeyClass.KEY in
-    let is = begun_is v u size _ c.begin.ensures c.write_size-size.ensures in
+    let is = begun_is v u size _ c.begin_event.ensures c.write_size-size.ensures in
     let did = stepped (is_node f) state v size t u c.args.page is c.in_ok-slot.ensures.since in
     (has_room_then (is_node f) state v size t (sym did.goes_on.has_room) (c.in_ok-slot.ensures.changing (ap is_here c.in-Here-2.is))).0
 
@@ -76,10 +76,10 @@ write_record-requires-clause-room g c =
     let f = format_of g.K.KeyClass in
     let state = g.D.SectorDisk.state in
     let v : Volume g.row.D.Denot = record { log = i.log; shelf = i.store; most = i.most; imaged = i.imaged } in
-    let u = c.begin.new.store in
+    let u = c.begin_event.new.store in
     let t = c.set_mark_step.new.pages in
     let size = write_record g.K.KeyClass.KEY in
-    let is = begun_is v u size _ c.begin.ensures c.write_size-size.ensures in
+    let is = begun_is v u size _ c.begin_event.ensures c.write_size-size.ensures in
     let did = stepped (is_node f) state v size t u c.args.page is c.in_ok-slot.ensures.since in
     (has_room_then (is_node f) state v size t (sym did.goes_on.has_room) (c.in_ok-slot.ensures.changing (ap is_here c.in-Here-2.is))).1
 
@@ -89,10 +89,10 @@ returns-in-Here-2-clause-logged g c =
     let f = format_of g.K.KeyClass in
     let state = g.D.SectorDisk.state in
     let v : Volume g.row.D.Denot = record { log = i.log; shelf = i.store; most = i.most; imaged = i.imaged } in
-    let u = c.begin.new.store in
+    let u = c.begin_event.new.store in
     let t = c.set_mark_step.new.pages in
     let size = write_record g.K.KeyClass.KEY in
-    let is = begun_is v u size _ c.begin.ensures c.write_size-size.ensures in
+    let is = begun_is v u size _ c.begin_event.ensures c.write_size-size.ensures in
     let did = stepped (is_node f) state v size t u c.args.page is c.in_ok-slot.ensures.since in
     rw (← c.self.view_is) (logged_write _ _ f (is_node f) state v size t c.args.transaction c.args.entry.now.row (g.K.KeyClass.spelling c.args.entry.now.key) c.in-Here-2.before c.args.marked c.args.page c.write_record.new.log c.write_record.new.imaged c.write_record.ensures.imaged did
     c.in_ok-slot.ensures.held (nodes_of f _ _ c.in_order.ensures)
@@ -107,10 +107,10 @@ returns-in-Here-2-clause-marked g c =
     let f = format_of g.K.KeyClass in
     let state = g.D.SectorDisk.state in
     let v : Volume g.row.D.Denot = record { log = i.log; shelf = i.store; most = i.most; imaged = i.imaged } in
-    let u = c.begin.new.store in
+    let u = c.begin_event.new.store in
     let t = c.set_mark_step.new.pages in
     let size = write_record g.K.KeyClass.KEY in
-    let is = begun_is v u size _ c.begin.ensures c.write_size-size.ensures in
+    let is = begun_is v u size _ c.begin_event.ensures c.write_size-size.ensures in
     rw (← c.self.view_is) (λ steady. marked_since f state v size u _ _ c.args.page c.args.marked _ _ is c.in-Here-2.is (c.in_ok-slot.ensures.marked (steady_begun (is_node f) state v size t u is steady)))
 
 pub returns-in-Right-2-clause-logged : goal.returns-in-Right-2-clause-logged
@@ -119,10 +119,10 @@ returns-in-Right-2-clause-logged g c =
     let f = format_of g.K.KeyClass in
     let state = g.D.SectorDisk.state in
     let v : Volume g.row.D.Denot = record { log = i.log; shelf = i.store; most = i.most; imaged = i.imaged } in
-    let u = c.begin.new.store in
+    let u = c.begin_event.new.store in
     let t = c.set_mark_step.new.pages in
     let size = write_record g.K.KeyClass.KEY in
-    let is = begun_is v u size _ c.begin.ensures c.write_size-size.ensures in
+    let is = begun_is v u size _ c.begin_event.ensures c.write_size-size.ensures in
     let since = unstepped (is_node f) state v size t u is (c.in_ok-slot.ensures.passed (ap is_here c.in-Right-2.is)) in
     rw (← c.self.view_is) (unlogged _ _ f (is_node f) state v size t since
     (λ steady. unmarked_stays _ _ _ c.args.page c.args.marked _ c.in-Right-2.next c.in-Right-2.is (c.in_ok-slot.ensures.marked (steady_begun (is_node f) state v size t u is steady)) ∙ ap (λ (x : Shelf g.row.D.Denot). store_of f (state x.disk).seen x) is))

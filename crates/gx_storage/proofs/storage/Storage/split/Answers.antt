@@ -16,9 +16,9 @@ returns-in_err-split-clause-unlogged g c =
     let f = format_of g.K.KeyClass in
     let state = g.D.SectorDisk.state in
     let v : Volume g.row.D.Denot = record { log = i.log; shelf = i.store; most = i.most; imaged = i.imaged } in
-    let u = c.begin.new.store in
+    let u = c.begin_event.new.store in
     let t = c.split_step.new.pages in
-    let is = begun_is v u SPLIT_RECORD _ c.begin.ensures refl in
+    let is = begun_is v u SPLIT_RECORD _ c.begin_event.ensures refl in
     let since = unstepped (is_node f) state v SPLIT_RECORD t u is c.in_err-split.ensures.kept in
     rw (← c.self.view_is) (on_err _ _ (unlogged _ _ f (is_node f) state v SPLIT_RECORD t since
     (λ steady. c.in_err-split.ensures.refused (steady_begun (is_node f) state v SPLIT_RECORD t u is steady) ∙ store_begun f state v SPLIT_RECORD u is)))
@@ -29,9 +29,9 @@ give_three-requires-clause-place g c =
     let f = format_of g.K.KeyClass in
     let state = g.D.SectorDisk.state in
     let v : Volume g.row.D.Denot = record { log = i.log; shelf = i.store; most = i.most; imaged = i.imaged } in
-    let u = c.begin.new.store in
+    let u = c.begin_event.new.store in
     let t = c.split_step.new.pages in
-    let is = begun_is v u SPLIT_RECORD _ c.begin.ensures refl in
+    let is = begun_is v u SPLIT_RECORD _ c.begin_event.ensures refl in
     let did = split_stepped (is_node f) state v SPLIT_RECORD t u c.args.page c.args.parent _ (suc i.store.used) is (ap suc (begun_long f state v SPLIT_RECORD u is)) c.in_ok-split.ensures.since in
     let changing = rw c.in-Some.is at c.in_ok-split.ensures.changing in
     (has_room_then (is_node f) state v SPLIT_RECORD t (sym did.goes_on.has_room) changing.0).0
@@ -42,9 +42,9 @@ give_three-requires-clause-room g c =
     let f = format_of g.K.KeyClass in
     let state = g.D.SectorDisk.state in
     let v : Volume g.row.D.Denot = record { log = i.log; shelf = i.store; most = i.most; imaged = i.imaged } in
-    let u = c.begin.new.store in
+    let u = c.begin_event.new.store in
     let t = c.split_step.new.pages in
-    let is = begun_is v u SPLIT_RECORD _ c.begin.ensures refl in
+    let is = begun_is v u SPLIT_RECORD _ c.begin_event.ensures refl in
     let did = split_stepped (is_node f) state v SPLIT_RECORD t u c.args.page c.args.parent _ (suc i.store.used) is (ap suc (begun_long f state v SPLIT_RECORD u is)) c.in_ok-split.ensures.since in
     let changing = rw c.in-Some.is at c.in_ok-split.ensures.changing in
     (has_room_then (is_node f) state v SPLIT_RECORD t (sym did.goes_on.has_room) changing.0).1
@@ -60,9 +60,9 @@ returns-clause-logged g c =
     let f = format_of g.K.KeyClass in
     let state = g.D.SectorDisk.state in
     let v : Volume g.row.D.Denot = record { log = i.log; shelf = i.store; most = i.most; imaged = i.imaged } in
-    let u = c.begin.new.store in
+    let u = c.begin_event.new.store in
     let t = c.split_step.new.pages in
-    let is = begun_is v u SPLIT_RECORD _ c.begin.ensures refl in
+    let is = begun_is v u SPLIT_RECORD _ c.begin_event.ensures refl in
     let did = split_stepped (is_node f) state v SPLIT_RECORD t u c.args.page c.args.parent _ (suc i.store.used) is (ap suc (begun_long f state v SPLIT_RECORD u is)) c.in_ok-split.ensures.since in
     let sibling = rw c.in-Some.is at c.in_ok-split.ensures.sibling in
     let next : c.in-Some.split.sibling ≡ suc i.store.used = sibling ∙ ap suc (begun_long f state v SPLIT_RECORD u is) in
@@ -76,9 +76,9 @@ returns-clause-own g c =
     let f = format_of g.K.KeyClass in
     let state = g.D.SectorDisk.state in
     let v : Volume g.row.D.Denot = record { log = i.log; shelf = i.store; most = i.most; imaged = i.imaged } in
-    let u = c.begin.new.store in
+    let u = c.begin_event.new.store in
     let t = c.split_step.new.pages in
-    let is = begun_is v u SPLIT_RECORD _ c.begin.ensures refl in
+    let is = begun_is v u SPLIT_RECORD _ c.begin_event.ensures refl in
     let sibling = rw c.in-Some.is at c.in_ok-split.ensures.sibling in
     let next : c.in-Some.split.sibling ≡ suc i.store.used = sibling ∙ ap suc (begun_long f state v SPLIT_RECORD u is) in
     let these = c.in_rising_order-first.ensures.these ∙ ap (λ p. rising c.args.page c.args.parent p) next in
@@ -90,9 +90,9 @@ returns-clause-stamped g c =
     let f = format_of g.K.KeyClass in
     let state = g.D.SectorDisk.state in
     let v : Volume g.row.D.Denot = record { log = i.log; shelf = i.store; most = i.most; imaged = i.imaged } in
-    let u = c.begin.new.store in
+    let u = c.begin_event.new.store in
     let t = c.split_step.new.pages in
-    let is = begun_is v u SPLIT_RECORD _ c.begin.ensures refl in
+    let is = begun_is v u SPLIT_RECORD _ c.begin_event.ensures refl in
     let did = split_stepped (is_node f) state v SPLIT_RECORD t u c.args.page c.args.parent _ (suc i.store.used) is (ap suc (begun_long f state v SPLIT_RECORD u is)) c.in_ok-split.ensures.since in
     let held = rw c.in-Some.is at c.in_ok-split.ensures.held in
     let apart = rw c.in-Some.is at c.in_ok-split.ensures.apart in
@@ -106,9 +106,9 @@ returns-in_default-clause-logged g c =
     let f = format_of g.K.KeyClass in
     let state = g.D.SectorDisk.state in
     let v : Volume g.row.D.Denot = record { log = i.log; shelf = i.store; most = i.most; imaged = i.imaged } in
-    let u = c.begin.new.store in
+    let u = c.begin_event.new.store in
     let t = c.split_step.new.pages in
-    let is = begun_is v u SPLIT_RECORD _ c.begin.ensures refl in
+    let is = begun_is v u SPLIT_RECORD _ c.begin_event.ensures refl in
     let none = rw c.in_default.is at c.in_ok-split.ensures.none in
     let since = unstepped (is_node f) state v SPLIT_RECORD t u is none in
     rw (← c.self.view_is) (unlogged _ _ f (is_node f) state v SPLIT_RECORD t since
@@ -120,9 +120,9 @@ returns-in_err-split-clause-full g c =
     let f = format_of g.K.KeyClass in
     let state = g.D.SectorDisk.state in
     let v : Volume g.row.D.Denot = record { log = i.log; shelf = i.store; most = i.most; imaged = i.imaged } in
-    let u = c.begin.new.store in
+    let u = c.begin_event.new.store in
     let t = c.split_step.new.pages in
-    let is = begun_is v u SPLIT_RECORD _ c.begin.ensures refl in
+    let is = begun_is v u SPLIT_RECORD _ c.begin_event.ensures refl in
     let long = begun_long f state v SPLIT_RECORD u is in
     let pages = begun_pages f state v SPLIT_RECORD u is in
     let told = err_from_is_err_and c.from_residual.result c.from_residual.ensures.1 in
@@ -134,9 +134,9 @@ returns-in_err-split-clause-damaged g c =
     let f = format_of g.K.KeyClass in
     let state = g.D.SectorDisk.state in
     let v : Volume g.row.D.Denot = record { log = i.log; shelf = i.store; most = i.most; imaged = i.imaged } in
-    let u = c.begin.new.store in
+    let u = c.begin_event.new.store in
     let t = c.split_step.new.pages in
-    let is = begun_is v u SPLIT_RECORD _ c.begin.ensures refl in
+    let is = begun_is v u SPLIT_RECORD _ c.begin_event.ensures refl in
     let told = err_from_is_err_and c.from_residual.result c.from_residual.ensures.1 in
     rw (← c.self.view_is) (λ steady refused. damaged_since f state v SPLIT_RECORD u is _ c.args.page c.args.parent (c.in_err-split.ensures.damaged (steady_begun (is_node f) state v SPLIT_RECORD t u is steady) (rw (told.1, told.2) at refused)))
 
@@ -146,8 +146,8 @@ returns-clause-sibling g c =
     let f = format_of g.K.KeyClass in
     let state = g.D.SectorDisk.state in
     let v : Volume g.row.D.Denot = record { log = i.log; shelf = i.store; most = i.most; imaged = i.imaged } in
-    let u = c.begin.new.store in
+    let u = c.begin_event.new.store in
     let t = c.split_step.new.pages in
-    let is = begun_is v u SPLIT_RECORD _ c.begin.ensures refl in
+    let is = begun_is v u SPLIT_RECORD _ c.begin_event.ensures refl in
     let sibling = rw c.in-Some.is at c.in_ok-split.ensures.sibling in
     rw (← c.self.view_is) (sibling ∙ ap suc (begun_long f state v SPLIT_RECORD u is))

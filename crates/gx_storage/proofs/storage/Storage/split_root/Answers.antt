@@ -14,8 +14,8 @@ returns-then-used-eq0-clause-unlogged g c =
     let f = format_of g.K.KeyClass in
     let state = g.D.SectorDisk.state in
     let v : Volume g.row.D.Denot = record { log = i.log; shelf = i.store; most = i.most; imaged = i.imaged } in
-    let u = c.begin.new.store in
-    let is = begun_is v u SPLIT_RECORD _ c.begin.ensures refl in
+    let u = c.begin_event.new.store in
+    let is = begun_is v u SPLIT_RECORD _ c.begin_event.ensures refl in
     let since = unstepped (is_node f) state v SPLIT_RECORD u u is (λ was q since. since) in
     rw (← c.self.view_is) (unlogged _ _ f (is_node f) state v SPLIT_RECORD u since (λ steady. store_begun f state v SPLIT_RECORD u is))
 
@@ -25,9 +25,9 @@ returns-in_err-split-clause-unlogged g c =
     let f = format_of g.K.KeyClass in
     let state = g.D.SectorDisk.state in
     let v : Volume g.row.D.Denot = record { log = i.log; shelf = i.store; most = i.most; imaged = i.imaged } in
-    let u = c.begin.new.store in
+    let u = c.begin_event.new.store in
     let t = c.split_root_step.new.pages in
-    let is = begun_is v u SPLIT_RECORD _ c.begin.ensures refl in
+    let is = begun_is v u SPLIT_RECORD _ c.begin_event.ensures refl in
     let since = unstepped (is_node f) state v SPLIT_RECORD t u is c.in_err-split.ensures.kept in
     rw (← c.self.view_is) (on_err _ _ (unlogged _ _ f (is_node f) state v SPLIT_RECORD t since
     (λ steady. c.in_err-split.ensures.refused (steady_begun (is_node f) state v SPLIT_RECORD t u is steady) ∙ store_begun f state v SPLIT_RECORD u is)))
@@ -38,9 +38,9 @@ give_three-requires-clause-place g c =
     let f = format_of g.K.KeyClass in
     let state = g.D.SectorDisk.state in
     let v : Volume g.row.D.Denot = record { log = i.log; shelf = i.store; most = i.most; imaged = i.imaged } in
-    let u = c.begin.new.store in
+    let u = c.begin_event.new.store in
     let t = c.split_root_step.new.pages in
-    let is = begun_is v u SPLIT_RECORD _ c.begin.ensures refl in
+    let is = begun_is v u SPLIT_RECORD _ c.begin_event.ensures refl in
     let did = root_stepped (is_node f) state v SPLIT_RECORD t u _ _ (suc i.store.used) (suc (suc i.store.used)) is (ap suc (begun_long f state v SPLIT_RECORD u is)) (ap (λ n. suc (suc n)) (begun_long f state v SPLIT_RECORD u is)) c.in_ok-split.ensures.since in
     (has_room_then (is_node f) state v SPLIT_RECORD t (sym did.goes_on.has_room) c.in_ok-split.ensures.changing.0).0
 
@@ -50,9 +50,9 @@ give_three-requires-clause-room g c =
     let f = format_of g.K.KeyClass in
     let state = g.D.SectorDisk.state in
     let v : Volume g.row.D.Denot = record { log = i.log; shelf = i.store; most = i.most; imaged = i.imaged } in
-    let u = c.begin.new.store in
+    let u = c.begin_event.new.store in
     let t = c.split_root_step.new.pages in
-    let is = begun_is v u SPLIT_RECORD _ c.begin.ensures refl in
+    let is = begun_is v u SPLIT_RECORD _ c.begin_event.ensures refl in
     let did = root_stepped (is_node f) state v SPLIT_RECORD t u _ _ (suc i.store.used) (suc (suc i.store.used)) is (ap suc (begun_long f state v SPLIT_RECORD u is)) (ap (λ n. suc (suc n)) (begun_long f state v SPLIT_RECORD u is)) c.in_ok-split.ensures.since in
     (has_room_then (is_node f) state v SPLIT_RECORD t (sym did.goes_on.has_room) c.in_ok-split.ensures.changing.0).1
 
@@ -62,9 +62,9 @@ returns-clause-own g c =
     let f = format_of g.K.KeyClass in
     let state = g.D.SectorDisk.state in
     let v : Volume g.row.D.Denot = record { log = i.log; shelf = i.store; most = i.most; imaged = i.imaged } in
-    let u = c.begin.new.store in
+    let u = c.begin_event.new.store in
     let t = c.split_root_step.new.pages in
-    let is = begun_is v u SPLIT_RECORD _ c.begin.ensures refl in
+    let is = begun_is v u SPLIT_RECORD _ c.begin_event.ensures refl in
     let places = c.in_ok-split.ensures.places in
     let split = c.in_ok-split.split in
     let these = ap (λ x. (let xs : List ℕ = 1 ∷ x ∷ split.second ∷ [] in xs)) (places.0 ∙ ap suc (begun_long f state v SPLIT_RECORD u is)) ∙ ap (λ x. (let xs : List ℕ = 1 ∷ suc i.store.used ∷ x ∷ [] in xs)) (places.1 ∙ ap (λ n. suc (suc n)) (begun_long f state v SPLIT_RECORD u is)) in
@@ -76,9 +76,9 @@ returns-clause-logged g c =
     let f = format_of g.K.KeyClass in
     let state = g.D.SectorDisk.state in
     let v : Volume g.row.D.Denot = record { log = i.log; shelf = i.store; most = i.most; imaged = i.imaged } in
-    let u = c.begin.new.store in
+    let u = c.begin_event.new.store in
     let t = c.split_root_step.new.pages in
-    let is = begun_is v u SPLIT_RECORD _ c.begin.ensures refl in
+    let is = begun_is v u SPLIT_RECORD _ c.begin_event.ensures refl in
     let did = root_stepped (is_node f) state v SPLIT_RECORD t u _ _ (suc i.store.used) (suc (suc i.store.used)) is (ap suc (begun_long f state v SPLIT_RECORD u is)) (ap (λ n. suc (suc n)) (begun_long f state v SPLIT_RECORD u is)) c.in_ok-split.ensures.since in
     let places = c.in_ok-split.ensures.places in
     let split = c.in_ok-split.split in
@@ -92,9 +92,9 @@ returns-clause-stamped g c =
     let f = format_of g.K.KeyClass in
     let state = g.D.SectorDisk.state in
     let v : Volume g.row.D.Denot = record { log = i.log; shelf = i.store; most = i.most; imaged = i.imaged } in
-    let u = c.begin.new.store in
+    let u = c.begin_event.new.store in
     let t = c.split_root_step.new.pages in
-    let is = begun_is v u SPLIT_RECORD _ c.begin.ensures refl in
+    let is = begun_is v u SPLIT_RECORD _ c.begin_event.ensures refl in
     let did = root_stepped (is_node f) state v SPLIT_RECORD t u _ _ (suc i.store.used) (suc (suc i.store.used)) is (ap suc (begun_long f state v SPLIT_RECORD u is)) (ap (λ n. suc (suc n)) (begun_long f state v SPLIT_RECORD u is)) c.in_ok-split.ensures.since in
     rw (← c.self.view_is) (λ steady.
     (let made = c.in_ok-split.ensures.split (steady_begun (is_node f) state v SPLIT_RECORD t u is steady) in
@@ -107,9 +107,9 @@ give_three-requires-clause-rise g c =
     let f = format_of g.K.KeyClass in
     let state = g.D.SectorDisk.state in
     let v : Volume g.row.D.Denot = record { log = i.log; shelf = i.store; most = i.most; imaged = i.imaged } in
-    let u = c.begin.new.store in
+    let u = c.begin_event.new.store in
     let t = c.split_root_step.new.pages in
-    let is = begun_is v u SPLIT_RECORD _ c.begin.ensures refl in
+    let is = begun_is v u SPLIT_RECORD _ c.begin_event.ensures refl in
     let places = c.in_ok-split.ensures.places in
     let long = begun_long f state v SPLIT_RECORD u is in
     let some = c.if-used-eq0.false in
@@ -122,9 +122,9 @@ returns-clause-places g c =
     let f = format_of g.K.KeyClass in
     let state = g.D.SectorDisk.state in
     let v : Volume g.row.D.Denot = record { log = i.log; shelf = i.store; most = i.most; imaged = i.imaged } in
-    let u = c.begin.new.store in
+    let u = c.begin_event.new.store in
     let t = c.split_root_step.new.pages in
-    let is = begun_is v u SPLIT_RECORD _ c.begin.ensures refl in
+    let is = begun_is v u SPLIT_RECORD _ c.begin_event.ensures refl in
     let places = c.in_ok-split.ensures.places in
     rw (← c.self.view_is) (places.0 ∙ ap suc (begun_long f state v SPLIT_RECORD u is), places.1 ∙ ap (λ n. suc (suc n)) (begun_long f state v SPLIT_RECORD u is))
 
@@ -134,9 +134,9 @@ returns-in_err-split-clause-full g c =
     let f = format_of g.K.KeyClass in
     let state = g.D.SectorDisk.state in
     let v : Volume g.row.D.Denot = record { log = i.log; shelf = i.store; most = i.most; imaged = i.imaged } in
-    let u = c.begin.new.store in
+    let u = c.begin_event.new.store in
     let t = c.split_root_step.new.pages in
-    let is = begun_is v u SPLIT_RECORD _ c.begin.ensures refl in
+    let is = begun_is v u SPLIT_RECORD _ c.begin_event.ensures refl in
     let long = begun_long f state v SPLIT_RECORD u is in
     let pages = begun_pages f state v SPLIT_RECORD u is in
     let told = err_from_is_err_and c.from_residual.result c.from_residual.ensures.1 in
@@ -148,9 +148,9 @@ returns-in_err-split-clause-damaged g c =
     let f = format_of g.K.KeyClass in
     let state = g.D.SectorDisk.state in
     let v : Volume g.row.D.Denot = record { log = i.log; shelf = i.store; most = i.most; imaged = i.imaged } in
-    let u = c.begin.new.store in
+    let u = c.begin_event.new.store in
     let t = c.split_root_step.new.pages in
-    let is = begun_is v u SPLIT_RECORD _ c.begin.ensures refl in
+    let is = begun_is v u SPLIT_RECORD _ c.begin_event.ensures refl in
     let told = err_from_is_err_and c.from_residual.result c.from_residual.ensures.1 in
     rw (← c.self.view_is) (λ steady refused. root_damaged_since f state v SPLIT_RECORD u is _ (c.in_err-split.ensures.damaged (steady_begun (is_node f) state v SPLIT_RECORD t u is steady) (rw (told.1, told.2) at refused)))
 
@@ -160,8 +160,8 @@ returns-then-used-eq0-clause-damaged g c =
     let f = format_of g.K.KeyClass in
     let state = g.D.SectorDisk.state in
     let v : Volume g.row.D.Denot = record { log = i.log; shelf = i.store; most = i.most; imaged = i.imaged } in
-    let u = c.begin.new.store in
-    let is = begun_is v u SPLIT_RECORD _ c.begin.ensures refl in
+    let u = c.begin_event.new.store in
+    let is = begun_is v u SPLIT_RECORD _ c.begin_event.ensures refl in
     let long = begun_long f state v SPLIT_RECORD u is in
     let none : i.store.used ≡ 0 = omega (arith, long, c.used.ensures, c.if-used-eq0.true) in
     rw (← c.self.view_is) (λ steady refused legal full rises. no_root f (state i.store.disk).seen i.store _ none legal)

@@ -46,7 +46,7 @@ returns g c =
     let taken = taken_pages f d.seen s pages (rw (← c.self.view_is) at c.requires.used) in
     let all = fetched (is_node f) d e s c.bring.new.disk t pages c.bring.result i.pool.test.pages c.self.invariant.1 taken c.bring.ensures.brought c.self.invariant.0 in
     let brought = subst {A = ℕ} (λ n. BringsAll (is_node f n) d e (holding i.pool.frames pages) t pages c.bring.result) c.self.invariant.1 c.bring.ensures.brought in
-    rw (← c.self.view_is, c.told.ensures) (record {
+    rw (← c.self.view_is, c.store_result.ensures) (record {
       held = all.held;
       stays = brought_nodes f (is_node f) d e s c.bring.new.disk t pages brought.brings brought.only_read;
       steady = all.goes_on.steady;

@@ -10,8 +10,8 @@ invariant_of-self g c =
     let self = c.self.inside in (
       c.self.invariant.0,
       claim_put k lawful self.claims self.predicates self.notes.items c.args.self.now c.self.view_is c.self.invariant.1
-          c.args.e c.put.new.self c.in-Err.field-0 c.args.spent c.requires (omega arith)
-          c.in-Err.ensures.goes c.put.ensures,
+          c.args.e c.insert_at.new.self c.in-Err.field-0 c.args.spent c.requires (omega arith)
+          c.in-Err.ensures.goes c.insert_at.ensures,
     )
 
 pub returns-in-Err-clause-takes : goal.returns-in-Err-clause-takes

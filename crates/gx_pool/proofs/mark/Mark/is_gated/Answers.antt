@@ -1,5 +1,0 @@
-use Rattle.std.proofs.Common.{rules}
-use Rattle.gx_pool.proofs.mark.Mark.is_gated.Goals as goal
-
-pub returns : goal.returns
-returns c = search rules
