@@ -240,6 +240,20 @@ on_file "a damaged page, verified" 1 'refused 13 damaged
 holds "verifying leaves a damaged file" cmp -s damaged as_damaged
 on_file "a damaged page" 1 'refused 13 damaged
 ' "^gist: what the device holds is damaged: page 2" run damaged
+source "$top/bench/small_records.sh"
+on_file "small records, verified" 0 'ok commits 4 entries 2 used 2
+' "" verify small
+on_file "their tree" 0 'commits 4 used 2 counter 0
+page 1 level 1 nsn 0 right 0 count 1
+child 2 0 0 20 20
+page 2 level 0 nsn 0 right 0 count 2
+entry 8 0 0 5 5 live
+entry 9 15 15 20 20 live
+' "" dump small
+on_file "a small record without an image" 1 'refused 13 damaged
+' "log A, body 1, byte 0: a page is changed of which the log has no image$" verify imageless
+on_file "a sweep of a live pair" 1 'refused 13 damaged
+' "log A, body 1, byte 8266: a change does not fit its page$" verify unfit
 cp places cut
 truncate -s $((512 * 4290)) cut
 on_file "a file that was cut" 1 'refused 17 too small

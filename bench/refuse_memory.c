@@ -1,5 +1,6 @@
 // Loaded in front of the C library, refuses allocations: the one of the number in REFUSE, counted from 1; all from the first signal
-// SIGUSR1 on; and all between one of 1,000,003 bytes and one of 1,000,033. At the end the file named by COUNTED, if there is one, gets how many were asked for and how many refused.
+// SIGUSR1 on; and all between one of 1,000,003 bytes and one of 1,000,033. At the end, also by _exit, which runs no destructor, the file
+// named by COUNTED, if there is one, gets how many were asked for and how many refused.
 #define _GNU_SOURCE
 #include <dlfcn.h>
 #include <errno.h>
@@ -7,6 +8,8 @@
 #include <stddef.h>
 #include <stdio.h>
 #include <stdlib.h>
+#include <sys/syscall.h>
+#include <unistd.h>
 
 static long count, refused, chosen;
 static volatile sig_atomic_t all;
@@ -35,6 +38,13 @@ __attribute__((destructor)) static void end(void)
         fprintf(file, "%ld %ld\n", asked, kept);
         fclose(file);
     }
+}
+
+void _exit(int status)
+{
+    end();
+    syscall(SYS_exit_group, status);
+    __builtin_unreachable();
 }
 
 static int refuses(void)

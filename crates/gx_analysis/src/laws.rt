@@ -1,7 +1,7 @@
 //! What is kept of a log tells what may follow it. Each function is its contract alone.
 ghost use Rattle.gx_recovery.specs.Known.{Limits};
-ghost use Rattle.gx_analysis.specs.Telling.{WritesTell, NoEntryIsRefused, ChangesTell, PagesTell, CommitsTell, EndsTell};
-ghost use Rattle.gx_analysis.specs.Telling.{CountersTell, NotesTell, NoEntryIsNoNote, HeadsBegin};
+ghost use Rattle.gx_analysis.specs.Telling.{WritesTell, NoEntryIsRefused, ChangesTell, PagesTell, CommitsTell};
+ghost use Rattle.gx_analysis.specs.Telling.{EndsTell, CountersTell, NotesTell, NoEntryIsNoNote, HeadsBegin};
 
 use gx_recovery::Meaning;
 

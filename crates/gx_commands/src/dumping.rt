@@ -65,8 +65,6 @@ pub fn dump_over<
     W: Write,
     E: Write,
 >(alloc: Global, disk: D, frames: usize, writer: &mut Noted<W>, faults: &mut Noted<E>) -> (D, u8)
-where
-    K::Probe: Drop,
     ensures { DumpsOver ⟦<Box2 as Shape>⟧ K.is_proper K.said K.KeyClass D.state K.CLASS frames disk result.0
         (outputs_of W.contents E.contents writer.old faults.old)
         (outputs_of W.contents E.contents writer.new faults.new) result.1 }

@@ -26,8 +26,6 @@ pub(crate) fn opened<D: SectorDisk, K: ReadKeys + KeyClass<Key = Box2> + Probing
     disk: D,
     frames: usize,
 ) -> Result<Engine<D, K>, NotOpened<D>>
-where
-    K::Probe: Drop,
     ensures { Opens ⟦<Box2 as Shape>⟧ K.is_proper K.said K.KeyClass D.state K.CLASS frames disk result }
 {
     open(alloc, disk, frames)

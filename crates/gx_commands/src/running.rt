@@ -38,8 +38,6 @@ fn settle_after<
     W: Write,
     E: Write,
 >(index: Index<D, K>, writer: &mut Noted<W>, faults: &mut Noted<E>) -> (D, u8)
-where
-    K::Probe: Drop,
     ensures { EndsSettling ⟦<Box2 as Shape>⟧ K.is_proper K.said K.KeyClass D.state index result.0
         (outputs_of W.contents E.contents writer.old faults.old)
         (outputs_of W.contents E.contents writer.new faults.new) result.1 }
@@ -58,8 +56,6 @@ fn end_script<
     W: Write,
     E: Write,
 >(watched: Watched<Index<D, K>>, writer: &mut Noted<W>, faults: &mut Noted<E>) -> (D, u8)
-where
-    K::Probe: Drop,
     ensures { EndsBy ⟦<Box2 as Shape>⟧ K.is_proper K.said K.KeyClass D.state watched.met watched.index result.0
         (outputs_of W.contents E.contents writer.old faults.old)
         (outputs_of W.contents E.contents writer.new faults.new) result.1 }
@@ -88,8 +84,6 @@ fn run_watched<
     writer: &mut Noted<W>,
     faults: &mut Noted<E>,
 ) -> (D, u8)
-where
-    K::Probe: Drop,
     ensures { RunsScript ⟦<Box2 as Shape>⟧ K.is_proper K.said K.KeyClass D.state watched result.0
         (stream_of R.remaining reader.old) (stream_of R.remaining reader.new)
         (outputs_of W.contents E.contents writer.old faults.old)
@@ -146,8 +140,6 @@ pub fn run_over<
     writer: &mut Noted<W>,
     faults: &mut Noted<E>,
 ) -> (D, u8)
-where
-    K::Probe: Drop,
     ensures { RunsOver ⟦<Box2 as Shape>⟧ K.is_proper K.said K.KeyClass D.state K.CLASS frames disk result.0
         (stream_of R.remaining reader.old) (stream_of R.remaining reader.new)
         (outputs_of W.contents E.contents writer.old faults.old)

@@ -98,8 +98,6 @@ fn verified<D: SectorDisk, K: ReadKeys + KeyClass<Key = Box2> + Probing>(
     disk: &mut D,
     frames: usize,
 ) -> Result<Report, NotVerified>
-where
-    K::Probe: Drop,
     ensures told { Verifies ⟦<Box2 as Shape>⟧ K.is_proper K.said K.KeyClass D.state K.CLASS
         frames disk.old disk.new (why_of result) }
     ensures damaged { (D.state disk.old).honest ≡ true → IfErr result (λ n. n.why ≡ Refusal.Damaged → IfSome n.copy
@@ -122,8 +120,6 @@ pub fn verify_over<D: SectorDisk, K: ReadKeys + KeyClass<Key = Box2> + Probing, 
     writer: &mut Noted<W>,
     faults: &mut Noted<E>,
 ) -> u8
-where
-    K::Probe: Drop,
     ensures { VerifiesOver ⟦<Box2 as Shape>⟧ K.is_proper K.said K.KeyClass D.state K.CLASS frames disk.old disk.new
         (outputs_of W.contents E.contents writer.old faults.old)
         (outputs_of W.contents E.contents writer.new faults.new) result }

@@ -93,10 +93,7 @@ fn is_refused<K: ReadKeys>(
 fn verified<K: ReadKeys + Probing>(
     alloc: Global,
     bytes: &[u8],
-) -> Result<Result<Report, u8>, RunFault>
-where
-    K::Probe: Drop,
-{
+) -> Result<Result<Report, u8>, RunFault> {
     let mut disk = device(alloc, bytes)?;
     Ok(match verify::<MemDisk, K>(alloc, &mut disk, FRAMES) {
         Ok(report) => Ok(report),
@@ -114,10 +111,7 @@ fn holding(read: &Reading) -> Report {
 }
 
 /// Verifies and opens a sound image.
-fn open_sound<K: ReadKeys + Probing>(alloc: Global, bytes: &[u8]) -> Result<bool, RunFault>
-where
-    K::Probe: Drop,
-{
+fn open_sound<K: ReadKeys + Probing>(alloc: Global, bytes: &[u8]) -> Result<bool, RunFault> {
     let before = read(alloc, bytes, K::CLASS)?;
     if verified::<K>(alloc, bytes)? != Ok(holding(&before)) {
         return Ok(false);
@@ -134,10 +128,7 @@ fn open_damaged<K: ReadKeys + Probing>(
     bytes: &[u8],
     found: &[Finding],
     wanted: u8,
-) -> Result<bool, RunFault>
-where
-    K::Probe: Drop,
-{
+) -> Result<bool, RunFault> {
     if verified::<K>(alloc, bytes)? != Err(wanted) {
         return Ok(false);
     }
@@ -154,10 +145,7 @@ where
 pub(crate) fn judge<K: ReadKeys + Probing>(
     alloc: Global,
     bytes: &[u8],
-) -> Result<Option<Found>, RunFault>
-where
-    K::Probe: Drop,
-{
+) -> Result<Option<Found>, RunFault> {
     let found = findings(alloc, bytes, K::CLASS)?;
     let Some(first) = found.first() else {
         return Ok(open_sound::<K>(alloc, bytes)?.then_some(Found::Sound));

@@ -117,8 +117,10 @@ fn write<D: SectorDisk>(pool: &mut Pool<Leaves>, disk: &mut D, page: u32) -> Ans
     if !is_there(disk, page) {
         return Err(PoolFault::Damaged);
     }
-    pool.write_page(disk, page)?;
-    DONE
+    match pool.write_page(disk, page) {
+        Ok(_) => DONE,
+        Err(_) => Err(PoolFault::Device),
+    }
 }
 
 /// Holds no page, and lets go of what was held.

@@ -75,9 +75,13 @@ fn is_right(run: &Run, page: u32) -> bool {
 
 /// Writes the least page that may be written, if there is one.
 fn write_one<D: SectorDisk>(run: &mut Run, disk: &mut D) -> Option<PoolFault> {
-    match run.pool.dirty() {
-        Some(page) if is_there(disk, page) => run.pool.write_page(disk, page).err(),
-        _ => None,
+    let page = run.pool.dirty()?;
+    if !is_there(disk, page) {
+        return None;
+    }
+    match run.pool.write_page(disk, page) {
+        Ok(_) => None,
+        Err(_) => Some(PoolFault::Device),
     }
 }
 

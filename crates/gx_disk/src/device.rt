@@ -3,6 +3,8 @@ ghost use Rattle.std.specs.Prelude.{◌≡◌, ◌+◌, ◌*◌, ◌/◌, ◌≤
 ghost use Rattle.gx_disk.specs.Sectors.{IsSpan};
 ghost use Rattle.gx_disk.specs.Device.{Device, MayLeave, Counts, Reads, Writes, Syncs};
 
+use gx_geom::Refusal;
+
 /// How many bytes a sector has.
 pub const SECTOR_SIZE: usize = 512;
 
@@ -17,6 +19,17 @@ pub enum DiskFault {
     File,
     /// Another opener has the file.
     InUse,
+}
+
+/// Whatever calls a device is refused with `Device` where that failed.
+impl From<DiskFault> for Refusal {
+    ghost use Rattle.gx_geom.specs.declared.refusal.Refusal.TheVariants.{Device as DeviceRefusal};
+
+    ghost from_gives = { λ _ refusal. refusal ≡ DeviceRefusal };
+
+    fn from(_fault: DiskFault) -> Refusal {
+        Refusal::Device
+    }
 }
 
 pub trait SectorDisk {

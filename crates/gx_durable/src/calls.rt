@@ -69,13 +69,9 @@ pub fn log_step<M: Spelled, T: PageTest, D: SectorDisk>(
     ensures runs { (d : Limits) → StepKeepsRunning (M.known d) M.reading log.old log.new pool.old.frames pool.new.frames
         (D.state disk.old) (D.state disk.new) result }
 {
-    match log.log_step(disk) {
-        Ok(stage) => {
-            tell_pool(pool, stage, log.used());
-            Ok(stage)
-        }
-        Err(refusal) => Err(refusal),
-    }
+    let stage = log.log_step(disk)?;
+    tell_pool(pool, stage, log.used());
+    Ok(stage)
 }
 
 /// Settles all that was written. Whether it succeeds or not, each page is left as the device has it, the log stays up,
@@ -87,8 +83,6 @@ pub fn sync<M: Spelled, D: SectorDisk>(disk: &mut D) -> Result<(), Refusal>
     ensures up { (d : Limits) → StaysUp (M.known d) M.reading (D.state disk.old) (D.state disk.new) }
     ensures refusal { IfErr result (λ refusal. refusal ≡ Refusal.Device) }
 {
-    match disk.sync() {
-        Ok(()) => Ok(()),
-        Err(_) => Err(Refusal::Device),
-    }
+    disk.sync()?;
+    Ok(())
 }

@@ -1,19 +1,20 @@
 //! A page's write, with what it makes of the state that the device carries.
-ghost use Rattle.std.specs.Prelude.{◌≡◌, ◌+◌, false, OnErr, Ok, Err};
-ghost use Rattle.gx_disk.specs.Device.{SameDevice};
+ghost use Rattle.std.specs.Prelude.{◌≡◌, false, IfErr, IfOk, Ok};
+ghost use Rattle.gx_disk.specs.Device.{CountsFault, SameDevice};
 ghost use Rattle.gx_pool.specs.Area.{IsPage};
 ghost use Rattle.gx_pool.specs.Laws.{IsPassed};
 ghost use Rattle.gx_pool.specs.Writing.{WritesAtMost, may_be_written, WritesGated, StaysShown};
-ghost use Rattle.gx_pool.specs.Bringing.{faults_of};
 ghost use Rattle.gx_pool.specs.Readable.{StaysReadable};
 ghost use Rattle.gx_recovery.specs.Known.{Limits};
 ghost use Rattle.gx_durable.specs.Pages.{PageKeepsRunning};
 
 use crate::Spelled;
 use gx_disk::SectorDisk;
-use gx_pool::{PageTest, Pool, PoolFault};
+use gx_geom::Refusal;
+use gx_pool::{PageTest, Pool};
 
-/// Writes a page to its sectors, where it has changes and all of them are in gated batches; else nothing is done.
+/// Writes a page to its sectors, where it has changes and all of them are in gated batches, and answers whether that
+/// was so; else nothing is done.
 /// Refused with `Device` where the device failed. The page is then kept as it was, with its changes.
 ///
 /// Of an honest device, while no turn is under way: whether it succeeds or not, the log stays up over the page area
@@ -23,12 +24,13 @@ pub fn write_page<M: Spelled, T: PageTest, D: SectorDisk>(
     pool: &mut Pool<T>,
     disk: &mut D,
     page: u32,
-) -> Result<(), PoolFault>
+) -> Result<bool, Refusal>
     requires { IsPage (D.state disk.old).sectors page }
     ensures runs { (l : Limits) → PageKeepsRunning (M.known l) M.reading pool.old.frames pool.new.frames
         (D.state disk.old) (D.state disk.new) }
+    ensures answer { IfOk result (λ written. written ≡ may_be_written pool.old.frames page) }
     ensures idle { may_be_written pool.old.frames page ≡ false
-        → (result ≡ Ok tt) × (pool.new ≡ pool.old) × (disk.new ≡ disk.old) }
+        → (result ≡ Ok false) × (pool.new ≡ pool.old) × (disk.new ≡ disk.old) }
     ensures written { WritesGated (D.state disk.old) (D.state disk.new) pool.old.frames pool.new.frames page result }
     ensures at_most { WritesAtMost (D.state disk.old) (D.state disk.new) pool.old.frames pool.new.frames page }
     ensures shown { StaysShown (D.state disk.old) (D.state disk.new) pool.old.frames pool.new.frames }
@@ -37,8 +39,8 @@ pub fn write_page<M: Spelled, T: PageTest, D: SectorDisk>(
     ensures device { SameDevice (D.state disk.old) (D.state disk.new) }
     ensures passing { IsPassed (T.passes pool.old.test) pool.old.frames
         → IsPassed (T.passes pool.old.test) pool.new.frames }
-    ensures faults { (D.state disk.new).faults ≡ (D.state disk.old).faults + faults_of result }
-    ensures fault { OnErr result (result ≡ Err PoolFault.Device) }
+    ensures faults { CountsFault (D.state disk.old) (D.state disk.new) result }
+    ensures refusal { IfErr result (λ refusal. refusal ≡ Refusal.Device) }
     ensures test { pool.new.test ≡ pool.old.test }
 {
     pool.write_page(disk, page)

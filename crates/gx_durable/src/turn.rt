@@ -74,11 +74,7 @@ pub fn turn_step<M: Spelled, T: PageTest, D: SectorDisk>(
     ensures runs { (l : Limits) → TurnKeepsRunning (M.known l) M.reading log.old log.new pool.old.frames pool.new.frames
         (D.state disk.old) (D.state disk.new) result }
 {
-    match log.turn_step(disk) {
-        Ok(call) => {
-            tell_turned(pool, call);
-            Ok(call)
-        }
-        Err(refusal) => Err(refusal),
-    }
+    let call = log.turn_step(disk)?;
+    tell_turned(pool, call);
+    Ok(call)
 }

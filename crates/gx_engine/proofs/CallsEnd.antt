@@ -15,10 +15,9 @@ use Rattle.gx_index_laws.specs.Classes.{Class, IsLawful, Page}
 use Rattle.gx_index_laws.specs.Measures.{work_left}
 use Rattle.gx_index_laws.specs.States as index
 use Rattle.gx_index_laws.specs.Whole.{IsWhole}
-use Rattle.gx_readings.specs.Classes.{class_of, reading_of}
+use Rattle.gx_readings.specs.Classes.{class_of, known_at, reading_of}
 use Rattle.gx_glog.specs.declared.extent.TheConstants.{BODY_ROOM}
 use Rattle.gx_record.specs.Writing.{write_record}
-use Rattle.gx_storage.specs.Changes.{known_at}
 use Rattle.gx_events.specs.declared.event.Event.{Event}
 use Rattle.gx_events.specs.declared.driver.Next.TheVariants.{Run}
 use Rattle.gx_events.specs.declared.event.Event.TheVariants.{Ask, Move}

@@ -38,7 +38,7 @@ use Rattle.gx_index_laws.specs.States as index
 use Rattle.gx_index_laws.proofs.Answering.{closed}
 use Rattle.gx_index_laws.proofs.Standing.{known_lawful}
 use Rattle.gx_durable.specs.Spelled.{Reading, record_read}
-use Rattle.gx_readings.specs.Classes.{class_of, reading_of}
+use Rattle.gx_readings.specs.Classes.{class_of, known_at, reading_of}
 use Rattle.gx_events.specs.declared.outcome.Outcome.{Outcome}
 use Rattle.gx_events.specs.declared.outcome.Outcome.TheVariants.{More, Replied, Help}
 use Rattle.gx_txn.specs.Tables.{Held}
@@ -50,7 +50,7 @@ use Rattle.gx_store.specs.Standing.{store_of}
 use Rattle.gx_store.specs.State.{IsSteady}
 use Rattle.gx_record.specs.declared.sizes.TheConstants.{PAGE_RECORD, SPLIT_RECORD}
 use Rattle.gx_record.specs.Writing.{write_record}
-use Rattle.gx_storage.specs.Changes.{known_at, page_given}
+use Rattle.gx_storage.specs.Changes.{page_given}
 use Rattle.gx_storage.specs.Giving.{pages_given, rising}
 use Rattle.gx_storage.specs.Keeps.{KeepsTheSame, KeepsWith}
 use Rattle.gx_storage.specs.Numbers.{HasOwnNumber}

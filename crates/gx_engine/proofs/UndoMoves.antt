@@ -47,7 +47,7 @@ use Rattle.gx_index_laws.specs.Working.{SeeksFor}
 use Rattle.gx_index_laws.proofs.Standing.{is_legal, known_lawful}
 use Rattle.gx_durable.specs.Spelled.{Reading, record_read}
 use Rattle.gx_durable.specs.Standing.{Stands}
-use Rattle.gx_readings.specs.Classes.{class_of, reading_of}
+use Rattle.gx_readings.specs.Classes.{class_of, known_at, reading_of}
 use Rattle.gx_events.specs.declared.outcome.Outcome.{Outcome}
 use Rattle.gx_events.specs.declared.outcome.Outcome.TheVariants.{Replied, More, Help}
 use Rattle.gx_events.specs.declared.outcome.Need.{Need}
@@ -63,7 +63,7 @@ use Rattle.gx_store.specs.declared.fault.StoreFault.TheVariants as fault
 use Rattle.gx_store.specs.Faults as faults
 use Rattle.gx_store.specs.Standing.{store_of}
 use Rattle.gx_store.specs.State.{IsInOrder, IsSteady}
-use Rattle.gx_storage.specs.Changes.{IsUnlogged, MarkIsLogged, begun, image_at, known_at, write_of}
+use Rattle.gx_storage.specs.Changes.{IsUnlogged, MarkIsLogged, begun, image_at, write_of}
 use Rattle.gx_storage.specs.Flushing.{KeepsRecord}
 use Rattle.gx_storage.specs.Keeps.{Keeps, KeepsTheSame, ShowsKeys, ShowsTheLogs, StaysSame, StaysWith, tree_shown}
 use Rattle.gx_storage.specs.Numbers.{OwnWhereSet}

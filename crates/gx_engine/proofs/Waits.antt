@@ -37,13 +37,13 @@ use Rattle.gx_index_laws.specs.Happening.{AreHappening}
 use Rattle.gx_index_laws.specs.States as index
 use Rattle.gx_index_laws.specs.Measures.{work_left}
 use Rattle.gx_index_laws.specs.declared.TheConstants.{CHECKPOINT_AT}
-use Rattle.gx_readings.specs.Classes.{class_of, reading_of}
+use Rattle.gx_readings.specs.Classes.{class_of, known_at, reading_of}
 use Rattle.gx_store.specs.declared.fault.StoreFault.{StoreFault}
 use Rattle.gx_store.specs.declared.fault.StoreFault.TheVariants as fault
 use Rattle.gx_store.specs.Faults as faults
 use Rattle.gx_store.specs.State.{Shelf}
 use Rattle.gx_storage.specs.Bringing.{bringing}
-use Rattle.gx_storage.specs.Changes.{begun, has_room, known_at}
+use Rattle.gx_storage.specs.Changes.{begun, has_room}
 use Rattle.gx_storage.specs.declared.flusher.Help as storage
 use Rattle.gx_storage.specs.Flushing.{HasNoRoom, Helps, IsLeastWritable, frame_by}
 use Rattle.gx_storage.specs.Keeps.{Keeps}

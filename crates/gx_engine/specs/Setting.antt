@@ -21,10 +21,9 @@ use Rattle.gx_engine_laws.specs.Events as laws
 use Rattle.gx_recovery.specs.Known.{Known, Limits}
 use Rattle.gx_index_laws.specs.Classes.{Class, Page}
 use Rattle.gx_durable.specs.Spelled.{Reading}
-use Rattle.gx_readings.specs.Classes.{class_of, reading_of}
+use Rattle.gx_readings.specs.Classes.{class_of, known_at, reading_of}
 use Rattle.gx_store.specs.declared.fault.StoreFault.{StoreFault}
 use Rattle.gx_storage.specs.Bringing.{has_removable}
-use Rattle.gx_storage.specs.Changes.{known_at}
 use Rattle.gx_storage.specs.State.{Volume}
 use Rattle.gx_events.specs.declared.event.Event.{Event}
 use Rattle.gx_events.specs.declared.outcome.Outcome.{Outcome}

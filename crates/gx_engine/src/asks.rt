@@ -34,7 +34,7 @@ impl<D: SectorDisk, K: ReadKeys> Engine<D, K> {
             (ask_events session call self.old.sessions result) }
     {
         a_class_is_lawful::<K>();
-        self.sessions.has_failed();
+        self.sessions.stands();
         outcome_of(self.sessions.ask(session, call, Work::Rests))
     }
 }

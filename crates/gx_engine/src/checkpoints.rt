@@ -42,7 +42,7 @@ impl<D: SectorDisk, K: ReadKeys> Engine<D, K> {
             (IsSync false result) }
     {
         a_class_is_lawful::<K>();
-        self.sessions.has_failed();
+        self.sessions.stands();
         match self.storage.log_step() {
             Ok(stage) => self.note(stage),
             Err(_) => self.fail(),
@@ -93,7 +93,7 @@ impl<D: SectorDisk, K: ReadKeys> Engine<D, K> {
             (IsSync false result) }
     {
         a_class_is_lawful::<K>();
-        self.sessions.has_failed();
+        self.sessions.stands();
         match self.storage.sync() {
             Ok(()) => match put_head(&mut self.storage, &self.sessions) {
                 Ok(()) => {

@@ -40,7 +40,7 @@ impl<D: SectorDisk, K: ReadKeys> Engine<D, K> {
             (AreSealing session (self.old.sessions.latest + 1) result) }
     {
         a_class_is_lawful::<K>();
-        self.sessions.has_failed();
+        self.sessions.stands();
         if self.is_due() {
             return Outcome::Help(Need::Checkpoint);
         }
@@ -68,7 +68,7 @@ impl<D: SectorDisk, K: ReadKeys> Engine<D, K> {
             (acknowledge_events session result) }
     {
         a_class_is_lawful::<K>();
-        self.sessions.has_failed();
+        self.sessions.stands();
         let running = self.is_checkpointing();
         commit_outcome(running, self.sessions.acknowledge(session))
     }

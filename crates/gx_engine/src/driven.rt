@@ -28,8 +28,6 @@ pub fn drive<D: SectorDisk, K: ReadKeys + Probing>(
     session: u8,
     first: Event<K::Key>,
 ) -> Option<Reply<K::Key>>
-where
-    K::Probe: Drop,
     ensures made { MatchOption result
         (IsGivenUp (Makes K.Key.Shape K.is_proper K.said K.KeyClass D.state) session first engine.old engine.new)
         (λ reply. IsDriven (Makes K.Key.Shape K.is_proper K.said K.KeyClass D.state) session first engine.old reply

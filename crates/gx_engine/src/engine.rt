@@ -75,7 +75,7 @@ impl<D: SectorDisk, K: ReadKeys> Engine<D, K> {
           checkpoint = Checkpoint.Off;
         } }
     {
-        sessions.has_failed();
+        sessions.stands();
         let in_flight = sessions.durable();
         Engine {
             storage,
@@ -96,7 +96,7 @@ impl<D: SectorDisk, K: ReadKeys> Engine<D, K> {
         self.storage.in_order();
         self.storage.most();
         self.storage.dirty_frames();
-        self.sessions.has_failed();
+        self.sessions.stands();
     }
 
     /// The number of the last commit that is sealed.

@@ -78,7 +78,7 @@ impl<D: SectorDisk, K: ReadKeys + Probing> Engine<D, K> {
         ensures device { IsRead D.state self.old self.new }
     {
         a_class_is_lawful::<K>();
-        self.sessions.has_failed();
+        self.sessions.stands();
         self.storage.in_order();
         self.storage.most();
         a_volume_shows_the_logs_tree::<D, K>();

@@ -20,8 +20,6 @@ pub fn repeat<D: SectorDisk, K: ReadKeys + Probing>(
     engine: &mut Engine<D, K>,
     event: Event<K::Key>,
 ) -> Option<Result<(), Refusal>>
-where
-    K::Probe: Drop,
     ensures made { MatchOption result
         (IsGoingOn (Makes K.Key.Shape K.is_proper K.said K.KeyClass D.state) event engine.old EVENTS engine.new)
         (λ ends. IsRepeated (Makes K.Key.Shape K.is_proper K.said K.KeyClass D.state) event engine.old (last_of ends)

@@ -45,10 +45,7 @@ fn gathered<B: Shape>(alloc: Global, found: &[Found<B>]) -> Result<Vec<Entry<B>>
     Ok(set)
 }
 
-impl<D: SectorDisk, K: ReadKeys + Probing> Engine<D, K>
-where
-    K::Probe: Drop,
-{
+impl<D: SectorDisk, K: ReadKeys + Probing> Engine<D, K> {
     // A look that has ended is the search's answer.
     fn find(&mut self, session: u8, query: Query<K::Key>, look: Look<K::Key>) -> Outcome<K::Key>
         requires session { is_session session ≡ true }
@@ -62,7 +59,7 @@ where
         ensures device { IsRead D.state self.old self.new }
     {
         a_class_is_lawful::<K>();
-        self.sessions.has_failed();
+        self.sessions.stands();
         match gathered(self.alloc, look.found()) {
             Ok(entries) => {
                 self.sessions.answer(session);
@@ -101,20 +98,17 @@ where
         a_class_is_lawful::<K>();
         a_volume_shows_the_logs_tree::<D, K>();
         a_volume_shows_keys::<D, K>();
-        self.sessions.has_failed();
+        self.sessions.stands();
         self.storage.most();
         let wanted = Wanted::<K>::matching(query);
         let read = self.read_look(session, &wanted, look, begun);
         self.storage.in_order();
-        match read {
-            Ok(look) => if look.is_done() {
-                Ok(look)
-            } else {
-                self.sessions.replace_work(session, Work::Looks(look));
-                Err(Outcome::More)
-            },
-            Err(outcome) => Err(outcome),
+        let look = read?;
+        if look.is_done() {
+            return Ok(look);
         }
+        self.sessions.replace_work(session, Work::Looks(look));
+        Err(Outcome::More)
     }
 
     // A search's look begins at the root, or goes on, and reads a page. `Ok` gives the look where nothing is left to
@@ -138,7 +132,7 @@ where
         ensures device { IsRead D.state self.old self.new }
     {
         a_class_is_lawful::<K>();
-        self.sessions.has_failed();
+        self.sessions.stands();
         match self.sessions.replace_work(session, Work::Rests) {
             Work::Looks(look) => if look.is_done() {
                 Ok(look)

@@ -37,10 +37,7 @@ fn has_call<B: Shape>(phase: &Phase<B, Work<B>>) -> bool
     }
 }
 
-impl<D: SectorDisk, K: ReadKeys + Probing> Engine<D, K>
-where
-    K::Probe: Drop,
-{
+impl<D: SectorDisk, K: ReadKeys + Probing> Engine<D, K> {
     // A move of a call that is open.
     fn move_call(&mut self, session: u8, call: Call<K::Key>) -> Outcome<K::Key>
         requires session { is_session session ≡ true }
@@ -53,7 +50,7 @@ where
         ensures device { IsRead D.state self.old self.new }
     {
         a_class_is_lawful::<K>();
-        self.sessions.has_failed();
+        self.sessions.stands();
         self.storage.in_order();
         self.storage.most();
         match call {
@@ -78,13 +75,14 @@ where
         if !is_session(session) {
             return Outcome::Refused(Refusal::BadSession);
         }
-        if !has_call(self.sessions.phase(session)) {
+        let now = self.sessions.phase(session);
+        if !has_call(now) {
             return Outcome::Refused(Refusal::NoCall);
         }
         if failed {
             return Outcome::Replied(Reply::Refused(Refusal::Failed));
         }
-        match self.sessions.phase(session) {
+        match now {
             Phase::Open(call, _) => {
                 let call = *call;
                 self.move_call(session, call)
@@ -101,7 +99,7 @@ where
         ensures steps { StepsAs K.Key.Shape K.is_proper K.said K.KeyClass D.state event self.old self.new result }
         ensures calls { MakesCalls D.state event self.old self.new }
     {
-        self.sessions.has_failed();
+        self.sessions.stands();
         match event {
             Event::Ask(session, call) => self.ask(session, call),
             Event::Move(session) => self.move_on(session),

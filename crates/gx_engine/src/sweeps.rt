@@ -46,7 +46,7 @@ impl<D: SectorDisk, K: ReadKeys> Engine<D, K> {
         ensures device { IsRead D.state self.old self.new }
     {
         a_class_is_lawful::<K>();
-        self.sessions.has_failed();
+        self.sessions.stands();
         self.storage.most();
         let sessions = &self.sessions;
         match self

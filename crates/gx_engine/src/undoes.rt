@@ -46,7 +46,7 @@ impl<D: SectorDisk, K: ReadKeys> Engine<D, K> {
             (AreUndoing session self.old.sessions result) }
     {
         a_class_is_lawful::<K>();
-        self.sessions.has_failed();
+        self.sessions.stands();
         let transaction = self.sessions.transaction(session);
         match self.storage.append_end(transaction) {
             Ok(()) => {
@@ -58,10 +58,7 @@ impl<D: SectorDisk, K: ReadKeys> Engine<D, K> {
     }
 }
 
-impl<D: SectorDisk, K: ReadKeys + Probing> Engine<D, K>
-where
-    K::Probe: Drop,
-{
+impl<D: SectorDisk, K: ReadKeys + Probing> Engine<D, K> {
     // Gives a note's pair, where it is in this leaf, the mark that it had before the session's transaction first
     // wrote it.
     fn set_noted(
@@ -119,7 +116,7 @@ where
         a_volume_shows_the_logs_tree::<D, K>();
         a_volume_shows_keys::<D, K>();
         K::known(&note.entry.key);
-        self.sessions.has_failed();
+        self.sessions.stands();
         self.storage.in_order();
         match self.set_noted(session, &note, leaf) {
             Ok(sought) => self.note_sought(session, leaf, sought),

@@ -22,10 +22,7 @@ use gx_machine::Entry;
 use gx_phases::Phase;
 use gx_readings::ReadKeys;
 
-impl<D: SectorDisk, K: ReadKeys + Probing> Engine<D, K>
-where
-    K::Probe: Drop,
-{
+impl<D: SectorDisk, K: ReadKeys + Probing> Engine<D, K> {
     /// A move of a session's insert, which is open. It looks for its pair, a page a move; where that stands, it seeks
     /// it and clears its mark; and where it stands nowhere, it descends and adds it to a leaf, with as many moves as
     /// bounds are widened, full leaves swept and full nodes split on the way. Until it is answered `More`, and each
@@ -46,7 +43,7 @@ where
             (AreWriting session (Insert entry) result) }
         ensures device { IsRead D.state self.old self.new }
     {
-        self.sessions.has_failed();
+        self.sessions.stands();
         match self.sessions.phase(session) {
             Phase::Open(_, Work::Descends(parent, item)) => {
                 let parent = *parent;
@@ -77,7 +74,7 @@ where
             (AreWriting session (Delete entry) result) }
         ensures device { IsRead D.state self.old self.new }
     {
-        self.sessions.has_failed();
+        self.sessions.stands();
         match self.sessions.phase(session) {
             Phase::Open(_, Work::Seeks(leaf)) => {
                 let leaf = *leaf;

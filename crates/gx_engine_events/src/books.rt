@@ -17,8 +17,6 @@ use gx_shared::{Book, Run};
 pub fn outlives_a_crash<D: SectorDisk, K: ReadKeys + Probing, R: Run<K::Key>>(
     book: &Book<K::Key, EngineEvents<D, K>, R>,
 )
-where
-    K::Probe: Drop,
     ensures { ((d : D) → (D.state d).honest ≡ true)
         → Outlives K.Key.Shape K.is_proper K.said (format_of K.KeyClass) D.state R.starts book.now.0 book.now.1 }
 {

@@ -59,10 +59,7 @@ impl<D: SectorDisk, K: ReadKeys> EngineEvents<D, K> {
     }
 }
 
-impl<D: SectorDisk, K: ReadKeys + Probing> Events<K::Key> for EngineEvents<D, K>
-where
-    K::Probe: Drop,
-{
+impl<D: SectorDisk, K: ReadKeys + Probing> Events<K::Key> for EngineEvents<D, K> {
     ghost use Rattle.std.specs.Prelude.{◌≡◌, max, true};
     ghost use Rattle.gx_machine.specs.Keys.{keys_of};
     ghost use Rattle.gx_machine.specs.Machine.{Machine, newest};

@@ -52,8 +52,6 @@ pub fn a_hold_leaves_sets_of_the_machine<D: SectorDisk, K: ReadKeys>()
 
 /// Over a device in memory nothing has to be granted: that such devices keep what they are told is proved.
 pub fn in_memory_all_is_granted<K: ReadKeys + Probing>()
-where
-    K::Probe: Drop,
     ensures { ⟦<EngineEvents<MemDisk, K> as Events<K::Key>>⟧.granted }
 {}
 
@@ -61,8 +59,6 @@ where
 pub fn in_memory_a_book_stands<K: ReadKeys + Probing, R: Run<K::Key>>(
     book: &Book<K::Key, EngineEvents<MemDisk, K>, R>,
 )
-where
-    K::Probe: Drop,
     ensures { Stands (keys_of K.Key.Shape) ⟦<EngineEvents<MemDisk, K> as Events<K::Key>>⟧.sees R.starts book.now.0
         book.now.1 }
 {

@@ -41,10 +41,7 @@ pub(crate) enum Went {
 
 /// An engine, the index that it is compared with, and what is to be committed.
 #[derive(Drop)]
-pub(crate) struct Beside<K: Drawn>
-where
-    K::Probe: Drop,
-{
+pub(crate) struct Beside<K: Drawn> {
     pub(crate) engine: Engine<FuseDisk<MemDisk>, K>,
     plain: PlainIndex<K::Key>,
     sets: Sets,
@@ -81,10 +78,7 @@ fn plain_entry<K: Drawn>(entry: &Entry<K::Key>) -> PlainEntry {
     }
 }
 
-impl<K: Drawn> Beside<K>
-where
-    K::Probe: Drop,
-{
+impl<K: Drawn> Beside<K> {
     /// An engine with nothing committed.
     pub(crate) fn new(
         alloc: Global,
@@ -208,10 +202,10 @@ where
         }
         match (call, reply) {
             (Call::Insert(entry), Reply::Inserted) => {
-                self.sets.write(session, told::<K>(&entry), true)?;
+                self.sets.write(session, plain_entry::<K>(&entry), true)?;
             }
             (Call::Delete(entry), Reply::Deleted) => {
-                self.sets.write(session, told::<K>(&entry), false)?;
+                self.sets.write(session, plain_entry::<K>(&entry), false)?;
             }
             (Call::Abort, Reply::Aborted) => {
                 self.sets.drop_writes(session)?;

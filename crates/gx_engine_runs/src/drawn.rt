@@ -56,10 +56,7 @@ fn draw_session(draw: &mut Pcg32) -> u8 {
 }
 
 /// A session's event: its call goes on, or it asks one; now and then it asks where one is open.
-fn session_event<K: Drawn>(beside: &Beside<K>, draw: &mut Pcg32) -> Event<K::Key>
-where
-    K::Probe: Drop,
-{
+fn session_event<K: Drawn>(beside: &Beside<K>, draw: &mut Pcg32) -> Event<K::Key> {
     let session = draw_session(draw);
     let at = beside.at(session);
     match at {
@@ -70,10 +67,7 @@ where
 }
 
 /// A page: one that may be written, or any.
-fn draw_page<K: Drawn>(beside: &Beside<K>, draw: &mut Pcg32) -> u32
-where
-    K::Probe: Drop,
-{
+fn draw_page<K: Drawn>(beside: &Beside<K>, draw: &mut Pcg32) -> u32 {
     match beside.engine.dirty() {
         Some(page) if below(draw, 4) > 0 => page,
         _ => {
@@ -93,10 +87,7 @@ pub(crate) fn helping<B>(need: Need) -> Event<B> {
 }
 
 /// Any event, where the last one waits perhaps the one that helps it.
-fn draw_event<K: Drawn>(beside: &Beside<K>, last: Went, draw: &mut Pcg32) -> Event<K::Key>
-where
-    K::Probe: Drop,
-{
+fn draw_event<K: Drawn>(beside: &Beside<K>, last: Went, draw: &mut Pcg32) -> Event<K::Key> {
     if let Went::Waits(need) = last
         && below(draw, 3) > 0
     {
@@ -113,10 +104,7 @@ where
 
 /// A session's open call goes on to its end, with the events that help it. Answers whether no call of the device
 /// failed.
-pub(crate) fn finish<K: Drawn>(beside: &mut Beside<K>, session: u8) -> Result<bool, RunFault>
-where
-    K::Probe: Drop,
-{
+pub(crate) fn finish<K: Drawn>(beside: &mut Beside<K>, session: u8) -> Result<bool, RunFault> {
     let mut next = Event::Move(session);
     for _event in 0..CALL_EVENTS {
         if matches!(beside.at(session), At::Idle | At::Working) {
@@ -132,10 +120,7 @@ where
 }
 
 /// Ends a session's transaction: every other one commits.
-fn end_transaction<K: Drawn>(beside: &mut Beside<K>, session: u8) -> Result<bool, RunFault>
-where
-    K::Probe: Drop,
-{
+fn end_transaction<K: Drawn>(beside: &mut Beside<K>, session: u8) -> Result<bool, RunFault> {
     if !finish(beside, session)? {
         return Ok(false);
     }
@@ -158,10 +143,7 @@ pub(crate) fn draw_run<K: Drawn>(
     beside: &mut Beside<K>,
     draw: &mut Pcg32,
     steps: u64,
-) -> Result<bool, RunFault>
-where
-    K::Probe: Drop,
-{
+) -> Result<bool, RunFault> {
     let mut last = Went::On;
     for _step in 0..steps {
         let event = draw_event(beside, last, draw);

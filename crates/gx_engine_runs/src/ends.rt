@@ -116,10 +116,7 @@ fn read_back(alloc: Global, disk: &mut MemDisk, class: u16) -> Result<Reading, R
 }
 
 /// Makes an event over and over, until there is nothing to do. Answers whether no call of the device failed.
-fn repeat<K: Drawn>(beside: &mut Beside<K>, event: Event<K::Key>) -> Result<bool, RunFault>
-where
-    K::Probe: Drop,
-{
+fn repeat<K: Drawn>(beside: &mut Beside<K>, event: Event<K::Key>) -> Result<bool, RunFault> {
     for _step in 0..STEPS {
         match beside.step(event)? {
             Went::Failed => return Ok(false),
@@ -131,27 +128,18 @@ where
 }
 
 /// Settles what was logged. Answers whether no call of the device failed.
-fn settle<K: Drawn>(beside: &mut Beside<K>) -> Result<bool, RunFault>
-where
-    K::Probe: Drop,
-{
+fn settle<K: Drawn>(beside: &mut Beside<K>) -> Result<bool, RunFault> {
     Ok(repeat(beside, Event::CheckpointStep)? && repeat(beside, Event::LogStep)?)
 }
 
 /// Whether an event of no session is refused with `Failed`.
-fn is_refused<K: Drawn>(beside: &mut Beside<K>, event: Event<K::Key>) -> bool
-where
-    K::Probe: Drop,
-{
+fn is_refused<K: Drawn>(beside: &mut Beside<K>, event: Event<K::Key>) -> bool {
     matches!(beside.engine.step(event), Outcome::Refused(Refusal::Failed))
 }
 
 /// Whether a session's ask is answered with `Failed`, and so is its move where a call is open, which is else refused
 /// with `NoCall`.
-fn is_refused_to<K: Drawn>(beside: &mut Beside<K>, session: u8) -> bool
-where
-    K::Probe: Drop,
-{
+fn is_refused_to<K: Drawn>(beside: &mut Beside<K>, session: u8) -> bool {
     let is_asked_in_vain = matches!(
         beside.engine.step(Event::Ask(session, Call::Begin)),
         Outcome::Replied(Reply::Refused(Refusal::Failed))
@@ -166,10 +154,7 @@ where
 }
 
 /// Behind a failed call each event is refused.
-fn refuses_all<K: Drawn>(beside: &mut Beside<K>) -> Result<(), RunFault>
-where
-    K::Probe: Drop,
-{
+fn refuses_all<K: Drawn>(beside: &mut Beside<K>) -> Result<(), RunFault> {
     let refuses_flusher = is_refused(beside, Event::LogStep)
         && is_refused(beside, Event::WritePage(1))
         && is_refused(beside, Event::CheckpointStep)
@@ -192,10 +177,7 @@ fn judge<K: Drawn>(
     beside: Beside<K>,
     is_whole: bool,
     left: Left,
-) -> Result<End, RunFault>
-where
-    K::Probe: Drop,
-{
+) -> Result<End, RunFault> {
     let Ended {
         mut disk,
         sets,
@@ -221,10 +203,7 @@ pub(crate) fn begin_run<K: Drawn>(
     alloc: Global,
     setting: Setting,
     failing: Failing,
-) -> Result<Option<Beside<K>>, RunFault>
-where
-    K::Probe: Drop,
-{
+) -> Result<Option<Beside<K>>, RunFault> {
     let sectors = usize::try_from(sectors_for(PAGES)).unwrap_or(0);
     let disk = MemDisk::new(alloc, sectors)?;
     let fused = FuseDisk::new(disk, failing.call, failing.fuse, failing.is_done);
@@ -247,10 +226,7 @@ pub(crate) fn make_run<K: Drawn>(
     mut beside: Beside<K>,
     setting: Setting,
     left: Left,
-) -> Result<End, RunFault>
-where
-    K::Probe: Drop,
-{
+) -> Result<End, RunFault> {
     let mut draw = Pcg32::new(setting.seed, 11);
     let is_whole = draw_run(&mut beside, &mut draw, setting.steps)? && settle(&mut beside)?;
     if !is_whole {

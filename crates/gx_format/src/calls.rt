@@ -13,10 +13,8 @@ pub(crate) fn write<D: SectorDisk>(disk: &mut D, first: u64, bytes: &[u8]) -> Re
     ensures runs { (n : ℕ) → length bytes.now ≡ 512 * n
         → Runs D.state (Write first n bytes.now ∷ []) disk.old disk.new result }
 {
-    match disk.write(first, bytes) {
-        Ok(()) => Ok(()),
-        Err(_) => Err(Refusal::Device),
-    }
+    disk.write(first, bytes)?;
+    Ok(())
 }
 
 /// Settles what was written.
@@ -24,8 +22,6 @@ pub(crate) fn settle<D: SectorDisk>(disk: &mut D) -> Result<(), Refusal>
     ensures sectors { (D.state disk.new).sectors ≡ (D.state disk.old).sectors }
     ensures runs { Runs D.state (Sync ∷ []) disk.old disk.new result }
 {
-    match disk.sync() {
-        Ok(()) => Ok(()),
-        Err(_) => Err(Refusal::Device),
-    }
+    disk.sync()?;
+    Ok(())
 }

@@ -1,6 +1,6 @@
 -- Which rule is broken, record by record and in the bytes of a body.
 use Rattle.std.proofs.Common.{◌≡◌, ℕ, ◌+◌, ◌<◌, Bool, true, false, inl, inr, List, [], ◌∷◌, ◌++◌, drop, length, refl, ap, sym, ◌∙◌, subst, arith, append_assoc, length-append}
-use Rattle.std.specs.Prelude.{Result, Ok, Err, IfErr, Some}
+use Rattle.std.specs.Prelude.{Result, Ok, Err, IfErr, Option, None, Some}
 use Rattle.std.specs.declared.cmp.Ordering.{Ordering}
 use Rattle.std.proofs.lemmas.List.{append-nil}
 use Rattle.gx_record.specs.Rec.{Rec}
@@ -8,6 +8,7 @@ use Rattle.gx_record.specs.Rec as rec
 use Rattle.gx_record.specs.Format.{spelling, BeginsWith}
 use Rattle.gx_recovery.specs.Known.{Known, IsLawful}
 use Rattle.gx_recovery.specs.Records.{Record, Touch}
+use Rattle.gx_durable.specs.Small.{PageChange}
 use Rattle.gx_durable.specs.Spelled.{Reading, record_read}
 use Rattle.gx_analysis.specs.Kept.{Kept}
 use Rattle.gx_analysis.specs.Broken.{breaks_touch, breaks_write}
@@ -18,8 +19,10 @@ use Rattle.gx_found_log.specs.declared.gathered.Gathered.{Gathered}
 use Rattle.gx_found_log.specs.declared.part.Part.{Part}
 use Rattle.gx_found_log.specs.declared.part.Part.TheVariants.{Start, Head, Later}
 use Rattle.gx_found_log.specs.Parts.{part_behind, IsBegun}
-use Rattle.gx_found_log.specs.Told.{IsGathered, OneGathered, RecordGathered}
-use Rattle.gx_found_log.specs.Broken.{may_stand, is_of_class, breaks_next, RecordBreaks, FrontBreaks, part_after, IsBrokenAt, BytesBroken, BrokenOn}
+use Rattle.gx_found_log.specs.Given.{image_in}
+use Rattle.gx_found_log.specs.Small.{small_of, Changes}
+use Rattle.gx_found_log.specs.Told.{touched, IsGathered, KeepsSaid, OneGathered, RecordGathered}
+use Rattle.gx_found_log.specs.Broken.{may_stand, is_of_class, breaks_next, BreaksWrite, ChangeBreaks, PageBreaks, RecordBreaks, RecordIsBroken, FrontBreaks, part_after, IsBrokenAt, BytesBroken, BrokenOn}
 use Rattle.gx_found_log.proofs.Parts.{begun_behind}
 use Rattle.gx_found_log.proofs.Reading.{no_record, no_clash}
 
@@ -37,13 +40,33 @@ module _ {E P : Type 0} (k : Known E P) (r : Reading E P) where
   next_broken part x y s breaks is same (Ok done) broken = tt
   next_broken part x y s breaks is same (Err rule) broken = inr (inr (ap (λ (z : Rec). breaks_next k r z s rule) is ∙ same rule ∙ broken))
 
+  -- a write of one of these kinds
+  written_broken : (cmp : E → E → Ordering) → k.cmp ≡ cmp → (x y : Rec) → x ≡ y → (t : Touch E) (s : Kept E)
+      → ((rule : LogRule) → breaks_next k r y s rule ≡ breaks_write k.cmp t s rule) → is_of_class k r y ≡ k.is_entry t.entry
+      → (result : Result (Unit {0}) LogRule) → IfErr result (λ rule. BreaksWrite cmp k t s rule) → IfErr result (λ rule. RecordBreaks Later k r x s rule)
+  written_broken cmp ordered x y is t s next key (Ok done) broken = tt
+  written_broken cmp ordered x y is t s next key (Err rule) (inl never) =
+      inr (inl (never.0, ap (λ (z : Rec). is_of_class k r z) is ∙ key ∙ never.1))
+  written_broken cmp ordered x y is t s next key (Err rule) (inr breaks) =
+      inr (inr (ap (λ (z : Rec). breaks_next k r z s rule) is ∙ next rule ∙ ap (λ (c : E → E → Ordering). breaks_write c t s rule) ordered ∙ breaks))
+
   pub write_broken : (cmp : E → E → Ordering) → k.cmp ≡ cmp → (x : Rec) (tx row : ℕ) (key : List ℕ) (before after : Bool) (leaf : ℕ) (image : List ℕ)
-      → x ≡ rec.Write tx row key before after leaf image → (t : Touch E) → t ≡ (record { transaction = tx; entry = r.entry row key; before = before; leaf = leaf })
-      → (s : Kept E) (result : Result (Unit {0}) LogRule) → IfErr result (λ rule. breaks_write cmp t s rule ≡ true) → IfErr result (λ rule. RecordBreaks Later k r x s rule)
-  write_broken cmp ordered x tx row key before after leaf image is t same s result broken =
-      let u : Touch E = record { transaction = tx; entry = r.entry row key; before = before; leaf = leaf } in
-      next_broken Later x (rec.Write tx row key before after leaf image) s (λ rule. breaks_write cmp t s rule) is
-      (λ rule. ap (λ (c : E → E → Ordering). breaks_write c u s rule) ordered ∙ ap (λ (v : Touch E). breaks_write cmp v s rule) (sym same)) result broken
+      → x ≡ rec.Write tx row key before after leaf image → (s : Kept E) (result : Result (Unit {0}) LogRule)
+      → IfErr result (λ rule. BreaksWrite cmp k (touched tx (r.entry row key) before leaf) s rule) → IfErr result (λ rule. RecordBreaks Later k r x s rule)
+  write_broken cmp ordered x tx row key before after leaf image is s result broken =
+      written_broken cmp ordered x (rec.Write tx row key before after leaf image) is (touched tx (r.entry row key) before leaf) s (λ rule. refl) refl result broken
+
+  pub bit_broken : (cmp : E → E → Ordering) → k.cmp ≡ cmp → (x : Rec) (tx row : ℕ) (key : List ℕ) (before after : Bool) (leaf : ℕ)
+      → x ≡ rec.Bit tx row key before after leaf → (s : Kept E) (result : Result (Unit {0}) LogRule)
+      → IfErr result (λ rule. BreaksWrite cmp k (touched tx (r.entry row key) before leaf) s rule) → IfErr result (λ rule. RecordBreaks Later k r x s rule)
+  bit_broken cmp ordered x tx row key before after leaf is s result broken =
+      written_broken cmp ordered x (rec.Bit tx row key before after leaf) is (touched tx (r.entry row key) before leaf) s (λ rule. refl) refl result broken
+
+  pub add_broken : (cmp : E → E → Ordering) → k.cmp ≡ cmp → (x : Rec) (tx row : ℕ) (key : List ℕ) (leaf : ℕ)
+      → x ≡ rec.Add tx row key leaf → (s : Kept E) (result : Result (Unit {0}) LogRule)
+      → IfErr result (λ rule. BreaksWrite cmp k (touched tx (r.entry row key) true leaf) s rule) → IfErr result (λ rule. RecordBreaks Later k r x s rule)
+  add_broken cmp ordered x tx row key leaf is s result broken =
+      written_broken cmp ordered x (rec.Add tx row key leaf) is (touched tx (r.entry row key) true leaf) s (λ rule. refl) refl result broken
 
   pub note_broken : (cmp : E → E → Ordering) → k.cmp ≡ cmp → (x : Rec) (tx row : ℕ) (key : List ℕ) (before : Bool) (leaf : ℕ)
       → x ≡ rec.Note tx row key before leaf → (t : Touch E) → t ≡ (record { transaction = tx; entry = r.entry row key; before = before; leaf = leaf })
@@ -52,6 +75,21 @@ module _ {E P : Type 0} (k : Known E P) (r : Reading E P) where
       let u : Touch E = record { transaction = tx; entry = r.entry row key; before = before; leaf = leaf } in
       next_broken Head x (rec.Note tx row key before leaf) s (λ rule. breaks_touch cmp t s rule) is
       (λ rule. ap (λ (c : E → E → Ordering). breaks_touch c u s rule) ordered ∙ ap (λ (v : Touch E). breaks_touch cmp v s rule) (sym same)) result broken
+
+  -- what a record says of its page, where it isn't kept
+  not_kept : (x : Rec) (small : ℕ × PageChange) (old new : Gathered E) (rule : LogRule) (o : Option (List ℕ))
+      → Changes r old.scratch.0 (r.change small.1) small.0 o old.given (Err rule) new.given → ChangeBreaks r old.scratch.0 (r.change small.1) o rule
+  not_kept x small old new rule None changes = changes
+  not_kept x small old new rule (Some image) changes = (changes.1, changes.0)
+
+  pub page_broken : (x : Rec) (small : Option (ℕ × PageChange)) (old new : Gathered E) (rule : LogRule) → KeepsSaid r x small old.scratch.0 old.given (Err rule) new.given → PageBreaks r small old rule
+  page_broken x None old new rule keeps = keeps
+  page_broken x (Some small) old new rule keeps = not_kept x small old new rule (image_in small.0 old.given) keeps
+
+  pub page_breaks : (part : Part) (x : Rec) (old new : Gathered E) (result : Result (Unit {0}) LogRule) → KeepsSaid r x (small_of x) old.scratch.0 old.given result new.given
+      → IfErr result (λ rule. RecordIsBroken part k r x old rule)
+  page_breaks part x old new (Ok done) keeps = tt
+  page_breaks part x old new (Err rule) keeps = inr (page_broken x (small_of x) old new rule keeps)
 
   -- what the front of bytes breaks is broken behind no byte of them
   pub at_front : (part : Part) (rest : List ℕ) (s : Gathered E) (rule : LogRule) → FrontBreaks part k r rest s rule → BytesBroken part k r rest s 0 rule
@@ -73,7 +111,7 @@ module _ {E P : Type 0} (k : Known E P) (r : Reading E P) where
 
   -- a first record that breaks a rule; bytes that no record begins
   pub record_breaks : (part : Part) (key : ℕ) → key ≡ r.key → (rest : List ℕ) (x : Rec) (n : ℕ) → BeginsWith key rest x n → (s : Gathered E) (rule : LogRule)
-      → RecordBreaks part k r x s.analysis rule → BytesBroken part k r rest s 0 rule
+      → RecordIsBroken part k r x s rule → BytesBroken part k r rest s 0 rule
   record_breaks part key is rest x n begins s rule breaks =
       at_front part rest s rule (inr (inr (record { one = x; size = n; begins = key_is key is rest x n begins; breaks = breaks })))
 

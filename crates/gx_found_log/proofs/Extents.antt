@@ -27,7 +27,7 @@ use Rattle.gx_found_log.specs.declared.part.Part.{Part}
 use Rattle.gx_found_log.specs.Given.{Imaged, image_in}
 use Rattle.gx_found_log.specs.Parts.{IsBegun, may_go_on}
 use Rattle.gx_found_log.specs.Told.{IsGathered, IsRead, IsRefused, BytesTold}
-use Rattle.gx_found_log.specs.Found.{IsUnread, AreUndamaged, opened, part_at, ReadSoFar, PlaceRead, ReadWhole, ExtentRead, IsFound, LogRead}
+use Rattle.gx_found_log.specs.Found.{IsUnread, HasLimits, AreUndamaged, opened, part_at, ReadSoFar, PlaceRead, ReadWhole, ExtentRead, IsFound, LogRead}
 
 -- so many gates are open in a row, where they all are
 at_least : (bytes : List ℕ) (extent : Extent) (places k n : ℕ) → n ≤ places → ((j : ℕ) → k ≤ j → j < k + n → is_open bytes extent j ≡ true) → n ≤ open_run bytes extent k places
@@ -88,7 +88,7 @@ module _ {E P : Type 0} (k : Known E P) (r : Reading E P) (l : IsLawful k) where
   none_in seen extent = tt
 
   -- nothing is read
-  pub nothing_read : (seen : List ℕ) (extent : Extent) (s : Gathered E) → IsUnread s → s.analysis.pages ≡ k.pages → ReadSoFar k r seen extent 0 s
+  pub nothing_read : (seen : List ℕ) (extent : Extent) (s : Gathered E) → IsUnread s → HasLimits k s → ReadSoFar k r seen extent 0 s
   nothing_read seen extent s start pages = record {
     gates = λ j less. absurd (omega arith);
     sizes = λ j less. absurd (omega arith);
@@ -96,8 +96,9 @@ module _ {E P : Type 0} (k : Known E P) (r : Reading E P) (l : IsLawful k) where
     told = none_in seen extent;
     undamaged = λ some. absurd (omega arith);
     gathered = record {
-      kept = record { told = start.told; closed = λ t. ap (λ (ts : List ℕ). is_closed t ts) start.closed; pages = pages };
+      kept = record { told = start.told; closed = λ t. ap (λ (ts : List ℕ). is_closed t ts) start.closed; pages = sym pages.0 };
       given = λ p. ap (λ (xs : List Imaged). option_map r.content (image_in p xs)) start.given;
+      most = sym pages.1;
     };
   }
 
@@ -302,11 +303,11 @@ module _ {E P : Type 0} (k : Known E P) (r : Reading E P) (l : IsLawful k) where
         given = so.gathered.given;
       }
 
-  pub found_whole : (seen now_seen : List ℕ) (extent : Extent) (n : ℕ) (old new : Gathered E) → now_seen ≡ seen → extent ≡ selected_of seen → IsUnread old → k.pages ≡ old.analysis.pages
+  pub found_whole : (seen now_seen : List ℕ) (extent : Extent) (n : ℕ) (old new : Gathered E) → now_seen ≡ seen → extent ≡ selected_of seen → IsUnread old → HasLimits k old
       → ExtentRead k r now_seen extent old (Ok n) new → IsFound k r seen (record { extent = extent; bodies = n; analysis = new.analysis; given = new.given })
   found_whole seen now_seen extent n old new read selects start pages all =
       found_at seen extent n new selects
-      (subst (λ (s : List ℕ). ReadWhole k r s extent n new) read (all (nothing_read now_seen extent old start (sym pages))))
+      (subst (λ (s : List ℕ). ReadWhole k r s extent n new) read (all (nothing_read now_seen extent old start pages)))
 
   not_found_at : (seen : List ℕ) (extent : Extent) (old new : Gathered E) (refusal : Refusal) → extent ≡ selected_of seen → ReadSoFar k r seen extent 0 old
       → ExtentRead k r seen extent old (Err refusal) new → LogRead k r seen (Err refusal)
@@ -314,8 +315,8 @@ module _ {E P : Type 0} (k : Known E P) (r : Reading E P) (l : IsLawful k) where
       λ whole. all start (subst (λ (e : Extent). AreUndamaged k r seen e (open_run seen e 0 PLACES)) (sym selects) whole)
   not_found_at seen extent old new refusal selects start all = tt
 
-  pub not_found : (seen now_seen : List ℕ) (extent : Extent) (old new : Gathered E) (refusal : Refusal) → now_seen ≡ seen → extent ≡ selected_of seen → IsUnread old → k.pages ≡ old.analysis.pages
+  pub not_found : (seen now_seen : List ℕ) (extent : Extent) (old new : Gathered E) (refusal : Refusal) → now_seen ≡ seen → extent ≡ selected_of seen → IsUnread old → HasLimits k old
       → ExtentRead k r now_seen extent old (Err refusal) new → LogRead k r seen (Err refusal)
   not_found seen now_seen extent old new refusal read selects start pages all =
-      not_found_at seen extent old new refusal selects (nothing_read seen extent old start (sym pages))
+      not_found_at seen extent old new refusal selects (nothing_read seen extent old start pages)
       (subst (λ (s : List ℕ). ExtentRead k r s extent old (Err refusal) new) read all)

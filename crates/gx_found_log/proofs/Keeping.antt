@@ -1,8 +1,10 @@
 -- What is kept of each page once more images are.
-use Rattle.std.proofs.Common.{◌≡◌, ℕ, ◌+◌, ◌≤◌, ◌==◌, Bool, true, false, List, [], ◌∷◌, length, Option, Some, refl, ap, sym, ◌∙◌, arith, eq-eqb}
+use Rattle.std.proofs.Common.{◌≡◌, ℕ, ◌+◌, ◌≤◌, ◌==◌, Bool, true, false, List, [], ◌∷◌, length, Option, Some, refl, ap, sym, subst, ◌∙◌, arith, eq-eqb}
 use Rattle.std.proofs.lemmas.Bool.{eqb-true}
 use Rattle.std.specs.Prelude.{if◌then◌else◌}
-use Rattle.gx_found_log.specs.Given.{Imaged, image_in, with_image, with_all, AreOnce}
+use Rattle.gx_found_log.specs.Given.{Imaged, HasImage, image_in, with_image, with_all, AreOnce}
+use Rattle.gx_page.specs.Reading.{IsImage}
+use Rattle.std.specs.List.{AllByRecursion}
 
 -- by a test, which went one way or the other
 pub by_case : {A : Type 0} (b : Bool) (x y : A) (P : A → Type 0) → (b ≡ true → P x) → (b ≡ false → P y) → P (if b then x else y)
@@ -30,6 +32,11 @@ kept_else p new (x ∷ xs) other =
     (λ is. (let same : x.0 ≡ new.0 = eqb-true x.0 new.0 is in let apart : (x.0 == p) ≡ false = ap (λ n. n == p) same ∙ other in rw (other, apart) refl))
     (λ is. ap (λ (o : Option (List ℕ)). if x.0 == p then Some x.1 else o) (kept_else p new xs other))
 
+either : (b : Bool) (image this : List ℕ) (others : Option (List ℕ)) → (if b then Some this else others) ≡ Some image → (this ≡ image → IsImage image) → (others ≡ Some image → IsImage image)
+    → IsImage image
+either true image this others e first rest = first cc
+either false image this others e first rest = rest e
+
 -- each page is kept once
 pub once_with : (new : Imaged) (xs : List Imaged) → AreOnce xs → AreOnce (with_image new xs)
 once_with new [] once = (refl, tt)
@@ -37,6 +44,18 @@ once_with new (x ∷ xs) once =
     by_case (x.0 == new.0) (new ∷ xs) (x ∷ with_image new xs) AreOnce
     (λ is. (ap (λ p. image_in p xs) (sym (eqb-true x.0 new.0 is)) ∙ once.0, once.1))
     (λ is. (kept_else x.0 new xs (turned x.0 new.0 is) ∙ once.0, once_with new xs once.1))
+
+-- what holds of each holds of each still where it does of the one that comes
+pub all_with : (new : Imaged) (xs : List Imaged) → HasImage new → AllByRecursion HasImage xs → AllByRecursion HasImage (with_image new xs)
+all_with new [] is all = (is, tt)
+all_with new (x ∷ xs) is all =
+    by_case (x.0 == new.0) (new ∷ xs) (x ∷ with_image new xs) (λ ys. AllByRecursion HasImage ys) (λ same. (is, all.1)) (λ other. (all.0, all_with new xs is all.1))
+
+-- one that is kept of a page is one of them
+pub kept_is : (p : ℕ) (image : List ℕ) (xs : List Imaged) → AllByRecursion HasImage xs → image_in p xs ≡ Some image → IsImage image
+kept_is p image [] all there = absurd cc
+kept_is p image (x ∷ xs) all there =
+    either (x.0 == p) image x.1 (image_in p xs) there (λ same. subst IsImage same all.0) (λ others. kept_is p image xs all.1 others)
 
 -- how many there are
 pub one_more : (new : Imaged) (xs : List Imaged) → length (with_image new xs) ≤ length xs + 1

@@ -2,6 +2,7 @@ pub mod Placing
 pub mod Keeping
 pub mod Giving
 pub mod Gathering
+pub mod Changing
 pub mod Parts
 pub mod Told
 pub mod Reading

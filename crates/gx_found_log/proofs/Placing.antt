@@ -1,7 +1,8 @@
 -- Where a page stands among pages, looked at one after another.
-use Rattle.std.proofs.Common.{◌≡◌, ℕ, zero, suc, ◌<◌, List, [], ◌∷◌, ◌++◌, take, drop, length, get_or, refl, ap, sym, ◌∙◌, arith, drop-cons, eq-eqb}
+use Rattle.std.proofs.Common.{◌≡◌, ℕ, zero, suc, ◌<◌, List, [], ◌∷◌, ◌++◌, take, drop, length, get_or, Some, refl, ap, sym, ◌∙◌, arith, drop-cons, eq-eqb}
 use Rattle.std.specs.Prelude.{slice_set}
-use Rattle.gx_found_log.specs.Given.{Imaged, with_image}
+use Rattle.gx_found_log.specs.Given.{Imaged, image_in, with_image}
+use Rattle.gx_record.proofs.Fields.{found}
 
 set_cut : {X : Type 0} → (xs : List X) (i : ℕ) (a : X) → i < length xs → slice_set xs i a ≡ take i xs ++ a ∷ drop (suc i) xs
 set_cut [] i a h = absurd (omega arith)
@@ -12,6 +13,14 @@ set_cut (x ∷ xs) (suc i) a h = ap (λ ys. x ∷ ys) (set_cut xs i a (omega ari
 in_place : (new x : Imaged) (xs : List Imaged) → x.0 ≡ new.0 → with_image new (x ∷ xs) ≡ new ∷ xs
 in_place new x xs same = rw (eq-eqb x.0 new.0 same) refl
 
+first_in : (page : ℕ) (x : Imaged) (xs : List Imaged) → x.0 ≡ page → image_in page (x ∷ xs) ≡ Some x.1
+first_in page x xs same = rw (eq-eqb x.0 page same) refl
+
+get_or_same : {X : Type 0} → (xs : List X) (i : ℕ) (a b : X) → i < length xs → get_or xs i a ≡ get_or xs i b
+get_or_same [] i a b h = absurd (omega arith)
+get_or_same (x ∷ xs) zero a b h = refl
+get_or_same (x ∷ xs) (suc i) a b h = get_or_same xs i a b (omega arith)
+
 -- the page stands at place i
 pub stands_at : (page : ℕ) (image : List ℕ) (x : Imaged) (xs : List Imaged) (i : ℕ) → i < length xs → x ≡ get_or xs i x → x.0 ≡ page
     → with_image (page, image) xs ≡ take i xs ++ with_image (page, image) (drop i xs) → with_image (page, image) xs ≡ slice_set xs i (page, image)
@@ -19,3 +28,11 @@ stands_at page image x xs i lt at same so_far =
     let new : Imaged = (page, image) in
     let cut : drop i xs ≡ x ∷ drop (suc i) xs = drop-cons xs i x lt ∙ ap (λ (y : Imaged). y ∷ drop (suc i) xs) (sym at) in
     so_far ∙ ap (λ (ys : List Imaged). take i xs ++ ys) (ap (with_image new) cut ∙ in_place new x (drop (suc i) xs) same) ∙ sym (set_cut xs i new lt)
+
+-- so that its image is the one that is kept of the page
+pub image_at : (page : ℕ) (x y : Imaged) (xs : List Imaged) (i : ℕ) → i < length xs → x ≡ get_or xs i x → x.0 ≡ page → y ≡ get_or xs i y
+    → image_in page xs ≡ image_in page (drop i xs) → image_in page xs ≡ Some y.1
+image_at page x y xs i lt at same here so_far =
+    let one : x ≡ y = at ∙ get_or_same xs i x y lt ∙ sym here in
+    let cut : drop i xs ≡ x ∷ drop (suc i) xs = drop-cons xs i x lt ∙ ap (λ (z : Imaged). z ∷ drop (suc i) xs) (sym at) in
+    so_far ∙ ap (image_in page) cut ∙ first_in page x (drop (suc i) xs) same ∙ ap (λ (z : Imaged). found z.1) one

@@ -37,6 +37,10 @@ closing_bytes (rec.Commit tx n) is = let size = spelling_size (rec.Commit tx n) 
 closing_bytes (rec.End tx) is = let size = spelling_size (rec.End tx) is in omega (arith, size)
 closing_bytes (rec.Counters n counter used next) is = omega arith
 closing_bytes (rec.Note tx row key before leaf) is = omega arith
+closing_bytes (rec.Bit tx row key before after leaf) is = omega arith
+closing_bytes (rec.Add tx row key leaf) is = omega arith
+closing_bytes (rec.Widen page slot key) is = omega arith
+closing_bytes (rec.Sweep page slots) is = omega arith
 
 -- so what a record closes has its bytes behind it
 pub closed_by : (key : ℕ) (rest : List ℕ) (x : Rec) (n old new : ℕ) → BeginsWith key rest x n → new ≤ old + closings x → END_RECORD * new ≤ END_RECORD * old + n

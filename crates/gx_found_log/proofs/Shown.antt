@@ -20,7 +20,7 @@ use Rattle.gx_found_log.specs.declared.fault.LogFault.TheVariants.{Memory, Devic
 use Rattle.gx_found_log.specs.declared.part.Part.{Part}
 use Rattle.gx_found_log.specs.Broken.{BytesBroken}
 use Rattle.gx_found_log.specs.Faults.{refusal_of, refusing}
-use Rattle.gx_found_log.specs.Found.{IsUnread, part_at, ReadSoFar, PlaceRead, ReadsAlone}
+use Rattle.gx_found_log.specs.Found.{IsUnread, HasLimits, part_at, ReadSoFar, PlaceRead, ReadsAlone}
 use Rattle.gx_found_log.specs.Shown.{BodyBreaks, PlaceShows, ExtentShows, LogShows}
 use Rattle.gx_found_log.proofs.Extents.{read_as, begun_at, missized_there, nothing_read}
 
@@ -117,8 +117,8 @@ module _ {E P : Type 0} (k : Known E P) (r : Reading E P) (l : IsLawful k) where
   place_shows seen now_seen extent i mid fault read shows so =
       place_shown seen extent i mid fault (subst (λ (s : List ℕ). PlaceShows k r s extent i mid fault) read shows) so
 
-  pub log_shows : (seen now_seen : List ℕ) (extent : Extent) (old : Gathered E) (fault : LogFault) → now_seen ≡ seen → extent ≡ selected_of seen → IsUnread old → k.pages ≡ old.analysis.pages
+  pub log_shows : (seen now_seen : List ℕ) (extent : Extent) (old : Gathered E) (fault : LogFault) → now_seen ≡ seen → extent ≡ selected_of seen → IsUnread old → HasLimits k old
       → (ReadSoFar k r now_seen extent 0 old → ExtentShows k r now_seen extent fault) → LogShows k r seen fault
   log_shows seen now_seen extent old fault read selects start pages shows =
       subst (λ (e : Extent). ExtentShows k r seen e fault) selects
-      (subst (λ (s : List ℕ). ExtentShows k r s extent fault) read (shows (nothing_read k r l now_seen extent old start (sym pages))))
+      (subst (λ (s : List ℕ). ExtentShows k r s extent fault) read (shows (nothing_read k r l now_seen extent old start pages)))

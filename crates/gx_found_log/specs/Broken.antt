@@ -1,20 +1,24 @@
 -- Which rule is broken by a record, and where in a body.
-use Rattle.std.specs.Prelude.{◌≡◌, ℕ, ◌+◌, ◌<◌, ◌⊎◌, Bool, true, false, List, [], ◌∷◌, ◌++◌, length}
+use Rattle.std.specs.Prelude.{◌≡◌, ℕ, ◌+◌, ◌<◌, ◌⊎◌, Bool, true, false, Option, None, Some, List, [], ◌∷◌, ◌++◌, length}
 use Rattle.gx_record.specs.Rec.{Rec}
 use Rattle.gx_record.specs.Rec as rec
 use Rattle.gx_record.specs.Format.{BeginsWith}
 use Rattle.gx_recovery.specs.Known.{Known}
-use Rattle.gx_recovery.specs.Records.{Record}
+use Rattle.std.specs.declared.cmp.Ordering.{Ordering}
+use Rattle.gx_recovery.specs.Records.{Record, Change, Touch}
+use Rattle.gx_durable.specs.Small.{PageChange}
 use Rattle.gx_durable.specs.Spelled.{Reading, AreRecords}
 use Rattle.gx_analysis.specs.Kept.{Kept}
 use Rattle.gx_analysis.specs.Broken.{breaks_counters, breaks_touch, breaks_write, breaks_pages, breaks_end, breaks_commit}
 use Rattle.gx_analysis.specs.declared.rule.LogRule.{LogRule}
-use Rattle.gx_analysis.specs.declared.rule.LogRule.TheVariants.{Spelling, NoCounters, Misplaced, NoKey}
+use Rattle.gx_analysis.specs.declared.rule.LogRule.TheVariants.{Spelling, NoCounters, Misplaced, NoKey, NoImage, Unfit}
 use Rattle.gx_found_log.specs.declared.gathered.Gathered.{Gathered}
 use Rattle.gx_found_log.specs.declared.part.Part.{Part}
 use Rattle.gx_found_log.specs.declared.part.Part.TheVariants.{Start, Head, Later}
 use Rattle.gx_found_log.specs.Parts.{part_behind, IsBegun}
-use Rattle.gx_found_log.specs.Told.{page_numbers, IsGathered}
+use Rattle.gx_found_log.specs.Given.{image_in}
+use Rattle.gx_found_log.specs.Small.{small_of}
+use Rattle.gx_found_log.specs.Told.{page_numbers, touched, IsGathered}
 
 abbrev pub is_counters : Rec → Bool
 is_counters (rec.Pages counter used pages) = false
@@ -23,6 +27,10 @@ is_counters (rec.Commit tx n) = false
 is_counters (rec.End tx) = false
 is_counters (rec.Counters n counter used next) = true
 is_counters (rec.Note tx row key before leaf) = false
+is_counters (rec.Bit tx row key before after leaf) = false
+is_counters (rec.Add tx row key leaf) = false
+is_counters (rec.Widen page slot key) = false
+is_counters (rec.Sweep page slots) = false
 
 abbrev pub is_noting : Rec → Bool
 is_noting (rec.Pages counter used pages) = false
@@ -31,6 +39,10 @@ is_noting (rec.Commit tx n) = false
 is_noting (rec.End tx) = false
 is_noting (rec.Counters n counter used next) = false
 is_noting (rec.Note tx row key before leaf) = true
+is_noting (rec.Bit tx row key before after leaf) = false
+is_noting (rec.Add tx row key leaf) = false
+is_noting (rec.Widen page slot key) = false
+is_noting (rec.Sweep page slots) = false
 
 -- records of a later body
 abbrev pub is_later : Rec → Bool
@@ -40,6 +52,10 @@ is_later (rec.Commit tx n) = true
 is_later (rec.End tx) = true
 is_later (rec.Counters n counter used next) = false
 is_later (rec.Note tx row key before leaf) = false
+is_later (rec.Bit tx row key before after leaf) = true
+is_later (rec.Add tx row key leaf) = true
+is_later (rec.Widen page slot key) = true
+is_later (rec.Sweep page slots) = true
 
 -- whether a record of this kind may stand in this part of a log
 abbrev pub may_stand : Part → Rec → Bool
@@ -55,6 +71,10 @@ is_of_class k r (rec.Commit tx n) = true
 is_of_class k r (rec.End tx) = true
 is_of_class k r (rec.Counters n counter used next) = true
 is_of_class k r (rec.Note tx row key before leaf) = k.is_entry (r.entry row key)
+is_of_class k r (rec.Bit tx row key before after leaf) = k.is_entry (r.entry row key)
+is_of_class k r (rec.Add tx row key leaf) = k.is_entry (r.entry row key)
+is_of_class k r (rec.Widen page slot key) = true
+is_of_class k r (rec.Sweep page slots) = true
 
 -- whether what it says breaks the rule, by what is kept of the log before it
 abbrev pub breaks_next : {E P : Type 0} → Known E P → Reading E P → Rec → Kept E → LogRule → Bool
@@ -66,18 +86,39 @@ breaks_next k r (rec.End tx) s rule = breaks_end tx s rule
 breaks_next k r (rec.Counters n counter used next) s rule = breaks_counters used s rule
 breaks_next k r (rec.Note tx row key before leaf) s rule =
     breaks_touch k.cmp (record { transaction = tx; entry = r.entry row key; before = before; leaf = leaf }) s rule
+breaks_next k r (rec.Bit tx row key before after leaf) s rule = breaks_write k.cmp (touched tx (r.entry row key) before leaf) s rule
+breaks_next k r (rec.Add tx row key leaf) s rule = breaks_write k.cmp (touched tx (r.entry row key) true leaf) s rule
+breaks_next k r (rec.Widen page slot key) s rule = false
+breaks_next k r (rec.Sweep page slots) s rule = false
+
+-- a write that may not come, or of what is no entry of the class, breaks this rule
+abbrev pub BreaksWrite : {E P : Type 0} → (E → E → Ordering) → Known E P → Touch E → Kept E → LogRule → Type 0
+BreaksWrite cmp k t s rule = ((rule ≡ NoKey) × (k.is_entry t.entry ≡ false)) ⊎ (breaks_write cmp t s rule ≡ true)
 
 -- A record breaks this rule: it is of a kind that may not stand there, or its key is none of the class, or what it says may not come next.
 abbrev pub RecordBreaks : {E P : Type 0} → Part → Known E P → Reading E P → Rec → Kept E → LogRule → Type 0
 RecordBreaks part k r x s rule =
     ((rule ≡ Misplaced) × (may_stand part x ≡ false)) ⊎ (((rule ≡ NoKey) × (is_of_class k r x ≡ false)) ⊎ (breaks_next k r x s rule ≡ true))
 
+-- The small change that a record has breaks this rule: no image of its page is kept, or it doesn't fit the page.
+abbrev pub ChangeBreaks : {E P : Type 0} → Reading E P → (most : ℕ) → Change P → Option (List ℕ) → LogRule → Type 0
+ChangeBreaks r most change None rule = rule ≡ NoImage
+ChangeBreaks r most change (Some image) rule = (rule ≡ Unfit) × (change.fits most (r.content image) ≡ false)
+
+abbrev pub PageBreaks : {E P : Type 0} → Reading E P → Option (ℕ × PageChange) → Gathered E → LogRule → Type 0
+PageBreaks r None s rule = ⊥
+PageBreaks r (Some small) s rule = ChangeBreaks r s.scratch.0 (r.change small.1) (image_in small.0 s.given) rule
+
+-- A record breaks this rule by itself, or by what it says of its page.
+abbrev pub RecordIsBroken : {E P : Type 0} → Part → Known E P → Reading E P → Rec → Gathered E → LogRule → Type 0
+RecordIsBroken part k r x s rule = RecordBreaks part k r x s.analysis rule ⊎ PageBreaks r (small_of x) s rule
+
 -- the record at the front of these bytes breaks the rule
 pub record RecordAt {E P : Type 0} (part : Part) (k : Known E P) (r : Reading E P) (rest : List ℕ) (s : Gathered E) (rule : LogRule) : Type 0 where
   pub one : Rec
   pub size : ℕ
   pub begins : BeginsWith r.key rest one size
-  pub breaks : RecordBreaks part k r one s.analysis rule
+  pub breaks : RecordIsBroken part k r one s rule
 
 -- The front of these bytes breaks the rule: no record stands there, or they end where the counters are wanted, or a record does.
 abbrev pub FrontBreaks : {E P : Type 0} → Part → Known E P → Reading E P → List ℕ → Gathered E → LogRule → Type 0

@@ -52,6 +52,10 @@ pub record ReadSoFar {E P : Type 0} (k : Known E P) (r : Reading E P) (seen : Li
   pub undamaged : 1 ≤ n → is_undamaged k bodies ≡ true
   pub gathered : IsGathered k r (records_of bodies) s
 
+-- what is gathered is of a device of as many pages as are known, and of nodes that may have as many entries
+abbrev pub HasLimits : {E P : Type 0} → Known E P → Gathered E → Type 0
+HasLimits k s = (k.pages ≡ s.analysis.pages) × (k.most ≡ s.scratch.0)
+
 -- nothing is gathered as yet
 pub record IsUnread {E : Type 0} (s : Gathered E) : Type 0 where
   pub told : s.analysis.told ≡ unread

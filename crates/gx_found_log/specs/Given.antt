@@ -2,8 +2,9 @@
 use Rattle.std.specs.Prelude.{◌≡◌, ℕ, ◌==◌, Bool, if◌then◌else◌, Option, None, Some, List, [], ◌∷◌}
 use Rattle.std.specs.List.{list_all}
 use Rattle.std.specs.Option.{option_map}
+use Rattle.gx_page.specs.Reading.{IsImage}
 use Rattle.gx_recovery.specs.Damage.{is_page}
-use Rattle.gx_record.specs.Rec.{Rec, Pages, Write, Commit, End, Counters, Note}
+use Rattle.gx_record.specs.Rec.{Rec, Pages, Write, Commit, End, Counters, Note, Bit, Add, Widen, Sweep}
 use Rattle.gx_recovery.specs.Records.{Record}
 use Rattle.gx_recovery.specs.Given.{given}
 use Rattle.gx_durable.specs.Spelled.{Reading}
@@ -11,6 +12,10 @@ use Rattle.gx_durable.specs.Spelled.{Reading}
 -- a page's number, and the bytes of its image
 abbrev pub Imaged : Type 0
 Imaged = ℕ × List ℕ
+
+-- the bytes are an image of a page
+abbrev pub HasImage : Imaged → Type 0
+HasImage x = IsImage x.1
 
 -- the image that is kept of page p
 abbrev pub image_in : ℕ → List Imaged → Option (List ℕ)
@@ -44,6 +49,10 @@ images_of (Commit tx n) = []
 images_of (End tx) = []
 images_of (Counters n counter used next) = []
 images_of (Note tx row key before leaf) = []
+images_of (Bit tx row key before after leaf) = []
+images_of (Add tx row key leaf) = []
+images_of (Widen page slot key) = []
+images_of (Sweep page slots) = []
 
 -- What is kept of each page is what the log gives of it; of a page that it doesn't give nothing is kept.
 abbrev pub IsGiven : {E P : Type 0} → Reading E P → List Imaged → List (Record E P) → Type 0

@@ -5,4 +5,5 @@ pub mod Broken
 pub mod Found
 pub mod Faults
 pub mod Shown
+pub mod Small
 pub mod Texts

@@ -1,17 +1,22 @@
 -- A record as its bytes say it, told to an analysis; and the bytes of a body.
-use Rattle.std.specs.Prelude.{◌≡◌, ℕ, true, false, List, [], ◌∷◌, ◌++◌, map, drop, Result, Ok, Err}
+use Rattle.std.specs.Prelude.{◌≡◌, ℕ, Bool, true, false, Option, None, Some, List, [], ◌∷◌, ◌++◌, map, drop, Result, Ok, Err}
 use Rattle.gx_geom.specs.declared.refusal.Refusal.{Refusal}
 use Rattle.gx_geom.specs.declared.refusal.Refusal.TheVariants.{Damaged}
 use Rattle.gx_record.specs.Rec.{Rec}
 use Rattle.gx_record.specs.Rec as rec
 use Rattle.gx_recovery.specs.Known.{Known}
-use Rattle.gx_recovery.specs.Records.{Record}
+use Rattle.std.specs.declared.cmp.Ordering.{Ordering}
+use Rattle.gx_recovery.specs.Records.{Record, Touch}
+use Rattle.gx_durable.specs.Small.{PageChange}
 use Rattle.gx_durable.specs.Spelled.{Reading, record_read, AreRecords}
-use Rattle.gx_analysis.specs.Kept.{Kept}
+use Rattle.gx_analysis.specs.Kept.{Kept, may_write, with_touch, Takes}
+use Rattle.gx_analysis.specs.Broken.{refused}
+use Rattle.gx_analysis.specs.declared.rule.LogRule.{LogRule}
 use Rattle.gx_analysis.specs.Telling.{IsKept}
 use Rattle.gx_found_log.specs.declared.gathered.Gathered.{Gathered}
 use Rattle.gx_found_log.specs.declared.part.Part.{Part}
-use Rattle.gx_found_log.specs.Given.{IsGiven}
+use Rattle.gx_found_log.specs.Given.{Imaged, IsGiven, image_in, images_of, with_all}
+use Rattle.gx_found_log.specs.Small.{page_fits, Changes}
 use Rattle.gx_found_log.specs.Parts.{part_behind, IsBegun, may_go_on}
 
 -- the numbers of pages, each beside its image
@@ -26,20 +31,39 @@ closings (rec.Commit tx n) = 1
 closings (rec.End tx) = 1
 closings (rec.Counters n counter used next) = 0
 closings (rec.Note tx row key before leaf) = 0
+closings (rec.Bit tx row key before after leaf) = 0
+closings (rec.Add tx row key leaf) = 0
+closings (rec.Widen page slot key) = 0
+closings (rec.Sweep page slots) = 0
 
--- A record may come next and is kept; or it is damage, and may not come.
+-- that a transaction touched an entry of a leaf
+abbrev pub touched : {E : Type 0} → ℕ → E → Bool → ℕ → Touch E
+touched tx entry before leaf = record { transaction = tx; entry = entry; before = before; leaf = leaf }
+
+-- a write of an entry of the class, told
+abbrev pub TakesWrite : {E : Type 0} → (E → E → Ordering) → Touch E → Kept E → Result (Unit {0}) LogRule → Kept E → Type 0
+TakesWrite cmp t old result new = Takes (may_write cmp t old) (with_touch cmp t old) old (refused result) new
+
+-- A record may come next, as far as what it says of its page fits, and what it tells is kept; or it is damage, and may not come.
 abbrev pub Told : {E P : Type 0} → Part → Known E P → List (Record E P) → Record E P → Result (Unit {0}) Refusal → Kept E → Type 0
-Told part k log r (Ok done) new = (may_go_on part k log (r ∷ []) ≡ true) × IsKept k (log ++ r ∷ []) new
+Told part k log r (Ok done) new = (may_go_on part k log (r ∷ []) ≡ page_fits k log r) × IsKept k (log ++ r ∷ []) new
 Told part k log r (Err refusal) new = (may_go_on part k log (r ∷ []) ≡ false) × (refusal ≡ Damaged)
 
 -- so of each log that is kept, and of the record that the bytes say
 abbrev pub RecordTold : {E P : Type 0} → Part → Known E P → Reading E P → Rec → Kept E → Result (Unit {0}) Refusal → Kept E → Type 0
 RecordTold {E} {P} part k r x old result new = (log : List (Record E P)) → IsBegun part k log → IsKept k log old → Told part k log (record_read r x) result new
 
--- What is gathered of a log: what its records tell, and of each page what it gives.
+-- What is gathered of a log: what its records tell, and of each page what it gives; and how many entries a node may have.
 pub record IsGathered {E P : Type 0} (k : Known E P) (r : Reading E P) (log : List (Record E P)) (s : Gathered E) : Type 0 where
   pub kept : IsKept k log s.analysis
   pub given : IsGiven r s.given log
+  pub most : s.scratch.0 ≡ k.most
+
+-- what a record says of pages is kept: its images; or the small change that it has is made
+abbrev pub KeepsSaid : {E P : Type 0} → Reading E P → Rec → Option (ℕ × PageChange) → (most : ℕ) → List Imaged → Result (Unit {0}) LogRule → List Imaged → Type 0
+KeepsSaid r x None most old (Ok done) new = new ≡ with_all (images_of x) old
+KeepsSaid r x None most old (Err rule) new = ⊥
+KeepsSaid r x (Some small) most old result new = Changes r most (r.change small.1) small.0 (image_in small.0 old) old result new
 
 -- A record may come next and is gathered; or it is damage, and may not come.
 abbrev pub OneGathered : {E P : Type 0} → Part → Known E P → Reading E P → List (Record E P) → Record E P → Result (Unit {0}) Refusal → Gathered E → Type 0

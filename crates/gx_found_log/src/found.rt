@@ -4,8 +4,9 @@ ghost use Rattle.std.specs.Prelude.{length, take, drop, IfOk, IfErr, Err};
 ghost use Rattle.gx_record.specs.declared.sizes.TheConstants.{END_RECORD};
 ghost use Rattle.gx_disk.specs.declared.layout.TheConstants.{PAGES_AT};
 ghost use Rattle.gx_disk.specs.Looks.{Looks};
+ghost use Rattle.gx_node.specs.declared.items.TheConstants.{MAX_ENTRIES};
 ghost use Rattle.gx_recovery.specs.Known.{Limits};
-ghost use Rattle.gx_found_log.specs.Found.{IsUnread, PlaceRead, ExtentRead, LogRead, ReadsAlone};
+ghost use Rattle.gx_found_log.specs.Found.{IsUnread, HasLimits, PlaceRead, ExtentRead, LogRead, ReadsAlone};
 ghost use Rattle.gx_found_log.specs.Found as found;
 ghost use Rattle.gx_found_log.specs.declared.given.TheConstants.{MOST_IN_BODY};
 ghost use Rattle.gx_found_log.specs.Faults.{refusal_of, refusing};
@@ -179,10 +180,10 @@ where
     ensures reads { ReadsAlone (D.state disk.old) (D.state disk.new) (refusing result) }
     ensures looks { (D.state disk.old).honest ≡ true → Looks (D.state disk.old) (D.state disk.new) }
     ensures log { (D.state disk.old).honest ≡ true → (d : Limits) → (M.known d).cmp ≡ M.Entry.Ord.cmp
-        → (M.known d).pages ≡ gathered.analysis.pages
+        → HasLimits (M.known d) gathered
         → LogRead (M.known d) M.reading (D.state disk.old).seen (refusing result) }
     ensures shows { (D.state disk.old).honest ≡ true → (d : Limits) → (M.known d).cmp ≡ M.Entry.Ord.cmp
-        → (M.known d).pages ≡ gathered.analysis.pages
+        → HasLimits (M.known d) gathered
         → IfErr result (λ fault. LogShows (M.known d) M.reading (D.state disk.old).seen fault) }
 {
     match selected(disk) {
@@ -206,27 +207,29 @@ fn room(alloc: Global) -> Result<Vec<u8>, AllocError>
     vec![in alloc; 0; BODY_SIZE]
 }
 
-/// Reads the log of a device of so many pages, as [`read_log`] does. Of a log that is damaged it tells where, and which
-/// rule is broken there: what it tells is true of the device's bytes.
+/// Reads the log of a device of so many pages, and entries in a node, as [`read_log`] does. Of a log that is damaged it
+/// tells where, and which rule is broken there: what it tells is true of the device's bytes.
 pub fn examine_log<M: Readable, D: SectorDisk>(
     alloc: Global,
     disk: &mut D,
     pages: u32,
+    most: u16,
 ) -> Result<FoundLog<M::Entry>, LogFault>
 where
     M::Entry: Copy + Ord,
-    requires { PAGES_AT ≤ (D.state disk.old).sectors }
+    requires device { PAGES_AT ≤ (D.state disk.old).sectors }
+    requires most { most ≤ MAX_ENTRIES }
     ensures reads { ReadsAlone (D.state disk.old) (D.state disk.new) (refusing result) }
     ensures looks { (D.state disk.old).honest ≡ true → Looks (D.state disk.old) (D.state disk.new) }
     ensures log { (D.state disk.old).honest ≡ true → (d : Limits) → (M.known d).cmp ≡ M.Entry.Ord.cmp
-        → (M.known d).pages ≡ pages
+        → (M.known d).pages ≡ pages → (M.known d).most ≡ most
         → LogRead (M.known d) M.reading (D.state disk.old).seen (refusing result) }
     ensures shows { (D.state disk.old).honest ≡ true → (d : Limits) → (M.known d).cmp ≡ M.Entry.Ord.cmp
-        → (M.known d).pages ≡ pages
+        → (M.known d).pages ≡ pages → (M.known d).most ≡ most
         → IfErr result (λ fault. LogShows (M.known d) M.reading (D.state disk.old).seen fault) }
 {
     match room(alloc) {
-        Ok(mut body) => match Gathered::new(alloc, pages) {
+        Ok(mut body) => match Gathered::new(alloc, pages, usize::from(most)) {
             Ok(gathered) => read_selected::<M, D>(disk, gathered, &mut body),
             Err(_) => Err(LogFault::Memory),
         },
@@ -234,26 +237,29 @@ where
     }
 }
 
-/// Reads the log of a device of so many pages, the bodies behind the leading open gates of the selected extent; no gate
-/// behind the first closed one is read. `Damaged` exactly where these bodies aren't whole ones whose records are an
-/// undamaged log, of entries of the class. Refused too by the device's fault (`Device`) and for want of memory
-/// (`Memory`, before the first read, which takes 1.9 MB and 32 KiB more while it reads). It makes no write. Each body is
-/// read once, for what it tells and for the pages that it gives. [`examine_log`] tells of a damaged log what is wrong.
+/// Reads the log of a device of so many pages, and entries in a node: the bodies behind the leading open gates of the
+/// selected extent; no gate behind the first closed one is read. `Damaged` exactly where these bodies aren't whole ones
+/// whose records are an undamaged log, of entries of the class. Refused too by the device's fault (`Device`) and for
+/// want of memory (`Memory`, before the first read: 1.9 MB, and 32 KiB more while it reads). It makes no write. Each
+/// body is read once, for what it tells and for the pages that it gives. [`examine_log`] tells of a damaged log what is
+/// wrong.
 pub fn read_log<M: Readable, D: SectorDisk>(
     alloc: Global,
     disk: &mut D,
     pages: u32,
+    most: u16,
 ) -> Result<FoundLog<M::Entry>, Refusal>
 where
     M::Entry: Copy + Ord,
-    requires { PAGES_AT ≤ (D.state disk.old).sectors }
+    requires device { PAGES_AT ≤ (D.state disk.old).sectors }
+    requires most { most ≤ MAX_ENTRIES }
     ensures reads { ReadsAlone (D.state disk.old) (D.state disk.new) result }
     ensures looks { (D.state disk.old).honest ≡ true → Looks (D.state disk.old) (D.state disk.new) }
     ensures log { (D.state disk.old).honest ≡ true → (d : Limits) → (M.known d).cmp ≡ M.Entry.Ord.cmp
-        → (M.known d).pages ≡ pages
+        → (M.known d).pages ≡ pages → (M.known d).most ≡ most
         → LogRead (M.known d) M.reading (D.state disk.old).seen result }
 {
-    match examine_log::<M, D>(alloc, disk, pages) {
+    match examine_log::<M, D>(alloc, disk, pages, most) {
         Ok(found) => Ok(found),
         Err(fault) => Err(fault.refusal()),
     }

@@ -7,13 +7,16 @@ ghost use Rattle.gx_recovery.specs.Known.{Limits};
 ghost use Rattle.gx_analysis.specs.Broken.{refused};
 ghost use Rattle.gx_analysis.specs.declared.closed.TheConstants.{CLOSINGS};
 ghost use Rattle.gx_found_log.specs.declared.given.TheConstants.{MOST_GIVEN};
-ghost use Rattle.gx_found_log.specs.Broken.{RecordBreaks};
+ghost use Rattle.gx_found_log.specs.Broken.{RecordIsBroken};
 ghost use Rattle.gx_found_log.specs.Given.{images_of};
-ghost use Rattle.gx_found_log.specs.Told.{closings, RecordGathered};
+ghost use Rattle.gx_found_log.specs.Small.{small_of as small_in};
+ghost use Rattle.gx_found_log.specs.Told.{closings, KeepsSaid, RecordGathered};
+ghost use Rattle.gx_node.specs.declared.items.TheConstants.{MAX_ENTRIES};
 
 use crate::images::keep_images;
 use crate::record::on_record;
-use crate::{Given, Part, Readable};
+use crate::small::small_of;
+use crate::{Given, Part, Readable, Scratch};
 use gx_analysis::{Analysis, LogRule};
 use gx_geom::Refusal;
 use gx_record::Record;
@@ -24,18 +27,51 @@ use std::alloc::Global;
 pub struct Gathered<E> {
     pub(crate) analysis: Analysis<E>,
     pub(crate) given: Given,
+    pub(crate) scratch: Scratch,
 }
 
 impl<E: Copy + Ord> Gathered<E> {
-    /// Of no record as yet, for a device of so many pages. Refused where memory is (`Memory`).
-    pub(crate) fn new(alloc: Global, pages: u32) -> Result<Self, Refusal>
+    /// Of no record as yet, for a device of so many pages, and entries in a node. Refused where memory is (`Memory`).
+    pub(crate) fn new(alloc: Global, pages: u32, most: usize) -> Result<Self, Refusal>
+        requires { most ≤ MAX_ENTRIES }
         ensures analysis { IfOk result (λ g. g.analysis ≡ record { told = unread; closed = []; pages = pages }) }
         ensures given { IfOk result (λ g. g.given ≡ []) }
+        ensures most { IfOk result (λ g. g.scratch.0 ≡ most) }
         ensures refusal { IfErr result (λ refusal. refusal ≡ Refusal.Memory) }
     {
         let analysis = Analysis::new(alloc, pages)?;
         let given = Given::new(alloc)?;
-        Ok(Gathered { analysis, given })
+        let scratch = Scratch::new(alloc, most)?;
+        Ok(Gathered {
+            analysis,
+            given,
+            scratch,
+        })
+    }
+}
+
+/// Keeps what a record says of pages: its images, or a small change of one.
+fn keep<M: Readable>(gathered: &mut Gathered<M::Entry>, logged: &Record<'_>) -> Result<(), LogRule>
+where
+    M::Entry: Copy + Ord,
+    requires is_record { IsRecord M.reading.key (rec_of logged.now) }
+    requires places { length gathered.old.given + length (images_of (rec_of logged.now)) ≤ MOST_GIVEN }
+    ensures analysis { gathered.new.analysis ≡ gathered.old.analysis }
+    ensures most { gathered.new.scratch.0 ≡ gathered.old.scratch.0 }
+    ensures given { length gathered.new.given ≤ length gathered.old.given + length (images_of (rec_of logged.now)) }
+    ensures keeps { KeepsSaid M.reading (rec_of logged.now) (small_in (rec_of logged.now)) gathered.old.scratch.0
+        gathered.old.given result gathered.new.given }
+{
+    match small_of(logged) {
+        Some((page, small)) => {
+            gathered
+                .given
+                .change::<M>(&mut gathered.scratch, page, &small)
+        }
+        None => {
+            keep_images(&mut gathered.given, logged);
+            Ok(())
+        }
     }
 }
 
@@ -56,10 +92,8 @@ where
     ensures told { (d : Limits) → (M.known d).cmp ≡ M.Entry.Ord.cmp
         → RecordGathered part (M.known d) M.reading (rec_of logged.now) gathered.old (refused result) gathered.new }
     ensures broken { (d : Limits) → (M.known d).cmp ≡ M.Entry.Ord.cmp
-        → IfErr result (λ rule. RecordBreaks part (M.known d) M.reading (rec_of logged.now)
-        gathered.old.analysis rule) }
+        → IfErr result (λ rule. RecordIsBroken part (M.known d) M.reading (rec_of logged.now) gathered.old rule) }
 {
     on_record::<M>(part, &mut gathered.analysis, logged)?;
-    keep_images(&mut gathered.given, logged);
-    Ok(())
+    keep::<M>(gathered, logged)
 }

@@ -1,10 +1,14 @@
 //! The pages that a log gives.
 ghost use Rattle.std.specs.Prelude.{◌≡◌, ◌+◌, ◌<◌, ◌≤◌, ◌++◌, ◌∷◌, [], ℕ, List, length, IfOk};
-ghost use Rattle.std.specs.Prelude.{IfErr, MatchOption, slice_set, vec_len, vec_capacity};
-ghost use Rattle.gx_page.specs.declared.block.TheConstants.{PAGE_SIZE};
-ghost use Rattle.gx_found_log.specs.Given.{AreOnce, with_image};
+ghost use Rattle.std.specs.Prelude.{IfErr, MatchOption, None, Some, slice_set, vec_len, vec_capacity};
+ghost use Rattle.std.specs.Prelude.{slice_index_or};
+ghost use Rattle.gx_page.specs.Reading.{IsImage};
+ghost use Rattle.gx_found_log.specs.Given.{AreOnce, HasImage, image_in, with_image};
+ghost use Rattle.gx_found_log.specs.Small.{said, Changes};
 
 use crate::imaged::Imaged;
+use crate::{Readable, Scratch, Small};
+use gx_analysis::LogRule;
 use gx_geom::Refusal;
 use gx_glog::{BODY_ROOM, PLACES};
 use gx_record::SPLIT_RECORD;
@@ -28,22 +32,26 @@ pub struct Given {
 
 impl Model for Given {
     ghost use Rattle.std.specs.Prelude.{ℕ, List, ◌≤◌, vec_capacity};
-    ghost use Rattle.gx_found_log.specs.Given.{AreOnce};
+    ghost use Rattle.std.specs.List.{AllByRecursion};
+    ghost use Rattle.gx_found_log.specs.Given.{AreOnce, HasImage};
     ghost use Rattle.gx_found_log.specs.declared.given.TheConstants.{MOST_GIVEN};
 
     ghost Value = { List (ℕ × List ℕ) };
 
     ghost view = { λ g. g.pages.items };
 
-    ghost invariant = { λ g. (MOST_GIVEN ≤ vec_capacity g.pages) × AreOnce g.pages.items };
+    ghost invariant = { λ g. (MOST_GIVEN ≤ vec_capacity g.pages) × AreOnce g.pages.items
+        × AllByRecursion HasImage g.pages.items };
 }
 
 /// Where a page stands, if it does.
 fn place(page: u32, pages: &[Imaged]) -> Option<usize>
-    ensures { MatchOption result
+    ensures place { MatchOption result
         ((image : List ℕ) → with_image (page, image) pages.now ≡ pages.now ++ (page, image) ∷ [])
         (λ i. (i < length pages.now) × ((image : List ℕ)
         → with_image (page, image) pages.now ≡ slice_set pages.now i (page, image))) }
+    ensures image { MatchOption result (image_in page pages.now ≡ None)
+        (λ i. (x : ℕ × List ℕ) → x ≡ slice_index_or pages.now i x → image_in page pages.now ≡ Some x.1) }
 {
     for (i, x) in pages.iter().enumerate() {
         if x.page() == page {
@@ -97,10 +105,33 @@ impl Given {
     /// Keeps an image of a page, in the place of what is kept of it.
     pub(crate) fn keep_image(&mut self, page: u32, image: &[u8])
         requires room { length self.old < MOST_GIVEN }
-        requires whole { length image.now ≡ PAGE_SIZE }
+        requires image { IsImage image.now }
         ensures image { self.new ≡ with_image (page, image.now) self.old }
         ensures count { length self.new ≤ length self.old + 1 }
     {
         replace_or_push(&mut self.pages, Imaged::new(page, image));
+    }
+
+    /// Makes a small change of the image that is kept of a page. Refused where none is kept (`NoImage`), and where the
+    /// change doesn't fit the page (`Unfit`).
+    pub(crate) fn change<M: Readable>(
+        &mut self,
+        scratch: &mut Scratch,
+        page: u32,
+        small: &Small<'_>,
+    ) -> Result<(), LogRule>
+        ensures most { scratch.new.0 ≡ scratch.old.0 }
+        ensures count { length self.new ≤ length self.old }
+        ensures changes { Changes M.reading scratch.old.0 (M.reading.change (said small.now)) page
+            (image_in page self.old) self.old result self.new }
+    {
+        let Some(i) = place(page, &self.pages) else {
+            return Err(LogRule::NoImage);
+        };
+        if !scratch.change::<M>(self.pages[i].image(), small) {
+            return Err(LogRule::Unfit);
+        }
+        self.pages[i] = Imaged::new(page, scratch.image());
+        Ok(())
     }
 }

@@ -36,6 +36,10 @@ where
         | Record::Write { .. }
         | Record::Commit { .. }
         | Record::End { .. }
+        | Record::Bit { .. }
+        | Record::Add { .. }
+        | Record::Widen { .. }
+        | Record::Sweep { .. }
         | Record::Note { .. } => Err(LogRule::Misplaced),
     }
 }
@@ -69,6 +73,10 @@ where
         | Record::Write { .. }
         | Record::Commit { .. }
         | Record::End { .. }
+        | Record::Bit { .. }
+        | Record::Add { .. }
+        | Record::Widen { .. }
+        | Record::Sweep { .. }
         | Record::Counters { .. } => Err(LogRule::Misplaced),
     }
 }

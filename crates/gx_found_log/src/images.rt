@@ -2,9 +2,8 @@
 ghost use Rattle.std.specs.Prelude.{◌≡◌, ◌+◌, ◌≤◌, length};
 ghost use Rattle.std.specs.List.{AllByRecursion};
 ghost use Rattle.gx_record.specs.Seen.{images, rec_of};
-ghost use Rattle.gx_record.specs.Writing.{IsWhole};
 ghost use Rattle.gx_found_log.specs.declared.given.TheConstants.{MOST_GIVEN};
-ghost use Rattle.gx_found_log.specs.Given.{with_all, images_of};
+ghost use Rattle.gx_found_log.specs.Given.{with_all, images_of, HasImage};
 
 use crate::Given;
 use gx_record::{PageImages, Record};
@@ -12,7 +11,7 @@ use gx_record::{PageImages, Record};
 /// Keeps the images of pages, in their order.
 fn keep_pages(given: &mut Given, pages: &PageImages<'_>)
     requires room { length given.old + length (images pages.now) ≤ MOST_GIVEN }
-    requires whole { AllByRecursion IsWhole (images pages.now) }
+    requires images { AllByRecursion HasImage (images pages.now) }
     ensures { given.new ≡ with_all (images pages.now) given.old }
 {
     match pages {
@@ -32,7 +31,7 @@ fn keep_pages(given: &mut Given, pages: &PageImages<'_>)
 /// Keeps the images that a record gives, in their order.
 pub(crate) fn keep_images(given: &mut Given, logged: &Record<'_>)
     requires room { length given.old + length (images_of (rec_of logged.now)) ≤ MOST_GIVEN }
-    requires whole { AllByRecursion IsWhole (images_of (rec_of logged.now)) }
+    requires images { AllByRecursion HasImage (images_of (rec_of logged.now)) }
     ensures { given.new ≡ with_all (images_of (rec_of logged.now)) given.old }
 {
     match logged {
@@ -41,6 +40,10 @@ pub(crate) fn keep_images(given: &mut Given, logged: &Record<'_>)
         Record::Commit { .. }
         | Record::End { .. }
         | Record::Counters { .. }
-        | Record::Note { .. } => {}
+        | Record::Note { .. }
+        | Record::Bit { .. }
+        | Record::Add { .. }
+        | Record::Widen { .. }
+        | Record::Sweep { .. } => {}
     }
 }

@@ -14,6 +14,8 @@ mod images;
 mod part;
 mod readable;
 mod record;
+mod scratch;
+mod small;
 
 pub use body::on_body;
 pub use classes::{examine_class_log, read_class_log};
@@ -24,3 +26,5 @@ pub use given::{Given, LEAST_SHARE, MOST_GIVEN, MOST_IN_BODY};
 pub use imaged::Imaged;
 pub use part::Part;
 pub use readable::Readable;
+pub use scratch::Scratch;
+pub use small::Small;

@@ -1,9 +1,15 @@
 //! What a restart asks of whoever knows the keys.
-ghost use Rattle.std.specs.Prelude.{◌≡◌, ℕ, List, length, is_some, IfSome};
+ghost use Rattle.std.specs.Prelude.{◌≡◌, ◌≤◌, ℕ, List, length, is_some, IfSome};
+ghost use Rattle.std.specs.Bool.{OnTrue};
+ghost use Rattle.gx_node.specs.declared.items.TheConstants.{MAX_ENTRIES};
+ghost use Rattle.gx_page.specs.Format.{image_of, IsWellFormed};
 ghost use Rattle.gx_record.specs.Format.{IsImageOf};
 ghost use Rattle.gx_recovery.specs.Known.{Limits, IsLawful};
+ghost use Rattle.gx_found_log.specs.Small.{said};
 
+use crate::Small;
 use gx_durable::Spelled;
+use gx_page::Page;
 
 /// Entries and pages that can be read of bytes.
 pub trait Readable: Spelled {
@@ -16,6 +22,15 @@ pub trait Readable: Spelled {
         requires { length key.now ≡ Self.reading.key }
         ensures entry { IfSome result (λ e. e ≡ Self.reading.entry row key.now) }
         ensures of_class { (d : Limits) → (Self.known d).is_entry (Self.reading.entry row key.now) ≡ is_some result };
+
+    /// Makes a small change of a page, which may have so many entries, where it fits. False where it doesn't.
+    fn change(page: &mut Page, most: usize, small: &Small<'_>) -> bool
+        requires most { most ≤ MAX_ENTRIES }
+        requires page { IsWellFormed page.old }
+        ensures fits { result
+            ≡ (Self.reading.change (said small.now)).fits most (Self.reading.content (image_of page.old)) }
+        ensures made { OnTrue result (Self.reading.content (image_of page.new)
+            ≡ (Self.reading.change (said small.now)).made (Self.reading.content (image_of page.old))) };
 
     /// What is known of entries is lawful.
     ghost lawful: { (d : Limits) → IsLawful (Self.known d) };

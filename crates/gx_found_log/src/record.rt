@@ -1,13 +1,13 @@
 //! One record of a log, told to an analysis.
-ghost use Rattle.std.specs.Prelude.{◌≡◌, ◌+◌, ◌<◌, ◌≤◌, true, length, is_some, IfErr, IfSome};
+ghost use Rattle.std.specs.Prelude.{◌≡◌, ◌+◌, ◌<◌, ◌≤◌, true, false, length, is_some, Err, IfErr, IfSome};
 ghost use Rattle.gx_record.specs.Format.{IsRecord};
 ghost use Rattle.gx_record.specs.Seen.{is_marked, rec_of, images};
 ghost use Rattle.gx_recovery.specs.Known.{Limits};
 ghost use Rattle.gx_analysis.specs.Kept.{may_give, with_pages, Takes};
 ghost use Rattle.gx_analysis.specs.Broken.{refused, breaks_pages};
 ghost use Rattle.gx_analysis.specs.declared.closed.TheConstants.{CLOSINGS};
-ghost use Rattle.gx_found_log.specs.Told.{page_numbers, closings, RecordTold};
-ghost use Rattle.gx_found_log.specs.Broken.{RecordBreaks};
+ghost use Rattle.gx_found_log.specs.Told.{page_numbers, closings, RecordTold, touched, TakesWrite};
+ghost use Rattle.gx_found_log.specs.Broken.{BreaksWrite, RecordBreaks};
 
 use crate::head::{on_counters, on_note};
 use crate::{Part, Readable};
@@ -34,7 +34,7 @@ fn on_pages<E: Copy + Ord>(
 }
 
 /// Whether a mark is set.
-fn is_marked(mark: &Mark) -> bool
+pub(crate) fn is_marked(mark: &Mark) -> bool
     ensures { result ≡ is_marked mark.now }
 {
     match mark {
@@ -66,6 +66,34 @@ where
     Some(Touch::new(tx, entry, is_marked(before), leaf))
 }
 
+/// Tells what a transaction wrote. Refused where the bytes are no key's of the class (`NoKey`), and as
+/// [`Analysis::on_write`] is.
+fn on_written<M: Readable>(
+    analysis: &mut Analysis<M::Entry>,
+    tx: u64,
+    row: u64,
+    key: &[u8],
+    before: &Mark,
+    leaf: u32,
+) -> Result<(), LogRule>
+where
+    M::Entry: Copy + Ord,
+    requires { length key.now ≡ M.reading.key }
+    ensures closed { analysis.new.closed ≡ analysis.old.closed }
+    ensures takes { (d : Limits) → (M.known d).is_entry (M.reading.entry row key.now) ≡ true
+        → TakesWrite M.Entry.Ord.cmp
+        (touched tx (M.reading.entry row key.now) (is_marked before.now) leaf) analysis.old result analysis.new }
+    ensures keyless { (d : Limits) → (M.known d).is_entry (M.reading.entry row key.now) ≡ false
+        → result ≡ Err LogRule.NoKey }
+    ensures rule { (d : Limits) → IfErr result (λ rule. BreaksWrite M.Entry.Ord.cmp (M.known d)
+        (touched tx (M.reading.entry row key.now) (is_marked before.now) leaf) analysis.old rule) }
+{
+    match touch_of::<M>(tx, row, key, before, leaf) {
+        Some(touch) => analysis.on_write(touch),
+        None => Err(LogRule::NoKey),
+    }
+}
+
 /// Tells a record of a log's later bodies.
 fn on_later<M: Readable>(
     analysis: &mut Analysis<M::Entry>,
@@ -94,10 +122,20 @@ where
             before,
             leaf,
             ..
-        } => match touch_of::<M>(*tx, *row, key, before, *leaf) {
-            Some(touch) => analysis.on_write(touch),
-            None => Err(LogRule::NoKey),
-        },
+        } => on_written::<M>(analysis, *tx, *row, key, before, *leaf),
+        Record::Bit {
+            tx,
+            row,
+            key,
+            before,
+            leaf,
+            ..
+        } => on_written::<M>(analysis, *tx, *row, key, before, *leaf),
+        Record::Add { tx, row, key, leaf } => {
+            on_written::<M>(analysis, *tx, *row, key, &Mark::Marked, *leaf)
+        }
+        Record::Widen { .. } => Ok(()),
+        Record::Sweep { .. } => Ok(()),
         Record::Commit { tx, n } => analysis.on_commit(*tx, *n),
         Record::End { tx } => analysis.on_end(*tx),
         Record::Counters { .. } | Record::Note { .. } => Err(LogRule::Misplaced),

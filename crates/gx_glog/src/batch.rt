@@ -50,10 +50,8 @@ pub(crate) fn write_body<D: SectorDisk, S: Copy>(
     ensures refusal { IfErr result (λ refusal. refusal ≡ Refusal.Device) }
 {
     let size = SECTOR_SIZE * usize::from(sectors);
-    match disk.write(extent.bodies() + BODY_SECTORS * u64::from(k), &body[..size]) {
-        Ok(()) => Ok(answer),
-        Err(_) => Err(Refusal::Device),
-    }
+    disk.write(extent.bodies() + BODY_SECTORS * u64::from(k), &body[..size])?;
+    Ok(answer)
 }
 
 // Writes the open gate of place k, and answers which call it was.
@@ -72,10 +70,8 @@ pub(crate) fn write_gate<D: SectorDisk, S: Copy>(
     ensures refusal { IfErr result (λ refusal. refusal ≡ Refusal.Device) }
 {
     let gate = open_gate();
-    match disk.write(extent.gates() + u64::from(k), &gate) {
-        Ok(()) => Ok(answer),
-        Err(_) => Err(Refusal::Device),
-    }
+    disk.write(extent.gates() + u64::from(k), &gate)?;
+    Ok(answer)
 }
 
 // Settles what was written in a stage.
@@ -85,10 +81,8 @@ pub(crate) fn settle<D: SectorDisk, S: Copy>(disk: &mut D, stage: S) -> Result<S
     ensures stage { IfOk result (λ made. made ≡ stage) }
     ensures refusal { IfErr result (λ refusal. refusal ≡ Refusal.Device) }
 {
-    match disk.sync() {
-        Ok(()) => Ok(stage),
-        Err(_) => Err(Refusal::Device),
-    }
+    disk.sync()?;
+    Ok(stage)
 }
 
 impl Glog {
@@ -164,13 +158,9 @@ impl Glog {
             → On self.old (D.state disk.old).seen (D.state disk.old).pending
             → Keeps self.old self.new (D.state disk.old) (D.state disk.new) result }
     {
-        match self.call(disk) {
-            Ok(stage) => {
-                self.advance();
-                Ok(stage)
-            }
-            Err(refusal) => Err(refusal),
-        }
+        let stage = self.call(disk)?;
+        self.advance();
+        Ok(stage)
     }
 
     /// Makes the next device call of the batch in flight, or of a new one with all that fills: body, sync, gate, sync.

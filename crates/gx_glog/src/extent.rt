@@ -65,10 +65,8 @@ fn first_byte<D: SectorDisk>(disk: &mut D, sector: u64) -> Result<u8, Refusal>
     ensures refusal { IfErr result (λ refusal. refusal ≡ Refusal.Device) }
 {
     let mut bytes = [0; SECTOR_SIZE];
-    match disk.read(sector, &mut bytes) {
-        Ok(()) => Ok(bytes[0]),
-        Err(_) => Err(Refusal::Device),
-    }
+    disk.read(sector, &mut bytes)?;
+    Ok(bytes[0])
 }
 
 #[tactic(auto, unfolding(crate::specs::Layout::selected_of))]
@@ -81,10 +79,8 @@ pub fn selected<D: SectorDisk>(disk: &mut D) -> Result<Extent, Refusal>
     ensures looks { (D.state disk.old).honest ≡ true → Looks (D.state disk.old) (D.state disk.new) }
     ensures refusal { IfErr result (λ refusal. refusal ≡ Refusal.Device) }
 {
-    match first_byte(disk, SELECTOR) {
-        Ok(byte) => Ok(Extent::selected_by(byte)),
-        Err(refusal) => Err(refusal),
-    }
+    let byte = first_byte(disk, SELECTOR)?;
+    Ok(Extent::selected_by(byte))
 }
 
 impl Extent {
@@ -164,10 +160,8 @@ pub(crate) fn is_open_gate<D: SectorDisk>(
     ensures looks { (D.state disk.old).honest ≡ true → Looks (D.state disk.old) (D.state disk.new) }
     ensures refusal { IfErr result (λ refusal. refusal ≡ Refusal.Device) }
 {
-    match first_byte(disk, extent.gates() + u64::from(i)) {
-        Ok(byte) => Ok(byte == OPEN),
-        Err(refusal) => Err(refusal),
-    }
+    let byte = first_byte(disk, extent.gates() + u64::from(i))?;
+    Ok(byte == OPEN)
 }
 
 // Reads a body.
@@ -187,10 +181,8 @@ fn read_body<D: SectorDisk>(
     ensures looks { (D.state disk.old).honest ≡ true → Looks (D.state disk.old) (D.state disk.new) }
     ensures refusal { IfErr result (λ refusal. refusal ≡ Refusal.Device) }
 {
-    match disk.read(extent.bodies() + BODY_SECTORS * u64::from(i), body) {
-        Ok(()) => Ok(()),
-        Err(_) => Err(Refusal::Device),
-    }
+    disk.read(extent.bodies() + BODY_SECTORS * u64::from(i), body)?;
+    Ok(())
 }
 
 /// Reads the body of place i of an extent, and answers how many bytes of records it has, from 1 to 32,764.

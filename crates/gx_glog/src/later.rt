@@ -43,10 +43,8 @@ fn close_from<D: SectorDisk>(disk: &mut D, extent: Extent, from: u8) -> Result<(
 {
     let gates = closed_gates();
     let size = SECTOR_SIZE * usize::from(PLACES - from);
-    match disk.write(extent.gates() + u64::from(from), &gates[..size]) {
-        Ok(()) => Ok(()),
-        Err(_) => Err(Refusal::Device),
-    }
+    disk.write(extent.gates() + u64::from(from), &gates[..size])?;
+    Ok(())
 }
 
 /// Closes the gates of an extent behind the first one that is closed, which is that of place `bodies`: where one of the
@@ -73,8 +71,6 @@ pub fn close_later<D: SectorDisk>(disk: &mut D, extent: Extent, bodies: u8) -> R
     if !has_open_gate(disk, extent, later)? {
         return Ok(());
     }
-    match close_from(disk, extent, later) {
-        Ok(()) => settle(disk, ()),
-        Err(refusal) => Err(refusal),
-    }
+    close_from(disk, extent, later)?;
+    settle(disk, ())
 }

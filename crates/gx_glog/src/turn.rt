@@ -59,10 +59,8 @@ fn write_closed<D: SectorDisk>(disk: &mut D, extent: Extent) -> Result<Turn, Ref
     ensures refusal { IfErr result (λ refusal. refusal ≡ Refusal.Device) }
 {
     let gates = closed_gates();
-    match disk.write(extent.gates(), &gates) {
-        Ok(()) => Ok(Turn::Closed),
-        Err(_) => Err(Refusal::Device),
-    }
+    disk.write(extent.gates(), &gates)?;
+    Ok(Turn::Closed)
 }
 
 // Selects an extent.
@@ -75,10 +73,8 @@ fn write_selector<D: SectorDisk>(disk: &mut D, extent: Extent) -> Result<Turn, R
     ensures refusal { IfErr result (λ refusal. refusal ≡ Refusal.Device) }
 {
     let bytes = selecting(extent);
-    match disk.write(SELECTOR, &bytes) {
-        Ok(()) => Ok(Turn::Selector),
-        Err(_) => Err(Refusal::Device),
-    }
+    disk.write(SELECTOR, &bytes)?;
+    Ok(Turn::Selector)
 }
 
 impl Glog {
@@ -180,12 +176,8 @@ impl Glog {
             → MayTurn self.old (D.state disk.old).seen (D.state disk.old).pending
             → KeepsMayTurn self.old self.new (D.state disk.old) (D.state disk.new) result }
     {
-        match self.call_turn(disk) {
-            Ok(call) => {
-                self.advance_turn();
-                Ok(call)
-            }
-            Err(refusal) => Err(refusal),
-        }
+        let call = self.call_turn(disk)?;
+        self.advance_turn();
+        Ok(call)
     }
 }

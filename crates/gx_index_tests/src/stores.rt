@@ -34,10 +34,7 @@ fn found<D: SectorDisk, K: Probing>(
     alloc: Global,
     store: &mut PageStore<D, K>,
     key: K::Key,
-) -> Option<usize>
-where
-    K::Probe: Drop,
-{
+) -> Option<usize> {
     let wanted = Wanted::<K>::matching(&Query::Overlap(key));
     let root = TraversalItem::new(1, store.counter());
     let Ok(mut look) = Look::new(alloc, root) else {
@@ -55,10 +52,7 @@ where
 }
 
 /// What looks find before and after a pair is added, and whether it was refused without room.
-fn added<K: Probing>(rt: &HostRuntime) -> Result<(Option<usize>, bool, Option<usize>), Fail>
-where
-    K::Probe: Drop,
-{
+fn added<K: Probing>(rt: &HostRuntime) -> Result<(Option<usize>, bool, Option<usize>), Fail> {
     let mut disk = MemDisk::new(rt.alloc(), 4232)?;
     format::<_, K>(rt.alloc(), &mut disk, 8, 4)?;
     if disk.sectors() < sectors_for(8) {

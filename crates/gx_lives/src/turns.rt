@@ -67,8 +67,6 @@ pub fn step<D: SectorDisk, K: ReadKeys + Probing>(
     engine: &mut Engine<D, K>,
     event: Event<K::Key>,
 ) -> Outcome<K::Key>
-where
-    K::Probe: Drop,
     ensures { GoesOn K.Key.Shape K.is_proper K.said K.KeyClass K.CLASS D.state
         (Works engine.old) (life.Happens event result) (Works engine.new) }
 {
@@ -83,8 +81,6 @@ pub fn open<D: SectorDisk, K: ReadKeys + Probing>(
     disk: D,
     frames: usize,
 ) -> Result<Engine<D, K>, NotOpened<D>>
-where
-    K::Probe: Drop,
     ensures frames { ((16 ≤ frames) × (frames ≤ FRAMES) → ⊥)
         → result ≡ Err (record { why = Refusal.BadParameter; disk = disk }) }
     ensures small { 16 ≤ frames → frames ≤ FRAMES → (D.state disk).sectors < MIN_SECTORS

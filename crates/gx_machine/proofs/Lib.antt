@@ -16,3 +16,4 @@ pub mod WorkedRun
 pub mod Searched
 pub mod SetLemmas
 pub mod Sorting
+pub mod Comparing

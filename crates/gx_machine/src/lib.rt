@@ -14,6 +14,7 @@ mod limits;
 mod queries;
 mod query;
 mod reply;
+mod same;
 mod sets;
 
 pub use call::Call;
@@ -24,6 +25,7 @@ pub use limits::{LAST_NUMBER, MAX_CLAIMS, MAX_PREDICATES, SESSIONS};
 pub use queries::{is_same_query, matches};
 pub use query::Query;
 pub use reply::{Asked, Reply};
+pub use same::is_same_reply;
 pub use sets::{
     exclude, exclude_all, find, has, has_in_order, include, include_all, include_within_capacity,
     is_same, put_in_order,

@@ -23,8 +23,6 @@ pub fn search<K: Probing, P: Pages<K>>(
     pages: &mut P,
     query: &Query<K::Key>,
 ) -> Result<Vec<Found<K::Key>>, StepFault<P::Fault>>
-where
-    K::Probe: Drop,
     requires steady { P.steady pages.old }
     requires most { (most : ℕ) × (2 ≤ most) × Legal (rules_of K.Key.Shape most) (tree_of (P.store pages.old)) }
     requires keys { AreKeys K.is_key (tree_of (P.store pages.old)) }

@@ -41,7 +41,8 @@ fn slot_of<K: KeyClass>(page: &Page, row: u64, key: &[u8]) -> Option<usize>
     requires { is_leaf (format_of K.KeyClass) page.now ≡ true }
     ensures { result ≡ position (is_item_of (format_of K.KeyClass) row key.now) page.now.items }
 {
-    for slot in 0..page.count() {
+    let count = page.count();
+    for slot in 0..count {
         if is_item_of::<K>(page.get(slot), row, key) {
             return Some(slot);
         }

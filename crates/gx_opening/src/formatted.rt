@@ -18,10 +18,8 @@ fn settle<D: SectorDisk>(disk: &mut D) -> Result<(), Refusal>
     ensures syncs { (D.state disk.old).honest ≡ true → Syncs (D.state disk.old) (D.state disk.new) result }
     ensures refusal { IfErr result (λ refusal. refusal ≡ Refusal.Device) }
 {
-    match disk.sync() {
-        Ok(()) => Ok(()),
-        Err(_) => Err(Refusal::Device),
-    }
+    disk.sync()?;
+    Ok(())
 }
 
 // Reads a sector.
@@ -34,10 +32,8 @@ fn sector<D: SectorDisk>(disk: &mut D, number: u64) -> Result<[u8; SECTOR_SIZE],
     ensures refusal { IfErr result (λ refusal. refusal ≡ Refusal.Device) }
 {
     let mut bytes = [0; SECTOR_SIZE];
-    match disk.read(number, &mut bytes) {
-        Ok(()) => Ok(bytes),
-        Err(_) => Err(Refusal::Device),
-    }
+    disk.read(number, &mut bytes)?;
+    Ok(bytes)
 }
 
 // Whether a sector begins with the magic.

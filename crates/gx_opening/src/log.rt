@@ -3,6 +3,7 @@ ghost use Rattle.std.specs.Prelude.{◌≡◌, ◌≤◌, IfOk};
 ghost use Rattle.gx_disk.specs.Device.{SameDevice};
 ghost use Rattle.gx_durable.specs.Area.{HasPages};
 ghost use Rattle.gx_found_log.specs.Found.{FaultsTold};
+ghost use Rattle.gx_node.specs.declared.items.TheConstants.{MAX_ENTRIES};
 ghost use Rattle.gx_recovery.specs.Known.{Limits};
 ghost use Rattle.gx_readings.specs.Classes.{known_at, reading_by};
 ghost use Rattle.gx_opening.specs.Laid.{LaysFound, LaysLogOf};
@@ -33,14 +34,12 @@ fn lay_found<D: SectorDisk, K: ReadKeys>(
     if found.bodies == 0 || found.bodies > PLACES {
         return Err(Refusal::Damaged);
     }
-    match redo_log::<OfClass<K>, D>(disk, &found, pages) {
-        Ok(()) => Ok(found),
-        Err(why) => Err(why),
-    }
+    redo_log::<OfClass<K>, D>(disk, &found, pages)?;
+    Ok(found)
 }
 
-/// Reads the log of a device of so many pages, which is settled, and lays its pages:
-/// each is as the log leaves it then, and all is settled again.
+/// Reads the log of a device of so many pages, and entries in a node, which is settled, and lays its pages: each is as
+/// the log leaves it then, and all is settled again.
 ///
 /// Refused as `Damaged` exactly where the log is, before anything is written; by the device's fault (`Device`), and for
 /// want of memory (`Memory`). At each moment, also where it is refused, what a crash may leave is as at the start, or
@@ -49,17 +48,17 @@ pub(crate) fn lay_log<D: SectorDisk, K: ReadKeys>(
     alloc: Global,
     disk: &mut D,
     pages: u32,
+    most: u16,
 ) -> Result<FoundLog<Entry<K::Key>>, Refusal>
-    requires { HasPages pages (D.state disk.old).sectors }
+    requires pages { HasPages pages (D.state disk.old).sectors }
+    requires most { most ≤ MAX_ENTRIES }
     ensures device { SameDevice (D.state disk.old) (D.state disk.new) }
     ensures faults { FaultsTold (D.state disk.old).faults (D.state disk.new).faults result }
     ensures bodies { IfOk result (λ found. (1 ≤ found.bodies) × (found.bodies ≤ PLACES)) }
-    ensures lays { (l : Limits) → l.pages ≡ pages
+    ensures lays { (l : Limits) → l.pages ≡ pages → l.most ≡ most
         → LaysLogOf (known_at K.Key.Shape K.is_proper l) (reading_by K.said K.KeyClass)
         (D.state disk.old) (D.state disk.new) result }
 {
-    match read_class_log::<K, D>(alloc, disk, pages) {
-        Ok(found) => lay_found::<D, K>(disk, found, pages),
-        Err(why) => Err(why),
-    }
+    let found = read_class_log::<K, D>(alloc, disk, pages, most)?;
+    lay_found::<D, K>(disk, found, pages)
 }

@@ -51,13 +51,9 @@ fn stand<D: SectorDisk, K: ReadKeys>(
         → IsStoodAs K.Key.Shape K.is_proper K.said K.KeyClass D.state disk.old disk.new result }
 {
     what_stands_is_legal::<K>();
-    match formatted_for::<D, K>(disk) {
-        Ok(parameters) => match lay_log::<D, K>(alloc, disk, parameters.pages) {
-            Ok(log) => Ok(Standing { parameters, log }),
-            Err(why) => Err(why),
-        },
-        Err(why) => Err(why),
-    }
+    let parameters = formatted_for::<D, K>(disk)?;
+    let log = lay_log::<D, K>(alloc, disk, parameters.pages, parameters.most)?;
+    Ok(Standing { parameters, log })
 }
 
 // What was found, where its test passed.
@@ -67,10 +63,8 @@ fn with_standing<B: Copy>(
 ) -> Result<Standing<B>, Refusal>
     ensures { result ≡ told_with sound standing }
 {
-    match sound {
-        Ok(()) => Ok(standing),
-        Err(why) => Err(why),
-    }
+    sound?;
+    Ok(standing)
 }
 
 // Tests the pages of an index that stands on a device.

@@ -190,7 +190,14 @@ impl<B: Shape, W: Drop> Sessions<B, W> {
         self.durable
     }
 
-    /// Whether a fault has made the engine fail. What is kept of the sessions is said here for those who prove with it.
+    /// What is kept of sessions, on any device.
+    pub fn stands(&self)
+        ensures { IsKept (keys_of B.Shape) self.now }
+    {
+        let _ = &self.failed;
+    }
+
+    /// Whether a fault has made the engine fail.
     pub fn has_failed(&self) -> bool
         ensures failed { result ≡ self.now.failed }
         ensures kept { IsKept (keys_of B.Shape) self.now }

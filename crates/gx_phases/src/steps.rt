@@ -94,26 +94,15 @@ pub fn restored_by<B: Shape, W>(phase: &Phase<B, W>) -> Option<usize>
 }
 
 /// Gives a phase this work, and hands back what it had; or hands this back.
-fn with_work<B: Shape, W: Drop>(work: W, phase: Phase<B, W>) -> (W, Phase<B, W>)
-    ensures { result ≡ with_work work phase }
+fn put_work<B: Shape, W: Drop>(phase: &mut Phase<B, W>, work: W) -> W
+    ensures given { result ≡ (with_work work phase.old).0 }
+    ensures phase { phase.new ≡ (with_work work phase.old).1 }
 {
     match phase {
-        Phase::Free => (work, Phase::Free),
-        Phase::Working => (work, Phase::Working),
-        Phase::Open(call, before) => (before, Phase::Open(call, work)),
-        Phase::Undoing(restored, before) => (before, Phase::Undoing(restored, work)),
-        Phase::Waiting(number) => (work, Phase::Waiting(number)),
+        Phase::Open(_, now) => mem::replace(now, work),
+        Phase::Undoing(_, now) => mem::replace(now, work),
+        Phase::Free | Phase::Working | Phase::Waiting(_) => work,
     }
-}
-
-/// Takes how far a session is, and leaves it with no call open.
-fn take_phase<B: Shape, W: Drop>(phases: &mut Vec<Phase<B, W>>, session: u8) -> Phase<B, W>
-    requires session { is_session session ≡ true }
-    requires eight { length phases.old.items ≡ SESSIONS }
-    ensures was { result ≡ phase_at (session - 1) phases.old.items }
-    ensures phases { phases.new.items ≡ with_phase session phase.Working phases.old.items }
-{
-    mem::replace(&mut phases[place_of(session)], Phase::Working)
 }
 
 /// Gives a session this work, and hands back what it had; or hands this back.
@@ -124,8 +113,5 @@ pub fn replace_work<B: Shape, W: Drop>(phases: &mut Vec<Phase<B, W>>, session: u
     ensures phases { phases.new.items ≡ with_phase session
         (with_work work (phase_at (session - 1) phases.old.items)).1 phases.old.items }
 {
-    let was = take_phase(phases, session);
-    let (before, phase) = with_work(work, was);
-    set_phase(phases, session, phase);
-    before
+    put_work(&mut phases[place_of(session)], work)
 }

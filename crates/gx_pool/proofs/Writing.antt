@@ -1,17 +1,16 @@
 -- What a page's write leaves of frames and device.
-use Rattle.std.proofs.Common.{◌≡◌, ◌≢◌, ◌∙◌, sym, ap, refl, subst, inl, inr, ℕ, ◌+◌, ◌/◌, ◌≤◌, List, length, Bool, true, false, Some, None, IsSome, Result, Ok, Err, OnErr, arith, length-set}
+use Rattle.std.proofs.Common.{◌≡◌, ◌≢◌, ◌∙◌, sym, ap, refl, subst, inl, inr, ℕ, ◌+◌, ◌/◌, ◌≤◌, List, length, Bool, true, false, Some, None, IsSome, Result, Ok, Err, arith, length-set}
 use Rattle.std.proofs.Math.Decide.{ℕ_discrete}
 use Rattle.std.proofs.lemmas.Option.{none-some}
 use Rattle.gx_disk.specs.declared.layout.TheConstants.{PAGE_SECTORS}
 use Rattle.gx_disk.specs.Device.{Device, Counts, Writes}
 use Rattle.gx_disk.specs.declared.device.DiskFault.{DiskFault}
+use Rattle.gx_geom.specs.declared.refusal.Refusal.{Refusal}
 use Rattle.gx_page.specs.declared.block.TheConstants.{PAGE_SIZE}
 use Rattle.gx_page.specs.Format.{image_of}
 use Rattle.gx_page.specs.Reading.{IsImage, read_of}
-use Rattle.gx_pool.specs.declared.fault.PoolFault.{PoolFault}
-use Rattle.gx_pool.specs.declared.fault.PoolFault.TheVariants.{Device as DeviceFault}
 use Rattle.gx_pool.specs.Area.{first_of}
-use Rattle.gx_pool.specs.Bringing.{HasImage, faults_of}
+use Rattle.gx_pool.specs.Bringing.{HasImage}
 use Rattle.gx_pool.specs.State.{State, Kept, IsSound, place_of, mark_at, kept, frame_at, stamp_of, clean_count}
 use Rattle.gx_pool.specs.Edits.{stamped}
 use Rattle.gx_pool.specs.Writing.{WritesPage, WritesAtMost, contents_of}
@@ -30,7 +29,7 @@ pub wrote_ok : (d e : Device) (s t : State) (page i : ℕ) (k : Kept) (bytes : L
     → bytes ≡ image_of (frame_at s i).page → IsImage bytes → read_of bytes ≡ (frame_at s i).page → length bytes ≡ PAGE_SIZE
     → Counts {T = Unit {0}} {E = DiskFault} 1 d e (Ok tt)
     → (d.honest ≡ true → Writes {T = Unit {0}} {E = DiskFault} (first_of page) (length bytes / 512) bytes d e (Ok tt))
-    → WritesPage {A = Unit {0}} {E = PoolFault} d e s t page k (Ok tt)
+    → WritesPage {A = Bool} {E = Refusal} d e s t page k (Ok true)
 wrote_ok d e s t page i k bytes sound at is new dirty image whole back size counts writes = record {
   counts = record { sectors = counts.sectors; honest = counts.honest; faults = counts.faults; calls = counts.calls };
   image = page_image s page i k bytes at is image whole back;
@@ -49,12 +48,12 @@ wrote_ok d e s t page i k bytes sound at is new dirty image whole back size coun
   frames = rw new (length-set s.marks i _);
 }
 
-pub wrote_err : (d e : Device) (s t : State) (page i : ℕ) (k : Kept) (bytes : List ℕ) (why : DiskFault) (fault : PoolFault) → place_of s page ≡ Some i → kept s page ≡ Some k → t ≡ s
+pub wrote_err : (d e : Device) (s t : State) (page i : ℕ) (k : Kept) (bytes : List ℕ) (why : DiskFault) (refusal : Refusal) → place_of s page ≡ Some i → kept s page ≡ Some k → t ≡ s
     → bytes ≡ image_of (frame_at s i).page → IsImage bytes → read_of bytes ≡ (frame_at s i).page → length bytes ≡ PAGE_SIZE
     → Counts {T = Unit {0}} {E = DiskFault} 1 d e (Err why)
     → (d.honest ≡ true → Writes {T = Unit {0}} {E = DiskFault} (first_of page) (length bytes / 512) bytes d e (Err why))
-    → WritesPage {A = Unit {0}} {E = PoolFault} d e s t page k (Err fault)
-wrote_err d e s t page i k bytes why fault at is new image whole back size counts writes = record {
+    → WritesPage {A = Bool} {E = Refusal} d e s t page k (Err refusal)
+wrote_err d e s t page i k bytes why refusal at is new image whole back size counts writes = record {
   counts = record { sectors = counts.sectors; honest = counts.honest; faults = counts.faults; calls = counts.calls };
   image = page_image s page i k bytes at is image whole back;
   writes = λ honest.
@@ -71,11 +70,6 @@ wrote_err d e s t page i k bytes why fault at is new image whole back size count
   gated = rw new refl;
   frames = rw new refl;
 }
-
--- a fault of the device is counted where the answer is one
-pub write_counted : {A : Type 0} → (d e : Device) (result : Result A PoolFault) → Counts 1 d e result → OnErr result (result ≡ Err DeviceFault) → e.faults ≡ d.faults + faults_of result
-write_counted d e (Ok a) counts fault = omega (arith, counts.faults)
-write_counted {A = A} d e (Err why) counts fault = counts.faults ∙ ap {A = Result A PoolFault} (λ r. d.faults + faults_of r) (sym fault)
 
 -- ---- at most a page is written
 

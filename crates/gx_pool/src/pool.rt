@@ -1,10 +1,10 @@
 //! The pool: pages of a device that is lent to each call that may use it.
 ghost use Rattle.std.specs.Prelude.{Bool, List, ◌≡◌, ◌≢◌, ◌⊎◌, ◌<◌, ◌≤◌, ◌+◌, ◌/◌, ◌↔◌, ℕ, []};
-ghost use Rattle.std.specs.Prelude.{true, false, Some, None, IsSome, IfSome, IfNone, IfOk};
+ghost use Rattle.std.specs.Prelude.{true, false, Some, None, IsSome, IfSome, IfNone, IfErr, IfOk};
 ghost use Rattle.std.specs.Prelude.{OnOk, OnErr, length, slice_index, slice_index_or, max};
 ghost use Rattle.std.specs.Borrow.{sem};
 ghost use Rattle.std.specs.Bool.{OnTrue, OnFalse};
-ghost use Rattle.gx_disk.specs.Device.{SameDevice};
+ghost use Rattle.gx_disk.specs.Device.{CountsFault, SameDevice};
 ghost use Rattle.gx_page.specs.Edits.{blank};
 ghost use Rattle.gx_pool.specs.Area.{bytes_of, IsPage, IsPassing};
 ghost use Rattle.gx_pool.specs.Marks.{clean, empty};
@@ -24,6 +24,7 @@ use crate::frames::{FRAMES, Frames};
 use crate::mark::HELD;
 use crate::passing::PageTest;
 use gx_disk::{MAX_PAGES, SectorDisk};
+use gx_geom::Refusal;
 use gx_page::{PAGE_SIZE, Page};
 use std::alloc::{AllocError, Global};
 
@@ -225,27 +226,24 @@ impl<T: PageTest> Pool<T> {
         disk: &mut D,
         i: usize,
         page: u32,
-    ) -> Result<(), PoolFault>
+    ) -> Result<bool, Refusal>
         requires page { IsPage (D.state disk.old).sectors page }
         requires frame { (place_of self.old.frames page ≡ Some i) × (i < length self.old.frames.marks) }
         requires dirty { IsSome (mark_at self.old.frames i).stamp }
         requires sound { IsSound self.old.frames }
         ensures written { (k : Kept) → kept self.old.frames page ≡ Some k
             → WritesPage (D.state disk.old) (D.state disk.new) self.old.frames self.new.frames page k result }
-        ensures fault { OnErr result (result ≡ Err PoolFault.Device) }
+        ensures answer { IfOk result (λ written. written ≡ true) }
+        ensures refusal { IfErr result (λ refusal. refusal ≡ Refusal.Device) }
         ensures test { self.new.test ≡ self.old.test }
     {
-        match disk.write(first_sector(page), self.frames.page_in(i).image()) {
-            Ok(()) => {
-                self.frames.stamp(i, None);
-                Ok(())
-            }
-            Err(_unwritten) => Err(PoolFault::Device),
-        }
+        disk.write(first_sector(page), self.frames.page_in(i).image())?;
+        self.frames.stamp(i, None);
+        Ok(true)
     }
 
-    /// Writes a page to its sectors, where it has changes and all of them are in gated batches; else nothing is done.
-    /// Once it is written it is clean, and its frame may go to another page.
+    /// Writes a page to its sectors, where it has changes and all of them are in gated batches, and answers whether
+    /// that was so; else nothing is done. Once it is written it is clean, and its frame may go to another page.
     ///
     /// Whether it succeeds or not, no sector but the page's eight changes, each other page is kept as it was, and what
     /// is dirty was so with the same stamp. So where the sectors of all pages but some are settled, and the pages that
@@ -255,10 +253,11 @@ impl<T: PageTest> Pool<T> {
     /// its last change, or what the device has. And each clean page is so then too.
     ///
     /// Refused with `Device` where the device failed. The page is then kept as it was, with its changes.
-    pub fn write_page<D: SectorDisk>(&mut self, disk: &mut D, page: u32) -> Result<(), PoolFault>
+    pub fn write_page<D: SectorDisk>(&mut self, disk: &mut D, page: u32) -> Result<bool, Refusal>
         requires { IsPage (D.state disk.old).sectors page }
+        ensures answer { IfOk result (λ written. written ≡ may_be_written self.old.frames page) }
         ensures idle { may_be_written self.old.frames page ≡ false
-            → (result ≡ Ok tt) × (self.new ≡ self.old) × (disk.new ≡ disk.old) }
+            → (result ≡ Ok false) × (self.new ≡ self.old) × (disk.new ≡ disk.old) }
         ensures written { WritesGated (D.state disk.old) (D.state disk.new)
             self.old.frames self.new.frames page result }
         ensures area { (named : ℕ → Bool) → (D.state disk.old).honest ≡ true → NamesGated named self.old.frames
@@ -268,15 +267,15 @@ impl<T: PageTest> Pool<T> {
             self.old.frames self.new.frames }
         ensures shown { StaysShown (D.state disk.old) (D.state disk.new) self.old.frames self.new.frames }
         ensures device { SameDevice (D.state disk.old) (D.state disk.new) }
-        ensures faults { (D.state disk.new).faults ≡ (D.state disk.old).faults + faults_of result }
+        ensures faults { CountsFault (D.state disk.old) (D.state disk.new) result }
         ensures passing { IsPassed (T.passes self.old.test) self.old.frames
             → IsPassed (T.passes self.old.test) self.new.frames }
-        ensures fault { OnErr result (result ≡ Err PoolFault.Device) }
+        ensures refusal { IfErr result (λ refusal. refusal ≡ Refusal.Device) }
         ensures test { self.new.test ≡ self.old.test }
     {
         match self.frames.writable(page) {
             Some(i) => self.write_frame(disk, i, page),
-            None => Ok(()),
+            None => Ok(false),
         }
     }
 

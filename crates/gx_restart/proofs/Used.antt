@@ -23,10 +23,10 @@ use Rattle.gx_index_laws.specs.States as index
 use Rattle.gx_index_laws.proofs.Standing.{known_lawful}
 use Rattle.gx_durable.specs.Spelled.{Reading, record_read}
 use Rattle.gx_durable.proofs.Reading.{one_more}
-use Rattle.gx_readings.specs.Classes.{class_of, reading_of}
+use Rattle.gx_readings.specs.Classes.{class_of, known_at, reading_of}
 use Rattle.gx_store.specs.Standing.{standing_node}
 use Rattle.gx_store.proofs.Listed.{nodes_long}
-use Rattle.gx_storage.specs.Changes.{IsUnlogged, MarkIsLogged, begun, image_at, known_at}
+use Rattle.gx_storage.specs.Changes.{IsUnlogged, MarkIsLogged, begun, image_at}
 use Rattle.gx_txn.specs.declared.note.Note.{Note}
 use Rattle.gx_phases.specs.declared.phase.Phase.{Phase}
 use Rattle.gx_phases.specs.declared.phase.Phase.TheVariants as phase

@@ -52,10 +52,7 @@ impl<D: SectorDisk, K: ReadKeys> Index<D, K> {
     }
 }
 
-impl<D: SectorDisk, K: ReadKeys + Probing> Index<D, K>
-where
-    K::Probe: Drop,
-{
+impl<D: SectorDisk, K: ReadKeys + Probing> Index<D, K> {
     // A call of an index that goes on.
     fn run(&mut self, session: u8, call: Call<K::Key>) -> Reply<K::Key>
         requires { self.old.ended ≡ false }

@@ -38,8 +38,6 @@ pub(crate) const MOST_FRAMES: usize = 4096;
 fn finished<D: SectorDisk, K: ReadKeys + Probing>(
     engine: Engine<D, K>,
 ) -> Result<Engine<D, K>, NotOpened<D>>
-where
-    K::Probe: Drop,
     requires undoes { OnlyUndoes engine }
     requires works { engine.sessions.failed ≡ false }
     ensures device { MatchResult result (λ new. IsSameDevice (D.state engine.volume.shelf.disk)
@@ -76,8 +74,6 @@ fn open_over<D: SectorDisk, K: ReadKeys + Probing>(
     standing: &Standing<K::Key>,
     frames: usize,
 ) -> Result<Engine<D, K>, NotOpened<D>>
-where
-    K::Probe: Drop,
     requires start { MayStart standing.now }
     requires allowed { IsAllowed K.CLASS standing.now.parameters }
     requires inside { PAGES_AT + PAGE_SECTORS * standing.now.parameters.pages ≤ (D.state disk).sectors }
@@ -94,10 +90,8 @@ where
         (λ n. HasNotBegun K.Key.Shape K.is_proper K.said (format_of K.KeyClass) standing.now.parameters (D.state a).seen
         (D.state disk) (D.state n.disk) n.why) }
 {
-    match begin_engine(alloc, disk, standing, frames) {
-        Ok(engine) => finished(engine),
-        Err(n) => Err(n),
-    }
+    let engine = begin_engine(alloc, disk, standing, frames)?;
+    finished(engine)
 }
 
 // Opens a device, with as many frames as an engine may have.
@@ -106,8 +100,6 @@ fn open_with<D: SectorDisk, K: ReadKeys + Probing>(
     disk: D,
     frames: usize,
 ) -> Result<Engine<D, K>, NotOpened<D>>
-where
-    K::Probe: Drop,
     requires frames { (16 ≤ frames) × (frames ≤ 4096) }
     ensures small { (D.state disk).sectors < MIN_SECTORS
         → result ≡ Err (record { why = Refusal.TooSmall; disk = disk }) }
@@ -158,8 +150,6 @@ pub fn open<D: SectorDisk, K: ReadKeys + Probing>(
     disk: D,
     frames: usize,
 ) -> Result<Engine<D, K>, NotOpened<D>>
-where
-    K::Probe: Drop,
     ensures frames { ((16 ≤ frames) × (frames ≤ 4096) → ⊥)
         → result ≡ Err (record { why = Refusal.BadParameter; disk = disk }) }
     ensures small { 16 ≤ frames → frames ≤ 4096 → (D.state disk).sectors < MIN_SECTORS

@@ -14,10 +14,7 @@ use gx_readings::ReadKeys;
 use gx_script::{Answers, Noted, ScriptFault, Transfer};
 use std::io::{Read, Write};
 
-impl<D: SectorDisk, K: ReadKeys + KeyClass<Key = Box2> + Probing> Answers for Index<D, K>
-where
-    K::Probe: Drop,
-{
+impl<D: SectorDisk, K: ReadKeys + KeyClass<Key = Box2> + Probing> Answers for Index<D, K> {
     ghost answered = { CallsIndex (Makes ⟦<Box2 as Shape>⟧ K.is_proper K.said K.KeyClass D.state) };
 
     fn call(&mut self, session: u8, call: Call<Box2>) -> Reply<Box2> {
@@ -38,8 +35,6 @@ pub fn run_script<R: Read, W: Write, D: SectorDisk, K: ReadKeys + KeyClass<Key =
     writer: &mut Noted<W>,
     index: &mut Index<D, K>,
 ) -> Result<(), ScriptFault>
-where
-    K::Probe: Drop,
     ensures done { OnOk result (IsDone (CallsIndex (Makes ⟦<Box2 as Shape>⟧ K.is_proper K.said K.KeyClass D.state))
         (R.remaining reader.old.inner) (R.remaining reader.new.inner)
         (W.contents writer.old.inner) (W.contents writer.new.inner) index.old index.new) }

@@ -17,10 +17,7 @@ use gx_events::Event;
 use gx_geom::Refusal;
 use gx_readings::ReadKeys;
 
-impl<D: SectorDisk, K: ReadKeys + Probing> Index<D, K>
-where
-    K::Probe: Drop,
-{
+impl<D: SectorDisk, K: ReadKeys + Probing> Index<D, K> {
     // Makes a step of the checkpoint or of the log over and over, until it has nothing to do.
     fn exhaust(&mut self, event: Event<K::Key>) -> Result<(), Refusal>
         requires { IsFlushing event }

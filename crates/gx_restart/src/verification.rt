@@ -59,8 +59,6 @@ fn told_of_copy(why: Refusal) -> Refusal
 fn report_of<D: SectorDisk + Drop, K: ReadKeys + Probing>(
     engine: Engine<D, K>,
 ) -> Result<Report, NotOpened<D>>
-where
-    K::Probe: Drop,
     ensures verified { (a : D) → IsIdle engine
         → IsOpened K.Key.Shape K.is_proper K.said (format_of K.KeyClass) K.CLASS
         (D.state a) (D.state engine.volume.shelf.disk) engine
@@ -94,8 +92,6 @@ fn verify_copy<D: SectorDisk + Drop, K: ReadKeys + Probing>(
     copy: D,
     frames: usize,
 ) -> Result<Report, NotOpened<D>>
-where
-    K::Probe: Drop,
     requires frames { (16 ≤ frames) × (frames ≤ 4096) }
     requires large { MIN_SECTORS ≤ (D.state copy).sectors }
     ensures verified { (D.state copy).honest ≡ true
@@ -124,8 +120,6 @@ pub fn verify_or_copy<D: SectorDisk, K: ReadKeys + Probing>(
     disk: &mut D,
     frames: usize,
 ) -> Result<Report, NotVerified>
-where
-    K::Probe: Drop,
     ensures frames { ((16 ≤ frames) × (frames ≤ 4096) → ⊥)
         → (why_of result ≡ Err Refusal.BadParameter) × (disk.new ≡ disk.old) }
     ensures small { 16 ≤ frames → frames ≤ 4096 → (D.state disk.old).sectors < MIN_SECTORS
@@ -183,8 +177,6 @@ pub fn verify<D: SectorDisk, K: ReadKeys + Probing>(
     disk: &mut D,
     frames: usize,
 ) -> Result<Report, Refusal>
-where
-    K::Probe: Drop,
     ensures frames { ((16 ≤ frames) × (frames ≤ 4096) → ⊥)
         → (result ≡ Err Refusal.BadParameter) × (disk.new ≡ disk.old) }
     ensures small { 16 ≤ frames → frames ≤ 4096 → (D.state disk.old).sectors < MIN_SECTORS

@@ -8,12 +8,8 @@ use Rattle.std.proofs.lemmas.Bool.Decides.{nat_tests}
 use Rattle.gx_machine.specs.declared.reply.Reply.{Reply}
 use Rattle.gx_machine.specs.declared.item.Item.{Item}
 use Rattle.gx_machine.specs.declared.item.Item.TheVariants.{Asked, Sealed, Replied}
+use Rattle.gx_machine.proofs.Comparing.{Alike}
 use Rattle.gx_shared.specs.Agreed.{replies_of}
-
--- each follows of the other
-pub record Alike (P Q : Type 0) : Type 0 where
-  pub there : P → Q
-  pub back : Q → P
 
 -- the first of two lists that are the same, and the rest
 pub first_same : {X : Type 0} {x y : X} {xs ys : List X} → x ∷ xs ≡ y ∷ ys → x ≡ y

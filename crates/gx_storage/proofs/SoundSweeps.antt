@@ -16,10 +16,10 @@ use Rattle.gx_index_laws.specs.States.{State}
 use Rattle.gx_index_laws.specs.Whole.{IsWhole}
 use Rattle.gx_index_laws.proofs.Standing.{known_lawful}
 use Rattle.gx_durable.specs.Spelled.{record_read}
-use Rattle.gx_readings.specs.Classes.{class_of, reading_of}
+use Rattle.gx_readings.specs.Classes.{class_of, known_at, reading_of}
 use Rattle.gx_store.specs.Standing.{store_of}
 use Rattle.gx_record.specs.declared.sizes.TheConstants.{PAGE_RECORD}
-use Rattle.gx_storage.specs.Changes.{IsLoggedIf, known_at, page_given}
+use Rattle.gx_storage.specs.Changes.{IsLoggedIf, page_given}
 use Rattle.gx_storage.specs.Keeps.{Keeps, StaysWith}
 use Rattle.gx_storage.specs.Numbers.{HasOwnNumber}
 use Rattle.gx_storage.specs.State.{Volume}

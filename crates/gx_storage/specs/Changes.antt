@@ -1,7 +1,6 @@
 -- A change of pages with its record, as a volume's calls leave it.
 use Rattle.std.specs.Prelude.{◌≡◌, ℕ, ◌+◌, Bool, true, false, List, [], ◌∷◌, length, nat_le, nat_lt, ◌&&◌}
 use Rattle.gx_machine.specs.declared.entry.Entry.{Entry}
-use Rattle.gx_machine.specs.Keys.{Members}
 use Rattle.gx_disk.specs.Device.{Device}
 use Rattle.gx_page.specs.Contents.{Contents}
 use Rattle.gx_record.specs.Rec.{Rec}
@@ -16,7 +15,6 @@ use Rattle.gx_glog.specs.declared.filling.Appended.TheVariants.{At}
 use Rattle.gx_glog.specs.declared.extent.TheConstants.{BODY_ROOM, PLACES}
 use Rattle.gx_durable.specs.Calls.{AppendPlaces, AppendStaysUp, AppendStaysStamped}
 use Rattle.gx_durable.specs.Spelled.{Reading, record_read}
-use Rattle.gx_readings.specs.Classes.{class_of}
 use Rattle.gx_store.specs.Since.{GoesOn, IsAsItWas, IsSince}
 use Rattle.gx_store.specs.State.{Shelf}
 use Rattle.gx_tree.specs.declared.seek.Sought.{Sought}
@@ -25,10 +23,6 @@ use Rattle.gx_storage.specs.Imaged.{imaged_with}
 pub use Rattle.gx_storage.specs.Whole.{image_at, page_given, write_of}
 use Rattle.gx_storage.specs.Keeps.{KeepsTheSame, KeepsWith, Logs}
 use Rattle.gx_storage.specs.State.{Volume}
-
--- what a log is told of a class, within an index's limits
-abbrev pub known_at : {B : Type 0} → Members B → (B → Bool) → Limits → Known (Entry B) (Page B)
-known_at shape is_key limits = known_of (class_of shape is_key limits)
 
 -- whether a log has room for a record of so many bytes, while no turn is under way: a place is left for its batch, and the record
 -- fits the batch that fills

@@ -18,7 +18,7 @@ use Rattle.gx_record.specs.Rec.{Rec}
 use Rattle.gx_recovery.specs.Known.{Known, Limits}
 use Rattle.gx_index_laws.specs.Classes.{Page}
 use Rattle.gx_durable.specs.Spelled.{Reading}
-use Rattle.gx_readings.specs.Classes.{reading_of}
+use Rattle.gx_readings.specs.Classes.{known_at, reading_of}
 use Rattle.gx_store.specs.Faults as faults
 use Rattle.gx_store.specs.Since.{IsSince}
 use Rattle.gx_store.specs.Standing.{store_of}
@@ -26,7 +26,7 @@ use Rattle.gx_store.specs.State.{Shelf, IsSteady}
 use Rattle.gx_store.specs.declared.fault.StoreFault.{StoreFault}
 use Rattle.gx_tree.specs.declared.seek.Sought.{Sought}
 use Rattle.gx_tree_laws.specs.Trees.{Tree}
-use Rattle.gx_storage.specs.Changes.{IsLast, IsLogged, IsLoggedIf, IsUnlogged, MarkIsLogged, ReadsKeep, known_at, page_given}
+use Rattle.gx_storage.specs.Changes.{IsLast, IsLogged, IsLoggedIf, IsUnlogged, MarkIsLogged, ReadsKeep, page_given}
 use Rattle.gx_storage.specs.Flushing.{KeepsOn, KeepsRecord, MayTurn, StepsLog, TurnsOn, WritesGated}
 use Rattle.gx_storage.specs.Giving.{pages_given}
 use Rattle.gx_storage.specs.Keeps.{ShowsKeys, ShowsTheLogs}

@@ -55,54 +55,6 @@ module _ (passes : Contents → Bool) (sectors used pages : ℕ) (frames : State
   turn_in_order (Ok call) = turned_in_order call
   turn_in_order (Err refusal) = is
 
--- a page's write, told by another answer that succeeds or fails as it does
-pub written_ok : {A F A' F' : Type 0} (d e : Device) (old new : State) (page : ℕ) (k : Kept) (x : A) (y : A') → WritesPage {A = A} {E = F} d e old new page k (Ok x) → WritesPage {A = A'} {E = F'} d e old new page k (Ok y)
-written_ok d e old new page k x y w = record {
-  counts = record { sectors = w.counts.sectors; honest = w.counts.honest; faults = w.counts.faults; calls = w.counts.calls };
-  image = w.image;
-  writes = λ honest. (let now = w.writes honest in record { touches = now.touches; written = now.written; torn = now.torn; pending = now.pending; time = now.time });
-  clean = w.clean;
-  fewer = w.fewer;
-  free = w.free;
-  stays_held = w.stays_held;
-  failed = w.failed;
-  others = w.others;
-  held = w.held;
-  gated = w.gated;
-  frames = w.frames;
-}
-
-pub written_err : {A F A' F' : Type 0} (d e : Device) (old new : State) (page : ℕ) (k : Kept) (x : F) (y : F') → WritesPage {A = A} {E = F} d e old new page k (Err x) → WritesPage {A = A'} {E = F'} d e old new page k (Err y)
-written_err d e old new page k x y w = record {
-  counts = record { sectors = w.counts.sectors; honest = w.counts.honest; faults = w.counts.faults; calls = w.counts.calls };
-  image = w.image;
-  writes = λ honest. (let now = w.writes honest in record { touches = now.touches; written = now.written; torn = now.torn; pending = now.pending; time = now.time });
-  clean = w.clean;
-  fewer = w.fewer;
-  free = w.free;
-  stays_held = w.stays_held;
-  failed = w.failed;
-  others = w.others;
-  held = w.held;
-  gated = w.gated;
-  frames = w.frames;
-}
-
--- one frame fewer is dirty exactly where a page was written
-module _ {A F : Type 0} (d e : Device) (old new : State) (page : ℕ) (x : A) (idle : is_gated old.gated (stamp_of (kept old page)) ≡ false → new ≡ old)
-    (written : (k : Kept) → kept old page ≡ Some k → is_gated old.gated k.stamp ≡ true → WritesPage {A = A} {E = F} d e old new page k (Ok x)) where
-  by_kept : (o : Option Kept) → kept old page ≡ o → (b : Bool) → is_gated old.gated (stamp_of o) ≡ b → nat_lt (dirty_count new) (dirty_count old) ≡ is_gated old.gated (stamp_of (kept old page))
-  by_kept o is false none =
-      let here : is_gated old.gated (stamp_of (kept old page)) ≡ false = ap (λ (y : Option Kept). is_gated old.gated (stamp_of y)) is ∙ none in
-      ap (λ (s : State). nat_lt (dirty_count s) (dirty_count old)) (idle here) ∙ le-ltb (dirty_count old) (dirty_count old) (omega arith) ∙ sym here
-  by_kept None is true some = absurd cc
-  by_kept (Some k) is true some =
-      let fewer = (written k is some).fewer in
-      lt-ltb (dirty_count new) (dirty_count old) (omega (arith, fewer)) ∙ sym (ap (λ (y : Option Kept). is_gated old.gated (stamp_of y)) is ∙ some)
-
-  pub fewer_answers : nat_lt (dirty_count new) (dirty_count old) ≡ is_gated old.gated (stamp_of (kept old page))
-  fewer_answers = by_kept (kept old page) refl (is_gated old.gated (stamp_of (kept old page))) refl
-
 -- no page is kept that isn't taken
 there_none : (s : State) (o : Option ℕ) → o ≡ None → kept_at s o ≡ None
 there_none s o is = ap (kept_at s) is

@@ -32,38 +32,6 @@ use gx_geom::Refusal;
 use gx_glog::{Glog, Stage, Turn};
 use gx_pool::{PageTest, Pool};
 
-// Writes a page, where it has changes and all of them are in gated batches, and answers whether that was so:
-// then one frame fewer is dirty.
-fn write<M: Spelled, T: PageTest, D: SectorDisk>(
-    pool: &mut Pool<T>,
-    disk: &mut D,
-    page: u32,
-) -> Result<bool, Refusal>
-    requires { IsPage (D.state disk.old).sectors page }
-    ensures answer { IfOk result (λ written. written ≡ may_be_written pool.old.frames page) }
-    ensures idle { may_be_written pool.old.frames page ≡ false
-        → (result ≡ Ok false) × (pool.new ≡ pool.old) × (disk.new ≡ disk.old) }
-    ensures written { WritesGated (D.state disk.old) (D.state disk.new) pool.old.frames pool.new.frames page result }
-    ensures at_most { WritesAtMost (D.state disk.old) (D.state disk.new) pool.old.frames pool.new.frames page }
-    ensures device { SameDevice (D.state disk.old) (D.state disk.new) }
-    ensures shown { StaysShown (D.state disk.old) (D.state disk.new) pool.old.frames pool.new.frames }
-    ensures readable { StaysReadable (T.passes pool.old.test) (D.state disk.old) (D.state disk.new)
-        pool.old.frames pool.new.frames }
-    ensures passing { IsPassed (T.passes pool.old.test) pool.old.frames
-        → IsPassed (T.passes pool.old.test) pool.new.frames }
-    ensures faults { CountsFault (D.state disk.old) (D.state disk.new) result }
-    ensures runs { (l : Limits) → PageKeepsRunning (M.known l) M.reading pool.old.frames pool.new.frames
-        (D.state disk.old) (D.state disk.new) }
-    ensures refusal { IfErr result (λ refusal. refusal ≡ Refusal.Device) }
-    ensures test { pool.new.test ≡ pool.old.test }
-{
-    let dirty = pool.dirty_frames();
-    match write_page::<M, T, D>(pool, disk, page) {
-        Ok(()) => Ok(pool.dirty_frames() < dirty),
-        Err(_) => Err(Refusal::Device),
-    }
-}
-
 impl<D: SectorDisk, K: KeyClass> PageStore<D, K> {
     /// How many frames are clean: empty, or with a clean page that the event doesn't hold.
     pub fn clean_frames(&self) -> usize
@@ -140,7 +108,7 @@ impl<D: SectorDisk, K: KeyClass> PageStore<D, K> {
         if page == 0 || page > self.used {
             return Ok(false);
         }
-        write::<M, NodeTest<K>, D>(&mut self.pool, &mut self.disk, page)
+        write_page::<M, NodeTest<K>, D>(&mut self.pool, &mut self.disk, page)
     }
 
     /// Settles all that was written to the store's device. Pages are left as they stand.

@@ -1,5 +1,4 @@
 mod Judging
-pub mod Comparing
 pub mod Following
 pub mod Asking
 pub mod Replaying

@@ -7,9 +7,8 @@ ghost use Rattle.gx_events.specs.Replay.{FitsAt, StandsFor};
 ghost use Rattle.gx_storm.specs.Following.{Follows, is_faultless, kind_of};
 ghost use Rattle.gx_storm.specs.declared.answers.Kind.TheVariants as kind;
 
-use crate::same::same_reply;
 use gx_geom::{Refusal, Shape};
-use gx_machine::{Item, Reply};
+use gx_machine::{Item, Reply, is_same_reply};
 use gx_plain::PlainIndex;
 use std::alloc::AllocError;
 
@@ -81,7 +80,7 @@ fn is_answer<B: Shape>(
     if lacks_memory(&given) {
         return Err(AllocError);
     }
-    Ok(same_reply(&given, reply))
+    Ok(is_same_reply(&given, reply))
 }
 
 /// Whether a reply fits. A fault is accepted as it stands, and closes the session's call where one is open.

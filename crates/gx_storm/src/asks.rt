@@ -1,5 +1,6 @@
 //! An ask, which is put to the plain index once the item behind it is looked at.
 ghost use Rattle.std.specs.Prelude.{◌≡◌, IfOk, MatchBool, false, true};
+ghost use Rattle.gx_machine.specs.declared.item.Item.TheVariants.{Replied};
 ghost use Rattle.gx_machine.specs.Keys.{keys_of};
 ghost use Rattle.gx_machine.specs.Machine.{Machine};
 ghost use Rattle.gx_events.specs.Replay.{Asking, EndsAt, Fits, Point, StandsFor};
@@ -8,9 +9,8 @@ ghost use Rattle.gx_storm.specs.Following.{EndsWith, Follows, HasNumber, StandsA
 ghost use Rattle.gx_storm.specs.Following.{asked_of, is_faultless, waiting, waits};
 
 use crate::answers::fits_here;
-use crate::same::is_reply;
 use gx_geom::{Refusal, Shape};
-use gx_machine::{Asked, Call, Item, Reply};
+use gx_machine::{Asked, Call, Item, Reply, is_same_reply};
 use gx_plain::PlainIndex;
 use std::alloc::AllocError;
 
@@ -21,6 +21,16 @@ pub(crate) fn asked_of<B: Shape>(item: &Item<B>) -> Option<(u8, Call<B>)>
     match item {
         Item::Asked(session, call) => Some((*session, *call)),
         Item::Sealed(..) | Item::Replied(..) => None,
+    }
+}
+
+/// Whether an item is this reply to this session.
+fn is_reply<B: Shape>(item: &Item<B>, session: u8, reply: &Reply<B>) -> bool
+    ensures { MatchBool result (item.now ≡ Replied session reply.now) (item.now ≡ Replied session reply.now → ⊥) }
+{
+    match item {
+        Item::Replied(of, given) => *of == session && is_same_reply(given, reply),
+        Item::Asked(..) | Item::Sealed(..) => false,
     }
 }
 

@@ -12,7 +12,6 @@ mod draws;
 mod handed;
 mod items;
 mod refusals;
-mod same;
 mod threads;
 mod verdict;
 

@@ -154,7 +154,7 @@ impl<D: SectorDisk, K: ReadKeys> Engine<D, K> {
     {
         a_class_is_lawful::<K>();
         K::known(&entry.key);
-        self.sessions.has_failed();
+        self.sessions.stands();
         match self.add_pair(session, &entry, &item) {
             Ok(()) => self.note_added(session, entry, &item),
             Err(StepFault::Pages(fault)) => self.refuse(fault),
@@ -228,7 +228,7 @@ impl<D: SectorDisk, K: ReadKeys> Engine<D, K> {
         ensures device { IsRead D.state self.old self.new }
     {
         a_class_is_lawful::<K>();
-        self.sessions.has_failed();
+        self.sessions.stands();
         match self.split_node(parent, &item) {
             Ok(_) => self.begin_again(session),
             Err(StepFault::Pages(fault)) => self.refuse(fault),
@@ -253,7 +253,7 @@ impl<D: SectorDisk, K: ReadKeys> Engine<D, K> {
         ensures device { IsRead D.state self.old self.new }
     {
         a_class_is_lawful::<K>();
-        self.sessions.has_failed();
+        self.sessions.stands();
         match self.split_root() {
             Ok(_) => self.begin_again(session),
             Err(StepFault::Pages(fault)) => self.refuse(fault),
@@ -302,7 +302,7 @@ impl<D: SectorDisk, K: ReadKeys> Engine<D, K> {
         ensures device { IsRead D.state self.old self.new }
     {
         a_class_is_lawful::<K>();
-        self.sessions.has_failed();
+        self.sessions.stands();
         self.storage.most();
         match self.sweep_leaf(&item) {
             Ok(true) => Outcome::More,
@@ -334,7 +334,7 @@ impl<D: SectorDisk, K: ReadKeys> Engine<D, K> {
         a_class_is_lawful::<K>();
         a_volume_shows_keys::<D, K>();
         K::known(&entry.key);
-        self.sessions.has_failed();
+        self.sessions.stands();
         self.storage.in_order();
         match self.step_down(&item, &entry.key) {
             Ok(did) => match did {

@@ -38,10 +38,7 @@ fn turned<B: Shape>(look: Look<B>) -> Work<B>
     Work::Seeks(look.found()[0].leaf)
 }
 
-impl<D: SectorDisk, K: ReadKeys + Probing> Engine<D, K>
-where
-    K::Probe: Drop,
-{
+impl<D: SectorDisk, K: ReadKeys + Probing> Engine<D, K> {
     // A write's look reads its next page; one that hasn't begun reads the root. It goes on, or where it has found its
     // pair seeks that. `Ok` gives the look where nothing is left to read and its pair is nowhere, and `Err` is what
     // else came of it.
@@ -79,20 +76,17 @@ where
         a_class_is_lawful::<K>();
         a_volume_shows_the_logs_tree::<D, K>();
         a_volume_shows_keys::<D, K>();
-        self.sessions.has_failed();
+        self.sessions.stands();
         self.storage.most();
         let wanted = Wanted::<K>::entry(entry);
         let read = self.read_look(session, &wanted, look, begun);
         self.storage.in_order();
-        match read {
-            Ok(look) => if look.found().is_empty() && look.is_done() {
-                Ok(look)
-            } else {
-                self.sessions.replace_work(session, turned(look));
-                Err(Outcome::More)
-            },
-            Err(outcome) => Err(outcome),
+        let look = read?;
+        if look.found().is_empty() && look.is_done() {
+            return Ok(look);
         }
+        self.sessions.replace_work(session, turned(look));
+        Err(Outcome::More)
     }
 
     // A write's look begins at the root, or goes on, and reads a page. `Ok` gives the look where nothing is left to
@@ -126,7 +120,7 @@ where
         ensures device { IsRead D.state self.old self.new }
     {
         a_class_is_lawful::<K>();
-        self.sessions.has_failed();
+        self.sessions.stands();
         match self.sessions.replace_work(session, Work::Rests) {
             Work::Looks(look) => if look.is_done() {
                 Ok(look)
@@ -154,7 +148,7 @@ where
         ensures device { IsRead D.state self.old self.new }
     {
         a_class_is_lawful::<K>();
-        self.sessions.has_failed();
+        self.sessions.stands();
         let root = TraversalItem::new(1, self.storage.counter());
         self.sessions.replace_work(session, Work::Descends(0, root));
         Outcome::More
@@ -175,7 +169,7 @@ where
         ensures device { IsRead D.state self.old self.new }
     {
         a_class_is_lawful::<K>();
-        self.sessions.has_failed();
+        self.sessions.stands();
         self.close(session, Refusal::Absent)
     }
 

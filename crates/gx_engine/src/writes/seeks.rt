@@ -81,10 +81,7 @@ impl<D: SectorDisk, K: ReadKeys> Engine<D, K> {
     }
 }
 
-impl<D: SectorDisk, K: ReadKeys + Probing> Engine<D, K>
-where
-    K::Probe: Drop,
-{
+impl<D: SectorDisk, K: ReadKeys + Probing> Engine<D, K> {
     // Gives an entry's pair a mark, where it is in this leaf.
     fn give_mark(
         &mut self,
@@ -149,7 +146,7 @@ where
         a_volume_shows_the_logs_tree::<D, K>();
         a_volume_shows_keys::<D, K>();
         K::known(&entry.key);
-        self.sessions.has_failed();
+        self.sessions.stands();
         self.storage.in_order();
         match self.give_mark(session, &entry, leaf, marked) {
             Ok(sought) => self.note_set(session, entry, leaf, marked, sought),
@@ -182,7 +179,7 @@ where
         a_class_is_lawful::<K>();
         a_volume_shows_the_logs_tree::<D, K>();
         a_volume_shows_keys::<D, K>();
-        self.sessions.has_failed();
+        self.sessions.stands();
         self.storage.in_order();
         match sought {
             Sought::Right(next) => {
@@ -217,7 +214,7 @@ where
     {
         a_class_is_lawful::<K>();
         a_volume_shows_the_logs_tree::<D, K>();
-        self.sessions.has_failed();
+        self.sessions.stands();
         match self.seek_pair(&entry, leaf) {
             Ok(sought) => self.write_sought(session, entry, leaf, marked, sought),
             Err(StepFault::Pages(fault)) => self.refuse(fault),

@@ -38,7 +38,7 @@ fn in_index<D: SectorDisk, K: ReadKeys>(
 {
     let Parameters { pages, most, .. } = parameters;
     let mut disk = disk;
-    match examine_class_log::<K, D>(alloc, &mut disk, pages) {
+    match examine_class_log::<K, D>(alloc, &mut disk, pages, most) {
         Ok(found) => in_pages::<D, K>(alloc, disk, &found.analysis, pages, most),
         Err(fault) => (disk, in_log(fault)),
     }

@@ -17,8 +17,6 @@ use gx_readings::ReadKeys;
 fn end_checkpoint<D: SectorDisk, K: ReadKeys + Probing>(
     engine: &mut Engine<D, K>,
 ) -> Result<(), Refusal>
-where
-    K::Probe: Drop,
     requires works { engine.old.sessions.failed ≡ false }
     ensures goes { GoesBy (Makes K.Key.Shape K.is_proper K.said K.KeyClass D.state) engine.old engine.new }
     ensures ended { IfOk result (λ _. WorksOff engine.new) }
@@ -47,8 +45,6 @@ fn undo<D: SectorDisk, K: ReadKeys + Probing>(
     engine: &mut Engine<D, K>,
     session: u8,
 ) -> Result<(), Refusal>
-where
-    K::Probe: Drop,
     requires session { is_session session ≡ true }
     requires undoes { OnlyUndoes engine.old }
     requires works { WorksOff engine.old }
@@ -63,8 +59,6 @@ where
 
 // Undoes the transaction of each session that has one.
 fn undo_all<D: SectorDisk, K: ReadKeys + Probing>(engine: &mut Engine<D, K>) -> Result<(), Refusal>
-where
-    K::Probe: Drop,
     requires undoes { OnlyUndoes engine.old }
     requires works { WorksOff engine.old }
     ensures goes { GoesBy (Makes K.Key.Shape K.is_proper K.said K.KeyClass D.state) engine.old engine.new }
@@ -74,10 +68,7 @@ where
         (λ why. WhyStopped (Makes K.Key.Shape K.is_proper K.said K.KeyClass D.state) engine.old why engine.new) }
 {
     for place in 0..8u8 {
-        match undo(engine, place + 1) {
-            Ok(()) => {}
-            Err(why) => return Err(why),
-        }
+        undo(engine, place + 1)?;
     }
     Ok(())
 }
@@ -90,8 +81,6 @@ where
 pub(crate) fn finish<D: SectorDisk, K: ReadKeys + Probing>(
     engine: &mut Engine<D, K>,
 ) -> Result<(), Refusal>
-where
-    K::Probe: Drop,
     requires undoes { OnlyUndoes engine.old }
     requires works { engine.old.sessions.failed ≡ false }
     ensures goes { GoesBy (Makes K.Key.Shape K.is_proper K.said K.KeyClass D.state) engine.old engine.new }
@@ -100,8 +89,6 @@ where
     ensures why { IfErr result
         (λ why. WhyStopped (Makes K.Key.Shape K.is_proper K.said K.KeyClass D.state) engine.old why engine.new) }
 {
-    match end_checkpoint(engine) {
-        Ok(()) => undo_all(engine),
-        Err(why) => Err(why),
-    }
+    end_checkpoint(engine)?;
+    undo_all(engine)
 }

@@ -22,10 +22,8 @@ fn parameters_told<D: SectorDisk>(disk: &mut D) -> Result<Parameters, Refusal>
     ensures refused { IfErr result (λ why. why ≡ Refusal.Device) }
 {
     let mut bytes = [0; SECTOR_SIZE];
-    match disk.read(PARAMETERS, &mut bytes) {
-        Ok(()) => Ok(Parameters::decode(&bytes)),
-        Err(_) => Err(Refusal::Device),
-    }
+    disk.read(PARAMETERS, &mut bytes)?;
+    Ok(Parameters::decode(&bytes))
 }
 
 // How many sectors are copied of a device of so many, which says that it is formatted for so many pages.
@@ -60,10 +58,8 @@ fn read_first<D: SectorDisk>(disk: &mut D, bytes: &mut [u8], sectors: u64) -> Re
         → OnOk result (bytes.new ≡ span_of (D.state disk.old).seen 0 (512 * sectors)) }
     ensures refused { IfErr result (λ why. why ≡ Refusal.Device) }
 {
-    match disk.read(0, bytes) {
-        Ok(()) => Ok(()),
-        Err(_) => Err(Refusal::Device),
-    }
+    disk.read(0, bytes)?;
+    Ok(())
 }
 
 // Copies the first so many sectors of a device.
@@ -81,10 +77,8 @@ fn copy_first<D: SectorDisk>(alloc: Global, disk: &mut D, sectors: u64) -> Resul
     let Ok(mut bytes) = room_for(alloc, sectors) else {
         return Err(Refusal::Memory);
     };
-    match read_first(disk, &mut bytes, sectors) {
-        Ok(()) => Ok(MemDisk::from_bytes(alloc, bytes)),
-        Err(why) => Err(why),
-    }
+    read_first(disk, &mut bytes, sectors)?;
+    Ok(MemDisk::from_bytes(alloc, bytes))
 }
 
 /// Copies what an opening may read of a device: all that the index takes that it says it is formatted for, or all that
@@ -100,11 +94,7 @@ pub(crate) fn copied<D: SectorDisk>(alloc: Global, disk: &mut D) -> Result<MemDi
         → IfOk result (λ copy. IsCopy (D.state disk.old) (memory_state copy)) }
     ensures refused { IfErr result HasFailed }
 {
-    match parameters_told(disk) {
-        Ok(parameters) => {
-            let sectors = sectors_copied(disk.sectors(), parameters.pages);
-            copy_first(alloc, disk, sectors)
-        }
-        Err(why) => Err(why),
-    }
+    let parameters = parameters_told(disk)?;
+    let sectors = sectors_copied(disk.sectors(), parameters.pages);
+    copy_first(alloc, disk, sectors)
 }

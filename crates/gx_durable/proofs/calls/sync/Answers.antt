@@ -2,16 +2,16 @@ use Rattle.gx_pool.proofs.Elsewhere.{rest_leaves}
 use Rattle.gx_durable.proofs.Reading.{rests_safely}
 use Rattle.gx_durable.proofs.calls.sync.Goals as goal
 
-pub returns-in-Ok-clause-up : goal.returns-in-Ok-clause-up
-returns-in-Ok-clause-up g c = λ l.
-    rests_safely (g.M.Meaning.known l) g.M.Spelled.reading (g.D.SectorDisk.state c.args.disk.now) _ c.in-Ok.ensures.counts.sectors (λ honest. (c.in-Ok.ensures.syncs honest).rests) (λ honest. (c.in-Ok.ensures.syncs honest).time)
+pub returns-clause-up : goal.returns-clause-up
+returns-clause-up g c = λ l.
+    rests_safely (g.M.Meaning.known l) g.M.Spelled.reading (g.D.SectorDisk.state c.args.disk.now) _ c.in_ok-sync.ensures.counts.sectors (λ honest. (c.in_ok-sync.ensures.syncs honest).rests) (λ honest. (c.in_ok-sync.ensures.syncs honest).time)
 
-pub returns-in-Err-clause-up : goal.returns-in-Err-clause-up
-returns-in-Err-clause-up g c = λ l.
-    rests_safely (g.M.Meaning.known l) g.M.Spelled.reading (g.D.SectorDisk.state c.args.disk.now) _ c.in-Err.ensures.counts.sectors (λ honest. (c.in-Err.ensures.syncs honest).rests) (λ honest. (c.in-Err.ensures.syncs honest).time)
+pub returns-in_err-sync-clause-up : goal.returns-in_err-sync-clause-up
+returns-in_err-sync-clause-up g c = λ l.
+    rests_safely (g.M.Meaning.known l) g.M.Spelled.reading (g.D.SectorDisk.state c.args.disk.now) _ c.in_err-sync.ensures.counts.sectors (λ honest. (c.in_err-sync.ensures.syncs honest).rests) (λ honest. (c.in_err-sync.ensures.syncs honest).time)
 
-pub returns-in-Ok-clause-pages : goal.returns-in-Ok-clause-pages
-returns-in-Ok-clause-pages g c = λ honest. rest_leaves (g.D.SectorDisk.state c.args.disk.now) _ (c.in-Ok.ensures.syncs honest).rests
+pub returns-clause-pages : goal.returns-clause-pages
+returns-clause-pages g c = λ honest. rest_leaves (g.D.SectorDisk.state c.args.disk.now) _ (c.in_ok-sync.ensures.syncs honest).rests
 
-pub returns-in-Err-clause-pages : goal.returns-in-Err-clause-pages
-returns-in-Err-clause-pages g c = λ honest. rest_leaves (g.D.SectorDisk.state c.args.disk.now) _ (c.in-Err.ensures.syncs honest).rests
+pub returns-in_err-sync-clause-pages : goal.returns-in_err-sync-clause-pages
+returns-in_err-sync-clause-pages g c = λ honest. rest_leaves (g.D.SectorDisk.state c.args.disk.now) _ (c.in_err-sync.ensures.syncs honest).rests

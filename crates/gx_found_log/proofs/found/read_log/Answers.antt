@@ -9,6 +9,6 @@ returns-in-Err-clause-reads g c =
     subst (λ (why : Refusal). ReadsAlone (g.D.SectorDisk.state c.args.disk.now) (g.D.SectorDisk.state c.examine_log.new.disk) (Err why)) (sym c.refusal.ensures) c.in-Err.ensures.reads
 
 pub returns-in-Err-clause-log : goal.returns-in-Err-clause-log
-returns-in-Err-clause-log g c = λ honest d ordered pages.
+returns-in-Err-clause-log g c = λ honest d ordered pages most.
     subst (λ (why : Refusal). LogRead (g.M.Meaning.known d) g.M.Spelled.reading (g.D.SectorDisk.state c.args.disk.now).seen (Err why)) (sym c.refusal.ensures)
-    (c.in-Err.ensures.log honest d ordered pages)
+    (c.in-Err.ensures.log honest d ordered pages most)

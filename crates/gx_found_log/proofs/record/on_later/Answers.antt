@@ -5,8 +5,8 @@ use Rattle.gx_analysis.specs.declared.closed.TheConstants.{CLOSINGS}
 use Rattle.gx_analysis.specs.Broken.{refused, breaks_pages, breaks_commit, breaks_end}
 use Rattle.gx_found_log.specs.declared.part.Part.TheVariants.{Later}
 use Rattle.gx_found_log.specs.Told.{page_numbers, closings}
-use Rattle.gx_found_log.proofs.Broken.{keyless, next_broken, write_broken}
-use Rattle.gx_found_log.proofs.Told.{pages_come, write_comes, no_entry_comes, commit_comes, end_comes}
+use Rattle.gx_found_log.proofs.Broken.{next_broken, write_broken, bit_broken, add_broken}
+use Rattle.gx_found_log.proofs.Told.{pages_come, write_comes, bit_comes, add_comes, is_adjusting, adjust_comes, commit_comes, end_comes}
 use Rattle.gx_found_log.proofs.record.on_later.Goals as goal
 
 pub on_commit-requires : goal.on_commit-requires
@@ -22,18 +22,33 @@ returns-in-Pages-clause-told g c = λ d ordered.
     pages_come (g.M.Meaning.known d) g.M.Spelled.reading (g.met.M.Readable.lawful d) (g.met.M.Readable.own d) (rec_of c.args.logged.now) c.in-Pages.counter c.in-Pages.used (images c.in-Pages.pages)
     (ap rec_of c.in-Pages.is) c.requires.is_record c.args.analysis.now c.on_pages.new.analysis (refused c.on_pages.result) c.on_pages.ensures.takes
 
-pub returns-in-Some-clause-told : goal.returns-in-Some-clause-told
-returns-in-Some-clause-told g c = λ d ordered.
+pub returns-in-Write-clause-told : goal.returns-in-Write-clause-told
+returns-in-Write-clause-told g c = λ d ordered.
     let w = c.in-Write in
     write_comes (g.M.Meaning.known d) g.M.Spelled.reading (g.met.M.Readable.lawful d) (g.met.M.Readable.own d) g.M.Entry.Ord.cmp ordered (rec_of c.args.logged.now) w.tx w.row w.key.now
-    (is_marked w.before) (is_marked w.after) w.leaf w.image.now (ap rec_of w.is) c.requires.is_record (c.in-Some.ensures.of_class d)
-    c.in-Some.touch c.in-Some.ensures.touch c.args.analysis.now c.on_write.new.self (refused c.on_write.result) c.on_write.ensures.takes
+    (is_marked w.before) (is_marked w.after) w.leaf w.image.now (ap rec_of w.is) c.requires.is_record c.args.analysis.now c.on_written.new.analysis c.on_written.result
+    (c.on_written.ensures.takes d) (c.on_written.ensures.keyless d)
 
-pub returns-in-None-clause-told : goal.returns-in-None-clause-told
-returns-in-None-clause-told g c = λ d ordered.
-    let w = c.in-Write in
-    no_entry_comes (g.M.Meaning.known d) g.M.Spelled.reading (g.met.M.Readable.lawful d) (rec_of c.args.logged.now) w.tx w.row w.key.now
-    (is_marked w.before) (is_marked w.after) w.leaf w.image.now (ap rec_of w.is) (c.in-None.ensures.of_class d) c.args.analysis.now c.args.analysis.now
+pub returns-in-Bit-clause-told : goal.returns-in-Bit-clause-told
+returns-in-Bit-clause-told g c = λ d ordered.
+    let w = c.in-Bit in
+    bit_comes (g.M.Meaning.known d) g.M.Spelled.reading (g.met.M.Readable.lawful d) g.M.Entry.Ord.cmp ordered (rec_of c.args.logged.now) w.tx w.row w.key.now
+    (is_marked w.before) (is_marked w.after) w.leaf (ap rec_of w.is) c.args.analysis.now c.on_written-in-Bit.new.analysis c.on_written-in-Bit.result
+    (c.on_written-in-Bit.ensures.takes d) (c.on_written-in-Bit.ensures.keyless d)
+
+pub returns-in-Add-clause-told : goal.returns-in-Add-clause-told
+returns-in-Add-clause-told g c = λ d ordered.
+    let w = c.in-Add in
+    add_comes (g.M.Meaning.known d) g.M.Spelled.reading (g.met.M.Readable.lawful d) g.M.Entry.Ord.cmp ordered (rec_of c.args.logged.now) w.tx w.row w.key.now
+    w.leaf (ap rec_of w.is) c.args.analysis.now c.on_written-in-Add.new.analysis c.on_written-in-Add.result (c.on_written-in-Add.ensures.takes d) (c.on_written-in-Add.ensures.keyless d)
+
+pub returns-in-Widen-clause-told : goal.returns-in-Widen-clause-told
+returns-in-Widen-clause-told g c = λ d ordered.
+    adjust_comes (g.M.Meaning.known d) g.M.Spelled.reading (g.met.M.Readable.lawful d) (rec_of c.args.logged.now) (ap (λ x. is_adjusting (rec_of x)) c.in-Widen.is) c.args.analysis.now
+
+pub returns-in-Sweep-clause-told : goal.returns-in-Sweep-clause-told
+returns-in-Sweep-clause-told g c = λ d ordered.
+    adjust_comes (g.M.Meaning.known d) g.M.Spelled.reading (g.met.M.Readable.lawful d) (rec_of c.args.logged.now) (ap (λ x. is_adjusting (rec_of x)) c.in-Sweep.is) c.args.analysis.now
 
 pub returns-in-Commit-clause-told : goal.returns-in-Commit-clause-told
 returns-in-Commit-clause-told g c = λ d ordered.
@@ -51,17 +66,23 @@ returns-in-Pages-clause-broken g c = λ d ordered.
     next_broken (g.M.Meaning.known d) g.M.Spelled.reading Later (rec_of c.args.logged.now) (rec.Pages w.counter w.used (images w.pages)) c.args.analysis.now
     (λ rule. breaks_pages w.counter w.used (page_numbers (images w.pages)) c.args.analysis.now rule) (ap rec_of w.is) (λ rule. refl) c.on_pages.result c.on_pages.ensures.rule
 
-pub returns-in-Some-clause-broken : goal.returns-in-Some-clause-broken
-returns-in-Some-clause-broken g c = λ d ordered.
+pub returns-in-Write-clause-broken : goal.returns-in-Write-clause-broken
+returns-in-Write-clause-broken g c = λ d ordered.
     let w = c.in-Write in
     write_broken (g.M.Meaning.known d) g.M.Spelled.reading g.M.Entry.Ord.cmp ordered (rec_of c.args.logged.now) w.tx w.row w.key.now
-    (is_marked w.before) (is_marked w.after) w.leaf w.image.now (ap rec_of w.is) c.in-Some.touch c.in-Some.ensures.touch c.args.analysis.now c.on_write.result c.on_write.ensures.rule
+    (is_marked w.before) (is_marked w.after) w.leaf w.image.now (ap rec_of w.is) c.args.analysis.now c.on_written.result (c.on_written.ensures.rule d)
 
-pub returns-in-None-clause-broken : goal.returns-in-None-clause-broken
-returns-in-None-clause-broken g c = λ d ordered.
-    let w = c.in-Write in
-    keyless (g.M.Meaning.known d) g.M.Spelled.reading Later (rec_of c.args.logged.now)
-    (rec.Write w.tx w.row w.key.now (is_marked w.before) (is_marked w.after) w.leaf w.image.now) c.args.analysis.now (ap rec_of w.is) (c.in-None.ensures.of_class d)
+pub returns-in-Bit-clause-broken : goal.returns-in-Bit-clause-broken
+returns-in-Bit-clause-broken g c = λ d ordered.
+    let w = c.in-Bit in
+    bit_broken (g.M.Meaning.known d) g.M.Spelled.reading g.M.Entry.Ord.cmp ordered (rec_of c.args.logged.now) w.tx w.row w.key.now
+    (is_marked w.before) (is_marked w.after) w.leaf (ap rec_of w.is) c.args.analysis.now c.on_written-in-Bit.result (c.on_written-in-Bit.ensures.rule d)
+
+pub returns-in-Add-clause-broken : goal.returns-in-Add-clause-broken
+returns-in-Add-clause-broken g c = λ d ordered.
+    let w = c.in-Add in
+    add_broken (g.M.Meaning.known d) g.M.Spelled.reading g.M.Entry.Ord.cmp ordered (rec_of c.args.logged.now) w.tx w.row w.key.now
+    w.leaf (ap rec_of w.is) c.args.analysis.now c.on_written-in-Add.result (c.on_written-in-Add.ensures.rule d)
 
 pub returns-in-Commit-clause-broken : goal.returns-in-Commit-clause-broken
 returns-in-Commit-clause-broken g c = λ d ordered.

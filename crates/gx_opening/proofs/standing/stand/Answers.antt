@@ -1,4 +1,5 @@
 use Rattle.std.proofs.Common.{◌≤◌, ◌∙◌, inl, inr, refl, arith}
+use Rattle.std.proofs.lemmas.Result.{err_from_is_err_and}
 use Rattle.gx_disk.specs.declared.layout.TheConstants.{MIN_SECTORS}
 use Rattle.gx_found_log.specs.declared.found.FoundLog.{FoundLog}
 use Rattle.gx_glog.specs.declared.parameters.Parameters.{Parameters}
@@ -11,8 +12,8 @@ use Rattle.gx_opening.proofs.Ordering.{laid_in_order, synced_so, unlaid_in_order
 use Rattle.gx_opening.proofs.Stood.{formatted_so, laid_so, stood_safe, told_cause, unlaid_so}
 use Rattle.gx_opening.proofs.standing.stand.Goals as goal
 
-pub returns-in-Ok-lay_log-clause-safe : goal.returns-in-Ok-lay_log-clause-safe
-returns-in-Ok-lay_log-clause-safe g c = λ honest.
+pub returns-clause-safe : goal.returns-clause-safe
+returns-clause-safe g c = λ honest.
     (let shape : Members g.row.K-Key.Denot = record { partial_cmp = g.K.Key.PartialOrd.partial_cmp; eq = g.K.Key.PartialEq.eq; cmp = g.K.Key.Ord.cmp; overlap = g.K.Key.Shape.overlap; inside = g.K.Key.Shape.inside } in
     let proper = g.K.ReadKeys.is_proper in
     let said = g.K.ReadKeys.said in
@@ -21,16 +22,16 @@ returns-in-Ok-lay_log-clause-safe g c = λ honest.
     let a = state c.args.disk.now in
     let b = state c.formatted_for.new.disk in
     let e = state c.lay_log.new.disk in
-    let p = c.in-Ok.parameters in
-    let settles = c.in-Ok.ensures.settles honest in
-    let allowed = c.in-Ok.ensures.allowed in
+    let p = c.in_ok-parameters.parameters in
+    let settles = c.in_ok-parameters.ensures.settles honest in
+    let allowed = c.in_ok-parameters.ensures.allowed in
     let enough : MIN_SECTORS ≤ a.sectors = (let least = allowed.0.range.least_pages in let large = allowed.1 in omega (arith, least, large)) in
     let formatted = formatted_so shape proper said f _ a b p enough settles in
-    let lays = c.in-Ok-lay_log.ensures.lays (limits_of p) refl (c.what_stands_is_legal.ensures.lawful (limits_of p)) (c.in-Ok.ensures.counted.honest ∙ honest) settles.settled in
+    let lays = c.in_ok-log.ensures.lays (limits_of p) refl refl (c.what_stands_is_legal.ensures.lawful (limits_of p)) (c.in_ok-parameters.ensures.counted.honest ∙ honest) settles.settled in
     stood_safe shape proper said f 0 a b e p formatted.says settles.only lays.leaves)
 
-pub returns-in-Ok-lay_log-clause-stood : goal.returns-in-Ok-lay_log-clause-stood
-returns-in-Ok-lay_log-clause-stood g c = λ honest large.
+pub returns-clause-stood : goal.returns-clause-stood
+returns-clause-stood g c = λ honest large.
     (let shape : Members g.row.K-Key.Denot = record { partial_cmp = g.K.Key.PartialOrd.partial_cmp; eq = g.K.Key.PartialEq.eq; cmp = g.K.Key.Ord.cmp; overlap = g.K.Key.Shape.overlap; inside = g.K.Key.Shape.inside } in
     let proper = g.K.ReadKeys.is_proper in
     let said = g.K.ReadKeys.said in
@@ -39,16 +40,16 @@ returns-in-Ok-lay_log-clause-stood g c = λ honest large.
     let a = state c.args.disk.now in
     let b = state c.formatted_for.new.disk in
     let e = state c.lay_log.new.disk in
-    let p = c.in-Ok.parameters in
-    let settles = c.in-Ok.ensures.settles honest in
-    let allowed = c.in-Ok.ensures.allowed in
+    let p = c.in_ok-parameters.parameters in
+    let settles = c.in_ok-parameters.ensures.settles honest in
+    let allowed = c.in_ok-parameters.ensures.allowed in
     let enough : MIN_SECTORS ≤ a.sectors = (let least = allowed.0.range.least_pages in let large = allowed.1 in omega (arith, least, large)) in
     let formatted = formatted_so shape proper said f _ a b p enough settles in
-    let lays = c.in-Ok-lay_log.ensures.lays (limits_of p) refl (c.what_stands_is_legal.ensures.lawful (limits_of p)) (c.in-Ok.ensures.counted.honest ∙ honest) settles.settled in
-    (formatted, laid_so shape proper said f 0 a b e p formatted.says settles.only c.in-Ok-lay_log.log lays))
+    let lays = c.in_ok-log.ensures.lays (limits_of p) refl refl (c.what_stands_is_legal.ensures.lawful (limits_of p)) (c.in_ok-parameters.ensures.counted.honest ∙ honest) settles.settled in
+    (formatted, laid_so shape proper said f 0 a b e p formatted.says settles.only c.in_ok-log.log lays))
 
-pub returns-in-Err-lay_log-clause-safe : goal.returns-in-Err-lay_log-clause-safe
-returns-in-Err-lay_log-clause-safe g c = λ honest.
+pub returns-in_err-log-clause-safe : goal.returns-in_err-log-clause-safe
+returns-in_err-log-clause-safe g c = λ honest.
     (let shape : Members g.row.K-Key.Denot = record { partial_cmp = g.K.Key.PartialOrd.partial_cmp; eq = g.K.Key.PartialEq.eq; cmp = g.K.Key.Ord.cmp; overlap = g.K.Key.Shape.overlap; inside = g.K.Key.Shape.inside } in
     let proper = g.K.ReadKeys.is_proper in
     let said = g.K.ReadKeys.said in
@@ -57,17 +58,18 @@ returns-in-Err-lay_log-clause-safe g c = λ honest.
     let a = state c.args.disk.now in
     let b = state c.formatted_for.new.disk in
     let e = state c.lay_log.new.disk in
-    let p = c.in-Ok.parameters in
-    let settles = c.in-Ok.ensures.settles honest in
-    let allowed = c.in-Ok.ensures.allowed in
+    let p = c.in_ok-parameters.parameters in
+    let settles = c.in_ok-parameters.ensures.settles honest in
+    let allowed = c.in_ok-parameters.ensures.allowed in
     let enough : MIN_SECTORS ≤ a.sectors = (let least = allowed.0.range.least_pages in let large = allowed.1 in omega (arith, least, large)) in
     let formatted = formatted_so shape proper said f _ a b p enough settles in
-    let lays = c.in-Err-lay_log.ensures.lays (limits_of p) refl (c.what_stands_is_legal.ensures.lawful (limits_of p)) (c.in-Ok.ensures.counted.honest ∙ honest) settles.settled in
+    let lays = c.in_err-log.ensures.lays (limits_of p) refl refl (c.what_stands_is_legal.ensures.lawful (limits_of p)) (c.in_ok-parameters.ensures.counted.honest ∙ honest) settles.settled in
     stood_safe shape proper said f 0 a b e p formatted.says settles.only lays.leaves)
 
-pub returns-in-Err-lay_log-clause-stood : goal.returns-in-Err-lay_log-clause-stood
-returns-in-Err-lay_log-clause-stood g c = λ honest large.
-    (let shape : Members g.row.K-Key.Denot = record { partial_cmp = g.K.Key.PartialOrd.partial_cmp; eq = g.K.Key.PartialEq.eq; cmp = g.K.Key.Ord.cmp; overlap = g.K.Key.Shape.overlap; inside = g.K.Key.Shape.inside } in
+pub returns-in_err-log-clause-stood : goal.returns-in_err-log-clause-stood
+returns-in_err-log-clause-stood g c = λ honest large.
+    let p = err_from_is_err_and c.from_residual-in_err-log.result c.from_residual-in_err-log.ensures.1 in
+    rw (p.1, p.2) ((let shape : Members g.row.K-Key.Denot = record { partial_cmp = g.K.Key.PartialOrd.partial_cmp; eq = g.K.Key.PartialEq.eq; cmp = g.K.Key.Ord.cmp; overlap = g.K.Key.Shape.overlap; inside = g.K.Key.Shape.inside } in
     let proper = g.K.ReadKeys.is_proper in
     let said = g.K.ReadKeys.said in
     let f = format_of g.K.KeyClass in
@@ -75,29 +77,32 @@ returns-in-Err-lay_log-clause-stood g c = λ honest large.
     let a = state c.args.disk.now in
     let b = state c.formatted_for.new.disk in
     let e = state c.lay_log.new.disk in
-    let p = c.in-Ok.parameters in
-    let settles = c.in-Ok.ensures.settles honest in
-    let allowed = c.in-Ok.ensures.allowed in
+    let p = c.in_ok-parameters.parameters in
+    let settles = c.in_ok-parameters.ensures.settles honest in
+    let allowed = c.in_ok-parameters.ensures.allowed in
     let enough : MIN_SECTORS ≤ a.sectors = (let least = allowed.0.range.least_pages in let large = allowed.1 in omega (arith, least, large)) in
     let formatted = formatted_so shape proper said f _ a b p enough settles in
-    let lays = c.in-Err-lay_log.ensures.lays (limits_of p) refl (c.what_stands_is_legal.ensures.lawful (limits_of p)) (c.in-Ok.ensures.counted.honest ∙ honest) settles.settled in
-    inr (unlaid_so shape proper said f _ a b e p formatted.says settles.only c.in-Err-lay_log.why formatted c.in-Err-lay_log.ensures.faults lays))
+    let lays = c.in_err-log.ensures.lays (limits_of p) refl refl (c.what_stands_is_legal.ensures.lawful (limits_of p)) (c.in_ok-parameters.ensures.counted.honest ∙ honest) settles.settled in
+    inr (unlaid_so shape proper said f _ a b e p formatted.says settles.only c.in_err-log.field-0.0 formatted c.in_err-log.ensures.faults lays)))
 
-pub returns-in-Ok-lay_log-clause-faults : goal.returns-in-Ok-lay_log-clause-faults
-returns-in-Ok-lay_log-clause-faults g c =
-    let same = c.in-Ok.ensures.counted.faults in
-    told_later _ _ _ _ (omega (arith, same)) (found_told _ _ _ c.in-Ok-lay_log.ensures.faults)
+pub returns-clause-faults : goal.returns-clause-faults
+returns-clause-faults g c =
+    let same = c.in_ok-parameters.ensures.counted.faults in
+    told_later _ _ _ _ (omega (arith, same)) (found_told _ _ _ c.in_ok-log.ensures.faults)
 
-pub returns-in-Err-lay_log-clause-faults : goal.returns-in-Err-lay_log-clause-faults
-returns-in-Err-lay_log-clause-faults g c =
-    let same = c.in-Ok.ensures.counted.faults in
-    told_later _ _ _ _ (omega (arith, same)) (told_same {U = FoundLog (Entry g.row.K-Key.Denot)} _ _ _ (found_told _ _ _ c.in-Err-lay_log.ensures.faults))
+pub returns-in_err-log-clause-faults : goal.returns-in_err-log-clause-faults
+returns-in_err-log-clause-faults g c =
+    let p = err_from_is_err_and c.from_residual-in_err-log.result c.from_residual-in_err-log.ensures.1 in
+    rw (p.1, p.2) (let same = c.in_ok-parameters.ensures.counted.faults in
+    told_later _ _ _ _ (omega (arith, same)) (told_same {U = FoundLog (Entry g.row.K-Key.Denot)} _ _ _ (found_told _ _ _ c.in_err-log.ensures.faults)))
 
-pub returns-in-Err-clause-faults : goal.returns-in-Err-clause-faults
-returns-in-Err-clause-faults g c = told_same {U = Parameters} _ _ _ (are_told _ _ _ c.in-Err.ensures.counted.faults)
+pub returns-in_err-parameters-clause-faults : goal.returns-in_err-parameters-clause-faults
+returns-in_err-parameters-clause-faults g c =
+    let p = err_from_is_err_and c.from_residual.result c.from_residual.ensures.1 in
+    rw (p.1, p.2) (told_same {U = Parameters} _ _ _ (are_told _ _ _ c.in_err-parameters.ensures.counted.faults))
 
-pub returns-in-Ok-lay_log-clause-order : goal.returns-in-Ok-lay_log-clause-order
-returns-in-Ok-lay_log-clause-order g c = λ honest.
+pub returns-clause-order : goal.returns-clause-order
+returns-clause-order g c = λ honest.
     (let shape : Members g.row.K-Key.Denot = record { partial_cmp = g.K.Key.PartialOrd.partial_cmp; eq = g.K.Key.PartialEq.eq; cmp = g.K.Key.Ord.cmp; overlap = g.K.Key.Shape.overlap; inside = g.K.Key.Shape.inside } in
     let proper = g.K.ReadKeys.is_proper in
     let said = g.K.ReadKeys.said in
@@ -105,17 +110,18 @@ returns-in-Ok-lay_log-clause-order g c = λ honest.
     let state = g.D.SectorDisk.state in
     let a = state c.args.disk.now in
     let b = state c.formatted_for.new.disk in
-    let p = c.in-Ok.parameters in
-    let settles = c.in-Ok.ensures.settles honest in
-    let allowed = c.in-Ok.ensures.allowed in
+    let p = c.in_ok-parameters.parameters in
+    let settles = c.in_ok-parameters.ensures.settles honest in
+    let allowed = c.in_ok-parameters.ensures.allowed in
     let enough : MIN_SECTORS ≤ a.sectors = (let least = allowed.0.range.least_pages in let large = allowed.1 in omega (arith, least, large)) in
-    let lays = c.in-Ok-lay_log.ensures.lays (limits_of p) refl (c.what_stands_is_legal.ensures.lawful (limits_of p)) (c.in-Ok.ensures.counted.honest ∙ honest) settles.settled in
+    let lays = c.in_ok-log.ensures.lays (limits_of p) refl refl (c.what_stands_is_legal.ensures.lawful (limits_of p)) (c.in_ok-parameters.ensures.counted.honest ∙ honest) settles.settled in
     laid_in_order shape proper said f state a (state c.lay_log.new.disk) c.formatted_for.new.disk p (formatted_so shape proper said f _ a b p enough settles).says
-    (synced_so _ a b p c.in-Ok.ensures.counted c.in-Ok.ensures.synced settles) c.in-Ok-lay_log.log lays)
+    (synced_so _ a b p c.in_ok-parameters.ensures.counted c.in_ok-parameters.ensures.synced settles) c.in_ok-log.log lays)
 
-pub returns-in-Err-lay_log-clause-order : goal.returns-in-Err-lay_log-clause-order
-returns-in-Err-lay_log-clause-order g c = λ honest.
-    (let shape : Members g.row.K-Key.Denot = record { partial_cmp = g.K.Key.PartialOrd.partial_cmp; eq = g.K.Key.PartialEq.eq; cmp = g.K.Key.Ord.cmp; overlap = g.K.Key.Shape.overlap; inside = g.K.Key.Shape.inside } in
+pub returns-in_err-log-clause-order : goal.returns-in_err-log-clause-order
+returns-in_err-log-clause-order g c = λ honest.
+    let p = err_from_is_err_and c.from_residual-in_err-log.result c.from_residual-in_err-log.ensures.1 in
+    rw (p.1, p.2) ((let shape : Members g.row.K-Key.Denot = record { partial_cmp = g.K.Key.PartialOrd.partial_cmp; eq = g.K.Key.PartialEq.eq; cmp = g.K.Key.Ord.cmp; overlap = g.K.Key.Shape.overlap; inside = g.K.Key.Shape.inside } in
     let proper = g.K.ReadKeys.is_proper in
     let said = g.K.ReadKeys.said in
     let f = format_of g.K.KeyClass in
@@ -123,18 +129,19 @@ returns-in-Err-lay_log-clause-order g c = λ honest.
     let a = state c.args.disk.now in
     let b = state c.formatted_for.new.disk in
     let e = state c.lay_log.new.disk in
-    let p = c.in-Ok.parameters in
-    let settles = c.in-Ok.ensures.settles honest in
-    let allowed = c.in-Ok.ensures.allowed in
+    let p = c.in_ok-parameters.parameters in
+    let settles = c.in_ok-parameters.ensures.settles honest in
+    let allowed = c.in_ok-parameters.ensures.allowed in
     let enough : MIN_SECTORS ≤ a.sectors = (let least = allowed.0.range.least_pages in let large = allowed.1 in omega (arith, least, large)) in
-    let lays = c.in-Err-lay_log.ensures.lays (limits_of p) refl (c.what_stands_is_legal.ensures.lawful (limits_of p)) (c.in-Ok.ensures.counted.honest ∙ honest) settles.settled in
-    let why = c.in-Err-lay_log.why in
+    let lays = c.in_err-log.ensures.lays (limits_of p) refl refl (c.what_stands_is_legal.ensures.lawful (limits_of p)) (c.in_ok-parameters.ensures.counted.honest ∙ honest) settles.settled in
+    let why = c.in_err-log.field-0.0 in
     unlaid_in_order shape proper said f state a e c.formatted_for.new.disk p (formatted_so shape proper said f _ a b p enough settles).says
-    (synced_so _ a b p c.in-Ok.ensures.counted c.in-Ok.ensures.synced settles) why (told_cause (FoundLog (Entry g.row.K-Key.Denot)) b.faults e.faults why c.in-Err-lay_log.ensures.faults) lays)
+    (synced_so _ a b p c.in_ok-parameters.ensures.counted c.in_ok-parameters.ensures.synced settles) why (told_cause (FoundLog (Entry g.row.K-Key.Denot)) b.faults e.faults why c.in_err-log.ensures.faults) lays))
 
-pub returns-in-Err-clause-order : goal.returns-in-Err-clause-order
-returns-in-Err-clause-order g c = λ honest.
-    (let a = g.D.SectorDisk.state c.args.disk.now in
+pub returns-in_err-parameters-clause-order : goal.returns-in_err-parameters-clause-order
+returns-in_err-parameters-clause-order g c = λ honest.
+    let p = err_from_is_err_and c.from_residual.result c.from_residual.ensures.1 in
+    rw (p.1, p.2) ((let a = g.D.SectorDisk.state c.args.disk.now in
     let b = g.D.SectorDisk.state c.formatted_for.new.disk in
-    let unwritten = unwritten_so _ a b c.in-Err.why c.in-Err.ensures.counted (c.in-Err.ensures.settles honest) in
-    (inl unwritten, λ unfit. unwritten))
+    let unwritten = unwritten_so _ a b c.in_err-parameters.field-0.0 c.in_err-parameters.ensures.counted (c.in_err-parameters.ensures.settles honest) in
+    (inl unwritten, λ unfit. unwritten)))

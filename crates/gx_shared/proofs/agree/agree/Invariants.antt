@@ -1,6 +1,6 @@
 use Rattle.std.proofs.Common.{◌≡◌, ◌≤◌, length, drop}
+use Rattle.gx_machine.proofs.Comparing.{Alike}
 use Rattle.gx_shared.specs.Agreed.{replies_of}
-use Rattle.gx_shared.proofs.Agreeing.{Alike}
 use Rattle.gx_shared.proofs.agree.agree.Given as goal
 
 -- the replies are these where those that are left are

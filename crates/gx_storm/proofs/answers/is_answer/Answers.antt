@@ -11,4 +11,4 @@ returns-then-is_some g c = λ r st.
 pub returns : goal.returns
 returns g c = λ r st.
     unsealed_along (keys g.B.Ord.cmp g.B.Shape.overlap g.B.Shape.inside) c.args.session r c.args.index.now c.stands.ensures st c.args.reply.now c.answer-given.result c.seal.result c.seal.new.self c.answer-given.new.self
-    c.same_reply.result c.requires c.seal.ensures (sym c.is_some.ensures ∙ c.if-is_some.false) c.answer-given.ensures c.if-lacks_memory.ensures c.same_reply.ensures
+    c.is_same_reply.result c.requires c.seal.ensures (sym c.is_some.ensures ∙ c.if-is_some.false) c.answer-given.ensures c.if-lacks_memory.ensures c.is_same_reply.ensures

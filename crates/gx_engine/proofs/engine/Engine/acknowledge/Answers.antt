@@ -10,4 +10,4 @@ returns-clause-leads g c =
     let works = ap (λ (x : Parts g.row.K-Key.Denot g.row.D.Denot). x.sessions.failed) c.self.view_is ∙ c.requires.works in
     rw (c.commit_outcome.ensures, c.is_checkpointing-running.ensures, ← c.self.view_is) (λ number waits l.
     (acknowledge_leads _ (c.a_class_is_lawful.ensures l) _ _ _ (g.D.SectorDisk.state old.volume.shelf.disk) old
-    c.has_failed.ensures.kept works c.args.session c.requires.session number waits c.acknowledge.result c.acknowledge.new.self c.acknowledge.ensures.number c.acknowledge.ensures.state).1)
+    c.stands.ensures works c.args.session c.requires.session number waits c.acknowledge.result c.acknowledge.new.self c.acknowledge.ensures.number c.acknowledge.ensures.state).1)

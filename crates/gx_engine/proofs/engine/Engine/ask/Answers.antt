@@ -19,4 +19,4 @@ returns-clause-leads g c = λ l.
     let old : Parts g.row.K-Key.Denot g.row.D.Denot = record { volume = c.self.inside.storage; sessions = c.self.inside.sessions; in_flight = c.self.inside.in_flight; checkpoint = c.self.inside.checkpoint } in
     rw (← c.self.view_is, c.outcome_of.ensures, told_events c.args.session c.args.call c.self.inside.sessions c.ask.result)
     (ask_leads _ _ _ _ (c.a_class_is_lawful.ensures l) (g.D.SectorDisk.state old.volume.shelf.disk) old
-    c.has_failed.ensures.kept c.args.session c.args.call c.ask.result c.ask.new.self c.ask.ensures.asked)
+    c.stands.ensures c.args.session c.args.call c.ask.result c.ask.new.self c.ask.ensures.asked)

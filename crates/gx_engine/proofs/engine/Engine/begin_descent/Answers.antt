@@ -24,5 +24,5 @@ returns-clause-moves g c entry phase l =
     let work = Descends 0 c.new-root.result in
     let item = c.new-root.ensures ∙ ap (λ (n : ℕ). record { page = 1; seen = n }) c.counter.ensures in
     rw (← c.self.view_is, replaced c.args.session (Insert entry) Rests work e.sessions c.replace_work.new.self at c.replace_work.ensures.state)
-    (descends_moves _ (c.a_class_is_lawful.ensures l) _ _ _ (g.D.SectorDisk.state e.volume.shelf.disk) e c.has_failed.ensures.kept c.args.session c.requires.session entry (Insert entry) refl Rests at
+    (descends_moves _ (c.a_class_is_lawful.ensures l) _ _ _ (g.D.SectorDisk.state e.volume.shelf.disk) e c.stands.ensures c.args.session c.requires.session entry (Insert entry) refl Rests at
     c.args.look.now works c.requires.done c.new-root.result item refl)

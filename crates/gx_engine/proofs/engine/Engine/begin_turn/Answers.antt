@@ -55,7 +55,7 @@ returns-in-Ok-put_head-clause-leads g c =
     let w = c.put_head.new.storage in
     let same : state w.shelf.disk ≡ state u.shelf.disk = ap (λ (v : Volume g.row.D.Denot). state v.shelf.disk) c.in-Ok-put_head.ensures.only in
     rw (← c.self.view_is, same) (λ l. turn_led _ (c.a_class_is_lawful.ensures l) _ _ _
-    (state old.volume.shelf.disk) (state u.shelf.disk) old c.has_failed.ensures.kept works (running_is_calm old.checkpoint running) quiet clean closed u w
+    (state old.volume.shelf.disk) (state u.shelf.disk) old c.stands.ensures works (running_is_calm old.checkpoint running) quiet clean closed u w
     (ap (λ (v : Volume g.row.D.Denot). v.log) only) (ap (λ (v : Volume g.row.D.Denot). v.shelf.counter) only) (ap (λ (v : Volume g.row.D.Denot). v.shelf.used) only)
     (ap (λ (v : Volume g.row.D.Denot). v.most) only) (c.in-Ok.ensures.keeps l) c.in-Ok.ensures.settled c.in-Ok-put_head.ensures.only c.in-Ok-put_head.ensures.puts)
 
@@ -73,7 +73,7 @@ returns-in-Err-put_head-clause-leads g c =
     let w = c.put_head.new.storage in
     let same : state w.shelf.disk ≡ state u.shelf.disk = ap (λ (v : Volume g.row.D.Denot). state v.shelf.disk) c.in-Err-put_head.ensures.only in
     rw (← c.self.view_is, c.fail_event.ensures.failed, c.fail_event.ensures.outcome, same) (λ l. never_full _ (c.a_class_is_lawful.ensures l) _ _ _
-    (state old.volume.shelf.disk) (state u.shelf.disk) old c.has_failed.ensures.kept works (running_is_calm old.checkpoint running) quiet clean closed u w
+    (state old.volume.shelf.disk) (state u.shelf.disk) old c.stands.ensures works (running_is_calm old.checkpoint running) quiet clean closed u w
     (ap (λ (v : Volume g.row.D.Denot). v.log) only) (ap (λ (v : Volume g.row.D.Denot). v.shelf.counter) only) (ap (λ (v : Volume g.row.D.Denot). v.shelf.used) only)
     (ap (λ (v : Volume g.row.D.Denot). v.most) only) (c.in-Ok.ensures.keeps l) c.in-Ok.ensures.settled c.in-Err-put_head.ensures.only c.in-Err-put_head.field-0 c.in-Err-put_head.ensures.puts _ (Refused Damaged))
 
@@ -89,6 +89,6 @@ returns-in-Err-clause-leads g c =
     let closed : old.volume.log.turn ≡ Closed = subst (λ (x : Checkpoint). StandsIn x old.volume) running c.self.invariant.stands in
     let only = c.sync.ensures.only in
     rw (← c.self.view_is, c.fail.ensures.failed, c.fail.ensures.outcome) (λ l. sync_fails _ (c.a_class_is_lawful.ensures l) _ _ _
-    (state old.volume.shelf.disk) (state u.shelf.disk) old c.has_failed.ensures.kept works (running_is_calm old.checkpoint running) quiet clean closed u u
+    (state old.volume.shelf.disk) (state u.shelf.disk) old c.stands.ensures works (running_is_calm old.checkpoint running) quiet clean closed u u
     (ap (λ (v : Volume g.row.D.Denot). v.log) only) (ap (λ (v : Volume g.row.D.Denot). v.shelf.counter) only) (ap (λ (v : Volume g.row.D.Denot). v.shelf.used) only)
     (ap (λ (v : Volume g.row.D.Denot). v.most) only) (c.in-Err.ensures.keeps l))

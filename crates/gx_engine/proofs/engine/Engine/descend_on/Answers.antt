@@ -3,7 +3,7 @@ use Rattle.gx_machine.specs.declared.call.Call.TheVariants.{Insert}
 use Rattle.gx_machine.specs.Keys.{Members, keys}
 use Rattle.gx_glog.specs.State.{Log}
 use Rattle.gx_node.specs.Reading.{format_of, is_node}
-use Rattle.gx_readings.specs.Classes.{class_of, reading_of}
+use Rattle.gx_readings.specs.Classes.{class_of, known_at, reading_of}
 use Rattle.gx_node.specs.declared.fault.StepFault.TheVariants.{Damaged}
 use Rattle.gx_phases.specs.Moves.{failed_state}
 use Rattle.gx_phases.specs.States.{IsKept, phase_at}
@@ -22,7 +22,6 @@ use Rattle.gx_tree.specs.Descending.{WayAt, next_of}
 use Rattle.gx_node.specs.Store.{tree_of}
 use Rattle.gx_tree_laws.specs.Trees.{size}
 use Rattle.gx_store.specs.State.{IsInOrder}
-use Rattle.gx_storage.specs.Changes.{known_at}
 use Rattle.gx_storage.proofs.Descending.{IsJoin}
 use Rattle.gx_engine.specs.Sweeping.{is_held, node_shown}
 use Rattle.gx_engine.proofs.Serving.{flies_on}
@@ -55,7 +54,7 @@ returns-in-Widened-clause-moves g c l =
     let shape : Members g.row.K-Key.Denot =
     record { partial_cmp = g.K.Key.PartialOrd.partial_cmp; eq = g.K.Key.PartialEq.eq; cmp = g.K.Key.Ord.cmp; overlap = g.K.Key.Shape.overlap; inside = g.K.Key.Shape.inside } in
     let f = format_of g.K.KeyClass in
-    let kept = subst (λ (x : Parts g.row.K-Key.Denot g.row.D.Denot). IsKept k x.sessions) c.self.view_is c.has_failed.ensures.kept in
+    let kept = subst (λ (x : Parts g.row.K-Key.Denot g.row.D.Denot). IsKept k x.sessions) c.self.view_is c.stands.ensures in
     let has = stepped_as (known_at shape g.K.ReadKeys.is_proper) (reading_of g.K.ReadKeys.said f) f (is_node f) (state old.volume.shelf.disk) (state c.step_down.new.self.volume.shelf.disk) old.volume c.step_down.new.self.volume g.K.KeyClass.cost g.K.KeyClass.joined c.args.item c.args.entry.key c.in-Ok.did (Widened c.in-Widened.field-0 c.in-Widened.field-1 c.in-Widened.field-2) c.in-Widened.is c.in-Ok.ensures.step in
     let there = c.go_down.ensures.there c.in-Widened.field-0 (ap (λ (x : Descended g.row.K-Key.Denot). next_of x) c.in-Widened.is) (Insert c.args.entry) (Descends c.args.parent c.args.item) (ap (λ (x : Parts g.row.K-Key.Denot g.row.D.Denot). phase_at (c.args.session - 1) x.sessions.phases) c.step_down.ensures.only ∙ c.requires.descends) in
     let order = subst (λ (x : Parts g.row.K-Key.Denot g.row.D.Denot). IsInOrder (is_node f x.volume.shelf.pages) (state x.volume.shelf.disk).sectors x.volume.shelf.frames x.volume.shelf.used x.volume.shelf.pages)
@@ -93,7 +92,7 @@ returns-in-Down-clause-moves g c l =
     let shape : Members g.row.K-Key.Denot =
     record { partial_cmp = g.K.Key.PartialOrd.partial_cmp; eq = g.K.Key.PartialEq.eq; cmp = g.K.Key.Ord.cmp; overlap = g.K.Key.Shape.overlap; inside = g.K.Key.Shape.inside } in
     let f = format_of g.K.KeyClass in
-    let kept = subst (λ (x : Parts g.row.K-Key.Denot g.row.D.Denot). IsKept k x.sessions) c.self.view_is c.has_failed.ensures.kept in
+    let kept = subst (λ (x : Parts g.row.K-Key.Denot g.row.D.Denot). IsKept k x.sessions) c.self.view_is c.stands.ensures in
     let has = stepped_as (known_at shape g.K.ReadKeys.is_proper) (reading_of g.K.ReadKeys.said f) f (is_node f) (state old.volume.shelf.disk) (state c.step_down.new.self.volume.shelf.disk) old.volume c.step_down.new.self.volume g.K.KeyClass.cost g.K.KeyClass.joined c.args.item c.args.entry.key c.in-Ok.did (Down c.in-Down.field-0) c.in-Down.is c.in-Ok.ensures.step in
     let there = c.go_down-in-Down.ensures.there c.in-Down.field-0 (ap (λ (x : Descended g.row.K-Key.Denot). next_of x) c.in-Down.is) (Insert c.args.entry) (Descends c.args.parent c.args.item) (ap (λ (x : Parts g.row.K-Key.Denot g.row.D.Denot). phase_at (c.args.session - 1) x.sessions.phases) c.step_down.ensures.only ∙ c.requires.descends) in
     let order = subst (λ (x : Parts g.row.K-Key.Denot g.row.D.Denot). IsInOrder (is_node f x.volume.shelf.pages) (state x.volume.shelf.disk).sectors x.volume.shelf.frames x.volume.shelf.used x.volume.shelf.pages)
@@ -131,7 +130,7 @@ returns-in-Again-clause-moves g c l =
     let shape : Members g.row.K-Key.Denot =
     record { partial_cmp = g.K.Key.PartialOrd.partial_cmp; eq = g.K.Key.PartialEq.eq; cmp = g.K.Key.Ord.cmp; overlap = g.K.Key.Shape.overlap; inside = g.K.Key.Shape.inside } in
     let f = format_of g.K.KeyClass in
-    let kept = subst (λ (x : Parts g.row.K-Key.Denot g.row.D.Denot). IsKept k x.sessions) c.self.view_is c.has_failed.ensures.kept in
+    let kept = subst (λ (x : Parts g.row.K-Key.Denot g.row.D.Denot). IsKept k x.sessions) c.self.view_is c.stands.ensures in
     let has = stepped_as (known_at shape g.K.ReadKeys.is_proper) (reading_of g.K.ReadKeys.said f) f (is_node f) (state old.volume.shelf.disk) (state c.step_down.new.self.volume.shelf.disk) old.volume c.step_down.new.self.volume g.K.KeyClass.cost g.K.KeyClass.joined c.args.item c.args.entry.key c.in-Ok.did Again c.in-Again.is c.in-Ok.ensures.step in
     let there = c.begin_again.ensures.there (Insert c.args.entry) (Descends c.args.parent c.args.item) (ap (λ (x : Parts g.row.K-Key.Denot g.row.D.Denot). phase_at (c.args.session - 1) x.sessions.phases) c.step_down.ensures.only ∙ c.requires.descends) in
     on_is c.args.session (Insert c.args.entry) 0 (record { page = 1; seen = c.step_down.new.self.volume.shelf.counter }) old c.step_down.new.self c.begin_again.new.self c.step_down.ensures.only there c.begin_again.result c.begin_again.ensures.outcome
@@ -284,7 +283,7 @@ returns-in-Err-Pages-clause-moves g c =
     let old : Parts g.row.K-Key.Denot g.row.D.Denot = c.args.self.now in
     let k = keys g.K.Key.Ord.cmp g.K.Key.Shape.overlap g.K.Key.Shape.inside in
     let state = g.D.SectorDisk.state in
-    let kept = subst (λ (x : Parts g.row.K-Key.Denot g.row.D.Denot). IsKept k x.sessions) c.self.view_is c.has_failed.ensures.kept in
+    let kept = subst (λ (x : Parts g.row.K-Key.Denot g.row.D.Denot). IsKept k x.sessions) c.self.view_is c.stands.ensures in
     let did = c.in-Err-Pages.ensures.step in
     let un = did.stops.unlogged in
     λ l. stopped_moves _ (c.a_class_is_lawful.ensures l) _ _ _ state old kept c.requires.works c.args.session c.requires.session c.args.entry _ c.requires.descends
@@ -299,7 +298,7 @@ returns-in-Err-Memory g c =
     let old : Parts g.row.K-Key.Denot g.row.D.Denot = c.args.self.now in
     let k = keys g.K.Key.Ord.cmp g.K.Key.Shape.overlap g.K.Key.Shape.inside in
     let state = g.D.SectorDisk.state in
-    let kept = subst (λ (x : Parts g.row.K-Key.Denot g.row.D.Denot). IsKept k x.sessions) c.self.view_is c.has_failed.ensures.kept in
+    let kept = subst (λ (x : Parts g.row.K-Key.Denot g.row.D.Denot). IsKept k x.sessions) c.self.view_is c.stands.ensures in
     let did = c.in-Err-Memory.ensures.step in
     let un = did.stops.unlogged in
     let f = format_of g.K.KeyClass in

@@ -21,7 +21,7 @@ returns-in-Ok-clause-moves g c =
     let undoes = ap (λ (x : Parts g.row.K-Key.Denot g.row.D.Denot). is_undoing (phase_at (c.args.session - 1) x.sessions.phases)) c.self.view_is ∙ c.requires.undoes in
     let none = ap (λ (x : Parts g.row.K-Key.Denot g.row.D.Denot). next_of c.args.session x.sessions) c.self.view_is ∙ c.requires.none in
     rw (← c.self.view_is, c.end_undo.ensures, same) (λ l. end_moves _ (c.a_class_is_lawful.ensures l) _ _ _
-    (state old.volume.shelf.disk) (state old.volume.shelf.disk) old c.has_failed.ensures.kept works c.args.session c.requires.session early w (ap (λ (v : Volume g.row.D.Denot). v.most) did.recorded.1)
+    (state old.volume.shelf.disk) (state old.volume.shelf.disk) old c.stands.ensures works c.args.session c.requires.session early w (ap (λ (v : Volume g.row.D.Denot). v.most) did.recorded.1)
     undoes none (flies_on old.volume.log w.log did.recorded.0) c.transaction-transaction.result c.transaction-transaction.ensures (did.keeps l))
 
 pub returns-in-Err-clause-comes : goal.returns-in-Err-clause-comes

@@ -18,7 +18,7 @@ returns-in-Ok-clause-moves g c l =
     let at = ap (λ (x : Parts g.row.K-Key.Denot g.row.D.Denot). phase_at (c.args.session - 1) x.sessions.phases) c.self.view_is ∙ c.requires.phase in
     let works = ap (λ (x : Parts g.row.K-Key.Denot g.row.D.Denot). x.sessions.failed) c.self.view_is ∙ c.requires.works in
     rw (c.answer.ensures, ← c.self.view_is)
-    (found_moves _ (c.a_class_is_lawful.ensures l) _ _ _ (g.D.SectorDisk.state e.volume.shelf.disk) e c.has_failed.ensures.kept c.args.session c.requires.session c.args.query Rests at c.args.look
+    (found_moves _ (c.a_class_is_lawful.ensures l) _ _ _ (g.D.SectorDisk.state e.volume.shelf.disk) e c.stands.ensures c.args.session c.requires.session c.args.query Rests at c.args.look
     works c.requires.done _
     (c.new.ensures ∙ c.in-Ok.ensures ∙ ap (λ (fs : List (Found g.row.K-Key.Denot)). gathered k (map entry_of (pairs_found fs))) c.found.ensures))
 
@@ -29,5 +29,5 @@ returns-clause-moves g c l =
     let at = ap (λ (x : Parts g.row.K-Key.Denot g.row.D.Denot). phase_at (c.args.session - 1) x.sessions.phases) c.self.view_is ∙ c.requires.phase in
     let works = ap (λ (x : Parts g.row.K-Key.Denot g.row.D.Denot). x.sessions.failed) c.self.view_is ∙ c.requires.works in
     rw (c.close.ensures.closed, c.close.ensures.outcome, ← c.self.view_is)
-    (closed_moves _ (c.a_class_is_lawful.ensures l) _ _ _ (g.D.SectorDisk.state e.volume.shelf.disk) e c.has_failed.ensures.kept
+    (closed_moves _ (c.a_class_is_lawful.ensures l) _ _ _ (g.D.SectorDisk.state e.volume.shelf.disk) e c.stands.ensures
     c.args.session c.requires.session c.args.query Rests at c.args.look works)

@@ -6,5 +6,5 @@ returns g c = rw (← c.self.view_is) (record {
   frames = record { enough = c.self.invariant.frames; held = c.dirty_frames.ensures.held; sound = c.dirty_frames.ensures.sound };
   pages = c.in_order.ensures.few;
   most = c.most.ensures.few;
-  sealed = c.has_failed.ensures.kept.sealed;
+  sealed = c.stands.ensures.sealed;
 })

@@ -27,7 +27,7 @@ returns-in-Search-clause-steps g c l =
 pub returns-in-Commit-clause-steps : goal.returns-in-Commit-clause-steps
 returns-in-Commit-clause-steps g c l =
     let k = keys g.K.Key.Ord.cmp g.K.Key.Shape.overlap g.K.Key.Shape.inside in
-    let kept = subst (λ (x : Parts g.row.K-Key.Denot g.row.D.Denot). IsKept k x.sessions) c.self.view_is c.has_failed.ensures.kept in
+    let kept = subst (λ (x : Parts g.row.K-Key.Denot g.row.D.Denot). IsKept k x.sessions) c.self.view_is c.stands.ensures in
     let pages = subst (λ (x : Parts g.row.K-Key.Denot g.row.D.Denot). x.volume.shelf.pages ≤ MAX_PAGES) c.self.view_is c.in_order.ensures.few in
     let most = subst (λ (x : Parts g.row.K-Key.Denot g.row.D.Denot). x.volume.most ≤ 100) c.self.view_is c.most.ensures.few in
     let at = c.requires.open.1 ∙ ap (λ x. phase.Open x c.requires.open.0) c.in-Commit.is in

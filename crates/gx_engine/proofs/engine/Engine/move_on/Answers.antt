@@ -15,7 +15,7 @@ returns-then-not-has_call-clause-steps g c l =
     let k = keys g.K.Key.Ord.cmp g.K.Key.Shape.overlap g.K.Key.Shape.inside in
     let kept = subst (λ (x : Parts g.row.K-Key.Denot g.row.D.Denot). IsKept k x.sessions) c.self.view_is c.has_failed-failed.ensures.kept in
     let is = sym c.is_session.ensures ∙ c.if-not-is_session.false in
-    let none = ap (λ (p : Phase g.row.K-Key.Denot (Work g.row.K-Key.Denot)). has_call p) (sym c.phase.ensures) ∙ sym c.has_call.ensures ∙ c.if-not-has_call.true in
+    let none = ap (λ (p : Phase g.row.K-Key.Denot (Work g.row.K-Key.Denot)). has_call p) (sym c.phase-now.ensures) ∙ sym c.has_call.ensures ∙ c.if-not-has_call.true in
     no_call_steps _ _ _ _ _ c.args.self.now c.args.session kept is
     (subst (λ (x : Parts g.row.K-Key.Denot g.row.D.Denot). has_call (phase_at (c.args.session - 1) x.sessions.phases) ≡ false) c.self.view_is none)
 
@@ -24,7 +24,7 @@ returns-then-failed-clause-steps g c l =
     let k = keys g.K.Key.Ord.cmp g.K.Key.Shape.overlap g.K.Key.Shape.inside in
     let kept = subst (λ (x : Parts g.row.K-Key.Denot g.row.D.Denot). IsKept k x.sessions) c.self.view_is c.has_failed-failed.ensures.kept in
     let is = sym c.is_session.ensures ∙ c.if-not-is_session.false in
-    let some = ap (λ (p : Phase g.row.K-Key.Denot (Work g.row.K-Key.Denot)). has_call p) (sym c.phase.ensures) ∙ sym c.has_call.ensures ∙ c.if-not-has_call.false in
+    let some = ap (λ (p : Phase g.row.K-Key.Denot (Work g.row.K-Key.Denot)). has_call p) (sym c.phase-now.ensures) ∙ sym c.has_call.ensures ∙ c.if-not-has_call.false in
     let failed = sym c.has_failed-failed.ensures.failed ∙ c.if-failed.true in
     ended_steps _ _ _ _ _ c.args.self.now c.args.session kept is (c.a_class_is_lawful.ensures l)
     (subst (λ (x : Parts g.row.K-Key.Denot g.row.D.Denot). x.sessions.failed ≡ true) c.self.view_is failed)
@@ -40,7 +40,7 @@ pub returns-in-Waiting-clause-steps : goal.returns-in-Waiting-clause-steps
 returns-in-Waiting-clause-steps g c l =
     let works = sym c.has_failed-failed.ensures.failed ∙ c.if-failed.false in
     let waits = subst (λ (x : Parts g.row.K-Key.Denot g.row.D.Denot). phase_at (c.args.session - 1) x.sessions.phases ≡ phase.Waiting c.in-Waiting.field-0) c.self.view_is
-    (sym c.phase-2.ensures ∙ c.in-Waiting.is) in
+    (sym c.phase-now.ensures ∙ c.in-Waiting.is) in
     acknowledge_steps _ _ _ _ _ _ c.args.self.now c.acknowledge.new.self
     (subst (λ (x : Parts g.row.K-Key.Denot g.row.D.Denot). x.sessions.failed ≡ false) c.self.view_is works) c.args.session c.in-Waiting.field-0 c.acknowledge.result
     (c.acknowledge.ensures.comes c.in-Waiting.field-0 waits) (c.acknowledge.ensures.leads c.in-Waiting.field-0 waits l)
@@ -52,5 +52,5 @@ returns-in-Undoing-clause-device g c =
 pub returns-in-Waiting-clause-device : goal.returns-in-Waiting-clause-device
 returns-in-Waiting-clause-device g c =
     let waits = subst (λ (x : Parts g.row.K-Key.Denot g.row.D.Denot). phase_at (c.args.session - 1) x.sessions.phases ≡ phase.Waiting c.in-Waiting.field-0) c.self.view_is
-    (sym c.phase-2.ensures ∙ c.in-Waiting.is) in
+    (sym c.phase-now.ensures ∙ c.in-Waiting.is) in
     acknowledge_read g.D.SectorDisk.state c.args.self.now c.acknowledge.new.self c.args.session c.in-Waiting.field-0 c.acknowledge.result (c.acknowledge.ensures.comes c.in-Waiting.field-0 waits)

@@ -61,7 +61,7 @@ returns-in-Err-Memory-clause-stops g c call phase =
     let at = ap (λ (x : Parts g.row.K-Key.Denot g.row.D.Denot). phase_at (c.args.session - 1) x.sessions.phases) c.self.view_is ∙ phase in
     let did = c.look_step.ensures.unlogged in
     rw (← c.self.view_is, c.close.ensures.closed, c.close.ensures.outcome)
-    (closed_comes k (is_node (format_of g.K.KeyClass)) g.D.SectorDisk.state e c.has_failed.ensures.kept
+    (closed_comes k (is_node (format_of g.K.KeyClass)) g.D.SectorDisk.state e c.stands.ensures
     c.args.session c.requires.session call Rests at (work_before c.args.begun c.args.look) c.look_step.new.self did.log did.most)
 
 pub returns-in-Err-Memory-clause-moves : goal.returns-in-Err-Memory-clause-moves
@@ -72,7 +72,7 @@ returns-in-Err-Memory-clause-moves g c call phase may l =
     let works = ap (λ (x : Parts g.row.K-Key.Denot g.row.D.Denot). x.sessions.failed) c.self.view_is ∙ c.requires.works in
     let did = c.look_step.ensures.unlogged in
     rw (← c.self.view_is, c.close.ensures.closed, c.close.ensures.outcome)
-    (memory_at_hand _ (c.a_class_is_lawful.ensures l) _ _ _ g.D.SectorDisk.state e c.has_failed.ensures.kept c.args.session c.requires.session call Rests at (work_before c.args.begun c.args.look) works
+    (memory_at_hand _ (c.a_class_is_lawful.ensures l) _ _ _ g.D.SectorDisk.state e c.stands.ensures c.args.session c.requires.session call Rests at (work_before c.args.begun c.args.look) works
     c.look_step.new.self did.most did.log (did.since 0).goes_on.device (did.keeps l))
 
 pub returns-in-Err-Pages-clause-stops : goal.returns-in-Err-Pages-clause-stops
@@ -108,7 +108,7 @@ returns-in-Err-Pages-clause-moves g c call phase may l =
     let put = replaced c.args.session call Rests c.held_work.result e.sessions c.replace_work.new.self at c.replace_work.ensures.state
     ∙ ap (λ (x : Work g.row.K-Key.Denot). with_phase_of c.args.session (Open call x) e.sessions) (c.held_work.ensures ∙ ap (λ (x : Look g.row.K-Key.Denot). work_before c.args.begun x) same) in
     rw (← c.self.view_is)
-    (pages_at_hand _ (c.a_class_is_lawful.ensures l) _ _ _ g.D.SectorDisk.state e c.has_failed.ensures.kept c.args.session c.requires.session call Rests at (work_before c.args.begun c.args.look) works
+    (pages_at_hand _ (c.a_class_is_lawful.ensures l) _ _ _ g.D.SectorDisk.state e c.stands.ensures c.args.session c.requires.session call Rests at (work_before c.args.begun c.args.look) works
     w did.most did.log (did.since 0).goes_on.device (did.keeps l) c.in-Err-Pages.fault why c.refuse.new.self c.refuse.result
     (subst (λ (x : State g.row.K-Key.Denot (Work g.row.K-Key.Denot)). IsRefused c.in-Err-Pages.fault (record e { volume = w; sessions = x }) c.refuse.new.self c.refuse.result) put c.refuse.ensures.refused))
 
@@ -123,9 +123,9 @@ returns-in-Err-Damaged-clause-moves g c call phase may l =
     let failed : c.look_step.result ≡ Err Damaged = search rules in
     let first = subst (λ (x : Parts g.row.K-Key.Denot g.row.D.Denot). IsFirstUnless c.args.begun x c.args.look) (sym c.self.view_is) c.requires.first in
     rw (← c.self.view_is, c.break_off.ensures.failed, c.break_off.ensures.outcome)
-    (none_at_hand _ (c.a_class_is_lawful.ensures l) _ _ _ (g.D.SectorDisk.state e.volume.shelf.disk) e c.has_failed.ensures.kept c.args.session c.requires.session call Rests at c.args.look
+    (none_at_hand _ (c.a_class_is_lawful.ensures l) _ _ _ (g.D.SectorDisk.state e.volume.shelf.disk) e c.stands.ensures c.args.session c.requires.session call Rests at c.args.look
     may c.in_order.ensures.few c.most.ensures.few c.args.begun first
-    (damaged_at_hand _ (c.a_class_is_lawful.ensures l) _ _ _ g.D.SectorDisk.state e c.has_failed.ensures.kept c.args.session c.requires.session call Rests at c.args.look works
+    (damaged_at_hand _ (c.a_class_is_lawful.ensures l) _ _ _ g.D.SectorDisk.state e c.stands.ensures c.args.session c.requires.session call Rests at c.args.look works
     w did.most did.log (did.since 0).goes_on.device (did.keeps l) (c.a_volume_shows_the_logs_tree.ensures l w) c.requires.more (c.look_step.ensures.damaged failed))
     _ _ _ _)
 

@@ -20,7 +20,7 @@ pub returns-in-Ok-clause-moves : goal.returns-in-Ok-clause-moves
 returns-in-Ok-clause-moves g c =
     let old : Parts g.row.K-Key.Denot g.row.D.Denot = c.args.self.now in
     let state = g.D.SectorDisk.state in
-    let kept = subst (λ (x : Parts g.row.K-Key.Denot g.row.D.Denot). IsKept (keys g.K.Key.Ord.cmp g.K.Key.Shape.overlap g.K.Key.Shape.inside) x.sessions) c.self.view_is c.has_failed.ensures.kept in
+    let kept = subst (λ (x : Parts g.row.K-Key.Denot g.row.D.Denot). IsKept (keys g.K.Key.Ord.cmp g.K.Key.Shape.overlap g.K.Key.Shape.inside) x.sessions) c.self.view_is c.stands.ensures in
     let order =
     subst (λ (x : Parts g.row.K-Key.Denot g.row.D.Denot). IsInOrder (is_node (format_of g.K.KeyClass) x.volume.shelf.pages) (state x.volume.shelf.disk).sectors x.volume.shelf.frames
     x.volume.shelf.used x.volume.shelf.pages)
@@ -39,7 +39,7 @@ pub returns-in-Err-Pages-clause-moves : goal.returns-in-Err-Pages-clause-moves
 returns-in-Err-Pages-clause-moves g c =
     let old : Parts g.row.K-Key.Denot g.row.D.Denot = c.args.self.now in
     let state = g.D.SectorDisk.state in
-    let kept = subst (λ (x : Parts g.row.K-Key.Denot g.row.D.Denot). IsKept (keys g.K.Key.Ord.cmp g.K.Key.Shape.overlap g.K.Key.Shape.inside) x.sessions) c.self.view_is c.has_failed.ensures.kept in
+    let kept = subst (λ (x : Parts g.row.K-Key.Denot g.row.D.Denot). IsKept (keys g.K.Key.Ord.cmp g.K.Key.Shape.overlap g.K.Key.Shape.inside) x.sessions) c.self.view_is c.stands.ensures in
     let did = c.in-Err-Pages.ensures.sought in
     λ l. refused_moves _ (c.a_class_is_lawful.ensures l) _ _ _ state (state old.volume.shelf.disk) old kept c.requires.works c.args.session c.requires.session c.requires.early
     c.set_noted.new.self.volume did.unlogged.most c.args.note c.requires.next c.args.leaf c.requires.leaf did.unlogged.log (did.unlogged.since 0).goes_on.device (did.unlogged.keeps l)
@@ -58,7 +58,7 @@ pub returns-in-Err-Memory-clause-moves : goal.returns-in-Err-Memory-clause-moves
 returns-in-Err-Memory-clause-moves g c =
     let old : Parts g.row.K-Key.Denot g.row.D.Denot = c.args.self.now in
     let state = g.D.SectorDisk.state in
-    let kept = subst (λ (x : Parts g.row.K-Key.Denot g.row.D.Denot). IsKept (keys g.K.Key.Ord.cmp g.K.Key.Shape.overlap g.K.Key.Shape.inside) x.sessions) c.self.view_is c.has_failed.ensures.kept in
+    let kept = subst (λ (x : Parts g.row.K-Key.Denot g.row.D.Denot). IsKept (keys g.K.Key.Ord.cmp g.K.Key.Shape.overlap g.K.Key.Shape.inside) x.sessions) c.self.view_is c.stands.ensures in
     let damaged : c.in-Err-Memory.field-0 ≡ Damaged = search rules in
     let did = c.in-Err-Memory.ensures.sought in
     λ l. never_moves _ (c.a_class_is_lawful.ensures l) _ _ _ (state old.volume.shelf.disk) (state c.set_noted.new.self.volume.shelf.disk) old kept c.requires.works c.args.session c.requires.session

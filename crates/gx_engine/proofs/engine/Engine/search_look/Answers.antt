@@ -26,7 +26,7 @@ read_on-requires-clause-phase g c =
     let call = Search c.args.query.now in
     let was = c.requires.searches.0 in
     let k = keys g.K.Key.Ord.cmp g.K.Key.Shape.overlap g.K.Key.Shape.inside in
-    phase_now e c.args.session call was at now is k c.has_failed.ensures.kept c.requires.session
+    phase_now e c.args.session call was at now is k c.stands.ensures c.requires.session
 
 pub read_on-requires-in-Ok-clause-phase : goal.read_on-requires-in-Ok-clause-phase
 read_on-requires-in-Ok-clause-phase g c =
@@ -38,7 +38,7 @@ read_on-requires-in-Ok-clause-phase g c =
     let call = Search c.args.query.now in
     let was = c.requires.searches.0 in
     let k = keys g.K.Key.Ord.cmp g.K.Key.Shape.overlap g.K.Key.Shape.inside in
-    phase_now e c.args.session call was at now is k c.has_failed.ensures.kept c.requires.session
+    phase_now e c.args.session call was at now is k c.stands.ensures c.requires.session
 
 pub returns-then-is_done-clause-phase : goal.returns-then-is_done-clause-phase
 returns-then-is_done-clause-phase g c =
@@ -50,7 +50,7 @@ returns-then-is_done-clause-phase g c =
     let call = Search c.args.query.now in
     let was = c.requires.searches.0 in
     let k = keys g.K.Key.Ord.cmp g.K.Key.Shape.overlap g.K.Key.Shape.inside in
-    phase_now e c.args.session call was at now is k c.has_failed.ensures.kept c.requires.session
+    phase_now e c.args.session call was at now is k c.stands.ensures c.requires.session
 
 pub returns-then-is_done-clause-rest : goal.returns-then-is_done-clause-rest
 returns-then-is_done-clause-rest g c =
@@ -85,7 +85,7 @@ returns-else-is_done-clause-phase g c =
     let call = Search c.args.query.now in
     let was = c.requires.searches.0 in
     let k = keys g.K.Key.Ord.cmp g.K.Key.Shape.overlap g.K.Key.Shape.inside in
-    let resting = phase_now e c.args.session call was at now is k c.has_failed.ensures.kept c.requires.session in
+    let resting = phase_now e c.args.session call was at now is k c.stands.ensures c.requires.session in
     on_ok_map _ _ c.read_on.result (λ read. ap (λ (x : Parts g.row.K-Key.Denot g.row.D.Denot). phase_at (c.args.session - 1) x.sessions.phases) read ∙ resting) c.read_on.ensures.rest
 
 pub returns-else-is_done-clause-rest : goal.returns-else-is_done-clause-rest
@@ -148,7 +148,7 @@ returns-in-Ok-clause-phase g c =
     let call = Search c.args.query.now in
     let was = c.requires.searches.0 in
     let k = keys g.K.Key.Ord.cmp g.K.Key.Shape.overlap g.K.Key.Shape.inside in
-    let resting = phase_now e c.args.session call was at now is k c.has_failed.ensures.kept c.requires.session in
+    let resting = phase_now e c.args.session call was at now is k c.stands.ensures c.requires.session in
     on_ok_map _ _ c.read_on-in-Ok.result (λ read. ap (λ (x : Parts g.row.K-Key.Denot g.row.D.Denot). phase_at (c.args.session - 1) x.sessions.phases) read ∙ resting) c.read_on-in-Ok.ensures.rest
 
 pub returns-in-Ok-clause-reaches : goal.returns-in-Ok-clause-reaches
@@ -212,7 +212,7 @@ returns-in-Err-clause-moves g c l =
     let was = c.requires.searches.0 in
     let works = ap (λ (x : Parts g.row.K-Key.Denot g.row.D.Denot). x.sessions.failed) c.self.view_is ∙ c.requires.works in
     rw (c.close.ensures.closed, c.close.ensures.outcome, ← c.self.view_is, answered_taken e c.args.session call was at now is)
-    (closes_moves _ (c.a_class_is_lawful.ensures l) _ _ _ (g.D.SectorDisk.state e.volume.shelf.disk) e c.has_failed.ensures.kept c.args.session c.requires.session call was at works)
+    (closes_moves _ (c.a_class_is_lawful.ensures l) _ _ _ (g.D.SectorDisk.state e.volume.shelf.disk) e c.stands.ensures c.args.session c.requires.session call was at works)
 
 pub returns-in_default-clause-comes : goal.returns-in_default-clause-comes
 returns-in_default-clause-comes g c =
@@ -227,7 +227,7 @@ returns-in_default-clause-comes g c =
     let had = taken e c.args.session call was at now is c.replace_work.result c.replace_work.ensures.given in
     rw (c.break_off.ensures.failed, c.break_off.ensures.outcome, ← c.self.view_is)
     (ap (λ (x : State g.row.K-Key.Denot (Work g.row.K-Key.Denot)). record e { sessions = failed_state x })
-    (returned e c.args.session call was at now is c.replace_work.result (sym had) k c.has_failed.ensures.kept c.requires.session c.replace_work-in_default.new.self c.replace_work-in_default.ensures.state))
+    (returned e c.args.session call was at now is c.replace_work.result (sym had) k c.stands.ensures c.requires.session c.replace_work-in_default.new.self c.replace_work-in_default.ensures.state))
 
 pub returns-in_default-clause-moves : goal.returns-in_default-clause-moves
 returns-in_default-clause-moves g c l =
@@ -240,7 +240,7 @@ returns-in_default-clause-moves g c l =
     let was = c.requires.searches.0 in
     let had = taken e c.args.session call was at now is c.replace_work.result c.replace_work.ensures.given in
     rw (← c.self.view_is)
-    (no_search _ (c.a_class_is_lawful.ensures l) _ _ _ _ _ e c.has_failed.ensures.kept c.args.session c.requires.session c.args.query.now was at
+    (no_search _ (c.a_class_is_lawful.ensures l) _ _ _ _ _ e c.stands.ensures c.args.session c.requires.session c.args.query.now was at
     (λ begun. (let same : c.replace_work.result ≡ Rests = had ∙ begun in search rules)) (λ look same. (let other : c.replace_work.result ≡ Looks look = had ∙ same in search rules)) _ _ _)
 
 pub returns-then-is_done-clause-device : goal.returns-then-is_done-clause-device

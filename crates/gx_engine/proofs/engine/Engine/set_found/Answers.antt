@@ -42,7 +42,7 @@ returns-in-Ok-clause-moves g c =
     let old : Parts g.row.K-Key.Denot g.row.D.Denot = c.args.self.now in
     let state = g.D.SectorDisk.state in
     let k = keys g.K.Key.Ord.cmp g.K.Key.Shape.overlap g.K.Key.Shape.inside in
-    let kept = subst (λ (x : Parts g.row.K-Key.Denot g.row.D.Denot). IsKept k x.sessions) c.self.view_is c.has_failed.ensures.kept in
+    let kept = subst (λ (x : Parts g.row.K-Key.Denot g.row.D.Denot). IsKept k x.sessions) c.self.view_is c.stands.ensures in
     let order =
     subst (λ (x : Parts g.row.K-Key.Denot g.row.D.Denot). IsInOrder (is_node (format_of g.K.KeyClass) x.volume.shelf.pages) (state x.volume.shelf.disk).sectors x.volume.shelf.frames
     x.volume.shelf.used x.volume.shelf.pages)
@@ -80,7 +80,7 @@ pub returns-in-Err-Pages-clause-moves : goal.returns-in-Err-Pages-clause-moves
 returns-in-Err-Pages-clause-moves g c =
     let old : Parts g.row.K-Key.Denot g.row.D.Denot = c.args.self.now in
     let state = g.D.SectorDisk.state in
-    let kept = subst (λ (x : Parts g.row.K-Key.Denot g.row.D.Denot). IsKept (keys g.K.Key.Ord.cmp g.K.Key.Shape.overlap g.K.Key.Shape.inside) x.sessions) c.self.view_is c.has_failed.ensures.kept in
+    let kept = subst (λ (x : Parts g.row.K-Key.Denot g.row.D.Denot). IsKept (keys g.K.Key.Ord.cmp g.K.Key.Shape.overlap g.K.Key.Shape.inside) x.sessions) c.self.view_is c.stands.ensures in
     let did = c.in-Err-Pages.ensures.sought in
     let refused : IsRefused c.in-Err-Pages.fault c.give_mark.new.self c.refuse.new.self c.refuse.result = search rules in
     λ l. refused_moves _ (c.a_class_is_lawful.ensures l) _ _ _ (state old.volume.shelf.disk) old kept c.requires.works c.args.session c.requires.session c.args.entry c.args.leaf
@@ -102,7 +102,7 @@ pub returns-in-Err-Memory-clause-moves : goal.returns-in-Err-Memory-clause-moves
 returns-in-Err-Memory-clause-moves g c =
     let old : Parts g.row.K-Key.Denot g.row.D.Denot = c.args.self.now in
     let state = g.D.SectorDisk.state in
-    let kept = subst (λ (x : Parts g.row.K-Key.Denot g.row.D.Denot). IsKept (keys g.K.Key.Ord.cmp g.K.Key.Shape.overlap g.K.Key.Shape.inside) x.sessions) c.self.view_is c.has_failed.ensures.kept in
+    let kept = subst (λ (x : Parts g.row.K-Key.Denot g.row.D.Denot). IsKept (keys g.K.Key.Ord.cmp g.K.Key.Shape.overlap g.K.Key.Shape.inside) x.sessions) c.self.view_is c.stands.ensures in
     let damaged : c.in-Err-Memory.field-0 ≡ Damaged = search rules in
     let did = c.in-Err-Memory.ensures.sought in
     λ l. never_set _ (c.a_class_is_lawful.ensures l) _ _ _ (state old.volume.shelf.disk) old kept c.requires.works c.args.session c.requires.session c.args.entry c.args.leaf c.args.marked

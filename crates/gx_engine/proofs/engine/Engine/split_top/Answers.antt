@@ -37,7 +37,7 @@ returns-in-Ok-clause-moves g c entry at full l =
     let old : Parts g.row.K-Key.Denot g.row.D.Denot = c.args.self.now in
     let k = keys g.K.Key.Ord.cmp g.K.Key.Shape.overlap g.K.Key.Shape.inside in
     let state = g.D.SectorDisk.state in
-    let kept = subst (λ (x : Parts g.row.K-Key.Denot g.row.D.Denot). IsKept k x.sessions) c.self.view_is c.has_failed.ensures.kept in
+    let kept = subst (λ (x : Parts g.row.K-Key.Denot g.row.D.Denot). IsKept k x.sessions) c.self.view_is c.stands.ensures in
     let shape : Members g.row.K-Key.Denot =
     record { partial_cmp = g.K.Key.PartialOrd.partial_cmp; eq = g.K.Key.PartialEq.eq; cmp = g.K.Key.Ord.cmp; overlap = g.K.Key.Shape.overlap; inside = g.K.Key.Shape.inside } in
     let there = c.begin_again.ensures.there (Insert entry) (Descends c.args.parent c.args.item)
@@ -66,7 +66,7 @@ returns-in-Err-Pages-clause-moves g c entry at full =
     let old : Parts g.row.K-Key.Denot g.row.D.Denot = c.args.self.now in
     let k = keys g.K.Key.Ord.cmp g.K.Key.Shape.overlap g.K.Key.Shape.inside in
     let state = g.D.SectorDisk.state in
-    let kept = subst (λ (x : Parts g.row.K-Key.Denot g.row.D.Denot). IsKept k x.sessions) c.self.view_is c.has_failed.ensures.kept in
+    let kept = subst (λ (x : Parts g.row.K-Key.Denot g.row.D.Denot). IsKept k x.sessions) c.self.view_is c.stands.ensures in
     let did = c.in-Err-Pages.ensures.splits in
     let un = did.stops.unlogged in
     λ l. stopped_moves _ (c.a_class_is_lawful.ensures l) _ _ _ state old kept c.requires.works c.args.session c.requires.session entry _ at
@@ -92,7 +92,7 @@ returns-in-Err-PagesFull-clause-moves g c entry at full l =
     let old : Parts g.row.K-Key.Denot g.row.D.Denot = c.args.self.now in
     let k = keys g.K.Key.Ord.cmp g.K.Key.Shape.overlap g.K.Key.Shape.inside in
     let state = g.D.SectorDisk.state in
-    let kept = subst (λ (x : Parts g.row.K-Key.Denot g.row.D.Denot). IsKept k x.sessions) c.self.view_is c.has_failed.ensures.kept in
+    let kept = subst (λ (x : Parts g.row.K-Key.Denot g.row.D.Denot). IsKept k x.sessions) c.self.view_is c.stands.ensures in
     let shape : Members g.row.K-Key.Denot =
     record { partial_cmp = g.K.Key.PartialOrd.partial_cmp; eq = g.K.Key.PartialEq.eq; cmp = g.K.Key.Ord.cmp; overlap = g.K.Key.Shape.overlap; inside = g.K.Key.Shape.inside } in
     let un = c.in-Err-PagesFull.ensures.splits.stops.unlogged in
@@ -117,7 +117,7 @@ returns-in-Err-Memory-clause-moves g c entry at full l =
     let old : Parts g.row.K-Key.Denot g.row.D.Denot = c.args.self.now in
     let k = keys g.K.Key.Ord.cmp g.K.Key.Shape.overlap g.K.Key.Shape.inside in
     let state = g.D.SectorDisk.state in
-    let kept = subst (λ (x : Parts g.row.K-Key.Denot g.row.D.Denot). IsKept k x.sessions) c.self.view_is c.has_failed.ensures.kept in
+    let kept = subst (λ (x : Parts g.row.K-Key.Denot g.row.D.Denot). IsKept k x.sessions) c.self.view_is c.stands.ensures in
     let shape : Members g.row.K-Key.Denot =
     record { partial_cmp = g.K.Key.PartialOrd.partial_cmp; eq = g.K.Key.PartialEq.eq; cmp = g.K.Key.Ord.cmp; overlap = g.K.Key.Shape.overlap; inside = g.K.Key.Shape.inside } in
     let did = c.in-Err-Memory.ensures.splits in

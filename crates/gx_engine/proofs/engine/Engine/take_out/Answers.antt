@@ -54,7 +54,7 @@ returns-in-Ok-true-clause-leads g c =
     let any = c.in-Ok-true.field-0-test in
     let said = c.in-Ok-true.ensures in
     let did = logged_so _ _ _ _ _ _ _ _ _ _ c.in-Ok-true.field-0 any said.logged in
-    rw (← c.self.view_is) (λ l. sweep_leads _ (c.a_class_is_lawful.ensures l) _ _ _ c.args.page _ _ old c.has_failed.ensures.kept w (is_calm old.checkpoint (not_due old early).0) did.most (flies_on old.volume.log w.log did.logs)
+    rw (← c.self.view_is) (λ l. sweep_leads _ (c.a_class_is_lawful.ensures l) _ _ _ c.args.page _ _ old c.stands.ensures w (is_calm old.checkpoint (not_due old early).0) did.most (flies_on old.volume.log w.log did.logs)
     (did.keeps l) (λ steady. swept_so _ _ _ _ c.in-Ok-true.field-0 any (said.swept steady (is_held k old) (λ entry answer post. search rules))) (said.own any))
 
 pub returns-in-Ok-false-clause-sweeps : goal.returns-in-Ok-false-clause-sweeps
@@ -105,7 +105,7 @@ returns-in-Err-Damaged g c =
     λ steady readable. more_than_fit f c.args.page d old (is_held k old) c.requires.from high some (c.sweep.ensures.damaged steady failed) in
     rw (← c.self.view_is, c.fail_event.ensures.failed, c.fail_event.ensures.outcome) (record {
       sweeps = (inr (refl, full), as_brought old c.sweep.new.self (failed_state old.sessions) did.log did.most);
-      leads = λ l. never_full _ (c.a_class_is_lawful.ensures l) _ _ _ c.args.page d _ old c.has_failed.ensures.kept _ _ c.requires.from high c.most.ensures.few full;
+      leads = λ l. never_full _ (c.a_class_is_lawful.ensures l) _ _ _ c.args.page d _ old c.stands.ensures _ _ c.requires.from high c.most.ensures.few full;
       device = (did.since 0).goes_on.device;
     })
 

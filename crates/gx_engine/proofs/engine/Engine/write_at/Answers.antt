@@ -38,7 +38,7 @@ returns-in-Ok-clause-moves g c =
     let old : Parts g.row.K-Key.Denot g.row.D.Denot = c.args.self.now in
     let state = g.D.SectorDisk.state in
     let k = keys g.K.Key.Ord.cmp g.K.Key.Shape.overlap g.K.Key.Shape.inside in
-    let kept = subst (λ (x : Parts g.row.K-Key.Denot g.row.D.Denot). IsKept k x.sessions) c.self.view_is c.has_failed.ensures.kept in
+    let kept = subst (λ (x : Parts g.row.K-Key.Denot g.row.D.Denot). IsKept k x.sessions) c.self.view_is c.stands.ensures in
     let shape : Members g.row.K-Key.Denot =
     record { partial_cmp = g.K.Key.PartialOrd.partial_cmp; eq = g.K.Key.PartialEq.eq; cmp = g.K.Key.Ord.cmp; overlap = g.K.Key.Shape.overlap; inside = g.K.Key.Shape.inside } in
     let did = c.seek_pair.ensures.unlogged in
@@ -73,7 +73,7 @@ pub returns-in-Err-Pages-clause-moves : goal.returns-in-Err-Pages-clause-moves
 returns-in-Err-Pages-clause-moves g c =
     let old : Parts g.row.K-Key.Denot g.row.D.Denot = c.args.self.now in
     let state = g.D.SectorDisk.state in
-    let kept = subst (λ (x : Parts g.row.K-Key.Denot g.row.D.Denot). IsKept (keys g.K.Key.Ord.cmp g.K.Key.Shape.overlap g.K.Key.Shape.inside) x.sessions) c.self.view_is c.has_failed.ensures.kept in
+    let kept = subst (λ (x : Parts g.row.K-Key.Denot g.row.D.Denot). IsKept (keys g.K.Key.Ord.cmp g.K.Key.Shape.overlap g.K.Key.Shape.inside) x.sessions) c.self.view_is c.stands.ensures in
     let did = c.seek_pair.ensures.unlogged in
     let refused : IsRefused c.in-Err-Pages.fault c.seek_pair.new.self c.refuse.new.self c.refuse.result = search rules in
     let why = why_pages _ c.in-Err-Pages.field-0 c.in-Err-Pages.fault c.in-Err-Pages.field-0-is c.in-Err-Pages.ensures.refused.why in
@@ -96,7 +96,7 @@ pub returns-in-Err-Memory-clause-moves : goal.returns-in-Err-Memory-clause-moves
 returns-in-Err-Memory-clause-moves g c =
     let old : Parts g.row.K-Key.Denot g.row.D.Denot = c.args.self.now in
     let state = g.D.SectorDisk.state in
-    let kept = subst (λ (x : Parts g.row.K-Key.Denot g.row.D.Denot). IsKept (keys g.K.Key.Ord.cmp g.K.Key.Shape.overlap g.K.Key.Shape.inside) x.sessions) c.self.view_is c.has_failed.ensures.kept in
+    let kept = subst (λ (x : Parts g.row.K-Key.Denot g.row.D.Denot). IsKept (keys g.K.Key.Ord.cmp g.K.Key.Shape.overlap g.K.Key.Shape.inside) x.sessions) c.self.view_is c.stands.ensures in
     let damaged : c.in-Err-Memory.field-0 ≡ Damaged = search rules in
     let did = c.seek_pair.ensures.unlogged in
     let w = c.seek_pair.new.self.volume in

@@ -26,7 +26,7 @@ look_on-requires-clause-open g c =
     let now = c.replace_work.new.self in
     let is = c.replace_work.ensures.state in
     let k = keys g.K.Key.Ord.cmp g.K.Key.Shape.overlap g.K.Key.Shape.inside in
-    ap (λ (p : Phase g.row.K-Key.Denot (Work g.row.K-Key.Denot)). is_open p) (phase_now e c.args.session call was at now is k c.has_failed.ensures.kept c.requires.session)
+    ap (λ (p : Phase g.row.K-Key.Denot (Work g.row.K-Key.Denot)). is_open p) (phase_now e c.args.session call was at now is k c.stands.ensures c.requires.session)
 
 pub returns-then-is_done-clause-rest : goal.returns-then-is_done-clause-rest
 returns-then-is_done-clause-rest g c call was looks =
@@ -36,7 +36,7 @@ returns-then-is_done-clause-rest g c call was looks =
     let now = c.replace_work.new.self in
     let is = c.replace_work.ensures.state in
     let k = keys g.K.Key.Ord.cmp g.K.Key.Shape.overlap g.K.Key.Shape.inside in
-    (phase_now e c.args.session call was at now is k c.has_failed.ensures.kept c.requires.session, (rw (← c.self.view_is) (ap (λ (x : State g.row.K-Key.Denot (Work g.row.K-Key.Denot)). record e { sessions = x }) (rests e c.args.session call was at now is))))
+    (phase_now e c.args.session call was at now is k c.stands.ensures c.requires.session, (rw (← c.self.view_is) (ap (λ (x : State g.row.K-Key.Denot (Work g.row.K-Key.Denot)). record e { sessions = x }) (rests e c.args.session call was at now is))))
 
 pub returns-then-is_done-clause-reaches : goal.returns-then-is_done-clause-reaches
 returns-then-is_done-clause-reaches g c call was looks l =
@@ -57,7 +57,7 @@ returns-else-is_done-clause-rest g c =
     let at = looks.at in
     let now = c.replace_work.new.self in
     let is = c.replace_work.ensures.state in
-    (ap (λ (x : Parts g.row.K-Key.Denot g.row.D.Denot). phase_at (c.args.session - 1) x.sessions.phases) read ∙ phase_now e c.args.session call was at now is k c.has_failed.ensures.kept c.requires.session, read_rests e c.args.session call was at now is c.look_on.new.self read)) c.look_on.ensures.rest)
+    (ap (λ (x : Parts g.row.K-Key.Denot g.row.D.Denot). phase_at (c.args.session - 1) x.sessions.phases) read ∙ phase_now e c.args.session call was at now is k c.stands.ensures c.requires.session, read_rests e c.args.session call was at now is c.look_on.new.self read)) c.look_on.ensures.rest)
 
 pub returns-else-is_done-clause-reaches : goal.returns-else-is_done-clause-reaches
 returns-else-is_done-clause-reaches g c =
@@ -68,7 +68,7 @@ returns-else-is_done-clause-reaches g c =
     let is = c.replace_work.ensures.state in
     rw (← c.self.view_is) (ok_map _ _ c.look_on.result (λ look on call was looks l.
     let at = looks.at in
-    let resting = phase_now e c.args.session call was at now is k c.has_failed.ensures.kept c.requires.session in
+    let resting = phase_now e c.args.session call was at now is k c.stands.ensures c.requires.session in
     let here = sym (taken e c.args.session call was at now is c.replace_work.result c.replace_work.ensures.given) ∙ c.in-Looks.is in
     inr (on_again _ _ _ _ _ _ e c.args.session call was at now is (Looks c.in-Looks.look) here _ (on call looks.writes resting l))) c.look_on.ensures.goes_on)
 
@@ -82,7 +82,7 @@ returns-else-is_done-clause-reads g c =
     let now = c.replace_work.new.self in
     let is = c.replace_work.ensures.state in
     let k = keys g.K.Key.Ord.cmp g.K.Key.Shape.overlap g.K.Key.Shape.inside in
-    let resting = phase_now e c.args.session call was at now is k c.has_failed.ensures.kept c.requires.session in
+    let resting = phase_now e c.args.session call was at now is k c.stands.ensures c.requires.session in
     rw (← c.self.view_is) (on_err_map _ _ c.look_on.result (λ read. reads_rested e c.args.session call was at now is c.look_on.new.self (read call resting)) c.look_on.ensures.reads)
 
 pub returns-else-is_done-clause-comes : goal.returns-else-is_done-clause-comes
@@ -94,7 +94,7 @@ returns-else-is_done-clause-comes g c =
     let is = c.replace_work.ensures.state in
     rw (← c.self.view_is) (err_map _ _ c.look_on.result (λ outcome comes call was looks.
     let at = looks.at in
-    let resting = phase_now e c.args.session call was at now is k c.has_failed.ensures.kept c.requires.session in
+    let resting = phase_now e c.args.session call was at now is k c.stands.ensures c.requires.session in
     let here = sym (taken e c.args.session call was at now is c.replace_work.result c.replace_work.ensures.given) ∙ c.in-Looks.is in
     again e c.args.session call was at now is (Looks c.in-Looks.look) here
     (λ (x : Parts g.row.K-Key.Denot g.row.D.Denot).
@@ -110,7 +110,7 @@ returns-else-is_done-clause-moves g c =
     let is = c.replace_work.ensures.state in
     rw (← c.self.view_is) (err_map _ _ c.look_on.result (λ outcome moves call was looks l.
     let at = looks.at in
-    let resting = phase_now e c.args.session call was at now is k c.has_failed.ensures.kept c.requires.session in
+    let resting = phase_now e c.args.session call was at now is k c.stands.ensures c.requires.session in
     let here = sym (taken e c.args.session call was at now is c.replace_work.result c.replace_work.ensures.given) ∙ c.in-Looks.is in
     moves_again _ _ _ _ _ _ e c.args.session call was at now is (Looks c.in-Looks.look) here _ _ _ (moves call looks.writes resting l)) c.look_on.ensures.moves)
 
@@ -123,7 +123,7 @@ returns-in-Ok-clause-rest g c =
     let at = looks.at in
     let now = c.replace_work.new.self in
     let is = c.replace_work.ensures.state in
-    (ap (λ (x : Parts g.row.K-Key.Denot g.row.D.Denot). phase_at (c.args.session - 1) x.sessions.phases) read ∙ phase_now e c.args.session call was at now is k c.has_failed.ensures.kept c.requires.session, read_rests e c.args.session call was at now is c.look_on-in-Ok.new.self read)) c.look_on-in-Ok.ensures.rest)
+    (ap (λ (x : Parts g.row.K-Key.Denot g.row.D.Denot). phase_at (c.args.session - 1) x.sessions.phases) read ∙ phase_now e c.args.session call was at now is k c.stands.ensures c.requires.session, read_rests e c.args.session call was at now is c.look_on-in-Ok.new.self read)) c.look_on-in-Ok.ensures.rest)
 
 pub returns-in-Ok-clause-reaches : goal.returns-in-Ok-clause-reaches
 returns-in-Ok-clause-reaches g c =
@@ -134,7 +134,7 @@ returns-in-Ok-clause-reaches g c =
     let is = c.replace_work.ensures.state in
     rw (← c.self.view_is) (ok_map _ _ c.look_on-in-Ok.result (λ look on call was looks l.
     let at = looks.at in
-    let resting = phase_now e c.args.session call was at now is k c.has_failed.ensures.kept c.requires.session in
+    let resting = phase_now e c.args.session call was at now is k c.stands.ensures c.requires.session in
     let had = taken e c.args.session call was at now is c.replace_work.result c.replace_work.ensures.given in
     let here = rests_yet was looks.looking (λ look same. no_look c.replace_work.result c.in-Rests.is look (had ∙ same)) in
     inr (on_again _ _ _ _ _ _ e c.args.session call was at now is Rests here _ (on call looks.writes resting l))) c.look_on-in-Ok.ensures.goes_on)
@@ -149,7 +149,7 @@ returns-in-Ok-clause-reads g c =
     let now = c.replace_work.new.self in
     let is = c.replace_work.ensures.state in
     let k = keys g.K.Key.Ord.cmp g.K.Key.Shape.overlap g.K.Key.Shape.inside in
-    let resting = phase_now e c.args.session call was at now is k c.has_failed.ensures.kept c.requires.session in
+    let resting = phase_now e c.args.session call was at now is k c.stands.ensures c.requires.session in
     rw (← c.self.view_is) (on_err_map _ _ c.look_on-in-Ok.result (λ read. reads_rested e c.args.session call was at now is c.look_on-in-Ok.new.self (read call resting)) c.look_on-in-Ok.ensures.reads)
 
 pub returns-in-Ok-clause-comes : goal.returns-in-Ok-clause-comes
@@ -161,7 +161,7 @@ returns-in-Ok-clause-comes g c =
     let is = c.replace_work.ensures.state in
     rw (← c.self.view_is) (err_map _ _ c.look_on-in-Ok.result (λ outcome comes call was looks.
     let at = looks.at in
-    let resting = phase_now e c.args.session call was at now is k c.has_failed.ensures.kept c.requires.session in
+    let resting = phase_now e c.args.session call was at now is k c.stands.ensures c.requires.session in
     let had = taken e c.args.session call was at now is c.replace_work.result c.replace_work.ensures.given in
     let here = rests_yet was looks.looking (λ look same. no_look c.replace_work.result c.in-Rests.is look (had ∙ same)) in
     again e c.args.session call was at now is Rests here
@@ -178,7 +178,7 @@ returns-in-Ok-clause-moves g c =
     let is = c.replace_work.ensures.state in
     rw (← c.self.view_is) (err_map _ _ c.look_on-in-Ok.result (λ outcome moves call was looks l.
     let at = looks.at in
-    let resting = phase_now e c.args.session call was at now is k c.has_failed.ensures.kept c.requires.session in
+    let resting = phase_now e c.args.session call was at now is k c.stands.ensures c.requires.session in
     let had = taken e c.args.session call was at now is c.replace_work.result c.replace_work.ensures.given in
     let here = rests_yet was looks.looking (λ look same. no_look c.replace_work.result c.in-Rests.is look (had ∙ same)) in
     moves_again _ _ _ _ _ _ e c.args.session call was at now is Rests here _ _ _ (moves call looks.writes resting l)) c.look_on-in-Ok.ensures.moves)
@@ -213,7 +213,7 @@ returns-in-Err-clause-moves g c call was looks l =
     let works = ap (λ (x : Parts g.row.K-Key.Denot g.row.D.Denot). x.sessions.failed) c.self.view_is ∙ c.requires.works in
     rw (c.close.ensures.closed, c.close.ensures.outcome, ← c.self.view_is, answered_taken e c.args.session call was at now is)
     (same_events _ _ _ _ _ _ c.args.session e _ _ _ _ (memory_told c.args.session call)
-    (closes_moves _ (c.a_class_is_lawful.ensures l) _ _ _ (g.D.SectorDisk.state e.volume.shelf.disk) e c.has_failed.ensures.kept c.args.session c.requires.session call was at works))
+    (closes_moves _ (c.a_class_is_lawful.ensures l) _ _ _ (g.D.SectorDisk.state e.volume.shelf.disk) e c.stands.ensures c.args.session c.requires.session call was at works))
 
 pub returns-then-is_done-clause-device : goal.returns-then-is_done-clause-device
 returns-then-is_done-clause-device g c = rw (← c.self.view_is) (only_read_nothing (g.D.SectorDisk.state c.self.inside.storage.shelf.disk))

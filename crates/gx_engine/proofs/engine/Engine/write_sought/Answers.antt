@@ -35,7 +35,7 @@ returns-in-Right-clause-moves g c =
     c.requires.found) in
     let placed = replaced c.args.session (write_call c.args.marked entry) (Seeks c.args.leaf) (Seeks c.in-Right.next) e.sessions c.replace_work.new.self at c.replace_work.ensures.state in
     rw (← c.self.view_is, placed)
-    (λ l. right_moves _ (c.a_class_is_lawful.ensures l) _ _ _ (state e.volume.shelf.disk) e c.has_failed.ensures.kept works c.args.session c.requires.session entry c.args.leaf c.args.marked at
+    (λ l. right_moves _ (c.a_class_is_lawful.ensures l) _ _ _ (state e.volume.shelf.disk) e c.stands.ensures works c.args.session c.requires.session entry c.args.leaf c.args.marked at
     g.K.KeyClass.is_key (c.a_volume_shows_the_logs_tree.ensures l e.volume) (c.a_volume_shows_keys.ensures l e.volume) c.in_order.ensures c.in-Right.next found)
 
 pub returns-then-before-marked-clause-moves : goal.returns-then-before-marked-clause-moves
@@ -54,5 +54,5 @@ returns-then-before-marked-clause-moves g c =
     (sym c.self.view_is)
     (subst (λ (o : Sought). IsSought (format_of g.K.KeyClass) g.K.KeyClass.is_key k (state c.args.self.now.volume.shelf.disk) c.args.self.now.volume entry c.args.leaf o) sought c.requires.found) in
     rw (c.close.ensures.closed, c.close.ensures.outcome, c.standing.ensures, ← c.self.view_is)
-    (λ l. stands_moves _ (c.a_class_is_lawful.ensures l) _ _ _ (state e.volume.shelf.disk) e c.has_failed.ensures.kept works c.args.session c.requires.session entry c.args.leaf c.args.marked at
+    (λ l. stands_moves _ (c.a_class_is_lawful.ensures l) _ _ _ (state e.volume.shelf.disk) e c.stands.ensures works c.args.session c.requires.session entry c.args.leaf c.args.marked at
     g.K.KeyClass.is_key (c.a_volume_shows_the_logs_tree.ensures l e.volume) (c.a_volume_shows_keys.ensures l e.volume) c.in_order.ensures c.in-Here.field-0 found)

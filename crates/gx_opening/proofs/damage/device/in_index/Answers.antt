@@ -18,7 +18,7 @@ returns-in-Ok g c = record {
       (let shape : Members g.row.K-Key.Denot = record { partial_cmp = g.K.Key.PartialOrd.partial_cmp; eq = g.K.Key.PartialEq.eq; cmp = g.K.Key.Ord.cmp; overlap = g.K.Key.Shape.overlap; inside = g.K.Key.Shape.inside } in
       let state = g.D.SectorDisk.state in
       index_told shape g.K.ReadKeys.is_proper g.K.ReadKeys.said (format_of g.K.KeyClass) g.row.D.Denot c.args.parameters c.in_pages.result.1 (state c.examine_class_log.new.disk).seen (state c.args.disk).seen c.in-Ok.found
-      (c.in-Ok.ensures.looks honest).rests.seen (c.in-Ok.ensures.log honest (limits_of c.args.parameters) refl) (c.in_pages.ensures.shows (c.in-Ok.ensures.reads.honest ∙ honest)));
+      (c.in-Ok.ensures.looks honest).rests.seen (c.in-Ok.ensures.log honest (limits_of c.args.parameters) refl refl) (c.in_pages.ensures.shows (c.in-Ok.ensures.reads.honest ∙ honest)));
 }
 
 pub returns-in-Err : goal.returns-in-Err
@@ -28,5 +28,5 @@ returns-in-Err g c = record {
       (let shape : Members g.row.K-Key.Denot = record { partial_cmp = g.K.Key.PartialOrd.partial_cmp; eq = g.K.Key.PartialEq.eq; cmp = g.K.Key.Ord.cmp; overlap = g.K.Key.Shape.overlap; inside = g.K.Key.Shape.inside } in
       rw c.in_log.ensures
       (log_told shape g.K.ReadKeys.is_proper g.K.ReadKeys.said (format_of g.K.KeyClass) g.row.D.Denot c.args.parameters c.in-Err.fault (g.D.SectorDisk.state c.args.disk).seen
-      (c.in-Err.ensures.shows honest (limits_of c.args.parameters) refl)));
+      (c.in-Err.ensures.shows honest (limits_of c.args.parameters) refl refl)));
 }

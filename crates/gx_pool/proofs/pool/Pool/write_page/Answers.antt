@@ -4,7 +4,7 @@ use Rattle.gx_pool.specs.Marks.{is_gated}
 use Rattle.gx_pool.specs.State.{frame_at, stamp_of}
 use Rattle.gx_pool.proofs.Gated.{rest_keeps_area, write_keeps_area}
 use Rattle.gx_pool.proofs.Readable.{write_keeps_readable}
-use Rattle.gx_pool.proofs.Writing.{rest_at_most, write_at_most, write_counted}
+use Rattle.gx_pool.proofs.Writing.{rest_at_most, write_at_most}
 use Rattle.gx_pool.proofs.Keeping.{rest_keeps_shown, write_keeps_passing, write_keeps_shown}
 use Rattle.gx_pool.proofs.Places.{gated_stamp, kept_none, kept_some, placed_gated}
 use Rattle.gx_pool.proofs.pool.Pool.write_page.Goals as goal
@@ -48,7 +48,7 @@ returns-in-Some-clause-device g c =
 pub returns-in-Some-clause-faults : goal.returns-in-Some-clause-faults
 returns-in-Some-clause-faults g c =
     let wrote = c.write_frame.ensures.written _ (kept_some c.args.self.now.frames c.args.page c.in-Some.i c.in-Some.ensures.some.1) in
-    write_counted (g.D.SectorDisk.state c.args.disk.now) _ _ wrote.counts c.write_frame.ensures.fault
+    wrote.counts.faults
 
 pub returns-in-Some-clause-at_most : goal.returns-in-Some-clause-at_most
 returns-in-Some-clause-at_most g c =

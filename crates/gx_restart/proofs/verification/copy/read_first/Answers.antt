@@ -14,7 +14,7 @@ read-requires g c =
       inside = omega (arith, size, inside);
     }
 
-pub returns-in-Ok-clause-bytes : goal.returns-in-Ok-clause-bytes
-returns-in-Ok-clause-bytes g c = λ honest.
+pub returns-clause-bytes : goal.returns-clause-bytes
+returns-clause-bytes g c = λ honest.
     (let same : length c.read.new.buffer ≡ length c.args.bytes.now = search rules in
-    (c.in-Ok.ensures.reads honest).read ∙ ap (λ n. span_of (g.D.SectorDisk.state c.args.disk.now).seen 0 n) (same ∙ c.requires.size))
+    (c.in_ok-read.ensures.reads honest).read ∙ ap (λ n. span_of (g.D.SectorDisk.state c.args.disk.now).seen 0 n) (same ∙ c.requires.size))

@@ -1,6 +1,6 @@
 use Rattle.std.proofs.Common.{◌≡◌, drop}
-use Rattle.gx_shared.proofs.Agreeing.{Alike}
-use Rattle.gx_shared.proofs.agree.same_entries.Given as goal
+use Rattle.gx_machine.proofs.Comparing.{Alike}
+use Rattle.gx_machine.proofs.same.same_entries.Given as goal
 
 -- the lists are the same where what is left of them is
 abbrev pub invariant-loop-place : goal.invariant-loop-place

@@ -1,9 +1,8 @@
 //! Whether two replies are the same.
 ghost use Rattle.std.specs.Prelude.{◌≡◌, MatchBool};
-ghost use Rattle.gx_machine.specs.declared.item.Item.TheVariants.{Replied};
 
+use crate::{Entry, Reply, laws};
 use gx_geom::Shape;
-use gx_machine::{Entry, Item, Reply, laws};
 use std::cmp::Ordering;
 
 /// Whether two entries are the same.
@@ -33,7 +32,7 @@ fn same_entries<B: Shape>(one: &[Entry<B>], other: &[Entry<B>]) -> bool
 }
 
 /// Whether two replies are the same.
-pub(crate) fn same_reply<B: Shape>(one: &Reply<B>, other: &Reply<B>) -> bool
+pub fn is_same_reply<B: Shape>(one: &Reply<B>, other: &Reply<B>) -> bool
     ensures { MatchBool result (one.now ≡ other.now) (one.now ≡ other.now → ⊥) }
 {
     match (one, other) {
@@ -45,15 +44,5 @@ pub(crate) fn same_reply<B: Shape>(one: &Reply<B>, other: &Reply<B>) -> bool
         (Reply::Aborted, Reply::Aborted) => true,
         (Reply::Refused(a), Reply::Refused(b)) => *a == *b,
         _ => false,
-    }
-}
-
-/// Whether an item is this reply to this session.
-pub(crate) fn is_reply<B: Shape>(item: &Item<B>, session: u8, reply: &Reply<B>) -> bool
-    ensures { MatchBool result (item.now ≡ Replied session reply.now) (item.now ≡ Replied session reply.now → ⊥) }
-{
-    match item {
-        Item::Replied(of, given) => *of == session && same_reply(given, reply),
-        Item::Asked(..) | Item::Sealed(..) => false,
     }
 }

@@ -1,7 +1,0 @@
-use Rattle.std.proofs.Common.{◌≡◌, drop}
-use Rattle.gx_storm.proofs.Comparing.{Alike}
-use Rattle.gx_storm.proofs.same.same_entries.Given as goal
-
--- the lists are the same where what is left of them is
-abbrev pub invariant-loop-place : goal.invariant-loop-place
-invariant-loop-place g l = Alike (l.one ≡ l.other) (drop l.place l.one ≡ drop l.place l.other)
